@@ -1,0 +1,4 @@
+pub mod IntakeLaws
+pub mod FrontLaws
+pub mod StepLaws
+pub mod GiveLaws

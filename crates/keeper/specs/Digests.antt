@@ -1,0 +1,13 @@
+use Rattle.std.specs.Prelude.{ℕ, List}
+use Rattle.sha2.specs.Sha256.{sha256}
+use Rattle.sha2.specs.Hashers.{Holds256}
+use Rattle.keeper.specs.declared.digest.Digest.{Digest}
+use Rattle.keeper.specs.declared.digest.Digester.{Digester}
+
+-- the digest of some bytes
+abbrev pub digest_of : List ℕ → Digest
+digest_of bytes = record { bytes = sha256 bytes }
+
+-- a digester took these bytes, one piece after another
+abbrev pub Took : Digester → List ℕ → Type 0
+Took d bytes = Holds256 d.hasher bytes

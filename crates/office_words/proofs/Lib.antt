@@ -1,0 +1,5 @@
+pub mod Leaf
+pub mod Turns
+pub mod Law
+pub mod Meant
+pub mod Spelling

@@ -1,0 +1,62 @@
+-- What each command means.
+use Rattle.std.specs.Prelude.{◌≡◌, ◌&&◌, ℕ, Bool, List, Option, Some, None, codes, length, nat_le, find}
+use Rattle.std.specs.Prelude.{if◌then◌else◌, option_and_then, option_map, Result, Ok, Err}
+use Rattle.std.specs.Str.{bytes_eq}
+use Rattle.std.specs.Char.{is_ascii_digit}
+use Rattle.std.specs.List.{list_all}
+use Rattle.std.specs.Str.Parse.{digits_value}
+use Rattle.office_words.specs.Grammar.{Text, Said, spoken}
+use Rattle.office_words.specs.Table.{forms}
+use Rattle.office_words.specs.declared.command.Command.{Command}
+use Rattle.office_words.specs.declared.command.Command.TheVariants as command
+use Rattle.office_words.specs.declared.command.WordFault.{WordFault}
+use Rattle.office_words.specs.declared.command.WordFault.TheVariants as fault
+
+-- A number is 1 to 20 digits, and lies in its range.
+abbrev pub is_number : ℕ → ℕ → Text → Bool
+is_number low high text = nat_le 1 (length text) && (nat_le (length text) 20
+    && (list_all is_ascii_digit text
+    && (nat_le low (digits_value 10 text) && nat_le (digits_value 10 text) high)))
+
+-- the number that a text is
+abbrev pub number : ℕ → ℕ → Text → Option ℕ
+number low high text = if is_number low high text then Some (digits_value 10 text) else None
+
+-- the number in a place
+abbrev pub needed : ℕ → ℕ → Option Text → Option ℕ
+needed low high value = option_and_then (number low high) value
+
+-- what follows, if there is a value
+abbrev pub with : {A B : Type 0} → Option A → (A → Option B) → Option B
+with x f = option_and_then f x
+
+-- the values of the names that the words give
+abbrev pub Values : Type 0
+Values = Text → Option Text
+
+-- the number of a day
+abbrev pub day_in : Values → Option ℕ
+day_in value = needed 70 1000000 (value (codes "day"))
+
+-- the command `answers DAY`
+abbrev pub answers_in : Values → Option Command
+answers_in value = with (day_in value) (λ day. Some (command.Answers day))
+
+-- the command of a name, with the values of its names
+abbrev pub meaning : Text → Values → Option Command
+meaning name value = if bytes_eq name (codes "answers") then answers_in value else None
+
+-- the value that was said of a name
+abbrev pub value_of : Said → Values
+value_of said name = option_map (λ p. p.1) (find (λ p. bytes_eq p.0 name) said)
+
+-- the command that the words mean, where they are of a stated form
+abbrev pub means : List Text → Option Command
+means words = option_and_then (λ p. meaning p.0 (value_of p.1)) (spoken forms words)
+
+-- the words are refused exactly where they mean no command, and the command is the one that they mean
+abbrev pub Reads : Option Command → Result Command WordFault → Type 0
+Reads None (Ok c) = ⊥
+Reads None (Err e) = Unit {0}
+Reads (Some c) (Ok d) = d ≡ c
+Reads (Some c) (Err e) = e ≡ fault.NoMemory

@@ -1,0 +1,15 @@
+// Laws of the definitions, which no code runs.
+ghost use Rattle.std.specs.Prelude.{map, string_bytes};
+ghost use Rattle.office_words.specs.Spelling.{IsSaidOnlySo};
+ghost use Rattle.office_words.specs.Table.{forms};
+ghost use Rattle.office_words.specs.Laws.{FindsWhatIsSpoken};
+
+/// What clap finds in the words is what the grammar says that they say.
+pub fn words_law(words: &[String])
+    ensures { FindsWhatIsSpoken (map string_bytes words.now) }
+{}
+
+/// The grammar says what it does exactly of the words that are spelled so.
+pub fn spelling_law(words: &[String])
+    ensures { IsSaidOnlySo forms (map string_bytes words.now) }
+{}

@@ -1,0 +1,86 @@
+// The table of commands, as clap is told it.
+ghost use Rattle.std.specs.Prelude.{◌≡◌, IfOk, false, map, string_bytes};
+ghost use Rattle.clap.specs.Words.{app_of, rule_of, FailsBy, fault_of, HasMatchesOf};
+ghost use Rattle.office_words.specs.App.{option_rule, place_rule, app_of_form, app_of_forms, shape_of_form, bare_app};
+ghost use Rattle.clap.specs.Simple.{with_subcommand};
+ghost use Rattle.clap.specs.Walk.{texts};
+ghost use Rattle.clap.specs.declared.builder.command.Command.TheViews.{out-Command};
+ghost use Rattle.office_words.specs.Table.{form, forms};
+
+use clap::{Arg, ArgAction, ArgMatches, Command, Error};
+use std::alloc::{AllocError, Global};
+
+fn place<'a>(alloc: Global, id: &'a str) -> Arg<'a>
+    ensures rule { rule_of result ≡ place_rule id.entry.now }
+    ensures local { result.global ≡ false }
+{
+    Arg::new(alloc, id).required(true).action(ArgAction::Set)
+}
+
+fn option<'a>(alloc: Global, id: &'a str) -> Arg<'a>
+    ensures rule { rule_of result ≡ option_rule id.entry.now }
+    ensures local { result.global ≡ false }
+{
+    Arg::new(alloc, id).long(id).action(ArgAction::Set)
+}
+
+/// A command with its places and then its options.
+fn command<'a>(
+    alloc: Global,
+    name: &'a str,
+    places: &[&'a str],
+    options: &[&'a str],
+) -> Result<Command<'a>, AllocError>
+    ensures app { IfOk result (λ c. app_of c ≡ app_of_form (form name.entry.now (texts places.now) (texts options.now))) }
+    ensures local { IfOk result (λ c. (out-Command c).has_globals ≡ false) }
+{
+    let mut made = Command::new(alloc, name);
+    for spot in places {
+        made = made.arg(place(alloc, spot))?;
+    }
+    for choice in options {
+        made = made.arg(option(alloc, choice))?;
+    }
+    Ok(made)
+}
+
+/// The command with one more subcommand.
+fn with<'a>(
+    alloc: Global,
+    top: Command<'a>,
+    name: &'a str,
+    places: &[&'a str],
+    options: &[&'a str],
+) -> Result<Command<'a>, AllocError>
+    ensures { IfOk result (λ c. app_of c ≡ with_subcommand (app_of top.entry)
+        (shape_of_form (form name.entry.now (texts places.now) (texts options.now)))) }
+{
+    top.subcommand(command(alloc, name, places, options)?)
+}
+
+/// The program, with no command yet.
+fn bare<'a>(alloc: Global) -> Command<'a>
+    ensures { app_of result ≡ bare_app }
+{
+    Command::new(alloc, "office")
+        .no_binary_name(true)
+        .disable_help_flag(true)
+        .disable_help_subcommand(true)
+        .disable_version_flag(true)
+        .subcommand_required(true)
+}
+
+/// The whole table.
+fn office<'a>(alloc: Global) -> Result<Command<'a>, AllocError>
+    ensures { IfOk result (λ c. app_of c ≡ app_of_forms forms) }
+{
+    with(alloc, bare(alloc), "answers", &["day"], &[])
+}
+
+/// What clap makes of the words.
+pub fn parse<'a>(alloc: Global, words: &'a [String]) -> Result<ArgMatches<'a>, Error>
+    ensures kinds { FailsBy (fault_of (app_of_forms forms) (map string_bytes words.entry.now)) result }
+    ensures matches { IfOk result (HasMatchesOf (app_of_forms forms) (map string_bytes words.entry.now)) }
+{
+    office(alloc)?.try_get_matches_from(words)
+}

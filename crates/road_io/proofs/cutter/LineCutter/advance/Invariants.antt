@@ -1,0 +1,17 @@
+use Rattle.std.proofs.Common.{◌≡◌, ◌-◌, ◌≤◌, None, length}
+use Rattle.std.specs.Io.KnownBytes.{Keeps}
+use Rattle.road_io.specs.Plans.{NeverFails}
+use Rattle.road_io.specs.Cutter.{held, ahead, number_of, fault_of}
+use Rattle.road_io.proofs.cutter.LineCutter.advance.Given as goal
+
+abbrev pub invariant-loop-answer : goal.invariant-loop-answer
+invariant-loop-answer g l = record {
+  number : number_of l.self ≡ number_of l.initial.self;
+  none : fault_of l.self ≡ None;
+  ahead : Keeps (ahead l.initial.self (g.S.Source.left l.initial.source)) (ahead l.self (g.S.Source.left l.source));
+  sure : NeverFails (g.S.Source.plan l.initial.source) → NeverFails (g.S.Source.plan l.source);
+  later : g.S.Source.faults l.initial.source ≤ g.S.Source.faults l.source;
+}
+
+abbrev pub decreases-loop-answer : goal.decreases-loop-answer
+decreases-loop-answer g l = 201 - length (held l.self)

@@ -1,0 +1,5 @@
+pub mod Faults
+pub mod Plans
+pub mod Rooms
+pub mod Fakes
+pub mod Cutter

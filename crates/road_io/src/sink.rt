@@ -1,0 +1,75 @@
+// What bytes go to, with a count of faults.
+ghost use Rattle.std.specs.Prelude.{ℕ, List, Option, ◌<◌, ◌≤◌, length, IfOk, OnOk, OnErr};
+ghost use Rattle.std.specs.Io.KnownBytes.{WriteAppends};
+ghost use Rattle.road_io.specs.Faults.{HasCause};
+ghost use Rattle.road_io.specs.Rooms.{Room, Untold, Takes, Refuses, Puts};
+
+use crate::source::Failed;
+use std::io::Write;
+
+pub trait Sink {
+    ghost written: { Self → Option (List ℕ) };
+
+    ghost room: { Self → Room };
+
+    ghost faults: { Self → ℕ };
+
+    /// Takes a prefix of at least one byte, and answers its length; it fails exactly where there is no room, if it tells that.
+    fn write(&mut self, piece: &[u8]) -> Result<usize, Failed>
+        requires { 0 < length piece.now }
+        ensures prefix { IfOk result (λ n. (0 < n) × (n ≤ length piece.now)) }
+        ensures bytes { WriteAppends (written self.old) (written self.new) result piece.now }
+        ensures took { IfOk result (λ n. Takes (room self.old) (room self.new) n) }
+        ensures full { OnErr result (Refuses (room self.old) (room self.new) 1) }
+        ensures cause { HasCause (faults self.old) (faults self.new) result };
+}
+
+/// Writes all bytes. After a fault a prefix was written.
+pub fn put_all<O: Sink>(sink: &mut O, bytes: &[u8]) -> Result<(), Failed>
+    ensures bytes { Puts (O.written sink.old) (O.written sink.new) result bytes.now }
+    ensures took { OnOk result (Takes (O.room sink.old) (O.room sink.new) (length bytes.now)) }
+    ensures full { OnErr result (Refuses (O.room sink.old) (O.room sink.new) (length bytes.now)) }
+    ensures cause { HasCause (O.faults sink.old) (O.faults sink.new) result }
+{
+    let mut at = 0;
+    while at < bytes.len() {
+        let count = sink.write(&bytes[at..])?;
+        at += count;
+    }
+    Ok(())
+}
+
+/// A sink that takes all bytes and keeps none.
+#[derive(Clone, Copy, Debug, PartialEq, Eq)]
+pub struct VoidSink;
+
+/// A sink over any writer; a write of no byte is a fault.
+#[derive(Drop)]
+pub struct Writing<W> {
+    inner: W,
+    faults: u64,
+}
+
+impl<W: Write> Writing<W> {
+    pub fn new(inner: W) -> Writing<W> {
+        Writing { inner, faults: 0 }
+    }
+}
+
+impl<W: Write> Sink for Writing<W> {
+    ghost written = { λ s. W.contents s.inner };
+
+    ghost room = { λ s. Untold };
+
+    ghost faults = { λ s. s.faults };
+
+    fn write(&mut self, piece: &[u8]) -> Result<usize, Failed> {
+        match self.inner.write(piece) {
+            Ok(count) if count > 0 => Ok(count),
+            _ => {
+                self.faults = self.faults.saturating_add(1);
+                Err(Failed)
+            }
+        }
+    }
+}

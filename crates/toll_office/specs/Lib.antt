@@ -1,0 +1,4 @@
+pub mod Closings
+pub mod FirstLine
+pub mod Commands
+pub mod Endings

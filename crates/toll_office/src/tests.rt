@@ -1,0 +1,2 @@
+// The worked rows, through the top call.
+mod rows;

@@ -1,0 +1,7 @@
+use Rattle.std.proofs.Common.{arith, ◌≤◌, ◌+◌, length}
+use Rattle.std.proofs.lemmas.List.Sums.{count_by-le-length}
+use Rattle.tuple_format.proofs.TextLaws.{count_commas}
+use Rattle.tuple_format.proofs.fields.count_fields.Goals as goal
+
+pub returns-clause-count : goal.returns-clause-count
+returns-clause-count c = omega (arith, count_commas c.args.text.now, c.count_commas.ensures)

@@ -1,0 +1,9 @@
+pub mod Causes
+pub mod Fields
+pub mod Uses
+pub mod Ends
+pub mod Candidates
+pub mod Recents
+pub mod Gates
+pub mod Turns
+pub mod Sorting

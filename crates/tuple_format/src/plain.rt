@@ -1,0 +1,104 @@
+// The plain form of a report line, read in one pass.
+ghost use Rattle.std.specs.Prelude.{◌≡◌, IfSome, Some, Ok, true};
+ghost use Rattle.road_time.specs.declared.road.Tuple.TheVariants.{Report as ReportTuple};
+ghost use Rattle.road_time.specs.Form.{form};
+ghost use Rattle.tuple_format.specs.Fields.{IsField, unused};
+
+use road_time::Report;
+
+// The eight bytes `-1,-1,-1`, and the eight bytes `,-1,-1,-`, the first byte lowest.
+const FRONT: u64 = 0x312d_2c31_2d2c_312d;
+
+const BACK: u64 = 0x2d2c_312d_2c31_2d2c;
+
+/// Whether a text is six fields of -1, by two comparisons of eight bytes.
+#[inline(always)]
+fn is_unused(text: &[u8]) -> bool
+    ensures { result ≡ true → text.now ≡ unused }
+{
+    if text.len() != 17 || text[16] != b'1' {
+        return false;
+    }
+    let Some((front, rest)) = text.split_first_chunk::<8>() else {
+        return false;
+    };
+    let Some((back, _)) = rest.split_first_chunk::<8>() else {
+        return false;
+    };
+    let first = u64::from_le_bytes(*front);
+    let second = u64::from_le_bytes(*back);
+    if first != FRONT || second != BACK {
+        return false;
+    }
+    true
+}
+
+/// A field of one to nine digits, and what follows its comma.
+#[inline(always)]
+fn digits(text: &[u8]) -> Option<(u32, &[u8])>
+    ensures { IfSome result (λ p. IsField text.now p.0 p.1.now) }
+{
+    let (head, _) = text.split_first_chunk::<10>()?;
+    let mut value: u64 = 0;
+    for i in 0..10usize {
+        let b = head[i];
+        if b < b'0' || b > b'9' {
+            if b != b',' || i == 0 {
+                return None;
+            }
+            return Some((value as u32, &text[i + 1..]));
+        }
+        value = 10 * value + u64::from(b - b'0');
+    }
+    None
+}
+
+/// A field of one digit, and what follows its comma.
+#[inline(always)]
+fn digit(text: &[u8]) -> Option<(u32, &[u8])>
+    ensures { IfSome result (λ p. IsField text.now p.0 p.1.now) }
+{
+    if text.len() < 2 {
+        return None;
+    }
+    let b = text[0];
+    if b < b'0' || b > b'9' || text[1] != b',' {
+        return None;
+    }
+    Some((u32::from(b - b'0'), &text[2..]))
+}
+
+/// The report of a text in the plain form; what it leaves, the general reader takes.
+#[inline(always)]
+pub fn plain_report(text: &[u8]) -> Option<Report>
+    ensures { IfSome result (λ r. form text.now ≡ Ok (Some (ReportTuple r))) }
+{
+    let (kind, rest) = digit(text)?;
+    let (time, rest) = digits(rest)?;
+    let (vid, rest) = digits(rest)?;
+    let (spd, rest) = digits(rest)?;
+    let (xway, rest) = digits(rest)?;
+    let (lane, rest) = digit(rest)?;
+    let (dir, rest) = digit(rest)?;
+    let (seg, rest) = digits(rest)?;
+    let (pos, rest) = digits(rest)?;
+    if !is_unused(rest) || kind != 0 {
+        return None;
+    }
+    if time > 86_399 || vid > 2_147_483_647 || spd > 100 || xway > 255 {
+        return None;
+    }
+    if lane > 4 || dir > 1 || seg > 99 || pos > 527_999 {
+        return None;
+    }
+    Some(Report {
+        time,
+        vid,
+        spd: spd as u8,
+        xway: xway as u8,
+        lane: lane as u8,
+        dir: dir as u8,
+        seg: seg as u8,
+        pos,
+    })
+}

@@ -1,0 +1,84 @@
+// The tuples that wait, in the order of Time.
+ghost use Rattle.std.specs.Prelude.{◌≡◌, ◌++◌, ◌∷◌, [], OnOk, OnErr, IfSome, IfNone, option_copied, slice_get};
+
+ghost use Rattle.road_time.specs.Order.{placed};
+
+use crate::clock::time_of;
+use road_time::{NoMemory, Tuple};
+use std::alloc::Global;
+use std::collections::BTreeMap;
+use std::marker::Model;
+
+/// The place of a waiting tuple: by Time, and then as they came.
+#[derive(Clone, Copy, Debug, PartialEq, Eq, PartialOrd, Ord)]
+pub struct Turn {
+    pub time: u32,
+    pub number: u64,
+}
+
+/// Tuples in the order of Time, those of equal Time as they came.
+#[derive(Drop)]
+pub struct Waiting {
+    turns: BTreeMap<Turn, Tuple>,
+    count: u64,
+}
+
+impl Model for Waiting {
+    ghost use Rattle.std.specs.Prelude.{List};
+    ghost use Rattle.std.specs.Map.{values_of};
+    ghost use Rattle.road_time.specs.declared.road.Tuple.{Tuple};
+    ghost use Rattle.tuple_format.specs.Turns.{Keyed};
+
+    ghost Value = { List Tuple };
+
+    ghost view = { λ w. values_of w.turns.entries };
+
+    ghost invariant = { λ w. Keyed w.count w.turns.entries };
+}
+
+impl Waiting {
+    /// No tuple waits.
+    pub fn new(alloc: Global) -> Self
+        ensures { result ≡ [] }
+    {
+        Waiting {
+            turns: BTreeMap::new(alloc),
+            count: 0,
+        }
+    }
+
+    /// Puts a tuple behind those that are not later.
+    pub fn put(&mut self, tuple: &Tuple) -> Result<(), NoMemory>
+        ensures put { OnOk result (self.new ≡ placed self.old tuple.now) }
+        ensures kept { OnErr result (self.new ≡ self.old) }
+    {
+        let Some(count) = self.count.checked_add(1) else {
+            return Err(NoMemory);
+        };
+        let turn = Turn {
+            time: time_of(tuple),
+            number: self.count,
+        };
+        self.turns.insert(turn, *tuple)?;
+        self.count = count;
+        Ok(())
+    }
+
+    /// The first tuple.
+    pub fn first(&self) -> Option<&Tuple>
+        ensures { option_copied result ≡ slice_get self.now 0 }
+    {
+        let (_, tuple) = self.turns.first_key_value()?;
+        Some(tuple)
+    }
+
+    /// Takes the first tuple out.
+    pub fn take(&mut self) -> Option<Tuple>
+        ensures first { IfSome result (λ x. self.old ≡ x ∷ self.new) }
+        ensures none { IfNone result (self.old ≡ []) }
+        ensures kept { IfNone result (self.new ≡ self.old) }
+    {
+        let (_, tuple) = self.turns.pop_first()?;
+        Some(tuple)
+    }
+}
