@@ -38,8 +38,8 @@ module _ (limits : Limits) (late : ℕ) (bytes : List ℕ) (given : List Tuple) 
       let all : (reads bytes limits late).tuples ≡ by_time (accepts_after limits late s.before (lines_of s.now)).tuples = ap (λ r. by_time r.tuples) s.accepted in
       let first : given ≡ take n (by_time put) = old ∙ ap (take n) all ∙ kept_in_front limits late n s.before (lines_of s.now) (s.sorter_is.given refl) s.sorter_is.few in
       let more : take (n + 1) (reads bytes limits late).tuples ≡ given ++ x ∷ [] =
-          ap (take (n + 1)) all ∙ kept_in_front limits late (n + 1) s.before (lines_of s.now) (next.given refl) next.few
-          ∙ take_next n (by_time put) x at ∙ ap (λ ys. ys ++ x ∷ []) (sym first) in (
+      ap (take (n + 1)) all ∙ kept_in_front limits late (n + 1) s.before (lines_of s.now) (next.given refl) next.few
+      ∙ take_next n (by_time put) x at ∙ ap (λ ys. ys ++ x ∷ []) (sym first) in (
         sym more ∙ ap (λ k. take k (reads bytes limits late).tuples) (sym size),
         record {
           before = s.before;

@@ -11,3 +11,6 @@ mod intake;
 
 pub use day_reader::DayReader;
 pub use ending::ReadEnd;
+
+#[cfg(test)]
+mod tests;
