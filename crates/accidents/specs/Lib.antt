@@ -1,0 +1,4 @@
+pub mod Counted
+pub mod History
+pub mod Kept
+pub mod Stands

@@ -1,0 +1,47 @@
+// Who stands at a place, and how many do.
+ghost use Rattle.std.specs.Prelude.{◌≡◌, ◌-◌, if◌then◌else◌};
+ghost use Rattle.road_time.specs.Tuples.{stretch_around, same_place};
+ghost use Rattle.road_time.specs.declared.road.Place.{Place as PlaceValue};
+ghost use Rattle.accidents.specs.Kept.{count_of};
+
+use indexmap::IndexMap;
+use road_time::{Place, Stretch};
+
+/// A vehicle that stands at a place.
+#[derive(Clone, Copy, Debug, PartialEq, Eq, Hash)]
+pub struct Stopped {
+    pub vid: u32,
+    pub place: Place,
+}
+
+/// The stretch in which a place lies.
+pub(crate) fn stretch_of(place: Place) -> Stretch
+    ensures { result ≡ stretch_around place }
+{
+    Stretch {
+        xway: place.xway,
+        dir: place.dir,
+        seg: place.seg,
+    }
+}
+
+/// How many vehicles stand at the place.
+pub(crate) fn count_at(counts: &IndexMap<Place, u32>, place: Place) -> u32
+    ensures { result ≡ count_of counts.now.entries place }
+{
+    counts.get(&place).copied().unwrap_or(0)
+}
+
+/// One vehicle less at the place.
+pub(crate) fn one_less(counts: &mut IndexMap<Place, u32>, place: Place)
+    ensures { (p : PlaceValue) → count_of counts.new.entries p ≡ (if same_place place p then count_of counts.old.entries place - 1 else count_of counts.old.entries p) }
+{
+    let count = count_at(counts, place);
+    if count < 2 {
+        counts.swap_remove(&place);
+    } else {
+        if let Some(kept) = counts.get_mut(&place) {
+            *kept = count - 1;
+        }
+    }
+}
