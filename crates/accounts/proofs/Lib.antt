@@ -1,0 +1,5 @@
+pub mod LiveLaws
+pub mod SumLaws
+pub mod BookLaws
+pub mod RowSteps
+pub mod WorkedLaws

@@ -1,0 +1,40 @@
+use Rattle.std.specs.Prelude.{◌≡◌, ℕ, ◌*◌, ◌≤◌, nat_eq, List, map}
+use Rattle.std.specs.Option.{unwrap_or}
+use Rattle.std.specs.Map.{lookup}
+use Rattle.std.specs.Ordering.{nat_cmp}
+use Rattle.std.specs.FinMap.{FinMap, from_entries, code}
+use Rattle.std.specs.Coded.{Coded, code_by, coded×, coded_ℕ}
+use Rattle.accounts.specs.declared.vehicle.Vehicle.{Vehicle}
+use Rattle.accounts.specs.Sums.{Spent, account_in, total_in}
+use Rattle.std.specs.Prelude.{refl}
+
+-- a book: the toll told last to each vehicle, what each was charged on each expressway, and how many charges were made
+pub record Accounts : Type 0 where
+  pub told : FinMap nat_cmp ℕ
+  pub spent : Spent
+  pub made : ℕ
+
+-- a book is stored as its parts
+abbrev pub accounts_code : Coded Accounts
+accounts_code =
+    code_by (FinMap nat_cmp ℕ × (Spent × ℕ)) (coded× (code coded_ℕ coded_ℕ) (coded× (code (coded× coded_ℕ coded_ℕ) coded_ℕ) coded_ℕ)) (λ b. (b.told, (b.spent, b.made))) (λ p. record { told = p.0; spent = p.1.0; made = p.1.1 }) (λ _. refl)
+
+-- what the entries of vehicles tell
+abbrev pub told_of : List (ℕ × Vehicle) → FinMap nat_cmp ℕ
+told_of vehicles = from_entries (map (λ e. (e.0, e.1.told)) vehicles)
+
+-- what the entries of vehicles and expressways sum up
+abbrev pub spent_of : List ((ℕ × ℕ) × ℕ) → Spent
+spent_of sums = from_entries sums
+
+-- what is kept of a vehicle, zeros where it was never told
+abbrev pub vehicle_at : List (ℕ × Vehicle) → ℕ → Vehicle
+vehicle_at vehicles vid = unwrap_or (lookup (nat_eq vid) vehicles) (record { told = 0; sum = 0 })
+
+-- each vehicle's sum is its account, the total that of all, and none is more than the charges made can come to
+pub record IsSound (vehicles : List (ℕ × Vehicle)) (sums : List ((ℕ × ℕ) × ℕ)) (total made : ℕ) : Type 0 where
+  pub told : (vid : ℕ) → (vehicle_at vehicles vid).told ≤ 500000000000
+  pub account : (vid : ℕ) → (vehicle_at vehicles vid).sum ≡ account_in (spent_of sums) vid
+  pub whole : total ≡ total_in (spent_of sums)
+  pub bound : total ≤ 500000000000 * made
+  pub few : made ≤ 16000000

@@ -1,0 +1,33 @@
+use Rattle.std.specs.Prelude.{◌≡◌, ℕ, ◌≤◌, List, ◌++◌, take, length}
+use Rattle.road_time.specs.declared.road.Tuple.{Tuple}
+use Rattle.road_time.specs.Order.{InOrder}
+use Rattle.road_time.specs.Rates.{Tariffs}
+use Rattle.road_time.specs.declared.day.SpentRow.{SpentRow}
+use Rattle.road_time.specs.Day.{Charge, balance, total, sum_of, charges_to}
+use Rattle.road_time.specs.Rows.{rows_from}
+use Rattle.accounts.specs.Sums.{account_in, total_in, spent_by, AreRowsOf}
+use Rattle.accounts.specs.Operations.{Operation}
+use Rattle.accounts.specs.Boards.{board_after, account, all_accounts, IsLive}
+
+-- where a day's steps were published, the board shows the day's accounts at its mark
+abbrev pub LiveLaw : Type 0
+LiveLaw =
+    (day : List Tuple) (tariffs : Tariffs) (number : ℕ) (ops : List Operation) → IsLive day tariffs number ops →
+    ((board_after ops).number ≡ number)
+    × ((board_after ops).mark ≤ length day)
+    × ((vid : ℕ) → account (board_after ops) vid ≡ balance day tariffs vid (take (board_after ops).mark day))
+    × (all_accounts (board_after ops) ≡ total day tariffs (take (board_after ops).mark day))
+
+-- and it still shows those of the day when more tuples follow
+abbrev pub GrowLaw : Type 0
+GrowLaw =
+    (day later : List Tuple) → InOrder (day ++ later) → (tariffs : Tariffs) (number : ℕ) (ops : List Operation) →
+    IsLive day tariffs number ops → IsLive (day ++ later) tariffs number ops
+
+-- the sums of charges are what the definitions make of the charges: each account, the total, and the rows of a day
+abbrev pub BookLaw : Type 0
+BookLaw =
+    (cs : List Charge) →
+    ((vid : ℕ) → account_in (spent_by cs) vid ≡ sum_of (charges_to vid cs))
+    × (total_in (spent_by cs) ≡ sum_of cs)
+    × ((number : ℕ) (rows : List SpentRow) → AreRowsOf (spent_by cs) number rows → rows ≡ rows_from number cs)

@@ -1,0 +1,5 @@
+pub mod Sums
+pub mod Books
+pub mod Operations
+pub mod Boards
+pub mod Laws

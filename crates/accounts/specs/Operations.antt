@@ -1,0 +1,30 @@
+use Rattle.std.specs.Prelude.{◌≡◌, ℕ, ◌⊎◌, List, [], ◌∷◌, ◌++◌, Option}
+use Rattle.std.specs.Option.{option_map}
+use Rattle.road_time.specs.Day.{Charge}
+use Rattle.accounts.specs.declared.publisher.Charged.{Charged}
+
+-- what is published: that a day begins, or charges up to a mark
+pub data Operation : Type 0 where
+  Begin : ℕ → Operation
+  Step : List Charge → ℕ → Operation
+
+-- a charge of the code, as the definitions have it
+abbrev pub charge_of : Charged → Charge
+charge_of c = record { vid = c.vid; xway = c.xway; toll = c.toll }
+
+-- the operations that are published, and those that wait for the next one
+pub record Posted : Type 0 where
+  pub published : List Operation
+  pub queued : List Operation
+
+-- with one operation more: what waited is published, and then the operation
+abbrev pub posted_with : Operation → Posted → Posted
+posted_with o p = record { published = p.published ++ (p.queued ++ o ∷ []); queued = [] }
+
+-- with one operation more that waits
+abbrev pub queued_with : Operation → Posted → Posted
+queued_with o p = record { published = p.published; queued = p.queued ++ o ∷ [] }
+
+-- nothing is published, and the operation waits or is dropped
+abbrev pub IsRefused : Operation → Option Posted → Option Posted → Type 0
+IsRefused o before after = (after ≡ before) ⊎ (after ≡ option_map (queued_with o) before)

@@ -1,0 +1,114 @@
+// The day's accounts.
+ghost use Rattle.std.specs.Prelude.{◌≡◌, ◌≤◌, ◌<◌, ◌+◌, ◌*◌, ◌++◌, ◌∷◌, Some, IsSome, IfOk, OnErr};
+ghost use Rattle.std.specs.FinMap.{empty, get, insert};
+ghost use Rattle.accounts.specs.Sums.{account_in, total_in, with_charge, AreRowsOf};
+
+use crate::rows::{list_rows, sort_rows};
+use crate::sums::add;
+use crate::vehicle::{Vehicle, tell};
+use road_time::{NoMemory, SpentRow};
+use std::alloc::Global;
+use std::collections::HashMap;
+use std::marker::Model;
+
+/// What each vehicle was told last and was charged on each expressway, and how many charges were made.
+#[derive(Drop)]
+pub struct Book {
+    alloc: Global,
+    vehicles: HashMap<u32, Vehicle>,
+    sums: HashMap<(u32, u8), u64>,
+    total: u64,
+    made: u32,
+}
+
+impl Model for Book {
+    ghost use Rattle.accounts.specs.Books.{Accounts, accounts_code};
+
+    ghost Value = { Accounts };
+
+    ghost coded = { accounts_code };
+
+    ghost use Rattle.accounts.specs.Books.{told_of, spent_of, IsSound};
+
+    ghost view = { λ b. record { told = told_of b.vehicles.entries; spent = spent_of b.sums.entries; made = b.made } };
+
+    ghost invariant = { λ b. IsSound b.vehicles.entries b.sums.entries b.total b.made };
+}
+
+impl Book {
+    /// Nobody was told anything, and nothing was charged. It takes no memory.
+    pub fn new(alloc: Global) -> Self
+        ensures { result ≡ record { told = empty; spent = empty; made = 0 } }
+    {
+        Book {
+            alloc,
+            vehicles: HashMap::new(alloc),
+            sums: HashMap::new(alloc),
+            total: 0,
+            made: 0,
+        }
+    }
+
+    /// Keeps the toll that a vehicle is told, at most 500,000,000,000. The one error is want of memory.
+    pub fn notify(&mut self, vid: u32, toll: u64) -> Result<(), NoMemory>
+        requires { toll ≤ 500000000000 }
+        ensures told { IfOk result (λ _. self.new ≡ record self.old { told = insert self.old.told vid toll }) }
+        ensures refused { OnErr result (self.new ≡ self.old) }
+    {
+        tell(&mut self.vehicles, vid, toll)?;
+        Ok(())
+    }
+
+    /// Charges a vehicle the toll that it was told last, on an expressway, and gives that toll. The one error is want of memory.
+    /// It asks that the vehicle was told a toll, and that fewer than 16,000,000 charges were made.
+    pub fn charge(&mut self, vid: u32, xway: u8) -> Result<u64, NoMemory>
+        requires told { IsSome (get self.old.told vid) }
+        requires few { self.old.made < 16000000 }
+        ensures toll { IfOk result (λ toll. Some toll ≡ get self.old.told vid) }
+        ensures capped { IfOk result (λ toll. toll ≤ 500000000000) }
+        ensures booked { IfOk result (λ toll. self.new ≡ record self.old { spent = with_charge self.old.spent (record { vid = vid; xway = xway; toll = toll }); made = self.old.made + 1 }) }
+        ensures refused { OnErr result (self.new ≡ self.old) }
+    {
+        let Some(vehicle) = self.vehicles.get_mut(&vid) else {
+            unreachable!()
+        };
+        let toll = vehicle.told;
+        add(&mut self.sums, (vid, xway), toll)?;
+        *vehicle = Vehicle {
+            told: toll,
+            sum: vehicle.sum + toll,
+        };
+        self.total += toll;
+        self.made += 1;
+        Ok(toll)
+    }
+
+    /// A vehicle's account: the sum of what it was charged, 0 for one that never was.
+    pub fn balance(&self, vid: u32) -> u64
+        ensures account { result ≡ account_in self.now.spent vid }
+        ensures few { result ≤ 500000000000 * self.now.made }
+    {
+        match self.vehicles.get(&vid) {
+            Some(vehicle) => vehicle.sum,
+            None => 0,
+        }
+    }
+
+    /// The sum of all accounts.
+    pub fn total(&self) -> u64
+        ensures total { result ≡ total_in self.now.spent }
+        ensures few { result ≤ 500000000000 * self.now.made }
+    {
+        self.total
+    }
+
+    /// What each vehicle was charged on each expressway, as rows of a day in the order of vehicles and expressways, zero sums left out.
+    /// The one error is want of memory.
+    pub fn spent_rows(&self, day: u32) -> Result<Vec<SpentRow>, NoMemory>
+        ensures { IfOk result (λ rows. AreRowsOf self.now.spent day rows.items) }
+    {
+        let mut rows = list_rows(self.alloc, &self.sums, day)?;
+        sort_rows(&mut rows);
+        Ok(rows)
+    }
+}

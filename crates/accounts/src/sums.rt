@@ -1,0 +1,26 @@
+// What each vehicle was charged on each expressway.
+ghost use Rattle.std.specs.Prelude.{◌≡◌, ℕ, ◌+◌, ◌^◌, ◌<◌, Some, OnOk, OnErr, if◌then◌else◌};
+ghost use Rattle.std.specs.Map.{lookup};
+ghost use Rattle.accounts.specs.Sums.{same_owner, sum_at};
+
+use road_time::NoMemory;
+use std::collections::HashMap;
+
+/// Adds a toll to the sum of a vehicle on an expressway.
+#[inline(always)]
+pub fn add(sums: &mut HashMap<(u32, u8), u64>, owner: (u32, u8), toll: u64) -> Result<(), NoMemory>
+    requires { sum_at sums.old.entries owner + toll < 2 ^ 64 }
+    ensures added { OnOk result ((q : ℕ × ℕ) → lookup (same_owner q) sums.new.entries ≡ (if same_owner owner q then Some (sum_at sums.old.entries owner + toll) else lookup (same_owner q) sums.old.entries)) }
+    ensures refused { OnErr result (sums.new.entries ≡ sums.old.entries) }
+{
+    match sums.get_mut(&owner) {
+        Some(sum) => {
+            *sum += toll;
+            Ok(())
+        }
+        None => {
+            sums.insert(owner, toll)?;
+            Ok(())
+        }
+    }
+}

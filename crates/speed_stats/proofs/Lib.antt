@@ -1,0 +1,3 @@
+pub mod MeanLaws
+pub mod NoteSteps
+pub mod WorkedLaws

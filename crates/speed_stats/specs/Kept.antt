@@ -1,0 +1,11 @@
+use Rattle.std.specs.Prelude.{ℕ, List}
+use Rattle.road_time.specs.declared.road.Stretch.{Stretch}
+use Rattle.speed_stats.specs.declared.this_minute.Car.{Car}
+use Rattle.speed_stats.specs.declared.this_minute.Sum.{Sum}
+use Rattle.speed_stats.specs.declared.window.Ring.{Ring}
+
+-- what is kept: the current minute, what was noted in it of each vehicle, and the flows of the last six minutes of each stretch
+pub record Kept : Type 0 where
+  pub minute : ℕ
+  pub seen : List (Car × Sum)
+  pub rings : List (Stretch × Ring)
