@@ -1,5 +1,5 @@
 -- Laws of the notice that a line may be: where the line is a notice's text, it is that notice.
-use Rattle.std.proofs.Common.{◌≡◌, ℕ, ◌+◌, ◌^◌, ◌<◌, ◌≤◌, ◌==◌, ◌&&◌, Bool, true, false, List, [], ◌∷◌, length, map, Option, Some, None, FitsSigned, w16, ℤ, pos, negsuc, nat_le, arith, refl, sym, ap, ◌∙◌}
+use Rattle.std.proofs.Common.{◌≡◌, ℕ, ◌^◌, ◌<◌, ◌≤◌, ◌&&◌, true, false, List, [], ◌∷◌, length, map, Option, Some, None, FitsSigned, w16, ℤ, pos, negsuc, nat_le, arith, refl, sym, ap, ◌∙◌}
 use Rattle.std.specs.Str.{bytes_eq}
 use Rattle.std.specs.Int.Signed.{mag}
 use Rattle.std.specs.Fmt.{decimal, signed_decimal}
@@ -35,15 +35,19 @@ notice_count line n e is =
     let count = ap length (notice_fields line n e is) ∙ length-map (notice_numbers n) signed_decimal in
     (omega (arith, some.0, count), omega (arith, some.1, count))
 
+-- the numbers of a notice have 32 bits
 name_small : (n : ℕ) → is_name n ≡ true → n < 2 ^ 32
 name_small n e = let h = leb-true n 2147483647 e in omega (arith, h)
 
+-- its Time too
 time_small : (n : ℕ) → is_time n ≡ true → n < 2 ^ 32
 time_small n e = let h = leb-true n 86399 e in omega (arith, h)
 
+-- and its kind
 kind_small : (n : ℕ) → n ≤ 3 → n < 2 ^ 32
 kind_small n h = omega (arith, h)
 
+-- equal lists have equal heads and tails
 first_is : {X : Type 0} (x y : X) (xs ys : List X) → x ∷ xs ≡ y ∷ ys → (x ≡ y) × (xs ≡ ys)
 first_is x y xs ys e = (cc, cc)
 
@@ -99,6 +103,7 @@ pub lav_small : (z : ℤ) → is_lav z ≡ true → mag z < 2 ^ 63
 lav_small (pos n) e = let h = leb-true n 100 e in omega (arith, h)
 lav_small (negsuc n) e = let h = eqb-true n 0 e in omega (arith, h)
 
+-- and fits its type
 pub lav_fits : (z : ℤ) → is_lav z ≡ true → FitsSigned w16 z
 lav_fits (pos n) e = let h = leb-true n 100 e in omega (arith, h)
 lav_fits (negsuc n) e = let h = eqb-true n 0 e in omega (arith, h)
@@ -115,5 +120,6 @@ none_from line out = from_option (read_notice line) (λ n e. let h = notice_read
 pub not_valid : (n m : Notice) → is_notice n ≡ false → Some n ≡ Some m → is_notice m ≡ true → ⊥
 not_valid n m test same is = false≢true (sym test ∙ ap is_notice (some_is n m same) ∙ is)
 
+-- nor is one whose text the line is not
 pub not_text : (line : List ℕ) (n m : Notice) → bytes_eq (notice_text n) line ≡ false → Some n ≡ Some m → notice_text m ≡ line → ⊥
 not_text line n m test same is = false≢true (sym test ∙ (bytes_eq-Decides (notice_text n) line).1 (ap notice_text (some_is n m same) ∙ is))

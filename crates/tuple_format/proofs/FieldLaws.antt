@@ -15,12 +15,14 @@ use Rattle.road_time.specs.declared.road.Tuple.TheVariants.{Report as ReportTupl
 use Rattle.tuple_format.specs.Fields.{IsField, odd_from, unused}
 use Rattle.tuple_format.proofs.TextLaws.{is_inner, fields_cut, form_of_fields, are_all}
 
+-- digits have no comma
 pub digits_inner : (bs : List ℕ) → AllDigits 10 bs → list_all is_inner bs ≡ true
 digits_inner [] e = refl
 digits_inner (b ∷ bs) e =
     let digit = digit_from_value b e.0 in
     and_from _ _ (ap not (ne_eqb b 44 (λ is. omega (arith, digit)))) (digits_inner bs e.1)
 
+-- digits are a number
 pub number_of-digits : (bs : List ℕ) → 1 ≤ length bs → length bs ≤ 10 → AllDigits 10 bs → number_of 10 bs ≡ Some (pos (digits_value 10 bs))
 number_of-digits [] h k e = absurd (omega arith)
 number_of-digits (b ∷ bs) h k e =
@@ -45,9 +47,11 @@ field_at xs i value some few h are comma is =
 pub in_range : (us : List Use) (zs : List ℤ) (n low high v : ℕ) → low ≤ v → v ≤ high → first_out n (From low high ∷ us) (pos v ∷ zs) ≡ first_out (n + 1) us zs
 in_range us zs n low high v l h = cond-false _ _ _ (ap not (and_from _ _ (le-leb low v l) (le-leb v high h)))
 
+-- six fields that are not used
 abbrev pub none_used : List ℤ
 none_used = negsuc 0 ∷ negsuc 0 ∷ negsuc 0 ∷ negsuc 0 ∷ negsuc 0 ∷ negsuc 0 ∷ []
 
+-- the numbers of a report are in their ranges
 pub report_in_range : (time vid spd xway lane dir seg at : ℕ) → time ≤ 86399 → vid ≤ 2147483647 → spd ≤ 100 → xway ≤ 255 → lane ≤ 4 → dir ≤ 1 → seg ≤ 99 → at ≤ 527999 → first_out 2 (uses_of ReportLine) (pos time ∷ pos vid ∷ pos spd ∷ pos xway ∷ pos lane ∷ pos dir ∷ pos seg ∷ pos at ∷ none_used) ≡ None
 report_in_range time vid spd xway lane dir seg at ht hv hs hx hl hd hg hp =
     let u8 = Unused ∷ Unused ∷ Unused ∷ Unused ∷ Unused ∷ Unused ∷ [] in
@@ -104,6 +108,7 @@ fits_taken xs n fits i =
       | inr h ↦ subst (λ v. v < 256) (sym (get_or_past (take n xs) i 0 (omega (arith, length-take n xs)))) (omega arith)
     ]
 
+-- seventeen bytes of two such numbers and a last 1 are the six fields of -1
 pub unused_is : (xs : List ℕ) → length xs ≡ 17 → ((i : ℕ) → get_or xs i 0 < 256) → from_le_bytes w64 (take 8 xs) ≡ 3543537071533338925 → from_le_bytes w64 (take 8 (drop 8 xs)) ≡ 3255030700766735660 → get_or xs 16 0 ≡ 49 → xs ≡ unused
 unused_is xs long fits front back last =
     let size = length-drop 8 xs in

@@ -1,6 +1,6 @@
 -- Laws of what a gatekeeper keeps: its answer is the definition's, and it goes on from tuple to tuple.
-use Rattle.std.proofs.Common.{◌≡◌, ℕ, ◌+◌, ◌/◌, ◌<◌, ◌≤◌, ◌==◌, ◌&&◌, ◌||◌, Bool, true, false, not, cond, max, List, [], ◌∷◌, ◌++◌, length, is_some, Option, Some, None, Result, nat_le, nat_lt, nat_eq, if◌then◌else◌, inl, inr, arith, refl, sym, ap, ◌∙◌}
-use Rattle.std.proofs.lemmas.Bool.{cond-true, cond-false, cases_Bool, eqb-true}
+use Rattle.std.proofs.Common.{◌≡◌, ℕ, ◌+◌, ◌≤◌, ◌==◌, ◌&&◌, ◌||◌, Bool, true, false, not, cond, max, List, [], ◌∷◌, ◌++◌, length, is_some, Option, Some, None, Result, nat_le, nat_lt, nat_eq, if◌then◌else◌, arith, refl, sym, ap, ◌∙◌}
+use Rattle.std.proofs.lemmas.Bool.{cond-false, eqb-true}
 use Rattle.std.proofs.lemmas.Bool.Decides.{nat_tests}
 use Rattle.std.proofs.lemmas.List.{length_push}
 use Rattle.std.proofs.lemmas.List.Folds.{list_any-append}
@@ -13,12 +13,12 @@ use Rattle.road_time.specs.Tuples.{time_of, report_of}
 use Rattle.road_time.specs.Notes.{has}
 use Rattle.road_time.specs.Order.{greatest_time}
 use Rattle.road_time.specs.Fits.{vehicles_seen, reports_in_minute}
-use Rattle.road_time.specs.Form.{Fault, Late, TooOften, Vehicles}
+use Rattle.road_time.specs.Form.{TooOften, Vehicles}
 use Rattle.road_time.specs.Reads.{admit_fault, vehicle_fault, report_fault}
 use Rattle.road_time.proofs.EachLaws.{some_is}
 use Rattle.road_time.proofs.LateLaws.{greatest_push, count_push, seen_push, count_other, seen_other}
 use Rattle.tuple_format.specs.declared.recent.Recent.{Recent}
-use Rattle.tuple_format.specs.Recents.{count_in, first_in, noted, moved}
+use Rattle.tuple_format.specs.Recents.{count_in, first_in, noted}
 use Rattle.tuple_format.specs.Gates.{Gate, StandsFor, kept_of, count_of, noted_of, kept_fault, Judges}
 use Rattle.tuple_format.specs.declared.gatekeeper.AdmitFault.{AdmitFault}
 
@@ -26,9 +26,11 @@ use Rattle.tuple_format.specs.declared.gatekeeper.AdmitFault.{AdmitFault}
 noted_count : (r : Recent) (m minute last : ℕ) → r.minute ≤ last → m ≤ last → last ≤ m + 2 → last ≤ minute + 2 → count_in (noted r m) minute ≡ count_in r minute + cond (m == minute) 1 0
 noted_count r m minute last a b c d = grind (arith, nat_tests)
 
+-- a first report is counted in its minute
 first_count : (m minute : ℕ) → count_in (first_in m) minute ≡ 0 + cond (m == minute) 1 0
 first_count m minute = grind (arith, nat_tests)
 
+-- so it is of a vehicle that was seen, or was not
 count_more : (o : Option Recent) (m minute last : ℕ) → ((r : Recent) → o ≡ Some r → r.minute ≤ last) → m ≤ last → last ≤ m + 2 → last ≤ minute + 2 → count_in (noted_of o m) minute ≡ count_of o minute + cond (m == minute) 1 0
 count_more None m minute last h a b c = first_count m minute
 count_more (Some r) m minute last h a b c = noted_count r m minute last (h r refl) a b c
@@ -37,6 +39,7 @@ count_more (Some r) m minute last h a b c = noted_count r m minute last (h r ref
 noted_newest : (r : Recent) (m last : ℕ) → r.minute ≤ last → m ≤ last → (noted r m).minute ≤ last
 noted_newest r m last a b = grind (arith, nat_tests)
 
+-- of a vehicle that was not seen too
 newest_more : (o : Option Recent) (m last : ℕ) → ((r : Recent) → o ≡ Some r → r.minute ≤ last) → m ≤ last → (noted_of o m).minute ≤ last
 newest_more None m last h a = a
 newest_more (Some r) m last h a = noted_newest r m last (h r refl) a
@@ -45,6 +48,7 @@ newest_more (Some r) m last h a = noted_newest r m last (h r refl) a
 minute_up : (s t : ℕ) → s ≤ t → minute_of s ≤ minute_of t
 minute_up s t h = omega arith
 
+-- a tuple that is at most two minutes late is of one of the last three minutes
 within : (s t late : ℕ) → late ≤ 120 → s ≤ t + late → minute_of s ≤ minute_of t + 2
 within s t late few h = omega arith
 
@@ -54,6 +58,7 @@ same_fault : (o : Option Recent) (n count limit vid m : ℕ) (b : Bool) → coun
 same_fault None n count limit vid m b c v = rw (← c, ← v) refl
 same_fault (Some r) n count limit vid m b c v = rw (← c, ← v) refl
 
+-- so the whole fault of a report is that of what is kept
 pub report_same : (g : Gate) (limits : Limits) (late : ℕ) (before : List Tuple) (r : Report) → StandsFor g limits late before → greatest_time before ≤ r.time + late →
     report_fault limits before r ≡ kept_fault (kept_of g.seen r.vid) (length g.seen) g.vehicle_limit r.vid (minute_of r.time)
 report_same g limits late before r st soon =
@@ -82,18 +87,22 @@ has_more vs v w false e = list_any-append (λ x. x == w) vs (v ∷ []) ∙ turne
     turned : (a b : Bool) → (a || (b || false)) ≡ (b || a)
     turned a b = grind arith
 
+-- a new vehicle is one more
 length_more : (vs : List ℕ) (v : ℕ) (b : Bool) (n : ℕ) (o : Option Recent) → is_some o ≡ b → n ≡ length vs → n + cond (is_some o) 0 1 ≡ length (cond b vs (vs ++ v ∷ []))
 length_more vs v true n o e h = rw e (omega (arith, h))
 length_more vs v false n o e h = rw e (omega (arith, h, length_push vs v))
 
 -- what is kept goes on with one report more
 module _ (g : Gate) (limits : Limits) (late : ℕ) (before : List Tuple) (r : Report) (seen : List (ℕ × Recent)) where
+  -- one vehicle has a report more
   abbrev pub Noted : Type 0
   Noted = (v : ℕ) → kept_of seen v ≡ (if nat_eq r.vid v then Some (noted_of (kept_of g.seen r.vid) (minute_of r.time)) else kept_of g.seen v)
 
+  -- what is kept after the report
   abbrev pub after : Gate
   after = record { vehicle_limit = g.vehicle_limit; lateness = g.lateness; greatest = max g.greatest r.time; seen = seen }
 
+  -- the gatekeeper stands for the tuples with the report
   pub report_step : StandsFor g limits late before → greatest_time before ≤ r.time + late → Noted → length seen ≡ length g.seen + (if is_some (kept_of g.seen r.vid) then 0 else 1) → StandsFor after limits late (before ++ ReportTuple r ∷ [])
   report_step st soon is count =
       let m = minute_of r.time in
@@ -155,6 +164,7 @@ no_report_is (Balance time vid qid) out = refl
 no_report_is (Spent time vid xway qid day) out = refl
 no_report_is (Travel time) out = refl
 
+-- no other tuple is a report too many
 free : (limits : Limits) (before : List Tuple) (x : Tuple) → report_of x ≡ None → vehicle_fault limits before x ≡ None
 free limits before (ReportTuple r) e = cc
 free limits before (Balance time vid qid) e = refl
@@ -162,6 +172,7 @@ free limits before (Spent time vid xway qid day) e = refl
 free limits before (Travel time) e = refl
 
 module _ (g : Gate) (limits : Limits) (late : ℕ) (before : List Tuple) (x : Tuple) (time : ℕ) where
+  -- what the code compares is what the definition compares
   in_time_of : StandsFor g limits late before → time ≡ time_of x → g.greatest ≤ time + g.lateness → greatest_time before ≤ time_of x + late
   in_time_of st t soon = omega (arith, st.greatest, st.lateness, t, soon)
 
@@ -172,22 +183,13 @@ module _ (g : Gate) (limits : Limits) (late : ℕ) (before : List Tuple) (x : Tu
       let late_enough = in_time_of st t soon in
       let of_report : minute ≡ minute_of r.time = m ∙ ap minute_of (t ∙ ap time_of is) in
       let same : admit_fault limits late before x ≡ kept_fault (kept_of g.seen r.vid) (length g.seen) g.vehicle_limit r.vid minute =
-          in_time limits late before x late_enough ∙ ap (vehicle_fault limits before) is
-          ∙ report_same g limits late before r st (omega (arith, late_enough, ap time_of is)) ∙ ap (kept_fault (kept_of g.seen r.vid) (length g.seen) g.vehicle_limit r.vid) (sym of_report) in
+      in_time limits late before x late_enough ∙ ap (vehicle_fault limits before) is
+      ∙ report_same g limits late before r st (omega (arith, late_enough, ap time_of is)) ∙ ap (kept_fault (kept_of g.seen r.vid) (length g.seen) g.vehicle_limit r.vid) (sym of_report) in
       rw same judged
 
   -- another tuple is let in
   pub other_judged : StandsFor g limits late before → time ≡ time_of x → g.greatest ≤ time + g.lateness → ((r : Report) → x ≡ ReportTuple r → ⊥) → admit_fault limits late before x ≡ None
   other_judged st t soon out = in_time limits late before x (in_time_of st t soon) ∙ free limits before x (no_report_is x out)
-
-  -- a tuple that comes too late is not
-  pub late_judged : StandsFor g limits late before → time ≡ time_of x → time + g.lateness < g.greatest → admit_fault limits late before x ≡ Some (Late g.greatest time)
-  late_judged st t soon =
-      cond-true (nat_lt (time_of x + late) (greatest_time before)) _ _ (under (time_of x + late) (greatest_time before) (omega (arith, st.greatest, st.lateness, t, soon)))
-      ∙ ap (λ n. Some (Late n (time_of x))) (sym st.greatest) ∙ ap (λ n. Some (Late g.greatest n)) (sym t)
-    where
-      under : (a b : ℕ) → a < b → nat_lt a b ≡ true
-      under a b h = grind arith
 
   -- what is kept goes on
   pub report_admitted : (r : Report) (minute : ℕ) (seen : List (ℕ × Recent)) → StandsFor g limits late before → time ≡ time_of x → g.greatest ≤ time + g.lateness → x ≡ ReportTuple r → minute ≡ minute_of time →
@@ -201,6 +203,7 @@ module _ (g : Gate) (limits : Limits) (late : ℕ) (before : List Tuple) (x : Tu
       rw (is, of_report) (report_step g limits late before r seen st (omega (arith, late_enough, ap time_of is))
       (λ v. noted v ∙ ap (λ n. if nat_eq r.vid v then Some (noted_of (kept_of g.seen r.vid) n) else kept_of g.seen v) same) count)
 
+  -- with another tuple too
   pub other_admitted : StandsFor g limits late before → time ≡ time_of x → ((r : Report) → x ≡ ReportTuple r → ⊥) →
       StandsFor (record { vehicle_limit = g.vehicle_limit; lateness = g.lateness; greatest = max g.greatest time; seen = g.seen }) limits late (before ++ x ∷ [])
   other_admitted st t out = rw t (other_step g limits late before x (no_report_is x out) st)

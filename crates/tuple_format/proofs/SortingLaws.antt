@@ -12,15 +12,18 @@ use Rattle.road_time.proofs.OrderLaws.{by_time_length, by_time_push}
 use Rattle.road_time.proofs.LateLaws.{greatest_push, given_push, placed_drop}
 use Rattle.tuple_format.specs.Sorting.{Sorting, IsSorting}
 
+-- nothing is left of nothing
 no_drop : (n : ℕ) (x : Tuple) (rest : List Tuple) → drop n [] ≡ x ∷ rest → ⊥
 no_drop n x rest e = none x rest (sym (drop-nil n) ∙ e)
   where
     none : (x : Tuple) (rest : List Tuple) → ◌≡◌ {A = List Tuple} [] (x ∷ rest) → ⊥
     none x rest e = cc
 
+-- one more is the next number
 next : (n : ℕ) → n + 1 ≡ suc n
 next n = omega arith
 
+-- what is left from a place on begins with what stands there
 drop_get : (ts : List Tuple) (n : ℕ) (x : Tuple) → slice_get ts n ≡ Some x → drop n ts ≡ x ∷ drop (suc n) ts
 drop_get [] n x e = cc
 drop_get (t ∷ ts) zero x e = one t x ts e
@@ -29,6 +32,7 @@ drop_get (t ∷ ts) zero x e = one t x ts e
     one t x ts e = cc
 drop_get (t ∷ ts) (suc n) x e = drop_get ts n x e
 
+-- and what it begins with stands there
 get_drop : (ts : List Tuple) (n : ℕ) (x : Tuple) (rest : List Tuple) → drop n ts ≡ x ∷ rest → (slice_get ts n ≡ Some x) × (drop (suc n) ts ≡ rest) × (n < length ts)
 get_drop [] n x rest e = absurd (no_drop n x rest e)
 get_drop (t ∷ ts) zero x rest e = (first t x ts rest e, second t x ts rest e, omega arith)
@@ -51,6 +55,7 @@ take_suc P (t ∷ ts) zero x e h p = (rw (one t x e) p, tt)
     one t x e = cc
 take_suc P (t ∷ ts) (suc n) x e h p = (h.0, take_suc P ts n x e h.1 p)
 
+-- what holds of the first n and of the next holds of the first n + 1
 pub take_next : (P : Tuple → Type 0) (ts : List Tuple) (n : ℕ) (x : Tuple) → slice_get ts n ≡ Some x → AllByRecursion P (take n ts) → P x → AllByRecursion P (take (n + 1) ts)
 take_next P ts n x e h p = rw (next n) (take_suc P ts n x e h p)
 

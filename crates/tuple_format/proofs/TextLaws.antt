@@ -19,15 +19,18 @@ use Rattle.road_time.specs.Lines.{without_cr}
 use Rattle.road_time.specs.Numbers.{are_digits, number_of, fields_of_text}
 use Rattle.road_time.specs.Form.{first_odd, form, of_fields, of_numbers, Fields}
 
+-- a byte that is no comma
 abbrev pub is_inner : ℕ → Bool
 is_inner b = not (b == 44)
 
+-- a field ends at the first comma
 pub fields_at : (ds rest : List ℕ) → list_all is_inner ds ≡ true → fields_of_text (ds ++ 44 ∷ rest) ≡ ds ∷ fields_of_text rest
 fields_at [] rest e = refl
 fields_at (d ∷ ds) rest e =
     let parts = and_parts (is_inner d) (list_all is_inner ds) e in
     cond-false (d == 44) _ _ (not-true _ parts.0) ∙ ap (onto_first d) (fields_at ds rest parts.1)
 
+-- a text without a comma is one field
 pub fields_none : (ds : List ℕ) → list_all is_inner ds ≡ true → fields_of_text ds ≡ ds ∷ []
 fields_none [] e = refl
 fields_none (d ∷ ds) e =
@@ -39,13 +42,16 @@ pub cut_at : (xs : List ℕ) (i b : ℕ) → i < length xs → get_or xs i 0 ≡
 cut_at xs i b h e =
     sym (take-append-drop i xs) ∙ ap (λ ys. take i xs ++ ys) (drop_more xs i 0 h ∙ ap (λ y. y ∷ drop (i + 1) xs) e)
 
+-- a text is cut at its first comma
 pub fields_cut : (xs : List ℕ) (i : ℕ) → i < length xs → list_all is_inner (take i xs) ≡ true → get_or xs i 0 ≡ 44 → fields_of_text xs ≡ take i xs ∷ fields_of_text (drop (i + 1) xs)
 fields_cut xs i h e is = ap fields_of_text (cut_at xs i 44 h is) ∙ fields_at (take i xs) (drop (i + 1) xs) e
 
+-- one byte more that is no comma
 pub inner_more : (xs : List ℕ) (i b : ℕ) → i < length xs → b ≡ get_or xs i 0 → (b ≡ 44 → ⊥) → list_all is_inner (take i xs) ≡ true → list_all is_inner (take (i + 1) xs) ≡ true
 inner_more xs i b h at ne e =
     list_all_more is_inner xs i 0 h ∙ and_from _ _ e (ap is_inner (sym at) ∙ ap not (ne_eqb b 44 ne))
 
+-- ten digits are below 10 ^ 10
 pub power_small : (i : ℕ) → i ≤ 10 → 10 ^ i ≤ 10000000000
 power_small i h = pow-le-pow_right {n = 10} (omega arith) h
 
@@ -54,23 +60,28 @@ pub cond_cons : (y : ℕ) (b : Bool) (xs ys : List ℕ) → y ∷ cond b xs ys �
 cond_cons y true xs ys = refl
 cond_cons y false xs ys = refl
 
+-- the last CR alone is dropped
 pub without_last : (xs : List ℕ) (x : ℕ) → without_cr (xs ++ x ∷ []) ≡ cond (x == 13) xs (xs ++ x ∷ [])
 without_last [] x = refl
 without_last (y ∷ []) x = cond_cons y (x == 13) [] (x ∷ [])
 without_last (y ∷ z ∷ ys) x = ap (λ l. y ∷ l) (without_last (z ∷ ys) x) ∙ cond_cons y (x == 13) (z ∷ ys) (z ∷ (ys ++ x ∷ []))
 
+-- a line is no longer without it
 pub without_short : (xs : List ℕ) → length (without_cr xs) ≤ length xs
 without_short [] = omega arith
 without_short (b ∷ []) = cond_both (b == 13) [] (b ∷ []) (λ l. length l ≤ 1) (λ _. omega arith) (λ _. omega arith)
 without_short (b ∷ c ∷ bs) = omega (arith, without_short (c ∷ bs))
 
+-- a text has one field more than commas
 pub count_commas : (bs : List ℕ) → length (fields_of_text bs) ≡ count_by (λ b. b == 44) bs + 1
 count_commas bs = length-slice_split (λ b. b == 44) bs
 
+-- a text of fifteen fields has the form of its fields
 pub form_of_fields : (bs : List ℕ) → length (fields_of_text bs) ≡ 15 → form bs ≡ of_fields (fields_of_text bs) (first_odd (fields_of_text bs))
 form_of_fields [] h = absurd (omega arith)
 form_of_fields (b ∷ bs) h = cond-true _ _ _ (eq-eqb _ 15 h)
 
+-- a line without its last CR, by its last byte
 pub trimmed_at : (xs : List ℕ) → 0 < length xs → without_cr xs ≡ cond (get_or xs (length xs - 1) 0 == 13) (take (length xs - 1) xs) xs
 trimmed_at xs h =
     let n = length xs - 1 in
@@ -78,18 +89,22 @@ trimmed_at xs h =
     let cut = cut_at xs n x (omega arith) refl ∙ ap (λ ys. take n xs ++ x ∷ ys) (drop_all (n + 1) xs (omega arith)) in
     ap without_cr cut ∙ without_last (take n xs) x ∙ ap (λ ys. cond (x == 13) (take n xs) ys) (sym cut)
 
+-- where all fields are numbers, the form is that of the numbers
 pub numbered_ok : (fields : List (List ℕ)) (odd : Option ℕ) (zs : List ℤ) → numbered odd (filter_map (number_of 10) fields) ≡ Ok zs → of_fields fields odd ≡ of_numbers zs
 numbered_ok fields (Some n) zs e = cc
 numbered_ok fields None zs e = let same : filter_map (number_of 10) fields ≡ zs = cc in ap of_numbers same
 
+-- else the first that is none is its fault
 pub numbered_err : (fields : List (List ℕ)) (odd : Option ℕ) (cause : Cause) → numbered odd (filter_map (number_of 10) fields) ≡ Err cause → answered (of_fields fields odd) ≡ Err cause
 numbered_err fields None cause e = cc
 numbered_err fields (Some n) cause e = let same : Number n ≡ cause = cc in ap Err same
 
+-- a text of another number of fields has that fault
 pub form_of_count : (bs : List ℕ) (n : ℕ) → 0 < length bs → length (fields_of_text bs) ≡ n → (n ≡ 15 → ⊥) → form bs ≡ Err (Fields n)
 form_of_count [] n h e ne = absurd (omega arith)
 form_of_count (b ∷ bs) n h e ne = cond-false _ _ _ (ne_eqb _ 15 (λ is. ne (sym e ∙ is))) ∙ ap (λ k. Err (Fields k)) e
 
+-- an empty line has no CR
 pub trimmed_none : (xs : List ℕ) → length xs ≡ 0 → without_cr xs ≡ xs
 trimmed_none [] e = refl
 trimmed_none (b ∷ bs) e = absurd (omega arith)
@@ -107,6 +122,7 @@ digit_more xs i b value h at low high is all small =
       omega (arith, power, small),
     )
 
+-- one to ten digits are digits
 pub are_all : (xs : List ℕ) → AllDigits 10 xs → 1 ≤ length xs → length xs ≤ 10 → are_digits 10 xs ≡ true
 are_all xs all some few =
     and_from _ _ (le-leb 1 (length xs) some) (and_from _ _ (le-leb (length xs) 10 few) ((numerals_by_value (λ bs. all_ascii_digits bs ≡ true) tells_all_ascii_digits).from xs all))

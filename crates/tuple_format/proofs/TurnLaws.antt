@@ -1,12 +1,10 @@
 -- one tuple more waits, and one less
-use Rattle.std.proofs.Common.{◌≡◌, ℕ, ◌+◌, ◌≤◌, ◌<◌, false, List, [], ◌∷◌, length, take, drop, refl, sym, ap, ◌∙◌, arith, nat_le, Some, slice_get, zero, suc}
-use Rattle.std.specs.List.{AllByRecursion}
+use Rattle.std.proofs.Common.{◌≡◌, ℕ, ◌+◌, ◌≤◌, ◌<◌, false, List, [], ◌∷◌, refl, sym, ap, ◌∙◌, arith, nat_le}
 use Rattle.std.specs.Map.{values_of}
 use Rattle.std.specs.Ordering.{nat_cmp, ordering_then, match_ordering}
 use Rattle.std.specs.declared.cmp.Ordering.{Ordering}
 use Rattle.std.specs.declared.cmp.Ordering.TheVariants.{Less, Greater}
 use Rattle.std.specs.BTreeMap.{insert_entry}
-use Rattle.std.proofs.Math.Seq.{drop-nil}
 use Rattle.std.proofs.lemmas.Bool.{cond-true, cond-false, le-leb}
 use Rattle.road_time.specs.declared.road.Tuple.{Tuple}
 use Rattle.road_time.specs.Tuples.{time_of}
@@ -15,10 +13,12 @@ use Rattle.road_time.proofs.SumLaws.{order_cases}
 use Rattle.tuple_format.specs.declared.waiting.Turn.{Turn}
 use Rattle.tuple_format.specs.Turns.{Keyed}
 
+-- turns are compared by Time, then by number
 abbrev pub turn_cmp : Turn → Turn → Ordering
 turn_cmp a b = ordering_then (nat_cmp a.time b.time) (nat_cmp a.number b.number)
 
 module _ (x : Tuple) (count : ℕ) where
+  -- the turn of the next tuple that comes
   abbrev pub turn : Turn
   turn = record { time = time_of x; number = count }
 
@@ -29,6 +29,7 @@ module _ (x : Tuple) (count : ℕ) where
       (λ i. order_cases count e.0.number Q (λ l. absurd (omega (arith, l, less))) (λ j. absurd (omega (arith, j, less))) (λ _. g (omega (arith, is, i))))
       (λ l. g (omega (arith, is, l)))
 
+  -- a new tuple stands behind those that are not later
   pub insert_values : (es : List (Turn × Tuple)) → Keyed count es → values_of (insert_entry turn_cmp es turn x) ≡ placed (values_of es) x
   insert_values [] h = refl
   insert_values (e ∷ es) h =
@@ -39,10 +40,12 @@ module _ (x : Tuple) (count : ℕ) where
       over : (a b : ℕ) → b < a → nat_le a b ≡ false
       over a b l = grind arith
 
+  -- the numbers stay below the next one
   more : (es : List (Turn × Tuple)) → Keyed count es → Keyed (count + 1) es
   more [] h = tt
   more (e ∷ es) h = ((h.0.0, omega (arith, h.0.1)), more es h.1)
 
+  -- the new tuple has its Time and its number
   pub insert_keyed : (es : List (Turn × Tuple)) → Keyed count es → Keyed (count + 1) (insert_entry turn_cmp es turn x)
   insert_keyed [] h = ((refl, omega arith), tt)
   insert_keyed (e ∷ es) h =

@@ -66,7 +66,7 @@ pub fn number(field: &[u8]) -> Option<i64>
     }
 }
 
-/// The fifteen numbers.
+/// The numbers of a text of fifteen fields, or the first field that is none.
 pub fn numbers(text: &[u8]) -> Result<[i64; 15], Cause>
     requires { length (fields_of_text text.now) ≡ 15 }
     ensures { result ≡ numbered (first_odd (fields_of_text text.now)) (filter_map (number_of 10) (fields_of_text text.now)) }

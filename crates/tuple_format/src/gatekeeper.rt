@@ -12,11 +12,16 @@ use road_time::{Limits, Tuple};
 use std::alloc::Global;
 use std::collections::HashMap;
 use std::marker::Model;
+use thiserror::Error;
 
-/// Why a tuple is not let in: it is refused, or memory ran out.
-#[derive(Clone, Copy, Debug, PartialEq, Eq)]
+/// Why a tuple is not let in.
+#[derive(Clone, Copy, Debug, PartialEq, Eq, Error)]
 pub enum AdmitFault {
+    /// It comes too late, or is a report too many.
+    #[error("refused: {0}")]
     Refused(Cause),
+    /// Memory ran out.
+    #[error("no memory")]
     NoMemory,
 }
 
@@ -53,7 +58,8 @@ fn note(
     match seen.get_mut(&vid) {
         Some(recent) => {
             let before = *recent;
-            if before.count(minute) > 3 {
+            let count = before.count(minute);
+            if count > 3 {
                 return Err(AdmitFault::Refused(Cause::TooOften(vid, minute)));
             }
             *recent = before.noted(minute);
@@ -96,7 +102,12 @@ impl Gatekeeper {
             return Err(AdmitFault::Refused(Cause::Late(self.greatest, time)));
         }
         if let Tuple::Report(report) = tuple {
-            note(&mut self.seen, report.vid, minute_of(time), self.vehicle_limit)?;
+            note(
+                &mut self.seen,
+                report.vid,
+                minute_of(time),
+                self.vehicle_limit,
+            )?;
         }
         self.greatest = self.greatest.max(time);
         Ok(())

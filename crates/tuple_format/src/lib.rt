@@ -9,9 +9,12 @@ mod gatekeeper;
 mod notice_reader;
 mod notices;
 mod plain;
+mod ranges;
 mod reader;
 mod recent;
 mod sorter;
+#[cfg(test)]
+mod tests;
 mod tuple_lines;
 mod tuples;
 mod waiting;

@@ -8,6 +8,7 @@ ghost use Rattle.tuple_format.specs.Candidates.{IsNatural, IsLav, short_candidat
 
 use crate::fields::split_field;
 use crate::notices::{ROOM, put_line};
+use crate::ranges::{LAST_NAME, LAST_SECOND, LAST_SEGMENT};
 use road_time::Notice;
 use std::str;
 
@@ -100,11 +101,13 @@ fn is_valid(notice: Notice) -> bool
 {
     match notice {
         Notice::Toll { vid, time, lav, .. } => {
-            vid <= 2_147_483_647 && time <= 86_399 && is_average(lav)
+            vid <= LAST_NAME && time <= LAST_SECOND && is_average(lav)
         }
-        Notice::Alert { time, vid, seg } => time <= 86_399 && vid <= 2_147_483_647 && seg <= 99,
-        Notice::Balance { time, qid, .. } => time <= 86_399 && qid <= 2_147_483_647,
-        Notice::Spent { time, qid, .. } => time <= 86_399 && qid <= 2_147_483_647,
+        Notice::Alert { time, vid, seg } => time <= LAST_SECOND
+            && vid <= LAST_NAME
+            && u32::from(seg) <= LAST_SEGMENT,
+        Notice::Balance { time, qid, .. } => time <= LAST_SECOND && qid <= LAST_NAME,
+        Notice::Spent { time, qid, .. } => time <= LAST_SECOND && qid <= LAST_NAME,
     }
 }
 

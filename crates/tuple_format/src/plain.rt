@@ -4,6 +4,10 @@ ghost use Rattle.road_time.specs.declared.road.Tuple.TheVariants.{Report as Repo
 ghost use Rattle.road_time.specs.Form.{form};
 ghost use Rattle.tuple_format.specs.Fields.{IsField, unused};
 
+use crate::ranges::{
+    LAST_DIRECTION, LAST_LANE, LAST_NAME, LAST_POSITION, LAST_SECOND, LAST_SEGMENT, LAST_XWAY,
+    TOP_SPEED,
+};
 use road_time::Report;
 
 // The eight bytes `-1,-1,-1`, and the eight bytes `,-1,-1,-`, the first byte lowest.
@@ -85,10 +89,10 @@ pub fn plain_report(text: &[u8]) -> Option<Report>
     if !is_unused(rest) || kind != 0 {
         return None;
     }
-    if time > 86_399 || vid > 2_147_483_647 || spd > 100 || xway > 255 {
+    if time > LAST_SECOND || vid > LAST_NAME || spd > TOP_SPEED || xway > LAST_XWAY {
         return None;
     }
-    if lane > 4 || dir > 1 || seg > 99 || pos > 527_999 {
+    if lane > LAST_LANE || dir > LAST_DIRECTION || seg > LAST_SEGMENT || pos > LAST_POSITION {
         return None;
     }
     Some(Report {

@@ -5,6 +5,10 @@ ghost use Rattle.tuple_format.specs.Causes.{answered};
 ghost use Rattle.tuple_format.specs.Uses.{use_of};
 
 use crate::cause::Cause;
+use crate::ranges::{
+    LAST_DIRECTION, LAST_LANE, LAST_NAME, LAST_POSITION, LAST_SECOND, LAST_SEGMENT, LAST_XWAY,
+    TOP_SPEED,
+};
 use road_time::{Report, Tuple};
 
 /// What a field may hold: a number from the first to the last, or, unused, any from -1 on.
@@ -14,15 +18,25 @@ enum Use {
     Unused,
 }
 
+/// A second of the day.
+const TIME: Use = Use::From(0, LAST_SECOND);
+
+/// The number of a vehicle or of a request.
+const NAME: Use = Use::From(0, LAST_NAME);
+
+/// An expressway.
+const XWAY: Use = Use::From(0, LAST_XWAY);
+
+/// The fields 2 to 15 of a report.
 const REPORT: [Use; 14] = [
-    Use::From(0, 86_399),
-    Use::From(0, 2_147_483_647),
-    Use::From(0, 100),
-    Use::From(0, 255),
-    Use::From(0, 4),
-    Use::From(0, 1),
-    Use::From(0, 99),
-    Use::From(0, 527_999),
+    TIME,
+    NAME,
+    Use::From(0, TOP_SPEED),
+    XWAY,
+    Use::From(0, LAST_LANE),
+    Use::From(0, LAST_DIRECTION),
+    Use::From(0, LAST_SEGMENT),
+    Use::From(0, LAST_POSITION),
     Use::Unused,
     Use::Unused,
     Use::Unused,
@@ -31,16 +45,17 @@ const REPORT: [Use; 14] = [
     Use::Unused,
 ];
 
+/// The fields 2 to 15 of a balance request.
 const BALANCE: [Use; 14] = [
-    Use::From(0, 86_399),
-    Use::From(0, 2_147_483_647),
+    TIME,
+    NAME,
     Use::Unused,
     Use::Unused,
     Use::Unused,
     Use::Unused,
     Use::Unused,
     Use::Unused,
-    Use::From(0, 2_147_483_647),
+    NAME,
     Use::Unused,
     Use::Unused,
     Use::Unused,
@@ -48,16 +63,17 @@ const BALANCE: [Use; 14] = [
     Use::Unused,
 ];
 
+/// The fields 2 to 15 of an expenditure request: the last is a day that is past.
 const SPENT: [Use; 14] = [
-    Use::From(0, 86_399),
-    Use::From(0, 2_147_483_647),
+    TIME,
+    NAME,
     Use::Unused,
-    Use::From(0, 255),
-    Use::Unused,
-    Use::Unused,
+    XWAY,
     Use::Unused,
     Use::Unused,
-    Use::From(0, 2_147_483_647),
+    Use::Unused,
+    Use::Unused,
+    NAME,
     Use::Unused,
     Use::Unused,
     Use::Unused,
@@ -65,8 +81,9 @@ const SPENT: [Use; 14] = [
     Use::From(1, 69),
 ];
 
+/// The fields 2 to 15 of a travel request.
 const TRAVEL: [Use; 14] = [
-    Use::From(0, 86_399),
+    TIME,
     Use::Unused,
     Use::Unused,
     Use::Unused,
@@ -147,6 +164,7 @@ pub fn tuple(numbers: &[i64; 15]) -> Result<Option<Tuple>, Cause>
     }
 }
 
+/// The report of fifteen numbers.
 fn report(n: &[i64; 15]) -> Result<Option<Tuple>, Cause>
     ensures { result ≡ answered (of_numbers (pos 0 ∷ drop 1 n.now)) }
 {
@@ -165,6 +183,7 @@ fn report(n: &[i64; 15]) -> Result<Option<Tuple>, Cause>
     }
 }
 
+/// The balance request of fifteen numbers.
 fn balance(n: &[i64; 15]) -> Result<Option<Tuple>, Cause>
     ensures { result ≡ answered (of_numbers (pos 2 ∷ drop 1 n.now)) }
 {
@@ -178,6 +197,7 @@ fn balance(n: &[i64; 15]) -> Result<Option<Tuple>, Cause>
     }
 }
 
+/// The expenditure request of fifteen numbers.
 fn spent(n: &[i64; 15]) -> Result<Option<Tuple>, Cause>
     ensures { result ≡ answered (of_numbers (pos 3 ∷ drop 1 n.now)) }
 {
@@ -193,6 +213,7 @@ fn spent(n: &[i64; 15]) -> Result<Option<Tuple>, Cause>
     }
 }
 
+/// The travel request of fifteen numbers.
 fn travel(n: &[i64; 15]) -> Result<Option<Tuple>, Cause>
     ensures { result ≡ answered (of_numbers (pos 4 ∷ drop 1 n.now)) }
 {

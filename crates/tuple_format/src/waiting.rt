@@ -1,6 +1,5 @@
 // The tuples that wait, in the order of Time.
 ghost use Rattle.std.specs.Prelude.{◌≡◌, ◌++◌, ◌∷◌, [], OnOk, OnErr, IfSome, IfNone, option_copied, slice_get};
-
 ghost use Rattle.road_time.specs.Order.{placed};
 
 use crate::clock::time_of;

@@ -1,5 +1,4 @@
-use Rattle.std.proofs.Common.{arith, ◌≤◌, ◌+◌, length}
-use Rattle.std.proofs.lemmas.List.Sums.{count_by-le-length}
+use Rattle.std.proofs.Common.{arith}
 use Rattle.tuple_format.proofs.TextLaws.{count_commas}
 use Rattle.tuple_format.proofs.fields.count_fields.Goals as goal
 

@@ -1,4 +1,4 @@
-use Rattle.std.proofs.Common.{◌≡◌, ◌∷◌, ◌+◌, length, option_copied, Some, None, arith, sym, ap, ◌∙◌, to_z, of_z, w16, rules}
+use Rattle.std.proofs.Common.{◌≡◌, ◌∷◌, length, option_copied, Some, arith, sym, ap, ◌∙◌, to_z, of_z, w16, rules}
 use Rattle.tuple_format.specs.Fields.{fields_after}
 use Rattle.tuple_format.proofs.CandidateLaws.{notice_count, notice_fields, short_is, toll_is}
 use Rattle.tuple_format.proofs.notice_reader.candidate.Goals as goal

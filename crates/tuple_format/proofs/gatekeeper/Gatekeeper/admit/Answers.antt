@@ -1,6 +1,6 @@
-use Rattle.std.proofs.Common.{◌≡◌, ◌≤◌, ◌+◌, None, Ok, Err, max, [], ◌∷◌, ◌++◌, arith, refl, sym, ap, subst, ◌∙◌}
+use Rattle.std.proofs.Common.{◌≤◌, ◌+◌, Ok, Err, arith, sym, subst}
 use Rattle.std.proofs.lemmas.Result.{err_from_is_err_and}
-use Rattle.tuple_format.specs.Gates.{Gate, StandsFor, Judges}
+use Rattle.tuple_format.specs.Gates.{StandsFor}
 use Rattle.tuple_format.proofs.GateLaws.{report_judged, other_judged, report_admitted, other_admitted}
 use Rattle.tuple_format.proofs.gatekeeper.Gatekeeper.admit.Goals as goal
 use Rattle.tuple_format.proofs.gatekeeper.Gatekeeper.admit.Goals.{in-Report+in_ok-note, in_default}

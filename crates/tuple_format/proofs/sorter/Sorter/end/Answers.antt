@@ -1,6 +1,6 @@
-use Rattle.std.proofs.Common.{◌≡◌, true, false, sym, ap, subst}
+use Rattle.std.proofs.Common.{true, sym, subst}
 use Rattle.std.proofs.lemmas.Bool.{false≢true}
-use Rattle.tuple_format.specs.Sorting.{Sorting, IsSorting}
+use Rattle.tuple_format.specs.Sorting.{IsSorting}
 use Rattle.tuple_format.proofs.SortingLaws.{sorting_next, sorting_take, sorting_none, sorting_ended}
 use Rattle.tuple_format.proofs.sorter.Sorter.end.Goals as goal
 

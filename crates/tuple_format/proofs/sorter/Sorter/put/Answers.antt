@@ -1,5 +1,5 @@
-use Rattle.std.proofs.Common.{◌≡◌, false, max, sym, ap, subst, ◌∙◌}
-use Rattle.tuple_format.specs.Sorting.{Sorting, IsSorting}
+use Rattle.std.proofs.Common.{false, max, sym, ap, subst, ◌∙◌}
+use Rattle.tuple_format.specs.Sorting.{IsSorting}
 use Rattle.tuple_format.proofs.SortingLaws.{sorting_put}
 use Rattle.tuple_format.proofs.sorter.Sorter.put.Goals as goal
 

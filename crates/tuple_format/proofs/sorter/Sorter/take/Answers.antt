@@ -1,7 +1,7 @@
-use Rattle.std.proofs.Common.{◌≡◌, ◌≤◌, ◌+◌, arith, sym, ap, subst}
+use Rattle.std.proofs.Common.{◌≤◌, ◌+◌, arith, sym, ap, subst}
 use Rattle.road_time.specs.Tuples.{time_of}
 use Rattle.road_time.specs.Order.{greatest_time}
-use Rattle.tuple_format.specs.Sorting.{Sorting, IsSorting}
+use Rattle.tuple_format.specs.Sorting.{IsSorting}
 use Rattle.tuple_format.proofs.SortingLaws.{sorting_next, sorting_take, same_first}
 use Rattle.tuple_format.proofs.sorter.Sorter.take.Goals as goal
 

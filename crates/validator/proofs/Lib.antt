@@ -1,0 +1,15 @@
+pub mod SeenLaws
+pub mod MeanLaws
+pub mod NearLaws
+pub mod OwedLaws
+pub mod OutputLaws
+pub mod SpotLaws
+pub mod VerdictLaws
+pub mod RunLaws
+pub mod HaltLaws
+pub mod MarkLaws
+pub mod AboutLaws
+pub mod WindowLaws
+pub mod GroupLaws
+pub mod SumParts
+pub mod DayParts

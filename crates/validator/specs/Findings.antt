@@ -1,0 +1,44 @@
+use Rattle.std.specs.Prelude.{◌≡◌, ℕ, ◌≤◌, ◌*◌, ◌==◌, ◌&&◌, Bool, true, false, List, Option, Some, None}
+use Rattle.std.specs.HashMap.{get, HashMap}
+use Rattle.road_time.specs.declared.road.Report.{Report}
+use Rattle.road_time.specs.declared.road.Stretch.{Stretch}
+use Rattle.road_time.specs.declared.road.Frac.{Frac}
+use Rattle.road_time.specs.Tuples.{same_stretch}
+use Rattle.road_time.specs.Rates.{Tariffs, whole_of}
+use Rattle.road_time.specs.Tolls.{Finding, lav_at, toll_at, near_at}
+use Rattle.validator.specs.declared.found.Spot.{Spot}
+use Rattle.validator.specs.declared.found.Found.{Found}
+
+-- the rules' finding for a stretch in a minute
+abbrev pub finding_on : List Report → Tariffs → ℕ → Stretch → Finding
+finding_on reports tariffs minute stretch = record {
+  lav = whole_of (lav_at reports minute stretch);
+  toll = toll_at reports tariffs minute stretch;
+  alert = near_at reports minute stretch;
+}
+
+-- a finding of the code, as the definitions have it
+abbrev pub shown_found : Found → Finding
+shown_found f = record { lav = f.lav; toll = f.toll; alert = f.alert }
+
+-- two spots are the same
+abbrev pub same_spot : Spot → Spot → Bool
+same_spot a b = a.minute == b.minute && same_stretch a.stretch b.stretch
+
+-- what was found of spots is what the rules find there
+abbrev pub Known : {S : Type 0} → List Report → Tariffs → HashMap Spot Found S → Type 0
+Known reports tariffs found = (s : Spot) (f : Found) → get same_spot found s ≡ Some f → shown_found f ≡ finding_on reports tariffs s.minute s.stretch
+
+-- an average of at most 100
+abbrev pub IsSmall : Option Frac → Type 0
+IsSmall average = (f : Frac) → average ≡ Some f → (1 ≤ f.den) × (f.num ≤ 100 * f.den)
+
+-- what the code tells, as the definitions have it
+abbrev pub shown_told : Option Found → Option Finding
+shown_told None = None
+shown_told (Some f) = Some (shown_found f)
+
+-- a finding, where there is one to tell
+abbrev pub finding_if : Bool → Finding → Option Finding
+finding_if true f = Some f
+finding_if false f = None

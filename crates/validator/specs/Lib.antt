@@ -1,0 +1,12 @@
+pub mod Seen
+pub mod Flows
+pub mod Findings
+pub mod Accounts
+pub mod History
+pub mod Outputs
+pub mod Verdicts
+pub mod Halts
+pub mod Recent
+pub mod Groups
+pub mod RowParts
+pub mod Days

@@ -1,0 +1,102 @@
+// What is told of a stretch in a minute, found once.
+ghost use Rattle.std.specs.Prelude.{◌≡◌, ◌≤◌, IfOk, OnOk};
+ghost use Rattle.road_time.specs.Tuples.{reports};
+ghost use Rattle.road_time.specs.Fits.{IsDay, IsReport};
+ghost use Rattle.road_time.specs.Tolls.{finding_at};
+ghost use Rattle.road_time.specs.Rates.{whole_of};
+ghost use Rattle.validator.specs.Halts.{halts_of};
+ghost use Rattle.validator.specs.Findings.{finding_on, shown_found, Known, IsSmall};
+
+use crate::blocked::near_by;
+use crate::halts::Halt;
+use crate::owed::toll_of;
+use crate::recent::average_on;
+use crate::stretch_of;
+use road_time::{Frac, NoMemory, Report, Stretch, Tariffs, Tuple, minute};
+use std::alloc::Global;
+use std::collections::HashMap;
+
+/// A stretch in a minute.
+#[derive(Clone, Copy, Debug, PartialEq, Eq, Hash)]
+pub struct Spot {
+    pub minute: u32,
+    pub stretch: Stretch,
+}
+
+/// What is told of a stretch in a minute: the average, the toll, and the segment of the nearest accident.
+#[derive(Clone, Copy, Debug, PartialEq, Eq)]
+pub struct Found {
+    pub lav: i16,
+    pub toll: u64,
+    pub alert: Option<u8>,
+}
+
+/// The average rounded down, and -1 for none.
+fn whole(average: Option<Frac>) -> i16
+    requires small { IsSmall average }
+    ensures { result ≡ whole_of average }
+{
+    match average {
+        None => -1,
+        Some(f) => (f.num / f.den) as i16,
+    }
+}
+
+/// What is told of the stretch in the minute, by one scan of the list.
+fn found_at(
+    alloc: Global,
+    tuples: &[Tuple],
+    halts: &[Halt],
+    tariffs: &Tariffs,
+    in_minute: u32,
+    stretch: Stretch,
+) -> Result<Found, NoMemory>
+    requires fit { IsDay tuples.now }
+    requires halts { halts.now ≡ halts_of (reports tuples.now) }
+    requires first { 1 ≤ in_minute }
+    requires last { in_minute ≤ 1440 }
+    requires segment { stretch.seg ≤ 99 }
+    requires direction { stretch.dir ≤ 1 }
+    ensures { IfOk result (λ f. shown_found f ≡ finding_on (reports tuples.now) tariffs.now in_minute stretch) }
+{
+    let average = average_on(alloc, tuples, in_minute, stretch)?;
+    let alert = near_by(alloc, halts, in_minute, stretch)?;
+    Ok(Found {
+        lav: whole(average.lav),
+        toll: toll_of(
+            tariffs.of(stretch.xway),
+            average.cars,
+            average.lav,
+            alert.is_some(),
+        ),
+        alert,
+    })
+}
+
+/// What is told at the report: found before, or now.
+pub fn found_for(
+    alloc: Global,
+    tuples: &[Tuple],
+    halts: &[Halt],
+    tariffs: &Tariffs,
+    found: &mut HashMap<Spot, Found>,
+    r: &Report,
+) -> Result<Found, NoMemory>
+    requires fit { IsDay tuples.now }
+    requires halts { halts.now ≡ halts_of (reports tuples.now) }
+    requires valid { IsReport r.now }
+    requires known { Known (reports tuples.now) tariffs.now found.old }
+    ensures exact { IfOk result (λ f. shown_found f ≡ finding_at (reports tuples.now) tariffs.now r.now) }
+    ensures kept { OnOk result (Known (reports tuples.now) tariffs.now found.new) }
+{
+    let spot = Spot {
+        minute: minute(r.time),
+        stretch: stretch_of(r),
+    };
+    if let Some(before) = found.get(&spot) {
+        return Ok(*before);
+    }
+    let now = found_at(alloc, tuples, halts, tariffs, spot.minute, spot.stretch)?;
+    found.insert(spot, now)?;
+    Ok(now)
+}

@@ -1,0 +1,133 @@
+// When each vehicle stands where: found once, from the whole list.
+ghost use Rattle.std.specs.Prelude.{◌≡◌, ◌∷◌, ◌++◌, ◌==◌, ℕ, nat_eq, false, reverse, IfOk, OnOk, List, Some};
+ghost use Rattle.std.specs.HashMap.{get};
+ghost use Rattle.road_time.specs.declared.road.Report.{Report as ReportValue};
+ghost use Rattle.road_time.specs.Tuples.{reports, place_of as place_of_lem};
+ghost use Rattle.road_time.specs.Stops.{stands, trail};
+ghost use Rattle.validator.specs.Halts.{kept, marks_of, halt_if, halts_of, covers as covers_lem};
+
+use crate::near::{place_of, report_of};
+use road_time::{NoMemory, Place, Report, Tuple};
+use std::alloc::Global;
+use std::collections::HashMap;
+
+/// Where a vehicle was last, and in how many reports in a row, up to four.
+#[derive(Clone, Copy, Debug, PartialEq, Eq)]
+pub struct Seen {
+    pub place: Place,
+    pub run: u8,
+}
+
+/// A report, and whether its vehicle stands after it.
+#[derive(Clone, Copy, Debug, PartialEq, Eq)]
+pub struct Mark {
+    pub report: Report,
+    pub stands: bool,
+}
+
+/// A vehicle stands at a place from a second on, and until another, at which it is reported again, or to the end.
+#[derive(Clone, Copy, Debug, PartialEq, Eq)]
+pub struct Halt {
+    pub vid: u32,
+    pub place: Place,
+    pub from: u32,
+    pub to: Option<u32>,
+}
+
+/// The run after one more report.
+fn next(last: Option<Seen>, here: Place) -> Seen
+    ensures { (own : List ReportValue) → (r : ReportValue) → kept own ≡ last → place_of_lem r ≡ here → kept (r ∷ own) ≡ Some result }
+{
+    match last {
+        None => Seen {
+            place: here,
+            run: 1,
+        },
+        Some(seen) => {
+            if seen.place != here {
+                Seen {
+                    place: here,
+                    run: 1,
+                }
+            } else if seen.run < 4 {
+                Seen {
+                    place: here,
+                    run: seen.run + 1,
+                }
+            } else {
+                Seen {
+                    place: here,
+                    run: 4,
+                }
+            }
+        }
+    }
+}
+
+/// Whether the vehicle stands after its next report.
+fn see(seen: &mut HashMap<u32, Seen>, r: &Report) -> Result<bool, NoMemory>
+    ensures stands { IfOk result (λ b. (own : List ReportValue) → kept own ≡ get nat_eq seen.old r.now.vid → b ≡ stands (r.now ∷ own) (place_of_lem r.now)) }
+    ensures run { OnOk result ((own : List ReportValue) → kept own ≡ get nat_eq seen.old r.now.vid → kept (r.now ∷ own) ≡ get nat_eq seen.new r.now.vid) }
+    ensures others { OnOk result ((v : ℕ) → (r.now.vid == v) ≡ false → get nat_eq seen.new v ≡ get nat_eq seen.old v) }
+{
+    let now = next(seen.get(&r.vid).copied(), place_of(r));
+    seen.insert(r.vid, now)?;
+    Ok(now.run == 4)
+}
+
+/// The reports, each with whether its vehicle stands after it.
+fn marks(alloc: Global, tuples: &[Tuple]) -> Result<Vec<Mark>, NoMemory>
+    ensures { IfOk result (λ marks. reverse marks.items ≡ marks_of (reverse (reports tuples.now))) }
+{
+    let mut seen: HashMap<u32, Seen> = HashMap::new(alloc);
+    let mut marks: Vec<Mark> = Vec::new(alloc);
+    for tuple in tuples {
+        if let Some(report) = report_of(tuple) {
+            let stands = see(&mut seen, &report)?;
+            marks.push(Mark { report, stands })?;
+        }
+    }
+    Ok(marks)
+}
+
+/// Adds the time for which a vehicle stands after a report, if it does.
+fn add_halt(halts: &mut Vec<Halt>, mark: &Mark, to: Option<u32>) -> Result<(), NoMemory>
+    ensures { OnOk result (halts.new.items ≡ halts.old.items ++ halt_if mark.now.stands mark.now.report to) }
+{
+    if mark.stands {
+        halts.push(Halt {
+            vid: mark.report.vid,
+            place: place_of(&mark.report),
+            from: mark.report.time,
+            to,
+        })?;
+    }
+    Ok(())
+}
+
+/// When each vehicle stands where.
+pub fn halts(alloc: Global, tuples: &[Tuple]) -> Result<Vec<Halt>, NoMemory>
+    ensures { IfOk result (λ halts. halts.items ≡ halts_of (reports tuples.now)) }
+{
+    let marks = marks(alloc, tuples)?;
+    let mut nexts: HashMap<u32, u32> = HashMap::new(alloc);
+    let mut halts: Vec<Halt> = Vec::new(alloc);
+    let mut rest = marks.as_slice();
+    while let Some((mark, older)) = rest.split_last() {
+        add_halt(&mut halts, mark, nexts.get(&mark.report.vid).copied())?;
+        nexts.insert(mark.report.vid, mark.report.time)?;
+        rest = older;
+    }
+    Ok(halts)
+}
+
+/// Whether the vehicle stands at the end of the second.
+pub fn covers(second: u32, halt: &Halt) -> bool
+    ensures { result ≡ covers_lem second halt.now }
+{
+    halt.from <= second
+        && match halt.to {
+            None => true,
+            Some(to) => second < to,
+        }
+}

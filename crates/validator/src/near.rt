@@ -1,0 +1,174 @@
+// Accidents, recomputed over the whole list.
+ghost use Rattle.std.specs.Prelude.{◌≡◌, ◌≤◌, ◌-◌, IfOk, ℕ, length, ◌&&◌, ◌==◌, not};
+ghost use Rattle.std.specs.List.{list_any, prefix_len};
+ghost use Rattle.road_time.specs.Tuples.{reports, report_of as report_of_lem, place_of as place_of_lem, stretch_around as stretch_around_lem, same_place};
+ghost use Rattle.road_time.specs.Stops.{up_to, is_stopped as is_stopped_lem, trail as trail_lem, stops as stops_lem, has_accident as has_accident_lem, stood as stood_lem, near, segments_ahead};
+ghost use Rattle.road_time.specs.Tolls.{stops_at, near_at};
+
+use road_time::{NoMemory, Place, Report, Stretch, Tuple, downstream};
+use std::alloc::Global;
+
+pub fn report_of(tuple: &Tuple) -> Option<Report>
+    ensures { result ≡ report_of_lem tuple.now }
+{
+    match tuple {
+        Tuple::Report(r) => Some(*r),
+        _ => None,
+    }
+}
+
+pub fn place_of(r: &Report) -> Place
+    ensures { result ≡ place_of_lem r.now }
+{
+    Place {
+        xway: r.xway,
+        dir: r.dir,
+        lane: r.lane,
+        seg: r.seg,
+        pos: r.pos,
+    }
+}
+
+pub fn stretch_around(p: Place) -> Stretch
+    ensures { result ≡ stretch_around_lem p }
+{
+    Stretch {
+        xway: p.xway,
+        dir: p.dir,
+        seg: p.seg,
+    }
+}
+
+/// The reports up to the end of the second.
+fn reports_up_to(alloc: Global, tuples: &[Tuple], second: u32) -> Result<Vec<Report>, NoMemory>
+    ensures { IfOk result (λ rs. rs.items ≡ up_to second (reports tuples.now)) }
+{
+    Ok(
+        tuples
+            .iter()
+            .filter_map(|tuple| report_of(tuple))
+            .filter(|r| r.time <= second)
+            .collect(alloc)?,
+    )
+}
+
+/// The vehicle's reports, the newest first.
+pub fn trail(alloc: Global, reports: &[Report], vid: u32) -> Result<Vec<Report>, NoMemory>
+    ensures { IfOk result (λ rs. rs.items ≡ trail_lem reports.now vid) }
+{
+    Ok(
+        reports
+            .iter()
+            .rev()
+            .filter(|r| r.vid == vid)
+            .copied()
+            .collect(alloc)?,
+    )
+}
+
+/// How many of the first reports are at the place, before another one.
+fn run_at(trail: &[Report], place: Place) -> usize
+    ensures { result ≡ prefix_len (λ r. same_place (place_of_lem r) place) trail.now }
+{
+    for (i, r) in trail.iter().enumerate() {
+        if place_of(r) != place {
+            return i;
+        }
+    }
+    trail.len()
+}
+
+/// The vehicle's last four reports exist and are at the place.
+fn is_stopped(alloc: Global, reports: &[Report], vid: u32, place: Place) -> Result<bool, NoMemory>
+    ensures { IfOk result (λ b. b ≡ is_stopped_lem reports.now vid place) }
+{
+    let trail = trail(alloc, reports, vid)?;
+    Ok(run_at(trail.as_slice(), place) >= 4)
+}
+
+/// The vehicles that are stopped after the reports, each with its place.
+fn stops(alloc: Global, reports: &[Report]) -> Result<Vec<(u32, Place)>, NoMemory>
+    ensures { IfOk result (λ ss. ss.items ≡ stops_lem reports.now) }
+{
+    let mut stopped = Vec::new(alloc);
+    for r in reports {
+        let place = place_of(r);
+        if is_stopped(alloc, reports, r.vid, place)? {
+            stopped.push((r.vid, place))?;
+        }
+    }
+    Ok(stopped)
+}
+
+/// Another vehicle stands at the place of this one.
+fn has_partner(stops: &[(u32, Place)], vid: u32, place: Place) -> bool
+    ensures { result ≡ list_any (λ b. same_place place b.1 && not (vid == b.0)) stops.now }
+{
+    stops.iter().any(|b| place == b.1 && vid != b.0)
+}
+
+/// Two vehicles stand at one place of the stretch.
+pub fn has_accident(stops: &[(u32, Place)], stretch: Stretch) -> bool
+    ensures { result ≡ has_accident_lem stops.now stretch }
+{
+    stops.iter().any(|a| stretch_around(a.1) == stretch && has_partner(stops, a.0, a.1))
+}
+
+/// An accident stands in the stretch at the end of the second.
+fn accident_at(
+    alloc: Global,
+    tuples: &[Tuple],
+    second: u32,
+    stretch: Stretch,
+) -> Result<bool, NoMemory>
+    ensures { IfOk result (λ b. b ≡ has_accident_lem (stops_at (reports tuples.now) second) stretch) }
+{
+    let seen = reports_up_to(alloc, tuples, second)?;
+    let stopped = stops(alloc, seen.as_slice())?;
+    Ok(has_accident(stopped.as_slice(), stretch))
+}
+
+/// At some second of the minute an accident stood in the stretch.
+fn stood(
+    alloc: Global,
+    tuples: &[Tuple],
+    in_minute: u32,
+    stretch: Stretch,
+) -> Result<bool, NoMemory>
+    requires { in_minute ≤ 1440 }
+    ensures { IfOk result (λ b. b ≡ stood_lem (stops_at (reports tuples.now)) in_minute stretch) }
+{
+    if in_minute == 0 {
+        return Ok(false);
+    }
+    let start = 60 * (in_minute - 1);
+    for second in start..start + 60 {
+        if accident_at(alloc, tuples, second, stretch)? {
+            return Ok(true);
+        }
+    }
+    Ok(false)
+}
+
+/// The segment of the nearest accident that stood in the minute before.
+pub fn plain_near(
+    alloc: Global,
+    tuples: &[Tuple],
+    in_minute: u32,
+    stretch: Stretch,
+) -> Result<Option<u8>, NoMemory>
+    requires first { 1 ≤ in_minute }
+    requires last { in_minute ≤ 1440 }
+    requires segment { stretch.seg ≤ 99 }
+    requires direction { stretch.dir ≤ 1 }
+    ensures { IfOk result (λ n. n ≡ near_at (reports tuples.now) in_minute stretch) }
+{
+    for i in 0..5u8 {
+        if let Some(seg) = downstream(stretch.seg, stretch.dir, i) {
+            if stood(alloc, tuples, in_minute - 1, Stretch { seg, ..stretch })? {
+                return Ok(Some(seg));
+            }
+        }
+    }
+    Ok(None)
+}

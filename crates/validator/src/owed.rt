@@ -1,0 +1,173 @@
+// Stays and charges, recomputed over the whole list.
+ghost use Rattle.std.specs.Prelude.{◌≡◌, ◌≤◌, ◌<◌, ◌^◌, IfOk, ℕ, length, take, Some, slice_get};
+ghost use Rattle.road_time.specs.declared.road.Frac.{Frac};
+ghost use Rattle.road_time.specs.Tuples.{reports};
+ghost use Rattle.road_time.specs.Rates.{IsTariff, is_slow as is_slow_lem, toll_of as toll_of_lem};
+ghost use Rattle.road_time.specs.Tolls.{toll_at};
+ghost use Rattle.road_time.specs.Sights.{sight_of as sight_of_lem, sights as sights_lem, sights_of as sights_of_lem, previous as previous_lem};
+ghost use Rattle.road_time.specs.Stays.{begins as begins_lem, is_charged, stay_start as stay_start_lem};
+ghost use Rattle.road_time.specs.Day.{owed_amount};
+ghost use Rattle.road_time.specs.declared.road.Tuple.{Tuple as TupleValue};
+ghost use Rattle.road_time.specs.Fits.{IsDay};
+
+use crate::near::{plain_near, report_of};
+use crate::{plain_cars, plain_lav, stretch_of};
+use road_time::{Frac, NoMemory, Report, Stretch, Tariff, Tariffs, Tuple, minute};
+use std::alloc::Global;
+
+/// The newest of a vehicle's reports.
+fn previous(own: &[(usize, Report)]) -> Option<Report>
+    ensures { result ≡ previous_lem own.now }
+{
+    match own.split_first() {
+        None => None,
+        Some((newest, _)) => Some(newest.1),
+    }
+}
+
+/// The report begins a stay, after its vehicle's previous report.
+pub fn begins(prev: Option<Report>, r: &Report) -> bool
+    ensures { result ≡ begins_lem prev r.now }
+{
+    match prev {
+        None => true,
+        Some(prev) => stretch_of(&prev) != stretch_of(r) || prev.lane == 4 && r.lane != 4,
+    }
+}
+
+/// Of a vehicle's reports, the newest first, the one that began the stay of the newest.
+fn stay_start(own: &[(usize, Report)]) -> Option<(usize, Report)>
+    ensures { result ≡ stay_start_lem own.now }
+{
+    let mut rest = own;
+    while let Some((newest, older)) = rest.split_first() {
+        if begins(previous(older), &newest.1) {
+            return Some(*newest);
+        }
+        rest = older;
+    }
+    None
+}
+
+fn is_slow(speed: u8, average: Option<Frac>) -> bool
+    requires speed { speed ≤ 100 }
+    requires fits { (f : Frac) → average ≡ Some f → f.den < 2 ^ 120 }
+    ensures { result ≡ is_slow_lem speed average }
+{
+    match average {
+        None => false,
+        Some(f) => f.num < u128::from(speed) * f.den,
+    }
+}
+
+pub fn toll_of(tariff: Tariff, count: u32, average: Option<Frac>, blocked: bool) -> u64
+    requires valid { IsTariff tariff }
+    requires few { count ≤ 500000 }
+    requires fits { (f : Frac) → average ≡ Some f → f.den < 2 ^ 120 }
+    ensures { result ≡ toll_of_lem tariff count average blocked }
+{
+    if count > tariff.crowd && is_slow(tariff.speed, average) && !blocked {
+        let over = u64::from(count - tariff.crowd);
+        (u64::from(tariff.factor) * (over * over)).min(500_000_000_000)
+    } else {
+        0
+    }
+}
+
+/// The toll of the stretch in the minute.
+pub fn plain_toll(
+    alloc: Global,
+    tuples: &[Tuple],
+    tariffs: &Tariffs,
+    in_minute: u32,
+    stretch: Stretch,
+) -> Result<u64, NoMemory>
+    requires fit { IsDay tuples.now }
+    requires first { 1 ≤ in_minute }
+    requires last { in_minute ≤ 1440 }
+    requires segment { stretch.seg ≤ 99 }
+    requires direction { stretch.dir ≤ 1 }
+    ensures { IfOk result (λ n. n ≡ toll_at (reports tuples.now) tariffs.now in_minute stretch) }
+{
+    let count = plain_cars(alloc, tuples, in_minute, stretch)?;
+    let average = plain_lav(alloc, tuples, in_minute, stretch)?;
+    let nearest = plain_near(alloc, tuples, in_minute, stretch)?;
+    Ok(toll_of(tariffs.of(stretch.xway), count, average, nearest.is_some()))
+}
+
+/// The report that a tuple is, with the tuple's position.
+fn sight_of(at: usize, tuple: &Tuple) -> Option<(usize, Report)>
+    ensures { result ≡ sight_of_lem (at, tuple.now) }
+{
+    match tuple {
+        Tuple::Report(r) => Some((at, *r)),
+        _ => None,
+    }
+}
+
+fn sights(alloc: Global, tuples: &[Tuple]) -> Result<Vec<(usize, Report)>, NoMemory>
+    ensures { IfOk result (λ all. all.items ≡ sights_lem tuples.now) }
+{
+    Ok(
+        tuples
+            .iter()
+            .enumerate()
+            .filter_map(|(at, tuple)| sight_of(at, tuple))
+            .collect(alloc)?,
+    )
+}
+
+/// The vehicle's reports, the newest first.
+fn sights_of(alloc: Global, tuples: &[Tuple], vid: u32) -> Result<Vec<(usize, Report)>, NoMemory>
+    ensures { IfOk result (λ own. own.items ≡ sights_of_lem tuples.now vid) }
+{
+    let all = sights(alloc, tuples)?;
+    Ok(
+        all.iter()
+            .rev()
+            .filter(|s| s.1.vid == vid)
+            .copied()
+            .collect(alloc)?,
+    )
+}
+
+/// A report leaves a stay that is charged, after its vehicle's previous report.
+pub fn leaves_stay(prev: Option<Report>, r: &Report) -> bool
+    ensures { result ≡ is_charged prev r.now }
+{
+    match prev {
+        None => false,
+        Some(newest) => begins(prev, r) && newest.lane != 4,
+    }
+}
+
+/// The charge that the tuple at the position causes, 0 for none.
+pub fn plain_owed(
+    alloc: Global,
+    tuples: &[Tuple],
+    tariffs: &Tariffs,
+    position: usize,
+) -> Result<u64, NoMemory>
+    requires fit { IsDay tuples.now }
+    requires inside { position < length tuples.now }
+    ensures { IfOk result (λ n. (x : TupleValue) → slice_get tuples.now position ≡ Some x → n ≡ owed_amount tuples.now tariffs.now (take position tuples.now, x)) }
+{
+    let Some(r) = report_of(&tuples[position]) else {
+        return Ok(0);
+    };
+    let own = sights_of(alloc, &tuples[..position], r.vid)?;
+    if !leaves_stay(previous(own.as_slice()), &r) {
+        return Ok(0);
+    }
+    let Some(start) = stay_start(own.as_slice()) else {
+        return Ok(0);
+    };
+    let toll = plain_toll(
+        alloc,
+        tuples,
+        tariffs,
+        minute(start.1.time),
+        stretch_of(&start.1),
+    )?;
+    Ok(toll)
+}
