@@ -13,7 +13,7 @@ use Rattle.road_time.proofs.AllowedLaws.{admitted}
 use Rattle.road_time.proofs.LateLaws.{Given, given_stay, given_push}
 
 -- the front of n tuples, with those of one line more
-abbrev Stays : ℕ → ℕ → List Tuple → List Tuple → Type 0
+abbrev pub Stays : ℕ → ℕ → List Tuple → List Tuple → Type 0
 Stays late n before after = (take n (by_time after) ≡ take n (by_time before)) × Given late n after × (n ≤ length after)
 
 stays_by : (limits : Limits) (late n : ℕ) (before : List Tuple) (r : Result (Option Tuple) Fault) → Given late n before → n ≤ length before → fault_of_form limits late before r ≡ None → Stays late n before (before ++ cons_option (formed r) [])
@@ -25,7 +25,8 @@ stays_by limits late n before (Ok (Some x)) h few e =
     let soon = (admitted limits late before x e).0 in
     (given_stay late n before x h few soon, given_push late n before x h few soon, omega (arith, length_push before x))
 
-stays_line : (limits : Limits) (late n : ℕ) (before : List (List ℕ)) (l : List ℕ) → Given late n (tuples_of before) → n ≤ length (tuples_of before) → line_fault limits late before l ≡ None → Stays late n (tuples_of before) (tuples_of (before ++ l ∷ []))
+-- a line that is let in comes behind the front
+pub stays_line : (limits : Limits) (late n : ℕ) (before : List (List ℕ)) (l : List ℕ) → Given late n (tuples_of before) → n ≤ length (tuples_of before) → line_fault limits late before l ≡ None → Stays late n (tuples_of before) (tuples_of (before ++ l ∷ []))
 stays_line limits late n before l h few e =
     subst (Stays late n (tuples_of before)) (sym (tuples_push before l)) (stays_by limits late n (tuples_of before) (form (without_cr l)) h few (line_parts limits late before l e).1)
 

@@ -19,7 +19,7 @@ use Rattle.import_once.specs.Readings.{ReadsOn, GivesOut, EndsWhole, EndsRefused
 use Rattle.import_once.proofs.FrontLaws.{kept_in_front}
 
 -- one more of a list's first
-take_next : {X : Type 0} (n : ℕ) (xs : List X) (x : X) → slice_get xs n ≡ Some x → take (n + 1) xs ≡ take n xs ++ x ∷ []
+pub take_next : {X : Type 0} (n : ℕ) (xs : List X) (x : X) → slice_get xs n ≡ Some x → take (n + 1) xs ≡ take n xs ++ x ∷ []
 take_next n xs x e = take_more xs n x (slice_get_within xs n x e) ∙ ap (λ y. take n xs ++ y ∷ []) (get_or_from_slice_get xs n x x e)
 
 -- a front of a list is no longer than it

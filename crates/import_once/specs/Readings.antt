@@ -4,6 +4,7 @@ use Rattle.road_time.specs.declared.road.Tuple.{Tuple}
 use Rattle.road_time.specs.declared.day.Limits.{Limits}
 use Rattle.road_time.specs.Lines.{lines_of}
 use Rattle.road_time.specs.Form.{Fault}
+use Rattle.road_time.specs.Fits.{Allowed, Fit}
 use Rattle.road_time.specs.Order.{by_time}
 use Rattle.road_time.specs.Reads.{reads, accepts, accepts_after, tuples_of}
 use Rattle.road_io.specs.Cutter.{ahead, number_of}
@@ -93,3 +94,44 @@ Gives (Err (Refused line cause)) r limits late left bytes given =
     (given ≡ (reads bytes limits late).tuples) × EndsRefused line cause limits late bytes
 Gives (Err ReadFault) r limits late left bytes given = Unit {0}
 Gives (Err NoMemory) r limits late left bytes given = Unit {0}
+
+-- What is known of a reader also over a source that does not tell its bytes: what was given is a day that the limits allow.
+
+-- so much of the order of Time was given of what was put
+abbrev pub GaveOf : Sorting → ℕ → List Tuple → List Tuple → Bool → Type 0
+GaveOf sorter late put given ended = IsSorting sorter late put (length given) ended × IsFrontOf given (by_time put)
+
+-- lines are read on after some that were all let in
+pub record Gathers (number : ℕ) (gate : Gate) (sorter : Sorting) (limits : Limits) (late : ℕ) (given : List Tuple) : Type 0 where
+  pub before : List (List ℕ)
+  pub allowed : Allowed (tuples_of before) limits
+  pub number_is : number ≡ length before
+  pub gate_is : StandsFor gate limits late (tuples_of before)
+  pub gave : GaveOf sorter late (tuples_of before) given false
+
+-- lines are read no more, and what was let in waits
+pub record Gathered (sorter : Sorting) (limits : Limits) (late : ℕ) (given : List Tuple) : Type 0 where
+  pub put : List Tuple
+  pub ended : Bool
+  pub allowed : Allowed put limits
+  pub gave : GaveOf sorter late put given ended
+
+-- what was let in, by how the reading of lines stands
+abbrev pub GathersAt : Option Ending → ℕ → Gate → Sorting → Limits → ℕ → List Tuple → Type 0
+GathersAt None number gate sorter limits late given = Gathers number gate sorter limits late given
+GathersAt (Some Whole) number gate sorter limits late given = Gathered sorter limits late given
+GathersAt (Some (Stopped (Refused line cause))) number gate sorter limits late given = Gathered sorter limits late given
+GathersAt (Some (Stopped ReadFault)) number gate sorter limits late given = Unit {0}
+GathersAt (Some (Stopped NoMemory)) number gate sorter limits late given = Unit {0}
+
+-- a reader gave these tuples, which the limits allow
+pub record IsGathering (r : DayReader) (limits : Limits) (late : ℕ) (given : List Tuple) : Type 0 where
+  pub line_limit : r.intake.line_limit ≡ limits.lines
+  pub fit : Fit given limits
+  pub stands : GathersAt r.end (number_of r.cutter) r.intake.gate r.intake.sorter limits late given
+
+-- an answer of `next`: one tuple more, or no more
+abbrev pub GathersOn : Result (Option Tuple) ReadEnd → DayReader → Limits → ℕ → List Tuple → Type 0
+GathersOn (Ok (Some x)) r limits late given = IsGathering r limits late (given ++ x ∷ [])
+GathersOn (Ok None) r limits late given = IsGathering r limits late given
+GathersOn (Err e) r limits late given = Unit {0}

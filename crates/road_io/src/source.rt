@@ -7,7 +7,7 @@ ghost use Rattle.road_io.specs.Plans.{AsPlanned};
 
 use std::io::Read;
 
-/// A read that failed.
+/// A read or a write that failed.
 #[derive(Clone, Copy, Debug, PartialEq, Eq)]
 pub struct Failed;
 

@@ -45,13 +45,17 @@ fn lines_at_their_limits(rt: HostRuntime) -> Result<(), NoMemory> {
     for piece in [1, 7, 65_536] {
         let whole = cut_all(alloc, &ones[..200], piece, &[])?;
         assert!(rt;
-            whole.lengths.as_slice() == [200].as_slice() && whole.taken == 200 && whole.end == Ok(false)
+            whole.lengths.as_slice() == [200].as_slice()
+                && whole.taken == 200
+                && whole.end == Ok(false)
         );
         let long = cut_all(alloc, &ones, piece, &[])?;
         assert!(rt; long.lengths.is_empty() && long.end == Err(LineFault::LongLine(1)));
         let three = cut_all(alloc, b"ab\n\nc\r\n", piece, &[])?;
         assert!(rt;
-            three.lengths.as_slice() == [2, 0, 2].as_slice() && three.taken == 7 && three.end == Ok(false)
+            three.lengths.as_slice() == [2, 0, 2].as_slice()
+                && three.taken == 7
+                && three.end == Ok(false)
         );
         let none = cut_all(alloc, b"", piece, &[])?;
         assert!(rt; none.lengths.is_empty() && none.end == Ok(false));
@@ -59,7 +63,9 @@ fn lines_at_their_limits(rt: HostRuntime) -> Result<(), NoMemory> {
         assert!(rt; failed.lengths.is_empty() && failed.end == Err(LineFault::ReadFault));
     }
     let later = cut_all(alloc, b"ab\nc", 1, &[3])?;
-    assert!(rt; later.lengths.as_slice() == [2].as_slice() && later.end == Err(LineFault::ReadFault));
+    assert!(rt;
+        later.lengths.as_slice() == [2].as_slice() && later.end == Err(LineFault::ReadFault)
+    );
     Ok(())
 }
 

@@ -23,7 +23,7 @@ pub enum Cause {
     TooOften(u32, u32),
     /// A report of a new vehicle, where as many as this limit have reported.
     Vehicles(u32),
-    /// The line is longer than what is read so far.
+    /// The line is one that is not taken yet.
     NotYet,
 }
 

@@ -24,6 +24,6 @@ pub use fields::{count_fields, number, split_field};
 pub use gatekeeper::{AdmitFault, Gatekeeper};
 pub use notice_reader::read_notice;
 pub use notices::put_notice;
-pub use reader::read_line;
+pub use reader::{read_line, trimmed};
 pub use sorter::Sorter;
 pub use tuple_lines::put_tuple;

@@ -12,7 +12,7 @@ use road_time::Tuple;
 
 /// The line without one last CR.
 #[inline(always)]
-fn trimmed(line: &[u8]) -> &[u8]
+pub fn trimmed(line: &[u8]) -> &[u8]
     ensures { result.now ≡ without_cr line.now }
 {
     let count = line.len();

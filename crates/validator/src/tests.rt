@@ -273,7 +273,7 @@ fn worked_rows_have_their_notices(rt: HostRuntime) -> Result<(), Fail> {
     row(
         &rt,
         alloc,
-        "stops broken in a second",
+        "one of two leaves in the same second",
         Vec::new(alloc),
         &[
             report(0, 1, 0, 0, 2, 0, 10, 55000),
@@ -293,7 +293,7 @@ fn worked_rows_have_their_notices(rt: HostRuntime) -> Result<(), Fail> {
     row(
         &rt,
         alloc,
-        "one of two leaves",
+        "stopped on another way",
         pair(alloc, 0, 10, 55000)?,
         &[
             report(130, 2, 50, 1, 0, 0, 3, 15840),
@@ -311,7 +311,7 @@ fn worked_rows_have_their_notices(rt: HostRuntime) -> Result<(), Fail> {
     row(
         &rt,
         alloc,
-        "stopped on another way",
+        "stops broken by another way",
         Vec::new(alloc),
         &[
             report(0, 1, 0, 0, 2, 0, 10, 55000),

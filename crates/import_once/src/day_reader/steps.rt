@@ -6,7 +6,7 @@ ghost use Rattle.road_io.specs.Faults.{Rose};
 ghost use Rattle.road_io.specs.Plans.{NeverFails};
 ghost use Rattle.road_io.specs.Cutter.{number_of};
 ghost use Rattle.keeper.specs.Digests.{digest_of};
-ghost use Rattle.import_once.specs.Readings.{IsReading, IsGivingOut, Gives, HasTaken, HasFailed};
+ghost use Rattle.import_once.specs.Readings.{IsReading, IsGathering, IsGivingOut, Gives, GathersOn, HasTaken, HasFailed};
 ghost use Rattle.import_once.specs.declared.ending.Ending.{Ending as EndingValue};
 ghost use Rattle.road_time.specs.Reads.{reads};
 ghost use Rattle.import_once.specs.declared.ending.ReadEnd.TheVariants.{ReadFault};
@@ -27,6 +27,7 @@ impl DayReader {
     pub fn new(alloc: Global, limits: &Limits, late: u8) -> Result<DayReader, NoMemory>
         requires { late ≤ 120 }
         ensures reading { IfOk result (λ r. (bytes : List ℕ) → IsReading r limits.now late (Some bytes) bytes []) }
+        ensures gathering { IfOk result (λ r. IsGathering r limits.now late []) }
         ensures unfailed { IfOk result (λ r. HasFailed r → ⊥) }
     {
         let cutter = LineCutter::new(alloc)?;
@@ -71,6 +72,7 @@ impl DayReader {
     fn read_one<S: Source>(&mut self, source: &mut S) -> Option<Ending>
         requires { self.old.end ≡ None }
         ensures reading { (limits : LimitsValue) (late : ℕ) (bytes : List ℕ) (given : List TupleValue) → IsReading self.old limits late (S.left source.old) bytes given → IsReading self.new limits late (S.left source.new) bytes given }
+        ensures gathering { (limits : LimitsValue) (late : ℕ) (given : List TupleValue) → IsGathering self.old limits late given → IsGathering self.new limits late given }
         ensures end { self.new.end ≡ result }
         ensures next { IfNone result (number_of self.new.cutter ≡ number_of self.old.cutter + 1) }
         ensures limit { self.new.intake.line_limit ≡ self.old.intake.line_limit }
@@ -108,6 +110,7 @@ impl DayReader {
     fn next_out(&mut self) -> Option<Tuple>
         ensures some { IfSome result (λ x. (end : EndingValue) → self.old.end ≡ Some end → IsGivingOut end → (limits : LimitsValue) (late : ℕ) (left : Option (List ℕ)) (bytes : List ℕ) (given : List TupleValue) → IsReading self.old limits late left bytes given → IsReading self.new limits late left bytes (given ++ x ∷ [])) }
         ensures none { IfNone result ((end : EndingValue) → self.old.end ≡ Some end → IsGivingOut end → (limits : LimitsValue) (late : ℕ) (left : Option (List ℕ)) (bytes : List ℕ) (given : List TupleValue) → IsReading self.old limits late left bytes given → IsReading self.new limits late left bytes given × (given ≡ (reads bytes limits late).tuples)) }
+        ensures gathers { (end : EndingValue) → self.old.end ≡ Some end → IsGivingOut end → (limits : LimitsValue) (late : ℕ) (given : List TupleValue) → IsGathering self.old limits late given → GathersOn (Ok result) self.new limits late given }
         ensures end { self.new.end ≡ self.old.end }
         ensures consumed { self.new.consumed ≡ self.old.consumed }
         ensures cutter { self.new.cutter ≡ self.old.cutter }
@@ -127,6 +130,7 @@ impl DayReader {
         requires { self.old.end ≡ None }
         ensures some { IfSome result (λ x. (limits : LimitsValue) (late : ℕ) (left : Option (List ℕ)) (bytes : List ℕ) (given : List TupleValue) → IsReading self.old limits late left bytes given → IsReading self.new limits late left bytes (given ++ x ∷ [])) }
         ensures none { IfNone result (self.new ≡ self.old) }
+        ensures gathers { (limits : LimitsValue) (late : ℕ) (given : List TupleValue) → IsGathering self.old limits late given → GathersOn (Ok result) self.new limits late given }
         ensures end { self.new.end ≡ None }
     {
         let _limit = self.intake.line_limit;
@@ -143,6 +147,7 @@ impl DayReader {
     fn drain_stopped(&mut self, stop: ReadEnd) -> Result<Option<Tuple>, ReadEnd>
         requires { self.old.end ≡ Some (Stopped stop) }
         ensures gives { (limits : LimitsValue) (late : ℕ) (left : Option (List ℕ)) (bytes : List ℕ) (given : List TupleValue) → IsReading self.old limits late left bytes given → Gives result self.new limits late left bytes given }
+        ensures gathers { (limits : LimitsValue) (late : ℕ) (given : List TupleValue) → IsGathering self.old limits late given → GathersOn result self.new limits late given }
         ensures end { self.new.end ≡ self.old.end }
         ensures fault { result ≡ Err ReadFault ↔ (stop ≡ ReadFault) }
     {
@@ -160,6 +165,7 @@ impl DayReader {
     fn drain(&mut self, end: Ending) -> Result<Option<Tuple>, ReadEnd>
         requires { self.old.end ≡ Some end }
         ensures gives { (limits : LimitsValue) (late : ℕ) (left : Option (List ℕ)) (bytes : List ℕ) (given : List TupleValue) → IsReading self.old limits late left bytes given → Gives result self.new limits late left bytes given }
+        ensures gathers { (limits : LimitsValue) (late : ℕ) (given : List TupleValue) → IsGathering self.old limits late given → GathersOn result self.new limits late given }
         ensures end { self.new.end ≡ self.old.end }
         ensures fault { result ≡ Err ReadFault ↔ (end ≡ Stopped ReadFault) }
     {
@@ -175,6 +181,7 @@ impl DayReader {
     /// The next tuple of the day, or none at its end. A refused line is answered after all that was let in before it.
     pub fn next<S: Source>(&mut self, source: &mut S) -> Result<Option<Tuple>, ReadEnd>
         ensures gives { (limits : LimitsValue) (late : ℕ) (bytes : List ℕ) (given : List TupleValue) → IsReading self.old limits late (S.left source.old) bytes given → Gives result self.new limits late (S.left source.new) bytes given }
+        ensures gathers { (limits : LimitsValue) (late : ℕ) (given : List TupleValue) → IsGathering self.old limits late given → GathersOn result self.new limits late given }
         ensures later { S.faults source.old ≤ S.faults source.new }
         ensures cause { (HasFailed self.old → ⊥) → result ≡ Err ReadFault → Rose (S.faults source.old) (S.faults source.new) }
         ensures unfailed { (HasFailed self.old → ⊥) → result ≢ Err ReadFault → HasFailed self.new → ⊥ }

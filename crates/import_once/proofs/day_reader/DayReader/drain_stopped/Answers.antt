@@ -16,3 +16,8 @@ returns-in-None-clause-gives c = λ limits late left bytes given s.
     let t = c.in-None.ensures.none _ is tt limits late left bytes given s in
     let st = subst (λ o. StandsAt o (ahead self.cutter left) (number_of self.cutter) self.consumed self.intake.gate self.intake.sorter limits late bytes given) is s.stands in
     (t.1, st.1)
+
+pub returns-in-Some-clause-gathers : goal.returns-in-Some-clause-gathers
+returns-in-Some-clause-gathers c = λ limits late given s.
+    let is = c.requires ∙ ap (λ e. Some (Stopped e)) c.in-Refused.is in
+    c.in-Some.ensures.gathers _ is tt limits late given s

@@ -1,7 +1,8 @@
 use Rattle.std.proofs.Common.{◌≡◌, ◌+◌, ◌++◌, [], ◌∷◌, length, sym, subst, arith}
 use Rattle.std.proofs.lemmas.List.{length_push}
 use Rattle.road_io.specs.Cutter.{ahead, number_of}
-use Rattle.import_once.specs.Readings.{StandsAt}
+use Rattle.import_once.specs.Readings.{StandsAt, GathersAt}
+use Rattle.import_once.proofs.GatherLaws.{gathers_some, gathers_none}
 use Rattle.import_once.proofs.GiveLaws.{give_out, none_out, few_given}
 use Rattle.import_once.proofs.day_reader.DayReader.next_out.Goals as goal
 
@@ -31,3 +32,26 @@ returns-in-None-clause-none c = λ end is out limits late left bytes given s.
       },
       t.1,
     )
+
+pub returns-in-Some-clause-gathers : goal.returns-in-Some-clause-gathers
+returns-in-Some-clause-gathers c = λ end is out limits late given s.
+    let self = c.args.self.now in
+    let x = c.in-Some.tuple in
+    let st = subst (λ o. GathersAt o (number_of self.cutter) self.intake.gate self.intake.sorter limits late given) is s.stands in
+    let t = gathers_some end limits late given x (number_of self.cutter) self.intake.gate self.intake.sorter c.end.new.self out (λ put taken ended k. c.in-Some.ensures.next late put taken ended k) st in
+    record {
+      line_limit = s.line_limit;
+      fit = t.0;
+      stands = subst (λ o. GathersAt o (number_of self.cutter) self.intake.gate c.end.new.self limits late (given ++ x ∷ [])) (sym is) t.1;
+    }
+
+pub returns-in-None-clause-gathers : goal.returns-in-None-clause-gathers
+returns-in-None-clause-gathers c = λ end is out limits late given s.
+    let self = c.args.self.now in
+    let st = subst (λ o. GathersAt o (number_of self.cutter) self.intake.gate self.intake.sorter limits late given) is s.stands in
+    let t = gathers_none end limits late given (number_of self.cutter) self.intake.gate self.intake.sorter c.end.new.self out (λ put taken ended k. c.in-None.ensures.none late put taken ended k) st in
+    record {
+      line_limit = s.line_limit;
+      fit = s.fit;
+      stands = subst (λ o. GathersAt o (number_of self.cutter) self.intake.gate c.end.new.self limits late given) (sym is) t;
+    }

@@ -5,7 +5,8 @@ use Rattle.road_io.specs.declared.cutter.LineFault.TheVariants.{LongLine}
 use Rattle.tuple_format.specs.declared.cause.Cause.TheVariants as causes
 use Rattle.import_once.specs.declared.ending.Ending.{Ending}
 use Rattle.import_once.specs.Lines.{TakesLine, refusal}
-use Rattle.import_once.specs.Readings.{StandsAt, HasTaken}
+use Rattle.import_once.specs.Readings.{StandsAt, GathersAt, HasTaken}
+use Rattle.import_once.proofs.GatherLaws.{gather_line, gather_end}
 use Rattle.import_once.proofs.StepLaws.{after_line, long_line}
 use Rattle.import_once.proofs.day_reader.DayReader.read_one.Goals as goal
 
@@ -53,4 +54,32 @@ returns-in-Err-LongLine-clause-reading g c = λ limits late bytes given s.
       count = s.count;
       front = s.front;
       stands = subst (λ (e : Ending). StandsAt (Some e) after (number_of new) self.consumed self.intake.gate self.intake.sorter limits late bytes given) (sym c.refused.ensures) long;
+    }
+
+pub returns-in-Ok-true-clause-gathering : goal.returns-in-Ok-true-clause-gathering
+returns-in-Ok-true-clause-gathering g c = λ limits late given s.
+    let self = c.args.self.now in
+    let old = self.cutter in
+    let new = c.advance.new.self in
+    let on = subst (λ o. GathersAt o (number_of old) self.intake.gate self.intake.sorter limits late given) c.requires s.stands in
+    let res : c.advance.result ≡ Ok true = cc in
+    let stands = subst (λ r. Stands r (number_of old) new) res (c.advance.ensures.stands (self.unbroken c.requires)) in
+    let judged = c.take-end.ensures.takes limits late (sym s.line_limit) in
+    let judged_line = subst (λ l. TakesLine limits late c.take-end.result c.number.result l self.intake.gate c.take-end.new.self.gate self.intake.sorter c.take-end.new.self.sorter) c.line.ensures judged in
+    let judged_here = subst (λ n. TakesLine limits late c.take-end.result n (line_of new) self.intake.gate c.take-end.new.self.gate self.intake.sorter c.take-end.new.self.sorter) c.number.ensures judged_line in
+    record {
+      line_limit = c.take-end.ensures.limit ∙ s.line_limit;
+      fit = s.fit;
+      stands = gather_line limits late given c.take-end.result (line_of new) (number_of old) (number_of new) self.intake.gate c.take-end.new.self.gate self.intake.sorter c.take-end.new.self.sorter on stands.0 judged_here;
+    }
+
+pub returns-in-Err-LongLine-clause-gathering : goal.returns-in-Err-LongLine-clause-gathering
+returns-in-Err-LongLine-clause-gathering g c = λ limits late given s.
+    let self = c.args.self.now in
+    let new = c.advance.new.self in
+    let on = subst (λ o. GathersAt o (number_of self.cutter) self.intake.gate self.intake.sorter limits late given) c.requires s.stands in
+    record {
+      line_limit = s.line_limit;
+      fit = s.fit;
+      stands = subst (λ (e : Ending). GathersAt (Some e) (number_of new) self.intake.gate self.intake.sorter limits late given) (sym c.refused.ensures) (gather_end limits late given (number_of self.cutter) self.intake.gate self.intake.sorter on);
     }

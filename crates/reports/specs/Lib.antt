@@ -1,0 +1,2 @@
+pub mod AccidentLog
+pub mod Endings
