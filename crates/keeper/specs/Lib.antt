@@ -1,1 +1,8 @@
 pub mod Digests
+pub mod History
+pub mod Office
+pub mod Kept
+pub mod Calls
+pub mod Memory
+pub mod Laws
+pub mod PastReads
