@@ -1,6 +1,7 @@
 -- What each command means.
-use Rattle.std.specs.Prelude.{◌≡◌, ◌&&◌, ℕ, Bool, List, Option, Some, None, codes, length, nat_le, find}
+use Rattle.std.specs.Prelude.{◌≡◌, ◌≤◌, ◌&&◌, ℕ, Bool, List, Option, Some, None, codes, length, nat_le, find}
 use Rattle.std.specs.Prelude.{if◌then◌else◌, option_and_then, option_map, Result, Ok, Err}
+use Rattle.std.specs.Option.{option_map_or}
 use Rattle.std.specs.Str.{bytes_eq}
 use Rattle.std.specs.Char.{is_ascii_digit}
 use Rattle.std.specs.List.{list_all}
@@ -26,6 +27,10 @@ number low high text = if is_number low high text then Some (digits_value 10 tex
 abbrev pub needed : ℕ → ℕ → Option Text → Option ℕ
 needed low high value = option_and_then (number low high) value
 
+-- the number of an option, which has a default
+abbrev pub optional : ℕ → ℕ → ℕ → Option Text → Option ℕ
+optional low high default value = option_map_or (number low high) value (Some default)
+
 -- what follows, if there is a value
 abbrev pub with : {A B : Type 0} → Option A → (A → Option B) → Option B
 with x f = option_and_then f x
@@ -38,13 +43,25 @@ Values = Text → Option Text
 abbrev pub day_in : Values → Option ℕ
 day_in value = needed 70 1000000 (value (codes "day"))
 
+-- by how many seconds lines may come late
+abbrev pub late_in : Values → Option ℕ
+late_in value = optional 0 120 0 (value (codes "late"))
+
 -- the command `answers DAY`
 abbrev pub answers_in : Values → Option Command
-answers_in value = with (day_in value) (λ day. Some (command.Answers day))
+answers_in value = with (day_in value) (λ day. with (late_in value) (λ late. Some (command.Answers day late)))
+
+-- the command `validate DAY`
+abbrev pub validate_in : Values → Option Command
+validate_in value = with (day_in value) (λ day. with (late_in value) (λ late. Some (command.Validate day late)))
 
 -- the command of a name, with the values of its names
 abbrev pub meaning : Text → Values → Option Command
-meaning name value = if bytes_eq name (codes "answers") then answers_in value else None
+meaning name value =
+    if bytes_eq name (codes "answers") then answers_in value
+    else (if bytes_eq name (codes "validate") then validate_in value
+    else (if bytes_eq name (codes "accidents") then with (late_in value) (λ late. Some (command.Accidents late))
+    else None))
 
 -- the value that was said of a name
 abbrev pub value_of : Said → Values
@@ -60,3 +77,9 @@ Reads None (Ok c) = ⊥
 Reads None (Err e) = Unit {0}
 Reads (Some c) (Ok d) = d ≡ c
 Reads (Some c) (Err e) = e ≡ fault.NoMemory
+
+-- a command's numbers are in their ranges
+abbrev pub IsInRange : Command → Type 0
+IsInRange (command.Answers day late) = (70 ≤ day) × (day ≤ 1000000) × (late ≤ 120)
+IsInRange (command.Validate day late) = (70 ≤ day) × (day ≤ 1000000) × (late ≤ 120)
+IsInRange (command.Accidents late) = late ≤ 120

@@ -8,5 +8,7 @@ form name places options = record { name = name; places = places; options = opti
 
 -- what is built: each command with its places and its options
 abbrev pub forms : List Form
-forms = form (codes "answers") (codes "day" ∷ []) []
+forms = form (codes "answers") (codes "day" ∷ []) (codes "late" ∷ [])
+    ∷ form (codes "validate") (codes "day" ∷ []) (codes "late" ∷ [])
+    ∷ form (codes "accidents") [] (codes "late" ∷ [])
     ∷ []

@@ -4,7 +4,7 @@ ghost use Rattle.std.specs.Char.{is_ascii_digit};
 ghost use Rattle.std.specs.List.{list_all};
 ghost use Rattle.std.specs.Str.Parse.{digits_value};
 ghost use Rattle.clap.specs.Words.{first_value, found_of};
-ghost use Rattle.office_words.specs.Meaning.{number, needed};
+ghost use Rattle.office_words.specs.Meaning.{number, needed, optional};
 
 use clap::ArgMatches;
 
@@ -27,7 +27,7 @@ fn value_of(text: &str) -> Option<u64>
 /// The number that the text writes in 1 to 20 digits, where it lies in the range.
 pub fn number(text: &str, low: u64, high: u64) -> Option<u64>
     ensures value { result ≡ number low high text.now }
-    ensures within { IfSome result (λ n. n ≤ high) }
+    ensures within { IfSome result (λ n. (low ≤ n) × (n ≤ high)) }
 {
     if text.is_empty() || text.len() > 20 || !is_digits(text) {
         return None;
@@ -39,7 +39,26 @@ pub fn number(text: &str, low: u64, high: u64) -> Option<u64>
 /// The number in a place.
 pub fn needed(matches: &ArgMatches<'_>, id: &str, low: u64, high: u64) -> Option<u64>
     ensures value { result ≡ needed low high (first_value (found_of matches.now) id.now) }
-    ensures within { IfSome result (λ n. n ≤ high) }
+    ensures within { IfSome result (λ n. (low ≤ n) × (n ≤ high)) }
 {
     number(matches.get_str(id)?, low, high)
+}
+
+/// The number of an option.
+pub fn optional(
+    matches: &ArgMatches<'_>,
+    id: &str,
+    low: u64,
+    high: u64,
+    default: u64,
+) -> Option<u64>
+    requires least { low ≤ default }
+    requires most { default ≤ high }
+    ensures value { result ≡ optional low high default (first_value (found_of matches.now) id.now) }
+    ensures within { IfSome result (λ n. (low ≤ n) × (n ≤ high)) }
+{
+    match matches.get_str(id) {
+        Some(text) => number(text, low, high),
+        None => Some(default),
+    }
 }

@@ -74,7 +74,9 @@ fn bare<'a>(alloc: Global) -> Command<'a>
 fn office<'a>(alloc: Global) -> Result<Command<'a>, AllocError>
     ensures { IfOk result (λ c. app_of c ≡ app_of_forms forms) }
 {
-    with(alloc, bare(alloc), "answers", &["day"], &[])
+    let top = with(alloc, bare(alloc), "answers", &["day"], &["late"])?;
+    let top = with(alloc, top, "validate", &["day"], &["late"])?;
+    with(alloc, top, "accidents", &[], &["late"])
 }
 
 /// What clap makes of the words.

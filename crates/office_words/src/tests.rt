@@ -20,11 +20,24 @@ fn read(alloc: Global, words: &[&str]) -> Result<Command, WordFault> {
 #[test]
 fn words_and_their_commands(rt: HostRuntime) {
     let alloc = rt.alloc();
-    let hundred = Ok(Command::Answers { day: 100 });
+    let hundred = Ok(Command::Answers { day: 100, late: 0 });
+    let late = Ok(Command::Answers { day: 100, late: 5 });
     let words = Err(WordFault::Words);
     assert!(rt; read(alloc, &["answers", "100"]) == hundred);
     assert!(rt; read(alloc, &["answers", "0000100"]) == hundred);
     assert!(rt; read(alloc, &["answers", "--", "100"]) == hundred);
+    assert!(rt; read(alloc, &["answers", "--late=5", "100"]) == late);
+    assert!(rt; read(alloc, &["answers", "--late", "5", "100"]) == late);
+    assert!(rt; read(alloc, &["answers", "--late=5", "--", "100"]) == late);
+    assert!(rt; read(alloc, &["validate", "100"]) == Ok(Command::Validate { day: 100, late: 0 }));
+    assert!(rt; read(alloc, &["accidents"]) == Ok(Command::Accidents { late: 0 }));
+    assert!(rt;
+        read(alloc, &["accidents", "--late", "120"]) == Ok(Command::Accidents { late: 120 })
+    );
+    assert!(rt; read(alloc, &["answers", "100", "--late", "121"]) == words);
+    assert!(rt; read(alloc, &["answers", "100", "--late="]) == words);
+    assert!(rt; read(alloc, &["answers", "100", "--late", "1", "--late", "1"]) == words);
+    assert!(rt; read(alloc, &["accidents", "100"]) == words);
     assert!(rt; read(alloc, &[]) == words);
     assert!(rt; read(alloc, &["answers"]) == words);
     assert!(rt; read(alloc, &["answers", "69"]) == words);

@@ -1,3 +1,3 @@
-pub mod FirstReport
-pub mod TakenLaws
 pub mod EndingLaws
+pub mod AsideLaws
+pub mod ValidateLaws

@@ -1,4 +1,6 @@
 pub mod Closings
-pub mod FirstLine
+pub mod Days
+pub mod Asides
+pub mod Entries
 pub mod Commands
 pub mod Endings

@@ -1,91 +1,86 @@
-// The command `answers DAY`: the notices of what is taken of the source.
-ghost use Rattle.std.specs.Prelude.{◌≡◌, ◌≢◌, ◌≤◌, ℕ, List, [], ◌∷◌, length, Some, Err, Ok, IsOk, IfOk};
+// The command `answers DAY`: the notices of a day.
+ghost use Rattle.std.specs.Prelude.{◌≡◌, ◌≢◌, ◌≤◌, ℕ, List, length, Some, Ok, IsOk, IfOk};
+ghost use Rattle.road_time.specs.Fits.{IsDay};
 ghost use Rattle.road_time.specs.Text.{out};
-ghost use Rattle.road_time.specs.declared.road.Tuple.TheVariants.{Report as ReportTuple};
 ghost use Rattle.road_io.specs.Faults.{Rose, HasCause};
 ghost use Rattle.road_io.specs.Plans.{NeverFails};
 ghost use Rattle.road_io.specs.Rooms.{Endless};
-ghost use Rattle.toll_office.specs.Commands.{answers_row, answers_to, answers_closing, notices_of_day, day_of, listed};
+ghost use Rattle.toll_office.specs.Days.{IsLimits};
+ghost use Rattle.toll_office.specs.Commands.{answers_row, answers_to, answers_closing, notices_of_day};
 ghost use Rattle.toll_office.specs.Endings.{Wrote};
 ghost use Rattle.toll_office.specs.declared.closing.Closing.TheVariants.{ReadFault, Words};
 
 use crate::closing::Closing;
-use crate::taken::{Stop, Taken, take_first};
+use crate::day::{Day, read_day, stopped};
 use road_io::{Failed, Sink, Source, put_all};
-use road_time::{NoMemory, Notice, Report};
+use road_time::{Limits, NoMemory, Notice, Tariffs, Tuple};
 use std::alloc::Global;
-use tuple_format::put_notice;
+use tuple_format::{Cause, put_notice};
+use validator::plain_notices;
 
-/// The notice of a day of one report: there is no average yet, no car in the minute before and no accident.
-fn only_notice(report: &Report) -> Option<Notice>
-    ensures { (day : ℕ) → notices_of_day day (ReportTuple report.now ∷ []) ≡ listed result }
+/// The notices of a day with this number, where no tariff is set and nothing is kept.
+fn notices_of(alloc: Global, number: u32, tuples: &[Tuple]) -> Result<Vec<Notice>, NoMemory>
+    requires fit { IsDay tuples.now }
+    requires low { 70 ≤ number }
+    requires high { number ≤ 1000000 }
+    ensures { IfOk result (λ all. all.items ≡ notices_of_day number tuples.now) }
 {
-    if report.lane == 4 {
-        return None;
-    }
-    Some(Notice::Toll {
-        vid: report.vid,
-        time: report.time,
-        lav: -1,
-        toll: 0,
-    })
+    let tariffs = Tariffs::new(alloc);
+    let notices = plain_notices(alloc, tuples, &tariffs, number, &[])?;
+    Ok(notices)
 }
 
-/// The notice of what was taken.
-fn notice_of(taken: &Taken) -> Option<Notice>
-    ensures { (day : ℕ) → notices_of_day day (day_of taken.now.report) ≡ listed result }
-{
-    match &taken.report {
-        Some(report) => only_notice(report),
-        None => None,
-    }
-}
-
-/// The text of a notice, if there is one.
-fn text_of(alloc: Global, notice: Option<Notice>) -> Result<Vec<u8>, NoMemory>
-    ensures { IfOk result (λ text. text.items ≡ out (listed notice)) }
+/// The text of notices, a line each.
+fn text_of(alloc: Global, notices: &[Notice]) -> Result<Vec<u8>, NoMemory>
+    ensures { IfOk result (λ text. text.items ≡ out notices.now) }
 {
     let mut text = Vec::new(alloc);
-    if let Some(notice) = notice {
-        put_notice(&mut text, &notice)?;
+    for notice in notices {
+        put_notice(&mut text, notice)?;
     }
     Ok(text)
 }
 
-/// How the answers to what was taken end.
-fn closing_of(day: u32, taken: &Taken, notice: Option<Notice>) -> Closing
-    ensures { result ≡ answers_closing day (length (day_of taken.now.report)) (length (listed notice)) taken.now.refused }
+/// How the answers to a day end.
+fn closing_of(day: u32, tuples: usize, notices: usize, refused: Option<(u64, Cause)>) -> Closing
+    ensures { result ≡ answers_closing day tuples notices refused }
 {
-    match taken.refused {
+    match refused {
         Some((line, cause)) => Closing::Refused { line, cause },
         None => Closing::Answered {
             day,
-            tuples: u64::from(taken.report.is_some()),
-            notices: u64::from(notice.is_some()),
+            tuples: tuples as u64,
+            notices: notices as u64,
         },
     }
 }
 
-/// Writes the answers to what was taken.
+/// Writes the answers to a day that was read.
 fn write_answers<O: Sink>(
     alloc: Global,
-    day: u32,
-    taken: &Taken,
+    number: u32,
+    day: &Day,
     sink: &mut O,
-) -> Result<Closing, Failed>
-    ensures wrote { Wrote (answers_to day taken.now) result (O.written sink.old) (O.written sink.new) }
-    ensures unread { result ≢ Ok ReadFault }
-    ensures said { result ≢ Ok Words }
+) -> Result<Option<Closing>, Failed>
+    requires fit { IsDay day.now.tuples.items }
+    requires low { 70 ≤ number }
+    requires high { number ≤ 1000000 }
+    ensures wrote { Wrote (answers_to number day.now.tuples.items day.now.refused) result (O.written sink.old) (O.written sink.new) }
+    ensures unread { result ≢ Ok (Some ReadFault) }
+    ensures said { result ≢ Ok (Some Words) }
     ensures cause { HasCause (O.faults sink.old) (O.faults sink.new) result }
     ensures sure { O.room sink.old ≡ Endless → IsOk result × (O.room sink.new ≡ Endless) }
 {
-    let notice = notice_of(taken);
-    let text = match text_of(alloc, notice) {
+    let notices = match notices_of(alloc, number, day.tuples.as_slice()) {
+        Ok(notices) => notices,
+        Err(NoMemory) => return Ok(Some(Closing::NoMemory)),
+    };
+    let text = match text_of(alloc, notices.as_slice()) {
         Ok(text) => text,
-        Err(NoMemory) => return Ok(Closing::NoMemory),
+        Err(NoMemory) => return Ok(Some(Closing::NoMemory)),
     };
     match put_all(sink, text.as_slice()) {
-        Ok(()) => Ok(closing_of(day, taken, notice)),
+        Ok(()) => Ok(Some(closing_of(number, day.tuples.len(), notices.len(), day.refused))),
         Err(failed) => Err(failed),
     }
 }
@@ -94,20 +89,25 @@ fn write_answers<O: Sink>(
 pub fn answers<S: Source, O: Sink>(
     alloc: Global,
     day: u32,
+    late: u8,
+    limits: &Limits,
     source: &mut S,
     sink: &mut O,
-) -> Result<Closing, Failed>
-    ensures wrote { (bytes : List ℕ) → S.left source.old ≡ Some bytes → Wrote (answers_row day bytes) result (O.written sink.old) (O.written sink.new) }
-    ensures said { result ≢ Ok Words }
-    ensures read_cause { result ≡ Ok ReadFault → Rose (S.faults source.old) (S.faults source.new) }
+) -> Result<Option<Closing>, Failed>
+    requires low { 70 ≤ day }
+    requires high { day ≤ 1000000 }
+    requires soon { late ≤ 120 }
+    requires limits { IsLimits limits.now }
+    ensures wrote { (bytes : List ℕ) → S.left source.old ≡ Some bytes → Wrote (answers_row limits.now day late bytes) result (O.written sink.old) (O.written sink.new) }
+    ensures said { result ≢ Ok (Some Words) }
+    ensures read_cause { result ≡ Ok (Some ReadFault) → Rose (S.faults source.old) (S.faults source.new) }
     ensures read_later { S.faults source.old ≤ S.faults source.new }
-    ensures read_sure { NeverFails (S.plan source.old) → result ≢ Ok ReadFault }
+    ensures read_sure { NeverFails (S.plan source.old) → result ≢ Ok (Some ReadFault) }
     ensures write_cause { HasCause (O.faults sink.old) (O.faults sink.new) result }
     ensures write_sure { O.room sink.old ≡ Endless → IsOk result × (O.room sink.new ≡ Endless) }
 {
-    match take_first(alloc, source) {
-        Ok(taken) => write_answers(alloc, day, &taken, sink),
-        Err(Stop::ReadFault) => Ok(Closing::ReadFault),
-        Err(Stop::NoMemory) => Ok(Closing::NoMemory),
+    match read_day(alloc, limits, late, source) {
+        Ok(read) => write_answers(alloc, day, &read, sink),
+        Err(stop) => Ok(Some(stopped(stop))),
     }
 }

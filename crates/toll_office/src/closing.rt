@@ -3,6 +3,7 @@ ghost use Rattle.std.specs.Prelude.{◌≡◌, Some, IfOk};
 ghost use Rattle.std.specs.String.{string_bytes};
 ghost use Rattle.toll_office.specs.Closings.{closing_text, closing_line, status_of};
 
+use crate::entry_text::EntryText;
 use road_time::NoMemory;
 use std::alloc::Global;
 use std::fmt;
@@ -12,13 +13,30 @@ use tuple_format::Cause;
 #[derive(Clone, Copy, Debug, PartialEq)]
 pub enum Closing {
     /// A day was answered: so many tuples were taken, so many notices written.
-    Answered { day: u32, tuples: u64, notices: u64 },
+    Answered {
+        day: u32,
+        tuples: u64,
+        notices: u64,
+    },
+    /// The notices that were found are those of the rules, so many.
+    Agree {
+        notices: u64,
+    },
     /// The words are of no stated form.
     Words,
     /// This line of the source was refused.
-    Refused { line: u64, cause: Cause },
-    /// The source failed.
+    Refused {
+        line: u64,
+        cause: Cause,
+    },
+    /// The source failed, or what it was compared with.
     ReadFault,
+    /// At this line the notices that were found differ from those of the rules.
+    DiffersLine {
+        line: u64,
+        wanted: EntryText,
+        found: EntryText,
+    },
     /// Memory ran out.
     NoMemory,
 }
@@ -33,9 +51,15 @@ impl fmt::Display for Closing {
                 tuples,
                 notices,
             } => write!(f, "# answered day {day} tuples {tuples} notices {notices}"),
+            Closing::Agree { notices } => write!(f, "# agree notices {notices}"),
             Closing::Words => f.write_str("# words"),
             Closing::Refused { line, cause } => write!(f, "# refused line {line} {cause}"),
             Closing::ReadFault => f.write_str("# read fault"),
+            Closing::DiffersLine {
+                line,
+                wanted,
+                found,
+            } => write!(f, "# differs line {line} wanted {wanted} found {found}"),
             Closing::NoMemory => f.write_str("# no memory"),
         }
     }
@@ -48,9 +72,11 @@ impl Closing {
     {
         match *self {
             Closing::Answered { .. } => 0,
+            Closing::Agree { .. } => 0,
             Closing::Words => 1,
             Closing::Refused { .. } => 2,
             Closing::ReadFault => 4,
+            Closing::DiffersLine { .. } => 7,
             Closing::NoMemory => 8,
         }
     }

@@ -1,18 +1,22 @@
 // The top call: words in, a command's text and its closing line out, and a status.
-ghost use Rattle.std.specs.Prelude.{◌≡◌, ◌≢◌, ◌≤◌, ◌⊎◌, ◌↔◌, ℕ, List, Some, None, Err, Ok, IsOk, map, string_bytes};
+ghost use Rattle.std.specs.Prelude.{◌≡◌, ◌≢◌, ◌≤◌, ◌⊎◌, ◌↔◌, ℕ, List, Some, None, Ok, IsOk, false, true, map, string_bytes};
 ghost use Rattle.road_io.specs.Faults.{Rose, HasCause};
 ghost use Rattle.road_io.specs.Plans.{NeverFails};
 ghost use Rattle.road_io.specs.Rooms.{Endless};
-ghost use Rattle.office_words.specs.Meaning.{means};
+ghost use Rattle.office_words.specs.Meaning.{means, IsInRange};
 ghost use Rattle.toll_office.specs.Closings.{closing_line, status_of};
-ghost use Rattle.toll_office.specs.Commands.{office_answer, row_of};
-ghost use Rattle.toll_office.specs.Endings.{Wrote, Closes, WroteAll, WroteFault, WroteSome};
+ghost use Rattle.toll_office.specs.Days.{IsLimits};
+ghost use Rattle.toll_office.specs.Commands.{office_answer, command_row, uses_aside, use_source, use_aside, SourceTells, AsideTells};
+ghost use Rattle.toll_office.specs.Endings.{Wrote, Closes, WroteAll, WroteFault, WroteSome, status_by};
 ghost use Rattle.toll_office.specs.declared.closing.Closing.TheVariants.{ReadFault, NoMemory, Words};
 
+use crate::accidents::accidents;
 use crate::answers::answers;
 use crate::closing::Closing;
+use crate::validate::validate;
 use office_words::{Command, WordFault, read_words};
 use road_io::{Failed, Sink, Source, put_all};
+use road_time::Limits;
 use std::alloc::Global;
 
 /// Writes a closing line.
@@ -46,75 +50,97 @@ fn close<O: Sink>(alloc: Global, closing: Closing, sink: &mut O) -> u8
 }
 
 /// Does what a command asks, but for the closing line.
-fn perform<S: Source, O: Sink>(
+fn perform<S: Source, A: Source, O: Sink>(
     alloc: Global,
     command: Command,
+    limits: &Limits,
     source: &mut S,
+    aside: &mut A,
     sink: &mut O,
-) -> Result<Closing, Failed>
-    ensures wrote { (bytes : List ℕ) → S.left source.old ≡ Some bytes → Wrote (row_of (Some command) bytes) result (O.written sink.old) (O.written sink.new) }
-    ensures said { result ≢ Ok Words }
-    ensures read_cause { result ≡ Ok ReadFault → Rose (S.faults source.old) (S.faults source.new) }
+) -> Result<Option<Closing>, Failed>
+    requires limits { IsLimits limits.now }
+    requires range { IsInRange command }
+    ensures wrote { (bytes lines : List ℕ) → S.left source.old ≡ Some bytes → (uses_aside command ≡ true → A.left aside.old ≡ Some lines) → Wrote (command_row limits.now bytes lines command) result (O.written sink.old) (O.written sink.new) }
+    ensures said { result ≢ Ok (Some Words) }
+    ensures unused { uses_aside command ≡ false → aside.new ≡ aside.old }
+    ensures read_cause { result ≡ Ok (Some ReadFault) → Rose (S.faults source.old) (S.faults source.new) ⊎ Rose (A.faults aside.old) (A.faults aside.new) }
     ensures read_later { S.faults source.old ≤ S.faults source.new }
-    ensures read_sure { NeverFails (S.plan source.old) → result ≢ Ok ReadFault }
+    ensures aside_later { A.faults aside.old ≤ A.faults aside.new }
+    ensures read_sure { NeverFails (S.plan source.old) → NeverFails (A.plan aside.old) → result ≢ Ok (Some ReadFault) }
     ensures write_cause { HasCause (O.faults sink.old) (O.faults sink.new) result }
     ensures write_sure { O.room sink.old ≡ Endless → IsOk result × (O.room sink.new ≡ Endless) }
 {
     match command {
-        Command::Answers { day } => answers(alloc, day, source, sink),
+        Command::Answers { day, late } => answers(alloc, day, late, limits, source, sink),
+        Command::Validate { day, late } => {
+            Ok(Some(validate(alloc, day, late, limits, source, aside)))
+        }
+        Command::Accidents { late } => accidents(alloc, late, limits, source, sink),
     }
 }
 
 /// Does what the words ask, but for the closing line.
-fn run<S: Source, O: Sink>(
+fn run<S: Source, A: Source, O: Sink>(
     alloc: Global,
     words: &[String],
+    limits: &Limits,
     source: &mut S,
+    aside: &mut A,
     sink: &mut O,
-) -> Result<Closing, Failed>
-    ensures wrote { (bytes : List ℕ) → S.left source.old ≡ Some bytes → Wrote (office_answer (map string_bytes words.now) bytes) result (O.written sink.old) (O.written sink.new) }
-    ensures words { IsOk result → result ≢ Ok NoMemory → (result ≡ Ok Words ↔ (means (map string_bytes words.now) ≡ None)) }
-    ensures unused { means (map string_bytes words.now) ≡ None → source.new ≡ source.old }
-    ensures read_cause { result ≡ Ok ReadFault → Rose (S.faults source.old) (S.faults source.new) }
+) -> Result<Option<Closing>, Failed>
+    requires { IsLimits limits.now }
+    ensures wrote { (bytes lines : List ℕ) → SourceTells (map string_bytes words.now) (S.left source.old) bytes → AsideTells (map string_bytes words.now) (A.left aside.old) lines → Wrote (office_answer (map string_bytes words.now) limits.now bytes lines) result (O.written sink.old) (O.written sink.new) }
+    ensures words { IsOk result → result ≢ Ok (Some NoMemory) → (result ≡ Ok (Some Words) ↔ (means (map string_bytes words.now) ≡ None)) }
+    ensures source_unused { use_source (means (map string_bytes words.now)) ≡ false → source.new ≡ source.old }
+    ensures aside_unused { use_aside (means (map string_bytes words.now)) ≡ false → aside.new ≡ aside.old }
+    ensures read_cause { result ≡ Ok (Some ReadFault) → Rose (S.faults source.old) (S.faults source.new) ⊎ Rose (A.faults aside.old) (A.faults aside.new) }
     ensures read_later { S.faults source.old ≤ S.faults source.new }
-    ensures read_sure { NeverFails (S.plan source.old) → result ≢ Ok ReadFault }
+    ensures aside_later { A.faults aside.old ≤ A.faults aside.new }
+    ensures read_sure { NeverFails (S.plan source.old) → NeverFails (A.plan aside.old) → result ≢ Ok (Some ReadFault) }
     ensures write_cause { HasCause (O.faults sink.old) (O.faults sink.new) result }
     ensures write_sure { O.room sink.old ≡ Endless → IsOk result × (O.room sink.new ≡ Endless) }
 {
     match read_words(alloc, words) {
-        Ok(command) => perform(alloc, command, source, sink),
-        Err(WordFault::Words) => Ok(Closing::Words),
-        Err(WordFault::NoMemory) => Ok(Closing::NoMemory),
+        Ok(command) => perform(alloc, command, limits, source, aside, sink),
+        Err(WordFault::Words) => Ok(Some(Closing::Words)),
+        Err(WordFault::NoMemory) => Ok(Some(Closing::NoMemory)),
     }
 }
 
-/// Does what the words after the program's name ask, ends with a closing line, and answers the status.
-pub fn office<S: Source, O: Sink>(
+/// Does what the words after the program's name ask, ends with a closing line where the command has one, and answers
+/// the status.
+pub fn office<S: Source, A: Source, O: Sink>(
     alloc: Global,
     words: &[String],
+    limits: &Limits,
     source: &mut S,
+    aside: &mut A,
     sink: &mut O,
 ) -> u8
-    ensures exact { (bytes : List ℕ) → S.left source.old ≡ Some bytes → result ≢ 4 → result ≢ 5 → result ≢ 8
-        → let answer = office_answer (map string_bytes words.now) bytes
-        in (result ≡ status_of answer.closing) × WroteAll answer (O.written sink.old) (O.written sink.new) }
-    ensures read_fault { (bytes : List ℕ) → S.left source.old ≡ Some bytes → result ≡ 4
-        → WroteFault (office_answer (map string_bytes words.now) bytes) ReadFault (O.written sink.old) (O.written sink.new) }
-    ensures no_memory { (bytes : List ℕ) → S.left source.old ≡ Some bytes → result ≡ 8
-        → WroteFault (office_answer (map string_bytes words.now) bytes) NoMemory (O.written sink.old) (O.written sink.new) }
-    ensures write_fault { (bytes : List ℕ) → S.left source.old ≡ Some bytes → result ≡ 5
-        → WroteSome (office_answer (map string_bytes words.now) bytes) (O.written sink.old) (O.written sink.new) }
+    requires { IsLimits limits.now }
+    ensures exact { (bytes lines : List ℕ) → SourceTells (map string_bytes words.now) (S.left source.old) bytes → AsideTells (map string_bytes words.now) (A.left aside.old) lines → result ≢ 4 → result ≢ 5 → result ≢ 8
+        → let answer = office_answer (map string_bytes words.now) limits.now bytes lines
+        in (result ≡ status_by answer.closing) × WroteAll answer (O.written sink.old) (O.written sink.new) }
+    ensures read_fault { (bytes lines : List ℕ) → SourceTells (map string_bytes words.now) (S.left source.old) bytes → AsideTells (map string_bytes words.now) (A.left aside.old) lines → result ≡ 4
+        → WroteFault (office_answer (map string_bytes words.now) limits.now bytes lines) ReadFault (O.written sink.old) (O.written sink.new) }
+    ensures no_memory { (bytes lines : List ℕ) → SourceTells (map string_bytes words.now) (S.left source.old) bytes → AsideTells (map string_bytes words.now) (A.left aside.old) lines → result ≡ 8
+        → WroteFault (office_answer (map string_bytes words.now) limits.now bytes lines) NoMemory (O.written sink.old) (O.written sink.new) }
+    ensures write_fault { (bytes lines : List ℕ) → SourceTells (map string_bytes words.now) (S.left source.old) bytes → AsideTells (map string_bytes words.now) (A.left aside.old) lines → result ≡ 5
+        → WroteSome (office_answer (map string_bytes words.now) limits.now bytes lines) (O.written sink.old) (O.written sink.new) }
     ensures words { result ≢ 5 → result ≢ 8 → (result ≡ 1 ↔ (means (map string_bytes words.now) ≡ None)) }
-    ensures unused { means (map string_bytes words.now) ≡ None → source.new ≡ source.old }
-    ensures read_cause { result ≡ 4 → Rose (S.faults source.old) (S.faults source.new) }
+    ensures source_unused { use_source (means (map string_bytes words.now)) ≡ false → source.new ≡ source.old }
+    ensures aside_unused { use_aside (means (map string_bytes words.now)) ≡ false → aside.new ≡ aside.old }
+    ensures read_cause { result ≡ 4 → Rose (S.faults source.old) (S.faults source.new) ⊎ Rose (A.faults aside.old) (A.faults aside.new) }
     ensures read_later { S.faults source.old ≤ S.faults source.new }
-    ensures read_sure { NeverFails (S.plan source.old) → result ≢ 4 }
+    ensures aside_later { A.faults aside.old ≤ A.faults aside.new }
+    ensures read_sure { NeverFails (S.plan source.old) → NeverFails (A.plan aside.old) → result ≢ 4 }
     ensures write_cause { result ≡ 5 → Rose (O.faults sink.old) (O.faults sink.new) }
     ensures write_later { O.faults sink.old ≤ O.faults sink.new }
     ensures write_sure { O.room sink.old ≡ Endless → result ≢ 5 }
 {
-    match run(alloc, words, source, sink) {
-        Ok(closing) => close(alloc, closing, sink),
+    match run(alloc, words, limits, source, aside, sink) {
+        Ok(Some(closing)) => close(alloc, closing, sink),
+        Ok(None) => 0,
         Err(_) => 5,
     }
 }
