@@ -1,0 +1,16 @@
+pub mod SeenLaws
+pub mod StopLaws
+pub mod TimeLaws
+pub mod FindingLaws
+pub mod LaneRows
+pub mod JobLaws
+pub mod RunLaws
+pub mod MergeLaws
+pub mod PartitionLaws
+pub mod PositionLaws
+pub mod SettleLaws
+pub mod StepLaws
+pub mod ReadyLaws
+pub mod RunSteps
+pub mod CheckLaws
+pub mod ShapeLaws

@@ -1,0 +1,21 @@
+use Rattle.std.proofs.Common.{◌++◌, ◌∷◌, [], false, sym, subst, ◌∙◌}
+use Rattle.accidents.specs.Stands.{StandsFor as StopsStandFor}
+use Rattle.expressway.specs.declared.lane_event.LaneEvent.TheVariants.{Leave}
+use Rattle.expressway.specs.Events.{entries}
+use Rattle.expressway.specs.Kept.{Kept}
+use Rattle.expressway.specs.Stands.{IsAt, last_second}
+use Rattle.expressway.proofs.StepLaws.{minutes_le, second_le, at_left}
+use Rattle.expressway.proofs.carriage.Carriage.leave.Goals as goal
+
+pub advance-requires-clause-minute : goal.advance-requires-clause-minute
+advance-requires-clause-minute c = minutes_le c.args.self.now c.requires.1 (Leave c.requires.0 c.args.time c.args.vid c.args.place) c.requires.2
+
+pub advance-requires-clause-second : goal.advance-requires-clause-second
+advance-requires-clause-second c = second_le c.args.self.now c.requires.1 (Leave c.requires.0 c.args.time c.args.vid c.args.place) c.requires.2
+
+pub returns-clause-carried : goal.returns-clause-carried
+returns-clause-carried c = λ position before ready.
+    let now = subst (λ (k : Kept). IsAt k c.args.time before) (sym c.self.view_is) (c.advance.ensures.at before (last_second before) ready.stands) in
+    let left = subst (λ s. StopsStandFor c.leave.new.self (entries before ++ record { second = s; vid = c.args.vid; place = c.args.place; stops = false } ∷ [])) now.second (c.leave.ensures.left (entries before) now.standing) in
+    at_left (record { speeds = c.self.inside.speeds; stops = c.leave.new.self; tariffs = c.self.inside.tariffs }) before position c.args.time c.args.vid c.args.place
+    now.averages left now.minute (c.leave.ensures.second ∙ now.second)

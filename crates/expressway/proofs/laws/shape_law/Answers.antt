@@ -1,0 +1,5 @@
+use Rattle.expressway.proofs.ShapeLaws.{shaped}
+use Rattle.expressway.proofs.laws.shape_law.Goals as goal
+
+pub returns : goal.returns
+returns c = λ job done is. shaped job done is

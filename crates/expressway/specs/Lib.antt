@@ -1,0 +1,9 @@
+pub mod Events
+pub mod Findings
+pub mod Runs
+pub mod Kept
+pub mod Stands
+pub mod Ready
+pub mod Results
+pub mod Checks
+pub mod Laws
