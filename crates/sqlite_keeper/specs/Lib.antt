@@ -1,0 +1,4 @@
+pub mod Refusals
+pub mod Stored
+pub mod Columns
+pub mod Rises
