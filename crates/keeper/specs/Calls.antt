@@ -20,9 +20,9 @@ abbrev pub IfTold : Option Office → (Office → Type 0) → Type 0
 IfTold None P = Unit {0}
 IfTold (Some o) P = P o
 
--- a call that reads leaves all as it is, and answers what the office has
+-- a call that reads leaves all as it is, and answers what the office has; a keeper that does not tell it does not tell it afterwards
 abbrev pub Reads : {T : Type 0} → Option Office → Option Office → Result T KeepFault → (Office → T → Type 0) → Type 0
-Reads None after r P = Unit {0}
+Reads None after r P = after ≡ None
 Reads (Some o) None r P = ⊥
 Reads (Some o) (Some p) r P = (p ≡ o) × IfOk r (λ x. P o x)
 
