@@ -3,3 +3,10 @@ pub mod FrontLaws
 pub mod StepLaws
 pub mod GiveLaws
 pub mod GatherLaws
+pub mod PrintLaws
+pub mod HistoryLaws
+pub mod KeeperLaws
+pub mod StoreLaws
+pub mod CompareLaws
+pub mod ImportLaws
+pub mod RepeatLaws

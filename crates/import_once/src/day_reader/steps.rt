@@ -1,5 +1,5 @@
 // Reading a day, tuple by tuple.
-ghost use Rattle.std.specs.Prelude.{◌≡◌, ◌≢◌, ◌↔◌, ◌≤◌, ◌+◌, ◌++◌, ◌∷◌, [], ℕ, List, Option, Some, None, Ok, Err, IfOk, IsOk, IfNone, IfSome, length, slice_get};
+ghost use Rattle.std.specs.Prelude.{◌≡◌, ◌≢◌, ◌↔◌, ◌≤◌, ◌+◌, ◌*◌, ◌++◌, ◌∷◌, [], ℕ, List, Option, Some, None, Ok, Err, IfOk, IsOk, IfNone, IfSome, length, slice_get};
 ghost use Rattle.road_time.specs.declared.road.Tuple.{Tuple as TupleValue};
 ghost use Rattle.road_time.specs.declared.day.Limits.{Limits as LimitsValue};
 ghost use Rattle.road_io.specs.Faults.{Rose};
@@ -42,7 +42,8 @@ impl DayReader {
 
     /// The number of bytes of the lines that were cut.
     pub fn bytes(&self) -> u64
-        ensures { (bytes : List ℕ) → HasTaken self.now.consumed bytes → result ≡ length bytes }
+        ensures length { (bytes : List ℕ) → HasTaken self.now.consumed bytes → result ≡ length bytes }
+        ensures few { result ≤ 201 * (self.now.intake.line_limit + 1) }
     {
         self.consumed.bytes
     }

@@ -1,0 +1,33 @@
+use Rattle.std.proofs.Common.{◌≡◌, ◌-◌, ◌+◌, ◌++◌, ℕ, List, take, drop, arith}
+use Rattle.std.proofs.lemmas.List.{length-take}
+use Rattle.import_once.proofs.CompareLaws.{HasFront, front_on, front_ended, front_at}
+use Rattle.import_once.proofs.kept_day.take_front.Goals as goal
+
+pub returns-then-count-eq0-clause-took : goal.returns-then-count-eq0-clause-took
+returns-then-count-eq0-clause-took g c = λ bytes before told took.
+    let most = c.args.most in
+    let a = most - c.loop-rest.rest in
+    let inv = c.loop-rest.invariant.took bytes before told took in
+    front_ended a c.in-Ok.count most bytes before c.read_some.new.digester (g.S.Source.left c.read_some.new.source) (omega arith) c.if-count-eq0.true (c.in-Ok.ensures.took (drop a bytes) (before ++ take a bytes) inv.1 inv.0)
+
+pub loop-rest-preserved : goal.loop-rest-preserved
+loop-rest-preserved g c =
+    let most = c.args.most in
+    let a = most - c.loop-rest.rest in
+    let bound = c.in-Ok.ensures.bound in
+    let size = length-take c.min-size.result c.loop-rest.buffer in
+    record {
+      least = omega (arith, c.loop-rest.invariant.least);
+      took = λ bytes before told took. (
+          let inv = c.loop-rest.invariant.took bytes before told took in
+          let on = front_on a c.in-Ok.count bytes before c.read_some.new.digester (g.S.Source.left c.read_some.new.source) (c.in-Ok.ensures.took (drop a bytes) (before ++ take a bytes) inv.1 inv.0) in
+          front_at (a + c.in-Ok.count) (most - (c.loop-rest.rest - c.in-Ok.count)) bytes before c.read_some.new.digester (g.S.Source.left c.read_some.new.source) (omega (arith, bound, size, c.min-size.ensures, c.loop-rest.invariant.least)) on);
+      sure = λ never. (c.read_some.ensures.sure (c.loop-rest.invariant.sure never)).1;
+      later = omega (arith, c.read_some.ensures.cause.later, c.loop-rest.invariant.later);
+    }
+
+pub returns-clause-took : goal.returns-clause-took
+returns-clause-took g c = λ bytes before told took.
+    let most = c.args.most in
+    let none = c.loop-rest-test.false in
+    front_at (most - c.loop-rest.rest) most bytes before c.loop-rest.digester (g.S.Source.left c.loop-rest.source) (omega arith) (c.loop-rest.invariant.took bytes before told took)

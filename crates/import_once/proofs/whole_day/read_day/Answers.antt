@@ -1,0 +1,53 @@
+use Rattle.std.proofs.Common.{◌≡◌, ◌++◌, ◌∷◌, [], List, Option, ℕ, Some, None, Result, Ok, Err, sym, subst, ◌∙◌, arith}
+use Rattle.std.proofs.lemmas.Bool.{cond-true}
+use Rattle.road_time.specs.declared.road.Tuple.{Tuple}
+use Rattle.import_once.specs.declared.ending.ReadEnd.{ReadEnd}
+use Rattle.import_once.specs.declared.ending.ReadEnd.TheVariants.{Refused, ReadFault}
+use Rattle.import_once.specs.Readings.{IsReading, IsGathering, Gives, GathersOn}
+use Rattle.import_once.proofs.whole_day.read_day.Goals as goal
+
+-- a tuple that was given is no fault
+given_no_fault : (r : Result (Option Tuple) ReadEnd) (x : Tuple) → r ≡ Ok (Some x) → r ≡ Err ReadFault → ⊥
+given_no_fault r x e f = cc
+
+pub reading-init : goal.reading-init
+reading-init g c =
+    let r = c.in-Ok.reader in
+    let limits = c.args.limits.now in
+    let late = c.args.late in
+    let none = sym c.new-tuples.ensures.items in
+    record {
+      gathering = subst (λ xs. IsGathering r limits late xs) none c.in-Ok.ensures.gathering;
+      reading = λ bytes told. subst (λ xs. IsReading r limits late (g.S.Source.left c.args.source.now) bytes xs) none (subst (λ o. IsReading r limits late o bytes []) (sym told) (c.in-Ok.ensures.reading bytes));
+      unfailed = c.in-Ok.ensures.unfailed;
+      later = omega arith;
+      sure = λ never. never;
+    }
+
+pub reading-preserved : goal.reading-preserved
+reading-preserved g c =
+    let limits = c.args.limits.now in
+    let late = c.args.late in
+    let new = c.next.new.self in
+    let before = c.reading.tuples.items in
+    let x = c.in-Ok-Some.tuple in
+    let inv = c.reading.invariant in
+    let some : c.next.result ≡ Ok (Some x) = cc in
+    let pushed : c.push.new.self.items ≡ before ++ x ∷ [] = c.push.ensures.items ∙ cond-true _ _ _ c.if-is_err.ensures.negation in
+    record {
+      gathering = subst (λ xs. IsGathering new limits late xs) (sym pushed) (subst (λ r. GathersOn r new limits late before) some (c.next.ensures.gathers limits late before inv.gathering));
+      reading = λ bytes told. subst (λ xs. IsReading new limits late (g.S.Source.left c.next.new.source) bytes xs) (sym pushed)
+          (subst (λ r. Gives r new limits late (g.S.Source.left c.next.new.source) bytes before) some (c.next.ensures.gives limits late bytes before (inv.reading bytes told)));
+      unfailed = c.next.ensures.unfailed inv.unfailed (given_no_fault c.next.result x some);
+      later = omega (arith, c.next.ensures.later, inv.later);
+      sure = λ never. (c.next.ensures.sure inv.unfailed (inv.sure never)).1;
+    }
+
+pub returns-in-Err-Refused-clause-end : goal.returns-in-Err-Refused-clause-end
+returns-in-Err-Refused-clause-end g c = λ bytes told.
+    let limits = c.args.limits.now in
+    let late = c.args.late in
+    let new = c.next.new.self in
+    let before = c.reading.tuples.items in
+    let res : c.next.result ≡ Err (Refused c.in-Err-Refused.line c.in-Err-Refused.cause) = cc in
+    (subst (λ r. Gives r new limits late (g.S.Source.left c.next.new.source) bytes before) res (c.next.ensures.gives limits late bytes before (c.reading.invariant.reading bytes told))).1

@@ -1,0 +1,30 @@
+-- Days that are read whole, or up to the first line that is refused.
+use Rattle.std.specs.Prelude.{ℕ, ◌≡◌, ◌≤◌, ◌^◌, ◌<◌, List, length, Option, Some, None}
+use Rattle.road_time.specs.declared.day.Limits.{Limits}
+use Rattle.road_time.specs.declared.day.TheConstants.Limits.{DAY}
+use Rattle.road_time.specs.Form.{Fault}
+use Rattle.tuple_format.specs.Causes.{cause_of}
+use Rattle.keeper.specs.Digests.{digest_of}
+use Rattle.import_once.specs.declared.whole_day.DayEnd.{DayEnd}
+use Rattle.import_once.specs.declared.whole_day.DayEnd.TheVariants.{Whole, Refused}
+
+-- limits within the greatest
+pub record IsLimits (limits : Limits) : Type 0 where
+  pub some_lines : 1 ≤ limits.lines
+  pub lines : limits.lines ≤ DAY.lines
+  pub some_vehicles : 1 ≤ limits.vehicles
+  pub vehicles : limits.vehicles ≤ DAY.vehicles
+  pub some_backlog : 1 ≤ limits.backlog
+  pub backlog : limits.backlog ≤ DAY.backlog
+  pub some_past : 1 ≤ limits.past
+  pub past : limits.past ≤ DAY.past
+
+-- how the reading of these bytes ended: at their end, or at the first line that is refused
+abbrev pub EndsReading : DayEnd → List ℕ → Option (ℕ × Fault) → Type 0
+EndsReading (Whole n digest) bytes refused = (refused ≡ None) × (n ≡ length bytes) × (digest ≡ digest_of bytes)
+EndsReading (Refused line cause) bytes refused = (fault : Fault) × (refused ≡ Some (line, fault)) × (cause_of fault ≡ cause)
+
+-- a day of fewer than 2^63 bytes
+abbrev pub IsShort : DayEnd → Type 0
+IsShort (Whole n digest) = n < 2 ^ 63
+IsShort (Refused line cause) = Unit {0}
