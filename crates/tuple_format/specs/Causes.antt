@@ -26,7 +26,6 @@ cause_text (causes.Range field) = codes "range " ++ decimal field
 cause_text (causes.Late previous time) = codes "late " ++ decimal previous ++ codes " " ++ decimal time
 cause_text (causes.TooOften vid minute) = codes "too-often " ++ decimal vid ++ codes " " ++ decimal minute
 cause_text (causes.Vehicles limit) = codes "vehicles " ++ decimal limit
-cause_text causes.NotYet = codes "not-yet"
 
 -- what the reader answers
 abbrev pub answered : Result (Option Tuple) Fault → Result (Option Tuple) Cause

@@ -23,8 +23,6 @@ pub enum Cause {
     TooOften(u32, u32),
     /// A report of a new vehicle, where as many as this limit have reported.
     Vehicles(u32),
-    /// The line is one that is not taken yet.
-    NotYet,
 }
 
 impl fmt::Display for Cause {
@@ -40,7 +38,6 @@ impl fmt::Display for Cause {
             Cause::Late(previous, now) => write!(f, "late {previous} {now}"),
             Cause::TooOften(vid, minute) => write!(f, "too-often {vid} {minute}"),
             Cause::Vehicles(limit) => write!(f, "vehicles {limit}"),
-            Cause::NotYet => f.write_str("not-yet"),
         }
     }
 }
