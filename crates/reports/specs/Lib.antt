@@ -1,2 +1,4 @@
 pub mod AccidentLog
 pub mod Endings
+pub mod Exports
+pub mod Statements

@@ -7,10 +7,11 @@ ghost use Rattle.road_io.specs.Faults.{Rose};
 ghost use Rattle.road_io.specs.Rooms.{Endless};
 ghost use Rattle.reports.specs.AccidentLog.{last_number, mishap_text, log_text};
 ghost use Rattle.reports.specs.Endings.{Wrote};
-ghost use Rattle.reports.specs.declared.report_fault.ReportFault.TheVariants.{WriteFault};
+ghost use Rattle.reports.specs.declared.report_fault.ReportFault.TheVariants.{NoDay, KeeperFault, WriteFault};
 
+use crate::putting::put_text;
 use crate::report_fault::ReportFault;
-use road_io::{Failed, Sink, put_all};
+use road_io::Sink;
 use road_time::{Mishap, NoMemory, Tuple};
 use std::alloc::Global;
 use validator::plain_log;
@@ -69,6 +70,7 @@ pub fn accident_log<O: Sink>(
 ) -> Result<(), ReportFault>
     requires { IsDay tuples.now }
     ensures wrote { Wrote result (O.written sink.old) (O.written sink.new) (log_text (log_of tuples.now)) }
+    ensures own { (result ≢ Err NoDay) × (result ≢ Err KeeperFault) }
     ensures cause { result ≡ Err WriteFault → Rose (O.faults sink.old) (O.faults sink.new) }
     ensures later { O.faults sink.old ≤ O.faults sink.new }
     ensures sure { O.room sink.old ≡ Endless → (result ≢ Err WriteFault) × (O.room sink.new ≡ Endless) }
@@ -77,8 +79,5 @@ pub fn accident_log<O: Sink>(
         Ok(text) => text,
         Err(NoMemory) => return Err(ReportFault::NoMemory),
     };
-    match put_all(sink, text.as_slice()) {
-        Ok(()) => Ok(()),
-        Err(Failed) => Err(ReportFault::WriteFault),
-    }
+    put_text(text.as_slice(), sink)
 }

@@ -1,8 +1,10 @@
 // How a report fails.
 
-/// The sink failed, or memory ran out.
+/// The day is not kept, the keeper failed, the sink failed, or memory ran out.
 #[derive(Clone, Copy, Debug, PartialEq, Eq)]
 pub enum ReportFault {
+    NoDay,
+    KeeperFault,
     WriteFault,
     NoMemory,
 }

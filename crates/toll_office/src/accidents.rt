@@ -44,8 +44,8 @@ fn write_accidents<O: Sink>(
     }
     match accident_log(alloc, day.tuples.as_slice(), sink) {
         Ok(()) => Ok(None),
-        Err(ReportFault::NoMemory) => Ok(Some(Closing::NoMemory)),
         Err(ReportFault::WriteFault) => Err(Failed),
+        Err(_) => Ok(Some(Closing::NoMemory)),
     }
 }
 

@@ -1,0 +1,46 @@
+// The statement of a vehicle.
+ghost use Rattle.std.specs.Prelude.{◌≡◌, ◌≢◌, ◌≤◌, Some, Err};
+ghost use Rattle.road_io.specs.Faults.{Rose};
+ghost use Rattle.road_io.specs.Rooms.{Endless};
+ghost use Rattle.keeper.specs.Office.{Office};
+ghost use Rattle.reports.specs.Endings.{Wrote};
+ghost use Rattle.reports.specs.Statements.{vehicle_report};
+ghost use Rattle.reports.specs.declared.report_fault.ReportFault.TheVariants.{NoDay, KeeperFault, WriteFault};
+
+use crate::putting::put_text;
+use crate::report_fault::ReportFault;
+use crate::stated_day::refused;
+use crate::vehicle_lines::vehicle_text;
+use keeper::Keeper;
+use road_io::Sink;
+use road_time::NoMemory;
+use std::alloc::Global;
+
+/// Writes what is kept of a vehicle on the days `from` to `to`, both included: a line for each day and expressway, and the
+/// sum. A vehicle without amounts has the first and the last line. After a fault a prefix was written.
+pub fn vehicle_statement<K: Keeper, O: Sink>(
+    alloc: Global,
+    vid: u32,
+    from: u32,
+    to: u32,
+    keeper: &mut K,
+    sink: &mut O,
+) -> Result<(), ReportFault>
+    ensures wrote { (o : Office) → K.told keeper.old ≡ Some o → Wrote result (O.written sink.old) (O.written sink.new) (vehicle_report vid from to o) }
+    ensures own { result ≢ Err NoDay }
+    ensures kept { K.told keeper.new ≡ K.told keeper.old }
+    ensures keeper_cause { result ≡ Err KeeperFault → Rose (K.faults keeper.old) (K.faults keeper.new) }
+    ensures keeper_later { K.faults keeper.old ≤ K.faults keeper.new }
+    ensures write_cause { result ≡ Err WriteFault → Rose (O.faults sink.old) (O.faults sink.new) }
+    ensures write_later { O.faults sink.old ≤ O.faults sink.new }
+    ensures write_sure { O.room sink.old ≡ Endless → (result ≢ Err WriteFault) × (O.room sink.new ≡ Endless) }
+{
+    let rows = match keeper.vehicle_rows(vid, from, to) {
+        Ok(rows) => rows,
+        Err(fault) => return Err(refused(fault)),
+    };
+    match vehicle_text(alloc, vid, from, to, rows.as_slice()) {
+        Ok(text) => put_text(text.as_slice(), sink),
+        Err(NoMemory) => Err(ReportFault::NoMemory),
+    }
+}
