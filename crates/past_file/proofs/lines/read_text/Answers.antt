@@ -1,0 +1,18 @@
+use Rattle.std.proofs.Common.{◌≡◌, ◌<◌, ◌∷◌, [], List, ℤ, pos, get_or, Ok, length, arith, sym, ap, subst, ◌∙◌}
+use Rattle.std.proofs.lemmas.Bool.{eqb-false}
+use Rattle.road_time.specs.Numbers.{fields_of_text}
+use Rattle.road_time.specs.Form.{first_out}
+use Rattle.keeper.specs.PastReads.{past_form, past_in_ranges, past_uses}
+use Rattle.past_file.specs.Causes.{ReadsRow}
+use Rattle.past_file.proofs.LineLaws.{form_of_four, all_four}
+use Rattle.past_file.proofs.lines.read_text.Goals as goal
+
+pub returns-in-Ok-clause-reads : goal.returns-in-Ok-clause-reads
+returns-in-Ok-clause-reads c =
+    let bs = c.args.text.now in
+    let ns = c.in-Ok.numbers in
+    let base = c.args.base in
+    let some : 0 < length bs = omega (arith, eqb-false (length bs) 0 (sym c.is_empty.ensures ∙ c.if-is_empty.false)) in
+    let four : length (fields_of_text bs) ≡ 4 = omega (arith, c.count_fields-count.ensures.count) in
+    let form = form_of_four base bs ns four (sym c.numbers.ensures ∙ c.in-Ok.is) some in
+    subst (λ f. ReadsRow f c.row_of.result) (sym form) c.row_of.ensures.reads

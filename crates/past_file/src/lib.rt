@@ -1,0 +1,16 @@
+//! Keeping a history: the amounts that vehicles paid on the 69 days before a day, from a file of lines.
+//!
+//! A line is refused as a line of a day is, or where an earlier line is of the same vehicle, day and expressway. The amounts
+//! above zero are kept, all or none.
+#![tactic(auto)]
+
+mod amounts;
+mod lines;
+mod outcomes;
+
+pub use amounts::{Amounts, Key};
+pub use lines::read_row;
+pub use outcomes::{PastCause, PastOutcome};
+
+#[cfg(test)]
+mod tests;
