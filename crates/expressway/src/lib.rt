@@ -9,6 +9,7 @@ pub mod finding;
 pub mod job;
 pub mod lane_event;
 pub mod laws;
+mod parts;
 
 pub use carriage::Carriage;
 pub use finding::{Finding, Findings};

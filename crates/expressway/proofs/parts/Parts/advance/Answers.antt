@@ -4,7 +4,7 @@ use Rattle.accidents.specs.Kept.{Kept as Standing}
 use Rattle.expressway.specs.Events.{seen, entries}
 use Rattle.expressway.specs.Kept.{Kept}
 use Rattle.expressway.specs.Stands.{IsAt}
-use Rattle.expressway.proofs.carriage.Carriage.advance.Goals as goal
+use Rattle.expressway.proofs.parts.Parts.advance.Goals as goal
 
 pub returns-clause-at : goal.returns-clause-at
 returns-clause-at c = λ before last at.

@@ -3,7 +3,7 @@ use Rattle.road_time.specs.Tuples.{place_of}
 use Rattle.accidents.specs.Stands.{StandsFor as StopsStandFor}
 use Rattle.expressway.specs.declared.lane_event.LaneEvent.TheVariants.{Seen}
 use Rattle.expressway.specs.Events.{entries}
-use Rattle.expressway.proofs.carriage.stop_if.Goals as goal
+use Rattle.expressway.proofs.parts.stop_if.Goals as goal
 
 pub returns-in_ok-stop-clause-stopped : goal.returns-in_ok-stop-clause-stopped
 returns-in_ok-stop-clause-stopped c = λ before position begins st.

@@ -10,7 +10,7 @@ use Rattle.expressway.specs.Stands.{IsAt, last_second}
 use Rattle.expressway.proofs.JobLaws.{found_now}
 use Rattle.expressway.proofs.StepLaws.{minutes_le, second_le, at_next}
 use Rattle.expressway.proofs.ReadyLaws.{next_valid, next_note}
-use Rattle.expressway.proofs.carriage.Carriage.see.Goals as goal
+use Rattle.expressway.proofs.parts.Parts.see.Goals as goal
 
 pub advance-requires-clause-minute : goal.advance-requires-clause-minute
 advance-requires-clause-minute c = minutes_le c.args.self.now c.requires.0 (Seen c.args.position c.args.report.now c.args.begins c.args.stopped) c.requires.1

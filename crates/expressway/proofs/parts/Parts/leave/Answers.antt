@@ -5,7 +5,7 @@ use Rattle.expressway.specs.Events.{entries}
 use Rattle.expressway.specs.Kept.{Kept}
 use Rattle.expressway.specs.Stands.{IsAt, last_second}
 use Rattle.expressway.proofs.StepLaws.{minutes_le, second_le, at_left}
-use Rattle.expressway.proofs.carriage.Carriage.leave.Goals as goal
+use Rattle.expressway.proofs.parts.Parts.leave.Goals as goal
 
 pub advance-requires-clause-minute : goal.advance-requires-clause-minute
 advance-requires-clause-minute c = minutes_le c.args.self.now c.requires.1 (Leave c.requires.0 c.args.time c.args.vid c.args.place) c.requires.2

@@ -6,7 +6,7 @@ use Rattle.expressway.specs.Events.{seen, entries}
 use Rattle.expressway.specs.Kept.{Kept}
 use Rattle.expressway.specs.Stands.{IsAt}
 use Rattle.expressway.proofs.StepLaws.{found_as, found_is}
-use Rattle.expressway.proofs.carriage.Carriage.find.Goals as goal
+use Rattle.expressway.proofs.parts.Parts.find.Goals as goal
 
 pub returns : goal.returns
 returns c = λ before at.

@@ -1,0 +1,213 @@
+// What one worker keeps of its ways, by its parts.
+ghost use Rattle.std.specs.Prelude.{◌≡◌, ◌≤◌, ◌==◌, ◌&&◌, not, ◌++◌, ◌∷◌, [], ℕ, Bool, List, IfOk, OnOk};
+ghost use Rattle.std.specs.List.{cons_option};
+ghost use Rattle.std.specs.Option.{option_map};
+ghost use Rattle.road_time.specs.Clock.{minute_of};
+ghost use Rattle.road_time.specs.Notes.{Note, note_of};
+ghost use Rattle.road_time.specs.Tuples.{place_of, stretch_of as stretch_of_lem};
+ghost use Rattle.road_time.specs.Entries.{Entry, standing_at};
+ghost use Rattle.road_time.specs.Tolls.{notes_of, finding_by};
+ghost use Rattle.speed_stats.specs.Stands.{StandsFor as AveragesStandFor, CanNote};
+ghost use Rattle.accidents.specs.Stands.{StandsFor as StopsStandFor};
+ghost use Rattle.expressway.specs.declared.lane_event.LaneEvent.{LaneEvent as Event};
+ghost use Rattle.expressway.specs.declared.lane_event.LaneEvent.TheVariants.{Seen, Leave};
+ghost use Rattle.expressway.specs.Events.{seen, entries};
+ghost use Rattle.expressway.specs.Findings.{shown, found_if, findings};
+ghost use Rattle.expressway.specs.Stands.{IsAt, StandsFor};
+ghost use Rattle.expressway.specs.Ready.{IsReady};
+
+use crate::finding::Finding;
+use crate::lane_event::LaneEvent;
+use accidents::Stops;
+use road_time::{NoMemory, Place, Report, Stretch, Tariffs};
+use speed_stats::Speeds;
+use std::alloc::Global;
+use std::marker::Model;
+use toll_rule::{toll, whole_lav};
+
+/// The lane in which a vehicle leaves an expressway.
+const EXIT_LANE: u8 = 4;
+
+/// The sliding averages, who stands where, and the tariffs.
+#[derive(Drop)]
+pub struct Parts {
+    speeds: Speeds,
+    stops: Stops,
+    tariffs: Tariffs,
+}
+
+impl Model for Parts {
+    ghost use Rattle.expressway.specs.Kept.{Kept};
+
+    ghost Value = { Kept };
+
+    ghost view = { λ c. record { speeds = c.speeds; stops = c.stops; tariffs = c.tariffs } };
+}
+
+/// The minute of a second, also of one past the day.
+fn minute_at(second: u32) -> u32
+    ensures { result ≡ minute_of second }
+{
+    second / 60 + 1
+}
+
+/// The stretch of a report.
+fn stretch_of(report: &Report) -> Stretch
+    ensures { result ≡ stretch_of_lem report.now }
+{
+    Stretch {
+        xway: report.xway,
+        dir: report.dir,
+        seg: report.seg,
+    }
+}
+
+/// The place of a report.
+fn place(report: &Report) -> Place
+    ensures { result ≡ place_of report.now }
+{
+    Place {
+        xway: report.xway,
+        dir: report.dir,
+        lane: report.lane,
+        seg: report.seg,
+        pos: report.pos,
+    }
+}
+
+/// Notes a report of the current minute.
+fn note(speeds: &mut Speeds, report: &Report) -> Result<(), NoMemory>
+    requires slow { report.now.spd ≤ 100 }
+    requires minute { speeds.old.minute ≡ minute_of report.now.time }
+    requires one { (notes : List Note) × AveragesStandFor speeds.old notes × CanNote notes (note_of report.now) }
+    ensures minute { speeds.new.minute ≡ speeds.old.minute }
+    ensures noted { OnOk result ((notes : List Note) → AveragesStandFor speeds.old notes → CanNote notes (note_of report.now) → AveragesStandFor speeds.new (notes ++ note_of report.now ∷ [])) }
+{
+    speeds.note(stretch_of(report), report.vid, report.spd)
+}
+
+/// The vehicle of a report of the current second stands at its place, if it is stopped.
+fn stop_if(stops: &mut Stops, stopped: bool, report: &Report) -> Result<(), NoMemory>
+    requires second { stops.old.second ≡ report.now.time }
+    ensures second { stops.new.second ≡ stops.old.second }
+    ensures stopped { OnOk result ((before : List Entry) (position : ℕ) (begins : Bool) → StopsStandFor stops.old before → StopsStandFor stops.new (before ++ entries (Seen position report.now begins stopped ∷ []))) }
+{
+    if stopped {
+        stops.stop(place(report), report.vid)?;
+    }
+    Ok(())
+}
+
+impl Parts {
+    /// No event was run. It keeps a copy of the tariffs.
+    pub fn new(alloc: Global, tariffs: &Tariffs) -> Result<Self, NoMemory>
+        ensures stands { IfOk result (λ c. StandsFor c []) }
+        ensures tariffs { IfOk result (λ c. c.tariffs ≡ tariffs.now) }
+    {
+        let tariffs = tariffs.copy()?;
+        Ok(Parts {
+            speeds: Speeds::new(alloc),
+            stops: Stops::new(alloc),
+            tariffs,
+        })
+    }
+
+    /// Closes the seconds before this one, and the minutes with them.
+    fn advance(&mut self, second: u32)
+        requires minute { self.old.speeds.minute ≤ minute_of second }
+        requires second { self.old.stops.second ≤ second }
+        ensures tariffs { self.new.tariffs ≡ self.old.tariffs }
+        ensures at { (before : List Event) (last : ℕ) → IsAt self.old last before → IsAt self.new second before }
+    {
+        self.speeds.roll(minute_at(second));
+        self.stops.advance(second);
+    }
+
+    /// What is told of the stretch of a report of the current second.
+    fn find(&self, position: u32, report: &Report) -> Finding
+        requires segment { report.now.seg ≤ 99 }
+        requires direction { report.now.dir ≤ 1 }
+        ensures { (before : List Event) → IsAt self.now report.now.time before → shown result ≡ (position, finding_by (notes_of (seen before)) (standing_at (entries before)) self.now.tariffs report.now) }
+    {
+        let stretch = stretch_of(report);
+        let tariff = self.tariffs.of(report.xway);
+        let cars = self.speeds.cars(stretch);
+        let lav = self.speeds.lav(stretch);
+        let alert = self.stops.nearest(stretch);
+        Finding {
+            position,
+            lav: whole_lav(lav.as_ref()),
+            toll: toll(&tariff, cars, lav.as_ref(), alert.is_some()),
+            alert,
+        }
+    }
+
+    /// What the vehicle of a report of the current second is told, if the report begins a stay outside the exit lane.
+    fn find_if(&self, position: u32, report: &Report, begins: bool) -> Option<Finding>
+        requires segment { report.now.seg ≤ 99 }
+        requires direction { report.now.dir ≤ 1 }
+        ensures { (before : List Event) → IsAt self.now report.now.time before → option_map shown result ≡ found_if (begins && not (report.now.lane == 4)) (notes_of (seen before)) (standing_at (entries before)) self.now.tariffs position report.now }
+    {
+        if begins && report.lane != EXIT_LANE {
+            Some(self.find(position, report))
+        } else {
+            None
+        }
+    }
+
+    /// A report was seen: gives what its vehicle is told, and then keeps it.
+    fn see(
+        &mut self,
+        position: u32,
+        report: &Report,
+        begins: bool,
+        stopped: bool,
+    ) -> Result<Option<Finding>, NoMemory>
+        requires { (before : List Event) × IsReady self.old before (Seen position report.now begins stopped ∷ []) }
+        ensures tariffs { OnOk result (self.new.tariffs ≡ self.old.tariffs) }
+        ensures carried { OnOk result ((before : List Event) → IsReady self.old before (Seen position report.now begins stopped ∷ []) → StandsFor self.new (before ++ Seen position report.now begins stopped ∷ [])) }
+        ensures found { IfOk result (λ found. (before : List Event) → IsReady self.old before (Seen position report.now begins stopped ∷ []) → cons_option (option_map shown found) [] ≡ findings before (Seen position report.now begins stopped ∷ []) self.old.tariffs) }
+    {
+        self.advance(report.time);
+        let finding = self.find_if(position, report, begins);
+        note(&mut self.speeds, report)?;
+        stop_if(&mut self.stops, stopped, report)?;
+        Ok(finding)
+    }
+
+    /// A vehicle left a place.
+    fn leave(&mut self, time: u32, vid: u32, place: Place)
+        requires { (position : ℕ) × (before : List Event) × IsReady self.old before (Leave position time vid place ∷ []) }
+        ensures tariffs { self.new.tariffs ≡ self.old.tariffs }
+        ensures carried { (position : ℕ) (before : List Event) → IsReady self.old before (Leave position time vid place ∷ []) → StandsFor self.new (before ++ Leave position time vid place ∷ []) }
+    {
+        self.advance(time);
+        self.stops.leave(place, vid);
+    }
+
+    /// Runs the next event, and gives what it finds. The one error is want of memory.
+    pub(crate) fn next(&mut self, event: &LaneEvent) -> Result<Option<Finding>, NoMemory>
+        requires { (before : List Event) × IsReady self.old before (event.now ∷ []) }
+        ensures tariffs { OnOk result (self.new.tariffs ≡ self.old.tariffs) }
+        ensures carried { OnOk result ((before : List Event) → IsReady self.old before (event.now ∷ []) → StandsFor self.new (before ++ event.now ∷ [])) }
+        ensures found { IfOk result (λ found. (before : List Event) → IsReady self.old before (event.now ∷ []) → cons_option (option_map shown found) [] ≡ findings before (event.now ∷ []) self.old.tariffs) }
+    {
+        match *event {
+            LaneEvent::Seen {
+                position,
+                report,
+                begins,
+                stopped,
+            } => self.see(position, &report, begins, stopped),
+            LaneEvent::Leave {
+                time,
+                vid,
+                place,
+                ..
+            } => {
+                self.leave(time, vid, place);
+                Ok(None)
+            }
+        }
+    }
+}
