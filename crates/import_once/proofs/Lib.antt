@@ -1,6 +1,7 @@
 pub mod IntakeLaws
 pub mod FrontLaws
 pub mod StepLaws
+pub mod BoundLaws
 pub mod GiveLaws
 pub mod GatherLaws
 pub mod PrintLaws

@@ -30,7 +30,7 @@ cuts_ok (Some xs) None line bs c e = absurd c
 cuts_ok (Some xs) (Some ys) line bs c e = let same : bs ≡ xs = cc in (ys, refl, ap lines_of same ∙ c)
 
 -- the bytes that a line took come before those that are left
-taken_ok : (before after : Option (List ℕ)) (rest bs now : List ℕ) → Consumes before after rest → before ≡ Some bs → after ≡ Some now → bs ≡ rest ++ now
+pub taken_ok : (before after : Option (List ℕ)) (rest bs now : List ℕ) → Consumes before after rest → before ≡ Some bs → after ≡ Some now → bs ≡ rest ++ now
 taken_ok None after rest bs now c e f = cc
 taken_ok (Some xs) None rest bs now c e f = cc
 taken_ok (Some xs) (Some ys) rest bs now c e f = let a : bs ≡ xs = cc in let b : ys ≡ now = cc in a ∙ c ∙ ap (λ zs. rest ++ zs) b

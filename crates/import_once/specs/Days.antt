@@ -1,5 +1,5 @@
 -- Days that are read whole, or up to the first line that is refused.
-use Rattle.std.specs.Prelude.{ℕ, ◌≡◌, ◌≤◌, ◌^◌, ◌<◌, List, length, Option, Some, None}
+use Rattle.std.specs.Prelude.{ℕ, ◌≡◌, ◌≤◌, ◌+◌, ◌*◌, ◌^◌, ◌<◌, List, length, drop, Option, Some, None}
 use Rattle.road_time.specs.declared.day.Limits.{Limits}
 use Rattle.road_time.specs.declared.day.TheConstants.Limits.{DAY}
 use Rattle.road_time.specs.Form.{Fault}
@@ -28,3 +28,11 @@ EndsReading (Refused line cause) bytes refused = (fault : Fault) × (refused ≡
 abbrev pub IsShort : DayEnd → Type 0
 IsShort (Whole n digest) = n < 2 ^ 63
 IsShort (Refused line cause) = Unit {0}
+
+-- of the bytes that a source had, at most the first so many were read
+abbrev pub ReadsWithin : ℕ → Option (List ℕ) → Option (List ℕ) → Type 0
+ReadsWithin most before after = (bytes : List ℕ) → before ≡ Some bytes → (count : ℕ) × (count ≤ most) × (after ≡ Some (drop count bytes))
+
+-- the most that a day is read: a line more than it may have, each of 200 bytes and its end, and one buffer
+abbrev pub most_read : Limits → ℕ
+most_read limits = 201 * (limits.lines + 1) + 65536

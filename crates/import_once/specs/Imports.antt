@@ -17,6 +17,7 @@ use Rattle.keeper.specs.History.{paid}
 use Rattle.keeper.specs.Office.{Office, record_of, last_day}
 use Rattle.keeper.specs.Kept.{kept_record, next_office, found_digest}
 use Rattle.keeper.specs.Calls.{WhenRefused, Leaves}
+use Rattle.import_once.specs.Days.{most_read}
 use Rattle.import_once.specs.declared.outcomes.Outcome.{Outcome}
 use Rattle.import_once.specs.declared.outcomes.Outcome.TheVariants.{Stored, Already, Answered, Refused, DayPassed, Differs, ReadFault, WriteFault, KeeperFault, NoMemory}
 use Rattle.import_once.specs.declared.outcomes.Halt.{Halt}
@@ -113,6 +114,11 @@ abbrev pub LeavesRest : Outcome → Option DayRecord → List ℕ → Option (Li
 LeavesRest (Already r) (Some kept) bytes left = left ≡ Some (drop (kept.bytes + 1) bytes)
 LeavesRest (Differs k found) (Some kept) bytes left = left ≡ Some (drop (kept.bytes + 1) bytes)
 LeavesRest _ kept bytes left = Unit {0}
+
+-- the most that an import reads: of a day that is kept, one byte more than it had
+abbrev pub most_imported : Option DayRecord → Limits → ℕ
+most_imported None limits = most_read limits
+most_imported (Some kept) limits = kept.bytes + 1
 
 -- the outcome of a call that was stopped
 abbrev pub halting : Halt → Outcome

@@ -80,6 +80,18 @@ pub record IsReading (r : DayReader) (limits : Limits) (late : ℕ) (left : Opti
   pub front : IsFrontOf given (reads bytes limits late).tuples
   pub stands : StandsAt r.end (ahead r.cutter left) (number_of r.cutter) r.consumed r.intake.gate r.intake.sorter limits late bytes given
 
+-- the first of the bytes that a source had were taken, and counted; the rest lies ahead
+pub record HasRead (front : Option (List ℕ)) (consumed : Consumed) (bytes : List ℕ) : Type 0 where
+  pub taken : List ℕ
+  pub now : List ℕ
+  pub ahead_is : front ≡ Some now
+  pub bytes_are : bytes ≡ taken ++ now
+  pub count : consumed.bytes ≡ length taken
+
+-- what a reader under a line limit took and holds of a source's bytes, and what is left of them, is all that the source had
+abbrev pub HasReadOf : DayReader → ℕ → Option (List ℕ) → List ℕ → Type 0
+HasReadOf r lines left bytes = (r.intake.line_limit ≡ lines) × HasRead (ahead r.cutter left) r.consumed bytes
+
 -- the source failed before
 abbrev pub HasFailed : DayReader → Type 0
 HasFailed r = r.end ≡ Some (Stopped ReadFault)

@@ -11,7 +11,7 @@ ghost use Rattle.road_io.specs.Rooms.{Endless};
 ghost use Rattle.keeper.specs.History.{paid};
 ghost use Rattle.keeper.specs.Office.{Office};
 ghost use Rattle.keeper.specs.Calls.{WhenRefused};
-ghost use Rattle.import_once.specs.Days.{IsLimits, EndsReading, IsShort};
+ghost use Rattle.import_once.specs.Days.{IsLimits, EndsReading, IsShort, ReadsWithin, most_read};
 ghost use Rattle.import_once.specs.Imports.{answers_read, answers_answer, text_of_day, Does};
 ghost use Rattle.import_once.specs.Stages.{IsPrinted};
 ghost use Rattle.import_once.specs.declared.outcomes.Outcome.TheVariants.{ReadFault, WriteFault, KeeperFault};
@@ -75,7 +75,7 @@ fn answer_day<O: Sink, K: Keeper>(
     ensures unread { result ≢ ReadFault }
     ensures write_cause { result ≡ WriteFault → Rose (O.faults sink.old) (O.faults sink.new) }
     ensures write_later { O.faults sink.old ≤ O.faults sink.new }
-    ensures write_sure { O.room sink.old ≡ Endless → result ≢ WriteFault }
+    ensures write_sure { O.room sink.old ≡ Endless → (result ≢ WriteFault) × (O.room sink.new ≡ Endless) }
     ensures keeper_cause { result ≡ KeeperFault → Rose (K.faults keeper.old) (K.faults keeper.new) }
     ensures keeper_later { K.faults keeper.old ≤ K.faults keeper.new }
     ensures keeper_sure { NeverFails (K.plan keeper.old) → result ≢ KeeperFault }
@@ -104,12 +104,13 @@ fn answer_under<S: Source, O: Sink, K: Keeper>(
     ensures does { (bytes : List ℕ) (o : Office) → S.left source.old ≡ Some bytes → K.told keeper.old ≡ Some o → tariffs.now ≡ o.tariffs
         → Does K.refuses (answers_read number bytes (reads bytes limits.now late).tuples (reads bytes limits.now late).refused o) o (O.written sink.old) (O.written sink.new) (K.told keeper.new) result }
     ensures kept { K.told keeper.new ≡ K.told keeper.old }
+    ensures bounded { ReadsWithin (most_read limits.now) (S.left source.old) (S.left source.new) }
     ensures read_cause { result ≡ ReadFault → Rose (S.faults source.old) (S.faults source.new) }
     ensures read_later { S.faults source.old ≤ S.faults source.new }
     ensures read_sure { NeverFails (S.plan source.old) → result ≢ ReadFault }
     ensures write_cause { result ≡ WriteFault → Rose (O.faults sink.old) (O.faults sink.new) }
     ensures write_later { O.faults sink.old ≤ O.faults sink.new }
-    ensures write_sure { O.room sink.old ≡ Endless → result ≢ WriteFault }
+    ensures write_sure { O.room sink.old ≡ Endless → (result ≢ WriteFault) × (O.room sink.new ≡ Endless) }
     ensures keeper_cause { result ≡ KeeperFault → Rose (K.faults keeper.old) (K.faults keeper.new) }
     ensures keeper_later { K.faults keeper.old ≤ K.faults keeper.new }
     ensures keeper_sure { NeverFails (K.plan keeper.old) → result ≢ KeeperFault }
@@ -139,12 +140,13 @@ pub fn answers<S: Source, O: Sink, K: Keeper>(
     ensures does { (bytes : List ℕ) (o : Office) → S.left source.old ≡ Some bytes → K.told keeper.old ≡ Some o
         → Does K.refuses (answers_answer day late limits.now bytes o) o (O.written sink.old) (O.written sink.new) (K.told keeper.new) result }
     ensures kept { K.told keeper.new ≡ K.told keeper.old }
+    ensures bounded { ReadsWithin (most_read limits.now) (S.left source.old) (S.left source.new) }
     ensures read_cause { result ≡ ReadFault → Rose (S.faults source.old) (S.faults source.new) }
     ensures read_later { S.faults source.old ≤ S.faults source.new }
     ensures read_sure { NeverFails (S.plan source.old) → result ≢ ReadFault }
     ensures write_cause { result ≡ WriteFault → Rose (O.faults sink.old) (O.faults sink.new) }
     ensures write_later { O.faults sink.old ≤ O.faults sink.new }
-    ensures write_sure { O.room sink.old ≡ Endless → result ≢ WriteFault }
+    ensures write_sure { O.room sink.old ≡ Endless → (result ≢ WriteFault) × (O.room sink.new ≡ Endless) }
     ensures keeper_cause { result ≡ KeeperFault → Rose (K.faults keeper.old) (K.faults keeper.new) }
     ensures keeper_later { K.faults keeper.old ≤ K.faults keeper.new }
     ensures keeper_sure { NeverFails (K.plan keeper.old) → result ≢ KeeperFault }

@@ -9,8 +9,8 @@ ghost use Rattle.road_io.specs.Rooms.{Endless};
 ghost use Rattle.keeper.specs.Office.{Office, record_of, last_day};
 ghost use Rattle.keeper.specs.Kept.{IsLater};
 ghost use Rattle.keeper.specs.Calls.{IfTold};
-ghost use Rattle.import_once.specs.Days.{IsLimits, EndsReading, IsShort};
-ghost use Rattle.import_once.specs.Imports.{import_read, import_new as import_new_answer, import_answer, Does, LeavesRest};
+ghost use Rattle.import_once.specs.Days.{IsLimits, EndsReading, IsShort, ReadsWithin, most_read};
+ghost use Rattle.import_once.specs.Imports.{import_read, import_new as import_new_answer, import_answer, most_imported, Does, LeavesRest};
 ghost use Rattle.import_once.specs.declared.outcomes.Outcome.TheVariants.{ReadFault, WriteFault, KeeperFault};
 
 use crate::keeping::finish_import;
@@ -42,7 +42,7 @@ fn import_day<O: Sink, K: Keeper>(
     ensures unread { result ≢ ReadFault }
     ensures write_cause { result ≡ WriteFault → Rose (O.faults sink.old) (O.faults sink.new) }
     ensures write_later { O.faults sink.old ≤ O.faults sink.new }
-    ensures write_sure { O.room sink.old ≡ Endless → result ≢ WriteFault }
+    ensures write_sure { O.room sink.old ≡ Endless → (result ≢ WriteFault) × (O.room sink.new ≡ Endless) }
     ensures keeper_cause { result ≡ KeeperFault → Rose (K.faults keeper.old) (K.faults keeper.new) }
     ensures keeper_later { K.faults keeper.old ≤ K.faults keeper.new }
     ensures keeper_sure { NeverFails (K.plan keeper.old) → result ≢ KeeperFault }
@@ -71,12 +71,13 @@ fn import_under<S: Source, O: Sink, K: Keeper>(
     requires later { IfTold (K.told keeper.old) (λ o. IsLater number o) }
     ensures does { (bytes : List ℕ) (o : Office) → S.left source.old ≡ Some bytes → K.told keeper.old ≡ Some o → tariffs.now ≡ o.tariffs
         → Does K.refuses (import_read number bytes (reads bytes limits.now late).tuples (reads bytes limits.now late).refused o) o (O.written sink.old) (O.written sink.new) (K.told keeper.new) result }
+    ensures bounded { ReadsWithin (most_read limits.now) (S.left source.old) (S.left source.new) }
     ensures read_cause { result ≡ ReadFault → Rose (S.faults source.old) (S.faults source.new) }
     ensures read_later { S.faults source.old ≤ S.faults source.new }
     ensures read_sure { NeverFails (S.plan source.old) → result ≢ ReadFault }
     ensures write_cause { result ≡ WriteFault → Rose (O.faults sink.old) (O.faults sink.new) }
     ensures write_later { O.faults sink.old ≤ O.faults sink.new }
-    ensures write_sure { O.room sink.old ≡ Endless → result ≢ WriteFault }
+    ensures write_sure { O.room sink.old ≡ Endless → (result ≢ WriteFault) × (O.room sink.new ≡ Endless) }
     ensures keeper_cause { result ≡ KeeperFault → Rose (K.faults keeper.old) (K.faults keeper.new) }
     ensures keeper_later { K.faults keeper.old ≤ K.faults keeper.new }
     ensures keeper_sure { NeverFails (K.plan keeper.old) → result ≢ KeeperFault }
@@ -105,12 +106,13 @@ fn import_later<S: Source, O: Sink, K: Keeper>(
     requires later { IfTold (K.told keeper.old) (λ o. IsLater number o) }
     ensures does { (bytes : List ℕ) (o : Office) → S.left source.old ≡ Some bytes → K.told keeper.old ≡ Some o
         → Does K.refuses (import_read number bytes (reads bytes limits.now late).tuples (reads bytes limits.now late).refused o) o (O.written sink.old) (O.written sink.new) (K.told keeper.new) result }
+    ensures bounded { ReadsWithin (most_read limits.now) (S.left source.old) (S.left source.new) }
     ensures read_cause { result ≡ ReadFault → Rose (S.faults source.old) (S.faults source.new) }
     ensures read_later { S.faults source.old ≤ S.faults source.new }
     ensures read_sure { NeverFails (S.plan source.old) → result ≢ ReadFault }
     ensures write_cause { result ≡ WriteFault → Rose (O.faults sink.old) (O.faults sink.new) }
     ensures write_later { O.faults sink.old ≤ O.faults sink.new }
-    ensures write_sure { O.room sink.old ≡ Endless → result ≢ WriteFault }
+    ensures write_sure { O.room sink.old ≡ Endless → (result ≢ WriteFault) × (O.room sink.new ≡ Endless) }
     ensures keeper_cause { result ≡ KeeperFault → Rose (K.faults keeper.old) (K.faults keeper.new) }
     ensures keeper_later { K.faults keeper.old ≤ K.faults keeper.new }
     ensures keeper_sure { NeverFails (K.plan keeper.old) → result ≢ KeeperFault }
@@ -139,12 +141,13 @@ fn import_new<S: Source, O: Sink, K: Keeper>(
     ensures does { (bytes : List ℕ) (o : Office) → S.left source.old ≡ Some bytes → K.told keeper.old ≡ Some o
         → Does K.refuses (import_new_answer number late limits.now bytes o) o (O.written sink.old) (O.written sink.new) (K.told keeper.new) result }
     ensures unread { (o : Office) → K.told keeper.old ≡ Some o → number ≤ last_day o → source.new ≡ source.old }
+    ensures bounded { ReadsWithin (most_read limits.now) (S.left source.old) (S.left source.new) }
     ensures read_cause { result ≡ ReadFault → Rose (S.faults source.old) (S.faults source.new) }
     ensures read_later { S.faults source.old ≤ S.faults source.new }
     ensures read_sure { NeverFails (S.plan source.old) → result ≢ ReadFault }
     ensures write_cause { result ≡ WriteFault → Rose (O.faults sink.old) (O.faults sink.new) }
     ensures write_later { O.faults sink.old ≤ O.faults sink.new }
-    ensures write_sure { O.room sink.old ≡ Endless → result ≢ WriteFault }
+    ensures write_sure { O.room sink.old ≡ Endless → (result ≢ WriteFault) × (O.room sink.new ≡ Endless) }
     ensures keeper_cause { result ≡ KeeperFault → Rose (K.faults keeper.old) (K.faults keeper.new) }
     ensures keeper_later { K.faults keeper.old ≤ K.faults keeper.new }
     ensures keeper_sure { NeverFails (K.plan keeper.old) → result ≢ KeeperFault }
@@ -181,12 +184,13 @@ pub fn import<S: Source, O: Sink, K: Keeper>(
         → Does K.refuses (import_answer day late limits.now bytes o) o (O.written sink.old) (O.written sink.new) (K.told keeper.new) result }
     ensures rest { (bytes : List ℕ) (o : Office) → S.left source.old ≡ Some bytes → K.told keeper.old ≡ Some o → LeavesRest result (record_of o day) bytes (S.left source.new) }
     ensures unread { (o : Office) → K.told keeper.old ≡ Some o → record_of o day ≡ None → day ≤ last_day o → source.new ≡ source.old }
+    ensures bounded { (o : Office) → K.told keeper.old ≡ Some o → ReadsWithin (most_imported (record_of o day) limits.now) (S.left source.old) (S.left source.new) }
     ensures read_cause { result ≡ ReadFault → Rose (S.faults source.old) (S.faults source.new) }
     ensures read_later { S.faults source.old ≤ S.faults source.new }
     ensures read_sure { NeverFails (S.plan source.old) → result ≢ ReadFault }
     ensures write_cause { result ≡ WriteFault → Rose (O.faults sink.old) (O.faults sink.new) }
     ensures write_later { O.faults sink.old ≤ O.faults sink.new }
-    ensures write_sure { O.room sink.old ≡ Endless → result ≢ WriteFault }
+    ensures write_sure { O.room sink.old ≡ Endless → (result ≢ WriteFault) × (O.room sink.new ≡ Endless) }
     ensures keeper_cause { result ≡ KeeperFault → Rose (K.faults keeper.old) (K.faults keeper.new) }
     ensures keeper_later { K.faults keeper.old ≤ K.faults keeper.new }
     ensures keeper_sure { NeverFails (K.plan keeper.old) → result ≢ KeeperFault }

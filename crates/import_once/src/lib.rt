@@ -22,8 +22,10 @@ mod telling;
 mod whole_day;
 
 pub use answering::answers;
+pub use consumed::Consumed;
 pub use day_reader::DayReader;
 pub use ending::ReadEnd;
+pub use history::history_for;
 pub use importing::import;
 pub use kept_day::find_digest;
 pub use outcomes::Outcome;

@@ -4,7 +4,7 @@ ghost use Rattle.road_time.specs.Fits.{Fit};
 ghost use Rattle.road_time.specs.Reads.{reads};
 ghost use Rattle.road_io.specs.Faults.{Rose};
 ghost use Rattle.road_io.specs.Plans.{NeverFails};
-ghost use Rattle.import_once.specs.Days.{IsLimits, EndsReading, IsShort};
+ghost use Rattle.import_once.specs.Days.{IsLimits, EndsReading, IsShort, ReadsWithin, most_read};
 ghost use Rattle.import_once.specs.Readings.{HasTaken};
 ghost use Rattle.import_once.specs.declared.whole_day.ReadStop.TheVariants.{ReadFault};
 
@@ -64,6 +64,7 @@ pub fn read_day<S: Source>(
     ensures end { (bytes : List ℕ) → S.left source.old ≡ Some bytes → IfOk result (λ d. EndsReading d.end bytes (reads bytes limits.now late).refused) }
     ensures fit { IfOk result (λ d. Fit d.tuples.items limits.now) }
     ensures short { IfOk result (λ d. IsShort d.end) }
+    ensures bounded { ReadsWithin (most_read limits.now) (S.left source.old) (S.left source.new) }
     ensures cause { result ≡ Err ReadFault → Rose (S.faults source.old) (S.faults source.new) }
     ensures sure { NeverFails (S.plan source.old) → result ≢ Err ReadFault }
     ensures later { S.faults source.old ≤ S.faults source.new }

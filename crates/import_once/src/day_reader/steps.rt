@@ -6,7 +6,7 @@ ghost use Rattle.road_io.specs.Faults.{Rose};
 ghost use Rattle.road_io.specs.Plans.{NeverFails};
 ghost use Rattle.road_io.specs.Cutter.{number_of};
 ghost use Rattle.keeper.specs.Digests.{digest_of};
-ghost use Rattle.import_once.specs.Readings.{IsReading, IsGathering, IsGivingOut, Gives, GathersOn, HasTaken, HasFailed};
+ghost use Rattle.import_once.specs.Readings.{IsReading, IsGathering, IsGivingOut, Gives, GathersOn, HasTaken, HasReadOf, HasFailed};
 ghost use Rattle.import_once.specs.declared.ending.Ending.{Ending as EndingValue};
 ghost use Rattle.road_time.specs.Reads.{reads};
 ghost use Rattle.import_once.specs.declared.ending.ReadEnd.TheVariants.{ReadFault};
@@ -28,6 +28,7 @@ impl DayReader {
         requires { late ≤ 120 }
         ensures reading { IfOk result (λ r. (bytes : List ℕ) → IsReading r limits.now late (Some bytes) bytes []) }
         ensures gathering { IfOk result (λ r. IsGathering r limits.now late []) }
+        ensures read { IfOk result (λ r. (bytes : List ℕ) → HasReadOf r limits.now.lines (Some bytes) bytes) }
         ensures unfailed { IfOk result (λ r. HasFailed r → ⊥) }
     {
         let cutter = LineCutter::new(alloc)?;
@@ -77,6 +78,7 @@ impl DayReader {
         ensures end { self.new.end ≡ result }
         ensures next { IfNone result (number_of self.new.cutter ≡ number_of self.old.cutter + 1) }
         ensures limit { self.new.intake.line_limit ≡ self.old.intake.line_limit }
+        ensures read { (lines : ℕ) (bytes : List ℕ) → HasReadOf self.old lines (S.left source.old) bytes → HasReadOf self.new lines (S.left source.new) bytes }
         ensures later { S.faults source.old ≤ S.faults source.new }
         ensures cause { result ≡ Some (Stopped ReadFault) → Rose (S.faults source.old) (S.faults source.new) }
         ensures sure { NeverFails (S.plan source.old) → (result ≢ Some (Stopped ReadFault)) × NeverFails (S.plan source.new) }
@@ -115,6 +117,7 @@ impl DayReader {
         ensures end { self.new.end ≡ self.old.end }
         ensures consumed { self.new.consumed ≡ self.old.consumed }
         ensures cutter { self.new.cutter ≡ self.old.cutter }
+        ensures read { (lines : ℕ) (left : Option (List ℕ)) (bytes : List ℕ) → HasReadOf self.old lines left bytes → HasReadOf self.new lines left bytes }
     {
         let _limit = self.intake.line_limit;
         match self.intake.sorter.end() {
@@ -133,6 +136,7 @@ impl DayReader {
         ensures none { IfNone result (self.new ≡ self.old) }
         ensures gathers { (limits : LimitsValue) (late : ℕ) (given : List TupleValue) → IsGathering self.old limits late given → GathersOn (Ok result) self.new limits late given }
         ensures end { self.new.end ≡ None }
+        ensures read { (lines : ℕ) (left : Option (List ℕ)) (bytes : List ℕ) → HasReadOf self.old lines left bytes → HasReadOf self.new lines left bytes }
     {
         let _limit = self.intake.line_limit;
         match self.intake.sorter.take() {
@@ -151,6 +155,7 @@ impl DayReader {
         ensures gathers { (limits : LimitsValue) (late : ℕ) (given : List TupleValue) → IsGathering self.old limits late given → GathersOn result self.new limits late given }
         ensures end { self.new.end ≡ self.old.end }
         ensures fault { result ≡ Err ReadFault ↔ (stop ≡ ReadFault) }
+        ensures read { (lines : ℕ) (left : Option (List ℕ)) (bytes : List ℕ) → HasReadOf self.old lines left bytes → HasReadOf self.new lines left bytes }
     {
         match stop {
             ReadEnd::Refused { line, cause } => match self.next_out() {
@@ -169,6 +174,7 @@ impl DayReader {
         ensures gathers { (limits : LimitsValue) (late : ℕ) (given : List TupleValue) → IsGathering self.old limits late given → GathersOn result self.new limits late given }
         ensures end { self.new.end ≡ self.old.end }
         ensures fault { result ≡ Err ReadFault ↔ (end ≡ Stopped ReadFault) }
+        ensures read { (lines : ℕ) (left : Option (List ℕ)) (bytes : List ℕ) → HasReadOf self.old lines left bytes → HasReadOf self.new lines left bytes }
     {
         match end {
             Ending::Whole => match self.next_out() {
@@ -183,6 +189,7 @@ impl DayReader {
     pub fn next<S: Source>(&mut self, source: &mut S) -> Result<Option<Tuple>, ReadEnd>
         ensures gives { (limits : LimitsValue) (late : ℕ) (bytes : List ℕ) (given : List TupleValue) → IsReading self.old limits late (S.left source.old) bytes given → Gives result self.new limits late (S.left source.new) bytes given }
         ensures gathers { (limits : LimitsValue) (late : ℕ) (given : List TupleValue) → IsGathering self.old limits late given → GathersOn result self.new limits late given }
+        ensures read { (lines : ℕ) (bytes : List ℕ) → HasReadOf self.old lines (S.left source.old) bytes → HasReadOf self.new lines (S.left source.new) bytes }
         ensures later { S.faults source.old ≤ S.faults source.new }
         ensures cause { (HasFailed self.old → ⊥) → result ≡ Err ReadFault → Rose (S.faults source.old) (S.faults source.new) }
         ensures unfailed { (HasFailed self.old → ⊥) → result ≢ Err ReadFault → HasFailed self.new → ⊥ }

@@ -3,7 +3,8 @@ use Rattle.std.proofs.lemmas.Bool.{cond-true}
 use Rattle.road_time.specs.declared.road.Tuple.{Tuple}
 use Rattle.import_once.specs.declared.ending.ReadEnd.{ReadEnd}
 use Rattle.import_once.specs.declared.ending.ReadEnd.TheVariants.{Refused, ReadFault}
-use Rattle.import_once.specs.Readings.{IsReading, IsGathering, Gives, GathersOn}
+use Rattle.import_once.specs.Readings.{IsReading, IsGathering, HasReadOf, Gives, GathersOn}
+use Rattle.import_once.proofs.BoundLaws.{day_within}
 use Rattle.import_once.proofs.whole_day.read_day.Goals as goal
 
 -- a tuple that was given is no fault
@@ -19,6 +20,7 @@ reading-init g c =
     record {
       gathering = subst (λ xs. IsGathering r limits late xs) none c.in-Ok.ensures.gathering;
       reading = λ bytes told. subst (λ xs. IsReading r limits late (g.S.Source.left c.args.source.now) bytes xs) none (subst (λ o. IsReading r limits late o bytes []) (sym told) (c.in-Ok.ensures.reading bytes));
+      read = λ bytes told. subst (λ o. HasReadOf r limits.lines o bytes) (sym told) (c.in-Ok.ensures.read bytes);
       unfailed = c.in-Ok.ensures.unfailed;
       later = omega arith;
       sure = λ never. never;
@@ -38,6 +40,7 @@ reading-preserved g c =
       gathering = subst (λ xs. IsGathering new limits late xs) (sym pushed) (subst (λ r. GathersOn r new limits late before) some (c.next.ensures.gathers limits late before inv.gathering));
       reading = λ bytes told. subst (λ xs. IsReading new limits late (g.S.Source.left c.next.new.source) bytes xs) (sym pushed)
           (subst (λ r. Gives r new limits late (g.S.Source.left c.next.new.source) bytes before) some (c.next.ensures.gives limits late bytes before (inv.reading bytes told)));
+      read = λ bytes told. c.next.ensures.read limits.lines bytes (inv.read bytes told);
       unfailed = c.next.ensures.unfailed inv.unfailed (given_no_fault c.next.result x some);
       later = omega (arith, c.next.ensures.later, inv.later);
       sure = λ never. (c.next.ensures.sure inv.unfailed (inv.sure never)).1;
@@ -51,3 +54,33 @@ returns-in-Err-Refused-clause-end g c = λ bytes told.
     let before = c.reading.tuples.items in
     let res : c.next.result ≡ Err (Refused c.in-Err-Refused.line c.in-Err-Refused.cause) = cc in
     (subst (λ r. Gives r new limits late (g.S.Source.left c.next.new.source) bytes before) res (c.next.ensures.gives limits late bytes before (c.reading.invariant.reading bytes told))).1
+
+pub returns-then-is_err-clause-bounded : goal.returns-then-is_err-clause-bounded
+returns-then-is_err-clause-bounded g c = λ bytes told.
+    let new = c.next.new.self in
+    let read = c.next.ensures.read c.args.limits.now.lines bytes (c.reading.invariant.read bytes told) in
+    day_within new c.args.limits.now (g.S.Source.left c.next.new.source) bytes read
+
+pub returns-in-Ok-None-clause-bounded : goal.returns-in-Ok-None-clause-bounded
+returns-in-Ok-None-clause-bounded g c = λ bytes told.
+    let new = c.next.new.self in
+    let read = c.next.ensures.read c.args.limits.now.lines bytes (c.reading.invariant.read bytes told) in
+    day_within new c.args.limits.now (g.S.Source.left c.next.new.source) bytes read
+
+pub returns-in-Err-Refused-clause-bounded : goal.returns-in-Err-Refused-clause-bounded
+returns-in-Err-Refused-clause-bounded g c = λ bytes told.
+    let new = c.next.new.self in
+    let read = c.next.ensures.read c.args.limits.now.lines bytes (c.reading.invariant.read bytes told) in
+    day_within new c.args.limits.now (g.S.Source.left c.next.new.source) bytes read
+
+pub returns-in-Err-ReadFault-clause-bounded : goal.returns-in-Err-ReadFault-clause-bounded
+returns-in-Err-ReadFault-clause-bounded g c = λ bytes told.
+    let new = c.next.new.self in
+    let read = c.next.ensures.read c.args.limits.now.lines bytes (c.reading.invariant.read bytes told) in
+    day_within new c.args.limits.now (g.S.Source.left c.next.new.source) bytes read
+
+pub returns-in-Err-NoMemory-clause-bounded : goal.returns-in-Err-NoMemory-clause-bounded
+returns-in-Err-NoMemory-clause-bounded g c = λ bytes told.
+    let new = c.next.new.self in
+    let read = c.next.ensures.read c.args.limits.now.lines bytes (c.reading.invariant.read bytes told) in
+    day_within new c.args.limits.now (g.S.Source.left c.next.new.source) bytes read

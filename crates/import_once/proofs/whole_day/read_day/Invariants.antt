@@ -1,12 +1,13 @@
 use Rattle.std.proofs.Common.{◌≡◌, ◌+◌, ◌-◌, ◌≤◌, length, List, ℕ, Some}
 use Rattle.road_io.specs.Plans.{NeverFails}
-use Rattle.import_once.specs.Readings.{IsReading, IsGathering, HasFailed}
+use Rattle.import_once.specs.Readings.{IsReading, IsGathering, HasReadOf, HasFailed}
 use Rattle.import_once.proofs.whole_day.read_day.Given as goal
 
 abbrev pub invariant-reading : goal.invariant-reading
 invariant-reading g l = record {
   gathering : IsGathering l.reader l.limits l.late l.tuples.items;
   reading : (bytes : List ℕ) → g.S.Source.left l.initial.source ≡ Some bytes → IsReading l.reader l.limits l.late (g.S.Source.left l.source) bytes l.tuples.items;
+  read : (bytes : List ℕ) → g.S.Source.left l.initial.source ≡ Some bytes → HasReadOf l.reader l.limits.lines (g.S.Source.left l.source) bytes;
   unfailed : HasFailed l.reader → ⊥;
   later : g.S.Source.faults l.initial.source ≤ g.S.Source.faults l.source;
   sure : NeverFails (g.S.Source.plan l.initial.source) → NeverFails (g.S.Source.plan l.source);

@@ -3,7 +3,7 @@ use Rattle.road_time.specs.declared.road.Tuple.{Tuple}
 use Rattle.road_time.specs.declared.day.Limits.{Limits}
 use Rattle.road_io.specs.Plans.{NeverFails}
 use Rattle.road_io.specs.Cutter.{number_of}
-use Rattle.import_once.specs.Readings.{IsReading, IsGathering}
+use Rattle.import_once.specs.Readings.{IsReading, IsGathering, HasReadOf}
 use Rattle.import_once.proofs.day_reader.DayReader.next.Given as goal
 
 abbrev pub invariant-loop-tuple : goal.invariant-loop-tuple
@@ -12,6 +12,7 @@ invariant-loop-tuple g l = record {
   limit : l.self.intake.line_limit ≡ l.initial.self.intake.line_limit;
   reading : (limits : Limits) (late : ℕ) (bytes : List ℕ) (given : List Tuple) → IsReading l.initial.self limits late (g.S.Source.left l.initial.source) bytes given → IsReading l.self limits late (g.S.Source.left l.source) bytes given;
   gathering : (limits : Limits) (late : ℕ) (given : List Tuple) → IsGathering l.initial.self limits late given → IsGathering l.self limits late given;
+  read : (lines : ℕ) (bytes : List ℕ) → HasReadOf l.initial.self lines (g.S.Source.left l.initial.source) bytes → HasReadOf l.self lines (g.S.Source.left l.source) bytes;
   later : g.S.Source.faults l.initial.source ≤ g.S.Source.faults l.source;
   sure : NeverFails (g.S.Source.plan l.initial.source) → NeverFails (g.S.Source.plan l.source);
 }

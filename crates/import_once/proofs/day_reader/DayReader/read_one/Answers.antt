@@ -1,4 +1,4 @@
-use Rattle.std.proofs.Common.{◌≡◌, ◌+◌, ◌++◌, ◌∙◌, List, ℕ, sym, ap, subst, refl, Ok, Err, Some, None, true, arith}
+use Rattle.std.proofs.Common.{◌≡◌, ◌+◌, ◌++◌, ◌∙◌, List, length, ℕ, sym, ap, subst, refl, Ok, Err, Some, None, true, arith}
 use Rattle.std.specs.Io.KnownBytes.{Consumes}
 use Rattle.road_io.specs.Cutter.{ahead, number_of, line_of, rest_of, Cuts, Stands}
 use Rattle.road_io.specs.declared.cutter.LineFault.TheVariants.{LongLine}
@@ -8,6 +8,7 @@ use Rattle.import_once.specs.Lines.{TakesLine, refusal}
 use Rattle.import_once.specs.Readings.{StandsAt, GathersAt, HasTaken}
 use Rattle.import_once.proofs.GatherLaws.{gather_line, gather_end}
 use Rattle.import_once.proofs.StepLaws.{after_line, long_line}
+use Rattle.import_once.proofs.BoundLaws.{read_line}
 use Rattle.import_once.proofs.day_reader.DayReader.read_one.Goals as goal
 
 pub returns-in-Ok-true-clause-reading : goal.returns-in-Ok-true-clause-reading
@@ -83,3 +84,16 @@ returns-in-Err-LongLine-clause-gathering g c = λ limits late given s.
       fit = s.fit;
       stands = subst (λ (e : Ending). GathersAt (Some e) (number_of new) self.intake.gate self.intake.sorter limits late given) (sym c.refused.ensures) (gather_end limits late given (number_of self.cutter) self.intake.gate self.intake.sorter on);
     }
+
+pub returns-in-Ok-true-clause-read : goal.returns-in-Ok-true-clause-read
+returns-in-Ok-true-clause-read g c = λ lines bytes s.
+    let self = c.args.self.now in
+    let old = self.cutter in
+    let new = c.advance.new.self in
+    let before = ahead old (g.S.Source.left c.args.source.now) in
+    let after = ahead new (g.S.Source.left c.advance.new.source) in
+    let none = self.unbroken c.requires in
+    let res : c.advance.result ≡ Ok true = cc in
+    let cuts = subst (λ r. Cuts r before after (line_of new)) res (c.advance.ensures.cuts none) in
+    let counts = subst (λ r. c.add.new.self.bytes ≡ self.consumed.bytes + length r) c.rest.ensures c.add.ensures.count in
+    (c.take-end.ensures.limit ∙ s.0, read_line before after (line_of new) (rest_of new) bytes self.consumed c.add.new.self s.1 cuts (c.advance.ensures.taken none res) counts)
