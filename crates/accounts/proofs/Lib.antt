@@ -3,3 +3,4 @@ pub mod SumLaws
 pub mod BookLaws
 pub mod RowSteps
 pub mod WorkedLaws
+pub mod EntryLaws

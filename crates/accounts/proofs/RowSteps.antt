@@ -1,5 +1,5 @@
 -- listed rows, put in order, are the rows
-use Rattle.std.proofs.Common.{◌≡◌, ℕ, ◌+◌, ◌≤◌, ◌<◌, ◌==◌, ◌&&◌, inl, inr, Bool, true, false, cond, nat_lt, List, [], ◌∷◌, length, map, Some, refl, sym, ap, ◌∙◌, arith, get_or}
+use Rattle.std.proofs.Common.{◌≡◌, ℕ, ◌+◌, ◌≤◌, ◌<◌, ◌==◌, ◌&&◌, ◌++◌, inl, inr, Bool, true, false, cond, nat_lt, List, [], ◌∷◌, length, map, Some, refl, sym, ap, ◌∙◌, arith, get_or}
 use Rattle.std.specs.Option.{unwrap_or}
 use Rattle.std.specs.List.{filter, sum_by, AllByRecursion, IsDistinct}
 use Rattle.std.specs.List.Sorted.{IsPermutation, IsSortedByKey, IsStrictlySortedBy}
@@ -9,16 +9,15 @@ use Rattle.std.specs.declared.cmp.Ordering.TheVariants.{Less, Equal, Greater}
 use Rattle.std.specs.Ordering.{nat_cmp, ordering_then, is_eq, is_lt, ordering_reverse}
 use Rattle.std.specs.Cmp.{ranked}
 use Rattle.std.proofs.lemmas.List.Sums.{sum_by-cons}
-use Rattle.std.proofs.lemmas.List.{get_or-map, length-map}
+use Rattle.std.proofs.lemmas.List.{get_or-map, length-map, append_assoc}
 use Rattle.std.proofs.lemmas.List.Sorted.{IsPermutation-map, sum_by-IsPermutation, All-permutation}
 use Rattle.std.proofs.lemmas.List.Elements.{All-from_recursion, recursion_from_All}
 use Rattle.std.proofs.lemmas.Map.Keys.{IsDistinct-head, IsDistinct-tail, IsDistinct-cons, IsDistinct-IsPermutation, apart_from_distinct, sorted_from_all_adjacent, sorted_head, sorted_tail}
 use Rattle.std.proofs.lemmas.Bool.{cond_both, cond-true, cond-false, ltb-true, ltb-false}
 use Rattle.road_time.specs.declared.day.SpentRow.{SpentRow}
 use Rattle.road_time.specs.Rows.{IsBefore, Rise, tolls_in}
-use Rattle.accounts.specs.Sums.{owner_cmp, same_owner, sum_at, owner_of, listed, AreRowsOf}
-use Rattle.accounts.specs.Books.{spent_of}
-use Rattle.accounts.proofs.SumLaws.{owner_total, owner_tied, same_flip, same_is, get_spent}
+use Rattle.accounts.specs.Sums.{owner_cmp, sums_of, same_owner, sum_at, owner_of, listed, AreRowsOf}
+use Rattle.accounts.proofs.SumLaws.{owner_total, owner_tied, same_flip, same_is, get_sums}
 
 -- what is listed
 
@@ -36,6 +35,20 @@ listed_apart day (e ∷ es) h =
     let rest = listed_apart day es (IsDistinct-tail same_owner e.0 (keys_of es) h) in
     cond_both (nat_lt 0 e.1) (record { day = day; vid = e.0.0; xway = e.0.1; tolls = e.1 } ∷ listed day es) (listed day es) (λ rs. IsDistinct same_owner (map owner_of rs))
     (λ _. IsDistinct-cons same_owner e.0 (map owner_of (listed day es)) (listed_keys (λ k. same_owner e.0 k ≡ false) day es (IsDistinct-head same_owner e.0 (keys_of es) h)) rest) (λ _. rest)
+
+-- entries are listed one by one
+pub listed_one : (day : ℕ) (e : (ℕ × ℕ) × ℕ) (es : List ((ℕ × ℕ) × ℕ)) → listed day (e ∷ []) ++ listed day es ≡ listed day (e ∷ es)
+listed_one day e es =
+    cond_both (nat_lt 0 e.1) (record { day = day; vid = e.0.0; xway = e.0.1; tolls = e.1 } ∷ listed day es) (listed day es) (λ rs. listed day (e ∷ []) ++ listed day es ≡ rs)
+    (λ t. ap (λ rs. rs ++ listed day es) (cond-true (nat_lt 0 e.1) (record { day = day; vid = e.0.0; xway = e.0.1; tolls = e.1 } ∷ []) [] t))
+    (λ t. ap (λ rs. rs ++ listed day es) (cond-false (nat_lt 0 e.1) (record { day = day; vid = e.0.0; xway = e.0.1; tolls = e.1 } ∷ []) [] t))
+
+-- and so are two lists of them
+pub listed_both : (day : ℕ) (es fs : List ((ℕ × ℕ) × ℕ)) → listed day (es ++ fs) ≡ listed day es ++ listed day fs
+listed_both day [] fs = refl
+listed_both day (e ∷ es) fs =
+    sym (listed_one day e (es ++ fs)) ∙ (ap (λ rs. listed day (e ∷ []) ++ rs) (listed_both day es fs)
+    ∙ (sym (append_assoc (listed day (e ∷ [])) (listed day es) (listed day fs)) ∙ ap (λ rs. rs ++ listed day fs) (listed_one day e es)))
 
 -- under the day
 listed_day : (day : ℕ) (es : List ((ℕ × ℕ) × ℕ)) → AllByRecursion (λ r. r.day ≡ day) (listed day es)
@@ -165,10 +178,10 @@ sorted_rise rs sorted apart =
         (ap (λ a. is_lt (owner_cmp (get_or (map owner_of rs) (k + 1) (owner_of no_row)) a)) here ∙ (ap (λ b. is_lt (owner_cmp b (owner_of (get_or rs k no_row)))) there ∙ sorted k no_row (omega arith) inside))
 
 -- listed and put in order, entries are the rows of their map
-pub are_rows : (day : ℕ) (es : List ((ℕ × ℕ) × ℕ)) (rows : List SpentRow) → IsDistinct same_owner (keys_of es) → IsPermutation (listed day es) rows → IsSortedByKey owner_of owner_cmp rows → AreRowsOf (spent_of es) day rows
+pub are_rows : (day : ℕ) (es : List ((ℕ × ℕ) × ℕ)) (rows : List SpentRow) → IsDistinct same_owner (keys_of es) → IsPermutation (listed day es) rows → IsSortedByKey owner_of owner_cmp rows → AreRowsOf (sums_of es) day rows
 are_rows day es rows apart moved sorted = record {
   in_order = sorted_rise rows sorted (IsDistinct-IsPermutation same_owner same_flip (map owner_of (listed day es)) (map owner_of rows) (IsPermutation-map owner_of (listed day es) rows moved) (listed_apart day es apart));
   of_day = moved_all (λ r. r.day ≡ day) (listed day es) rows moved (listed_day day es);
   none_zero = moved_all (λ r. 0 < r.tolls) (listed day es) rows moved (listed_some day es);
-  exact = λ v x. moved_exact (listed day es) rows moved v x ∙ (listed_exact day es apart v x ∙ ap (λ o. unwrap_or o 0) (sym (get_spent es (v, x))));
+  exact = λ v x. moved_exact (listed day es) rows moved v x ∙ (listed_exact day es apart v x ∙ ap (λ o. unwrap_or o 0) (sym (get_sums es (v, x))));
 }

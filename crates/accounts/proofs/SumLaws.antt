@@ -13,8 +13,7 @@ use Rattle.std.proofs.lemmas.List.Sums.{sum_by-cons}
 use Rattle.std.proofs.lemmas.Bool.{cond_both, cond-true, cond-false, and_parts, eqb-true}
 use Rattle.road_time.specs.Day.{Charge, sum_of, charges_to}
 use Rattle.road_time.specs.Rows.{charges_on, spent}
-use Rattle.accounts.specs.Sums.{owner_cmp, Spent, amount_in, account_in, total_in, with_charge, spent_by, same_owner}
-use Rattle.accounts.specs.Books.{spent_of}
+use Rattle.accounts.specs.Sums.{owner_cmp, Spent, sums_of, amount_in, account_in, total_in, with_charge, spent_by, same_owner}
 
 -- the order of owners
 
@@ -63,15 +62,15 @@ find_owner (e ∷ es) q =
     ap (λ b. cond b (Some e.1) (find owner_cmp q es)) (owner_tied q e.0) ∙ ap (λ o. cond (same_owner q e.0) (Some e.1) o) (find_owner es q)
 
 -- the map of entries has what a look-up finds in them
-pub get_spent : (es : List ((ℕ × ℕ) × ℕ)) (q : ℕ × ℕ) → get (spent_of es) q ≡ lookup (same_owner q) es
-get_spent es q = get-from_entries owner_total es q ∙ find_owner es q
+pub get_sums : (es : List ((ℕ × ℕ) × ℕ)) (q : ℕ × ℕ) → get (sums_of es) q ≡ lookup (same_owner q) es
+get_sums es q = get-from_entries owner_total es q ∙ find_owner es q
 
 -- entries that look up alike but for one are the map with that one put in
-pub spent_after : (es fs : List ((ℕ × ℕ) × ℕ)) (k : ℕ × ℕ) (n : ℕ) → ((q : ℕ × ℕ) → lookup (same_owner q) fs ≡ cond (same_owner k q) (Some n) (lookup (same_owner q) es)) → spent_of fs ≡ insert (spent_of es) k n
-spent_after es fs k n h =
-    same_map owner_total owner_ties (spent_of fs) (insert (spent_of es) k n)
-    (λ q. get_spent fs q ∙ (h q ∙ (ap (λ b. cond b (Some n) (lookup (same_owner q) es)) (same_flip k q ∙ sym (owner_tied q k))
-    ∙ (ap (λ o. cond (eq_by_cmp owner_cmp q k) (Some n) o) (sym (get_spent es q)) ∙ sym (get-insert owner_total (spent_of es) k n q)))))
+pub sums_after : (es fs : List ((ℕ × ℕ) × ℕ)) (k : ℕ × ℕ) (n : ℕ) → ((q : ℕ × ℕ) → lookup (same_owner q) fs ≡ cond (same_owner k q) (Some n) (lookup (same_owner q) es)) → sums_of fs ≡ insert (sums_of es) k n
+sums_after es fs k n h =
+    same_map owner_total owner_ties (sums_of fs) (insert (sums_of es) k n)
+    (λ q. get_sums fs q ∙ (h q ∙ (ap (λ b. cond b (Some n) (lookup (same_owner q) es)) (same_flip k q ∙ sym (owner_tied q k))
+    ∙ (ap (λ o. cond (eq_by_cmp owner_cmp q k) (Some n) o) (sym (get_sums es q)) ∙ sym (get-insert owner_total (sums_of es) k n q)))))
 
 -- sums over entries
 

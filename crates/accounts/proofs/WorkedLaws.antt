@@ -46,6 +46,34 @@ one_total m toll e =
     let one = sum_by-cons (λ (c : Charge). c.toll) (charge toll) [] in
     omega (arith, here, by, one)
 
+-- a charge of vehicle 100 of 2
+abbrev pub charge_on : ℕ → Charge
+charge_on xway = record { vid = 100; xway = xway; toll = 2 }
+
+-- three of them, on two expressways
+abbrev pub three : List Charge
+three = charge_on 1 ∷ charge_on 0 ∷ charge_on 1 ∷ []
+
+-- their account
+pub three_account : (m : Spent) → m ≡ spent_by three → account_in m 100 ≡ 6
+three_account m e =
+    let here = ap (λ x. account_in x 100) e in
+    let by = account_by three 100 in
+    let one = sum_by-cons (λ (c : Charge). c.toll) (charge_on 1) (charge_on 0 ∷ charge_on 1 ∷ []) in
+    let two = sum_by-cons (λ (c : Charge). c.toll) (charge_on 0) (charge_on 1 ∷ []) in
+    let last = sum_by-cons (λ (c : Charge). c.toll) (charge_on 1) [] in
+    omega (arith, here, by, one, two, last)
+
+-- and their total
+pub three_total : (m : Spent) → m ≡ spent_by three → total_in m ≡ 6
+three_total m e =
+    let here = ap total_in e in
+    let by = total_by three in
+    let one = sum_by-cons (λ (c : Charge). c.toll) (charge_on 1) (charge_on 0 ∷ charge_on 1 ∷ []) in
+    let two = sum_by-cons (λ (c : Charge). c.toll) (charge_on 0) (charge_on 1 ∷ []) in
+    let last = sum_by-cons (λ (c : Charge). c.toll) (charge_on 1) [] in
+    omega (arith, here, by, one, two, last)
+
 -- three answers by their parts
 pub answers_made : {a b c x y z : ℕ} → a ≡ x → b ≡ y → c ≡ z → ◌≡◌ {A = Answers} (record { charged = a; balance = b; total = c }) (record { charged = x; balance = y; total = z })
 answers_made p q r = cc

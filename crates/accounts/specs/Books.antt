@@ -1,11 +1,12 @@
-use Rattle.std.specs.Prelude.{◌≡◌, ℕ, ◌*◌, ◌≤◌, nat_eq, List, map}
-use Rattle.std.specs.Option.{unwrap_or}
-use Rattle.std.specs.Map.{lookup}
+use Rattle.std.specs.Prelude.{◌≡◌, ℕ, ◌*◌, ◌≤◌, false, None, nat_eq, List, map}
+use Rattle.std.specs.List.{IsDistinct}
+use Rattle.std.specs.Map.{lookup, keys_of}
 use Rattle.std.specs.Ordering.{nat_cmp}
 use Rattle.std.specs.FinMap.{FinMap, from_entries, code}
 use Rattle.std.specs.Coded.{Coded, code_by, coded×, coded_ℕ}
 use Rattle.accounts.specs.declared.vehicle.Vehicle.{Vehicle}
-use Rattle.accounts.specs.Sums.{Spent, account_in, total_in}
+use Rattle.accounts.specs.Sums.{Spent, sums_of, account_in, total_in, same_owner}
+use Rattle.accounts.specs.Entries.{vehicle_at, is_further, all_sums}
 use Rattle.std.specs.Prelude.{refl}
 
 -- a book: the toll told last to each vehicle, what each was charged on each expressway, and how many charges were made
@@ -23,18 +24,16 @@ accounts_code =
 abbrev pub told_of : List (ℕ × Vehicle) → FinMap nat_cmp ℕ
 told_of vehicles = from_entries (map (λ e. (e.0, e.1.told)) vehicles)
 
--- what the entries of vehicles and expressways sum up
-abbrev pub spent_of : List ((ℕ × ℕ) × ℕ) → Spent
-spent_of sums = from_entries sums
+-- what the entries of first charges and of further expressways sum up
+abbrev pub spent_of : List (ℕ × Vehicle) → List ((ℕ × ℕ) × ℕ) → Spent
+spent_of vehicles further = sums_of (all_sums vehicles further)
 
--- what is kept of a vehicle, zeros where it was never told
-abbrev pub vehicle_at : List (ℕ × Vehicle) → ℕ → Vehicle
-vehicle_at vehicles vid = unwrap_or (lookup (nat_eq vid) vehicles) (record { told = 0; sum = 0 })
-
--- each vehicle's sum is its account, the total that of all, and none is more than the charges made can come to
-pub record IsSound (vehicles : List (ℕ × Vehicle)) (sums : List ((ℕ × ℕ) × ℕ)) (total made : ℕ) : Type 0 where
+-- each vehicle's sum is its account, the total that of all, and none is more than the charges made can come to; a sum that the first charge's entry keeps stands nowhere else
+pub record IsSound (vehicles : List (ℕ × Vehicle)) (further : List ((ℕ × ℕ) × ℕ)) (total made : ℕ) : Type 0 where
+  pub unique : IsDistinct nat_eq (keys_of vehicles)
+  pub apart : (vid xway : ℕ) → is_further (vehicle_at vehicles vid).first xway ≡ false → lookup (same_owner (vid, xway)) further ≡ None
   pub told : (vid : ℕ) → (vehicle_at vehicles vid).told ≤ 500000000000
-  pub account : (vid : ℕ) → (vehicle_at vehicles vid).sum ≡ account_in (spent_of sums) vid
-  pub whole : total ≡ total_in (spent_of sums)
+  pub account : (vid : ℕ) → (vehicle_at vehicles vid).sum ≡ account_in (spent_of vehicles further) vid
+  pub whole : total ≡ total_in (spent_of vehicles further)
   pub bound : total ≤ 500000000000 * made
   pub few : made ≤ 16000000

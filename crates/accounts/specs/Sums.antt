@@ -4,7 +4,7 @@ use Rattle.std.specs.Map.{lookup}
 use Rattle.std.specs.List.{filter, fold, sum_by, AllByRecursion}
 use Rattle.std.specs.declared.cmp.Ordering.{Ordering}
 use Rattle.std.specs.Ordering.{nat_cmp, ordering_then}
-use Rattle.std.specs.FinMap.{FinMap, empty, get, insert, entries}
+use Rattle.std.specs.FinMap.{FinMap, empty, get, insert, entries, from_entries}
 use Rattle.road_time.specs.declared.day.SpentRow.{SpentRow}
 use Rattle.road_time.specs.Day.{Charge}
 use Rattle.road_time.specs.Rows.{Rise, tolls_in}
@@ -16,6 +16,10 @@ owner_cmp a b = ordering_then (nat_cmp a.0 b.0) (nat_cmp a.1 b.1)
 -- what each vehicle was charged on each expressway
 abbrev pub Spent : Type 0
 Spent = FinMap owner_cmp ℕ
+
+-- the sums that entries tell
+abbrev pub sums_of : List ((ℕ × ℕ) × ℕ) → Spent
+sums_of es = from_entries es
 
 -- a vehicle's charges on an expressway, added up
 abbrev pub amount_in : Spent → ℕ → ℕ → ℕ

@@ -3,20 +3,21 @@ ghost use Rattle.std.specs.Prelude.{◌≡◌, ◌≤◌, ◌<◌, ◌+◌, ◌*
 ghost use Rattle.std.specs.FinMap.{empty, get, insert};
 ghost use Rattle.accounts.specs.Sums.{account_in, total_in, with_charge, AreRowsOf};
 
-use crate::rows::{list_rows, sort_rows};
-use crate::sums::add;
-use crate::vehicle::{Vehicle, tell};
+use crate::rows::{list_firsts, list_further, sort_rows};
+use crate::sums::add_further;
+use crate::vehicle::{Vehicle, first_after, tell};
 use road_time::{NoMemory, SpentRow};
 use std::alloc::Global;
 use std::collections::HashMap;
 use std::marker::Model;
 
-/// What each vehicle was told last and was charged on each expressway, and how many charges were made.
+/// What each vehicle was told last and was charged on each expressway, and how many charges were made. What a vehicle was charged on the
+/// expressway of its first charge stands in its own entry, so that a charge there makes one look-up; the other map has further expressways alone.
 #[derive(Drop)]
 pub struct Book {
     alloc: Global,
     vehicles: HashMap<u32, Vehicle>,
-    sums: HashMap<(u32, u8), u64>,
+    further: HashMap<(u32, u8), u64>,
     total: u64,
     made: u32,
 }
@@ -30,9 +31,9 @@ impl Model for Book {
 
     ghost use Rattle.accounts.specs.Books.{told_of, spent_of, IsSound};
 
-    ghost view = { λ b. record { told = told_of b.vehicles.entries; spent = spent_of b.sums.entries; made = b.made } };
+    ghost view = { λ b. record { told = told_of b.vehicles.entries; spent = spent_of b.vehicles.entries b.further.entries; made = b.made } };
 
-    ghost invariant = { λ b. IsSound b.vehicles.entries b.sums.entries b.total b.made };
+    ghost invariant = { λ b. IsSound b.vehicles.entries b.further.entries b.total b.made };
 }
 
 impl Book {
@@ -43,7 +44,7 @@ impl Book {
         Book {
             alloc,
             vehicles: HashMap::new(alloc),
-            sums: HashMap::new(alloc),
+            further: HashMap::new(alloc),
             total: 0,
             made: 0,
         }
@@ -73,10 +74,11 @@ impl Book {
             unreachable!()
         };
         let toll = vehicle.told;
-        add(&mut self.sums, (vid, xway), toll)?;
+        add_further(&mut self.further, vehicle.first, (vid, xway), toll)?;
         *vehicle = Vehicle {
             told: toll,
             sum: vehicle.sum + toll,
+            first: Some(first_after(vehicle.first, xway, toll)),
         };
         self.total += toll;
         self.made += 1;
@@ -107,7 +109,9 @@ impl Book {
     pub fn spent_rows(&self, day: u32) -> Result<Vec<SpentRow>, NoMemory>
         ensures { IfOk result (λ rows. AreRowsOf self.now.spent day rows.items) }
     {
-        let mut rows = list_rows(self.alloc, &self.sums, day)?;
+        let mut rows = Vec::new(self.alloc);
+        list_firsts(&mut rows, &self.vehicles, day)?;
+        list_further(&mut rows, &self.further, day)?;
         sort_rows(&mut rows);
         Ok(rows)
     }

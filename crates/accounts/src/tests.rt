@@ -1,5 +1,5 @@
 // The worked books, and a publisher that keeps nothing, with ample memory.
-use super::worked::{Answers, a_charge_of_nothing, one_charge};
+use super::worked::{Answers, a_charge_of_nothing, one_charge, two_expressways};
 use super::{Charged, NoPublisher, Publisher};
 use road_time::{NoMemory, SpentRow};
 
@@ -32,6 +32,22 @@ fn charges_and_rows(rt: HostRuntime) -> Result<(), NoMemory> {
         }
     );
     assert!(rt; rows.is_empty());
+    let (answers, rows) = two_expressways(rt.alloc())?;
+    assert_eq!(rt;
+        answers,
+        Answers {
+            charged: 2,
+            balance: 6,
+            total: 6
+        }
+    );
+    let further = SpentRow {
+        day: 100,
+        vid: 100,
+        xway: 1,
+        tolls: 4,
+    };
+    assert_eq!(rt; rows.as_slice(), [row, further].as_slice());
     let mut nobody = NoPublisher;
     nobody.begin(100)?;
     nobody.publish(

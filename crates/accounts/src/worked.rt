@@ -46,3 +46,21 @@ pub fn a_charge_of_nothing(alloc: Global) -> Result<(Answers, Vec<SpentRow>), No
     let rows = book.spent_rows(100)?;
     Ok((answers, rows))
 }
+
+/// Vehicle 100 is told a toll of 2, and charged on expressways 1, 0 and 1: the answers, and the rows of day 100, in order.
+pub fn two_expressways(alloc: Global) -> Result<(Answers, Vec<SpentRow>), NoMemory>
+    ensures { IfOk result (λ r. (r.0 ≡ record { charged = 2; balance = 6; total = 6 }) × (r.1.items ≡ record { day = 100; vid = 100; xway = 0; tolls = 2 } ∷ record { day = 100; vid = 100; xway = 1; tolls = 4 } ∷ [])) }
+{
+    let mut book = Book::new(alloc);
+    book.notify(100, 2)?;
+    book.charge(100, 1)?;
+    book.charge(100, 0)?;
+    let charged = book.charge(100, 1)?;
+    let answers = Answers {
+        charged,
+        balance: book.balance(100),
+        total: book.total(),
+    };
+    let rows = book.spent_rows(100)?;
+    Ok((answers, rows))
+}

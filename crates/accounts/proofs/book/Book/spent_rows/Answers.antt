@@ -1,12 +1,20 @@
-use Rattle.std.proofs.Common.{ap, subst}
+use Rattle.std.proofs.Common.{◌≡◌, ◌++◌, ap, sym, subst, ◌∙◌}
 use Rattle.std.specs.List.Sorted.{IsPermutation}
-use Rattle.accounts.specs.Sums.{AreRowsOf}
+use Rattle.accounts.specs.Sums.{AreRowsOf, listed}
+use Rattle.accounts.specs.Entries.{firsts, all_sums}
 use Rattle.accounts.specs.Books.{Accounts}
-use Rattle.accounts.proofs.RowSteps.{are_rows}
+use Rattle.accounts.proofs.RowSteps.{listed_both, are_rows}
+use Rattle.accounts.proofs.BookLaws.{sums_apart}
 use Rattle.accounts.proofs.book.Book.spent_rows.Goals as goal
 
 pub returns : goal.returns
 returns c =
+    let vehicles = c.self.inside.vehicles.entries in
+    let further = c.self.inside.further.entries in
     let rows = c.sort_rows.new.rows.items in
+    let all : c.list_further.new.rows.items ≡ listed c.args.day (all_sums vehicles further) =
+    c.in_ok-list_further.ensures.rows
+    ∙ (ap (λ rs. rs ++ listed c.args.day further) (c.in_ok-list_firsts.ensures ∙ ap (λ rs. rs ++ listed c.args.day (firsts vehicles)) c.new-rows.ensures.items) ∙ sym (listed_both c.args.day (firsts vehicles) further)) in
     subst (λ m. AreRowsOf m c.args.day rows) (ap (λ (s : Accounts). s.spent) c.self.view_is)
-    (are_rows c.args.day c.self.inside.sums.entries rows c.in_ok-rows.ensures.apart (subst (λ xs. IsPermutation xs rows) c.in_ok-rows.ensures.rows c.sort_rows.ensures.moved) c.sort_rows.ensures.sorted)
+    (are_rows c.args.day (all_sums vehicles further) rows (sums_apart vehicles further c.self.inside.total c.self.inside.made c.self.invariant c.in_ok-list_further.ensures.apart)
+    (subst (λ xs. IsPermutation xs rows) all c.sort_rows.ensures.moved) c.sort_rows.ensures.sorted)
