@@ -1,13 +1,12 @@
 // The calls of a keeper in a database.
 ghost use Rattle.std.specs.Prelude.{None};
 
-use crate::counted::Counted;
+use crate::counted::{Counted, Opens};
 use crate::refusals::count;
 use keeper::{DayRecord, KeepFault, Keeper, PastRecord};
 use road_time::{SpentRow, Tariff, Tariffs};
-use sqlite::{File, FileStore};
 
-impl Keeper for Counted<FileStore<File>> {
+impl<S: Opens> Keeper for Counted<S> {
     ghost use Rattle.std.specs.Prelude.{true};
     ghost use Rattle.keeper.specs.Calls.{AllOrNothing};
 

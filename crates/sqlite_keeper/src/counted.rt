@@ -1,12 +1,27 @@
 // A keeper in a database: the types.
 ghost use Rattle.std.specs.Prelude.{◌≡◌, IfOk};
 
-use crate::schema::open;
+use crate::schema::prepare;
 use keeper::KeepFault;
 use road_time::NoMemory;
 use sqlite::{Alter, Connection, File, FileStore};
 use std::alloc::Global;
 use std::rt::HostRuntime;
+
+/// A store that is opened by the path of its file.
+pub trait Opens: Alter + Drop {
+    /// The file at a path.
+    fn open(rt: &HostRuntime, path: &str) -> Result<Connection<Self>, KeepFault>;
+}
+
+impl Opens for FileStore<File> {
+    fn open(rt: &HostRuntime, path: &str) -> Result<Connection<FileStore<File>>, KeepFault> {
+        match Connection::open(rt, path) {
+            Ok(conn) => Ok(conn),
+            Err(error) => Err(crate::refusals::refusal(error)),
+        }
+    }
+}
 
 /// A database that is opened when it is first asked for.
 #[derive(Drop)]
@@ -26,9 +41,9 @@ pub struct Counted<S: Alter + Drop> {
 /// A keeper in a SQLite file. The file is opened, and made where it is not there, at the first call.
 pub type SqliteKeeper = Counted<FileStore<File>>;
 
-impl Counted<FileStore<File>> {
+impl<S: Opens> Counted<S> {
     /// The keeper in the file at a path.
-    pub fn at(alloc: Global, rt: HostRuntime, path: &str) -> Result<SqliteKeeper, NoMemory>
+    pub fn at(alloc: Global, rt: HostRuntime, path: &str) -> Result<Counted<S>, NoMemory>
         ensures { IfOk result (λ keeper. keeper.faults ≡ 0) }
     {
         let path = String::from_str(alloc, path)?;
@@ -44,16 +59,17 @@ impl Counted<FileStore<File>> {
     }
 }
 
-impl Database<FileStore<File>> {
+impl<S: Opens> Database<S> {
     /// The allocator.
     pub(crate) fn alloc(&self) -> Global {
         self.rt.alloc()
     }
 
     /// The connection, which is made at the first call and kept where the file has its tables.
-    pub(crate) fn ready(&mut self) -> Result<&mut Connection<FileStore<File>>, KeepFault> {
+    pub(crate) fn ready(&mut self) -> Result<&mut Connection<S>, KeepFault> {
         if self.conn.is_none() {
-            let conn = open(&self.rt, self.path.as_str())?;
+            let mut conn = S::open(&self.rt, self.path.as_str())?;
+            prepare(&mut conn, self.rt.alloc())?;
             self.conn = Some(conn);
         }
         match &mut self.conn {

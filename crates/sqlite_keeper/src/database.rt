@@ -2,13 +2,12 @@
 ghost use Rattle.std.specs.Prelude.{IfOk};
 ghost use Rattle.keeper.specs.Office.{RowsRise};
 
-use crate::counted::Database;
+use crate::counted::{Database, Opens};
 use crate::{puts, reads};
 use keeper::{DayRecord, KeepFault, PastRecord};
 use road_time::{SpentRow, Tariff, Tariffs};
-use sqlite::{File, FileStore};
 
-impl Database<FileStore<File>> {
+impl<S: Opens> Database<S> {
     pub fn last_day(&mut self) -> Result<u32, KeepFault> {
         let conn = self.ready()?;
         reads::last_day(conn)

@@ -19,7 +19,7 @@ mod schema;
 mod stored;
 mod tariff_rows;
 
-pub use counted::{Counted, SqliteKeeper};
+pub use counted::{Counted, Opens, SqliteKeeper};
 
 /// Hands over what may move between threads.
 fn can_move<T: Send>() {}

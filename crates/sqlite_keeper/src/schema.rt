@@ -3,23 +3,11 @@ use crate::asks::{end, is_there, rows_of, run, run_text};
 use crate::columns::number;
 use keeper::{KeepFault, seal};
 use road_time::Tariffs;
-use sqlite::{Alter, Connection, File, FileStore, params};
+use sqlite::{Alter, Connection, params};
 use std::alloc::Global;
-use std::rt::HostRuntime;
-
-/// Opens the file at a path, with the tables of version 2 in it.
-pub fn open(rt: &HostRuntime, path: &str) -> Result<Connection<FileStore<File>>, KeepFault> {
-    match Connection::open(rt, path) {
-        Ok(mut conn) => {
-            prepare(&mut conn, rt.alloc())?;
-            Ok(conn)
-        }
-        Err(error) => Err(crate::refusals::refusal(error)),
-    }
-}
 
 /// Makes the tables where the file has no version, and refuses another version than 2.
-fn prepare<S: Alter>(conn: &mut Connection<S>, alloc: Global) -> Result<(), KeepFault> {
+pub fn prepare<S: Alter>(conn: &mut Connection<S>, alloc: Global) -> Result<(), KeepFault> {
     match version(conn)? {
         None => {
             run_text(conn, "BEGIN")?;

@@ -1,0 +1,95 @@
+//! What a keeper in a file keeps: the answers of the keeper in memory, a file of version 1, files that are spoiled, and
+//! calls that are refused.
+//!
+//! It makes its files where it runs, but for `theirs.db`, which lies there: sqlite3 3.40.1 made it from `theirs.sql`. It
+//! prints a line for each row.
+#![tactic(auto)]
+
+mod old;
+mod refused;
+mod sequence;
+mod spoiled;
+mod worked;
+
+use spoiled::{Spoiled, answered, is_made};
+use sqlite::{File, FileStore};
+use sqlite_keeper::Opens;
+use std::io;
+use std::rt::HostRuntime;
+
+/// The last day of a file when it is new, after a history and after a day, each with what both keepers say then.
+fn last_days<S: Opens>(rt: HostRuntime) -> io::Result<()> {
+    let new = sequence::at_first::<S>(rt);
+    println!(rt; "new, and the same: {new:?}")?;
+    let history = sequence::after_history::<S>(rt);
+    println!(rt; "after a history, and the same: {history:?}")?;
+    let day = sequence::after_day::<S>(rt);
+    println!(rt; "after a day, and the same: {day:?}")
+}
+
+/// The same steps over both keepers, and steps that change no day.
+fn further_steps<S: Opens>(rt: HostRuntime) -> io::Result<()> {
+    let tariff = sequence::with_tariff::<S>(rt, 5);
+    println!(rt; "with a tariff, and the same: {tariff:?}")?;
+    let refusal = sequence::after_refusal::<S>(rt);
+    println!(rt; "after a refusal, and the same: {refusal:?}")?;
+    let benchmark = sequence::with_tariff::<S>(rt, 2);
+    println!(rt; "with the benchmark's tariff, and the same: {benchmark:?}")
+}
+
+/// The files that are spoiled, each in its way.
+fn spoiled_files<S: Opens>(rt: HostRuntime) -> io::Result<()> {
+    for spoiled in [
+        Spoiled::ShortDigest,
+        Spoiled::NegativeNumber,
+        Spoiled::DayTooGreat,
+        Spoiled::LowBase,
+        Spoiled::OddTariff,
+        Spoiled::Benchmark,
+        Spoiled::KeyTwice,
+        Spoiled::OtherVersion,
+        Spoiled::NoVersion,
+        Spoiled::NoSeal,
+        Spoiled::NoTable,
+    ] {
+        let made = is_made::<S>(rt, spoiled);
+        let answer = answered::<S>(rt, spoiled);
+        println!(rt; "{spoiled:?} made: {made:?}, answered: {answer:?}")?;
+    }
+    Ok(())
+}
+
+/// The files that are none.
+fn odd_files<S: Opens>(rt: HostRuntime) -> io::Result<()> {
+    std::fs::write(&rt, "text.db", "kept days")?;
+    let text = refused::is_fault::<S>(rt, "text.db");
+    let left = std::fs::read_to_string(&rt, "text.db")?;
+    println!(rt; "a text is a fault: {text:?}, and stays: {left}")?;
+    let missing = refused::is_fault::<S>(rt, "missing/kept.db");
+    println!(rt; "a missing folder is a fault: {missing:?}")
+}
+
+/// The calls that are refused, and what they leave.
+fn refusals<S: Opens>(rt: HostRuntime) -> io::Result<()> {
+    let whole = refused::at_the_last_amount::<S>(rt, "refused.db");
+    println!(rt; "refused at the last amount: {whole:?}")?;
+    let open = refused::while_open::<S>(rt, "open.db");
+    println!(rt; "refused while open: {open:?}")
+}
+
+/// All rows, over the keeper in a store.
+fn rows<S: Opens>(rt: HostRuntime) -> io::Result<()> {
+    last_days::<S>(rt)?;
+    further_steps::<S>(rt)?;
+    let theirs = sequence::of_another::<S>(rt, "theirs.db");
+    println!(rt; "of another hand, and the same: {theirs:?}")?;
+    let old = old::taken_over::<S>(rt);
+    println!(rt; "version 1: {old:?}")?;
+    spoiled_files::<S>(rt)?;
+    odd_files::<S>(rt)?;
+    refusals::<S>(rt)
+}
+
+fn main(rt: HostRuntime) -> io::Result<()> {
+    rows::<FileStore<File>>(rt)
+}

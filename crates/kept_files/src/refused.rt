@@ -1,0 +1,43 @@
+// Calls that are refused, and what they leave.
+use crate::worked::{by_hand, put_day};
+use keeper::{KeepFault, Keeper};
+use sqlite_keeper::{Counted, Opens};
+use std::rt::HostRuntime;
+
+/// Whether nothing of day 100 is kept in the file at a path, which is opened anew.
+fn is_without_day<S: Opens>(rt: HostRuntime, path: &str) -> Result<bool, KeepFault> {
+    let mut file = Counted::<S>::at(rt.alloc(), rt, path)?;
+    let none = file.day(100)? == None && file.spent(100, 7, 0)? == 0;
+    Ok(none && file.last_day()? == 0)
+}
+
+/// Whether a day is refused at its last amount, which another hand has put, whether nothing of it is kept then, and
+/// whether it can be put once that amount is gone.
+pub fn at_the_last_amount<S: Opens>(rt: HostRuntime, path: &str) -> Result<[bool; 4], KeepFault> {
+    let new = is_without_day::<S>(rt, path)?;
+    let taken = by_hand::<S>(rt, path, "INSERT INTO spent VALUES (100, 8, 1, 9)").is_ok();
+    let refused = put_day::<S>(rt, path) == Err(KeepFault::Failed);
+    let without = is_without_day::<S>(rt, path)?;
+    let free = by_hand::<S>(rt, path, "DELETE FROM spent").is_ok();
+    let put = put_day::<S>(rt, path) == Ok(());
+    Ok([new && taken, refused, without, free && put])
+}
+
+/// Whether the last day of the file at a path is a fault.
+pub fn is_fault<S: Opens>(rt: HostRuntime, path: &str) -> Result<bool, KeepFault> {
+    let mut file = Counted::<S>::at(rt.alloc(), rt, path)?;
+    Ok(file.last_day() == Err(KeepFault::Failed))
+}
+
+/// Whether a keeper fails while another has its file open, whether the other has lost nothing, and whether the first
+/// finds the day once the other is gone.
+pub fn while_open<S: Opens>(rt: HostRuntime, path: &str) -> Result<[bool; 3], KeepFault> {
+    put_day::<S>(rt, path)?;
+    let mut other = Counted::<S>::at(rt.alloc(), rt, path)?;
+    let before = other.last_day()? == 100;
+    let mut file = Counted::<S>::at(rt.alloc(), rt, path)?;
+    let refused = file.last_day() == Err(KeepFault::Failed);
+    let after = other.last_day()? == 100;
+    drop(other);
+    Ok([refused, before && after, file.last_day()? == 100])
+}
