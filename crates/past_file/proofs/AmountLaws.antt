@@ -1,5 +1,5 @@
 -- Amounts in a map, in the order in which they are kept.
-use Rattle.std.proofs.Common.{◌≡◌, ℕ, ◌==◌, ◌&&◌, ◌||◌, nat_lt, Bool, true, false, cond, List, [], ◌∷◌, ◌++◌, map, Option, Some, None, refl, sym, ap, subst, ◌∙◌, ⊎_elim}
+use Rattle.std.proofs.Common.{◌≡◌, ℕ, ◌==◌, ◌&&◌, ◌||◌, nat_lt, Bool, true, false, cond, List, [], ◌∷◌, ◌++◌, map, Some, None, refl, sym, ap, subst, ◌∙◌}
 use Rattle.std.specs.Prelude.{is_some}
 use Rattle.std.specs.List.{AllByRecursion, filter, fold, list_any}
 use Rattle.std.specs.List.Sorted.{IsStrictlySortedBy}
@@ -10,14 +10,14 @@ use Rattle.std.specs.declared.cmp.Ordering.TheVariants.{Less, Equal, Greater}
 use Rattle.std.specs.Ordering.{nat_cmp, ordering_then, ordering_reverse, match_ordering, is_eq}
 use Rattle.std.specs.Cmp.{nat_eq_equiv}
 use Rattle.std.specs.FinMap.{nat_cmp-IsAntisymmetric}
-use Rattle.std.proofs.lemmas.Bool.{cases_Bool, cond-true, cond-false}
+use Rattle.std.proofs.lemmas.Bool.{cond_both, cond-true, cond-false}
 use Rattle.std.proofs.lemmas.List.Sums.{fold-append}
 use Rattle.std.proofs.lemmas.List.Folds.{list_any-append}
 use Rattle.std.proofs.lemmas.List.Elements.{filter-append}
 use Rattle.road_time.specs.declared.day.SpentRow.{SpentRow}
 use Rattle.road_time.proofs.EachLaws as each
 use Rattle.keeper.specs.History.{is_row}
-use Rattle.keeper.specs.Office.{key_cmp, row_cmp, RowsRise}
+use Rattle.keeper.specs.Office.{row_cmp, RowsRise}
 use Rattle.keeper.specs.PastReads.{with_row, past_kept}
 use Rattle.keeper.proofs.RowOrder.{row_total, not_row}
 use Rattle.past_file.specs.declared.amounts.Key.{Key}
@@ -145,6 +145,12 @@ kept_push rows r =
     one : (b : Bool) (xs : List SpentRow) → fold with_row xs (cond b (r ∷ []) []) ≡ cond b (with_row xs r) xs
     one true xs = refl
     one false xs = refl
+
+-- rows in order, those of them that pass
+pub some_rise : (p : SpentRow → Bool) (xs : List SpentRow) → RowsRise xs → RowsRise (filter p xs)
+unfolding IsStrictlySortedBy
+some_rise p [] h = tt
+some_rise p (x ∷ xs) h = cond_both (p x) (x ∷ filter p xs) (filter p xs) RowsRise (λ _. (each.kept (λ y. row_cmp x y ≡ Less) p xs h.0, some_rise p xs h.1)) (λ _. some_rise p xs h.1)
 
 module _ (cmp : Key → Key → Ordering) (same : (k q : Key) (v w : ℕ) → cmp k q ≡ row_cmp (amount_of (k, v)) (amount_of (q, w))) where
   -- some row is of a key where the map has it

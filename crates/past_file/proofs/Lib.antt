@@ -1,2 +1,7 @@
 pub mod LineLaws
 pub mod AmountLaws
+pub mod JudgeLaws
+pub mod ReadLaws
+pub mod KeepLaws
+pub mod PutLaws
+pub mod CauseLaws

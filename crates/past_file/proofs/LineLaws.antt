@@ -1,11 +1,10 @@
 -- The numbers of a history's line.
-use Rattle.std.proofs.Common.{◌≡◌, ◌<◌, ◌≤◌, ℕ, List, [], ◌∷◌, length, get_or, Option, Some, None, Result, Ok, Err, ℤ, pos, refl, sym, ap, ◌∙◌, arith, eq-eqb}
+use Rattle.std.proofs.Common.{◌≡◌, ◌<◌, ℕ, List, [], ◌∷◌, length, get_or, Option, Some, None, Ok, ℤ, pos, refl, ap, ◌∙◌, arith, eq-eqb}
 use Rattle.std.specs.List.{filter_map}
 use Rattle.std.proofs.lemmas.Bool.{cond-true}
 use Rattle.road_time.specs.Numbers.{number_of, fields_of_text}
 use Rattle.road_time.specs.Form.{first_odd, first_out}
 use Rattle.keeper.specs.PastReads.{past_form, past_of_fields, past_in_ranges, past_uses}
-use Rattle.past_file.specs.declared.outcomes.PastCause.{PastCause}
 use Rattle.past_file.specs.Causes.{four_numbers}
 
 -- four fields that are numbers

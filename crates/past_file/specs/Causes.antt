@@ -2,7 +2,7 @@
 use Rattle.std.specs.Prelude.{ℕ, ℤ, ◌≡◌, List, ◌++◌, codes, Option, Some, None, Result, Ok, Err}
 use Rattle.std.specs.Fmt.{decimal}
 use Rattle.road_time.specs.declared.day.SpentRow.{SpentRow}
-use Rattle.road_time.specs.Form.{Fault, Long, Many, Fields, Number, Range, Late, TooOften, Vehicles}
+use Rattle.road_time.specs.Form.{Long, Many, Fields, Number, Range, Late, TooOften, Vehicles}
 use Rattle.keeper.specs.PastReads.{PastFault, OfLine, Twice}
 use Rattle.past_file.specs.declared.outcomes.PastCause.{PastCause}
 use Rattle.past_file.specs.declared.outcomes.PastCause.TheVariants as causes
@@ -27,6 +27,18 @@ IsCause (OfLine (Late a b)) cause = ⊥
 IsCause (OfLine (TooOften a b)) cause = ⊥
 IsCause (OfLine (Vehicles n)) cause = ⊥
 IsCause Twice cause = cause ≡ causes.Twice
+
+-- the same as a value; what is no cause of a history's line stands as the last one, and no line has it
+abbrev pub past_cause_of : PastFault → PastCause
+past_cause_of (OfLine Long) = causes.Long
+past_cause_of (OfLine (Many n)) = causes.Many n
+past_cause_of (OfLine (Fields n)) = causes.Fields n
+past_cause_of (OfLine (Number n)) = causes.Number n
+past_cause_of (OfLine (Range n)) = causes.Range n
+past_cause_of (OfLine (Late a b)) = causes.Twice
+past_cause_of (OfLine (TooOften a b)) = causes.Twice
+past_cause_of (OfLine (Vehicles n)) = causes.Twice
+past_cause_of Twice = causes.Twice
 
 -- the amount of a line, or its fault
 abbrev pub ReadsRow : Result (Option SpentRow) PastFault → Result (Option SpentRow) PastCause → Type 0

@@ -1,2 +1,5 @@
 pub mod Causes
 pub mod Rows
+pub mod Readings
+pub mod Imports
+pub mod Laws

@@ -1,8 +1,6 @@
 -- The amounts of a history by day, vehicle and expressway.
 use Rattle.std.specs.Prelude.{ℕ, ◌≡◌, ◌+◌, ◌<◌, ◌≤◌, nat_lt, Bool, true, false, List, [], ◌∷◌, ◌++◌, map, Option, Some, None}
 use Rattle.std.specs.List.{fold, filter, list_any, AllByRecursion}
-use Rattle.std.specs.declared.cmp.Ordering.{Ordering}
-use Rattle.std.specs.Ordering.{nat_cmp, ordering_then}
 use Rattle.road_time.specs.declared.day.SpentRow.{SpentRow}
 use Rattle.keeper.specs.History.{is_row}
 use Rattle.keeper.specs.PastReads.{with_row, past_kept}

@@ -5,12 +5,21 @@
 #![tactic(auto)]
 
 mod amounts;
+mod history;
+mod importing;
+mod judging;
+pub mod laws;
 mod lines;
 mod outcomes;
+mod past_reader;
+mod whole_past;
 
 pub use amounts::{Amounts, Key};
+pub use importing::import_past;
 pub use lines::read_row;
 pub use outcomes::{PastCause, PastOutcome};
 
+#[cfg(test)]
+mod import_tests;
 #[cfg(test)]
 mod tests;

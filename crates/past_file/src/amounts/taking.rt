@@ -1,7 +1,8 @@
 // Amounts are taken one by one, and the ones above zero are kept in order.
-ghost use Rattle.std.specs.Prelude.{◌≡◌, [], ℕ, List, IfOk, map, nat_lt};
+ghost use Rattle.std.specs.Prelude.{◌≡◌, ◌<◌, ◌^◌, [], ℕ, List, IfOk, map, nat_lt, length};
 ghost use Rattle.std.specs.List.{filter};
 ghost use Rattle.road_time.specs.declared.day.SpentRow.{SpentRow as SpentRowValue};
+ghost use Rattle.keeper.specs.Office.{RowsRise};
 ghost use Rattle.past_file.specs.Rows.{HasRows, IsPastRow, Takes, amount_of};
 
 use super::{Amounts, Key};
@@ -38,7 +39,9 @@ impl Amounts {
     }
     /// The amounts above zero, in order.
     pub fn kept(&self) -> Result<Vec<SpentRow>, NoMemory>
-        ensures { IfOk result (λ kept. kept.items ≡ filter (λ r. nat_lt 0 r.tolls) (map amount_of self.now.by_key.entries)) }
+        ensures value { IfOk result (λ kept. kept.items ≡ filter (λ r. nat_lt 0 r.tolls) (map amount_of self.now.by_key.entries)) }
+        ensures rise { IfOk result (λ kept. RowsRise kept.items) }
+        ensures few { IfOk result (λ kept. length kept.items < 2 ^ 63) }
     {
         let mut rows = Vec::new(self.alloc);
         for (key, tolls) in &self.by_key {

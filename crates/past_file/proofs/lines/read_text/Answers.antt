@@ -1,10 +1,8 @@
-use Rattle.std.proofs.Common.{◌≡◌, ◌<◌, ◌∷◌, [], List, ℤ, pos, get_or, Ok, length, arith, sym, ap, subst, ◌∙◌}
+use Rattle.std.proofs.Common.{◌≡◌, ◌<◌, length, arith, sym, subst, ◌∙◌}
 use Rattle.std.proofs.lemmas.Bool.{eqb-false}
 use Rattle.road_time.specs.Numbers.{fields_of_text}
-use Rattle.road_time.specs.Form.{first_out}
-use Rattle.keeper.specs.PastReads.{past_form, past_in_ranges, past_uses}
 use Rattle.past_file.specs.Causes.{ReadsRow}
-use Rattle.past_file.proofs.LineLaws.{form_of_four, all_four}
+use Rattle.past_file.proofs.LineLaws.{form_of_four}
 use Rattle.past_file.proofs.lines.read_text.Goals as goal
 
 pub returns-in-Ok-clause-reads : goal.returns-in-Ok-clause-reads

@@ -1,0 +1,125 @@
+use Rattle.std.proofs.Common.{◌≡◌, ◌+◌, ◌++◌, length, List, ℕ, Option, Some, None, Ok, Err, true, false, subst}
+use Rattle.road_io.specs.Cutter.{ahead, number_of, line_of, rest_of, Cuts, Stands}
+use Rattle.road_io.specs.declared.cutter.LineFault.TheVariants.{LongLine, ReadFault}
+use Rattle.import_once.specs.Readings.{HasTaken}
+use Rattle.past_file.specs.declared.outcomes.PastCause.TheVariants as causes
+use Rattle.past_file.specs.declared.judging.PastStop.{PastStop}
+use Rattle.past_file.specs.declared.judging.PastStop.TheVariants.{Row}
+use Rattle.import_once.proofs.BoundLaws.{read_line, read_end, read_fault}
+use Rattle.past_file.specs.Readings.{Judges}
+use Rattle.past_file.proofs.ReadLaws.{next_line, stopped_line, long_line, refused_steps, whole_end}
+use Rattle.past_file.proofs.past_reader.PastReader.read_one.Goals as goal
+
+pub returns-in-None-clause-steps : goal.returns-in-None-clause-steps
+returns-in-None-clause-steps g c = λ limits bytes same s.
+    let self = c.args.self.now in
+    let old = self.cutter in
+    let new = c.advance.new.self in
+    let before = ahead old (g.S.Source.left c.args.source.now) in
+    let after = ahead new (g.S.Source.left c.advance.new.source) in
+    let res : c.advance.result ≡ Ok true = cc in
+    let cuts = subst (λ r. Cuts r before after (line_of new)) res (c.advance.ensures.cuts c.requires.unbroken) in
+    let stands = subst (λ r. Stands r (number_of old) new) res (c.advance.ensures.stands c.requires.unbroken) in
+    let took = c.advance.ensures.taken c.requires.unbroken res in
+    let adds = subst (λ r. (taken : List ℕ) → HasTaken self.consumed taken → HasTaken c.add.new.self (taken ++ r)) c.rest.ensures c.add.ensures.taken in
+    let none : c.judge.result ≡ None = cc in
+    let judged = subst (λ (r : Option PastStop). Judges r c.args.base limits c.number-line.result c.line.result.now self.amounts c.judge.new.amounts) none (c.judge.ensures.judges limits same) in
+    let judged_line = subst (λ l. Judges None c.args.base limits c.number-line.result l self.amounts c.judge.new.amounts) c.line.ensures judged in
+    let judged_here = subst (λ n. Judges None c.args.base limits n (line_of new) self.amounts c.judge.new.amounts) c.number-line.ensures judged_line in
+    next_line c.args.base limits bytes before after (line_of new) (rest_of new) (number_of old) (number_of new) self.consumed c.add.new.self self.amounts c.judge.new.amounts s cuts took stands.0 adds judged_here
+
+pub returns-in-Some-clause-steps : goal.returns-in-Some-clause-steps
+returns-in-Some-clause-steps g c = λ limits bytes same s.
+    let self = c.args.self.now in
+    let old = self.cutter in
+    let new = c.advance.new.self in
+    let before = ahead old (g.S.Source.left c.args.source.now) in
+    let after = ahead new (g.S.Source.left c.advance.new.source) in
+    let res : c.advance.result ≡ Ok true = cc in
+    let cuts = subst (λ r. Cuts r before after (line_of new)) res (c.advance.ensures.cuts c.requires.unbroken) in
+    let stands = subst (λ r. Stands r (number_of old) new) res (c.advance.ensures.stands c.requires.unbroken) in
+    let some : c.judge.result ≡ Some c.in-Some.stop = cc in
+    let judged = subst (λ (r : Option PastStop). Judges r c.args.base limits c.number-line.result c.line.result.now self.amounts c.judge.new.amounts) some (c.judge.ensures.judges limits same) in
+    let judged_line = subst (λ l. Judges (Some c.in-Some.stop) c.args.base limits c.number-line.result l self.amounts c.judge.new.amounts) c.line.ensures judged in
+    let judged_here = subst (λ n. Judges (Some c.in-Some.stop) c.args.base limits n (line_of new) self.amounts c.judge.new.amounts) c.number-line.ensures judged_line in
+    stopped_line c.args.base limits bytes before after (g.S.Source.left c.advance.new.source) (line_of new) (number_of old) (number_of new) self.consumed self.amounts c.judge.new.amounts _ c.in-Some.stop s cuts stands.0 judged_here
+
+pub returns-in-Ok-false-clause-steps : goal.returns-in-Ok-false-clause-steps
+returns-in-Ok-false-clause-steps g c = λ limits bytes same s.
+    let self = c.args.self.now in
+    let new = c.advance.new.self in
+    let before = ahead self.cutter (g.S.Source.left c.args.source.now) in
+    let after = ahead new (g.S.Source.left c.advance.new.source) in
+    let res : c.advance.result ≡ Ok false = cc in
+    let cuts = subst (λ r. Cuts r before after (line_of new)) res (c.advance.ensures.cuts c.requires.unbroken) in
+    whole_end c.args.base limits bytes before new (g.S.Source.left c.advance.new.source) (line_of new) (number_of self.cutter) self.consumed self.amounts s cuts
+
+pub returns-in-Err-LongLine-clause-steps : goal.returns-in-Err-LongLine-clause-steps
+returns-in-Err-LongLine-clause-steps g c = λ limits bytes same s.
+    let self = c.args.self.now in
+    let new = c.advance.new.self in
+    let before = ahead self.cutter (g.S.Source.left c.args.source.now) in
+    let after = ahead new (g.S.Source.left c.advance.new.source) in
+    let res : c.advance.result ≡ Err (LongLine c.in-Err-LongLine.line) = cc in
+    let cuts = subst (λ r. Cuts r before after (line_of new)) res (c.advance.ensures.cuts c.requires.unbroken) in
+    let stands = subst (λ r. Stands r (number_of self.cutter) new) res (c.advance.ensures.stands c.requires.unbroken) in
+    let stop : c.refused.result ≡ Row c.in-Err-LongLine.line causes.Long = cc (c.refused.ensures, c.in-Err-LongLine.line-is) in
+    refused_steps c.refused.result c.in-Err-LongLine.line causes.Long _ c.args.base limits (g.S.Source.left c.advance.new.source) bytes stop
+    (long_line c.args.base limits bytes before after (line_of new) (number_of self.cutter) c.in-Err-LongLine.line self.consumed self.amounts s cuts stands.0)
+
+pub returns-in-None-clause-read : goal.returns-in-None-clause-read
+returns-in-None-clause-read g c = λ bytes s.
+    let self = c.args.self.now in
+    let old = self.cutter in
+    let new = c.advance.new.self in
+    let before = ahead old (g.S.Source.left c.args.source.now) in
+    let after = ahead new (g.S.Source.left c.advance.new.source) in
+    let res : c.advance.result ≡ Ok true = cc in
+    let cuts = subst (λ r. Cuts r before after (line_of new)) res (c.advance.ensures.cuts c.requires.unbroken) in
+    let counts = subst (λ r. c.add.new.self.bytes ≡ self.consumed.bytes + length r) c.rest.ensures c.add.ensures.count in
+    read_line before after (line_of new) (rest_of new) bytes self.consumed c.add.new.self s cuts (c.advance.ensures.taken c.requires.unbroken res) counts
+
+pub returns-in-Some-clause-read : goal.returns-in-Some-clause-read
+returns-in-Some-clause-read g c = λ bytes s.
+    let self = c.args.self.now in
+    let old = self.cutter in
+    let new = c.advance.new.self in
+    let before = ahead old (g.S.Source.left c.args.source.now) in
+    let after = ahead new (g.S.Source.left c.advance.new.source) in
+    let res : c.advance.result ≡ Ok true = cc in
+    let cuts = subst (λ r. Cuts r before after (line_of new)) res (c.advance.ensures.cuts c.requires.unbroken) in
+    let counts = subst (λ r. c.add.new.self.bytes ≡ self.consumed.bytes + length r) c.rest.ensures c.add.ensures.count in
+    read_line before after (line_of new) (rest_of new) bytes self.consumed c.add.new.self s cuts (c.advance.ensures.taken c.requires.unbroken res) counts
+
+pub returns-in-Ok-false-clause-read : goal.returns-in-Ok-false-clause-read
+returns-in-Ok-false-clause-read g c = λ bytes s.
+    let self = c.args.self.now in
+    let old = self.cutter in
+    let new = c.advance.new.self in
+    let before = ahead old (g.S.Source.left c.args.source.now) in
+    let after = ahead new (g.S.Source.left c.advance.new.source) in
+    let res : c.advance.result ≡ Ok false = cc in
+    let cuts = subst (λ r. Cuts r before after (line_of new)) res (c.advance.ensures.cuts c.requires.unbroken) in
+    read_end before after (line_of new) bytes self.consumed s cuts
+
+pub returns-in-Err-LongLine-clause-read : goal.returns-in-Err-LongLine-clause-read
+returns-in-Err-LongLine-clause-read g c = λ bytes s.
+    let self = c.args.self.now in
+    let old = self.cutter in
+    let new = c.advance.new.self in
+    let before = ahead old (g.S.Source.left c.args.source.now) in
+    let after = ahead new (g.S.Source.left c.advance.new.source) in
+    let res : c.advance.result ≡ Err (LongLine c.in-Err-LongLine.line) = cc in
+    let cuts = subst (λ r. Cuts r before after (line_of new)) res (c.advance.ensures.cuts c.requires.unbroken) in
+    read_fault (LongLine c.in-Err-LongLine.line) before after (line_of new) bytes self.consumed s cuts
+
+pub returns-in-Err-ReadFault-clause-read : goal.returns-in-Err-ReadFault-clause-read
+returns-in-Err-ReadFault-clause-read g c = λ bytes s.
+    let self = c.args.self.now in
+    let old = self.cutter in
+    let new = c.advance.new.self in
+    let before = ahead old (g.S.Source.left c.args.source.now) in
+    let after = ahead new (g.S.Source.left c.advance.new.source) in
+    let res : c.advance.result ≡ Err ReadFault = cc in
+    let cuts = subst (λ r. Cuts r before after (line_of new)) res (c.advance.ensures.cuts c.requires.unbroken) in
+    read_fault ReadFault before after (line_of new) bytes self.consumed s cuts

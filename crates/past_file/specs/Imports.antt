@@ -1,0 +1,103 @@
+-- What keeping a history answers and leaves.
+use Rattle.std.specs.Prelude.{ℕ, ◌≡◌, ◌≢◌, ◌+◌, ◌*◌, ◌==◌, ◌⊎◌, List, [], ◌∷◌, drop, Option, Some, None, if◌then◌else◌}
+use Rattle.std.specs.Str.{bytes_eq}
+use Rattle.road_time.specs.declared.day.Limits.{Limits}
+use Rattle.road_time.specs.declared.day.SpentRow.{SpentRow}
+use Rattle.keeper.specs.declared.digest.Digest.{Digest}
+use Rattle.keeper.specs.declared.kept.DayRecord.{DayRecord}
+use Rattle.keeper.specs.declared.kept.PastRecord.{PastRecord}
+use Rattle.keeper.specs.declared.kept.KeepFault.{KeepFault}
+use Rattle.keeper.specs.declared.kept.KeepFault.TheVariants as keeping
+use Rattle.keeper.specs.Office.{Office, last_day}
+use Rattle.keeper.specs.Kept.{found_digest}
+use Rattle.keeper.specs.PastReads.{PastFault, past_reads, past_record, next_past}
+use Rattle.keeper.specs.Calls.{WhenRefused, Leaves}
+use Rattle.past_file.specs.Causes.{past_cause_of}
+use Rattle.past_file.specs.declared.outcomes.PastOutcome.{PastOutcome}
+use Rattle.past_file.specs.declared.outcomes.PastOutcome.TheVariants.{Stored, Already, Row, PastLate, OtherBase, Differs, ReadFault, KeeperFault, NoMemory}
+
+-- what a call answers, and the office that it leaves
+pub record PastAnswer : Type 0 where
+  pub outcome : PastOutcome
+  pub office : Office
+
+-- nothing changes
+abbrev pub unchanged : PastOutcome → Office → PastAnswer
+unchanged outcome o = record { outcome = outcome; office = o }
+
+-- the amounts of all lines are kept; or a line was refused, and nothing is
+abbrev pub past_read : ℕ → List ℕ → List SpentRow → Option (ℕ × PastFault) → Office → PastAnswer
+past_read base bytes rows None o = record { outcome = Stored (past_record base bytes rows); office = next_past base bytes rows o }
+past_read base bytes rows (Some (line, fault)) o = unchanged (Row line (past_cause_of fault)) o
+
+-- a history is kept of this base: whether what was found is what is kept
+abbrev pub again : PastRecord → Digest → PastOutcome
+again kept found = if bytes_eq found.bytes kept.digest.bytes then Already kept else Differs kept.digest found
+
+-- a history is kept: one of another base is not compared
+abbrev pub past_again : PastRecord → ℕ → List ℕ → PastOutcome
+past_again kept base bytes = if kept.base == base then again kept (found_digest bytes kept.bytes) else OtherBase kept.base
+
+-- no history is kept: where a day is, it is too late for one
+abbrev pub past_new : List DayRecord → ℕ → Limits → List ℕ → Office → PastAnswer
+past_new [] base limits bytes o = past_read base bytes (past_reads bytes base limits).rows (past_reads bytes base limits).refused o
+past_new (d ∷ ds) base limits bytes o = unchanged (PastLate (last_day o)) o
+
+-- by the history that is kept, if one is
+abbrev pub past_by : Option PastRecord → ℕ → Limits → List ℕ → Office → PastAnswer
+past_by (Some kept) base limits bytes o = unchanged (past_again kept base bytes) o
+past_by None base limits bytes o = past_new o.days base limits bytes o
+
+-- keeping a history of these bytes, its days counted back from a base
+abbrev pub past_answer : ℕ → Limits → List ℕ → Office → PastAnswer
+past_answer base limits bytes o = past_by o.past base limits bytes o
+
+-- Against what should be answered:
+
+-- all was done
+pub record DoesAll (a : PastAnswer) (outcome : PastOutcome) (now : Option Office) : Type 0 where
+  pub outcome_is : outcome ≡ a.outcome
+  pub kept : now ≡ Some a.office
+
+-- a fault or want of memory: the office is as it was, or the put was refused, which leaves what its keeper leaves
+abbrev pub Halts : WhenRefused → KeepFault → PastAnswer → Office → Option Office → Type 0
+Halts w fault a was now = (now ≡ Some was) ⊎ ((o : Office) × (now ≡ Some o) × Leaves w fault o was a.office)
+
+-- what was done, by how the call ended
+abbrev pub Does : WhenRefused → PastAnswer → Office → Option Office → PastOutcome → Type 0
+Does w a was now (Stored kept) = DoesAll a (Stored kept) now
+Does w a was now (Already kept) = DoesAll a (Already kept) now
+Does w a was now (Row line cause) = DoesAll a (Row line cause) now
+Does w a was now (PastLate last) = DoesAll a (PastLate last) now
+Does w a was now (OtherBase kept) = DoesAll a (OtherBase kept) now
+Does w a was now (Differs kept found) = DoesAll a (Differs kept found) now
+Does w a was now ReadFault = now ≡ Some was
+Does w a was now KeeperFault = Halts w keeping.Failed a was now
+Does w a was now NoMemory = Halts w keeping.NoMemory a was now
+
+-- what is left of the source: nothing where a history was read whole, and all behind one byte more than a kept history had
+abbrev pub LeavesRest : PastOutcome → Option PastRecord → List ℕ → Option (List ℕ) → Type 0
+LeavesRest (Stored r) kept bytes left = left ≡ Some []
+LeavesRest (Already r) (Some kept) bytes left = left ≡ Some (drop (kept.bytes + 1) bytes)
+LeavesRest (Differs k found) (Some kept) bytes left = left ≡ Some (drop (kept.bytes + 1) bytes)
+LeavesRest _ kept bytes left = Unit {0}
+
+-- the most that a history is read: a line more than it may have, each of 200 bytes and its end, and one buffer
+abbrev pub most_past : Limits → ℕ
+most_past limits = 201 * (limits.past + 1) + 65536
+
+-- the most that keeping a history reads: of one that is kept, one byte more than it had
+abbrev pub most_kept : Option PastRecord → Limits → ℕ
+most_kept None limits = most_past limits
+most_kept (Some kept) limits = kept.bytes + 1
+
+-- a history of this base needs no source: one of another base is kept, or a day is and no history
+abbrev pub NeedsNone : Option PastRecord → ℕ → Office → Type 0
+NeedsNone (Some kept) base o = kept.base ≢ base
+NeedsNone None base o = o.days ≢ []
+
+-- an end before the source is read
+abbrev pub IsUnread : PastOutcome → Type 0
+IsUnread (PastLate last) = Unit {0}
+IsUnread (OtherBase kept) = Unit {0}
+IsUnread _ = ⊥

@@ -1,0 +1,101 @@
+-- Lines of a history that are read on.
+use Rattle.std.specs.Prelude.{ℕ, ◌≡◌, ◌+◌, ◌++◌, ◌∷◌, [], List, Bool, false, true, length, Option, Some, None, Result, Ok, Err}
+use Rattle.std.specs.List.{list_any}
+use Rattle.road_time.specs.declared.day.Limits.{Limits}
+use Rattle.road_time.specs.declared.day.SpentRow.{SpentRow}
+use Rattle.road_time.specs.Lines.{lines_of}
+use Rattle.road_io.specs.Cutter.{ahead, number_of}
+use Rattle.keeper.specs.History.{is_row}
+use Rattle.keeper.specs.PastReads.{PastFault, past_fault, past_rows, past_reads, past_after, past_kept, past_record}
+use Rattle.import_once.specs.declared.consumed.Consumed.{Consumed}
+use Rattle.import_once.specs.Readings.{HasTaken, HasRead}
+use Rattle.past_file.specs.Causes.{IsCause}
+use Rattle.past_file.specs.Rows.{HasRows}
+use Rattle.past_file.specs.declared.outcomes.PastCause.{PastCause}
+use Rattle.past_file.specs.declared.outcomes.PastCause.TheVariants as causes
+use Rattle.past_file.specs.declared.amounts.Amounts.{Amounts}
+use Rattle.past_file.specs.declared.judging.PastStop.{PastStop}
+use Rattle.past_file.specs.declared.judging.PastStop.TheVariants.{Row, ReadFault, NoMemory}
+use Rattle.past_file.specs.declared.past_reader.PastReader.{PastReader}
+use Rattle.past_file.specs.declared.history.History.{History}
+
+-- some amounts were taken
+abbrev pub Gathers : Amounts → ℕ → Type 0
+Gathers a base = (rows : List SpentRow) × HasRows a base rows
+
+-- an amount was taken, or one of its vehicle, day and expressway was taken before
+abbrev pub TakesRow : Option PastStop → ℕ → List SpentRow → SpentRow → Amounts → Type 0
+TakesRow None base rows r a = (list_any (is_row r.day r.vid r.xway) rows ≡ false) × HasRows a base (rows ++ r ∷ [])
+TakesRow (Some (Row n cause)) base rows r a = list_any (is_row r.day r.vid r.xway) rows ≡ true
+TakesRow (Some ReadFault) base rows r a = Unit {0}
+TakesRow (Some NoMemory) base rows r a = Unit {0}
+
+-- the reading stops at this line, which has an amount that comes twice, or for want of memory
+abbrev pub StopsTwice : ℕ → Option PastStop → Type 0
+StopsTwice number None = Unit {0}
+StopsTwice number (Some (Row n cause)) = (n ≡ number) × (cause ≡ causes.Twice)
+StopsTwice number (Some ReadFault) = ⊥
+StopsTwice number (Some NoMemory) = Unit {0}
+
+-- a line was judged behind those before it
+abbrev pub Judges : Option PastStop → ℕ → Limits → ℕ → List ℕ → Amounts → Amounts → Type 0
+Judges None base limits number line old new = (before : List (List ℕ)) → length before + 1 ≡ number → HasRows old base (past_rows base before)
+    → (past_fault base limits before line ≡ None) × HasRows new base (past_rows base (before ++ line ∷ []))
+Judges (Some (Row n cause)) base limits number line old new = (n ≡ number)
+    × ((before : List (List ℕ)) → length before + 1 ≡ number → HasRows old base (past_rows base before) → (fault : PastFault) × (past_fault base limits before line ≡ Some fault) × IsCause fault cause)
+Judges (Some ReadFault) base limits number line old new = ⊥
+Judges (Some NoMemory) base limits number line old new = Unit {0}
+
+-- lines are read on: those before were all let in, and the rest lies ahead
+pub record ReadsOn (front : Option (List ℕ)) (number : ℕ) (consumed : Consumed) (amounts : Amounts) (base : ℕ) (limits : Limits) (bytes : List ℕ) : Type 0 where
+  pub before : List (List ℕ)
+  pub taken : List ℕ
+  pub now : List ℕ
+  pub ahead_is : front ≡ Some now
+  pub bytes_are : bytes ≡ taken ++ now
+  pub has_taken : HasTaken consumed taken
+  pub read_is : past_reads bytes base limits ≡ past_after base limits before (lines_of now)
+  pub number_is : number ≡ length before
+  pub rows_are : HasRows amounts base (past_rows base before)
+
+-- a reader reads the history that the bytes are, where so much of the source is left
+abbrev pub IsReading : PastReader → ℕ → Limits → Option (List ℕ) → List ℕ → Type 0
+IsReading r base limits left bytes = ReadsOn (ahead r.cutter left) (number_of r.cutter) r.consumed r.amounts base limits bytes
+
+-- what a reader took and holds of a source's bytes, and what is left of them, is all that the source had
+abbrev pub HasReadOf : PastReader → Option (List ℕ) → List ℕ → Type 0
+HasReadOf r left bytes = HasRead (ahead r.cutter left) r.consumed bytes
+
+-- all lines were read, and no byte is left
+pub record EndsWhole (consumed : Consumed) (amounts : Amounts) (base : ℕ) (limits : Limits) (left : Option (List ℕ)) (bytes : List ℕ) : Type 0 where
+  pub unrefused : (past_reads bytes base limits).refused ≡ None
+  pub has_taken : HasTaken consumed bytes
+  pub rows_are : HasRows amounts base (past_reads bytes base limits).rows
+  pub none_left : left ≡ Some []
+
+-- a line was refused
+abbrev pub EndsRefused : ℕ → PastCause → ℕ → Limits → List ℕ → Type 0
+EndsRefused line cause base limits bytes = (fault : PastFault) × ((past_reads bytes base limits).refused ≡ Some (line, fault)) × IsCause fault cause
+
+-- a line more was read, or all were, or one was refused
+abbrev pub Steps : Result Bool PastStop → PastReader → ℕ → Limits → Option (List ℕ) → List ℕ → Type 0
+Steps (Ok true) r base limits left bytes = IsReading r base limits left bytes
+Steps (Ok false) r base limits left bytes = EndsWhole r.consumed r.amounts base limits left bytes
+Steps (Err (Row line cause)) r base limits left bytes = EndsRefused line cause base limits bytes
+Steps (Err ReadFault) r base limits left bytes = Unit {0}
+Steps (Err NoMemory) r base limits left bytes = Unit {0}
+
+-- all lines were read, or one was refused
+abbrev pub Ends : Option PastStop → PastReader → ℕ → Limits → Option (List ℕ) → List ℕ → Type 0
+Ends None r base limits left bytes = EndsWhole r.consumed r.amounts base limits left bytes
+Ends (Some (Row line cause)) r base limits left bytes = EndsRefused line cause base limits bytes
+Ends (Some ReadFault) r base limits left bytes = Unit {0}
+Ends (Some NoMemory) r base limits left bytes = Unit {0}
+
+-- a history that was read whole is the one that the bytes are, or the first refused line is
+abbrev pub ReadsPast : Result History PastStop → ℕ → Limits → Option (List ℕ) → List ℕ → Type 0
+ReadsPast (Ok h) base limits left bytes = ((past_reads bytes base limits).refused ≡ None) × (h.past ≡ past_record base bytes (past_reads bytes base limits).rows)
+    × (h.rows.items ≡ past_kept (past_reads bytes base limits).rows) × (left ≡ Some [])
+ReadsPast (Err (Row line cause)) base limits left bytes = EndsRefused line cause base limits bytes
+ReadsPast (Err ReadFault) base limits left bytes = Unit {0}
+ReadsPast (Err NoMemory) base limits left bytes = Unit {0}

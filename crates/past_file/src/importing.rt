@@ -1,0 +1,173 @@
+// Keeping a history, once.
+ghost use Rattle.std.specs.Prelude.{◌≡◌, ◌≢◌, ◌≤◌, ◌+◌, [], List, ℕ, Option, Some, None};
+ghost use Rattle.road_time.specs.declared.day.SpentRow.{SpentRow as SpentRowValue};
+ghost use Rattle.road_io.specs.Faults.{Rose};
+ghost use Rattle.road_io.specs.Plans.{NeverFails};
+ghost use Rattle.keeper.specs.declared.kept.PastRecord.{PastRecord as PastRecordValue};
+ghost use Rattle.keeper.specs.Office.{Office};
+ghost use Rattle.keeper.specs.Kept.{IsPastPut, HasNoDays};
+ghost use Rattle.keeper.specs.PastReads.{past_reads, past_record, past_kept};
+ghost use Rattle.keeper.specs.Calls.{WhenRefused, IfTold};
+ghost use Rattle.import_once.specs.Days.{ReadsWithin};
+ghost use Rattle.past_file.specs.Imports.{again, unchanged, past_again, past_read, past_new, past_answer, Does, LeavesRest, NeedsNone, IsUnread, most_past, most_kept};
+ghost use Rattle.past_file.specs.declared.outcomes.PastOutcome.TheVariants.{ReadFault, KeeperFault};
+
+use crate::history::History;
+use crate::judging::PastStop;
+use crate::outcomes::PastOutcome;
+use crate::whole_past::read_past;
+use import_once::find_digest;
+use keeper::{Digest, KeepFault, Keeper, PastRecord};
+use road_io::Source;
+use road_time::Limits;
+use std::alloc::Global;
+
+/// Whether what was found is what is kept.
+fn same_or_not(kept: &PastRecord, found: Digest) -> PastOutcome
+    ensures { result ≡ again kept.now found }
+{
+    if found.bytes == kept.digest.bytes {
+        PastOutcome::Already(*kept)
+    } else {
+        PastOutcome::Differs {
+            kept: kept.digest,
+            found,
+        }
+    }
+}
+
+/// Compares the source with a history that is kept. One of another base is not compared.
+fn compare<S: Source>(kept: &PastRecord, base: u32, source: &mut S) -> PastOutcome
+    ensures does { (w : WhenRefused) (bytes : List ℕ) (o : Office) → S.left source.old ≡ Some bytes → Does w (unchanged (past_again kept.now base bytes) o) o (Some o) result }
+    ensures rest { (bytes : List ℕ) → S.left source.old ≡ Some bytes → LeavesRest result (Some kept.now) bytes (S.left source.new) }
+    ensures unread { kept.now.base ≢ base → source.new ≡ source.old }
+    ensures untouched { IsUnread result → source.new ≡ source.old }
+    ensures bounded { ReadsWithin (kept.now.bytes + 1) (S.left source.old) (S.left source.new) }
+    ensures unasked { result ≢ KeeperFault }
+    ensures cause { result ≡ ReadFault → Rose (S.faults source.old) (S.faults source.new) }
+    ensures later { S.faults source.old ≤ S.faults source.new }
+    ensures sure { NeverFails (S.plan source.old) → result ≢ ReadFault }
+{
+    if kept.base != base {
+        return PastOutcome::OtherBase { kept: kept.base };
+    }
+    match find_digest(kept.bytes, source) {
+        Ok(found) => same_or_not(kept, found),
+        Err(_) => PastOutcome::ReadFault,
+    }
+}
+
+/// Keeps a history that was read.
+fn store<K: Keeper>(history: &History, keeper: &mut K) -> PastOutcome
+    requires fits { IsPastPut history.now.past history.now.rows.items }
+    requires first { IfTold (K.told keeper.old) HasNoDays }
+    ensures does { (base : ℕ) (bytes : List ℕ) (rows : List SpentRowValue) (o : Office) → K.told keeper.old ≡ Some o → history.now.past ≡ past_record base bytes rows → history.now.rows.items ≡ past_kept rows
+        → Does K.refuses (past_read base bytes rows None o) o (K.told keeper.new) result }
+    ensures rest { (kept : Option PastRecordValue) (bytes : List ℕ) → LeavesRest result kept bytes (Some []) }
+    ensures touched { IsUnread result → ⊥ }
+    ensures unread { result ≢ ReadFault }
+    ensures cause { result ≡ KeeperFault → Rose (K.faults keeper.old) (K.faults keeper.new) }
+    ensures later { K.faults keeper.old ≤ K.faults keeper.new }
+    ensures sure { NeverFails (K.plan keeper.old) → result ≢ KeeperFault }
+{
+    match keeper.put_past(&history.past, history.rows.as_slice()) {
+        Ok(()) => PastOutcome::Stored(history.past),
+        Err(KeepFault::Failed) => PastOutcome::KeeperFault,
+        Err(KeepFault::NoMemory) => PastOutcome::NoMemory,
+    }
+}
+
+/// Reads a history and keeps it, where no day and no history is kept.
+fn import_first<S: Source, K: Keeper>(
+    alloc: Global,
+    base: u32,
+    limits: &Limits,
+    source: &mut S,
+    keeper: &mut K,
+) -> PastOutcome
+    requires based { 70 ≤ base }
+    requires first { IfTold (K.told keeper.old) HasNoDays }
+    ensures does { (bytes : List ℕ) (o : Office) → S.left source.old ≡ Some bytes → K.told keeper.old ≡ Some o
+        → Does K.refuses (past_read base bytes (past_reads bytes base limits.now).rows (past_reads bytes base limits.now).refused o) o (K.told keeper.new) result }
+    ensures rest { (bytes : List ℕ) (kept : Option PastRecordValue) → S.left source.old ≡ Some bytes → LeavesRest result kept bytes (S.left source.new) }
+    ensures touched { IsUnread result → ⊥ }
+    ensures bounded { ReadsWithin (most_past limits.now) (S.left source.old) (S.left source.new) }
+    ensures read_cause { result ≡ ReadFault → Rose (S.faults source.old) (S.faults source.new) }
+    ensures read_later { S.faults source.old ≤ S.faults source.new }
+    ensures read_sure { NeverFails (S.plan source.old) → result ≢ ReadFault }
+    ensures keeper_cause { result ≡ KeeperFault → Rose (K.faults keeper.old) (K.faults keeper.new) }
+    ensures keeper_later { K.faults keeper.old ≤ K.faults keeper.new }
+    ensures keeper_sure { NeverFails (K.plan keeper.old) → result ≢ KeeperFault }
+{
+    match read_past(alloc, base, limits, source) {
+        Ok(history) => store(&history, keeper),
+        Err(PastStop::Row { line, cause }) => PastOutcome::Row { line, cause },
+        Err(PastStop::ReadFault) => PastOutcome::ReadFault,
+        Err(PastStop::NoMemory) => PastOutcome::NoMemory,
+    }
+}
+
+/// Keeps a history where none is kept. Where a day is kept, it is too late for one.
+fn import_new<S: Source, K: Keeper>(
+    alloc: Global,
+    base: u32,
+    limits: &Limits,
+    source: &mut S,
+    keeper: &mut K,
+) -> PastOutcome
+    requires based { 70 ≤ base }
+    requires none { IfTold (K.told keeper.old) (λ o. o.past ≡ None) }
+    ensures does { (bytes : List ℕ) (o : Office) → S.left source.old ≡ Some bytes → K.told keeper.old ≡ Some o → Does K.refuses (past_new o.days base limits.now bytes o) o (K.told keeper.new) result }
+    ensures rest { (bytes : List ℕ) (kept : Option PastRecordValue) → S.left source.old ≡ Some bytes → LeavesRest result kept bytes (S.left source.new) }
+    ensures unread { (o : Office) → K.told keeper.old ≡ Some o → o.days ≢ [] → source.new ≡ source.old }
+    ensures untouched { IsUnread result → source.new ≡ source.old }
+    ensures bounded { ReadsWithin (most_past limits.now) (S.left source.old) (S.left source.new) }
+    ensures read_cause { result ≡ ReadFault → Rose (S.faults source.old) (S.faults source.new) }
+    ensures read_later { S.faults source.old ≤ S.faults source.new }
+    ensures read_sure { NeverFails (S.plan source.old) → result ≢ ReadFault }
+    ensures keeper_cause { result ≡ KeeperFault → Rose (K.faults keeper.old) (K.faults keeper.new) }
+    ensures keeper_later { K.faults keeper.old ≤ K.faults keeper.new }
+    ensures keeper_sure { NeverFails (K.plan keeper.old) → result ≢ KeeperFault }
+{
+    match keeper.last_day() {
+        Ok(last) => {
+            if last > 0 {
+                PastOutcome::PastLate { last }
+            } else {
+                import_first(alloc, base, limits, source, keeper)
+            }
+        }
+        Err(KeepFault::Failed) => PastOutcome::KeeperFault,
+        Err(KeepFault::NoMemory) => PastOutcome::NoMemory,
+    }
+}
+
+/// Keeps a history, its days counted back from a base, or says why not. A history that is kept already is compared, and
+/// nothing changes.
+pub fn import_past<S: Source, K: Keeper>(
+    alloc: Global,
+    base: u32,
+    limits: &Limits,
+    source: &mut S,
+    keeper: &mut K,
+) -> PastOutcome
+    requires based { 70 ≤ base }
+    ensures does { (bytes : List ℕ) (o : Office) → S.left source.old ≡ Some bytes → K.told keeper.old ≡ Some o → Does K.refuses (past_answer base limits.now bytes o) o (K.told keeper.new) result }
+    ensures rest { (bytes : List ℕ) (o : Office) → S.left source.old ≡ Some bytes → K.told keeper.old ≡ Some o → LeavesRest result o.past bytes (S.left source.new) }
+    ensures unread { (o : Office) → K.told keeper.old ≡ Some o → NeedsNone o.past base o → source.new ≡ source.old }
+    ensures untouched { IsUnread result → source.new ≡ source.old }
+    ensures bounded { (o : Office) → K.told keeper.old ≡ Some o → ReadsWithin (most_kept o.past limits.now) (S.left source.old) (S.left source.new) }
+    ensures read_cause { result ≡ ReadFault → Rose (S.faults source.old) (S.faults source.new) }
+    ensures read_later { S.faults source.old ≤ S.faults source.new }
+    ensures read_sure { NeverFails (S.plan source.old) → result ≢ ReadFault }
+    ensures keeper_cause { result ≡ KeeperFault → Rose (K.faults keeper.old) (K.faults keeper.new) }
+    ensures keeper_later { K.faults keeper.old ≤ K.faults keeper.new }
+    ensures keeper_sure { NeverFails (K.plan keeper.old) → result ≢ KeeperFault }
+{
+    match keeper.past() {
+        Ok(Some(kept)) => compare(&kept, base, source),
+        Ok(None) => import_new(alloc, base, limits, source, keeper),
+        Err(KeepFault::Failed) => PastOutcome::KeeperFault,
+        Err(KeepFault::NoMemory) => PastOutcome::NoMemory,
+    }
+}

@@ -1,0 +1,18 @@
+// Reading a history: the type.
+ghost use Rattle.std.specs.Prelude.{◌≤◌, ◌*◌};
+ghost use Rattle.road_io.specs.Cutter.{number_of};
+
+use crate::amounts::Amounts;
+use import_once::Consumed;
+use road_io::LineCutter;
+
+mod steps;
+
+/// Reads the lines of a history one by one, and keeps their amounts.
+#[derive(Drop)]
+pub struct PastReader {
+    cutter: LineCutter,
+    consumed: Consumed,
+    amounts: Amounts,
+    ghost few_bytes: { consumed.bytes ≤ 201 * number_of cutter },
+}

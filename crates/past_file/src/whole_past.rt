@@ -1,0 +1,40 @@
+// A history, read whole.
+ghost use Rattle.std.specs.Prelude.{◌≡◌, ◌≢◌, ◌≤◌, ℕ, List, Some, Err, IfOk};
+ghost use Rattle.road_io.specs.Faults.{Rose};
+ghost use Rattle.road_io.specs.Plans.{NeverFails};
+ghost use Rattle.keeper.specs.Kept.{IsPastPut};
+ghost use Rattle.import_once.specs.Days.{ReadsWithin};
+ghost use Rattle.past_file.specs.Readings.{ReadsPast};
+ghost use Rattle.past_file.specs.Imports.{most_past};
+ghost use Rattle.past_file.specs.declared.judging.PastStop.TheVariants.{ReadFault};
+
+use crate::history::History;
+use crate::judging::PastStop;
+use crate::past_reader::PastReader;
+use road_io::Source;
+use road_time::Limits;
+use std::alloc::Global;
+
+/// Reads a history to its end or to the first line that is refused. Its days are counted back from a base.
+pub fn read_past<S: Source>(
+    alloc: Global,
+    base: u32,
+    limits: &Limits,
+    source: &mut S,
+) -> Result<History, PastStop>
+    requires based { 70 ≤ base }
+    ensures reads { (bytes : List ℕ) → S.left source.old ≡ Some bytes → ReadsPast result base limits.now (S.left source.new) bytes }
+    ensures fits { IfOk result (λ h. IsPastPut h.past h.rows.items) }
+    ensures bounded { ReadsWithin (most_past limits.now) (S.left source.old) (S.left source.new) }
+    ensures cause { result ≡ Err ReadFault → Rose (S.faults source.old) (S.faults source.new) }
+    ensures later { S.faults source.old ≤ S.faults source.new }
+    ensures sure { NeverFails (S.plan source.old) → result ≢ Err ReadFault }
+{
+    let Ok(mut reader) = PastReader::new(alloc) else {
+        return Err(PastStop::NoMemory);
+    };
+    if let Some(stop) = reader.read_all(base, limits.past, source) {
+        return Err(stop);
+    }
+    reader.kept(base)
+}
