@@ -1,6 +1,7 @@
 // The export of a kept day.
 ghost use Rattle.std.specs.Prelude.{◌≡◌, ◌≢◌, ◌≤◌, Some, Err};
 ghost use Rattle.road_io.specs.Faults.{Rose};
+ghost use Rattle.road_io.specs.Plans.{NeverFails};
 ghost use Rattle.road_io.specs.Rooms.{Endless};
 ghost use Rattle.keeper.specs.Office.{Office};
 ghost use Rattle.reports.specs.Endings.{Reported};
@@ -29,6 +30,7 @@ pub fn export_csv<K: Keeper, O: Sink>(
     ensures nothing { result ≡ Err NoDay → sink.new ≡ sink.old }
     ensures keeper_cause { result ≡ Err KeeperFault → Rose (K.faults keeper.old) (K.faults keeper.new) }
     ensures keeper_later { K.faults keeper.old ≤ K.faults keeper.new }
+    ensures keeper_sure { NeverFails (K.plan keeper.old) → result ≢ Err KeeperFault }
     ensures write_cause { result ≡ Err WriteFault → Rose (O.faults sink.old) (O.faults sink.new) }
     ensures write_later { O.faults sink.old ≤ O.faults sink.new }
     ensures write_sure { O.room sink.old ≡ Endless → (result ≢ Err WriteFault) × (O.room sink.new ≡ Endless) }

@@ -1,6 +1,7 @@
 // The statement of a kept day.
 ghost use Rattle.std.specs.Prelude.{◌≡◌, ◌≢◌, ◌≤◌, Some, None, Err, IfOk};
 ghost use Rattle.road_io.specs.Faults.{Rose};
+ghost use Rattle.road_io.specs.Plans.{NeverFails};
 ghost use Rattle.road_io.specs.Rooms.{Endless};
 ghost use Rattle.keeper.specs.Office.{Office, record_of, rows_between};
 ghost use Rattle.reports.specs.Endings.{Reported, refused_as};
@@ -40,6 +41,7 @@ fn find_record<K: Keeper>(day: u32, keeper: &mut K) -> Result<DayRecord, ReportF
     ensures own { result ≢ Err WriteFault }
     ensures cause { result ≡ Err KeeperFault → Rose (K.faults keeper.old) (K.faults keeper.new) }
     ensures later { K.faults keeper.old ≤ K.faults keeper.new }
+    ensures sure { NeverFails (K.plan keeper.old) → (result ≢ Err KeeperFault) × NeverFails (K.plan keeper.new) }
 {
     match keeper.day(day) {
         Ok(Some(kept)) => Ok(kept),
@@ -55,6 +57,7 @@ fn find_rows<K: Keeper>(day: u32, keeper: &mut K) -> Result<Vec<SpentRow>, Repor
     ensures own { (result ≢ Err WriteFault) × (result ≢ Err NoDay) }
     ensures cause { result ≡ Err KeeperFault → Rose (K.faults keeper.old) (K.faults keeper.new) }
     ensures later { K.faults keeper.old ≤ K.faults keeper.new }
+    ensures sure { NeverFails (K.plan keeper.old) → (result ≢ Err KeeperFault) × NeverFails (K.plan keeper.new) }
 {
     match keeper.rows(day, day) {
         Ok(rows) => Ok(rows),
@@ -70,6 +73,7 @@ pub(crate) fn find_day<K: Keeper>(day: u32, keeper: &mut K) -> Result<KeptDay, R
     ensures own { result ≢ Err WriteFault }
     ensures cause { result ≡ Err KeeperFault → Rose (K.faults keeper.old) (K.faults keeper.new) }
     ensures later { K.faults keeper.old ≤ K.faults keeper.new }
+    ensures sure { NeverFails (K.plan keeper.old) → (result ≢ Err KeeperFault) × NeverFails (K.plan keeper.new) }
 {
     match find_record(day, keeper) {
         Ok(record) => match find_rows(day, keeper) {
@@ -93,6 +97,7 @@ pub fn day_statement<K: Keeper, O: Sink>(
     ensures nothing { result ≡ Err NoDay → sink.new ≡ sink.old }
     ensures keeper_cause { result ≡ Err KeeperFault → Rose (K.faults keeper.old) (K.faults keeper.new) }
     ensures keeper_later { K.faults keeper.old ≤ K.faults keeper.new }
+    ensures keeper_sure { NeverFails (K.plan keeper.old) → result ≢ Err KeeperFault }
     ensures write_cause { result ≡ Err WriteFault → Rose (O.faults sink.old) (O.faults sink.new) }
     ensures write_later { O.faults sink.old ≤ O.faults sink.new }
     ensures write_sure { O.room sink.old ≡ Endless → (result ≢ Err WriteFault) × (O.room sink.new ≡ Endless) }
