@@ -1,0 +1,13 @@
+use Rattle.std.specs.Prelude.{ℕ, ◌≡◌, ◌<◌, List, length, take, Option, Result, Ok, Err}
+use Rattle.std.specs.Io.KnownBytes.{Appends}
+use Rattle.traffic_gen.specs.declared.plan.GenPlan.{GenPlan}
+use Rattle.traffic_gen.specs.declared.plan.GenFault.{GenFault}
+use Rattle.traffic_gen.specs.declared.plan.GenFault.TheVariants.{Size, WriteFault, NoMemory}
+use Rattle.traffic_gen.specs.Traffic.{generated, file_of}
+
+-- what was written as the generation ended: the file, whose lines are counted, or fewer of its first bytes, or nothing
+abbrev pub Wrote : Result ℕ GenFault → GenPlan → Option (List ℕ) → Option (List ℕ) → Type 0
+Wrote (Ok lines) plan old new = (lines ≡ length (generated plan)) × Appends old new (file_of plan)
+Wrote (Err (Size field)) plan old new = old ≡ new
+Wrote (Err WriteFault) plan old new = (k : ℕ) × (k < length (file_of plan)) × Appends old new (take k (file_of plan))
+Wrote (Err NoMemory) plan old new = old ≡ new

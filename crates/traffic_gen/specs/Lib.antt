@@ -1,0 +1,9 @@
+pub mod Plans
+pub mod Draws
+pub mod Reports
+pub mod Crashes
+pub mod Trips
+pub mod Traffic
+pub mod Turns
+pub mod Endings
+pub mod Laws

@@ -1,0 +1,93 @@
+// The file of a plan.
+ghost use Rattle.std.specs.Prelude.{◌≡◌, ◌≢◌, ◌≤◌, ◌↔◌, ℕ, Some, Err, IfOk, OnOk, length};
+ghost use Rattle.road_time.specs.Order.{IsByTime};
+ghost use Rattle.road_time.specs.Text.{lines_text};
+ghost use Rattle.road_time.specs.Tuples.{time_of};
+ghost use Rattle.road_io.specs.Faults.{Rose};
+ghost use Rattle.road_io.specs.Rooms.{Endless, Takes, Refuses};
+ghost use Rattle.traffic_gen.specs.declared.plan.GenFault.TheVariants.{Size, WriteFault};
+ghost use Rattle.traffic_gen.specs.Plans.{first_out, InRange};
+ghost use Rattle.traffic_gen.specs.Traffic.{generated, file_of};
+ghost use Rattle.traffic_gen.specs.Endings.{Wrote};
+
+use crate::plan::{GenFault, GenPlan};
+use crate::traffic::tuples_of;
+use road_io::{Failed, Sink, put_all};
+use road_time::{NoMemory, Tuple};
+use std::alloc::Global;
+use tuple_format::put_tuple;
+
+/// The Time of a tuple.
+fn time(tuple: &Tuple) -> u32
+    ensures { result ≡ time_of tuple.now }
+{
+    match *tuple {
+        Tuple::Report(report) => report.time,
+        Tuple::Balance { time, .. } => time,
+        Tuple::Spent { time, .. } => time,
+        Tuple::Travel { time } => time,
+    }
+}
+
+/// Puts tuples in the order of Time; those of a second stay in their order.
+fn sort(tuples: &mut Vec<Tuple>) -> Result<(), NoMemory>
+    ensures { OnOk result (IsByTime tuples.old.items tuples.new.items) }
+{
+    tuples.sort_by_key(|tuple| time(tuple))?;
+    Ok(())
+}
+
+/// The lines of tuples.
+fn lines_of_tuples(alloc: Global, tuples: &[Tuple]) -> Result<Vec<u8>, NoMemory>
+    ensures { IfOk result (λ text. text.items ≡ lines_text tuples.now) }
+{
+    let mut text = Vec::new(alloc);
+    for tuple in tuples {
+        put_tuple(&mut text, tuple)?;
+    }
+    Ok(text)
+}
+
+/// A file, and how many lines it has.
+#[derive(Drop)]
+struct FileText {
+    lines: u64,
+    text: Vec<u8>,
+}
+
+/// The file of a plan.
+fn make_file(alloc: Global, plan: &GenPlan) -> Result<FileText, NoMemory>
+    requires { InRange plan.now }
+    ensures lines { IfOk result (λ w. w.lines ≡ length (generated plan.now)) }
+    ensures text { IfOk result (λ w. w.text.items ≡ file_of plan.now) }
+{
+    let mut tuples = tuples_of(alloc, plan)?;
+    sort(&mut tuples)?;
+    let text = lines_of_tuples(alloc, tuples.as_slice())?;
+    Ok(FileText {
+        lines: tuples.len() as u64,
+        text,
+    })
+}
+
+/// Writes the file of a plan, and answers its number of lines.
+pub fn generate<O: Sink>(alloc: Global, plan: &GenPlan, sink: &mut O) -> Result<u64, GenFault>
+    ensures wrote { Wrote result plan.now (O.written sink.old) (O.written sink.new) }
+    ensures size { (field : ℕ) → (result ≡ Err (Size field)) ↔ (first_out plan.now ≡ Some field) }
+    ensures took { OnOk result (Takes (O.room sink.old) (O.room sink.new) (length (file_of plan.now))) }
+    ensures full { result ≡ Err WriteFault → Refuses (O.room sink.old) (O.room sink.new) (length (file_of plan.now)) }
+    ensures cause { result ≡ Err WriteFault → Rose (O.faults sink.old) (O.faults sink.new) }
+    ensures later { O.faults sink.old ≤ O.faults sink.new }
+    ensures sure { O.room sink.old ≡ Endless → (result ≢ Err WriteFault) × (O.room sink.new ≡ Endless) }
+{
+    if let Some(field) = plan.out_of_range() {
+        return Err(GenFault::Size(field));
+    }
+    let Ok(file) = make_file(alloc, plan) else {
+        return Err(GenFault::NoMemory);
+    };
+    match put_all(sink, file.text.as_slice()) {
+        Ok(()) => Ok(file.lines),
+        Err(Failed) => Err(GenFault::WriteFault),
+    }
+}
