@@ -3,3 +3,4 @@ pub mod Turns
 pub mod Law
 pub mod Meant
 pub mod Spelling
+pub mod Steps

@@ -349,7 +349,7 @@ sound_found (g ∷ fs) word f all e = go (bytes_eq g.name word) refl (sound_foun
 
 all_sound : AllSound forms
 unfolding look
-all_sound = ((((refl, λ v. refl), tt), (refl, refl, refl, refl, tt)), ((((refl, λ v. refl), tt), (refl, refl, refl, refl, tt)), ((((refl, λ v. refl), tt), tt), tt)))
+all_sound = ((((refl, λ v. refl), tt), (refl, refl, refl, refl, tt)), ((((refl, λ v. refl), tt), (refl, refl, refl, refl, tt)), ((((refl, λ v. refl), tt), (refl, refl, refl, refl, tt)), ((tt, (refl, refl, refl, refl, tt)), ((tt, (refl, refl, refl, refl, tt)), ((tt, (refl, refl, refl, refl, (refl, refl, refl, refl, (refl, refl, refl, refl, tt)))), ((((refl, λ v. refl), tt), tt), ((tt, (refl, refl, refl, refl, tt)), ((tt, (refl, refl, refl, refl, (refl, refl, refl, refl, (refl, refl, refl, refl, (refl, refl, refl, refl, tt))))), ((tt, tt), ((((refl, λ v. refl), ((refl, λ v. refl), ((refl, λ v. refl), ((refl, λ v. refl), tt)))), (refl, refl, refl, refl, tt)), ((((refl, λ v. refl), ((refl, λ v. refl), ((refl, λ v. refl), ((refl, λ v. refl), ((refl, λ v. refl), tt))))), (refl, refl, refl, refl, tt)), tt))))))))))))
 
 pub is_spelled : (words : List Text) (name : Text) (said : Said) → spoken forms words ≡ Some (name, said) ↔ IsSpelled forms words name said
 is_spelled words name said = (to words, from)

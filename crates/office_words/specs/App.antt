@@ -1,7 +1,7 @@
 -- The table as `clap` is told it.
 use Rattle.std.specs.Prelude.{true, false, List, [], ◌∷◌, ◌++◌, map, Some, None, Option, codes}
 use Rattle.clap.specs.Walk.{Row, Rule}
-use Rattle.clap.specs.Simple.{App, Shape, new_rule, new_shape, subcommand_of}
+use Rattle.clap.specs.Simple.{App, Shape, new_rule, new_shape, with_subcommand, subcommand_of}
 use Rattle.clap.specs.Kinds.{Kinds}
 use Rattle.clap.specs.Faults.{fault_of}
 use Rattle.clap.specs.declared.builder.action.ArgAction.TheVariants.{Set}
@@ -37,6 +37,11 @@ office_top = record (new_shape (codes "office")) {
 -- the program, before its subcommands are added
 abbrev pub bare_app : App
 bare_app = record { top = record office_top { is_leaf = true }; subs = [] }
+
+-- the program with further commands
+abbrev pub with_forms : App → List Form → App
+with_forms a [] = a
+with_forms a (f ∷ fs) = with_forms (with_subcommand a (shape_of_form f)) fs
 
 -- the program with the commands of a table
 abbrev pub app_of_forms : List Form → App

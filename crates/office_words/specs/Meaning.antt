@@ -1,5 +1,5 @@
 -- What each command means.
-use Rattle.std.specs.Prelude.{◌≡◌, ◌≤◌, ◌&&◌, ℕ, Bool, List, Option, Some, None, codes, length, nat_le, find}
+use Rattle.std.specs.Prelude.{◌≡◌, ◌≤◌, ◌&&◌, ◌*◌, ◌^◌, ◌-◌, ℕ, Bool, List, Option, Some, None, codes, length, nat_le, find}
 use Rattle.std.specs.Prelude.{if◌then◌else◌, option_and_then, option_map, Result, Ok, Err}
 use Rattle.std.specs.Option.{option_map_or}
 use Rattle.std.specs.Str.{bytes_eq}
@@ -10,6 +10,7 @@ use Rattle.office_words.specs.Grammar.{Text, Said, spoken}
 use Rattle.office_words.specs.Table.{forms}
 use Rattle.office_words.specs.declared.command.Command.{Command}
 use Rattle.office_words.specs.declared.command.Command.TheVariants as command
+use Rattle.office_words.specs.declared.command.Size.{Size}
 use Rattle.office_words.specs.declared.command.WordFault.{WordFault}
 use Rattle.office_words.specs.declared.command.WordFault.TheVariants as fault
 
@@ -51,17 +52,72 @@ late_in value = optional 0 120 0 (value (codes "late"))
 abbrev pub answers_in : Values → Option Command
 answers_in value = with (day_in value) (λ day. with (late_in value) (λ late. Some (command.Answers day late)))
 
+-- the command `import DAY`
+abbrev pub import_in : Values → Option Command
+import_in value = with (day_in value) (λ day. with (late_in value) (λ late. Some (command.Import day late)))
+
 -- the command `validate DAY`
 abbrev pub validate_in : Values → Option Command
 validate_in value = with (day_in value) (λ day. with (late_in value) (λ late. Some (command.Validate day late)))
+
+-- the command `past BASE`
+abbrev pub past_in : Values → Option Command
+past_in value = with (needed 70 1000000 (value (codes "base"))) (λ base. Some (command.Past base))
+
+-- the command `vehicle VID FROM TO`, whose first day is not after its last
+abbrev pub vehicle_in : Values → Option Command
+vehicle_in value = with (needed 0 2147483647 (value (codes "vid"))) (λ vid.
+    with (needed 1 1000000 (value (codes "from"))) (λ from.
+    with (needed 1 1000000 (value (codes "to"))) (λ to.
+    if nat_le from to then Some (command.Vehicle vid from to) else None)))
+
+-- the command `tariff XWAY CROWD SPEED FACTOR`
+abbrev pub tariff_in : Values → Option Command
+tariff_in value = with (needed 0 255 (value (codes "xway"))) (λ xway.
+    with (needed 0 500000 (value (codes "crowd"))) (λ crowd.
+    with (needed 0 100 (value (codes "speed"))) (λ speed.
+    with (needed 0 20 (value (codes "factor"))) (λ factor.
+    Some (command.Tariff xway crowd speed factor)))))
+
+-- the seed of a traffic's draws
+abbrev pub seed_in : Values → Option ℕ
+seed_in value = needed 0 (2 ^ 64 - 1) (value (codes "seed"))
+
+-- how much traffic is generated: twice the crashes are at most the vehicles
+abbrev pub size_in : Values → Option Size
+size_in value = with (optional 1 5000 1000 (value (codes "vehicles"))) (λ vehicles.
+    with (optional 1 1440 60 (value (codes "minutes"))) (λ minutes.
+    with (optional 1 256 1 (value (codes "xways"))) (λ xways.
+    with (optional 0 100 0 (value (codes "crashes"))) (λ crashes.
+    if nat_le (2 * crashes) vehicles
+    then Some (record { vehicles = vehicles; minutes = minutes; xways = xways; crashes = crashes })
+    else None))))
+
+-- the command `generate SEED`
+abbrev pub generate_in : Values → Option Command
+generate_in value = with (seed_in value) (λ seed. with (size_in value) (λ size. Some (command.Generate seed size)))
+
+-- the command `rehearse SEED`
+abbrev pub rehearse_in : Values → Option Command
+rehearse_in value = with (seed_in value) (λ seed. with (size_in value) (λ size. with (late_in value) (λ late.
+    Some (command.Rehearse seed size late))))
 
 -- the command of a name, with the values of its names
 abbrev pub meaning : Text → Values → Option Command
 meaning name value =
     if bytes_eq name (codes "answers") then answers_in value
+    else (if bytes_eq name (codes "import") then import_in value
     else (if bytes_eq name (codes "validate") then validate_in value
+    else (if bytes_eq name (codes "past") then past_in value
+    else (if bytes_eq name (codes "day") then with (day_in value) (λ day. Some (command.Day day))
+    else (if bytes_eq name (codes "vehicle") then vehicle_in value
     else (if bytes_eq name (codes "accidents") then with (late_in value) (λ late. Some (command.Accidents late))
-    else None))
+    else (if bytes_eq name (codes "export") then with (day_in value) (λ day. Some (command.Export day))
+    else (if bytes_eq name (codes "tariff") then tariff_in value
+    else (if bytes_eq name (codes "tariffs") then Some command.Tariffs
+    else (if bytes_eq name (codes "generate") then generate_in value
+    else (if bytes_eq name (codes "rehearse") then rehearse_in value
+    else None)))))))))))
 
 -- the value that was said of a name
 abbrev pub value_of : Said → Values
@@ -78,8 +134,28 @@ Reads None (Err e) = Unit {0}
 Reads (Some c) (Ok d) = d ≡ c
 Reads (Some c) (Err e) = e ≡ fault.NoMemory
 
+-- sizes of traffic are in their ranges
+pub record IsSize (size : Size) : Type 0 where
+  pub some_vehicles : 1 ≤ size.vehicles
+  pub few_vehicles : size.vehicles ≤ 5000
+  pub some_minutes : 1 ≤ size.minutes
+  pub few_minutes : size.minutes ≤ 1440
+  pub some_xways : 1 ≤ size.xways
+  pub few_xways : size.xways ≤ 256
+  pub few_crashes : size.crashes ≤ 100
+  pub pairs : 2 * size.crashes ≤ size.vehicles
+
 -- a command's numbers are in their ranges
 abbrev pub IsInRange : Command → Type 0
 IsInRange (command.Answers day late) = (70 ≤ day) × (day ≤ 1000000) × (late ≤ 120)
+IsInRange (command.Import day late) = (70 ≤ day) × (day ≤ 1000000) × (late ≤ 120)
 IsInRange (command.Validate day late) = (70 ≤ day) × (day ≤ 1000000) × (late ≤ 120)
+IsInRange (command.Past base) = (70 ≤ base) × (base ≤ 1000000)
+IsInRange (command.Day day) = (70 ≤ day) × (day ≤ 1000000)
+IsInRange (command.Vehicle vid from to) = (vid ≤ 2147483647) × (1 ≤ from) × (from ≤ to) × (to ≤ 1000000)
 IsInRange (command.Accidents late) = late ≤ 120
+IsInRange (command.Export day) = (70 ≤ day) × (day ≤ 1000000)
+IsInRange (command.Tariff xway crowd speed factor) = (crowd ≤ 500000) × (speed ≤ 100) × (factor ≤ 20)
+IsInRange command.Tariffs = Unit {0}
+IsInRange (command.Generate seed size) = IsSize size
+IsInRange (command.Rehearse seed size late) = IsSize size × (late ≤ 120)

@@ -1,14 +1,75 @@
 // The commands of the program, and why words are none.
 
+/// How much traffic is generated: 1 to 5,000 vehicles, 1 to 1,440 minutes, 1 to 256 expressways, and up to 100 crashes,
+/// each of two of the vehicles.
+#[derive(Clone, Copy, Debug, PartialEq)]
+pub struct Size {
+    pub vehicles: u32,
+    pub minutes: u32,
+    pub xways: u16,
+    pub crashes: u32,
+}
+
 /// A command with its numbers, each in its range. Lines may come late by 0 to 120 seconds.
 #[derive(Clone, Copy, Debug, PartialEq)]
 pub enum Command {
     /// Answers the reports and requests of one day, 70 to 1,000,000.
-    Answers { day: u32, late: u8 },
+    Answers {
+        day: u32,
+        late: u8,
+    },
+    /// Imports a day: answers it and keeps it.
+    Import {
+        day: u32,
+        late: u8,
+    },
     /// Compares notices with those of a day.
-    Validate { day: u32, late: u8 },
+    Validate {
+        day: u32,
+        late: u8,
+    },
+    /// Keeps a history, its days counted back from a base, 70 to 1,000,000.
+    Past {
+        base: u32,
+    },
+    /// States what is kept of a day.
+    Day {
+        day: u32,
+    },
+    /// States what is kept of a vehicle on the days `from` to `to`, both included, 1 to 1,000,000.
+    Vehicle {
+        vid: u32,
+        from: u32,
+        to: u32,
+    },
     /// Lists the accidents of a day.
-    Accidents { late: u8 },
+    Accidents {
+        late: u8,
+    },
+    /// Exports the amounts of a day.
+    Export {
+        day: u32,
+    },
+    /// Gives an expressway a tariff.
+    Tariff {
+        xway: u8,
+        crowd: u32,
+        speed: u8,
+        factor: u8,
+    },
+    /// Lists the tariffs.
+    Tariffs,
+    /// Generates traffic from a seed.
+    Generate {
+        seed: u64,
+        size: Size,
+    },
+    /// Generates traffic from a seed and imports it as a day, beside all that is kept.
+    Rehearse {
+        seed: u64,
+        size: Size,
+        late: u8,
+    },
 }
 
 /// Why there is no command.

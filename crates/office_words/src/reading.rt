@@ -1,9 +1,9 @@
 // The command that matches stand for.
 ghost use Rattle.std.specs.Prelude.{◌≡◌, ◌≤◌, IfSome, codes};
 ghost use Rattle.clap.specs.Words.{first_value, found_of};
-ghost use Rattle.office_words.specs.Meaning.{day_in, late_in, answers_in, validate_in, meaning, IsInRange};
+ghost use Rattle.office_words.specs.Meaning.{day_in, late_in, answers_in, import_in, validate_in, past_in, vehicle_in, tariff_in, meaning, IsInRange, seed_in, size_in, generate_in, rehearse_in, IsSize};
 
-use crate::command::Command;
+use crate::command::{Command, Size};
 use crate::numbers::{needed, optional};
 use clap::ArgMatches;
 
@@ -32,6 +32,15 @@ fn answers(m: &ArgMatches<'_>) -> Option<Command>
     Some(Command::Answers { day, late })
 }
 
+fn import(m: &ArgMatches<'_>) -> Option<Command>
+    ensures value { result ≡ import_in (first_value (found_of m.now)) }
+    ensures range { IfSome result IsInRange }
+{
+    let day = day(m)?;
+    let late = late(m)?;
+    Some(Command::Import { day, late })
+}
+
 fn validate(m: &ArgMatches<'_>) -> Option<Command>
     ensures value { result ≡ validate_in (first_value (found_of m.now)) }
     ensures range { IfSome result IsInRange }
@@ -41,6 +50,91 @@ fn validate(m: &ArgMatches<'_>) -> Option<Command>
     Some(Command::Validate { day, late })
 }
 
+fn past(m: &ArgMatches<'_>) -> Option<Command>
+    ensures value { result ≡ past_in (first_value (found_of m.now)) }
+    ensures range { IfSome result IsInRange }
+{
+    let base = needed(m, "base", 70, 1_000_000)?;
+    Some(Command::Past { base: base as u32 })
+}
+
+fn vehicle(m: &ArgMatches<'_>) -> Option<Command>
+    ensures value { result ≡ vehicle_in (first_value (found_of m.now)) }
+    ensures range { IfSome result IsInRange }
+{
+    let vid = needed(m, "vid", 0, 2_147_483_647)?;
+    let from = needed(m, "from", 1, 1_000_000)?;
+    let to = needed(m, "to", 1, 1_000_000)?;
+    if from > to {
+        return None;
+    }
+    Some(Command::Vehicle {
+        vid: vid as u32,
+        from: from as u32,
+        to: to as u32,
+    })
+}
+
+fn tariff(m: &ArgMatches<'_>) -> Option<Command>
+    ensures value { result ≡ tariff_in (first_value (found_of m.now)) }
+    ensures range { IfSome result IsInRange }
+{
+    let xway = needed(m, "xway", 0, 255)?;
+    let crowd = needed(m, "crowd", 0, 500_000)?;
+    let speed = needed(m, "speed", 0, 100)?;
+    let factor = needed(m, "factor", 0, 20)?;
+    Some(Command::Tariff {
+        xway: xway as u8,
+        crowd: crowd as u32,
+        speed: speed as u8,
+        factor: factor as u8,
+    })
+}
+
+fn seed(m: &ArgMatches<'_>) -> Option<u64>
+    ensures { result ≡ seed_in (first_value (found_of m.now)) }
+{
+    needed(m, "seed", 0, u64::MAX)
+}
+
+fn size(m: &ArgMatches<'_>) -> Option<Size>
+    ensures value { result ≡ size_in (first_value (found_of m.now)) }
+    ensures range { IfSome result IsSize }
+{
+    let vehicles = optional(m, "vehicles", 1, 5000, 1000)?;
+    let minutes = optional(m, "minutes", 1, 1440, 60)?;
+    let xways = optional(m, "xways", 1, 256, 1)?;
+    let crashes = optional(m, "crashes", 0, 100, 0)?;
+    if 2 * crashes > vehicles {
+        return None;
+    }
+    Some(Size {
+        vehicles: vehicles as u32,
+        minutes: minutes as u32,
+        xways: xways as u16,
+        crashes: crashes as u32,
+    })
+}
+
+fn generate(m: &ArgMatches<'_>) -> Option<Command>
+    ensures value { result ≡ generate_in (first_value (found_of m.now)) }
+    ensures range { IfSome result IsInRange }
+{
+    let seed = seed(m)?;
+    let size = size(m)?;
+    Some(Command::Generate { seed, size })
+}
+
+fn rehearse(m: &ArgMatches<'_>) -> Option<Command>
+    ensures value { result ≡ rehearse_in (first_value (found_of m.now)) }
+    ensures range { IfSome result IsInRange }
+{
+    let seed = seed(m)?;
+    let size = size(m)?;
+    let late = late(m)?;
+    Some(Command::Rehearse { seed, size, late })
+}
+
 /// The command of this name with these values.
 pub fn command(name: &str, m: &ArgMatches<'_>) -> Option<Command>
     ensures value { result ≡ meaning name.now (first_value (found_of m.now)) }
@@ -48,8 +142,17 @@ pub fn command(name: &str, m: &ArgMatches<'_>) -> Option<Command>
 {
     match name {
         "answers" => answers(m),
+        "import" => import(m),
         "validate" => validate(m),
+        "past" => past(m),
+        "day" => Some(Command::Day { day: day(m)? }),
+        "vehicle" => vehicle(m),
         "accidents" => Some(Command::Accidents { late: late(m)? }),
+        "export" => Some(Command::Export { day: day(m)? }),
+        "tariff" => tariff(m),
+        "tariffs" => Some(Command::Tariffs),
+        "generate" => generate(m),
+        "rehearse" => rehearse(m),
         _ => None,
     }
 }

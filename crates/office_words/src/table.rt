@@ -1,7 +1,7 @@
 // The table of commands, as clap is told it.
-ghost use Rattle.std.specs.Prelude.{◌≡◌, IfOk, false, map, string_bytes};
+ghost use Rattle.std.specs.Prelude.{◌≡◌, IfOk, false, map, string_bytes, take, drop};
 ghost use Rattle.clap.specs.Words.{app_of, rule_of, FailsBy, fault_of, HasMatchesOf};
-ghost use Rattle.office_words.specs.App.{option_rule, place_rule, app_of_form, app_of_forms, shape_of_form, bare_app};
+ghost use Rattle.office_words.specs.App.{option_rule, place_rule, app_of_form, app_of_forms, shape_of_form, bare_app, with_forms};
 ghost use Rattle.clap.specs.Simple.{with_subcommand};
 ghost use Rattle.clap.specs.Walk.{texts};
 ghost use Rattle.clap.specs.declared.builder.command.Command.TheViews.{out-Command};
@@ -70,13 +70,68 @@ fn bare<'a>(alloc: Global) -> Command<'a>
         .subcommand_required(true)
 }
 
+/// The commands that read a day or a history.
+fn with_days<'a>(alloc: Global, top: Command<'a>) -> Result<Command<'a>, AllocError>
+    ensures { IfOk result (λ c. app_of c ≡ with_forms (app_of top.entry) (take 4 (drop 0 forms))) }
+{
+    let top = with(alloc, top, "answers", &["day"], &["late"])?;
+    let top = with(alloc, top, "import", &["day"], &["late"])?;
+    let top = with(alloc, top, "validate", &["day"], &["late"])?;
+    with(alloc, top, "past", &["base"], &[])
+}
+
+/// The reports.
+fn with_reports<'a>(alloc: Global, top: Command<'a>) -> Result<Command<'a>, AllocError>
+    ensures { IfOk result (λ c. app_of c ≡ with_forms (app_of top.entry) (take 4 (drop 4 forms))) }
+{
+    let top = with(alloc, top, "day", &["day"], &[])?;
+    let top = with(alloc, top, "vehicle", &["vid", "from", "to"], &[])?;
+    let top = with(alloc, top, "accidents", &[], &["late"])?;
+    with(alloc, top, "export", &["day"], &[])
+}
+
+/// The tariffs.
+fn with_tariffs<'a>(alloc: Global, top: Command<'a>) -> Result<Command<'a>, AllocError>
+    ensures { IfOk result (λ c. app_of c ≡ with_forms (app_of top.entry) (take 2 (drop 8 forms))) }
+{
+    let top = with(
+        alloc,
+        top,
+        "tariff",
+        &["xway", "crowd", "speed", "factor"],
+        &[],
+    )?;
+    with(alloc, top, "tariffs", &[], &[])
+}
+
+/// The traffic that a seed makes.
+fn with_traffic<'a>(alloc: Global, top: Command<'a>) -> Result<Command<'a>, AllocError>
+    ensures { IfOk result (λ c. app_of c ≡ with_forms (app_of top.entry) (take 2 (drop 10 forms))) }
+{
+    let top = with(
+        alloc,
+        top,
+        "generate",
+        &["seed"],
+        &["vehicles", "minutes", "xways", "crashes"],
+    )?;
+    with(
+        alloc,
+        top,
+        "rehearse",
+        &["seed"],
+        &["vehicles", "minutes", "xways", "crashes", "late"],
+    )
+}
+
 /// The whole table.
 fn office<'a>(alloc: Global) -> Result<Command<'a>, AllocError>
     ensures { IfOk result (λ c. app_of c ≡ app_of_forms forms) }
 {
-    let top = with(alloc, bare(alloc), "answers", &["day"], &["late"])?;
-    let top = with(alloc, top, "validate", &["day"], &["late"])?;
-    with(alloc, top, "accidents", &[], &["late"])
+    let top = with_days(alloc, bare(alloc))?;
+    let top = with_reports(alloc, top)?;
+    let top = with_tariffs(alloc, top)?;
+    with_traffic(alloc, top)
 }
 
 /// What clap makes of the words.

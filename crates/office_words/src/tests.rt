@@ -1,5 +1,5 @@
 // What no clause says: that words written out mean what a reader expects.
-use crate::{Command, WordFault, read_words};
+use crate::{Command, Size, WordFault, read_words};
 use std::alloc::{AllocError, Global};
 
 fn owned(alloc: Global, words: &[&str]) -> Result<Vec<String>, AllocError> {
@@ -50,5 +50,100 @@ fn words_and_their_commands(rt: HostRuntime) {
     assert!(rt; read(alloc, &["answers", "000000000000000000100"]) == words);
     assert!(rt; read(alloc, &["answers", "--help"]) == words);
     assert!(rt; read(alloc, &["help"]) == words);
-    assert!(rt; read(alloc, &["import", "100"]) == words);
+}
+
+#[test]
+fn words_and_the_commands_on_kept_state(rt: HostRuntime) {
+    let alloc = rt.alloc();
+    let words = Err(WordFault::Words);
+    let late = Ok(Command::Import { day: 100, late: 30 });
+    let days = Ok(Command::Vehicle {
+        vid: 1,
+        from: 30,
+        to: 30,
+    });
+    let tariff = Ok(Command::Tariff {
+        xway: 255,
+        crowd: 500_000,
+        speed: 100,
+        factor: 20,
+    });
+    assert!(rt; read(alloc, &["import", "100"]) == Ok(Command::Import { day: 100, late: 0 }));
+    assert!(rt; read(alloc, &["import", "--late", "30", "100"]) == late);
+    assert!(rt; read(alloc, &["past", "100"]) == Ok(Command::Past { base: 100 }));
+    assert!(rt; read(alloc, &["past", "1000000"]) == Ok(Command::Past { base: 1_000_000 }));
+    assert!(rt; read(alloc, &["day", "100"]) == Ok(Command::Day { day: 100 }));
+    assert!(rt; read(alloc, &["export", "1000000"]) == Ok(Command::Export { day: 1_000_000 }));
+    assert!(rt; read(alloc, &["vehicle", "1", "30", "30"]) == days);
+    assert!(rt; read(alloc, &["tariff", "255", "500000", "100", "20"]) == tariff);
+    assert!(rt; read(alloc, &["tariffs"]) == Ok(Command::Tariffs));
+    assert!(rt; read(alloc, &["import"]) == words);
+    assert!(rt; read(alloc, &["past"]) == words);
+    assert!(rt; read(alloc, &["past", "69"]) == words);
+    assert!(rt; read(alloc, &["past", "100", "--late", "0"]) == words);
+    assert!(rt; read(alloc, &["day", "100", "--late", "0"]) == words);
+    assert!(rt; read(alloc, &["export"]) == words);
+    assert!(rt; read(alloc, &["vehicle", "1", "31", "30"]) == words);
+    assert!(rt; read(alloc, &["vehicle", "1", "0", "30"]) == words);
+    assert!(rt; read(alloc, &["vehicle", "2147483648", "1", "2"]) == words);
+    assert!(rt; read(alloc, &["vehicle", "1", "2"]) == words);
+    assert!(rt; read(alloc, &["tariff", "0", "50", "101", "2"]) == words);
+    assert!(rt; read(alloc, &["tariff", "256", "50", "40", "2"]) == words);
+    assert!(rt; read(alloc, &["tariff", "0", "500001", "40", "2"]) == words);
+    assert!(rt; read(alloc, &["tariff", "0", "50", "40", "21"]) == words);
+    assert!(rt; read(alloc, &["tariffs", "0"]) == words);
+}
+
+#[test]
+fn words_and_the_commands_on_traffic(rt: HostRuntime) {
+    let alloc = rt.alloc();
+    let words = Err(WordFault::Words);
+    let plain = Size {
+        vehicles: 1000,
+        minutes: 60,
+        xways: 1,
+        crashes: 0,
+    };
+    let most = Size {
+        vehicles: 5000,
+        minutes: 1440,
+        xways: 256,
+        crashes: 100,
+    };
+    let all = &[
+        "rehearse",
+        "--crashes=100",
+        "--vehicles=5000",
+        "18446744073709551615",
+        "--minutes",
+        "1440",
+        "--xways=256",
+        "--late",
+        "120",
+    ];
+    let generate = Ok(Command::Generate {
+        seed: 1,
+        size: plain,
+    });
+    let rehearse = Ok(Command::Rehearse {
+        seed: 18_446_744_073_709_551_615,
+        size: most,
+        late: 120,
+    });
+    assert!(rt; read(alloc, &["generate", "1"]) == generate);
+    assert!(rt; read(alloc, all) == rehearse);
+    assert!(rt; read(alloc, &["generate"]) == words);
+    assert!(rt; read(alloc, &["generate", "18446744073709551616"]) == words);
+    assert!(rt; read(alloc, &["generate", "1", "--vehicles", "5001"]) == words);
+    assert!(rt;
+        read(
+            alloc,
+            &["generate", "1", "--vehicles", "3", "--crashes", "2"]
+        ) == words
+    );
+    assert!(rt; read(alloc, &["generate", "1", "--minutes", "0"]) == words);
+    assert!(rt; read(alloc, &["generate", "1", "--xways", "257"]) == words);
+    assert!(rt; read(alloc, &["generate", "1", "--late", "0"]) == words);
+    assert!(rt; read(alloc, &["generate", "1", "-x"]) == words);
+    assert!(rt; read(alloc, &["rehearse", "1", "--late", "121"]) == words);
 }

@@ -1,24 +1,13 @@
-//! The tolling office of an expressway: the commands of the program `toll_office`.
+//! The tolling office of an expressway, over standard input and output and two files.
 //!
-//! `office` does what the words ask over any source, aside and sink, and its contract says exactly what is written and
-//! which status comes. `main` hands it the words, standard input, the file `notices.txt` and standard output.
+//! `main` hands the words, standard input, the file `notices.txt`, standard output and what is kept in the file `tolls.db`
+//! to `office`, and ends with its status.
 #![tactic(auto)]
 
-mod accidents;
-mod answers;
-mod aside;
-mod closing;
-mod day;
-mod entry;
-mod entry_text;
-#[cfg(test)]
-mod tests;
-mod validate;
-
-use crate::closing::Closing;
-use crate::entry::office;
+use office_commands::{Closing, office};
 use road_io::{FileSource, StdSink, StdSource};
 use road_time::Limits;
+use sqlite_keeper::SqliteKeeper;
 use std::alloc::Global;
 use std::env;
 use std::io::ErrorKind;
@@ -50,6 +39,9 @@ fn main(rt: HostRuntime) -> ExitCode {
     let Ok(mut aside) = FileSource::at(rt.alloc(), rt, "notices.txt") else {
         return ExitCode::from(Closing::NoMemory.status());
     };
+    let Ok(mut keeper) = SqliteKeeper::at(rt.alloc(), rt, "tolls.db") else {
+        return ExitCode::from(Closing::NoMemory.status());
+    };
     match words_of(&rt) {
         Ok(words) => ExitCode::from(office(
             rt.alloc(),
@@ -58,6 +50,7 @@ fn main(rt: HostRuntime) -> ExitCode {
             &mut source,
             &mut aside,
             &mut sink,
+            &mut keeper,
         )),
         Err(closing) => ExitCode::from(closing.status()),
     }

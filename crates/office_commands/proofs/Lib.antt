@@ -1,0 +1,10 @@
+pub mod EndingLaws
+pub mod OutcomeLaws
+pub mod ReportLaws
+pub mod TariffLaws
+pub mod DayLaws
+pub mod BoundLaws
+pub mod AsideLaws
+pub mod ValidateLaws
+pub mod HistoryLaws
+pub mod TrafficLaws

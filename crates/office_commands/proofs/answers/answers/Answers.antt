@@ -1,0 +1,23 @@
+use Rattle.std.proofs.Common.{◌≡◌}
+use Rattle.import_once.specs.declared.outcomes.Outcome.TheVariants.{WriteFault}
+use Rattle.import_once.specs.Imports.{answers_answer}
+use Rattle.office_commands.proofs.OutcomeLaws.{wrote, keeps, caused, well}
+use Rattle.office_commands.proofs.answers.answers.Goals as goal
+
+pub returns-clause-wrote : goal.returns-clause-wrote
+returns-clause-wrote g c = λ bytes o left told.
+    let a = answers_answer c.args.day c.args.late c.args.limits.now bytes o in
+    wrote g.K.Keeper.refuses c.args.day a o (g.O.Sink.written c.args.sink.now) (g.O.Sink.written c.answers-done.new.sink) (g.K.Keeper.told c.answers-done.new.keeper) c.answers-done.result c.ended.result c.ended.ensures.ends (c.answers-done.ensures.does bytes o left told)
+
+pub returns-clause-keeps : goal.returns-clause-keeps
+returns-clause-keeps g c = λ bytes o left told.
+    let a = answers_answer c.args.day c.args.late c.args.limits.now bytes o in
+    keeps g.K.Keeper.refuses c.args.day a o (g.O.Sink.written c.args.sink.now) (g.O.Sink.written c.answers-done.new.sink) (g.K.Keeper.told c.answers-done.new.keeper) c.answers-done.result c.ended.result c.ended.ensures.ends (c.answers-done.ensures.does bytes o left told)
+
+pub returns-clause-write_cause : goal.returns-clause-write_cause
+returns-clause-write_cause g c = caused (c.answers-done.result ≡ WriteFault) c.ended.result _ _ c.ended.ensures.failed c.answers-done.ensures.write_later c.answers-done.ensures.write_cause
+
+pub returns-clause-write_sure : goal.returns-clause-write_sure
+returns-clause-write_sure g c = λ endless.
+    let sure = c.answers-done.ensures.write_sure endless in
+    (well (c.answers-done.result ≡ WriteFault) c.ended.result c.ended.ensures.failed sure.0, sure.1)

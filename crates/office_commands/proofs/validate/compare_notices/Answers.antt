@@ -1,0 +1,17 @@
+use Rattle.std.proofs.Common.{[], Some, ap, sym, subst, refl}
+use Rattle.road_time.specs.Lines.{lines_of}
+use Rattle.office_commands.specs.declared.closing.Closing.{Closing}
+use Rattle.office_commands.specs.Asides.{compared}
+use Rattle.office_commands.specs.Commands.{closed}
+use Rattle.office_commands.specs.Endings.{StandsBefore}
+use Rattle.office_commands.proofs.EndingLaws.{stands_alone, stops_empty}
+use Rattle.office_commands.proofs.validate.compare_notices.Goals as goal
+
+pub returns-in-Ok-clause-exact : goal.returns-in-Ok-clause-exact
+returns-in-Ok-clause-exact g c = λ lines o told.
+    stands_alone (closed (compared c.args.wanted.now (lines_of lines)) o) c.in-Ok.closing (ap Some (c.in-Ok.ensures.exact lines told)) refl
+
+pub returns-in-Err-clause-exact : goal.returns-in-Err-clause-exact
+returns-in-Err-clause-exact g c = λ lines o told.
+    let a = closed (compared c.args.wanted.now (lines_of lines)) o in
+    subst (λ (k : Closing). StandsBefore a k []) (sym c.stopped.ensures) (stops_empty a c.in-Err.stop)

@@ -1,0 +1,327 @@
+-- The table of commands: what each is to write, how it ends, and what is kept then.
+use Rattle.std.specs.Prelude.{ℕ, ◌≡◌, ◌≤◌, Bool, true, false, List, [], Option, Some, None, length}
+use Rattle.road_time.specs.declared.road.Tuple.{Tuple}
+use Rattle.road_time.specs.declared.road.Notice.{Notice}
+use Rattle.road_time.specs.declared.day.Limits.{Limits}
+use Rattle.road_time.specs.Lines.{lines_of}
+use Rattle.road_time.specs.Reads.{reads}
+use Rattle.road_time.specs.Day.{notices}
+use Rattle.road_time.specs.Log.{log_of}
+use Rattle.road_time.specs.Tariffs.{tariffs_text}
+use Rattle.reports.specs.AccidentLog.{log_text}
+use Rattle.reports.specs.Statements.{day_report, vehicle_report}
+use Rattle.reports.specs.Exports.{export_report}
+use Rattle.keeper.specs.History.{paid}
+use Rattle.keeper.specs.Office.{Office, record_of, last_day}
+use Rattle.keeper.specs.Kept.{with_tariff_of}
+use Rattle.import_once.specs.Days.{most_read}
+use Rattle.import_once.specs.Imports.{import_answer, answers_answer, most_imported}
+use Rattle.import_once.specs.Imports as day
+use Rattle.import_once.specs.declared.outcomes.Outcome.{Outcome}
+use Rattle.import_once.specs.declared.outcomes.Outcome.TheVariants as outcome
+use Rattle.past_file.specs.Imports.{PastAnswer, past_answer, NeedsNone, most_kept}
+use Rattle.past_file.specs.declared.outcomes.PastOutcome.{PastOutcome}
+use Rattle.past_file.specs.declared.outcomes.PastOutcome.TheVariants as pasts
+use Rattle.office_words.specs.Grammar.{Text}
+use Rattle.office_words.specs.Meaning.{means}
+use Rattle.office_words.specs.declared.command.Command.{Command}
+use Rattle.office_words.specs.declared.command.Command.TheVariants as command
+use Rattle.tuple_format.specs.declared.cause.Cause.{Cause}
+use Rattle.office_commands.specs.declared.closing.Closing.{Closing}
+use Rattle.office_commands.specs.declared.closing.Closing.TheVariants.{Answered, Stored, Already, TariffPut, PastStored, PastAlready, Words, Refused, PastRefused, DayPassed, DiffersDay, NoDay, PastLate, PastKept, DiffersPast, ReadFault, KeeperFault, NoMemory}
+use Rattle.office_words.specs.declared.command.Size.{Size}
+use Rattle.traffic_gen.specs.Traffic.{file_of}
+use Rattle.office_commands.specs.Traffic.{plan_of, rehearsed_record, rehearsed}
+use Rattle.office_commands.specs.Days.{recomputed, refusal_of}
+use Rattle.office_commands.specs.Asides.{compared}
+use Rattle.office_commands.specs.Entries.{most_compared}
+
+-- what a command is to write before its closing line, that line, if it has one, and what is kept then
+pub record Answer : Type 0 where
+  pub text : List ℕ
+  pub closing : Option Closing
+  pub office : Office
+
+-- a text alone, where nothing that is kept changes
+abbrev pub told : List ℕ → Office → Answer
+told text o = record { text = text; closing = None; office = o }
+
+-- a closing line alone, where nothing that is kept changes
+abbrev pub closed : Closing → Office → Answer
+closed c o = record { text = []; closing = Some c; office = o }
+
+-- the closing line of a day that is imported or answered; that its sink failed has none
+abbrev pub closing_by : ℕ → Outcome → Option Closing
+closing_by number (outcome.Stored r) = Some (Stored number r.tuples r.notices r.total)
+closing_by number (outcome.Already r) = Some (Already number r.tuples r.notices r.total)
+closing_by number (outcome.Answered r) = Some (Answered number r.tuples r.notices)
+closing_by number (outcome.Refused line cause) = Some (Refused line cause)
+closing_by number (outcome.DayPassed last) = Some (DayPassed number last)
+closing_by number (outcome.Differs kept found) = Some (DiffersDay number kept found)
+closing_by number outcome.ReadFault = Some ReadFault
+closing_by number outcome.WriteFault = None
+closing_by number outcome.KeeperFault = Some KeeperFault
+closing_by number outcome.NoMemory = Some NoMemory
+
+-- what importing or answering a day answers, as a command's row
+abbrev pub row_by : ℕ → day.Answer → Answer
+row_by number a = record { text = a.text; closing = closing_by number a.outcome; office = a.office }
+
+-- the command `answers DAY`
+abbrev pub answers_row : Limits → ℕ → ℕ → List ℕ → Office → Answer
+answers_row limits number late bytes o = row_by number (answers_answer number late limits bytes o)
+
+-- the command `import DAY`
+abbrev pub import_row : Limits → ℕ → ℕ → List ℕ → Office → Answer
+import_row limits number late bytes o = row_by number (import_answer number late limits bytes o)
+
+-- the notices of a day after what an office keeps
+abbrev pub notices_of_day : ℕ → List Tuple → Office → List Notice
+notices_of_day number tuples o = notices tuples o.tariffs number (paid o.rows)
+
+-- a command that asks for a whole day ends at a refused line
+abbrev pub unless_refused : Option (ℕ × Cause) → Answer → Answer
+unless_refused None answer = answer
+unless_refused (Some refused) answer = closed (Refused refused.0 refused.1) answer.office
+
+-- the accidents of a day
+abbrev pub accidents_of : List Tuple → Office → Answer
+accidents_of tuples o = told (log_text (log_of tuples)) o
+
+-- how the notices of a day compare with lines
+abbrev pub validation_of : ℕ → List Tuple → List (List ℕ) → Office → Answer
+validation_of number tuples lines o = closed (compared (notices_of_day number tuples o) lines) o
+
+-- the command `validate DAY`
+abbrev pub validate_row : Limits → ℕ → ℕ → List ℕ → List ℕ → Office → Answer
+validate_row limits number late bytes aside o =
+    unless_refused (refusal_of (reads bytes (recomputed limits) late).refused) (validation_of number (reads bytes (recomputed limits) late).tuples (lines_of aside) o)
+
+-- the command `accidents`
+abbrev pub accidents_row : Limits → ℕ → List ℕ → Office → Answer
+accidents_row limits late bytes o =
+    unless_refused (refusal_of (reads bytes (recomputed limits) late).refused) (accidents_of (reads bytes (recomputed limits) late).tuples o)
+
+-- a report of a day, which has none where the day is not kept
+abbrev pub report_row : ℕ → Option (List ℕ) → Office → Answer
+report_row number None o = closed (NoDay number) o
+report_row number (Some text) o = told text o
+
+-- the command `day DAY`
+abbrev pub day_row : ℕ → Office → Answer
+day_row number o = report_row number (day_report number o) o
+
+-- the command `export DAY`
+abbrev pub export_row : ℕ → Office → Answer
+export_row number o = report_row number (export_report number o) o
+
+-- the command `vehicle VID FROM TO`
+abbrev pub vehicle_row : ℕ → ℕ → ℕ → Office → Answer
+vehicle_row vid from to o = told (vehicle_report vid from to o) o
+
+-- the command `tariff XWAY CROWD SPEED FACTOR`
+abbrev pub tariff_row : ℕ → ℕ → ℕ → ℕ → Office → Answer
+tariff_row xway crowd speed factor o = record {
+  text = [];
+  closing = Some (TariffPut xway crowd speed factor);
+  office = with_tariff_of xway (record { crowd = crowd; speed = speed; factor = factor }) o;
+}
+
+-- the command `tariffs`
+abbrev pub tariffs_row : Office → Answer
+tariffs_row o = told (tariffs_text o.tariffs) o
+
+-- the closing line of a history that is kept, or is not
+abbrev pub past_closing : ℕ → PastOutcome → Closing
+past_closing base (pasts.Stored r) = PastStored base r.rows
+past_closing base (pasts.Already r) = PastAlready base r.rows
+past_closing base (pasts.Row line cause) = PastRefused line cause
+past_closing base (pasts.PastLate last) = PastLate last
+past_closing base (pasts.OtherBase kept) = PastKept kept
+past_closing base (pasts.Differs kept found) = DiffersPast base kept found
+past_closing base pasts.ReadFault = ReadFault
+past_closing base pasts.KeeperFault = KeeperFault
+past_closing base pasts.NoMemory = NoMemory
+
+-- what keeping a history answers, as a command's row
+abbrev pub past_by : ℕ → PastAnswer → Answer
+past_by base a = record { text = []; closing = Some (past_closing base a.outcome); office = a.office }
+
+-- the command `past BASE`
+abbrev pub past_row : Limits → ℕ → List ℕ → Office → Answer
+past_row limits base bytes o = past_by base (past_answer base limits bytes o)
+
+-- the command `generate SEED`
+abbrev pub generate_row : ℕ → Size → Office → Answer
+generate_row seed size o = told (file_of (plan_of seed size)) o
+
+-- the command `rehearse SEED`
+abbrev pub rehearse_row : ℕ → Size → Office → Answer
+rehearse_row seed size o = closed (rehearsed (rehearsed_record (plan_of seed size))) o
+
+-- a command's row, over the bytes of the source, those of the aside, and what is kept
+abbrev pub command_row : Limits → List ℕ → List ℕ → Office → Command → Answer
+command_row limits bytes aside o (command.Answers number late) = answers_row limits number late bytes o
+command_row limits bytes aside o (command.Import number late) = import_row limits number late bytes o
+command_row limits bytes aside o (command.Validate number late) = validate_row limits number late bytes aside o
+command_row limits bytes aside o (command.Past base) = past_row limits base bytes o
+command_row limits bytes aside o (command.Day number) = day_row number o
+command_row limits bytes aside o (command.Vehicle vid from to) = vehicle_row vid from to o
+command_row limits bytes aside o (command.Accidents late) = accidents_row limits late bytes o
+command_row limits bytes aside o (command.Export number) = export_row number o
+command_row limits bytes aside o (command.Tariff xway crowd speed factor) = tariff_row xway crowd speed factor o
+command_row limits bytes aside o command.Tariffs = tariffs_row o
+command_row limits bytes aside o (command.Generate seed size) = generate_row seed size o
+command_row limits bytes aside o (command.Rehearse seed size late) = rehearse_row seed size o
+
+-- that row, or that of other words
+abbrev pub row_of : Limits → List ℕ → List ℕ → Office → Option Command → Answer
+row_of limits bytes aside o None = closed Words o
+row_of limits bytes aside o (Some c) = command_row limits bytes aside o c
+
+-- what the words ask of a source, an aside and what is kept
+abbrev pub office_answer : List Text → Limits → List ℕ → List ℕ → Office → Answer
+office_answer words limits bytes aside o = row_of limits bytes aside o (means words)
+
+-- whether a command has a use for the source
+abbrev pub uses_source : Command → Bool
+uses_source (command.Answers number late) = true
+uses_source (command.Import number late) = true
+uses_source (command.Validate number late) = true
+uses_source (command.Past base) = true
+uses_source (command.Day number) = false
+uses_source (command.Vehicle vid from to) = false
+uses_source (command.Accidents late) = true
+uses_source (command.Export number) = false
+uses_source (command.Tariff xway crowd speed factor) = false
+uses_source command.Tariffs = false
+uses_source (command.Generate seed size) = false
+uses_source (command.Rehearse seed size late) = false
+
+-- whether a command has a use for the aside
+abbrev pub uses_aside : Command → Bool
+uses_aside (command.Answers number late) = false
+uses_aside (command.Import number late) = false
+uses_aside (command.Validate number late) = true
+uses_aside (command.Past base) = false
+uses_aside (command.Day number) = false
+uses_aside (command.Vehicle vid from to) = false
+uses_aside (command.Accidents late) = false
+uses_aside (command.Export number) = false
+uses_aside (command.Tariff xway crowd speed factor) = false
+uses_aside command.Tariffs = false
+uses_aside (command.Generate seed size) = false
+uses_aside (command.Rehearse seed size late) = false
+
+-- whether a command has a use for the keeper
+abbrev pub uses_keeper : Command → Bool
+uses_keeper (command.Answers number late) = true
+uses_keeper (command.Import number late) = true
+uses_keeper (command.Validate number late) = true
+uses_keeper (command.Past base) = true
+uses_keeper (command.Day number) = true
+uses_keeper (command.Vehicle vid from to) = true
+uses_keeper (command.Accidents late) = false
+uses_keeper (command.Export number) = true
+uses_keeper (command.Tariff xway crowd speed factor) = true
+uses_keeper command.Tariffs = true
+uses_keeper (command.Generate seed size) = false
+uses_keeper (command.Rehearse seed size late) = false
+
+-- whether words have a use for the source
+abbrev pub use_source : Option Command → Bool
+use_source None = false
+use_source (Some c) = uses_source c
+
+-- and for the aside
+abbrev pub use_aside : Option Command → Bool
+use_aside None = false
+use_aside (Some c) = uses_aside c
+
+-- and for the keeper
+abbrev pub use_keeper : Option Command → Bool
+use_keeper None = false
+use_keeper (Some c) = uses_keeper c
+
+-- a source tells its bytes, where words have a use for it
+abbrev pub SourceTells : List Text → Option (List ℕ) → List ℕ → Type 0
+SourceTells words left bytes = use_source (means words) ≡ true → left ≡ Some bytes
+
+-- and an aside
+abbrev pub AsideTells : List Text → Option (List ℕ) → List ℕ → Type 0
+AsideTells words left bytes = use_aside (means words) ≡ true → left ≡ Some bytes
+
+-- a day is not kept, and none later is to be
+abbrev pub IsPassed : ℕ → Office → Type 0
+IsPassed number o = (record_of o number ≡ None) × (number ≤ last_day o)
+
+-- the import of a passed day, or a history of another base than the kept one, or after a day: none needs the source
+abbrev pub AsksPassed : Option Command → Office → Type 0
+AsksPassed None o = ⊥
+AsksPassed (Some (command.Import number late)) o = IsPassed number o
+AsksPassed (Some (command.Past base)) o = NeedsNone o.past base o
+AsksPassed (Some c) o = ⊥
+
+-- and a keeper what it keeps
+abbrev pub KeeperTells : List Text → Option Office → Office → Type 0
+KeeperTells words kept o = use_keeper (means words) ≡ true → kept ≡ Some o
+
+-- the most that a command reads of its source
+abbrev pub most_of : Limits → Office → Command → ℕ
+most_of limits o (command.Answers number late) = most_read limits
+most_of limits o (command.Import number late) = most_imported (record_of o number) limits
+most_of limits o (command.Validate number late) = most_read (recomputed limits)
+most_of limits o (command.Past base) = most_kept o.past limits
+most_of limits o (command.Day number) = 0
+most_of limits o (command.Vehicle vid from to) = 0
+most_of limits o (command.Accidents late) = most_read (recomputed limits)
+most_of limits o (command.Export number) = 0
+most_of limits o (command.Tariff xway crowd speed factor) = 0
+most_of limits o command.Tariffs = 0
+most_of limits o (command.Generate seed size) = 0
+most_of limits o (command.Rehearse seed size late) = 0
+
+-- and of its aside
+abbrev pub most_aside_of : Limits → List ℕ → Office → Command → ℕ
+most_aside_of limits bytes o (command.Answers number late) = 0
+most_aside_of limits bytes o (command.Import number late) = 0
+most_aside_of limits bytes o (command.Validate number late) = most_compared (length (notices_of_day number (reads bytes (recomputed limits) late).tuples o))
+most_aside_of limits bytes o (command.Past base) = 0
+most_aside_of limits bytes o (command.Day number) = 0
+most_aside_of limits bytes o (command.Vehicle vid from to) = 0
+most_aside_of limits bytes o (command.Accidents late) = 0
+most_aside_of limits bytes o (command.Export number) = 0
+most_aside_of limits bytes o (command.Tariff xway crowd speed factor) = 0
+most_aside_of limits bytes o command.Tariffs = 0
+most_aside_of limits bytes o (command.Generate seed size) = 0
+most_aside_of limits bytes o (command.Rehearse seed size late) = 0
+
+-- the most that words have read of a source
+abbrev pub most_asked : Limits → Office → Option Command → ℕ
+most_asked limits o None = 0
+most_asked limits o (Some c) = most_of limits o c
+
+-- and of an aside
+abbrev pub most_aside_asked : Limits → List ℕ → Office → Option Command → ℕ
+most_aside_asked limits bytes o None = 0
+most_aside_asked limits bytes o (Some c) = most_aside_of limits bytes o c
+
+-- whether a command is to change what is kept
+abbrev pub changes_kept : Command → Bool
+changes_kept (command.Answers number late) = false
+changes_kept (command.Import number late) = true
+changes_kept (command.Validate number late) = false
+changes_kept (command.Past base) = true
+changes_kept (command.Day number) = false
+changes_kept (command.Vehicle vid from to) = false
+changes_kept (command.Accidents late) = false
+changes_kept (command.Export number) = false
+changes_kept (command.Tariff xway crowd speed factor) = true
+changes_kept command.Tariffs = false
+changes_kept (command.Generate seed size) = false
+changes_kept (command.Rehearse seed size late) = false
+
+-- whether words are
+abbrev pub change_kept : Option Command → Bool
+change_kept None = false
+change_kept (Some c) = changes_kept c

@@ -1,0 +1,149 @@
+-- What was written and what is kept, by how a run ended.
+use Rattle.std.specs.Prelude.{ℕ, ◌≡◌, ◌<◌, ◌⊎◌, List, [], ◌++◌, length, take, Option, Some, None, Result, Ok, Err}
+use Rattle.std.specs.Io.KnownBytes.{Appends}
+use Rattle.road_io.specs.declared.source.Failed.{Failed}
+use Rattle.keeper.specs.declared.kept.KeepFault.{KeepFault}
+use Rattle.keeper.specs.declared.kept.KeepFault.TheVariants as keeping
+use Rattle.keeper.specs.Calls.{WhenRefused, Leaves}
+use Rattle.keeper.specs.Office.{Office}
+use Rattle.import_once.specs.declared.whole_day.ReadStop.{ReadStop}
+use Rattle.import_once.specs.declared.whole_day.ReadStop.TheVariants as stops
+use Rattle.reports.specs.declared.report_fault.ReportFault.{ReportFault}
+use Rattle.reports.specs.declared.report_fault.ReportFault.TheVariants as reports
+use Rattle.office_commands.specs.declared.closing.Closing.{Closing}
+use Rattle.office_commands.specs.declared.closing.Closing.TheVariants.{Answered, Stored, Already, Agree, TariffPut, PastStored, PastAlready, Words, Refused, PastRefused, DayPassed, DiffersDay, NoDay, PastLate, PastKept, DiffersPast, ReadFault, KeeperFault, DiffersLine, NoMemory, Rehearsed}
+use Rattle.office_commands.specs.Closings.{closing_line, status_of}
+use Rattle.office_commands.specs.Commands.{Answer}
+
+-- What a closing line says: how the command ends, that it could not read, that the keeper failed, or that memory ran out.
+pub data Sort : Type 0 where
+  Own : Sort
+  Unread : Sort
+  Unkept : Sort
+  Unroomed : Sort
+
+-- what each closing line says
+abbrev pub sort_of : Closing → Sort
+sort_of (Answered day tuples notices) = Own
+sort_of (Stored day tuples notices total) = Own
+sort_of (Already day tuples notices total) = Own
+sort_of (Agree notices) = Own
+sort_of (TariffPut xway crowd speed factor) = Own
+sort_of (PastStored base rows) = Own
+sort_of (PastAlready base rows) = Own
+sort_of Words = Own
+sort_of (Refused line cause) = Own
+sort_of (PastRefused line cause) = Own
+sort_of (DayPassed day last) = Own
+sort_of (DiffersDay day kept found) = Own
+sort_of (NoDay day) = Own
+sort_of (PastLate last) = Own
+sort_of (PastKept base) = Own
+sort_of (DiffersPast base kept found) = Own
+sort_of ReadFault = Unread
+sort_of KeeperFault = Unkept
+sort_of (DiffersLine line wanted found) = Own
+sort_of NoMemory = Unroomed
+sort_of (Rehearsed bytes digest tuples notices notices_digest total) = Own
+
+-- a text is some first bytes of another
+abbrev pub IsFront : List ℕ → List ℕ → Type 0
+IsFront text whole = (k : ℕ) × (text ≡ take k whole)
+
+-- what may stand before a closing line of a sort: the whole text before the command's own, some first bytes of it before that of a fault
+abbrev pub StandsBy : Sort → Answer → Closing → List ℕ → Type 0
+StandsBy Own a c text = (Some c ≡ a.closing) × (text ≡ a.text)
+StandsBy Unread a c text = IsFront text a.text
+StandsBy Unkept a c text = IsFront text a.text
+StandsBy Unroomed a c text = IsFront text a.text
+
+-- what may stand before a closing line
+abbrev pub StandsBefore : Answer → Closing → List ℕ → Type 0
+StandsBefore a c text = StandsBy (sort_of c) a c text
+
+-- a command wrote what may stand before the closing line that it names, or all where it has none, or its sink failed after some first bytes of its text
+abbrev pub Wrote : Answer → Result (Option Closing) Failed → Option (List ℕ) → Option (List ℕ) → Type 0
+Wrote a (Ok (Some c)) old new = (text : List ℕ) × StandsBefore a c text × Appends old new text
+Wrote a (Ok None) old new = (None ≡ a.closing) × Appends old new a.text
+Wrote a (Err e) old new = (text : List ℕ) × IsFront text a.text × Appends old new text
+
+-- what a fault or want of memory leaves: what was kept, or what a refused put leaves
+abbrev pub LeftBy : WhenRefused → KeepFault → Answer → Office → Option Office → Type 0
+LeftBy w fault a was now = (now ≡ Some was) ⊎ ((o : Office) × (now ≡ Some o) × Leaves w fault o was a.office)
+
+-- what is kept where a closing line of a sort is to come
+abbrev pub KeepsBy : Sort → WhenRefused → Answer → Office → Option Office → Type 0
+KeepsBy Own w a was now = now ≡ Some a.office
+KeepsBy Unread w a was now = now ≡ Some was
+KeepsBy Unkept w a was now = LeftBy w keeping.Failed a was now
+KeepsBy Unroomed w a was now = LeftBy w keeping.NoMemory a was now
+
+-- what is kept, by how a command ended; where its sink failed, what was kept
+abbrev pub Keeps : WhenRefused → Answer → Office → Option Office → Result (Option Closing) Failed → Type 0
+Keeps w a was now (Ok (Some c)) = KeepsBy (sort_of c) w a was now
+Keeps w a was now (Ok None) = now ≡ Some a.office
+Keeps w a was now (Err e) = now ≡ Some was
+
+-- what is kept is what was kept, or all that is asked
+abbrev pub IsWhole : Answer → Office → Option Office → Type 0
+IsWhole a was now = (now ≡ Some was) ⊎ (now ≡ Some a.office)
+
+-- a command ends with the closing line that it has, and where it has none its sink failed
+abbrev pub Ends : Option Closing → Result (Option Closing) Failed → Type 0
+Ends None (Ok c) = ⊥
+Ends None (Err e) = Unit {0}
+Ends (Some k) (Ok c) = c ≡ Some k
+Ends (Some k) (Err e) = ⊥
+
+-- how a report of a day ends, as a command
+abbrev pub EndsReport : ℕ → Result (Unit {0}) ReportFault → Result (Option Closing) Failed → Type 0
+EndsReport day (Ok u) (Ok c) = c ≡ None
+EndsReport day (Ok u) (Err e) = ⊥
+EndsReport day (Err reports.NoDay) (Ok c) = c ≡ Some (NoDay day)
+EndsReport day (Err reports.NoDay) (Err e) = ⊥
+EndsReport day (Err reports.KeeperFault) (Ok c) = c ≡ Some KeeperFault
+EndsReport day (Err reports.KeeperFault) (Err e) = ⊥
+EndsReport day (Err reports.WriteFault) (Ok c) = ⊥
+EndsReport day (Err reports.WriteFault) (Err e) = Unit {0}
+EndsReport day (Err reports.NoMemory) (Ok c) = c ≡ Some NoMemory
+EndsReport day (Err reports.NoMemory) (Err e) = ⊥
+
+-- the closing of a run that could not read
+abbrev pub stopping : ReadStop → Closing
+stopping stops.ReadFault = ReadFault
+stopping stops.NoMemory = NoMemory
+
+-- the closing of a run whose keeper refused
+abbrev pub refusing : KeepFault → Closing
+refusing keeping.Failed = KeeperFault
+refusing keeping.NoMemory = NoMemory
+
+-- a closing line was written and the status is its own, or the sink failed after some first bytes of it and not all
+abbrev pub Closes : Closing → ℕ → Option (List ℕ) → Option (List ℕ) → Type 0
+Closes c status old new =
+    ((status ≡ status_of c) × Appends old new (closing_line c))
+    ⊎ ((status ≡ 5) × ((k : ℕ) × (k < length (closing_line c)) × Appends old new (take k (closing_line c))))
+
+-- the closing line, if there is one
+abbrev pub last_line : Option Closing → List ℕ
+last_line None = []
+last_line (Some c) = closing_line c
+
+-- the status of a run that ends as a command asks
+abbrev pub status_by : Option Closing → ℕ
+status_by None = 0
+status_by (Some c) = status_of c
+
+-- the whole text and the command's closing line were written
+abbrev pub WroteAll : Answer → Option (List ℕ) → Option (List ℕ) → Type 0
+WroteAll a old new = Appends old new (a.text ++ last_line a.closing)
+
+-- some first bytes of the text were written, and then a fault's closing line
+abbrev pub WroteFault : Answer → Closing → Option (List ℕ) → Option (List ℕ) → Type 0
+WroteFault a c old new = (text : List ℕ) × IsFront text a.text × Appends old new (text ++ closing_line c)
+
+-- some first bytes of the text were written; or all that may stand before a closing line, and then some first bytes of that line and not all
+abbrev pub WroteSome : Answer → Option (List ℕ) → Option (List ℕ) → Type 0
+WroteSome a old new =
+    ((text : List ℕ) × IsFront text a.text × Appends old new text)
+    ⊎ ((c : Closing) × (text : List ℕ) × (k : ℕ) × StandsBefore a c text × (k < length (closing_line c)) × Appends old new (text ++ take k (closing_line c)))

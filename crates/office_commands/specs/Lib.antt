@@ -1,0 +1,7 @@
+pub mod Closings
+pub mod Traffic
+pub mod Days
+pub mod Asides
+pub mod Entries
+pub mod Commands
+pub mod Endings

@@ -1,0 +1,49 @@
+// The command `answers DAY`: the output of a day.
+ghost use Rattle.std.specs.Prelude.{◌≡◌, ◌≢◌, ◌≤◌, ℕ, List, Some, Ok, IsOk};
+ghost use Rattle.road_io.specs.Faults.{Rose, HasCause};
+ghost use Rattle.road_io.specs.Plans.{NeverFails};
+ghost use Rattle.road_io.specs.Rooms.{Endless};
+ghost use Rattle.keeper.specs.Office.{Office};
+ghost use Rattle.import_once.specs.Days.{IsLimits, ReadsWithin, most_read};
+ghost use Rattle.office_commands.specs.Commands.{answers_row};
+ghost use Rattle.office_commands.specs.Endings.{Wrote, Keeps};
+ghost use Rattle.office_commands.specs.declared.closing.Closing.TheVariants.{ReadFault, KeeperFault, Words};
+
+use crate::closing::Closing;
+use crate::outcome::ended;
+use keeper::Keeper;
+use road_io::{Failed, Sink, Source};
+use road_time::Limits;
+use std::alloc::Global;
+
+/// Answers what the source has, up to the first line that is refused. Nothing is kept.
+pub fn answers<S: Source, O: Sink, K: Keeper>(
+    alloc: Global,
+    day: u32,
+    late: u8,
+    limits: &Limits,
+    source: &mut S,
+    sink: &mut O,
+    keeper: &mut K,
+) -> Result<Option<Closing>, Failed>
+    requires low { 70 ≤ day }
+    requires high { day ≤ 1000000 }
+    requires soon { late ≤ 120 }
+    requires within { IsLimits limits.now }
+    ensures wrote { (bytes : List ℕ) (o : Office) → S.left source.old ≡ Some bytes → K.told keeper.old ≡ Some o → Wrote (answers_row limits.now day late bytes o) result (O.written sink.old) (O.written sink.new) }
+    ensures keeps { (bytes : List ℕ) (o : Office) → S.left source.old ≡ Some bytes → K.told keeper.old ≡ Some o → Keeps K.refuses (answers_row limits.now day late bytes o) o (K.told keeper.new) result }
+    ensures kept { K.told keeper.new ≡ K.told keeper.old }
+    ensures said { result ≢ Ok (Some Words) }
+    ensures bounded { ReadsWithin (most_read limits.now) (S.left source.old) (S.left source.new) }
+    ensures read_cause { result ≡ Ok (Some ReadFault) → Rose (S.faults source.old) (S.faults source.new) }
+    ensures read_later { S.faults source.old ≤ S.faults source.new }
+    ensures read_sure { NeverFails (S.plan source.old) → result ≢ Ok (Some ReadFault) }
+    ensures write_cause { HasCause (O.faults sink.old) (O.faults sink.new) result }
+    ensures write_sure { O.room sink.old ≡ Endless → IsOk result × (O.room sink.new ≡ Endless) }
+    ensures keeper_cause { result ≡ Ok (Some KeeperFault) → Rose (K.faults keeper.old) (K.faults keeper.new) }
+    ensures keeper_later { K.faults keeper.old ≤ K.faults keeper.new }
+    ensures keeper_sure { NeverFails (K.plan keeper.old) → result ≢ Ok (Some KeeperFault) }
+{
+    let done = import_once::answers(alloc, day, late, limits, source, sink, keeper);
+    ended(day, done)
+}

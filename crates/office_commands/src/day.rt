@@ -1,0 +1,81 @@
+// A day, read whole.
+ghost use Rattle.std.specs.Prelude.{◌≡◌, ◌≢◌, ◌≤◌, List, ℕ, Some, Err, IfOk};
+ghost use Rattle.road_time.specs.Fits.{Fit};
+ghost use Rattle.road_time.specs.Reads.{reads};
+ghost use Rattle.road_io.specs.Faults.{Rose};
+ghost use Rattle.road_io.specs.Plans.{NeverFails};
+ghost use Rattle.import_once.specs.Days.{IsLimits, ReadsWithin, most_read};
+ghost use Rattle.import_once.specs.declared.whole_day.ReadStop.TheVariants.{ReadFault};
+ghost use Rattle.office_commands.specs.Days.{recomputed, refusal_of, refused_at};
+ghost use Rattle.office_commands.specs.Endings.{stopping};
+
+use crate::closing::Closing;
+use import_once::{DayEnd, ReadStop};
+use road_io::Source;
+use road_time::{Limits, Tuple};
+use std::alloc::Global;
+use tuple_format::Cause;
+
+/// The tuples of a day in the order of Time, and the first line that was refused, if one was.
+#[derive(Drop)]
+pub struct Day {
+    pub tuples: Vec<Tuple>,
+    pub refused: Option<(u64, Cause)>,
+}
+
+/// The closing of a command that could not read.
+pub fn stopped(stop: ReadStop) -> Closing
+    ensures { result ≡ stopping stop }
+{
+    match stop {
+        ReadStop::ReadFault => Closing::ReadFault,
+        ReadStop::NoMemory => Closing::NoMemory,
+    }
+}
+
+/// The limits of a day that is recomputed by the plain rules.
+fn recomputed(limits: &Limits) -> Limits
+    ensures { result ≡ recomputed limits.now }
+{
+    Limits {
+        lines: limits.lines.min(1_000_000),
+        ..*limits
+    }
+}
+
+/// The line at which a reading ended, if one was refused.
+fn refused_at(end: DayEnd) -> Option<(u64, Cause)>
+    ensures { result ≡ refused_at end }
+{
+    match end {
+        DayEnd::Whole { .. } => None,
+        DayEnd::Refused { line, cause } => Some((line, cause)),
+    }
+}
+
+/// Reads a day that is recomputed by the plain rules, to its end or to the first line that is refused.
+pub fn read_day<S: Source>(
+    alloc: Global,
+    limits: &Limits,
+    late: u8,
+    source: &mut S,
+) -> Result<Day, ReadStop>
+    requires within { IsLimits limits.now }
+    requires soon { late ≤ 120 }
+    ensures tuples { (bytes : List ℕ) → S.left source.old ≡ Some bytes → IfOk result (λ d. d.tuples.items ≡ (reads bytes (recomputed limits.now) late).tuples) }
+    ensures refused { (bytes : List ℕ) → S.left source.old ≡ Some bytes → IfOk result (λ d. d.refused ≡ refusal_of (reads bytes (recomputed limits.now) late).refused) }
+    ensures fit { IfOk result (λ d. Fit d.tuples.items (recomputed limits.now)) }
+    ensures bounded { ReadsWithin (most_read (recomputed limits.now)) (S.left source.old) (S.left source.new) }
+    ensures cause { result ≡ Err ReadFault → Rose (S.faults source.old) (S.faults source.new) }
+    ensures sure { NeverFails (S.plan source.old) → result ≢ Err ReadFault }
+    ensures later { S.faults source.old ≤ S.faults source.new }
+{
+    let lesser = recomputed(limits);
+    match import_once::read_day(alloc, &lesser, late, source) {
+        Ok(day) => Ok(Day {
+            refused: refused_at(day.end),
+            tuples: day.tuples,
+        }),
+        Err(stop) => Err(stop),
+    }
+}

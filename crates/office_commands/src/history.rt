@@ -1,0 +1,69 @@
+// The command `past BASE`: the amounts of the 69 days before a day, which are kept from then on.
+ghost use Rattle.std.specs.Prelude.{◌≡◌, ◌≢◌, ◌≤◌, [], ℕ, List, Some};
+ghost use Rattle.road_io.specs.Faults.{Rose};
+ghost use Rattle.road_io.specs.Plans.{NeverFails};
+ghost use Rattle.keeper.specs.Office.{Office};
+ghost use Rattle.import_once.specs.Days.{ReadsWithin};
+ghost use Rattle.past_file.specs.Imports.{NeedsNone, most_kept};
+ghost use Rattle.past_file.specs.declared.outcomes.PastOutcome.TheVariants as outcome;
+ghost use Rattle.office_commands.specs.Commands.{past_closing, past_row};
+ghost use Rattle.office_commands.specs.Endings.{StandsBefore, sort_of, KeepsBy};
+ghost use Rattle.office_commands.specs.declared.closing.Closing.TheVariants.{ReadFault, KeeperFault, Words};
+
+use crate::closing::Closing;
+use keeper::Keeper;
+use past_file::{PastOutcome, import_past};
+use road_io::Source;
+use road_time::Limits;
+use std::alloc::Global;
+
+/// How the history with this base ends.
+fn past_ended(base: u32, done: PastOutcome) -> Closing
+    ensures ends { result ≡ past_closing base done }
+    ensures said { result ≢ Words }
+    ensures unread { result ≡ ReadFault → done ≡ outcome.ReadFault }
+    ensures unkept { result ≡ KeeperFault → done ≡ outcome.KeeperFault }
+{
+    match done {
+        PastOutcome::Stored(kept) => Closing::PastStored {
+            base,
+            rows: kept.rows,
+        },
+        PastOutcome::Already(kept) => Closing::PastAlready {
+            base,
+            rows: kept.rows,
+        },
+        PastOutcome::Row { line, cause } => Closing::PastRefused { line, cause },
+        PastOutcome::PastLate { last } => Closing::PastLate { last },
+        PastOutcome::OtherBase { kept } => Closing::PastKept { base: kept },
+        PastOutcome::Differs { kept, found } => Closing::DiffersPast { base, kept, found },
+        PastOutcome::ReadFault => Closing::ReadFault,
+        PastOutcome::KeeperFault => Closing::KeeperFault,
+        PastOutcome::NoMemory => Closing::NoMemory,
+    }
+}
+
+/// Keeps what the source has as a history, once, its days counted back from a base.
+pub fn past<S: Source, K: Keeper>(
+    alloc: Global,
+    base: u32,
+    limits: &Limits,
+    source: &mut S,
+    keeper: &mut K,
+) -> Closing
+    requires low { 70 ≤ base }
+    ensures exact { (bytes : List ℕ) (o : Office) → S.left source.old ≡ Some bytes → K.told keeper.old ≡ Some o → StandsBefore (past_row limits.now base bytes o) result [] }
+    ensures keeps { (bytes : List ℕ) (o : Office) → S.left source.old ≡ Some bytes → K.told keeper.old ≡ Some o → KeepsBy (sort_of result) K.refuses (past_row limits.now base bytes o) o (K.told keeper.new) }
+    ensures unread { (o : Office) → K.told keeper.old ≡ Some o → NeedsNone o.past base o → source.new ≡ source.old }
+    ensures said { result ≢ Words }
+    ensures bounded { (o : Office) → K.told keeper.old ≡ Some o → ReadsWithin (most_kept o.past limits.now) (S.left source.old) (S.left source.new) }
+    ensures read_cause { result ≡ ReadFault → Rose (S.faults source.old) (S.faults source.new) }
+    ensures read_later { S.faults source.old ≤ S.faults source.new }
+    ensures read_sure { NeverFails (S.plan source.old) → result ≢ ReadFault }
+    ensures keeper_cause { result ≡ KeeperFault → Rose (K.faults keeper.old) (K.faults keeper.new) }
+    ensures keeper_later { K.faults keeper.old ≤ K.faults keeper.new }
+    ensures keeper_sure { NeverFails (K.plan keeper.old) → result ≢ KeeperFault }
+{
+    let done = import_past(alloc, base, limits, source, keeper);
+    past_ended(base, done)
+}

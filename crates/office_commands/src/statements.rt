@@ -1,0 +1,98 @@
+// The commands `day DAY`, `vehicle VID FROM TO` and `export DAY`: what is kept, as texts.
+ghost use Rattle.std.specs.Prelude.{◌≡◌, ◌≢◌, ◌≤◌, Some, Ok, Err, IsOk, OnErr};
+ghost use Rattle.road_io.specs.Faults.{Rose, HasCause};
+ghost use Rattle.road_io.specs.Plans.{NeverFails};
+ghost use Rattle.road_io.specs.Rooms.{Endless};
+ghost use Rattle.keeper.specs.Office.{Office};
+ghost use Rattle.reports.specs.declared.report_fault.ReportFault.TheVariants as report_fault;
+ghost use Rattle.office_commands.specs.Commands.{day_row, vehicle_row, export_row};
+ghost use Rattle.office_commands.specs.Endings.{Wrote, Keeps, EndsReport};
+ghost use Rattle.office_commands.specs.declared.closing.Closing.TheVariants.{ReadFault, KeeperFault, Words};
+
+use crate::closing::Closing;
+use keeper::Keeper;
+use reports::{ReportFault, day_statement, export_csv, vehicle_statement};
+use road_io::{Failed, Sink};
+use std::alloc::Global;
+
+/// How a report ends, as a command.
+fn reported(day: u32, done: Result<(), ReportFault>) -> Result<Option<Closing>, Failed>
+    ensures ends { EndsReport day done result }
+    ensures said { result ≢ Ok (Some Words) }
+    ensures unread { result ≢ Ok (Some ReadFault) }
+    ensures unkept { result ≡ Ok (Some KeeperFault) → done ≡ Err report_fault.KeeperFault }
+    ensures failed { OnErr result (done ≡ Err report_fault.WriteFault) }
+{
+    match done {
+        Ok(()) => Ok(None),
+        Err(ReportFault::NoDay) => Ok(Some(Closing::NoDay { day })),
+        Err(ReportFault::KeeperFault) => Ok(Some(Closing::KeeperFault)),
+        Err(ReportFault::WriteFault) => Err(Failed),
+        Err(ReportFault::NoMemory) => Ok(Some(Closing::NoMemory)),
+    }
+}
+
+/// States what is kept of a day.
+pub fn day<O: Sink, K: Keeper>(
+    alloc: Global,
+    day: u32,
+    sink: &mut O,
+    keeper: &mut K,
+) -> Result<Option<Closing>, Failed>
+    ensures wrote { (o : Office) → K.told keeper.old ≡ Some o → Wrote (day_row day o) result (O.written sink.old) (O.written sink.new) }
+    ensures keeps { (o : Office) → K.told keeper.old ≡ Some o → Keeps K.refuses (day_row day o) o (K.told keeper.new) result }
+    ensures said { result ≢ Ok (Some Words) }
+    ensures unread { result ≢ Ok (Some ReadFault) }
+    ensures write_cause { HasCause (O.faults sink.old) (O.faults sink.new) result }
+    ensures write_sure { O.room sink.old ≡ Endless → IsOk result × (O.room sink.new ≡ Endless) }
+    ensures keeper_cause { result ≡ Ok (Some KeeperFault) → Rose (K.faults keeper.old) (K.faults keeper.new) }
+    ensures keeper_later { K.faults keeper.old ≤ K.faults keeper.new }
+    ensures keeper_sure { NeverFails (K.plan keeper.old) → result ≢ Ok (Some KeeperFault) }
+{
+    let done = day_statement(alloc, day, keeper, sink);
+    reported(day, done)
+}
+
+/// States what is kept of a vehicle on the days `from` to `to`, both included.
+pub fn vehicle<O: Sink, K: Keeper>(
+    alloc: Global,
+    vid: u32,
+    from: u32,
+    to: u32,
+    sink: &mut O,
+    keeper: &mut K,
+) -> Result<Option<Closing>, Failed>
+    ensures wrote { (o : Office) → K.told keeper.old ≡ Some o → Wrote (vehicle_row vid from to o) result (O.written sink.old) (O.written sink.new) }
+    ensures keeps { (o : Office) → K.told keeper.old ≡ Some o → Keeps K.refuses (vehicle_row vid from to o) o (K.told keeper.new) result }
+    ensures said { result ≢ Ok (Some Words) }
+    ensures unread { result ≢ Ok (Some ReadFault) }
+    ensures write_cause { HasCause (O.faults sink.old) (O.faults sink.new) result }
+    ensures write_sure { O.room sink.old ≡ Endless → IsOk result × (O.room sink.new ≡ Endless) }
+    ensures keeper_cause { result ≡ Ok (Some KeeperFault) → Rose (K.faults keeper.old) (K.faults keeper.new) }
+    ensures keeper_later { K.faults keeper.old ≤ K.faults keeper.new }
+    ensures keeper_sure { NeverFails (K.plan keeper.old) → result ≢ Ok (Some KeeperFault) }
+{
+    let done = vehicle_statement(alloc, vid, from, to, keeper, sink);
+    reported(from, done)
+}
+
+/// Exports the amounts of a day.
+pub fn export<O: Sink, K: Keeper>(
+    alloc: Global,
+    day: u32,
+    sink: &mut O,
+    keeper: &mut K,
+) -> Result<Option<Closing>, Failed>
+    ensures wrote { (o : Office) → K.told keeper.old ≡ Some o → Wrote (export_row day o) result (O.written sink.old) (O.written sink.new) }
+    ensures keeps { (o : Office) → K.told keeper.old ≡ Some o → Keeps K.refuses (export_row day o) o (K.told keeper.new) result }
+    ensures said { result ≢ Ok (Some Words) }
+    ensures unread { result ≢ Ok (Some ReadFault) }
+    ensures write_cause { HasCause (O.faults sink.old) (O.faults sink.new) result }
+    ensures write_sure { O.room sink.old ≡ Endless → IsOk result × (O.room sink.new ≡ Endless) }
+    ensures keeper_cause { result ≡ Ok (Some KeeperFault) → Rose (K.faults keeper.old) (K.faults keeper.new) }
+    ensures keeper_later { K.faults keeper.old ≤ K.faults keeper.new }
+    ensures keeper_sure { NeverFails (K.plan keeper.old) → result ≢ Ok (Some KeeperFault) }
+{
+    let done = export_csv(alloc, day, keeper, sink);
+    reported(day, done)
+}

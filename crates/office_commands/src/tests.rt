@@ -1,0 +1,10 @@
+// Words, a source and an aside in, a sink's text and a status out.
+mod days;
+mod faults;
+mod history;
+mod input;
+mod kept;
+mod past;
+mod road;
+mod runs;
+mod traffic;

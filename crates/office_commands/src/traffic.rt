@@ -1,0 +1,156 @@
+// The commands `generate SEED` and `rehearse SEED`: the traffic that a seed makes.
+ghost use Rattle.std.specs.Prelude.{◌≡◌, ◌≢◌, ◌≤◌, [], ℕ, Some, None, Ok, Err, IsOk, IfOk, OnErr};
+ghost use Rattle.road_time.specs.declared.day.TheConstants.Limits.{DAY};
+ghost use Rattle.road_time.specs.Reads.{reads};
+ghost use Rattle.road_io.specs.Faults.{Rose, HasCause};
+ghost use Rattle.road_io.specs.Rooms.{Endless};
+ghost use Rattle.road_io.specs.Fakes.{bytes_of};
+ghost use Rattle.keeper.specs.Kept.{kept_record};
+ghost use Rattle.keeper.specs.Office.{Office, nothing_kept};
+ghost use Rattle.traffic_gen.specs.declared.plan.GenFault.TheVariants as gen_fault;
+ghost use Rattle.traffic_gen.specs.Plans.{first_out};
+ghost use Rattle.traffic_gen.specs.Traffic.{file_of};
+ghost use Rattle.office_words.specs.Meaning.{IsSize};
+ghost use Rattle.office_commands.specs.Commands.{generate_row, rehearse_row};
+ghost use Rattle.office_commands.specs.Endings.{StandsBefore, Wrote};
+ghost use Rattle.office_commands.specs.Traffic.{plan_of, rehearsed_record, rehearsed, EndsTraffic};
+ghost use Rattle.office_commands.specs.declared.closing.Closing.TheVariants.{ReadFault, KeeperFault, Words};
+
+use crate::closing::Closing;
+use import_once::Outcome;
+use keeper::{DayRecord, MemKeeper};
+use office_words::Size;
+use road_io::{Failed, MemSink, MemSource, Sink, VoidSink};
+use road_time::{Limits, NoMemory};
+use std::alloc::Global;
+use traffic_gen::{GenFault, GenPlan};
+
+/// What is to be generated.
+fn plan_for(seed: u64, size: Size) -> GenPlan
+    requires { IsSize size }
+    ensures plan { result ≡ plan_of seed size }
+    ensures range { first_out result ≡ None }
+{
+    GenPlan {
+        seed,
+        vehicles: size.vehicles,
+        minutes: size.minutes,
+        xways: size.xways,
+        crashes: size.crashes,
+    }
+}
+
+/// How a generation ends, as a command.
+fn generated(done: Result<u64, GenFault>) -> Result<Option<Closing>, Failed>
+    requires { (field : ℕ) → done ≢ Err (gen_fault.Size field) }
+    ensures ends { EndsTraffic done result }
+    ensures said { result ≢ Ok (Some Words) }
+    ensures unread { result ≢ Ok (Some ReadFault) }
+    ensures unasked { result ≢ Ok (Some KeeperFault) }
+    ensures failed { OnErr result (done ≡ Err gen_fault.WriteFault) }
+{
+    match done {
+        Ok(_) => Ok(None),
+        Err(GenFault::Size(_)) => unreachable!(),
+        Err(GenFault::WriteFault) => Err(Failed),
+        Err(GenFault::NoMemory) => Ok(Some(Closing::NoMemory)),
+    }
+}
+
+/// Writes the traffic that a seed makes.
+pub fn generate<O: Sink>(
+    alloc: Global,
+    seed: u64,
+    size: Size,
+    sink: &mut O,
+) -> Result<Option<Closing>, Failed>
+    requires { IsSize size }
+    ensures wrote { (o : Office) → Wrote (generate_row seed size o) result (O.written sink.old) (O.written sink.new) }
+    ensures said { result ≢ Ok (Some Words) }
+    ensures unread { result ≢ Ok (Some ReadFault) }
+    ensures unasked { result ≢ Ok (Some KeeperFault) }
+    ensures write_cause { HasCause (O.faults sink.old) (O.faults sink.new) result }
+    ensures write_sure { O.room sink.old ≡ Endless → IsOk result × (O.room sink.new ≡ Endless) }
+{
+    let plan = plan_for(seed, size);
+    let done = traffic_gen::generate(alloc, &plan, sink);
+    generated(done)
+}
+
+/// The file of a plan, in memory, of which 40,000,000 bytes are enough for any.
+fn file_in_memory(alloc: Global, plan: &GenPlan) -> Result<MemSink, NoMemory>
+    requires { first_out plan.now ≡ None }
+    ensures { IfOk result (λ s. bytes_of s ≡ file_of plan.now) }
+{
+    let mut sink = MemSink::new(alloc, 40_000_000, 65_536)?;
+    match traffic_gen::generate(alloc, plan, &mut sink) {
+        Ok(_) => Ok(sink),
+        Err(GenFault::Size(_)) => unreachable!(),
+        Err(GenFault::WriteFault) => unreachable!(),
+        Err(GenFault::NoMemory) => Err(NoMemory),
+    }
+}
+
+/// What is kept of a whole file as day 100, in memory and where nothing else is kept.
+fn kept_alone(alloc: Global, file: &[u8], late: u8) -> Result<DayRecord, NoMemory>
+    requires soon { late ≤ 120 }
+    requires whole { (reads file.now DAY late).refused ≡ None }
+    ensures { IfOk result (λ r. r ≡ kept_record 100 file.now (reads file.now DAY late).tuples nothing_kept) }
+{
+    let mut source = MemSource::new(alloc, file, 65_536, &[])?;
+    let mut keeper = MemKeeper::new(alloc, &[])?;
+    let mut sink = VoidSink;
+    match import_once::import(
+        alloc,
+        100,
+        late,
+        &Limits::DAY,
+        &mut source,
+        &mut sink,
+        &mut keeper,
+    ) {
+        Outcome::Stored(kept) => Ok(kept),
+        Outcome::NoMemory => Err(NoMemory),
+        _ => unreachable!(),
+    }
+}
+
+/// What is kept of the traffic of a plan as day 100, where nothing else is kept.
+fn rehearse_plan(alloc: Global, plan: &GenPlan, late: u8) -> Result<DayRecord, NoMemory>
+    requires range { first_out plan.now ≡ None }
+    requires soon { late ≤ 120 }
+    ensures { IfOk result (λ r. r ≡ rehearsed_record plan.now) }
+{
+    let file = file_in_memory(alloc, plan)?;
+    kept_alone(alloc, file.bytes(), late)
+}
+
+/// The closing of a rehearsal, of what was kept.
+fn closing_of(kept: &DayRecord) -> Closing
+    ensures { result ≡ rehearsed kept.now }
+{
+    Closing::Rehearsed {
+        bytes: kept.bytes,
+        digest: kept.digest,
+        tuples: kept.tuples,
+        notices: kept.notices,
+        notices_digest: kept.notices_digest,
+        total: kept.total,
+    }
+}
+
+/// Generates the traffic of a seed and imports it as day 100, in memory and beside all that is kept.
+pub fn rehearse(alloc: Global, seed: u64, size: Size, late: u8) -> Closing
+    requires size { IsSize size }
+    requires soon { late ≤ 120 }
+    ensures exact { (o : Office) → StandsBefore (rehearse_row seed size o) result [] }
+    ensures said { result ≢ Words }
+    ensures unread { result ≢ ReadFault }
+    ensures unasked { result ≢ KeeperFault }
+{
+    let plan = plan_for(seed, size);
+    match rehearse_plan(alloc, &plan, late) {
+        Ok(kept) => closing_of(&kept),
+        Err(_) => Closing::NoMemory,
+    }
+}

@@ -1,3 +1,0 @@
-pub mod EndingLaws
-pub mod AsideLaws
-pub mod ValidateLaws

@@ -1,6 +1,0 @@
-pub mod Closings
-pub mod Days
-pub mod Asides
-pub mod Entries
-pub mod Commands
-pub mod Endings
