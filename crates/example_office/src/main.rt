@@ -2,7 +2,7 @@
 //! over a keeper in a file that is opened anew for each command.
 //!
 //! What it must print was worked out apart from this code. Behind each command's text stands its status. `old.db` is a
-//! database of version 1, made by sqlite3 from `old.sql`.
+//! database of version 1 that sqlite3 made.
 #![tactic(auto)]
 
 ghost use Rattle.import_once.specs.Days.{IsLimits};
