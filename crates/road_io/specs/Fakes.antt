@@ -19,6 +19,14 @@ bytes_of s = s.bytes.items
 abbrev pub room_of : MemSink → ℕ
 room_of s = s.room
 
+-- the most bytes that a source gives at once
+abbrev pub most_read : MemSource → ℕ
+most_read s = s.piece
+
+-- the most bytes that a sink takes at once
+abbrev pub most_written : MemSink → ℕ
+most_written s = s.piece
+
 -- the failed calls that a source counted
 abbrev pub source_faults : MemSource → ℕ
 source_faults s = s.faults

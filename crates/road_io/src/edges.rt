@@ -1,12 +1,18 @@
-// The standard streams and files. They tell nothing of what they give or take.
-ghost use Rattle.std.specs.Prelude.{None};
+// The standard streams, files and connections. They tell nothing of what they give or take.
+ghost use Rattle.std.specs.Prelude.{◌≡◌, ◌≢◌, None};
+ghost use Rattle.road_io.specs.Portions.{AnyPart};
+ghost use Rattle.road_io.specs.Rooms.{Untold};
+ghost use Rattle.road_io.specs.declared.edges.Opening.TheVariants.{Unopened};
 
+use crate::link::Link;
+use crate::retrying::{read_retrying, write_retrying};
 use crate::sink::Writing;
 use crate::source::{Failed, Reading, Source};
 use road_time::NoMemory;
 use std::alloc::Global;
 use std::fs::File;
-use std::io::{Read, Stdin, Stdout};
+use std::io::{Stdin, Stdout};
+use std::net::TcpStream;
 use std::rt::HostRuntime;
 
 /// Standard input, read in pieces as large as the caller's buffer: `StdSource::new(rt.stdin())`.
@@ -15,12 +21,20 @@ pub type StdSource = Reading<Stdin>;
 /// Standard output, written at once: `StdSink::new(rt.stdout())`.
 pub type StdSink = Writing<Stdout>;
 
-/// A file, opened at its first read. A file that cannot be opened is a counted fault at each read.
+/// Whether a file was opened, and what came of it.
+#[derive(Drop)]
+enum Opening {
+    Unopened,
+    Opened(File),
+    Refused,
+}
+
+/// A file, opened at its first read. A file that cannot be opened is a counted fault at each read, and not tried again.
 #[derive(Drop)]
 pub struct FileSource {
     rt: HostRuntime,
     path: String,
-    file: Option<File>,
+    opening: Opening,
     faults: u64,
 }
 
@@ -31,9 +45,22 @@ impl FileSource {
         Ok(FileSource {
             rt,
             path,
-            file: None,
+            opening: Opening::Unopened,
             faults: 0,
         })
+    }
+}
+
+/// Opens a file where that was not tried yet.
+fn open_once(rt: HostRuntime, path: &str, opening: &mut Opening)
+    ensures tried { opening.new ≢ Unopened }
+    ensures once { opening.old ≢ Unopened → opening.new ≡ opening.old }
+{
+    if matches!(opening, Opening::Unopened) {
+        *opening = match std::fs::open(&rt, path) {
+            Ok(file) => Opening::Opened(file),
+            Err(_) => Opening::Refused,
+        };
     }
 }
 
@@ -44,16 +71,65 @@ impl Source for FileSource {
 
     ghost plan = { λ s. None };
 
+    ghost most = { λ s. AnyPart };
+
+    ghost name = { λ s. 0 };
+
     fn read(&mut self, buf: &mut [u8]) -> Result<usize, Failed> {
-        if self.file.is_none() {
-            self.file = std::fs::open(&self.rt, self.path.as_str()).ok();
-        }
-        if let Some(file) = &mut self.file {
-            if let Ok(count) = file.read(buf) {
+        open_once(self.rt, self.path.as_str(), &mut self.opening);
+        if let Opening::Opened(file) = &mut self.opening {
+            if let Ok(count) = read_retrying(file, buf) {
                 return Ok(count);
             }
         }
         self.faults = self.faults.saturating_add(1);
         Err(Failed)
+    }
+}
+
+/// A connection; a write of no byte is a fault.
+#[derive(Drop)]
+pub struct StreamLink {
+    stream: TcpStream,
+    faults: u64,
+}
+
+impl StreamLink {
+    pub fn new(stream: TcpStream) -> StreamLink {
+        StreamLink { stream, faults: 0 }
+    }
+}
+
+impl Link for StreamLink {
+    ghost left = { λ l. None };
+
+    ghost plan = { λ l. None };
+
+    ghost written = { λ l. None };
+
+    ghost room = { λ l. Untold };
+
+    ghost faults = { λ l. l.faults };
+
+    ghost most = { λ l. AnyPart };
+
+    fn read(&mut self, buf: &mut [u8]) -> Result<usize, Failed> {
+        match read_retrying(&mut self.stream, buf) {
+            Ok(count) => Ok(count),
+            Err(_) => {
+                self.faults = self.faults.saturating_add(1);
+                Err(Failed)
+            }
+        }
+    }
+
+    fn write(&mut self, piece: &[u8]) -> Result<usize, Failed> {
+        match write_retrying(&mut self.stream, piece) {
+            Ok(count) if count > 0 => Ok(count),
+            _ => {
+                self.faults = self.faults.saturating_add(1);
+                Err(Failed)
+            }
+        }
     }
 }

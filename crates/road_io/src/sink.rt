@@ -1,18 +1,24 @@
 // What bytes go to, with a count of faults.
-ghost use Rattle.std.specs.Prelude.{ℕ, List, Option, ◌<◌, ◌≤◌, length, IfOk, OnOk, OnErr};
+ghost use Rattle.std.specs.Prelude.{ℕ, ◌≡◌, List, Option, ◌<◌, ◌≤◌, length, IfOk, OnOk, OnErr};
 ghost use Rattle.std.specs.Io.KnownBytes.{WriteAppends};
 ghost use Rattle.road_io.specs.Faults.{HasCause};
+ghost use Rattle.road_io.specs.Portions.{Portion, AnyPart, Moves};
 ghost use Rattle.road_io.specs.Rooms.{Room, Untold, Takes, Refuses, Puts};
 
+use crate::retrying::write_retrying;
 use crate::source::Failed;
 use std::io::Write;
 
+/// Bytes out. `written` is what was written and `room` how many bytes more it takes, where it tells that; `most` is how
+/// many bytes a write moves, as long as there is room.
 pub trait Sink {
     ghost written: { Self → Option (List ℕ) };
 
     ghost room: { Self → Room };
 
     ghost faults: { Self → ℕ };
+
+    ghost most: { Self → Portion };
 
     /// Takes a prefix of at least one byte, and answers its length; it fails exactly where there is no room, if it tells that.
     fn write(&mut self, piece: &[u8]) -> Result<usize, Failed>
@@ -21,6 +27,8 @@ pub trait Sink {
         ensures bytes { WriteAppends (written self.old) (written self.new) result piece.now }
         ensures took { IfOk result (λ n. Takes (room self.old) (room self.new) n) }
         ensures full { OnErr result (Refuses (room self.old) (room self.new) 1) }
+        ensures portion { IfOk result (λ n. Moves (most self.old) (length piece.now) n) }
+        ensures most_kept { most self.new ≡ most self.old }
         ensures cause { HasCause (faults self.old) (faults self.new) result };
 }
 
@@ -63,8 +71,10 @@ impl<W: Write> Sink for Writing<W> {
 
     ghost faults = { λ s. s.faults };
 
+    ghost most = { λ s. AnyPart };
+
     fn write(&mut self, piece: &[u8]) -> Result<usize, Failed> {
-        match self.inner.write(piece) {
+        match write_retrying(&mut self.inner, piece) {
             Ok(count) if count > 0 => Ok(count),
             _ => {
                 self.faults = self.faults.saturating_add(1);

@@ -59,6 +59,7 @@ fn read_behind<S: Source>(
     ensures kept { take (end - start) buf.new ≡ slice_range buf.old start end }
     ensures bytes { ReadConsumes (S.left source.old) (S.left source.new) result (drop (end - start) buf.new) }
     ensures planned { AsPlanned (S.plan source.old) (S.plan source.new) result }
+    ensures same { S.name source.new ≡ S.name source.old }
     ensures cause { HasCause (S.faults source.old) (S.faults source.new) result }
 {
     let kept = end - start;
@@ -117,6 +118,7 @@ impl LineCutter {
         ensures fault { fault_of self.new ≡ fault_of self.old }
         ensures none { rest_of self.new ≡ [] }
         ensures sure { NeverFails (S.plan source.old) → IsOk result × NeverFails (S.plan source.new) }
+        ensures same { S.name source.new ≡ S.name source.old }
         ensures cause { HasCause (S.faults source.old) (S.faults source.new) result }
     {
         let kept = self.end - self.start;
@@ -189,6 +191,7 @@ impl LineCutter {
         ensures taken { fault_of self.old ≡ None → result ≡ Ok true → Consumes (ahead self.old (S.left source.old)) (ahead self.new (S.left source.new)) (rest_of self.new) }
         ensures stuck { (f : LineFault) → fault_of self.old ≡ Some f → (result ≡ Err f) × (self.new ≡ self.old) × (source.new ≡ source.old) }
         ensures sure { fault_of self.old ≡ None → NeverFails (S.plan source.old) → (result ≢ Err ReadFault) × NeverFails (S.plan source.new) }
+        ensures same { S.name source.new ≡ S.name source.old }
         ensures later { S.faults source.old ≤ S.faults source.new }
         ensures cause { fault_of self.old ≡ None → result ≡ Err ReadFault → Rose (S.faults source.old) (S.faults source.new) }
     {

@@ -2,7 +2,8 @@
 ghost use Rattle.std.specs.Prelude.{ℕ, ◌≡◌, ◌+◌, ◌≤◌, ◌==◌, Some, IfOk};
 ghost use Rattle.std.specs.List.{list_any};
 ghost use Rattle.road_io.specs.Plans.{planned};
-ghost use Rattle.road_io.specs.Fakes.{left_of, plan_of, source_faults};
+ghost use Rattle.road_io.specs.Portions.{UpTo};
+ghost use Rattle.road_io.specs.Fakes.{left_of, plan_of, most_read, source_faults};
 
 use super::MemSource;
 use crate::source::{Failed, Source};
@@ -20,6 +21,7 @@ impl MemSource {
         requires { 1 ≤ piece }
         ensures left { IfOk result (λ s. left_of s ≡ bytes.now) }
         ensures plan { IfOk result (λ s. (n : ℕ) → plan_of s n ≡ list_any (λ f. f == n) fails.now) }
+        ensures most { IfOk result (λ s. most_read s ≡ piece) }
         ensures faultless { IfOk result (λ s. source_faults s ≡ 0) }
     {
         let bytes = Vec::from_slice(alloc, bytes)?;
@@ -50,6 +52,10 @@ impl Source for MemSource {
     ghost faults = { λ s. s.faults };
 
     ghost plan = { λ s. Some (plan_of s) };
+
+    ghost most = { λ s. UpTo (most_read s) };
+
+    ghost name = { λ s. 0 };
 
     fn read(&mut self, buf: &mut [u8]) -> Result<usize, Failed> {
         let (failing, next) = turn(&self.fails, self.calls);

@@ -1,7 +1,8 @@
 // The sinks in memory.
 ghost use Rattle.std.specs.Prelude.{◌≡◌, ◌≤◌, [], Some, None, IfOk};
+ghost use Rattle.road_io.specs.Portions.{UpTo, Whole};
 ghost use Rattle.road_io.specs.Rooms.{Bound, Endless};
-ghost use Rattle.road_io.specs.Fakes.{bytes_of, room_of, sink_faults};
+ghost use Rattle.road_io.specs.Fakes.{bytes_of, room_of, most_written, sink_faults};
 
 use super::MemSink;
 use crate::sink::{Sink, VoidSink};
@@ -15,6 +16,7 @@ impl MemSink {
         requires { 1 ≤ piece }
         ensures empty { IfOk result (λ s. bytes_of s ≡ []) }
         ensures room { IfOk result (λ s. room_of s ≡ room) }
+        ensures most { IfOk result (λ s. most_written s ≡ piece) }
         ensures faultless { IfOk result (λ s. sink_faults s ≡ 0) }
     {
         let bytes = Vec::with_capacity(alloc, room)?;
@@ -41,6 +43,8 @@ impl Sink for MemSink {
 
     ghost faults = { λ s. s.faults };
 
+    ghost most = { λ s. UpTo (most_written s) };
+
     fn write(&mut self, piece: &[u8]) -> Result<usize, Failed> {
         let count = piece.len().min(self.piece).min(self.room);
         if count == 0 || self.bytes.extend_from_slice(&piece[..count]).is_err() {
@@ -58,6 +62,8 @@ impl Sink for VoidSink {
     ghost room = { λ s. Endless };
 
     ghost faults = { λ s. 0 };
+
+    ghost most = { λ s. Whole };
 
     fn write(&mut self, piece: &[u8]) -> Result<usize, Failed> {
         Ok(piece.len())

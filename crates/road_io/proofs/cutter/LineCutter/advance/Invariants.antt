@@ -10,6 +10,7 @@ invariant-loop-answer g l = record {
   none : fault_of l.self ≡ None;
   ahead : Keeps (ahead l.initial.self (g.S.Source.left l.initial.source)) (ahead l.self (g.S.Source.left l.source));
   sure : NeverFails (g.S.Source.plan l.initial.source) → NeverFails (g.S.Source.plan l.source);
+  same : g.S.Source.name l.source ≡ g.S.Source.name l.initial.source;
   later : g.S.Source.faults l.initial.source ≤ g.S.Source.faults l.source;
 }
 
