@@ -1,3 +1,4 @@
+pub mod CallLaws
 pub mod HistoryLaws
 pub mod PastRows
 pub mod RowOrder
