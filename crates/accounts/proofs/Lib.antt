@@ -4,3 +4,4 @@ pub mod BookLaws
 pub mod RowSteps
 pub mod WorkedLaws
 pub mod EntryLaws
+pub mod ShownLaws

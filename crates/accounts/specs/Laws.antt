@@ -7,16 +7,17 @@ use Rattle.road_time.specs.Day.{Charge, balance, total, sum_of, charges_to}
 use Rattle.road_time.specs.Rows.{rows_from}
 use Rattle.accounts.specs.Sums.{account_in, total_in, spent_by, AreRowsOf}
 use Rattle.accounts.specs.Operations.{Operation}
-use Rattle.accounts.specs.Boards.{board_after, account, all_accounts, IsLive}
+use Rattle.accounts.specs.Boards.{account, all_accounts, IsLive}
+use Rattle.accounts.specs.Shown.{shown_after}
 
 -- where a day's steps were published, the board shows the day's accounts at its mark
 abbrev pub LiveLaw : Type 0
 LiveLaw =
     (day : List Tuple) (tariffs : Tariffs) (number : ℕ) (ops : List Operation) → IsLive day tariffs number ops →
-    ((board_after ops).number ≡ number)
-    × ((board_after ops).mark ≤ length day)
-    × ((vid : ℕ) → account (board_after ops) vid ≡ balance day tariffs vid (take (board_after ops).mark day))
-    × (all_accounts (board_after ops) ≡ total day tariffs (take (board_after ops).mark day))
+    ((shown_after ops).number ≡ number)
+    × ((shown_after ops).mark ≤ length day)
+    × ((vid : ℕ) → account (shown_after ops) vid ≡ balance day tariffs vid (take (shown_after ops).mark day))
+    × (all_accounts (shown_after ops) ≡ total day tariffs (take (shown_after ops).mark day))
 
 -- and it still shows those of the day when more tuples follow
 abbrev pub GrowLaw : Type 0

@@ -3,4 +3,5 @@ pub mod Entries
 pub mod Books
 pub mod Operations
 pub mod Boards
+pub mod Shown
 pub mod Laws
