@@ -101,12 +101,11 @@ pub fn plain_cars(
     in_minute: u32,
     stretch: Stretch,
 ) -> Result<u32, NoMemory>
-    requires first { 1 ≤ in_minute }
-    requires fit { IsDay tuples.now }
+    requires { IsDay tuples.now }
     ensures few { IfOk result (λ n. n ≤ 500000) }
     ensures exact { IfOk result (λ n. n ≡ cars (notes_of (reports tuples.now)) (in_minute - 1) stretch) }
 {
-    let vids = vehicles_at(alloc, tuples, in_minute - 1, stretch)?;
+    let vids = vehicles_at(alloc, tuples, in_minute.saturating_sub(1), stretch)?;
     Ok(vids.len() as u32)
 }
 

@@ -4,8 +4,9 @@ ghost use Rattle.std.specs.List.{list_any, prefix_len};
 ghost use Rattle.road_time.specs.Tuples.{reports, report_of as report_of_lem, place_of as place_of_lem, stretch_around as stretch_around_lem, same_place};
 ghost use Rattle.road_time.specs.Stops.{up_to, is_stopped as is_stopped_lem, trail as trail_lem, stops as stops_lem, has_accident as has_accident_lem, stood as stood_lem, near, segments_ahead};
 ghost use Rattle.road_time.specs.Tolls.{stops_at, near_at};
+ghost use Rattle.road_time.specs.Ways.{downstream_of};
 
-use road_time::{NoMemory, Place, Report, Stretch, Tuple, downstream};
+use road_time::{NoMemory, Place, Report, Stretch, Tuple};
 use std::alloc::Global;
 
 pub fn report_of(tuple: &Tuple) -> Option<Report>
@@ -40,14 +41,14 @@ pub fn stretch_around(p: Place) -> Stretch
 }
 
 /// The reports up to the end of the second.
-fn reports_up_to(alloc: Global, tuples: &[Tuple], second: u32) -> Result<Vec<Report>, NoMemory>
+fn reports_up_to(alloc: Global, tuples: &[Tuple], second: u64) -> Result<Vec<Report>, NoMemory>
     ensures { IfOk result (λ rs. rs.items ≡ up_to second (reports tuples.now)) }
 {
     Ok(
         tuples
             .iter()
             .filter_map(|tuple| report_of(tuple))
-            .filter(|r| r.time <= second)
+            .filter(|r| u64::from(r.time) <= second)
             .collect(alloc)?,
     )
 }
@@ -118,7 +119,7 @@ pub fn has_accident(stops: &[(u32, Place)], stretch: Stretch) -> bool
 fn accident_at(
     alloc: Global,
     tuples: &[Tuple],
-    second: u32,
+    second: u64,
     stretch: Stretch,
 ) -> Result<bool, NoMemory>
     ensures { IfOk result (λ b. b ≡ has_accident_lem (stops_at (reports tuples.now) second) stretch) }
@@ -135,19 +136,30 @@ fn stood(
     in_minute: u32,
     stretch: Stretch,
 ) -> Result<bool, NoMemory>
-    requires { in_minute ≤ 1440 }
     ensures { IfOk result (λ b. b ≡ stood_lem (stops_at (reports tuples.now)) in_minute stretch) }
 {
     if in_minute == 0 {
         return Ok(false);
     }
-    let start = 60 * (in_minute - 1);
+    let start = 60 * u64::from(in_minute - 1);
     for second in start..start + 60 {
         if accident_at(alloc, tuples, second, stretch)? {
             return Ok(true);
         }
     }
     Ok(false)
+}
+
+/// The segment that lies `i` downstream, of any stretch.
+fn segment_ahead(stretch: Stretch, i: u8) -> Option<u8>
+    ensures { result ≡ downstream_of stretch.seg stretch.dir i }
+{
+    if stretch.dir == 0 {
+        let ahead = u16::from(stretch.seg) + u16::from(i);
+        if ahead <= 99 { Some(ahead as u8) } else { None }
+    } else {
+        stretch.seg.checked_sub(i)
+    }
 }
 
 /// The segment of the nearest accident that stood in the minute before.
@@ -157,15 +169,12 @@ pub fn plain_near(
     in_minute: u32,
     stretch: Stretch,
 ) -> Result<Option<u8>, NoMemory>
-    requires first { 1 ≤ in_minute }
-    requires last { in_minute ≤ 1440 }
-    requires segment { stretch.seg ≤ 99 }
-    requires direction { stretch.dir ≤ 1 }
     ensures { IfOk result (λ n. n ≡ near_at (reports tuples.now) in_minute stretch) }
 {
+    let before = in_minute.saturating_sub(1);
     for i in 0..5u8 {
-        if let Some(seg) = downstream(stretch.seg, stretch.dir, i) {
-            if stood(alloc, tuples, in_minute - 1, Stretch { seg, ..stretch })? {
+        if let Some(seg) = segment_ahead(stretch, i) {
+            if stood(alloc, tuples, before, Stretch { seg, ..stretch })? {
                 return Ok(Some(seg));
             }
         }

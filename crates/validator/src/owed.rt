@@ -82,11 +82,7 @@ pub fn plain_toll(
     in_minute: u32,
     stretch: Stretch,
 ) -> Result<u64, NoMemory>
-    requires fit { IsDay tuples.now }
-    requires first { 1 ≤ in_minute }
-    requires last { in_minute ≤ 1440 }
-    requires segment { stretch.seg ≤ 99 }
-    requires direction { stretch.dir ≤ 1 }
+    requires { IsDay tuples.now }
     ensures { IfOk result (λ n. n ≡ toll_at (reports tuples.now) tariffs.now in_minute stretch) }
 {
     let count = plain_cars(alloc, tuples, in_minute, stretch)?;
