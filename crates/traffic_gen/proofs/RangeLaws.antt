@@ -10,7 +10,8 @@ use Rattle.traffic_gen.specs.declared.plan.GenPlan.{GenPlan}
 use Rattle.traffic_gen.specs.declared.crash.Crash.{Crash}
 use Rattle.traffic_gen.specs.declared.trip.Trip.{Trip}
 use Rattle.traffic_gen.specs.Plans.{first_out, InRange, end_of}
-use Rattle.traffic_gen.specs.Draws.{drawn, direction_of}
+use Rattle.draws.specs.Draws.{drawn}
+use Rattle.traffic_gen.specs.Directions.{direction_of}
 use Rattle.traffic_gen.specs.Reports.{time_at, moved, report_at}
 use Rattle.traffic_gen.specs.Crashes.{drawn_crash, IsCrash, spot_of, crash_report}
 use Rattle.traffic_gen.specs.Trips.{drawn_past, drawn_trip, IsTrip, lane_at, trip_report}

@@ -8,7 +8,7 @@ use Rattle.road_time.specs.declared.road.Report.{Report}
 use Rattle.road_time.specs.Tuples.{time_of}
 use Rattle.traffic_gen.specs.declared.plan.GenPlan.{GenPlan}
 use Rattle.traffic_gen.specs.Plans.{end_of}
-use Rattle.traffic_gen.specs.Draws.{seeded}
+use Rattle.draws.specs.Draws.{seeded}
 use Rattle.traffic_gen.specs.Reports.{reports_before}
 use Rattle.traffic_gen.specs.Crashes.{drawn_crash, crash_tuples}
 use Rattle.traffic_gen.specs.Trips.{drawn_trip, trip_tuples}

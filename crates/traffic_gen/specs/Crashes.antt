@@ -4,7 +4,8 @@ use Rattle.road_time.specs.declared.road.Tuple.{Tuple}
 use Rattle.road_time.specs.declared.road.Report.{Report}
 use Rattle.traffic_gen.specs.declared.plan.GenPlan.{GenPlan}
 use Rattle.traffic_gen.specs.declared.crash.Crash.{Crash}
-use Rattle.traffic_gen.specs.Draws.{drawn, direction_of}
+use Rattle.draws.specs.Draws.{drawn}
+use Rattle.traffic_gen.specs.Directions.{direction_of}
 use Rattle.traffic_gen.specs.Reports.{time_at, moved, report_at, reports_before}
 
 -- the five draws of a crash, and the generator after them

@@ -1,5 +1,5 @@
 pub mod Plans
-pub mod Draws
+pub mod Directions
 pub mod Reports
 pub mod Crashes
 pub mod Trips

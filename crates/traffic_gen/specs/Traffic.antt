@@ -8,7 +8,7 @@ use Rattle.traffic_gen.specs.declared.plan.GenPlan.{GenPlan}
 use Rattle.traffic_gen.specs.declared.crash.Crash.{Crash}
 use Rattle.traffic_gen.specs.declared.trip.Trip.{Trip}
 use Rattle.traffic_gen.specs.Plans.{end_of}
-use Rattle.traffic_gen.specs.Draws.{seeded}
+use Rattle.draws.specs.Draws.{seeded}
 use Rattle.traffic_gen.specs.Crashes.{drawn_crash, crash_tuples}
 use Rattle.traffic_gen.specs.Trips.{drawn_trip, trip_tuples}
 

@@ -3,9 +3,10 @@ ghost use Rattle.std.specs.Prelude.{◌≡◌, ◌≤◌, ◌<◌, ◌+◌, ◌+
 ghost use Rattle.traffic_gen.specs.Plans.{InRange};
 ghost use Rattle.traffic_gen.specs.Crashes.{drawn_crash, IsCrash, crash_report, crash_vehicle, crash_tuples};
 
-use crate::draws::{direction, draw};
+use crate::directions::direction;
 use crate::plan::GenPlan;
 use crate::reporting::{Course, Motion, add_report};
+use draws::draw;
 use rand_pcg::Lcg64Xsh32;
 use road_time::{NoMemory, Report, Tuple};
 

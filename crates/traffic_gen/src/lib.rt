@@ -5,7 +5,7 @@
 #![tactic(auto)]
 
 mod crash;
-mod draws;
+mod directions;
 mod generating;
 pub mod laws;
 mod plan;

@@ -1,6 +1,6 @@
 // Known draws, and files as they were worked out apart.
-use crate::draws::{draw, seed};
 use crate::{GenFault, GenPlan, generate};
+use draws::{draw, seed};
 use rand_core::utils::NextWord;
 use road_io::MemSink;
 use std::test::Fail;

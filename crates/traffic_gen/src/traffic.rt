@@ -4,9 +4,9 @@ ghost use Rattle.traffic_gen.specs.Plans.{InRange};
 ghost use Rattle.traffic_gen.specs.Traffic.{before_crash, before_trip, crash_traffic, trip_traffic, trips, traffic};
 
 use crate::crash::Crash;
-use crate::draws::seed;
 use crate::plan::GenPlan;
 use crate::trip::Trip;
+use draws::seed;
 use rand_pcg::Lcg64Xsh32;
 use road_time::{NoMemory, Tuple};
 use std::alloc::Global;

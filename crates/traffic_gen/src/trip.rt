@@ -4,9 +4,10 @@ ghost use Rattle.traffic_gen.specs.Plans.{InRange};
 ghost use Rattle.traffic_gen.specs.Trips.{drawn_past, drawn_trip, IsTrip, lane_at, trip_report, asks, asking_time, spent_request, requests, trip_tuples};
 ghost use Rattle.traffic_gen.specs.Reports.{reports_before};
 
-use crate::draws::{direction, draw};
+use crate::directions::direction;
 use crate::plan::GenPlan;
 use crate::reporting::{Course, Motion, add_report};
+use draws::draw;
 use rand_pcg::Lcg64Xsh32;
 use road_time::{NoMemory, Report, Tuple};
 

@@ -1,6 +1,8 @@
-// Draws from the generator.
+//! Draws from a generator that a number makes: traffic and the turns of an import are drawn so.
+#![tactic(auto)]
+
 ghost use Rattle.std.specs.Prelude.{◌≡◌, ◌<◌};
-ghost use Rattle.traffic_gen.specs.Draws.{seeded, drawn, direction_of};
+ghost use Rattle.draws.specs.Draws.{seeded, drawn};
 
 use rand_core::SeedableRng;
 use rand_core::utils::NextWord;
@@ -24,9 +26,12 @@ pub fn draw(rng: &mut Lcg64Xsh32, n: u32) -> u32
     rng.next_word() % n
 }
 
-/// The direction of a vehicle: one in four goes west.
-pub fn direction(rng: &mut Lcg64Xsh32) -> u8
-    ensures drawn { (result ≡ direction_of (drawn 4 rng.old).0) × (rng.new ≡ (drawn 4 rng.old).1) }
+/// A place below `n`, as a draw is one.
+#[tactic(auto, unfolding(crate::specs::Draws::drawn))]
+pub fn draw_place(rng: &mut Lcg64Xsh32, n: usize) -> usize
+    requires { 0 < n }
+    ensures drawn { (result ≡ (drawn n rng.old).0) × (rng.new ≡ (drawn n rng.old).1) }
+    ensures below { result < n }
 {
-    if draw(rng, 4) == 0 { 1 } else { 0 }
+    (rng.next_word() as usize) % n
 }

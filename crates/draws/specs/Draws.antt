@@ -1,4 +1,5 @@
-use Rattle.std.specs.Prelude.{ℕ, ◌%◌, ◌==◌, if◌then◌else◌}
+-- Draws from the generator.
+use Rattle.std.specs.Prelude.{ℕ, zero, suc, ◌%◌}
 use Rattle.rand_core.specs.Pcg32Seed.{pcg32_seed}
 use Rattle.rand_pcg.specs.Lcg.{Lcg}
 use Rattle.rand_pcg.specs.Pcg.{pcg32, pcg32_of_seed}
@@ -11,6 +12,7 @@ seeded seed = pcg32_of_seed (pcg32_seed 16 seed)
 unfoldable pub drawn : ℕ → Lcg → ℕ × Lcg
 drawn n g = ((pcg32 g).0 % n, (pcg32 g).1)
 
--- one vehicle in four goes west
-abbrev pub direction_of : ℕ → ℕ
-direction_of draw = if draw == 0 then 1 else 0
+-- the generator after some draws, whatever they are below
+unfoldable pub after_draws : ℕ → Lcg → Lcg
+after_draws zero g = g
+after_draws (suc n) g = (pcg32 (after_draws n g)).1
