@@ -10,7 +10,7 @@ ghost use Rattle.road_time.specs.Text.{out};
 ghost use Rattle.road_time.specs.declared.day.TheConstants.Limits.{DAY};
 ghost use Rattle.validator.specs.History.{paid, KeysDiffer};
 
-use import_once::DayReader;
+use day_reading::DayReader;
 use reports::accident_log;
 use road_io::{Sink, Source, StdSink, StdSource, put_all};
 use road_time::{Limits, NoMemory, Notice, SpentRow, Tariffs, Tuple};

@@ -10,10 +10,10 @@ use Rattle.road_io.specs.Cutter.{Cuts, FirstHas, held, ahead, number_of}
 use Rattle.road_io.specs.declared.cutter.LineCutter.{LineCutter}
 use Rattle.road_io.specs.declared.cutter.LineFault.TheVariants.{LongLine}
 use Rattle.keeper.specs.PastReads.{PastFault, OfLine, past_reads, past_after, past_at, past_rows, past_fault, past_kept, past_record}
-use Rattle.import_once.specs.declared.consumed.Consumed.{Consumed}
-use Rattle.import_once.specs.Readings.{HasTaken}
-use Rattle.import_once.proofs.BoundLaws.{nothing_there, read_within}
-use Rattle.import_once.proofs.StepLaws.{cuts_ok, taken_ok}
+use Rattle.day_reading.specs.declared.consumed.Consumed.{Consumed}
+use Rattle.day_reading.specs.Readings.{HasTaken}
+use Rattle.day_reading.proofs.BoundLaws.{nothing_there, read_within}
+use Rattle.day_reading.proofs.StepLaws.{cuts_ok, taken_ok}
 use Rattle.past_file.specs.declared.outcomes.PastCause.{PastCause}
 use Rattle.past_file.specs.declared.outcomes.PastCause.TheVariants as causes
 use Rattle.past_file.specs.declared.amounts.Amounts.{Amounts}

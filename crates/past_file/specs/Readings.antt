@@ -7,8 +7,8 @@ use Rattle.road_time.specs.Lines.{lines_of}
 use Rattle.road_io.specs.Cutter.{ahead, number_of}
 use Rattle.keeper.specs.History.{is_row}
 use Rattle.keeper.specs.PastReads.{PastFault, past_fault, past_rows, past_reads, past_after, past_kept, past_record}
-use Rattle.import_once.specs.declared.consumed.Consumed.{Consumed}
-use Rattle.import_once.specs.Readings.{HasTaken, HasRead}
+use Rattle.day_reading.specs.declared.consumed.Consumed.{Consumed}
+use Rattle.day_reading.specs.Readings.{HasTaken, HasRead}
 use Rattle.past_file.specs.Causes.{IsCause}
 use Rattle.past_file.specs.Rows.{HasRows}
 use Rattle.past_file.specs.declared.outcomes.PastCause.{PastCause}

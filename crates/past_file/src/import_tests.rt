@@ -1,10 +1,9 @@
 // Histories as they are kept, from the worked rows.
-ghost use Rattle.std.specs.Prelude.{◌≤◌};
+ghost use Rattle.std.specs.Prelude.{◌≡◌, ◌≤◌};
 
 use crate::{PastCause, PastOutcome, import_past};
-use import_once::import;
-use keeper::{KeepFault, Keeper, LateKeeper, MemKeeper};
-use road_io::{MemSink, MemSource};
+use keeper::{DayRecord, Digest, Digester, KeepFault, Keeper, LateKeeper, MemKeeper};
+use road_io::MemSource;
 use road_time::{Limits, NoMemory, SpentRow};
 use std::alloc::Global;
 
@@ -71,13 +70,26 @@ fn others(alloc: Global) -> Result<bool, KeepFault> {
     Ok(digests && other == PastOutcome::OtherBase { kept: 100 })
 }
 
+/// Day 100 without a tuple.
+fn empty_day(digest: Digest) -> DayRecord
+    ensures { result ≡ record { day = 100; digest = digest; bytes = 0; tuples = 0; notices = 0; notices_digest = digest; tariffs = digest; total = 0 } }
+{
+    DayRecord {
+        day: 100,
+        digest,
+        bytes: 0,
+        tuples: 0,
+        notices: 0,
+        notices_digest: digest,
+        tariffs: digest,
+        total: 0,
+    }
+}
+
 /// A history after a day.
 fn late(alloc: Global) -> Result<bool, KeepFault> {
-    let limits = Limits::DAY;
     let mut keeper = MemKeeper::new(alloc, &[])?;
-    let mut day = MemSource::new(alloc, b"", 7, &[])?;
-    let mut sink = MemSink::new(alloc, 0, 1)?;
-    let _stored = import(alloc, 100, 0, &limits, &mut day, &mut sink, &mut keeper);
+    keeper.put_day(&empty_day(Digester::new().finish()), &[])?;
     let late = keep(alloc, 100, 10, TWO, &[0], &mut keeper)?;
     Ok(late == PastOutcome::PastLate { last: 100 } && keeper.past()? == None)
 }

@@ -8,7 +8,7 @@ ghost use Rattle.keeper.specs.Office.{Office};
 ghost use Rattle.keeper.specs.Kept.{IsPastPut, HasNoDays};
 ghost use Rattle.keeper.specs.PastReads.{past_reads, past_record, past_kept};
 ghost use Rattle.keeper.specs.Calls.{WhenRefused, IfTold};
-ghost use Rattle.import_once.specs.Days.{ReadsWithin};
+ghost use Rattle.day_reading.specs.Days.{ReadsWithin};
 ghost use Rattle.past_file.specs.Imports.{again, unchanged, past_again, past_read, past_new, past_answer, Does, LeavesRest, NeedsNone, IsUnread, most_past, most_kept};
 ghost use Rattle.past_file.specs.declared.outcomes.PastOutcome.TheVariants.{ReadFault, KeeperFault};
 
@@ -16,7 +16,7 @@ use crate::history::History;
 use crate::judging::PastStop;
 use crate::outcomes::PastOutcome;
 use crate::whole_past::read_past;
-use import_once::find_digest;
+use day_reading::{ReadStop, find_digest};
 use keeper::{Digest, KeepFault, Keeper, PastRecord};
 use road_io::Source;
 use road_time::Limits;
@@ -37,7 +37,7 @@ fn same_or_not(kept: &PastRecord, found: Digest) -> PastOutcome
 }
 
 /// Compares the source with a history that is kept. One of another base is not compared.
-fn compare<S: Source>(kept: &PastRecord, base: u32, source: &mut S) -> PastOutcome
+fn compare<S: Source>(alloc: Global, kept: &PastRecord, base: u32, source: &mut S) -> PastOutcome
     ensures does { (w : WhenRefused) (bytes : List ℕ) (o : Office) → S.left source.old ≡ Some bytes → Does w (unchanged (past_again kept.now base bytes) o) o (Some o) result }
     ensures rest { (bytes : List ℕ) → S.left source.old ≡ Some bytes → LeavesRest result (Some kept.now) bytes (S.left source.new) }
     ensures unread { kept.now.base ≢ base → source.new ≡ source.old }
@@ -45,15 +45,17 @@ fn compare<S: Source>(kept: &PastRecord, base: u32, source: &mut S) -> PastOutco
     ensures bounded { ReadsWithin (kept.now.bytes + 1) (S.left source.old) (S.left source.new) }
     ensures unasked { result ≢ KeeperFault }
     ensures cause { result ≡ ReadFault → Rose (S.faults source.old) (S.faults source.new) }
+    ensures same { S.name source.new ≡ S.name source.old }
     ensures later { S.faults source.old ≤ S.faults source.new }
     ensures sure { NeverFails (S.plan source.old) → result ≢ ReadFault }
 {
     if kept.base != base {
         return PastOutcome::OtherBase { kept: kept.base };
     }
-    match find_digest(kept.bytes, source) {
+    match find_digest(alloc, kept.bytes, source) {
         Ok(found) => same_or_not(kept, found),
-        Err(_) => PastOutcome::ReadFault,
+        Err(ReadStop::ReadFault) => PastOutcome::ReadFault,
+        Err(ReadStop::NoMemory) => PastOutcome::NoMemory,
     }
 }
 
@@ -93,6 +95,7 @@ fn import_first<S: Source, K: Keeper>(
     ensures touched { IsUnread result → ⊥ }
     ensures bounded { ReadsWithin (most_past limits.now) (S.left source.old) (S.left source.new) }
     ensures read_cause { result ≡ ReadFault → Rose (S.faults source.old) (S.faults source.new) }
+    ensures read_same { S.name source.new ≡ S.name source.old }
     ensures read_later { S.faults source.old ≤ S.faults source.new }
     ensures read_sure { NeverFails (S.plan source.old) → result ≢ ReadFault }
     ensures keeper_cause { result ≡ KeeperFault → Rose (K.faults keeper.old) (K.faults keeper.new) }
@@ -123,6 +126,7 @@ fn import_new<S: Source, K: Keeper>(
     ensures untouched { IsUnread result → source.new ≡ source.old }
     ensures bounded { ReadsWithin (most_past limits.now) (S.left source.old) (S.left source.new) }
     ensures read_cause { result ≡ ReadFault → Rose (S.faults source.old) (S.faults source.new) }
+    ensures read_same { S.name source.new ≡ S.name source.old }
     ensures read_later { S.faults source.old ≤ S.faults source.new }
     ensures read_sure { NeverFails (S.plan source.old) → result ≢ ReadFault }
     ensures keeper_cause { result ≡ KeeperFault → Rose (K.faults keeper.old) (K.faults keeper.new) }
@@ -158,6 +162,7 @@ pub fn import_past<S: Source, K: Keeper>(
     ensures untouched { IsUnread result → source.new ≡ source.old }
     ensures bounded { (o : Office) → K.told keeper.old ≡ Some o → ReadsWithin (most_kept o.past limits.now) (S.left source.old) (S.left source.new) }
     ensures read_cause { result ≡ ReadFault → Rose (S.faults source.old) (S.faults source.new) }
+    ensures read_same { S.name source.new ≡ S.name source.old }
     ensures read_later { S.faults source.old ≤ S.faults source.new }
     ensures read_sure { NeverFails (S.plan source.old) → result ≢ ReadFault }
     ensures keeper_cause { result ≡ KeeperFault → Rose (K.faults keeper.old) (K.faults keeper.new) }
@@ -165,7 +170,7 @@ pub fn import_past<S: Source, K: Keeper>(
     ensures keeper_sure { NeverFails (K.plan keeper.old) → result ≢ KeeperFault }
 {
     match keeper.past() {
-        Ok(Some(kept)) => compare(&kept, base, source),
+        Ok(Some(kept)) => compare(alloc, &kept, base, source),
         Ok(None) => import_new(alloc, base, limits, source, keeper),
         Err(KeepFault::Failed) => PastOutcome::KeeperFault,
         Err(KeepFault::NoMemory) => PastOutcome::NoMemory,

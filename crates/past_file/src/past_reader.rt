@@ -3,7 +3,7 @@ ghost use Rattle.std.specs.Prelude.{◌≤◌, ◌*◌};
 ghost use Rattle.road_io.specs.Cutter.{number_of};
 
 use crate::amounts::Amounts;
-use import_once::Consumed;
+use day_reading::Consumed;
 use road_io::LineCutter;
 
 mod steps;

@@ -3,7 +3,7 @@ ghost use Rattle.std.specs.Prelude.{◌≡◌, ◌≢◌, ◌≤◌, ℕ, List, 
 ghost use Rattle.road_io.specs.Faults.{Rose};
 ghost use Rattle.road_io.specs.Plans.{NeverFails};
 ghost use Rattle.keeper.specs.Kept.{IsPastPut};
-ghost use Rattle.import_once.specs.Days.{ReadsWithin};
+ghost use Rattle.day_reading.specs.Days.{ReadsWithin};
 ghost use Rattle.past_file.specs.Readings.{ReadsPast};
 ghost use Rattle.past_file.specs.Imports.{most_past};
 ghost use Rattle.past_file.specs.declared.judging.PastStop.TheVariants.{ReadFault};
@@ -27,6 +27,7 @@ pub fn read_past<S: Source>(
     ensures fits { IfOk result (λ h. IsPastPut h.past h.rows.items) }
     ensures bounded { ReadsWithin (most_past limits.now) (S.left source.old) (S.left source.new) }
     ensures cause { result ≡ Err ReadFault → Rose (S.faults source.old) (S.faults source.new) }
+    ensures same { S.name source.new ≡ S.name source.old }
     ensures later { S.faults source.old ≤ S.faults source.new }
     ensures sure { NeverFails (S.plan source.old) → result ≢ Err ReadFault }
 {

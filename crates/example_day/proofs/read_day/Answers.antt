@@ -1,7 +1,7 @@
 use Rattle.std.proofs.Common.{◌≡◌, ◌++◌, ◌∷◌, [], Some, Ok, sym, subst, ◌∙◌}
 use Rattle.std.proofs.lemmas.Bool.{cond-true}
 use Rattle.road_time.specs.declared.day.TheConstants.Limits.{DAY}
-use Rattle.import_once.specs.Readings.{IsGathering, GathersOn}
+use Rattle.day_reading.specs.Readings.{IsGathering, GathersOn}
 use Rattle.example_day.proofs.read_day.Goals as goal
 
 pub reading-init : goal.reading-init

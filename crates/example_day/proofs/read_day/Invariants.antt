@@ -1,6 +1,6 @@
 use Rattle.std.proofs.Common.{◌+◌, ◌-◌, length}
 use Rattle.road_time.specs.declared.day.TheConstants.Limits.{DAY}
-use Rattle.import_once.specs.Readings.{IsGathering}
+use Rattle.day_reading.specs.Readings.{IsGathering}
 use Rattle.example_day.proofs.read_day.Given as goal
 
 abbrev pub invariant-reading : goal.invariant-reading

@@ -14,7 +14,7 @@ use crate::amounts::Amounts;
 use crate::history::History;
 use crate::judging::{PastStop, judge, refused};
 use crate::outcomes::PastCause;
-use import_once::Consumed;
+use day_reading::Consumed;
 use keeper::PastRecord;
 use road_io::{LineCutter, LineFault, Source};
 use road_time::NoMemory;
@@ -55,6 +55,7 @@ impl PastReader {
         ensures few { IfOk result (λ more. number_of self.new.cutter ≤ limit) }
         ensures unbroken { IfOk result (λ more. fault_of self.new.cutter ≡ None) }
         ensures cause { result ≡ Err ReadFault → Rose (S.faults source.old) (S.faults source.new) }
+        ensures same { S.name source.new ≡ S.name source.old }
         ensures later { S.faults source.old ≤ S.faults source.new }
         ensures sure { NeverFails (S.plan source.old) → (result ≢ Err ReadFault) × NeverFails (S.plan source.new) }
     {
@@ -84,6 +85,7 @@ impl PastReader {
         ensures bounded { number_of self.new.cutter ≤ limit + 1 }
         ensures few { IfNone result (number_of self.new.cutter ≤ limit) }
         ensures cause { result ≡ Some ReadFault → Rose (S.faults source.old) (S.faults source.new) }
+        ensures same { S.name source.new ≡ S.name source.old }
         ensures later { S.faults source.old ≤ S.faults source.new }
         ensures sure { NeverFails (S.plan source.old) → result ≢ Some ReadFault }
     {

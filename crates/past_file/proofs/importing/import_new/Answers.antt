@@ -3,7 +3,7 @@ use Rattle.keeper.specs.Office.{Office, last_day}
 use Rattle.keeper.specs.Kept.{HasNoDays}
 use Rattle.keeper.specs.Calls.{IfTold}
 use Rattle.past_file.specs.Imports.{PastAnswer, Does}
-use Rattle.import_once.proofs.KeeperLaws.{reads_same}
+use Rattle.keeper.proofs.CallLaws.{reads_same}
 use Rattle.past_file.proofs.KeepLaws.{told_no_days, told_last, first_new}
 use Rattle.past_file.proofs.importing.import_new.Goals as goal
 

@@ -2,7 +2,7 @@ use Rattle.std.proofs.Common.{◌≡◌, ◌∙◌, Option, Some, None, Ok, sym,
 use Rattle.keeper.specs.declared.kept.PastRecord.{PastRecord}
 use Rattle.keeper.specs.Office.{Office}
 use Rattle.past_file.specs.Imports.{unchanged, past_again, past_by, Does}
-use Rattle.import_once.proofs.KeeperLaws.{reads_same, reads_ok}
+use Rattle.keeper.proofs.CallLaws.{reads_same, reads_ok}
 use Rattle.past_file.proofs.importing.import_past.Goals as goal
 
 pub returns-in-Ok-Some-clause-does : goal.returns-in-Ok-Some-clause-does

@@ -12,6 +12,7 @@ invariant-reading g l = record {
   reading : (limits : Limits) (bytes : List ℕ) → limits.past ≡ l.limit → IsReading l.initial.self l.base limits (g.S.Source.left l.initial.source) bytes → IsReading l.self l.base limits (g.S.Source.left l.source) bytes;
   gathers : Gathers l.initial.self.amounts l.base → Gathers l.self.amounts l.base;
   read : (bytes : List ℕ) → HasReadOf l.initial.self (g.S.Source.left l.initial.source) bytes → HasReadOf l.self (g.S.Source.left l.source) bytes;
+  same : g.S.Source.name l.source ≡ g.S.Source.name l.initial.source;
   later : g.S.Source.faults l.initial.source ≤ g.S.Source.faults l.source;
   sure : NeverFails (g.S.Source.plan l.initial.source) → NeverFails (g.S.Source.plan l.source);
 }

@@ -1,11 +1,11 @@
 use Rattle.std.proofs.Common.{◌≡◌, ◌+◌, ◌++◌, length, List, ℕ, Option, Some, None, Ok, Err, true, false, subst}
 use Rattle.road_io.specs.Cutter.{ahead, number_of, line_of, rest_of, Cuts, Stands}
 use Rattle.road_io.specs.declared.cutter.LineFault.TheVariants.{LongLine, ReadFault}
-use Rattle.import_once.specs.Readings.{HasTaken}
+use Rattle.day_reading.specs.Readings.{HasTaken}
 use Rattle.past_file.specs.declared.outcomes.PastCause.TheVariants as causes
 use Rattle.past_file.specs.declared.judging.PastStop.{PastStop}
 use Rattle.past_file.specs.declared.judging.PastStop.TheVariants.{Row}
-use Rattle.import_once.proofs.BoundLaws.{read_line, read_end, read_fault}
+use Rattle.day_reading.proofs.BoundLaws.{read_line, read_end, read_fault}
 use Rattle.past_file.specs.Readings.{Judges}
 use Rattle.past_file.proofs.ReadLaws.{next_line, stopped_line, long_line, refused_steps, whole_end}
 use Rattle.past_file.proofs.past_reader.PastReader.read_one.Goals as goal

@@ -1,0 +1,9 @@
+pub mod LinesLaws
+pub mod IntakeLaws
+pub mod FrontLaws
+pub mod StepLaws
+pub mod BoundLaws
+pub mod GiveLaws
+pub mod GatherLaws
+pub mod CompareLaws
+pub mod AheadLaws

@@ -1,0 +1,36 @@
+-- Days that are read whole, or up to the first line that is refused.
+use Rattle.std.specs.Prelude.{ℕ, ◌≡◌, ◌≤◌, ◌+◌, ◌-◌, ◌*◌, ◌^◌, ◌<◌, List, [], length, take, drop, Option, Some, None}
+use Rattle.road_time.specs.declared.day.Limits.{Limits}
+use Rattle.road_time.specs.Lines.{lines_of}
+use Rattle.road_time.specs.Form.{Fault}
+use Rattle.tuple_format.specs.Causes.{cause_of}
+use Rattle.keeper.specs.Digests.{digest_of}
+use Rattle.day_reading.specs.declared.whole_day.DayEnd.{DayEnd}
+use Rattle.day_reading.specs.declared.whole_day.DayEnd.TheVariants.{Whole, Refused}
+
+-- how the reading of these bytes ended: at their end, or at the first line that is refused
+abbrev pub EndsReading : DayEnd → List ℕ → Option (ℕ × Fault) → Type 0
+EndsReading (Whole n digest) bytes refused = (refused ≡ None) × (n ≡ length bytes) × (digest ≡ digest_of bytes)
+EndsReading (Refused line cause) bytes refused = (fault : Fault) × (refused ≡ Some (line, fault)) × (cause_of fault ≡ cause)
+
+-- a day of fewer than 2^63 bytes
+abbrev pub IsShort : DayEnd → Type 0
+IsShort (Whole n digest) = n < 2 ^ 63
+IsShort (Refused line cause) = Unit {0}
+
+-- of the bytes that a source had, at most the first so many were read
+abbrev pub ReadsWithin : ℕ → Option (List ℕ) → Option (List ℕ) → Type 0
+ReadsWithin most before after = (bytes : List ℕ) → before ≡ Some bytes → (count : ℕ) × (count ≤ most) × (after ≡ Some (drop count bytes))
+
+-- the most that a day is read: a line more than it may have, each of 200 bytes and its end, and one buffer
+abbrev pub most_read : Limits → ℕ
+most_read limits = 201 * (limits.lines + 1) + 65536
+
+-- so many bytes of a source were read, and but for one buffer they are no more than its first so many lines
+abbrev pub StopsSoon : ℕ → List ℕ → Option (List ℕ) → Type 0
+StopsSoon line bytes left = (count : ℕ) × (left ≡ Some (drop count bytes)) × (length (lines_of (take (count - 65536) bytes)) ≤ line)
+
+-- what the reading of a day leaves of the source: nothing of a whole day, and no less than all but one buffer behind a refused line
+abbrev pub LeavesBehind : DayEnd → List ℕ → Option (List ℕ) → Type 0
+LeavesBehind (Whole n digest) bytes left = left ≡ Some []
+LeavesBehind (Refused line cause) bytes left = StopsSoon line bytes left

@@ -1,0 +1,5 @@
+pub mod Lines
+pub mod Readings
+pub mod Days
+pub mod Pieces
+pub mod Ahead

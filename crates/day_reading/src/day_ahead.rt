@@ -1,0 +1,28 @@
+// Reading a day one tuple ahead: the types.
+ghost use Rattle.road_io.specs.Cutter.{number_of};
+ghost use Rattle.day_reading.specs.Lines.{FollowsAfter};
+
+use crate::day_reader::DayReader;
+use road_time::Tuple;
+use tuple_format::Cause;
+
+mod steps;
+
+/// What follows the tuples that were given.
+#[derive(Clone, Copy, Debug, PartialEq, Eq)]
+pub enum Following {
+    /// A further tuple.
+    Waits(Tuple),
+    /// The end of the bytes.
+    Ends,
+    /// A line, counted from 1, that is refused.
+    Stops { line: u64, cause: Cause },
+}
+
+/// Reads the tuples of a day in the order of Time, one ahead of what it gives.
+#[derive(Drop)]
+pub struct DayAhead {
+    reader: DayReader,
+    following: Following,
+    ghost stops: { FollowsAfter following (number_of reader.cutter) },
+}

@@ -1,0 +1,136 @@
+// Reading a day one tuple ahead, so that it is known whether another one follows.
+ghost use Rattle.std.specs.Prelude.{◌≡◌, ◌≢◌, ◌≤◌, ◌<◌, ◌∷◌, [], ℕ, List, Option, Some, None, Ok, Err, IfOk, IfSome, is_some, length, true, false};
+ghost use Rattle.road_time.specs.declared.road.Tuple.{Tuple as TupleValue};
+ghost use Rattle.road_time.specs.declared.day.Limits.{Limits as LimitsValue};
+ghost use Rattle.road_time.specs.declared.day.TheConstants.Limits.{DAY};
+ghost use Rattle.road_time.specs.Reads.{reads};
+ghost use Rattle.road_io.specs.Faults.{Rose};
+ghost use Rattle.road_io.specs.Plans.{NeverFails};
+ghost use Rattle.road_io.specs.Cutter.{number_of};
+ghost use Rattle.day_reading.specs.Lines.{FollowsAfter};
+ghost use Rattle.day_reading.specs.Days.{EndsReading, IsShort, LeavesBehind, ReadsWithin, most_read};
+ghost use Rattle.day_reading.specs.Readings.{IsReading, IsGathering, Gives, GathersOn, HasReadOf, HasFailed};
+ghost use Rattle.day_reading.specs.Ahead.{answer_of, has_more, IsAhead, IsGatheringAhead, HasReadAhead, HasFailedAhead, GivesAhead, GathersAhead};
+ghost use Rattle.day_reading.specs.declared.whole_day.ReadStop.TheVariants.{ReadFault};
+
+use super::{DayAhead, Following};
+use crate::day_reader::DayReader;
+use crate::ending::ReadEnd;
+use crate::whole_day::{DayEnd, ReadStop, whole};
+use road_io::Source;
+use road_time::{Limits, Tuple};
+use std::alloc::Global;
+
+/// Reads what follows.
+fn look<S: Source>(reader: &mut DayReader, source: &mut S) -> Result<Following, ReadStop>
+    ensures gives { (limits : LimitsValue) (late : ℕ) (bytes : List ℕ) (given : List TupleValue)
+        → IsReading reader.old limits late (S.left source.old) bytes given
+        → IfOk result (λ f. Gives (answer_of f) reader.new limits late (S.left source.new) bytes given) }
+    ensures gathers { (limits : LimitsValue) (late : ℕ) (given : List TupleValue) → IsGathering reader.old limits late given
+        → IfOk result (λ f. GathersOn (answer_of f) reader.new limits late given) }
+    ensures read { (lines : ℕ) (bytes : List ℕ) → HasReadOf reader.old lines (S.left source.old) bytes
+        → HasReadOf reader.new lines (S.left source.new) bytes }
+    ensures after { IfOk result (λ f. FollowsAfter f (number_of reader.new.cutter)) }
+    ensures same { S.name source.new ≡ S.name source.old }
+    ensures later { S.faults source.old ≤ S.faults source.new }
+    ensures cause { (HasFailed reader.old → ⊥) → result ≡ Err ReadFault → Rose (S.faults source.old) (S.faults source.new) }
+    ensures unfailed { (HasFailed reader.old → ⊥) → result ≢ Err ReadFault → HasFailed reader.new → ⊥ }
+    ensures sure { (HasFailed reader.old → ⊥) → NeverFails (S.plan source.old)
+        → (result ≢ Err ReadFault) × NeverFails (S.plan source.new) }
+{
+    match reader.next(source) {
+        Ok(Some(tuple)) => Ok(Following::Waits(tuple)),
+        Ok(None) => Ok(Following::Ends),
+        Err(ReadEnd::Refused { line, cause }) => Ok(Following::Stops { line, cause }),
+        Err(ReadEnd::ReadFault) => Err(ReadStop::ReadFault),
+        Err(ReadEnd::NoMemory) => Err(ReadStop::NoMemory),
+    }
+}
+
+impl DayAhead {
+    /// Reads up to the first tuple. Lines may come late by up to so many seconds.
+    pub fn open<S: Source>(
+        alloc: Global,
+        limits: &Limits,
+        late: u8,
+        source: &mut S,
+    ) -> Result<DayAhead, ReadStop>
+        requires { late ≤ 120 }
+        ensures ahead { (bytes : List ℕ) → S.left source.old ≡ Some bytes
+            → IfOk result (λ d. IsAhead d limits.now late (S.left source.new) bytes []) }
+        ensures gathering { IfOk result (λ d. IsGatheringAhead d limits.now late []) }
+        ensures read { (bytes : List ℕ) → S.left source.old ≡ Some bytes
+            → IfOk result (λ d. HasReadAhead d limits.now.lines (S.left source.new) bytes) }
+        ensures bounded { ReadsWithin (most_read limits.now) (S.left source.old) (S.left source.new) }
+        ensures unfailed { IfOk result (λ d. HasFailedAhead d → ⊥) }
+        ensures same { S.name source.new ≡ S.name source.old }
+        ensures later { S.faults source.old ≤ S.faults source.new }
+        ensures cause { result ≡ Err ReadFault → Rose (S.faults source.old) (S.faults source.new) }
+        ensures sure { NeverFails (S.plan source.old) → (result ≢ Err ReadFault) × NeverFails (S.plan source.new) }
+    {
+        let Ok(mut reader) = DayReader::new(alloc, limits, late) else {
+            return Err(ReadStop::NoMemory);
+        };
+        match look(&mut reader, source) {
+            Ok(following) => Ok(DayAhead { reader, following }),
+            Err(stop) => Err(stop),
+        }
+    }
+
+    /// Whether a tuple is left.
+    pub fn more(&self) -> bool
+        ensures exact { result ≡ has_more self.now }
+        ensures all { result ≡ false → (limits : LimitsValue) (late : ℕ) (left : Option (List ℕ)) (bytes : List ℕ) (given : List TupleValue)
+            → IsAhead self.now limits late left bytes given → given ≡ (reads bytes limits late).tuples }
+        ensures some { result ≡ true → (limits : LimitsValue) (late : ℕ) (left : Option (List ℕ)) (bytes : List ℕ) (given : List TupleValue)
+            → IsAhead self.now limits late left bytes given → length given < length (reads bytes limits late).tuples }
+    {
+        matches!(self.following, Following::Waits(_))
+    }
+
+    /// Gives the tuple that waits, and reads what follows it; none where no tuple is left. A fault is answered at once.
+    pub fn next<S: Source>(&mut self, source: &mut S) -> Result<Option<Tuple>, ReadStop>
+        ensures gives { (limits : LimitsValue) (late : ℕ) (bytes : List ℕ) (given : List TupleValue)
+            → IsAhead self.old limits late (S.left source.old) bytes given
+            → GivesAhead result self.new limits late (S.left source.new) bytes given }
+        ensures gathers { (limits : LimitsValue) (late : ℕ) (given : List TupleValue) → IsGatheringAhead self.old limits late given
+            → GathersAhead result self.new limits late given }
+        ensures some { IfOk result (λ given. is_some given ≡ has_more self.old) }
+        ensures read { (lines : ℕ) (bytes : List ℕ) → HasReadAhead self.old lines (S.left source.old) bytes
+            → HasReadAhead self.new lines (S.left source.new) bytes }
+        ensures unfailed { (HasFailedAhead self.old → ⊥) → result ≢ Err ReadFault → HasFailedAhead self.new → ⊥ }
+        ensures same { S.name source.new ≡ S.name source.old }
+        ensures later { S.faults source.old ≤ S.faults source.new }
+        ensures cause { (HasFailedAhead self.old → ⊥) → result ≡ Err ReadFault
+            → Rose (S.faults source.old) (S.faults source.new) }
+        ensures sure { (HasFailedAhead self.old → ⊥) → NeverFails (S.plan source.old)
+            → (result ≢ Err ReadFault) × NeverFails (S.plan source.new) }
+    {
+        let Following::Waits(tuple) = self.following else {
+            return Ok(None);
+        };
+        match look(&mut self.reader, source) {
+            Ok(following) => {
+                self.following = following;
+                Ok(Some(tuple))
+            }
+            Err(stop) => Err(stop),
+        }
+    }
+
+    /// How the reading ended, where no tuple is left.
+    pub fn end(self) -> DayEnd
+        requires { has_more self ≡ false }
+        ensures exact { (limits : LimitsValue) (late : ℕ) (left : Option (List ℕ)) (bytes : List ℕ) (given : List TupleValue)
+            → IsAhead self limits late left bytes given → EndsReading result bytes (reads bytes limits late).refused }
+        ensures left { (limits : LimitsValue) (late : ℕ) (left : Option (List ℕ)) (bytes : List ℕ) (given : List TupleValue)
+            → IsAhead self limits late left bytes given → HasReadAhead self limits.lines left bytes → LeavesBehind result bytes left }
+        ensures short { (limits : LimitsValue) (late : ℕ) (given : List TupleValue) → IsGatheringAhead self limits late given
+            → limits.lines ≤ DAY.lines → IsShort result }
+    {
+        match self.following {
+            Following::Stops { line, cause } => DayEnd::Refused { line, cause },
+            Following::Waits(_) | Following::Ends => whole(self.reader),
+        }
+    }
+}

@@ -1,0 +1,26 @@
+// Reading a day: the type.
+ghost use Rattle.std.specs.Prelude.{◌≡◌, ◌≤◌, ◌+◌, ◌*◌, None};
+ghost use Rattle.road_io.specs.Cutter.{number_of, fault_of};
+ghost use Rattle.day_reading.specs.Lines.{StopsAfter};
+
+use crate::consumed::Consumed;
+use crate::ending::Ending;
+use crate::intake::Intake;
+use road_io::LineCutter;
+
+mod steps;
+
+/// Reads the tuples of a day one by one, in the order of Time.
+#[derive(Drop)]
+pub struct DayReader {
+    cutter: LineCutter,
+    intake: Intake,
+    consumed: Consumed,
+    given: u64,
+    end: Option<Ending>,
+    ghost few_lines: { number_of cutter ≤ intake.line_limit + 1 },
+    ghost goes_on: { end ≡ None → number_of cutter ≤ intake.line_limit },
+    ghost unbroken: { end ≡ None → fault_of cutter ≡ None },
+    ghost stops: { StopsAfter end (number_of cutter) },
+    ghost few_bytes: { consumed.bytes ≤ 201 * number_of cutter },
+}

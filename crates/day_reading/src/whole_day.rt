@@ -1,0 +1,101 @@
+// A day, read whole.
+ghost use Rattle.std.specs.Prelude.{◌≡◌, ◌≢◌, ◌≤◌, List, ℕ, Option, Some, None, Err, IfOk};
+ghost use Rattle.road_time.specs.Fits.{Fit, IsLimits};
+ghost use Rattle.road_time.specs.Reads.{reads};
+ghost use Rattle.road_io.specs.Faults.{Rose};
+ghost use Rattle.road_io.specs.Plans.{NeverFails};
+ghost use Rattle.road_io.specs.Cutter.{ahead};
+ghost use Rattle.day_reading.specs.Days.{EndsReading, IsShort, ReadsWithin, LeavesBehind, most_read};
+ghost use Rattle.day_reading.specs.Readings.{HasTaken, HasRead};
+ghost use Rattle.day_reading.specs.declared.whole_day.ReadStop.TheVariants.{ReadFault};
+
+use crate::day_reader::DayReader;
+use crate::ending::ReadEnd;
+use keeper::Digest;
+use road_io::Source;
+use road_time::{Limits, Tuple};
+use std::alloc::Global;
+use tuple_format::Cause;
+
+/// How the reading of a day ended.
+#[derive(Clone, Copy, Debug, PartialEq, Eq)]
+pub enum DayEnd {
+    /// At the end of its bytes.
+    Whole { bytes: u64, digest: Digest },
+    /// At this line, counted from 1, the first that is refused.
+    Refused { line: u64, cause: Cause },
+}
+
+/// The tuples of a day in the order of Time, and how its reading ended.
+#[derive(Drop)]
+pub struct Day {
+    pub tuples: Vec<Tuple>,
+    pub end: DayEnd,
+}
+
+/// Why a reading has no result.
+#[derive(Clone, Copy, Debug, PartialEq, Eq)]
+pub enum ReadStop {
+    ReadFault,
+    NoMemory,
+}
+
+/// How many bytes a reader that is done has taken, and their digest.
+pub fn whole(reader: DayReader) -> DayEnd
+    ensures exact { (bytes : List ℕ) → HasTaken reader.consumed bytes → EndsReading result bytes None }
+    ensures left { (left : Option (List ℕ)) (bytes : List ℕ) → HasTaken reader.consumed bytes
+        → HasRead (ahead reader.cutter left) reader.consumed bytes → LeavesBehind result bytes left }
+    ensures short { reader.intake.line_limit ≤ 16000000 → IsShort result }
+{
+    let bytes = reader.bytes();
+    DayEnd::Whole {
+        bytes,
+        digest: reader.digest(),
+    }
+}
+
+/// Reads a day to its end or to the first line that is refused. Lines may come late by up to so many seconds.
+pub fn read_day<S: Source>(
+    alloc: Global,
+    limits: &Limits,
+    late: u8,
+    source: &mut S,
+) -> Result<Day, ReadStop>
+    requires within { IsLimits limits.now }
+    requires soon { late ≤ 120 }
+    ensures tuples { (bytes : List ℕ) → S.left source.old ≡ Some bytes → IfOk result (λ d. d.tuples.items ≡ (reads bytes limits.now late).tuples) }
+    ensures end { (bytes : List ℕ) → S.left source.old ≡ Some bytes → IfOk result (λ d. EndsReading d.end bytes (reads bytes limits.now late).refused) }
+    ensures fit { IfOk result (λ d. Fit d.tuples.items limits.now) }
+    ensures short { IfOk result (λ d. IsShort d.end) }
+    ensures left { (bytes : List ℕ) → S.left source.old ≡ Some bytes → IfOk result (λ d. LeavesBehind d.end bytes (S.left source.new)) }
+    ensures bounded { ReadsWithin (most_read limits.now) (S.left source.old) (S.left source.new) }
+    ensures cause { result ≡ Err ReadFault → Rose (S.faults source.old) (S.faults source.new) }
+    ensures sure { NeverFails (S.plan source.old) → (result ≢ Err ReadFault) × NeverFails (S.plan source.new) }
+    ensures same { S.name source.new ≡ S.name source.old }
+    ensures later { S.faults source.old ≤ S.faults source.new }
+{
+    let Ok(mut reader) = DayReader::new(alloc, limits, late) else {
+        return Err(ReadStop::NoMemory);
+    };
+    let _lines = limits.lines;
+    let mut tuples = Vec::new(alloc);
+    'reading: loop {
+        match reader.next(source) {
+            Ok(Some(tuple)) => {
+                if tuples.push(tuple).is_err() {
+                    return Err(ReadStop::NoMemory);
+                }
+            }
+            Ok(None) => {
+                let end = whole(reader);
+                return Ok(Day { tuples, end });
+            }
+            Err(ReadEnd::Refused { line, cause }) => {
+                let end = DayEnd::Refused { line, cause };
+                return Ok(Day { tuples, end });
+            }
+            Err(ReadEnd::ReadFault) => return Err(ReadStop::ReadFault),
+            Err(ReadEnd::NoMemory) => return Err(ReadStop::NoMemory),
+        }
+    }
+}
