@@ -1,0 +1,9 @@
+pub mod Numbers
+pub mod Lists
+pub mod Told
+pub mod Tellings
+pub mod Places
+pub mod Entries
+pub mod Threads
+pub mod Marks
+pub mod Callers
