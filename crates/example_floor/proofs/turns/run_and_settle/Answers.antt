@@ -1,0 +1,50 @@
+use Rattle.std.proofs.Common.{◌≡◌, rules, sym, ap, ◌∙◌, subst}
+use Rattle.std.specs.Io.KnownBytes.{Appends}
+use Rattle.road_time.specs.Day.{notices, sum_of}
+use Rattle.road_time.specs.Text.{out}
+use Rattle.settling.specs.Boards.{IsAbreast}
+use Rattle.watermark.specs.Shares.{mark}
+use Rattle.example_floor.specs.Turns.{after_runs}
+use Rattle.example_floor.proofs.RunLaws.{well, ok_is, if_one, when_both, runs_settled, all_written}
+use Rattle.example_floor.proofs.turns.run_and_settle.Goals as goal
+
+pub settle-requires : goal.settle-requires
+settle-requires g c =
+    let e = c.requires.serves.0 in
+    let s = c.requires.serves.1 in
+    let st = c.requires.serves.2 in
+    let ok = well c.run_all.result (search rules) in (
+      e,
+      after_runs e.tariffs s c.args.width,
+      ok_is c.run_all.result ok c.run_all.ensures.ran e s st,
+      c.requires.serves.3,
+      c.requires.serves.4,
+      subst (λ cs. IsAbreast (g.P.Publisher.posted c.args.publisher.now) (sum_of cs)) (sym (ok_is c.run_all.result ok c.run_all.ensures.charged e s st)) c.requires.serves.5,
+    )
+
+pub returns-clause-settled : goal.returns-clause-settled
+returns-clause-settled g c =
+    let ok = well c.run_all.result (search rules) in
+    if_one c.settle.result
+    (λ n settled e s st number history home are.
+    let t = after_runs e.tariffs s c.args.width in
+    let mid = ok_is c.run_all.result ok c.run_all.ensures.ran e s st in
+    let answered = ok_is c.run_all.result ok c.run_all.ensures.answered e s st home are in
+    let now = settled e t mid number history in
+    (now.0 ∙ ap (λ w. mark w t) (c.run_all.ensures.width ∙ sym c.requires.width) ∙ answered.mark_is, now.1))
+    c.settle.ensures.settled
+
+pub returns-clause-wrote : goal.returns-clause-wrote
+returns-clause-wrote g c =
+    let ok = well c.run_all.result (search rules) in
+    when_both c.settle.result
+    (λ n settled wrote e s kept st number history known home are none.
+    let t = after_runs e.tariffs s c.args.width in
+    let mid = ok_is c.run_all.result ok c.run_all.ensures.ran e s st in
+    let answered = ok_is c.run_all.result ok c.run_all.ensures.answered e s st home are in
+    let to : n ≡ mark c.args.width t = (settled e t mid number history).0 ∙ ap (λ w. mark w t) (c.run_all.ensures.width ∙ sym c.requires.width) in
+    let all =
+    all_written e s t c.args.width n kept (g.O.Sink.written c.args.sink.now) (g.O.Sink.written c.settle.new.sink) answered (runs_settled e.tariffs s c.args.width ∙ none) to known
+    (wrote e t mid number history) in
+    subst (λ d. Appends (g.O.Sink.written c.args.sink.now) (g.O.Sink.written c.settle.new.sink) (out (notices s.fed e.tariffs d kept))) number all.1)
+    c.settle.ensures.settled c.settle.ensures.wrote

@@ -1,0 +1,31 @@
+// A day's tuples, from its lines.
+ghost use Rattle.std.specs.Prelude.{IfSome};
+ghost use Rattle.road_time.specs.Fits.{Fit};
+ghost use Rattle.road_time.specs.declared.day.TheConstants.Limits.{DAY};
+
+use day_reading::DayReader;
+use road_io::Source;
+use road_time::{Limits, Tuple};
+use std::alloc::Global;
+
+/// All tuples of a day, none where a line is refused, a read fails or memory ends.
+pub(crate) fn read_day<S: Source>(alloc: Global, source: &mut S) -> Option<Vec<Tuple>>
+    ensures { IfSome result (λ d. Fit d.items DAY) }
+{
+    let limits = Limits::DAY;
+    let Ok(mut reader) = DayReader::new(alloc, &limits, 0) else {
+        return None;
+    };
+    let mut tuples = Vec::new(alloc);
+    'reading: loop {
+        match reader.next(source) {
+            Ok(Some(tuple)) => {
+                if tuples.push(tuple).is_err() {
+                    return None;
+                }
+            }
+            Ok(None) => return Some(tuples),
+            Err(_) => return None,
+        }
+    }
+}

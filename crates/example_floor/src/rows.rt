@@ -1,0 +1,132 @@
+// The rows: each a day of a few lines.
+ghost use Rattle.std.specs.Prelude.{◌≡◌, ◌≤◌, ◌<◌, ℕ, Some, [], length, OnOk};
+ghost use Rattle.std.specs.Io.KnownBytes.{Appends};
+ghost use Rattle.road_time.specs.Fits.{Fit};
+ghost use Rattle.road_time.specs.declared.day.TheConstants.Limits.{DAY};
+ghost use Rattle.road_time.specs.Day.{notices};
+ghost use Rattle.road_time.specs.Text.{out};
+ghost use Rattle.settling.specs.Answers.{history_of};
+
+use crate::feeding::feed_all;
+use crate::reading::read_day;
+use crate::showing::{show_end, show_floor};
+use crate::turns::{run_all, run_and_settle};
+use accounts::NoPublisher;
+use keeper::{Keeper, MemKeeper};
+use road_io::{MemSink, MemSource, Sink};
+use road_time::{Limits, Tariffs, Tuple};
+use settling::{Closed, SettleFault};
+use std::rt::HostRuntime;
+use std::str;
+use watermark::Floor;
+
+/// The number of the day.
+const NUMBER: u32 = 100;
+
+/// How many bytes a source gives and a sink takes at once.
+const PIECE: usize = 64;
+
+/// Feeds a day's tuples, runs each worker's job, settles and closes. What is written is the output of the rules.
+fn settle_day<K: Keeper, O: Sink>(
+    rt: HostRuntime,
+    width: u8,
+    tuples: &[Tuple],
+    keeper: &mut K,
+    sink: &mut O,
+) -> Result<Closed, SettleFault>
+    requires some { 1 ≤ width }
+    requires few { width ≤ 64 }
+    requires fit { Fit tuples.now DAY }
+    requires room { length tuples.now ≤ DAY.backlog }
+    ensures { OnOk result ((kept : ℕ → ℕ → ℕ → ℕ) → history_of (K.told keeper.old) ≡ Some kept → Appends (O.written sink.old) (O.written sink.new) (out (notices tuples.now [] 100 kept))) }
+{
+    let tariffs = Tariffs::new(rt.alloc());
+    let Ok(mut floor) = Floor::new(rt.alloc(), width, &Limits::DAY, &tariffs) else {
+        return Err(SettleFault::NoMemory);
+    };
+    let Ok(()) = feed_all(&mut floor, tuples) else {
+        return Err(SettleFault::NoMemory);
+    };
+    let _before = show_floor(rt, floor.pending(), floor.room(), floor.mark()).is_ok();
+    if let Err(fault) = run_and_settle(
+        rt,
+        &mut floor,
+        width,
+        NUMBER,
+        keeper,
+        sink,
+        &mut NoPublisher,
+    ) {
+        return Err(fault);
+    }
+    let _after = show_floor(rt, floor.pending(), floor.room(), floor.mark()).is_ok();
+    match floor.close(NUMBER) {
+        Ok(closed) => Ok(closed),
+        Err(_) => Err(SettleFault::NoMemory),
+    }
+}
+
+/// Prints what is done with a day's lines: over so many workers, a keeper that fails at some calls, and a sink with room
+/// for so many bytes.
+fn show_row(
+    rt: HostRuntime,
+    title: &str,
+    width: u8,
+    lines: &str,
+    fails: &[u32],
+    room: usize,
+) -> bool
+    requires some { 1 ≤ width }
+    requires few { width ≤ 64 }
+{
+    let _titled = println!(rt; "-- {title}").is_ok();
+    let Ok(mut source) = MemSource::new(rt.alloc(), lines.as_bytes(), PIECE, &[]) else {
+        return false;
+    };
+    let Some(tuples) = read_day(rt.alloc(), &mut source) else {
+        return false;
+    };
+    if tuples.len() > PIECE {
+        return false;
+    }
+    let Ok(mut keeper) = MemKeeper::new(rt.alloc(), fails) else {
+        return false;
+    };
+    let Ok(mut sink) = MemSink::new(rt.alloc(), room, PIECE) else {
+        return false;
+    };
+    let end = settle_day(rt, width, tuples.as_slice(), &mut keeper, &mut sink);
+    let written = str::from_utf8(sink.bytes()).unwrap_or("");
+    show_end(rt, &end, written).is_ok()
+}
+
+/// One report is fed over two workers.
+pub(crate) fn one_report(rt: HostRuntime) -> bool {
+    let lines = "0,0,7,30,0,0,0,10,52800,-1,-1,-1,-1,-1,-1\n";
+    show_row(rt, "one report", 2, lines, &[], 1_000)
+}
+
+/// A vehicle stands in four reports, leaves for the other direction and then for another expressway.
+pub(crate) fn route_of_three_workers(rt: HostRuntime) -> bool {
+    let lines = "0,0,1,0,0,2,0,10,55000,-1,-1,-1,-1,-1,-1\n\
+        0,30,1,0,0,2,0,10,55000,-1,-1,-1,-1,-1,-1\n\
+        0,60,1,0,0,2,0,10,55000,-1,-1,-1,-1,-1,-1\n\
+        0,90,1,0,0,2,0,10,55000,-1,-1,-1,-1,-1,-1\n\
+        0,120,1,50,0,1,1,10,52800,-1,-1,-1,-1,-1,-1\n\
+        0,150,1,50,1,1,0,5,26400,-1,-1,-1,-1,-1,-1\n\
+        2,151,1,-1,-1,-1,-1,-1,-1,9,-1,-1,-1,-1,-1\n";
+    show_row(rt, "a route of three workers", 3, lines, &[], 1_000)
+}
+
+/// The sink has room for five bytes of eleven.
+pub(crate) fn sink_with_little_room(rt: HostRuntime) -> bool {
+    let lines = "0,0,7,30,0,0,0,10,52800,-1,-1,-1,-1,-1,-1\n";
+    show_row(rt, "a sink with little room", 1, lines, &[], 5)
+}
+
+/// The keeper fails at its second call: the first request is answered, and no more.
+pub(crate) fn keeper_that_fails(rt: HostRuntime) -> bool {
+    let lines = "3,0,7,-1,0,-1,-1,-1,-1,8,-1,-1,-1,-1,1\n\
+        3,0,7,-1,0,-1,-1,-1,-1,9,-1,-1,-1,-1,2\n";
+    show_row(rt, "a keeper that fails", 1, lines, &[1], 1_000)
+}

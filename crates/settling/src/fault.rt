@@ -1,0 +1,24 @@
+// Why settling is stopped.
+ghost use Rattle.std.specs.Prelude.{◌≡◌};
+
+use road_time::NoMemory;
+
+/// Why settling is stopped.
+#[derive(Clone, Copy, Debug, PartialEq, Eq)]
+pub enum SettleFault {
+    /// The keeper failed, and counted it.
+    KeeperFault,
+    /// The sink failed, and counted it.
+    WriteFault,
+    NoMemory,
+}
+
+impl From<NoMemory> for SettleFault {
+    ghost use Rattle.settling.specs.declared.fault.SettleFault.TheVariants.{NoMemory};
+
+    ghost from_gives = { λ _ fault. fault ≡ NoMemory };
+
+    fn from(_error: NoMemory) -> Self {
+        SettleFault::NoMemory
+    }
+}

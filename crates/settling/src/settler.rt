@@ -1,0 +1,48 @@
+// What is kept of the positions that are settled.
+ghost use Rattle.std.specs.Prelude.{ℕ, ◌≡◌, []};
+ghost use Rattle.road_time.specs.Sights.{Sight};
+ghost use Rattle.road_time.specs.Tolls.{Finding};
+ghost use Rattle.settling.specs.Answers.{History};
+ghost use Rattle.settling.specs.Runs.{StandsFor};
+
+mod closing;
+mod publishing;
+mod reports;
+mod runs;
+mod slots;
+
+use crate::printer::Printer;
+use accounts::{Book, Charged};
+pub use closing::{Closed, SpentRows};
+use std::alloc::Global;
+
+/// What is kept of the positions that are settled: the book, the text that was written, and how many there are.
+/// Between two runs no text is held and no charge is listed; their room is kept.
+#[derive(Drop)]
+pub struct Settler {
+    book: Book,
+    printer: Printer,
+    charges: Vec<Charged>,
+    settled: u64,
+}
+
+impl Settler {
+    /// Nothing is settled. It takes no memory.
+    pub fn new(alloc: Global) -> Self
+        ensures { (finding : Sight → Finding) (number : ℕ) (history : History) → StandsFor result finding number history [] }
+    {
+        Settler {
+            book: Book::new(alloc),
+            printer: Printer::new(alloc),
+            charges: Vec::new(alloc),
+            settled: 0,
+        }
+    }
+
+    /// How many positions are settled.
+    pub fn settled(&self) -> u64
+        ensures { result ≡ self.now.settled }
+    {
+        self.settled
+    }
+}

@@ -1,0 +1,70 @@
+// A report is charged, and then told.
+ghost use Rattle.std.specs.Prelude.{◌≡◌, ◌<◌, ◌≤◌, ◌+◌, ◌^◌, ◌++◌, false, map, OnOk};
+ghost use Rattle.accounts.specs.Operations.{charge_of};
+ghost use Rattle.settling.specs.Answers.{told_notices};
+ghost use Rattle.settling.specs.Books.{WasTold, charges_for, charged_with, told_with};
+ghost use Rattle.settling.specs.Faults.{SinkFaults, keeper_failed};
+ghost use Rattle.settling.specs.Printing.{Says};
+
+use super::Settler;
+use crate::booking::charge_stay;
+use crate::fault::SettleFault;
+use crate::slot::Found;
+use crossings::Charge;
+use road_io::Sink;
+
+impl Settler {
+    /// Tells a report what was found, if it is told.
+    fn tell<O: Sink>(
+        &mut self,
+        time: u32,
+        vid: u32,
+        told: bool,
+        found: Found,
+        sink: &mut O,
+    ) -> Result<(), SettleFault>
+        requires toll { found.toll ≤ 500000000000 }
+        requires count { self.old.printer.notices + 2 < 2 ^ 64 }
+        ensures booked { OnOk result (self.new.book ≡ told_with told vid found.toll self.old.book) }
+        ensures says { Says result self.old.printer self.new.printer (O.written sink.old) (O.written sink.new) (told_notices told time vid found) }
+        ensures charges { self.new.charges ≡ self.old.charges }
+        ensures settled { self.new.settled ≡ self.old.settled }
+        ensures faults { SinkFaults (O.faults sink.old) (O.faults sink.new) (O.room sink.old) (O.room sink.new) result }
+        ensures other { keeper_failed result ≡ false }
+    {
+        if !told {
+            return Ok(());
+        }
+        if self.book.notify(vid, found.toll).is_err() {
+            return Err(SettleFault::NoMemory);
+        }
+        self.printer.put_told(time, vid, found, sink)
+    }
+
+    /// Settles a report: the stay that it leaves is charged the toll that was told last, and only then it is told its own.
+    pub(super) fn settle_report<O: Sink>(
+        &mut self,
+        time: u32,
+        vid: u32,
+        charge: Charge,
+        told: bool,
+        found: Found,
+        sink: &mut O,
+    ) -> Result<(), SettleFault>
+        requires told { WasTold charge vid self.old.book }
+        requires few { self.old.book.made < 16000000 }
+        requires toll { found.toll ≤ 500000000000 }
+        requires count { self.old.printer.notices + 2 < 2 ^ 64 }
+        ensures booked { OnOk result (self.new.book ≡ told_with told vid found.toll (charged_with (charges_for charge vid self.old.book) self.old.book)) }
+        ensures listed { OnOk result (map charge_of self.new.charges.items ≡ map charge_of self.old.charges.items ++ charges_for charge vid self.old.book) }
+        ensures says { Says result self.old.printer self.new.printer (O.written sink.old) (O.written sink.new) (told_notices told time vid found) }
+        ensures settled { self.new.settled ≡ self.old.settled }
+        ensures faults { SinkFaults (O.faults sink.old) (O.faults sink.new) (O.room sink.old) (O.room sink.new) result }
+        ensures other { keeper_failed result ≡ false }
+    {
+        if charge_stay(&mut self.book, &mut self.charges, vid, charge).is_err() {
+            return Err(SettleFault::NoMemory);
+        }
+        self.tell(time, vid, told, found, sink)
+    }
+}

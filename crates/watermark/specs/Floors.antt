@@ -1,0 +1,63 @@
+use Rattle.std.specs.Prelude.{◌≡◌, ℕ, ◌-◌, true, false, List, Option, Some, None, slice_get, vec_len, take, drop}
+use Rattle.road_time.specs.declared.day.Limits.{Limits}
+use Rattle.road_time.specs.Rates.{Tariffs}
+use Rattle.road_time.specs.Day.{given}
+use Rattle.expressway.specs.Kept.{Kept}
+use Rattle.expressway.specs.Stands.{StandsFor as CarriageStandsFor}
+use Rattle.watermark.specs.declared.floor.Floor.{Floor}
+use Rattle.watermark.specs.Terms.{AreTerms}
+use Rattle.watermark.specs.Shares.{Share, State, is_empty}
+use Rattle.watermark.specs.Sound.{IsSound}
+use Rattle.settling.specs.Slots.{slots_of}
+use Rattle.watermark.specs.Desks.{StandFor}
+use Rattle.settling.specs.declared.fault.SettleFault.{SettleFault}
+use Rattle.settling.specs.Answers.{History}
+use Rattle.settling.specs.Runs.{WritesRun, WritesSomeOfRun, StandsFor as SettlerStandsFor}
+
+-- a worker's carriage is out with a job, or it is at home and stands for the events that are back
+abbrev pub IsHome : Tariffs → Option Kept → Share → Type 0
+IsHome tariffs None share = is_empty share.out ≡ false
+IsHome tariffs (Some c) share = (is_empty share.out ≡ true) × CarriageStandsFor c share.back × (c.tariffs ≡ tariffs)
+
+abbrev pub HomeAt : Tariffs → List (Option Kept) → ℕ → Share → Type 0
+HomeAt tariffs homes w share = (home : Option Kept) → slice_get homes w ≡ Some home → IsHome tariffs home share
+
+-- how many workers a floor has, and its limits
+abbrev pub width_of : Floor → ℕ
+width_of f = f.inboxes.width
+
+abbrev pub limits_of : Floor → Limits
+limits_of f = f.limits
+
+-- under which tariffs a floor works, on which day, and after which history
+pub record Setting : Type 0 where
+  pub tariffs : Tariffs
+  pub number : ℕ
+  pub history : History
+
+-- a floor stands for a state, in a setting: its inboxes for the tuples fed, its slots for those that wait with what was found for them, its homes for the shares, and its
+-- settler for the tuples that are settled
+pub record StandsFor (g : Setting) (f : Floor) (s : State) : Type 0 where
+  pub terms : AreTerms (width_of f) (limits_of f)
+  pub sound : IsSound (width_of f) (limits_of f) s
+  pub inboxes : StandFor f.inboxes s.fed s.share
+  pub slots : f.slots.items ≡ slots_of (given s.found) (take s.settled s.fed) (drop s.settled s.fed)
+  pub homes_width : vec_len f.homes ≡ width_of f
+  pub homes : (w : ℕ) → HomeAt g.tariffs f.homes.items w (s.share w)
+  pub settler : SettlerStandsFor f.settler (given s.found) g.number g.history (take s.settled s.fed)
+  pub settled : f.settled ≡ s.settled
+  pub given_is : f.given ≡ s.given
+
+-- a floor stands for some state
+pub record Serves (f : Floor) : Type 0 where
+  pub setting : Setting
+  pub state : State
+  pub stands : StandsFor setting f state
+
+-- the text of the notices of the positions from those settled up to n was written
+abbrev pub Writes : Setting → State → ℕ → Option (List ℕ) → Option (List ℕ) → Type 0
+Writes g s n old now = WritesRun (given s.found) g.number g.history (take s.settled s.fed) (take (n - s.settled) (drop s.settled s.fed)) old now
+
+-- or some first bytes of it
+abbrev pub WritesSome : SettleFault → Setting → State → ℕ → Option (List ℕ) → Option (List ℕ) → Type 0
+WritesSome fault g s n old now = WritesSomeOfRun fault (given s.found) g.number g.history (take s.settled s.fed) (take (n - s.settled) (drop s.settled s.fed)) old now
