@@ -1,0 +1,17 @@
+pub mod OpenLaws
+pub mod RunLaws
+pub mod FinishLaws
+pub mod FeedLaws
+pub mod RoundLaws
+pub mod SettleLaws
+pub mod PublishLaws
+pub mod FrontLaws
+pub mod ReaderLaws
+pub mod HaltLaws
+pub mod DayLaws
+pub mod GrowLaws
+pub mod OutcomeLaws
+pub mod LoopLaws
+pub mod JobLaws
+pub mod TurnLaws
+pub mod TurnedLaws

@@ -1,0 +1,21 @@
+use Rattle.std.proofs.Common.{◌≡◌, List, length}
+use Rattle.std.specs.Prelude.{Option}
+use Rattle.expressway.specs.declared.finding.Finding.{Finding}
+use Rattle.partition_workers.specs.Told.{Told}
+use Rattle.watermark.specs.Shares.{State}
+use Rattle.watermark.specs.Floors.{Setting}
+use Rattle.day_rounds.specs.Runs.{Runs, IsLater}
+use Rattle.day_rounds.proofs.rounds.finish_firsts.Given as goal
+
+abbrev pub invariant-loop-run : goal.invariant-loop-run
+invariant-loop-run g l =
+    let k = g.C.Crew in
+    record {
+      width : l.run.floor.inboxes.width ≡ l.fn.run.floor.inboxes.width;
+      limits : l.run.floor.limits ≡ l.fn.run.floor.limits;
+      which : k.which l.crew ≡ k.which l.fn.crew;
+      came : (e : Setting) (told : Option Told) (answered : Option (List Finding)) (s : State) → Runs k.out k.number k.holds k.gave k.exact k.jobs k.answers e told answered l.fn.run l.fn.crew s → (now : State) × IsLater s now × Runs k.out k.number k.holds k.gave k.exact k.jobs k.answers e told answered l.run l.crew now;
+    }
+
+abbrev pub decreases-loop-run : goal.decreases-loop-run
+decreases-loop-run g l = length l.run.tickets.items

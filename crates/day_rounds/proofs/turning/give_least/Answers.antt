@@ -1,0 +1,42 @@
+use Rattle.std.proofs.Common.{◌≡◌, ◌+◌, ◌<◌, ◌∙◌, refl, sym, arith, subst}
+use Rattle.watermark.proofs.Inbox.{when_err}
+use Rattle.day_rounds.specs.Turns.{IsGiven}
+use Rattle.day_rounds.proofs.TurnLaws.{given_same, given_then}
+use Rattle.day_rounds.proofs.turning.give_least.Goals as goal
+
+pub loop-worker-init : goal.loop-worker-init
+loop-worker-init g c = record { width = refl; limits = refl; which = refl; given = λ e told answered s h. (s, 0, given_same c.args.run.now.floor.inboxes.width s, h, λ none v k. absurd (omega (arith, k))) }
+
+pub give_if_none-requires-clause-runs : goal.give_if_none-requires-clause-runs
+give_if_none-requires-clause-runs g c =
+    let (e, told, answered, s, h) = c.requires.runs in
+    let (now, n, given, runs, waits) = c.loop-worker.invariant.given e told answered s h in
+    (e, told, answered, now, runs)
+
+pub returns-in_err-give_if_none-clause-refused : goal.returns-in_err-give_if_none-clause-refused
+returns-in_err-give_if_none-clause-refused g c =
+    when_err c.from_residual.result
+    (λ e told answered s h.
+    let (now, n, given, runs, waits) = c.loop-worker.invariant.given e told answered s h in
+    (now, n, given, c.in_err-give_if_none.ensures.refused e told answered now runs))
+
+pub loop-worker-preserved : goal.loop-worker-preserved
+loop-worker-preserved g c =
+    let inv = c.loop-worker.invariant in
+    let v = c.in_ok-give_if_none.ensures in
+    let w = c.args.run.now.floor.inboxes.width in
+    record {
+      width = v.width ∙ inv.width;
+      limits = v.limits ∙ inv.limits;
+      which = v.which ∙ inv.which;
+      given = λ e told answered s h.
+          let (mid, n, given, runs, waits) = inv.given e told answered s h in
+          let (now, m, more, all, least) = v.given e told answered mid runs in
+          (now, n + m, given_then w n m s mid now given (subst (λ k. IsGiven k m mid now) inv.width more), all, least waits);
+    }
+
+pub returns-clause-given : goal.returns-clause-given
+returns-clause-given g c e told answered s h =
+    let all : c.loop-worker.worker ≡ c.args.width = omega (arith, c.loop-worker.auto.worker-end, c.loop-worker-test.false) in
+    let (now, n, given, runs, waits) = c.loop-worker.invariant.given e told answered s h in
+    (now, n, given, runs, λ none v k. waits none v (subst (λ m. v < m) (sym all) k))

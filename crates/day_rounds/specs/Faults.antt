@@ -1,0 +1,42 @@
+-- When a day is stopped, and by what.
+use Rattle.std.specs.Prelude.{ℕ, ◌≡◌, ◌≢◌, ◌≤◌, List, Option, Some, Result, Err}
+use Rattle.road_io.specs.Faults.{Rose}
+use Rattle.road_time.specs.declared.road.Tuple.{Tuple}
+use Rattle.road_time.specs.Day.{notices}
+use Rattle.road_time.specs.Text.{out}
+use Rattle.day_reading.specs.declared.whole_day.ReadStop.{ReadStop}
+use Rattle.day_reading.specs.declared.whole_day.ReadStop.TheVariants as reading
+use Rattle.settling.specs.declared.fault.SettleFault.{SettleFault}
+use Rattle.settling.specs.declared.fault.SettleFault.TheVariants as settle
+use Rattle.settling.specs.Printing.{WritesFront, WritesLess}
+use Rattle.watermark.specs.Floors.{Setting}
+use Rattle.day_rounds.specs.declared.fault.DayFault.{DayFault}
+use Rattle.day_rounds.specs.declared.fault.DayFault.TheVariants.{ReadFault, WriteFault, KeeperFault, NoMemory}
+
+-- the fault of a day whose settling was stopped
+abbrev pub of_settling : SettleFault → DayFault
+of_settling settle.KeeperFault = KeeperFault
+of_settling settle.WriteFault = WriteFault
+of_settling settle.NoMemory = NoMemory
+
+-- the fault of a day whose reading was stopped
+abbrev pub of_reading : ReadStop → DayFault
+of_reading reading.ReadFault = ReadFault
+of_reading reading.NoMemory = NoMemory
+
+-- a count of faults never falls; it rose where this fault is the answer; and over an object that never fails it is not
+pub record IsCounted {T : Type 0} (fault : DayFault) (before now : ℕ) (fine left : Type 0) (result : Result T DayFault) : Type 0 where
+  pub later : before ≤ now
+  pub cause : result ≡ Err fault → Rose before now
+  pub sure : fine → (result ≢ Err fault) × left
+
+-- some first bytes of a text were written where a day was stopped, and after a write fault not all
+abbrev pub WritesUpTo : DayFault → List ℕ → Option (List ℕ) → Option (List ℕ) → Type 0
+WritesUpTo ReadFault text old new = WritesFront text old new
+WritesUpTo WriteFault text old new = WritesLess text old new
+WritesUpTo KeeperFault text old new = WritesFront text old new
+WritesUpTo NoMemory text old new = WritesFront text old new
+
+-- some first bytes of a day's output were written
+abbrev pub HasDayFront : DayFault → Setting → List Tuple → Option (List ℕ) → Option (List ℕ) → Type 0
+HasDayFront fault e day first now = (kept : ℕ → ℕ → ℕ → ℕ) → e.history ≡ Some kept → WritesUpTo fault (out (notices day e.tariffs e.number kept)) first now

@@ -1,0 +1,12 @@
+pub mod Tasks
+pub mod Published
+pub mod Fronts
+pub mod Faults
+pub mod Readers
+pub mod Halts
+pub mod Days
+pub mod Runs
+pub mod Rounds
+pub mod Imports
+pub mod Turns
+pub mod Outcomes

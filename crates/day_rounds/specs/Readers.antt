@@ -1,0 +1,11 @@
+-- A reader in the midst of a day that is imported.
+use Rattle.std.specs.Prelude.{ℕ, ◌++◌, List, Option}
+use Rattle.road_time.specs.declared.road.Tuple.{Tuple}
+use Rattle.road_time.specs.declared.day.Limits.{Limits}
+use Rattle.day_reading.specs.declared.day_ahead.DayAhead.{DayAhead}
+use Rattle.day_reading.specs.Ahead.{IsAhead, IsGatheringAhead}
+
+-- a reader gave some tuples more, of a day under these limits and at this lateness
+pub record HasGiven (limits : Limits) (late : ℕ) (xs : List Tuple) (old new : DayAhead) (was left : Option (List ℕ)) : Type 0 where
+  pub gathers : (given : List Tuple) → IsGatheringAhead old limits late given → IsGatheringAhead new limits late (given ++ xs)
+  pub reads : (bytes : List ℕ) (given : List Tuple) → IsAhead old limits late was bytes given → IsAhead new limits late left bytes (given ++ xs)

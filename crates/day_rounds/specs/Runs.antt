@@ -1,0 +1,105 @@
+-- What holds of an import between two steps.
+use Rattle.std.specs.Prelude.{◌≡◌, ℕ, zero, suc, ◌+◌, ◌≤◌, Bool, true, false, List, [], ◌∷◌, ◌++◌, length, map, Option, Some, None, if◌then◌else◌}
+use Rattle.road_time.specs.Tolls.{Finding as RoadFinding}
+use Rattle.road_time.specs.declared.road.Tuple.{Tuple}
+use Rattle.expressway.specs.declared.job.Job.{Job}
+use Rattle.expressway.specs.declared.finding.Finding.{Finding}
+use Rattle.expressway.specs.Findings.{shown}
+use Rattle.partition_workers.specs.Told.{Told}
+use Rattle.partition_workers.specs.Callers.{HasOut, IsListingWhereTold}
+use Rattle.watermark.specs.Shares.{State, can_give, mark}
+use Rattle.watermark.specs.Steps.{after_feed, after_give, after_back}
+use Rattle.watermark.specs.Written.{settled_text, settled_charges}
+use Rattle.expressway.specs.Results.{AreFirst}
+use Rattle.road_time.specs.declared.day.Limits.{Limits}
+use Rattle.road_time.specs.Fits.{Fit}
+use Rattle.watermark.specs.Sound.{CanBack, IsSound, IsTrue}
+use Rattle.watermark.specs.Starts.{Start, HaveStarted}
+use Rattle.watermark.specs.Floors.{Setting, StandsFor}
+use Rattle.day_rounds.specs.Tasks.{AreOpen}
+use Rattle.day_rounds.specs.Published.{settled_between}
+use Rattle.day_rounds.specs.declared.begun.Import.{Import}
+
+-- a job, as the list of those that were started has it
+abbrev pub start_of : Job → Start
+start_of job = record { worker = job.worker; number = job.number; events = job.events }
+
+-- the findings that a crew answered since, where it tells them, are those that were found
+abbrev pub HasAnswered : Option (List Finding) → List (ℕ × RoadFinding) → Option (List Finding) → Type 0
+HasAnswered None found None = Unit {0}
+HasAnswered None found (Some now) = ⊥
+HasAnswered (Some was) found None = ⊥
+HasAnswered (Some was) found (Some now) = (since : List Finding) × (now ≡ was ++ since) × (map shown since ≡ found)
+
+-- an import on a crew, between two steps: its floor stands for a state; its tickets are those of the jobs that are out; with an exact crew the findings are true;
+-- and of the jobs started since it began, and the findings answered, the crew tells what was told to it and by it
+pub record Runs {S T : Type 0} (out : S → List ℕ) (number : T → ℕ) (holds : S → ℕ → Job → Type 0) (gave : S → T → Type 0) (exact : Bool) (jobs : S → Option Told) (answers : S → Option (List Finding))
+    (e : Setting) (told : Option Told) (answered : Option (List Finding)) (run : Import T) (crew : S) (s : State) : Type 0 where
+  pub stands : StandsFor e run.floor s
+  pub tasks : List (T × Job)
+  pub tickets : map (λ t. t.0) tasks ≡ run.tickets.items
+  pub held : HasOut out number holds gave crew tasks
+  pub open' : AreOpen e.tariffs run.floor.inboxes.width s (map (λ t. t.1) tasks)
+  pub right : exact ≡ true → IsTrue e.tariffs run.floor.inboxes.width s
+  pub since : List Job
+  pub starts : HaveStarted run.floor.inboxes.width run.floor.limits.backlog s (map start_of since)
+  pub listing : IsListingWhereTold told since (out crew) false (jobs crew)
+  pub answers_are : HasAnswered answered s.found (answers crew)
+
+-- and after a refusal, in the import of a day: the jobs that are left to be finished, and those that were started, which are the first of each worker's
+pub record Stopped {S T : Type 0} (out : S → List ℕ) (number : T → ℕ) (holds : S → ℕ → Job → Type 0) (gave : S → T → Type 0) (jobs : S → Option Told)
+    (told : Option Told) (width : ℕ) (limits : Limits) (day : List Tuple) (run : Import T) (crew : S) : Type 0 where
+  pub state : State
+  pub sound : IsSound width limits state
+  pub first : AreFirst state.fed day
+  pub tasks : List (T × Job)
+  pub tickets : map (λ t. t.0) tasks ≡ run.tickets.items
+  pub held : HasOut out number holds gave crew tasks
+  pub since : List Job
+  pub starts : HaveStarted width limits.backlog state (map start_of since)
+  pub listing : IsListingWhereTold told since (out crew) true (jobs crew)
+
+-- a worker is given its next job, if there is one
+abbrev pub given_if : State → ℕ → State
+given_if s worker = if can_give (s.share worker) then after_give s worker else s
+
+-- one job came back
+pub record CameBack (width : ℕ) (s now : State) : Type 0 where
+  pub worker : ℕ
+  pub job : ℕ
+  pub found : List (ℕ × RoadFinding)
+  pub can : CanBack width s worker job found
+  pub is : now ≡ after_back s worker found
+
+-- the first so many workers are given their next jobs, one after another
+abbrev pub given_all : State → ℕ → State
+given_all s zero = s
+given_all s (suc worker) = given_if (given_all s worker) worker
+
+-- some tuples are fed, one after another
+abbrev pub fed_all : ℕ → State → List Tuple → State
+fed_all width s [] = s
+fed_all width s (x ∷ xs) = fed_all width (after_feed width s x) xs
+
+-- nothing was fed, given or settled from one state to a later one
+pub record IsLater (s now : State) : Type 0 where
+  pub fed : now.fed ≡ s.fed
+  pub settled : now.settled ≡ s.settled
+  pub waiting : (worker : ℕ) → (now.share worker).waiting ≡ (s.share worker).waiting
+  pub text : (day : ℕ) (kept : ℕ → ℕ → ℕ → ℕ) → settled_text day kept now ≡ settled_text day kept s
+  pub charges : settled_charges now ≡ settled_charges s
+  pub between : (a b : ℕ) → settled_between now a b ≡ settled_between s a b
+
+-- some tuples may be fed, one after another
+pub record CanFeedAll (limits : Limits) (s : State) (xs : List Tuple) : Type 0 where
+  pub fit : Fit (s.fed ++ xs) limits
+  pub room : length s.fed + length xs ≤ s.settled + limits.backlog
+
+-- some tuples were fed, and all that was fed is done; what was settled stays
+pub record IsDone (width : ℕ) (s : State) (xs : List Tuple) (now : State) : Type 0 where
+  pub fed : now.fed ≡ s.fed ++ xs
+  pub settled : now.settled ≡ s.settled
+  pub text : (day : ℕ) (kept : ℕ → ℕ → ℕ → ℕ) → settled_text day kept now ≡ settled_text day kept s
+  pub charges : settled_charges now ≡ settled_charges s
+  pub between : (a b : ℕ) → settled_between now a b ≡ settled_between s a b
+  pub done : mark width now ≡ length now.fed

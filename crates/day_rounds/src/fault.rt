@@ -1,0 +1,39 @@
+// Why a day is stopped.
+ghost use Rattle.std.specs.Prelude.{◌≡◌};
+ghost use Rattle.day_rounds.specs.Faults.{of_settling, of_reading};
+
+use day_reading::ReadStop;
+use settling::SettleFault;
+
+/// Why a day is stopped.
+#[derive(Clone, Copy, Debug, PartialEq, Eq)]
+pub enum DayFault {
+    /// The source failed, and counted it.
+    ReadFault,
+    /// The sink failed, and counted it.
+    WriteFault,
+    /// The keeper failed, and counted it.
+    KeeperFault,
+    NoMemory,
+}
+
+/// Settling was stopped.
+pub(crate) fn settling_stopped(fault: SettleFault) -> DayFault
+    ensures { result ≡ of_settling fault }
+{
+    match fault {
+        SettleFault::KeeperFault => DayFault::KeeperFault,
+        SettleFault::WriteFault => DayFault::WriteFault,
+        SettleFault::NoMemory => DayFault::NoMemory,
+    }
+}
+
+/// Reading was stopped.
+pub(crate) fn reading_stopped(stop: ReadStop) -> DayFault
+    ensures { result ≡ of_reading stop }
+{
+    match stop {
+        ReadStop::ReadFault => DayFault::ReadFault,
+        ReadStop::NoMemory => DayFault::NoMemory,
+    }
+}

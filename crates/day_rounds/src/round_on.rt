@@ -1,0 +1,95 @@
+// A round over the next tuples of a day.
+ghost use Rattle.std.specs.Prelude.{true, ◌≡◌, ◌≤◌, [], ℕ, List, Option, IfOk, IfErr, OnOk, length};
+ghost use Rattle.road_time.specs.declared.road.Tuple.{Tuple as RoadTuple};
+ghost use Rattle.road_time.specs.Day.{sum_of};
+ghost use Rattle.road_io.specs.Plans.{NeverFails};
+ghost use Rattle.road_io.specs.Rooms.{Endless};
+ghost use Rattle.day_reading.specs.Ahead.{has_more, IsGatheringAhead, HasReadAhead, HasFailedAhead};
+ghost use Rattle.expressway.specs.declared.finding.Finding.{Finding};
+ghost use Rattle.partition_workers.specs.Told.{Told};
+ghost use Rattle.settling.specs.Answers.{history_of};
+ghost use Rattle.settling.specs.Boards.{IsAbreast};
+ghost use Rattle.watermark.specs.Shares.{State};
+ghost use Rattle.watermark.specs.Written.{settled_charges};
+ghost use Rattle.watermark.specs.Floors.{Setting};
+ghost use Rattle.day_rounds.specs.Runs.{Runs};
+ghost use Rattle.day_rounds.specs.Rounds.{IsSettled};
+ghost use Rattle.day_rounds.specs.Readers.{HasGiven};
+ghost use Rattle.day_rounds.specs.Halts.{IsHalted};
+ghost use Rattle.day_rounds.specs.Faults.{IsCounted};
+ghost use Rattle.day_rounds.specs.declared.fault.DayFault.TheVariants.{ReadFault, WriteFault, KeeperFault};
+
+use crate::begun::Import;
+use crate::fault::{DayFault, reading_stopped, settling_stopped};
+use crate::rounding::round;
+use crate::supply::gather;
+use accounts::Publisher;
+use day_reading::DayAhead;
+use keeper::Keeper;
+use partition_workers::Crew;
+use road_io::{Sink, Source};
+use road_time::Tuple;
+
+/// A round over the next tuples of a day, as many as there is room for. It answers how many are settled.
+pub fn next_round<C: Crew, S: Source, K: Keeper, O: Sink, P: Publisher>(
+    run: &mut Import<C::Ticket>,
+    crew: &mut C,
+    width: u8,
+    ahead: &mut DayAhead,
+    source: &mut S,
+    these: &mut Vec<Tuple>,
+    day: u32,
+    keeper: &mut K,
+    sink: &mut O,
+    publisher: &mut P,
+) -> Result<u64, DayFault>
+    requires width { width ≡ run.old.floor.inboxes.width }
+    requires none { run.old.tickets.items ≡ [] }
+    requires unfailed { HasFailedAhead ahead.old → ⊥ }
+    requires runs { (e : Setting) × (told : Option Told) × (answered : Option (List Finding)) × (late : ℕ) × (s : State)
+        × Runs C.out C.number C.holds C.gave C.exact C.jobs C.answers e told answered run.old crew.old s × IsGatheringAhead ahead.old run.old.floor.limits late s.fed
+        × (e.number ≡ day) × (e.history ≡ history_of (K.told keeper.old)) × IsAbreast (P.posted publisher.old) (sum_of (settled_charges s)) }
+    ensures width { run.new.floor.inboxes.width ≡ run.old.floor.inboxes.width }
+    ensures limits { run.new.floor.limits ≡ run.old.floor.limits }
+    ensures crew { C.which crew.new ≡ C.which crew.old }
+    ensures none { OnOk result (run.new.tickets.items ≡ []) }
+    ensures done { IfOk result (λ n. (e : Setting) (told : Option Told) (answered : Option (List Finding)) (late : ℕ) (s : State)
+        → Runs C.out C.number C.holds C.gave C.exact C.jobs C.answers e told answered run.old crew.old s → IsGatheringAhead ahead.old run.old.floor.limits late s.fed
+        → e.number ≡ day → e.history ≡ history_of (K.told keeper.old)
+        → (xs : List RoadTuple) × (now : State) × HasGiven run.old.floor.limits late xs ahead.old ahead.new (S.left source.old) (S.left source.new)
+        × IsSettled run.old.floor.limits.backlog e s xs (O.written sink.old) (O.written sink.new) (P.posted publisher.old) (P.posted publisher.new) now
+        × (n ≡ now.settled) × Runs C.out C.number C.holds C.gave C.exact C.jobs C.answers e told answered run.new crew.new now
+        × IsAbreast (P.posted publisher.new) (sum_of (settled_charges now))
+        × (s.settled ≡ length s.fed → has_more ahead.old ≡ true → 1 ≤ length xs)) }
+    ensures halted { IfErr result (λ fault. (e : Setting) (told : Option Told) (answered : Option (List Finding)) (late : ℕ) (s : State)
+        → Runs C.out C.number C.holds C.gave C.exact C.jobs C.answers e told answered run.old crew.old s → IsGatheringAhead ahead.old run.old.floor.limits late s.fed
+        → e.number ≡ day → e.history ≡ history_of (K.told keeper.old)
+        → IsHalted C.out C.number C.holds C.gave C.exact C.jobs fault e told run.old.floor.inboxes.width run.old.floor.limits late s ahead.old (S.left source.old)
+        (O.written sink.old) (O.written sink.new) (P.posted publisher.old) (P.posted publisher.new) run.new crew.new) }
+    ensures unfailed { OnOk result (HasFailedAhead ahead.new → ⊥) }
+    ensures read { (lines : ℕ) (bytes : List ℕ) → HasReadAhead ahead.old lines (S.left source.old) bytes → HasReadAhead ahead.new lines (S.left source.new) bytes }
+    ensures source_same { S.name source.new ≡ S.name source.old }
+    ensures publisher { P.which publisher.new ≡ P.which publisher.old }
+    ensures same { K.told keeper.new ≡ K.told keeper.old }
+    ensures source { IsCounted ReadFault (S.faults source.old) (S.faults source.new) (NeverFails (S.plan source.old)) (NeverFails (S.plan source.new)) result }
+    ensures sink { IsCounted WriteFault (O.faults sink.old) (O.faults sink.new) (O.room sink.old ≡ Endless) (O.room sink.new ≡ Endless) result }
+    ensures keeper { IsCounted KeeperFault (K.faults keeper.old) (K.faults keeper.new) (NeverFails (K.plan keeper.old)) (NeverFails (K.plan keeper.new)) result }
+{
+    let room = run.floor.room() as usize;
+    match gather(ahead, source, room, these) {
+        Err(stop) => Err(reading_stopped(stop)),
+        Ok(()) => match round(
+            run,
+            crew,
+            width,
+            these.as_slice(),
+            day,
+            keeper,
+            sink,
+            publisher,
+        ) {
+            Ok(settled) => Ok(settled),
+            Err(fault) => Err(settling_stopped(fault)),
+        },
+    }
+}

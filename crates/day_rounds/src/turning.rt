@@ -1,0 +1,141 @@
+// What is given and finished in a turn, as a generator draws it.
+ghost use Rattle.std.specs.Prelude.{◌≡◌, ◌≤◌, ◌<◌, ◌+◌, [], ℕ, List, Option, OnOk, OnErr, length};
+ghost use Rattle.road_time.specs.declared.road.Tuple.{Tuple as RoadTuple};
+ghost use Rattle.draws.specs.Draws.{drawn, after_draws};
+ghost use Rattle.expressway.specs.Results.{AreFirst};
+ghost use Rattle.expressway.specs.declared.finding.Finding.{Finding};
+ghost use Rattle.partition_workers.specs.Told.{Told};
+ghost use Rattle.watermark.specs.Shares.{State, mark};
+ghost use Rattle.watermark.specs.Floors.{Setting};
+ghost use Rattle.day_rounds.specs.Runs.{Runs, Stopped};
+ghost use Rattle.day_rounds.specs.Turns.{IsGiven, IsMoved};
+
+use crate::begun::Import;
+use crate::finish::finish_one;
+use crate::give::give_one;
+use draws::{draw, draw_place};
+use partition_workers::Crew;
+use rand_pcg::Lcg64Xsh32;
+use road_time::NoMemory;
+
+/// A worker, as it is drawn.
+fn pick(rng: &mut Lcg64Xsh32, width: u8) -> u8
+    requires { 0 < width }
+    ensures below { result < width }
+    ensures drawn { (result ≡ (drawn width rng.old).0) × (rng.new ≡ (drawn width rng.old).1) }
+{
+    draw(rng, u32::from(width)) as u8
+}
+
+/// As many times as there are workers, one is drawn and given its next job, if there is one.
+pub fn give_drawn<C: Crew>(
+    run: &mut Import<C::Ticket>,
+    crew: &mut C,
+    width: u8,
+    rng: &mut Lcg64Xsh32,
+) -> Result<(), NoMemory>
+    requires width { width ≡ run.old.floor.inboxes.width }
+    requires runs { (e : Setting) × (told : Option Told) × (answered : Option (List Finding)) × (s : State) × Runs C.out C.number C.holds C.gave C.exact C.jobs C.answers e told answered run.old crew.old s }
+    ensures width { run.new.floor.inboxes.width ≡ run.old.floor.inboxes.width }
+    ensures limits { run.new.floor.limits ≡ run.old.floor.limits }
+    ensures which { C.which crew.new ≡ C.which crew.old }
+    ensures given { (e : Setting) (told : Option Told) (answered : Option (List Finding)) (s : State) → Runs C.out C.number C.holds C.gave C.exact C.jobs C.answers e told answered run.old crew.old s → (now : State) × (k : ℕ) × IsGiven run.old.floor.inboxes.width k s now × Runs C.out C.number C.holds C.gave C.exact C.jobs C.answers e told answered run.new crew.new now }
+    ensures drawn { OnOk result (rng.new ≡ after_draws width rng.old) }
+{
+    for _count in 0..width {
+        let worker = pick(rng, width);
+        give_one(run, crew, worker)?;
+    }
+    Ok(())
+}
+
+/// Where no ticket is held, a worker is given its next job, if there is one.
+fn give_if_none<C: Crew>(
+    run: &mut Import<C::Ticket>,
+    crew: &mut C,
+    worker: u8,
+) -> Result<(), NoMemory>
+    requires within { worker < run.old.floor.inboxes.width }
+    requires runs { (e : Setting) × (told : Option Told) × (answered : Option (List Finding)) × (s : State) × Runs C.out C.number C.holds C.gave C.exact C.jobs C.answers e told answered run.old crew.old s }
+    ensures width { run.new.floor.inboxes.width ≡ run.old.floor.inboxes.width }
+    ensures limits { run.new.floor.limits ≡ run.old.floor.limits }
+    ensures which { C.which crew.new ≡ C.which crew.old }
+    ensures given { OnOk result ((e : Setting) (told : Option Told) (answered : Option (List Finding)) (s : State) → Runs C.out C.number C.holds C.gave C.exact C.jobs C.answers e told answered run.old crew.old s → (now : State) × (k : ℕ) × IsGiven run.old.floor.inboxes.width k s now × Runs C.out C.number C.holds C.gave C.exact C.jobs C.answers e told answered run.new crew.new now × (((run.old.tickets.items ≡ []) → (v : ℕ) → v < worker → (s.share v).waiting ≡ []) → run.new.tickets.items ≡ [] → (v : ℕ) → v < worker + 1 → (now.share v).waiting ≡ [])) }
+    ensures refused { OnErr result ((e : Setting) (told : Option Told) (answered : Option (List Finding)) (s : State) → Runs C.out C.number C.holds C.gave C.exact C.jobs C.answers e told answered run.old crew.old s → Runs C.out C.number C.holds C.gave C.exact C.jobs C.answers e told answered run.new crew.new s) }
+{
+    if !run.tickets.is_empty() {
+        return Ok(());
+    }
+    give_one(run, crew, worker)
+}
+
+/// Where no ticket is held, the least worker for which events wait is given its job.
+pub fn give_least<C: Crew>(
+    run: &mut Import<C::Ticket>,
+    crew: &mut C,
+    width: u8,
+) -> Result<(), NoMemory>
+    requires width { width ≡ run.old.floor.inboxes.width }
+    requires runs { (e : Setting) × (told : Option Told) × (answered : Option (List Finding)) × (s : State) × Runs C.out C.number C.holds C.gave C.exact C.jobs C.answers e told answered run.old crew.old s }
+    ensures width { run.new.floor.inboxes.width ≡ run.old.floor.inboxes.width }
+    ensures limits { run.new.floor.limits ≡ run.old.floor.limits }
+    ensures which { C.which crew.new ≡ C.which crew.old }
+    ensures given { OnOk result ((e : Setting) (told : Option Told) (answered : Option (List Finding)) (s : State) → Runs C.out C.number C.holds C.gave C.exact C.jobs C.answers e told answered run.old crew.old s → (now : State) × (k : ℕ) × IsGiven run.old.floor.inboxes.width k s now × Runs C.out C.number C.holds C.gave C.exact C.jobs C.answers e told answered run.new crew.new now × (run.new.tickets.items ≡ [] → (worker : ℕ) → worker < width → (now.share worker).waiting ≡ [])) }
+    ensures refused { OnErr result ((e : Setting) (told : Option Told) (answered : Option (List Finding)) (s : State) → Runs C.out C.number C.holds C.gave C.exact C.jobs C.answers e told answered run.old crew.old s → (now : State) × (k : ℕ) × IsGiven run.old.floor.inboxes.width k s now × Runs C.out C.number C.holds C.gave C.exact C.jobs C.answers e told answered run.new crew.new now) }
+{
+    for worker in 0..width {
+        give_if_none(run, crew, worker)?;
+    }
+    Ok(())
+}
+
+/// Finishes some of the jobs that are out, each drawn. After a refusal the floor serves no more.
+pub fn finish_drawn<C: Crew>(
+    run: &mut Import<C::Ticket>,
+    crew: &mut C,
+    rng: &mut Lcg64Xsh32,
+) -> Result<(), NoMemory>
+    requires runs { (e : Setting) × (told : Option Told) × (answered : Option (List Finding)) × (s : State) × Runs C.out C.number C.holds C.gave C.exact C.jobs C.answers e told answered run.old crew.old s }
+    ensures width { run.new.floor.inboxes.width ≡ run.old.floor.inboxes.width }
+    ensures limits { run.new.floor.limits ≡ run.old.floor.limits }
+    ensures which { C.which crew.new ≡ C.which crew.old }
+    ensures came { OnOk result ((e : Setting) (told : Option Told) (answered : Option (List Finding)) (s : State) → Runs C.out C.number C.holds C.gave C.exact C.jobs C.answers e told answered run.old crew.old s → (now : State) × (k : ℕ) × IsMoved run.old.floor.inboxes.width k s now × (length run.new.tickets.items + k ≡ length run.old.tickets.items) × Runs C.out C.number C.holds C.gave C.exact C.jobs C.answers e told answered run.new crew.new now) }
+    ensures some { OnOk result (1 ≤ length run.old.tickets.items → length run.new.tickets.items + 1 ≤ length run.old.tickets.items) }
+    ensures stopped { OnErr result ((e : Setting) (told : Option Told) (answered : Option (List Finding)) (s : State) → Runs C.out C.number C.holds C.gave C.exact C.jobs C.answers e told answered run.old crew.old s → (day : List RoadTuple) → AreFirst s.fed day → Stopped C.out C.number C.holds C.gave C.jobs told run.old.floor.inboxes.width run.old.floor.limits day run.new crew.new) }
+    ensures none { OnOk result (length run.old.tickets.items ≡ 0 → rng.new ≡ rng.old) }
+    ensures drawn { OnOk result (1 ≤ length run.old.tickets.items
+        → (length run.new.tickets.items + (1 + (drawn (length run.old.tickets.items) rng.old).0) ≡ length run.old.tickets.items)
+        × (rng.new ≡ after_draws (2 + (drawn (length run.old.tickets.items) rng.old).0) rng.old)) }
+{
+    let held = run.tickets.len();
+    if held == 0 {
+        return Ok(());
+    }
+    let more = draw_place(rng, held);
+    let left = held - 1 - more;
+    while run.tickets.len() > left {
+        let place = draw_place(rng, run.tickets.len());
+        finish_one(run, crew, place)?;
+    }
+    Ok(())
+}
+
+/// Some workers are given their jobs, and some jobs that are out are finished, as they are drawn.
+pub fn work_turn<C: Crew>(
+    run: &mut Import<C::Ticket>,
+    crew: &mut C,
+    width: u8,
+    rng: &mut Lcg64Xsh32,
+) -> Result<(), NoMemory>
+    requires width { width ≡ run.old.floor.inboxes.width }
+    requires runs { (e : Setting) × (told : Option Told) × (answered : Option (List Finding)) × (s : State) × Runs C.out C.number C.holds C.gave C.exact C.jobs C.answers e told answered run.old crew.old s }
+    ensures width { run.new.floor.inboxes.width ≡ run.old.floor.inboxes.width }
+    ensures limits { run.new.floor.limits ≡ run.old.floor.limits }
+    ensures which { C.which crew.new ≡ C.which crew.old }
+    ensures worked { OnOk result ((e : Setting) (told : Option Told) (answered : Option (List Finding)) (s : State) → Runs C.out C.number C.holds C.gave C.exact C.jobs C.answers e told answered run.old crew.old s → (now : State) × (k : ℕ) × IsMoved run.old.floor.inboxes.width k s now × Runs C.out C.number C.holds C.gave C.exact C.jobs C.answers e told answered run.new crew.new now × (k ≡ 0 → mark run.old.floor.inboxes.width s ≡ length s.fed)) }
+    ensures stopped { OnErr result ((e : Setting) (told : Option Told) (answered : Option (List Finding)) (s : State) → Runs C.out C.number C.holds C.gave C.exact C.jobs C.answers e told answered run.old crew.old s → (day : List RoadTuple) → AreFirst s.fed day → Stopped C.out C.number C.holds C.gave C.jobs told run.old.floor.inboxes.width run.old.floor.limits day run.new crew.new) }
+{
+    give_drawn(run, crew, width, rng)?;
+    give_least(run, crew, width)?;
+    finish_drawn(run, crew, rng)
+}
