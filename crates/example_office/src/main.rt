@@ -1,14 +1,15 @@
 //! The program's commands, by `office`, on the example day and on the worked rows of kept state: over a keeper in memory, and
-//! over a keeper in a file that is opened anew for each command.
+//! over a keeper in a file that is opened anew for each command, each job in a thread of its own.
 //!
 //! What it must print was worked out apart from this code. Behind each command's text stands its status. `old.db` is a
 //! database of version 1 that sqlite3 made.
 #![tactic(auto)]
 
-ghost use Rattle.import_once.specs.Days.{IsLimits};
+ghost use Rattle.road_time.specs.Fits.{IsLimits};
 
 use keeper::{Keeper, MemKeeper};
 use office_commands::office;
+use partition_workers::{NoGate, ThreadCrew};
 use road_io::{FileSource, MemSink, Sink, StdSink};
 use road_time::Limits;
 use sqlite::{File, FileStore};
@@ -33,7 +34,7 @@ const EXAMPLE_DAY: [Step; 11] = [
         file: "past.csv",
     },
     Step {
-        command: "answers 100",
+        command: "answers 100 --workers 3",
         file: "day.csv",
     },
     Step {
@@ -45,7 +46,7 @@ const EXAMPLE_DAY: [Step; 11] = [
         file: "day.csv",
     },
     Step {
-        command: "import 100",
+        command: "import 100 --workers 64 --turns 2",
         file: "day.csv",
     },
     Step {
@@ -272,6 +273,7 @@ fn answer<O: Sink, K: Keeper>(
     let words = words_of(rt, step.command)?;
     let mut source = FileSource::at(rt.alloc(), rt, step.file)?;
     let mut aside = FileSource::at(rt.alloc(), rt, "notices.txt")?;
+    let mut crew = ThreadCrew::new(rt, rt.alloc(), NoGate);
     Ok(office(
         rt.alloc(),
         words.as_slice(),
@@ -280,6 +282,7 @@ fn answer<O: Sink, K: Keeper>(
         &mut aside,
         sink,
         keeper,
+        &mut crew,
     ))
 }
 

@@ -1,13 +1,4 @@
-pub mod IntakeLaws
-pub mod FrontLaws
-pub mod StepLaws
-pub mod BoundLaws
-pub mod GiveLaws
-pub mod GatherLaws
-pub mod PrintLaws
-pub mod HistoryLaws
-pub mod KeeperLaws
-pub mod StoreLaws
-pub mod CompareLaws
-pub mod ImportLaws
-pub mod RepeatLaws
+mod WorkLaws
+mod FinishLaws
+mod JobLaws
+mod RepeatLaws

@@ -14,7 +14,7 @@ use Rattle.keeper.specs.Kept.{kept_record, next_office}
 use Rattle.keeper.specs.Calls.{WhenRefused, PutsNothing, FailsLate, AllOrNothing, Leaves}
 use Rattle.import_once.specs.declared.outcomes.Outcome.{Outcome}
 use Rattle.import_once.specs.declared.outcomes.Outcome.TheVariants.{Stored, Already, Answered, Refused, DayPassed, Differs, ReadFault, WriteFault, KeeperFault, NoMemory}
-use Rattle.import_once.specs.Imports.{Answer, Does, import_by, import_new, import_read, import_answer}
+use Rattle.import_once.specs.Imports.{Answer, Does, unless_recorded, unless_passed, import_read, import_answer}
 use Rattle.import_once.specs.Laws.{KeepsOnce, KeepOnce, after_all, RepeatLaw, OnceLaw}
 
 -- where an element that fits stands last, one is found
@@ -86,12 +86,12 @@ read_office number bytes day None o = inr refl
 read_office number bytes day (Some (line, fault)) o = inl refl
 
 -- what importing a day that is not kept leaves
-new_office : (number late : ℕ) (limits : Limits) (bytes : List ℕ) (o : Office) → ((import_new number late limits bytes o).office ≡ o) ⊎ ((import_new number late limits bytes o).office ≡ next_office number bytes (reads bytes limits late).tuples o)
+new_office : (number late : ℕ) (limits : Limits) (bytes : List ℕ) (o : Office) → ((unless_passed (import_read number bytes (reads bytes limits late).tuples (reads bytes limits late).refused o) number o).office ≡ o) ⊎ ((unless_passed (import_read number bytes (reads bytes limits late).tuples (reads bytes limits late).refused o) number o).office ≡ next_office number bytes (reads bytes limits late).tuples o)
 new_office number late limits bytes o =
     ⊎_elim
     (λ (passed : nat_le number (last_day o) ≡ true). inl (ap (λ (a : Answer). a.office) (cond-true (nat_le number (last_day o)) _ _ passed)))
     (λ (later : nat_le number (last_day o) ≡ false). (
-    let e : import_new number late limits bytes o ≡ import_read number bytes (reads bytes limits late).tuples (reads bytes limits late).refused o = cond-false (nat_le number (last_day o)) _ _ later in
+    let e : unless_passed (import_read number bytes (reads bytes limits late).tuples (reads bytes limits late).refused o) number o ≡ import_read number bytes (reads bytes limits late).tuples (reads bytes limits late).refused o = cond-false (nat_le number (last_day o)) _ _ later in
     subst (λ (a : Answer). (a.office ≡ o) ⊎ (a.office ≡ next_office number bytes (reads bytes limits late).tuples o)) (sym e) (read_office number bytes (reads bytes limits late).tuples (reads bytes limits late).refused o)))
     (cases_Bool (nat_le number (last_day o)))
 
@@ -99,12 +99,12 @@ none_some : {X : Type 0} (x : X) → None ≡ Some x → ⊥
 none_some x e = cc
 
 once_by : (w : WhenRefused) (number late : ℕ) (limits : Limits) (bytes : List ℕ) (was now : Office) (old new : Option (List ℕ)) (outcome : Outcome) (k : Option DayRecord)
-    → record_of was number ≡ k → Does w (import_by k number late limits bytes was) was old new (Some now) outcome → KeepsOnce number bytes (reads bytes limits late).tuples was now
+    → record_of was number ≡ k → Does w (unless_recorded k (import_read number bytes (reads bytes limits late).tuples (reads bytes limits late).refused was) number bytes was) was old new (Some now) outcome → KeepsOnce number bytes (reads bytes limits late).tuples was now
 once_by w number late limits bytes was now old new outcome (Some kept) e h =
-    let same : now ≡ was = ⊎_elim (λ (s : now ≡ was). s) (λ (s : now ≡ was). s) (does_either w (import_by (Some kept) number late limits bytes was) was now old new outcome h) in
+    let same : now ≡ was = ⊎_elim (λ (s : now ≡ was). s) (λ (s : now ≡ was). s) (does_either w (unless_recorded (Some kept) (import_read number bytes (reads bytes limits late).tuples (reads bytes limits late).refused was) number bytes was) was now old new outcome h) in
     record { kept = λ r f. same; either = inl same }
 once_by w number late limits bytes was now old new outcome None e h =
-    let a : Answer = import_new number late limits bytes was in
+    let a : Answer = unless_passed (import_read number bytes (reads bytes limits late).tuples (reads bytes limits late).refused was) number was in
     record {
       kept = λ r f. absurd (none_some r (sym e ∙ f));
       either = ⊎_elim

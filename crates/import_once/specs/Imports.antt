@@ -2,26 +2,31 @@
 use Rattle.std.specs.Prelude.{ℕ, ◌≡◌, ◌+◌, ◌<◌, ◌⊎◌, nat_le, List, [], length, take, drop, Option, Some, None, if◌then◌else◌}
 use Rattle.std.specs.Str.{bytes_eq}
 use Rattle.std.specs.Io.KnownBytes.{Appends}
+use Rattle.road_time.specs.declared.road.Notice.{Notice}
 use Rattle.road_time.specs.declared.road.Tuple.{Tuple}
+use Rattle.road_time.specs.declared.day.SpentRow.{SpentRow}
 use Rattle.road_time.specs.declared.day.Limits.{Limits}
 use Rattle.road_time.specs.Form.{Fault}
 use Rattle.road_time.specs.Reads.{Reading, reads}
-use Rattle.road_time.specs.Day.{notices}
+use Rattle.road_time.specs.Sights.{moments}
+use Rattle.road_time.specs.Tolls.{Finding}
+use Rattle.road_time.specs.Day.{Charge, given, merged, notices, charges, charges_by, sum_of}
+use Rattle.road_time.specs.Rows.{rows_from}
 use Rattle.road_time.specs.Text.{out}
 use Rattle.tuple_format.specs.Causes.{cause_of}
 use Rattle.keeper.specs.declared.digest.Digest.{Digest}
 use Rattle.keeper.specs.declared.kept.DayRecord.{DayRecord}
 use Rattle.keeper.specs.declared.kept.KeepFault.{KeepFault}
 use Rattle.keeper.specs.declared.kept.KeepFault.TheVariants as keeping
+use Rattle.keeper.specs.Digests.{digest_of}
 use Rattle.keeper.specs.History.{paid}
 use Rattle.keeper.specs.Office.{Office, record_of, last_day}
-use Rattle.keeper.specs.Kept.{kept_record, next_office, found_digest}
+use Rattle.keeper.specs.Kept.{IsDayPut, seal_of, with_day, found_digest}
 use Rattle.keeper.specs.Calls.{WhenRefused, Leaves}
-use Rattle.import_once.specs.Days.{most_read}
+use Rattle.settling.specs.Printing.{WritesFront, WritesLess}
+use Rattle.day_reading.specs.Days.{most_read}
 use Rattle.import_once.specs.declared.outcomes.Outcome.{Outcome}
 use Rattle.import_once.specs.declared.outcomes.Outcome.TheVariants.{Stored, Already, Answered, Refused, DayPassed, Differs, ReadFault, WriteFault, KeeperFault, NoMemory}
-use Rattle.import_once.specs.declared.outcomes.Halt.{Halt}
-use Rattle.import_once.specs.declared.outcomes.Halt.TheVariants as halts
 
 -- what a call answers, what it writes, and the office that it leaves
 pub record Answer : Type 0 where
@@ -29,23 +34,41 @@ pub record Answer : Type 0 where
   pub text : List ℕ
   pub office : Office
 
--- the output of a day with this number, after what an office keeps
-abbrev pub text_of_day : ℕ → List Tuple → Office → List ℕ
-text_of_day number day o = out (notices day o.tariffs number (paid o.rows))
+-- what a day told and what it charged
+pub record Work : Type 0 where
+  pub told : List Notice
+  pub charged : List Charge
+
+-- the work of a day by the rules, under the tariffs and after the history of an office
+abbrev pub work_of : ℕ → List Tuple → Office → Work
+work_of number day o = record { told = notices day o.tariffs number (paid o.rows); charged = charges day o.tariffs (moments day) }
+
+-- the work of a day by what was found for the reports that are told
+abbrev pub work_by : List (ℕ × Finding) → ℕ → List Tuple → Office → Work
+work_by found number day o = record { told = merged day found number (paid o.rows); charged = charges_by (given found) (moments day) }
+
+-- what is kept of a day with this work
+abbrev pub worked_record : Work → ℕ → List ℕ → List Tuple → Office → DayRecord
+worked_record work number bytes day o =
+    record { day = number; digest = digest_of bytes; bytes = length bytes; tuples = length day; notices = length work.told; notices_digest = digest_of (out work.told); tariffs = seal_of o.tariffs; total = sum_of work.charged }
+
+-- the office with that day
+abbrev pub worked_office : Work → ℕ → List ℕ → List Tuple → Office → Office
+worked_office work number bytes day o = with_day (worked_record work number bytes day o) (rows_from number work.charged) o
 
 -- the output of all tuples, and the day is kept; or that of the tuples before the first refused line, and nothing is
-abbrev pub import_read : ℕ → List ℕ → List Tuple → Option (ℕ × Fault) → Office → Answer
-import_read number bytes day None o =
-    record { outcome = Stored (kept_record number bytes day o); text = text_of_day number day o; office = next_office number bytes day o }
-import_read number bytes day (Some (line, fault)) o =
-    record { outcome = Refused line (cause_of fault); text = text_of_day number day o; office = o }
+abbrev pub import_worked : Work → ℕ → List ℕ → List Tuple → Option (ℕ × Fault) → Office → Answer
+import_worked work number bytes day None o =
+    record { outcome = Stored (worked_record work number bytes day o); text = out work.told; office = worked_office work number bytes day o }
+import_worked work number bytes day (Some (line, fault)) o =
+    record { outcome = Refused line (cause_of fault); text = out work.told; office = o }
 
 -- the same, and nothing is kept
-abbrev pub answers_read : ℕ → List ℕ → List Tuple → Option (ℕ × Fault) → Office → Answer
-answers_read number bytes day None o =
-    record { outcome = Answered (kept_record number bytes day o); text = text_of_day number day o; office = o }
-answers_read number bytes day (Some (line, fault)) o =
-    record { outcome = Refused line (cause_of fault); text = text_of_day number day o; office = o }
+abbrev pub answers_worked : Work → ℕ → List ℕ → List Tuple → Option (ℕ × Fault) → Office → Answer
+answers_worked work number bytes day None o =
+    record { outcome = Answered (worked_record work number bytes day o); text = out work.told; office = o }
+answers_worked work number bytes day (Some (line, fault)) o =
+    record { outcome = Refused line (cause_of fault); text = out work.told; office = o }
 
 -- a day that is kept: whether what was found is what is kept
 abbrev pub again : DayRecord → Digest → Outcome
@@ -55,24 +78,50 @@ again kept found = if bytes_eq found.bytes kept.digest.bytes then Already kept e
 abbrev pub unwritten : Outcome → Office → Answer
 unwritten outcome o = record { outcome = outcome; text = []; office = o }
 
--- a day that is not kept: a passed one is not read
-abbrev pub import_new : ℕ → ℕ → Limits → List ℕ → Office → Answer
-import_new number late limits bytes o =
-    if nat_le number (last_day o) then unwritten (DayPassed (last_day o)) o
-    else import_read number bytes (reads bytes limits late).tuples (reads bytes limits late).refused o
+-- a day that is not kept: a passed one is not read, and of another one the answer is given
+abbrev pub unless_passed : Answer → ℕ → Office → Answer
+unless_passed read number o = if nat_le number (last_day o) then unwritten (DayPassed (last_day o)) o else read
 
 -- by the record of the day, if the office has one
-abbrev pub import_by : Option DayRecord → ℕ → ℕ → Limits → List ℕ → Office → Answer
-import_by (Some kept) number late limits bytes o = unwritten (again kept (found_digest bytes kept.bytes)) o
-import_by None number late limits bytes o = import_new number late limits bytes o
+abbrev pub unless_recorded : Option DayRecord → Answer → ℕ → List ℕ → Office → Answer
+unless_recorded (Some kept) read number bytes o = unwritten (again kept (found_digest bytes kept.bytes)) o
+unless_recorded None read number bytes o = unless_passed read number o
 
--- importing a day of these bytes
+-- importing a day of these bytes, where that is the answer if it is read
+abbrev pub unless_kept : Answer → ℕ → List ℕ → Office → Answer
+unless_kept read number bytes o = unless_recorded (record_of o number) read number bytes o
+
+-- By the rules:
+
+-- importing and answering a day that was read
+abbrev pub import_read : ℕ → List ℕ → List Tuple → Option (ℕ × Fault) → Office → Answer
+import_read number bytes day refused o = import_worked (work_of number day o) number bytes day refused o
+
+abbrev pub answers_read : ℕ → List ℕ → List Tuple → Option (ℕ × Fault) → Office → Answer
+answers_read number bytes day refused o = answers_worked (work_of number day o) number bytes day refused o
+
+-- importing and answering a day of these bytes
 abbrev pub import_answer : ℕ → ℕ → Limits → List ℕ → Office → Answer
-import_answer number late limits bytes o = import_by (record_of o number) number late limits bytes o
+import_answer number late limits bytes o = unless_kept (import_read number bytes (reads bytes limits late).tuples (reads bytes limits late).refused o) number bytes o
 
--- answering a day of these bytes
 abbrev pub answers_answer : ℕ → ℕ → Limits → List ℕ → Office → Answer
 answers_answer number late limits bytes o = answers_read number bytes (reads bytes limits late).tuples (reads bytes limits late).refused o
+
+-- By what was found:
+
+-- importing and answering a day that was read
+abbrev pub import_merged : List (ℕ × Finding) → ℕ → List ℕ → List Tuple → Option (ℕ × Fault) → Office → Answer
+import_merged found number bytes day refused o = import_worked (work_by found number day o) number bytes day refused o
+
+abbrev pub answers_merged : List (ℕ × Finding) → ℕ → List ℕ → List Tuple → Option (ℕ × Fault) → Office → Answer
+answers_merged found number bytes day refused o = answers_worked (work_by found number day o) number bytes day refused o
+
+-- importing and answering a day of these bytes
+abbrev pub import_found : List (ℕ × Finding) → ℕ → ℕ → Limits → List ℕ → Office → Answer
+import_found found number late limits bytes o = unless_kept (import_merged found number bytes (reads bytes limits late).tuples (reads bytes limits late).refused o) number bytes o
+
+abbrev pub answers_found : List (ℕ × Finding) → ℕ → ℕ → Limits → List ℕ → Office → Answer
+answers_found found number late limits bytes o = answers_merged found number bytes (reads bytes limits late).tuples (reads bytes limits late).refused o
 
 -- Against what should be answered:
 
@@ -82,19 +131,13 @@ pub record DoesAll (a : Answer) (outcome : Outcome) (old new : Option (List ℕ)
   pub wrote : Appends old new a.text
   pub kept : now ≡ Some a.office
 
--- some first bytes of the text were written
-abbrev pub WritesFront : List ℕ → Option (List ℕ) → Option (List ℕ) → Type 0
-WritesFront text old new = (k : ℕ) × Appends old new (take k text)
+-- all was written, and the put was refused, which leaves what its keeper leaves
+abbrev pub IsUnput : WhenRefused → KeepFault → Answer → Office → Option (List ℕ) → Option (List ℕ) → Option Office → Type 0
+IsUnput w fault a was old new now = Appends old new a.text × ((o : Office) × (now ≡ Some o) × Leaves w fault o was a.office)
 
--- some first bytes of the text were written, and not all
-abbrev pub WritesLess : List ℕ → Option (List ℕ) → Option (List ℕ) → Type 0
-WritesLess text old new = (k : ℕ) × (k < length text) × Appends old new (take k text)
-
--- a fault or want of memory on the way: the office is as it was, or all was written and the put was refused, which leaves what its keeper leaves
+-- a fault or want of memory on the way: the office is as it was, or all was written and the put was refused
 abbrev pub Halts : WhenRefused → KeepFault → Answer → Office → Option (List ℕ) → Option (List ℕ) → Option Office → Type 0
-Halts w fault a was old new now =
-    (WritesFront a.text old new × (now ≡ Some was))
-    ⊎ (Appends old new a.text × ((o : Office) × (now ≡ Some o) × Leaves w fault o was a.office))
+Halts w fault a was old new now = (WritesFront a.text old new × (now ≡ Some was)) ⊎ IsUnput w fault a was old new now
 
 -- what was done, by how the call ended
 abbrev pub Does : WhenRefused → Answer → Office → Option (List ℕ) → Option (List ℕ) → Option Office → Outcome → Type 0
@@ -109,6 +152,19 @@ Does w a was old new now WriteFault = WritesLess a.text old new × (now ≡ Some
 Does w a was old new now KeeperFault = Halts w keeping.Failed a was old new now
 Does w a was old new now NoMemory = Halts w keeping.NoMemory a was old new now
 
+-- the same, where nothing is said of what was written before a fault
+abbrev pub Merges : WhenRefused → Answer → Office → Option (List ℕ) → Option (List ℕ) → Option Office → Outcome → Type 0
+Merges w a was old new now (Stored kept) = DoesAll a (Stored kept) old new now
+Merges w a was old new now (Already kept) = DoesAll a (Already kept) old new now
+Merges w a was old new now (Answered kept) = DoesAll a (Answered kept) old new now
+Merges w a was old new now (Refused line cause) = DoesAll a (Refused line cause) old new now
+Merges w a was old new now (DayPassed last) = DoesAll a (DayPassed last) old new now
+Merges w a was old new now (Differs kept found) = DoesAll a (Differs kept found) old new now
+Merges w a was old new now ReadFault = now ≡ Some was
+Merges w a was old new now WriteFault = now ≡ Some was
+Merges w a was old new now KeeperFault = (now ≡ Some was) ⊎ IsUnput w keeping.Failed a was old new now
+Merges w a was old new now NoMemory = (now ≡ Some was) ⊎ IsUnput w keeping.NoMemory a was old new now
+
 -- what an import leaves of the source of a day that is kept: one byte more than it had is taken
 abbrev pub LeavesRest : Outcome → Option DayRecord → List ℕ → Option (List ℕ) → Type 0
 LeavesRest (Already r) (Some kept) bytes left = left ≡ Some (drop (kept.bytes + 1) bytes)
@@ -120,8 +176,62 @@ abbrev pub most_imported : Option DayRecord → Limits → ℕ
 most_imported None limits = most_read limits
 most_imported (Some kept) limits = kept.bytes + 1
 
--- the outcome of a call that was stopped
-abbrev pub halting : Halt → Outcome
-halting halts.WriteFault = WriteFault
-halting halts.KeeperFault = KeeperFault
-halting halts.NoMemory = NoMemory
+-- the outcome of a day that is read
+abbrev pub IsOfNewDay : Outcome → Type 0
+IsOfNewDay (Stored kept) = Unit {0}
+IsOfNewDay (Already kept) = ⊥
+IsOfNewDay (Answered kept) = ⊥
+IsOfNewDay (Refused line cause) = Unit {0}
+IsOfNewDay (DayPassed last) = ⊥
+IsOfNewDay (Differs kept found) = ⊥
+IsOfNewDay ReadFault = Unit {0}
+IsOfNewDay WriteFault = Unit {0}
+IsOfNewDay KeeperFault = Unit {0}
+IsOfNewDay NoMemory = Unit {0}
+
+-- the outcome of a day that is kept
+abbrev pub IsOfKeptDay : Outcome → Type 0
+IsOfKeptDay (Stored kept) = ⊥
+IsOfKeptDay (Already kept) = Unit {0}
+IsOfKeptDay (Answered kept) = ⊥
+IsOfKeptDay (Refused line cause) = ⊥
+IsOfKeptDay (DayPassed last) = ⊥
+IsOfKeptDay (Differs kept found) = Unit {0}
+IsOfKeptDay ReadFault = Unit {0}
+IsOfKeptDay WriteFault = ⊥
+IsOfKeptDay KeeperFault = ⊥
+IsOfKeptDay NoMemory = Unit {0}
+
+-- what an import leaves alone: all but the keeper, where the day is passed; where it is kept, all but the keeper and the source; and it answers no day
+abbrev pub LeavesAlone : Outcome → Type 0 → Type 0 → Type 0
+LeavesAlone (Stored kept) source others = Unit {0}
+LeavesAlone (Already kept) source others = others
+LeavesAlone (Answered kept) source others = ⊥
+LeavesAlone (Refused line cause) source others = Unit {0}
+LeavesAlone (DayPassed last) source others = source × others
+LeavesAlone (Differs kept found) source others = others
+LeavesAlone ReadFault source others = Unit {0}
+LeavesAlone WriteFault source others = Unit {0}
+LeavesAlone KeeperFault source others = Unit {0}
+LeavesAlone NoMemory source others = Unit {0}
+
+-- a record of a day with this number was put with its amounts
+abbrev pub IsPutOf : ℕ → Office → Office → Type 0
+IsPutOf number was now = (kept : DayRecord) × (rows : List SpentRow) × (kept.day ≡ number) × IsDayPut kept rows × (now ≡ with_day kept rows was)
+
+-- what is kept is as it was, or with one day more
+abbrev pub PutsOnce : ℕ → Office → Option Office → Type 0
+PutsOnce number was now = (o : Office) × (now ≡ Some o) × ((o ≡ was) ⊎ IsPutOf number was o)
+
+-- what is kept is as it was where the day could not be read or written, and where a line was refused
+abbrev pub KeepsAll : Outcome → Type 0 → Type 0
+KeepsAll (Stored kept) same = Unit {0}
+KeepsAll (Already kept) same = same
+KeepsAll (Answered kept) same = same
+KeepsAll (Refused line cause) same = same
+KeepsAll (DayPassed last) same = same
+KeepsAll (Differs kept found) same = same
+KeepsAll ReadFault same = same
+KeepsAll WriteFault same = same
+KeepsAll KeeperFault same = Unit {0}
+KeepsAll NoMemory same = Unit {0}

@@ -1,6 +1,4 @@
-pub mod Lines
-pub mod Readings
-pub mod Days
 pub mod Imports
+pub mod Runs
 pub mod Stages
 pub mod Laws

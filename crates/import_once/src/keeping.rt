@@ -1,75 +1,44 @@
-// The record and the amounts of a day, and how it is put.
-ghost use Rattle.std.specs.Prelude.{◌≡◌, ◌≢◌, ◌≤◌, ◌<◌, ◌^◌, List, ℕ, Option, Some, IfOk, length};
-ghost use Rattle.std.specs.Io.KnownBytes.{Appends};
-ghost use Rattle.road_time.specs.Fits.{IsDay};
-ghost use Rattle.road_time.specs.Form.{Fault};
-ghost use Rattle.road_time.specs.Rows.{rows_of};
-ghost use Rattle.road_time.specs.Day.{notices};
+// The record and the amounts of a day that was worked, and how it is put.
+ghost use Rattle.std.specs.Prelude.{◌≡◌, ◌≢◌, ◌≤◌, Some, IfOk};
 ghost use Rattle.road_io.specs.Faults.{Rose};
 ghost use Rattle.road_io.specs.Plans.{NeverFails};
-ghost use Rattle.keeper.specs.History.{paid};
-ghost use Rattle.keeper.specs.Office.{Office, sum_of_rows};
+ghost use Rattle.keeper.specs.Office.{Office};
 ghost use Rattle.keeper.specs.Kept.{IsDayPut, IsLater};
 ghost use Rattle.keeper.specs.Calls.{IfTold};
-ghost use Rattle.import_once.specs.Days.{EndsReading, IsShort};
-ghost use Rattle.import_once.specs.Imports.{import_read, text_of_day, Does};
-ghost use Rattle.import_once.specs.Stages.{counted_record, IsPrinted, Stores};
-ghost use Rattle.import_once.specs.declared.outcomes.Outcome.TheVariants.{ReadFault, WriteFault, KeeperFault};
+ghost use Rattle.keeper.specs.declared.kept.DayRecord.{DayRecord as DayRecordValue};
+ghost use Rattle.import_once.specs.Imports.{IsOfNewDay, PutsOnce, KeepsAll};
+ghost use Rattle.import_once.specs.Stages.{run_record, CanPut, Stores, Finishes, Tells, IsWhole};
+ghost use Rattle.import_once.specs.declared.outcomes.Outcome.TheVariants.{Stored, ReadFault, WriteFault, KeeperFault};
 
 use crate::outcomes::Outcome;
-use crate::printing::Printed;
-use crate::whole_day::{Day, DayEnd};
+use day_reading::DayEnd;
+use day_rounds::DayRun;
 use keeper::{DayRecord, Digest, KeepFault, Keeper, seal};
-use road_time::{NoMemory, SpentRow, Tariffs, Tuple};
+use road_time::{NoMemory, SpentRow, Tariffs};
 use std::alloc::Global;
-use validator::plain_rows;
 
-/// What is kept of a day.
-#[derive(Drop)]
-pub struct DayKept {
-    pub record: DayRecord,
-    pub rows: Vec<SpentRow>,
-}
-
-/// What amounts come to.
-fn total_of(rows: &[SpentRow]) -> u64
-    requires { sum_of_rows rows.now < 2 ^ 64 }
-    ensures { result ≡ sum_of_rows rows.now }
-{
-    rows.iter().map(|row| row.tolls).sum()
-}
-
-/// The record and the amounts of a day with this number, of so many bytes with this digest, of which this was printed.
-pub fn keep(
+/// The record of a day that was worked, of so many bytes with this digest.
+fn record_for(
     alloc: Global,
     number: u32,
-    tuples: &[Tuple],
     bytes: u64,
     digest: Digest,
-    printed: Printed,
+    run: &DayRun,
     tariffs: &Tariffs,
-) -> Result<DayKept, NoMemory>
-    requires fit { IsDay tuples.now }
-    requires short { bytes < 2 ^ 63 }
-    requires few { printed.notices < 2 ^ 63 }
-    ensures fits { IfOk result (λ k. IsDayPut k.record k.rows.items) }
-    ensures counted { IfOk result (λ k. k.record ≡ counted_record number bytes digest tuples.now printed tariffs.now) }
-    ensures rows { IfOk result (λ k. k.rows.items ≡ rows_of tuples.now tariffs.now number) }
+) -> Result<DayRecord, NoMemory>
+    ensures { IfOk result (λ kept. kept ≡ run_record number bytes digest run.now tariffs.now) }
 {
-    let rows = plain_rows(alloc, tuples, tariffs, number)?;
     let tariffs = seal(alloc, tariffs)?;
-    let total = total_of(rows.as_slice());
-    let record = DayRecord {
+    Ok(DayRecord {
         day: number,
         digest,
         bytes,
-        tuples: tuples.len() as u64,
-        notices: printed.notices,
-        notices_digest: printed.digest,
+        tuples: run.tuples,
+        notices: run.closed.notices,
+        notices_digest: run.closed.notices_digest,
         tariffs,
-        total,
-    };
-    Ok(DayKept { record, rows })
+        total: run.closed.total,
+    })
 }
 
 /// Puts a day.
@@ -77,6 +46,9 @@ fn store<K: Keeper>(kept: &DayRecord, rows: &[SpentRow], keeper: &mut K) -> Outc
     requires fits { IsDayPut kept.now rows.now }
     requires later { IfTold (K.told keeper.old) (λ o. IsLater kept.now.day o) }
     ensures stores { (o : Office) → K.told keeper.old ≡ Some o → Stores K.refuses kept.now rows.now o (K.told keeper.new) result }
+    ensures puts { (o : Office) → K.told keeper.old ≡ Some o → PutsOnce kept.now.day o (K.told keeper.new) }
+    ensures keeps { KeepsAll result (K.told keeper.new ≡ K.told keeper.old) }
+    ensures new_day { IsOfNewDay result }
     ensures unread { result ≢ ReadFault }
     ensures unwritten { result ≢ WriteFault }
     ensures cause { result ≡ KeeperFault → Rose (K.faults keeper.old) (K.faults keeper.new) }
@@ -90,34 +62,50 @@ fn store<K: Keeper>(kept: &DayRecord, rows: &[SpentRow], keeper: &mut K) -> Outc
     }
 }
 
-/// Stores a day whose output was written, unless a line of it was refused.
+/// Stores a day that was worked, unless a line of it was refused.
 pub fn finish_import<K: Keeper>(
     alloc: Global,
     number: u32,
-    day: &Day,
-    printed: Printed,
+    run: &DayRun,
     tariffs: &Tariffs,
     keeper: &mut K,
 ) -> Outcome
-    requires fit { IsDay day.now.tuples.items }
-    requires short { IsShort day.now.end }
-    requires few { printed.notices < 2 ^ 63 }
+    requires can { CanPut number run.now }
     requires later { IfTold (K.told keeper.old) (λ o. IsLater number o) }
-    ensures does { (bytes : List ℕ) (refused : Option (ℕ × Fault)) (o : Office) (old new : Option (List ℕ)) → K.told keeper.old ≡ Some o → tariffs.now ≡ o.tariffs
-        → EndsReading day.now.end bytes refused → IsPrinted printed (notices day.now.tuples.items o.tariffs number (paid o.rows)) → Appends old new (text_of_day number day.now.tuples.items o)
-        → Does K.refuses (import_read number bytes day.now.tuples.items refused o) o old new (K.told keeper.new) result }
+    ensures finishes { (o : Office) → K.told keeper.old ≡ Some o → Finishes K.refuses number run.now.end run.now tariffs.now o (K.told keeper.new) result }
+    ensures puts { (o : Office) → K.told keeper.old ≡ Some o → PutsOnce number o (K.told keeper.new) }
+    ensures keeps { KeepsAll result (K.told keeper.new ≡ K.told keeper.old) }
+    ensures whole { (kept : DayRecordValue) → result ≡ Stored kept → IsWhole run.now.end }
+    ensures new_day { IsOfNewDay result }
     ensures unread { result ≢ ReadFault }
     ensures unwritten { result ≢ WriteFault }
     ensures cause { result ≡ KeeperFault → Rose (K.faults keeper.old) (K.faults keeper.new) }
     ensures later { K.faults keeper.old ≤ K.faults keeper.new }
     ensures sure { NeverFails (K.plan keeper.old) → result ≢ KeeperFault }
 {
-    match day.end {
+    match run.end {
         DayEnd::Refused { line, cause } => Outcome::Refused { line, cause },
         DayEnd::Whole { bytes, digest } => {
-            let tuples = day.tuples.as_slice();
-            match keep(alloc, number, tuples, bytes, digest, printed, tariffs) {
-                Ok(kept) => store(&kept.record, kept.rows.as_slice(), keeper),
+            match record_for(alloc, number, bytes, digest, run, tariffs) {
+                Ok(kept) => store(&kept, run.closed.rows.items(), keeper),
+                Err(NoMemory) => Outcome::NoMemory,
+            }
+        }
+    }
+}
+
+/// The answer to a day that was worked.
+pub fn finish_answers(alloc: Global, number: u32, run: &DayRun, tariffs: &Tariffs) -> Outcome
+    ensures tells { Tells number run.now.end run.now tariffs.now result }
+    ensures unread { result ≢ ReadFault }
+    ensures unwritten { result ≢ WriteFault }
+    ensures unasked { result ≢ KeeperFault }
+{
+    match run.end {
+        DayEnd::Refused { line, cause } => Outcome::Refused { line, cause },
+        DayEnd::Whole { bytes, digest } => {
+            match record_for(alloc, number, bytes, digest, run, tariffs) {
+                Ok(kept) => Outcome::Answered(kept),
                 Err(NoMemory) => Outcome::NoMemory,
             }
         }

@@ -1,7 +1,11 @@
-// How a day's import ends, and what stops one.
-ghost use Rattle.std.specs.Prelude.{◌≡◌};
-ghost use Rattle.import_once.specs.Imports.{halting};
+// How a day's import ends.
+ghost use Rattle.std.specs.Prelude.{◌≡◌, ◌≢◌};
+ghost use Rattle.import_once.specs.Runs.{stopping};
+ghost use Rattle.keeper.specs.declared.kept.DayRecord.{DayRecord as DayRecordValue};
+ghost use Rattle.import_once.specs.Imports.{IsOfNewDay};
+ghost use Rattle.import_once.specs.declared.outcomes.Outcome.TheVariants.{Stored};
 
+use day_rounds::DayFault;
 use keeper::{DayRecord, Digest};
 use tuple_format::Cause;
 
@@ -30,21 +34,16 @@ pub enum Outcome {
     NoMemory,
 }
 
-/// What stops an import after its reading.
-#[derive(Clone, Copy, Debug, PartialEq, Eq)]
-pub enum Halt {
-    WriteFault,
-    KeeperFault,
-    NoMemory,
-}
-
-/// The outcome of an import that was stopped.
-pub fn halted(halt: Halt) -> Outcome
-    ensures { result ≡ halting halt }
+/// The outcome of a day whose work was stopped.
+pub fn stopped(fault: DayFault) -> Outcome
+    ensures is { result ≡ stopping fault }
+    ensures new_day { IsOfNewDay result }
+    ensures unstored { (kept : DayRecordValue) → result ≢ Stored kept }
 {
-    match halt {
-        Halt::WriteFault => Outcome::WriteFault,
-        Halt::KeeperFault => Outcome::KeeperFault,
-        Halt::NoMemory => Outcome::NoMemory,
+    match fault {
+        DayFault::ReadFault => Outcome::ReadFault,
+        DayFault::WriteFault => Outcome::WriteFault,
+        DayFault::KeeperFault => Outcome::KeeperFault,
+        DayFault::NoMemory => Outcome::NoMemory,
     }
 }

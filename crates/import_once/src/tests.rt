@@ -1,189 +1,314 @@
-// Days as they are read: whole, refused, late, and with a source that fails.
-use crate::{DayReader, ReadEnd};
-use keeper::Digest;
-use road_io::MemSource;
-use road_time::{Limits, NoMemory, Report, Tuple};
+// Days as they are imported and answered, from the worked rows.
+ghost use Rattle.std.specs.Prelude.{◌≡◌, ◌≤◌, []};
+
+use crate::{Outcome, answers, import};
+use accounts::NoPublisher;
+use import_plan::Plan;
+use keeper::{DayRecord, Digester, KeepFault, Keeper, LateKeeper, MemKeeper, PastRecord};
+use partition_workers::{Crew, InlineCrew, LateCrew};
+use road_io::{MemSink, MemSource};
+use road_time::{Limits, NoMemory, SpentRow};
 use std::alloc::Global;
-use tuple_format::Cause;
 
-const ONE: &str = "0,0,7,30,0,0,0,10,52800,-1,-1,-1,-1,-1,-1\n";
+const ONE: &[u8] = b"0,0,7,30,0,0,0,10,52800,-1,-1,-1,-1,-1,-1\n";
 
-const PAIR: &str =
-    "0,10,1,30,0,1,0,10,52800,-1,-1,-1,-1,-1,-1\n0,10,2,30,0,1,0,10,52800,-1,-1,-1,-1,-1,-1\n";
+const ASKING: &[u8] =
+    b"3,0,7,-1,0,-1,-1,-1,-1,1,-1,-1,-1,-1,69\n4,0,-1,-1,-1,-1,-1,-1,-1,-1,-1,-1,-1,-1,-1\n3,0,7,-1,0,-1,-1,-1,-1,2,-1,-1,-1,-1,2\n";
 
-/// How a source is read: at most so many bytes at a time, failing at some reads.
-#[derive(Clone, Copy)]
-struct Reads<'a> {
-    piece: usize,
-    fails: &'a [u32],
-}
+const LATE_LINE: &[u8] =
+    b"0,10,1,30,0,1,0,10,52800,-1,-1,-1,-1,-1,-1\n0,10,2,30,0,1,0,10,52800,-1,-1,-1,-1,-1,-1\n0,9,3,30,0,1,0,10,52800,-1,-1,-1,-1,-1,-1\n";
 
-const WHOLE: Reads<'static> = Reads {
-    piece: 7,
-    fails: &[],
+const LEAVING: &[u8] =
+    b"0,60,100,30,0,1,0,10,52800,-1,-1,-1,-1,-1,-1\n0,90,100,30,0,1,0,11,58080,-1,-1,-1,-1,-1,-1\n0,120,100,30,0,4,0,11,60000,-1,-1,-1,-1,-1,-1\n0,150,100,30,1,0,0,5,26400,-1,-1,-1,-1,-1,-1\n2,160,100,-1,-1,-1,-1,-1,-1,9,-1,-1,-1,-1,-1\n";
+
+/// A day's work by one worker, in rounds.
+const ALONE: Plan = Plan {
+    width: 1,
+    turns: None,
 };
 
-/// The tuples of a day, how its reading ended, and what was counted.
+/// What a call answered, and what it wrote.
 #[derive(Drop)]
-struct Day {
-    tuples: Vec<Tuple>,
-    end: Result<(), ReadEnd>,
-    lines: u64,
-    bytes: u64,
-    digest: Digest,
+struct Done {
+    outcome: Outcome,
+    text: Vec<u8>,
 }
 
-fn read_day(
+/// Tuples, notices and total of a kept day.
+fn counts(kept: DayRecord) -> [u64; 3] {
+    [kept.tuples, kept.notices, kept.total]
+}
+
+/// Whether a day was stored with these counts.
+fn is_stored(outcome: Outcome, wanted: [u64; 3]) -> bool {
+    match outcome {
+        Outcome::Stored(kept) => counts(kept) == wanted,
+        _ => false,
+    }
+}
+
+/// Whether a day was there already with these counts.
+fn is_already(outcome: Outcome, wanted: [u64; 3]) -> bool {
+    match outcome {
+        Outcome::Already(kept) => counts(kept) == wanted,
+        _ => false,
+    }
+}
+
+/// Whether a day was answered with these counts.
+fn is_answered(outcome: Outcome, wanted: [u64; 3]) -> bool {
+    match outcome {
+        Outcome::Answered(kept) => counts(kept) == wanted,
+        _ => false,
+    }
+}
+
+/// Imports a day into a sink of so many bytes, from a source that fails at these reads.
+fn import_into<K: Keeper>(
     alloc: Global,
-    input: &str,
-    limits: &Limits,
-    late: u8,
-    reads: Reads<'_>,
-) -> Result<Day, NoMemory> {
-    let mut source = MemSource::new(alloc, input.as_bytes(), reads.piece.max(1), reads.fails)?;
-    let mut reader = DayReader::new(alloc, limits, late.min(120))?;
-    let mut tuples = Vec::new(alloc);
-    let mut end = Ok(());
-    for _ in 0..1000u32 {
-        match reader.next(&mut source) {
-            Ok(Some(tuple)) => tuples.push(tuple)?,
-            Ok(None) => break,
-            Err(stop) => {
-                end = Err(stop);
-                break;
-            }
+    number: u32,
+    input: &[u8],
+    fails: &[u32],
+    room: usize,
+    keeper: &mut K,
+) -> Result<Done, NoMemory>
+    requires low { 70 ≤ number }
+    requires high { number ≤ 1000000 }
+{
+    let limits = Limits::DAY;
+    let mut source = MemSource::new(alloc, input, 100, fails)?;
+    let mut sink = MemSink::new(alloc, room, 65_536)?;
+    let mut crew = InlineCrew::new(alloc, false);
+    let outcome = import(
+        alloc,
+        number,
+        &ALONE,
+        0,
+        &limits,
+        &mut source,
+        &mut sink,
+        keeper,
+        &mut crew,
+        &mut NoPublisher,
+    );
+    let text = Vec::from_slice(alloc, sink.bytes())?;
+    Ok(Done { outcome, text })
+}
+
+/// Answers day 100.
+fn answer<K: Keeper>(alloc: Global, input: &[u8], keeper: &mut K) -> Result<Done, NoMemory> {
+    let limits = Limits::DAY;
+    let mut source = MemSource::new(alloc, input, 7, &[])?;
+    let mut sink = MemSink::new(alloc, 4096, 5)?;
+    let mut crew = InlineCrew::new(alloc, false);
+    let outcome = answers(
+        alloc,
+        100,
+        &ALONE,
+        0,
+        &limits,
+        &mut source,
+        &mut sink,
+        keeper,
+        &mut crew,
+    );
+    let text = Vec::from_slice(alloc, sink.bytes())?;
+    Ok(Done { outcome, text })
+}
+
+/// The day on which vehicle 100 is charged as it leaves a crowded stretch.
+fn charged_on_leaving(alloc: Global) -> Result<Vec<u8>, NoMemory> {
+    let mut input = Vec::new(alloc);
+    for v in 1..52u32 {
+        let line = format!(in alloc; "0,0,{v},30,0,1,0,10,52800,-1,-1,-1,-1,-1,-1\n")?;
+        input.extend_from_slice(line.as_bytes())?;
+    }
+    input.extend_from_slice(LEAVING)?;
+    Ok(input)
+}
+
+/// Whether the day of a charge is stored with its notices by a crew, so many workers and turns that a number draws, of which few tuples may wait.
+fn is_charged_by<C: Crew>(
+    alloc: Global,
+    input: &[u8],
+    width: u8,
+    turns: Option<u64>,
+    crew: &mut C,
+) -> Result<bool, KeepFault>
+    requires few { (1 ≤ width) × (width ≤ 64) }
+    requires idle { C.out crew.old ≡ [] }
+    ensures idle { C.out crew.new ≡ [] }
+{
+    let mut limits = Limits::DAY;
+    limits.backlog = 4;
+    let plan = Plan { width, turns };
+    let mut source = MemSource::new(alloc, input, 7, &[])?;
+    let mut sink = MemSink::new(alloc, 4096, 100)?;
+    let mut keeper = MemKeeper::new(alloc, &[])?;
+    let outcome = import(
+        alloc,
+        100,
+        &plan,
+        0,
+        &limits,
+        &mut source,
+        &mut sink,
+        &mut keeper,
+        crew,
+        &mut NoPublisher,
+    );
+    let last = b"0,100,60,30,2\n0,100,90,-1,0\n0,100,150,-1,0\n2,160,9,2\n";
+    Ok(sink.bytes().ends_with(last) && is_stored(outcome, [56, 55, 2]))
+}
+
+/// The day of a charge is the same by every number of workers, in rounds and in turns, and by two crews.
+fn same_by_every_plan(alloc: Global) -> Result<bool, KeepFault> {
+    let input = charged_on_leaving(alloc)?;
+    let mut inline_crew = InlineCrew::new(alloc, false);
+    let mut late_crew = LateCrew::new(alloc, false);
+    let mut same = true;
+    for width in [1u8, 3, 64] {
+        for turns in [None, Some(1u64), Some(5)] {
+            let soon = is_charged_by(alloc, input.as_slice(), width, turns, &mut inline_crew)?;
+            let late = is_charged_by(alloc, input.as_slice(), width, turns, &mut late_crew)?;
+            same = same && soon && late;
         }
     }
-    Ok(Day {
-        tuples,
-        end,
-        lines: reader.lines(),
-        bytes: reader.bytes(),
-        digest: reader.digest(),
-    })
+    Ok(same)
 }
 
-fn refused(line: u64, cause: Cause) -> Result<(), ReadEnd> {
-    Err(ReadEnd::Refused { line, cause })
+/// An empty day, twice.
+fn stored_once(alloc: Global) -> Result<bool, KeepFault> {
+    let mut keeper = MemKeeper::new(alloc, &[])?;
+    let first = import_into(alloc, 100, b"", &[], 0, &mut keeper)?;
+    let second = import_into(alloc, 100, b"", &[], 0, &mut keeper)?;
+    Ok(is_stored(first.outcome, [0, 0, 0]) && is_already(second.outcome, [0, 0, 0]))
 }
 
-fn report(time: u32, vid: u32) -> Tuple {
-    Tuple::Report(Report {
-        time,
-        vid,
-        spd: 30,
+/// Another input for a kept day, and a day before it.
+fn others(alloc: Global) -> Result<bool, KeepFault> {
+    let mut keeper = MemKeeper::new(alloc, &[])?;
+    let _first = import_into(alloc, 100, b"", &[], 0, &mut keeper)?;
+    let passed = import_into(alloc, 99, b"abc", &[], 0, &mut keeper)?;
+    let differs = import_into(alloc, 100, b"abc", &[], 0, &mut keeper)?;
+    let Outcome::Differs { kept, found } = differs.outcome else {
+        return Ok(false);
+    };
+    let kept = kept.text(alloc)?;
+    let found = found.text(alloc)?;
+    let nothing = "e3b0c44298fc1c149afbf4c8996fb92427ae41e4649b934ca495991b7852b855";
+    let one_byte = "ca978112ca1bbdcafac231b39a23dc4da786eff8147c4e72b9807785afee48bb";
+    let digests = kept.as_str() == nothing && found.as_str() == one_byte;
+    Ok(digests && passed.outcome == Outcome::DayPassed { last: 100 })
+}
+
+/// A charge, its notice and its row.
+fn charges(alloc: Global) -> Result<bool, KeepFault> {
+    let input = charged_on_leaving(alloc)?;
+    let mut keeper = MemKeeper::new(alloc, &[])?;
+    let done = import_into(alloc, 100, input.as_slice(), &[], 4096, &mut keeper)?;
+    let row = SpentRow {
+        day: 100,
+        vid: 100,
         xway: 0,
-        lane: 1,
-        dir: 0,
-        seg: 10,
-        pos: 52_800,
-    })
+        tolls: 2,
+    };
+    let rows = keeper.rows(1, 200)?;
+    let last = b"0,100,60,30,2\n0,100,90,-1,0\n0,100,150,-1,0\n2,160,9,2\n";
+    let told = done.text.ends_with(last) && is_stored(done.outcome, [56, 55, 2]);
+    Ok(told && rows.as_slice() == [row].as_slice())
+}
+
+/// Answers by a history.
+fn history(alloc: Global) -> Result<bool, KeepFault> {
+    let past = PastRecord {
+        base: 100,
+        digest: Digester::new().finish(),
+        bytes: 9,
+        rows: 1,
+    };
+    let row = SpentRow {
+        day: 31,
+        vid: 7,
+        xway: 0,
+        tolls: 28,
+    };
+    let mut keeper = MemKeeper::new(alloc, &[])?;
+    keeper.put_past(&past, &[row])?;
+    let done = answer(alloc, ASKING, &mut keeper)?;
+    let told = done.text.as_slice() == b"3,0,1,28\n3,0,2,0\n".as_slice();
+    Ok(told && is_answered(done.outcome, [3, 2, 0]) && keeper.last_day()? == 99)
+}
+
+/// A line that is late stores nothing.
+fn refused(alloc: Global) -> Result<bool, KeepFault> {
+    let mut keeper = MemKeeper::new(alloc, &[])?;
+    let done = import_into(alloc, 100, LATE_LINE, &[], 4096, &mut keeper)?;
+    let told = done.text.as_slice() == b"0,1,10,-1,0\n0,2,10,-1,0\n".as_slice();
+    let line = match done.outcome {
+        Outcome::Refused { line, .. } => line,
+        _ => 0,
+    };
+    Ok(told && line == 3 && keeper.last_day()? == 0)
+}
+
+/// A sink without room for all, and a source that fails.
+fn faults(alloc: Global) -> Result<bool, KeepFault> {
+    let mut keeper = MemKeeper::new(alloc, &[])?;
+    let full = import_into(alloc, 100, ONE, &[], 10, &mut keeper)?;
+    let unread = import_into(alloc, 100, ONE, &[0], 11, &mut keeper)?;
+    let none = keeper.last_day()? == 0;
+    let stored = import_into(alloc, 100, ONE, &[], 11, &mut keeper)?;
+    let told = stored.text.as_slice() == b"0,7,0,-1,0\n".as_slice();
+    let faults = full.outcome == Outcome::WriteFault && unread.outcome == Outcome::ReadFault;
+    Ok(faults && none && told && is_stored(stored.outcome, [1, 1, 0]))
+}
+
+/// How many bytes are written where this call of the keeper fails, and whether it is then that the import does.
+fn written_before(alloc: Global, input: &[u8], call: u32) -> Result<(usize, bool), KeepFault> {
+    let mut keeper = MemKeeper::new(alloc, &[call])?;
+    let done = import_into(alloc, 100, input, &[], 4096, &mut keeper)?;
+    Ok((done.text.len(), done.outcome == Outcome::KeeperFault))
+}
+
+/// A put that fails late is done.
+fn late(alloc: Global) -> Result<bool, KeepFault> {
+    let mut keeper = LateKeeper::new(alloc, &[3])?;
+    let failed = import_into(alloc, 100, ONE, &[], 4096, &mut keeper)?;
+    let again = import_into(alloc, 100, ONE, &[], 4096, &mut keeper)?;
+    Ok(failed.outcome == Outcome::KeeperFault && is_already(again.outcome, [1, 1, 0]))
 }
 
 #[test]
-fn days_and_their_ends(rt: HostRuntime) -> Result<(), NoMemory> {
+fn days_are_kept_once(rt: HostRuntime) -> Result<(), KeepFault> {
     let alloc = rt.alloc();
-    let two_lines = Limits {
-        lines: 2,
-        ..Limits::DAY
-    };
-    let one_line = Limits {
-        lines: 1,
-        ..Limits::DAY
-    };
-    let one_vehicle = Limits {
-        vehicles: 1,
-        ..Limits::DAY
-    };
-    let late_line = format!(in alloc; "{PAIR}0,9,3,30,0,1,0,10,52800,-1,-1,-1,-1,-1,-1\n")?;
-    let often =
-        "0,0,1,30,0,1,0,10,52800,-1,-1,-1,-1,-1,-1\n0,10,1,30,0,1,0,10,52800,-1,-1,-1,-1,-1,-1\n0,20,1,30,0,1,0,10,52800,-1,-1,-1,-1,-1,-1\n0,30,1,30,0,1,0,10,52800,-1,-1,-1,-1,-1,-1\n0,40,1,30,0,1,0,10,52800,-1,-1,-1,-1,-1,-1\n";
-    let three = format!(in alloc; "{ONE}{ONE}{ONE}")?;
-    let then_one = format!(in alloc; "\n{ONE}")?;
-    let rows = [
-        ("", Limits::DAY, 0, Ok(())),
-        (ONE, Limits::DAY, 1, Ok(())),
-        (
-            late_line.as_str(),
-            Limits::DAY,
-            2,
-            refused(3, Cause::Late(10, 9)),
-        ),
-        (often, Limits::DAY, 4, refused(5, Cause::TooOften(1, 1))),
-        (three.as_str(), two_lines, 2, refused(3, Cause::Many(2))),
-        (then_one.as_str(), one_line, 0, refused(2, Cause::Many(1))),
-        (PAIR, one_vehicle, 1, refused(2, Cause::Vehicles(1))),
-        (
-            "0,0,7,30,0,0,0,10,52800,-1,-1,-1,-1,-1\n",
-            Limits::DAY,
-            0,
-            refused(1, Cause::Fields(14)),
-        ),
-        (
-            "0,0,7,101,0,0,0,10,52800,-1,-1,-1,-1,-1,-1\n",
-            Limits::DAY,
-            0,
-            refused(1, Cause::Range(4)),
-        ),
-        (
-            "0,0,x,30,0,0,0,10,52800,-1,-1,-1,-1,-1,-1\n",
-            Limits::DAY,
-            0,
-            refused(1, Cause::Number(3)),
-        ),
-        (
-            "0,0,7,30,0,0,0,10,52800,-1,-1,-1,-2,-1,-1\n",
-            Limits::DAY,
-            0,
-            refused(1, Cause::Range(13)),
-        ),
-    ];
-    for (input, limits, count, end) in &rows {
-        let day = read_day(alloc, input, limits, 0, WHOLE)?;
-        assert_eq!(rt; day.tuples.len(), *count, "{input}");
-        assert!(rt; day.end == *end, "{input}");
-    }
-    let one = read_day(alloc, ONE, &Limits::DAY, 0, WHOLE)?;
-    let text = one.digest.text(alloc)?;
-    assert!(rt; one.lines == 1 && one.bytes == 42);
-    assert!(rt;
-        text.as_str() == "fc2f0b2e7199ba75ff5a464f444f1d13574338c146416b399a7125bc0993cf7b"
-    );
+    assert!(rt; stored_once(alloc)?, "stored once");
+    assert!(rt; others(alloc)?, "others");
+    assert!(rt; charges(alloc)?, "charges");
+    assert!(rt; history(alloc)?, "history");
+    assert!(rt; refused(alloc)?, "refused");
+    assert!(rt; faults(alloc)?, "faults");
+    assert!(rt; late(alloc)?, "late");
+    assert!(rt; same_by_every_plan(alloc)?, "by every plan");
     Ok(())
 }
 
 #[test]
-fn late_lines(rt: HostRuntime) -> Result<(), NoMemory> {
+fn a_keeper_fails_at_each_call(rt: HostRuntime) -> Result<(), KeepFault> {
     let alloc = rt.alloc();
-    let input =
-        "0,30,1,30,0,1,0,10,52800,-1,-1,-1,-1,-1,-1\n2,0,1,-1,-1,-1,-1,-1,-1,9,-1,-1,-1,-1,-1\n0,0,2,30,0,1,0,10,52800,-1,-1,-1,-1,-1,-1\n";
-    let balance = Tuple::Balance {
-        time: 0,
-        vid: 1,
-        qid: 9,
-    };
-    for piece in [1, 7, 65_536] {
-        let reads = Reads { piece, fails: &[] };
-        let day = read_day(alloc, input, &Limits::DAY, 30, reads)?;
-        assert!(rt; day.tuples.as_slice() == [balance, report(0, 2), report(30, 1)].as_slice());
-        assert!(rt; day.end == Ok(()));
-        let early = read_day(alloc, input, &Limits::DAY, 29, reads)?;
-        assert!(rt; early.tuples.as_slice() == [report(30, 1)].as_slice());
-        assert!(rt; early.end == refused(2, Cause::Late(30, 0)));
+    for call in 0..7u32 {
+        let (length, failed) = written_before(alloc, ONE, call)?;
+        assert!(rt; failed == (call < 4), "call {call} of four");
+        assert!(rt;
+            (length > 0) == (call > 2),
+            "written before call {call} of four"
+        );
+        let (length, failed) = written_before(alloc, ASKING, call)?;
+        assert!(rt; failed == (call < 6), "call {call} of six");
+        assert!(rt;
+            (length > 0) == (call > 4),
+            "written before call {call} of six"
+        );
     }
-    let mut whole = false;
-    for at in 0..100u32 {
-        let reads = Reads {
-            piece: 10,
-            fails: &[at],
-        };
-        let day = read_day(alloc, input, &Limits::DAY, 30, reads)?;
-        if day.end == Ok(()) {
-            whole = day.tuples.len() == 3;
-            break;
-        }
-        assert!(rt; day.end == Err(ReadEnd::ReadFault) && day.tuples.len() < 3);
-    }
-    assert!(rt; whole);
     Ok(())
 }

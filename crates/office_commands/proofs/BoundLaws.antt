@@ -5,8 +5,8 @@ use Rattle.std.proofs.lemmas.List.{length-append}
 use Rattle.road_io.specs.Cutter.{Cuts, ahead}
 use Rattle.road_io.specs.declared.cutter.LineCutter.{LineCutter}
 use Rattle.road_io.specs.declared.cutter.LineFault.{LineFault}
-use Rattle.import_once.proofs.StepLaws.{cuts_ok, taken_ok}
-use Rattle.import_once.proofs.BoundLaws.{nothing_there, nothing_taken, front_within}
+use Rattle.day_reading.proofs.StepLaws.{cuts_ok, taken_ok}
+use Rattle.day_reading.proofs.BoundLaws.{nothing_there, nothing_taken, front_within}
 use Rattle.office_commands.specs.Entries.{HasReadLines}
 
 -- a line more was taken

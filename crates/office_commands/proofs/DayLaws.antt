@@ -3,9 +3,10 @@ use Rattle.std.proofs.Common.{◌≡◌, ℕ, List, Option, Some, sym, ap, ◌�
 use Rattle.road_time.specs.declared.day.Limits.{Limits}
 use Rattle.road_time.specs.Form.{Fault}
 use Rattle.tuple_format.specs.declared.cause.Cause.{Cause}
-use Rattle.import_once.specs.Days.{IsLimits, EndsReading}
-use Rattle.import_once.specs.declared.whole_day.DayEnd.{DayEnd}
-use Rattle.import_once.specs.declared.whole_day.DayEnd.TheVariants.{Whole, Refused}
+use Rattle.road_time.specs.Fits.{IsLimits}
+use Rattle.day_reading.specs.Days.{EndsReading}
+use Rattle.day_reading.specs.declared.whole_day.DayEnd.{DayEnd}
+use Rattle.day_reading.specs.declared.whole_day.DayEnd.TheVariants.{Whole, Refused}
 use Rattle.office_commands.specs.Days.{recomputed, refusal_of, refused_at}
 
 -- the line at which a reading ended is the refused one

@@ -8,8 +8,8 @@ use Rattle.keeper.specs.declared.kept.KeepFault.{KeepFault}
 use Rattle.keeper.specs.declared.kept.KeepFault.TheVariants as keeping
 use Rattle.keeper.specs.Calls.{WhenRefused, PutsNothing, FailsLate, AllOrNothing, Leaves}
 use Rattle.keeper.specs.Office.{Office}
-use Rattle.import_once.specs.declared.whole_day.ReadStop.{ReadStop}
-use Rattle.import_once.specs.declared.whole_day.ReadStop.TheVariants as stops
+use Rattle.day_reading.specs.declared.whole_day.ReadStop.{ReadStop}
+use Rattle.day_reading.specs.declared.whole_day.ReadStop.TheVariants as stops
 use Rattle.office_words.specs.Meaning.{Reads}
 use Rattle.office_words.specs.declared.command.Command.{Command}
 use Rattle.office_words.specs.declared.command.WordFault.{WordFault}

@@ -8,3 +8,4 @@ pub mod AsideLaws
 pub mod ValidateLaws
 pub mod HistoryLaws
 pub mod TrafficLaws
+pub mod PutLaws

@@ -1,6 +1,9 @@
 -- Generated traffic as a command, and what is kept of it.
-use Rattle.std.proofs.Common.{◌≡◌, ◌≢◌, ◌∙◌, ℕ, List, [], take, Option, None, Result, Ok, Err, refl, sym, ap, subst}
+use Rattle.std.proofs.Common.{◌≡◌, ◌≢◌, ◌≤◌, ◌∙◌, ℕ, List, [], take, Option, None, Result, Ok, Err, refl, sym, ap, subst, arith}
+use Rattle.std.proofs.lemmas.Bool.{cond-false, lt-leb}
 use Rattle.road_time.specs.declared.day.TheConstants.Limits.{DAY}
+use Rattle.road_time.specs.declared.road.Tuple.{Tuple}
+use Rattle.road_time.specs.Tolls.{Finding}
 use Rattle.road_time.specs.Form.{Fault}
 use Rattle.road_time.specs.Reads.{reads}
 use Rattle.road_io.specs.declared.source.Failed.{Failed}
@@ -10,7 +13,7 @@ use Rattle.keeper.specs.Calls.{WhenRefused}
 use Rattle.keeper.specs.Kept.{kept_record}
 use Rattle.keeper.specs.Office.{Office, nothing_kept}
 use Rattle.keeper.specs.declared.kept.DayRecord.{DayRecord}
-use Rattle.import_once.specs.Imports.{Does, import_answer, import_read}
+use Rattle.import_once.specs.Imports.{Answer, Work, Does, Merges, work_of, work_by, worked_record, import_worked, unless_passed, import_answer, import_found}
 use Rattle.import_once.specs.declared.outcomes.Outcome.{Outcome}
 use Rattle.import_once.specs.declared.outcomes.Outcome.TheVariants.{Stored, Already, Answered, Refused, DayPassed, Differs, ReadFault, WriteFault, KeeperFault, NoMemory}
 use Rattle.traffic_gen.specs.declared.plan.GenPlan.{GenPlan}
@@ -37,58 +40,84 @@ module _ (plan : GenPlan) (o : Office) (old new : Option (List ℕ)) where
   wrote_traffic (Err traffic.NoMemory) (Ok c) e h = subst (λ x. Wrote (told (file_of plan) o) (Ok x) old new) (sym e) ([], (0, refl), subst (λ now. Appends old now []) h (appends_none old))
   wrote_traffic (Err traffic.NoMemory) (Err x) e h = absurd e
 
--- the record of a whole file as day 100, where nothing is kept
-abbrev pub alone : List ℕ → ℕ → DayRecord
-alone file late = kept_record 100 file (reads file DAY late).tuples nothing_kept
+-- the record of a whole file as a day, where nothing is kept
+abbrev pub alone : ℕ → List ℕ → ℕ → DayRecord
+alone day file late = kept_record day file (reads file DAY late).tuples nothing_kept
 
--- an import of such a file stores it, or finds no memory
-abbrev pub StoresAlone : List ℕ → ℕ → Outcome → Type 0
-StoresAlone file late (Stored kept) = kept ≡ alone file late
-StoresAlone file late NoMemory = Unit {0}
-StoresAlone file late (Already kept) = ⊥
-StoresAlone file late (Answered kept) = ⊥
-StoresAlone file late (Refused line cause) = ⊥
-StoresAlone file late (DayPassed last) = ⊥
-StoresAlone file late (Differs kept found) = ⊥
-StoresAlone file late ReadFault = ⊥
-StoresAlone file late WriteFault = ⊥
-StoresAlone file late KeeperFault = ⊥
+-- an import that should store this record stores it, or finds no memory
+abbrev pub Stores : DayRecord → Outcome → Type 0
+Stores r (Stored kept) = kept ≡ r
+Stores r NoMemory = Unit {0}
+Stores r (Already kept) = ⊥
+Stores r (Answered kept) = ⊥
+Stores r (Refused line cause) = ⊥
+Stores r (DayPassed last) = ⊥
+Stores r (Differs kept found) = ⊥
+Stores r ReadFault = ⊥
+Stores r WriteFault = ⊥
+Stores r KeeperFault = ⊥
 
-module _ (w : WhenRefused) (file : List ℕ) (late : ℕ) (whole : (reads file DAY late).refused ≡ None) where
-  -- what the import is to answer
-  answer : (import_answer 100 late DAY file nothing_kept).outcome ≡ Stored (alone file late)
-  answer = ap (λ (r : Option (ℕ × Fault)). (import_read 100 file (reads file DAY late).tuples r nothing_kept).outcome) whole
-
+module _ (w : WhenRefused) (a : Answer) (r : DayRecord) (stored : a.outcome ≡ Stored r) (was : Office) (old new : Option (List ℕ)) (now : Option Office) where
   -- no outcome of a day that is not new is that
-  other : (done : Outcome) → done ≡ (import_answer 100 late DAY file nothing_kept).outcome → StoresAlone file late (Stored (alone file late)) → StoresAlone file late done
-  other done e h = subst (StoresAlone file late) (sym (e ∙ answer)) h
+  other : (done : Outcome) → done ≡ a.outcome → Stores r done
+  other done e = subst (Stores r) (sym (e ∙ stored)) refl
 
-  -- what the import does
-  pub stored_alone : (old new : Option (List ℕ)) (now : Option Office) (done : Outcome) → Does w (import_answer 100 late DAY file nothing_kept) nothing_kept old new now done
-      → done ≢ ReadFault → done ≢ WriteFault → done ≢ KeeperFault → StoresAlone file late done
-  stored_alone old new now (Stored kept) h read write keep = other (Stored kept) h.outcome_is refl
-  stored_alone old new now (Already kept) h read write keep = other (Already kept) h.outcome_is refl
-  stored_alone old new now (Answered kept) h read write keep = other (Answered kept) h.outcome_is refl
-  stored_alone old new now (Refused line cause) h read write keep = other (Refused line cause) h.outcome_is refl
-  stored_alone old new now (DayPassed last) h read write keep = other (DayPassed last) h.outcome_is refl
-  stored_alone old new now (Differs kept found) h read write keep = other (Differs kept found) h.outcome_is refl
-  stored_alone old new now ReadFault h read write keep = absurd (read refl)
-  stored_alone old new now WriteFault h read write keep = absurd (write refl)
-  stored_alone old new now KeeperFault h read write keep = absurd (keep refl)
-  stored_alone old new now NoMemory h read write keep = tt
+  -- so an import stores it, where nothing failed
+  pub stores : (done : Outcome) → Does w a was old new now done → done ≢ ReadFault → done ≢ WriteFault → done ≢ KeeperFault → Stores r done
+  stores (Stored kept) h read write keep = other (Stored kept) h.outcome_is
+  stores (Already kept) h read write keep = other (Already kept) h.outcome_is
+  stores (Answered kept) h read write keep = other (Answered kept) h.outcome_is
+  stores (Refused line cause) h read write keep = other (Refused line cause) h.outcome_is
+  stores (DayPassed last) h read write keep = other (DayPassed last) h.outcome_is
+  stores (Differs kept found) h read write keep = other (Differs kept found) h.outcome_is
+  stores ReadFault h read write keep = absurd (read refl)
+  stores WriteFault h read write keep = absurd (write refl)
+  stores KeeperFault h read write keep = absurd (keep refl)
+  stores NoMemory h read write keep = tt
+
+  -- also by what a crew found
+  pub stores_found : (done : Outcome) → Merges w a was old new now done → done ≢ ReadFault → done ≢ WriteFault → done ≢ KeeperFault → Stores r done
+  stores_found (Stored kept) h read write keep = other (Stored kept) h.outcome_is
+  stores_found (Already kept) h read write keep = other (Already kept) h.outcome_is
+  stores_found (Answered kept) h read write keep = other (Answered kept) h.outcome_is
+  stores_found (Refused line cause) h read write keep = other (Refused line cause) h.outcome_is
+  stores_found (DayPassed last) h read write keep = other (DayPassed last) h.outcome_is
+  stores_found (Differs kept found) h read write keep = other (Differs kept found) h.outcome_is
+  stores_found ReadFault h read write keep = absurd (read refl)
+  stores_found WriteFault h read write keep = absurd (write refl)
+  stores_found KeeperFault h read write keep = absurd (keep refl)
+  stores_found NoMemory h read write keep = tt
+
+module _ (day : ℕ) (some : 70 ≤ day) (file : List ℕ) (late : ℕ) (whole : (reads file DAY late).refused ≡ None) where
+  abbrev tuples : List Tuple
+  tuples = (reads file DAY late).tuples
+
+  -- where nothing is kept no day is passed, and the file is stored with the work of its day
+  stored_by : (work : Work) → (unless_passed (import_worked work day file tuples (reads file DAY late).refused nothing_kept) day nothing_kept).outcome ≡ Stored (worked_record work day file tuples nothing_kept)
+  stored_by work =
+      ap (λ (a : Answer). a.outcome) (cond-false _ _ _ (lt-leb day 0 (omega (arith, some))))
+      ∙ ap (λ (r : Option (ℕ × Fault)). (import_worked work day file tuples r nothing_kept).outcome) whole
+
+  -- what an import by the rules is to answer
+  pub alone_stored : (import_answer day late DAY file nothing_kept).outcome ≡ Stored (alone day file late)
+  alone_stored = stored_by (work_of day tuples nothing_kept)
+
+  -- and one by what a crew found
+  pub found_stored : (found : List (ℕ × Finding)) → (import_found found day late DAY file nothing_kept).outcome ≡ Stored (worked_record (work_by found day tuples nothing_kept) day file tuples nothing_kept)
+  found_stored found = stored_by (work_by found day tuples nothing_kept)
 
 -- so no other outcome comes
-pub none_else : (file : List ℕ) (late : ℕ) (done : Outcome) → StoresAlone file late done → ((kept : DayRecord) → done ≢ Stored kept) → done ≢ NoMemory → ⊥
-none_else file late (Stored kept) h stored memory = stored kept refl
-none_else file late NoMemory h stored memory = memory refl
-none_else file late (Already kept) h stored memory = h
-none_else file late (Answered kept) h stored memory = h
-none_else file late (Refused line cause) h stored memory = h
-none_else file late (DayPassed last) h stored memory = h
-none_else file late (Differs kept found) h stored memory = h
-none_else file late ReadFault h stored memory = h
-none_else file late WriteFault h stored memory = h
-none_else file late KeeperFault h stored memory = h
+pub none_else : (r : DayRecord) (done : Outcome) → Stores r done → ((kept : DayRecord) → done ≢ Stored kept) → done ≢ NoMemory → ⊥
+none_else r (Stored kept) h stored memory = stored kept refl
+none_else r NoMemory h stored memory = memory refl
+none_else r (Already kept) h stored memory = h
+none_else r (Answered kept) h stored memory = h
+none_else r (Refused line cause) h stored memory = h
+none_else r (DayPassed last) h stored memory = h
+none_else r (Differs kept found) h stored memory = h
+none_else r ReadFault h stored memory = h
+none_else r WriteFault h stored memory = h
+none_else r KeeperFault h stored memory = h
 
 module _ (plan : GenPlan) (late : ℕ) (file : List ℕ) (ranged : first_out plan ≡ None) (same : file ≡ file_of plan) where
   -- the file of a plan is read whole
@@ -96,5 +125,5 @@ module _ (plan : GenPlan) (late : ℕ) (file : List ℕ) (ranged : first_out pla
   whole_file = ap (λ bytes. (reads bytes DAY late).refused) same ∙ ap (λ r. r.refused) (accepted plan (in_range plan ranged) late)
 
   -- what is kept of it is that of the tuples that were generated
-  pub alone_is : alone file late ≡ rehearsed_record plan
-  alone_is = ap (λ bytes. alone bytes late) same ∙ ap (λ r. kept_record 100 (file_of plan) r.tuples nothing_kept) (accepted plan (in_range plan ranged) late)
+  pub alone_is : (day : ℕ) → alone day file late ≡ rehearsed_record day plan
+  alone_is day = ap (λ bytes. alone day bytes late) same ∙ ap (λ r. kept_record day (file_of plan) r.tuples nothing_kept) (accepted plan (in_range plan ranged) late)

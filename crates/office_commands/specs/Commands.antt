@@ -14,8 +14,8 @@ use Rattle.reports.specs.Exports.{export_report}
 use Rattle.keeper.specs.History.{paid}
 use Rattle.keeper.specs.Office.{Office, record_of, last_day}
 use Rattle.keeper.specs.Kept.{with_tariff_of}
-use Rattle.import_once.specs.Days.{most_read}
-use Rattle.import_once.specs.Imports.{import_answer, answers_answer, most_imported}
+use Rattle.day_reading.specs.Days.{most_read}
+use Rattle.import_once.specs.Imports.{import_answer, answers_answer, most_imported, PutsOnce}
 use Rattle.import_once.specs.Imports as day
 use Rattle.import_once.specs.declared.outcomes.Outcome.{Outcome}
 use Rattle.import_once.specs.declared.outcomes.Outcome.TheVariants as outcome
@@ -29,6 +29,7 @@ use Rattle.office_words.specs.declared.command.Command.TheVariants as command
 use Rattle.tuple_format.specs.declared.cause.Cause.{Cause}
 use Rattle.office_commands.specs.declared.closing.Closing.{Closing}
 use Rattle.office_commands.specs.declared.closing.Closing.TheVariants.{Answered, Stored, Already, TariffPut, PastStored, PastAlready, Words, Refused, PastRefused, DayPassed, DiffersDay, NoDay, PastLate, PastKept, DiffersPast, ReadFault, KeeperFault, NoMemory}
+use Rattle.office_words.specs.declared.command.DayRun.{DayRun}
 use Rattle.office_words.specs.declared.command.Size.{Size}
 use Rattle.traffic_gen.specs.Traffic.{file_of}
 use Rattle.office_commands.specs.Traffic.{plan_of, rehearsed_record, rehearsed}
@@ -68,12 +69,12 @@ abbrev pub row_by : ℕ → day.Answer → Answer
 row_by number a = record { text = a.text; closing = closing_by number a.outcome; office = a.office }
 
 -- the command `answers DAY`
-abbrev pub answers_row : Limits → ℕ → ℕ → List ℕ → Office → Answer
-answers_row limits number late bytes o = row_by number (answers_answer number late limits bytes o)
+abbrev pub answers_row : Limits → DayRun → List ℕ → Office → Answer
+answers_row limits run bytes o = row_by run.day (answers_answer run.day run.late limits bytes o)
 
 -- the command `import DAY`
-abbrev pub import_row : Limits → ℕ → ℕ → List ℕ → Office → Answer
-import_row limits number late bytes o = row_by number (import_answer number late limits bytes o)
+abbrev pub import_row : Limits → DayRun → List ℕ → Office → Answer
+import_row limits run bytes o = row_by run.day (import_answer run.day run.late limits bytes o)
 
 -- the notices of a day after what an office keeps
 abbrev pub notices_of_day : ℕ → List Tuple → Office → List Notice
@@ -156,13 +157,13 @@ abbrev pub generate_row : ℕ → Size → Office → Answer
 generate_row seed size o = told (file_of (plan_of seed size)) o
 
 -- the command `rehearse SEED`
-abbrev pub rehearse_row : ℕ → Size → Office → Answer
-rehearse_row seed size o = closed (rehearsed (rehearsed_record (plan_of seed size))) o
+abbrev pub rehearse_row : ℕ → Size → DayRun → Office → Answer
+rehearse_row seed size run o = closed (rehearsed (rehearsed_record run.day (plan_of seed size))) o
 
 -- a command's row, over the bytes of the source, those of the aside, and what is kept
 abbrev pub command_row : Limits → List ℕ → List ℕ → Office → Command → Answer
-command_row limits bytes aside o (command.Answers number late) = answers_row limits number late bytes o
-command_row limits bytes aside o (command.Import number late) = import_row limits number late bytes o
+command_row limits bytes aside o (command.Answers run) = answers_row limits run bytes o
+command_row limits bytes aside o (command.Import run) = import_row limits run bytes o
 command_row limits bytes aside o (command.Validate number late) = validate_row limits number late bytes aside o
 command_row limits bytes aside o (command.Past base) = past_row limits base bytes o
 command_row limits bytes aside o (command.Day number) = day_row number o
@@ -172,7 +173,7 @@ command_row limits bytes aside o (command.Export number) = export_row number o
 command_row limits bytes aside o (command.Tariff xway crowd speed factor) = tariff_row xway crowd speed factor o
 command_row limits bytes aside o command.Tariffs = tariffs_row o
 command_row limits bytes aside o (command.Generate seed size) = generate_row seed size o
-command_row limits bytes aside o (command.Rehearse seed size late) = rehearse_row seed size o
+command_row limits bytes aside o (command.Rehearse seed size run) = rehearse_row seed size run o
 
 -- that row, or that of other words
 abbrev pub row_of : Limits → List ℕ → List ℕ → Office → Option Command → Answer
@@ -185,8 +186,8 @@ office_answer words limits bytes aside o = row_of limits bytes aside o (means wo
 
 -- whether a command has a use for the source
 abbrev pub uses_source : Command → Bool
-uses_source (command.Answers number late) = true
-uses_source (command.Import number late) = true
+uses_source (command.Answers run) = true
+uses_source (command.Import run) = true
 uses_source (command.Validate number late) = true
 uses_source (command.Past base) = true
 uses_source (command.Day number) = false
@@ -196,12 +197,12 @@ uses_source (command.Export number) = false
 uses_source (command.Tariff xway crowd speed factor) = false
 uses_source command.Tariffs = false
 uses_source (command.Generate seed size) = false
-uses_source (command.Rehearse seed size late) = false
+uses_source (command.Rehearse seed size run) = false
 
 -- whether a command has a use for the aside
 abbrev pub uses_aside : Command → Bool
-uses_aside (command.Answers number late) = false
-uses_aside (command.Import number late) = false
+uses_aside (command.Answers run) = false
+uses_aside (command.Import run) = false
 uses_aside (command.Validate number late) = true
 uses_aside (command.Past base) = false
 uses_aside (command.Day number) = false
@@ -211,12 +212,12 @@ uses_aside (command.Export number) = false
 uses_aside (command.Tariff xway crowd speed factor) = false
 uses_aside command.Tariffs = false
 uses_aside (command.Generate seed size) = false
-uses_aside (command.Rehearse seed size late) = false
+uses_aside (command.Rehearse seed size run) = false
 
 -- whether a command has a use for the keeper
 abbrev pub uses_keeper : Command → Bool
-uses_keeper (command.Answers number late) = true
-uses_keeper (command.Import number late) = true
+uses_keeper (command.Answers run) = true
+uses_keeper (command.Import run) = true
 uses_keeper (command.Validate number late) = true
 uses_keeper (command.Past base) = true
 uses_keeper (command.Day number) = true
@@ -226,7 +227,22 @@ uses_keeper (command.Export number) = true
 uses_keeper (command.Tariff xway crowd speed factor) = true
 uses_keeper command.Tariffs = true
 uses_keeper (command.Generate seed size) = false
-uses_keeper (command.Rehearse seed size late) = false
+uses_keeper (command.Rehearse seed size run) = false
+
+-- whether a command has a use for the crew
+abbrev pub uses_crew : Command → Bool
+uses_crew (command.Answers run) = true
+uses_crew (command.Import run) = true
+uses_crew (command.Validate number late) = false
+uses_crew (command.Past base) = false
+uses_crew (command.Day number) = false
+uses_crew (command.Vehicle vid from to) = false
+uses_crew (command.Accidents late) = false
+uses_crew (command.Export number) = false
+uses_crew (command.Tariff xway crowd speed factor) = false
+uses_crew command.Tariffs = false
+uses_crew (command.Generate seed size) = false
+uses_crew (command.Rehearse seed size run) = true
 
 -- whether words have a use for the source
 abbrev pub use_source : Option Command → Bool
@@ -243,6 +259,11 @@ abbrev pub use_keeper : Option Command → Bool
 use_keeper None = false
 use_keeper (Some c) = uses_keeper c
 
+-- and for the crew
+abbrev pub use_crew : Option Command → Bool
+use_crew None = false
+use_crew (Some c) = uses_crew c
+
 -- a source tells its bytes, where words have a use for it
 abbrev pub SourceTells : List Text → Option (List ℕ) → List ℕ → Type 0
 SourceTells words left bytes = use_source (means words) ≡ true → left ≡ Some bytes
@@ -258,18 +279,28 @@ IsPassed number o = (record_of o number ≡ None) × (number ≤ last_day o)
 -- the import of a passed day, or a history of another base than the kept one, or after a day: none needs the source
 abbrev pub AsksPassed : Option Command → Office → Type 0
 AsksPassed None o = ⊥
-AsksPassed (Some (command.Import number late)) o = IsPassed number o
+AsksPassed (Some (command.Import run)) o = IsPassed run.day o
 AsksPassed (Some (command.Past base)) o = NeedsNone o.past base o
 AsksPassed (Some c) o = ⊥
+
+-- the import of a day leaves what is kept as it was, or with that day
+abbrev pub PutsAsked : Option Command → Office → Option Office → Type 0
+PutsAsked None was now = Unit {0}
+PutsAsked (Some (command.Import run)) was now = PutsOnce run.day was now
+PutsAsked (Some c) was now = Unit {0}
 
 -- and a keeper what it keeps
 abbrev pub KeeperTells : List Text → Option Office → Office → Type 0
 KeeperTells words kept o = use_keeper (means words) ≡ true → kept ≡ Some o
 
+-- a crew answers what is found by the rules, where words have a use for it
+abbrev pub IsRight : List Text → Bool → Type 0
+IsRight words exact = use_crew (means words) ≡ true → exact ≡ true
+
 -- the most that a command reads of its source
 abbrev pub most_of : Limits → Office → Command → ℕ
-most_of limits o (command.Answers number late) = most_read limits
-most_of limits o (command.Import number late) = most_imported (record_of o number) limits
+most_of limits o (command.Answers run) = most_read limits
+most_of limits o (command.Import run) = most_imported (record_of o run.day) limits
 most_of limits o (command.Validate number late) = most_read (recomputed limits)
 most_of limits o (command.Past base) = most_kept o.past limits
 most_of limits o (command.Day number) = 0
@@ -279,12 +310,12 @@ most_of limits o (command.Export number) = 0
 most_of limits o (command.Tariff xway crowd speed factor) = 0
 most_of limits o command.Tariffs = 0
 most_of limits o (command.Generate seed size) = 0
-most_of limits o (command.Rehearse seed size late) = 0
+most_of limits o (command.Rehearse seed size run) = 0
 
 -- and of its aside
 abbrev pub most_aside_of : Limits → List ℕ → Office → Command → ℕ
-most_aside_of limits bytes o (command.Answers number late) = 0
-most_aside_of limits bytes o (command.Import number late) = 0
+most_aside_of limits bytes o (command.Answers run) = 0
+most_aside_of limits bytes o (command.Import run) = 0
 most_aside_of limits bytes o (command.Validate number late) = most_compared (length (notices_of_day number (reads bytes (recomputed limits) late).tuples o))
 most_aside_of limits bytes o (command.Past base) = 0
 most_aside_of limits bytes o (command.Day number) = 0
@@ -294,7 +325,7 @@ most_aside_of limits bytes o (command.Export number) = 0
 most_aside_of limits bytes o (command.Tariff xway crowd speed factor) = 0
 most_aside_of limits bytes o command.Tariffs = 0
 most_aside_of limits bytes o (command.Generate seed size) = 0
-most_aside_of limits bytes o (command.Rehearse seed size late) = 0
+most_aside_of limits bytes o (command.Rehearse seed size run) = 0
 
 -- the most that words have read of a source
 abbrev pub most_asked : Limits → Office → Option Command → ℕ
@@ -308,8 +339,8 @@ most_aside_asked limits bytes o (Some c) = most_aside_of limits bytes o c
 
 -- whether a command is to change what is kept
 abbrev pub changes_kept : Command → Bool
-changes_kept (command.Answers number late) = false
-changes_kept (command.Import number late) = true
+changes_kept (command.Answers run) = false
+changes_kept (command.Import run) = true
 changes_kept (command.Validate number late) = false
 changes_kept (command.Past base) = true
 changes_kept (command.Day number) = false
@@ -319,7 +350,7 @@ changes_kept (command.Export number) = false
 changes_kept (command.Tariff xway crowd speed factor) = true
 changes_kept command.Tariffs = false
 changes_kept (command.Generate seed size) = false
-changes_kept (command.Rehearse seed size late) = false
+changes_kept (command.Rehearse seed size run) = false
 
 -- whether words are
 abbrev pub change_kept : Option Command → Bool

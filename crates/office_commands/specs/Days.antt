@@ -5,8 +5,8 @@ use Rattle.road_time.specs.declared.day.Limits.{Limits}
 use Rattle.road_time.specs.Form.{Fault}
 use Rattle.tuple_format.specs.Causes.{cause_of}
 use Rattle.tuple_format.specs.declared.cause.Cause.{Cause}
-use Rattle.import_once.specs.declared.whole_day.DayEnd.{DayEnd}
-use Rattle.import_once.specs.declared.whole_day.DayEnd.TheVariants as day_end
+use Rattle.day_reading.specs.declared.whole_day.DayEnd.{DayEnd}
+use Rattle.day_reading.specs.declared.whole_day.DayEnd.TheVariants as day_end
 
 -- the limits of a day that is recomputed: at most a million lines
 abbrev pub recomputed : Limits → Limits

@@ -6,8 +6,8 @@ use Rattle.keeper.specs.declared.kept.KeepFault.{KeepFault}
 use Rattle.keeper.specs.declared.kept.KeepFault.TheVariants as keeping
 use Rattle.keeper.specs.Calls.{WhenRefused, Leaves}
 use Rattle.keeper.specs.Office.{Office}
-use Rattle.import_once.specs.declared.whole_day.ReadStop.{ReadStop}
-use Rattle.import_once.specs.declared.whole_day.ReadStop.TheVariants as stops
+use Rattle.day_reading.specs.declared.whole_day.ReadStop.{ReadStop}
+use Rattle.day_reading.specs.declared.whole_day.ReadStop.TheVariants as stops
 use Rattle.reports.specs.declared.report_fault.ReportFault.{ReportFault}
 use Rattle.reports.specs.declared.report_fault.ReportFault.TheVariants as reports
 use Rattle.office_commands.specs.declared.closing.Closing.{Closing}

@@ -16,9 +16,9 @@ use Rattle.office_commands.specs.declared.closing.Closing.TheVariants.{NoMemory,
 abbrev pub plan_of : ℕ → Size → GenPlan
 plan_of seed size = record { seed = seed; vehicles = size.vehicles; minutes = size.minutes; xways = size.xways; crashes = size.crashes }
 
--- what is kept of generated traffic as day 100, where nothing else is kept: the same however late lines may come
-abbrev pub rehearsed_record : GenPlan → DayRecord
-rehearsed_record plan = kept_record 100 (file_of plan) (generated plan) nothing_kept
+-- what is kept of generated traffic as a day, where nothing else is kept: the same however late lines may come
+abbrev pub rehearsed_record : ℕ → GenPlan → DayRecord
+rehearsed_record day plan = kept_record day (file_of plan) (generated plan) nothing_kept
 
 -- the closing line of a rehearsal, of what was kept
 abbrev pub rehearsed : DayRecord → Closing

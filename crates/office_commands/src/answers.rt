@@ -1,10 +1,12 @@
 // The command `answers DAY`: the output of a day.
-ghost use Rattle.std.specs.Prelude.{◌≡◌, ◌≢◌, ◌≤◌, ℕ, List, Some, Ok, IsOk};
+ghost use Rattle.std.specs.Prelude.{◌≡◌, ◌≢◌, ◌≤◌, ℕ, List, [], Some, Ok, IsOk, true};
 ghost use Rattle.road_io.specs.Faults.{Rose, HasCause};
 ghost use Rattle.road_io.specs.Plans.{NeverFails};
 ghost use Rattle.road_io.specs.Rooms.{Endless};
 ghost use Rattle.keeper.specs.Office.{Office};
-ghost use Rattle.import_once.specs.Days.{IsLimits, ReadsWithin, most_read};
+ghost use Rattle.road_time.specs.Fits.{IsLimits};
+ghost use Rattle.day_reading.specs.Days.{ReadsWithin, most_read};
+ghost use Rattle.office_words.specs.Meaning.{IsRun};
 ghost use Rattle.office_commands.specs.Commands.{answers_row};
 ghost use Rattle.office_commands.specs.Endings.{Wrote, Keeps};
 ghost use Rattle.office_commands.specs.declared.closing.Closing.TheVariants.{ReadFault, KeeperFault, Words};
@@ -12,27 +14,30 @@ ghost use Rattle.office_commands.specs.declared.closing.Closing.TheVariants.{Rea
 use crate::closing::Closing;
 use crate::outcome::ended;
 use keeper::Keeper;
+use office_words::DayRun;
+use partition_workers::Crew;
 use road_io::{Failed, Sink, Source};
 use road_time::Limits;
 use std::alloc::Global;
 
 /// Answers what the source has, up to the first line that is refused. Nothing is kept.
-pub fn answers<S: Source, O: Sink, K: Keeper>(
+pub fn answers<S: Source, O: Sink, K: Keeper, C: Crew>(
     alloc: Global,
-    day: u32,
-    late: u8,
+    run: DayRun,
     limits: &Limits,
     source: &mut S,
     sink: &mut O,
     keeper: &mut K,
+    crew: &mut C,
 ) -> Result<Option<Closing>, Failed>
-    requires low { 70 ≤ day }
-    requires high { day ≤ 1000000 }
-    requires soon { late ≤ 120 }
+    requires range { IsRun run }
     requires within { IsLimits limits.now }
-    ensures wrote { (bytes : List ℕ) (o : Office) → S.left source.old ≡ Some bytes → K.told keeper.old ≡ Some o → Wrote (answers_row limits.now day late bytes o) result (O.written sink.old) (O.written sink.new) }
-    ensures keeps { (bytes : List ℕ) (o : Office) → S.left source.old ≡ Some bytes → K.told keeper.old ≡ Some o → Keeps K.refuses (answers_row limits.now day late bytes o) o (K.told keeper.new) result }
+    requires idle { C.out crew.old ≡ [] }
+    ensures wrote { C.exact ≡ true → (bytes : List ℕ) (o : Office) → S.left source.old ≡ Some bytes → K.told keeper.old ≡ Some o → Wrote (answers_row limits.now run bytes o) result (O.written sink.old) (O.written sink.new) }
+    ensures keeps { C.exact ≡ true → (bytes : List ℕ) (o : Office) → S.left source.old ≡ Some bytes → K.told keeper.old ≡ Some o → Keeps K.refuses (answers_row limits.now run bytes o) o (K.told keeper.new) result }
     ensures kept { K.told keeper.new ≡ K.told keeper.old }
+    ensures idle { C.out crew.new ≡ [] }
+    ensures crew { C.which crew.new ≡ C.which crew.old }
     ensures said { result ≢ Ok (Some Words) }
     ensures bounded { ReadsWithin (most_read limits.now) (S.left source.old) (S.left source.new) }
     ensures read_cause { result ≡ Ok (Some ReadFault) → Rose (S.faults source.old) (S.faults source.new) }
@@ -44,6 +49,8 @@ pub fn answers<S: Source, O: Sink, K: Keeper>(
     ensures keeper_later { K.faults keeper.old ≤ K.faults keeper.new }
     ensures keeper_sure { NeverFails (K.plan keeper.old) → result ≢ Ok (Some KeeperFault) }
 {
-    let done = import_once::answers(alloc, day, late, limits, source, sink, keeper);
-    ended(day, done)
+    let done = import_once::answers(
+        alloc, run.day, &run.plan, run.late, limits, source, sink, keeper, crew,
+    );
+    ended(run.day, done)
 }

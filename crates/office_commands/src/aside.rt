@@ -6,16 +6,16 @@ ghost use Rattle.road_time.specs.Text.{notice_text, read_notice as read_notice_l
 ghost use Rattle.road_io.specs.Faults.{Rose};
 ghost use Rattle.road_io.specs.Plans.{NeverFails};
 ghost use Rattle.road_io.specs.Cutter.{ahead, line_of, number_of, fault_of};
-ghost use Rattle.import_once.specs.Days.{ReadsWithin};
+ghost use Rattle.day_reading.specs.Days.{ReadsWithin};
 ghost use Rattle.office_commands.specs.Asides.{entry_of, is_marked, compared, compared_from};
 ghost use Rattle.office_commands.specs.Entries.{Enters, entered, GoesOn, PartsAt, IsComparison, IsComparisonOr, HasReadLines, most_compared};
 ghost use Rattle.office_commands.specs.declared.closing.Closing.{Closing as ClosingValue};
 ghost use Rattle.office_commands.specs.declared.closing.Closing.TheVariants.{DiffersLine};
-ghost use Rattle.import_once.specs.declared.whole_day.ReadStop.TheVariants.{ReadFault, NoMemory as NoRoom};
+ghost use Rattle.day_reading.specs.declared.whole_day.ReadStop.TheVariants.{ReadFault, NoMemory as NoRoom};
 
 use crate::closing::Closing;
 use crate::entry_text::EntryText;
-use import_once::ReadStop;
+use day_reading::ReadStop;
 use road_io::{LineCutter, LineFault, Source};
 use road_time::{NoMemory, Notice};
 use std::alloc::Global;

@@ -1,16 +1,16 @@
 // A day, read whole.
 ghost use Rattle.std.specs.Prelude.{◌≡◌, ◌≢◌, ◌≤◌, List, ℕ, Some, Err, IfOk};
-ghost use Rattle.road_time.specs.Fits.{Fit};
+ghost use Rattle.road_time.specs.Fits.{Fit, IsLimits};
 ghost use Rattle.road_time.specs.Reads.{reads};
 ghost use Rattle.road_io.specs.Faults.{Rose};
 ghost use Rattle.road_io.specs.Plans.{NeverFails};
-ghost use Rattle.import_once.specs.Days.{IsLimits, ReadsWithin, most_read};
-ghost use Rattle.import_once.specs.declared.whole_day.ReadStop.TheVariants.{ReadFault};
+ghost use Rattle.day_reading.specs.Days.{ReadsWithin, most_read};
+ghost use Rattle.day_reading.specs.declared.whole_day.ReadStop.TheVariants.{ReadFault};
 ghost use Rattle.office_commands.specs.Days.{recomputed, refusal_of, refused_at};
 ghost use Rattle.office_commands.specs.Endings.{stopping};
 
 use crate::closing::Closing;
-use import_once::{DayEnd, ReadStop};
+use day_reading::{DayEnd, ReadStop};
 use road_io::Source;
 use road_time::{Limits, Tuple};
 use std::alloc::Global;
@@ -71,7 +71,7 @@ pub fn read_day<S: Source>(
     ensures later { S.faults source.old ≤ S.faults source.new }
 {
     let lesser = recomputed(limits);
-    match import_once::read_day(alloc, &lesser, late, source) {
+    match day_reading::read_day(alloc, &lesser, late, source) {
         Ok(day) => Ok(Day {
             refused: refused_at(day.end),
             tuples: day.tuples,

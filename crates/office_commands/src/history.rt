@@ -3,7 +3,7 @@ ghost use Rattle.std.specs.Prelude.{◌≡◌, ◌≢◌, ◌≤◌, [], ℕ, Li
 ghost use Rattle.road_io.specs.Faults.{Rose};
 ghost use Rattle.road_io.specs.Plans.{NeverFails};
 ghost use Rattle.keeper.specs.Office.{Office};
-ghost use Rattle.import_once.specs.Days.{ReadsWithin};
+ghost use Rattle.day_reading.specs.Days.{ReadsWithin};
 ghost use Rattle.past_file.specs.Imports.{NeedsNone, most_kept};
 ghost use Rattle.past_file.specs.declared.outcomes.PastOutcome.TheVariants as outcome;
 ghost use Rattle.office_commands.specs.Commands.{past_closing, past_row};

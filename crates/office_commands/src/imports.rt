@@ -1,41 +1,48 @@
 // The command `import DAY`: the output of a day, which is kept from then on.
-ghost use Rattle.std.specs.Prelude.{◌≡◌, ◌≢◌, ◌≤◌, ℕ, List, Some, Ok, IsOk};
+ghost use Rattle.std.specs.Prelude.{◌≡◌, ◌≢◌, ◌≤◌, ℕ, List, [], Some, Ok, IsOk, true};
 ghost use Rattle.road_io.specs.Faults.{Rose, HasCause};
 ghost use Rattle.road_io.specs.Plans.{NeverFails};
 ghost use Rattle.road_io.specs.Rooms.{Endless};
 ghost use Rattle.keeper.specs.Office.{Office, record_of};
-ghost use Rattle.import_once.specs.Days.{IsLimits, ReadsWithin};
-ghost use Rattle.import_once.specs.Imports.{most_imported};
+ghost use Rattle.road_time.specs.Fits.{IsLimits};
+ghost use Rattle.day_reading.specs.Days.{ReadsWithin};
+ghost use Rattle.import_once.specs.Imports.{most_imported, PutsOnce};
+ghost use Rattle.office_words.specs.Meaning.{IsRun};
 ghost use Rattle.office_commands.specs.Commands.{import_row, IsPassed};
 ghost use Rattle.office_commands.specs.Endings.{Wrote, Keeps};
 ghost use Rattle.office_commands.specs.declared.closing.Closing.TheVariants.{ReadFault, KeeperFault, Words};
 
 use crate::closing::Closing;
 use crate::outcome::ended;
+use accounts::NoPublisher;
 use keeper::Keeper;
+use office_words::DayRun;
+use partition_workers::Crew;
 use road_io::{Failed, Sink, Source};
 use road_time::Limits;
 use std::alloc::Global;
 
 /// Imports what the source has as a day, once.
-pub fn import<S: Source, O: Sink, K: Keeper>(
+pub fn import<S: Source, O: Sink, K: Keeper, C: Crew>(
     alloc: Global,
-    day: u32,
-    late: u8,
+    run: DayRun,
     limits: &Limits,
     source: &mut S,
     sink: &mut O,
     keeper: &mut K,
+    crew: &mut C,
 ) -> Result<Option<Closing>, Failed>
-    requires low { 70 ≤ day }
-    requires high { day ≤ 1000000 }
-    requires soon { late ≤ 120 }
+    requires range { IsRun run }
     requires within { IsLimits limits.now }
-    ensures wrote { (bytes : List ℕ) (o : Office) → S.left source.old ≡ Some bytes → K.told keeper.old ≡ Some o → Wrote (import_row limits.now day late bytes o) result (O.written sink.old) (O.written sink.new) }
-    ensures keeps { (bytes : List ℕ) (o : Office) → S.left source.old ≡ Some bytes → K.told keeper.old ≡ Some o → Keeps K.refuses (import_row limits.now day late bytes o) o (K.told keeper.new) result }
-    ensures unread { (o : Office) → K.told keeper.old ≡ Some o → IsPassed day o → source.new ≡ source.old }
+    requires idle { C.out crew.old ≡ [] }
+    ensures wrote { C.exact ≡ true → (bytes : List ℕ) (o : Office) → S.left source.old ≡ Some bytes → K.told keeper.old ≡ Some o → Wrote (import_row limits.now run bytes o) result (O.written sink.old) (O.written sink.new) }
+    ensures keeps { C.exact ≡ true → (bytes : List ℕ) (o : Office) → S.left source.old ≡ Some bytes → K.told keeper.old ≡ Some o → Keeps K.refuses (import_row limits.now run bytes o) o (K.told keeper.new) result }
+    ensures puts { (o : Office) → K.told keeper.old ≡ Some o → PutsOnce run.day o (K.told keeper.new) }
+    ensures unread { (o : Office) → K.told keeper.old ≡ Some o → IsPassed run.day o → source.new ≡ source.old }
+    ensures idle { C.out crew.new ≡ [] }
+    ensures crew { C.which crew.new ≡ C.which crew.old }
     ensures said { result ≢ Ok (Some Words) }
-    ensures bounded { (o : Office) → K.told keeper.old ≡ Some o → ReadsWithin (most_imported (record_of o day) limits.now) (S.left source.old) (S.left source.new) }
+    ensures bounded { (o : Office) → K.told keeper.old ≡ Some o → ReadsWithin (most_imported (record_of o run.day) limits.now) (S.left source.old) (S.left source.new) }
     ensures read_cause { result ≡ Ok (Some ReadFault) → Rose (S.faults source.old) (S.faults source.new) }
     ensures read_later { S.faults source.old ≤ S.faults source.new }
     ensures read_sure { NeverFails (S.plan source.old) → result ≢ Ok (Some ReadFault) }
@@ -45,6 +52,18 @@ pub fn import<S: Source, O: Sink, K: Keeper>(
     ensures keeper_later { K.faults keeper.old ≤ K.faults keeper.new }
     ensures keeper_sure { NeverFails (K.plan keeper.old) → result ≢ Ok (Some KeeperFault) }
 {
-    let done = import_once::import(alloc, day, late, limits, source, sink, keeper);
-    ended(day, done)
+    let mut publisher = NoPublisher;
+    let done = import_once::import(
+        alloc,
+        run.day,
+        &run.plan,
+        run.late,
+        limits,
+        source,
+        sink,
+        keeper,
+        crew,
+        &mut publisher,
+    );
+    ended(run.day, done)
 }

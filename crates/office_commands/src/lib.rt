@@ -5,7 +5,6 @@
 //! output and what is kept in the file `tolls.db`.
 #![tactic(auto)]
 
-mod accidents;
 mod answers;
 mod aside;
 mod closing;
@@ -14,6 +13,7 @@ mod entry;
 mod entry_text;
 mod history;
 mod imports;
+mod mishaps;
 mod outcome;
 mod refusal;
 mod statements;

@@ -1,5 +1,5 @@
 // The commands `generate SEED` and `rehearse SEED`: the traffic that a seed makes.
-ghost use Rattle.std.specs.Prelude.{◌≡◌, ◌≢◌, ◌≤◌, [], ℕ, Some, None, Ok, Err, IsOk, IfOk, OnErr};
+ghost use Rattle.std.specs.Prelude.{◌≡◌, ◌≢◌, ◌≤◌, [], ℕ, true, Some, None, Ok, Err, IsOk, IfOk, OnErr};
 ghost use Rattle.road_time.specs.declared.day.TheConstants.Limits.{DAY};
 ghost use Rattle.road_time.specs.Reads.{reads};
 ghost use Rattle.road_io.specs.Faults.{Rose, HasCause};
@@ -10,16 +10,18 @@ ghost use Rattle.keeper.specs.Office.{Office, nothing_kept};
 ghost use Rattle.traffic_gen.specs.declared.plan.GenFault.TheVariants as gen_fault;
 ghost use Rattle.traffic_gen.specs.Plans.{first_out};
 ghost use Rattle.traffic_gen.specs.Traffic.{file_of};
-ghost use Rattle.office_words.specs.Meaning.{IsSize};
+ghost use Rattle.office_words.specs.Meaning.{IsRun, IsSize};
 ghost use Rattle.office_commands.specs.Commands.{generate_row, rehearse_row};
 ghost use Rattle.office_commands.specs.Endings.{StandsBefore, Wrote};
 ghost use Rattle.office_commands.specs.Traffic.{plan_of, rehearsed_record, rehearsed, EndsTraffic};
 ghost use Rattle.office_commands.specs.declared.closing.Closing.TheVariants.{ReadFault, KeeperFault, Words};
 
 use crate::closing::Closing;
+use accounts::NoPublisher;
 use import_once::Outcome;
 use keeper::{DayRecord, MemKeeper};
-use office_words::Size;
+use office_words::{DayRun, Size};
+use partition_workers::Crew;
 use road_io::{Failed, MemSink, MemSource, Sink, VoidSink};
 use road_time::{Limits, NoMemory};
 use std::alloc::Global;
@@ -91,23 +93,35 @@ fn file_in_memory(alloc: Global, plan: &GenPlan) -> Result<MemSink, NoMemory>
     }
 }
 
-/// What is kept of a whole file as day 100, in memory and where nothing else is kept.
-fn kept_alone(alloc: Global, file: &[u8], late: u8) -> Result<DayRecord, NoMemory>
-    requires soon { late ≤ 120 }
-    requires whole { (reads file.now DAY late).refused ≡ None }
-    ensures { IfOk result (λ r. r ≡ kept_record 100 file.now (reads file.now DAY late).tuples nothing_kept) }
+/// What is kept of a whole file as a day, in memory and where nothing else is kept.
+fn kept_alone<C: Crew>(
+    alloc: Global,
+    file: &[u8],
+    run: DayRun,
+    crew: &mut C,
+) -> Result<DayRecord, NoMemory>
+    requires range { IsRun run }
+    requires whole { (reads file.now DAY run.late).refused ≡ None }
+    requires idle { C.out crew.old ≡ [] }
+    ensures kept { C.exact ≡ true → IfOk result (λ r. r ≡ kept_record run.day file.now (reads file.now DAY run.late).tuples nothing_kept) }
+    ensures idle { C.out crew.new ≡ [] }
+    ensures crew { C.which crew.new ≡ C.which crew.old }
 {
     let mut source = MemSource::new(alloc, file, 65_536, &[])?;
     let mut keeper = MemKeeper::new(alloc, &[])?;
     let mut sink = VoidSink;
+    let mut publisher = NoPublisher;
     match import_once::import(
         alloc,
-        100,
-        late,
+        run.day,
+        &run.plan,
+        run.late,
         &Limits::DAY,
         &mut source,
         &mut sink,
         &mut keeper,
+        crew,
+        &mut publisher,
     ) {
         Outcome::Stored(kept) => Ok(kept),
         Outcome::NoMemory => Err(NoMemory),
@@ -115,14 +129,22 @@ fn kept_alone(alloc: Global, file: &[u8], late: u8) -> Result<DayRecord, NoMemor
     }
 }
 
-/// What is kept of the traffic of a plan as day 100, where nothing else is kept.
-fn rehearse_plan(alloc: Global, plan: &GenPlan, late: u8) -> Result<DayRecord, NoMemory>
-    requires range { first_out plan.now ≡ None }
-    requires soon { late ≤ 120 }
-    ensures { IfOk result (λ r. r ≡ rehearsed_record plan.now) }
+/// What is kept of the traffic of a plan as a day, where nothing else is kept.
+fn rehearse_plan<C: Crew>(
+    alloc: Global,
+    plan: &GenPlan,
+    run: DayRun,
+    crew: &mut C,
+) -> Result<DayRecord, NoMemory>
+    requires plan { first_out plan.now ≡ None }
+    requires range { IsRun run }
+    requires idle { C.out crew.old ≡ [] }
+    ensures kept { C.exact ≡ true → IfOk result (λ r. r ≡ rehearsed_record run.day plan.now) }
+    ensures idle { C.out crew.new ≡ [] }
+    ensures crew { C.which crew.new ≡ C.which crew.old }
 {
     let file = file_in_memory(alloc, plan)?;
-    kept_alone(alloc, file.bytes(), late)
+    kept_alone(alloc, file.bytes(), run, crew)
 }
 
 /// The closing of a rehearsal, of what was kept.
@@ -139,17 +161,20 @@ fn closing_of(kept: &DayRecord) -> Closing
     }
 }
 
-/// Generates the traffic of a seed and imports it as day 100, in memory and beside all that is kept.
-pub fn rehearse(alloc: Global, seed: u64, size: Size, late: u8) -> Closing
+/// Generates the traffic of a seed and imports it as a day, in memory and beside all that is kept.
+pub fn rehearse<C: Crew>(alloc: Global, seed: u64, size: Size, run: DayRun, crew: &mut C) -> Closing
     requires size { IsSize size }
-    requires soon { late ≤ 120 }
-    ensures exact { (o : Office) → StandsBefore (rehearse_row seed size o) result [] }
+    requires range { IsRun run }
+    requires idle { C.out crew.old ≡ [] }
+    ensures exact { C.exact ≡ true → (o : Office) → StandsBefore (rehearse_row seed size run o) result [] }
+    ensures idle { C.out crew.new ≡ [] }
+    ensures crew { C.which crew.new ≡ C.which crew.old }
     ensures said { result ≢ Words }
     ensures unread { result ≢ ReadFault }
     ensures unasked { result ≢ KeeperFault }
 {
     let plan = plan_for(seed, size);
-    match rehearse_plan(alloc, &plan, late) {
+    match rehearse_plan(alloc, &plan, run, crew) {
         Ok(kept) => closing_of(&kept),
         Err(_) => Closing::NoMemory,
     }

@@ -1,11 +1,11 @@
 // The command `validate DAY`: notices compared with those of the rules.
 ghost use Rattle.std.specs.Prelude.{◌≡◌, ◌≢◌, ◌≤◌, ◌⊎◌, [], ℕ, List, Some, length};
-ghost use Rattle.road_time.specs.Fits.{IsDay};
+ghost use Rattle.road_time.specs.Fits.{IsDay, IsLimits};
 ghost use Rattle.road_time.specs.Lines.{lines_of};
 ghost use Rattle.road_io.specs.Faults.{Rose};
 ghost use Rattle.road_io.specs.Plans.{NeverFails};
 ghost use Rattle.keeper.specs.Office.{Office};
-ghost use Rattle.import_once.specs.Days.{IsLimits, ReadsWithin, most_read};
+ghost use Rattle.day_reading.specs.Days.{ReadsWithin, most_read};
 ghost use Rattle.office_commands.specs.Asides.{compared};
 ghost use Rattle.office_commands.specs.Commands.{notices_of_day, validate_row, validation_of, unless_refused, closed};
 ghost use Rattle.office_commands.specs.Days.{recomputed};
@@ -18,7 +18,7 @@ use crate::aside::compare;
 use crate::closing::Closing;
 use crate::day::{Day, read_day, stopped};
 use crate::refusal::refused;
-use import_once::history_for;
+use asked_history::history_for;
 use keeper::Keeper;
 use road_io::Source;
 use road_time::{Limits, Notice, Tariffs};

@@ -1,12 +1,12 @@
 -- The grammar as a function gives what the grammar as a relation says.
-use Rattle.std.proofs.Common.{◌≡◌, ◌∙◌, ◌||◌, ◌==◌, ◌+◌, ℕ, Bool, true, false, suc, refl, sym, ap, subst, List, [], ◌∷◌, ◌++◌, map, Option, Some, None, option_and_then, bytes_eq, find, ◌↔◌, append-nil, append_assoc, arith, true≢false, if◌then◌else◌}
+use Rattle.std.proofs.Common.{◌≡◌, ◌∙◌, ◌||◌, ◌==◌, ◌+◌, ℕ, Bool, true, false, suc, refl, sym, ap, subst, List, [], ◌∷◌, ◌++◌, map, Option, Some, None, option_and_then, bytes_eq, codes, find, ◌↔◌, append-nil, append_assoc, arith, true≢false, if◌then◌else◌}
 use Rattle.std.specs.List.{list_any, list_all, before_first, after_first, position_or_len}
 use Rattle.std.specs.Option.{unwrap_or}
 use Rattle.std.proofs.lemmas.Bool.{eqb-true}
 use Rattle.std.proofs.lemmas.Option.{none-some}
 use Rattle.std.proofs.lemmas.Slice.Eq.{bytes_eq-Decides}
 use Rattle.office_words.specs.Grammar.{Form, Text, Said, Look, long_look, look_after_two, look_after_one, is_equals, ending, alone, joined, refused, plain, look, contains, is_said, give, whole, placed, says, spoken}
-use Rattle.office_words.specs.Table.{forms}
+use Rattle.office_words.specs.Table.{forms, runs, sizes}
 use Rattle.office_words.specs.Spelling.{Item, in_place, apart, joint, AllFit, words_of, told, filled, IsFresh, Spells, IsSpelled}
 
 -- ---- what a look tells of a word
@@ -347,9 +347,61 @@ sound_found (g ∷ fs) word f all e = go (bytes_eq g.name word) refl (sound_foun
         subst Sound (ap (λ x. unwrap_or x g) same) all.0
     go false hit rest = rest (rw hit at e)
 
-all_sound : AllSound forms
+-- the options are read as they are written
+runs_plain : AllPlainly runs
 unfolding look
-all_sound = ((((refl, λ v. refl), tt), (refl, refl, refl, refl, tt)), ((((refl, λ v. refl), tt), (refl, refl, refl, refl, tt)), ((((refl, λ v. refl), tt), (refl, refl, refl, refl, tt)), ((tt, (refl, refl, refl, refl, tt)), ((tt, (refl, refl, refl, refl, tt)), ((tt, (refl, refl, refl, refl, (refl, refl, refl, refl, (refl, refl, refl, refl, tt)))), ((((refl, λ v. refl), tt), tt), ((tt, (refl, refl, refl, refl, tt)), ((tt, (refl, refl, refl, refl, (refl, refl, refl, refl, (refl, refl, refl, refl, (refl, refl, refl, refl, tt))))), ((tt, tt), ((((refl, λ v. refl), ((refl, λ v. refl), ((refl, λ v. refl), ((refl, λ v. refl), tt)))), (refl, refl, refl, refl, tt)), ((((refl, λ v. refl), ((refl, λ v. refl), ((refl, λ v. refl), ((refl, λ v. refl), ((refl, λ v. refl), tt))))), (refl, refl, refl, refl, tt)), tt))))))))))))
+runs_plain = ((refl, λ v. refl), ((refl, λ v. refl), ((refl, λ v. refl), tt)))
+
+sizes_plain : AllPlainly sizes
+unfolding look
+sizes_plain = ((refl, λ v. refl), ((refl, λ v. refl), ((refl, λ v. refl), ((refl, λ v. refl), tt))))
+
+late_plain : AllPlainly (codes "late" ∷ [])
+unfolding look
+late_plain = ((refl, λ v. refl), tt)
+
+plain_both : (ns ms : List Text) → AllPlainly ns → AllPlainly ms → AllPlainly (ns ++ ms)
+plain_both [] ms a b = b
+plain_both (n ∷ ns) ms a b = (a.0, plain_both ns ms a.1 b)
+
+all_sound : AllSound forms
+all_sound = (
+  (runs_plain, (refl, refl, refl, refl, tt)),
+  (
+    (runs_plain, (refl, refl, refl, refl, tt)),
+    (
+      (late_plain, (refl, refl, refl, refl, tt)),
+      (
+        (tt, (refl, refl, refl, refl, tt)),
+        (
+          (tt, (refl, refl, refl, refl, tt)),
+          (
+            (tt, (refl, refl, refl, refl, (refl, refl, refl, refl, (refl, refl, refl, refl, tt)))),
+            (
+              (late_plain, tt),
+              (
+                (tt, (refl, refl, refl, refl, tt)),
+                (
+                  (tt, (refl, refl, refl, refl, (refl, refl, refl, refl, (refl, refl, refl, refl, (refl, refl, refl, refl, tt))))),
+                  (
+                    (tt, tt),
+                    (
+                      (sizes_plain, (refl, refl, refl, refl, tt)),
+                      (
+                        (plain_both sizes runs sizes_plain runs_plain, (refl, refl, refl, refl, tt)),
+                        tt,
+                      ),
+                    ),
+                  ),
+                ),
+              ),
+            ),
+          ),
+        ),
+      ),
+    ),
+  ),
+)
 
 pub is_spelled : (words : List Text) (name : Text) (said : Said) → spoken forms words ≡ Some (name, said) ↔ IsSpelled forms words name said
 is_spelled words name said = (to words, from)

@@ -6,10 +6,12 @@ use Rattle.std.specs.Str.{bytes_eq}
 use Rattle.std.specs.Char.{is_ascii_digit}
 use Rattle.std.specs.List.{list_all}
 use Rattle.std.specs.Str.Parse.{digits_value}
+use Rattle.import_plan.specs.declared.Plan.{Plan}
 use Rattle.office_words.specs.Grammar.{Text, Said, spoken}
 use Rattle.office_words.specs.Table.{forms}
 use Rattle.office_words.specs.declared.command.Command.{Command}
 use Rattle.office_words.specs.declared.command.Command.TheVariants as command
+use Rattle.office_words.specs.declared.command.DayRun.{DayRun}
 use Rattle.office_words.specs.declared.command.Size.{Size}
 use Rattle.office_words.specs.declared.command.WordFault.{WordFault}
 use Rattle.office_words.specs.declared.command.WordFault.TheVariants as fault
@@ -32,6 +34,11 @@ needed low high value = option_and_then (number low high) value
 abbrev pub optional : ℕ → ℕ → ℕ → Option Text → Option ℕ
 optional low high default value = option_map_or (number low high) value (Some default)
 
+-- the number of an option that has none of its own, where it is given
+abbrev pub chosen : ℕ → ℕ → Option Text → Option (Option ℕ)
+chosen low high None = Some None
+chosen low high (Some text) = option_map (λ n. Some n) (number low high text)
+
 -- what follows, if there is a value
 abbrev pub with : {A B : Type 0} → Option A → (A → Option B) → Option B
 with x f = option_and_then f x
@@ -48,13 +55,24 @@ day_in value = needed 70 1000000 (value (codes "day"))
 abbrev pub late_in : Values → Option ℕ
 late_in value = optional 0 120 0 (value (codes "late"))
 
+-- over how many workers a day's work is cut, and the number that draws their turns
+abbrev pub plan_in : Values → Option Plan
+plan_in value = with (optional 1 64 1 (value (codes "workers"))) (λ width.
+    with (chosen 0 (2 ^ 64 - 1) (value (codes "turns"))) (λ turns.
+    Some (record { width = width; turns = turns })))
+
+-- what the run of a day is told
+abbrev pub run_in : ℕ → Values → Option DayRun
+run_in day value = with (late_in value) (λ late. with (plan_in value) (λ plan.
+    Some (record { day = day; late = late; plan = plan })))
+
 -- the command `answers DAY`
 abbrev pub answers_in : Values → Option Command
-answers_in value = with (day_in value) (λ day. with (late_in value) (λ late. Some (command.Answers day late)))
+answers_in value = with (day_in value) (λ day. with (run_in day value) (λ run. Some (command.Answers run)))
 
 -- the command `import DAY`
 abbrev pub import_in : Values → Option Command
-import_in value = with (day_in value) (λ day. with (late_in value) (λ late. Some (command.Import day late)))
+import_in value = with (day_in value) (λ day. with (run_in day value) (λ run. Some (command.Import run)))
 
 -- the command `validate DAY`
 abbrev pub validate_in : Values → Option Command
@@ -97,10 +115,10 @@ size_in value = with (optional 1 5000 1000 (value (codes "vehicles"))) (λ vehic
 abbrev pub generate_in : Values → Option Command
 generate_in value = with (seed_in value) (λ seed. with (size_in value) (λ size. Some (command.Generate seed size)))
 
--- the command `rehearse SEED`
+-- the command `rehearse SEED`, which runs day 100
 abbrev pub rehearse_in : Values → Option Command
-rehearse_in value = with (seed_in value) (λ seed. with (size_in value) (λ size. with (late_in value) (λ late.
-    Some (command.Rehearse seed size late))))
+rehearse_in value = with (seed_in value) (λ seed. with (size_in value) (λ size. with (run_in 100 value) (λ run.
+    Some (command.Rehearse seed size run))))
 
 -- the command of a name, with the values of its names
 abbrev pub meaning : Text → Values → Option Command
@@ -145,10 +163,22 @@ pub record IsSize (size : Size) : Type 0 where
   pub few_crashes : size.crashes ≤ 100
   pub pairs : 2 * size.crashes ≤ size.vehicles
 
+-- a day's work is cut over 1 to 64 workers
+pub record IsPlan (plan : Plan) : Type 0 where
+  pub some_workers : 1 ≤ plan.width
+  pub few_workers : plan.width ≤ 64
+
+-- what a day's run is told is in its ranges
+pub record IsRun (run : DayRun) : Type 0 where
+  pub low : 70 ≤ run.day
+  pub high : run.day ≤ 1000000
+  pub soon : run.late ≤ 120
+  pub plan : IsPlan run.plan
+
 -- a command's numbers are in their ranges
 abbrev pub IsInRange : Command → Type 0
-IsInRange (command.Answers day late) = (70 ≤ day) × (day ≤ 1000000) × (late ≤ 120)
-IsInRange (command.Import day late) = (70 ≤ day) × (day ≤ 1000000) × (late ≤ 120)
+IsInRange (command.Answers run) = IsRun run
+IsInRange (command.Import run) = IsRun run
 IsInRange (command.Validate day late) = (70 ≤ day) × (day ≤ 1000000) × (late ≤ 120)
 IsInRange (command.Past base) = (70 ≤ base) × (base ≤ 1000000)
 IsInRange (command.Day day) = (70 ≤ day) × (day ≤ 1000000)
@@ -158,4 +188,4 @@ IsInRange (command.Export day) = (70 ≤ day) × (day ≤ 1000000)
 IsInRange (command.Tariff xway crowd speed factor) = (crowd ≤ 500000) × (speed ≤ 100) × (factor ≤ 20)
 IsInRange command.Tariffs = Unit {0}
 IsInRange (command.Generate seed size) = IsSize size
-IsInRange (command.Rehearse seed size late) = IsSize size × (late ≤ 120)
+IsInRange (command.Rehearse seed size run) = IsSize size × IsRun run

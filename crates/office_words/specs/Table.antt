@@ -10,10 +10,14 @@ form name places options = record { name = name; places = places; options = opti
 abbrev pub sizes : List Text
 sizes = codes "vehicles" ∷ codes "minutes" ∷ codes "xways" ∷ codes "crashes" ∷ []
 
+-- the options of the commands that run a day
+abbrev pub runs : List Text
+runs = codes "late" ∷ codes "workers" ∷ codes "turns" ∷ []
+
 -- what is built: each command with its places and its options
 abbrev pub forms : List Form
-forms = form (codes "answers") (codes "day" ∷ []) (codes "late" ∷ [])
-    ∷ form (codes "import") (codes "day" ∷ []) (codes "late" ∷ [])
+forms = form (codes "answers") (codes "day" ∷ []) runs
+    ∷ form (codes "import") (codes "day" ∷ []) runs
     ∷ form (codes "validate") (codes "day" ∷ []) (codes "late" ∷ [])
     ∷ form (codes "past") (codes "base" ∷ []) []
     ∷ form (codes "day") (codes "day" ∷ []) []
@@ -23,5 +27,5 @@ forms = form (codes "answers") (codes "day" ∷ []) (codes "late" ∷ [])
     ∷ form (codes "tariff") (codes "xway" ∷ codes "crowd" ∷ codes "speed" ∷ codes "factor" ∷ []) []
     ∷ form (codes "tariffs") [] []
     ∷ form (codes "generate") (codes "seed" ∷ []) sizes
-    ∷ form (codes "rehearse") (codes "seed" ∷ []) (sizes ++ codes "late" ∷ [])
+    ∷ form (codes "rehearse") (codes "seed" ∷ []) (sizes ++ runs)
     ∷ []

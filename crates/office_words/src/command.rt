@@ -1,5 +1,7 @@
 // The commands of the program, and why words are none.
 
+use import_plan::Plan;
+
 /// How much traffic is generated: 1 to 5,000 vehicles, 1 to 1,440 minutes, 1 to 256 expressways, and up to 100 crashes,
 /// each of two of the vehicles.
 #[derive(Clone, Copy, Debug, PartialEq)]
@@ -10,19 +12,22 @@ pub struct Size {
     pub crashes: u32,
 }
 
+/// What a day's run is told: the day, 70 to 1,000,000, by how many seconds its lines may come late, 0 to 120, and how its
+/// work is done.
+#[derive(Clone, Copy, Debug, PartialEq)]
+pub struct DayRun {
+    pub day: u32,
+    pub late: u8,
+    pub plan: Plan,
+}
+
 /// A command with its numbers, each in its range. Lines may come late by 0 to 120 seconds.
 #[derive(Clone, Copy, Debug, PartialEq)]
 pub enum Command {
-    /// Answers the reports and requests of one day, 70 to 1,000,000.
-    Answers {
-        day: u32,
-        late: u8,
-    },
+    /// Answers the reports and requests of one day.
+    Answers(DayRun),
     /// Imports a day: answers it and keeps it.
-    Import {
-        day: u32,
-        late: u8,
-    },
+    Import(DayRun),
     /// Compares notices with those of a day.
     Validate {
         day: u32,
@@ -64,11 +69,11 @@ pub enum Command {
         seed: u64,
         size: Size,
     },
-    /// Generates traffic from a seed and imports it as a day, beside all that is kept.
+    /// Generates traffic from a seed and imports it as day 100, beside all that is kept.
     Rehearse {
         seed: u64,
         size: Size,
-        late: u8,
+        run: DayRun,
     },
 }
 

@@ -11,7 +11,7 @@ mod reading;
 mod table;
 mod words;
 
-pub use command::{Command, Size, WordFault};
+pub use command::{Command, DayRun, Size, WordFault};
 pub use laws::{spelling_law, words_law};
 pub use words::read_words;
 

@@ -4,7 +4,7 @@ ghost use Rattle.std.specs.Char.{is_ascii_digit};
 ghost use Rattle.std.specs.List.{list_all};
 ghost use Rattle.std.specs.Str.Parse.{digits_value};
 ghost use Rattle.clap.specs.Words.{first_value, found_of};
-ghost use Rattle.office_words.specs.Meaning.{number, needed, optional};
+ghost use Rattle.office_words.specs.Meaning.{number, needed, optional, chosen};
 
 use clap::ArgMatches;
 
@@ -60,5 +60,15 @@ pub fn optional(
     match matches.get_str(id) {
         Some(text) => number(text, low, high),
         None => Some(default),
+    }
+}
+
+/// The number of an option that has no default.
+pub fn chosen(matches: &ArgMatches<'_>, id: &str, low: u64, high: u64) -> Option<Option<u64>>
+    ensures { result ≡ chosen low high (first_value (found_of matches.now) id.now) }
+{
+    match matches.get_str(id) {
+        Some(text) => Some(Some(number(text, low, high)?)),
+        None => Some(None),
     }
 }

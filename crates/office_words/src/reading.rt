@@ -1,11 +1,13 @@
 // The command that matches stand for.
 ghost use Rattle.std.specs.Prelude.{◌≡◌, ◌≤◌, IfSome, codes};
 ghost use Rattle.clap.specs.Words.{first_value, found_of};
-ghost use Rattle.office_words.specs.Meaning.{day_in, late_in, answers_in, import_in, validate_in, past_in, vehicle_in, tariff_in, meaning, IsInRange, seed_in, size_in, generate_in, rehearse_in, IsSize};
+ghost use Rattle.office_words.specs.Meaning.{day_in, late_in, plan_in, run_in, answers_in, import_in, validate_in, past_in, vehicle_in, tariff_in};
+ghost use Rattle.office_words.specs.Meaning.{meaning, seed_in, size_in, generate_in, rehearse_in, IsInRange, IsPlan, IsRun, IsSize};
 
-use crate::command::{Command, Size};
-use crate::numbers::{needed, optional};
+use crate::command::{Command, DayRun, Size};
+use crate::numbers::{chosen, needed, optional};
 use clap::ArgMatches;
+use import_plan::Plan;
 
 fn day(m: &ArgMatches<'_>) -> Option<u32>
     ensures value { result ≡ day_in (first_value (found_of m.now)) }
@@ -23,13 +25,36 @@ fn late(m: &ArgMatches<'_>) -> Option<u8>
     Some(n as u8)
 }
 
+fn plan(m: &ArgMatches<'_>) -> Option<Plan>
+    ensures value { result ≡ plan_in (first_value (found_of m.now)) }
+    ensures range { IfSome result IsPlan }
+{
+    let width = optional(m, "workers", 1, 64, 1)?;
+    let turns = chosen(m, "turns", 0, u64::MAX)?;
+    Some(Plan {
+        width: width as u8,
+        turns,
+    })
+}
+
+/// What the run of this day is told.
+fn run(m: &ArgMatches<'_>, day: u32) -> Option<DayRun>
+    requires low { 70 ≤ day }
+    requires high { day ≤ 1000000 }
+    ensures value { result ≡ run_in day (first_value (found_of m.now)) }
+    ensures range { IfSome result IsRun }
+{
+    let late = late(m)?;
+    let plan = plan(m)?;
+    Some(DayRun { day, late, plan })
+}
+
 fn answers(m: &ArgMatches<'_>) -> Option<Command>
     ensures value { result ≡ answers_in (first_value (found_of m.now)) }
     ensures range { IfSome result IsInRange }
 {
     let day = day(m)?;
-    let late = late(m)?;
-    Some(Command::Answers { day, late })
+    Some(Command::Answers(run(m, day)?))
 }
 
 fn import(m: &ArgMatches<'_>) -> Option<Command>
@@ -37,8 +62,7 @@ fn import(m: &ArgMatches<'_>) -> Option<Command>
     ensures range { IfSome result IsInRange }
 {
     let day = day(m)?;
-    let late = late(m)?;
-    Some(Command::Import { day, late })
+    Some(Command::Import(run(m, day)?))
 }
 
 fn validate(m: &ArgMatches<'_>) -> Option<Command>
@@ -131,8 +155,8 @@ fn rehearse(m: &ArgMatches<'_>) -> Option<Command>
 {
     let seed = seed(m)?;
     let size = size(m)?;
-    let late = late(m)?;
-    Some(Command::Rehearse { seed, size, late })
+    let run = run(m, 100)?;
+    Some(Command::Rehearse { seed, size, run })
 }
 
 /// The command of this name with these values.

@@ -74,8 +74,20 @@ fn bare<'a>(alloc: Global) -> Command<'a>
 fn with_days<'a>(alloc: Global, top: Command<'a>) -> Result<Command<'a>, AllocError>
     ensures { IfOk result (λ c. app_of c ≡ with_forms (app_of top.entry) (take 4 (drop 0 forms))) }
 {
-    let top = with(alloc, top, "answers", &["day"], &["late"])?;
-    let top = with(alloc, top, "import", &["day"], &["late"])?;
+    let top = with(
+        alloc,
+        top,
+        "answers",
+        &["day"],
+        &["late", "workers", "turns"],
+    )?;
+    let top = with(
+        alloc,
+        top,
+        "import",
+        &["day"],
+        &["late", "workers", "turns"],
+    )?;
     let top = with(alloc, top, "validate", &["day"], &["late"])?;
     with(alloc, top, "past", &["base"], &[])
 }
@@ -120,7 +132,9 @@ fn with_traffic<'a>(alloc: Global, top: Command<'a>) -> Result<Command<'a>, Allo
         top,
         "rehearse",
         &["seed"],
-        &["vehicles", "minutes", "xways", "crashes", "late"],
+        &[
+            "vehicles", "minutes", "xways", "crashes", "late", "workers", "turns",
+        ],
     )
 }
 

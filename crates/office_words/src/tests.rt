@@ -1,5 +1,6 @@
 // What no clause says: that words written out mean what a reader expects.
-use crate::{Command, Size, WordFault, read_words};
+use crate::{Command, DayRun, Size, WordFault, read_words};
+use import_plan::Plan;
 use std::alloc::{AllocError, Global};
 
 fn owned(alloc: Global, words: &[&str]) -> Result<Vec<String>, AllocError> {
@@ -17,11 +18,19 @@ fn read(alloc: Global, words: &[&str]) -> Result<Command, WordFault> {
     }
 }
 
+fn run(day: u32, late: u8, width: u8, turns: Option<u64>) -> DayRun {
+    DayRun {
+        day,
+        late,
+        plan: Plan { width, turns },
+    }
+}
+
 #[test]
 fn words_and_their_commands(rt: HostRuntime) {
     let alloc = rt.alloc();
-    let hundred = Ok(Command::Answers { day: 100, late: 0 });
-    let late = Ok(Command::Answers { day: 100, late: 5 });
+    let hundred = Ok(Command::Answers(run(100, 0, 1, None)));
+    let late = Ok(Command::Answers(run(100, 5, 1, None)));
     let words = Err(WordFault::Words);
     assert!(rt; read(alloc, &["answers", "100"]) == hundred);
     assert!(rt; read(alloc, &["answers", "0000100"]) == hundred);
@@ -45,7 +54,6 @@ fn words_and_their_commands(rt: HostRuntime) {
     assert!(rt; read(alloc, &["answers", "+100"]) == words);
     assert!(rt; read(alloc, &["answers", "-"]) == words);
     assert!(rt; read(alloc, &["answers", "--", "-5"]) == words);
-    assert!(rt; read(alloc, &["answers", "100", "--workers", "3"]) == words);
     assert!(rt; read(alloc, &["answers", "100", "100"]) == words);
     assert!(rt; read(alloc, &["answers", "000000000000000000100"]) == words);
     assert!(rt; read(alloc, &["answers", "--help"]) == words);
@@ -56,7 +64,8 @@ fn words_and_their_commands(rt: HostRuntime) {
 fn words_and_the_commands_on_kept_state(rt: HostRuntime) {
     let alloc = rt.alloc();
     let words = Err(WordFault::Words);
-    let late = Ok(Command::Import { day: 100, late: 30 });
+    let hundred = Ok(Command::Import(run(100, 0, 1, None)));
+    let late = Ok(Command::Import(run(100, 30, 1, None)));
     let days = Ok(Command::Vehicle {
         vid: 1,
         from: 30,
@@ -68,7 +77,7 @@ fn words_and_the_commands_on_kept_state(rt: HostRuntime) {
         speed: 100,
         factor: 20,
     });
-    assert!(rt; read(alloc, &["import", "100"]) == Ok(Command::Import { day: 100, late: 0 }));
+    assert!(rt; read(alloc, &["import", "100"]) == hundred);
     assert!(rt; read(alloc, &["import", "--late", "30", "100"]) == late);
     assert!(rt; read(alloc, &["past", "100"]) == Ok(Command::Past { base: 100 }));
     assert!(rt; read(alloc, &["past", "1000000"]) == Ok(Command::Past { base: 1_000_000 }));
@@ -120,6 +129,9 @@ fn words_and_the_commands_on_traffic(rt: HostRuntime) {
         "--xways=256",
         "--late",
         "120",
+        "--turns=7",
+        "--workers",
+        "64",
     ];
     let generate = Ok(Command::Generate {
         seed: 1,
@@ -128,10 +140,16 @@ fn words_and_the_commands_on_traffic(rt: HostRuntime) {
     let rehearse = Ok(Command::Rehearse {
         seed: 18_446_744_073_709_551_615,
         size: most,
-        late: 120,
+        run: run(100, 120, 64, Some(7)),
+    });
+    let alone = Ok(Command::Rehearse {
+        seed: 1,
+        size: plain,
+        run: run(100, 0, 1, None),
     });
     assert!(rt; read(alloc, &["generate", "1"]) == generate);
     assert!(rt; read(alloc, all) == rehearse);
+    assert!(rt; read(alloc, &["rehearse", "1"]) == alone);
     assert!(rt; read(alloc, &["generate"]) == words);
     assert!(rt; read(alloc, &["generate", "18446744073709551616"]) == words);
     assert!(rt; read(alloc, &["generate", "1", "--vehicles", "5001"]) == words);
@@ -146,4 +164,57 @@ fn words_and_the_commands_on_traffic(rt: HostRuntime) {
     assert!(rt; read(alloc, &["generate", "1", "--late", "0"]) == words);
     assert!(rt; read(alloc, &["generate", "1", "-x"]) == words);
     assert!(rt; read(alloc, &["rehearse", "1", "--late", "121"]) == words);
+    assert!(rt; read(alloc, &["rehearse", "1", "--workers", "65"]) == words);
+    assert!(rt; read(alloc, &["generate", "1", "--workers", "2"]) == words);
+    assert!(rt; read(alloc, &["generate", "1", "--turns", "2"]) == words);
+}
+
+#[test]
+fn words_and_how_the_work_is_done(rt: HostRuntime) {
+    let alloc = rt.alloc();
+    let words = Err(WordFault::Words);
+    let three = Ok(Command::Answers(run(100, 0, 3, None)));
+    let alone = Ok(Command::Import(run(100, 0, 1, None)));
+    let most = Ok(Command::Import(run(100, 0, 64, None)));
+    let first = Ok(Command::Import(run(100, 0, 1, Some(0))));
+    let last = Ok(Command::Answers(run(100, 0, 1, Some(18_446_744_073_709_551_615))));
+    let every = Ok(Command::Import(run(100, 9, 3, Some(5))));
+    assert!(rt; read(alloc, &["answers", "100", "--workers", "3"]) == three);
+    assert!(rt; read(alloc, &["answers", "--workers", "3", "100"]) == three);
+    assert!(rt; read(alloc, &["answers", "--workers=3", "100"]) == three);
+    assert!(rt; read(alloc, &["import", "100", "--workers", "1"]) == alone);
+    assert!(rt; read(alloc, &["import", "100", "--workers=64"]) == most);
+    assert!(rt; read(alloc, &["import", "--turns", "0", "100"]) == first);
+    assert!(rt; read(alloc, &["answers", "100", "--turns=18446744073709551615"]) == last);
+    assert!(rt;
+        read(
+            alloc,
+            &["import", "--turns", "5", "100", "--late=9", "--workers=3"]
+        ) == every
+    );
+    assert!(rt; read(alloc, &["import", "100", "--workers", "0"]) == words);
+    assert!(rt; read(alloc, &["import", "100", "--workers", "65"]) == words);
+    assert!(rt;
+        read(
+            alloc,
+            &["import", "100", "--workers", "2", "--workers", "2"]
+        ) == words
+    );
+    assert!(rt; read(alloc, &["import", "100", "--workers=2", "--workers=3"]) == words);
+    assert!(rt; read(alloc, &["import", "100", "--workers"]) == words);
+    assert!(rt; read(alloc, &["import", "100", "--worker", "2"]) == words);
+    assert!(rt; read(alloc, &["import", "100", "--workers", "--turns", "2"]) == words);
+    assert!(rt;
+        read(
+            alloc,
+            &["answers", "100", "--turns", "18446744073709551616"]
+        ) == words
+    );
+    assert!(rt; read(alloc, &["answers", "100", "--turns", "+1"]) == words);
+    assert!(rt; read(alloc, &["answers", "100", "--turns="]) == words);
+    assert!(rt; read(alloc, &["answers", "100", "--turns", "1", "--turns", "1"]) == words);
+    assert!(rt; read(alloc, &["validate", "100", "--workers", "1"]) == words);
+    assert!(rt; read(alloc, &["validate", "100", "--turns", "1"]) == words);
+    assert!(rt; read(alloc, &["accidents", "--workers", "1"]) == words);
+    assert!(rt; read(alloc, &["past", "100", "--workers", "1"]) == words);
 }

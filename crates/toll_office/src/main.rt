@@ -1,10 +1,11 @@
 //! The tolling office of an expressway, over standard input and output and two files.
 //!
 //! `main` hands the words, standard input, the file `notices.txt`, standard output and what is kept in the file `tolls.db`
-//! to `office`, and ends with its status.
+//! to `office`, whose jobs run in threads of their own, and ends with its status.
 #![tactic(auto)]
 
 use office_commands::{Closing, office};
+use partition_workers::{NoGate, ThreadCrew};
 use road_io::{FileSource, StdSink, StdSource};
 use road_time::Limits;
 use sqlite_keeper::SqliteKeeper;
@@ -42,6 +43,7 @@ fn main(rt: HostRuntime) -> ExitCode {
     let Ok(mut keeper) = SqliteKeeper::at(rt.alloc(), rt, "tolls.db") else {
         return ExitCode::from(Closing::NoMemory.status());
     };
+    let mut crew = ThreadCrew::new(rt, rt.alloc(), NoGate);
     match words_of(&rt) {
         Ok(words) => ExitCode::from(office(
             rt.alloc(),
@@ -51,6 +53,7 @@ fn main(rt: HostRuntime) -> ExitCode {
             &mut aside,
             &mut sink,
             &mut keeper,
+            &mut crew,
         )),
         Err(closing) => ExitCode::from(closing.status()),
     }

@@ -147,7 +147,10 @@ pub fn told(alloc: Global, crowds: &[Crowd], text: &str) -> Result<Vec<u8>, Fail
     Ok(whole)
 }
 
-/// A day's lines end so by the words.
+/// By how many workers a day is worked, and in which turns.
+const WORKED: [&[&str]; 3] = [&[], &["--workers=3"], &["--workers", "64", "--turns", "5"]];
+
+/// A day's lines end so by the words, however the work is done.
 pub fn row(
     rt: &impl Abort,
     alloc: Global,
@@ -159,8 +162,14 @@ pub fn row(
 ) -> Result<(), Fail> {
     let input = day(alloc, crowds, lines)?;
     let wanted = told(alloc, crowds, text)?;
-    let got = run(alloc, &Limits::DAY, words, Ends::of(input.as_slice(), b""))?;
-    assert!(rt; got.0.as_slice() == wanted.as_slice(), "{text}");
-    assert_eq!(rt; got.1, status, "{text}");
+    for worked in WORKED {
+        let mut all = Vec::new(alloc);
+        all.extend_from_slice(words)?;
+        all.extend_from_slice(worked)?;
+        let ends = Ends::of(input.as_slice(), b"");
+        let got = run(alloc, &Limits::DAY, all.as_slice(), ends)?;
+        assert!(rt; got.0.as_slice() == wanted.as_slice(), "{text}");
+        assert_eq!(rt; got.1, status, "{text}");
+    }
     Ok(())
 }

@@ -161,12 +161,17 @@ fn small_limits(rt: HostRuntime) -> Result<(), Fail> {
 
 #[test]
 fn words_and_their_ends(rt: HostRuntime) -> Result<(), Fail> {
-    let rows: [(&[&str], &str, u8); 29] = [
+    let rows: [(&[&str], &str, u8); 31] = [
         (&["answers", "100"], ANSWERED, 0),
         (&["answers", "--late=5", "100"], ANSWERED, 0),
         (&["answers", "--late", "5", "100"], ANSWERED, 0),
         (&["answers", "--late=5", "--", "100"], ANSWERED, 0),
         (&["answers", "0000100"], ANSWERED, 0),
+        (
+            &["answers", "100", "--workers", "2", "--turns=0"],
+            ANSWERED,
+            0,
+        ),
         (&["validate", "100", "--late=120"], "# agree notices 1\n", 0),
         (&["accidents", "--late", "0"], "", 0),
         (&[], "# words\n", 1),
@@ -184,7 +189,8 @@ fn words_and_their_ends(rt: HostRuntime) -> Result<(), Fail> {
             "# words\n",
             1,
         ),
-        (&["answers", "100", "--workers", "2"], "# words\n", 1),
+        (&["answers", "100", "--workers", "65"], "# words\n", 1),
+        (&["answers", "100", "--turns=-1"], "# words\n", 1),
         (&["answers", "-"], "# words\n", 1),
         (&["answers", "--", "-5"], "# words\n", 1),
         (&["answers", "+100"], "# words\n", 1),

@@ -1,9 +1,10 @@
-// One run of `office` over sources, a sink and a keeper in memory.
+// One run of `office` over sources, a sink, a keeper in memory and a crew that does each job at once.
 ghost use Rattle.std.specs.Prelude.{◌≤◌};
-ghost use Rattle.import_once.specs.Days.{IsLimits};
+ghost use Rattle.road_time.specs.Fits.{IsLimits};
 
 use crate::entry::office;
 use keeper::{Keeper, MemKeeper};
+use partition_workers::InlineCrew;
 use road_io::{MemSink, MemSource};
 use road_time::{Limits, NoMemory};
 use std::alloc::Global;
@@ -72,6 +73,7 @@ pub fn run_on<K: Keeper>(
     let mut source = MemSource::new(alloc, ends.input, ends.input_piece.max(1), ends.input_fails)?;
     let mut aside = MemSource::new(alloc, ends.aside, 5, ends.aside_fails)?;
     let mut sink = MemSink::new(alloc, ends.room, ends.output_piece.max(1))?;
+    let mut crew = InlineCrew::new(alloc, false);
     let status = office(
         alloc,
         owned.as_slice(),
@@ -80,6 +82,7 @@ pub fn run_on<K: Keeper>(
         &mut aside,
         &mut sink,
         keeper,
+        &mut crew,
     );
     Ok((Vec::from_slice(alloc, sink.bytes())?, status))
 }

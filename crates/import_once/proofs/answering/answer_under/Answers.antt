@@ -1,11 +1,89 @@
-use Rattle.std.proofs.Common.{◌≡◌, List, subst}
+use Rattle.std.proofs.Common.{◌≡◌, ◌∙◌, ℕ, List, Option, Some, sym, ap, subst}
 use Rattle.road_time.specs.declared.road.Tuple.{Tuple}
+use Rattle.road_time.specs.Form.{Fault}
 use Rattle.road_time.specs.Reads.{reads}
-use Rattle.import_once.specs.Imports.{answers_read, Does}
+use Rattle.road_time.specs.Rates.{Tariffs}
+use Rattle.road_time.specs.Day.{given, notices}
+use Rattle.road_time.specs.Text.{out}
+use Rattle.keeper.specs.History.{paid}
+use Rattle.settling.specs.Answers.{History, history_of}
+use Rattle.settling.specs.Closes.{IsClosed}
+use Rattle.day_rounds.specs.Imports.{AreRightFor}
+use Rattle.import_once.specs.declared.outcomes.Outcome.{Outcome}
+use Rattle.import_once.specs.Imports.{Work, work_of, work_by, answers_worked, answers_read, Does}
+use Rattle.day_rounds.specs.Faults.{WritesUpTo}
+use Rattle.import_once.proofs.WorkLaws.{right_work}
+use Rattle.import_once.proofs.FinishLaws.{tells_does, does_merges, stops_does, text_answered, where_worked}
+use Rattle.import_once.specs.Runs.{HasStarted}
+use Rattle.import_once.proofs.JobLaws.{started_all, started_first}
 use Rattle.import_once.proofs.answering.answer_under.Goals as goal
 
 pub returns-in-Ok-clause-does : goal.returns-in-Ok-clause-does
-returns-in-Ok-clause-does g c = λ bytes o left told under.
+returns-in-Ok-clause-does g c = λ exact bytes o left told under.
+    let ran = c.in-Ok.ensures.ran in
+    let w = g.K.Keeper.refuses in
+    let number = c.args.number in
     let refused = (reads bytes c.args.limits.now c.args.late).refused in
-    let done = c.answer_day.ensures.does bytes refused o told under (c.in-Ok.ensures.end bytes left) in
-    subst (λ (ts : List Tuple). Does g.K.Keeper.refuses (answers_read c.args.number bytes ts refused o) o (g.O.Sink.written c.args.sink.now) (g.O.Sink.written c.answer_day.new.sink) (g.K.Keeper.told c.answer_day.new.keeper) c.answer_day.result) (c.in-Ok.ensures.tuples bytes left) done
+    let old = g.O.Sink.written c.args.sink.now in
+    let new = g.O.Sink.written c.run_day.new.sink in
+    let now = g.K.Keeper.told c.run_day.new.keeper in
+    let result = c.finish_answers.result in
+    let known : history_of (g.K.Keeper.told c.args.keeper.now) ≡ Some (paid o.rows) = ap history_of told in
+    let closed = subst (λ (h : History). IsClosed c.in-Ok.run'.closed number (given ran.found) number h ran.day) known ran.closed in
+    let read = ran.read bytes left in
+    let done = tells_does w number ran.found bytes ran.day o old new now c.in-Ok.run' c.args.tariffs.now (ran.wrote (paid o.rows) known) ran.count closed under (c.run_day.ensures.same ∙ told) c.in-Ok.run'.end refused result read.1 (c.finish_answers.ensures.tells) in
+    let right = subst (λ (t : Tariffs). AreRightFor ran.found ran.day t number) under (ran.right exact) in
+    let by_rules = subst (λ (work : Work). Does w (answers_worked work number bytes ran.day refused o) o old new now result) (right_work number ran.found ran.day o right) done in
+    subst (λ (day : List Tuple). Does w (answers_read number bytes day refused o) o old new now result) read.0 by_rules
+
+pub returns-in-Ok-clause-merged : goal.returns-in-Ok-clause-merged
+returns-in-Ok-clause-merged g c = λ bytes o left told under.
+    let ran = c.in-Ok.ensures.ran in
+    let w = g.K.Keeper.refuses in
+    let number = c.args.number in
+    let refused = (reads bytes c.args.limits.now c.args.late).refused in
+    let old = g.O.Sink.written c.args.sink.now in
+    let new = g.O.Sink.written c.run_day.new.sink in
+    let now = g.K.Keeper.told c.run_day.new.keeper in
+    let result = c.finish_answers.result in
+    let known : history_of (g.K.Keeper.told c.args.keeper.now) ≡ Some (paid o.rows) = ap history_of told in
+    let closed = subst (λ (h : History). IsClosed c.in-Ok.run'.closed number (given ran.found) number h ran.day) known ran.closed in
+    let read = ran.read bytes left in
+    let done = tells_does w number ran.found bytes ran.day o old new now c.in-Ok.run' c.args.tariffs.now (ran.wrote (paid o.rows) known) ran.count closed under (c.run_day.ensures.same ∙ told) c.in-Ok.run'.end refused result read.1 (c.finish_answers.ensures.tells) in
+    let there = subst (λ (day : List Tuple). Does w (answers_worked (work_by ran.found number day o) number bytes day refused o) o old new now result) read.0 done in
+    record { found = ran.found; answers_are = where_worked result _ ran.found_are; merges = does_merges w _ o old new now result there }
+
+pub returns-in-Err-clause-does : goal.returns-in-Err-clause-does
+returns-in-Err-clause-does g c = λ exact bytes o left told under.
+    let w = g.K.Keeper.refuses in
+    let number = c.args.number in
+    let day = (reads bytes c.args.limits.now c.args.late).tuples in
+    let refused = (reads bytes c.args.limits.now c.args.late).refused in
+    let old = g.O.Sink.written c.args.sink.now in
+    let new = g.O.Sink.written c.run_day.new.sink in
+    let now = g.K.Keeper.told c.run_day.new.keeper in
+    let halted = c.in-Err.ensures.stopped in
+    let some = halted.front exact bytes left (paid o.rows) (ap history_of told) in
+    let ours = subst (λ (t : Tariffs). WritesUpTo c.in-Err.fault (out (notices day t number (paid o.rows))) old new) under some in
+    let text = subst (λ (all : List ℕ). WritesUpTo c.in-Err.fault all old new) (sym (text_answered (work_of number day o) number bytes day refused o)) ours in
+    subst (λ (r : Outcome). Does w (answers_read number bytes day refused o) o old new now r) (sym c.stopped.ensures.is) (stops_does w (answers_read number bytes day refused o) o old new now c.in-Err.fault text (c.run_day.ensures.same ∙ told))
+
+pub returns-in-Ok-clause-jobs : goal.returns-in-Ok-clause-jobs
+returns-in-Ok-clause-jobs g c = λ bytes left.
+    let ran = c.in-Ok.ensures.ran in
+    let width = c.args.plan.now.width in
+    let backlog = c.args.limits.now.backlog in
+    let told = g.C.Crew.jobs c.args.crew.now in
+    let now = g.C.Crew.jobs c.run_day.new.crew in
+    let all = started_all width backlog ran.day told now c.finish_answers.result ran.started.0 ran.started.1 ran.started.2 in
+    subst (λ (day : List Tuple). HasStarted width backlog day told now c.finish_answers.result) (ran.read bytes left).0 all
+
+pub returns-in-Err-clause-jobs : goal.returns-in-Err-clause-jobs
+returns-in-Err-clause-jobs g c = λ bytes left.
+    let some = c.in-Err.ensures.stopped.started bytes left in
+    let told = g.C.Crew.jobs c.args.crew.now in
+    let now = g.C.Crew.jobs c.run_day.new.crew in
+    let width = c.args.plan.now.width in
+    let backlog = c.args.limits.now.backlog in
+    let day = (reads bytes c.args.limits.now c.args.late).tuples in
+    subst (HasStarted width backlog day told now) (sym c.stopped.ensures.is) (started_first width backlog day told now c.in-Err.fault some.0 some.1 some.2)

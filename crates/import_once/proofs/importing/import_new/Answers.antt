@@ -1,20 +1,39 @@
 use Rattle.std.proofs.Common.{◌≡◌, ◌∙◌, Some, Ok, sym, subst, arith}
+use Rattle.road_time.specs.Reads.{reads}
 use Rattle.keeper.specs.Office.{last_day}
-use Rattle.import_once.specs.Imports.{Answer, Does}
-use Rattle.import_once.proofs.ImportLaws.{new_is_read}
-use Rattle.import_once.proofs.KeeperLaws.{reads_same, reads_ok}
+use Rattle.import_once.specs.Imports.{Answer, import_read, import_merged, unless_passed, Does, Merges}
+use Rattle.import_once.proofs.FinishLaws.{new_is_read}
+use Rattle.keeper.proofs.CallLaws.{reads_same, reads_ok}
+use Rattle.import_once.proofs.JobLaws.{none_started}
 use Rattle.import_once.proofs.importing.import_new.Goals as goal
 
 pub returns-else-last-number-clause-does : goal.returns-else-last-number-clause-does
-returns-else-last-number-clause-does g c = λ bytes o left told.
+returns-else-last-number-clause-does g c = λ exact bytes o left told.
     let before = g.K.Keeper.told c.args.keeper.now in
     let after = g.K.Keeper.told c.last_day.new.self in
     let kept : after ≡ Some o = reads_same before after c.last_day.result (λ p last. last ≡ last_day p) c.last_day.ensures.state ∙ told in
     let ok : c.last_day.result ≡ Ok c.in-Ok.last = cc in
     let last : c.in-Ok.last ≡ last_day o = reads_ok before after c.last_day.result (λ p last. last ≡ last_day p) o c.in-Ok.last c.last_day.ensures.state told ok in
-    let done = c.import_later.ensures.does bytes o left kept in
+    let read = reads bytes c.args.limits.now c.args.late in
+    let done = c.import_later.ensures.does exact bytes o left kept in
     subst (λ (a : Answer). Does g.K.Keeper.refuses a o (g.O.Sink.written c.args.sink.now) (g.O.Sink.written c.import_later.new.sink) (g.K.Keeper.told c.import_later.new.keeper) c.import_later.result)
-    (sym (new_is_read c.args.number c.args.late c.args.limits.now bytes o (omega (arith, c.if-last-number.false, last)))) done
+    (sym (new_is_read (import_read c.args.number bytes read.tuples read.refused o) c.args.number o (omega (arith, c.if-last-number.false, last)))) done
+
+pub returns-else-last-number-clause-merged : goal.returns-else-last-number-clause-merged
+returns-else-last-number-clause-merged g c = λ bytes o left told.
+    let before = g.K.Keeper.told c.args.keeper.now in
+    let after = g.K.Keeper.told c.last_day.new.self in
+    let kept : after ≡ Some o = reads_same before after c.last_day.result (λ p last. last ≡ last_day p) c.last_day.ensures.state ∙ told in
+    let ok : c.last_day.result ≡ Ok c.in-Ok.last = cc in
+    let last : c.in-Ok.last ≡ last_day o = reads_ok before after c.last_day.result (λ p last. last ≡ last_day p) o c.in-Ok.last c.last_day.ensures.state told ok in
+    let read = reads bytes c.args.limits.now c.args.late in
+    let done = c.import_later.ensures.merged bytes o left kept in
+    record {
+      found = done.found;
+      answers_are = done.answers_are;
+      merges = subst (λ (a : Answer). Merges g.K.Keeper.refuses a o (g.O.Sink.written c.args.sink.now) (g.O.Sink.written c.import_later.new.sink) (g.K.Keeper.told c.import_later.new.keeper) c.import_later.result)
+          (sym (new_is_read (import_merged done.found c.args.number bytes read.tuples read.refused o) c.args.number o (omega (arith, c.if-last-number.false, last)))) done.merges;
+    }
 
 pub returns-else-last-number-clause-unread : goal.returns-else-last-number-clause-unread
 returns-else-last-number-clause-unread g c = λ o told few.
@@ -23,3 +42,12 @@ returns-else-last-number-clause-unread g c = λ o told few.
     let ok : c.last_day.result ≡ Ok c.in-Ok.last = cc in
     let last : c.in-Ok.last ≡ last_day o = reads_ok before after c.last_day.result (λ p last. last ≡ last_day p) o c.in-Ok.last c.last_day.ensures.state told ok in
     absurd (omega (arith, c.if-last-number.false, last, few))
+
+pub returns-then-last-number-clause-jobs : goal.returns-then-last-number-clause-jobs
+returns-then-last-number-clause-jobs g c = λ bytes left. none_started _ _ _ _ _ tt
+
+pub returns-in-Err-Failed-clause-jobs : goal.returns-in-Err-Failed-clause-jobs
+returns-in-Err-Failed-clause-jobs g c = λ bytes left. none_started _ _ _ _ _ tt
+
+pub returns-in-Err-NoMemory-clause-jobs : goal.returns-in-Err-NoMemory-clause-jobs
+returns-in-Err-NoMemory-clause-jobs g c = λ bytes left. none_started _ _ _ _ _ tt

@@ -5,14 +5,14 @@ use Rattle.office_commands.proofs.OutcomeLaws.{wrote, keeps, caused, well}
 use Rattle.office_commands.proofs.answers.answers.Goals as goal
 
 pub returns-clause-wrote : goal.returns-clause-wrote
-returns-clause-wrote g c = λ bytes o left told.
-    let a = answers_answer c.args.day c.args.late c.args.limits.now bytes o in
-    wrote g.K.Keeper.refuses c.args.day a o (g.O.Sink.written c.args.sink.now) (g.O.Sink.written c.answers-done.new.sink) (g.K.Keeper.told c.answers-done.new.keeper) c.answers-done.result c.ended.result c.ended.ensures.ends (c.answers-done.ensures.does bytes o left told)
+returns-clause-wrote g c = λ right bytes o left told.
+    let a = answers_answer c.args.run.day c.args.run.late c.args.limits.now bytes o in
+    wrote g.K.Keeper.refuses c.args.run.day a o (g.O.Sink.written c.args.sink.now) (g.O.Sink.written c.answers-done.new.sink) (g.K.Keeper.told c.answers-done.new.keeper) c.answers-done.result c.ended.result c.ended.ensures.ends (c.answers-done.ensures.does right bytes o left told)
 
 pub returns-clause-keeps : goal.returns-clause-keeps
-returns-clause-keeps g c = λ bytes o left told.
-    let a = answers_answer c.args.day c.args.late c.args.limits.now bytes o in
-    keeps g.K.Keeper.refuses c.args.day a o (g.O.Sink.written c.args.sink.now) (g.O.Sink.written c.answers-done.new.sink) (g.K.Keeper.told c.answers-done.new.keeper) c.answers-done.result c.ended.result c.ended.ensures.ends (c.answers-done.ensures.does bytes o left told)
+returns-clause-keeps g c = λ right bytes o left told.
+    let a = answers_answer c.args.run.day c.args.run.late c.args.limits.now bytes o in
+    keeps g.K.Keeper.refuses c.args.run.day a o (g.O.Sink.written c.args.sink.now) (g.O.Sink.written c.answers-done.new.sink) (g.K.Keeper.told c.answers-done.new.keeper) c.answers-done.result c.ended.result c.ended.ensures.ends (c.answers-done.ensures.does right bytes o left told)
 
 pub returns-clause-write_cause : goal.returns-clause-write_cause
 returns-clause-write_cause g c = caused (c.answers-done.result ≡ WriteFault) c.ended.result _ _ c.ended.ensures.failed c.answers-done.ensures.write_later c.answers-done.ensures.write_cause

@@ -1,7 +1,7 @@
 use Rattle.std.proofs.Common.{ap, sym, subst, ◌∙◌}
 use Rattle.road_time.specs.declared.day.Limits.{Limits}
 use Rattle.road_time.specs.Reads.{reads}
-use Rattle.import_once.specs.Days.{IsLimits}
+use Rattle.road_time.specs.Fits.{IsLimits}
 use Rattle.office_commands.specs.Days.{refusal_of}
 use Rattle.office_commands.proofs.DayLaws.{refused_same, recomputed_within}
 use Rattle.office_commands.proofs.day.read_day.Goals as goal

@@ -8,87 +8,87 @@ use Rattle.reports.specs.Statements.{day_report}
 use Rattle.reports.specs.Exports.{export_report}
 use Rattle.office_commands.proofs.ReportLaws.{report_office}
 use Rattle.office_commands.specs.Days.{recomputed, refusal_of}
-use Rattle.office_commands.specs.Commands.{most_of, most_aside_of, command_row, accidents_row, validate_row, uses_source, uses_aside, uses_keeper, day_row, vehicle_row, export_row, tariffs_row, generate_row, rehearse_row}
+use Rattle.office_commands.specs.Commands.{most_of, most_aside_of, command_row, accidents_row, validate_row, uses_source, uses_aside, uses_keeper, uses_crew, day_row, vehicle_row, export_row, tariffs_row, generate_row, rehearse_row}
 use Rattle.office_commands.specs.Endings.{StandsBefore, Wrote, sort_of, KeepsBy, Keeps}
 use Rattle.office_commands.proofs.EndingLaws.{kept_same, closing_same, unchanged}
 use Rattle.office_commands.proofs.ValidateLaws.{same_office, accidents_office}
-use Rattle.import_once.specs.Days.{ReadsWithin}
-use Rattle.import_once.proofs.BoundLaws.{nothing_read}
+use Rattle.day_reading.specs.Days.{ReadsWithin}
+use Rattle.day_reading.proofs.BoundLaws.{nothing_read}
 use Rattle.office_commands.proofs.entry.perform.Goals as goal
 
 pub returns-in-Answers-clause-wrote : goal.returns-in-Answers-clause-wrote
-returns-in-Answers-clause-wrote g c = λ bytes lines o told also kept.
-    let is : c.args.command ≡ Answers c.in-Answers.day c.in-Answers.late = cc in
-    subst (λ (d : Command). Wrote (command_row c.args.limits.now bytes lines o d) c.answers.result (g.O.Sink.written c.args.sink.now) (g.O.Sink.written c.answers.new.sink)) (sym is) (c.answers.ensures.wrote bytes o (told (ap uses_source is)) (kept (ap uses_keeper is)))
+returns-in-Answers-clause-wrote g c = λ right bytes lines o told also kept.
+    let is : c.args.command ≡ Answers c.in-Answers.run' = cc in
+    subst (λ (d : Command). Wrote (command_row c.args.limits.now bytes lines o d) c.answers.result (g.O.Sink.written c.args.sink.now) (g.O.Sink.written c.answers.new.sink)) (sym is) (c.answers.ensures.wrote (right (ap uses_crew is)) bytes o (told (ap uses_source is)) (kept (ap uses_keeper is)))
 
 pub returns-in-Answers-clause-keeps : goal.returns-in-Answers-clause-keeps
-returns-in-Answers-clause-keeps g c = λ bytes lines o told kept.
-    let is : c.args.command ≡ Answers c.in-Answers.day c.in-Answers.late = cc in
-    subst (λ (d : Command). Keeps g.K.Keeper.refuses (command_row c.args.limits.now bytes lines o d) o (g.K.Keeper.told c.answers.new.keeper) c.answers.result) (sym is) (c.answers.ensures.keeps bytes o (told (ap uses_source is)) kept)
+returns-in-Answers-clause-keeps g c = λ right bytes lines o told kept.
+    let is : c.args.command ≡ Answers c.in-Answers.run' = cc in
+    subst (λ (d : Command). Keeps g.K.Keeper.refuses (command_row c.args.limits.now bytes lines o d) o (g.K.Keeper.told c.answers.new.keeper) c.answers.result) (sym is) (c.answers.ensures.keeps (right (ap uses_crew is)) bytes o (told (ap uses_source is)) kept)
 
 pub returns-in-Import-clause-wrote : goal.returns-in-Import-clause-wrote
-returns-in-Import-clause-wrote g c = λ bytes lines o told also kept.
-    let is : c.args.command ≡ Import c.in-Import.day c.in-Import.late = cc in
-    subst (λ (d : Command). Wrote (command_row c.args.limits.now bytes lines o d) c.import.result (g.O.Sink.written c.args.sink.now) (g.O.Sink.written c.import.new.sink)) (sym is) (c.import.ensures.wrote bytes o (told (ap uses_source is)) (kept (ap uses_keeper is)))
+returns-in-Import-clause-wrote g c = λ right bytes lines o told also kept.
+    let is : c.args.command ≡ Import c.in-Import.run' = cc in
+    subst (λ (d : Command). Wrote (command_row c.args.limits.now bytes lines o d) c.import.result (g.O.Sink.written c.args.sink.now) (g.O.Sink.written c.import.new.sink)) (sym is) (c.import.ensures.wrote (right (ap uses_crew is)) bytes o (told (ap uses_source is)) (kept (ap uses_keeper is)))
 
 pub returns-in-Import-clause-keeps : goal.returns-in-Import-clause-keeps
-returns-in-Import-clause-keeps g c = λ bytes lines o told kept.
-    let is : c.args.command ≡ Import c.in-Import.day c.in-Import.late = cc in
-    subst (λ (d : Command). Keeps g.K.Keeper.refuses (command_row c.args.limits.now bytes lines o d) o (g.K.Keeper.told c.import.new.keeper) c.import.result) (sym is) (c.import.ensures.keeps bytes o (told (ap uses_source is)) kept)
+returns-in-Import-clause-keeps g c = λ right bytes lines o told kept.
+    let is : c.args.command ≡ Import c.in-Import.run' = cc in
+    subst (λ (d : Command). Keeps g.K.Keeper.refuses (command_row c.args.limits.now bytes lines o d) o (g.K.Keeper.told c.import.new.keeper) c.import.result) (sym is) (c.import.ensures.keeps (right (ap uses_crew is)) bytes o (told (ap uses_source is)) kept)
 
 pub returns-in-Day-clause-wrote : goal.returns-in-Day-clause-wrote
-returns-in-Day-clause-wrote g c = λ bytes lines o told also kept.
+returns-in-Day-clause-wrote g c = λ right bytes lines o told also kept.
     let is : c.args.command ≡ Day c.in-Day.number = cc in
     subst (λ (d : Command). Wrote (command_row c.args.limits.now bytes lines o d) c.day.result (g.O.Sink.written c.args.sink.now) (g.O.Sink.written c.day.new.sink)) (sym is) (c.day.ensures.wrote o (kept (ap uses_keeper is)))
 
 pub returns-in-Day-clause-keeps : goal.returns-in-Day-clause-keeps
-returns-in-Day-clause-keeps g c = λ bytes lines o told kept.
+returns-in-Day-clause-keeps g c = λ right bytes lines o told kept.
     let is : c.args.command ≡ Day c.in-Day.number = cc in
     subst (λ (d : Command). Keeps g.K.Keeper.refuses (command_row c.args.limits.now bytes lines o d) o (g.K.Keeper.told c.day.new.keeper) c.day.result) (sym is) (c.day.ensures.keeps o kept)
 
 pub returns-in-Vehicle-clause-wrote : goal.returns-in-Vehicle-clause-wrote
-returns-in-Vehicle-clause-wrote g c = λ bytes lines o told also kept.
+returns-in-Vehicle-clause-wrote g c = λ right bytes lines o told also kept.
     let is : c.args.command ≡ Vehicle c.in-Vehicle.vid c.in-Vehicle.from c.in-Vehicle.to = cc in
     subst (λ (d : Command). Wrote (command_row c.args.limits.now bytes lines o d) c.vehicle.result (g.O.Sink.written c.args.sink.now) (g.O.Sink.written c.vehicle.new.sink)) (sym is) (c.vehicle.ensures.wrote o (kept (ap uses_keeper is)))
 
 pub returns-in-Vehicle-clause-keeps : goal.returns-in-Vehicle-clause-keeps
-returns-in-Vehicle-clause-keeps g c = λ bytes lines o told kept.
+returns-in-Vehicle-clause-keeps g c = λ right bytes lines o told kept.
     let is : c.args.command ≡ Vehicle c.in-Vehicle.vid c.in-Vehicle.from c.in-Vehicle.to = cc in
     subst (λ (d : Command). Keeps g.K.Keeper.refuses (command_row c.args.limits.now bytes lines o d) o (g.K.Keeper.told c.vehicle.new.keeper) c.vehicle.result) (sym is) (c.vehicle.ensures.keeps o kept)
 
 pub returns-in-Accidents-clause-wrote : goal.returns-in-Accidents-clause-wrote
-returns-in-Accidents-clause-wrote g c = λ bytes lines o told also kept.
+returns-in-Accidents-clause-wrote g c = λ right bytes lines o told also kept.
     let is : c.args.command ≡ Accidents c.in-Accidents.late = cc in
     subst (λ (d : Command). Wrote (command_row c.args.limits.now bytes lines o d) c.accidents.result (g.O.Sink.written c.args.sink.now) (g.O.Sink.written c.accidents.new.sink)) (sym is) (c.accidents.ensures.wrote bytes o (told (ap uses_source is)))
 
 pub returns-in-Accidents-clause-keeps : goal.returns-in-Accidents-clause-keeps
-returns-in-Accidents-clause-keeps g c = λ bytes lines o told kept.
+returns-in-Accidents-clause-keeps g c = λ right bytes lines o told kept.
     let is : c.args.command ≡ Accidents c.in-Accidents.late = cc in
     subst (λ (d : Command). Keeps g.K.Keeper.refuses (command_row c.args.limits.now bytes lines o d) o (g.K.Keeper.told c.args.keeper.now) c.accidents.result) (sym is)
     (kept_same g.K.Keeper.refuses (accidents_row c.args.limits.now c.in-Accidents.late bytes o) o (g.K.Keeper.told c.args.keeper.now) c.accidents.result (accidents_office (refusal_of (reads bytes (recomputed c.args.limits.now) c.in-Accidents.late).refused) (reads bytes (recomputed c.args.limits.now) c.in-Accidents.late).tuples o) kept)
 
 pub returns-in-Export-clause-wrote : goal.returns-in-Export-clause-wrote
-returns-in-Export-clause-wrote g c = λ bytes lines o told also kept.
+returns-in-Export-clause-wrote g c = λ right bytes lines o told also kept.
     let is : c.args.command ≡ Export c.in-Export.day = cc in
     subst (λ (d : Command). Wrote (command_row c.args.limits.now bytes lines o d) c.export.result (g.O.Sink.written c.args.sink.now) (g.O.Sink.written c.export.new.sink)) (sym is) (c.export.ensures.wrote o (kept (ap uses_keeper is)))
 
 pub returns-in-Export-clause-keeps : goal.returns-in-Export-clause-keeps
-returns-in-Export-clause-keeps g c = λ bytes lines o told kept.
+returns-in-Export-clause-keeps g c = λ right bytes lines o told kept.
     let is : c.args.command ≡ Export c.in-Export.day = cc in
     subst (λ (d : Command). Keeps g.K.Keeper.refuses (command_row c.args.limits.now bytes lines o d) o (g.K.Keeper.told c.export.new.keeper) c.export.result) (sym is) (c.export.ensures.keeps o kept)
 
 pub returns-in-Tariffs-clause-wrote : goal.returns-in-Tariffs-clause-wrote
-returns-in-Tariffs-clause-wrote g c = λ bytes lines o told also kept.
+returns-in-Tariffs-clause-wrote g c = λ right bytes lines o told also kept.
     let is : c.args.command ≡ Tariffs = cc in
     subst (λ (d : Command). Wrote (command_row c.args.limits.now bytes lines o d) c.tariffs.result (g.O.Sink.written c.args.sink.now) (g.O.Sink.written c.tariffs.new.sink)) (sym is) (c.tariffs.ensures.wrote o (kept (ap uses_keeper is)))
 
 pub returns-in-Tariffs-clause-keeps : goal.returns-in-Tariffs-clause-keeps
-returns-in-Tariffs-clause-keeps g c = λ bytes lines o told kept.
+returns-in-Tariffs-clause-keeps g c = λ right bytes lines o told kept.
     let is : c.args.command ≡ Tariffs = cc in
     subst (λ (d : Command). Keeps g.K.Keeper.refuses (command_row c.args.limits.now bytes lines o d) o (g.K.Keeper.told c.tariffs.new.keeper) c.tariffs.result) (sym is) (c.tariffs.ensures.keeps o kept)
 
 pub returns-in-Validate-clause-wrote : goal.returns-in-Validate-clause-wrote
-returns-in-Validate-clause-wrote g c = λ bytes lines o told also kept.
+returns-in-Validate-clause-wrote g c = λ right bytes lines o told also kept.
     let is : c.args.command ≡ Validate c.in-Validate.day c.in-Validate.late = cc in (
       [],
       subst (λ (d : Command). StandsBefore (command_row c.args.limits.now bytes lines o d) c.validate.result []) (sym is) (c.validate.ensures.exact bytes lines o (told (ap uses_source is)) (also (ap uses_aside is)) (kept (ap uses_keeper is))),
@@ -96,7 +96,7 @@ returns-in-Validate-clause-wrote g c = λ bytes lines o told also kept.
     )
 
 pub returns-in-Validate-clause-keeps : goal.returns-in-Validate-clause-keeps
-returns-in-Validate-clause-keeps g c = λ bytes lines o told kept.
+returns-in-Validate-clause-keeps g c = λ right bytes lines o told kept.
     let is : c.args.command ≡ Validate c.in-Validate.day c.in-Validate.late = cc in
     let limits = c.args.limits.now in
     let read = reads bytes (recomputed limits) c.in-Validate.late in
@@ -105,7 +105,7 @@ returns-in-Validate-clause-keeps g c = λ bytes lines o told kept.
     (closing_same g.K.Keeper.refuses (validate_row limits c.in-Validate.day c.in-Validate.late bytes lines o) o after c.validate.result (same_office (refusal_of read.refused) c.in-Validate.day read.tuples (lines_of lines) o) (c.validate.ensures.kept o kept))
 
 pub returns-in-Tariff-clause-wrote : goal.returns-in-Tariff-clause-wrote
-returns-in-Tariff-clause-wrote g c = λ bytes lines o told also kept.
+returns-in-Tariff-clause-wrote g c = λ right bytes lines o told also kept.
     let is : c.args.command ≡ Tariff c.in-Tariff.xway c.in-Tariff.crowd c.in-Tariff.speed c.in-Tariff.factor = cc in (
       [],
       subst (λ (d : Command). StandsBefore (command_row c.args.limits.now bytes lines o d) c.tariff.result []) (sym is) (c.tariff.ensures.exact o (kept (ap uses_keeper is))),
@@ -113,18 +113,18 @@ returns-in-Tariff-clause-wrote g c = λ bytes lines o told also kept.
     )
 
 pub returns-in-Tariff-clause-keeps : goal.returns-in-Tariff-clause-keeps
-returns-in-Tariff-clause-keeps g c = λ bytes lines o told kept.
+returns-in-Tariff-clause-keeps g c = λ right bytes lines o told kept.
     let is : c.args.command ≡ Tariff c.in-Tariff.xway c.in-Tariff.crowd c.in-Tariff.speed c.in-Tariff.factor = cc in
     subst (λ (d : Command). KeepsBy (sort_of c.tariff.result) g.K.Keeper.refuses (command_row c.args.limits.now bytes lines o d) o (g.K.Keeper.told c.tariff.new.keeper)) (sym is) (c.tariff.ensures.keeps o kept)
 
 pub returns-in-Answers-clause-bounded : goal.returns-in-Answers-clause-bounded
 returns-in-Answers-clause-bounded g c = λ o kept.
-    let is : c.args.command ≡ Answers c.in-Answers.day c.in-Answers.late = cc in
+    let is : c.args.command ≡ Answers c.in-Answers.run' = cc in
     subst (λ (d : Command). ReadsWithin (most_of c.args.limits.now o d) (g.S.Source.left c.args.source.now) (g.S.Source.left c.answers.new.source)) (sym is) (c.answers.ensures.bounded)
 
 pub returns-in-Import-clause-bounded : goal.returns-in-Import-clause-bounded
 returns-in-Import-clause-bounded g c = λ o kept.
-    let is : c.args.command ≡ Import c.in-Import.day c.in-Import.late = cc in
+    let is : c.args.command ≡ Import c.in-Import.run' = cc in
     subst (λ (d : Command). ReadsWithin (most_of c.args.limits.now o d) (g.S.Source.left c.args.source.now) (g.S.Source.left c.import.new.source)) (sym is) (c.import.ensures.bounded o (kept (ap uses_keeper is)))
 
 pub returns-in-Validate-clause-bounded : goal.returns-in-Validate-clause-bounded
@@ -198,7 +198,7 @@ returns-in-Tariffs-clause-unchanged g c = λ o kept same.
     unchanged g.K.Keeper.refuses (tariffs_row o) o (g.K.Keeper.told c.tariffs.new.keeper) c.tariffs.result refl (c.tariffs.ensures.keeps o kept)
 
 pub returns-in-Past-clause-wrote : goal.returns-in-Past-clause-wrote
-returns-in-Past-clause-wrote g c = λ bytes lines o told also kept.
+returns-in-Past-clause-wrote g c = λ right bytes lines o told also kept.
     let is : c.args.command ≡ Past c.in-Past.base = cc in (
       [],
       subst (λ (d : Command). StandsBefore (command_row c.args.limits.now bytes lines o d) c.past.result []) (sym is) (c.past.ensures.exact bytes o (told (ap uses_source is)) (kept (ap uses_keeper is))),
@@ -206,7 +206,7 @@ returns-in-Past-clause-wrote g c = λ bytes lines o told also kept.
     )
 
 pub returns-in-Past-clause-keeps : goal.returns-in-Past-clause-keeps
-returns-in-Past-clause-keeps g c = λ bytes lines o told kept.
+returns-in-Past-clause-keeps g c = λ right bytes lines o told kept.
     let is : c.args.command ≡ Past c.in-Past.base = cc in
     subst (λ (d : Command). KeepsBy (sort_of c.past.result) g.K.Keeper.refuses (command_row c.args.limits.now bytes lines o d) o (g.K.Keeper.told c.past.new.keeper)) (sym is) (c.past.ensures.keeps bytes o (told (ap uses_source is)) kept)
 
@@ -219,12 +219,12 @@ pub returns-in-Past-clause-aside_bounded : goal.returns-in-Past-clause-aside_bou
 returns-in-Past-clause-aside_bounded g c = λ bytes o told kept. nothing_read (most_aside_of c.args.limits.now bytes o c.args.command) (g.A.Source.left c.args.aside.now)
 
 pub returns-in-Generate-clause-wrote : goal.returns-in-Generate-clause-wrote
-returns-in-Generate-clause-wrote g c = λ bytes lines o told also kept.
+returns-in-Generate-clause-wrote g c = λ right bytes lines o told also kept.
     let is : c.args.command ≡ Generate c.in-Generate.seed c.in-Generate.size = cc in
     subst (λ (d : Command). Wrote (command_row c.args.limits.now bytes lines o d) c.generate.result (g.O.Sink.written c.args.sink.now) (g.O.Sink.written c.generate.new.sink)) (sym is) (c.generate.ensures.wrote o)
 
 pub returns-in-Generate-clause-keeps : goal.returns-in-Generate-clause-keeps
-returns-in-Generate-clause-keeps g c = λ bytes lines o told kept.
+returns-in-Generate-clause-keeps g c = λ right bytes lines o told kept.
     let is : c.args.command ≡ Generate c.in-Generate.seed c.in-Generate.size = cc in
     subst (λ (d : Command). Keeps g.K.Keeper.refuses (command_row c.args.limits.now bytes lines o d) o (g.K.Keeper.told c.args.keeper.now) c.generate.result) (sym is)
     (kept_same g.K.Keeper.refuses (generate_row c.in-Generate.seed c.in-Generate.size o) o (g.K.Keeper.told c.args.keeper.now) c.generate.result refl kept)
@@ -236,18 +236,18 @@ pub returns-in-Generate-clause-aside_bounded : goal.returns-in-Generate-clause-a
 returns-in-Generate-clause-aside_bounded g c = λ bytes o told kept. nothing_read (most_aside_of c.args.limits.now bytes o c.args.command) (g.A.Source.left c.args.aside.now)
 
 pub returns-in-Rehearse-clause-wrote : goal.returns-in-Rehearse-clause-wrote
-returns-in-Rehearse-clause-wrote g c = λ bytes lines o told also kept.
-    let is : c.args.command ≡ Rehearse c.in-Rehearse.seed c.in-Rehearse.size c.in-Rehearse.late = cc in (
+returns-in-Rehearse-clause-wrote g c = λ right bytes lines o told also kept.
+    let is : c.args.command ≡ Rehearse c.in-Rehearse.seed c.in-Rehearse.size c.in-Rehearse.run' = cc in (
       [],
-      subst (λ (d : Command). StandsBefore (command_row c.args.limits.now bytes lines o d) c.rehearse.result []) (sym is) (c.rehearse.ensures.exact o),
+      subst (λ (d : Command). StandsBefore (command_row c.args.limits.now bytes lines o d) c.rehearse.result []) (sym is) (c.rehearse.ensures.exact (right (ap uses_crew is)) o),
       appends_none _,
     )
 
 pub returns-in-Rehearse-clause-keeps : goal.returns-in-Rehearse-clause-keeps
-returns-in-Rehearse-clause-keeps g c = λ bytes lines o told kept.
-    let is : c.args.command ≡ Rehearse c.in-Rehearse.seed c.in-Rehearse.size c.in-Rehearse.late = cc in
+returns-in-Rehearse-clause-keeps g c = λ right bytes lines o told kept.
+    let is : c.args.command ≡ Rehearse c.in-Rehearse.seed c.in-Rehearse.size c.in-Rehearse.run' = cc in
     subst (λ (d : Command). KeepsBy (sort_of c.rehearse.result) g.K.Keeper.refuses (command_row c.args.limits.now bytes lines o d) o (g.K.Keeper.told c.args.keeper.now)) (sym is)
-    (closing_same g.K.Keeper.refuses (rehearse_row c.in-Rehearse.seed c.in-Rehearse.size o) o (g.K.Keeper.told c.args.keeper.now) c.rehearse.result refl kept)
+    (closing_same g.K.Keeper.refuses (rehearse_row c.in-Rehearse.seed c.in-Rehearse.size c.in-Rehearse.run' o) o (g.K.Keeper.told c.args.keeper.now) c.rehearse.result refl kept)
 
 pub returns-in-Rehearse-clause-bounded : goal.returns-in-Rehearse-clause-bounded
 returns-in-Rehearse-clause-bounded g c = λ o kept. nothing_read (most_of c.args.limits.now o c.args.command) (g.S.Source.left c.args.source.now)

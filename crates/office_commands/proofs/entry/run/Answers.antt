@@ -2,24 +2,25 @@ use Rattle.std.proofs.Common.{◌≡◌, ap, sym, subst, refl, ◌∙◌, Some, 
 use Rattle.std.proofs.lemmas.Option.{none-some}
 use Rattle.office_words.specs.declared.command.WordFault.TheVariants as faults
 use Rattle.road_io.proofs.SinkLaws.{appends_none}
-use Rattle.office_commands.specs.Commands.{most_asked, most_aside_asked, row_of, Answer, use_source, use_aside, use_keeper, AsksPassed, change_kept}
+use Rattle.office_commands.specs.Commands.{most_asked, most_aside_asked, row_of, Answer, use_source, use_aside, use_keeper, use_crew, AsksPassed, PutsAsked, change_kept}
 use Rattle.office_commands.specs.Endings.{Wrote, Keeps}
 use Rattle.office_commands.proofs.EndingLaws.{meant, meant_none}
+use Rattle.office_commands.proofs.PutLaws.{puts_same}
 use Rattle.std.proofs.Common.{map, string_bytes}
 use Rattle.office_words.specs.Meaning.{means}
-use Rattle.import_once.specs.Days.{ReadsWithin}
-use Rattle.import_once.proofs.BoundLaws.{nothing_read}
+use Rattle.day_reading.specs.Days.{ReadsWithin}
+use Rattle.day_reading.proofs.BoundLaws.{nothing_read}
 use Rattle.office_commands.proofs.entry.run.Goals as goal
 
 pub returns-in-Ok-clause-wrote : goal.returns-in-Ok-clause-wrote
-returns-in-Ok-clause-wrote g c = λ bytes lines o told also kept.
+returns-in-Ok-clause-wrote g c = λ right bytes lines o told also kept.
     let is = meant _ c.in-Ok.command c.read_words.result c.read_words.ensures.reads c.in-Ok.is in
-    subst (λ (a : Answer). Wrote a c.perform.result (g.O.Sink.written c.args.sink.now) (g.O.Sink.written c.perform.new.sink)) (sym (ap (λ m. row_of c.args.limits.now bytes lines o m) is)) (c.perform.ensures.wrote bytes lines o (λ used. told (ap use_source is ∙ used)) (λ used. also (ap use_aside is ∙ used)) (λ used. kept (ap use_keeper is ∙ used)))
+    subst (λ (a : Answer). Wrote a c.perform.result (g.O.Sink.written c.args.sink.now) (g.O.Sink.written c.perform.new.sink)) (sym (ap (λ m. row_of c.args.limits.now bytes lines o m) is)) (c.perform.ensures.wrote (λ used. right (ap use_crew is ∙ used)) bytes lines o (λ used. told (ap use_source is ∙ used)) (λ used. also (ap use_aside is ∙ used)) (λ used. kept (ap use_keeper is ∙ used)))
 
 pub returns-in-Ok-clause-keeps : goal.returns-in-Ok-clause-keeps
-returns-in-Ok-clause-keeps g c = λ bytes lines o told kept.
+returns-in-Ok-clause-keeps g c = λ right bytes lines o told kept.
     let is = meant _ c.in-Ok.command c.read_words.result c.read_words.ensures.reads c.in-Ok.is in
-    subst (λ (a : Answer). Keeps g.K.Keeper.refuses a o (g.K.Keeper.told c.perform.new.keeper) c.perform.result) (sym (ap (λ m. row_of c.args.limits.now bytes lines o m) is)) (c.perform.ensures.keeps bytes lines o (λ used. told (ap use_source is ∙ used)) kept)
+    subst (λ (a : Answer). Keeps g.K.Keeper.refuses a o (g.K.Keeper.told c.perform.new.keeper) c.perform.result) (sym (ap (λ m. row_of c.args.limits.now bytes lines o m) is)) (c.perform.ensures.keeps (λ used. right (ap use_crew is ∙ used)) bytes lines o (λ used. told (ap use_source is ∙ used)) kept)
 
 pub returns-in-Ok-clause-words : goal.returns-in-Ok-clause-words
 returns-in-Ok-clause-words g c = λ ok some.
@@ -41,19 +42,29 @@ returns-in-Ok-clause-keeper_unused g c = λ none.
     let is = meant _ c.in-Ok.command c.read_words.result c.read_words.ensures.reads c.in-Ok.is in
     c.perform.ensures.keeper_unused (sym (ap use_keeper is) ∙ none)
 
+pub returns-in-Ok-clause-crew_unused : goal.returns-in-Ok-clause-crew_unused
+returns-in-Ok-clause-crew_unused g c = λ none.
+    let is = meant _ c.in-Ok.command c.read_words.result c.read_words.ensures.reads c.in-Ok.is in
+    c.perform.ensures.crew_unused (sym (ap use_crew is) ∙ none)
+
+pub returns-in-Ok-clause-puts : goal.returns-in-Ok-clause-puts
+returns-in-Ok-clause-puts g c = λ o kept.
+    let is = meant _ c.in-Ok.command c.read_words.result c.read_words.ensures.reads c.in-Ok.is in
+    subst (λ m. PutsAsked m o (g.K.Keeper.told c.perform.new.keeper)) (sym is) (c.perform.ensures.puts o kept)
+
 pub returns-in-Ok-clause-passed : goal.returns-in-Ok-clause-passed
 returns-in-Ok-clause-passed g c = λ o kept passed.
     let is = meant _ c.in-Ok.command c.read_words.result c.read_words.ensures.reads c.in-Ok.is in
     c.perform.ensures.passed o kept (subst (λ m. AsksPassed m o) is passed)
 
 pub returns-in-Err-Words-clause-wrote : goal.returns-in-Err-Words-clause-wrote
-returns-in-Err-Words-clause-wrote g c = λ bytes lines o told also kept.
+returns-in-Err-Words-clause-wrote g c = λ right bytes lines o told also kept.
     let said : c.read_words.result ≡ Err faults.Words = cc in
     let none = meant_none _ c.read_words.result c.read_words.ensures.reads said in
     ([], (sym (ap (λ m. (row_of c.args.limits.now bytes lines o m).closing) none), sym (ap (λ m. (row_of c.args.limits.now bytes lines o m).text) none)), appends_none _)
 
 pub returns-in-Err-Words-clause-keeps : goal.returns-in-Err-Words-clause-keeps
-returns-in-Err-Words-clause-keeps g c = λ bytes lines o told kept.
+returns-in-Err-Words-clause-keeps g c = λ right bytes lines o told kept.
     let said : c.read_words.result ≡ Err faults.Words = cc in
     let none = meant_none _ c.read_words.result c.read_words.ensures.reads said in
     kept ∙ sym (ap (λ m. Some (row_of c.args.limits.now bytes lines o m).office) none)
@@ -90,3 +101,9 @@ pub returns-in-Ok-clause-unchanged : goal.returns-in-Ok-clause-unchanged
 returns-in-Ok-clause-unchanged g c = λ o kept same.
     let is = meant _ c.in-Ok.command c.read_words.result c.read_words.ensures.reads c.in-Ok.is in
     c.perform.ensures.unchanged o kept (sym (ap change_kept is) ∙ same)
+
+pub returns-in-Err-Words-clause-puts : goal.returns-in-Err-Words-clause-puts
+returns-in-Err-Words-clause-puts g c = λ o kept. puts_same (means (map string_bytes c.args.words.now)) o (g.K.Keeper.told c.args.keeper.now) kept
+
+pub returns-in-Err-NoMemory-clause-puts : goal.returns-in-Err-NoMemory-clause-puts
+returns-in-Err-NoMemory-clause-puts g c = λ o kept. puts_same (means (map string_bytes c.args.words.now)) o (g.K.Keeper.told c.args.keeper.now) kept

@@ -5,14 +5,14 @@ use Rattle.office_commands.proofs.OutcomeLaws.{wrote, keeps, caused, well}
 use Rattle.office_commands.proofs.imports.import.Goals as goal
 
 pub returns-clause-wrote : goal.returns-clause-wrote
-returns-clause-wrote g c = λ bytes o left told.
-    let a = import_answer c.args.day c.args.late c.args.limits.now bytes o in
-    wrote g.K.Keeper.refuses c.args.day a o (g.O.Sink.written c.args.sink.now) (g.O.Sink.written c.import-done.new.sink) (g.K.Keeper.told c.import-done.new.keeper) c.import-done.result c.ended.result c.ended.ensures.ends (c.import-done.ensures.does bytes o left told)
+returns-clause-wrote g c = λ right bytes o left told.
+    let a = import_answer c.args.run.day c.args.run.late c.args.limits.now bytes o in
+    wrote g.K.Keeper.refuses c.args.run.day a o (g.O.Sink.written c.args.sink.now) (g.O.Sink.written c.import-done.new.sink) (g.K.Keeper.told c.import-done.new.keeper) c.import-done.result c.ended.result c.ended.ensures.ends (c.import-done.ensures.does right bytes o left told)
 
 pub returns-clause-keeps : goal.returns-clause-keeps
-returns-clause-keeps g c = λ bytes o left told.
-    let a = import_answer c.args.day c.args.late c.args.limits.now bytes o in
-    keeps g.K.Keeper.refuses c.args.day a o (g.O.Sink.written c.args.sink.now) (g.O.Sink.written c.import-done.new.sink) (g.K.Keeper.told c.import-done.new.keeper) c.import-done.result c.ended.result c.ended.ensures.ends (c.import-done.ensures.does bytes o left told)
+returns-clause-keeps g c = λ right bytes o left told.
+    let a = import_answer c.args.run.day c.args.run.late c.args.limits.now bytes o in
+    keeps g.K.Keeper.refuses c.args.run.day a o (g.O.Sink.written c.args.sink.now) (g.O.Sink.written c.import-done.new.sink) (g.K.Keeper.told c.import-done.new.keeper) c.import-done.result c.ended.result c.ended.ensures.ends (c.import-done.ensures.does right bytes o left told)
 
 pub returns-clause-write_cause : goal.returns-clause-write_cause
 returns-clause-write_cause g c = caused (c.import-done.result ≡ WriteFault) c.ended.result _ _ c.ended.ensures.failed c.import-done.ensures.write_later c.import-done.ensures.write_cause

@@ -3,7 +3,7 @@ use Rattle.road_io.proofs.SinkLaws.{appends_none}
 use Rattle.office_commands.specs.declared.closing.Closing.{Closing}
 use Rattle.office_commands.specs.Commands.{tariffs_row}
 use Rattle.office_commands.specs.Endings.{Wrote}
-use Rattle.import_once.proofs.KeeperLaws.{reads_same}
+use Rattle.keeper.proofs.CallLaws.{reads_same}
 use Rattle.office_commands.proofs.EndingLaws.{refuses_empty, closing_same}
 use Rattle.office_commands.proofs.tariffs.tariffs.Goals as goal
 

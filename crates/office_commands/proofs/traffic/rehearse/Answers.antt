@@ -6,6 +6,6 @@ use Rattle.office_commands.specs.Traffic.{rehearsed, rehearsed_record}
 use Rattle.office_commands.proofs.traffic.rehearse.Goals as goal
 
 pub returns-in-Ok-clause-exact : goal.returns-in-Ok-clause-exact
-returns-in-Ok-clause-exact c = λ o.
-    subst (λ (k : Closing). StandsBefore (rehearse_row c.args.seed c.args.size o) k []) (sym c.closing_of.ensures)
-    (ap (λ r. Some (rehearsed r)) (c.in-Ok.ensures ∙ ap rehearsed_record c.plan_for-plan.ensures.plan), refl)
+returns-in-Ok-clause-exact g c = λ right o.
+    subst (λ (k : Closing). StandsBefore (rehearse_row c.args.seed c.args.size c.args.run o) k []) (sym c.closing_of.ensures)
+    (ap (λ r. Some (rehearsed r)) (c.in-Ok.ensures.kept right ∙ ap (rehearsed_record c.args.run.day) c.plan_for-plan.ensures.plan), refl)

@@ -5,11 +5,11 @@ use Rattle.traffic_gen.specs.Traffic.{file_of}
 use Rattle.office_commands.proofs.traffic.rehearse_plan.Goals as goal
 
 pub kept_alone-requires-clause-whole : goal.kept_alone-requires-clause-whole
-kept_alone-requires-clause-whole c =
+kept_alone-requires-clause-whole g c =
     let same : c.bytes.result.now ≡ file_of c.args.plan.now = c.bytes.ensures ∙ c.in_ok-file.ensures in
-    whole_file c.args.plan.now c.args.late c.bytes.result.now c.requires.range same
+    whole_file c.args.plan.now c.args.run.late c.bytes.result.now c.requires.plan same
 
-pub returns : goal.returns
-returns c =
+pub returns-clause-kept : goal.returns-clause-kept
+returns-clause-kept g c = λ right.
     let same : c.bytes.result.now ≡ file_of c.args.plan.now = c.bytes.ensures ∙ c.in_ok-file.ensures in
-    IfOk-weaker c.kept_alone.result _ _ (λ r h. h ∙ alone_is c.args.plan.now c.args.late c.bytes.result.now c.requires.range same) c.kept_alone.ensures
+    IfOk-weaker c.kept_alone.result _ _ (λ r h. h ∙ alone_is c.args.plan.now c.args.run.late c.bytes.result.now c.requires.plan same c.args.run.day) (c.kept_alone.ensures.kept right)

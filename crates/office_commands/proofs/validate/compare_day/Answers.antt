@@ -11,7 +11,7 @@ use Rattle.office_commands.specs.Asides.{compared}
 use Rattle.office_commands.specs.Commands.{notices_of_day, validation_of, unless_refused, closed}
 use Rattle.office_commands.specs.Endings.{StandsBefore}
 use Rattle.office_commands.proofs.EndingLaws.{refuses_empty}
-use Rattle.import_once.specs.Days.{ReadsWithin}
+use Rattle.day_reading.specs.Days.{ReadsWithin}
 use Rattle.office_commands.specs.Entries.{most_compared}
 use Rattle.office_commands.proofs.validate.compare_day.Goals as goal
 

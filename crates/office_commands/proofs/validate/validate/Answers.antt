@@ -3,13 +3,13 @@ use Rattle.road_time.specs.declared.road.Tuple.{Tuple}
 use Rattle.road_time.specs.Reads.{reads}
 use Rattle.road_time.specs.Lines.{lines_of}
 use Rattle.tuple_format.specs.declared.cause.Cause.{Cause}
-use Rattle.import_once.proofs.KeeperLaws.{reads_same, reads_ok}
+use Rattle.keeper.proofs.CallLaws.{reads_same, reads_ok}
 use Rattle.office_commands.specs.declared.closing.Closing.{Closing}
 use Rattle.office_commands.specs.Days.{recomputed}
 use Rattle.office_commands.specs.Commands.{notices_of_day, validate_row, validation_of, unless_refused}
 use Rattle.office_commands.specs.Endings.{StandsBefore}
 use Rattle.office_commands.proofs.EndingLaws.{refuses_empty, stops_empty}
-use Rattle.import_once.specs.Days.{ReadsWithin}
+use Rattle.day_reading.specs.Days.{ReadsWithin}
 use Rattle.office_commands.specs.Entries.{most_compared}
 use Rattle.office_commands.proofs.validate.validate.Goals as goal
 

@@ -1,0 +1,189 @@
+-- What an import did, from what its stages did.
+use Rattle.std.proofs.Common.{◌≡◌, ◌≤◌, ◌<◌, nat_le, ◌⊎◌, inl, inr, ℕ, List, [], length, Option, Some, None, refl, sym, ap, subst, ◌∙◌, arith}
+use Rattle.std.proofs.Math.Seq.{take-length}
+use Rattle.std.proofs.lemmas.Bool.{cond-false, lt-leb}
+use Rattle.std.specs.Io.KnownBytes.{Appends}
+use Rattle.road_time.specs.declared.road.Tuple.{Tuple}
+use Rattle.road_time.specs.declared.day.Limits.{Limits}
+use Rattle.road_time.specs.declared.day.SpentRow.{SpentRow}
+use Rattle.road_time.specs.Form.{Fault}
+use Rattle.road_time.specs.Rates.{Tariffs}
+use Rattle.road_time.specs.Tolls.{Finding}
+use Rattle.road_time.specs.Day.{given}
+use Rattle.road_time.specs.Rows.{rows_from}
+use Rattle.road_time.specs.Text.{out}
+use Rattle.keeper.specs.declared.kept.DayRecord.{DayRecord}
+use Rattle.keeper.specs.declared.kept.KeepFault.TheVariants as keeping
+use Rattle.keeper.specs.History.{paid}
+use Rattle.keeper.specs.Office.{Office, last_day}
+use Rattle.keeper.specs.Kept.{with_day}
+use Rattle.keeper.specs.Calls.{WhenRefused, Leaves}
+use Rattle.settling.specs.Closes.{IsClosed}
+use Rattle.settling.specs.Printing.{WritesFront, WritesLess}
+use Rattle.day_reading.specs.declared.whole_day.DayEnd.{DayEnd}
+use Rattle.day_reading.specs.declared.whole_day.DayEnd.TheVariants.{Whole, Refused as RefusedAt}
+use Rattle.day_reading.specs.Days.{EndsReading}
+use Rattle.import_once.specs.declared.outcomes.Outcome.{Outcome}
+use Rattle.import_once.specs.declared.outcomes.Outcome.TheVariants.{Stored, Already, Answered, Refused, DayPassed, Differs, ReadFault, WriteFault, KeeperFault, NoMemory}
+use Rattle.day_rounds.specs.declared.day_run.DayRun.{DayRun}
+use Rattle.day_rounds.specs.declared.fault.DayFault.{DayFault}
+use Rattle.day_rounds.specs.declared.fault.DayFault.TheVariants as stop
+use Rattle.import_once.specs.Imports.{Answer, Work, work_by, worked_record, worked_office, import_worked, answers_worked, unless_passed, Does, Merges, KeepsAll, LeavesAlone, IsOfNewDay, IsOfKeptDay}
+use Rattle.import_once.specs.Stages.{run_record, Stores, Finishes, Tells, IsAnswered, IsWhole}
+use Rattle.day_rounds.specs.Faults.{WritesUpTo}
+use Rattle.import_once.specs.Runs.{stopping, WhereWorked}
+use Rattle.import_once.proofs.WorkLaws.{record_is, rows_are}
+
+module _ (w : WhenRefused) (work : Work) (number : ℕ) (bytes : List ℕ) (day : List Tuple) (o : Office) (old new : Option (List ℕ)) (now : Option Office) (wrote : Appends old new (out work.told)) where
+  -- a day whose output was written and which was put, or refused
+  stores_does : (kept : DayRecord) (rows : List SpentRow) (outcome : Outcome) → kept ≡ worked_record work number bytes day o → rows ≡ rows_from number work.charged
+      → Stores w kept rows o now outcome → Does w (import_worked work number bytes day None o) o old new now outcome
+  stores_does kept rows (Stored r) e f h =
+      let next : with_day kept rows o ≡ worked_office work number bytes day o = cc in
+      record { outcome_is = ap Stored (h.0 ∙ e); wrote = wrote; kept = h.1 ∙ ap Some next }
+  stores_does kept rows KeeperFault e f h =
+      let next : with_day kept rows o ≡ worked_office work number bytes day o = cc in
+      inr (wrote, (h.0, h.1, subst (λ n. Leaves w keeping.Failed h.0 o n) next h.2))
+  stores_does kept rows NoMemory e f h =
+      let next : with_day kept rows o ≡ worked_office work number bytes day o = cc in
+      inr (wrote, (h.0, h.1, subst (λ n. Leaves w keeping.NoMemory h.0 o n) next h.2))
+  stores_does kept rows (Already k) e f h = absurd h
+  stores_does kept rows (Answered k) e f h = absurd h
+  stores_does kept rows (Refused line cause) e f h = absurd h
+  stores_does kept rows (DayPassed last) e f h = absurd h
+  stores_does kept rows (Differs k found) e f h = absurd h
+  stores_does kept rows ReadFault e f h = absurd h
+  stores_does kept rows WriteFault e f h = absurd h
+
+-- what is done is done also where nothing is said of what was written before a fault
+pub does_merges : (w : WhenRefused) (a : Answer) (was : Office) (old new : Option (List ℕ)) (now : Option Office) (outcome : Outcome) → Does w a was old new now outcome → Merges w a was old new now outcome
+does_merges w a was old new now (Stored kept) h = h
+does_merges w a was old new now (Already kept) h = h
+does_merges w a was old new now (Answered kept) h = h
+does_merges w a was old new now (Refused line cause) h = h
+does_merges w a was old new now (DayPassed last) h = h
+does_merges w a was old new now (Differs kept found) h = h
+does_merges w a was old new now ReadFault h = h.1
+does_merges w a was old new now WriteFault h = h.1
+does_merges w a was old new now KeeperFault (inl h) = inl h.1
+does_merges w a was old new now KeeperFault (inr h) = inr h
+does_merges w a was old new now NoMemory (inl h) = inl h.1
+does_merges w a was old new now NoMemory (inr h) = inr h
+
+module _ (w : WhenRefused) (number : ℕ) (found : List (ℕ × Finding)) (bytes : List ℕ) (day : List Tuple) (o : Office) (old new : Option (List ℕ)) (now : Option Office) (run : DayRun) (tariffs : Tariffs)
+    (wrote : Appends old new (out (work_by found number day o).told)) (count : run.tuples ≡ length day) (closed : IsClosed run.closed number (given found) number (Some (paid o.rows)) day) (under : tariffs ≡ o.tariffs) where
+  -- a day that was worked and finished
+  pub finishes_does : (end : DayEnd) (refused : Option (ℕ × Fault)) (outcome : Outcome) → EndsReading end bytes refused → Finishes w number end run tariffs o now outcome
+      → Does w (import_worked (work_by found number day o) number bytes day refused o) o old new now outcome
+  finishes_does (Whole n digest) refused outcome e h =
+      subst (λ (r : Option (ℕ × Fault)). Does w (import_worked (work_by found number day o) number bytes day r o) o old new now outcome) (sym e.0)
+      (stores_does w (work_by found number day o) number bytes day o old new now wrote (run_record number n digest run tariffs) run.closed.rows outcome (record_is number found day o run closed bytes n digest tariffs count e.1 e.2 under) (rows_are number found day o run closed) h)
+  finishes_does (RefusedAt line cause) refused outcome e h =
+      let fault = e.0 in
+      subst (λ (r : Option (ℕ × Fault)). Does w (import_worked (work_by found number day o) number bytes day r o) o old new now outcome) (sym e.1)
+      (subst (Does w (import_worked (work_by found number day o) number bytes day (Some (line, fault)) o) o old new now) (sym h.0)
+      (record { outcome_is = ap (Refused line) (sym e.2); wrote = wrote; kept = h.1 }))
+
+module _ (w : WhenRefused) (number : ℕ) (found : List (ℕ × Finding)) (bytes : List ℕ) (day : List Tuple) (o : Office) (old new : Option (List ℕ)) (now : Option Office) (run : DayRun) (tariffs : Tariffs)
+    (wrote : Appends old new (out (work_by found number day o).told)) (count : run.tuples ≡ length day) (closed : IsClosed run.closed number (given found) number (Some (paid o.rows)) day) (under : tariffs ≡ o.tariffs) (same : now ≡ Some o) where
+  -- a day that was worked and answered
+  tells_whole : (kept : DayRecord) (outcome : Outcome) → kept ≡ worked_record (work_by found number day o) number bytes day o → IsAnswered kept outcome
+      → Does w (answers_worked (work_by found number day o) number bytes day None o) o old new now outcome
+  tells_whole kept (Answered r) e h = record { outcome_is = ap Answered (h ∙ e); wrote = wrote; kept = same }
+  tells_whole kept NoMemory e h = inl ((length (out (work_by found number day o).told), subst (Appends old new) (sym (take-length (out (work_by found number day o).told))) wrote), same)
+  tells_whole kept (Stored r) e h = absurd h
+  tells_whole kept (Already k) e h = absurd h
+  tells_whole kept (Refused line cause) e h = absurd h
+  tells_whole kept (DayPassed last) e h = absurd h
+  tells_whole kept (Differs k there) e h = absurd h
+  tells_whole kept ReadFault e h = absurd h
+  tells_whole kept WriteFault e h = absurd h
+  tells_whole kept KeeperFault e h = absurd h
+
+  pub tells_does : (end : DayEnd) (refused : Option (ℕ × Fault)) (outcome : Outcome) → EndsReading end bytes refused → Tells number end run tariffs outcome
+      → Does w (answers_worked (work_by found number day o) number bytes day refused o) o old new now outcome
+  tells_does (Whole n digest) refused outcome e h =
+      subst (λ (r : Option (ℕ × Fault)). Does w (answers_worked (work_by found number day o) number bytes day r o) o old new now outcome) (sym e.0)
+      (tells_whole (run_record number n digest run tariffs) outcome (record_is number found day o run closed bytes n digest tariffs count e.1 e.2 under) h)
+  tells_does (RefusedAt line cause) refused outcome e h =
+      let fault = e.0 in
+      subst (λ (r : Option (ℕ × Fault)). Does w (answers_worked (work_by found number day o) number bytes day r o) o old new now outcome) (sym e.1)
+      (subst (Does w (answers_worked (work_by found number day o) number bytes day (Some (line, fault)) o) o old new now) (sym h)
+      (record { outcome_is = ap (Refused line) (sym e.2); wrote = wrote; kept = same }))
+
+-- the work of a day was stopped
+pub stops_does : (w : WhenRefused) (a : Answer) (o : Office) (old new : Option (List ℕ)) (now : Option Office) (s : DayFault) → WritesUpTo s a.text old new → now ≡ Some o → Does w a o old new now (stopping s)
+stops_does w a o old new now stop.ReadFault h same = (h, same)
+stops_does w a o old new now stop.WriteFault h same = (h, same)
+stops_does w a o old new now stop.KeeperFault h same = inl (h, same)
+stops_does w a o old new now stop.NoMemory h same = inl (h, same)
+
+pub stops_merges : (w : WhenRefused) (a : Answer) (o : Office) (old new : Option (List ℕ)) (now : Option Office) (s : DayFault) → now ≡ Some o → Merges w a o old new now (stopping s)
+stops_merges w a o old new now stop.ReadFault same = same
+stops_merges w a o old new now stop.WriteFault same = same
+stops_merges w a o old new now stop.KeeperFault same = inl same
+stops_merges w a o old new now stop.NoMemory same = inl same
+
+-- the text of importing a day that was read is that of its notices, refused or not
+pub text_worked : (work : Work) (number : ℕ) (bytes : List ℕ) (day : List Tuple) (refused : Option (ℕ × Fault)) (o : Office) → (import_worked work number bytes day refused o).text ≡ out work.told
+text_worked work number bytes day None o = refl
+text_worked work number bytes day (Some (line, fault)) o = refl
+
+pub text_answered : (work : Work) (number : ℕ) (bytes : List ℕ) (day : List Tuple) (refused : Option (ℕ × Fault)) (o : Office) → (answers_worked work number bytes day refused o).text ≡ out work.told
+text_answered work number bytes day None o = refl
+text_answered work number bytes day (Some (line, fault)) o = refl
+
+-- a day after all that is kept is read
+pub new_is_read : (read : Answer) (number : ℕ) (o : Office) → last_day o < number → unless_passed read number o ≡ read
+new_is_read read number o h = cond-false (nat_le number (last_day o)) _ _ (lt-leb number (last_day o) h)
+
+-- what holds holds where a day was worked
+pub where_worked : (outcome : Outcome) (P : Type 0) → P → WhereWorked outcome P
+where_worked (Stored kept) P p = p
+where_worked (Answered kept) P p = p
+where_worked (Refused line cause) P p = p
+where_worked (Already kept) P p = tt
+where_worked (DayPassed last) P p = tt
+where_worked (Differs kept found) P p = tt
+where_worked ReadFault P p = tt
+where_worked WriteFault P p = tt
+where_worked KeeperFault P p = tt
+where_worked NoMemory P p = tt
+
+-- where the work of a day was stopped, what is kept is as it was
+pub stops_keeps : (s : DayFault) (P : Type 0) → P → KeepsAll (stopping s) P
+stops_keeps stop.ReadFault P p = p
+stops_keeps stop.WriteFault P p = p
+stops_keeps stop.KeeperFault P p = tt
+stops_keeps stop.NoMemory P p = tt
+
+-- a day that is read leaves nothing alone
+pub new_alone : (outcome : Outcome) (source others : Type 0) → IsOfNewDay outcome → LeavesAlone outcome source others
+new_alone (Stored kept) source others h = tt
+new_alone (Already kept) source others h = absurd h
+new_alone (Answered kept) source others h = absurd h
+new_alone (Refused line cause) source others h = tt
+new_alone (DayPassed last) source others h = absurd h
+new_alone (Differs kept found) source others h = absurd h
+new_alone ReadFault source others h = tt
+new_alone WriteFault source others h = tt
+new_alone KeeperFault source others h = tt
+new_alone NoMemory source others h = tt
+
+-- of a day that is kept the others are left alone
+pub kept_alone : (outcome : Outcome) (source others : Type 0) → IsOfKeptDay outcome → others → LeavesAlone outcome source others
+kept_alone (Stored kept) source others h o = absurd h
+kept_alone (Already kept) source others h o = o
+kept_alone (Answered kept) source others h o = absurd h
+kept_alone (Refused line cause) source others h o = tt
+kept_alone (DayPassed last) source others h o = absurd h
+kept_alone (Differs kept found) source others h o = o
+kept_alone ReadFault source others h o = tt
+kept_alone WriteFault source others h o = absurd h
+kept_alone KeeperFault source others h o = absurd h
+kept_alone NoMemory source others h o = tt
+
+-- of a day that was read to its end no line was refused
+pub whole_unrefused : (end : DayEnd) (bytes : List ℕ) (refused : Option (ℕ × Fault)) → EndsReading end bytes refused → IsWhole end → refused ≡ None
+whole_unrefused (Whole n digest) bytes refused e h = e.0
+whole_unrefused (RefusedAt line cause) bytes refused e h = absurd h

@@ -1,0 +1,78 @@
+-- What a day's work gives an import.
+use Rattle.std.specs.Prelude.{ℕ, ◌≡◌, ◌≤◌, ◌++◌, ◌⊎◌, Bool, true, List, ◌∷◌, length, Option, Some}
+use Rattle.std.specs.Option.{option_map}
+use Rattle.road_time.specs.declared.road.Tuple.{Tuple}
+use Rattle.road_time.specs.Rates.{Tariffs}
+use Rattle.road_time.specs.Tolls.{Finding as RoadFinding}
+use Rattle.road_time.specs.Day.{rules}
+use Rattle.expressway.specs.declared.finding.Finding.{Finding}
+use Rattle.expressway.specs.declared.job.Job.{Job}
+use Rattle.accounts.specs.Operations.{Operation, Begin, Posted}
+use Rattle.partition_workers.specs.Told.{Told, WhereTold}
+use Rattle.partition_workers.specs.Callers.{ListsAll, ListsFirst}
+use Rattle.keeper.specs.Calls.{WhenRefused}
+use Rattle.keeper.specs.Office.{Office}
+use Rattle.day_rounds.specs.declared.fault.DayFault.{DayFault}
+use Rattle.day_rounds.specs.declared.fault.DayFault.TheVariants.{ReadFault, WriteFault, KeeperFault, NoMemory}
+use Rattle.day_rounds.specs.Runs.{HasAnswered}
+use Rattle.day_rounds.specs.Imports.{HaveAllStarted, HaveFirstStarted}
+use Rattle.day_rounds.specs.Published.{AreStepsBy, published_of}
+use Rattle.import_once.specs.declared.outcomes.Outcome.{Outcome}
+use Rattle.import_once.specs.declared.outcomes.Outcome.TheVariants as outcome
+use Rattle.import_once.specs.Imports.{Answer, Merges}
+
+-- the outcome of a day whose work was stopped
+abbrev pub stopping : DayFault → Outcome
+stopping ReadFault = outcome.ReadFault
+stopping WriteFault = outcome.WriteFault
+stopping KeeperFault = outcome.KeeperFault
+stopping NoMemory = outcome.NoMemory
+
+-- what holds where a day was worked to its end or to its first refused line
+abbrev pub WhereWorked : Outcome → Type 0 → Type 0
+WhereWorked (outcome.Stored kept) P = P
+WhereWorked (outcome.Answered kept) P = P
+WhereWorked (outcome.Refused line cause) P = P
+WhereWorked (outcome.Already kept) P = Unit {0}
+WhereWorked (outcome.DayPassed last) P = Unit {0}
+WhereWorked (outcome.Differs kept found) P = Unit {0}
+WhereWorked outcome.ReadFault P = Unit {0}
+WhereWorked outcome.WriteFault P = Unit {0}
+WhereWorked outcome.KeeperFault P = Unit {0}
+WhereWorked outcome.NoMemory P = Unit {0}
+
+-- what was done over any crew: the work of the day is that by the findings that the crew answered, where it was worked
+pub record DoesByCrew (w : WhenRefused) (answer : List (ℕ × RoadFinding) → Answer) (was : Office) (answered now_answered : Option (List Finding)) (old new : Option (List ℕ)) (now : Option Office) (outcome : Outcome) : Type 0 where
+  pub found : List (ℕ × RoadFinding)
+  pub answers_are : WhereWorked outcome (HasAnswered answered found now_answered)
+  pub merges : Merges w (answer found) was old new now outcome
+
+-- the jobs of a day: the crew tells the first of each worker's, and where the day was worked all
+pub record HasStarted (width backlog : ℕ) (day : List Tuple) (told now_told : Option Told) (outcome : Outcome) : Type 0 where
+  pub since : List Job
+  pub started : HaveFirstStarted width backlog day since
+  pub listed : WhereTold (ListsFirst since) told now_told
+  pub all : WhereWorked outcome (HaveAllStarted width backlog day since × WhereTold (ListsAll since) told now_told)
+
+-- since an earlier time steps of a day by the rules are published, up to some mark, and to its end where it was worked
+pub record HasStepped (tariffs : Tariffs) (day : List Tuple) (backlog : ℕ) (old now : Option Posted) (outcome : Outcome) : Type 0 where
+  pub steps : List Operation
+  pub mark : ℕ
+  pub within : mark ≤ length day
+  pub are : AreStepsBy (rules day tariffs) day backlog 0 mark steps
+  pub published : published_of now ≡ option_map (λ p. p.published ++ steps) old
+  pub whole : WhereWorked outcome (mark ≡ length day)
+
+-- what was queued is published, and then that the day begins, and its steps by the rules up to some mark; where it was worked, up to its end
+pub record HasPublished (tariffs : Tariffs) (day : List Tuple) (number backlog : ℕ) (was : Posted) (now : Option Posted) (outcome : Outcome) : Type 0 where
+  pub steps : List Operation
+  pub mark : ℕ
+  pub within : mark ≤ length day
+  pub are : AreStepsBy (rules day tariffs) day backlog 0 mark steps
+  pub published : published_of now ≡ Some (was.published ++ (was.queued ++ Begin number ∷ steps))
+  pub whole : WhereWorked outcome (mark ≡ length day)
+
+-- what an import publishes of a day: it and its steps; or, where it was not worked, nothing
+abbrev pub Publishes : Tariffs → List Tuple → ℕ → ℕ → Posted → Option Posted → Outcome → Type 0
+Publishes tariffs day number backlog was now outcome =
+    HasPublished tariffs day number backlog was now outcome ⊎ ((published_of now ≡ Some was.published) × WhereWorked outcome ⊥)

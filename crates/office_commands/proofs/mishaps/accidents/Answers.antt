@@ -1,0 +1,23 @@
+use Rattle.std.proofs.Common.{Option, ℕ, List, sym, subst, Some, Ok}
+use Rattle.road_time.specs.declared.road.Tuple.{Tuple}
+use Rattle.road_time.specs.Reads.{reads}
+use Rattle.tuple_format.specs.declared.cause.Cause.{Cause}
+use Rattle.office_commands.specs.declared.closing.Closing.{Closing}
+use Rattle.office_commands.specs.Days.{recomputed}
+use Rattle.office_commands.specs.Commands.{accidents_row, accidents_of, unless_refused}
+use Rattle.office_commands.specs.Endings.{Wrote}
+use Rattle.office_commands.proofs.EndingLaws.{wrote_nothing}
+use Rattle.office_commands.proofs.mishaps.accidents.Goals as goal
+
+pub returns-in-Err-clause-wrote : goal.returns-in-Err-clause-wrote
+returns-in-Err-clause-wrote g c = λ bytes o told.
+    let old = g.O.Sink.written c.args.sink.now in
+    subst (λ (k : Closing). Wrote (accidents_row c.args.limits.now c.args.late bytes o) (Ok (Some k)) old old) (sym c.stopped.ensures) (wrote_nothing _ c.in-Err.stop old)
+
+pub returns-in-Ok-clause-wrote : goal.returns-in-Ok-clause-wrote
+returns-in-Ok-clause-wrote g c = λ bytes o told.
+    let old = g.O.Sink.written c.args.sink.now in
+    let new = g.O.Sink.written c.write_accidents.new.sink in
+    let read = reads bytes (recomputed c.args.limits.now) c.args.late in
+    subst (λ (r : Option (ℕ × Cause)). Wrote (unless_refused r (accidents_of read.tuples o)) c.write_accidents.result old new) (c.in-Ok.ensures.refused bytes told)
+    (subst (λ (ts : List Tuple). Wrote (unless_refused c.in-Ok.day.refused (accidents_of ts o)) c.write_accidents.result old new) (c.in-Ok.ensures.tuples bytes told) (c.write_accidents.ensures.wrote o))

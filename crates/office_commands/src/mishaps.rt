@@ -1,0 +1,69 @@
+// The command `accidents`: the accident log of a day.
+ghost use Rattle.std.specs.Prelude.{◌≡◌, ◌≢◌, ◌≤◌, ℕ, List, Some, Ok, IsOk};
+ghost use Rattle.road_time.specs.Fits.{IsDay, IsLimits};
+ghost use Rattle.road_io.specs.Faults.{Rose, HasCause};
+ghost use Rattle.road_io.specs.Plans.{NeverFails};
+ghost use Rattle.road_io.specs.Rooms.{Endless};
+ghost use Rattle.keeper.specs.Office.{Office};
+ghost use Rattle.day_reading.specs.Days.{ReadsWithin, most_read};
+ghost use Rattle.office_commands.specs.Days.{recomputed};
+ghost use Rattle.office_commands.specs.Commands.{accidents_row, accidents_of, unless_refused};
+ghost use Rattle.office_commands.specs.Endings.{Wrote};
+ghost use Rattle.office_commands.specs.declared.closing.Closing.TheVariants.{ReadFault, KeeperFault, Words};
+
+use crate::closing::Closing;
+use crate::day::{Day, read_day, stopped};
+use reports::{ReportFault, accident_log};
+use road_io::{Failed, Sink, Source};
+use road_time::Limits;
+use std::alloc::Global;
+
+/// Writes the accident log of a day that was read whole.
+fn write_accidents<O: Sink>(
+    alloc: Global,
+    day: &Day,
+    sink: &mut O,
+) -> Result<Option<Closing>, Failed>
+    requires { IsDay day.now.tuples.items }
+    ensures wrote { (o : Office) → Wrote (unless_refused day.now.refused (accidents_of day.now.tuples.items o)) result (O.written sink.old) (O.written sink.new) }
+    ensures unread { result ≢ Ok (Some ReadFault) }
+    ensures unasked { result ≢ Ok (Some KeeperFault) }
+    ensures said { result ≢ Ok (Some Words) }
+    ensures cause { HasCause (O.faults sink.old) (O.faults sink.new) result }
+    ensures sure { O.room sink.old ≡ Endless → IsOk result × (O.room sink.new ≡ Endless) }
+{
+    if let Some((line, cause)) = day.refused {
+        return Ok(Some(Closing::Refused { line, cause }));
+    }
+    match accident_log(alloc, day.tuples.as_slice(), sink) {
+        Ok(()) => Ok(None),
+        Err(ReportFault::WriteFault) => Err(Failed),
+        Err(_) => Ok(Some(Closing::NoMemory)),
+    }
+}
+
+/// Lists the accidents of what the source has, unless a line is refused.
+pub fn accidents<S: Source, O: Sink>(
+    alloc: Global,
+    late: u8,
+    limits: &Limits,
+    source: &mut S,
+    sink: &mut O,
+) -> Result<Option<Closing>, Failed>
+    requires soon { late ≤ 120 }
+    requires limits { IsLimits limits.now }
+    ensures wrote { (bytes : List ℕ) (o : Office) → S.left source.old ≡ Some bytes → Wrote (accidents_row limits.now late bytes o) result (O.written sink.old) (O.written sink.new) }
+    ensures said { result ≢ Ok (Some Words) }
+    ensures unasked { result ≢ Ok (Some KeeperFault) }
+    ensures bounded { ReadsWithin (most_read (recomputed limits.now)) (S.left source.old) (S.left source.new) }
+    ensures read_cause { result ≡ Ok (Some ReadFault) → Rose (S.faults source.old) (S.faults source.new) }
+    ensures read_later { S.faults source.old ≤ S.faults source.new }
+    ensures read_sure { NeverFails (S.plan source.old) → result ≢ Ok (Some ReadFault) }
+    ensures write_cause { HasCause (O.faults sink.old) (O.faults sink.new) result }
+    ensures write_sure { O.room sink.old ≡ Endless → IsOk result × (O.room sink.new ≡ Endless) }
+{
+    match read_day(alloc, limits, late, source) {
+        Ok(day) => write_accidents(alloc, &day, sink),
+        Err(stop) => Ok(Some(stopped(stop))),
+    }
+}
