@@ -1,0 +1,6 @@
+pub mod PathLaws
+pub mod FieldLaws
+pub mod FrontLaws
+pub mod HeadLaws
+pub mod RouteLaws
+pub mod PlaceLaws

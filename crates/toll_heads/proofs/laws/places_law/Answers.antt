@@ -1,0 +1,11 @@
+use Rattle.toll_heads.proofs.PlaceLaws.{places_have_routes, routes_have_places, places_are_ascii}
+use Rattle.toll_heads.proofs.laws.places_law.Goals as goal
+
+pub returns-clause-found : goal.returns-clause-found
+returns-clause-found c = places_have_routes
+
+pub returns-clause-named : goal.returns-clause-named
+returns-clause-named c = routes_have_places
+
+pub returns-clause-ascii : goal.returns-clause-ascii
+returns-clause-ascii c = places_are_ascii

@@ -1,0 +1,9 @@
+pub mod Numbers
+pub mod Paths
+pub mod Requests
+pub mod Fields
+pub mod Fronts
+pub mod Laws
+pub mod Asks
+pub mod Rows
+pub mod Places

@@ -1,0 +1,86 @@
+-- Which place of the desk a path names.
+use Rattle.std.specs.Prelude.{ℕ, ◌≡◌, ◌==◌, ◌≤◌, List, [], ◌∷◌, length, take, drop, Option, Some, None, if◌then◌else◌, codes, Bool}
+use Rattle.std.specs.List.{slice_split}
+use Rattle.std.specs.Str.{bytes_eq}
+use Rattle.toll_heads.specs.Numbers.{number_in}
+use Rattle.toll_heads.specs.declared.place.Place.{Place}
+use Rattle.toll_heads.specs.declared.place.Place.TheVariants.{DayPlace, SpentPlace, LivePlace, TotalPlace}
+
+-- the parts of a text, with a byte between two
+abbrev pub parts_at : ℕ → List ℕ → List (List ℕ)
+parts_at byte text = slice_split (λ b. b == byte) text
+
+abbrev pub first_part : List (List ℕ) → List ℕ
+first_part [] = []
+first_part (part ∷ parts) = part
+
+-- the path of a target: what stands before its first question mark
+abbrev pub path_of : List ℕ → List ℕ
+path_of target = first_part (parts_at 63 target)
+
+-- the parts of a path
+abbrev pub parts_of : List ℕ → List (List ℕ)
+parts_of text = parts_at 47 text
+
+-- a part and what comes behind the byte that ends it, if one does
+abbrev pub CutsAt : ℕ → List ℕ → List ℕ → Option (List ℕ) → Type 0
+CutsAt byte text part None = parts_at byte text ≡ part ∷ []
+CutsAt byte text part (Some rest) = parts_at byte text ≡ part ∷ parts_at byte rest
+
+abbrev pub day_place : Option ℕ → Option Place
+day_place None = None
+day_place (Some day) = Some (DayPlace day)
+
+abbrev pub live_place : Option ℕ → Option Place
+live_place None = None
+live_place (Some vid) = Some (LivePlace vid)
+
+abbrev pub spent_place : Option ℕ → Option ℕ → Option ℕ → Option Place
+spent_place (Some day) (Some xway) (Some vid) = Some (SpentPlace day xway vid)
+spent_place None xway vid = None
+spent_place (Some day) None vid = None
+spent_place (Some day) (Some xway) None = None
+
+-- a day, an expressway and a vehicle, with a slash between two
+abbrev pub spent_of : List (List ℕ) → Option Place
+spent_of [] = None
+spent_of (day ∷ []) = None
+spent_of (day ∷ xway ∷ []) = None
+spent_of (day ∷ xway ∷ vid ∷ []) = spent_place (number_in 1 1000000 day) (number_in 0 255 xway) (number_in 0 2147483647 vid)
+spent_of (day ∷ xway ∷ vid ∷ more ∷ rest) = None
+
+-- the numbers of a place are in their ranges
+abbrev pub IsPlace : Place → Type 0
+IsPlace (DayPlace day) = (70 ≤ day) × (day ≤ 1000000)
+IsPlace (SpentPlace day xway vid) = (1 ≤ day) × (day ≤ 1000000) × (vid ≤ 2147483647)
+IsPlace (LivePlace vid) = vid ≤ 2147483647
+IsPlace TotalPlace = Unit {0}
+
+-- a text begins with a front
+abbrev pub begins_with : List ℕ → List ℕ → Bool
+begins_with text front = bytes_eq (take (length front) text) front
+
+-- the place of a day that a path names
+abbrev pub day_at : List ℕ → Option Place
+day_at path = if begins_with path (codes "/days/") then day_place (number_in 70 1000000 (drop 6 path)) else None
+
+-- the place of a vehicle on the live board that a path names
+abbrev pub live_at : List ℕ → Option Place
+live_at path = if begins_with path (codes "/live/") then live_place (number_in 0 2147483647 (drop 6 path)) else None
+
+-- the place of the live board's total, if a path is its
+abbrev pub total_at : List ℕ → Option Place
+total_at path = if bytes_eq path (codes "/live") then Some TotalPlace else None
+
+-- the place of an amount that a path names
+abbrev pub spent_at : List ℕ → Option Place
+spent_at path = if begins_with path (codes "/spent/") then spent_of (parts_of (drop 7 path)) else None
+
+-- the place that a path names: `/live`, or one of three fronts with numbers behind it
+abbrev pub place_of : List ℕ → Option Place
+place_of path =
+    if bytes_eq path (codes "/live") then Some TotalPlace
+    else if begins_with path (codes "/days/") then day_place (number_in 70 1000000 (drop 6 path))
+    else if begins_with path (codes "/live/") then live_place (number_in 0 2147483647 (drop 6 path))
+    else if begins_with path (codes "/spent/") then spent_of (parts_of (drop 7 path))
+    else None

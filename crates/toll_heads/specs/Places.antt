@@ -1,0 +1,38 @@
+-- Places and the routes that find them.
+use Rattle.std.specs.Prelude.{◌≡◌, ℕ, List, Option, Some}
+use Rattle.std.specs.Str.{IsAscii}
+use Rattle.matchit.specs.Seek.{first}
+use Rattle.toll_heads.specs.Paths.{place_of, day_at, live_at, total_at, spent_at}
+use Rattle.toll_heads.specs.Rows.{desk_rows, key_of}
+use Rattle.toll_heads.specs.declared.place.Place.{Place}
+use Rattle.toll_heads.specs.declared.place.Place.TheVariants.{DayPlace, SpentPlace, LivePlace, TotalPlace}
+use Rattle.toll_heads.specs.declared.route.Route.{Route}
+use Rattle.toll_heads.specs.declared.route.Route.TheVariants.{OfDay, OfLive, OfTotal, OfSpent}
+
+-- a place's route
+abbrev pub route_of : Place → Route
+route_of (DayPlace day) = OfDay
+route_of (LivePlace vid) = OfLive
+route_of TotalPlace = OfTotal
+route_of (SpentPlace day xway vid) = OfSpent
+
+-- the place that a path of a route names
+abbrev pub place_by : Route → List ℕ → Option Place
+place_by OfDay path = day_at path
+place_by OfLive path = live_at path
+place_by OfTotal path = total_at path
+place_by OfSpent path = spent_at path
+
+-- a path that names a place finds its route
+abbrev pub PlacesHaveRoutes : Type 0
+PlacesHaveRoutes =
+    (path : List ℕ) (p : Place) → place_of path ≡ Some p → first desk_rows path ≡ Some (key_of (route_of p))
+
+-- a path that finds a route names what it names by that route
+abbrev pub RoutesHavePlaces : Type 0
+RoutesHavePlaces =
+    (path : List ℕ) (r : Route) → first desk_rows path ≡ Some (key_of r) → place_of path ≡ place_by r path
+
+-- a path that names a place is ASCII
+abbrev pub PlacesAreAscii : Type 0
+PlacesAreAscii = (path : List ℕ) (p : Place) → place_of path ≡ Some p → IsAscii path

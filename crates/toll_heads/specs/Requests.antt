@@ -1,0 +1,60 @@
+-- What a request's head asks for, or why it is refused at once.
+use Rattle.std.specs.Prelude.{ℕ, Bool, true, false, nat_le, List, [], ◌∷◌, map, Option, Some, None, Result, Ok, Err, if◌then◌else◌, codes}
+use Rattle.std.specs.Str.{bytes_eq, str_eq_ignore_ascii_case}
+use Rattle.httparse.specs.Grammar.{RequestHead}
+use Rattle.httparse.specs.Spans.{name_and_value}
+use Rattle.toll_heads.specs.Numbers.{number_of}
+use Rattle.toll_heads.specs.Paths.{path_of, place_of}
+use Rattle.toll_heads.specs.declared.place.Place.{Place}
+use Rattle.toll_heads.specs.declared.place.Place.TheVariants.{DayPlace, SpentPlace, LivePlace, TotalPlace}
+use Rattle.toll_heads.specs.declared.wanted.Wanted.{Wanted}
+use Rattle.toll_heads.specs.declared.wanted.Wanted.TheVariants.{Day, Import, Spent, Live, LiveTotal}
+use Rattle.toll_heads.specs.declared.wanted.Refusal.{Refusal}
+use Rattle.toll_heads.specs.declared.wanted.Refusal.TheVariants.{NoPath, BadMethod, BadLength, LengthNeeded, TooLong}
+
+-- a value behind others, if its field has the name, whatever the case of its letters
+abbrev pub value_if : List ℕ → List ℕ × List ℕ → List (List ℕ) → List (List ℕ)
+value_if name field rest = if str_eq_ignore_ascii_case field.0 name then field.1 ∷ rest else rest
+
+-- the values of the fields with a name
+abbrev pub values_of : List ℕ → List (List ℕ × List ℕ) → List (List ℕ)
+values_of name [] = []
+values_of name (field ∷ rest) = value_if name field (values_of name rest)
+
+-- the length of a body, by the number that its one field gives and whether the body is coded
+abbrev pub length_by : Option ℕ → Bool → Result ℕ Refusal
+length_by None coded = Err BadLength
+length_by (Some n) true = Err LengthNeeded
+length_by (Some n) false = if nat_le n 4000000000 then Ok n else Err TooLong
+
+-- the length of a body, by the values of the fields that give it and of those that name a coding
+abbrev pub length_of : List (List ℕ) → List (List ℕ) → Result ℕ Refusal
+length_of [] codings = Err LengthNeeded
+length_of (one ∷ []) [] = length_by (number_of one) false
+length_of (one ∷ []) (coding ∷ codings) = length_by (number_of one) true
+length_of (one ∷ two ∷ rest) codings = Err BadLength
+
+-- the length of a body, by the fields of its head
+abbrev pub body_length : List (List ℕ × List ℕ) → Result ℕ Refusal
+body_length fields = length_of (values_of (codes "Content-Length") fields) (values_of (codes "Transfer-Encoding") fields)
+
+abbrev pub import_of : ℕ → Result ℕ Refusal → Result Wanted Refusal
+import_of day (Ok n) = Ok (Import day n)
+import_of day (Err e) = Err e
+
+-- what only a GET asks for
+abbrev pub only_get : List ℕ → Wanted → Result Wanted Refusal
+only_get method wanted = if bytes_eq method (codes "GET") then Ok wanted else Err BadMethod
+
+-- what is asked for at a place by a method, with fields
+abbrev pub asked_at : Option Place → List ℕ → List (List ℕ × List ℕ) → Result Wanted Refusal
+asked_at None method fields = Err NoPath
+asked_at (Some (DayPlace day)) method fields =
+    if bytes_eq method (codes "POST") then import_of day (body_length fields) else only_get method (Day day)
+asked_at (Some (SpentPlace day xway vid)) method fields = only_get method (Spent day xway vid)
+asked_at (Some (LivePlace vid)) method fields = only_get method (Live vid)
+asked_at (Some TotalPlace) method fields = only_get method LiveTotal
+
+-- what a head asks for
+abbrev pub wanted_of : RequestHead → Result Wanted Refusal
+wanted_of h = asked_at (place_of (path_of h.target)) h.method (map name_and_value h.fields)

@@ -1,0 +1,42 @@
+-- The routes of the desk as rows of tokens: 256 stands for a parameter.
+use Rattle.std.specs.Prelude.{◌≡◌, ℕ, ◌<◌, false, List, [], ◌∷◌, ◌++◌, codes, length, Some}
+use Rattle.matchit.specs.Rows.{Rows}
+use Rattle.matchit.specs.Seek.{has_slash, first}
+use Rattle.matchit.specs.Router.{RouteOf}
+use Rattle.matchit.specs.Level.{IsText}
+use Rattle.toll_heads.specs.declared.route.Route.{Route}
+use Rattle.toll_heads.specs.declared.route.Route.TheVariants.{OfDay, OfLive, OfTotal, OfSpent}
+
+-- the rows of `/days/{day}`, `/live/{vid}`, `/live` and `/spent/{day}/{xway}/{vid}`, in the router's order
+abbrev pub desk_rows : Rows
+desk_rows =
+    (codes "/days/" ++ 256 ∷ [], 0)
+    ∷ (codes "/live/" ++ 256 ∷ [], 1)
+    ∷ (codes "/live", 2)
+    ∷ (codes "/spent/" ++ 256 ∷ 47 ∷ 256 ∷ 47 ∷ 256 ∷ [], 3) ∷ []
+
+-- the number of a route's row
+abbrev pub key_of : Route → ℕ
+key_of OfDay = 0
+key_of OfLive = 1
+key_of OfTotal = 2
+key_of OfSpent = 3
+
+-- the number of what the router keeps
+abbrev pub key_at : RouteOf Route → ℕ
+key_at r = key_of r.value
+
+-- a part of a path: some bytes, and no slash
+pub record IsPart (part : List ℕ) : Type 0 where
+  pub some : 0 < length part
+  pub text : IsText part
+  pub whole : has_slash part ≡ false
+
+-- each path of a route's form finds that route
+abbrev pub FindRoutes : Type 0
+FindRoutes =
+    (first desk_rows (codes "/live") ≡ Some 2)
+    × ((day : List ℕ) → IsPart day → first desk_rows (codes "/days/" ++ day) ≡ Some 0)
+    × ((vid : List ℕ) → IsPart vid → first desk_rows (codes "/live/" ++ vid) ≡ Some 1)
+    × ((day xway vid : List ℕ) → IsPart day → IsPart xway → IsPart vid
+    → first desk_rows (codes "/spent/" ++ (day ++ 47 ∷ (xway ++ 47 ∷ vid))) ≡ Some 3)

@@ -1,0 +1,53 @@
+// What a head asks for.
+ghost use Rattle.std.specs.Prelude.{◌≡◌, IfOk};
+ghost use Rattle.httparse.specs.Grammar.{RequestHead};
+ghost use Rattle.httparse.specs.Spans.{IsRequestAt, IsRequestWithin};
+ghost use Rattle.toll_heads.specs.Requests.{wanted_of as wanted_of_head, only_get as only_get_of};
+ghost use Rattle.toll_heads.specs.Asks.{IsWanted};
+
+use crate::fields::body_length;
+use crate::paths::path_of;
+use crate::place::Place;
+use crate::routing::Routes;
+use crate::wanted::{Refusal, Wanted};
+use httparse::spans::{HeaderSpan, RequestSpans};
+
+/// What only a GET asks for.
+fn only_get(method: &[u8], wanted: Wanted) -> Result<Wanted, Refusal>
+    ensures wanted { result ≡ only_get_of method.now wanted }
+    ensures ranges { IsWanted wanted → IfOk result IsWanted }
+{
+    if method == b"GET".as_slice() {
+        Ok(wanted)
+    } else {
+        Err(Refusal::BadMethod)
+    }
+}
+
+/// What a head asks for, or why it is refused.
+pub fn wanted_of(
+    routes: &Routes,
+    buf: &[u8],
+    spans: &RequestSpans,
+    headers: &[HeaderSpan],
+) -> Result<Wanted, Refusal>
+    requires { IsRequestWithin buf.now headers.now spans.now }
+    ensures wanted { (h : RequestHead) → IsRequestAt buf.now headers.now spans.now h → result ≡ wanted_of_head h }
+    ensures ranges { IfOk result IsWanted }
+{
+    let method = spans.method.of(buf);
+    match routes.place(path_of(spans.path.of(buf))) {
+        None => Err(Refusal::NoPath),
+        Some(Place::DayPlace(day)) => {
+            if method == b"POST".as_slice() {
+                let length = body_length(buf, &headers[..spans.headers])?;
+                Ok(Wanted::Import(day, length))
+            } else {
+                only_get(method, Wanted::Day(day))
+            }
+        }
+        Some(Place::SpentPlace(day, xway, vid)) => only_get(method, Wanted::Spent(day, xway, vid)),
+        Some(Place::LivePlace(vid)) => only_get(method, Wanted::Live(vid)),
+        Some(Place::TotalPlace) => only_get(method, Wanted::LiveTotal),
+    }
+}

@@ -1,0 +1,100 @@
+// What a path is, and what is read from one behind each of the fronts.
+ghost use Rattle.std.specs.Prelude.{◌≡◌, option_map, IfSome};
+ghost use Rattle.toll_heads.specs.Paths.{path_of as path_of_target, spent_of, parts_of, CutsAt, IsPlace};
+ghost use Rattle.toll_heads.specs.Paths.{day_at as day_at_path, live_at as live_at_path};
+ghost use Rattle.toll_heads.specs.Paths.{total_at as total_at_path, spent_at as spent_at_path};
+
+use crate::numbers::number_in;
+use crate::place::Place;
+use memchr::memchr;
+
+/// The first part of a text, and what comes behind the byte that ends it, if one does.
+fn cut(byte: u8, text: &[u8]) -> (&[u8], Option<&[u8]>)
+    ensures { CutsAt byte text.now result.0.now (option_map (λ rest. rest.now) result.1) }
+{
+    match memchr(byte, text) {
+        Some(at) => (&text[..at], Some(&text[at + 1..])),
+        None => (text, None),
+    }
+}
+
+/// The path of a target: what stands before its first question mark.
+pub(crate) fn path_of(target: &[u8]) -> &[u8]
+    ensures { result.now ≡ path_of_target target.now }
+{
+    cut(b'?', target).0
+}
+
+/// The place that a day, an expressway and a vehicle name.
+fn spent_of_text(text: &[u8]) -> Option<Place>
+    ensures place { result ≡ spent_of (parts_of text.now) }
+    ensures within { IfSome result IsPlace }
+{
+    let (day, Some(rest)) = cut(b'/', text) else {
+        return None;
+    };
+    let (xway, Some(rest)) = cut(b'/', rest) else {
+        return None;
+    };
+    let (vid, more) = cut(b'/', rest);
+    match more {
+        Some(_) => None,
+        None => {
+            let day = number_in(1, 1_000_000, day)?;
+            let xway = number_in(0, 255, xway)?;
+            let vid = number_in(0, 2_147_483_647, vid)?;
+            Some(Place::SpentPlace(day, xway as u8, vid))
+        }
+    }
+}
+
+/// The place of a day that a path names.
+pub(crate) fn day_at(path: &[u8]) -> Option<Place>
+    ensures place { result ≡ day_at_path path.now }
+    ensures within { IfSome result IsPlace }
+{
+    match path.strip_prefix(b"/days/") {
+        Some(day) => {
+            let day = number_in(70, 1_000_000, day)?;
+            Some(Place::DayPlace(day))
+        }
+        None => None,
+    }
+}
+
+/// The place of a vehicle on the live board that a path names.
+pub(crate) fn live_at(path: &[u8]) -> Option<Place>
+    ensures place { result ≡ live_at_path path.now }
+    ensures within { IfSome result IsPlace }
+{
+    match path.strip_prefix(b"/live/") {
+        Some(vid) => {
+            let vid = number_in(0, 2_147_483_647, vid)?;
+            Some(Place::LivePlace(vid))
+        }
+        None => None,
+    }
+}
+
+/// The place of the live board's total, if a path is its.
+pub(crate) fn total_at(path: &[u8]) -> Option<Place>
+    ensures place { result ≡ total_at_path path.now }
+    ensures within { IfSome result IsPlace }
+{
+    if path == b"/live".as_slice() {
+        Some(Place::TotalPlace)
+    } else {
+        None
+    }
+}
+
+/// The place of an amount that a path names.
+pub(crate) fn spent_at(path: &[u8]) -> Option<Place>
+    ensures place { result ≡ spent_at_path path.now }
+    ensures within { IfSome result IsPlace }
+{
+    match path.strip_prefix(b"/spent/") {
+        Some(text) => spent_of_text(text),
+        None => None,
+    }
+}
