@@ -1,0 +1,11 @@
+use Rattle.std.proofs.Common.{ℕ, List, take}
+use Rattle.road_time.specs.Day.{given}
+use Rattle.road_time.specs.Tolls.{Finding}
+use Rattle.settling.specs.Books.{HasFewTolls}
+use Rattle.vehicle_workers.specs.Closing.{IsPlaced}
+use Rattle.vehicle_workers.specs.Payments.{amounts_of}
+use Rattle.vehicle_workers.proofs.ClosingLaws.{AreClosed}
+use Rattle.vehicle_workers.proofs.closing.close.Given as goal
+
+abbrev pub invariant-loop-at : goal.invariant-loop-at
+invariant-loop-at l = (found : List (ℕ × Finding)) → IsPlaced l.places found → HasFewTolls (given found) → AreClosed found l.number (amounts_of l.payments.amounts.entries) (take l.at l.tuples) l.book l.notices.items

@@ -1,0 +1,20 @@
+use Rattle.std.proofs.Common.{◌≡◌, List, [], false, length}
+use Rattle.std.specs.Prelude.{Option}
+use Rattle.road_time.specs.Rates.{Tariffs}
+use Rattle.expressway.specs.declared.job.Job.{Job}
+use Rattle.partition_workers.specs.Told.{Told}
+use Rattle.vehicle_workers.specs.Jobs.{Running}
+use Rattle.vehicle_workers.proofs.FinishLaws.{Finishing}
+use Rattle.vehicle_workers.proofs.finishes.finish_rest.Given as goal
+
+abbrev pub invariant-loop-ticket : goal.invariant-loop-ticket
+invariant-loop-ticket g l =
+    let k = g.C.Crew in
+    record {
+      runs : (told : Option Told) (tariffs : Tariffs) (todo : List Job) → Running k.out k.number k.holds k.gave k.jobs told l.initial.crew tariffs l.initial.tickets.items [] todo false →
+          Finishing k.out k.number k.holds k.gave k.jobs k.exact k.answers (k.answers l.initial.crew) told tariffs todo l.crew l.tickets.items l.whole l.found.items;
+      which : k.which l.crew ≡ k.which l.initial.crew;
+    }
+
+abbrev pub decreases-loop-ticket : goal.decreases-loop-ticket
+decreases-loop-ticket g l = length l.tickets.items
