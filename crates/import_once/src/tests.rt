@@ -161,16 +161,40 @@ fn is_charged_by<C: Crew>(
     Ok(sink.bytes().ends_with(last) && is_stored(outcome, [56, 55, 2]))
 }
 
+/// The same by a crew that runs a job as it is started.
+fn is_charged_soon(
+    alloc: Global,
+    input: &[u8],
+    width: u8,
+    turns: Option<u64>,
+) -> Result<bool, KeepFault>
+    requires few { (1 ≤ width) × (width ≤ 64) }
+{
+    let mut crew = InlineCrew::new(alloc, false);
+    is_charged_by(alloc, input, width, turns, &mut crew)
+}
+
+/// The same by a crew that runs a job as it is finished.
+fn is_charged_late(
+    alloc: Global,
+    input: &[u8],
+    width: u8,
+    turns: Option<u64>,
+) -> Result<bool, KeepFault>
+    requires few { (1 ≤ width) × (width ≤ 64) }
+{
+    let mut crew = LateCrew::new(alloc, false);
+    is_charged_by(alloc, input, width, turns, &mut crew)
+}
+
 /// The day of a charge is the same by every number of workers, in rounds and in turns, and by two crews.
 fn same_by_every_plan(alloc: Global) -> Result<bool, KeepFault> {
     let input = charged_on_leaving(alloc)?;
-    let mut inline_crew = InlineCrew::new(alloc, false);
-    let mut late_crew = LateCrew::new(alloc, false);
     let mut same = true;
     for width in [1u8, 3, 64] {
         for turns in [None, Some(1u64), Some(5)] {
-            let soon = is_charged_by(alloc, input.as_slice(), width, turns, &mut inline_crew)?;
-            let late = is_charged_by(alloc, input.as_slice(), width, turns, &mut late_crew)?;
+            let soon = is_charged_soon(alloc, input.as_slice(), width, turns)?;
+            let late = is_charged_late(alloc, input.as_slice(), width, turns)?;
             same = same && soon && late;
         }
     }

@@ -11,7 +11,12 @@ use Rattle.road_time.specs.Sights.{Sight, moments}
 use Rattle.road_time.specs.Tolls.{Finding}
 use Rattle.road_time.proofs.SightLaws.{moments_push}
 use Rattle.crossings.specs.declared.tracked.Tracked.{Tracked}
+use Rattle.road_time.specs.Tuples.{reports, place_of}
+use Rattle.road_time.specs.Stays.{begins}
+use Rattle.road_time.specs.Stops.{trail, stands, left_by}
+use Rattle.crossings.specs.Told.{newest, charge_by}
 use Rattle.crossings.specs.Laws.{IsTold}
+use Rattle.crossings.proofs.DayLaws.{told_is_of_the_day}
 use Rattle.accounts.specs.Books.{Accounts}
 use Rattle.settling.specs.declared.slot.Found.{Found}
 use Rattle.settling.specs.declared.slot.Slot.{Slot}
@@ -26,7 +31,11 @@ use Rattle.vehicle_workers.proofs.RoutingLaws.{same_told, shown_here, no_tuple}
 
 -- what a report tells after a day's tuples is told by them
 told_of_day : (day : List Tuple) (r : Report) → IsTold (tracked_of day r) day r
-told_of_day day r = record { begins = refl; charge = refl; stopped = refl }
+told_of_day day r =
+    let own = trail (reports day) r.vid in
+    let by : Tracked = record { begins = begins (newest own) r; stopped = stands (r ∷ own) (place_of r); left = left_by own r; charge = charge_by (newest own) r } in
+    let told = told_is_of_the_day day r by (record { begins = refl; stopped = refl; left = refl; charge = refl }) in
+    record { begins = refl; charge = refl; stopped = refl; left = told.left }
 
 -- two slots with the same parts
 slot_made : {f g : Found} (x y : Slot) → f ≡ g → x.due ≡ y.due → ◌≡◌ {A = Slot} (record { found = f; due = x.due }) (record { found = g; due = y.due })
