@@ -15,6 +15,7 @@ use road_time::Limits;
 use sqlite::{File, FileStore};
 use sqlite_keeper::{Counted, Opens};
 use std::rt::HostRuntime;
+use std::thread::Threads;
 
 /// A command, and the file that it reads in place of standard input.
 #[derive(Clone, Copy)]
@@ -260,9 +261,10 @@ fn words_of(rt: HostRuntime, command: &str) -> anyhow::Result<Vec<String>> {
     Ok(words)
 }
 
-/// The status of a command over a keeper, its output into a sink.
-fn answer<O: Sink, K: Keeper>(
+/// The status of a command over a keeper, its output into a sink, each job in a thread of its own.
+fn answer<R: Threads + Copy, O: Sink, K: Keeper>(
     rt: HostRuntime,
+    threads: R,
     step: Step,
     limits: &Limits,
     sink: &mut O,
@@ -273,7 +275,7 @@ fn answer<O: Sink, K: Keeper>(
     let words = words_of(rt, step.command)?;
     let mut source = FileSource::at(rt.alloc(), rt, step.file)?;
     let mut aside = FileSource::at(rt.alloc(), rt, "notices.txt")?;
-    let mut crew = ThreadCrew::new(rt, rt.alloc(), NoGate);
+    let mut crew = ThreadCrew::new(threads, rt.alloc(), NoGate);
     Ok(office(
         rt.alloc(),
         words.as_slice(),
@@ -287,17 +289,27 @@ fn answer<O: Sink, K: Keeper>(
 }
 
 /// Runs a command over a keeper, and prints its status.
-fn run<K: Keeper>(rt: HostRuntime, step: Step, keeper: &mut K) -> anyhow::Result<()> {
+fn run<R: Threads + Copy, K: Keeper>(
+    rt: HostRuntime,
+    threads: R,
+    step: Step,
+    keeper: &mut K,
+) -> anyhow::Result<()> {
     let mut sink = StdSink::new(rt.stdout());
-    let status = answer(rt, step, &Limits::DAY, &mut sink, keeper)?;
+    let status = answer(rt, threads, step, &Limits::DAY, &mut sink, keeper)?;
     println!(rt; "status {status}")?;
     Ok(())
 }
 
 /// Imports a day into a sink of so much room, and prints what it holds and the status.
-fn run_in_room<K: Keeper>(rt: HostRuntime, room: usize, keeper: &mut K) -> anyhow::Result<()> {
+fn run_in_room<R: Threads + Copy, K: Keeper>(
+    rt: HostRuntime,
+    threads: R,
+    room: usize,
+    keeper: &mut K,
+) -> anyhow::Result<()> {
     let mut sink = MemSink::new(rt.alloc(), room, 4096)?;
-    let status = answer(rt, ONE_REPORT, &Limits::DAY, &mut sink, keeper)?;
+    let status = answer(rt, threads, ONE_REPORT, &Limits::DAY, &mut sink, keeper)?;
     let text = String::from_utf8_lossy(rt.alloc(), sink.bytes())?;
     println!(rt; "{text}")?;
     println!(rt; "status {status}")?;
@@ -305,67 +317,90 @@ fn run_in_room<K: Keeper>(rt: HostRuntime, room: usize, keeper: &mut K) -> anyho
 }
 
 /// Keeps a history where one line of it is allowed, and prints the status.
-fn run_with_one_line<K: Keeper>(rt: HostRuntime, keeper: &mut K) -> anyhow::Result<()> {
+fn run_with_one_line<R: Threads + Copy, K: Keeper>(
+    rt: HostRuntime,
+    threads: R,
+    keeper: &mut K,
+) -> anyhow::Result<()> {
     let limits = Limits {
         past: 1,
         ..Limits::DAY
     };
     let mut sink = StdSink::new(rt.stdout());
-    let status = answer(rt, TWO_LINES, &limits, &mut sink, keeper)?;
+    let status = answer(rt, threads, TWO_LINES, &limits, &mut sink, keeper)?;
     println!(rt; "status {status}")?;
     Ok(())
 }
 
 /// Imports a day into a sink of so much room, and then with room for all.
-fn in_room<S: Opens>(rt: HostRuntime, path: &str, room: usize) -> anyhow::Result<()> {
+fn in_room<R: Threads + Copy, S: Opens>(
+    rt: HostRuntime,
+    threads: R,
+    path: &str,
+    room: usize,
+) -> anyhow::Result<()> {
     let mut memory = MemKeeper::new(rt.alloc(), &[])?;
-    run_in_room(rt, room, &mut memory)?;
-    run(rt, ONE_REPORT, &mut memory)?;
+    run_in_room(rt, threads, room, &mut memory)?;
+    run(rt, threads, ONE_REPORT, &mut memory)?;
     let mut file = Counted::<S>::at(rt.alloc(), rt, path)?;
-    run_in_room(rt, room, &mut file)?;
-    run(rt, ONE_REPORT, &mut file)
+    run_in_room(rt, threads, room, &mut file)?;
+    run(rt, threads, ONE_REPORT, &mut file)
 }
 
 /// Keeps a history of two lines where one is allowed.
-fn with_one_line<S: Opens>(rt: HostRuntime, path: &str) -> anyhow::Result<()> {
+fn with_one_line<R: Threads + Copy, S: Opens>(
+    rt: HostRuntime,
+    threads: R,
+    path: &str,
+) -> anyhow::Result<()> {
     let mut memory = MemKeeper::new(rt.alloc(), &[])?;
-    run_with_one_line(rt, &mut memory)?;
+    run_with_one_line(rt, threads, &mut memory)?;
     let mut file = Counted::<S>::at(rt.alloc(), rt, path)?;
-    run_with_one_line(rt, &mut file)
+    run_with_one_line(rt, threads, &mut file)
 }
 
 /// Runs commands over a file, which is opened anew for each.
-fn over_file<S: Opens>(rt: HostRuntime, path: &str, steps: &[Step]) -> anyhow::Result<()> {
+fn over_file<R: Threads + Copy, S: Opens>(
+    rt: HostRuntime,
+    threads: R,
+    path: &str,
+    steps: &[Step],
+) -> anyhow::Result<()> {
     for step in steps {
         let mut keeper = Counted::<S>::at(rt.alloc(), rt, path)?;
-        run(rt, *step, &mut keeper)?;
+        run(rt, threads, *step, &mut keeper)?;
     }
     Ok(())
 }
 
 /// Runs commands over a keeper in memory, and then over a file.
-fn over_both<S: Opens>(rt: HostRuntime, path: &str, steps: &[Step]) -> anyhow::Result<()> {
+fn over_both<R: Threads + Copy, S: Opens>(
+    rt: HostRuntime,
+    threads: R,
+    path: &str,
+    steps: &[Step],
+) -> anyhow::Result<()> {
     let mut keeper = MemKeeper::new(rt.alloc(), &[])?;
     for step in steps {
-        run(rt, *step, &mut keeper)?;
+        run(rt, threads, *step, &mut keeper)?;
     }
-    over_file::<S>(rt, path, steps)
+    over_file::<R, S>(rt, threads, path, steps)
 }
 
 /// All runs, with files in a kind of store.
-fn all<S: Opens>(rt: HostRuntime) -> anyhow::Result<()> {
-    over_both::<S>(rt, "example.db", &EXAMPLE_DAY)?;
-    over_both::<S>(rt, "empty.db", &EMPTY_DAY)?;
-    over_both::<S>(rt, "charged.db", &CHARGED_ON_LEAVING)?;
-    over_both::<S>(rt, "history.db", &HISTORY)?;
-    over_both::<S>(rt, "tariffs.db", &TARIFFS)?;
-    over_both::<S>(rt, "late.db", &LATE_LINES)?;
-    in_room::<S>(rt, "eleven.db", 11)?;
-    in_room::<S>(rt, "ten.db", 10)?;
-    with_one_line::<S>(rt, "line.db")?;
-    over_file::<S>(rt, "old.db", &OF_VERSION_1)
+fn all<R: Threads + Copy, S: Opens>(rt: HostRuntime, threads: R) -> anyhow::Result<()> {
+    over_both::<R, S>(rt, threads, "example.db", &EXAMPLE_DAY)?;
+    over_both::<R, S>(rt, threads, "empty.db", &EMPTY_DAY)?;
+    over_both::<R, S>(rt, threads, "charged.db", &CHARGED_ON_LEAVING)?;
+    over_both::<R, S>(rt, threads, "history.db", &HISTORY)?;
+    over_both::<R, S>(rt, threads, "tariffs.db", &TARIFFS)?;
+    over_both::<R, S>(rt, threads, "late.db", &LATE_LINES)?;
+    in_room::<R, S>(rt, threads, "eleven.db", 11)?;
+    in_room::<R, S>(rt, threads, "ten.db", 10)?;
+    with_one_line::<R, S>(rt, threads, "line.db")?;
+    over_file::<R, S>(rt, threads, "old.db", &OF_VERSION_1)
 }
 
 fn main(rt: HostRuntime) -> anyhow::Result<()> {
-    all::<FileStore<File>>(rt)
+    all::<HostRuntime, FileStore<File>>(rt, rt)
 }

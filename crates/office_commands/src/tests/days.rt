@@ -147,8 +147,13 @@ pub fn told(alloc: Global, crowds: &[Crowd], text: &str) -> Result<Vec<u8>, Fail
     Ok(whole)
 }
 
-/// By how many workers a day is worked, and in which turns.
+/// By how many workers a day is answered, and in which turns.
 const WORKED: [&[&str]; 3] = [&[], &["--workers=3"], &["--workers", "64", "--turns", "5"]];
+
+/// The words are those of the command `answers`.
+fn are_answers(words: &[&str]) -> bool {
+    words.iter().any(|word| *word == "answers")
+}
 
 /// A day's lines end so by the words, however the work is done.
 pub fn row(
@@ -163,6 +168,9 @@ pub fn row(
     let input = day(alloc, crowds, lines)?;
     let wanted = told(alloc, crowds, text)?;
     for worked in WORKED {
+        if !worked.is_empty() && !are_answers(words) {
+            continue;
+        }
         let mut all = Vec::new(alloc);
         all.extend_from_slice(words)?;
         all.extend_from_slice(worked)?;

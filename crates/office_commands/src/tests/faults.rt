@@ -81,7 +81,7 @@ fn each_read_fails(rt: HostRuntime) -> Result<(), Fail> {
     Ok(())
 }
 
-/// The sink has no room for all; the day is kept where all notices were written.
+/// The sink has no room for all, at each sixteenth room and the last forty; the day is kept where all notices were written.
 #[test]
 fn each_room_is_too_small(rt: HostRuntime) -> Result<(), Fail> {
     let alloc = rt.alloc();
@@ -89,6 +89,9 @@ fn each_room_is_too_small(rt: HostRuntime) -> Result<(), Fail> {
     let notices = told(alloc, &FIFTY_ONE, LEFT)?;
     let stored = told(alloc, &FIFTY_ONE, STORED)?;
     for room in 0..stored.len() {
+        if room % 16 != 0 && stored.len() - room > 40 {
+            continue;
+        }
         let ends = Ends {
             room,
             ..Ends::of(input.as_slice(), b"")
