@@ -74,7 +74,17 @@ fn refusals<S: Opens>(rt: HostRuntime) -> io::Result<()> {
     let whole = refused::at_the_last_amount::<S>(rt, "refused.db");
     println!(rt; "refused at the last amount: {whole:?}")?;
     let open = refused::while_open::<S>(rt, "open.db");
-    println!(rt; "refused while open: {open:?}")
+    println!(rt; "refused while open: {open:?}")?;
+    let after = refused::after_a_fault::<S>(rt, "mended.db");
+    println!(rt; "mended after a fault: {after:?}")
+}
+
+/// A file that was closed, copied without the log that stood beside it.
+fn closed_file(rt: HostRuntime) -> io::Result<()> {
+    let closed = refused::closed(rt, "closed.db");
+    std::fs::copy(&rt, "closed.db", "copied.db")?;
+    let day = refused::has_day::<FileStore<File>>(rt, "copied.db");
+    println!(rt; "closed: {closed:?}, and a copy has the day: {day:?}")
 }
 
 /// All rows, over the keeper in a store.
@@ -87,9 +97,12 @@ fn rows<S: Opens>(rt: HostRuntime) -> io::Result<()> {
     println!(rt; "version 1: {old:?}")?;
     spoiled_files::<S>(rt)?;
     odd_files::<S>(rt)?;
-    refusals::<S>(rt)
+    refusals::<S>(rt)?;
+    let sealed = old::sealed_by_another::<S>(rt);
+    println!(rt; "a seal of no kept day is gone: {sealed:?}")
 }
 
 fn main(rt: HostRuntime) -> io::Result<()> {
-    rows::<FileStore<File>>(rt)
+    rows::<FileStore<File>>(rt)?;
+    closed_file(rt)
 }

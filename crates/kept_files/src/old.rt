@@ -1,5 +1,5 @@
 // A file of version 1.
-use crate::worked::{by_hand, history, row};
+use crate::worked::{by_hand, history, put_day, row};
 use keeper::{DayRecord, Digester, KeepFault, Keeper};
 use road_time::Tariff;
 use sqlite_keeper::{Counted, Opens};
@@ -46,6 +46,20 @@ fn has_history<S: Opens>(rt: HostRuntime) -> Result<bool, KeepFault> {
     let rows = file.rows(0, 100)?.as_slice() == [row(31, 28), row(99, 5)].as_slice();
     let tariff = file.tariffs()?.of(0) == Tariff::BENCHMARK;
     Ok(past && rows && tariff)
+}
+
+/// Whether a file of version 1 in which another hand sealed a day that is not kept takes that day.
+pub fn sealed_by_another<S: Opens>(rt: HostRuntime) -> Result<bool, KeepFault> {
+    let path = "sealed.db";
+    by_hand::<S>(
+        rt,
+        path,
+        "CREATE TABLE day_tariffs (day INTEGER PRIMARY KEY, digest BLOB NOT NULL) STRICT;
+INSERT INTO day_tariffs VALUES (100, x'00')",
+    )?;
+    put_day::<S>(rt, path)?;
+    let mut file = Counted::<S>::at(rt.alloc(), rt, path)?;
+    Ok(file.day(100)?.is_some())
 }
 
 /// Whether a file of version 1 can be made, and has its day and its history each of the times that it is opened.

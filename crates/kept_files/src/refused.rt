@@ -1,6 +1,7 @@
 // Calls that are refused, and what they leave.
 use crate::worked::{by_hand, put_day};
 use keeper::{KeepFault, Keeper};
+use sqlite::{File, FileStore};
 use sqlite_keeper::{Counted, Opens};
 use std::rt::HostRuntime;
 
@@ -27,6 +28,39 @@ pub fn at_the_last_amount<S: Opens>(rt: HostRuntime, path: &str) -> Result<[bool
 pub fn is_fault<S: Opens>(rt: HostRuntime, path: &str) -> Result<bool, KeepFault> {
     let mut file = Counted::<S>::at(rt.alloc(), rt, path)?;
     Ok(file.last_day() == Err(KeepFault::Failed))
+}
+
+/// Whether a kept day without its seal is a fault, whether another hand may then mend the file, which the keeper has let
+/// go, and whether the same keeper finds the day in it afterwards.
+pub fn after_a_fault<S: Opens>(rt: HostRuntime, path: &str) -> Result<[bool; 3], KeepFault> {
+    put_day::<S>(rt, path)?;
+    by_hand::<S>(rt, path, "UPDATE day_tariffs SET day = 101")?;
+    let mut file = Counted::<S>::at(rt.alloc(), rt, path)?;
+    let refused = file.day(100) == Err(KeepFault::Failed);
+    let mended = by_hand::<S>(rt, path, "UPDATE day_tariffs SET day = 100").is_ok();
+    Ok([refused, mended, file.day(100)?.is_some()])
+}
+
+/// A keeper in the file at a path, which is open and has the day.
+fn with_day<S: Opens>(rt: HostRuntime, path: &str) -> Result<Counted<S>, KeepFault> {
+    put_day::<S>(rt, path)?;
+    let mut file = Counted::<S>::at(rt.alloc(), rt, path)?;
+    file.last_day()?;
+    Ok(file)
+}
+
+/// Closes a file with the day.
+pub fn closed(rt: HostRuntime, path: &str) -> Result<(), KeepFault> {
+    match with_day::<FileStore<File>>(rt, path) {
+        Ok(file) => file.close(),
+        Err(fault) => Err(fault),
+    }
+}
+
+/// Whether the file at a path has the day and the second of its amounts.
+pub fn has_day<S: Opens>(rt: HostRuntime, path: &str) -> Result<bool, KeepFault> {
+    let mut file = Counted::<S>::at(rt.alloc(), rt, path)?;
+    Ok(file.day(100)?.is_some() && file.spent(100, 8, 1)? == 2)
 }
 
 /// Whether a keeper fails while another has its file open, whether the other has lost nothing, and whether the first

@@ -1,2 +1,3 @@
 pub mod RiseLaws
 pub mod RowLaws
+pub mod ShowLaws

@@ -2,7 +2,6 @@
 ghost use Rattle.std.specs.Prelude.{None};
 
 use crate::counted::{Counted, Opens};
-use crate::refusals::count;
 use keeper::{DayRecord, KeepFault, Keeper, PastRecord};
 use road_time::{SpentRow, Tariff, Tariffs};
 
@@ -22,51 +21,51 @@ impl<S: Opens> Keeper for Counted<S> {
 
     fn last_day(&mut self) -> Result<u32, KeepFault> {
         let answer = self.database.last_day();
-        count(&mut self.faults, answer)
+        self.hand_on(answer)
     }
 
     fn day(&mut self, day: u32) -> Result<Option<DayRecord>, KeepFault> {
         let answer = self.database.day(day);
-        count(&mut self.faults, answer)
+        self.hand_on(answer)
     }
 
     fn past(&mut self) -> Result<Option<PastRecord>, KeepFault> {
         let answer = self.database.past();
-        count(&mut self.faults, answer)
+        self.hand_on(answer)
     }
 
     fn spent(&mut self, day: u32, vid: u32, xway: u8) -> Result<u64, KeepFault> {
         let answer = self.database.spent(day, vid, xway);
-        count(&mut self.faults, answer)
+        self.hand_on(answer)
     }
 
     fn rows(&mut self, from: u32, to: u32) -> Result<Vec<SpentRow>, KeepFault> {
         let answer = self.database.rows(from, to);
-        count(&mut self.faults, answer)
+        self.hand_on(answer)
     }
 
     fn vehicle_rows(&mut self, vid: u32, from: u32, to: u32) -> Result<Vec<SpentRow>, KeepFault> {
         let answer = self.database.vehicle_rows(vid, from, to);
-        count(&mut self.faults, answer)
+        self.hand_on(answer)
     }
 
     fn tariffs(&mut self) -> Result<Tariffs, KeepFault> {
         let answer = self.database.tariffs();
-        count(&mut self.faults, answer)
+        self.hand_on(answer)
     }
 
     fn put_day(&mut self, kept: &DayRecord, rows: &[SpentRow]) -> Result<(), KeepFault> {
         let answer = self.database.put_day(kept, rows);
-        count(&mut self.faults, answer)
+        self.hand_on(answer)
     }
 
     fn put_past(&mut self, kept: &PastRecord, rows: &[SpentRow]) -> Result<(), KeepFault> {
         let answer = self.database.put_past(kept, rows);
-        count(&mut self.faults, answer)
+        self.hand_on(answer)
     }
 
     fn put_tariff(&mut self, xway: u8, tariff: &Tariff) -> Result<(), KeepFault> {
         let answer = self.database.put_tariff(xway, tariff);
-        count(&mut self.faults, answer)
+        self.hand_on(answer)
     }
 }

@@ -1,6 +1,9 @@
 // A keeper in a database: the types.
-ghost use Rattle.std.specs.Prelude.{◌≡◌, IfOk};
+ghost use Rattle.std.specs.Prelude.{◌≡◌, None, Err, IfOk};
+ghost use Rattle.keeper.specs.Calls.{CountsFaults};
+ghost use Rattle.keeper.specs.declared.kept.KeepFault.TheVariants.{Failed};
 
+use crate::refusals::{count, refusal};
 use crate::schema::prepare;
 use keeper::KeepFault;
 use road_time::NoMemory;
@@ -18,7 +21,7 @@ impl Opens for FileStore<File> {
     fn open(rt: &HostRuntime, path: &str) -> Result<Connection<FileStore<File>>, KeepFault> {
         match Connection::open(rt, path) {
             Ok(conn) => Ok(conn),
-            Err(error) => Err(crate::refusals::refusal(error)),
+            Err(error) => Err(refusal(error)),
         }
     }
 }
@@ -38,7 +41,11 @@ pub struct Counted<S: Alter + Drop> {
     pub(crate) faults: u64,
 }
 
-/// A keeper in a SQLite file. The file is opened, and made where it is not there, at the first call.
+/// The file in which the program keeps all, in the folder where it runs.
+pub const KEPT_FILE: &str = "tolls.db";
+
+/// A keeper in a SQLite file. The file is opened, and made where it is not there, at the first call, and anew at the
+/// call after one that failed. `close` ends it.
 pub type SqliteKeeper = Counted<FileStore<File>>;
 
 impl<S: Opens> Counted<S> {
@@ -56,6 +63,46 @@ impl<S: Opens> Counted<S> {
             database,
             faults: 0,
         })
+    }
+
+    /// Hands an answer on. A failure is counted, and lets the connection go, so that the next call opens the file anew.
+    pub(crate) fn hand_on<T>(&mut self, answer: Result<T, KeepFault>) -> Result<T, KeepFault>
+        ensures same { result ≡ answer }
+        ensures cause { CountsFaults self.old.faults self.new.faults answer }
+        ensures anew { answer ≡ Err Failed → self.new.database.conn ≡ None }
+    {
+        if let Err(KeepFault::Failed) = &answer {
+            self.database.conn = None;
+        }
+        count(&mut self.faults, answer)
+    }
+}
+
+impl Counted<FileStore<File>> {
+    /// Closes the file, if it is open: what its log has is copied into it. Where that is Ok, the file alone has all
+    /// that is kept, and its log has nothing.
+    pub fn close(self) -> Result<(), KeepFault> {
+        let Counted {
+            database,
+            faults: _,
+        } = self;
+        let Database {
+            rt: _,
+            path: _,
+            conn,
+        } = database;
+        match conn {
+            Some(conn) => shut(conn),
+            None => Ok(()),
+        }
+    }
+}
+
+/// Closes the file of a connection.
+fn shut(conn: Connection<FileStore<File>>) -> Result<(), KeepFault> {
+    match conn.close() {
+        Ok(()) => Ok(()),
+        Err(error) => Err(refusal(error)),
     }
 }
 

@@ -1,6 +1,7 @@
 // What is read of the tables.
-ghost use Rattle.std.specs.Prelude.{◌≤◌, IfOk, IfSome};
+ghost use Rattle.std.specs.Prelude.{◌≤◌, [], IfOk, IfSome};
 ghost use Rattle.keeper.specs.Office.{RowsRise};
+ghost use Rattle.sqlite_keeper.specs.Shows.{greatest_text, day_text, seal_text, IsSeal, past_text, IsHistory, IsBefore, spent_text, one, two, three, IsAmount, rows_text, vehicle_text, AreAmounts, tariffs_text, AreTariffs, StaysInDoubt, IsSuch, Answers, IsLast, ShowsLast, IsDay, ShowsDay};
 
 use crate::asks::rows_of;
 use crate::columns::{bytes, number};
@@ -9,47 +10,90 @@ use crate::stored::{number_32, number_63};
 use crate::tariff_rows::together;
 use keeper::{DayRecord, KeepFault, PastRecord};
 use road_time::{SpentRow, Tariffs};
-use sqlite::{Alter, Connection, params};
+use sqlite::{Alter, Connection, Row, params};
 use std::alloc::Global;
 
 /// The greatest kept day, else the day before the history's base, else 0.
-pub fn last_day<S: Alter>(conn: &mut Connection<S>) -> Result<u32, KeepFault> {
+pub fn last_day<S: Alter>(conn: &mut Connection<S>) -> Result<u32, KeepFault>
+    ensures { IsSuch S.Store conn.new result (ShowsLast S.Store conn.old conn.new) }
+{
     let found = rows_of(conn, "SELECT day FROM days ORDER BY day DESC LIMIT 1", &[])?;
-    match found.as_slice() {
-        [] => match past(conn)? {
-            Some(past) => Ok(past.base - 1),
-            None => Ok(0),
-        },
+    last_of(conn, &found)
+}
+
+/// The last day, where this is the answer for the greatest one.
+fn last_of<S: Alter>(conn: &mut Connection<S>, found: &[Row]) -> Result<u32, KeepFault>
+    ensures clean { StaysInDoubt S.Store conn.old conn.new }
+    ensures last { IsSuch S.Store conn.new result (IsLast S.Store conn.old conn.new found.now) }
+{
+    match found {
+        [] => before_history(conn),
         [row] => number_32(number(row, 0)?).ok_or(KeepFault::Failed),
         _ => Err(KeepFault::Failed),
     }
 }
 
+/// The day before the history's base, 0 for no history.
+fn before_history<S: Alter>(conn: &mut Connection<S>) -> Result<u32, KeepFault>
+    ensures clean { StaysInDoubt S.Store conn.old conn.new }
+    ensures shown { Answers S.Store past_text [] conn.old conn.new result IsBefore }
+{
+    match past(conn)? {
+        Some(past) => Ok(past.base - 1),
+        None => Ok(0),
+    }
+}
+
 /// The record of a day.
-pub fn day<S: Alter>(conn: &mut Connection<S>, day: u32) -> Result<Option<DayRecord>, KeepFault> {
+pub fn day<S: Alter>(conn: &mut Connection<S>, day: u32) -> Result<Option<DayRecord>, KeepFault>
+    ensures { IsSuch S.Store conn.new result (ShowsDay S.Store conn.old conn.new day) }
+{
     let found = rows_of(
         conn,
         "SELECT day, digest, bytes, tuples, notices, notices_digest, total FROM days WHERE day = ?1",
         params![day],
     )?;
-    match found.as_slice() {
+    day_of(conn, day, &found)
+}
+
+/// The record of a day, where this is the answer for it.
+fn day_of<S: Alter>(
+    conn: &mut Connection<S>,
+    day: u32,
+    found: &[Row],
+) -> Result<Option<DayRecord>, KeepFault>
+    ensures clean { StaysInDoubt S.Store conn.old conn.new }
+    ensures day { IsSuch S.Store conn.new result (IsDay S.Store conn.old conn.new day found.now) }
+{
+    match found {
         [] => Ok(None),
         [row] => {
             let seal = seal_of(conn, day)?;
-            Ok(Some(day_in(row, seal)?))
+            let kept = day_in(row, seal)?;
+            Ok(Some(kept))
         }
         _ => Err(KeepFault::Failed),
     }
 }
 
 /// The seal that a kept day has to have.
-fn seal_of<S: Alter>(conn: &mut Connection<S>, day: u32) -> Result<Vec<u8>, KeepFault> {
+fn seal_of<S: Alter>(conn: &mut Connection<S>, day: u32) -> Result<Vec<u8>, KeepFault>
+    ensures clean { StaysInDoubt S.Store conn.old conn.new }
+    ensures shown { Answers S.Store seal_text (one day) conn.old conn.new result (λ rows s. IsSeal rows s.items) }
+{
     let found = rows_of(
         conn,
         "SELECT digest FROM day_tariffs WHERE day = ?1",
         params![day],
     )?;
-    match found.as_slice() {
+    seal_in(&found)
+}
+
+/// The seal that an answer has.
+fn seal_in(found: &[Row]) -> Result<Vec<u8>, KeepFault>
+    ensures { IfOk result (λ seal. IsSeal found.now seal.items) }
+{
+    match found {
         [row] => bytes(row, 0),
         _ => Err(KeepFault::Failed),
     }
@@ -57,10 +101,20 @@ fn seal_of<S: Alter>(conn: &mut Connection<S>, day: u32) -> Result<Vec<u8>, Keep
 
 /// The record of the history, whose base is 70 or more.
 pub fn past<S: Alter>(conn: &mut Connection<S>) -> Result<Option<PastRecord>, KeepFault>
-    ensures { IfOk result (λ past. IfSome past (λ p. 70 ≤ p.base)) }
+    ensures based { IfOk result (λ past. IfSome past (λ p. 70 ≤ p.base)) }
+    ensures clean { StaysInDoubt S.Store conn.old conn.new }
+    ensures shown { Answers S.Store past_text [] conn.old conn.new result IsHistory }
 {
     let found = rows_of(conn, "SELECT base, digest, bytes, rows_kept FROM past", &[])?;
-    match found.as_slice() {
+    history_in(&found)
+}
+
+/// The record of a history that an answer has, if any.
+fn history_in(found: &[Row]) -> Result<Option<PastRecord>, KeepFault>
+    ensures past { IfOk result (IsHistory found.now) }
+    ensures based { IfOk result (λ past. IfSome past (λ p. 70 ≤ p.base)) }
+{
+    match found {
         [] => Ok(None),
         [row] => {
             let past = past_in(row)?;
@@ -76,13 +130,22 @@ pub fn spent<S: Alter>(
     day: u32,
     vid: u32,
     xway: u8,
-) -> Result<u64, KeepFault> {
+) -> Result<u64, KeepFault>
+    ensures { Answers S.Store spent_text (three day vid xway) conn.old conn.new result IsAmount }
+{
     let found = rows_of(
         conn,
         "SELECT tolls FROM spent WHERE day = ?1 AND vid = ?2 AND xway = ?3",
         params![day, vid, u32::from(xway)],
     )?;
-    match found.as_slice() {
+    amount_in(&found)
+}
+
+/// The amount that an answer has, 0 for none.
+fn amount_in(found: &[Row]) -> Result<u64, KeepFault>
+    ensures { IfOk result (IsAmount found.now) }
+{
+    match found {
         [] => Ok(0),
         [row] => number_63(number(row, 0)?).ok_or(KeepFault::Failed),
         _ => Err(KeepFault::Failed),
@@ -96,7 +159,8 @@ pub fn rows<S: Alter>(
     from: u32,
     to: u32,
 ) -> Result<Vec<SpentRow>, KeepFault>
-    ensures { IfOk result (λ rows. RowsRise rows.items) }
+    ensures rise { IfOk result (λ rows. RowsRise rows.items) }
+    ensures shown { Answers S.Store rows_text (two from to) conn.old conn.new result (λ rows found. AreAmounts rows found.items) }
 {
     let found = rows_of(
         conn,
@@ -114,7 +178,8 @@ pub fn vehicle_rows<S: Alter>(
     from: u32,
     to: u32,
 ) -> Result<Vec<SpentRow>, KeepFault>
-    ensures { IfOk result (λ rows. RowsRise rows.items) }
+    ensures rise { IfOk result (λ rows. RowsRise rows.items) }
+    ensures shown { Answers S.Store vehicle_text (three vid from to) conn.old conn.new result (λ rows found. AreAmounts rows found.items) }
 {
     let found = rows_of(
         conn,
@@ -125,12 +190,21 @@ pub fn vehicle_rows<S: Alter>(
 }
 
 /// The tariffs of the expressways that have their own.
-pub fn tariffs<S: Alter>(conn: &mut Connection<S>, alloc: Global) -> Result<Tariffs, KeepFault> {
+pub fn tariffs<S: Alter>(conn: &mut Connection<S>, alloc: Global) -> Result<Tariffs, KeepFault>
+    ensures { Answers S.Store tariffs_text [] conn.old conn.new result AreTariffs }
+{
     let found = rows_of(
         conn,
         "SELECT xway, crowd, speed, factor FROM tariffs ORDER BY xway",
         &[],
     )?;
-    let own = tariffs_in(alloc, &found)?;
+    tariffs_of(alloc, &found)
+}
+
+/// The tariffs that an answer has, if their expressways rise.
+fn tariffs_of(alloc: Global, found: &[Row]) -> Result<Tariffs, KeepFault>
+    ensures { IfOk result (AreTariffs found.now) }
+{
+    let own = tariffs_in(alloc, found)?;
     together(alloc, &own)
 }

@@ -33,14 +33,15 @@ fn version<S: Alter>(conn: &mut Connection<S>) -> Result<Option<i64>, KeepFault>
     }
 }
 
-/// Makes the tables that are missing, and takes every kept day for one of no tariffs.
+/// Makes the tables that are missing, and takes every kept day for one of no tariffs. No other day has a seal then.
 fn make<S: Alter>(conn: &mut Connection<S>, alloc: Global) -> Result<(), KeepFault> {
     make_first(conn)?;
     make_second(conn)?;
     let none = seal(alloc, &Tariffs::new(alloc))?;
+    run_text(conn, "DELETE FROM day_tariffs")?;
     run(
         conn,
-        "INSERT OR REPLACE INTO day_tariffs (day, digest) SELECT day, ?1 FROM days",
+        "INSERT INTO day_tariffs (day, digest) SELECT day, ?1 FROM days",
         params![none.bytes.as_slice()],
     )?;
     run_text(conn, "INSERT INTO form (one, version) VALUES (1, 2)")

@@ -1,14 +1,14 @@
 //! The tolling office of an expressway, over standard input and output and two files.
 //!
-//! `main` hands the words, standard input, the file `notices.txt`, standard output and what is kept in the file `tolls.db`
-//! to `office`, whose jobs run in threads of their own, and ends with its status.
+//! `main` hands the words, standard input, the file `ASIDE_FILE`, standard output and what is kept in the file
+//! `KEPT_FILE` to `office`, whose jobs run in threads of their own, closes what is kept, and ends with its status.
 #![tactic(auto)]
 
-use office_commands::{Closing, office};
+use office_commands::{ASIDE_FILE, Closing, office};
 use partition_workers::{NoGate, ThreadCrew};
 use road_io::{FileSource, StdSink, StdSource};
 use road_time::Limits;
-use sqlite_keeper::SqliteKeeper;
+use sqlite_keeper::{KEPT_FILE, SqliteKeeper};
 use std::alloc::Global;
 use std::env;
 use std::io::ErrorKind;
@@ -37,15 +37,16 @@ fn words_of(rt: &HostRuntime) -> Result<Vec<String>, Closing> {
 fn main(rt: HostRuntime) -> ExitCode {
     let mut source = StdSource::new(rt.stdin());
     let mut sink = StdSink::new(rt.stdout());
-    let Ok(mut aside) = FileSource::at(rt.alloc(), rt, "notices.txt") else {
+    let Ok(mut aside) = FileSource::at(rt.alloc(), rt, ASIDE_FILE) else {
         return ExitCode::from(Closing::NoMemory.status());
     };
-    let Ok(mut keeper) = SqliteKeeper::at(rt.alloc(), rt, "tolls.db") else {
+    let Ok(mut keeper) = SqliteKeeper::at(rt.alloc(), rt, KEPT_FILE) else {
         return ExitCode::from(Closing::NoMemory.status());
     };
     let mut crew = ThreadCrew::new(rt, rt.alloc(), NoGate);
-    match words_of(&rt) {
-        Ok(words) => ExitCode::from(office(
+    let status = match words_of(&rt) {
+        Ok(words) => office(
+            &rt,
             rt.alloc(),
             words.as_slice(),
             &Limits::DAY,
@@ -54,7 +55,10 @@ fn main(rt: HostRuntime) -> ExitCode {
             &mut sink,
             &mut keeper,
             &mut crew,
-        )),
-        Err(closing) => ExitCode::from(closing.status()),
-    }
+        ),
+        Err(closing) => closing.status(),
+    };
+    // What was put stays either way: where the file cannot be closed, it lies in the log beside it.
+    let _ = keeper.close();
+    ExitCode::from(status)
 }
