@@ -1,2 +1,3 @@
 pub mod RunLaws
 pub mod FeedLaws
+pub mod StopLaws

@@ -1,6 +1,7 @@
 -- a job that is run at once
 use Rattle.std.proofs.Common.{◌≡◌, ℕ, zero, suc, ◌-◌, ◌<◌, ◌≤◌, drop, Option, Some, ⊎_elim, Bool, true, false, cond, List, [], ◌∷◌, ◌++◌, length, take, map, Result, Ok, Err, IsOk, is_err, refl, sym, ap, ◌∙◌, arith, subst}
 use Rattle.std.proofs.Math.Seq.{take-length}
+use Rattle.std.specs.Prelude.{IfErr}
 use Rattle.std.specs.Result.{OnOk, IfOk}
 use Rattle.std.proofs.lemmas.Bool.{cond-true, cond-false, cases_eq}
 use Rattle.road_time.specs.declared.day.Limits.{Limits}
@@ -14,6 +15,7 @@ use Rattle.watermark.specs.Written.{settled_charges}
 use Rattle.watermark.proofs.Texts.{charged_same, not_settled, long_first}
 use Rattle.expressway.specs.declared.lane_event.LaneEvent.{LaneEvent}
 use Rattle.road_time.specs.Rates.{Tariffs}
+use Rattle.road_time.specs.declared.road.Tuple.{Tuple}
 use Rattle.expressway.specs.declared.job.Job.{Job}
 use Rattle.expressway.specs.declared.job.Done.{Done}
 use Rattle.expressway.specs.Findings.{shown, findings}
@@ -178,12 +180,23 @@ answered tariffs width limits s some home sound are =
       home = runs_home tariffs s width home;
       true_found = are;
       exact = λ number kept. subst (λ d. merged d t.found number kept ≡ notices d tariffs number kept) whole (exact_notices width limits t some sound (length s.fed) (omega (arith, all)) tariffs are number kept);
+      fronts = λ n le number kept. subst (λ (d : List Tuple). merged (take n d) t.found number kept ≡ notices (take n d) tariffs number kept) same (exact_notices width limits t some sound n (omega (arith, all, le)) tariffs are number kept);
     }
 
 -- what is said of an answer follows from what is said of it
 pub if_one : {T E : Type 0} {P R : T → Type 0} (r : Result T E) → ((x : T) → P x → R x) → IfOk r P → IfOk r R
 if_one (Ok x) h p = h x p
 if_one (Err e) h p = tt
+
+-- what follows where a call went well
+pub on_ok : {T E P R : Type 0} (r : Result T E) → (P → R) → OnOk r P → OnOk r R
+on_ok (Ok x) h p = h p
+on_ok (Err e) h p = tt
+
+-- the same of where a call was stopped
+pub if_stopped : {T E : Type 0} {P R : E → Type 0} (r : Result T E) → ((x : E) → P x → R x) → IfErr r P → IfErr r R
+if_stopped (Ok x) h p = tt
+if_stopped (Err e) h p = h e p
 
 -- and from two things
 pub when_both : {T E R : Type 0} {P Q : T → Type 0} (r : Result T E) → ((x : T) → P x → Q x → R) → IfOk r P → IfOk r Q → OnOk r R

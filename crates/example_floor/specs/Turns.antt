@@ -1,5 +1,5 @@
 -- What a caller does that runs each job at once.
-use Rattle.std.specs.Prelude.{ℕ, zero, suc, ◌≡◌, List, [], ◌∷◌, length, if◌then◌else◌}
+use Rattle.std.specs.Prelude.{ℕ, zero, suc, ◌≡◌, ◌≤◌, take, List, [], ◌∷◌, length, if◌then◌else◌}
 use Rattle.road_time.specs.declared.road.Tuple.{Tuple}
 use Rattle.road_time.specs.Rates.{Tariffs}
 use Rattle.road_time.specs.Day.{notices, merged}
@@ -27,10 +27,11 @@ after_runs tariffs s (suc worker) = after_run tariffs (after_runs tariffs s work
 abbrev pub AllHome : State → Type 0
 AllHome s = (worker : ℕ) → (s.share worker).out ≡ []
 
--- all tuples that were fed are below the mark, and they make the notices of the rules
+-- all tuples that were fed are below the mark, and they make the notices of the rules, as their first ones do
 pub record AreAnswered (tariffs : Tariffs) (width : ℕ) (fed : List Tuple) (s : State) : Type 0 where
   pub same : s.fed ≡ fed
   pub mark_is : mark width s ≡ length fed
   pub home : AllHome s
   pub true_found : IsTrue tariffs width s
   pub exact : (number : ℕ) (kept : ℕ → ℕ → ℕ → ℕ) → merged fed s.found number kept ≡ notices fed tariffs number kept
+  pub fronts : (n : ℕ) → n ≤ length fed → (number : ℕ) (kept : ℕ → ℕ → ℕ → ℕ) → merged (take n fed) s.found number kept ≡ notices (take n fed) tariffs number kept

@@ -14,10 +14,10 @@ use std::process::ExitCode;
 use std::rt::HostRuntime;
 
 fn main(rt: HostRuntime) -> ExitCode {
-    let one = rows::one_report(rt);
-    let route = rows::route_of_three_workers(rt);
-    let room = rows::sink_with_little_room(rt);
-    let kept = rows::keeper_that_fails(rt);
+    let one = rows::one_report(rt, &rt);
+    let route = rows::route_of_three_workers(rt, &rt);
+    let room = rows::sink_with_little_room(rt, &rt);
+    let kept = rows::keeper_that_fails(rt, &rt);
     if one && route && room && kept {
         ExitCode::SUCCESS
     } else {

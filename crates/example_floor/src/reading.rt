@@ -7,9 +7,14 @@ use day_reading::DayReader;
 use road_io::Source;
 use road_time::{Limits, Tuple};
 use std::alloc::Global;
+use std::thread::Threads;
 
 /// All tuples of a day, none where a line is refused, a read fails or memory ends.
-pub(crate) fn read_day<S: Source>(alloc: Global, source: &mut S) -> Option<Vec<Tuple>>
+pub(crate) fn read_day<S: Source, R: Threads>(
+    rt: &R,
+    alloc: Global,
+    source: &mut S,
+) -> Option<Vec<Tuple>>
     ensures { IfSome result (λ d. Fit d.items DAY) }
 {
     let limits = Limits::DAY;
@@ -18,14 +23,21 @@ pub(crate) fn read_day<S: Source>(alloc: Global, source: &mut S) -> Option<Vec<T
     };
     let mut tuples = Vec::new(alloc);
     'reading: loop {
-        match reader.next(source) {
+        match reader.next(rt, source) {
             Ok(Some(tuple)) => {
                 if tuples.push(tuple).is_err() {
+                    reader.close(rt);
                     return None;
                 }
             }
-            Ok(None) => return Some(tuples),
-            Err(_) => return None,
+            Ok(None) => {
+                reader.close(rt);
+                return Some(tuples);
+            }
+            Err(_) => {
+                reader.close(rt);
+                return None;
+            }
         }
     }
 }

@@ -1,11 +1,17 @@
 // The rows: each a day of a few lines.
-ghost use Rattle.std.specs.Prelude.{◌≡◌, ◌≤◌, ◌<◌, ℕ, Some, [], length, OnOk};
+ghost use Rattle.std.specs.Prelude.{◌≡◌, ◌≤◌, ◌<◌, ◌++◌, ℕ, true, false, Some, Err, [], length, take, OnOk, IfErr};
 ghost use Rattle.std.specs.Io.KnownBytes.{Appends};
 ghost use Rattle.road_time.specs.Fits.{Fit};
 ghost use Rattle.road_time.specs.declared.day.TheConstants.Limits.{DAY};
 ghost use Rattle.road_time.specs.Day.{notices};
 ghost use Rattle.road_time.specs.Text.{out};
+ghost use Rattle.road_io.specs.Fakes.{bytes_of, room_of};
+ghost use Rattle.keeper.specs.History.{paid};
+ghost use Rattle.keeper.specs.Memory.{kept_by, plan_of};
+ghost use Rattle.settling.specs.declared.fault.SettleFault.TheVariants.{KeeperFault, WriteFault};
 ghost use Rattle.settling.specs.Answers.{history_of};
+ghost use Rattle.settling.specs.Asking.{asked};
+ghost use Rattle.example_floor.specs.Stops.{TakesDay, StopsDay};
 
 use crate::feeding::feed_all;
 use crate::reading::read_day;
@@ -18,6 +24,7 @@ use road_time::{Limits, Tariffs, Tuple};
 use settling::{Closed, SettleFault};
 use std::rt::HostRuntime;
 use std::str;
+use std::thread::Threads;
 use watermark::Floor;
 
 /// The number of the day.
@@ -38,7 +45,12 @@ fn settle_day<K: Keeper, O: Sink>(
     requires few { width ≤ 64 }
     requires fit { Fit tuples.now DAY }
     requires room { length tuples.now ≤ DAY.backlog }
-    ensures { OnOk result ((kept : ℕ → ℕ → ℕ → ℕ) → history_of (K.told keeper.old) ≡ Some kept → Appends (O.written sink.old) (O.written sink.new) (out (notices tuples.now [] 100 kept))) }
+    ensures wrote { OnOk result ((kept : ℕ → ℕ → ℕ → ℕ) → history_of (K.told keeper.old) ≡ Some kept
+        → Appends (O.written sink.old) (O.written sink.new) (out (notices tuples.now [] 100 kept))) }
+    ensures took { OnOk result ((kept : ℕ → ℕ → ℕ → ℕ) → history_of (K.told keeper.old) ≡ Some kept
+        → TakesDay tuples.now [] 100 kept (O.written sink.old, O.room sink.old) (O.written sink.new, O.room sink.new) (K.plan keeper.old) (K.plan keeper.new)) }
+    ensures stopped { IfErr result (λ fault. (kept : ℕ → ℕ → ℕ → ℕ) → history_of (K.told keeper.old) ≡ Some kept
+        → StopsDay fault tuples.now [] 100 kept (O.written sink.old, O.room sink.old) (O.written sink.new, O.room sink.new) (K.plan keeper.old) (K.plan keeper.new)) }
 {
     let tariffs = Tariffs::new(rt.alloc());
     let Ok(mut floor) = Floor::new(rt.alloc(), width, &Limits::DAY, &tariffs) else {
@@ -66,10 +78,34 @@ fn settle_day<K: Keeper, O: Sink>(
     }
 }
 
+/// Settles a day into a sink in memory. Of a day that is longer than the sink's room it has as much as there is room for;
+/// and where the keeper fails, the first of its calls that was planned to fail is one of the day's requests.
+fn settle_in_memory(
+    rt: HostRuntime,
+    width: u8,
+    tuples: &[Tuple],
+    keeper: &mut MemKeeper,
+    sink: &mut MemSink,
+) -> Result<Closed, SettleFault>
+    requires some { 1 ≤ width }
+    requires few { width ≤ 64 }
+    requires fit { Fit tuples.now DAY }
+    requires room { length tuples.now ≤ DAY.backlog }
+    ensures fits { OnOk result (length (out (notices tuples.now [] 100 (paid (kept_by keeper.old).rows))) ≤ room_of sink.old) }
+    ensures passed { OnOk result ((i : ℕ) → i < asked tuples.now → plan_of keeper.old i ≡ false) }
+    ensures full { result ≡ Err WriteFault
+        → bytes_of sink.new ≡ bytes_of sink.old ++ take (room_of sink.old) (out (notices tuples.now [] 100 (paid (kept_by keeper.old).rows))) }
+    ensures failed { result ≡ Err KeeperFault
+        → (i : ℕ) × (i < asked tuples.now) × (plan_of keeper.old i ≡ true) × ((j : ℕ) → j < i → plan_of keeper.old j ≡ false) }
+{
+    settle_day(rt, width, tuples, keeper, sink)
+}
+
 /// Prints what is done with a day's lines: over so many workers, a keeper that fails at some calls, and a sink with room
 /// for so many bytes.
-fn show_row(
+fn show_row<R: Threads>(
     rt: HostRuntime,
+    threads: &R,
     title: &str,
     width: u8,
     lines: &str,
@@ -83,7 +119,7 @@ fn show_row(
     let Ok(mut source) = MemSource::new(rt.alloc(), lines.as_bytes(), PIECE, &[]) else {
         return false;
     };
-    let Some(tuples) = read_day(rt.alloc(), &mut source) else {
+    let Some(tuples) = read_day(threads, rt.alloc(), &mut source) else {
         return false;
     };
     if tuples.len() > PIECE {
@@ -95,19 +131,19 @@ fn show_row(
     let Ok(mut sink) = MemSink::new(rt.alloc(), room, PIECE) else {
         return false;
     };
-    let end = settle_day(rt, width, tuples.as_slice(), &mut keeper, &mut sink);
+    let end = settle_in_memory(rt, width, tuples.as_slice(), &mut keeper, &mut sink);
     let written = str::from_utf8(sink.bytes()).unwrap_or("");
     show_end(rt, &end, written).is_ok()
 }
 
 /// One report is fed over two workers.
-pub(crate) fn one_report(rt: HostRuntime) -> bool {
+pub(crate) fn one_report<R: Threads>(rt: HostRuntime, threads: &R) -> bool {
     let lines = "0,0,7,30,0,0,0,10,52800,-1,-1,-1,-1,-1,-1\n";
-    show_row(rt, "one report", 2, lines, &[], 1_000)
+    show_row(rt, threads, "one report", 2, lines, &[], 1_000)
 }
 
 /// A vehicle stands in four reports, leaves for the other direction and then for another expressway.
-pub(crate) fn route_of_three_workers(rt: HostRuntime) -> bool {
+pub(crate) fn route_of_three_workers<R: Threads>(rt: HostRuntime, threads: &R) -> bool {
     let lines = "0,0,1,0,0,2,0,10,55000,-1,-1,-1,-1,-1,-1\n\
         0,30,1,0,0,2,0,10,55000,-1,-1,-1,-1,-1,-1\n\
         0,60,1,0,0,2,0,10,55000,-1,-1,-1,-1,-1,-1\n\
@@ -115,18 +151,26 @@ pub(crate) fn route_of_three_workers(rt: HostRuntime) -> bool {
         0,120,1,50,0,1,1,10,52800,-1,-1,-1,-1,-1,-1\n\
         0,150,1,50,1,1,0,5,26400,-1,-1,-1,-1,-1,-1\n\
         2,151,1,-1,-1,-1,-1,-1,-1,9,-1,-1,-1,-1,-1\n";
-    show_row(rt, "a route of three workers", 3, lines, &[], 1_000)
+    show_row(
+        rt,
+        threads,
+        "a route of three workers",
+        3,
+        lines,
+        &[],
+        1_000,
+    )
 }
 
 /// The sink has room for five bytes of eleven.
-pub(crate) fn sink_with_little_room(rt: HostRuntime) -> bool {
+pub(crate) fn sink_with_little_room<R: Threads>(rt: HostRuntime, threads: &R) -> bool {
     let lines = "0,0,7,30,0,0,0,10,52800,-1,-1,-1,-1,-1,-1\n";
-    show_row(rt, "a sink with little room", 1, lines, &[], 5)
+    show_row(rt, threads, "a sink with little room", 1, lines, &[], 5)
 }
 
 /// The keeper fails at its second call: the first request is answered, and no more.
-pub(crate) fn keeper_that_fails(rt: HostRuntime) -> bool {
+pub(crate) fn keeper_that_fails<R: Threads>(rt: HostRuntime, threads: &R) -> bool {
     let lines = "3,0,7,-1,0,-1,-1,-1,-1,8,-1,-1,-1,-1,1\n\
         3,0,7,-1,0,-1,-1,-1,-1,9,-1,-1,-1,-1,2\n";
-    show_row(rt, "a keeper that fails", 1, lines, &[1], 1_000)
+    show_row(rt, threads, "a keeper that fails", 1, lines, &[1], 1_000)
 }

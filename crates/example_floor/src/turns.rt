@@ -1,5 +1,5 @@
 // A worker's job is given, run and taken back.
-ghost use Rattle.std.specs.Prelude.{◌≡◌, ◌<◌, ℕ, Some, length, OnOk, IfOk};
+ghost use Rattle.std.specs.Prelude.{◌≡◌, ◌<◌, ℕ, Some, length, OnOk, IfOk, IfErr};
 ghost use Rattle.std.specs.Io.KnownBytes.{Appends};
 ghost use Rattle.road_time.specs.Day.{notices, sum_of};
 ghost use Rattle.road_time.specs.Text.{out};
@@ -10,6 +10,7 @@ ghost use Rattle.watermark.specs.Shares.{State};
 ghost use Rattle.watermark.specs.Steps.{after_settle};
 ghost use Rattle.watermark.specs.Floors.{Setting, width_of, limits_of, StandsFor, Serves};
 ghost use Rattle.example_floor.specs.Turns.{after_run, after_runs, AllHome, AreAnswered};
+ghost use Rattle.example_floor.specs.Stops.{TakesDay, StopsDay};
 ghost use Rattle.watermark.specs.Sound.{IsTrue};
 
 use crate::showing::{show_job, show_none};
@@ -66,7 +67,7 @@ pub fn run_all(rt: HostRuntime, floor: &mut Floor, width: u8) -> Result<(), NoMe
 }
 
 /// Runs the next job of each worker, and settles. Where no job was out, the findings were true and nothing was settled,
-/// it writes the output of the rules.
+/// it writes the output of the rules, or is stopped where the sink's room is full or the keeper's call was planned to fail.
 pub fn run_and_settle<K: Keeper, O: Sink, P: Publisher>(
     rt: HostRuntime,
     floor: &mut Floor,
@@ -80,6 +81,12 @@ pub fn run_and_settle<K: Keeper, O: Sink, P: Publisher>(
     requires serves { (g : Setting) × (s : State) × StandsFor g floor.old s × (g.number ≡ day) × (g.history ≡ history_of (K.told keeper.old)) × IsAbreast (P.posted publisher.old) (sum_of (settled_charges s)) }
     ensures settled { IfOk result (λ n. (g : Setting) (s : State) → StandsFor g floor.old s → g.number ≡ day → g.history ≡ history_of (K.told keeper.old) → AllHome s → IsTrue g.tariffs width s → (n ≡ length s.fed) × StandsFor g floor.new (after_settle (after_runs g.tariffs s width) n)) }
     ensures wrote { OnOk result ((g : Setting) (s : State) (kept : ℕ → ℕ → ℕ → ℕ) → StandsFor g floor.old s → g.number ≡ day → g.history ≡ history_of (K.told keeper.old) → g.history ≡ Some kept → AllHome s → IsTrue g.tariffs width s → s.settled ≡ 0 → Appends (O.written sink.old) (O.written sink.new) (out (notices s.fed g.tariffs day kept))) }
+    ensures took { OnOk result ((g : Setting) (s : State) (kept : ℕ → ℕ → ℕ → ℕ) → StandsFor g floor.old s → g.number ≡ day → g.history ≡ history_of (K.told keeper.old)
+        → g.history ≡ Some kept → AllHome s → IsTrue g.tariffs width s → s.settled ≡ 0
+        → TakesDay s.fed g.tariffs day kept (O.written sink.old, O.room sink.old) (O.written sink.new, O.room sink.new) (K.plan keeper.old) (K.plan keeper.new)) }
+    ensures stopped { IfErr result (λ fault. (g : Setting) (s : State) (kept : ℕ → ℕ → ℕ → ℕ) → StandsFor g floor.old s → g.number ≡ day → g.history ≡ history_of (K.told keeper.old)
+        → g.history ≡ Some kept → AllHome s → IsTrue g.tariffs width s → s.settled ≡ 0
+        → StopsDay fault s.fed g.tariffs day kept (O.written sink.old, O.room sink.old) (O.written sink.new, O.room sink.new) (K.plan keeper.old) (K.plan keeper.new)) }
 {
     if run_all(rt, floor, width).is_err() {
         return Err(SettleFault::NoMemory);

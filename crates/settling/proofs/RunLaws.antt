@@ -1,13 +1,9 @@
 -- A settler in the midst of a run.
-use Rattle.std.proofs.Common.{◌≡◌, ℕ, ◌+◌, ◌^◌, ◌<◌, ◌≤◌, List, [], ◌∷◌, ◌++◌, length, take, drop, map, Option, Result, Ok, Err, OnOk, refl, sym, ap, subst, ◌∙◌, arith, append_assoc, append-nil, length-append, get_or, add-one, drop-cons}
+use Rattle.std.proofs.Common.{◌≡◌, ℕ, ◌+◌, ◌^◌, ◌<◌, ◌≤◌, List, [], ◌∷◌, ◌++◌, length, take, drop, map, Ok, refl, sym, ap, subst, ◌∙◌, arith, append_assoc, append-nil, length-append, get_or, add-one, drop-cons}
 use Rattle.std.proofs.lemmas.List.Concat.{flat_map-append}
-use Rattle.std.specs.Prelude.{IfErr}
-use Rattle.std.proofs.lemmas.List.{take_more, take-append-drop, length-take-le}
+use Rattle.std.proofs.lemmas.List.{take_more, length-take-le}
 use Rattle.std.proofs.lemmas.List.Sums.{sum_by-append}
-use Rattle.road_time.proofs.AccountLaws.{take_shorter}
 use Rattle.road_time.specs.declared.road.Tuple.TheVariants.{Travel}
-use Rattle.std.specs.Io.KnownBytes.{Appends}
-use Rattle.road_io.proofs.SinkLaws.{appends_none}
 use Rattle.road_time.specs.declared.road.Tuple.{Tuple}
 use Rattle.road_time.specs.declared.road.Notice.{Notice}
 use Rattle.road_time.specs.Sights.{moments, moments_after, Sight}
@@ -22,16 +18,18 @@ use Rattle.accounts.specs.Sums.{total_in}
 use Rattle.accounts.specs.Books.{Accounts}
 use Rattle.keeper.specs.Digests.{Took}
 use Rattle.settling.specs.declared.slot.Slot.{Slot}
-use Rattle.settling.specs.declared.fault.SettleFault.{SettleFault}
-use Rattle.settling.specs.declared.printer.Printer.{Printer}
 use Rattle.settling.specs.declared.settler.Settler.{Settler}
 use Rattle.settling.specs.Slots.{slot_of, slots_of}
 use Rattle.settling.specs.Books.{IsBook, HasFewTolls, charges_in, book_after}
 use Rattle.settling.specs.Answers.{History, AreNotices, IsSaid}
-use Rattle.settling.specs.Printing.{Prints, WritesSome, Says}
-use Rattle.settling.specs.Runs.{StandsFor, InRun, Waits, WritesSomeOfRun, WritesRun}
-use Rattle.settling.proofs.PrintLaws.{out_both, some_more}
-use Rattle.settling.proofs.AnswerLaws.{said_is, notices_both, notices_one, some_notices, notices_few}
+use Rattle.settling.specs.Levels.{Level}
+use Rattle.settling.specs.Asking.{Plan, Passes, asked}
+use Rattle.settling.specs.Printing.{Holds, HandsOn}
+use Rattle.settling.specs.Runs.{StandsFor, InRun, HasRun, Waits, WritesRun, SettlesSlot, TakesRun}
+use Rattle.settling.proofs.LevelLaws.{adds_none}
+use Rattle.settling.proofs.AskLaws.{passes_none, passes_on, asked_more, asked_slot}
+use Rattle.settling.proofs.PrintLaws.{out_both}
+use Rattle.settling.proofs.AnswerLaws.{said_is, notices_both, notices_one, notices_few}
 use Rattle.settling.proofs.BookLaws.{charges_are, book_more, account_is, total_is}
 
 -- the moments of a run with one tuple more
@@ -44,8 +42,8 @@ run_tuples before run x = append_assoc before run (x ∷ [])
 
 module _ (finding : Sight → Finding) (number : ℕ) (history : History) where
   -- a run begins
-  pub run_begins : (s : Settler) (before : List Tuple) (w : Option (List ℕ)) → StandsFor s finding number history before → InRun s finding number history before [] w w
-  run_begins s before w h =
+  pub run_begins : (s : Settler) (before : List Tuple) (w : Level) (plan : Plan) → StandsFor s finding number history before → InRun s finding number history before [] w w plan plan
+  run_begins s before w plan h =
       let same : before ≡ before ++ [] = sym (append-nil before) in
       record {
         settled = h.settled ∙ ap length same;
@@ -55,12 +53,17 @@ module _ (finding : Sight → Finding) (number : ℕ) (history : History) where
         told = [];
         told_are = refl;
         count = let n = h.count in omega arith;
-        prints = record { handed = []; run_is = sym h.none_held; took = subst (Took s.printer.digester) (sym (append-nil (out h.told))) h.took; wrote = appends_none w };
+        holds = record {
+          prints = record { handed = []; run_is = sym h.none_held; took = subst (Took s.printer.digester) (sym (append-nil (out h.told))) h.took; wrote = adds_none w };
+          short = subst (λ t. length t < 65536) (sym h.none_held) (omega arith);
+          none_yet = λ few. refl;
+        };
         charged = ap (map charge_of) h.none_charged;
+        passed = passes_none plan;
       }
 
   -- the notices of a run with one slot more
-  told_more : (before run : List Tuple) (x : Tuple) (s : Settler) (told ns : List Notice) → IsBook s.book finding (before ++ run) → AreNotices finding number history (moments_after before run) told →
+  pub told_more : (before run : List Tuple) (x : Tuple) (s : Settler) (told ns : List Notice) → IsBook s.book finding (before ++ run) → AreNotices finding number history (moments_after before run) told →
       IsSaid history number (slot_of finding (before ++ run, x)).due (slot_of finding (before ++ run, x)).found s.book ns → AreNotices finding number history (moments_after before (run ++ x ∷ [])) (told ++ ns)
   told_more before run x s told ns book are said =
       subst (λ ms. AreNotices finding number history ms (told ++ ns)) (sym (run_moments before run x))
@@ -68,14 +71,15 @@ module _ (finding : Sight → Finding) (number : ℕ) (history : History) where
       (notices_one finding number history (before ++ run, x) ns (said_is finding number history (before ++ run) x s.book ns (account_is finding s.book (before ++ run) book) said)))
 
   -- a run goes on over one slot
-  pub run_more : (s s' : Settler) (before run : List Tuple) (x : Tuple) (old now now' : Option (List ℕ)) (ns : List Notice) → InRun s finding number history before run old now →
+  pub run_more : (s s' : Settler) (before run : List Tuple) (x : Tuple) (old now now' : Level) (plan left left' : Plan) (ns : List Notice) → InRun s finding number history before run old now plan left →
       s'.settled ≡ s.settled + 1 →
       s'.book ≡ book_after (slot_of finding (before ++ run, x)).due (slot_of finding (before ++ run, x)).found.toll s.book →
       map charge_of s'.charges.items ≡ map charge_of s.charges.items ++ charges_in (slot_of finding (before ++ run, x)).due s.book →
       IsSaid history number (slot_of finding (before ++ run, x)).due (slot_of finding (before ++ run, x)).found s.book ns →
-      Says {T = Unit {0}} (Ok tt) s.printer s'.printer now now' ns →
-      InRun s' finding number history before (run ++ x ∷ []) old now'
-  run_more s s' before run x old now now' ns h count book charges said says =
+      SettlesSlot {T = Unit {0}} (Ok tt) (slot_of finding (before ++ run, x)).due s.printer s'.printer now now' left left' ns →
+      InRun s' finding number history before (run ++ x ∷ []) old now' plan left'
+  run_more s s' before run x old now now' plan left left' ns h count book charges said settles =
+      let says = settles.0 in
       let size = length-append (before ++ run) (x ∷ []) in
       let shape = ap length (run_tuples before run x) in
       let was = h.settled in
@@ -87,36 +91,17 @@ module _ (finding : Sight → Finding) (number : ℕ) (history : History) where
         told = h.told ++ ns;
         told_are = told_more before run x s h.told ns h.book h.told_are said;
         count = let n = h.count in let m = says.0 in let l = length-append h.told ns in omega arith;
-        prints = subst (λ t. Prints s'.printer (out h.earlier) t old now') (sym (out_both h.told ns)) (says.1 (out h.earlier) (out h.told) old h.prints);
+        holds = subst (λ t. Holds s'.printer (out h.earlier) t old now') (sym (out_both h.told ns)) (says.1 (out h.earlier) (out h.told) old h.holds);
+        passed = subst (λ n. Passes n plan left') (ap (λ n. asked run + n) (asked_slot finding (before ++ run) x) ∙ sym (asked_more run x)) (passes_on plan left left' (asked run) _ h.passed settles.1);
         charged =
             charges ∙ (ap (λ cs. cs ++ charges_in (slot_of finding (before ++ run, x)).due s.book) h.charged
             ∙ (ap (λ cs. charges_by finding (moments_after before run) ++ cs) (charges_are finding s.book (before ++ run) h.book x ∙ sym (append-nil (owed_by finding (before ++ run, x))))
             ∙ (sym (flat_map-append (owed_by finding) (moments_after before run) ((before ++ run, x) ∷ [])) ∙ ap (charges_by finding) (sym (run_moments before run x)))));
       }
 
-  -- a run is stopped at a slot
-  pub run_stops : (fault : SettleFault) (s : Settler) (q : Printer) (before run : List Tuple) (x : Tuple) (old now now' : Option (List ℕ)) (ns : List Notice) → InRun s finding number history before run old now →
-      IsSaid history number (slot_of finding (before ++ run, x)).due (slot_of finding (before ++ run, x)).found s.book ns →
-      Says {T = Unit {0}} (Err fault) s.printer q now now' ns →
-      WritesSomeOfRun fault finding number history before (run ++ x ∷ []) old now'
-  run_stops fault s q before run x old now now' ns h said says = (
-    h.told ++ ns,
-    told_more before run x s h.told ns h.book h.told_are said,
-    subst (λ t. WritesSome fault t old now') (sym (out_both h.told ns)) (says (out h.earlier) (out h.told) old h.prints),
-  )
-
-  -- what was written of the first tuples of a run is some of the whole run's
-  pub stops_longer : (fault : SettleFault) (before run later : List Tuple) (old now : Option (List ℕ)) → WritesSomeOfRun fault finding number history before run old now → WritesSomeOfRun fault finding number history before (run ++ later) old now
-  stops_longer fault before run later old now h =
-      let more = some_notices finding number history (moments_after (before ++ run) later) in (
-        h.0 ++ more.0,
-        subst (λ ms. AreNotices finding number history ms (h.0 ++ more.0)) (sym (moments-append before run later)) (notices_both finding number history (moments_after before run) (moments_after (before ++ run) later) h.0 more.0 h.1 more.1),
-        subst (λ t. WritesSome fault t old now) (sym (out_both h.0 more.0)) (some_more fault (out h.0) (out more.0) old now h.2),
-      )
-
   -- in a run few notices were written
-  pub run_few : (s : Settler) (before run : List Tuple) (old now : Option (List ℕ)) → InRun s finding number history before run old now → length before + length run ≤ 16000000 → s.printer.notices ≤ 32000000
-  run_few s before run old now h few =
+  pub run_few : (s : Settler) (before run : List Tuple) (old now : Level) (plan left : Plan) → InRun s finding number history before run old now plan left → length before + length run ≤ 16000000 → s.printer.notices ≤ 32000000
+  run_few s before run old now plan left h few =
       let a = notices_few finding number history (moments before) h.earlier h.earlier_are in
       let b = notices_few finding number history (moments_after before run) h.told h.told_are in
       let m = length-moments [] before in
@@ -125,25 +110,25 @@ module _ (finding : Sight → Finding) (number : ℕ) (history : History) where
       omega arith
 
   -- all of a run was written
-  pub run_wrote : (s : Settler) (before run : List Tuple) (old now : Option (List ℕ)) → InRun s finding number history before run old now → s.printer.piece.items ≡ [] → WritesRun finding number history before run old now
-  run_wrote s before run old now h held =
-      let all : out h.told ≡ h.prints.handed = h.prints.run_is ∙ (ap (λ t. h.prints.handed ++ t) held ∙ append-nil h.prints.handed) in
-      (h.told, h.told_are, subst (Appends old now) (sym all) h.prints.wrote)
+  pub run_took : (s : Settler) (before run : List Tuple) (old now : Level) (plan left : Plan) → HasRun s finding number history before run old now plan left →
+      TakesRun finding number history before run old now plan left
+  run_took s before run old now plan left h = (h.told, h.told_are, h.wrote, h.passed)
 
-  -- a run ends where no text is held and its charges are listed no more
-  pub run_ends : (s s' : Settler) (before run : List Tuple) (old now : Option (List ℕ)) → InRun s finding number history before run old now →
-      s'.settled ≡ s.settled → s'.book ≡ s.book → s'.printer ≡ s.printer → s.printer.piece.items ≡ [] → s'.charges.items ≡ [] → StandsFor s' finding number history (before ++ run)
-  run_ends s s' before run old now h count book printer held none =
-      let all : out h.told ≡ h.prints.handed = h.prints.run_is ∙ (ap (λ t. h.prints.handed ++ t) held ∙ append-nil h.prints.handed) in
-      let both : out (h.earlier ++ h.told) ≡ out h.earlier ++ h.prints.handed = out_both h.earlier h.told ∙ ap (λ t. out h.earlier ++ t) all in
+  pub run_wrote : (before run : List Tuple) (old now : Level) (plan left : Plan) → TakesRun finding number history before run old now plan left → WritesRun finding number history before run old.0 now.0
+  run_wrote before run old now plan left h = (h.0, h.1, h.2.0)
+
+  -- a run ends where its charges are listed no more
+  pub run_ends : (s s' : Settler) (before run : List Tuple) (old now : Level) (plan left : Plan) → HasRun s finding number history before run old now plan left →
+      s'.settled ≡ s.settled → s'.book ≡ s.book → s'.printer ≡ s.printer → s'.charges.items ≡ [] → StandsFor s' finding number history (before ++ run)
+  run_ends s s' before run old now plan left h count book printer none =
       record {
         settled = count ∙ h.settled;
         book = subst (λ b. IsBook b finding (before ++ run)) (sym book) h.book;
         told = h.earlier ++ h.told;
         told_are = subst (λ ms. AreNotices finding number history ms (h.earlier ++ h.told)) (sym (moments-append [] before run)) (notices_both finding number history (moments before) (moments_after before run) h.earlier h.told h.earlier_are h.told_are);
         count = ap (λ p. p.notices) printer ∙ (h.count ∙ sym (length-append h.earlier h.told));
-        took = subst (λ p. Took p.digester (out (h.earlier ++ h.told))) (sym printer) (subst (Took s.printer.digester) (sym both) h.prints.took);
-        none_held = ap (λ p. p.piece.items) printer ∙ held;
+        took = subst (λ p. Took p.digester (out (h.earlier ++ h.told))) (sym printer) (subst (Took s.printer.digester) (sym (out_both h.earlier h.told)) h.took);
+        none_held = ap (λ p. p.piece.items) printer ∙ h.none_held;
         none_charged = none;
       }
 
@@ -189,40 +174,24 @@ waits_more finding all later slot before run x rest e h =
 pub rest_more : (i : ℕ) (rest : List Tuple) → i < length rest → (x : Tuple) × (drop i rest ≡ x ∷ drop (i + 1) rest) × (take (i + 1) rest ≡ take i rest ++ x ∷ [])
 rest_more i rest h = (get_or rest i (Travel 0), rw (← add-one i) at (drop-cons rest i (Travel 0) h), take_more rest i (Travel 0) h)
 
--- what was written where a run is stopped is some of the whole run
-pub stops_within : (finding : Sight → Finding) (number : ℕ) (history : History) (fault : SettleFault) (before rest : List Tuple) (i count : ℕ) (old now : Option (List ℕ)) → i ≤ count →
-    WritesSomeOfRun fault finding number history before (take i rest) old now → WritesSomeOfRun fault finding number history before (take count rest) old now
-stops_within finding number history fault before rest i count old now le h =
-    let parts : take i rest ++ drop i (take count rest) ≡ take count rest = ap (λ ts. ts ++ drop i (take count rest)) (sym (take_shorter i count rest le)) ∙ take-append-drop i (take count rest) in
-    subst (λ ts. WritesSomeOfRun fault finding number history before ts old now) parts (stops_longer finding number history fault before (take i rest) (drop i (take count rest)) old now h)
-
 module _ (finding : Sight → Finding) (number : ℕ) (history : History) where
   -- all text that is held was handed on
-  pub run_flushed : (s s' : Settler) (before run : List Tuple) (old now now' : Option (List ℕ)) → InRun s finding number history before run old now → s'.settled ≡ s.settled → s'.book ≡ s.book → s'.charges ≡ s.charges →
-      Says {T = Unit {0}} (Ok tt) s.printer s'.printer now now' [] → InRun s' finding number history before run old now'
-  run_flushed s s' before run old now now' h count book charges says = record {
-    settled = count ∙ h.settled;
-    book = subst (λ b. IsBook b finding (before ++ run)) (sym book) h.book;
-    earlier = h.earlier;
-    earlier_are = h.earlier_are;
-    told = h.told;
-    told_are = h.told_are;
-    count = let n = h.count in let m = says.0 in omega arith;
-    prints = subst (λ t. Prints s'.printer (out h.earlier) t old now') (append-nil (out h.told)) (says.1 (out h.earlier) (out h.told) old h.prints);
-    charged = ap (λ cs. map charge_of cs.items) charges ∙ h.charged;
-  }
-
-  -- the sink failed while text that is held was handed on
-  pub run_unflushed : (fault : SettleFault) (s : Settler) (q : Printer) (before run : List Tuple) (old now now' : Option (List ℕ)) → InRun s finding number history before run old now →
-      Says {T = Unit {0}} (Err fault) s.printer q now now' [] → WritesSomeOfRun fault finding number history before run old now'
-  run_unflushed fault s q before run old now now' h says =
-      (h.told, h.told_are, subst (λ t. WritesSome fault t old now') (append-nil (out h.told)) (says (out h.earlier) (out h.told) old h.prints))
-
--- by whether text that is held was handed on
-pub on_flush : (r : Result (Unit {0}) SettleFault) (p q : Printer) (w v : Option (List ℕ)) (P : Type 0) → Says r p q w v [] → (Says {T = Unit {0}} (Ok tt) p q w v [] → P) → OnOk r P
-on_flush (Ok u) p q w v P says f = f says
-on_flush (Err fault) p q w v P says f = tt
-
-pub if_unflushed : (r : Result (Unit {0}) SettleFault) (p q : Printer) (w v : Option (List ℕ)) (P : SettleFault → Type 0) → Says r p q w v [] → ((fault : SettleFault) → Says {T = Unit {0}} (Err fault) p q w v [] → P fault) → IfErr r P
-if_unflushed (Ok u) p q w v P says f = tt
-if_unflushed (Err fault) p q w v P says f = f fault says
+  pub run_flushed : (s s' : Settler) (before run : List Tuple) (old now now' : Level) (plan left : Plan) → InRun s finding number history before run old now plan left →
+      s'.settled ≡ s.settled → s'.book ≡ s.book → s'.charges ≡ s.charges →
+      HandsOn {T = Unit {0}} (Ok tt) s.printer s'.printer now now' → HasRun s' finding number history before run old now' plan left
+  run_flushed s s' before run old now now' plan left h count book charges hands =
+      let end = hands.1 (out h.earlier) (out h.told) old h.holds.prints in
+      record {
+        settled = count ∙ h.settled;
+        book = subst (λ b. IsBook b finding (before ++ run)) (sym book) h.book;
+        earlier = h.earlier;
+        earlier_are = h.earlier_are;
+        told = h.told;
+        told_are = h.told_are;
+        count = hands.0 ∙ h.count;
+        took = end.took;
+        none_held = end.none_held;
+        wrote = end.wrote;
+        charged = ap (λ cs. map charge_of cs.items) charges ∙ h.charged;
+        passed = h.passed;
+      }

@@ -1,6 +1,7 @@
 // What was paid on an earlier day.
 ghost use Rattle.std.specs.Prelude.{◌≡◌, false, IfOk};
 ghost use Rattle.settling.specs.Answers.{IsPaid, history_of};
+ghost use Rattle.settling.specs.Asking.{AsksOnce};
 ghost use Rattle.settling.specs.Faults.{KeeperFaults, write_failed};
 
 use crate::fault::SettleFault;
@@ -10,6 +11,7 @@ use keeper::{KeepFault, Keeper};
 pub fn paid_on<K: Keeper>(keeper: &mut K, day: u32, vid: u32, xway: u8) -> Result<u64, SettleFault>
     ensures paid { IfOk result (λ amount. IsPaid (history_of (K.told keeper.old)) day vid xway amount) }
     ensures same { K.told keeper.new ≡ K.told keeper.old }
+    ensures once { AsksOnce result (K.plan keeper.old) (K.plan keeper.new) }
     ensures faults { KeeperFaults (K.faults keeper.old) (K.faults keeper.new) (K.plan keeper.old) (K.plan keeper.new) result }
     ensures other { write_failed result ≡ false }
 {

@@ -1,14 +1,15 @@
 // Notices are written in large pieces, counted, and the digest of their text is taken on the way.
 ghost use Rattle.std.specs.Prelude.{◌≡◌, ◌+◌, ◌<◌, ◌^◌, ◌∷◌, [], ℕ, List, true, false, OnOk};
 ghost use Rattle.keeper.specs.Digests.{Took, digest_of};
-ghost use Rattle.settling.specs.Printing.{Says};
+ghost use Rattle.settling.specs.Printing.{Says, HandsOn};
 ghost use Rattle.settling.specs.Faults.{SinkFaults, keeper_failed};
 ghost use Rattle.settling.specs.Answers.{alert_to, told_notices};
 
 use crate::fault::SettleFault;
+use crate::handing::hand_on;
 use crate::slot::Found;
 use keeper::{Digest, Digester};
-use road_io::{Sink, put_all};
+use road_io::Sink;
 use road_time::Notice;
 use std::alloc::Global;
 use tuple_format::put_notice;
@@ -40,12 +41,11 @@ impl Printer {
 
     /// Hands the piece on.
     pub fn flush<O: Sink>(&mut self, sink: &mut O) -> Result<(), SettleFault>
-        ensures says { Says result self.old self.new (O.written sink.old) (O.written sink.new) [] }
-        ensures held { OnOk result (self.new.piece.items ≡ []) }
+        ensures hands { HandsOn result self.old self.new (O.written sink.old, O.room sink.old) (O.written sink.new, O.room sink.new) }
         ensures faults { SinkFaults (O.faults sink.old) (O.faults sink.new) (O.room sink.old) (O.room sink.new) result }
         ensures other { keeper_failed result ≡ false }
     {
-        match put_all(sink, self.piece.as_slice()) {
+        match hand_on(sink, self.piece.as_slice()) {
             Ok(()) => {
                 self.digester.add(&self.piece);
                 self.piece.clear();
@@ -59,7 +59,7 @@ impl Printer {
     #[inline(always)]
     pub fn put<O: Sink>(&mut self, notice: &Notice, sink: &mut O) -> Result<(), SettleFault>
         requires { self.old.notices + 1 < 2 ^ 64 }
-        ensures says { Says result self.old self.new (O.written sink.old) (O.written sink.new) (notice.now ∷ []) }
+        ensures says { Says result self.old self.new (O.written sink.old, O.room sink.old) (O.written sink.new, O.room sink.new) (notice.now ∷ []) }
         ensures faults { SinkFaults (O.faults sink.old) (O.faults sink.new) (O.room sink.old) (O.room sink.new) result }
         ensures other { keeper_failed result ≡ false }
     {
@@ -83,7 +83,7 @@ impl Printer {
         sink: &mut O,
     ) -> Result<(), SettleFault>
         requires { self.old.notices + 1 < 2 ^ 64 }
-        ensures says { Says result self.old self.new (O.written sink.old) (O.written sink.new) (alert_to time vid alert) }
+        ensures says { Says result self.old self.new (O.written sink.old, O.room sink.old) (O.written sink.new, O.room sink.new) (alert_to time vid alert) }
         ensures faults { SinkFaults (O.faults sink.old) (O.faults sink.new) (O.room sink.old) (O.room sink.new) result }
         ensures other { keeper_failed result ≡ false }
     {
@@ -102,7 +102,7 @@ impl Printer {
         sink: &mut O,
     ) -> Result<(), SettleFault>
         requires { self.old.notices + 2 < 2 ^ 64 }
-        ensures says { Says result self.old self.new (O.written sink.old) (O.written sink.new) (told_notices true time vid found) }
+        ensures says { Says result self.old self.new (O.written sink.old, O.room sink.old) (O.written sink.new, O.room sink.new) (told_notices true time vid found) }
         ensures faults { SinkFaults (O.faults sink.old) (O.faults sink.new) (O.room sink.old) (O.room sink.new) result }
         ensures other { keeper_failed result ≡ false }
     {

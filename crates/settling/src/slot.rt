@@ -1,5 +1,5 @@
 // What is kept of a tuple that waits to be settled.
-ghost use Rattle.std.specs.Prelude.{◌≡◌, ◌<◌, List, None, length, slice_index, slice_set, slice_get, Some};
+ghost use Rattle.std.specs.Prelude.{◌≡◌, ◌<◌, ◌==◌, ◌&&◌, not, List, None, length, slice_index, slice_set, slice_get, Some};
 ghost use Rattle.std.specs.VecDeque.{deque_len};
 ghost use Rattle.road_time.specs.declared.road.Tuple.{Tuple as TupleValue};
 ghost use Rattle.road_time.specs.declared.road.Tuple.TheVariants.{Report as ReportTuple};
@@ -8,7 +8,8 @@ ghost use Rattle.road_time.specs.Sights.{Sight};
 ghost use Rattle.road_time.specs.Tolls.{Finding};
 ghost use Rattle.road_time.specs.Tuples.{report_of};
 ghost use Rattle.crossings.specs.Laws.{IsTold};
-ghost use Rattle.settling.specs.Slots.{slot_of};
+ghost use Rattle.settling.specs.Slots.{slot_of, due_of, found_of};
+ghost use Rattle.settling.specs.declared.slot.Due.TheVariants.{Report as ReportDue};
 ghost use Rattle.settling.specs.declared.slot.Slot.{Slot as SlotValue};
 
 use crossings::{Charge, Tracked};
@@ -17,13 +18,6 @@ use std::collections::VecDeque;
 
 /// The lane in which a vehicle leaves an expressway.
 const EXIT_LANE: u8 = 4;
-
-/// What a position has for which nothing was found yet.
-const NOTHING: Found = Found {
-    lav: -1,
-    toll: 0,
-    alert: None,
-};
 
 /// What was found for a position: the toll, the average in whole miles per hour, -1 for none, and the segment of the
 /// nearest accident ahead. Fields lie in memory as they are declared, so the large one is the first.
@@ -66,29 +60,40 @@ pub struct Slot {
     pub due: Due,
 }
 
-impl Slot {
-    /// The slot of a report, by what the tracker told of it.
+impl Found {
+    /// Nothing was found yet.
     #[inline(always)]
-    pub fn of_report(report: &Report, tracked: &Tracked) -> Slot
-        ensures { (finding : Sight → Finding) (day : List TupleValue) → IsTold tracked.now day report.now → finding (length day, report.now) ≡ no_finding → result ≡ slot_of finding (day, ReportTuple report.now) }
+    pub fn none_yet() -> Found
+        ensures { result ≡ found_of no_finding }
     {
-        Slot {
-            due: Due::Report {
-                time: report.time,
-                vid: report.vid,
-                charge: tracked.charge,
-                told: tracked.begins && report.lane != EXIT_LANE,
-            },
-            found: NOTHING,
+        Found {
+            lav: -1,
+            toll: 0,
+            alert: None,
+        }
+    }
+}
+
+impl Due {
+    /// What a report calls for, by what the tracker told of it.
+    #[inline(always)]
+    pub fn of_report(report: &Report, tracked: &Tracked) -> Due
+        ensures { result ≡ ReportDue report.now.time report.now.vid tracked.now.charge (tracked.now.begins && not (report.now.lane == 4)) }
+    {
+        Due::Report {
+            time: report.time,
+            vid: report.vid,
+            charge: tracked.charge,
+            told: tracked.begins && report.lane != EXIT_LANE,
         }
     }
 
-    /// The slot of a tuple that is no report.
+    /// What a tuple calls for that is no report.
     #[inline(always)]
-    pub fn of_request(tuple: &Tuple) -> Slot
-        ensures { (finding : Sight → Finding) (day : List TupleValue) → report_of tuple.now ≡ None → result ≡ slot_of finding (day, tuple.now) }
+    pub fn of_request(tuple: &Tuple) -> Due
+        ensures { (day : List TupleValue) → report_of tuple.now ≡ None → result ≡ due_of (day, tuple.now) }
     {
-        let due = match *tuple {
+        match *tuple {
             Tuple::Balance { time, vid, qid } => Due::Balance { time, vid, qid },
             Tuple::Spent {
                 time,
@@ -104,10 +109,31 @@ impl Slot {
                 day,
             },
             _ => Due::Nothing,
-        };
+        }
+    }
+}
+
+impl Slot {
+    /// The slot of a report, by what the tracker told of it.
+    #[inline(always)]
+    pub fn of_report(report: &Report, tracked: &Tracked) -> Slot
+        ensures { (finding : Sight → Finding) (day : List TupleValue) → IsTold tracked.now day report.now → finding (length day, report.now) ≡ no_finding
+            → result ≡ slot_of finding (day, ReportTuple report.now) }
+    {
         Slot {
-            due,
-            found: NOTHING,
+            due: Due::of_report(report, tracked),
+            found: Found::none_yet(),
+        }
+    }
+
+    /// The slot of a tuple that is no report.
+    #[inline(always)]
+    pub fn of_request(tuple: &Tuple) -> Slot
+        ensures { (finding : Sight → Finding) (day : List TupleValue) → report_of tuple.now ≡ None → result ≡ slot_of finding (day, tuple.now) }
+    {
+        Slot {
+            due: Due::of_request(tuple),
+            found: Found::none_yet(),
         }
     }
 }
@@ -116,7 +142,8 @@ impl Slot {
 #[inline(always)]
 pub fn fill(slots: &mut VecDeque<Slot>, at: usize, found: Found)
     requires { at < deque_len slots.old }
-    ensures { (slot : SlotValue) → slice_get slots.old.items at ≡ Some slot → slots.new.items ≡ slice_set slots.old.items at (record { due = slot.due; found = found }) }
+    ensures len { deque_len slots.new ≡ deque_len slots.old }
+    ensures filled { (slot : SlotValue) → slice_get slots.old.items at ≡ Some slot → slots.new.items ≡ slice_set slots.old.items at (record { due = slot.due; found = found }) }
 {
     slots[at].found = found;
 }

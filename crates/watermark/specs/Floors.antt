@@ -12,7 +12,9 @@ use Rattle.settling.specs.Slots.{slots_of}
 use Rattle.watermark.specs.Desks.{StandFor}
 use Rattle.settling.specs.declared.fault.SettleFault.{SettleFault}
 use Rattle.settling.specs.Answers.{History}
-use Rattle.settling.specs.Runs.{WritesRun, WritesSomeOfRun, StandsFor as SettlerStandsFor}
+use Rattle.settling.specs.Levels.{Level}
+use Rattle.settling.specs.Asking.{Plan}
+use Rattle.settling.specs.Runs.{WritesRun, WritesSomeOfRun, TakesRun, StopsRun, StandsFor as SettlerStandsFor}
 
 -- a worker's carriage is out with a job, or it is at home and stands for the events that are back
 abbrev pub IsHome : Tariffs → Option Kept → Share → Type 0
@@ -61,3 +63,11 @@ Writes g s n old now = WritesRun (given s.found) g.number g.history (take s.sett
 -- or some first bytes of it
 abbrev pub WritesSome : SettleFault → Setting → State → ℕ → Option (List ℕ) → Option (List ℕ) → Type 0
 WritesSome fault g s n old now = WritesSomeOfRun fault (given s.found) g.number g.history (take s.settled s.fed) (take (n - s.settled) (drop s.settled s.fed)) old now
+
+-- the sink took all of it, and the keeper was asked for each request, and planned none of these calls to fail
+abbrev pub Takes : Setting → State → ℕ → Level → Level → Plan → Plan → Type 0
+Takes g s n old now plan left = TakesRun (given s.found) g.number g.history (take s.settled s.fed) (take (n - s.settled) (drop s.settled s.fed)) old now plan left
+
+-- where it was stopped: by the keeper at the call that was planned to fail; by the sink where its room was full; or for want of memory
+abbrev pub Stops : SettleFault → Setting → State → ℕ → Level → Level → Plan → Plan → Type 0
+Stops fault g s n old now plan left = StopsRun fault (given s.found) g.number g.history (take s.settled s.fed) (take (n - s.settled) (drop s.settled s.fed)) old now plan left

@@ -6,7 +6,7 @@ ghost use Rattle.watermark.specs.Shares.{State, start, can_give, mark};
 ghost use Rattle.watermark.specs.Steps.{after_feed, after_give, after_back};
 ghost use Rattle.watermark.specs.Sound.{CanFeed};
 ghost use Rattle.watermark.specs.Jobs.{IsNext, MayComeBack};
-ghost use Rattle.watermark.specs.Floors.{Setting, width_of, limits_of, StandsFor, Serves, Writes, WritesSome};
+ghost use Rattle.watermark.specs.Floors.{Setting, width_of, limits_of, StandsFor, Serves, Writes, WritesSome, Takes, Stops};
 ghost use Rattle.settling.specs.Answers.{History, history_of};
 ghost use Rattle.settling.specs.Boards.{IsAbreast, Publishes};
 ghost use Rattle.settling.specs.Closes.{IsClosed};
@@ -17,14 +17,13 @@ ghost use Rattle.watermark.specs.Steps.{after_settle};
 
 use crate::homes::{bring_home, make_homes, take_home};
 use crate::inboxes::Inboxes;
-use crate::slot::none_found;
 use crate::slots::fill;
 use accounts::Publisher;
 use expressway::{Carriage, Done, Events, Job};
 use keeper::Keeper;
 use road_io::Sink;
 use road_time::{Limits, NoMemory, Tariffs, Tuple};
-use settling::{Closed, SettleFault, Settler, Slot};
+use settling::{Closed, Found, SettleFault, Settler, Slot};
 use std::alloc::Global;
 use std::collections::VecDeque;
 
@@ -105,7 +104,7 @@ impl Floor {
         let due = self.inboxes.feed(position, &tuple)?;
         let slot = Slot {
             due,
-            found: none_found(),
+            found: Found::none_yet(),
         };
         if self.slots.push_back(slot).is_err() {}
         Ok(())
@@ -182,6 +181,11 @@ impl Floor {
         ensures settled { IfOk result (λ n. (g : Setting) (s : State) → StandsFor g self.old s → g.number ≡ day → g.history ≡ history_of (K.told keeper.old) → (n ≡ mark (width_of self.old) s) × StandsFor g self.new (after_settle s n)) }
         ensures wrote { IfOk result (λ n. (g : Setting) (s : State) → StandsFor g self.old s → g.number ≡ day → g.history ≡ history_of (K.told keeper.old) → Writes g s n (O.written sink.old) (O.written sink.new)) }
         ensures stopped { IfErr result (λ fault. (g : Setting) (s : State) → StandsFor g self.old s → g.number ≡ day → g.history ≡ history_of (K.told keeper.old) → WritesSome fault g s (mark (width_of self.old) s) (O.written sink.old) (O.written sink.new)) }
+        ensures took { IfOk result (λ n. (g : Setting) (s : State) → StandsFor g self.old s → g.number ≡ day → g.history ≡ history_of (K.told keeper.old)
+            → Takes g s n (O.written sink.old, O.room sink.old) (O.written sink.new, O.room sink.new) (K.plan keeper.old) (K.plan keeper.new)) }
+        ensures where_stopped { IfErr result (λ fault. (g : Setting) (s : State) → StandsFor g self.old s → g.number ≡ day → g.history ≡ history_of (K.told keeper.old)
+            → Stops fault g s (mark (width_of self.old) s) (O.written sink.old, O.room sink.old) (O.written sink.new, O.room sink.new)
+            (K.plan keeper.old) (K.plan keeper.new)) }
         ensures published { (g : Setting) (s : State) → StandsFor g self.old s → g.number ≡ day → g.history ≡ history_of (K.told keeper.old) → Publishes result (mark (width_of self.old) s - s.settled) (charged_to s (mark (width_of self.old) s)) (mark (width_of self.old) s) (P.posted publisher.old) (P.posted publisher.new) }
         ensures abreast { IfOk result (λ n. (g : Setting) (s : State) → StandsFor g self.old s → g.number ≡ day → g.history ≡ history_of (K.told keeper.old) → IsAbreast (P.posted publisher.new) (sum_of (settled_charges (after_settle s n)))) }
         ensures which { P.which publisher.new ≡ P.which publisher.old }

@@ -14,7 +14,6 @@ ghost use Rattle.settling.specs.Slots.{due_of};
 ghost use Rattle.watermark.specs.Desks.{StandsAt, HasRoom, with_events, tracked_events, MayCome, StandFor};
 
 use crate::desk::Desk;
-use crate::slot::called_for;
 use crossings::{Tracked, Tracker};
 use expressway::LaneEvent;
 use road_time::{NoMemory, Place, Report, Tuple, Way, worker_of};
@@ -212,7 +211,7 @@ impl Inboxes {
         make_rooms(&mut self.desks, self.width, worker, left)?;
         let tracked = self.tracker.see(report)?;
         put_events(&mut self.desks, self.width, position, report, left, tracked);
-        Ok(called_for(report, tracked))
+        Ok(Due::of_report(report, &tracked))
     }
 
     /// The next tuple of the day comes in, at its position, and what it calls for is told. The one error is want of memory, and then nothing has changed.
@@ -225,25 +224,7 @@ impl Inboxes {
     {
         match tuple {
             Tuple::Report(report) => self.feed_report(position, report),
-            Tuple::Balance { time, vid, qid } => Ok(Due::Balance {
-                time: *time,
-                vid: *vid,
-                qid: *qid,
-            }),
-            Tuple::Spent {
-                time,
-                vid,
-                xway,
-                qid,
-                day,
-            } => Ok(Due::Spent {
-                time: *time,
-                vid: *vid,
-                xway: *xway,
-                qid: *qid,
-                day: *day,
-            }),
-            Tuple::Travel { .. } => Ok(Due::Nothing),
+            request => Ok(Due::of_request(request)),
         }
     }
 

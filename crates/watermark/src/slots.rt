@@ -11,7 +11,7 @@ ghost use Rattle.settling.specs.Slots.{slots_of};
 
 use crate::slot::said;
 use expressway::Finding;
-use settling::Slot;
+use settling::{Slot, fill as fill_slot};
 use std::collections::VecDeque;
 
 /// Puts a finding beside its tuple.
@@ -21,7 +21,7 @@ fn fill_one(slots: &mut VecDeque<Slot>, settled: u32, finding: Finding)
     ensures len { deque_len slots.new ≡ deque_len slots.old }
     ensures filled { (found : List (ℕ × Told)) (before rest : List Tuple) → slots.old.items ≡ slots_of (given found) before rest → length before ≡ settled → found_at finding.position found ≡ [] → ReportAt (before ++ rest) finding.position → slots.new.items ≡ slots_of (given (found ++ shown finding ∷ [])) before rest }
 {
-    slots[(finding.position - settled) as usize].found = said(finding);
+    fill_slot(slots, (finding.position - settled) as usize, said(finding));
 }
 
 /// Puts findings beside their tuples.

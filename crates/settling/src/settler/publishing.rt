@@ -9,7 +9,7 @@ ghost use Rattle.accounts.specs.Sums.{total_in};
 ghost use Rattle.settling.specs.Answers.{history_of};
 ghost use Rattle.settling.specs.Boards.{IsAbreast, Publishes};
 ghost use Rattle.settling.specs.Faults.{SinkFaults, KeeperFaults, write_failed, keeper_failed};
-ghost use Rattle.settling.specs.Runs.{StandsFor, Waits, WritesRun, WritesSomeOfRun};
+ghost use Rattle.settling.specs.Runs.{StandsFor, Waits, WritesRun, WritesSomeOfRun, TakesRun, StopsRun};
 
 use super::Settler;
 use crate::fault::SettleFault;
@@ -67,6 +67,14 @@ impl Settler {
             → WritesRun finding number (history_of (K.told keeper.old)) before (take count rest) (O.written sink.old) (O.written sink.new)) }
         ensures stopped { IfErr result (λ fault. (finding : Sight → Finding) (before rest : List Tuple) → StandsFor self.old finding number (history_of (K.told keeper.old)) before → Waits slots.old.items finding before rest → count ≤ length rest
             → WritesSomeOfRun fault finding number (history_of (K.told keeper.old)) before (take count rest) (O.written sink.old) (O.written sink.new)) }
+        ensures took { OnOk result ((finding : Sight → Finding) (before rest : List Tuple) → StandsFor self.old finding number (history_of (K.told keeper.old)) before
+            → Waits slots.old.items finding before rest → count ≤ length rest
+            → TakesRun finding number (history_of (K.told keeper.old)) before (take count rest)
+            (O.written sink.old, O.room sink.old) (O.written sink.new, O.room sink.new) (K.plan keeper.old) (K.plan keeper.new)) }
+        ensures where_stopped { IfErr result (λ fault. (finding : Sight → Finding) (before rest : List Tuple) → StandsFor self.old finding number (history_of (K.told keeper.old)) before
+            → Waits slots.old.items finding before rest → count ≤ length rest
+            → StopsRun fault finding number (history_of (K.told keeper.old)) before (take count rest)
+            (O.written sink.old, O.room sink.old) (O.written sink.new, O.room sink.new) (K.plan keeper.old) (K.plan keeper.new)) }
         ensures published { (finding : Sight → Finding) (before rest : List Tuple) → StandsFor self.old finding number (history_of (K.told keeper.old)) before → Waits slots.old.items finding before rest → count ≤ length rest
             → Publishes result count (charges_by finding (moments_after before (take count rest))) (length before + count) (P.posted publisher.old) (P.posted publisher.new) }
         ensures abreast { OnOk result (IsAbreast (P.posted publisher.new) (total_in self.new.book.spent)) }

@@ -1,13 +1,15 @@
 // A run of positions is settled, in order.
-ghost use Rattle.std.specs.Prelude.{◌≡◌, ◌≤◌, ◌+◌, ◌++◌, ◌∷◌, [], ℕ, List, Option, OnOk, IfErr, take, drop, length};
+ghost use Rattle.std.specs.Prelude.{◌≡◌, ◌≤◌, ◌+◌, ◌++◌, ◌∷◌, [], ℕ, List, OnOk, IfErr, take, drop, length};
 ghost use Rattle.std.specs.VecDeque.{deque_len};
 ghost use Rattle.road_time.specs.declared.road.Tuple.{Tuple};
 ghost use Rattle.road_time.specs.Sights.{Sight};
 ghost use Rattle.road_time.specs.Tolls.{Finding};
 ghost use Rattle.settling.specs.Answers.{history_of};
+ghost use Rattle.settling.specs.Asking.{Plan};
 ghost use Rattle.settling.specs.Faults.{SinkFaults, KeeperFaults};
+ghost use Rattle.settling.specs.Levels.{Level};
 ghost use Rattle.settling.specs.Slots.{slots_of};
-ghost use Rattle.settling.specs.Runs.{StandsFor, InRun, Waits, WritesSomeOfRun};
+ghost use Rattle.settling.specs.Runs.{StandsFor, InRun, HasRun, Waits, StopsRun};
 
 use super::Settler;
 use crate::fault::SettleFault;
@@ -25,11 +27,18 @@ impl Settler {
         keeper: &mut K,
         sink: &mut O,
     ) -> Result<(), SettleFault>
-        requires { (finding : Sight → Finding) × (before : List Tuple) × (run : List Tuple) × (x : Tuple) × (rest : List Tuple) × (old : Option (List ℕ)) × InRun self.old finding number (history_of (K.told keeper.old)) before run old (O.written sink.old) × Waits slots.old.items finding (before ++ run) (x ∷ rest) }
-        ensures ok { OnOk result ((finding : Sight → Finding) (before run : List Tuple) (x : Tuple) (rest : List Tuple) (old : Option (List ℕ)) → InRun self.old finding number (history_of (K.told keeper.old)) before run old (O.written sink.old) → Waits slots.old.items finding (before ++ run) (x ∷ rest)
-            → InRun self.new finding number (history_of (K.told keeper.new)) before (run ++ x ∷ []) old (O.written sink.new) × Waits slots.new.items finding (before ++ (run ++ x ∷ [])) rest) }
-        ensures err { IfErr result (λ fault. (finding : Sight → Finding) (before run : List Tuple) (x : Tuple) (rest : List Tuple) (old : Option (List ℕ)) → InRun self.old finding number (history_of (K.told keeper.old)) before run old (O.written sink.old) → Waits slots.old.items finding (before ++ run) (x ∷ rest)
-            → WritesSomeOfRun fault finding number (history_of (K.told keeper.old)) before (run ++ x ∷ []) old (O.written sink.new)) }
+        requires { (finding : Sight → Finding) × (before : List Tuple) × (run : List Tuple) × (x : Tuple) × (rest : List Tuple) × (old : Level) × (plan : Plan)
+            × InRun self.old finding number (history_of (K.told keeper.old)) before run old (O.written sink.old, O.room sink.old) plan (K.plan keeper.old)
+            × Waits slots.old.items finding (before ++ run) (x ∷ rest) }
+        ensures ok { OnOk result ((finding : Sight → Finding) (before run : List Tuple) (x : Tuple) (rest : List Tuple) (old : Level) (plan : Plan)
+            → InRun self.old finding number (history_of (K.told keeper.old)) before run old (O.written sink.old, O.room sink.old) plan (K.plan keeper.old)
+            → Waits slots.old.items finding (before ++ run) (x ∷ rest)
+            → InRun self.new finding number (history_of (K.told keeper.new)) before (run ++ x ∷ []) old (O.written sink.new, O.room sink.new) plan (K.plan keeper.new)
+            × Waits slots.new.items finding (before ++ (run ++ x ∷ [])) rest) }
+        ensures err { IfErr result (λ fault. (finding : Sight → Finding) (before run : List Tuple) (x : Tuple) (rest : List Tuple) (old : Level) (plan : Plan)
+            → InRun self.old finding number (history_of (K.told keeper.old)) before run old (O.written sink.old, O.room sink.old) plan (K.plan keeper.old)
+            → Waits slots.old.items finding (before ++ run) (x ∷ rest)
+            → StopsRun fault finding number (history_of (K.told keeper.old)) before (run ++ x ∷ []) old (O.written sink.new, O.room sink.new) plan (K.plan keeper.new)) }
         ensures same { K.told keeper.new ≡ K.told keeper.old }
         ensures sink { SinkFaults (O.faults sink.old) (O.faults sink.new) (O.room sink.old) (O.room sink.new) result }
         ensures keeper { KeeperFaults (K.faults keeper.old) (K.faults keeper.new) (K.plan keeper.old) (K.plan keeper.new) result }
@@ -54,10 +63,15 @@ impl Settler {
         sink: &mut O,
     ) -> Result<(), SettleFault>
         requires waits { (finding : Sight → Finding) × (before : List Tuple) × (rest : List Tuple) × StandsFor self.old finding number (history_of (K.told keeper.old)) before × Waits slots.old.items finding before rest × (count ≤ length rest) }
-        ensures ok { OnOk result ((finding : Sight → Finding) (before rest : List Tuple) → StandsFor self.old finding number (history_of (K.told keeper.old)) before → Waits slots.old.items finding before rest → count ≤ length rest
-            → InRun self.new finding number (history_of (K.told keeper.new)) before (take count rest) (O.written sink.old) (O.written sink.new) × Waits slots.new.items finding (before ++ take count rest) (drop count rest)) }
-        ensures err { IfErr result (λ fault. (finding : Sight → Finding) (before rest : List Tuple) → StandsFor self.old finding number (history_of (K.told keeper.old)) before → Waits slots.old.items finding before rest → count ≤ length rest
-            → WritesSomeOfRun fault finding number (history_of (K.told keeper.old)) before (take count rest) (O.written sink.old) (O.written sink.new)) }
+        ensures ok { OnOk result ((finding : Sight → Finding) (before rest : List Tuple)
+            → StandsFor self.old finding number (history_of (K.told keeper.old)) before → Waits slots.old.items finding before rest → count ≤ length rest
+            → InRun self.new finding number (history_of (K.told keeper.new)) before (take count rest)
+            (O.written sink.old, O.room sink.old) (O.written sink.new, O.room sink.new) (K.plan keeper.old) (K.plan keeper.new)
+            × Waits slots.new.items finding (before ++ take count rest) (drop count rest)) }
+        ensures err { IfErr result (λ fault. (finding : Sight → Finding) (before rest : List Tuple)
+            → StandsFor self.old finding number (history_of (K.told keeper.old)) before → Waits slots.old.items finding before rest → count ≤ length rest
+            → StopsRun fault finding number (history_of (K.told keeper.old)) before (take count rest)
+            (O.written sink.old, O.room sink.old) (O.written sink.new, O.room sink.new) (K.plan keeper.old) (K.plan keeper.new)) }
         ensures same { K.told keeper.new ≡ K.told keeper.old }
         ensures sink { SinkFaults (O.faults sink.old) (O.faults sink.new) (O.room sink.old) (O.room sink.new) result }
         ensures keeper { KeeperFaults (K.faults keeper.old) (K.faults keeper.new) (K.plan keeper.old) (K.plan keeper.new) result }
@@ -80,11 +94,15 @@ impl Settler {
         sink: &mut O,
     ) -> Result<(), SettleFault>
         requires waits { (finding : Sight → Finding) × (before : List Tuple) × (rest : List Tuple) × StandsFor self.old finding number (history_of (K.told keeper.old)) before × Waits slots.old.items finding before rest × (count ≤ length rest) }
-        ensures ok { OnOk result ((finding : Sight → Finding) (before rest : List Tuple) → StandsFor self.old finding number (history_of (K.told keeper.old)) before → Waits slots.old.items finding before rest → count ≤ length rest
-            → InRun self.new finding number (history_of (K.told keeper.new)) before (take count rest) (O.written sink.old) (O.written sink.new) × Waits slots.new.items finding (before ++ take count rest) (drop count rest)) }
-        ensures held { OnOk result (self.new.printer.piece.items ≡ []) }
-        ensures err { IfErr result (λ fault. (finding : Sight → Finding) (before rest : List Tuple) → StandsFor self.old finding number (history_of (K.told keeper.old)) before → Waits slots.old.items finding before rest → count ≤ length rest
-            → WritesSomeOfRun fault finding number (history_of (K.told keeper.old)) before (take count rest) (O.written sink.old) (O.written sink.new)) }
+        ensures ok { OnOk result ((finding : Sight → Finding) (before rest : List Tuple)
+            → StandsFor self.old finding number (history_of (K.told keeper.old)) before → Waits slots.old.items finding before rest → count ≤ length rest
+            → HasRun self.new finding number (history_of (K.told keeper.new)) before (take count rest)
+            (O.written sink.old, O.room sink.old) (O.written sink.new, O.room sink.new) (K.plan keeper.old) (K.plan keeper.new)
+            × Waits slots.new.items finding (before ++ take count rest) (drop count rest)) }
+        ensures err { IfErr result (λ fault. (finding : Sight → Finding) (before rest : List Tuple)
+            → StandsFor self.old finding number (history_of (K.told keeper.old)) before → Waits slots.old.items finding before rest → count ≤ length rest
+            → StopsRun fault finding number (history_of (K.told keeper.old)) before (take count rest)
+            (O.written sink.old, O.room sink.old) (O.written sink.new, O.room sink.new) (K.plan keeper.old) (K.plan keeper.new)) }
         ensures same { K.told keeper.new ≡ K.told keeper.old }
         ensures sink { SinkFaults (O.faults sink.old) (O.faults sink.new) (O.room sink.old) (O.room sink.new) result }
         ensures keeper { KeeperFaults (K.faults keeper.old) (K.faults keeper.new) (K.plan keeper.old) (K.plan keeper.new) result }

@@ -1,13 +1,23 @@
-use Rattle.std.proofs.Common.{◌≡◌, Err, subst, sym, append-nil}
-use Rattle.road_io.specs.Rooms.{Puts}
-use Rattle.settling.specs.Printing.{WritesLess}
-use Rattle.settling.proofs.PrintLaws.{failed_piece}
+use Rattle.std.proofs.Common.{◌++◌, refl, subst}
+use Rattle.keeper.specs.Digests.{Took}
+use Rattle.settling.specs.declared.printer.Printer.{Printer}
+use Rattle.settling.specs.Levels.{Level, Adds, FillsUp}
+use Rattle.settling.proofs.PrintLaws.{failed_piece, whole_piece}
 use Rattle.settling.proofs.printer.Printer.flush.Goals as goal
 
-pub returns-in-Err-clause-says : goal.returns-in-Err-clause-says
-returns-in-Err-clause-says g c = λ earlier run old s.
-    let mid = g.O.Sink.written c.args.sink.now in
-    let new = g.O.Sink.written c.put_all.new.sink in
-    let err : c.put_all.result ≡ Err c.in-Err.field-0 = cc in
-    subst (λ t. WritesLess t old new) (sym (append-nil run))
-    (failed_piece c.args.self.now earlier run old mid new c.in-Err.field-0 s (subst (λ xs. Puts mid new (Err c.in-Err.field-0) xs) c.as_slice.ensures.value (subst (λ r. Puts mid new r c.as_slice.result.now) err c.put_all.ensures.bytes)))
+pub returns-in-Ok-clause-hands : goal.returns-in-Ok-clause-hands
+returns-in-Ok-clause-hands g c =
+    let p = c.args.self.now in
+    let q : Printer = record { piece = c.clear.new.self; digester = c.add.new.self; notices = p.notices } in
+    let mid : Level = (g.O.Sink.written c.args.sink.now, g.O.Sink.room c.args.sink.now) in
+    let new : Level = (g.O.Sink.written c.hand_on.new.sink, g.O.Sink.room c.hand_on.new.sink) in (
+      refl,
+      λ earlier run old s. whole_piece p q earlier run old mid new s (subst (Adds mid new) c.as_slice.ensures.value c.in-Ok.ensures.whole) c.clear.ensures.items
+          (λ text took. subst (λ xs. Took c.add.new.self (text ++ xs)) c.deref.ensures.value (c.add.ensures text took)),
+    )
+
+pub returns-in-Err-clause-hands : goal.returns-in-Err-clause-hands
+returns-in-Err-clause-hands g c = λ earlier run old s.
+    let mid : Level = (g.O.Sink.written c.args.sink.now, g.O.Sink.room c.args.sink.now) in
+    let new : Level = (g.O.Sink.written c.hand_on.new.sink, g.O.Sink.room c.hand_on.new.sink) in
+    failed_piece c.args.self.now earlier run old mid new s (subst (λ xs. FillsUp xs mid new) c.as_slice.ensures.value c.in-Err.ensures.full)

@@ -54,13 +54,13 @@ returns-else-is_err-clause-fed c = λ g s st can.
     let width = c.in_ok-due.ensures.width in
     let at : length s.fed ≡ c.fed-position.result =
     sym (c.fed-position.ensures g s (roomier f (record f { slots = c.reserve.new.self }) g s c.reserve.ensures.items st)) in
-    let new : Slot = record { due = c.in_ok-due.due; found = c.none_found.result } in
+    let new : Slot = record { due = c.in_ok-due.due; found = c.none_yet.result } in
     let items : c.push_back.new.self.items ≡ f.slots.items ++ new ∷ [] = search rules in
     record {
       terms = subst (λ n. AreTerms n f.limits) (sym width) st.terms;
       sound = subst (λ n. IsSound n f.limits (after_feed f.inboxes.width s x)) (sym width) (sound_feed f.inboxes.width f.limits s x st.sound can);
       inboxes = c.in_ok-due.ensures.fed s.fed s.share st.inboxes at;
-      slots = items ∙ slots_fed f.inboxes.width f.limits s x f.slots.items new st.sound st.slots (c.in_ok-due.ensures.due s.fed s.share st.inboxes) c.none_found.ensures;
+      slots = items ∙ slots_fed f.inboxes.width f.limits s x f.slots.items new st.sound st.slots (c.in_ok-due.ensures.due s.fed s.share st.inboxes) c.none_yet.ensures;
       homes_width = st.homes_width ∙ sym width;
       homes = λ w home is. home_fed g.tariffs home w f.inboxes.width s.fed x (s.share w) (st.homes w home is);
       settler = subst (SettlerStandsFor f.settler (given s.found) g.number g.history) (sym (first_stay s.settled s.fed x st.sound.settled)) st.settler;

@@ -4,7 +4,8 @@ use Rattle.road_time.specs.Day.{given}
 use Rattle.settling.specs.Answers.{history_of}
 use Rattle.settling.specs.Boards.{IsAbreast, Publishes, posted_if}
 use Rattle.settling.specs.Slots.{slots_of}
-use Rattle.settling.specs.Runs.{WritesRun, WritesSomeOfRun, StandsFor as SettlerStandsFor}
+use Rattle.settling.specs.Levels.{Level}
+use Rattle.settling.specs.Runs.{WritesRun, WritesSomeOfRun, TakesRun, StopsRun, StandsFor as SettlerStandsFor}
 use Rattle.watermark.specs.declared.floor.Floor.{Floor}
 use Rattle.watermark.specs.Shares.{State, mark, least_of}
 use Rattle.watermark.specs.Steps.{after_settle}
@@ -107,6 +108,43 @@ returns-in-Err-clause-stopped g c = λ e s st number history.
     subst (λ k. WritesSomeOfRun c.in-Err.fault (given s.found) k e.history (take s.settled s.fed) (take (mark f.inboxes.width s - s.settled) (drop s.settled s.fed)) (g.O.Sink.written c.args.sink.now) (g.O.Sink.written c.settle.new.sink)) (sym number)
     (subst (λ k. WritesSomeOfRun c.in-Err.fault (given s.found) c.args.day k (take s.settled s.fed) (take (mark f.inboxes.width s - s.settled) (drop s.settled s.fed)) (g.O.Sink.written c.args.sink.now) (g.O.Sink.written c.settle.new.sink)) (sym history)
     (subst (λ k. WritesSomeOfRun c.in-Err.fault (given s.found) c.args.day (history_of (g.K.Keeper.told c.args.keeper.now)) (take s.settled s.fed) (take k (drop s.settled s.fed)) (g.O.Sink.written c.args.sink.now) (g.O.Sink.written c.settle.new.sink)) count some))
+
+pub returns-in-Ok-clause-took : goal.returns-in-Ok-clause-took
+returns-in-Ok-clause-took g c = λ e s st number history.
+    let f = c.args.self.now in
+    let held : deque_len f.slots ≡ length f.slots.items = search rules in
+    let to : c.least-mark.result ≡ mark f.inboxes.width s = c.least-mark.ensures s.fed s.share st.inboxes ∙ ap (least_of s.share f.inboxes.width) (c.fed.ensures e s st) in
+    let count = count_is f s c.least-mark.result to st.settled in
+    let few = subst (λ n. n ≤ length (drop s.settled s.fed)) (sym count) (few_rest e f s st held) in
+    let day = on_day e f s st held c.args.day (history_of (g.K.Keeper.told c.args.keeper.now)) number history in
+    let all = c.in-Ok.ensures.settled (given s.found) (take s.settled s.fed) (drop s.settled s.fed) day (waits e f s st held) few in
+    let n : c.in-Ok.settled ≡ mark f.inboxes.width s = all.0 ∙ ap (λ k. length (take s.settled s.fed) + k) count ∙ reached e f s st held in
+    let more : c.least-mark.result - f.settled ≡ c.in-Ok.settled - s.settled = count ∙ ap (λ k. k - s.settled) (sym n) in
+    let took = c.in-Ok.ensures.took (given s.found) (take s.settled s.fed) (drop s.settled s.fed) day (waits e f s st held) few in
+    let old : Level = (g.O.Sink.written c.args.sink.now, g.O.Sink.room c.args.sink.now) in
+    let now : Level = (g.O.Sink.written c.settle.new.sink, g.O.Sink.room c.settle.new.sink) in
+    let plan = g.K.Keeper.plan c.args.keeper.now in
+    let left = g.K.Keeper.plan c.settle.new.keeper in
+    subst (λ k. TakesRun (given s.found) k e.history (take s.settled s.fed) (take (c.in-Ok.settled - s.settled) (drop s.settled s.fed)) old now plan left) (sym number)
+    (subst (λ k. TakesRun (given s.found) c.args.day k (take s.settled s.fed) (take (c.in-Ok.settled - s.settled) (drop s.settled s.fed)) old now plan left) (sym history)
+    (subst (λ k. TakesRun (given s.found) c.args.day (history_of (g.K.Keeper.told c.args.keeper.now)) (take s.settled s.fed) (take k (drop s.settled s.fed)) old now plan left) more took))
+
+pub returns-in-Err-clause-where_stopped : goal.returns-in-Err-clause-where_stopped
+returns-in-Err-clause-where_stopped g c = λ e s st number history.
+    let f = c.args.self.now in
+    let held : deque_len f.slots ≡ length f.slots.items = search rules in
+    let to : c.least-mark.result ≡ mark f.inboxes.width s = c.least-mark.ensures s.fed s.share st.inboxes ∙ ap (least_of s.share f.inboxes.width) (c.fed.ensures e s st) in
+    let count = count_is f s c.least-mark.result to st.settled in
+    let few = subst (λ n. n ≤ length (drop s.settled s.fed)) (sym count) (few_rest e f s st held) in
+    let day = on_day e f s st held c.args.day (history_of (g.K.Keeper.told c.args.keeper.now)) number history in
+    let some = c.in-Err.ensures.where_stopped (given s.found) (take s.settled s.fed) (drop s.settled s.fed) day (waits e f s st held) few in
+    let old : Level = (g.O.Sink.written c.args.sink.now, g.O.Sink.room c.args.sink.now) in
+    let now : Level = (g.O.Sink.written c.settle.new.sink, g.O.Sink.room c.settle.new.sink) in
+    let plan = g.K.Keeper.plan c.args.keeper.now in
+    let left = g.K.Keeper.plan c.settle.new.keeper in
+    subst (λ k. StopsRun c.in-Err.fault (given s.found) k e.history (take s.settled s.fed) (take (mark f.inboxes.width s - s.settled) (drop s.settled s.fed)) old now plan left) (sym number)
+    (subst (λ k. StopsRun c.in-Err.fault (given s.found) c.args.day k (take s.settled s.fed) (take (mark f.inboxes.width s - s.settled) (drop s.settled s.fed)) old now plan left) (sym history)
+    (subst (λ k. StopsRun c.in-Err.fault (given s.found) c.args.day (history_of (g.K.Keeper.told c.args.keeper.now)) (take s.settled s.fed) (take k (drop s.settled s.fed)) old now plan left) count some))
 
 pub returns-in-Ok-clause-published : goal.returns-in-Ok-clause-published
 returns-in-Ok-clause-published g c = λ e s st number history.

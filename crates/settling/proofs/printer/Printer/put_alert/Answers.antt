@@ -1,0 +1,13 @@
+use Rattle.std.proofs.Common.{Ok, subst, sym}
+use Rattle.settling.specs.Answers.{alert_to}
+use Rattle.settling.specs.Levels.{Level}
+use Rattle.settling.specs.Printing.{Says}
+use Rattle.settling.proofs.PrintLaws.{says_none}
+use Rattle.settling.proofs.printer.Printer.put_alert.Goals as goal
+
+pub returns-in-None-clause-says : goal.returns-in-None-clause-says
+returns-in-None-clause-says g c =
+    let a = c.args in
+    let p = a.self.now in
+    let w : Level = (g.O.Sink.written a.sink.now, g.O.Sink.room a.sink.now) in
+    subst (λ alert. Says {T = Unit {0}} (Ok tt) p p w w (alert_to a.time a.vid alert)) (sym c.in-None.is) (says_none p w)

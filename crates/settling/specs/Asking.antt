@@ -1,0 +1,54 @@
+-- How often a keeper is asked, and which of its calls pass.
+use Rattle.std.specs.Prelude.{ℕ, ◌≡◌, ◌+◌, ◌<◌, ◌≤◌, Bool, true, false, List, [], ◌∷◌, Option, Some, None, Result, Ok, Err}
+use Rattle.road_time.specs.declared.road.Tuple.{Tuple}
+use Rattle.road_time.specs.declared.road.Tuple.TheVariants.{Report as ReportTuple, Balance as BalanceTuple, Spent as SpentTuple, Travel}
+use Rattle.settling.specs.declared.fault.SettleFault.{SettleFault}
+use Rattle.settling.specs.declared.fault.SettleFault.TheVariants.{KeeperFault, WriteFault, NoMemory}
+use Rattle.settling.specs.declared.slot.Due.{Due}
+use Rattle.settling.specs.declared.slot.Due.TheVariants.{Nothing, Report, Balance, Spent}
+
+-- which of a keeper's calls to come fail, where it tells that, the next being 0
+abbrev pub Plan : Type 0
+Plan = Option (ℕ → Bool)
+
+-- so many calls passed, none of which was planned to fail, and those after them stay planned as they were
+abbrev pub Passes : ℕ → Plan → Plan → Type 0
+Passes n None now = Unit {0}
+Passes n (Some p) None = ⊥
+Passes n (Some p) (Some q) = ((i : ℕ) → i < n → p i ≡ false) × ((i : ℕ) → q i ≡ p (i + n))
+
+-- at most so many calls passed
+abbrev pub PassesUpTo : ℕ → Plan → Plan → Type 0
+PassesUpTo n old now = (k : ℕ) × (k ≤ n) × Passes k old now
+
+-- so many calls passed, and the next failed as it was planned
+abbrev pub FailsAfter : ℕ → Plan → Plan → Type 0
+FailsAfter n None now = Unit {0}
+FailsAfter n (Some p) None = ⊥
+FailsAfter n (Some p) (Some q) = ((i : ℕ) → i < n → p i ≡ false) × (p n ≡ true) × ((i : ℕ) → q i ≡ p (i + (n + 1)))
+
+-- how often a keeper is asked where a tuple is settled: once for an amount of an earlier day
+abbrev pub asked_by : Tuple → ℕ
+asked_by (ReportTuple r) = 0
+asked_by (BalanceTuple time vid qid) = 0
+asked_by (SpentTuple time vid xway qid day) = 1
+asked_by (Travel time) = 0
+
+-- and where several are
+abbrev pub asked : List Tuple → ℕ
+asked [] = 0
+asked (x ∷ xs) = asked_by x + asked xs
+
+-- and where a slot is
+abbrev pub asked_for : Due → ℕ
+asked_for Nothing = 0
+asked_for (Report time vid charge told) = 0
+asked_for (Balance time vid qid) = 0
+asked_for (Spent time vid qid xway day) = 1
+
+-- one call was made, which failed exactly where that is answered
+abbrev pub AsksOnce : {T : Type 0} → Result T SettleFault → Plan → Plan → Type 0
+AsksOnce (Ok x) old now = Passes 1 old now
+AsksOnce (Err KeeperFault) old now = FailsAfter 0 old now
+AsksOnce (Err WriteFault) old now = ⊥
+AsksOnce (Err NoMemory) old now = Passes 1 old now
