@@ -8,7 +8,7 @@ use Rattle.road_time.specs.Fits.{Allowed, Fit}
 use Rattle.road_time.specs.Order.{by_time}
 use Rattle.road_time.specs.Reads.{reads, accepts, accepts_after, tuples_of}
 use Rattle.road_io.specs.Cutter.{ahead, number_of}
-use Rattle.keeper.specs.Digests.{Took}
+use Rattle.digest_beside.specs.Beside.{TookBeside}
 use Rattle.tuple_format.specs.Causes.{cause_of}
 use Rattle.tuple_format.specs.declared.cause.Cause.{Cause}
 use Rattle.tuple_format.specs.Gates.{Gate, StandsFor}
@@ -26,7 +26,7 @@ IsFrontOf given day = given ≡ take (length given) day
 
 -- these bytes were taken, and counted
 abbrev pub HasTaken : Consumed → List ℕ → Type 0
-HasTaken c bytes = Took c.digester bytes × (c.bytes ≡ length bytes)
+HasTaken c bytes = TookBeside c.digester bytes × (c.bytes ≡ length bytes)
 
 -- lines are read on: those before were all let in, and the rest lies ahead
 pub record ReadsOn (front : Option (List ℕ)) (number : ℕ) (consumed : Consumed) (gate : Gate) (sorter : Sorting) (limits : Limits) (late : ℕ) (bytes : List ℕ) (given : List Tuple) : Type 0 where

@@ -3,40 +3,51 @@ ghost use Rattle.std.specs.Prelude.{◌≡◌, ◌+◌, ◌<◌, ◌^◌, ◌++�
 ghost use Rattle.keeper.specs.Digests.{digest_of};
 ghost use Rattle.day_reading.specs.Readings.{HasTaken};
 
-use keeper::{Digest, Digester};
+use digest_beside::BesideDigester;
+use keeper::Digest;
+use std::alloc::Global;
+use std::thread::Threads;
+
+/// So many bytes are gathered, at most, before a thread takes them for the digest.
+const CHUNK: usize = 262_144;
 
 /// The bytes taken so far.
 #[derive(Drop)]
 pub struct Consumed {
-    pub digester: Digester,
+    pub digester: BesideDigester,
     pub bytes: u64,
 }
 
 impl Consumed {
-    pub fn new() -> Self
+    pub fn new(alloc: Global) -> Self
         ensures none { HasTaken result [] }
         ensures empty { result.bytes ≡ 0 }
     {
         Consumed {
-            digester: Digester::new(),
+            digester: BesideDigester::new(alloc, CHUNK),
             bytes: 0,
         }
     }
 
     /// Takes a further piece.
-    pub fn add(&mut self, piece: &[u8])
+    pub fn add<R: Threads>(&mut self, rt: &R, piece: &[u8])
         requires { self.old.bytes + length piece.now < 2 ^ 64 }
         ensures taken { (bytes : List ℕ) → HasTaken self.old bytes → HasTaken self.new (bytes ++ piece.now) }
         ensures count { self.new.bytes ≡ self.old.bytes + length piece.now }
     {
-        self.digester.add(piece);
+        self.digester.add(rt, piece);
         self.bytes += piece.len() as u64;
     }
 
     /// The digest of the bytes.
-    pub fn digest(self) -> Digest
+    pub fn digest<R: Threads>(self, rt: &R) -> Digest
         ensures { (bytes : List ℕ) → HasTaken self bytes → result ≡ digest_of bytes }
     {
-        self.digester.finish()
+        self.digester.finish(rt)
+    }
+
+    /// Leaves the bytes, once no thread has a part of them.
+    pub fn close<R: Threads>(self, rt: &R) {
+        self.digester.close(rt);
     }
 }

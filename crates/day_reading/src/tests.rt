@@ -4,6 +4,7 @@ use keeper::Digest;
 use road_io::MemSource;
 use road_time::{Limits, NoMemory, Report, Tuple};
 use std::alloc::Global;
+use std::thread::Threads;
 use tuple_format::Cause;
 
 const ONE: &str = "0,0,7,30,0,0,0,10,52800,-1,-1,-1,-1,-1,-1\n";
@@ -33,7 +34,8 @@ struct Day {
     digest: Digest,
 }
 
-fn read_day(
+fn read_day<R: Threads>(
+    rt: &R,
     alloc: Global,
     input: &str,
     limits: &Limits,
@@ -45,7 +47,7 @@ fn read_day(
     let mut tuples = Vec::new(alloc);
     let mut end = Ok(());
     for _ in 0..1000u32 {
-        match reader.next(&mut source) {
+        match reader.next(rt, &mut source) {
             Ok(Some(tuple)) => tuples.push(tuple)?,
             Ok(None) => break,
             Err(stop) => {
@@ -59,34 +61,39 @@ fn read_day(
         end,
         lines: reader.lines(),
         bytes: reader.bytes(),
-        digest: reader.digest(),
+        digest: reader.digest(rt),
     })
 }
 
 /// Reads a day one tuple ahead: the number of its tuples, and its end.
-fn count_ahead(
+fn count_ahead<R: Threads>(
+    rt: &R,
     alloc: Global,
     input: &str,
     limits: &Limits,
     fails: &[u32],
 ) -> Result<(usize, Result<DayEnd, ReadStop>), NoMemory> {
     let mut source = MemSource::new(alloc, input.as_bytes(), 7, fails)?;
-    let mut ahead = match DayAhead::open(alloc, limits, 0, &mut source) {
+    let mut ahead = match DayAhead::open(rt, alloc, limits, 0, &mut source) {
         Ok(ahead) => ahead,
         Err(stop) => return Ok((0, Err(stop))),
     };
     let mut count = 0usize;
     for _ in 0..1000u32 {
-        match ahead.next(&mut source) {
+        match ahead.next(rt, &mut source) {
             Ok(Some(_)) => count = count.saturating_add(1),
             Ok(None) => break,
-            Err(stop) => return Ok((count, Err(stop))),
+            Err(stop) => {
+                ahead.close(rt);
+                return Ok((count, Err(stop)));
+            }
         }
     }
     if ahead.more() {
+        ahead.close(rt);
         return Ok((count, Err(ReadStop::NoMemory)));
     }
-    Ok((count, Ok(ahead.end())))
+    Ok((count, Ok(ahead.end(rt))))
 }
 
 /// Whether both ways to read a day end alike.
@@ -177,13 +184,13 @@ fn days_and_their_ends(rt: HostRuntime) -> Result<(), NoMemory> {
         ),
     ];
     for (input, limits, count, end) in &rows {
-        let day = read_day(alloc, input, limits, 0, WHOLE)?;
+        let day = read_day(&rt, alloc, input, limits, 0, WHOLE)?;
         assert_eq!(rt; day.tuples.len(), *count, "{input}");
         assert!(rt; day.end == *end, "{input}");
-        let ahead = count_ahead(alloc, input, limits, &[])?;
+        let ahead = count_ahead(&rt, alloc, input, limits, &[])?;
         assert!(rt; ahead.0 == *count && is_same(end, &ahead.1), "{input}");
     }
-    let one = read_day(alloc, ONE, &Limits::DAY, 0, WHOLE)?;
+    let one = read_day(&rt, alloc, ONE, &Limits::DAY, 0, WHOLE)?;
     let text = one.digest.text(alloc)?;
     assert!(rt; one.lines == 1 && one.bytes == 42);
     assert!(rt;
@@ -193,12 +200,14 @@ fn days_and_their_ends(rt: HostRuntime) -> Result<(), NoMemory> {
         bytes: 42,
         digest: one.digest,
     };
-    assert!(rt; count_ahead(alloc, ONE, &Limits::DAY, &[])? == (1, Ok(whole)));
-    assert!(rt; count_ahead(alloc, PAIR, &Limits::DAY, &[1])? == (0, Err(ReadStop::ReadFault)));
+    assert!(rt; count_ahead(&rt, alloc, ONE, &Limits::DAY, &[])? == (1, Ok(whole)));
+    assert!(rt;
+        count_ahead(&rt, alloc, PAIR, &Limits::DAY, &[1])? == (0, Err(ReadStop::ReadFault))
+    );
     let mut source = MemSource::new(alloc, three.as_bytes(), 7, &[])?;
     assert!(rt; find_digest(alloc, 41, &mut source) == Ok(one.digest));
     let mut source = MemSource::new(alloc, ONE.as_bytes(), 7, &[])?;
-    let read = crate::read_day(alloc, &Limits::DAY, 0, &mut source);
+    let read = crate::read_day(&rt, alloc, &Limits::DAY, 0, &mut source);
     assert!(rt; read.map(|day| (day.tuples.len(), day.end)) == Ok((1, whole)));
     Ok(())
 }
@@ -215,10 +224,10 @@ fn late_lines(rt: HostRuntime) -> Result<(), NoMemory> {
     };
     for piece in [1, 7, 65_536] {
         let reads = Reads { piece, fails: &[] };
-        let day = read_day(alloc, input, &Limits::DAY, 30, reads)?;
+        let day = read_day(&rt, alloc, input, &Limits::DAY, 30, reads)?;
         assert!(rt; day.tuples.as_slice() == [balance, report(0, 2), report(30, 1)].as_slice());
         assert!(rt; day.end == Ok(()));
-        let early = read_day(alloc, input, &Limits::DAY, 29, reads)?;
+        let early = read_day(&rt, alloc, input, &Limits::DAY, 29, reads)?;
         assert!(rt; early.tuples.as_slice() == [report(30, 1)].as_slice());
         assert!(rt; early.end == refused(2, Cause::Late(30, 0)));
     }
@@ -228,7 +237,7 @@ fn late_lines(rt: HostRuntime) -> Result<(), NoMemory> {
             piece: 10,
             fails: &[at],
         };
-        let day = read_day(alloc, input, &Limits::DAY, 30, reads)?;
+        let day = read_day(&rt, alloc, input, &Limits::DAY, 30, reads)?;
         if day.end == Ok(()) {
             whole = day.tuples.len() == 3;
             break;

@@ -15,6 +15,7 @@ use keeper::Digest;
 use road_io::Source;
 use road_time::{Limits, Tuple};
 use std::alloc::Global;
+use std::thread::Threads;
 use tuple_format::Cause;
 
 /// How the reading of a day ended.
@@ -41,7 +42,7 @@ pub enum ReadStop {
 }
 
 /// How many bytes a reader that is done has taken, and their digest.
-pub fn whole(reader: DayReader) -> DayEnd
+pub fn whole<R: Threads>(rt: &R, reader: DayReader) -> DayEnd
     ensures exact { (bytes : List ℕ) → HasTaken reader.consumed bytes → EndsReading result bytes None }
     ensures left { (left : Option (List ℕ)) (bytes : List ℕ) → HasTaken reader.consumed bytes
         → HasRead (ahead reader.cutter left) reader.consumed bytes → LeavesBehind result bytes left }
@@ -50,12 +51,13 @@ pub fn whole(reader: DayReader) -> DayEnd
     let bytes = reader.bytes();
     DayEnd::Whole {
         bytes,
-        digest: reader.digest(),
+        digest: reader.digest(rt),
     }
 }
 
 /// Reads a day to its end or to the first line that is refused. Lines may come late by up to so many seconds.
-pub fn read_day<S: Source>(
+pub fn read_day<S: Source, R: Threads>(
+    rt: &R,
     alloc: Global,
     limits: &Limits,
     late: u8,
@@ -80,22 +82,30 @@ pub fn read_day<S: Source>(
     let _lines = limits.lines;
     let mut tuples = Vec::new(alloc);
     'reading: loop {
-        match reader.next(source) {
+        match reader.next(rt, source) {
             Ok(Some(tuple)) => {
                 if tuples.push(tuple).is_err() {
+                    reader.close(rt);
                     return Err(ReadStop::NoMemory);
                 }
             }
             Ok(None) => {
-                let end = whole(reader);
+                let end = whole(rt, reader);
                 return Ok(Day { tuples, end });
             }
             Err(ReadEnd::Refused { line, cause }) => {
+                reader.close(rt);
                 let end = DayEnd::Refused { line, cause };
                 return Ok(Day { tuples, end });
             }
-            Err(ReadEnd::ReadFault) => return Err(ReadStop::ReadFault),
-            Err(ReadEnd::NoMemory) => return Err(ReadStop::NoMemory),
+            Err(ReadEnd::ReadFault) => {
+                reader.close(rt);
+                return Err(ReadStop::ReadFault);
+            }
+            Err(ReadEnd::NoMemory) => {
+                reader.close(rt);
+                return Err(ReadStop::NoMemory);
+            }
         }
     }
 }

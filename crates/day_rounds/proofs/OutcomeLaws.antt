@@ -27,7 +27,7 @@ use Rattle.watermark.proofs.Ones.{few_tolls}
 use Rattle.watermark.specs.Shares.{State}
 use Rattle.watermark.specs.Floors.{Setting}
 use Rattle.day_rounds.specs.declared.begun.Import.{Import}
-use Rattle.day_rounds.specs.declared.day_run.DayRun.{DayRun}
+use Rattle.day_rounds.specs.declared.day_run.WorkedDay.{WorkedDay}
 use Rattle.day_rounds.specs.declared.fault.DayFault.{DayFault}
 use Rattle.day_rounds.specs.declared.fault.DayFault.TheVariants.{ReadFault, NoMemory}
 use Rattle.day_rounds.specs.Days.{IsOn}
@@ -82,7 +82,7 @@ module _ {S T : Type 0} (out : S → List ℕ) (number : T → ℕ) (holds : S �
   }
 
   -- a day that was imported
-  pub whole_run : (none : run.tickets.items ≡ []) (r : DayRun) → r.tuples ≡ s.settled → IsClosed r.closed e.number (given s.found) e.number e.history s.fed →
+  pub whole_run : (none : run.tickets.items ≡ []) (r : WorkedDay) → r.tuples ≡ s.settled → IsClosed r.closed e.number (given s.found) e.number e.history s.fed →
       ((limits : Limits) (late : ℕ) (left : Option (List ℕ)) (bytes : List ℕ) (given : List Tuple) → IsAhead b limits late left bytes given → EndsReading r.end bytes (reads bytes limits late).refused) →
       IsShort r.end →
       HasRun (task_of e w l late) exact (λ bytes. IsAhead a l late was bytes []) answered (answers crew) told (jobs crew) old new before posted r
@@ -137,7 +137,7 @@ under P w n l m wide same h = subst (λ k. P k m) wide (subst (P w) same h)
 
 -- what is known of the bytes is known by whatever tells it
 module _ (t : Task) (exact : Bool) (was_is is : List ℕ → Type 0) (sees : (bytes : List ℕ) → is bytes → was_is bytes) (jobs listed : Option Told) (text new : Option (List ℕ)) (was posted : Option Posted) where
-  pub seen_run : (answers answered : Option (List Finding)) (r : DayRun) → HasRun t exact was_is answers answered jobs listed text new was posted r → HasRun t exact is answers answered jobs listed text new was posted r
+  pub seen_run : (answers answered : Option (List Finding)) (r : WorkedDay) → HasRun t exact was_is answers answered jobs listed text new was posted r → HasRun t exact is answers answered jobs listed text new was posted r
   seen_run answers answered r h = record {
     day = h.day;
     fit = h.fit;

@@ -21,7 +21,7 @@ use Rattle.settling.specs.Answers.{History}
 use Rattle.settling.specs.Closes.{IsClosed}
 use Rattle.watermark.specs.Floors.{Setting}
 use Rattle.day_rounds.specs.declared.fault.DayFault.{DayFault}
-use Rattle.day_rounds.specs.declared.day_run.DayRun.{DayRun}
+use Rattle.day_rounds.specs.declared.day_run.WorkedDay.{WorkedDay}
 use Rattle.day_rounds.specs.Faults.{WritesUpTo}
 use Rattle.day_rounds.specs.Imports.{AreRightFor, HaveAllStarted, HaveFirstStarted}
 use Rattle.day_rounds.specs.Published.{AreStepsBy, HasSteps, published_of}
@@ -56,7 +56,7 @@ HasStartedFirst t day jobs listed = (since : List Job) × HaveFirstStarted t.wid
 
 -- a day of some bytes was imported: the tuples that were read are all of those that the bytes are; what was written, closed and published of them is by the findings that the
 -- crew answered, and over an exact crew by the rules; and the jobs that were started are all of each worker's
-pub record HasRun (t : Task) (exact : Bool) (is : List ℕ → Type 0) (answers answered : Option (List Finding)) (jobs listed : Option Told) (old new : Option (List ℕ)) (was posted : Option Posted) (run : DayRun) : Type 0 where
+pub record HasRun (t : Task) (exact : Bool) (is : List ℕ → Type 0) (answers answered : Option (List Finding)) (jobs listed : Option Told) (old new : Option (List ℕ)) (was posted : Option Posted) (run : WorkedDay) : Type 0 where
   pub day : List Tuple
   pub fit : Fit day t.limits
   pub read : (bytes : List ℕ) → is bytes → (day ≡ (reads bytes t.limits t.late).tuples) × EndsReading run.end bytes (reads bytes t.limits t.late).refused

@@ -26,18 +26,20 @@ use partition_workers::Crew;
 use road_io::{Sink, Source};
 use road_time::Tuple;
 use settling::Closed;
+use std::thread::Threads;
 
 /// What is left of a day that was imported to its end or to the first line that is refused: what its settling left, how many tuples it has,
 /// and how its reading ended.
 #[derive(Drop)]
-pub struct DayRun {
+pub struct WorkedDay {
     pub closed: Closed,
     pub tuples: u64,
     pub end: DayEnd,
 }
 
 /// A day whose reader is open, on a crew that has nothing out.
-pub fn run_opened<C: Crew, S: Source, K: Keeper, O: Sink, P: Publisher>(
+pub fn run_opened<C: Crew, S: Source, K: Keeper, O: Sink, P: Publisher, R: Threads>(
+    rt: &R,
     plan: &Plan,
     mut run: Import<C::Ticket>,
     crew: &mut C,
@@ -48,7 +50,7 @@ pub fn run_opened<C: Crew, S: Source, K: Keeper, O: Sink, P: Publisher>(
     keeper: &mut K,
     sink: &mut O,
     publisher: &mut P,
-) -> Result<DayRun, DayFault>
+) -> Result<WorkedDay, DayFault>
     requires width { plan.now.width ≡ run.floor.inboxes.width }
     requires none { run.tickets.items ≡ [] }
     requires unfailed { HasFailedAhead ahead → ⊥ }
@@ -82,15 +84,16 @@ pub fn run_opened<C: Crew, S: Source, K: Keeper, O: Sink, P: Publisher>(
     ensures keeper { IsCounted KeeperFault (K.faults keeper.old) (K.faults keeper.new) (NeverFails (K.plan keeper.old)) (NeverFails (K.plan keeper.new)) result }
 {
     match run_plan(
-        plan, &mut run, crew, &mut ahead, source, &mut these, day, keeper, sink, publisher,
+        rt, plan, &mut run, crew, &mut ahead, source, &mut these, day, keeper, sink, publisher,
     ) {
         Ok(tuples) => {
             let Import { floor, .. } = run;
             let Ok(closed) = floor.close(day) else {
+                ahead.close(rt);
                 return Err(DayFault::NoMemory);
             };
-            let end = ahead.end();
-            Ok(DayRun {
+            let end = ahead.end(rt);
+            Ok(WorkedDay {
                 closed,
                 tuples,
                 end,
@@ -98,6 +101,7 @@ pub fn run_opened<C: Crew, S: Source, K: Keeper, O: Sink, P: Publisher>(
         }
         Err(fault) => {
             stop(run, crew);
+            ahead.close(rt);
             Err(fault)
         }
     }

@@ -11,7 +11,7 @@ ghost use Rattle.day_rounds.specs.Faults.{IsCounted};
 ghost use Rattle.day_rounds.specs.Outcomes.{HasRun, HasStopped};
 ghost use Rattle.day_rounds.specs.declared.fault.DayFault.TheVariants.{ReadFault, WriteFault, KeeperFault};
 
-use crate::day_run::{DayRun, run_opened};
+use crate::day_run::{WorkedDay, run_opened};
 use crate::fault::{DayFault, reading_stopped};
 use crate::importing::begin;
 use accounts::Publisher;
@@ -22,10 +22,12 @@ use partition_workers::Crew;
 use road_io::{Sink, Source};
 use road_time::{Limits, Tariffs};
 use std::alloc::Global;
+use std::thread::Threads;
 
 /// Imports the tuples of a day to its end, or to the first line that is refused: it reads, and makes turns by the plan until all is settled. What is
 /// written is their output, by the findings that the crew answered. On every exit the crew has nothing out.
-pub fn run_day<C: Crew, S: Source, K: Keeper, O: Sink, P: Publisher>(
+pub fn run_day<C: Crew, S: Source, K: Keeper, O: Sink, P: Publisher, R: Threads>(
+    rt: &R,
     alloc: Global,
     plan: &Plan,
     limits: &Limits,
@@ -37,7 +39,7 @@ pub fn run_day<C: Crew, S: Source, K: Keeper, O: Sink, P: Publisher>(
     sink: &mut O,
     crew: &mut C,
     publisher: &mut P,
-) -> Result<DayRun, DayFault>
+) -> Result<WorkedDay, DayFault>
     requires terms { AreTerms plan.now.width limits.now }
     requires soon { late ≤ 120 }
     requires abreast { IsAbreast (P.posted publisher.old) 0 }
@@ -63,12 +65,12 @@ pub fn run_day<C: Crew, S: Source, K: Keeper, O: Sink, P: Publisher>(
     let Ok(run) = begin(alloc, plan.width, limits, tariffs) else {
         return Err(DayFault::NoMemory);
     };
-    match DayAhead::open(alloc, limits, late, source) {
+    match DayAhead::open(rt, alloc, limits, late, source) {
         Err(stop) => Err(reading_stopped(stop)),
         Ok(ahead) => {
             let these = Vec::new(alloc);
             match run_opened(
-                plan, run, crew, ahead, source, these, day, keeper, sink, publisher,
+                rt, plan, run, crew, ahead, source, these, day, keeper, sink, publisher,
             ) {
                 Ok(left) => Ok(left),
                 Err(fault) => Err(fault),

@@ -21,6 +21,6 @@ mod turning;
 mod turns;
 mod turns_of_day;
 
-pub use day_run::DayRun;
+pub use day_run::WorkedDay;
 pub use days::run_day;
 pub use fault::DayFault;

@@ -27,9 +27,11 @@ use keeper::Keeper;
 use partition_workers::Crew;
 use road_io::{Sink, Source};
 use road_time::Tuple;
+use std::thread::Threads;
 
 /// A day, from the start: in turns that the plan's number draws, or in rounds. It answers how many are settled, which is all.
-pub fn run_plan<C: Crew, S: Source, K: Keeper, O: Sink, P: Publisher>(
+pub fn run_plan<C: Crew, S: Source, K: Keeper, O: Sink, P: Publisher, R: Threads>(
+    rt: &R,
     plan: &Plan,
     run: &mut Import<C::Ticket>,
     crew: &mut C,
@@ -73,12 +75,13 @@ pub fn run_plan<C: Crew, S: Source, K: Keeper, O: Sink, P: Publisher>(
 {
     match plan.turns {
         None => run_rounds(
-            run, crew, plan.width, ahead, source, these, day, keeper, sink, publisher,
+            rt, run, crew, plan.width, ahead, source, these, day, keeper, sink, publisher,
         ),
         Some(number) => {
             let mut rng = seed(number);
             run_turns(
-                run, crew, plan.width, ahead, source, these, &mut rng, day, keeper, sink, publisher,
+                rt, run, crew, plan.width, ahead, source, these, &mut rng, day, keeper, sink,
+                publisher,
             )
         }
     }

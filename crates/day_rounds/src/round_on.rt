@@ -29,9 +29,11 @@ use keeper::Keeper;
 use partition_workers::Crew;
 use road_io::{Sink, Source};
 use road_time::Tuple;
+use std::thread::Threads;
 
 /// A round over the next tuples of a day, as many as there is room for. It answers how many are settled.
-pub fn next_round<C: Crew, S: Source, K: Keeper, O: Sink, P: Publisher>(
+pub fn next_round<C: Crew, S: Source, K: Keeper, O: Sink, P: Publisher, R: Threads>(
+    rt: &R,
     run: &mut Import<C::Ticket>,
     crew: &mut C,
     width: u8,
@@ -76,7 +78,7 @@ pub fn next_round<C: Crew, S: Source, K: Keeper, O: Sink, P: Publisher>(
     ensures keeper { IsCounted KeeperFault (K.faults keeper.old) (K.faults keeper.new) (NeverFails (K.plan keeper.old)) (NeverFails (K.plan keeper.new)) result }
 {
     let room = run.floor.room() as usize;
-    match gather(ahead, source, room, these) {
+    match gather(rt, ahead, source, room, these) {
         Err(stop) => Err(reading_stopped(stop)),
         Ok(()) => match round(
             run,

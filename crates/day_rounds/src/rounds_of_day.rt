@@ -24,9 +24,11 @@ use keeper::Keeper;
 use partition_workers::Crew;
 use road_io::{Sink, Source};
 use road_time::Tuple;
+use std::thread::Threads;
 
 /// Rounds over a day, from the start, until no tuple is left. It answers how many are settled, which is all.
-pub fn run_rounds<C: Crew, S: Source, K: Keeper, O: Sink, P: Publisher>(
+pub fn run_rounds<C: Crew, S: Source, K: Keeper, O: Sink, P: Publisher, R: Threads>(
+    rt: &R,
     run: &mut Import<C::Ticket>,
     crew: &mut C,
     width: u8,
@@ -71,7 +73,7 @@ pub fn run_rounds<C: Crew, S: Source, K: Keeper, O: Sink, P: Publisher>(
     let mut settled = 0;
     'day: while ahead.more() {
         match next_round(
-            run, crew, width, ahead, source, these, day, keeper, sink, publisher,
+            rt, run, crew, width, ahead, source, these, day, keeper, sink, publisher,
         ) {
             Ok(count) => settled = count,
             Err(fault) => return Err(fault),

@@ -10,9 +10,11 @@ ghost use Rattle.day_rounds.specs.Readers.{HasGiven};
 use day_reading::{DayAhead, ReadStop};
 use road_io::Source;
 use road_time::Tuple;
+use std::thread::Threads;
 
 /// Reads the next tuples of a day, in place of those that were there: so many, or as many as are left.
-pub fn gather<S: Source>(
+pub fn gather<S: Source, R: Threads>(
+    rt: &R,
     ahead: &mut DayAhead,
     source: &mut S,
     count: usize,
@@ -31,7 +33,7 @@ pub fn gather<S: Source>(
 {
     these.clear();
     'gathering: while these.len() < count {
-        match ahead.next(source) {
+        match ahead.next(rt, source) {
             Ok(Some(tuple)) => {
                 if these.push(tuple).is_err() {
                     return Err(ReadStop::NoMemory);

@@ -32,6 +32,7 @@ use partition_workers::Crew;
 use rand_pcg::Lcg64Xsh32;
 use road_io::{Sink, Source};
 use road_time::Tuple;
+use std::thread::Threads;
 
 /// How many tuples a turn feeds at most: from one to the room, as is drawn; none, and no draw, where there is no room or no tuple is left.
 fn some_of(room: u32, more: bool, rng: &mut Lcg64Xsh32) -> u32
@@ -48,7 +49,8 @@ fn some_of(room: u32, more: bool, rng: &mut Lcg64Xsh32) -> u32
 }
 
 /// A turn over the next tuples of a day, as many as are drawn. It answers how many are settled.
-pub fn next_turn<C: Crew, S: Source, K: Keeper, O: Sink, P: Publisher>(
+pub fn next_turn<C: Crew, S: Source, K: Keeper, O: Sink, P: Publisher, R: Threads>(
+    rt: &R,
     run: &mut Import<C::Ticket>,
     crew: &mut C,
     width: u8,
@@ -93,7 +95,7 @@ pub fn next_turn<C: Crew, S: Source, K: Keeper, O: Sink, P: Publisher>(
 {
     let room = run.floor.room();
     let count = some_of(room, ahead.more(), rng) as usize;
-    match gather(ahead, source, count, these) {
+    match gather(rt, ahead, source, count, these) {
         Err(stop) => Err(reading_stopped(stop)),
         Ok(()) => match turn(
             run,

@@ -25,6 +25,7 @@ use partition_workers::Crew;
 use rand_pcg::Lcg64Xsh32;
 use road_io::{Sink, Source};
 use road_time::Tuple;
+use std::thread::Threads;
 
 /// Whether a tuple is left or waits.
 fn goes_on(more: bool, pending: u32) -> bool
@@ -35,7 +36,8 @@ fn goes_on(more: bool, pending: u32) -> bool
 }
 
 /// Turns over a day, from the start, until no tuple is left and all are settled. It answers how many are.
-pub fn run_turns<C: Crew, S: Source, K: Keeper, O: Sink, P: Publisher>(
+pub fn run_turns<C: Crew, S: Source, K: Keeper, O: Sink, P: Publisher, R: Threads>(
+    rt: &R,
     run: &mut Import<C::Ticket>,
     crew: &mut C,
     width: u8,
@@ -82,7 +84,7 @@ pub fn run_turns<C: Crew, S: Source, K: Keeper, O: Sink, P: Publisher>(
     let mut pending = 0;
     'day: while goes_on(ahead.more(), pending) {
         match next_turn(
-            run, crew, width, ahead, source, these, rng, day, keeper, sink, publisher,
+            rt, run, crew, width, ahead, source, these, rng, day, keeper, sink, publisher,
         ) {
             Ok(count) => settled = count,
             Err(fault) => return Err(fault),

@@ -16,6 +16,7 @@ use road_io::{Sink, Source, StdSink, StdSource, put_all};
 use road_time::{Limits, NoMemory, Notice, SpentRow, Tariffs, Tuple};
 use std::alloc::Global;
 use std::process::ExitCode;
+use std::thread::Threads;
 use tuple_format::put_notice;
 use validator::plain_notices;
 
@@ -23,7 +24,7 @@ use validator::plain_notices;
 const EXAMPLE_DAY: u32 = 100;
 
 /// All tuples of a day, none where a line is refused, a read fails or memory ends.
-fn read_day<S: Source>(alloc: Global, source: &mut S) -> Option<Vec<Tuple>>
+fn read_day<S: Source, R: Threads>(rt: &R, alloc: Global, source: &mut S) -> Option<Vec<Tuple>>
     ensures { IfSome result (λ d. Fit d.items DAY) }
 {
     let limits = Limits::DAY;
@@ -32,14 +33,21 @@ fn read_day<S: Source>(alloc: Global, source: &mut S) -> Option<Vec<Tuple>>
     };
     let mut tuples = Vec::new(alloc);
     'reading: loop {
-        match reader.next(source) {
+        match reader.next(rt, source) {
             Ok(Some(tuple)) => {
                 if tuples.push(tuple).is_err() {
+                    reader.close(rt);
                     return None;
                 }
             }
-            Ok(None) => return Some(tuples),
-            Err(_) => return None,
+            Ok(None) => {
+                reader.close(rt);
+                return Some(tuples);
+            }
+            Err(_) => {
+                reader.close(rt);
+                return None;
+            }
         }
     }
 }
@@ -109,7 +117,7 @@ fn main(rt: HostRuntime) -> ExitCode {
             tolls: 450,
         },
     ];
-    let Some(day) = read_day(rt.alloc(), &mut source) else {
+    let Some(day) = read_day(&rt, rt.alloc(), &mut source) else {
         return ExitCode::FAILURE;
     };
     let Ok(text) = notices_text(rt.alloc(), day.as_slice(), EXAMPLE_DAY, &history) else {

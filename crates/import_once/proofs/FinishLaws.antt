@@ -22,14 +22,14 @@ use Rattle.settling.specs.Closes.{IsClosed}
 use Rattle.settling.specs.Printing.{WritesFront, WritesLess}
 use Rattle.day_reading.specs.declared.whole_day.DayEnd.{DayEnd}
 use Rattle.day_reading.specs.declared.whole_day.DayEnd.TheVariants.{Whole, Refused as RefusedAt}
-use Rattle.day_reading.specs.Days.{EndsReading}
+use Rattle.day_reading.specs.Days.{EndsReading, LeavesBehind}
 use Rattle.import_once.specs.declared.outcomes.Outcome.{Outcome}
 use Rattle.import_once.specs.declared.outcomes.Outcome.TheVariants.{Stored, Already, Answered, Refused, DayPassed, Differs, ReadFault, WriteFault, KeeperFault, NoMemory}
-use Rattle.day_rounds.specs.declared.day_run.DayRun.{DayRun}
+use Rattle.day_rounds.specs.declared.day_run.WorkedDay.{WorkedDay}
 use Rattle.day_rounds.specs.declared.fault.DayFault.{DayFault}
 use Rattle.day_rounds.specs.declared.fault.DayFault.TheVariants as stop
-use Rattle.import_once.specs.Imports.{Answer, Work, work_by, worked_record, worked_office, import_worked, answers_worked, unless_passed, Does, Merges, KeepsAll, LeavesAlone, IsOfNewDay, IsOfKeptDay}
-use Rattle.import_once.specs.Stages.{run_record, Stores, Finishes, Tells, IsAnswered, IsWhole}
+use Rattle.import_once.specs.Imports.{Answer, Work, work_by, worked_record, worked_office, import_worked, answers_worked, unless_passed, Does, Merges, KeepsAll, LeavesAlone, LeavesRead, IsOfNewDay, IsOfKeptDay}
+use Rattle.import_once.specs.Stages.{run_record, Stores, Finishes, Tells, IsAnswered, IsWhole, IsOfEnd}
 use Rattle.day_rounds.specs.Faults.{WritesUpTo}
 use Rattle.import_once.specs.Runs.{stopping, WhereWorked}
 use Rattle.import_once.proofs.WorkLaws.{record_is, rows_are}
@@ -70,7 +70,7 @@ does_merges w a was old new now KeeperFault (inr h) = inr h
 does_merges w a was old new now NoMemory (inl h) = inl h.1
 does_merges w a was old new now NoMemory (inr h) = inr h
 
-module _ (w : WhenRefused) (number : ℕ) (found : List (ℕ × Finding)) (bytes : List ℕ) (day : List Tuple) (o : Office) (old new : Option (List ℕ)) (now : Option Office) (run : DayRun) (tariffs : Tariffs)
+module _ (w : WhenRefused) (number : ℕ) (found : List (ℕ × Finding)) (bytes : List ℕ) (day : List Tuple) (o : Office) (old new : Option (List ℕ)) (now : Option Office) (run : WorkedDay) (tariffs : Tariffs)
     (wrote : Appends old new (out (work_by found number day o).told)) (count : run.tuples ≡ length day) (closed : IsClosed run.closed number (given found) number (Some (paid o.rows)) day) (under : tariffs ≡ o.tariffs) where
   -- a day that was worked and finished
   pub finishes_does : (end : DayEnd) (refused : Option (ℕ × Fault)) (outcome : Outcome) → EndsReading end bytes refused → Finishes w number end run tariffs o now outcome
@@ -84,7 +84,7 @@ module _ (w : WhenRefused) (number : ℕ) (found : List (ℕ × Finding)) (bytes
       (subst (Does w (import_worked (work_by found number day o) number bytes day (Some (line, fault)) o) o old new now) (sym h.0)
       (record { outcome_is = ap (Refused line) (sym e.2); wrote = wrote; kept = h.1 }))
 
-module _ (w : WhenRefused) (number : ℕ) (found : List (ℕ × Finding)) (bytes : List ℕ) (day : List Tuple) (o : Office) (old new : Option (List ℕ)) (now : Option Office) (run : DayRun) (tariffs : Tariffs)
+module _ (w : WhenRefused) (number : ℕ) (found : List (ℕ × Finding)) (bytes : List ℕ) (day : List Tuple) (o : Office) (old new : Option (List ℕ)) (now : Option Office) (run : WorkedDay) (tariffs : Tariffs)
     (wrote : Appends old new (out (work_by found number day o).told)) (count : run.tuples ≡ length day) (closed : IsClosed run.closed number (given found) number (Some (paid o.rows)) day) (under : tariffs ≡ o.tariffs) (same : now ≡ Some o) where
   -- a day that was worked and answered
   tells_whole : (kept : DayRecord) (outcome : Outcome) → kept ≡ worked_record (work_by found number day o) number bytes day o → IsAnswered kept outcome
@@ -187,3 +187,54 @@ kept_alone NoMemory source others h o = tt
 pub whole_unrefused : (end : DayEnd) (bytes : List ℕ) (refused : Option (ℕ × Fault)) → EndsReading end bytes refused → IsWhole end → refused ≡ None
 whole_unrefused (Whole n digest) bytes refused e h = e.0
 whole_unrefused (RefusedAt line cause) bytes refused e h = absurd h
+
+-- what is left of the source of a day that was answered, or whose refused line was named
+pub tells_leaves : (number : ℕ) (run' : WorkedDay) (tariffs : Tariffs) (end : DayEnd) (refused : Option (ℕ × Fault)) (bytes : List ℕ) (left : Option (List ℕ)) (outcome : Outcome)
+    → EndsReading end bytes refused → LeavesBehind end bytes left → Tells number end run' tariffs outcome → LeavesRead outcome refused bytes left
+tells_leaves number run' tariffs (Whole n digest) refused bytes left (Answered kept) e l h = (e.0, l)
+tells_leaves number run' tariffs (Whole n digest) refused bytes left NoMemory e l h = tt
+tells_leaves number run' tariffs (Whole n digest) refused bytes left (Stored kept) e l h = absurd h
+tells_leaves number run' tariffs (Whole n digest) refused bytes left (Already kept) e l h = absurd h
+tells_leaves number run' tariffs (Whole n digest) refused bytes left (Refused line cause) e l h = absurd h
+tells_leaves number run' tariffs (Whole n digest) refused bytes left (DayPassed last) e l h = absurd h
+tells_leaves number run' tariffs (Whole n digest) refused bytes left (Differs k found) e l h = absurd h
+tells_leaves number run' tariffs (Whole n digest) refused bytes left ReadFault e l h = absurd h
+tells_leaves number run' tariffs (Whole n digest) refused bytes left WriteFault e l h = absurd h
+tells_leaves number run' tariffs (Whole n digest) refused bytes left KeeperFault e l h = absurd h
+tells_leaves number run' tariffs (RefusedAt line cause) refused bytes left outcome e l h = subst (λ (o : Outcome). LeavesRead o refused bytes left) (sym h) (e, l)
+
+-- what is left of that of a day that was stored, or whose refused line was named
+pub ends_leaves : (end : DayEnd) (refused : Option (ℕ × Fault)) (bytes : List ℕ) (left : Option (List ℕ)) (outcome : Outcome)
+    → EndsReading end bytes refused → LeavesBehind end bytes left → IsOfNewDay outcome → IsOfEnd end outcome → LeavesRead outcome refused bytes left
+ends_leaves (Whole n digest) refused bytes left (Stored kept) e l new h = (e.0, l)
+ends_leaves (RefusedAt line cause) refused bytes left (Stored kept) e l new h = absurd h
+ends_leaves end refused bytes left (Refused line cause) e l new h =
+    (subst (λ (d : DayEnd). EndsReading d bytes refused) h e, subst (λ (d : DayEnd). LeavesBehind d bytes left) h l)
+ends_leaves end refused bytes left (Answered kept) e l new h = absurd new
+ends_leaves end refused bytes left (Already kept) e l new h = tt
+ends_leaves end refused bytes left (DayPassed last) e l new h = tt
+ends_leaves end refused bytes left (Differs k found) e l new h = tt
+ends_leaves end refused bytes left ReadFault e l new h = tt
+ends_leaves end refused bytes left WriteFault e l new h = tt
+ends_leaves end refused bytes left KeeperFault e l new h = tt
+ends_leaves end refused bytes left NoMemory e l new h = tt
+
+-- of a day whose work was stopped nothing is said
+pub stops_leaves : (s : DayFault) (refused : Option (ℕ × Fault)) (bytes : List ℕ) (left : Option (List ℕ)) → LeavesRead (stopping s) refused bytes left
+stops_leaves stop.ReadFault refused bytes left = tt
+stops_leaves stop.WriteFault refused bytes left = tt
+stops_leaves stop.KeeperFault refused bytes left = tt
+stops_leaves stop.NoMemory refused bytes left = tt
+
+-- nor of one that is kept
+pub kept_leaves : (outcome : Outcome) (refused : Option (ℕ × Fault)) (bytes : List ℕ) (left : Option (List ℕ)) → IsOfKeptDay outcome → LeavesRead outcome refused bytes left
+kept_leaves (Stored kept) refused bytes left h = absurd h
+kept_leaves (Answered kept) refused bytes left h = absurd h
+kept_leaves (Refused line cause) refused bytes left h = absurd h
+kept_leaves (Already kept) refused bytes left h = tt
+kept_leaves (DayPassed last) refused bytes left h = tt
+kept_leaves (Differs k found) refused bytes left h = tt
+kept_leaves ReadFault refused bytes left h = tt
+kept_leaves WriteFault refused bytes left h = tt
+kept_leaves KeeperFault refused bytes left h = tt
+kept_leaves NoMemory refused bytes left h = tt

@@ -30,12 +30,12 @@ use Rattle.settling.specs.Closes.{IsClosed}
 use Rattle.settling.proofs.AnswerLaws.{notices_few, notices_exact}
 use Rattle.day_reading.specs.Days.{IsShort}
 use Rattle.day_rounds.specs.Imports.{AreRightFor}
-use Rattle.day_rounds.specs.declared.day_run.DayRun.{DayRun}
+use Rattle.day_rounds.specs.declared.day_run.WorkedDay.{WorkedDay}
 use Rattle.import_once.specs.Imports.{Work, work_of, work_by, worked_record}
 use Rattle.import_once.specs.Stages.{run_record, CanPut}
 
 -- a day that was worked may be put, whatever was found for it
-pub run_fits : (number : ℕ) (limits : Limits) (found : List (ℕ × Finding)) (history : History) (day : List Tuple) (run : DayRun) → IsLimits limits → Fit day limits → IsShort run.end → run.tuples ≡ length day
+pub run_fits : (number : ℕ) (limits : Limits) (found : List (ℕ × Finding)) (history : History) (day : List Tuple) (run : WorkedDay) → IsLimits limits → Fit day limits → IsShort run.end → run.tuples ≡ length day
     → IsClosed run.closed number (given found) number history day → ((s : Sight) → (given found s).toll ≤ 500000000000) → CanPut number run
 run_fits number limits found history day run within fit short count closed few =
     let cs : List Charge = charges_by (given found) (moments day) in
@@ -57,7 +57,7 @@ run_fits number limits found history day run within fit short count closed few =
     }
 
 -- what may be put may be put under its record
-pub record_fits : (number bytes : ℕ) (digest : Digest) (run : DayRun) (tariffs : Tariffs) → bytes < 2 ^ 63 → CanPut number run → IsDayPut (run_record number bytes digest run tariffs) run.closed.rows
+pub record_fits : (number bytes : ℕ) (digest : Digest) (run : WorkedDay) (tariffs : Tariffs) → bytes < 2 ^ 63 → CanPut number run → IsDayPut (run_record number bytes digest run tariffs) run.closed.rows
 record_fits number bytes digest run tariffs small can = record {
   bytes = small;
   tuples = can.tuples;
@@ -69,7 +69,7 @@ record_fits number bytes digest run tariffs small can = record {
   sum = can.sum;
 }
 
-module _ (number : ℕ) (found : List (ℕ × Finding)) (day : List Tuple) (o : Office) (run : DayRun) (closed : IsClosed run.closed number (given found) number (Some (paid o.rows)) day) where
+module _ (number : ℕ) (found : List (ℕ × Finding)) (day : List Tuple) (o : Office) (run : WorkedDay) (closed : IsClosed run.closed number (given found) number (Some (paid o.rows)) day) where
   -- the notices of a day that was worked
   told_is : closed.told ≡ (work_by found number day o).told
   told_is = notices_exact (given found) number (paid o.rows) (moments day) closed.told closed.told_are

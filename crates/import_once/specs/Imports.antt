@@ -14,6 +14,7 @@ use Rattle.road_time.specs.Day.{Charge, given, merged, notices, charges, charges
 use Rattle.road_time.specs.Rows.{rows_from}
 use Rattle.road_time.specs.Text.{out}
 use Rattle.tuple_format.specs.Causes.{cause_of}
+use Rattle.tuple_format.specs.declared.cause.Cause.{Cause}
 use Rattle.keeper.specs.declared.digest.Digest.{Digest}
 use Rattle.keeper.specs.declared.kept.DayRecord.{DayRecord}
 use Rattle.keeper.specs.declared.kept.KeepFault.{KeepFault}
@@ -24,7 +25,7 @@ use Rattle.keeper.specs.Office.{Office, record_of, last_day}
 use Rattle.keeper.specs.Kept.{IsDayPut, seal_of, with_day, found_digest}
 use Rattle.keeper.specs.Calls.{WhenRefused, Leaves}
 use Rattle.settling.specs.Printing.{WritesFront, WritesLess}
-use Rattle.day_reading.specs.Days.{most_read}
+use Rattle.day_reading.specs.Days.{StopsSoon, most_read}
 use Rattle.import_once.specs.declared.outcomes.Outcome.{Outcome}
 use Rattle.import_once.specs.declared.outcomes.Outcome.TheVariants.{Stored, Already, Answered, Refused, DayPassed, Differs, ReadFault, WriteFault, KeeperFault, NoMemory}
 
@@ -100,12 +101,18 @@ import_read number bytes day refused o = import_worked (work_of number day o) nu
 abbrev pub answers_read : ℕ → List ℕ → List Tuple → Option (ℕ × Fault) → Office → Answer
 answers_read number bytes day refused o = answers_worked (work_of number day o) number bytes day refused o
 
+-- importing a new day of these bytes
+abbrev pub new_import : ℕ → ℕ → Limits → List ℕ → Office → Answer
+new_import number late limits bytes o =
+    import_read number bytes (reads bytes limits late).tuples (reads bytes limits late).refused o
+
 -- importing and answering a day of these bytes
 abbrev pub import_answer : ℕ → ℕ → Limits → List ℕ → Office → Answer
-import_answer number late limits bytes o = unless_kept (import_read number bytes (reads bytes limits late).tuples (reads bytes limits late).refused o) number bytes o
+import_answer number late limits bytes o = unless_kept (new_import number late limits bytes o) number bytes o
 
 abbrev pub answers_answer : ℕ → ℕ → Limits → List ℕ → Office → Answer
-answers_answer number late limits bytes o = answers_read number bytes (reads bytes limits late).tuples (reads bytes limits late).refused o
+answers_answer number late limits bytes o =
+    answers_read number bytes (reads bytes limits late).tuples (reads bytes limits late).refused o
 
 -- By what was found:
 
@@ -116,12 +123,19 @@ import_merged found number bytes day refused o = import_worked (work_by found nu
 abbrev pub answers_merged : List (ℕ × Finding) → ℕ → List ℕ → List Tuple → Option (ℕ × Fault) → Office → Answer
 answers_merged found number bytes day refused o = answers_worked (work_by found number day o) number bytes day refused o
 
+-- importing a new day of these bytes
+abbrev pub new_import_found : List (ℕ × Finding) → ℕ → ℕ → Limits → List ℕ → Office → Answer
+new_import_found found number late limits bytes o =
+    import_merged found number bytes (reads bytes limits late).tuples (reads bytes limits late).refused o
+
 -- importing and answering a day of these bytes
 abbrev pub import_found : List (ℕ × Finding) → ℕ → ℕ → Limits → List ℕ → Office → Answer
-import_found found number late limits bytes o = unless_kept (import_merged found number bytes (reads bytes limits late).tuples (reads bytes limits late).refused o) number bytes o
+import_found found number late limits bytes o =
+    unless_kept (new_import_found found number late limits bytes o) number bytes o
 
 abbrev pub answers_found : List (ℕ × Finding) → ℕ → ℕ → Limits → List ℕ → Office → Answer
-answers_found found number late limits bytes o = answers_merged found number bytes (reads bytes limits late).tuples (reads bytes limits late).refused o
+answers_found found number late limits bytes o =
+    answers_merged found number bytes (reads bytes limits late).tuples (reads bytes limits late).refused o
 
 -- Against what should be answered:
 
@@ -171,6 +185,18 @@ LeavesRest (Already r) (Some kept) bytes left = left ≡ Some (drop (kept.bytes 
 LeavesRest (Differs k found) (Some kept) bytes left = left ≡ Some (drop (kept.bytes + 1) bytes)
 LeavesRest _ kept bytes left = Unit {0}
 
+-- the first refused line is this one, for this cause
+abbrev pub IsRefusedAt : ℕ → Cause → Option (ℕ × Fault) → Type 0
+IsRefusedAt line cause refused = (fault : Fault) × (refused ≡ Some (line, fault)) × (cause_of fault ≡ cause)
+
+-- what is left of the source of a day that was read: nothing where no line of it is refused, and else no less than all but one buffer
+-- behind its first refused line
+abbrev pub LeavesRead : Outcome → Option (ℕ × Fault) → List ℕ → Option (List ℕ) → Type 0
+LeavesRead (Stored kept) refused bytes left = (refused ≡ None) × (left ≡ Some [])
+LeavesRead (Answered kept) refused bytes left = (refused ≡ None) × (left ≡ Some [])
+LeavesRead (Refused line cause) refused bytes left = IsRefusedAt line cause refused × StopsSoon line bytes left
+LeavesRead _ refused bytes left = Unit {0}
+
 -- the most that an import reads: of a day that is kept, one byte more than it had
 abbrev pub most_imported : Option DayRecord → Limits → ℕ
 most_imported None limits = most_read limits
@@ -188,6 +214,19 @@ IsOfNewDay ReadFault = Unit {0}
 IsOfNewDay WriteFault = Unit {0}
 IsOfNewDay KeeperFault = Unit {0}
 IsOfNewDay NoMemory = Unit {0}
+
+-- the outcome of a day that is answered
+abbrev pub IsOfAnswers : Outcome → Type 0
+IsOfAnswers (Stored kept) = ⊥
+IsOfAnswers (Already kept) = ⊥
+IsOfAnswers (Answered kept) = Unit {0}
+IsOfAnswers (Refused line cause) = Unit {0}
+IsOfAnswers (DayPassed last) = ⊥
+IsOfAnswers (Differs kept found) = ⊥
+IsOfAnswers ReadFault = Unit {0}
+IsOfAnswers WriteFault = Unit {0}
+IsOfAnswers KeeperFault = Unit {0}
+IsOfAnswers NoMemory = Unit {0}
 
 -- the outcome of a day that is kept
 abbrev pub IsOfKeptDay : Outcome → Type 0
@@ -235,3 +274,16 @@ KeepsAll ReadFault same = same
 KeepsAll WriteFault same = same
 KeepsAll KeeperFault same = Unit {0}
 KeepsAll NoMemory same = Unit {0}
+
+-- an end that no comparison with a kept day has
+abbrev pub IsUncompared : Outcome → Type 0
+IsUncompared (Stored kept) = Unit {0}
+IsUncompared (Already kept) = ⊥
+IsUncompared (Answered kept) = ⊥
+IsUncompared (Refused line cause) = Unit {0}
+IsUncompared (DayPassed last) = Unit {0}
+IsUncompared (Differs kept found) = ⊥
+IsUncompared ReadFault = ⊥
+IsUncompared WriteFault = Unit {0}
+IsUncompared KeeperFault = Unit {0}
+IsUncompared NoMemory = ⊥

@@ -14,16 +14,16 @@ use Rattle.day_reading.specs.declared.whole_day.DayEnd.TheVariants as end
 use Rattle.day_reading.specs.Days.{IsShort}
 use Rattle.import_once.specs.declared.outcomes.Outcome.{Outcome}
 use Rattle.import_once.specs.declared.outcomes.Outcome.TheVariants.{Stored, Already, Answered, Refused, DayPassed, Differs, ReadFault, WriteFault, KeeperFault, NoMemory}
-use Rattle.day_rounds.specs.declared.day_run.DayRun.{DayRun}
+use Rattle.day_rounds.specs.declared.day_run.WorkedDay.{WorkedDay}
 use Rattle.import_once.specs.Imports.{again}
 
 -- the record of a day that was worked
-abbrev pub run_record : ℕ → ℕ → Digest → DayRun → Tariffs → DayRecord
+abbrev pub run_record : ℕ → ℕ → Digest → WorkedDay → Tariffs → DayRecord
 run_record number bytes digest run tariffs =
     record { day = number; digest = digest; bytes = bytes; tuples = run.tuples; notices = run.closed.notices; notices_digest = run.closed.notices_digest; tariffs = seal_of tariffs; total = run.closed.total }
 
 -- a day that was worked may be put
-pub record CanPut (number : ℕ) (run : DayRun) : Type 0 where
+pub record CanPut (number : ℕ) (run : WorkedDay) : Type 0 where
   pub short : IsShort run.end
   pub tuples : run.tuples < 2 ^ 63
   pub notices : run.closed.notices < 2 ^ 63
@@ -47,7 +47,7 @@ Stores w kept rows was now ReadFault = ⊥
 Stores w kept rows was now WriteFault = ⊥
 
 -- a day that was read whole was put, or was refused; of another one the first refused line is named, and nothing is put
-abbrev pub Finishes : WhenRefused → ℕ → DayEnd → DayRun → Tariffs → Office → Option Office → Outcome → Type 0
+abbrev pub Finishes : WhenRefused → ℕ → DayEnd → WorkedDay → Tariffs → Office → Option Office → Outcome → Type 0
 Finishes w number (end.Whole bytes digest) run tariffs was now outcome = Stores w (run_record number bytes digest run tariffs) run.closed.rows was now outcome
 Finishes w number (end.Refused line cause) run tariffs was now outcome = (outcome ≡ Refused line cause) × (now ≡ Some was)
 
@@ -65,7 +65,7 @@ IsAnswered kept WriteFault = ⊥
 IsAnswered kept KeeperFault = ⊥
 
 -- a day that was read whole is answered, unless memory runs out; of another one the first refused line is named
-abbrev pub Tells : ℕ → DayEnd → DayRun → Tariffs → Outcome → Type 0
+abbrev pub Tells : ℕ → DayEnd → WorkedDay → Tariffs → Outcome → Type 0
 Tells number (end.Whole bytes digest) run tariffs outcome = IsAnswered (run_record number bytes digest run tariffs) outcome
 Tells number (end.Refused line cause) run tariffs outcome = outcome ≡ Refused line cause
 
@@ -73,6 +73,12 @@ Tells number (end.Refused line cause) run tariffs outcome = outcome ≡ Refused 
 abbrev pub IsWhole : DayEnd → Type 0
 IsWhole (end.Whole bytes digest) = Unit {0}
 IsWhole (end.Refused line cause) = ⊥
+
+-- a day is stored of a reading that came to its end, and a line is named that ended it
+abbrev pub IsOfEnd : DayEnd → Outcome → Type 0
+IsOfEnd read (Stored kept) = IsWhole read
+IsOfEnd read (Refused line cause) = read ≡ end.Refused line cause
+IsOfEnd read _ = Unit {0}
 
 -- the source was compared with a kept day, and one byte more than it had is not left
 abbrev pub Compares : DayRecord → List ℕ → Option (List ℕ) → Outcome → Type 0

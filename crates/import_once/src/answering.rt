@@ -7,7 +7,7 @@ ghost use Rattle.road_io.specs.Rooms.{Endless};
 ghost use Rattle.keeper.specs.Office.{Office};
 ghost use Rattle.road_time.specs.Fits.{IsLimits};
 ghost use Rattle.day_reading.specs.Days.{ReadsWithin, most_read};
-ghost use Rattle.import_once.specs.Imports.{answers_read, answers_merged, answers_answer, answers_found, Does};
+ghost use Rattle.import_once.specs.Imports.{answers_answer, answers_found, Does, LeavesRead, IsOfAnswers};
 ghost use Rattle.import_once.specs.Runs.{DoesByCrew, HasStarted};
 ghost use Rattle.import_once.specs.declared.outcomes.Outcome.TheVariants.{ReadFault, WriteFault, KeeperFault};
 
@@ -21,9 +21,11 @@ use partition_workers::Crew;
 use road_io::{Sink, Source};
 use road_time::{Limits, Tariffs};
 use std::alloc::Global;
+use std::thread::Threads;
 
 /// Answers a day under the kept tariffs.
-fn answer_under<S: Source, O: Sink, K: Keeper, C: Crew>(
+fn answer_under<S: Source, O: Sink, K: Keeper, C: Crew, R: Threads>(
+    rt: &R,
     alloc: Global,
     number: u32,
     plan: &Plan,
@@ -41,13 +43,21 @@ fn answer_under<S: Source, O: Sink, K: Keeper, C: Crew>(
     requires soon { late ≤ 120 }
     requires within { IsLimits limits.now }
     requires idle { C.out crew.old ≡ [] }
-    ensures does { C.exact ≡ true → (bytes : List ℕ) (o : Office) → S.left source.old ≡ Some bytes → K.told keeper.old ≡ Some o → tariffs.now ≡ o.tariffs
-        → Does K.refuses (answers_read number bytes (reads bytes limits.now late).tuples (reads bytes limits.now late).refused o) o (O.written sink.old) (O.written sink.new) (K.told keeper.new) result }
-    ensures merged { (bytes : List ℕ) (o : Office) → S.left source.old ≡ Some bytes → K.told keeper.old ≡ Some o → tariffs.now ≡ o.tariffs
-        → DoesByCrew K.refuses (λ found. answers_merged found number bytes (reads bytes limits.now late).tuples (reads bytes limits.now late).refused o) o (C.answers crew.old) (C.answers crew.new) (O.written sink.old) (O.written sink.new) (K.told keeper.new) result }
+    ensures does { C.exact ≡ true → (bytes : List ℕ) (o : Office) → S.left source.old ≡ Some bytes
+        → K.told keeper.old ≡ Some o → tariffs.now ≡ o.tariffs
+        → Does K.refuses (answers_answer number late limits.now bytes o) o (O.written sink.old) (O.written sink.new)
+        (K.told keeper.new) result }
+    ensures merged { (bytes : List ℕ) (o : Office) → S.left source.old ≡ Some bytes → K.told keeper.old ≡ Some o
+        → tariffs.now ≡ o.tariffs
+        → DoesByCrew K.refuses (λ found. answers_found found number late limits.now bytes o) o (C.answers crew.old)
+        (C.answers crew.new) (O.written sink.old) (O.written sink.new) (K.told keeper.new) result }
     ensures jobs { (bytes : List ℕ) → S.left source.old ≡ Some bytes
-        → HasStarted plan.now.width limits.now.backlog (reads bytes limits.now late).tuples (C.jobs crew.old) (C.jobs crew.new) result }
+        → HasStarted plan.now.width limits.now.backlog (reads bytes limits.now late).tuples (C.jobs crew.old)
+        (C.jobs crew.new) result }
     ensures kept { K.told keeper.new ≡ K.told keeper.old }
+    ensures own { IsOfAnswers result }
+    ensures leaves { (bytes : List ℕ) → S.left source.old ≡ Some bytes
+        → LeavesRead result (reads bytes limits.now late).refused bytes (S.left source.new) }
     ensures bounded { ReadsWithin (most_read limits.now) (S.left source.old) (S.left source.new) }
     ensures idle { C.out crew.new ≡ [] }
     ensures crew { C.which crew.new ≡ C.which crew.old }
@@ -64,6 +74,7 @@ fn answer_under<S: Source, O: Sink, K: Keeper, C: Crew>(
 {
     let mut publisher = NoPublisher;
     match run_day(
+        rt,
         alloc,
         plan,
         limits,
@@ -83,7 +94,8 @@ fn answer_under<S: Source, O: Sink, K: Keeper, C: Crew>(
 
 /// Answers a day: writes the output of its tuples in their order, or says why not. Nothing is kept of it, and kept days
 /// are asked for what was paid alone.
-pub fn answers<S: Source, O: Sink, K: Keeper, C: Crew>(
+pub fn answers<S: Source, O: Sink, K: Keeper, C: Crew, R: Threads>(
+    rt: &R,
     alloc: Global,
     day: u32,
     plan: &Plan,
@@ -100,13 +112,20 @@ pub fn answers<S: Source, O: Sink, K: Keeper, C: Crew>(
     requires soon { late ≤ 120 }
     requires within { IsLimits limits.now }
     requires idle { C.out crew.old ≡ [] }
-    ensures does { C.exact ≡ true → (bytes : List ℕ) (o : Office) → S.left source.old ≡ Some bytes → K.told keeper.old ≡ Some o
-        → Does K.refuses (answers_answer day late limits.now bytes o) o (O.written sink.old) (O.written sink.new) (K.told keeper.new) result }
+    ensures does { C.exact ≡ true → (bytes : List ℕ) (o : Office) → S.left source.old ≡ Some bytes
+        → K.told keeper.old ≡ Some o
+        → Does K.refuses (answers_answer day late limits.now bytes o) o (O.written sink.old) (O.written sink.new)
+        (K.told keeper.new) result }
     ensures merged { (bytes : List ℕ) (o : Office) → S.left source.old ≡ Some bytes → K.told keeper.old ≡ Some o
-        → DoesByCrew K.refuses (λ found. answers_found found day late limits.now bytes o) o (C.answers crew.old) (C.answers crew.new) (O.written sink.old) (O.written sink.new) (K.told keeper.new) result }
+        → DoesByCrew K.refuses (λ found. answers_found found day late limits.now bytes o) o (C.answers crew.old)
+        (C.answers crew.new) (O.written sink.old) (O.written sink.new) (K.told keeper.new) result }
     ensures jobs { (bytes : List ℕ) → S.left source.old ≡ Some bytes
-        → HasStarted plan.now.width limits.now.backlog (reads bytes limits.now late).tuples (C.jobs crew.old) (C.jobs crew.new) result }
+        → HasStarted plan.now.width limits.now.backlog (reads bytes limits.now late).tuples (C.jobs crew.old)
+        (C.jobs crew.new) result }
     ensures kept { K.told keeper.new ≡ K.told keeper.old }
+    ensures own { IsOfAnswers result }
+    ensures leaves { (bytes : List ℕ) → S.left source.old ≡ Some bytes
+        → LeavesRead result (reads bytes limits.now late).refused bytes (S.left source.new) }
     ensures bounded { ReadsWithin (most_read limits.now) (S.left source.old) (S.left source.new) }
     ensures idle { C.out crew.new ≡ [] }
     ensures crew { C.which crew.new ≡ C.which crew.old }
@@ -123,7 +142,7 @@ pub fn answers<S: Source, O: Sink, K: Keeper, C: Crew>(
 {
     match keeper.tariffs() {
         Ok(tariffs) => answer_under(
-            alloc, day, plan, late, limits, &tariffs, source, sink, keeper, crew,
+            rt, alloc, day, plan, late, limits, &tariffs, source, sink, keeper, crew,
         ),
         Err(KeepFault::Failed) => Outcome::KeeperFault,
         Err(KeepFault::NoMemory) => Outcome::NoMemory,

@@ -1,267 +1,36 @@
 // Importing a day.
-ghost use Rattle.std.specs.Prelude.{◌≡◌, ◌≢◌, ◌≤◌, List, ℕ, Option, Some, None, [], true};
+ghost use Rattle.std.specs.Prelude.{◌≡◌, ◌≢◌, ◌≤◌, List, ℕ, Some, None, [], true};
 ghost use Rattle.road_time.specs.Reads.{reads};
 ghost use Rattle.road_io.specs.Faults.{Rose};
 ghost use Rattle.road_io.specs.Plans.{NeverFails};
 ghost use Rattle.road_io.specs.Rooms.{Endless};
 ghost use Rattle.keeper.specs.declared.kept.DayRecord.{DayRecord};
 ghost use Rattle.keeper.specs.Office.{Office, record_of, last_day};
-ghost use Rattle.keeper.specs.Kept.{IsLater};
-ghost use Rattle.keeper.specs.Calls.{IfTold};
-ghost use Rattle.settling.specs.Boards.{IsAbreast};
 ghost use Rattle.road_time.specs.Fits.{IsLimits};
 ghost use Rattle.day_reading.specs.Days.{ReadsWithin, most_read};
-ghost use Rattle.import_once.specs.Imports.{import_read, import_merged, import_answer, import_found, unless_passed, most_imported, Does, LeavesRest, LeavesAlone, PutsOnce, KeepsAll, IsOfNewDay};
-ghost use Rattle.import_once.specs.Runs.{DoesByCrew, HasStarted, HasStepped, Publishes};
+ghost use Rattle.import_once.specs.Imports.{import_answer, import_found};
+ghost use Rattle.import_once.specs.Imports.{most_imported, Does, LeavesRest, LeavesAlone, LeavesRead, PutsOnce};
+ghost use Rattle.import_once.specs.Imports.{KeepsAll, IsUncompared};
+ghost use Rattle.import_once.specs.Runs.{DoesByCrew, HasStarted, Publishes};
 ghost use Rattle.accounts.specs.Operations.{Posted};
 ghost use Rattle.import_once.specs.declared.outcomes.Outcome.TheVariants.{Stored, ReadFault, WriteFault, KeeperFault};
 
-use crate::keeping::finish_import;
 use crate::kept_day::compare;
-use crate::outcomes::{Outcome, stopped};
+use crate::new_day::import_new;
+use crate::outcomes::Outcome;
 use accounts::Publisher;
-use day_rounds::run_day;
 use import_plan::Plan;
 use keeper::{KeepFault, Keeper};
 use partition_workers::Crew;
 use road_io::{Sink, Source};
-use road_time::{Limits, Tariffs};
+use road_time::Limits;
 use std::alloc::Global;
-
-/// Imports a day that begins, under the kept tariffs.
-fn import_under<S: Source, O: Sink, K: Keeper, C: Crew, P: Publisher>(
-    alloc: Global,
-    number: u32,
-    plan: &Plan,
-    late: u8,
-    limits: &Limits,
-    tariffs: &Tariffs,
-    source: &mut S,
-    sink: &mut O,
-    keeper: &mut K,
-    crew: &mut C,
-    publisher: &mut P,
-) -> Outcome
-    requires low { 70 ≤ number }
-    requires high { number ≤ 1000000 }
-    requires width { (1 ≤ plan.now.width) × (plan.now.width ≤ 64) }
-    requires soon { late ≤ 120 }
-    requires within { IsLimits limits.now }
-    requires idle { C.out crew.old ≡ [] }
-    requires later { IfTold (K.told keeper.old) (λ o. IsLater number o) }
-    requires abreast { IsAbreast (P.posted publisher.old) 0 }
-    ensures does { C.exact ≡ true → (bytes : List ℕ) (o : Office) → S.left source.old ≡ Some bytes → K.told keeper.old ≡ Some o → tariffs.now ≡ o.tariffs
-        → Does K.refuses (import_read number bytes (reads bytes limits.now late).tuples (reads bytes limits.now late).refused o) o (O.written sink.old) (O.written sink.new) (K.told keeper.new) result }
-    ensures merged { (bytes : List ℕ) (o : Office) → S.left source.old ≡ Some bytes → K.told keeper.old ≡ Some o → tariffs.now ≡ o.tariffs
-        → DoesByCrew K.refuses (λ found. import_merged found number bytes (reads bytes limits.now late).tuples (reads bytes limits.now late).refused o) o (C.answers crew.old) (C.answers crew.new) (O.written sink.old) (O.written sink.new) (K.told keeper.new) result }
-    ensures jobs { (bytes : List ℕ) → S.left source.old ≡ Some bytes
-        → HasStarted plan.now.width limits.now.backlog (reads bytes limits.now late).tuples (C.jobs crew.old) (C.jobs crew.new) result }
-    ensures stepped { C.exact ≡ true → (bytes : List ℕ) → S.left source.old ≡ Some bytes
-        → HasStepped tariffs.now (reads bytes limits.now late).tuples limits.now.backlog (P.posted publisher.old) (P.posted publisher.new) result }
-    ensures puts { (o : Office) → K.told keeper.old ≡ Some o → PutsOnce number o (K.told keeper.new) }
-    ensures keeps { KeepsAll result (K.told keeper.new ≡ K.told keeper.old) }
-    ensures whole { (bytes : List ℕ) (kept : DayRecord) → S.left source.old ≡ Some bytes → result ≡ Stored kept → S.left source.new ≡ Some [] }
-    ensures new_day { IsOfNewDay result }
-    ensures bounded { ReadsWithin (most_read limits.now) (S.left source.old) (S.left source.new) }
-    ensures idle { C.out crew.new ≡ [] }
-    ensures crew { C.which crew.new ≡ C.which crew.old }
-    ensures publisher { P.which publisher.new ≡ P.which publisher.old }
-    ensures read_cause { result ≡ ReadFault → Rose (S.faults source.old) (S.faults source.new) }
-    ensures read_same { S.name source.new ≡ S.name source.old }
-    ensures read_later { S.faults source.old ≤ S.faults source.new }
-    ensures read_sure { NeverFails (S.plan source.old) → result ≢ ReadFault }
-    ensures write_cause { result ≡ WriteFault → Rose (O.faults sink.old) (O.faults sink.new) }
-    ensures write_later { O.faults sink.old ≤ O.faults sink.new }
-    ensures write_sure { O.room sink.old ≡ Endless → (result ≢ WriteFault) × (O.room sink.new ≡ Endless) }
-    ensures keeper_cause { result ≡ KeeperFault → Rose (K.faults keeper.old) (K.faults keeper.new) }
-    ensures keeper_later { K.faults keeper.old ≤ K.faults keeper.new }
-    ensures keeper_sure { NeverFails (K.plan keeper.old) → result ≢ KeeperFault }
-{
-    match run_day(
-        alloc, plan, limits, late, tariffs, number, source, keeper, sink, crew, publisher,
-    ) {
-        Ok(run) => finish_import(alloc, number, &run, tariffs, keeper),
-        Err(fault) => stopped(fault),
-    }
-}
-
-/// Begins a day, and imports it under the kept tariffs.
-fn import_begun<S: Source, O: Sink, K: Keeper, C: Crew, P: Publisher>(
-    alloc: Global,
-    number: u32,
-    plan: &Plan,
-    late: u8,
-    limits: &Limits,
-    tariffs: &Tariffs,
-    source: &mut S,
-    sink: &mut O,
-    keeper: &mut K,
-    crew: &mut C,
-    publisher: &mut P,
-) -> Outcome
-    requires low { 70 ≤ number }
-    requires high { number ≤ 1000000 }
-    requires width { (1 ≤ plan.now.width) × (plan.now.width ≤ 64) }
-    requires soon { late ≤ 120 }
-    requires within { IsLimits limits.now }
-    requires idle { C.out crew.old ≡ [] }
-    requires later { IfTold (K.told keeper.old) (λ o. IsLater number o) }
-    ensures does { C.exact ≡ true → (bytes : List ℕ) (o : Office) → S.left source.old ≡ Some bytes → K.told keeper.old ≡ Some o → tariffs.now ≡ o.tariffs
-        → Does K.refuses (import_read number bytes (reads bytes limits.now late).tuples (reads bytes limits.now late).refused o) o (O.written sink.old) (O.written sink.new) (K.told keeper.new) result }
-    ensures merged { (bytes : List ℕ) (o : Office) → S.left source.old ≡ Some bytes → K.told keeper.old ≡ Some o → tariffs.now ≡ o.tariffs
-        → DoesByCrew K.refuses (λ found. import_merged found number bytes (reads bytes limits.now late).tuples (reads bytes limits.now late).refused o) o (C.answers crew.old) (C.answers crew.new) (O.written sink.old) (O.written sink.new) (K.told keeper.new) result }
-    ensures jobs { (bytes : List ℕ) → S.left source.old ≡ Some bytes
-        → HasStarted plan.now.width limits.now.backlog (reads bytes limits.now late).tuples (C.jobs crew.old) (C.jobs crew.new) result }
-    ensures published { C.exact ≡ true → (bytes : List ℕ) (was : Posted) → S.left source.old ≡ Some bytes → P.posted publisher.old ≡ Some was
-        → Publishes tariffs.now (reads bytes limits.now late).tuples number limits.now.backlog was (P.posted publisher.new) result }
-    ensures puts { (o : Office) → K.told keeper.old ≡ Some o → PutsOnce number o (K.told keeper.new) }
-    ensures keeps { KeepsAll result (K.told keeper.new ≡ K.told keeper.old) }
-    ensures whole { (bytes : List ℕ) (kept : DayRecord) → S.left source.old ≡ Some bytes → result ≡ Stored kept → S.left source.new ≡ Some [] }
-    ensures new_day { IsOfNewDay result }
-    ensures bounded { ReadsWithin (most_read limits.now) (S.left source.old) (S.left source.new) }
-    ensures idle { C.out crew.new ≡ [] }
-    ensures crew { C.which crew.new ≡ C.which crew.old }
-    ensures publisher { P.which publisher.new ≡ P.which publisher.old }
-    ensures read_cause { result ≡ ReadFault → Rose (S.faults source.old) (S.faults source.new) }
-    ensures read_same { S.name source.new ≡ S.name source.old }
-    ensures read_later { S.faults source.old ≤ S.faults source.new }
-    ensures read_sure { NeverFails (S.plan source.old) → result ≢ ReadFault }
-    ensures write_cause { result ≡ WriteFault → Rose (O.faults sink.old) (O.faults sink.new) }
-    ensures write_later { O.faults sink.old ≤ O.faults sink.new }
-    ensures write_sure { O.room sink.old ≡ Endless → (result ≢ WriteFault) × (O.room sink.new ≡ Endless) }
-    ensures keeper_cause { result ≡ KeeperFault → Rose (K.faults keeper.old) (K.faults keeper.new) }
-    ensures keeper_later { K.faults keeper.old ≤ K.faults keeper.new }
-    ensures keeper_sure { NeverFails (K.plan keeper.old) → result ≢ KeeperFault }
-{
-    match publisher.begin(number) {
-        Ok(()) => import_under(
-            alloc, number, plan, late, limits, tariffs, source, sink, keeper, crew, publisher,
-        ),
-        Err(_) => Outcome::NoMemory,
-    }
-}
-
-/// Imports a day that is later than all that is kept.
-fn import_later<S: Source, O: Sink, K: Keeper, C: Crew, P: Publisher>(
-    alloc: Global,
-    number: u32,
-    plan: &Plan,
-    late: u8,
-    limits: &Limits,
-    source: &mut S,
-    sink: &mut O,
-    keeper: &mut K,
-    crew: &mut C,
-    publisher: &mut P,
-) -> Outcome
-    requires low { 70 ≤ number }
-    requires high { number ≤ 1000000 }
-    requires width { (1 ≤ plan.now.width) × (plan.now.width ≤ 64) }
-    requires soon { late ≤ 120 }
-    requires within { IsLimits limits.now }
-    requires idle { C.out crew.old ≡ [] }
-    requires later { IfTold (K.told keeper.old) (λ o. IsLater number o) }
-    ensures does { C.exact ≡ true → (bytes : List ℕ) (o : Office) → S.left source.old ≡ Some bytes → K.told keeper.old ≡ Some o
-        → Does K.refuses (import_read number bytes (reads bytes limits.now late).tuples (reads bytes limits.now late).refused o) o (O.written sink.old) (O.written sink.new) (K.told keeper.new) result }
-    ensures merged { (bytes : List ℕ) (o : Office) → S.left source.old ≡ Some bytes → K.told keeper.old ≡ Some o
-        → DoesByCrew K.refuses (λ found. import_merged found number bytes (reads bytes limits.now late).tuples (reads bytes limits.now late).refused o) o (C.answers crew.old) (C.answers crew.new) (O.written sink.old) (O.written sink.new) (K.told keeper.new) result }
-    ensures jobs { (bytes : List ℕ) → S.left source.old ≡ Some bytes
-        → HasStarted plan.now.width limits.now.backlog (reads bytes limits.now late).tuples (C.jobs crew.old) (C.jobs crew.new) result }
-    ensures published { C.exact ≡ true → (bytes : List ℕ) (o : Office) (was : Posted) → S.left source.old ≡ Some bytes → K.told keeper.old ≡ Some o
-        → P.posted publisher.old ≡ Some was → Publishes o.tariffs (reads bytes limits.now late).tuples number limits.now.backlog was (P.posted publisher.new) result }
-    ensures puts { (o : Office) → K.told keeper.old ≡ Some o → PutsOnce number o (K.told keeper.new) }
-    ensures keeps { KeepsAll result (K.told keeper.new ≡ K.told keeper.old) }
-    ensures whole { (bytes : List ℕ) (kept : DayRecord) → S.left source.old ≡ Some bytes → result ≡ Stored kept → S.left source.new ≡ Some [] }
-    ensures new_day { IsOfNewDay result }
-    ensures bounded { ReadsWithin (most_read limits.now) (S.left source.old) (S.left source.new) }
-    ensures idle { C.out crew.new ≡ [] }
-    ensures crew { C.which crew.new ≡ C.which crew.old }
-    ensures publisher { P.which publisher.new ≡ P.which publisher.old }
-    ensures read_cause { result ≡ ReadFault → Rose (S.faults source.old) (S.faults source.new) }
-    ensures read_same { S.name source.new ≡ S.name source.old }
-    ensures read_later { S.faults source.old ≤ S.faults source.new }
-    ensures read_sure { NeverFails (S.plan source.old) → result ≢ ReadFault }
-    ensures write_cause { result ≡ WriteFault → Rose (O.faults sink.old) (O.faults sink.new) }
-    ensures write_later { O.faults sink.old ≤ O.faults sink.new }
-    ensures write_sure { O.room sink.old ≡ Endless → (result ≢ WriteFault) × (O.room sink.new ≡ Endless) }
-    ensures keeper_cause { result ≡ KeeperFault → Rose (K.faults keeper.old) (K.faults keeper.new) }
-    ensures keeper_later { K.faults keeper.old ≤ K.faults keeper.new }
-    ensures keeper_sure { NeverFails (K.plan keeper.old) → result ≢ KeeperFault }
-{
-    match keeper.tariffs() {
-        Ok(tariffs) => import_begun(
-            alloc, number, plan, late, limits, &tariffs, source, sink, keeper, crew, publisher,
-        ),
-        Err(KeepFault::Failed) => Outcome::KeeperFault,
-        Err(KeepFault::NoMemory) => Outcome::NoMemory,
-    }
-}
-
-/// Imports a day that is not kept.
-fn import_new<S: Source, O: Sink, K: Keeper, C: Crew, P: Publisher>(
-    alloc: Global,
-    number: u32,
-    plan: &Plan,
-    late: u8,
-    limits: &Limits,
-    source: &mut S,
-    sink: &mut O,
-    keeper: &mut K,
-    crew: &mut C,
-    publisher: &mut P,
-) -> Outcome
-    requires low { 70 ≤ number }
-    requires high { number ≤ 1000000 }
-    requires width { (1 ≤ plan.now.width) × (plan.now.width ≤ 64) }
-    requires soon { late ≤ 120 }
-    requires within { IsLimits limits.now }
-    requires idle { C.out crew.old ≡ [] }
-    ensures does { C.exact ≡ true → (bytes : List ℕ) (o : Office) → S.left source.old ≡ Some bytes → K.told keeper.old ≡ Some o
-        → Does K.refuses (unless_passed (import_read number bytes (reads bytes limits.now late).tuples (reads bytes limits.now late).refused o) number o) o (O.written sink.old) (O.written sink.new) (K.told keeper.new) result }
-    ensures merged { (bytes : List ℕ) (o : Office) → S.left source.old ≡ Some bytes → K.told keeper.old ≡ Some o
-        → DoesByCrew K.refuses (λ found. unless_passed (import_merged found number bytes (reads bytes limits.now late).tuples (reads bytes limits.now late).refused o) number o) o (C.answers crew.old) (C.answers crew.new) (O.written sink.old) (O.written sink.new) (K.told keeper.new) result }
-    ensures unread { (o : Office) → K.told keeper.old ≡ Some o → number ≤ last_day o → source.new ≡ source.old }
-    ensures jobs { (bytes : List ℕ) → S.left source.old ≡ Some bytes
-        → HasStarted plan.now.width limits.now.backlog (reads bytes limits.now late).tuples (C.jobs crew.old) (C.jobs crew.new) result }
-    ensures published { C.exact ≡ true → (bytes : List ℕ) (o : Office) (was : Posted) → S.left source.old ≡ Some bytes → K.told keeper.old ≡ Some o
-        → P.posted publisher.old ≡ Some was → Publishes o.tariffs (reads bytes limits.now late).tuples number limits.now.backlog was (P.posted publisher.new) result }
-    ensures puts { (o : Office) → K.told keeper.old ≡ Some o → PutsOnce number o (K.told keeper.new) }
-    ensures keeps { KeepsAll result (K.told keeper.new ≡ K.told keeper.old) }
-    ensures whole { (bytes : List ℕ) (kept : DayRecord) → S.left source.old ≡ Some bytes → result ≡ Stored kept → S.left source.new ≡ Some [] }
-    ensures alone { LeavesAlone result (source.new ≡ source.old) ((sink.new ≡ sink.old) × (publisher.new ≡ publisher.old) × (crew.new ≡ crew.old)) }
-    ensures bounded { ReadsWithin (most_read limits.now) (S.left source.old) (S.left source.new) }
-    ensures idle { C.out crew.new ≡ [] }
-    ensures crew { C.which crew.new ≡ C.which crew.old }
-    ensures publisher { P.which publisher.new ≡ P.which publisher.old }
-    ensures read_cause { result ≡ ReadFault → Rose (S.faults source.old) (S.faults source.new) }
-    ensures read_same { S.name source.new ≡ S.name source.old }
-    ensures read_later { S.faults source.old ≤ S.faults source.new }
-    ensures read_sure { NeverFails (S.plan source.old) → result ≢ ReadFault }
-    ensures write_cause { result ≡ WriteFault → Rose (O.faults sink.old) (O.faults sink.new) }
-    ensures write_later { O.faults sink.old ≤ O.faults sink.new }
-    ensures write_sure { O.room sink.old ≡ Endless → (result ≢ WriteFault) × (O.room sink.new ≡ Endless) }
-    ensures keeper_cause { result ≡ KeeperFault → Rose (K.faults keeper.old) (K.faults keeper.new) }
-    ensures keeper_later { K.faults keeper.old ≤ K.faults keeper.new }
-    ensures keeper_sure { NeverFails (K.plan keeper.old) → result ≢ KeeperFault }
-{
-    match keeper.last_day() {
-        Ok(last) => {
-            if last >= number {
-                Outcome::DayPassed { last }
-            } else {
-                import_later(
-                    alloc, number, plan, late, limits, source, sink, keeper, crew, publisher,
-                )
-            }
-        }
-        Err(KeepFault::Failed) => Outcome::KeeperFault,
-        Err(KeepFault::NoMemory) => Outcome::NoMemory,
-    }
-}
+use std::thread::Threads;
 
 /// Imports a day: writes the output of its tuples in their order and keeps the day with its amounts, or says why not. A
 /// day that is kept already is compared, and nothing changes.
-pub fn import<S: Source, O: Sink, K: Keeper, C: Crew, P: Publisher>(
+pub fn import<S: Source, O: Sink, K: Keeper, C: Crew, P: Publisher, R: Threads>(
+    rt: &R,
     alloc: Global,
     day: u32,
     plan: &Plan,
@@ -279,21 +48,37 @@ pub fn import<S: Source, O: Sink, K: Keeper, C: Crew, P: Publisher>(
     requires soon { late ≤ 120 }
     requires within { IsLimits limits.now }
     requires idle { C.out crew.old ≡ [] }
-    ensures does { C.exact ≡ true → (bytes : List ℕ) (o : Office) → S.left source.old ≡ Some bytes → K.told keeper.old ≡ Some o
-        → Does K.refuses (import_answer day late limits.now bytes o) o (O.written sink.old) (O.written sink.new) (K.told keeper.new) result }
+    ensures does { C.exact ≡ true → (bytes : List ℕ) (o : Office) → S.left source.old ≡ Some bytes
+        → K.told keeper.old ≡ Some o
+        → Does K.refuses (import_answer day late limits.now bytes o) o (O.written sink.old) (O.written sink.new)
+        (K.told keeper.new) result }
     ensures merged { (bytes : List ℕ) (o : Office) → S.left source.old ≡ Some bytes → K.told keeper.old ≡ Some o
-        → DoesByCrew K.refuses (λ found. import_found found day late limits.now bytes o) o (C.answers crew.old) (C.answers crew.new) (O.written sink.old) (O.written sink.new) (K.told keeper.new) result }
+        → DoesByCrew K.refuses (λ found. import_found found day late limits.now bytes o) o (C.answers crew.old)
+        (C.answers crew.new) (O.written sink.old) (O.written sink.new) (K.told keeper.new) result }
     ensures jobs { (bytes : List ℕ) → S.left source.old ≡ Some bytes
-        → HasStarted plan.now.width limits.now.backlog (reads bytes limits.now late).tuples (C.jobs crew.old) (C.jobs crew.new) result }
-    ensures published { C.exact ≡ true → (bytes : List ℕ) (o : Office) (was : Posted) → S.left source.old ≡ Some bytes → K.told keeper.old ≡ Some o
-        → P.posted publisher.old ≡ Some was → Publishes o.tariffs (reads bytes limits.now late).tuples day limits.now.backlog was (P.posted publisher.new) result }
+        → HasStarted plan.now.width limits.now.backlog (reads bytes limits.now late).tuples (C.jobs crew.old)
+        (C.jobs crew.new) result }
+    ensures published { C.exact ≡ true → (bytes : List ℕ) (o : Office) (was : Posted) → S.left source.old ≡ Some bytes
+        → K.told keeper.old ≡ Some o
+        → P.posted publisher.old ≡ Some was
+        → Publishes o.tariffs (reads bytes limits.now late).tuples day limits.now.backlog was
+        (P.posted publisher.new) result }
     ensures puts { (o : Office) → K.told keeper.old ≡ Some o → PutsOnce day o (K.told keeper.new) }
     ensures keeps { KeepsAll result (K.told keeper.new ≡ K.told keeper.old) }
-    ensures whole { (bytes : List ℕ) (kept : DayRecord) → S.left source.old ≡ Some bytes → result ≡ Stored kept → S.left source.new ≡ Some [] }
-    ensures alone { LeavesAlone result (source.new ≡ source.old) ((sink.new ≡ sink.old) × (publisher.new ≡ publisher.old) × (crew.new ≡ crew.old)) }
-    ensures rest { (bytes : List ℕ) (o : Office) → S.left source.old ≡ Some bytes → K.told keeper.old ≡ Some o → LeavesRest result (record_of o day) bytes (S.left source.new) }
-    ensures unread { (o : Office) → K.told keeper.old ≡ Some o → record_of o day ≡ None → day ≤ last_day o → source.new ≡ source.old }
-    ensures bounded { (o : Office) → K.told keeper.old ≡ Some o → ReadsWithin (most_imported (record_of o day) limits.now) (S.left source.old) (S.left source.new) }
+    ensures whole { (bytes : List ℕ) (kept : DayRecord) → S.left source.old ≡ Some bytes → result ≡ Stored kept
+        → S.left source.new ≡ Some [] }
+    ensures leaves { (bytes : List ℕ) → S.left source.old ≡ Some bytes
+        → LeavesRead result (reads bytes limits.now late).refused bytes (S.left source.new) }
+    ensures alone { LeavesAlone result (source.new ≡ source.old) ((sink.new ≡ sink.old)
+        × (publisher.new ≡ publisher.old) × (crew.new ≡ crew.old)) }
+    ensures rest { (bytes : List ℕ) (o : Office) → S.left source.old ≡ Some bytes → K.told keeper.old ≡ Some o
+        → LeavesRest result (record_of o day) bytes (S.left source.new) }
+    ensures unread { (o : Office) → K.told keeper.old ≡ Some o → record_of o day ≡ None → day ≤ last_day o
+        → source.new ≡ source.old }
+    ensures uncompared { IsUncompared result
+        → ReadsWithin (most_read limits.now) (S.left source.old) (S.left source.new) }
+    ensures bounded { (o : Office) → K.told keeper.old ≡ Some o
+        → ReadsWithin (most_imported (record_of o day) limits.now) (S.left source.old) (S.left source.new) }
     ensures idle { C.out crew.new ≡ [] }
     ensures crew { C.which crew.new ≡ C.which crew.old }
     ensures publisher { P.which publisher.new ≡ P.which publisher.old }
@@ -311,7 +96,7 @@ pub fn import<S: Source, O: Sink, K: Keeper, C: Crew, P: Publisher>(
     match keeper.day(day) {
         Ok(Some(kept)) => compare(alloc, &kept, source),
         Ok(None) => import_new(
-            alloc, day, plan, late, limits, source, sink, keeper, crew, publisher,
+            rt, alloc, day, plan, late, limits, source, sink, keeper, crew, publisher,
         ),
         Err(KeepFault::Failed) => Outcome::KeeperFault,
         Err(KeepFault::NoMemory) => Outcome::NoMemory,

@@ -1,18 +1,20 @@
 // The record and the amounts of a day that was worked, and how it is put.
-ghost use Rattle.std.specs.Prelude.{◌≡◌, ◌≢◌, ◌≤◌, Some, IfOk};
+ghost use Rattle.std.specs.Prelude.{◌≡◌, ◌≢◌, ◌≤◌, ℕ, Some, IfOk};
 ghost use Rattle.road_io.specs.Faults.{Rose};
 ghost use Rattle.road_io.specs.Plans.{NeverFails};
 ghost use Rattle.keeper.specs.Office.{Office};
 ghost use Rattle.keeper.specs.Kept.{IsDayPut, IsLater};
 ghost use Rattle.keeper.specs.Calls.{IfTold};
 ghost use Rattle.keeper.specs.declared.kept.DayRecord.{DayRecord as DayRecordValue};
-ghost use Rattle.import_once.specs.Imports.{IsOfNewDay, PutsOnce, KeepsAll};
-ghost use Rattle.import_once.specs.Stages.{run_record, CanPut, Stores, Finishes, Tells, IsWhole};
+ghost use Rattle.keeper.specs.declared.digest.Digest.{Digest as DigestValue};
+ghost use Rattle.day_reading.specs.declared.whole_day.DayEnd.TheVariants.{Whole};
+ghost use Rattle.import_once.specs.Imports.{IsOfNewDay, IsOfAnswers, PutsOnce, KeepsAll};
+ghost use Rattle.import_once.specs.Stages.{run_record, CanPut, Stores, Finishes, Tells, IsWhole, IsOfEnd};
 ghost use Rattle.import_once.specs.declared.outcomes.Outcome.TheVariants.{Stored, ReadFault, WriteFault, KeeperFault};
 
 use crate::outcomes::Outcome;
 use day_reading::DayEnd;
-use day_rounds::DayRun;
+use day_rounds::WorkedDay;
 use keeper::{DayRecord, Digest, KeepFault, Keeper, seal};
 use road_time::{NoMemory, SpentRow, Tariffs};
 use std::alloc::Global;
@@ -23,7 +25,7 @@ fn record_for(
     number: u32,
     bytes: u64,
     digest: Digest,
-    run: &DayRun,
+    run: &WorkedDay,
     tariffs: &Tariffs,
 ) -> Result<DayRecord, NoMemory>
     ensures { IfOk result (λ kept. kept ≡ run_record number bytes digest run.now tariffs.now) }
@@ -45,10 +47,12 @@ fn record_for(
 fn store<K: Keeper>(kept: &DayRecord, rows: &[SpentRow], keeper: &mut K) -> Outcome
     requires fits { IsDayPut kept.now rows.now }
     requires later { IfTold (K.told keeper.old) (λ o. IsLater kept.now.day o) }
-    ensures stores { (o : Office) → K.told keeper.old ≡ Some o → Stores K.refuses kept.now rows.now o (K.told keeper.new) result }
+    ensures stores { (o : Office) → K.told keeper.old ≡ Some o
+        → Stores K.refuses kept.now rows.now o (K.told keeper.new) result }
     ensures puts { (o : Office) → K.told keeper.old ≡ Some o → PutsOnce kept.now.day o (K.told keeper.new) }
     ensures keeps { KeepsAll result (K.told keeper.new ≡ K.told keeper.old) }
     ensures new_day { IsOfNewDay result }
+    ensures of_end { (bytes : ℕ) (digest : DigestValue) → IsOfEnd (Whole bytes digest) result }
     ensures unread { result ≢ ReadFault }
     ensures unwritten { result ≢ WriteFault }
     ensures cause { result ≡ KeeperFault → Rose (K.faults keeper.old) (K.faults keeper.new) }
@@ -66,16 +70,18 @@ fn store<K: Keeper>(kept: &DayRecord, rows: &[SpentRow], keeper: &mut K) -> Outc
 pub fn finish_import<K: Keeper>(
     alloc: Global,
     number: u32,
-    run: &DayRun,
+    run: &WorkedDay,
     tariffs: &Tariffs,
     keeper: &mut K,
 ) -> Outcome
     requires can { CanPut number run.now }
     requires later { IfTold (K.told keeper.old) (λ o. IsLater number o) }
-    ensures finishes { (o : Office) → K.told keeper.old ≡ Some o → Finishes K.refuses number run.now.end run.now tariffs.now o (K.told keeper.new) result }
+    ensures finishes { (o : Office) → K.told keeper.old ≡ Some o
+        → Finishes K.refuses number run.now.end run.now tariffs.now o (K.told keeper.new) result }
     ensures puts { (o : Office) → K.told keeper.old ≡ Some o → PutsOnce number o (K.told keeper.new) }
     ensures keeps { KeepsAll result (K.told keeper.new ≡ K.told keeper.old) }
     ensures whole { (kept : DayRecordValue) → result ≡ Stored kept → IsWhole run.now.end }
+    ensures of_end { IsOfEnd run.now.end result }
     ensures new_day { IsOfNewDay result }
     ensures unread { result ≢ ReadFault }
     ensures unwritten { result ≢ WriteFault }
@@ -95,8 +101,9 @@ pub fn finish_import<K: Keeper>(
 }
 
 /// The answer to a day that was worked.
-pub fn finish_answers(alloc: Global, number: u32, run: &DayRun, tariffs: &Tariffs) -> Outcome
+pub fn finish_answers(alloc: Global, number: u32, run: &WorkedDay, tariffs: &Tariffs) -> Outcome
     ensures tells { Tells number run.now.end run.now tariffs.now result }
+    ensures own { IsOfAnswers result }
     ensures unread { result ≢ ReadFault }
     ensures unwritten { result ≢ WriteFault }
     ensures unasked { result ≢ KeeperFault }

@@ -3,7 +3,7 @@ ghost use Rattle.std.specs.Prelude.{◌≡◌, ◌≢◌, ◌≤◌, ◌+◌, Li
 ghost use Rattle.road_io.specs.Faults.{Rose};
 ghost use Rattle.road_io.specs.Plans.{NeverFails};
 ghost use Rattle.day_reading.specs.Days.{ReadsWithin};
-ghost use Rattle.import_once.specs.Imports.{again, IsOfKeptDay};
+ghost use Rattle.import_once.specs.Imports.{again, IsOfKeptDay, IsUncompared};
 ghost use Rattle.import_once.specs.Stages.{Compares};
 ghost use Rattle.import_once.specs.declared.outcomes.Outcome.TheVariants.{ReadFault, WriteFault, KeeperFault};
 
@@ -17,6 +17,7 @@ use std::alloc::Global;
 fn same_or_not(kept: &DayRecord, found: Digest) -> Outcome
     ensures is { result ≡ again kept.now found }
     ensures kept_day { IsOfKeptDay result }
+    ensures compared { IsUncompared result → ⊥ }
 {
     if found.bytes == kept.digest.bytes {
         Outcome::Already(*kept)
@@ -30,8 +31,10 @@ fn same_or_not(kept: &DayRecord, found: Digest) -> Outcome
 
 /// Compares the source with a day that is kept.
 pub fn compare<S: Source>(alloc: Global, kept: &DayRecord, source: &mut S) -> Outcome
-    ensures compares { (bytes : List ℕ) → S.left source.old ≡ Some bytes → Compares kept.now bytes (S.left source.new) result }
+    ensures compares { (bytes : List ℕ) → S.left source.old ≡ Some bytes
+        → Compares kept.now bytes (S.left source.new) result }
     ensures kept_day { IsOfKeptDay result }
+    ensures compared { IsUncompared result → ⊥ }
     ensures bounded { ReadsWithin (kept.now.bytes + 1) (S.left source.old) (S.left source.new) }
     ensures unwritten { result ≢ WriteFault }
     ensures unasked { result ≢ KeeperFault }

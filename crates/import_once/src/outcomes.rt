@@ -2,7 +2,7 @@
 ghost use Rattle.std.specs.Prelude.{◌≡◌, ◌≢◌};
 ghost use Rattle.import_once.specs.Runs.{stopping};
 ghost use Rattle.keeper.specs.declared.kept.DayRecord.{DayRecord as DayRecordValue};
-ghost use Rattle.import_once.specs.Imports.{IsOfNewDay};
+ghost use Rattle.import_once.specs.Imports.{IsOfNewDay, IsOfAnswers};
 ghost use Rattle.import_once.specs.declared.outcomes.Outcome.TheVariants.{Stored};
 
 use day_rounds::DayFault;
@@ -38,6 +38,7 @@ pub enum Outcome {
 pub fn stopped(fault: DayFault) -> Outcome
     ensures is { result ≡ stopping fault }
     ensures new_day { IsOfNewDay result }
+    ensures answers { IsOfAnswers result }
     ensures unstored { (kept : DayRecordValue) → result ≢ Stored kept }
 {
     match fault {

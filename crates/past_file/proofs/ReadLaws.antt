@@ -12,7 +12,7 @@ use Rattle.road_io.specs.declared.cutter.LineFault.TheVariants.{LongLine}
 use Rattle.keeper.specs.PastReads.{PastFault, OfLine, past_reads, past_after, past_at, past_rows, past_fault, past_kept, past_record}
 use Rattle.day_reading.specs.declared.consumed.Consumed.{Consumed}
 use Rattle.day_reading.specs.Readings.{HasTaken}
-use Rattle.day_reading.proofs.BoundLaws.{nothing_there, read_within}
+use Rattle.day_reading.proofs.BoundLaws.{nothing_there, read_within, stops_soon}
 use Rattle.day_reading.proofs.StepLaws.{cuts_ok, taken_ok}
 use Rattle.past_file.specs.declared.outcomes.PastCause.{PastCause}
 use Rattle.past_file.specs.declared.outcomes.PastCause.TheVariants as causes
@@ -22,7 +22,7 @@ use Rattle.past_file.specs.declared.judging.PastStop.TheVariants.{Row, ReadFault
 use Rattle.past_file.specs.declared.past_reader.PastReader.{PastReader}
 use Rattle.past_file.specs.declared.history.History.{History}
 use Rattle.past_file.specs.Rows.{HasRows}
-use Rattle.past_file.specs.Readings.{Judges, ReadsOn, EndsWhole, EndsRefused, Steps, Ends, ReadsPast, HasReadOf}
+use Rattle.past_file.specs.Readings.{Judges, ReadsOn, EndsWhole, EndsRefused, Steps, Ends, ReadsPast, HasReadOf, StopsAfter, StopsSoonAt}
 use Rattle.past_file.specs.Imports.{most_past}
 
 -- there is a first line, and it is long
@@ -138,4 +138,16 @@ reads_kept (Err stop) reader base limits left bytes e exact stops = subst (λ (s
 
 -- a reader reads a history no further than its line limit and one buffer
 pub past_within : (r : PastReader) (limits : Limits) (left : Option (List ℕ)) (bytes : List ℕ) → HasReadOf r left bytes → number_of r.cutter ≤ limits.past + 1 → (count : ℕ) × (count ≤ most_past limits) × (left ≡ Some (drop count bytes))
-past_within r limits left bytes s few = read_within r.cutter left r.consumed bytes (most_past limits) s (omega (arith, r.few_bytes, few))
+past_within r limits left bytes s few = read_within r.cutter left r.consumed bytes (most_past limits) s.0 (omega (arith, r.few_bytes, few))
+
+-- a reader that a refused line stopped read no more than one buffer behind it
+pub past_soon : (stop : PastStop) (r : PastReader) (left : Option (List ℕ)) (bytes : List ℕ) → HasReadOf r left bytes → StopsAfter stop (number_of r.cutter) → StopsSoonAt stop bytes left
+past_soon (Row line cause) r left bytes s after = stops_soon r.cutter left r.consumed bytes (number_of r.cutter) line s after
+past_soon ReadFault r left bytes s after = tt
+past_soon NoMemory r left bytes s after = tt
+
+-- a line that is refused is the one that was cut
+pub judged_after : (stop : PastStop) (base : ℕ) (limits : Limits) (number : ℕ) (line : List ℕ) (old new : Amounts) → Judges (Some stop) base limits number line old new → StopsAfter stop number
+judged_after (Row n cause) base limits number line old new judged = omega (arith, judged.0)
+judged_after ReadFault base limits number line old new judged = absurd judged
+judged_after NoMemory base limits number line old new judged = tt

@@ -9,9 +9,10 @@ use Rattle.keeper.specs.declared.kept.PastRecord.{PastRecord}
 use Rattle.keeper.specs.declared.kept.KeepFault.{KeepFault}
 use Rattle.keeper.specs.declared.kept.KeepFault.TheVariants as keeping
 use Rattle.keeper.specs.Office.{Office, last_day}
-use Rattle.keeper.specs.Kept.{found_digest}
+use Rattle.keeper.specs.Kept.{IsPastPut, with_past, found_digest}
 use Rattle.keeper.specs.PastReads.{PastFault, past_reads, past_record, next_past}
 use Rattle.keeper.specs.Calls.{WhenRefused, Leaves}
+use Rattle.day_reading.specs.Days.{StopsSoon}
 use Rattle.past_file.specs.Causes.{past_cause_of}
 use Rattle.past_file.specs.declared.outcomes.PastOutcome.{PastOutcome}
 use Rattle.past_file.specs.declared.outcomes.PastOutcome.TheVariants.{Stored, Already, Row, PastLate, OtherBase, Differs, ReadFault, KeeperFault, NoMemory}
@@ -101,3 +102,40 @@ abbrev pub IsUnread : PastOutcome → Type 0
 IsUnread (PastLate last) = Unit {0}
 IsUnread (OtherBase kept) = Unit {0}
 IsUnread _ = ⊥
+
+-- where a line was refused, no more than one buffer behind it was read
+abbrev pub RefusesSoon : PastOutcome → List ℕ → Option (List ℕ) → Type 0
+RefusesSoon (Row line cause) bytes left = StopsSoon line bytes left
+RefusesSoon _ bytes left = Unit {0}
+
+-- an end that no comparison with a kept history has
+abbrev pub IsUncompared : PastOutcome → Type 0
+IsUncompared (Stored kept) = Unit {0}
+IsUncompared (Already kept) = ⊥
+IsUncompared (Row line cause) = Unit {0}
+IsUncompared (PastLate last) = Unit {0}
+IsUncompared (OtherBase kept) = Unit {0}
+IsUncompared (Differs kept found) = ⊥
+IsUncompared ReadFault = ⊥
+IsUncompared KeeperFault = Unit {0}
+IsUncompared NoMemory = ⊥
+
+-- a history of this base was put with its amounts
+abbrev pub IsPastOf : ℕ → Office → Office → Type 0
+IsPastOf base was now = (kept : PastRecord) × (rows : List SpentRow) × (kept.base ≡ base) × IsPastPut kept rows × (now ≡ with_past kept rows was)
+
+-- what is kept is as it was, or with one history more
+abbrev pub PutsPast : ℕ → Office → Option Office → Type 0
+PutsPast base was now = (o : Office) × (now ≡ Some o) × ((o ≡ was) ⊎ IsPastOf base was o)
+
+-- what is kept is as it was, but where a history was put, or its put refused
+abbrev pub KeepsAll : PastOutcome → Type 0 → Type 0
+KeepsAll (Stored kept) same = Unit {0}
+KeepsAll (Already kept) same = same
+KeepsAll (Row line cause) same = same
+KeepsAll (PastLate last) same = same
+KeepsAll (OtherBase kept) same = same
+KeepsAll (Differs kept found) same = same
+KeepsAll ReadFault same = same
+KeepsAll KeeperFault same = Unit {0}
+KeepsAll NoMemory same = Unit {0}

@@ -1,5 +1,5 @@
 -- Lines of a history that are read on.
-use Rattle.std.specs.Prelude.{ℕ, ◌≡◌, ◌+◌, ◌++◌, ◌∷◌, [], List, Bool, false, true, length, Option, Some, None, Result, Ok, Err}
+use Rattle.std.specs.Prelude.{ℕ, ◌≡◌, ◌≤◌, ◌+◌, ◌++◌, ◌∷◌, [], List, Bool, false, true, length, Option, Some, None, Result, Ok, Err}
 use Rattle.std.specs.List.{list_any}
 use Rattle.road_time.specs.declared.day.Limits.{Limits}
 use Rattle.road_time.specs.declared.day.SpentRow.{SpentRow}
@@ -8,7 +8,8 @@ use Rattle.road_io.specs.Cutter.{ahead, number_of}
 use Rattle.keeper.specs.History.{is_row}
 use Rattle.keeper.specs.PastReads.{PastFault, past_fault, past_rows, past_reads, past_after, past_kept, past_record}
 use Rattle.day_reading.specs.declared.consumed.Consumed.{Consumed}
-use Rattle.day_reading.specs.Readings.{HasTaken, HasRead}
+use Rattle.day_reading.specs.Days.{StopsSoon}
+use Rattle.day_reading.specs.Readings.{HasTaken, HasReadLines}
 use Rattle.past_file.specs.Causes.{IsCause}
 use Rattle.past_file.specs.Rows.{HasRows}
 use Rattle.past_file.specs.declared.outcomes.PastCause.{PastCause}
@@ -62,9 +63,9 @@ pub record ReadsOn (front : Option (List ℕ)) (number : ℕ) (consumed : Consum
 abbrev pub IsReading : PastReader → ℕ → Limits → Option (List ℕ) → List ℕ → Type 0
 IsReading r base limits left bytes = ReadsOn (ahead r.cutter left) (number_of r.cutter) r.consumed r.amounts base limits bytes
 
--- what a reader took and holds of a source's bytes, and what is left of them, is all that the source had
+-- what a reader took and holds of a source's bytes, and what is left of them, is all that the source had; and it took no more lines than it cut
 abbrev pub HasReadOf : PastReader → Option (List ℕ) → List ℕ → Type 0
-HasReadOf r left bytes = HasRead (ahead r.cutter left) r.consumed bytes
+HasReadOf r left bytes = HasReadLines (ahead r.cutter left) (number_of r.cutter) r.consumed bytes
 
 -- all lines were read, and no byte is left
 pub record EndsWhole (consumed : Consumed) (amounts : Amounts) (base : ℕ) (limits : Limits) (left : Option (List ℕ)) (bytes : List ℕ) : Type 0 where
@@ -99,3 +100,15 @@ ReadsPast (Ok h) base limits left bytes = ((past_reads bytes base limits).refuse
 ReadsPast (Err (Row line cause)) base limits left bytes = EndsRefused line cause base limits bytes
 ReadsPast (Err ReadFault) base limits left bytes = Unit {0}
 ReadsPast (Err NoMemory) base limits left bytes = Unit {0}
+
+-- a refused line that stops the reading is the last of so many that were cut, or the one behind them
+abbrev pub StopsAfter : PastStop → ℕ → Type 0
+StopsAfter (Row line cause) n = n ≤ line
+StopsAfter ReadFault n = Unit {0}
+StopsAfter NoMemory n = Unit {0}
+
+-- where a refused line stopped the reading, no more than one buffer behind it was read
+abbrev pub StopsSoonAt : PastStop → List ℕ → Option (List ℕ) → Type 0
+StopsSoonAt (Row line cause) bytes left = StopsSoon line bytes left
+StopsSoonAt ReadFault bytes left = Unit {0}
+StopsSoonAt NoMemory bytes left = Unit {0}

@@ -9,7 +9,9 @@ ghost use Rattle.keeper.specs.Kept.{IsPastPut, HasNoDays};
 ghost use Rattle.keeper.specs.PastReads.{past_reads, past_record, past_kept};
 ghost use Rattle.keeper.specs.Calls.{WhenRefused, IfTold};
 ghost use Rattle.day_reading.specs.Days.{ReadsWithin};
-ghost use Rattle.past_file.specs.Imports.{again, unchanged, past_again, past_read, past_new, past_answer, Does, LeavesRest, NeedsNone, IsUnread, most_past, most_kept};
+ghost use Rattle.past_file.specs.Imports.{again, unchanged, past_again, past_read, past_new, past_answer, Does};
+ghost use Rattle.past_file.specs.Imports.{LeavesRest, NeedsNone, IsUnread, IsUncompared, RefusesSoon, PutsPast};
+ghost use Rattle.past_file.specs.Imports.{KeepsAll, most_past, most_kept};
 ghost use Rattle.past_file.specs.declared.outcomes.PastOutcome.TheVariants.{ReadFault, KeeperFault};
 
 use crate::history::History;
@@ -21,10 +23,13 @@ use keeper::{Digest, KeepFault, Keeper, PastRecord};
 use road_io::Source;
 use road_time::Limits;
 use std::alloc::Global;
+use std::thread::Threads;
 
 /// Whether what was found is what is kept.
 fn same_or_not(kept: &PastRecord, found: Digest) -> PastOutcome
-    ensures { result ≡ again kept.now found }
+    ensures is { result ≡ again kept.now found }
+    ensures soon { (bytes : List ℕ) (left : Option (List ℕ)) → RefusesSoon result bytes left }
+    ensures compared { IsUncompared result → ⊥ }
 {
     if found.bytes == kept.digest.bytes {
         PastOutcome::Already(*kept)
@@ -38,10 +43,14 @@ fn same_or_not(kept: &PastRecord, found: Digest) -> PastOutcome
 
 /// Compares the source with a history that is kept. One of another base is not compared.
 fn compare<S: Source>(alloc: Global, kept: &PastRecord, base: u32, source: &mut S) -> PastOutcome
-    ensures does { (w : WhenRefused) (bytes : List ℕ) (o : Office) → S.left source.old ≡ Some bytes → Does w (unchanged (past_again kept.now base bytes) o) o (Some o) result }
-    ensures rest { (bytes : List ℕ) → S.left source.old ≡ Some bytes → LeavesRest result (Some kept.now) bytes (S.left source.new) }
+    ensures does { (w : WhenRefused) (bytes : List ℕ) (o : Office) → S.left source.old ≡ Some bytes
+        → Does w (unchanged (past_again kept.now base bytes) o) o (Some o) result }
+    ensures rest { (bytes : List ℕ) → S.left source.old ≡ Some bytes
+        → LeavesRest result (Some kept.now) bytes (S.left source.new) }
     ensures unread { kept.now.base ≢ base → source.new ≡ source.old }
     ensures untouched { IsUnread result → source.new ≡ source.old }
+    ensures soon { (bytes : List ℕ) (left : Option (List ℕ)) → RefusesSoon result bytes left }
+    ensures uncompared { IsUncompared result → source.new ≡ source.old }
     ensures bounded { ReadsWithin (kept.now.bytes + 1) (S.left source.old) (S.left source.new) }
     ensures unasked { result ≢ KeeperFault }
     ensures cause { result ≡ ReadFault → Rose (S.faults source.old) (S.faults source.new) }
@@ -63,9 +72,13 @@ fn compare<S: Source>(alloc: Global, kept: &PastRecord, base: u32, source: &mut 
 fn store<K: Keeper>(history: &History, keeper: &mut K) -> PastOutcome
     requires fits { IsPastPut history.now.past history.now.rows.items }
     requires first { IfTold (K.told keeper.old) HasNoDays }
-    ensures does { (base : ℕ) (bytes : List ℕ) (rows : List SpentRowValue) (o : Office) → K.told keeper.old ≡ Some o → history.now.past ≡ past_record base bytes rows → history.now.rows.items ≡ past_kept rows
+    ensures does { (base : ℕ) (bytes : List ℕ) (rows : List SpentRowValue) (o : Office) → K.told keeper.old ≡ Some o
+        → history.now.past ≡ past_record base bytes rows → history.now.rows.items ≡ past_kept rows
         → Does K.refuses (past_read base bytes rows None o) o (K.told keeper.new) result }
     ensures rest { (kept : Option PastRecordValue) (bytes : List ℕ) → LeavesRest result kept bytes (Some []) }
+    ensures puts { (o : Office) → K.told keeper.old ≡ Some o → PutsPast history.now.past.base o (K.told keeper.new) }
+    ensures keeps { KeepsAll result (K.told keeper.new ≡ K.told keeper.old) }
+    ensures soon { (bytes : List ℕ) (left : Option (List ℕ)) → RefusesSoon result bytes left }
     ensures touched { IsUnread result → ⊥ }
     ensures unread { result ≢ ReadFault }
     ensures cause { result ≡ KeeperFault → Rose (K.faults keeper.old) (K.faults keeper.new) }
@@ -80,7 +93,8 @@ fn store<K: Keeper>(history: &History, keeper: &mut K) -> PastOutcome
 }
 
 /// Reads a history and keeps it, where no day and no history is kept.
-fn import_first<S: Source, K: Keeper>(
+fn import_first<S: Source, K: Keeper, R: Threads>(
+    rt: &R,
     alloc: Global,
     base: u32,
     limits: &Limits,
@@ -90,8 +104,13 @@ fn import_first<S: Source, K: Keeper>(
     requires based { 70 ≤ base }
     requires first { IfTold (K.told keeper.old) HasNoDays }
     ensures does { (bytes : List ℕ) (o : Office) → S.left source.old ≡ Some bytes → K.told keeper.old ≡ Some o
-        → Does K.refuses (past_read base bytes (past_reads bytes base limits.now).rows (past_reads bytes base limits.now).refused o) o (K.told keeper.new) result }
-    ensures rest { (bytes : List ℕ) (kept : Option PastRecordValue) → S.left source.old ≡ Some bytes → LeavesRest result kept bytes (S.left source.new) }
+        → Does K.refuses (past_read base bytes (past_reads bytes base limits.now).rows
+        (past_reads bytes base limits.now).refused o) o (K.told keeper.new) result }
+    ensures rest { (bytes : List ℕ) (kept : Option PastRecordValue) → S.left source.old ≡ Some bytes
+        → LeavesRest result kept bytes (S.left source.new) }
+    ensures puts { (o : Office) → K.told keeper.old ≡ Some o → PutsPast base o (K.told keeper.new) }
+    ensures keeps { KeepsAll result (K.told keeper.new ≡ K.told keeper.old) }
+    ensures soon { (bytes : List ℕ) → S.left source.old ≡ Some bytes → RefusesSoon result bytes (S.left source.new) }
     ensures touched { IsUnread result → ⊥ }
     ensures bounded { ReadsWithin (most_past limits.now) (S.left source.old) (S.left source.new) }
     ensures read_cause { result ≡ ReadFault → Rose (S.faults source.old) (S.faults source.new) }
@@ -102,7 +121,7 @@ fn import_first<S: Source, K: Keeper>(
     ensures keeper_later { K.faults keeper.old ≤ K.faults keeper.new }
     ensures keeper_sure { NeverFails (K.plan keeper.old) → result ≢ KeeperFault }
 {
-    match read_past(alloc, base, limits, source) {
+    match read_past(rt, alloc, base, limits, source) {
         Ok(history) => store(&history, keeper),
         Err(PastStop::Row { line, cause }) => PastOutcome::Row { line, cause },
         Err(PastStop::ReadFault) => PastOutcome::ReadFault,
@@ -111,7 +130,8 @@ fn import_first<S: Source, K: Keeper>(
 }
 
 /// Keeps a history where none is kept. Where a day is kept, it is too late for one.
-fn import_new<S: Source, K: Keeper>(
+fn import_new<S: Source, K: Keeper, R: Threads>(
+    rt: &R,
     alloc: Global,
     base: u32,
     limits: &Limits,
@@ -120,8 +140,13 @@ fn import_new<S: Source, K: Keeper>(
 ) -> PastOutcome
     requires based { 70 ≤ base }
     requires none { IfTold (K.told keeper.old) (λ o. o.past ≡ None) }
-    ensures does { (bytes : List ℕ) (o : Office) → S.left source.old ≡ Some bytes → K.told keeper.old ≡ Some o → Does K.refuses (past_new o.days base limits.now bytes o) o (K.told keeper.new) result }
-    ensures rest { (bytes : List ℕ) (kept : Option PastRecordValue) → S.left source.old ≡ Some bytes → LeavesRest result kept bytes (S.left source.new) }
+    ensures does { (bytes : List ℕ) (o : Office) → S.left source.old ≡ Some bytes → K.told keeper.old ≡ Some o
+        → Does K.refuses (past_new o.days base limits.now bytes o) o (K.told keeper.new) result }
+    ensures rest { (bytes : List ℕ) (kept : Option PastRecordValue) → S.left source.old ≡ Some bytes
+        → LeavesRest result kept bytes (S.left source.new) }
+    ensures puts { (o : Office) → K.told keeper.old ≡ Some o → PutsPast base o (K.told keeper.new) }
+    ensures keeps { KeepsAll result (K.told keeper.new ≡ K.told keeper.old) }
+    ensures soon { (bytes : List ℕ) → S.left source.old ≡ Some bytes → RefusesSoon result bytes (S.left source.new) }
     ensures unread { (o : Office) → K.told keeper.old ≡ Some o → o.days ≢ [] → source.new ≡ source.old }
     ensures untouched { IsUnread result → source.new ≡ source.old }
     ensures bounded { ReadsWithin (most_past limits.now) (S.left source.old) (S.left source.new) }
@@ -138,7 +163,7 @@ fn import_new<S: Source, K: Keeper>(
             if last > 0 {
                 PastOutcome::PastLate { last }
             } else {
-                import_first(alloc, base, limits, source, keeper)
+                import_first(rt, alloc, base, limits, source, keeper)
             }
         }
         Err(KeepFault::Failed) => PastOutcome::KeeperFault,
@@ -148,7 +173,8 @@ fn import_new<S: Source, K: Keeper>(
 
 /// Keeps a history, its days counted back from a base, or says why not. A history that is kept already is compared, and
 /// nothing changes.
-pub fn import_past<S: Source, K: Keeper>(
+pub fn import_past<S: Source, K: Keeper, R: Threads>(
+    rt: &R,
     alloc: Global,
     base: u32,
     limits: &Limits,
@@ -156,11 +182,19 @@ pub fn import_past<S: Source, K: Keeper>(
     keeper: &mut K,
 ) -> PastOutcome
     requires based { 70 ≤ base }
-    ensures does { (bytes : List ℕ) (o : Office) → S.left source.old ≡ Some bytes → K.told keeper.old ≡ Some o → Does K.refuses (past_answer base limits.now bytes o) o (K.told keeper.new) result }
-    ensures rest { (bytes : List ℕ) (o : Office) → S.left source.old ≡ Some bytes → K.told keeper.old ≡ Some o → LeavesRest result o.past bytes (S.left source.new) }
+    ensures does { (bytes : List ℕ) (o : Office) → S.left source.old ≡ Some bytes → K.told keeper.old ≡ Some o
+        → Does K.refuses (past_answer base limits.now bytes o) o (K.told keeper.new) result }
+    ensures rest { (bytes : List ℕ) (o : Office) → S.left source.old ≡ Some bytes → K.told keeper.old ≡ Some o
+        → LeavesRest result o.past bytes (S.left source.new) }
+    ensures puts { (o : Office) → K.told keeper.old ≡ Some o → PutsPast base o (K.told keeper.new) }
+    ensures keeps { KeepsAll result (K.told keeper.new ≡ K.told keeper.old) }
+    ensures soon { (bytes : List ℕ) → S.left source.old ≡ Some bytes → RefusesSoon result bytes (S.left source.new) }
     ensures unread { (o : Office) → K.told keeper.old ≡ Some o → NeedsNone o.past base o → source.new ≡ source.old }
     ensures untouched { IsUnread result → source.new ≡ source.old }
-    ensures bounded { (o : Office) → K.told keeper.old ≡ Some o → ReadsWithin (most_kept o.past limits.now) (S.left source.old) (S.left source.new) }
+    ensures uncompared { IsUncompared result
+        → ReadsWithin (most_past limits.now) (S.left source.old) (S.left source.new) }
+    ensures bounded { (o : Office) → K.told keeper.old ≡ Some o
+        → ReadsWithin (most_kept o.past limits.now) (S.left source.old) (S.left source.new) }
     ensures read_cause { result ≡ ReadFault → Rose (S.faults source.old) (S.faults source.new) }
     ensures read_same { S.name source.new ≡ S.name source.old }
     ensures read_later { S.faults source.old ≤ S.faults source.new }
@@ -171,7 +205,7 @@ pub fn import_past<S: Source, K: Keeper>(
 {
     match keeper.past() {
         Ok(Some(kept)) => compare(alloc, &kept, base, source),
-        Ok(None) => import_new(alloc, base, limits, source, keeper),
+        Ok(None) => import_new(rt, alloc, base, limits, source, keeper),
         Err(KeepFault::Failed) => PastOutcome::KeeperFault,
         Err(KeepFault::NoMemory) => PastOutcome::NoMemory,
     }

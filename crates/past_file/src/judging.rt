@@ -31,7 +31,8 @@ pub fn refused(line: u64, cause: PastCause) -> PastStop
 
 /// Takes the amount of a line, or says that it comes twice.
 fn take_row(amounts: &mut Amounts, line: u64, row: &SpentRow) -> Option<PastStop>
-    ensures takes { (base : ℕ) (rows : List SpentRowValue) → IsPastRow base row.now → HasRows amounts.old base rows → TakesRow result base rows row.now amounts.new }
+    ensures takes { (base : ℕ) (rows : List SpentRowValue) → IsPastRow base row.now → HasRows amounts.old base rows
+        → TakesRow result base rows row.now amounts.new }
     ensures stops { StopsTwice line result }
 {
     match amounts.take(row) {
@@ -51,7 +52,8 @@ pub fn judge(
 ) -> Option<PastStop>
     requires few { length text.now ≤ 200 }
     requires based { 70 ≤ base }
-    ensures judges { (limits : LimitsValue) → limits.past ≡ limit → Judges result base limits line text.now amounts.old amounts.new }
+    ensures judges { (limits : LimitsValue) → limits.past ≡ limit
+        → Judges result base limits line text.now amounts.old amounts.new }
     ensures gathers { IfNone result (Gathers amounts.old base → Gathers amounts.new base) }
     ensures unread { result ≢ Some ReadFault }
     ensures within { IfNone result (line ≤ limit) }

@@ -1,5 +1,6 @@
 // One line of a history: its four numbers, and the amount that they are.
-ghost use Rattle.std.specs.Prelude.{◌≡◌, ◌≤◌, ℕ, ◌∷◌, [], length, pos, MatchOption, IfOk, false, option_copied, Some, None};
+ghost use Rattle.std.specs.Prelude.{◌≡◌, ◌≤◌, ℕ, ◌∷◌, [], length, pos, MatchOption, IfOk, false, option_copied, Some};
+ghost use Rattle.std.specs.Prelude.{None};
 ghost use Rattle.std.specs.List.{filter_map};
 ghost use Rattle.road_time.specs.Lines.{without_cr};
 ghost use Rattle.road_time.specs.Numbers.{number_of, fields_of_text};
@@ -15,7 +16,8 @@ use tuple_format::{count_fields, number, split_field, trimmed};
 /// The four numbers of a text of four fields, or the first field that is none.
 fn numbers(text: &[u8]) -> Result<[i64; 4], PastCause>
     requires { length (fields_of_text text.now) ≡ 4 }
-    ensures { result ≡ four_numbers (first_odd (fields_of_text text.now)) (filter_map (number_of 10) (fields_of_text text.now)) }
+    ensures { result ≡ four_numbers (first_odd (fields_of_text text.now))
+        (filter_map (number_of 10) (fields_of_text text.now)) }
 {
     let mut numbers = [0i64; 4];
     let mut rest = Some(text);
@@ -51,7 +53,8 @@ fn within(z: i64, low: u32, high: u64) -> Option<u64>
 /// The amount that four numbers are, the days counted back from a base.
 fn row(base: u32, vid: i64, day: i64, xway: i64, tolls: i64) -> Result<Option<SpentRow>, PastCause>
     requires { 70 ≤ base }
-    ensures reads { let zs = vid ∷ day ∷ xway ∷ tolls ∷ [] in ReadsRow (past_in_ranges base zs (first_out 1 past_uses zs)) result }
+    ensures reads { let zs = vid ∷ day ∷ xway ∷ tolls ∷ [] in ReadsRow
+        (past_in_ranges base zs (first_out 1 past_uses zs)) result }
     ensures valid { IfOk result (IfAny (IsPastRow base)) }
 {
     let Some(vid) = within(vid, 0, 2_147_483_647) else {

@@ -1,10 +1,10 @@
 // A history, read whole.
-ghost use Rattle.std.specs.Prelude.{◌≡◌, ◌≢◌, ◌≤◌, ℕ, List, Some, Err, IfOk};
+ghost use Rattle.std.specs.Prelude.{◌≡◌, ◌≢◌, ◌≤◌, ℕ, List, Some, Err, IfOk, IfErr};
 ghost use Rattle.road_io.specs.Faults.{Rose};
 ghost use Rattle.road_io.specs.Plans.{NeverFails};
 ghost use Rattle.keeper.specs.Kept.{IsPastPut};
 ghost use Rattle.day_reading.specs.Days.{ReadsWithin};
-ghost use Rattle.past_file.specs.Readings.{ReadsPast};
+ghost use Rattle.past_file.specs.Readings.{ReadsPast, StopsSoonAt};
 ghost use Rattle.past_file.specs.Imports.{most_past};
 ghost use Rattle.past_file.specs.declared.judging.PastStop.TheVariants.{ReadFault};
 
@@ -14,17 +14,23 @@ use crate::past_reader::PastReader;
 use road_io::Source;
 use road_time::Limits;
 use std::alloc::Global;
+use std::thread::Threads;
 
 /// Reads a history to its end or to the first line that is refused. Its days are counted back from a base.
-pub fn read_past<S: Source>(
+pub fn read_past<S: Source, R: Threads>(
+    rt: &R,
     alloc: Global,
     base: u32,
     limits: &Limits,
     source: &mut S,
 ) -> Result<History, PastStop>
     requires based { 70 ≤ base }
-    ensures reads { (bytes : List ℕ) → S.left source.old ≡ Some bytes → ReadsPast result base limits.now (S.left source.new) bytes }
+    ensures reads { (bytes : List ℕ) → S.left source.old ≡ Some bytes
+        → ReadsPast result base limits.now (S.left source.new) bytes }
+    ensures soon { IfErr result (λ stop. (bytes : List ℕ) → S.left source.old ≡ Some bytes
+        → StopsSoonAt stop bytes (S.left source.new)) }
     ensures fits { IfOk result (λ h. IsPastPut h.past h.rows.items) }
+    ensures based { IfOk result (λ h. h.past.base ≡ base) }
     ensures bounded { ReadsWithin (most_past limits.now) (S.left source.old) (S.left source.new) }
     ensures cause { result ≡ Err ReadFault → Rose (S.faults source.old) (S.faults source.new) }
     ensures same { S.name source.new ≡ S.name source.old }
@@ -34,8 +40,9 @@ pub fn read_past<S: Source>(
     let Ok(mut reader) = PastReader::new(alloc) else {
         return Err(PastStop::NoMemory);
     };
-    if let Some(stop) = reader.read_all(base, limits.past, source) {
+    if let Some(stop) = reader.read_all(rt, base, limits.past, source) {
+        reader.close(rt);
         return Err(stop);
     }
-    reader.kept(base)
+    reader.kept(rt, base)
 }

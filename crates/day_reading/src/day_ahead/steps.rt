@@ -20,9 +20,14 @@ use crate::whole_day::{DayEnd, ReadStop, whole};
 use road_io::Source;
 use road_time::{Limits, Tuple};
 use std::alloc::Global;
+use std::thread::Threads;
 
 /// Reads what follows.
-fn look<S: Source>(reader: &mut DayReader, source: &mut S) -> Result<Following, ReadStop>
+fn look<S: Source, R: Threads>(
+    rt: &R,
+    reader: &mut DayReader,
+    source: &mut S,
+) -> Result<Following, ReadStop>
     ensures gives { (limits : LimitsValue) (late : ℕ) (bytes : List ℕ) (given : List TupleValue)
         → IsReading reader.old limits late (S.left source.old) bytes given
         → IfOk result (λ f. Gives (answer_of f) reader.new limits late (S.left source.new) bytes given) }
@@ -38,7 +43,7 @@ fn look<S: Source>(reader: &mut DayReader, source: &mut S) -> Result<Following, 
     ensures sure { (HasFailed reader.old → ⊥) → NeverFails (S.plan source.old)
         → (result ≢ Err ReadFault) × NeverFails (S.plan source.new) }
 {
-    match reader.next(source) {
+    match reader.next(rt, source) {
         Ok(Some(tuple)) => Ok(Following::Waits(tuple)),
         Ok(None) => Ok(Following::Ends),
         Err(ReadEnd::Refused { line, cause }) => Ok(Following::Stops { line, cause }),
@@ -49,7 +54,8 @@ fn look<S: Source>(reader: &mut DayReader, source: &mut S) -> Result<Following, 
 
 impl DayAhead {
     /// Reads up to the first tuple. Lines may come late by up to so many seconds.
-    pub fn open<S: Source>(
+    pub fn open<S: Source, R: Threads>(
+        rt: &R,
         alloc: Global,
         limits: &Limits,
         late: u8,
@@ -71,9 +77,12 @@ impl DayAhead {
         let Ok(mut reader) = DayReader::new(alloc, limits, late) else {
             return Err(ReadStop::NoMemory);
         };
-        match look(&mut reader, source) {
+        match look(rt, &mut reader, source) {
             Ok(following) => Ok(DayAhead { reader, following }),
-            Err(stop) => Err(stop),
+            Err(stop) => {
+                reader.close(rt);
+                Err(stop)
+            }
         }
     }
 
@@ -89,7 +98,11 @@ impl DayAhead {
     }
 
     /// Gives the tuple that waits, and reads what follows it; none where no tuple is left. A fault is answered at once.
-    pub fn next<S: Source>(&mut self, source: &mut S) -> Result<Option<Tuple>, ReadStop>
+    pub fn next<S: Source, R: Threads>(
+        &mut self,
+        rt: &R,
+        source: &mut S,
+    ) -> Result<Option<Tuple>, ReadStop>
         ensures gives { (limits : LimitsValue) (late : ℕ) (bytes : List ℕ) (given : List TupleValue)
             → IsAhead self.old limits late (S.left source.old) bytes given
             → GivesAhead result self.new limits late (S.left source.new) bytes given }
@@ -109,7 +122,7 @@ impl DayAhead {
         let Following::Waits(tuple) = self.following else {
             return Ok(None);
         };
-        match look(&mut self.reader, source) {
+        match look(rt, &mut self.reader, source) {
             Ok(following) => {
                 self.following = following;
                 Ok(Some(tuple))
@@ -119,7 +132,7 @@ impl DayAhead {
     }
 
     /// How the reading ended, where no tuple is left.
-    pub fn end(self) -> DayEnd
+    pub fn end<R: Threads>(self, rt: &R) -> DayEnd
         requires { has_more self ≡ false }
         ensures exact { (limits : LimitsValue) (late : ℕ) (left : Option (List ℕ)) (bytes : List ℕ) (given : List TupleValue)
             → IsAhead self limits late left bytes given → EndsReading result bytes (reads bytes limits late).refused }
@@ -129,8 +142,16 @@ impl DayAhead {
             → limits.lines ≤ DAY.lines → IsShort result }
     {
         match self.following {
-            Following::Stops { line, cause } => DayEnd::Refused { line, cause },
-            Following::Waits(_) | Following::Ends => whole(self.reader),
+            Following::Stops { line, cause } => {
+                self.reader.close(rt);
+                DayEnd::Refused { line, cause }
+            }
+            Following::Waits(_) | Following::Ends => whole(rt, self.reader),
         }
+    }
+
+    /// Leaves the day, once no thread has a part of its bytes.
+    pub fn close<R: Threads>(self, rt: &R) {
+        self.reader.close(rt);
     }
 }

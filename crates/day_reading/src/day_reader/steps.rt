@@ -20,6 +20,7 @@ use keeper::Digest;
 use road_io::{LineCutter, LineFault, Source};
 use road_time::{Limits, NoMemory, Tuple};
 use std::alloc::Global;
+use std::thread::Threads;
 use tuple_format::Cause;
 
 impl DayReader {
@@ -35,7 +36,7 @@ impl DayReader {
         Ok(DayReader {
             cutter,
             intake: Intake::new(alloc, limits, late),
-            consumed: Consumed::new(),
+            consumed: Consumed::new(alloc),
             given: 0,
             end: None,
         })
@@ -64,14 +65,19 @@ impl DayReader {
     }
 
     /// The digest of the bytes of the lines that were cut.
-    pub fn digest(self) -> Digest
+    pub fn digest<R: Threads>(self, rt: &R) -> Digest
         ensures { (bytes : List ℕ) → HasTaken self.consumed bytes → result ≡ digest_of bytes }
     {
-        self.consumed.digest()
+        self.consumed.digest(rt)
+    }
+
+    /// Leaves the day, once no thread has a part of its bytes.
+    pub fn close<R: Threads>(self, rt: &R) {
+        self.consumed.close(rt);
     }
 
     /// Reads one line more, or says how the reading of lines ends.
-    fn read_one<S: Source>(&mut self, source: &mut S) -> Option<Ending>
+    fn read_one<S: Source, R: Threads>(&mut self, rt: &R, source: &mut S) -> Option<Ending>
         requires { self.old.end ≡ None }
         ensures reading { (limits : LimitsValue) (late : ℕ) (bytes : List ℕ) (given : List TupleValue) → IsReading self.old limits late (S.left source.old) bytes given → IsReading self.new limits late (S.left source.new) bytes given }
         ensures gathering { (limits : LimitsValue) (late : ℕ) (given : List TupleValue) → IsGathering self.old limits late given → IsGathering self.new limits late given }
@@ -87,7 +93,7 @@ impl DayReader {
         let _limit = self.intake.line_limit;
         match self.cutter.advance(source) {
             Ok(true) => {
-                self.consumed.add(self.cutter.rest());
+                self.consumed.add(rt, self.cutter.rest());
                 let end = self.intake.take(self.cutter.number(), self.cutter.line());
                 self.end = end;
                 end
@@ -189,7 +195,11 @@ impl DayReader {
     }
 
     /// The next tuple of the day, or none at its end. A refused line is answered after all that was let in before it.
-    pub fn next<S: Source>(&mut self, source: &mut S) -> Result<Option<Tuple>, ReadEnd>
+    pub fn next<S: Source, R: Threads>(
+        &mut self,
+        rt: &R,
+        source: &mut S,
+    ) -> Result<Option<Tuple>, ReadEnd>
         ensures gives { (limits : LimitsValue) (late : ℕ) (bytes : List ℕ) (given : List TupleValue) → IsReading self.old limits late (S.left source.old) bytes given → Gives result self.new limits late (S.left source.new) bytes given }
         ensures gathers { (limits : LimitsValue) (late : ℕ) (given : List TupleValue) → IsGathering self.old limits late given → GathersOn result self.new limits late given }
         ensures read { (lines : ℕ) (bytes : List ℕ) → HasReadOf self.old lines (S.left source.old) bytes → HasReadOf self.new lines (S.left source.new) bytes }
@@ -207,7 +217,7 @@ impl DayReader {
             if let Some(tuple) = self.next_on() {
                 return Ok(Some(tuple));
             }
-            if let Some(end) = self.read_one(source) {
+            if let Some(end) = self.read_one(rt, source) {
                 return self.drain(end);
             }
         }

@@ -24,7 +24,8 @@ impl Amounts {
     /// Takes an amount; false where one of its vehicle, day and expressway was taken before. Nothing is told of the
     /// amounts after that.
     pub fn take(&mut self, row: &SpentRow) -> Result<bool, NoMemory>
-        ensures { IfOk result (λ new. (base : ℕ) (rows : List SpentRowValue) → IsPastRow base row.now → HasRows self.old base rows → Takes new self.new base rows row.now) }
+        ensures { IfOk result (λ new. (base : ℕ) (rows : List SpentRowValue) → IsPastRow base row.now
+            → HasRows self.old base rows → Takes new self.new base rows row.now) }
     {
         let key = Key {
             day: row.day,
@@ -39,7 +40,8 @@ impl Amounts {
     }
     /// The amounts above zero, in order.
     pub fn kept(&self) -> Result<Vec<SpentRow>, NoMemory>
-        ensures value { IfOk result (λ kept. kept.items ≡ filter (λ r. nat_lt 0 r.tolls) (map amount_of self.now.by_key.entries)) }
+        ensures value { IfOk result (λ kept. kept.items ≡ filter (λ r. nat_lt 0 r.tolls)
+            (map amount_of self.now.by_key.entries)) }
         ensures rise { IfOk result (λ kept. RowsRise kept.items) }
         ensures few { IfOk result (λ kept. length kept.items < 2 ^ 63) }
     {

@@ -1,12 +1,13 @@
 // Reading a history, line by line.
-ghost use Rattle.std.specs.Prelude.{◌≡◌, ◌≢◌, ◌≤◌, ◌<◌, ◌+◌, ◌^◌, ℕ, List, Option, Some, None, Ok, Err, IfOk, IfErr, IfNone, true};
+ghost use Rattle.std.specs.Prelude.{◌≡◌, ◌≢◌, ◌≤◌, ◌<◌, ◌+◌, ◌^◌, ℕ, List, Option, Some, None, Ok, Err, IfOk, IfErr};
+ghost use Rattle.std.specs.Prelude.{IfSome, IfNone, true};
 ghost use Rattle.road_time.specs.declared.day.Limits.{Limits as LimitsValue};
 ghost use Rattle.road_io.specs.Faults.{Rose};
 ghost use Rattle.road_io.specs.Plans.{NeverFails};
 ghost use Rattle.road_io.specs.Cutter.{number_of, fault_of};
 ghost use Rattle.keeper.specs.Kept.{IsPastPut};
 ghost use Rattle.keeper.specs.PastReads.{past_reads, past_kept, past_record};
-ghost use Rattle.past_file.specs.Readings.{Gathers, IsReading, HasReadOf, EndsWhole, Steps, Ends};
+ghost use Rattle.past_file.specs.Readings.{Gathers, IsReading, HasReadOf, EndsWhole, Steps, Ends, StopsAfter};
 ghost use Rattle.past_file.specs.declared.judging.PastStop.TheVariants.{ReadFault, NoMemory as OutOfMemory};
 
 use super::PastReader;
@@ -19,11 +20,13 @@ use keeper::PastRecord;
 use road_io::{LineCutter, LineFault, Source};
 use road_time::NoMemory;
 use std::alloc::Global;
+use std::thread::Threads;
 
 impl PastReader {
     /// A reader before the first line.
     pub fn new(alloc: Global) -> Result<PastReader, NoMemory>
-        ensures reading { IfOk result (λ r. (base : ℕ) (limits : LimitsValue) (bytes : List ℕ) → IsReading r base limits (Some bytes) bytes) }
+        ensures reading { IfOk result (λ r. (base : ℕ) (limits : LimitsValue) (bytes : List ℕ)
+            → IsReading r base limits (Some bytes) bytes) }
         ensures gathers { IfOk result (λ r. (base : ℕ) → Gathers r.amounts base) }
         ensures read { IfOk result (λ r. (bytes : List ℕ) → HasReadOf r (Some bytes) bytes) }
         ensures none { IfOk result (λ r. number_of r.cutter ≡ 0) }
@@ -32,14 +35,15 @@ impl PastReader {
         let cutter = LineCutter::new(alloc)?;
         Ok(PastReader {
             cutter,
-            consumed: Consumed::new(),
+            consumed: Consumed::new(alloc),
             amounts: Amounts::new(alloc),
         })
     }
 
     /// Reads one line more, under a limit of lines; false where there is none.
-    fn read_one<S: Source>(
+    fn read_one<S: Source, R: Threads>(
         &mut self,
+        rt: &R,
         base: u32,
         limit: u32,
         source: &mut S,
@@ -47,10 +51,14 @@ impl PastReader {
         requires based { 70 ≤ base }
         requires few { number_of self.old.cutter ≤ limit }
         requires unbroken { fault_of self.old.cutter ≡ None }
-        ensures steps { (limits : LimitsValue) (bytes : List ℕ) → limits.past ≡ limit → IsReading self.old base limits (S.left source.old) bytes → Steps result self.new base limits (S.left source.new) bytes }
+        ensures steps { (limits : LimitsValue) (bytes : List ℕ) → limits.past ≡ limit
+            → IsReading self.old base limits (S.left source.old) bytes
+            → Steps result self.new base limits (S.left source.new) bytes }
         ensures gathers { Gathers self.old.amounts base → IfOk result (λ more. Gathers self.new.amounts base) }
-        ensures read { (bytes : List ℕ) → HasReadOf self.old (S.left source.old) bytes → HasReadOf self.new (S.left source.new) bytes }
+        ensures read { (bytes : List ℕ) → HasReadOf self.old (S.left source.old) bytes
+            → HasReadOf self.new (S.left source.new) bytes }
         ensures bounded { number_of self.new.cutter ≤ limit + 1 }
+        ensures after { IfErr result (λ stop. StopsAfter stop (number_of self.new.cutter)) }
         ensures next { result ≡ Ok true → number_of self.new.cutter ≡ number_of self.old.cutter + 1 }
         ensures few { IfOk result (λ more. number_of self.new.cutter ≤ limit) }
         ensures unbroken { IfOk result (λ more. fault_of self.new.cutter ≡ None) }
@@ -61,7 +69,7 @@ impl PastReader {
     {
         match self.cutter.advance(source) {
             Ok(true) => {
-                self.consumed.add(self.cutter.rest());
+                self.consumed.add(rt, self.cutter.rest());
                 let line = self.cutter.number();
                 match judge(&mut self.amounts, base, limit, line, self.cutter.line()) {
                     None => Ok(true),
@@ -75,14 +83,24 @@ impl PastReader {
     }
 
     /// Reads all lines, under a limit of lines, or says why not.
-    pub fn read_all<S: Source>(&mut self, base: u32, limit: u32, source: &mut S) -> Option<PastStop>
+    pub fn read_all<S: Source, R: Threads>(
+        &mut self,
+        rt: &R,
+        base: u32,
+        limit: u32,
+        source: &mut S,
+    ) -> Option<PastStop>
         requires based { 70 ≤ base }
         requires few { number_of self.old.cutter ≤ limit }
         requires unbroken { fault_of self.old.cutter ≡ None }
-        ensures ends { (limits : LimitsValue) (bytes : List ℕ) → limits.past ≡ limit → IsReading self.old base limits (S.left source.old) bytes → Ends result self.new base limits (S.left source.new) bytes }
+        ensures ends { (limits : LimitsValue) (bytes : List ℕ) → limits.past ≡ limit
+            → IsReading self.old base limits (S.left source.old) bytes
+            → Ends result self.new base limits (S.left source.new) bytes }
         ensures gathers { Gathers self.old.amounts base → IfNone result (Gathers self.new.amounts base) }
-        ensures read { (bytes : List ℕ) → HasReadOf self.old (S.left source.old) bytes → HasReadOf self.new (S.left source.new) bytes }
+        ensures read { (bytes : List ℕ) → HasReadOf self.old (S.left source.old) bytes
+            → HasReadOf self.new (S.left source.new) bytes }
         ensures bounded { number_of self.new.cutter ≤ limit + 1 }
+        ensures after { IfSome result (λ stop. StopsAfter stop (number_of self.new.cutter)) }
         ensures few { IfNone result (number_of self.new.cutter ≤ limit) }
         ensures cause { result ≡ Some ReadFault → Rose (S.faults source.old) (S.faults source.new) }
         ensures same { S.name source.new ≡ S.name source.old }
@@ -90,31 +108,41 @@ impl PastReader {
         ensures sure { NeverFails (S.plan source.old) → result ≢ Some ReadFault }
     {
         'reading: loop {
-            match self.read_one(base, limit, source) {
+            match self.read_one(rt, base, limit, source) {
                 Ok(true) => {}
                 Ok(false) => return None,
                 Err(stop) => return Some(stop),
             }
         }
     }
+
     /// What is kept of the lines that were read, their days counted back from a base.
-    pub fn kept(self, base: u32) -> Result<History, PastStop>
+    pub fn kept<R: Threads>(self, rt: &R, base: u32) -> Result<History, PastStop>
         requires based { 70 ≤ base }
         requires few { number_of self.cutter < 2 ^ 32 }
-        ensures exact { (limits : LimitsValue) (left : Option (List ℕ)) (bytes : List ℕ) → EndsWhole self.consumed self.amounts base limits left bytes
-            → IfOk result (λ h. (h.past ≡ past_record base bytes (past_reads bytes base limits).rows) × (h.rows.items ≡ past_kept (past_reads bytes base limits).rows)) }
+        ensures exact { (limits : LimitsValue) (left : Option (List ℕ)) (bytes : List ℕ)
+            → EndsWhole self.consumed self.amounts base limits left bytes
+            → IfOk result (λ h. (h.past ≡ past_record base bytes (past_reads bytes base limits).rows)
+            × (h.rows.items ≡ past_kept (past_reads bytes base limits).rows)) }
         ensures fits { Gathers self.amounts base → IfOk result (λ h. IsPastPut h.past h.rows.items) }
+        ensures based { IfOk result (λ h. h.past.base ≡ base) }
         ensures stops { IfErr result (λ stop. stop ≡ OutOfMemory) }
     {
         let Ok(rows) = self.amounts.kept() else {
+            self.consumed.close(rt);
             return Err(PastStop::NoMemory);
         };
         let past = PastRecord {
             base,
             bytes: self.consumed.bytes,
             rows: rows.len() as u64,
-            digest: self.consumed.digest(),
+            digest: self.consumed.digest(rt),
         };
         Ok(History { past, rows })
+    }
+
+    /// Leaves the history, once no thread has a part of its bytes.
+    pub fn close<R: Threads>(self, rt: &R) {
+        self.consumed.close(rt);
     }
 }

@@ -3,7 +3,7 @@ use Rattle.day_reading.specs.Ahead.{IsAhead, IsGatheringAhead}
 use Rattle.road_time.specs.Day.{given}
 use Rattle.day_reading.proofs.AheadLaws.{ahead_within}
 use Rattle.settling.specs.Closes.{IsClosed}
-use Rattle.day_rounds.specs.declared.day_run.DayRun.{DayRun}
+use Rattle.day_rounds.specs.declared.day_run.WorkedDay.{WorkedDay}
 use Rattle.day_rounds.specs.Days.{IsOn}
 use Rattle.day_rounds.specs.Outcomes.{task_of, HasRun, HasStopped}
 use Rattle.day_rounds.specs.declared.fault.DayFault.TheVariants.{NoMemory}
@@ -45,13 +45,13 @@ returns-in-Ok-close-clause-ran g c e late h gathers number history =
     let (s, on, all, is, runs) = v.done e told answered late h gathers number history in
     let same_on = subst (λ m. IsOn m late e c.args.ahead last.ahead was (g.S.Source.left last.source) (g.O.Sink.written c.args.sink.now) (g.O.Sink.written last.sink) (g.P.Publisher.posted c.args.publisher.now) (g.P.Publisher.posted last.publisher) s) (sym v.limits) on in
     let same_gathers = subst (λ m. IsGatheringAhead c.args.ahead m late []) (sym v.limits) gathers in
-    let r : DayRun = record { closed = c.in-Ok-close.closed; tuples = c.in-Ok.tuples; end = c.end-end.result } in
+    let r : WorkedDay = record { closed = c.in-Ok-close.closed; tuples = c.in-Ok.tuples; end = c.end-end.result } in
     under (λ n m. HasRun (task_of e n m late) k.exact (λ bytes. IsAhead c.args.ahead m late was bytes []) answered (k.answers last.crew) told (k.jobs last.crew) (g.O.Sink.written c.args.sink.now) (g.O.Sink.written last.sink)
     (g.P.Publisher.posted c.args.publisher.now) (g.P.Publisher.posted last.publisher) r) last.run.floor.inboxes.width f.inboxes.width last.run.floor.limits f.limits v.width v.limits
     (whole_run k.out k.number k.holds k.gave k.exact k.jobs k.answers e told answered last.run last.crew s runs f.limits late c.args.ahead last.ahead _ _ _ _ _ _ same_on all v.ended same_gathers v.none r is
     (subst (λ d. IsClosed r.closed d (given s.found) e.number e.history s.fed) (sym number) (c.in-Ok-close.ensures e s runs.stands all))
     c.end-end.ensures.exact
-    (c.end-end.ensures.short last.run.floor.limits late s.fed (same_on.given.gathers [] same_gathers) runs.stands.terms.lines))
+    (c.end-end.ensures.short last.run.floor.limits late s.fed (same_on.given.gathers [] same_gathers) runs.stands.terms.within.lines))
 
 pub returns-in_default-clause-stopped : goal.returns-in_default-clause-stopped
 returns-in_default-clause-stopped g c e late h gathers number history =

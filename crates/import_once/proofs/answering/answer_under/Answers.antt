@@ -10,10 +10,10 @@ use Rattle.settling.specs.Answers.{History, history_of}
 use Rattle.settling.specs.Closes.{IsClosed}
 use Rattle.day_rounds.specs.Imports.{AreRightFor}
 use Rattle.import_once.specs.declared.outcomes.Outcome.{Outcome}
-use Rattle.import_once.specs.Imports.{Work, work_of, work_by, answers_worked, answers_read, Does}
+use Rattle.import_once.specs.Imports.{Work, work_of, work_by, answers_worked, answers_read, Does, LeavesRead}
 use Rattle.day_rounds.specs.Faults.{WritesUpTo}
 use Rattle.import_once.proofs.WorkLaws.{right_work}
-use Rattle.import_once.proofs.FinishLaws.{tells_does, does_merges, stops_does, text_answered, where_worked}
+use Rattle.import_once.proofs.FinishLaws.{tells_does, does_merges, stops_does, text_answered, where_worked, tells_leaves, stops_leaves}
 use Rattle.import_once.specs.Runs.{HasStarted}
 use Rattle.import_once.proofs.JobLaws.{started_all, started_first}
 use Rattle.import_once.proofs.answering.answer_under.Goals as goal
@@ -87,3 +87,15 @@ returns-in-Err-clause-jobs g c = λ bytes left.
     let backlog = c.args.limits.now.backlog in
     let day = (reads bytes c.args.limits.now c.args.late).tuples in
     subst (HasStarted width backlog day told now) (sym c.stopped.ensures.is) (started_first width backlog day told now c.in-Err.fault some.0 some.1 some.2)
+
+pub returns-in-Ok-clause-leaves : goal.returns-in-Ok-clause-leaves
+returns-in-Ok-clause-leaves g c = λ bytes left.
+    let refused = (reads bytes c.args.limits.now c.args.late).refused in
+    let ends = (c.in-Ok.ensures.ran.read bytes left).1 in
+    tells_leaves c.args.number c.in-Ok.run' c.args.tariffs.now c.in-Ok.run'.end refused bytes (g.S.Source.left c.run_day.new.source) c.finish_answers.result ends (c.in-Ok.ensures.leaves bytes left) (c.finish_answers.ensures.tells)
+
+pub returns-in-Err-clause-leaves : goal.returns-in-Err-clause-leaves
+returns-in-Err-clause-leaves g c = λ bytes left.
+    let refused = (reads bytes c.args.limits.now c.args.late).refused in
+    let rest = g.S.Source.left c.run_day.new.source in
+    subst (λ (r : Outcome). LeavesRead r refused bytes rest) (sym c.stopped.ensures.is) (stops_leaves c.in-Err.fault refused bytes rest)

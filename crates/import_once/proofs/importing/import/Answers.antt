@@ -3,7 +3,7 @@ use Rattle.road_time.specs.Reads.{reads}
 use Rattle.keeper.specs.declared.kept.DayRecord.{DayRecord}
 use Rattle.keeper.specs.Office.{record_of}
 use Rattle.import_once.specs.Imports.{import_read, import_merged, unless_recorded, Does, Merges}
-use Rattle.import_once.proofs.FinishLaws.{kept_alone}
+use Rattle.import_once.proofs.FinishLaws.{kept_alone, kept_leaves}
 use Rattle.keeper.proofs.CallLaws.{reads_same, reads_ok}
 use Rattle.import_once.proofs.JobLaws.{none_started, kept_unworked}
 use Rattle.import_once.proofs.importing.import.Goals as goal
@@ -46,3 +46,7 @@ returns-in-Err-Failed-clause-jobs g c = λ bytes left. none_started _ _ _ _ _ tt
 
 pub returns-in-Err-NoMemory-clause-jobs : goal.returns-in-Err-NoMemory-clause-jobs
 returns-in-Err-NoMemory-clause-jobs g c = λ bytes left. none_started _ _ _ _ _ tt
+
+pub returns-in-Ok-Some-clause-leaves : goal.returns-in-Ok-Some-clause-leaves
+returns-in-Ok-Some-clause-leaves g c = λ bytes left.
+    kept_leaves c.compare.result (reads bytes c.args.limits.now c.args.late).refused bytes (g.S.Source.left c.compare.new.source) c.compare.ensures.kept_day

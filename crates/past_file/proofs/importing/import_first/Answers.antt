@@ -1,8 +1,9 @@
-use Rattle.std.proofs.Common.{◌≡◌, ◌∙◌, ℕ, List, Option, Ok, Err, sym, subst}
+use Rattle.std.proofs.Common.{◌≡◌, ◌∙◌, ℕ, List, Option, Some, Ok, Err, sym, subst}
+use Rattle.std.specs.Prelude.{IfErr}
 use Rattle.keeper.specs.PastReads.{PastFault, past_reads}
 use Rattle.past_file.specs.declared.judging.PastStop.TheVariants.{Row}
 use Rattle.past_file.specs.Imports.{past_read, Does, LeavesRest}
-use Rattle.past_file.specs.Readings.{ReadsPast}
+use Rattle.past_file.specs.Readings.{ReadsPast, StopsSoonAt}
 use Rattle.past_file.proofs.KeepLaws.{row_does}
 use Rattle.past_file.proofs.importing.import_first.Goals as goal
 
@@ -27,3 +28,9 @@ returns-in-Err-Row-clause-does g c = λ bytes o left told.
     let read = subst (λ r. ReadsPast r c.args.base c.args.limits.now (g.S.Source.left c.read_past.new.source) bytes) stopped (c.read_past.ensures.reads bytes left) in
     let done = row_does g.K.Keeper.refuses c.args.base bytes reading.rows o reading.refused c.in-Err-Row.line c.in-Err-Row.cause read.0 read.1 read.2 in
     record { outcome_is = done.outcome_is; kept = told ∙ done.kept }
+
+pub returns-in-Err-Row-clause-soon : goal.returns-in-Err-Row-clause-soon
+returns-in-Err-Row-clause-soon g c = λ bytes left.
+    let stopped : c.read_past.result ≡ Err (Row c.in-Err-Row.line c.in-Err-Row.cause) = cc in
+    let soon = subst (λ r. IfErr r (λ stop. (bs : List ℕ) → g.S.Source.left c.args.source.now ≡ Some bs → StopsSoonAt stop bs (g.S.Source.left c.read_past.new.source))) stopped c.read_past.ensures.soon in
+    soon bytes left

@@ -1,7 +1,7 @@
 use Rattle.std.proofs.Common.{◌≡◌, List, ℕ, Option, Some, None, refl, sym, subst}
 use Rattle.past_file.specs.declared.judging.PastStop.{PastStop}
 use Rattle.past_file.specs.Readings.{IsReading, HasReadOf, Ends}
-use Rattle.past_file.proofs.ReadLaws.{reads_stopped, reads_kept, past_within}
+use Rattle.past_file.proofs.ReadLaws.{reads_stopped, reads_kept, past_within, past_soon}
 use Rattle.past_file.proofs.whole_past.read_past.Goals as goal
 
 pub returns-in-Some-clause-reads : goal.returns-in-Some-clause-reads
@@ -35,3 +35,9 @@ returns-clause-bounded g c = λ bytes told.
     let left = g.S.Source.left c.read_all.new.source in
     let start = subst (λ (o : Option (List ℕ)). HasReadOf c.in-Ok.reader o bytes) (sym told) (c.in-Ok.ensures.read bytes) in
     past_within c.read_all.new.self c.args.limits.now left bytes (c.read_all.ensures.read bytes start) c.read_all.ensures.bounded
+
+pub returns-in-Some-clause-soon : goal.returns-in-Some-clause-soon
+returns-in-Some-clause-soon g c = λ bytes told.
+    let left = g.S.Source.left c.read_all.new.source in
+    let start = subst (λ (o : Option (List ℕ)). HasReadOf c.in-Ok.reader o bytes) (sym told) (c.in-Ok.ensures.read bytes) in
+    past_soon c.in-Some.stop c.read_all.new.self left bytes (c.read_all.ensures.read bytes start) c.in-Some.ensures.after

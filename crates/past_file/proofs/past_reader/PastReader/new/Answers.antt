@@ -1,4 +1,4 @@
-use Rattle.std.proofs.Common.{◌++◌, [], Some, refl, ap}
+use Rattle.std.proofs.Common.{◌++◌, [], Some, refl, ap, arith}
 use Rattle.past_file.proofs.past_reader.PastReader.new.Goals as goal
 
 pub returns-clause-reading : goal.returns-clause-reading
@@ -21,11 +21,13 @@ returns-clause-gathers c = λ base. ([], c.new-3.ensures base)
 
 pub returns-clause-read : goal.returns-clause-read
 returns-clause-read c = λ bytes.
-    let fresh = c.in_ok-cutter.ensures in
-    record {
-      taken = [];
-      now = bytes;
-      ahead_is = ap (λ h. Some (h ++ bytes)) fresh.0;
-      bytes_are = refl;
-      count = c.new-2.ensures.empty;
-    }
+    let fresh = c.in_ok-cutter.ensures in (
+      record {
+        taken = [];
+        now = bytes;
+        ahead_is = ap (λ h. Some (h ++ bytes)) fresh.0;
+        bytes_are = refl;
+        count = c.new-2.ensures.empty;
+      },
+      omega arith,
+    )

@@ -1,13 +1,14 @@
-use Rattle.std.proofs.Common.{◌≡◌, ◌+◌, ◌++◌, length, List, ℕ, Option, Some, None, Ok, Err, true, false, subst}
+use Rattle.std.proofs.Common.{◌≡◌, ◌+◌, ◌++◌, ◌≤◌, length, List, ℕ, Option, Some, None, Ok, Err, true, false, refl, subst, arith}
 use Rattle.road_io.specs.Cutter.{ahead, number_of, line_of, rest_of, Cuts, Stands}
 use Rattle.road_io.specs.declared.cutter.LineFault.TheVariants.{LongLine, ReadFault}
 use Rattle.day_reading.specs.Readings.{HasTaken}
 use Rattle.past_file.specs.declared.outcomes.PastCause.TheVariants as causes
 use Rattle.past_file.specs.declared.judging.PastStop.{PastStop}
 use Rattle.past_file.specs.declared.judging.PastStop.TheVariants.{Row}
-use Rattle.day_reading.proofs.BoundLaws.{read_line, read_end, read_fault}
-use Rattle.past_file.specs.Readings.{Judges}
-use Rattle.past_file.proofs.ReadLaws.{next_line, stopped_line, long_line, refused_steps, whole_end}
+use Rattle.day_reading.proofs.BoundLaws.{lines_on, lines_end, lines_fault}
+use Rattle.road_time.specs.declared.day.Limits.{Limits}
+use Rattle.past_file.specs.Readings.{Judges, StopsAfter}
+use Rattle.past_file.proofs.ReadLaws.{next_line, stopped_line, long_line, refused_steps, whole_end, judged_after}
 use Rattle.past_file.proofs.past_reader.PastReader.read_one.Goals as goal
 
 pub returns-in-None-clause-steps : goal.returns-in-None-clause-steps
@@ -76,8 +77,9 @@ returns-in-None-clause-read g c = λ bytes s.
     let after = ahead new (g.S.Source.left c.advance.new.source) in
     let res : c.advance.result ≡ Ok true = cc in
     let cuts = subst (λ r. Cuts r before after (line_of new)) res (c.advance.ensures.cuts c.requires.unbroken) in
+    let stands = subst (λ r. Stands r (number_of old) new) res (c.advance.ensures.stands c.requires.unbroken) in
     let counts = subst (λ r. c.add.new.self.bytes ≡ self.consumed.bytes + length r) c.rest.ensures c.add.ensures.count in
-    read_line before after (line_of new) (rest_of new) bytes self.consumed c.add.new.self s cuts (c.advance.ensures.taken c.requires.unbroken res) counts
+    lines_on before after (line_of new) (rest_of new) bytes self.consumed c.add.new.self (number_of old) (number_of new) s cuts (c.advance.ensures.taken c.requires.unbroken res) counts stands.0
 
 pub returns-in-Some-clause-read : goal.returns-in-Some-clause-read
 returns-in-Some-clause-read g c = λ bytes s.
@@ -88,8 +90,9 @@ returns-in-Some-clause-read g c = λ bytes s.
     let after = ahead new (g.S.Source.left c.advance.new.source) in
     let res : c.advance.result ≡ Ok true = cc in
     let cuts = subst (λ r. Cuts r before after (line_of new)) res (c.advance.ensures.cuts c.requires.unbroken) in
+    let stands = subst (λ r. Stands r (number_of old) new) res (c.advance.ensures.stands c.requires.unbroken) in
     let counts = subst (λ r. c.add.new.self.bytes ≡ self.consumed.bytes + length r) c.rest.ensures c.add.ensures.count in
-    read_line before after (line_of new) (rest_of new) bytes self.consumed c.add.new.self s cuts (c.advance.ensures.taken c.requires.unbroken res) counts
+    lines_on before after (line_of new) (rest_of new) bytes self.consumed c.add.new.self (number_of old) (number_of new) s cuts (c.advance.ensures.taken c.requires.unbroken res) counts stands.0
 
 pub returns-in-Ok-false-clause-read : goal.returns-in-Ok-false-clause-read
 returns-in-Ok-false-clause-read g c = λ bytes s.
@@ -100,7 +103,8 @@ returns-in-Ok-false-clause-read g c = λ bytes s.
     let after = ahead new (g.S.Source.left c.advance.new.source) in
     let res : c.advance.result ≡ Ok false = cc in
     let cuts = subst (λ r. Cuts r before after (line_of new)) res (c.advance.ensures.cuts c.requires.unbroken) in
-    read_end before after (line_of new) bytes self.consumed s cuts
+    let stands = subst (λ r. Stands r (number_of self.cutter) new) res (c.advance.ensures.stands c.requires.unbroken) in
+    lines_end before after (line_of new) bytes self.consumed (number_of self.cutter) (number_of new) s cuts stands.0
 
 pub returns-in-Err-LongLine-clause-read : goal.returns-in-Err-LongLine-clause-read
 returns-in-Err-LongLine-clause-read g c = λ bytes s.
@@ -111,7 +115,8 @@ returns-in-Err-LongLine-clause-read g c = λ bytes s.
     let after = ahead new (g.S.Source.left c.advance.new.source) in
     let res : c.advance.result ≡ Err (LongLine c.in-Err-LongLine.line) = cc in
     let cuts = subst (λ r. Cuts r before after (line_of new)) res (c.advance.ensures.cuts c.requires.unbroken) in
-    read_fault (LongLine c.in-Err-LongLine.line) before after (line_of new) bytes self.consumed s cuts
+    let stands = subst (λ r. Stands r (number_of self.cutter) new) res (c.advance.ensures.stands c.requires.unbroken) in
+    lines_fault (LongLine c.in-Err-LongLine.line) before after (line_of new) bytes self.consumed (number_of self.cutter) (number_of new) s cuts stands.1
 
 pub returns-in-Err-ReadFault-clause-read : goal.returns-in-Err-ReadFault-clause-read
 returns-in-Err-ReadFault-clause-read g c = λ bytes s.
@@ -122,4 +127,23 @@ returns-in-Err-ReadFault-clause-read g c = λ bytes s.
     let after = ahead new (g.S.Source.left c.advance.new.source) in
     let res : c.advance.result ≡ Err ReadFault = cc in
     let cuts = subst (λ r. Cuts r before after (line_of new)) res (c.advance.ensures.cuts c.requires.unbroken) in
-    read_fault ReadFault before after (line_of new) bytes self.consumed s cuts
+    let stands = subst (λ r. Stands r (number_of self.cutter) new) res (c.advance.ensures.stands c.requires.unbroken) in
+    lines_fault ReadFault before after (line_of new) bytes self.consumed (number_of self.cutter) (number_of new) s cuts stands.0
+
+pub returns-in-Some-clause-after : goal.returns-in-Some-clause-after
+returns-in-Some-clause-after g c =
+    let new = c.advance.new.self in
+    let limits : Limits = record { lines = 0; vehicles = 0; backlog = 0; past = c.args.limit } in
+    let some : c.judge.result ≡ Some c.in-Some.stop = cc in
+    let judged = subst (λ (r : Option PastStop). Judges r c.args.base limits c.number-line.result c.line.result.now c.args.self.now.amounts c.judge.new.amounts) some (c.judge.ensures.judges limits refl) in
+    subst (λ n. StopsAfter c.in-Some.stop n) c.number-line.ensures (judged_after c.in-Some.stop c.args.base limits c.number-line.result c.line.result.now c.args.self.now.amounts c.judge.new.amounts judged)
+
+pub returns-in-Err-LongLine-clause-after : goal.returns-in-Err-LongLine-clause-after
+returns-in-Err-LongLine-clause-after g c =
+    let self = c.args.self.now in
+    let new = c.advance.new.self in
+    let res : c.advance.result ≡ Err (LongLine c.in-Err-LongLine.line) = cc in
+    let stands = subst (λ r. Stands r (number_of self.cutter) new) res (c.advance.ensures.stands c.requires.unbroken) in
+    let stop : Row c.in-Err-LongLine.line causes.Long ≡ c.refused.result = cc (c.refused.ensures, c.in-Err-LongLine.line-is) in
+    let after : number_of new ≤ c.in-Err-LongLine.line = omega (arith, stands.0, stands.1) in
+    subst (λ (s : PastStop). StopsAfter s (number_of new)) stop after

@@ -10,13 +10,13 @@ use Rattle.settling.specs.Answers.{History, history_of}
 use Rattle.settling.specs.Closes.{IsClosed}
 use Rattle.day_rounds.specs.Imports.{AreRightFor}
 use Rattle.import_once.specs.declared.outcomes.Outcome.{Outcome}
-use Rattle.import_once.specs.Imports.{Work, work_of, work_by, import_worked, import_read, Does, KeepsAll}
+use Rattle.import_once.specs.Imports.{Work, work_of, work_by, import_worked, import_read, Does, KeepsAll, LeavesRead}
 use Rattle.day_rounds.specs.Faults.{WritesUpTo}
 use Rattle.import_once.proofs.WorkLaws.{run_fits, right_work}
-use Rattle.import_once.proofs.FinishLaws.{finishes_does, does_merges, stops_does, text_worked, where_worked, stops_keeps, whole_unrefused}
+use Rattle.import_once.proofs.FinishLaws.{finishes_does, does_merges, stops_does, text_worked, where_worked, stops_keeps, whole_unrefused, ends_leaves, stops_leaves}
 use Rattle.import_once.specs.Runs.{HasStarted, HasStepped}
 use Rattle.import_once.proofs.JobLaws.{started_all, started_first, stepped_all, stepped_some}
-use Rattle.import_once.proofs.importing.import_under.Goals as goal
+use Rattle.import_once.proofs.beginning.import_under.Goals as goal
 
 pub finish_import-requires-clause-can : goal.finish_import-requires-clause-can
 finish_import-requires-clause-can g c =
@@ -117,3 +117,15 @@ pub returns-in-Ok-clause-whole : goal.returns-in-Ok-clause-whole
 returns-in-Ok-clause-whole g c = λ bytes kept left stored.
     let ends = (c.in-Ok.ensures.ran.read bytes left).1 in
     c.in-Ok.ensures.rest bytes left (whole_unrefused c.in-Ok.run'.end bytes _ ends (c.finish_import.ensures.whole kept stored))
+
+pub returns-in-Ok-clause-leaves : goal.returns-in-Ok-clause-leaves
+returns-in-Ok-clause-leaves g c = λ bytes left.
+    let refused = (reads bytes c.args.limits.now c.args.late).refused in
+    let ends = (c.in-Ok.ensures.ran.read bytes left).1 in
+    ends_leaves c.in-Ok.run'.end refused bytes (g.S.Source.left c.run_day.new.source) c.finish_import.result ends (c.in-Ok.ensures.leaves bytes left) c.finish_import.ensures.new_day c.finish_import.ensures.of_end
+
+pub returns-in-Err-clause-leaves : goal.returns-in-Err-clause-leaves
+returns-in-Err-clause-leaves g c = λ bytes left.
+    let refused = (reads bytes c.args.limits.now c.args.late).refused in
+    let rest = g.S.Source.left c.run_day.new.source in
+    subst (λ (r : Outcome). LeavesRead r refused bytes rest) (sym c.stopped.ensures.is) (stops_leaves c.in-Err.fault refused bytes rest)

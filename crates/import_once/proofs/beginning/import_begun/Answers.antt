@@ -1,6 +1,6 @@
 use Rattle.std.proofs.Common.{inr}
 use Rattle.import_once.proofs.JobLaws.{none_started, begun_published, refused_published}
-use Rattle.import_once.proofs.importing.import_begun.Goals as goal
+use Rattle.import_once.proofs.beginning.import_begun.Goals as goal
 
 pub returns-in-Ok-clause-published : goal.returns-in-Ok-clause-published
 returns-in-Ok-clause-published g c = λ exact bytes was left posted. begun_published _ _ c.args.number _ was _ _ _ _ posted c.in-Ok.ensures.ok (c.import_under.ensures.stepped exact bytes left)

@@ -5,7 +5,7 @@ use Rattle.import_once.specs.Imports.{Answer, import_read, import_merged, unless
 use Rattle.import_once.proofs.FinishLaws.{new_is_read}
 use Rattle.keeper.proofs.CallLaws.{reads_same, reads_ok}
 use Rattle.import_once.proofs.JobLaws.{none_started}
-use Rattle.import_once.proofs.importing.import_new.Goals as goal
+use Rattle.import_once.proofs.new_day.import_new.Goals as goal
 
 pub returns-else-last-number-clause-does : goal.returns-else-last-number-clause-does
 returns-else-last-number-clause-does g c = λ exact bytes o left told.

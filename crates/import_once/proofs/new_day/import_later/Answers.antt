@@ -1,7 +1,7 @@
 use Rattle.std.proofs.Common.{◌≡◌, ◌∙◌, Some, Ok}
 use Rattle.keeper.proofs.CallLaws.{reads_same, reads_ok}
 use Rattle.import_once.proofs.JobLaws.{none_started}
-use Rattle.import_once.proofs.importing.import_later.Goals as goal
+use Rattle.import_once.proofs.new_day.import_later.Goals as goal
 
 pub returns-in-Ok-clause-merged : goal.returns-in-Ok-clause-merged
 returns-in-Ok-clause-merged g c = λ bytes o left told.

@@ -1,0 +1,165 @@
+// A day begins, and is imported under the kept tariffs.
+ghost use Rattle.std.specs.Prelude.{◌≡◌, ◌≢◌, ◌≤◌, List, ℕ, Some, [], true};
+ghost use Rattle.road_time.specs.Reads.{reads};
+ghost use Rattle.road_io.specs.Faults.{Rose};
+ghost use Rattle.road_io.specs.Plans.{NeverFails};
+ghost use Rattle.road_io.specs.Rooms.{Endless};
+ghost use Rattle.keeper.specs.declared.kept.DayRecord.{DayRecord};
+ghost use Rattle.keeper.specs.Office.{Office};
+ghost use Rattle.keeper.specs.Kept.{IsLater};
+ghost use Rattle.keeper.specs.Calls.{IfTold};
+ghost use Rattle.settling.specs.Boards.{IsAbreast};
+ghost use Rattle.road_time.specs.Fits.{IsLimits};
+ghost use Rattle.day_reading.specs.Days.{ReadsWithin, most_read};
+ghost use Rattle.import_once.specs.Imports.{new_import, new_import_found};
+ghost use Rattle.import_once.specs.Imports.{Does, LeavesRead, PutsOnce};
+ghost use Rattle.import_once.specs.Imports.{KeepsAll, IsOfNewDay};
+ghost use Rattle.import_once.specs.Runs.{DoesByCrew, HasStarted, HasStepped, Publishes};
+ghost use Rattle.accounts.specs.Operations.{Posted};
+ghost use Rattle.import_once.specs.declared.outcomes.Outcome.TheVariants.{Stored, ReadFault, WriteFault, KeeperFault};
+
+use crate::keeping::finish_import;
+use crate::outcomes::{Outcome, stopped};
+use accounts::Publisher;
+use day_rounds::run_day;
+use import_plan::Plan;
+use keeper::Keeper;
+use partition_workers::Crew;
+use road_io::{Sink, Source};
+use road_time::{Limits, Tariffs};
+use std::alloc::Global;
+use std::thread::Threads;
+
+/// Imports a day that begins, under the kept tariffs.
+fn import_under<S: Source, O: Sink, K: Keeper, C: Crew, P: Publisher, R: Threads>(
+    rt: &R,
+    alloc: Global,
+    number: u32,
+    plan: &Plan,
+    late: u8,
+    limits: &Limits,
+    tariffs: &Tariffs,
+    source: &mut S,
+    sink: &mut O,
+    keeper: &mut K,
+    crew: &mut C,
+    publisher: &mut P,
+) -> Outcome
+    requires low { 70 ≤ number }
+    requires high { number ≤ 1000000 }
+    requires width { (1 ≤ plan.now.width) × (plan.now.width ≤ 64) }
+    requires soon { late ≤ 120 }
+    requires within { IsLimits limits.now }
+    requires idle { C.out crew.old ≡ [] }
+    requires later { IfTold (K.told keeper.old) (λ o. IsLater number o) }
+    requires abreast { IsAbreast (P.posted publisher.old) 0 }
+    ensures does { C.exact ≡ true → (bytes : List ℕ) (o : Office) → S.left source.old ≡ Some bytes
+        → K.told keeper.old ≡ Some o → tariffs.now ≡ o.tariffs
+        → Does K.refuses (new_import number late limits.now bytes o) o (O.written sink.old) (O.written sink.new)
+        (K.told keeper.new) result }
+    ensures merged { (bytes : List ℕ) (o : Office) → S.left source.old ≡ Some bytes → K.told keeper.old ≡ Some o
+        → tariffs.now ≡ o.tariffs
+        → DoesByCrew K.refuses (λ found. new_import_found found number late limits.now bytes o) o (C.answers crew.old)
+        (C.answers crew.new) (O.written sink.old) (O.written sink.new) (K.told keeper.new) result }
+    ensures jobs { (bytes : List ℕ) → S.left source.old ≡ Some bytes
+        → HasStarted plan.now.width limits.now.backlog (reads bytes limits.now late).tuples (C.jobs crew.old)
+        (C.jobs crew.new) result }
+    ensures stepped { C.exact ≡ true → (bytes : List ℕ) → S.left source.old ≡ Some bytes
+        → HasStepped tariffs.now (reads bytes limits.now late).tuples limits.now.backlog (P.posted publisher.old)
+        (P.posted publisher.new) result }
+    ensures puts { (o : Office) → K.told keeper.old ≡ Some o → PutsOnce number o (K.told keeper.new) }
+    ensures keeps { KeepsAll result (K.told keeper.new ≡ K.told keeper.old) }
+    ensures whole { (bytes : List ℕ) (kept : DayRecord) → S.left source.old ≡ Some bytes → result ≡ Stored kept
+        → S.left source.new ≡ Some [] }
+    ensures leaves { (bytes : List ℕ) → S.left source.old ≡ Some bytes
+        → LeavesRead result (reads bytes limits.now late).refused bytes (S.left source.new) }
+    ensures new_day { IsOfNewDay result }
+    ensures bounded { ReadsWithin (most_read limits.now) (S.left source.old) (S.left source.new) }
+    ensures idle { C.out crew.new ≡ [] }
+    ensures crew { C.which crew.new ≡ C.which crew.old }
+    ensures publisher { P.which publisher.new ≡ P.which publisher.old }
+    ensures read_cause { result ≡ ReadFault → Rose (S.faults source.old) (S.faults source.new) }
+    ensures read_same { S.name source.new ≡ S.name source.old }
+    ensures read_later { S.faults source.old ≤ S.faults source.new }
+    ensures read_sure { NeverFails (S.plan source.old) → result ≢ ReadFault }
+    ensures write_cause { result ≡ WriteFault → Rose (O.faults sink.old) (O.faults sink.new) }
+    ensures write_later { O.faults sink.old ≤ O.faults sink.new }
+    ensures write_sure { O.room sink.old ≡ Endless → (result ≢ WriteFault) × (O.room sink.new ≡ Endless) }
+    ensures keeper_cause { result ≡ KeeperFault → Rose (K.faults keeper.old) (K.faults keeper.new) }
+    ensures keeper_later { K.faults keeper.old ≤ K.faults keeper.new }
+    ensures keeper_sure { NeverFails (K.plan keeper.old) → result ≢ KeeperFault }
+{
+    match run_day(
+        rt, alloc, plan, limits, late, tariffs, number, source, keeper, sink, crew, publisher,
+    ) {
+        Ok(run) => finish_import(alloc, number, &run, tariffs, keeper),
+        Err(fault) => stopped(fault),
+    }
+}
+
+/// Begins a day, and imports it under the kept tariffs.
+pub(crate) fn import_begun<S: Source, O: Sink, K: Keeper, C: Crew, P: Publisher, R: Threads>(
+    rt: &R,
+    alloc: Global,
+    number: u32,
+    plan: &Plan,
+    late: u8,
+    limits: &Limits,
+    tariffs: &Tariffs,
+    source: &mut S,
+    sink: &mut O,
+    keeper: &mut K,
+    crew: &mut C,
+    publisher: &mut P,
+) -> Outcome
+    requires low { 70 ≤ number }
+    requires high { number ≤ 1000000 }
+    requires width { (1 ≤ plan.now.width) × (plan.now.width ≤ 64) }
+    requires soon { late ≤ 120 }
+    requires within { IsLimits limits.now }
+    requires idle { C.out crew.old ≡ [] }
+    requires later { IfTold (K.told keeper.old) (λ o. IsLater number o) }
+    ensures does { C.exact ≡ true → (bytes : List ℕ) (o : Office) → S.left source.old ≡ Some bytes
+        → K.told keeper.old ≡ Some o → tariffs.now ≡ o.tariffs
+        → Does K.refuses (new_import number late limits.now bytes o) o (O.written sink.old) (O.written sink.new)
+        (K.told keeper.new) result }
+    ensures merged { (bytes : List ℕ) (o : Office) → S.left source.old ≡ Some bytes → K.told keeper.old ≡ Some o
+        → tariffs.now ≡ o.tariffs
+        → DoesByCrew K.refuses (λ found. new_import_found found number late limits.now bytes o) o (C.answers crew.old)
+        (C.answers crew.new) (O.written sink.old) (O.written sink.new) (K.told keeper.new) result }
+    ensures jobs { (bytes : List ℕ) → S.left source.old ≡ Some bytes
+        → HasStarted plan.now.width limits.now.backlog (reads bytes limits.now late).tuples (C.jobs crew.old)
+        (C.jobs crew.new) result }
+    ensures published { C.exact ≡ true → (bytes : List ℕ) (was : Posted) → S.left source.old ≡ Some bytes
+        → P.posted publisher.old ≡ Some was
+        → Publishes tariffs.now (reads bytes limits.now late).tuples number limits.now.backlog was
+        (P.posted publisher.new) result }
+    ensures puts { (o : Office) → K.told keeper.old ≡ Some o → PutsOnce number o (K.told keeper.new) }
+    ensures keeps { KeepsAll result (K.told keeper.new ≡ K.told keeper.old) }
+    ensures whole { (bytes : List ℕ) (kept : DayRecord) → S.left source.old ≡ Some bytes → result ≡ Stored kept
+        → S.left source.new ≡ Some [] }
+    ensures leaves { (bytes : List ℕ) → S.left source.old ≡ Some bytes
+        → LeavesRead result (reads bytes limits.now late).refused bytes (S.left source.new) }
+    ensures new_day { IsOfNewDay result }
+    ensures bounded { ReadsWithin (most_read limits.now) (S.left source.old) (S.left source.new) }
+    ensures idle { C.out crew.new ≡ [] }
+    ensures crew { C.which crew.new ≡ C.which crew.old }
+    ensures publisher { P.which publisher.new ≡ P.which publisher.old }
+    ensures read_cause { result ≡ ReadFault → Rose (S.faults source.old) (S.faults source.new) }
+    ensures read_same { S.name source.new ≡ S.name source.old }
+    ensures read_later { S.faults source.old ≤ S.faults source.new }
+    ensures read_sure { NeverFails (S.plan source.old) → result ≢ ReadFault }
+    ensures write_cause { result ≡ WriteFault → Rose (O.faults sink.old) (O.faults sink.new) }
+    ensures write_later { O.faults sink.old ≤ O.faults sink.new }
+    ensures write_sure { O.room sink.old ≡ Endless → (result ≢ WriteFault) × (O.room sink.new ≡ Endless) }
+    ensures keeper_cause { result ≡ KeeperFault → Rose (K.faults keeper.old) (K.faults keeper.new) }
+    ensures keeper_later { K.faults keeper.old ≤ K.faults keeper.new }
+    ensures keeper_sure { NeverFails (K.plan keeper.old) → result ≢ KeeperFault }
+{
+    match publisher.begin(number) {
+        Ok(()) => import_under(
+            rt, alloc, number, plan, late, limits, tariffs, source, sink, keeper, crew, publisher,
+        ),
+        Err(_) => Outcome::NoMemory,
+    }
+}
