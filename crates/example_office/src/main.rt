@@ -8,7 +8,7 @@
 ghost use Rattle.road_time.specs.Fits.{IsLimits};
 
 use keeper::{Keeper, MemKeeper};
-use office_commands::office;
+use office_commands::{ASIDE_FILE, office};
 use partition_workers::{NoGate, ThreadCrew};
 use road_io::{FileSource, MemSink, Sink, StdSink};
 use road_time::Limits;
@@ -274,9 +274,10 @@ fn answer<R: Threads + Copy, O: Sink, K: Keeper>(
 {
     let words = words_of(rt, step.command)?;
     let mut source = FileSource::at(rt.alloc(), rt, step.file)?;
-    let mut aside = FileSource::at(rt.alloc(), rt, "notices.txt")?;
+    let mut aside = FileSource::at(rt.alloc(), rt, ASIDE_FILE)?;
     let mut crew = ThreadCrew::new(threads, rt.alloc(), NoGate);
     Ok(office(
+        &threads,
         rt.alloc(),
         words.as_slice(),
         limits,

@@ -21,14 +21,14 @@ use Rattle.office_commands.specs.Commands.{Answer}
 use Rattle.office_commands.specs.Endings.{Sort, Own, Unread, Unkept, Unroomed, sort_of, IsFront, StandsBy, StandsBefore, Wrote, LeftBy, KeepsBy, Keeps, IsWhole, Closes, WroteAll, WroteFault, WroteSome, last_line, status_by, stopping, refusing}
 
 -- what a closing line of a sort is
-abbrev IsOf : Sort → Closing → Type 0
+abbrev pub IsOf : Sort → Closing → Type 0
 IsOf Own c = (status_of c ≢ 4) × (status_of c ≢ 5) × (status_of c ≢ 6) × (status_of c ≢ 8)
 IsOf Unread c = c ≡ ReadFault
 IsOf Unkept c = c ≡ KeeperFault
 IsOf Unroomed c = c ≡ NoMemory
 
 -- each closing line is of its sort
-is_of : (c : Closing) → IsOf (sort_of c) c
+pub is_of : (c : Closing) → IsOf (sort_of c) c
 is_of (Answered day tuples notices) = (λ e. omega (arith, e), λ e. omega (arith, e), λ e. omega (arith, e), λ e. omega (arith, e))
 is_of (Stored day tuples notices total) = (λ e. omega (arith, e), λ e. omega (arith, e), λ e. omega (arith, e), λ e. omega (arith, e))
 is_of (Already day tuples notices total) = (λ e. omega (arith, e), λ e. omega (arith, e), λ e. omega (arith, e), λ e. omega (arith, e))

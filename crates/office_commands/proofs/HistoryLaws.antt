@@ -1,13 +1,24 @@
 -- What a command that keeps a history names and keeps, from what keeping it did.
-use Rattle.std.proofs.Common.{◌≡◌, ℕ, [], Option, Some, refl, sym, ap, subst}
+use Rattle.std.proofs.Common.{◌≡◌, ◌≢◌, ◌∙◌, ◌==◌, ℕ, Bool, true, false, if◌then◌else◌, List, [], ◌∷◌, Option, Some, None, refl, sym, ap, subst, arith}
+use Rattle.std.specs.Str.{bytes_eq}
+use Rattle.road_time.specs.declared.day.Limits.{Limits}
+use Rattle.road_time.specs.declared.day.SpentRow.{SpentRow}
+use Rattle.keeper.specs.declared.kept.DayRecord.{DayRecord}
+use Rattle.keeper.specs.declared.kept.PastRecord.{PastRecord}
+use Rattle.keeper.specs.Kept.{found_digest}
+use Rattle.keeper.specs.PastReads.{PastFault, past_reads}
 use Rattle.keeper.specs.Calls.{WhenRefused}
 use Rattle.keeper.specs.Office.{Office}
-use Rattle.past_file.specs.Imports.{PastAnswer, Does}
+use Rattle.day_reading.specs.Days.{StopsSoon}
+use Rattle.past_file.specs.declared.outcomes.PastCause.{PastCause}
+use Rattle.past_file.specs.Imports.{PastAnswer, past_again, past_read, past_new, past_by as past_by_kept, Does, LeavesRest, RefusesSoon, KeepsAll}
 use Rattle.past_file.specs.declared.outcomes.PastOutcome.{PastOutcome}
 use Rattle.past_file.specs.declared.outcomes.PastOutcome.TheVariants.{Stored, Already, Row, PastLate, OtherBase, Differs, ReadFault, KeeperFault, NoMemory}
 use Rattle.office_commands.specs.declared.closing.Closing.{Closing}
 use Rattle.office_commands.specs.Commands.{past_closing, past_by}
-use Rattle.office_commands.specs.Endings.{StandsBefore, sort_of, KeepsBy}
+use Rattle.office_commands.specs.Closings.{status_of}
+use Rattle.office_commands.specs.Endings.{StandsBefore, Holds, sort_of, KeepsBy}
+use Rattle.office_commands.specs.Rests.{LeavesOfPast, HasStoppedPast, HasReadPast}
 use Rattle.office_commands.proofs.EndingLaws.{whole_front}
 
 module _ (w : WhenRefused) (base : ℕ) (a : PastAnswer) (was : Office) (now : Option Office) where
@@ -41,3 +52,82 @@ module _ (w : WhenRefused) (base : ℕ) (a : PastAnswer) (was : Office) (now : O
 
   pub past_keeps : (done : PastOutcome) (c : Closing) → c ≡ past_closing base done → Does w a was now done → KeepsBy (sort_of c) w (past_by base a) was now
   past_keeps done c e h = subst (λ k. KeepsBy (sort_of k) w (past_by base a) was now) (sym e) (keeps_by done h)
+
+-- an end that a new history has alone
+abbrev IsNew : PastOutcome → Type 0
+IsNew (Stored r) = Unit {0}
+IsNew (Row line cause) = Unit {0}
+IsNew _ = ⊥
+
+-- a kept history is no new one, and no line of it is refused
+again_apart : (k : PastRecord) (base : ℕ) (bytes : List ℕ) (done : PastOutcome) → done ≡ past_again k base bytes → IsNew done → ⊥
+again_apart k base bytes done e new = go (k.base == base) (bytes_eq (found_digest bytes k.bytes).bytes k.digest.bytes) e
+  where
+    go : (b s : Bool) → done ≡ (if b then (if s then Already k else Differs k.digest (found_digest bytes k.bytes)) else OtherBase k.base) → ⊥
+    go true true is = subst IsNew is new
+    go true false is = subst IsNew is new
+    go false s is = subst IsNew is new
+
+-- a history that is read is none that is kept
+read_apart : (kept : PastRecord) (base : ℕ) (bytes : List ℕ) (rows : List SpentRow) (refused : Option (ℕ × PastFault)) (o : Office) → Already kept ≡ (past_read base bytes rows refused o).outcome → ⊥
+read_apart kept base bytes rows None o e = let bad : ⊥ = cc in bad
+read_apart kept base bytes rows (Some (line, fault)) o e = let bad : ⊥ = cc in bad
+
+new_apart : (kept : PastRecord) (days : List DayRecord) (base : ℕ) (limits : Limits) (bytes : List ℕ) (o : Office) → Already kept ≡ (past_new days base limits bytes o).outcome → ⊥
+new_apart kept [] base limits bytes o e = read_apart kept base bytes (past_reads bytes base limits).rows (past_reads bytes base limits).refused o e
+new_apart kept (d ∷ ds) base limits bytes o e = let bad : ⊥ = cc in bad
+
+-- a line that is named is the first refused one
+read_named : (line : ℕ) (cause : PastCause) (base : ℕ) (bytes : List ℕ) (rows : List SpentRow) (refused : Option (ℕ × PastFault)) (o : Office) (left : Option (List ℕ))
+    → Row line cause ≡ (past_read base bytes rows refused o).outcome → StopsSoon line bytes left → HasStoppedPast refused bytes left
+read_named line cause base bytes rows None o left e soon = let bad : ⊥ = cc in absurd bad
+read_named line cause base bytes rows (Some (other, fault)) o left e soon =
+    let same : line ≡ other = cc in
+    (other, fault, refl, subst (λ (n : ℕ). StopsSoon n bytes left) same soon)
+
+new_named : (line : ℕ) (cause : PastCause) (days : List DayRecord) (base : ℕ) (limits : Limits) (bytes : List ℕ) (o : Office) (left : Option (List ℕ))
+    → Row line cause ≡ (past_new days base limits bytes o).outcome → StopsSoon line bytes left → HasStoppedPast (past_reads bytes base limits).refused bytes left
+new_named line cause [] base limits bytes o left e soon = read_named line cause base bytes (past_reads bytes base limits).rows (past_reads bytes base limits).refused o left e soon
+new_named line cause (d ∷ ds) base limits bytes o left e soon = let bad : ⊥ = cc in absurd bad
+
+module _ (limits : Limits) (base : ℕ) (kept : Option PastRecord) (bytes : List ℕ) (left : Option (List ℕ)) where
+  abbrev ReadTo : ℕ → Type 0
+  ReadTo status = HasReadPast limits base status kept bytes left
+
+  read_well : (c k : Closing) → c ≡ k → status_of k ≡ 0 → LeavesOfPast kept bytes left → ReadTo (status_of c)
+  read_well c k e zero rest = record { ended = λ s. rest; refused_there = λ s. absurd (omega (arith, ap status_of e, zero, s)) }
+
+  read_ill : (c k : Closing) → c ≡ k → status_of k ≢ 0 → status_of k ≢ 2 → ReadTo (status_of c)
+  read_ill c k e well named = record { ended = λ s. absurd (well (sym (ap status_of e) ∙ s)); refused_there = λ s. absurd (named (sym (ap status_of e) ∙ s)) }
+
+-- what a history that was kept, or a line of which was refused, leaves of its source
+pub past_rest : (w : WhenRefused) (limits : Limits) (base : ℕ) (bytes : List ℕ) (o : Office) (p : Option PastRecord) (now : Option Office) (left : Option (List ℕ)) (done : PastOutcome) (c : Closing)
+    → c ≡ past_closing base done → Does w (past_by_kept p base limits bytes o) o now done → LeavesRest done p bytes left → RefusesSoon done bytes left
+    → HasReadPast limits base (status_of c) p bytes left
+past_rest w limits base bytes o None now left (Stored r) c e h rest soon = read_well limits base None bytes left c _ e refl rest
+past_rest w limits base bytes o (Some k) now left (Stored r) c e h rest soon = absurd (again_apart k base bytes (Stored r) h.outcome_is tt)
+past_rest w limits base bytes o None now left (Already r) c e h rest soon = absurd (new_apart r o.days base limits bytes o h.outcome_is)
+past_rest w limits base bytes o (Some k) now left (Already r) c e h rest soon = read_well limits base (Some k) bytes left c _ e refl rest
+past_rest w limits base bytes o None now left (Row line cause) c e h rest soon = record {
+  ended = λ s. absurd (omega (arith, ap status_of e, s));
+  refused_there = λ s. new_named line cause o.days base limits bytes o left h.outcome_is soon;
+}
+past_rest w limits base bytes o (Some k) now left (Row line cause) c e h rest soon = absurd (again_apart k base bytes (Row line cause) h.outcome_is tt)
+past_rest w limits base bytes o p now left (PastLate last) c e h rest soon = read_ill limits base p bytes left c _ e (λ s. omega (arith, s)) (λ s. omega (arith, s))
+past_rest w limits base bytes o p now left (OtherBase other) c e h rest soon = read_ill limits base p bytes left c _ e (λ s. omega (arith, s)) (λ s. omega (arith, s))
+past_rest w limits base bytes o p now left (Differs k found) c e h rest soon = read_ill limits base p bytes left c _ e (λ s. omega (arith, s)) (λ s. omega (arith, s))
+past_rest w limits base bytes o p now left ReadFault c e h rest soon = read_ill limits base p bytes left c _ e (λ s. omega (arith, s)) (λ s. omega (arith, s))
+past_rest w limits base bytes o p now left KeeperFault c e h rest soon = read_ill limits base p bytes left c _ e (λ s. omega (arith, s)) (λ s. omega (arith, s))
+past_rest w limits base bytes o p now left NoMemory c e h rest soon = read_ill limits base p bytes left c _ e (λ s. omega (arith, s)) (λ s. omega (arith, s))
+
+-- what is kept is as it was, unless a history was put, the keeper failed or memory ran out
+pub past_held : (base : ℕ) (P : Type 0) (done : PastOutcome) (c : Closing) → c ≡ past_closing base done → KeepsAll done P → Holds (status_of c) P
+past_held base P (Stored r) c e h = λ well failed room. absurd (well (ap status_of e))
+past_held base P (Already r) c e h = λ well failed room. h
+past_held base P (Row line cause) c e h = λ well failed room. h
+past_held base P (PastLate last) c e h = λ well failed room. h
+past_held base P (OtherBase other) c e h = λ well failed room. h
+past_held base P (Differs k found) c e h = λ well failed room. h
+past_held base P ReadFault c e h = λ well failed room. h
+past_held base P KeeperFault c e h = λ well failed room. absurd (failed (ap status_of e))
+past_held base P NoMemory c e h = λ well failed room. absurd (room (ap status_of e))

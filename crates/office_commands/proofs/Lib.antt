@@ -9,3 +9,6 @@ pub mod ValidateLaws
 pub mod HistoryLaws
 pub mod TrafficLaws
 pub mod PutLaws
+pub mod ConcludeLaws
+pub mod RestLaws
+pub mod ShownLaws

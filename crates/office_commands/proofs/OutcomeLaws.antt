@@ -1,16 +1,20 @@
 -- What a command wrote and kept, from what importing or answering its day did.
-use Rattle.std.proofs.Common.{◌≤◌, inl, inr, ℕ, List, take, Option, Result, Ok, Err, IsOk, OnErr, refl, sym, ap, subst}
+use Rattle.std.proofs.Common.{◌≡◌, ◌≤◌, inl, inr, ℕ, List, take, length-take, Option, Some, Result, Ok, Err, IsOk, OnErr, refl, sym, ap, subst, arith}
+use Rattle.std.specs.Io.KnownBytes.{Appends}
 use Rattle.road_io.specs.Faults.{Rose, HasCause}
 use Rattle.road_io.specs.declared.source.Failed.{Failed}
+use Rattle.keeper.specs.declared.kept.KeepFault.{KeepFault}
+use Rattle.keeper.specs.declared.kept.KeepFault.TheVariants as keeping
 use Rattle.keeper.specs.Calls.{WhenRefused}
 use Rattle.keeper.specs.Office.{Office}
 use Rattle.import_once.specs.Imports as day
-use Rattle.import_once.specs.Imports.{Does}
+use Rattle.import_once.specs.Imports.{Does, KeepsAll}
 use Rattle.import_once.specs.declared.outcomes.Outcome.{Outcome}
 use Rattle.import_once.specs.declared.outcomes.Outcome.TheVariants.{Stored, Already, Answered, Refused, DayPassed, Differs, ReadFault, WriteFault, KeeperFault, NoMemory}
 use Rattle.office_commands.specs.declared.closing.Closing.{Closing}
 use Rattle.office_commands.specs.Commands.{closing_by, row_by}
-use Rattle.office_commands.specs.Endings.{Wrote, Keeps, Ends}
+use Rattle.office_commands.specs.Closings.{status_of}
+use Rattle.office_commands.specs.Endings.{Wrote, Keeps, Ends, Halted, Did, Holds, code_of}
 use Rattle.office_commands.proofs.EndingLaws.{whole_front}
 
 module _ (w : WhenRefused) (number : ℕ) (a : day.Answer) (was : Office) (old new : Option (List ℕ)) (now : Option Office) where
@@ -72,6 +76,62 @@ module _ (w : WhenRefused) (number : ℕ) (a : day.Answer) (was : Office) (old n
   keeps ReadFault (Err x) e h = absurd e
   keeps KeeperFault (Err x) e h = absurd e
   keeps NoMemory (Err x) e h = absurd e
+
+-- what stands behind a call that was stopped
+module _ (w : WhenRefused) (number : ℕ) (a : day.Answer) (was : Office) (old new : Option (List ℕ)) (now : Option Office) where
+  stopped_did : (fault : KeepFault) → day.Halts w fault a was old new now → (text : List ℕ) × Halted w fault (row_by number a) was text now × Appends old new text
+  stopped_did fault (inl h) = (take h.0.0 a.text, inl ((h.0.0, refl), h.1), h.0.1)
+  stopped_did fault (inr h) = (a.text, inr (refl, h.1), h.0)
+
+  -- what a command wrote and what is kept then
+  pub did : (done : Outcome) (r : Result (Option Closing) Failed) → Ends (closing_by number done) r → Does w a was old new now done → Did w (row_by number a) was old new now r
+  did (Stored kept) (Ok c) e h = subst (λ x. Did w (row_by number a) was old new now (Ok x)) (sym e) (a.text, (ap (closing_by number) h.outcome_is, refl, h.kept), h.wrote)
+  did (Already kept) (Ok c) e h = subst (λ x. Did w (row_by number a) was old new now (Ok x)) (sym e) (a.text, (ap (closing_by number) h.outcome_is, refl, h.kept), h.wrote)
+  did (Answered kept) (Ok c) e h = subst (λ x. Did w (row_by number a) was old new now (Ok x)) (sym e) (a.text, (ap (closing_by number) h.outcome_is, refl, h.kept), h.wrote)
+  did (Refused line cause) (Ok c) e h = subst (λ x. Did w (row_by number a) was old new now (Ok x)) (sym e) (a.text, (ap (closing_by number) h.outcome_is, refl, h.kept), h.wrote)
+  did (DayPassed last) (Ok c) e h = subst (λ x. Did w (row_by number a) was old new now (Ok x)) (sym e) (a.text, (ap (closing_by number) h.outcome_is, refl, h.kept), h.wrote)
+  did (Differs kept found) (Ok c) e h = subst (λ x. Did w (row_by number a) was old new now (Ok x)) (sym e) (a.text, (ap (closing_by number) h.outcome_is, refl, h.kept), h.wrote)
+  did ReadFault (Ok c) e h = subst (λ x. Did w (row_by number a) was old new now (Ok x)) (sym e) (take h.0.0 a.text, ((h.0.0, refl), h.1), h.0.1)
+  did KeeperFault (Ok c) e h = subst (λ x. Did w (row_by number a) was old new now (Ok x)) (sym e) (stopped_did keeping.Failed h)
+  did NoMemory (Ok c) e h = subst (λ x. Did w (row_by number a) was old new now (Ok x)) (sym e) (stopped_did keeping.NoMemory h)
+  did WriteFault (Ok c) e h = absurd e
+  did WriteFault (Err x) e h = (take h.0.0 a.text, (h.0.0, refl), h.0.2, h.1, λ other. omega (arith, h.0.1, length-take h.0.0 a.text))
+  did (Stored kept) (Err x) e h = absurd e
+  did (Already kept) (Err x) e h = absurd e
+  did (Answered kept) (Err x) e h = absurd e
+  did (Refused line cause) (Err x) e h = absurd e
+  did (DayPassed last) (Err x) e h = absurd e
+  did (Differs kept found) (Err x) e h = absurd e
+  did ReadFault (Err x) e h = absurd e
+  did KeeperFault (Err x) e h = absurd e
+  did NoMemory (Err x) e h = absurd e
+
+-- the status of a run whose closing line is known
+pub code_is : (c : Option Closing) (k : Closing) → c ≡ Some k → code_of (Ok c) ≡ status_of k
+code_is c k e = ap (λ x. code_of (Ok x)) e
+
+-- what is kept is as it was, unless a day was stored, the keeper failed or memory ran out
+pub held : (number : ℕ) (P : Type 0) (done : Outcome) (r : Result (Option Closing) Failed) → Ends (closing_by number done) r → KeepsAll done P → Holds (code_of r) P
+held number P (Stored kept) (Ok c) e h = λ well failed room. absurd (well (code_is c _ e))
+held number P (Already kept) (Ok c) e h = λ well failed room. h
+held number P (Answered kept) (Ok c) e h = λ well failed room. h
+held number P (Refused line cause) (Ok c) e h = λ well failed room. h
+held number P (DayPassed last) (Ok c) e h = λ well failed room. h
+held number P (Differs kept found) (Ok c) e h = λ well failed room. h
+held number P ReadFault (Ok c) e h = λ well failed room. h
+held number P KeeperFault (Ok c) e h = λ well failed room. absurd (failed (code_is c _ e))
+held number P NoMemory (Ok c) e h = λ well failed room. absurd (room (code_is c _ e))
+held number P WriteFault (Ok c) e h = absurd e
+held number P WriteFault (Err x) e h = λ well failed room. h
+held number P (Stored kept) (Err x) e h = absurd e
+held number P (Already kept) (Err x) e h = absurd e
+held number P (Answered kept) (Err x) e h = absurd e
+held number P (Refused line cause) (Err x) e h = absurd e
+held number P (DayPassed last) (Err x) e h = absurd e
+held number P (Differs kept found) (Err x) e h = absurd e
+held number P ReadFault (Err x) e h = absurd e
+held number P KeeperFault (Err x) e h = absurd e
+held number P NoMemory (Err x) e h = absurd e
 
 -- a command fails only where its sink failed
 pub caused : (P : Type 0) (r : Result (Option Closing) Failed) (before now : ℕ) → OnErr r P → before ≤ now → (P → Rose before now) → HasCause before now r

@@ -1,9 +1,8 @@
 -- The closing lines.
 use Rattle.std.specs.Prelude.{ℕ, List, ◌++◌, codes}
-use Rattle.std.specs.Fmt.{decimal, signed_decimal}
+use Rattle.std.specs.Fmt.{decimal}
 use Rattle.hex.specs.Hex.{encode_lower}
-use Rattle.road_time.specs.declared.road.Notice.{Notice}
-use Rattle.road_time.specs.declared.road.Notice.TheVariants.{Toll, Alert, Balance, Spent}
+use Rattle.road_time.specs.Text.{notice_text}
 use Rattle.tuple_format.specs.Causes.{cause_text}
 use Rattle.past_file.specs.Causes.{past_cause_text}
 use Rattle.office_commands.specs.declared.entry_text.EntryText.{EntryText}
@@ -11,18 +10,11 @@ use Rattle.office_commands.specs.declared.entry_text.EntryText.TheVariants.{Noth
 use Rattle.office_commands.specs.declared.closing.Closing.{Closing}
 use Rattle.office_commands.specs.declared.closing.Closing.TheVariants.{Answered, Stored, Already, Agree, TariffPut, PastStored, PastAlready, Words, Refused, PastRefused, DayPassed, DiffersDay, NoDay, PastLate, PastKept, DiffersPast, ReadFault, KeeperFault, DiffersLine, NoMemory, Rehearsed}
 
--- a notice as it is printed, number by number: its text
-abbrev pub notice_shown : Notice → List ℕ
-notice_shown (Toll vid time lav toll) = codes "0," ++ (decimal vid ++ (codes "," ++ (decimal time ++ (codes "," ++ (signed_decimal lav ++ (codes "," ++ decimal toll))))))
-notice_shown (Alert time vid seg) = codes "1," ++ (decimal time ++ (codes "," ++ (decimal vid ++ (codes "," ++ decimal seg))))
-notice_shown (Balance time qid amount) = codes "2," ++ (decimal time ++ (codes "," ++ (decimal qid ++ (codes "," ++ decimal amount))))
-notice_shown (Spent time qid amount) = codes "3," ++ (decimal time ++ (codes "," ++ (decimal qid ++ (codes "," ++ decimal amount))))
-
 -- how a line of notices is named
 abbrev pub entry_text : EntryText → List ℕ
 entry_text Nothing = codes "none"
 entry_text Malformed = codes "malformed"
-entry_text (Read notice) = notice_shown notice
+entry_text (Read notice) = notice_text notice
 
 -- the line of a day that is kept from now on, with its counts and what it charges in all
 unfoldable pub stored_line : ℕ → ℕ → ℕ → ℕ → List ℕ

@@ -1,5 +1,5 @@
 -- The table of commands: what each is to write, how it ends, and what is kept then.
-use Rattle.std.specs.Prelude.{ℕ, ◌≡◌, ◌≤◌, Bool, true, false, List, [], Option, Some, None, length}
+use Rattle.std.specs.Prelude.{ℕ, ◌≡◌, ◌≤◌, ◌⊎◌, Bool, true, false, List, [], Option, Some, None, length}
 use Rattle.road_time.specs.declared.road.Tuple.{Tuple}
 use Rattle.road_time.specs.declared.road.Notice.{Notice}
 use Rattle.road_time.specs.declared.day.Limits.{Limits}
@@ -19,7 +19,7 @@ use Rattle.import_once.specs.Imports.{import_answer, answers_answer, most_import
 use Rattle.import_once.specs.Imports as day
 use Rattle.import_once.specs.declared.outcomes.Outcome.{Outcome}
 use Rattle.import_once.specs.declared.outcomes.Outcome.TheVariants as outcome
-use Rattle.past_file.specs.Imports.{PastAnswer, past_answer, NeedsNone, most_kept}
+use Rattle.past_file.specs.Imports.{PastAnswer, past_answer, NeedsNone, PutsPast, most_kept}
 use Rattle.past_file.specs.declared.outcomes.PastOutcome.{PastOutcome}
 use Rattle.past_file.specs.declared.outcomes.PastOutcome.TheVariants as pasts
 use Rattle.office_words.specs.Grammar.{Text}
@@ -283,10 +283,13 @@ AsksPassed (Some (command.Import run)) o = IsPassed run.day o
 AsksPassed (Some (command.Past base)) o = NeedsNone o.past base o
 AsksPassed (Some c) o = ⊥
 
--- the import of a day leaves what is kept as it was, or with that day
+-- the import of a day leaves what is kept as it was, or with that day, a history with that history, and a tariff with that tariff
 abbrev pub PutsAsked : Option Command → Office → Option Office → Type 0
 PutsAsked None was now = Unit {0}
 PutsAsked (Some (command.Import run)) was now = PutsOnce run.day was now
+PutsAsked (Some (command.Past base)) was now = PutsPast base was now
+PutsAsked (Some (command.Tariff xway crowd speed factor)) was now =
+    (now ≡ Some was) ⊎ (now ≡ Some (with_tariff_of xway (record { crowd = crowd; speed = speed; factor = factor }) was))
 PutsAsked (Some c) was now = Unit {0}
 
 -- and a keeper what it keeps

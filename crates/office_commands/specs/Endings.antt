@@ -1,5 +1,5 @@
 -- What was written and what is kept, by how a run ended.
-use Rattle.std.specs.Prelude.{ℕ, ◌≡◌, ◌<◌, ◌⊎◌, List, [], ◌++◌, length, take, Option, Some, None, Result, Ok, Err}
+use Rattle.std.specs.Prelude.{ℕ, ◌≡◌, ◌≢◌, ◌<◌, ◌⊎◌, List, [], ◌++◌, length, take, Option, Some, None, Result, Ok, Err}
 use Rattle.std.specs.Io.KnownBytes.{Appends}
 use Rattle.road_io.specs.declared.source.Failed.{Failed}
 use Rattle.keeper.specs.declared.kept.KeepFault.{KeepFault}
@@ -147,3 +147,65 @@ abbrev pub WroteSome : Answer → Option (List ℕ) → Option (List ℕ) → Ty
 WroteSome a old new =
     ((text : List ℕ) × IsFront text a.text × Appends old new text)
     ⊎ ((c : Closing) × (text : List ℕ) × (k : ℕ) × StandsBefore a c text × (k < length (closing_line c)) × Appends old new (text ++ take k (closing_line c)))
+
+-- the status that a run is to end with, if its closing line is written
+abbrev pub code_of : Result (Option Closing) Failed → ℕ
+code_of (Ok (Some c)) = status_of c
+code_of (Ok None) = 0
+code_of (Err e) = 5
+
+-- One relation over what was written and what is kept:
+
+-- a fault or want of memory: some first bytes of the text stand there and what is kept is as it was, or the whole text does and the put was refused
+abbrev pub Halted : WhenRefused → KeepFault → Answer → Office → List ℕ → Option Office → Type 0
+Halted w fault a was text now =
+    (IsFront text a.text × (now ≡ Some was))
+    ⊎ ((text ≡ a.text) × ((o : Office) × (now ≡ Some o) × Leaves w fault o was a.office))
+
+-- what stands before a closing line of a sort, and what is kept then
+abbrev pub HoldsBy : Sort → WhenRefused → Answer → Office → Closing → List ℕ → Option Office → Type 0
+HoldsBy Own w a was c text now = (Some c ≡ a.closing) × (text ≡ a.text) × (now ≡ Some a.office)
+HoldsBy Unread w a was c text now = IsFront text a.text × (now ≡ Some was)
+HoldsBy Unkept w a was c text now = Halted w keeping.Failed a was text now
+HoldsBy Unroomed w a was c text now = Halted w keeping.NoMemory a was text now
+
+-- a text is not whole, unless what is kept is what is asked
+abbrev pub IsShort : Answer → List ℕ → Option Office → Type 0
+IsShort a text now = now ≢ Some a.office → length text < length a.text
+
+-- the sink failed in the text: some first bytes of it stand there, not all where a day is still to be kept, and what is kept is as it was
+abbrev pub Broke : Answer → Office → Option (List ℕ) → Option (List ℕ) → Option Office → Type 0
+Broke a was old new now = (text : List ℕ) × IsFront text a.text × Appends old new text × (now ≡ Some was) × IsShort a text now
+
+-- what a command wrote and what is kept then, by how it ended
+abbrev pub Did : WhenRefused → Answer → Office → Option (List ℕ) → Option (List ℕ) → Option Office → Result (Option Closing) Failed → Type 0
+Did w a was old new now (Ok (Some c)) = (text : List ℕ) × HoldsBy (sort_of c) w a was c text now × Appends old new text
+Did w a was old new now (Ok None) = (None ≡ a.closing) × Appends old new a.text × (now ≡ Some a.office)
+Did w a was old new now (Err e) = Broke a was old new now
+
+-- a text and a closing line were written and the status is that line's, or the sink failed in that line
+abbrev pub Said : List ℕ → Closing → ℕ → Option (List ℕ) → Option (List ℕ) → Type 0
+Said text c status old new =
+    ((status ≡ status_of c) × Appends old new (text ++ closing_line c))
+    ⊎ ((status ≡ 5) × ((k : ℕ) × (k < length (closing_line c)) × Appends old new (text ++ take k (closing_line c))))
+
+-- a run with a closing line said it, or that memory ran out, behind what it wrote
+abbrev pub SaidAll : WhenRefused → Answer → Office → ℕ → Option (List ℕ) → Option (List ℕ) → Option Office → Type 0
+SaidAll w a was status old new now =
+    (c : Closing) × (text : List ℕ) × HoldsBy (sort_of c) w a was c text now × (Said text c status old new ⊎ Said text NoMemory status old new)
+
+-- a run without one wrote all
+abbrev pub WroteAlone : Answer → ℕ → Option (List ℕ) → Option (List ℕ) → Option Office → Type 0
+WroteAlone a status old new now = (None ≡ a.closing) × (status ≡ 0) × Appends old new a.text × (now ≡ Some a.office)
+
+-- the sink failed in a run's text
+abbrev pub WroteLess : Answer → Office → ℕ → Option (List ℕ) → Option (List ℕ) → Option Office → Type 0
+WroteLess a was status old new now = (status ≡ 5) × Broke a was old new now
+
+-- the status, what was written and what is kept
+abbrev pub Concludes : WhenRefused → Answer → Office → ℕ → Option (List ℕ) → Option (List ℕ) → Option Office → Type 0
+Concludes w a was status old new now = SaidAll w a was status old new now ⊎ (WroteAlone a status old new now ⊎ WroteLess a was status old new now)
+
+-- what is kept is as it was, unless a command ended well, its keeper failed, or memory ran out
+abbrev pub Holds : ℕ → Type 0 → Type 0
+Holds code same = code ≢ 0 → code ≢ 6 → code ≢ 8 → same

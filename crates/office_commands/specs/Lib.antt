@@ -5,3 +5,4 @@ pub mod Asides
 pub mod Entries
 pub mod Commands
 pub mod Endings
+pub mod Rests

@@ -8,7 +8,8 @@ ghost use Rattle.road_time.specs.Fits.{IsLimits};
 ghost use Rattle.day_reading.specs.Days.{ReadsWithin, most_read};
 ghost use Rattle.office_words.specs.Meaning.{IsRun};
 ghost use Rattle.office_commands.specs.Commands.{answers_row};
-ghost use Rattle.office_commands.specs.Endings.{Wrote, Keeps};
+ghost use Rattle.office_commands.specs.Endings.{Wrote, Keeps, Did, code_of};
+ghost use Rattle.office_commands.specs.Rests.{HasReadDay};
 ghost use Rattle.office_commands.specs.declared.closing.Closing.TheVariants.{ReadFault, KeeperFault, Words};
 
 use crate::closing::Closing;
@@ -19,9 +20,11 @@ use partition_workers::Crew;
 use road_io::{Failed, Sink, Source};
 use road_time::Limits;
 use std::alloc::Global;
+use std::thread::Threads;
 
 /// Answers what the source has, up to the first line that is refused. Nothing is kept.
-pub fn answers<S: Source, O: Sink, K: Keeper, C: Crew>(
+pub fn answers<S: Source, O: Sink, K: Keeper, C: Crew, R: Threads>(
+    rt: &R,
     alloc: Global,
     run: DayRun,
     limits: &Limits,
@@ -35,6 +38,9 @@ pub fn answers<S: Source, O: Sink, K: Keeper, C: Crew>(
     requires idle { C.out crew.old ≡ [] }
     ensures wrote { C.exact ≡ true → (bytes : List ℕ) (o : Office) → S.left source.old ≡ Some bytes → K.told keeper.old ≡ Some o → Wrote (answers_row limits.now run bytes o) result (O.written sink.old) (O.written sink.new) }
     ensures keeps { C.exact ≡ true → (bytes : List ℕ) (o : Office) → S.left source.old ≡ Some bytes → K.told keeper.old ≡ Some o → Keeps K.refuses (answers_row limits.now run bytes o) o (K.told keeper.new) result }
+    ensures does { C.exact ≡ true → (bytes : List ℕ) (o : Office) → S.left source.old ≡ Some bytes → K.told keeper.old ≡ Some o
+        → Did K.refuses (answers_row limits.now run bytes o) o (O.written sink.old) (O.written sink.new) (K.told keeper.new) result }
+    ensures reads { HasReadDay limits.now run.late (code_of result) (S.left source.old) (S.left source.new) }
     ensures kept { K.told keeper.new ≡ K.told keeper.old }
     ensures idle { C.out crew.new ≡ [] }
     ensures crew { C.which crew.new ≡ C.which crew.old }
@@ -50,7 +56,7 @@ pub fn answers<S: Source, O: Sink, K: Keeper, C: Crew>(
     ensures keeper_sure { NeverFails (K.plan keeper.old) → result ≢ Ok (Some KeeperFault) }
 {
     let done = import_once::answers(
-        alloc, run.day, &run.plan, run.late, limits, source, sink, keeper, crew,
+        rt, alloc, run.day, &run.plan, run.late, limits, source, sink, keeper, crew,
     );
     ended(run.day, done)
 }

@@ -8,12 +8,14 @@ ghost use Rattle.day_reading.specs.Days.{ReadsWithin, most_read};
 ghost use Rattle.day_reading.specs.declared.whole_day.ReadStop.TheVariants.{ReadFault};
 ghost use Rattle.office_commands.specs.Days.{recomputed, refusal_of, refused_at};
 ghost use Rattle.office_commands.specs.Endings.{stopping};
+ghost use Rattle.office_commands.specs.Rests.{EndsAt};
 
 use crate::closing::Closing;
 use day_reading::{DayEnd, ReadStop};
 use road_io::Source;
 use road_time::{Limits, Tuple};
 use std::alloc::Global;
+use std::thread::Threads;
 use tuple_format::Cause;
 
 /// The tuples of a day in the order of Time, and the first line that was refused, if one was.
@@ -54,7 +56,8 @@ fn refused_at(end: DayEnd) -> Option<(u64, Cause)>
 }
 
 /// Reads a day that is recomputed by the plain rules, to its end or to the first line that is refused.
-pub fn read_day<S: Source>(
+pub fn read_day<S: Source, R: Threads>(
+    rt: &R,
     alloc: Global,
     limits: &Limits,
     late: u8,
@@ -65,13 +68,15 @@ pub fn read_day<S: Source>(
     ensures tuples { (bytes : List ℕ) → S.left source.old ≡ Some bytes → IfOk result (λ d. d.tuples.items ≡ (reads bytes (recomputed limits.now) late).tuples) }
     ensures refused { (bytes : List ℕ) → S.left source.old ≡ Some bytes → IfOk result (λ d. d.refused ≡ refusal_of (reads bytes (recomputed limits.now) late).refused) }
     ensures fit { IfOk result (λ d. Fit d.tuples.items (recomputed limits.now)) }
+    ensures ends { (bytes : List ℕ) → S.left source.old ≡ Some bytes
+        → IfOk result (λ d. EndsAt d.refused (reads bytes (recomputed limits.now) late).refused bytes (S.left source.new)) }
     ensures bounded { ReadsWithin (most_read (recomputed limits.now)) (S.left source.old) (S.left source.new) }
     ensures cause { result ≡ Err ReadFault → Rose (S.faults source.old) (S.faults source.new) }
     ensures sure { NeverFails (S.plan source.old) → result ≢ Err ReadFault }
     ensures later { S.faults source.old ≤ S.faults source.new }
 {
     let lesser = recomputed(limits);
-    match day_reading::read_day(alloc, &lesser, late, source) {
+    match day_reading::read_day(rt, alloc, &lesser, late, source) {
         Ok(day) => Ok(Day {
             refused: refused_at(day.end),
             tuples: day.tuples,

@@ -10,7 +10,8 @@ ghost use Rattle.day_reading.specs.Days.{ReadsWithin};
 ghost use Rattle.office_words.specs.Meaning.{means, IsInRange};
 ghost use Rattle.office_commands.specs.Closings.{closing_line, status_of};
 ghost use Rattle.office_commands.specs.Commands.{office_answer, command_row, uses_source, uses_aside, uses_keeper, uses_crew, use_source, use_aside, use_keeper, use_crew, SourceTells, AsideTells, KeeperTells, IsRight, AsksPassed, PutsAsked, most_of, most_aside_of, most_asked, most_aside_asked, changes_kept, change_kept};
-ghost use Rattle.office_commands.specs.Endings.{Wrote, Keeps, IsWhole, LeftBy, Closes, WroteAll, WroteFault, WroteSome, status_by};
+ghost use Rattle.office_commands.specs.Endings.{Wrote, Keeps, IsWhole, LeftBy, Closes, WroteAll, WroteFault, WroteSome, Did, Concludes, code_of, status_by};
+ghost use Rattle.office_commands.specs.Rests.{ReadsAs, ReadAsAsked, LeavesAsKept, HoldsAsked};
 ghost use Rattle.office_commands.specs.declared.closing.Closing.TheVariants.{ReadFault, KeeperFault, NoMemory, Words};
 
 use crate::answers::answers;
@@ -28,6 +29,7 @@ use partition_workers::Crew;
 use road_io::{Failed, Sink, Source, put_all};
 use road_time::Limits;
 use std::alloc::Global;
+use std::thread::Threads;
 
 /// Writes a closing line.
 fn finish<O: Sink>(closing: Closing, line: &[u8], sink: &mut O) -> u8
@@ -60,7 +62,8 @@ fn close<O: Sink>(alloc: Global, closing: Closing, sink: &mut O) -> u8
 }
 
 /// Does what a command asks, but for the closing line.
-fn perform<S: Source, A: Source, O: Sink, K: Keeper, C: Crew>(
+fn perform<S: Source, A: Source, O: Sink, K: Keeper, C: Crew, R: Threads>(
+    rt: &R,
     alloc: Global,
     command: Command,
     limits: &Limits,
@@ -77,8 +80,11 @@ fn perform<S: Source, A: Source, O: Sink, K: Keeper, C: Crew>(
         → Wrote (command_row limits.now bytes lines o command) result (O.written sink.old) (O.written sink.new) }
     ensures keeps { (uses_crew command ≡ true → C.exact ≡ true) → (bytes lines : List ℕ) (o : Office) → (uses_source command ≡ true → S.left source.old ≡ Some bytes) → K.told keeper.old ≡ Some o
         → Keeps K.refuses (command_row limits.now bytes lines o command) o (K.told keeper.new) result }
+    ensures does { (uses_crew command ≡ true → C.exact ≡ true) → (bytes lines : List ℕ) (o : Office) → (uses_source command ≡ true → S.left source.old ≡ Some bytes) → (uses_aside command ≡ true → A.left aside.old ≡ Some lines) → K.told keeper.old ≡ Some o
+        → Did K.refuses (command_row limits.now bytes lines o command) o (O.written sink.old) (O.written sink.new) (K.told keeper.new) result }
     ensures puts { (o : Office) → K.told keeper.old ≡ Some o → PutsAsked (Some command) o (K.told keeper.new) }
     ensures unchanged { (o : Office) → K.told keeper.old ≡ Some o → changes_kept command ≡ false → K.told keeper.new ≡ Some o }
+    ensures held { (o : Office) → K.told keeper.old ≡ Some o → HoldsAsked (Some command) (code_of result) (K.told keeper.new ≡ Some o) }
     ensures said { result ≢ Ok (Some Words) }
     ensures source_unused { uses_source command ≡ false → source.new ≡ source.old }
     ensures passed { (o : Office) → K.told keeper.old ≡ Some o → AsksPassed (Some command) o → source.new ≡ source.old }
@@ -87,12 +93,17 @@ fn perform<S: Source, A: Source, O: Sink, K: Keeper, C: Crew>(
     ensures crew_unused { uses_crew command ≡ false → crew.new ≡ crew.old }
     ensures idle { C.out crew.new ≡ [] }
     ensures crew { C.which crew.new ≡ C.which crew.old }
+    ensures reads { ReadsAs limits.now command (code_of result) (S.left source.old) (S.left source.new) }
+    ensures rest { (bytes : List ℕ) (o : Office) → (uses_source command ≡ true → S.left source.old ≡ Some bytes) → K.told keeper.old ≡ Some o
+        → LeavesAsKept limits.now (Some command) (code_of result) o bytes (S.left source.new) }
+    ensures refused_first { code_of result ≡ 2 → aside.new ≡ aside.old }
+    ensures source_first { (bytes : List ℕ) → S.left source.old ≡ Some bytes → S.left source.new ≢ Some [] → aside.new ≡ aside.old }
     ensures bounded { (o : Office) → (uses_keeper command ≡ true → K.told keeper.old ≡ Some o) → ReadsWithin (most_of limits.now o command) (S.left source.old) (S.left source.new) }
     ensures aside_bounded { (bytes : List ℕ) (o : Office) → (uses_source command ≡ true → S.left source.old ≡ Some bytes) → (uses_keeper command ≡ true → K.told keeper.old ≡ Some o) → ReadsWithin (most_aside_of limits.now bytes o command) (A.left aside.old) (A.left aside.new) }
     ensures read_cause { result ≡ Ok (Some ReadFault) → Rose (S.faults source.old) (S.faults source.new) ⊎ Rose (A.faults aside.old) (A.faults aside.new) }
     ensures read_later { S.faults source.old ≤ S.faults source.new }
     ensures aside_later { A.faults aside.old ≤ A.faults aside.new }
-    ensures read_sure { NeverFails (S.plan source.old) → NeverFails (A.plan aside.old) → result ≢ Ok (Some ReadFault) }
+    ensures read_sure { (uses_source command ≡ true → NeverFails (S.plan source.old)) → (uses_aside command ≡ true → NeverFails (A.plan aside.old)) → result ≢ Ok (Some ReadFault) }
     ensures write_cause { HasCause (O.faults sink.old) (O.faults sink.new) result }
     ensures write_sure { O.room sink.old ≡ Endless → IsOk result × (O.room sink.new ≡ Endless) }
     ensures keeper_cause { result ≡ Ok (Some KeeperFault) → Rose (K.faults keeper.old) (K.faults keeper.new) }
@@ -100,15 +111,15 @@ fn perform<S: Source, A: Source, O: Sink, K: Keeper, C: Crew>(
     ensures keeper_sure { NeverFails (K.plan keeper.old) → result ≢ Ok (Some KeeperFault) }
 {
     match command {
-        Command::Answers(run) => answers(alloc, run, limits, source, sink, keeper, crew),
-        Command::Import(run) => import(alloc, run, limits, source, sink, keeper, crew),
+        Command::Answers(run) => answers(rt, alloc, run, limits, source, sink, keeper, crew),
+        Command::Import(run) => import(rt, alloc, run, limits, source, sink, keeper, crew),
         Command::Validate { day, late } => Ok(Some(validate(
-            alloc, day, late, limits, source, aside, keeper,
+            rt, alloc, day, late, limits, source, aside, keeper,
         ))),
-        Command::Past { base } => Ok(Some(past(alloc, base, limits, source, keeper))),
+        Command::Past { base } => Ok(Some(past(rt, alloc, base, limits, source, keeper))),
         Command::Day { day: number } => day(alloc, number, sink, keeper),
         Command::Vehicle { vid, from, to } => vehicle(alloc, vid, from, to, sink, keeper),
-        Command::Accidents { late } => accidents(alloc, late, limits, source, sink),
+        Command::Accidents { late } => accidents(rt, alloc, late, limits, source, sink),
         Command::Export { day } => export(alloc, day, sink, keeper),
         Command::Tariff {
             xway,
@@ -118,12 +129,15 @@ fn perform<S: Source, A: Source, O: Sink, K: Keeper, C: Crew>(
         } => Ok(Some(tariff(xway, crowd, speed, factor, keeper))),
         Command::Tariffs => tariffs(alloc, sink, keeper),
         Command::Generate { seed, size } => generate(alloc, seed, size, sink),
-        Command::Rehearse { seed, size, run } => Ok(Some(rehearse(alloc, seed, size, run, crew))),
+        Command::Rehearse { seed, size, run } => Ok(Some(rehearse(
+            rt, alloc, seed, size, run, crew,
+        ))),
     }
 }
 
 /// Does what the words ask, but for the closing line.
-fn run<S: Source, A: Source, O: Sink, K: Keeper, C: Crew>(
+fn run<S: Source, A: Source, O: Sink, K: Keeper, C: Crew, R: Threads>(
+    rt: &R,
     alloc: Global,
     words: &[String],
     limits: &Limits,
@@ -137,8 +151,11 @@ fn run<S: Source, A: Source, O: Sink, K: Keeper, C: Crew>(
     requires idle { C.out crew.old ≡ [] }
     ensures wrote { IsRight (map string_bytes words.now) C.exact → (bytes lines : List ℕ) (o : Office) → SourceTells (map string_bytes words.now) (S.left source.old) bytes → AsideTells (map string_bytes words.now) (A.left aside.old) lines → KeeperTells (map string_bytes words.now) (K.told keeper.old) o → Wrote (office_answer (map string_bytes words.now) limits.now bytes lines o) result (O.written sink.old) (O.written sink.new) }
     ensures keeps { IsRight (map string_bytes words.now) C.exact → (bytes lines : List ℕ) (o : Office) → SourceTells (map string_bytes words.now) (S.left source.old) bytes → K.told keeper.old ≡ Some o → Keeps K.refuses (office_answer (map string_bytes words.now) limits.now bytes lines o) o (K.told keeper.new) result }
+    ensures does { IsRight (map string_bytes words.now) C.exact → (bytes lines : List ℕ) (o : Office) → SourceTells (map string_bytes words.now) (S.left source.old) bytes → AsideTells (map string_bytes words.now) (A.left aside.old) lines → K.told keeper.old ≡ Some o
+        → Did K.refuses (office_answer (map string_bytes words.now) limits.now bytes lines o) o (O.written sink.old) (O.written sink.new) (K.told keeper.new) result }
     ensures puts { (o : Office) → K.told keeper.old ≡ Some o → PutsAsked (means (map string_bytes words.now)) o (K.told keeper.new) }
     ensures unchanged { (o : Office) → K.told keeper.old ≡ Some o → change_kept (means (map string_bytes words.now)) ≡ false → K.told keeper.new ≡ Some o }
+    ensures held { (o : Office) → K.told keeper.old ≡ Some o → HoldsAsked (means (map string_bytes words.now)) (code_of result) (K.told keeper.new ≡ Some o) }
     ensures words { IsOk result → result ≢ Ok (Some NoMemory) → (result ≡ Ok (Some Words) ↔ (means (map string_bytes words.now) ≡ None)) }
     ensures source_unused { use_source (means (map string_bytes words.now)) ≡ false → source.new ≡ source.old }
     ensures passed { (o : Office) → K.told keeper.old ≡ Some o → AsksPassed (means (map string_bytes words.now)) o → source.new ≡ source.old }
@@ -147,12 +164,18 @@ fn run<S: Source, A: Source, O: Sink, K: Keeper, C: Crew>(
     ensures crew_unused { use_crew (means (map string_bytes words.now)) ≡ false → crew.new ≡ crew.old }
     ensures idle { C.out crew.new ≡ [] }
     ensures crew { C.which crew.new ≡ C.which crew.old }
+    ensures reads { ReadAsAsked limits.now (means (map string_bytes words.now)) (code_of result) (S.left source.old) (S.left source.new) }
+    ensures rest { (bytes : List ℕ) (o : Office) → SourceTells (map string_bytes words.now) (S.left source.old) bytes → K.told keeper.old ≡ Some o
+        → LeavesAsKept limits.now (means (map string_bytes words.now)) (code_of result) o bytes (S.left source.new) }
+    ensures refused_first { code_of result ≡ 2 → aside.new ≡ aside.old }
+    ensures source_first { (bytes : List ℕ) → S.left source.old ≡ Some bytes → S.left source.new ≢ Some [] → aside.new ≡ aside.old }
     ensures bounded { (o : Office) → KeeperTells (map string_bytes words.now) (K.told keeper.old) o → ReadsWithin (most_asked limits.now o (means (map string_bytes words.now))) (S.left source.old) (S.left source.new) }
     ensures aside_bounded { (bytes : List ℕ) (o : Office) → SourceTells (map string_bytes words.now) (S.left source.old) bytes → KeeperTells (map string_bytes words.now) (K.told keeper.old) o → ReadsWithin (most_aside_asked limits.now bytes o (means (map string_bytes words.now))) (A.left aside.old) (A.left aside.new) }
     ensures read_cause { result ≡ Ok (Some ReadFault) → Rose (S.faults source.old) (S.faults source.new) ⊎ Rose (A.faults aside.old) (A.faults aside.new) }
     ensures read_later { S.faults source.old ≤ S.faults source.new }
     ensures aside_later { A.faults aside.old ≤ A.faults aside.new }
-    ensures read_sure { NeverFails (S.plan source.old) → NeverFails (A.plan aside.old) → result ≢ Ok (Some ReadFault) }
+    ensures read_sure { (use_source (means (map string_bytes words.now)) ≡ true → NeverFails (S.plan source.old)) → (use_aside (means (map string_bytes words.now)) ≡ true → NeverFails (A.plan aside.old))
+        → result ≢ Ok (Some ReadFault) }
     ensures write_cause { HasCause (O.faults sink.old) (O.faults sink.new) result }
     ensures write_sure { O.room sink.old ≡ Endless → IsOk result × (O.room sink.new ≡ Endless) }
     ensures keeper_cause { result ≡ Ok (Some KeeperFault) → Rose (K.faults keeper.old) (K.faults keeper.new) }
@@ -160,7 +183,9 @@ fn run<S: Source, A: Source, O: Sink, K: Keeper, C: Crew>(
     ensures keeper_sure { NeverFails (K.plan keeper.old) → result ≢ Ok (Some KeeperFault) }
 {
     match read_words(alloc, words) {
-        Ok(command) => perform(alloc, command, limits, source, aside, sink, keeper, crew),
+        Ok(command) => perform(
+            rt, alloc, command, limits, source, aside, sink, keeper, crew,
+        ),
         Err(WordFault::Words) => Ok(Some(Closing::Words)),
         Err(WordFault::NoMemory) => Ok(Some(Closing::NoMemory)),
     }
@@ -168,7 +193,8 @@ fn run<S: Source, A: Source, O: Sink, K: Keeper, C: Crew>(
 
 /// Does what the words after the program's name ask, ends with a closing line where the command has one, and answers
 /// the status. What is kept changes by `import`, `past` and `tariff` alone, and as a whole.
-pub fn office<S: Source, A: Source, O: Sink, K: Keeper, C: Crew>(
+pub fn office<S: Source, A: Source, O: Sink, K: Keeper, C: Crew, R: Threads>(
+    rt: &R,
     alloc: Global,
     words: &[String],
     limits: &Limits,
@@ -199,8 +225,11 @@ pub fn office<S: Source, A: Source, O: Sink, K: Keeper, C: Crew>(
         → LeftBy K.refuses keep_fault.Failed (office_answer (map string_bytes words.now) limits.now bytes lines o) o (K.told keeper.new) }
     ensures keeps_whole { IsRight (map string_bytes words.now) C.exact → (bytes lines : List ℕ) (o : Office) → SourceTells (map string_bytes words.now) (S.left source.old) bytes → K.told keeper.old ≡ Some o
         → IsWhole (office_answer (map string_bytes words.now) limits.now bytes lines o) o (K.told keeper.new) }
+    ensures concludes { IsRight (map string_bytes words.now) C.exact → (bytes lines : List ℕ) (o : Office) → SourceTells (map string_bytes words.now) (S.left source.old) bytes → AsideTells (map string_bytes words.now) (A.left aside.old) lines → K.told keeper.old ≡ Some o
+        → Concludes K.refuses (office_answer (map string_bytes words.now) limits.now bytes lines o) o result (O.written sink.old) (O.written sink.new) (K.told keeper.new) }
     ensures puts { (o : Office) → K.told keeper.old ≡ Some o → PutsAsked (means (map string_bytes words.now)) o (K.told keeper.new) }
     ensures unchanged { (o : Office) → K.told keeper.old ≡ Some o → change_kept (means (map string_bytes words.now)) ≡ false → K.told keeper.new ≡ Some o }
+    ensures held { (o : Office) → K.told keeper.old ≡ Some o → result ≢ 5 → HoldsAsked (means (map string_bytes words.now)) result (K.told keeper.new ≡ Some o) }
     ensures words { result ≢ 5 → result ≢ 8 → (result ≡ 1 ↔ (means (map string_bytes words.now) ≡ None)) }
     ensures source_unused { use_source (means (map string_bytes words.now)) ≡ false → source.new ≡ source.old }
     ensures passed { (o : Office) → K.told keeper.old ≡ Some o → AsksPassed (means (map string_bytes words.now)) o → source.new ≡ source.old }
@@ -209,12 +238,17 @@ pub fn office<S: Source, A: Source, O: Sink, K: Keeper, C: Crew>(
     ensures crew_unused { use_crew (means (map string_bytes words.now)) ≡ false → crew.new ≡ crew.old }
     ensures idle { C.out crew.new ≡ [] }
     ensures crew { C.which crew.new ≡ C.which crew.old }
+    ensures reads { ReadAsAsked limits.now (means (map string_bytes words.now)) result (S.left source.old) (S.left source.new) }
+    ensures rest { (bytes : List ℕ) (o : Office) → SourceTells (map string_bytes words.now) (S.left source.old) bytes → K.told keeper.old ≡ Some o
+        → LeavesAsKept limits.now (means (map string_bytes words.now)) result o bytes (S.left source.new) }
+    ensures refused_first { result ≡ 2 → aside.new ≡ aside.old }
+    ensures source_first { (bytes : List ℕ) → S.left source.old ≡ Some bytes → S.left source.new ≢ Some [] → aside.new ≡ aside.old }
     ensures bounded { (o : Office) → KeeperTells (map string_bytes words.now) (K.told keeper.old) o → ReadsWithin (most_asked limits.now o (means (map string_bytes words.now))) (S.left source.old) (S.left source.new) }
     ensures aside_bounded { (bytes : List ℕ) (o : Office) → SourceTells (map string_bytes words.now) (S.left source.old) bytes → KeeperTells (map string_bytes words.now) (K.told keeper.old) o → ReadsWithin (most_aside_asked limits.now bytes o (means (map string_bytes words.now))) (A.left aside.old) (A.left aside.new) }
     ensures read_cause { result ≡ 4 → Rose (S.faults source.old) (S.faults source.new) ⊎ Rose (A.faults aside.old) (A.faults aside.new) }
     ensures read_later { S.faults source.old ≤ S.faults source.new }
     ensures aside_later { A.faults aside.old ≤ A.faults aside.new }
-    ensures read_sure { NeverFails (S.plan source.old) → NeverFails (A.plan aside.old) → result ≢ 4 }
+    ensures read_sure { (use_source (means (map string_bytes words.now)) ≡ true → NeverFails (S.plan source.old)) → (use_aside (means (map string_bytes words.now)) ≡ true → NeverFails (A.plan aside.old)) → result ≢ 4 }
     ensures write_cause { result ≡ 5 → Rose (O.faults sink.old) (O.faults sink.new) }
     ensures write_later { O.faults sink.old ≤ O.faults sink.new }
     ensures write_sure { O.room sink.old ≡ Endless → result ≢ 5 }
@@ -222,7 +256,7 @@ pub fn office<S: Source, A: Source, O: Sink, K: Keeper, C: Crew>(
     ensures keeper_later { K.faults keeper.old ≤ K.faults keeper.new }
     ensures keeper_sure { NeverFails (K.plan keeper.old) → result ≢ 6 }
 {
-    match run(alloc, words, limits, source, aside, sink, keeper, crew) {
+    match run(rt, alloc, words, limits, source, aside, sink, keeper, crew) {
         Ok(Some(closing)) => close(alloc, closing, sink),
         Ok(None) => 0,
         Err(_) => 5,

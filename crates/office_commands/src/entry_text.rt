@@ -1,6 +1,7 @@
 // How a line of notices is named.
 ghost use Rattle.std.specs.Prelude.{Some};
-ghost use Rattle.office_commands.specs.Closings.{notice_shown, entry_text};
+ghost use Rattle.office_commands.specs.Closings.{entry_text};
+ghost use Rattle.road_time.specs.Text.{notice_text};
 
 use road_time::Notice;
 use std::fmt;
@@ -18,7 +19,7 @@ pub enum EntryText {
 struct Printed(Notice);
 
 impl fmt::Display for Printed {
-    ghost output = { λ printed. Some (notice_shown printed.0) };
+    ghost output = { λ printed. Some (notice_text printed.0) };
 
     fn fmt<W: fmt::Write>(&self, f: &mut fmt::Formatter<W>) -> fmt::Result {
         match self.0 {

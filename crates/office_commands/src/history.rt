@@ -4,10 +4,12 @@ ghost use Rattle.road_io.specs.Faults.{Rose};
 ghost use Rattle.road_io.specs.Plans.{NeverFails};
 ghost use Rattle.keeper.specs.Office.{Office};
 ghost use Rattle.day_reading.specs.Days.{ReadsWithin};
-ghost use Rattle.past_file.specs.Imports.{NeedsNone, most_kept};
+ghost use Rattle.past_file.specs.Imports.{NeedsNone, PutsPast, most_kept};
 ghost use Rattle.past_file.specs.declared.outcomes.PastOutcome.TheVariants as outcome;
 ghost use Rattle.office_commands.specs.Commands.{past_closing, past_row};
-ghost use Rattle.office_commands.specs.Endings.{StandsBefore, sort_of, KeepsBy};
+ghost use Rattle.office_commands.specs.Endings.{StandsBefore, Holds, sort_of, KeepsBy};
+ghost use Rattle.office_commands.specs.Closings.{status_of};
+ghost use Rattle.office_commands.specs.Rests.{HasReadPast};
 ghost use Rattle.office_commands.specs.declared.closing.Closing.TheVariants.{ReadFault, KeeperFault, Words};
 
 use crate::closing::Closing;
@@ -16,6 +18,7 @@ use past_file::{PastOutcome, import_past};
 use road_io::Source;
 use road_time::Limits;
 use std::alloc::Global;
+use std::thread::Threads;
 
 /// How the history with this base ends.
 fn past_ended(base: u32, done: PastOutcome) -> Closing
@@ -44,7 +47,8 @@ fn past_ended(base: u32, done: PastOutcome) -> Closing
 }
 
 /// Keeps what the source has as a history, once, its days counted back from a base.
-pub fn past<S: Source, K: Keeper>(
+pub fn past<S: Source, K: Keeper, R: Threads>(
+    rt: &R,
     alloc: Global,
     base: u32,
     limits: &Limits,
@@ -54,6 +58,10 @@ pub fn past<S: Source, K: Keeper>(
     requires low { 70 ≤ base }
     ensures exact { (bytes : List ℕ) (o : Office) → S.left source.old ≡ Some bytes → K.told keeper.old ≡ Some o → StandsBefore (past_row limits.now base bytes o) result [] }
     ensures keeps { (bytes : List ℕ) (o : Office) → S.left source.old ≡ Some bytes → K.told keeper.old ≡ Some o → KeepsBy (sort_of result) K.refuses (past_row limits.now base bytes o) o (K.told keeper.new) }
+    ensures rest { (bytes : List ℕ) (o : Office) → S.left source.old ≡ Some bytes → K.told keeper.old ≡ Some o
+        → HasReadPast limits.now base (status_of result) o.past bytes (S.left source.new) }
+    ensures puts { (o : Office) → K.told keeper.old ≡ Some o → PutsPast base o (K.told keeper.new) }
+    ensures held { Holds (status_of result) (K.told keeper.new ≡ K.told keeper.old) }
     ensures unread { (o : Office) → K.told keeper.old ≡ Some o → NeedsNone o.past base o → source.new ≡ source.old }
     ensures said { result ≢ Words }
     ensures bounded { (o : Office) → K.told keeper.old ≡ Some o → ReadsWithin (most_kept o.past limits.now) (S.left source.old) (S.left source.new) }
@@ -64,6 +72,6 @@ pub fn past<S: Source, K: Keeper>(
     ensures keeper_later { K.faults keeper.old ≤ K.faults keeper.new }
     ensures keeper_sure { NeverFails (K.plan keeper.old) → result ≢ KeeperFault }
 {
-    let done = import_past(alloc, base, limits, source, keeper);
+    let done = import_past(rt, alloc, base, limits, source, keeper);
     past_ended(base, done)
 }

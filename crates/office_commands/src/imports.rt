@@ -9,7 +9,8 @@ ghost use Rattle.day_reading.specs.Days.{ReadsWithin};
 ghost use Rattle.import_once.specs.Imports.{most_imported, PutsOnce};
 ghost use Rattle.office_words.specs.Meaning.{IsRun};
 ghost use Rattle.office_commands.specs.Commands.{import_row, IsPassed};
-ghost use Rattle.office_commands.specs.Endings.{Wrote, Keeps};
+ghost use Rattle.office_commands.specs.Endings.{Wrote, Keeps, Did, Holds, code_of};
+ghost use Rattle.office_commands.specs.Rests.{StopsThere, LeavesOfDay};
 ghost use Rattle.office_commands.specs.declared.closing.Closing.TheVariants.{ReadFault, KeeperFault, Words};
 
 use crate::closing::Closing;
@@ -21,9 +22,11 @@ use partition_workers::Crew;
 use road_io::{Failed, Sink, Source};
 use road_time::Limits;
 use std::alloc::Global;
+use std::thread::Threads;
 
 /// Imports what the source has as a day, once.
-pub fn import<S: Source, O: Sink, K: Keeper, C: Crew>(
+pub fn import<S: Source, O: Sink, K: Keeper, C: Crew, R: Threads>(
+    rt: &R,
     alloc: Global,
     run: DayRun,
     limits: &Limits,
@@ -37,6 +40,12 @@ pub fn import<S: Source, O: Sink, K: Keeper, C: Crew>(
     requires idle { C.out crew.old ≡ [] }
     ensures wrote { C.exact ≡ true → (bytes : List ℕ) (o : Office) → S.left source.old ≡ Some bytes → K.told keeper.old ≡ Some o → Wrote (import_row limits.now run bytes o) result (O.written sink.old) (O.written sink.new) }
     ensures keeps { C.exact ≡ true → (bytes : List ℕ) (o : Office) → S.left source.old ≡ Some bytes → K.told keeper.old ≡ Some o → Keeps K.refuses (import_row limits.now run bytes o) o (K.told keeper.new) result }
+    ensures does { C.exact ≡ true → (bytes : List ℕ) (o : Office) → S.left source.old ≡ Some bytes → K.told keeper.old ≡ Some o
+        → Did K.refuses (import_row limits.now run bytes o) o (O.written sink.old) (O.written sink.new) (K.told keeper.new) result }
+    ensures stops { StopsThere limits.now run.late (code_of result) (S.left source.old) (S.left source.new) }
+    ensures rest { (bytes : List ℕ) (o : Office) → S.left source.old ≡ Some bytes → K.told keeper.old ≡ Some o
+        → code_of result ≡ 0 → LeavesOfDay (record_of o run.day) bytes (S.left source.new) }
+    ensures held { Holds (code_of result) (K.told keeper.new ≡ K.told keeper.old) }
     ensures puts { (o : Office) → K.told keeper.old ≡ Some o → PutsOnce run.day o (K.told keeper.new) }
     ensures unread { (o : Office) → K.told keeper.old ≡ Some o → IsPassed run.day o → source.new ≡ source.old }
     ensures idle { C.out crew.new ≡ [] }
@@ -54,6 +63,7 @@ pub fn import<S: Source, O: Sink, K: Keeper, C: Crew>(
 {
     let mut publisher = NoPublisher;
     let done = import_once::import(
+        rt,
         alloc,
         run.day,
         &run.plan,

@@ -1,8 +1,8 @@
 //! The commands of the program `toll_office`.
 //!
 //! `office` does what the words ask over any source, aside, sink and keeper, and its contract says exactly what is written
-//! and kept, and which status comes. The program hands it the words, standard input, the file `notices.txt`, standard
-//! output and what is kept in the file `tolls.db`.
+//! and kept, and which status comes. The program hands it the words, standard input, the file `ASIDE_FILE`, standard output
+//! and what is kept in a file.
 #![tactic(auto)]
 
 mod answers;
@@ -18,10 +18,11 @@ mod outcome;
 mod refusal;
 mod statements;
 mod tariffs;
-#[cfg(test)]
-mod tests;
 mod traffic;
 mod validate;
 
 pub use crate::closing::Closing;
 pub use crate::entry::office;
+
+/// The file that `validate` compares with, in the folder where the program runs.
+pub const ASIDE_FILE: &str = "notices.txt";

@@ -8,7 +8,8 @@ ghost use Rattle.keeper.specs.Office.{Office};
 ghost use Rattle.day_reading.specs.Days.{ReadsWithin, most_read};
 ghost use Rattle.office_commands.specs.Days.{recomputed};
 ghost use Rattle.office_commands.specs.Commands.{accidents_row, accidents_of, unless_refused};
-ghost use Rattle.office_commands.specs.Endings.{Wrote};
+ghost use Rattle.office_commands.specs.Endings.{Wrote, code_of};
+ghost use Rattle.office_commands.specs.Rests.{HasReadDay, SaysBy};
 ghost use Rattle.office_commands.specs.declared.closing.Closing.TheVariants.{ReadFault, KeeperFault, Words};
 
 use crate::closing::Closing;
@@ -17,6 +18,7 @@ use reports::{ReportFault, accident_log};
 use road_io::{Failed, Sink, Source};
 use road_time::Limits;
 use std::alloc::Global;
+use std::thread::Threads;
 
 /// Writes the accident log of a day that was read whole.
 fn write_accidents<O: Sink>(
@@ -29,6 +31,7 @@ fn write_accidents<O: Sink>(
     ensures unread { result ≢ Ok (Some ReadFault) }
     ensures unasked { result ≢ Ok (Some KeeperFault) }
     ensures said { result ≢ Ok (Some Words) }
+    ensures says { SaysBy day.now.refused (code_of result) }
     ensures cause { HasCause (O.faults sink.old) (O.faults sink.new) result }
     ensures sure { O.room sink.old ≡ Endless → IsOk result × (O.room sink.new ≡ Endless) }
 {
@@ -43,7 +46,8 @@ fn write_accidents<O: Sink>(
 }
 
 /// Lists the accidents of what the source has, unless a line is refused.
-pub fn accidents<S: Source, O: Sink>(
+pub fn accidents<S: Source, O: Sink, R: Threads>(
+    rt: &R,
     alloc: Global,
     late: u8,
     limits: &Limits,
@@ -55,6 +59,7 @@ pub fn accidents<S: Source, O: Sink>(
     ensures wrote { (bytes : List ℕ) (o : Office) → S.left source.old ≡ Some bytes → Wrote (accidents_row limits.now late bytes o) result (O.written sink.old) (O.written sink.new) }
     ensures said { result ≢ Ok (Some Words) }
     ensures unasked { result ≢ Ok (Some KeeperFault) }
+    ensures reads { HasReadDay (recomputed limits.now) late (code_of result) (S.left source.old) (S.left source.new) }
     ensures bounded { ReadsWithin (most_read (recomputed limits.now)) (S.left source.old) (S.left source.new) }
     ensures read_cause { result ≡ Ok (Some ReadFault) → Rose (S.faults source.old) (S.faults source.new) }
     ensures read_later { S.faults source.old ≤ S.faults source.new }
@@ -62,7 +67,7 @@ pub fn accidents<S: Source, O: Sink>(
     ensures write_cause { HasCause (O.faults sink.old) (O.faults sink.new) result }
     ensures write_sure { O.room sink.old ≡ Endless → IsOk result × (O.room sink.new ≡ Endless) }
 {
-    match read_day(alloc, limits, late, source) {
+    match read_day(rt, alloc, limits, late, source) {
         Ok(day) => write_accidents(alloc, &day, sink),
         Err(stop) => Ok(Some(stopped(stop))),
     }

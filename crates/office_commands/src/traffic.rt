@@ -25,6 +25,7 @@ use partition_workers::Crew;
 use road_io::{Failed, MemSink, MemSource, Sink, VoidSink};
 use road_time::{Limits, NoMemory};
 use std::alloc::Global;
+use std::thread::Threads;
 use traffic_gen::{GenFault, GenPlan};
 
 /// What is to be generated.
@@ -94,7 +95,8 @@ fn file_in_memory(alloc: Global, plan: &GenPlan) -> Result<MemSink, NoMemory>
 }
 
 /// What is kept of a whole file as a day, in memory and where nothing else is kept.
-fn kept_alone<C: Crew>(
+fn kept_alone<C: Crew, R: Threads>(
+    rt: &R,
     alloc: Global,
     file: &[u8],
     run: DayRun,
@@ -112,6 +114,7 @@ fn kept_alone<C: Crew>(
     let mut sink = VoidSink;
     let mut publisher = NoPublisher;
     match import_once::import(
+        rt,
         alloc,
         run.day,
         &run.plan,
@@ -130,7 +133,8 @@ fn kept_alone<C: Crew>(
 }
 
 /// What is kept of the traffic of a plan as a day, where nothing else is kept.
-fn rehearse_plan<C: Crew>(
+fn rehearse_plan<C: Crew, R: Threads>(
+    rt: &R,
     alloc: Global,
     plan: &GenPlan,
     run: DayRun,
@@ -144,7 +148,7 @@ fn rehearse_plan<C: Crew>(
     ensures crew { C.which crew.new ≡ C.which crew.old }
 {
     let file = file_in_memory(alloc, plan)?;
-    kept_alone(alloc, file.bytes(), run, crew)
+    kept_alone(rt, alloc, file.bytes(), run, crew)
 }
 
 /// The closing of a rehearsal, of what was kept.
@@ -162,7 +166,14 @@ fn closing_of(kept: &DayRecord) -> Closing
 }
 
 /// Generates the traffic of a seed and imports it as a day, in memory and beside all that is kept.
-pub fn rehearse<C: Crew>(alloc: Global, seed: u64, size: Size, run: DayRun, crew: &mut C) -> Closing
+pub fn rehearse<C: Crew, R: Threads>(
+    rt: &R,
+    alloc: Global,
+    seed: u64,
+    size: Size,
+    run: DayRun,
+    crew: &mut C,
+) -> Closing
     requires size { IsSize size }
     requires range { IsRun run }
     requires idle { C.out crew.old ≡ [] }
@@ -174,7 +185,7 @@ pub fn rehearse<C: Crew>(alloc: Global, seed: u64, size: Size, run: DayRun, crew
     ensures unasked { result ≢ KeeperFault }
 {
     let plan = plan_for(seed, size);
-    match rehearse_plan(alloc, &plan, run, crew) {
+    match rehearse_plan(rt, alloc, &plan, run, crew) {
         Ok(kept) => closing_of(&kept),
         Err(_) => Closing::NoMemory,
     }

@@ -1,5 +1,5 @@
 // The command `validate DAY`: notices compared with those of the rules.
-ghost use Rattle.std.specs.Prelude.{◌≡◌, ◌≢◌, ◌≤◌, ◌⊎◌, [], ℕ, List, Some, length};
+ghost use Rattle.std.specs.Prelude.{◌≡◌, ◌≢◌, ◌≤◌, ◌⊎◌, [], ℕ, List, Some, None, length};
 ghost use Rattle.road_time.specs.Fits.{IsDay, IsLimits};
 ghost use Rattle.road_time.specs.Lines.{lines_of};
 ghost use Rattle.road_io.specs.Faults.{Rose};
@@ -11,7 +11,9 @@ ghost use Rattle.office_commands.specs.Commands.{notices_of_day, validate_row, v
 ghost use Rattle.office_commands.specs.Days.{recomputed};
 ghost use Rattle.office_commands.specs.Entries.{most_compared};
 ghost use Rattle.road_time.specs.Reads.{reads};
+ghost use Rattle.office_commands.specs.Closings.{status_of};
 ghost use Rattle.office_commands.specs.Endings.{StandsBefore};
+ghost use Rattle.office_commands.specs.Rests.{HasReadDay, SaysBy};
 ghost use Rattle.office_commands.specs.declared.closing.Closing.TheVariants.{ReadFault, KeeperFault, Words};
 
 use crate::aside::compare;
@@ -23,12 +25,14 @@ use keeper::Keeper;
 use road_io::Source;
 use road_time::{Limits, Notice, Tariffs};
 use std::alloc::Global;
+use std::thread::Threads;
 use validator::plain_notices;
 
 /// Compares notices with the lines of an aside.
 fn compare_notices<A: Source>(alloc: Global, wanted: &[Notice], aside: &mut A) -> Closing
     ensures exact { (lines : List ℕ) (o : Office) → A.left aside.old ≡ Some lines → StandsBefore (closed (compared wanted.now (lines_of lines)) o) result [] }
     ensures own { (result ≢ KeeperFault) × (result ≢ Words) }
+    ensures unnamed { status_of result ≢ 2 }
     ensures bounded { ReadsWithin (most_compared (length wanted.now)) (A.left aside.old) (A.left aside.new) }
     ensures cause { result ≡ ReadFault → Rose (A.faults aside.old) (A.faults aside.new) }
     ensures sure { NeverFails (A.plan aside.old) → result ≢ ReadFault }
@@ -56,6 +60,8 @@ fn compare_day<A: Source, K: Keeper>(
         → StandsBefore (unless_refused day.now.refused (validation_of number day.now.tuples.items (lines_of lines) o)) result [] }
     ensures kept { K.told keeper.new ≡ K.told keeper.old }
     ensures said { result ≢ Words }
+    ensures says { SaysBy day.now.refused (status_of result) }
+    ensures source_first { day.now.refused ≢ None → aside.new ≡ aside.old }
     ensures bounded { (o : Office) → K.told keeper.old ≡ Some o → tariffs.now ≡ o.tariffs → ReadsWithin (most_compared (length (notices_of_day number day.now.tuples.items o))) (A.left aside.old) (A.left aside.new) }
     ensures read_cause { result ≡ ReadFault → Rose (A.faults aside.old) (A.faults aside.new) }
     ensures read_sure { NeverFails (A.plan aside.old) → result ≢ ReadFault }
@@ -85,7 +91,8 @@ fn compare_day<A: Source, K: Keeper>(
 
 /// Compares the notices of what the source has, after what the keeper keeps, with the lines of an aside, unless a line is
 /// refused.
-pub fn validate<S: Source, A: Source, K: Keeper>(
+pub fn validate<S: Source, A: Source, K: Keeper, R: Threads>(
+    rt: &R,
     alloc: Global,
     day: u32,
     late: u8,
@@ -101,6 +108,9 @@ pub fn validate<S: Source, A: Source, K: Keeper>(
     ensures exact { (bytes lines : List ℕ) (o : Office) → S.left source.old ≡ Some bytes → A.left aside.old ≡ Some lines → K.told keeper.old ≡ Some o → StandsBefore (validate_row limits.now day late bytes lines o) result [] }
     ensures kept { (o : Office) → K.told keeper.old ≡ Some o → K.told keeper.new ≡ Some o }
     ensures said { result ≢ Words }
+    ensures reads { HasReadDay (recomputed limits.now) late (status_of result) (S.left source.old) (S.left source.new) }
+    ensures refused_first { status_of result ≡ 2 → aside.new ≡ aside.old }
+    ensures source_first { (bytes : List ℕ) → S.left source.old ≡ Some bytes → S.left source.new ≢ Some [] → aside.new ≡ aside.old }
     ensures bounded { ReadsWithin (most_read (recomputed limits.now)) (S.left source.old) (S.left source.new) }
     ensures aside_bounded { (bytes : List ℕ) (o : Office) → S.left source.old ≡ Some bytes → K.told keeper.old ≡ Some o → ReadsWithin (most_compared (length (notices_of_day day (reads bytes (recomputed limits.now) late).tuples o))) (A.left aside.old) (A.left aside.new) }
     ensures read_cause { result ≡ ReadFault → Rose (S.faults source.old) (S.faults source.new) ⊎ Rose (A.faults aside.old) (A.faults aside.new) }
@@ -115,7 +125,7 @@ pub fn validate<S: Source, A: Source, K: Keeper>(
         Ok(tariffs) => tariffs,
         Err(fault) => return refused(fault),
     };
-    match read_day(alloc, limits, late, source) {
+    match read_day(rt, alloc, limits, late, source) {
         Ok(read) => compare_day(alloc, day, &read, &tariffs, aside, keeper),
         Err(stop) => stopped(stop),
     }

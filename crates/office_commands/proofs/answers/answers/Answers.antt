@@ -2,6 +2,9 @@ use Rattle.std.proofs.Common.{◌≡◌}
 use Rattle.import_once.specs.declared.outcomes.Outcome.TheVariants.{WriteFault}
 use Rattle.import_once.specs.Imports.{answers_answer}
 use Rattle.office_commands.proofs.OutcomeLaws.{wrote, keeps, caused, well}
+use Rattle.road_time.specs.Reads.{reads}
+use Rattle.office_commands.proofs.OutcomeLaws.{did}
+use Rattle.office_commands.proofs.RestLaws.{answered_to}
 use Rattle.office_commands.proofs.answers.answers.Goals as goal
 
 pub returns-clause-wrote : goal.returns-clause-wrote
@@ -21,3 +24,15 @@ pub returns-clause-write_sure : goal.returns-clause-write_sure
 returns-clause-write_sure g c = λ endless.
     let sure = c.answers-done.ensures.write_sure endless in
     (well (c.answers-done.result ≡ WriteFault) c.ended.result c.ended.ensures.failed sure.0, sure.1)
+
+pub returns-clause-does : goal.returns-clause-does
+returns-clause-does g c = λ right bytes o left told.
+    let a = answers_answer c.args.run.day c.args.run.late c.args.limits.now bytes o in
+    did g.K.Keeper.refuses c.args.run.day a o (g.O.Sink.written c.args.sink.now) (g.O.Sink.written c.answers-done.new.sink) (g.K.Keeper.told c.answers-done.new.keeper) c.answers-done.result c.ended.result c.ended.ensures.ends (c.answers-done.ensures.does right bytes o left told)
+
+pub returns-clause-reads : goal.returns-clause-reads
+returns-clause-reads g c = record {
+  within = c.answers-done.ensures.bounded;
+  to = λ bytes left. answered_to (reads bytes c.args.limits.now c.args.run.late).refused bytes (g.S.Source.left c.answers-done.new.source) c.args.run.day c.answers-done.result c.ended.result
+      c.ended.ensures.ends c.answers-done.ensures.own (c.answers-done.ensures.leaves bytes left);
+}

@@ -1,4 +1,4 @@
-use Rattle.std.proofs.Common.{◌≡◌, ap, sym, subst, refl, ◌∙◌, Some, Err, []}
+use Rattle.std.proofs.Common.{◌≡◌, ap, sym, subst, refl, inl, ◌∙◌, Some, Err, []}
 use Rattle.std.proofs.lemmas.Option.{none-some}
 use Rattle.office_words.specs.declared.command.WordFault.TheVariants as faults
 use Rattle.road_io.proofs.SinkLaws.{appends_none}
@@ -10,6 +10,11 @@ use Rattle.std.proofs.Common.{map, string_bytes}
 use Rattle.office_words.specs.Meaning.{means}
 use Rattle.day_reading.specs.Days.{ReadsWithin}
 use Rattle.day_reading.proofs.BoundLaws.{nothing_read}
+use Rattle.std.proofs.Common.{Ok, Option, arith}
+use Rattle.office_words.specs.declared.command.Command.{Command}
+use Rattle.office_commands.specs.Endings.{Did, code_of}
+use Rattle.office_commands.specs.Rests.{ReadAsAsked, LeavesAsKept, HoldsAsked}
+use Rattle.office_commands.proofs.RestLaws.{read_other, rest_other, held_same}
 use Rattle.office_commands.proofs.entry.run.Goals as goal
 
 pub returns-in-Ok-clause-wrote : goal.returns-in-Ok-clause-wrote
@@ -107,3 +112,56 @@ returns-in-Err-Words-clause-puts g c = λ o kept. puts_same (means (map string_b
 
 pub returns-in-Err-NoMemory-clause-puts : goal.returns-in-Err-NoMemory-clause-puts
 returns-in-Err-NoMemory-clause-puts g c = λ o kept. puts_same (means (map string_bytes c.args.words.now)) o (g.K.Keeper.told c.args.keeper.now) kept
+
+pub returns-in-Ok-clause-does : goal.returns-in-Ok-clause-does
+returns-in-Ok-clause-does g c = λ right bytes lines o told also kept.
+    let is = meant _ c.in-Ok.command c.read_words.result c.read_words.ensures.reads c.in-Ok.is in
+    subst (λ (a : Answer). Did g.K.Keeper.refuses a o (g.O.Sink.written c.args.sink.now) (g.O.Sink.written c.perform.new.sink) (g.K.Keeper.told c.perform.new.keeper) c.perform.result) (sym (ap (λ m. row_of c.args.limits.now bytes lines o m) is))
+    (c.perform.ensures.does (λ used. right (ap use_crew is ∙ used)) bytes lines o (λ used. told (ap use_source is ∙ used)) (λ used. also (ap use_aside is ∙ used)) kept)
+
+pub returns-in-Err-Words-clause-does : goal.returns-in-Err-Words-clause-does
+returns-in-Err-Words-clause-does g c = λ right bytes lines o told also kept.
+    let said : c.read_words.result ≡ Err faults.Words = cc in
+    let none = meant_none _ c.read_words.result c.read_words.ensures.reads said in
+    ([], (sym (ap (λ m. (row_of c.args.limits.now bytes lines o m).closing) none), sym (ap (λ m. (row_of c.args.limits.now bytes lines o m).text) none), kept ∙ sym (ap (λ m. Some (row_of c.args.limits.now bytes lines o m).office) none)), appends_none _)
+
+pub returns-in-Err-NoMemory-clause-does : goal.returns-in-Err-NoMemory-clause-does
+returns-in-Err-NoMemory-clause-does g c = λ right bytes lines o told also kept. ([], inl ((0, refl), kept), appends_none _)
+
+pub returns-in-Ok-clause-reads : goal.returns-in-Ok-clause-reads
+returns-in-Ok-clause-reads g c =
+    let is = meant _ c.in-Ok.command c.read_words.result c.read_words.ensures.reads c.in-Ok.is in
+    subst (λ (m : Option Command). ReadAsAsked c.args.limits.now m (code_of c.perform.result) (g.S.Source.left c.args.source.now) (g.S.Source.left c.perform.new.source)) (sym is) c.perform.ensures.reads
+
+pub returns-in-Err-Words-clause-reads : goal.returns-in-Err-Words-clause-reads
+returns-in-Err-Words-clause-reads g c = read_other c.args.limits.now (means (map string_bytes c.args.words.now)) 1 (g.S.Source.left c.args.source.now) (λ s. omega (arith, s)) (λ s. omega (arith, s)) (λ s. omega (arith, s))
+
+pub returns-in-Err-NoMemory-clause-reads : goal.returns-in-Err-NoMemory-clause-reads
+returns-in-Err-NoMemory-clause-reads g c = read_other c.args.limits.now (means (map string_bytes c.args.words.now)) 8 (g.S.Source.left c.args.source.now) (λ s. omega (arith, s)) (λ s. omega (arith, s)) (λ s. omega (arith, s))
+
+pub returns-in-Ok-clause-rest : goal.returns-in-Ok-clause-rest
+returns-in-Ok-clause-rest g c = λ bytes o told kept.
+    let is = meant _ c.in-Ok.command c.read_words.result c.read_words.ensures.reads c.in-Ok.is in
+    subst (λ (m : Option Command). LeavesAsKept c.args.limits.now m (code_of c.perform.result) o bytes (g.S.Source.left c.perform.new.source)) (sym is) (c.perform.ensures.rest bytes o (λ used. told (ap use_source is ∙ used)) kept)
+
+pub returns-in-Err-Words-clause-rest : goal.returns-in-Err-Words-clause-rest
+returns-in-Err-Words-clause-rest g c = λ bytes o told kept. rest_other c.args.limits.now (means (map string_bytes c.args.words.now)) 1 o bytes (g.S.Source.left c.args.source.now) (λ s. omega (arith, s)) (λ s. omega (arith, s))
+
+pub returns-in-Err-NoMemory-clause-rest : goal.returns-in-Err-NoMemory-clause-rest
+returns-in-Err-NoMemory-clause-rest g c = λ bytes o told kept. rest_other c.args.limits.now (means (map string_bytes c.args.words.now)) 8 o bytes (g.S.Source.left c.args.source.now) (λ s. omega (arith, s)) (λ s. omega (arith, s))
+
+pub returns-in-Ok-clause-held : goal.returns-in-Ok-clause-held
+returns-in-Ok-clause-held g c = λ o kept.
+    let is = meant _ c.in-Ok.command c.read_words.result c.read_words.ensures.reads c.in-Ok.is in
+    subst (λ (m : Option Command). HoldsAsked m (code_of c.perform.result) (g.K.Keeper.told c.perform.new.keeper ≡ Some o)) (sym is) (c.perform.ensures.held o kept)
+
+pub returns-in-Err-Words-clause-held : goal.returns-in-Err-Words-clause-held
+returns-in-Err-Words-clause-held g c = λ o kept. held_same (means (map string_bytes c.args.words.now)) 1 (g.K.Keeper.told c.args.keeper.now ≡ Some o) kept
+
+pub returns-in-Err-NoMemory-clause-held : goal.returns-in-Err-NoMemory-clause-held
+returns-in-Err-NoMemory-clause-held g c = λ o kept. held_same (means (map string_bytes c.args.words.now)) 8 (g.K.Keeper.told c.args.keeper.now ≡ Some o) kept
+
+pub returns-in-Ok-clause-read_sure : goal.returns-in-Ok-clause-read_sure
+returns-in-Ok-clause-read_sure g c = λ source aside.
+    let is = meant _ c.in-Ok.command c.read_words.result c.read_words.ensures.reads c.in-Ok.is in
+    c.perform.ensures.read_sure (λ used. source (ap use_source is ∙ used)) (λ used. aside (ap use_aside is ∙ used))

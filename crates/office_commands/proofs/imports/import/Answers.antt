@@ -2,6 +2,11 @@ use Rattle.std.proofs.Common.{◌≡◌}
 use Rattle.import_once.specs.declared.outcomes.Outcome.TheVariants.{WriteFault}
 use Rattle.import_once.specs.Imports.{import_answer}
 use Rattle.office_commands.proofs.OutcomeLaws.{wrote, keeps, caused, well}
+use Rattle.road_time.specs.Reads.{reads}
+use Rattle.keeper.specs.Office.{record_of}
+use Rattle.import_once.specs.Imports.{work_by}
+use Rattle.office_commands.proofs.OutcomeLaws.{did, held}
+use Rattle.office_commands.proofs.RestLaws.{imported_to, rests}
 use Rattle.office_commands.proofs.imports.import.Goals as goal
 
 pub returns-clause-wrote : goal.returns-clause-wrote
@@ -21,3 +26,25 @@ pub returns-clause-write_sure : goal.returns-clause-write_sure
 returns-clause-write_sure g c = λ endless.
     let sure = c.import-done.ensures.write_sure endless in
     (well (c.import-done.result ≡ WriteFault) c.ended.result c.ended.ensures.failed sure.0, sure.1)
+
+pub returns-clause-does : goal.returns-clause-does
+returns-clause-does g c = λ right bytes o left told.
+    let a = import_answer c.args.run.day c.args.run.late c.args.limits.now bytes o in
+    did g.K.Keeper.refuses c.args.run.day a o (g.O.Sink.written c.args.sink.now) (g.O.Sink.written c.import-done.new.sink) (g.K.Keeper.told c.import-done.new.keeper) c.import-done.result c.ended.result c.ended.ensures.ends (c.import-done.ensures.does right bytes o left told)
+
+pub returns-clause-stops : goal.returns-clause-stops
+returns-clause-stops g c = λ bytes left.
+    imported_to (reads bytes c.args.limits.now c.args.run.late).refused bytes (g.S.Source.left c.import-done.new.source) c.args.run.day c.import-done.result c.ended.result
+    c.ended.ensures.ends (c.import-done.ensures.leaves bytes left)
+
+pub returns-clause-rest : goal.returns-clause-rest
+returns-clause-rest g c = λ bytes o left told.
+    let read = reads bytes c.args.limits.now c.args.run.late in
+    let merged = c.import-done.ensures.merged bytes o left told in
+    let number = c.args.run.day in
+    rests g.K.Keeper.refuses (work_by merged.found number read.tuples o) number bytes read.tuples read.refused o (record_of o number)
+    (g.O.Sink.written c.args.sink.now) (g.O.Sink.written c.import-done.new.sink) (g.K.Keeper.told c.import-done.new.keeper) (g.S.Source.left c.import-done.new.source) c.import-done.result c.ended.result
+    merged.merges (λ kept stored. c.import-done.ensures.whole bytes kept left stored) (c.import-done.ensures.rest bytes o left told) c.ended.ensures.ends
+
+pub returns-clause-held : goal.returns-clause-held
+returns-clause-held g c = held c.args.run.day (g.K.Keeper.told c.import-done.new.keeper ≡ g.K.Keeper.told c.args.keeper.now) c.import-done.result c.ended.result c.ended.ensures.ends c.import-done.ensures.keeps

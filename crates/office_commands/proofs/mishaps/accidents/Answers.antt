@@ -7,6 +7,11 @@ use Rattle.office_commands.specs.Days.{recomputed}
 use Rattle.office_commands.specs.Commands.{accidents_row, accidents_of, unless_refused}
 use Rattle.office_commands.specs.Endings.{Wrote}
 use Rattle.office_commands.proofs.EndingLaws.{wrote_nothing}
+use Rattle.std.proofs.Common.{ap}
+use Rattle.road_io.specs.declared.source.Failed.{Failed}
+use Rattle.office_commands.specs.Endings.{code_of}
+use Rattle.office_commands.specs.Rests.{HasReadTo}
+use Rattle.office_commands.proofs.RestLaws.{to_by, to_stopped}
 use Rattle.office_commands.proofs.mishaps.accidents.Goals as goal
 
 pub returns-in-Err-clause-wrote : goal.returns-in-Err-clause-wrote
@@ -21,3 +26,19 @@ returns-in-Ok-clause-wrote g c = λ bytes o told.
     let read = reads bytes (recomputed c.args.limits.now) c.args.late in
     subst (λ (r : Option (ℕ × Cause)). Wrote (unless_refused r (accidents_of read.tuples o)) c.write_accidents.result old new) (c.in-Ok.ensures.refused bytes told)
     (subst (λ (ts : List Tuple). Wrote (unless_refused c.in-Ok.day.refused (accidents_of ts o)) c.write_accidents.result old new) (c.in-Ok.ensures.tuples bytes told) (c.write_accidents.ensures.wrote o))
+
+pub returns-in-Err-clause-reads : goal.returns-in-Err-clause-reads
+returns-in-Err-clause-reads g c = record {
+  within = c.read_day.ensures.bounded;
+  to = λ bytes left.
+      let refused = (reads bytes (recomputed c.args.limits.now) c.args.late).refused in
+      subst (λ (k : Closing). HasReadTo refused (code_of (Ok (Some k))) bytes (g.S.Source.left c.read_day.new.source)) (sym c.stopped.ensures) (to_stopped refused bytes _ c.in-Err.stop);
+}
+
+pub returns-in-Ok-clause-reads : goal.returns-in-Ok-clause-reads
+returns-in-Ok-clause-reads g c = record {
+  within = c.read_day.ensures.bounded;
+  to = λ bytes left.
+      let refused = (reads bytes (recomputed c.args.limits.now) c.args.late).refused in
+      to_by refused bytes (g.S.Source.left c.read_day.new.source) c.in-Ok.day.refused (code_of c.write_accidents.result) (c.in-Ok.ensures.ends bytes left) c.write_accidents.ensures.says;
+}

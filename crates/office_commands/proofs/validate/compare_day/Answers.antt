@@ -1,4 +1,4 @@
-use Rattle.std.proofs.Common.{◌≡◌, ℕ, List, length, [], Option, None, sym, ap, subst, ◌∙◌}
+use Rattle.std.proofs.Common.{◌≡◌, ℕ, List, length, [], Option, Some, None, sym, ap, subst, ◌∙◌}
 use Rattle.road_time.specs.declared.road.Notice.{Notice}
 use Rattle.road_time.specs.Day.{notices}
 use Rattle.road_time.specs.Rates.{Tariffs}
@@ -13,6 +13,10 @@ use Rattle.office_commands.specs.Endings.{StandsBefore}
 use Rattle.office_commands.proofs.EndingLaws.{refuses_empty}
 use Rattle.day_reading.specs.Days.{ReadsWithin}
 use Rattle.office_commands.specs.Entries.{most_compared}
+use Rattle.std.proofs.Common.{ℕ, arith, refl}
+use Rattle.office_commands.specs.Closings.{status_of}
+use Rattle.office_commands.specs.Rests.{SaysBy}
+use Rattle.office_commands.proofs.RestLaws.{refused_says}
 use Rattle.office_commands.proofs.validate.compare_day.Goals as goal
 
 pub returns-in-Ok-plain_notices-clause-exact : goal.returns-in-Ok-plain_notices-clause-exact
@@ -52,3 +56,23 @@ returns-in-Ok-plain_notices-clause-bounded g c = λ o kept rates.
     ∙ ap (λ ts. notices ts c.args.tariffs.now number (paid_of o.rows)) c.as_slice.ensures.value
     ∙ ap (λ (tariffs : Tariffs). notices day.tuples.items tariffs number (paid_of o.rows)) rates in
     subst (λ (ns : List Notice). ReadsWithin (most_compared (length ns)) (g.A.Source.left c.args.aside.now) (g.A.Source.left c.compare_notices.new.aside)) known c.compare_notices.ensures.bounded
+
+pub returns-in-Some-clause-says : goal.returns-in-Some-clause-says
+returns-in-Some-clause-says g c =
+    let is : c.args.day.now.refused ≡ Some (c.in-Some.line, c.in-Some.cause) = cc in
+    subst (λ (r : Option (ℕ × Cause)). SaysBy r 2) (sym is) refl
+
+pub returns-in-Err-clause-says : goal.returns-in-Err-clause-says
+returns-in-Err-clause-says g c =
+    let none : c.args.day.now.refused ≡ None = cc in
+    subst (λ (r : Option (ℕ × Cause)). SaysBy r (status_of c.refused.result)) (sym none) (λ s. refused_says c.in-Err.fault (sym (ap status_of c.refused.ensures) ∙ s))
+
+pub returns-in-Ok-plain_notices-clause-says : goal.returns-in-Ok-plain_notices-clause-says
+returns-in-Ok-plain_notices-clause-says g c =
+    let none : c.args.day.now.refused ≡ None = cc in
+    subst (λ (r : Option (ℕ × Cause)). SaysBy r (status_of c.compare_notices.result)) (sym none) c.compare_notices.ensures.unnamed
+
+pub returns-clause-says : goal.returns-clause-says
+returns-clause-says g c =
+    let none : c.args.day.now.refused ≡ None = cc in
+    subst (λ (r : Option (ℕ × Cause)). SaysBy r 8) (sym none) (λ s. omega (arith, s))

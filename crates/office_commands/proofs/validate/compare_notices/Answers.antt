@@ -5,6 +5,9 @@ use Rattle.office_commands.specs.Asides.{compared}
 use Rattle.office_commands.specs.Commands.{closed}
 use Rattle.office_commands.specs.Endings.{StandsBefore}
 use Rattle.office_commands.proofs.EndingLaws.{stands_alone, stops_empty}
+use Rattle.std.proofs.Common.{arith, ◌∙◌}
+use Rattle.office_commands.specs.Closings.{status_of}
+use Rattle.office_commands.proofs.RestLaws.{compared_says, stopped_says}
 use Rattle.office_commands.proofs.validate.compare_notices.Goals as goal
 
 pub returns-in-Ok-clause-exact : goal.returns-in-Ok-clause-exact
@@ -15,3 +18,9 @@ pub returns-in-Err-clause-exact : goal.returns-in-Err-clause-exact
 returns-in-Err-clause-exact g c = λ lines o told.
     let a = closed (compared c.args.wanted.now (lines_of lines)) o in
     subst (λ (k : Closing). StandsBefore a k []) (sym c.stopped.ensures) (stops_empty a c.in-Err.stop)
+
+pub returns-in-Ok-clause-unnamed : goal.returns-in-Ok-clause-unnamed
+returns-in-Ok-clause-unnamed g c = compared_says c.in-Ok.closing c.in-Ok.ensures.own
+
+pub returns-in-Err-clause-unnamed : goal.returns-in-Err-clause-unnamed
+returns-in-Err-clause-unnamed g c = λ s. stopped_says c.in-Err.stop (sym (ap status_of c.stopped.ensures) ∙ s)

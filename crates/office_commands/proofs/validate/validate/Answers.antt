@@ -1,4 +1,4 @@
-use Rattle.std.proofs.Common.{◌≡◌, ℕ, List, length, Option, Some, Ok, [], sym, subst, ◌∙◌}
+use Rattle.std.proofs.Common.{◌≡◌, ℕ, List, length, Option, Some, Ok, [], refl, sym, subst, ◌∙◌}
 use Rattle.road_time.specs.declared.road.Tuple.{Tuple}
 use Rattle.road_time.specs.Reads.{reads}
 use Rattle.road_time.specs.Lines.{lines_of}
@@ -11,6 +11,12 @@ use Rattle.office_commands.specs.Endings.{StandsBefore}
 use Rattle.office_commands.proofs.EndingLaws.{refuses_empty, stops_empty}
 use Rattle.day_reading.specs.Days.{ReadsWithin}
 use Rattle.office_commands.specs.Entries.{most_compared}
+use Rattle.std.proofs.Common.{ap}
+use Rattle.office_commands.specs.Closings.{status_of}
+use Rattle.office_commands.specs.Rests.{HasReadTo}
+use Rattle.office_commands.proofs.RestLaws.{to_by, to_stopped, to_refused, says_refused, ends_there, stopped_says, refused_says}
+use Rattle.day_reading.proofs.BoundLaws.{nothing_read}
+use Rattle.day_reading.specs.Days.{most_read}
 use Rattle.office_commands.proofs.validate.validate.Goals as goal
 
 pub returns-in-Err-clause-exact : goal.returns-in-Err-clause-exact
@@ -42,3 +48,41 @@ returns-in-Ok-read_day-clause-aside_bounded g c = λ bytes o told kept.
     let ok : c.tariffs.result ≡ Ok c.in-Ok.tariffs = cc in
     let rates : c.in-Ok.tariffs ≡ o.tariffs = reads_ok before after c.tariffs.result (λ p kept. kept ≡ p.tariffs) o c.in-Ok.tariffs c.tariffs.ensures.state kept ok in
     subst (λ (ts : List Tuple). ReadsWithin (most_compared (length (notices_of_day c.args.day ts o))) (g.A.Source.left c.args.aside.now) (g.A.Source.left c.compare_day.new.aside)) (c.in-Ok-read_day.ensures.tuples bytes told) (c.compare_day.ensures.bounded o still rates)
+
+pub returns-in-Err-clause-reads : goal.returns-in-Err-clause-reads
+returns-in-Err-clause-reads g c = record {
+  within = nothing_read (most_read (recomputed c.args.limits.now)) (g.S.Source.left c.args.source.now);
+  to = λ bytes left.
+      let refused = (reads bytes (recomputed c.args.limits.now) c.args.late).refused in
+      subst (λ (k : Closing). HasReadTo refused (status_of k) bytes (g.S.Source.left c.args.source.now)) (sym c.refused.ensures) (to_refused refused bytes _ c.in-Err.fault);
+}
+
+pub returns-clause-reads : goal.returns-clause-reads
+returns-clause-reads g c = record {
+  within = c.read_day.ensures.bounded;
+  to = λ bytes left.
+      let refused = (reads bytes (recomputed c.args.limits.now) c.args.late).refused in
+      subst (λ (k : Closing). HasReadTo refused (status_of k) bytes (g.S.Source.left c.read_day.new.source)) (sym c.stopped.ensures) (to_stopped refused bytes _ c.in-Err-read_day.stop);
+}
+
+pub returns-in-Ok-read_day-clause-reads : goal.returns-in-Ok-read_day-clause-reads
+returns-in-Ok-read_day-clause-reads g c = record {
+  within = c.read_day.ensures.bounded;
+  to = λ bytes left.
+      let refused = (reads bytes (recomputed c.args.limits.now) c.args.late).refused in
+      to_by refused bytes (g.S.Source.left c.read_day.new.source) c.in-Ok-read_day.read.refused (status_of c.compare_day.result) (c.in-Ok-read_day.ensures.ends bytes left) c.compare_day.ensures.says;
+}
+
+pub returns-in-Err-clause-refused_first : goal.returns-in-Err-clause-refused_first
+returns-in-Err-clause-refused_first g c = λ s. refl
+
+pub returns-clause-refused_first : goal.returns-clause-refused_first
+returns-clause-refused_first g c = λ s. refl
+
+pub returns-in-Ok-read_day-clause-refused_first : goal.returns-in-Ok-read_day-clause-refused_first
+returns-in-Ok-read_day-clause-refused_first g c = λ s. c.compare_day.ensures.source_first (says_refused c.in-Ok-read_day.read.refused (status_of c.compare_day.result) c.compare_day.ensures.says s)
+
+pub returns-in-Ok-read_day-clause-source_first : goal.returns-in-Ok-read_day-clause-source_first
+returns-in-Ok-read_day-clause-source_first g c = λ bytes left more.
+    let refused = (reads bytes (recomputed c.args.limits.now) c.args.late).refused in
+    c.compare_day.ensures.source_first (ends_there refused bytes (g.S.Source.left c.read_day.new.source) c.in-Ok-read_day.read.refused (c.in-Ok-read_day.ensures.ends bytes left) more)

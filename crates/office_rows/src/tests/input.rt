@@ -99,6 +99,7 @@ fn lines_and_their_answers(rt: HostRuntime) -> Result<(), Fail> {
     ];
     for (input, text, status) in rows {
         let got = run(
+            &rt,
             rt.alloc(),
             &Limits::DAY,
             &["answers", "100"],
@@ -119,6 +120,7 @@ fn small_limits(rt: HostRuntime) -> Result<(), Fail> {
         ..Limits::DAY
     };
     let got = run(
+        &rt,
         alloc,
         &two_lines,
         &day,
@@ -134,6 +136,7 @@ fn small_limits(rt: HostRuntime) -> Result<(), Fail> {
         ..Limits::DAY
     };
     let got = run(
+        &rt,
         alloc,
         &one_vehicle,
         &day,
@@ -149,6 +152,7 @@ fn small_limits(rt: HostRuntime) -> Result<(), Fail> {
         ..Limits::DAY
     };
     let got = run(
+        &rt,
         alloc,
         &one_line,
         &day,
@@ -204,6 +208,7 @@ fn words_and_their_ends(rt: HostRuntime) -> Result<(), Fail> {
     ];
     for (words, text, status) in rows {
         let got = run(
+            &rt,
             rt.alloc(),
             &Limits::DAY,
             words,
@@ -255,6 +260,7 @@ fn asides_and_their_ends(rt: HostRuntime) -> Result<(), Fail> {
     ];
     for (aside, text, status) in rows {
         let got = run(
+            &rt,
             rt.alloc(),
             &Limits::DAY,
             &["validate", "100"],
@@ -287,6 +293,10 @@ fn faults_and_their_ends(rt: HostRuntime) -> Result<(), Fail> {
         aside_fails: &[2],
         ..good
     };
+    let refused = Ends {
+        input: b"x\n",
+        ..no_aside
+    };
     let rows = [
         (day, unread, "# read fault\n", 4),
         (day, cut, "# read fault\n", 4),
@@ -296,6 +306,7 @@ fn faults_and_their_ends(rt: HostRuntime) -> Result<(), Fail> {
         (compared, unread, "# read fault\n", 4),
         (compared, no_aside, "# read fault\n", 4),
         (compared, cut_aside, "# read fault\n", 4),
+        (compared, refused, "# refused line 1 fields 1\n", 2),
         (compared, Ends { room: 3, ..good }, "# a", 5),
         (&["accidents"], cut, "# read fault\n", 4),
         (&["accidents"], no_aside, "", 0),
@@ -303,7 +314,7 @@ fn faults_and_their_ends(rt: HostRuntime) -> Result<(), Fail> {
         (&[], Ends { room: 0, ..good }, "", 5),
     ];
     for (words, ends, text, status) in rows {
-        let got = run(rt.alloc(), &Limits::DAY, words, ends)?;
+        let got = run(&rt, rt.alloc(), &Limits::DAY, words, ends)?;
         assert!(rt; got.0.as_slice() == text.as_bytes(), "{text}");
         assert_eq!(rt; got.1, status, "{text}");
     }

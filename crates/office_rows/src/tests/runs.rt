@@ -2,14 +2,15 @@
 ghost use Rattle.std.specs.Prelude.{◌≤◌};
 ghost use Rattle.road_time.specs.Fits.{IsLimits};
 
-use crate::entry::office;
 use keeper::{Keeper, MemKeeper};
+use office_commands::office;
 use partition_workers::InlineCrew;
 use road_io::{MemSink, MemSource};
 use road_time::{Limits, NoMemory};
 use std::alloc::Global;
 use std::process::Abort;
 use std::test::Fail;
+use std::thread::Threads;
 
 pub const ONE: &str = "0,0,7,30,0,0,0,10,52800,-1,-1,-1,-1,-1,-1\n";
 
@@ -44,7 +45,8 @@ impl<'a> Ends<'a> {
 }
 
 /// The text and status of `office` where nothing is kept.
-pub fn run(
+pub fn run<R: Threads>(
+    rt: &R,
     alloc: Global,
     limits: &Limits,
     words: &[&str],
@@ -53,11 +55,12 @@ pub fn run(
     requires { IsLimits limits.now }
 {
     let mut keeper = MemKeeper::new(alloc, &[])?;
-    run_on(alloc, limits, words, ends, &mut keeper)
+    run_on(rt, alloc, limits, words, ends, &mut keeper)
 }
 
 /// The text and status of `office` over a keeper.
-pub fn run_on<K: Keeper>(
+pub fn run_on<K: Keeper, R: Threads>(
+    rt: &R,
     alloc: Global,
     limits: &Limits,
     words: &[&str],
@@ -75,6 +78,7 @@ pub fn run_on<K: Keeper>(
     let mut sink = MemSink::new(alloc, ends.room, ends.output_piece.max(1))?;
     let mut crew = InlineCrew::new(alloc, false);
     let status = office(
+        rt,
         alloc,
         owned.as_slice(),
         limits,
@@ -88,8 +92,8 @@ pub fn run_on<K: Keeper>(
 }
 
 /// A command over a keeper writes this text and has this status.
-pub fn writes<K: Keeper>(
-    rt: &impl Abort,
+pub fn writes<K: Keeper, R: Abort + Threads>(
+    rt: &R,
     alloc: Global,
     words: &[&str],
     ends: Ends<'_>,
@@ -97,7 +101,7 @@ pub fn writes<K: Keeper>(
     text: &[u8],
     status: u8,
 ) -> Result<(), Fail> {
-    let got = run_on(alloc, &Limits::DAY, words, ends, keeper)?;
+    let got = run_on(rt, alloc, &Limits::DAY, words, ends, keeper)?;
     assert!(rt; got.0.as_slice() == text);
     assert_eq!(rt; got.1, status);
     Ok(())
@@ -113,15 +117,15 @@ pub struct Step<'a> {
 }
 
 /// Commands one after the other over one keeper.
-pub fn each_writes<K: Keeper>(
-    rt: &impl Abort,
+pub fn each_writes<K: Keeper, R: Abort + Threads>(
+    rt: &R,
     alloc: Global,
     keeper: &mut K,
     all: &[Step<'_>],
 ) -> Result<(), Fail> {
     for one in all {
         let ends = Ends::of(one.input.as_bytes(), b"");
-        let got = run_on(alloc, &Limits::DAY, one.words, ends, keeper)?;
+        let got = run_on(rt, alloc, &Limits::DAY, one.words, ends, keeper)?;
         let text = one.text;
         assert!(rt; got.0.as_slice() == text.as_bytes(), "{text}");
         assert_eq!(rt; got.1, one.status, "{text}");

@@ -6,6 +6,7 @@ use road_time::Limits;
 use std::alloc::Global;
 use std::process::Abort;
 use std::test::Fail;
+use std::thread::Threads;
 
 /// Two vehicles that stand at one place, eastbound in segment 10.
 pub const PAIR: [&str; 8] = [
@@ -156,8 +157,8 @@ fn are_answers(words: &[&str]) -> bool {
 }
 
 /// A day's lines end so by the words, however the work is done.
-pub fn row(
-    rt: &impl Abort,
+pub fn row<R: Abort + Threads>(
+    rt: &R,
     alloc: Global,
     words: &[&str],
     crowds: &[Crowd],
@@ -175,7 +176,7 @@ pub fn row(
         all.extend_from_slice(words)?;
         all.extend_from_slice(worked)?;
         let ends = Ends::of(input.as_slice(), b"");
-        let got = run(alloc, &Limits::DAY, all.as_slice(), ends)?;
+        let got = run(rt, alloc, &Limits::DAY, all.as_slice(), ends)?;
         assert!(rt; got.0.as_slice() == wanted.as_slice(), "{text}");
         assert_eq!(rt; got.1, status, "{text}");
     }

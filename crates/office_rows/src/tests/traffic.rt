@@ -140,10 +140,10 @@ fn a_file_rehearsed_and_imported(rt: HostRuntime) -> Result<(), Fail> {
         &["generate", "--vehicles", "20", "1"],
         &["generate", "--vehicles=20", "--", "1"],
     ];
-    let first = run(alloc, &Limits::DAY, three[0], ends)?;
+    let first = run(&rt, alloc, &Limits::DAY, three[0], ends)?;
     assert_eq!(rt; first.0.len(), 15_883);
     for words in three {
-        let file = run(alloc, &Limits::DAY, words, ends)?;
+        let file = run(&rt, alloc, &Limits::DAY, words, ends)?;
         assert!(rt; file.0.as_slice() == first.0.as_slice());
         assert_eq!(rt; file.1, 0);
     }
@@ -161,13 +161,13 @@ fn a_file_rehearsed_and_imported(rt: HostRuntime) -> Result<(), Fail> {
         "--minutes=10",
         "--crashes=1",
     ];
-    let rehearsed = run(alloc, &Limits::DAY, &rehearse, ends)?;
-    let again = run(alloc, &Limits::DAY, &rehearse, ends)?;
+    let rehearsed = run(&rt, alloc, &Limits::DAY, &rehearse, ends)?;
+    let again = run(&rt, alloc, &Limits::DAY, &rehearse, ends)?;
     assert!(rt; rehearsed.0.as_slice() == again.0.as_slice());
     assert!(rt; rehearsed.0.as_slice().starts_with(FRONT));
-    let file = run(alloc, &Limits::DAY, &generate, ends)?;
+    let file = run(&rt, alloc, &Limits::DAY, &generate, ends)?;
     ends.input = file.0.as_slice();
-    let stored = run(alloc, &Limits::DAY, &["import", "100"], ends)?;
+    let stored = run(&rt, alloc, &Limits::DAY, &["import", "100"], ends)?;
     assert_eq!(rt; stored.1, 0);
     for (one, other) in [(7, 5), (9, 7), (13, 9)] {
         let here = word(alloc, rehearsed.0.as_slice(), one)?;

@@ -116,7 +116,7 @@ fn one_line_of_a_history(rt: HostRuntime) -> Result<(), Fail> {
     };
     let mut keeper = MemKeeper::new(alloc, &[])?;
     let ends = Ends::of(TWO.as_bytes(), b"");
-    let got = run_on(alloc, &one_line, PAST, ends, &mut keeper)?;
+    let got = run_on(&rt, alloc, &one_line, PAST, ends, &mut keeper)?;
     let text: &[u8] = b"# refused line 2 many 1\n";
     assert!(rt; got.0.as_slice() == text);
     assert_eq!(rt; got.1, 2);

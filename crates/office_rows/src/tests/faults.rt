@@ -6,6 +6,7 @@ use road_time::Limits;
 use std::alloc::Global;
 use std::process::Abort;
 use std::test::Fail;
+use std::thread::Threads;
 
 const IMPORT: &[&str] = &["import", "100"];
 
@@ -23,8 +24,8 @@ const ALREADY: &[u8] = b"# already day 100 tuples 56 notices 55 total 2\n";
 const NO_DAY: &[u8] = b"# no day 100\n";
 
 /// Nothing is kept, and then the day is stored once.
-fn stores_then(
-    rt: &impl Abort,
+fn stores_then<R: Abort + Threads>(
+    rt: &R,
     alloc: Global,
     input: &[u8],
     keeper: &mut MemKeeper,
@@ -68,7 +69,7 @@ fn each_read_fails(rt: HostRuntime) -> Result<(), Fail> {
             ..Ends::of(input.as_slice(), b"")
         };
         let mut keeper = MemKeeper::new(alloc, &[])?;
-        let got = run_on(alloc, &Limits::DAY, IMPORT, ends, &mut keeper)?;
+        let got = run_on(&rt, alloc, &Limits::DAY, IMPORT, ends, &mut keeper)?;
         if got.1 != 0 {
             assert_eq!(rt; got.1, 4);
             assert!(rt; got.0.as_slice() == b"# read fault\n".as_slice());
@@ -97,7 +98,7 @@ fn each_room_is_too_small(rt: HostRuntime) -> Result<(), Fail> {
             ..Ends::of(input.as_slice(), b"")
         };
         let mut keeper = MemKeeper::new(alloc, &[])?;
-        let got = run_on(alloc, &Limits::DAY, IMPORT, ends, &mut keeper)?;
+        let got = run_on(&rt, alloc, &Limits::DAY, IMPORT, ends, &mut keeper)?;
         assert_eq!(rt; got.1, 5);
         assert_eq!(rt; got.0.len(), room);
         assert!(rt; stored.as_slice().starts_with(got.0.as_slice()));
@@ -138,8 +139,8 @@ fn each_call_fails(rt: HostRuntime) -> Result<(), Fail> {
 }
 
 /// One line, by a sink of this room: what it holds, and what the same import answers then.
-fn one_line(
-    rt: &impl Abort,
+fn one_line<R: Abort + Threads>(
+    rt: &R,
     alloc: Global,
     room: usize,
     text: &[u8],

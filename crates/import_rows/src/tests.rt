@@ -1,0 +1,9 @@
+// Days in, over each crew: the jobs that were started, what was written, kept and answered.
+mod counted_crew;
+mod days;
+mod hour;
+mod imports;
+mod jobs;
+mod marked;
+mod offices;
+mod threads;

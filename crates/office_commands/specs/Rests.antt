@@ -1,0 +1,93 @@
+-- What a run leaves of its source.
+use Rattle.std.specs.Prelude.{ℕ, ◌≡◌, ◌≢◌, ◌+◌, List, [], drop, Option, Some, None}
+use Rattle.road_time.specs.declared.day.Limits.{Limits}
+use Rattle.road_time.specs.Form.{Fault}
+use Rattle.road_time.specs.Reads.{reads}
+use Rattle.tuple_format.specs.declared.cause.Cause.{Cause}
+use Rattle.keeper.specs.declared.kept.DayRecord.{DayRecord}
+use Rattle.keeper.specs.declared.kept.PastRecord.{PastRecord}
+use Rattle.keeper.specs.Office.{Office, record_of}
+use Rattle.keeper.specs.PastReads.{PastFault, past_reads}
+use Rattle.day_reading.specs.Days.{ReadsWithin, StopsSoon, most_read}
+use Rattle.office_words.specs.declared.command.Command.{Command}
+use Rattle.office_words.specs.declared.command.Command.TheVariants as command
+use Rattle.office_commands.specs.Days.{recomputed}
+use Rattle.office_commands.specs.Endings.{Holds}
+
+-- reading ended at the first refused line: no more than one buffer behind it was taken
+abbrev pub HasStopped : Option (ℕ × Fault) → List ℕ → Option (List ℕ) → Type 0
+HasStopped refused bytes left = (line : ℕ) × (fault : Fault) × (refused ≡ Some (line, fault)) × StopsSoon line bytes left
+
+-- no line was refused, and nothing is left
+abbrev pub HasEnded : Option (ℕ × Fault) → Option (List ℕ) → Type 0
+HasEnded refused left = (refused ≡ None) × (left ≡ Some [])
+
+-- where the reading of a day ended: at the refused line, if one was refused
+abbrev pub EndsAt : Option (ℕ × Cause) → Option (ℕ × Fault) → List ℕ → Option (List ℕ) → Type 0
+EndsAt None refused bytes left = HasEnded refused left
+EndsAt (Some named) refused bytes left = HasStopped refused bytes left
+
+-- a status names a refused line exactly where one was refused
+abbrev pub SaysBy : Option (ℕ × Cause) → ℕ → Type 0
+SaysBy None status = status ≢ 2
+SaysBy (Some named) status = status ≡ 2
+
+-- what the status says of the reading of these bytes: it came to their end, or ended at the first refused line
+pub record HasReadTo (refused : Option (ℕ × Fault)) (status : ℕ) (bytes : List ℕ) (left : Option (List ℕ)) : Type 0 where
+  pub answered : status ≡ 0 → HasEnded refused left
+  pub compared : status ≡ 7 → HasEnded refused left
+  pub refused_there : status ≡ 2 → HasStopped refused bytes left
+
+-- a day was read within its limits, and to where the status says
+pub record HasReadDay (limits : Limits) (late status : ℕ) (before after : Option (List ℕ)) : Type 0 where
+  pub within : ReadsWithin (most_read limits) before after
+  pub to : (bytes : List ℕ) → before ≡ Some bytes → HasReadTo (reads bytes limits late).refused status bytes after
+
+-- of a day that is to be kept a refused line ends the reading
+abbrev pub StopsThere : Limits → ℕ → ℕ → Option (List ℕ) → Option (List ℕ) → Type 0
+StopsThere limits late status before after = (bytes : List ℕ) → before ≡ Some bytes → status ≡ 2 → HasStopped (reads bytes limits late).refused bytes after
+
+-- how a command read its source, whatever is kept
+abbrev pub ReadsAs : Limits → Command → ℕ → Option (List ℕ) → Option (List ℕ) → Type 0
+ReadsAs limits (command.Answers run) status before after = HasReadDay limits run.late status before after
+ReadsAs limits (command.Import run) status before after = StopsThere limits run.late status before after
+ReadsAs limits (command.Validate number late) status before after = HasReadDay (recomputed limits) late status before after
+ReadsAs limits (command.Accidents late) status before after = HasReadDay (recomputed limits) late status before after
+ReadsAs limits _ status before after = Unit {0}
+
+-- how words had their source read, whatever is kept
+abbrev pub ReadAsAsked : Limits → Option Command → ℕ → Option (List ℕ) → Option (List ℕ) → Type 0
+ReadAsAsked limits None status before after = Unit {0}
+ReadAsAsked limits (Some c) status before after = ReadsAs limits c status before after
+
+-- what an import leaves of its source: nothing, or of that of a day that was kept before all behind one byte more than it had
+abbrev pub LeavesOfDay : Option DayRecord → List ℕ → Option (List ℕ) → Type 0
+LeavesOfDay None bytes left = left ≡ Some []
+LeavesOfDay (Some kept) bytes left = left ≡ Some (drop (kept.bytes + 1) bytes)
+
+-- and what a history leaves of its source
+abbrev pub LeavesOfPast : Option PastRecord → List ℕ → Option (List ℕ) → Type 0
+LeavesOfPast None bytes left = left ≡ Some []
+LeavesOfPast (Some kept) bytes left = left ≡ Some (drop (kept.bytes + 1) bytes)
+
+-- reading a history ended at its first refused line: no more than one buffer behind it was taken
+abbrev pub HasStoppedPast : Option (ℕ × PastFault) → List ℕ → Option (List ℕ) → Type 0
+HasStoppedPast refused bytes left = (line : ℕ) × (fault : PastFault) × (refused ≡ Some (line, fault)) × StopsSoon line bytes left
+
+-- what the status says of the reading of a history
+pub record HasReadPast (limits : Limits) (base status : ℕ) (kept : Option PastRecord) (bytes : List ℕ) (left : Option (List ℕ)) : Type 0 where
+  pub ended : status ≡ 0 → LeavesOfPast kept bytes left
+  pub refused_there : status ≡ 2 → HasStoppedPast (past_reads bytes base limits).refused bytes left
+
+-- an import, or a history, left so much of its source
+abbrev pub LeavesAsKept : Limits → Option Command → ℕ → Office → List ℕ → Option (List ℕ) → Type 0
+LeavesAsKept limits (Some (command.Import run)) status o bytes left = status ≡ 0 → LeavesOfDay (record_of o run.day) bytes left
+LeavesAsKept limits (Some (command.Past base)) status o bytes left = HasReadPast limits base status o.past bytes left
+LeavesAsKept limits _ status o bytes left = Unit {0}
+
+-- what is kept is as it was after a day, a history or a tariff that was not put
+abbrev pub HoldsAsked : Option Command → ℕ → Type 0 → Type 0
+HoldsAsked (Some (command.Import run)) code same = Holds code same
+HoldsAsked (Some (command.Tariff xway crowd speed factor)) code same = Holds code same
+HoldsAsked (Some (command.Past base)) code same = Holds code same
+HoldsAsked _ code same = Unit {0}
