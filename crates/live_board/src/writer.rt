@@ -17,8 +17,7 @@ use std::alloc::Global;
 use std::marker::Model;
 use std::sync::Wait;
 
-/// Publishes on a board. Contracts see of which board it is, and what it published and queued. It is not `Drop`: end
-/// it by `end`.
+/// Publishes on a board. Contracts see of which board it is, and what it published and queued. Letting it go ends it.
 pub struct BoardWriter<R: Wait + Drop> {
     rt: R,
     alloc: Global,
@@ -111,6 +110,12 @@ impl<R: Wait + Drop> BoardWriter<R> {
             Some(writer) => drop(writer.take(&rt)),
             None => {}
         }
+    }
+}
+
+impl<R: Wait + Drop> Drop for BoardWriter<R> {
+    fn drop(self) {
+        self.end();
     }
 }
 

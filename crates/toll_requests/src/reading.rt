@@ -9,7 +9,7 @@ ghost use Rattle.toll_heads.specs.Fronts.{ReadsWithin};
 ghost use Rattle.toll_heads.specs.Asks.{IsWanted};
 ghost use Rattle.toll_requests.specs.Requests.{asked_for, IsAsked, ReadsAsked};
 ghost use Rattle.toll_requests.specs.Sends.{HasRoom, refusal_room};
-ghost use Rattle.toll_requests.specs.declared.session_end.SessionEnd.TheVariants.{LinkFault};
+ghost use Rattle.toll_requests.specs.declared.session_end.SessionEnd.TheVariants.{Answered, LinkFault};
 
 use crate::asked::{Asked, early_of};
 use crate::sending::{refuse, send_no_memory};
@@ -57,6 +57,7 @@ fn ask<L: Link>(
     ensures plan_kept { L.plan link.new ≡ L.plan link.old }
     ensures room_kept { IfOk result (λ a. L.room link.new ≡ L.room link.old) }
     ensures ranges { IfOk result IsAsked }
+    ensures available { result ≢ Err (Answered 503) }
     ensures cause { result ≡ Err LinkFault → Rose (L.faults link.old) (L.faults link.new) }
     ensures later { L.faults link.old ≤ L.faults link.new }
     ensures sure { HasRoom (L.room link.old) refusal_room → result ≢ Err LinkFault }
@@ -81,6 +82,7 @@ pub fn read_routed<L: Link>(
     ensures bounded { ReadsWithin 8192 (L.left link.old) (L.left link.new) }
     ensures ranges { IfOk result IsAsked }
     ensures room_kept { IfOk result (λ a. L.room link.new ≡ L.room link.old) }
+    ensures available { result ≢ Err (Answered 503) }
     ensures cause { result ≡ Err LinkFault → Rose (L.faults link.old) (L.faults link.new) }
     ensures later { L.faults link.old ≤ L.faults link.new }
     ensures sure { NeverFails (L.plan link.old) → HasRoom (L.room link.old) refusal_room → result ≢ Err LinkFault }
@@ -103,6 +105,7 @@ pub fn read_asked<L: Link>(alloc: Global, link: &mut L) -> Result<Asked, Session
     ensures bounded { ReadsWithin 8192 (L.left link.old) (L.left link.new) }
     ensures ranges { IfOk result IsAsked }
     ensures room_kept { IfOk result (λ a. L.room link.new ≡ L.room link.old) }
+    ensures available { result ≢ Err (Answered 503) }
     ensures cause { result ≡ Err LinkFault → Rose (L.faults link.old) (L.faults link.new) }
     ensures later { L.faults link.old ≤ L.faults link.new }
     ensures sure { NeverFails (L.plan link.old) → HasRoom (L.room link.old) refusal_room → result ≢ Err LinkFault }

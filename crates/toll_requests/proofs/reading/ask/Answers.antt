@@ -1,6 +1,7 @@
 use Rattle.std.proofs.Common.{◌≡◌, ◌-◌, ◌++◌, length, arith, drop, inr, Ok, Some, subst, sym, ap, refl, ◌∙◌}
 use Rattle.std.proofs.lemmas.List.{take_all, length-drop}
 use Rattle.toll_requests.specs.Requests.{asked_for, wanted_in, HasBody}
+use Rattle.toll_requests.proofs.StatusLaws.{memory_is_available, refusal_is_available}
 use Rattle.toll_requests.proofs.ReplyLaws.{room_for_memory, heads_on, wanted_same, has_body, refused}
 use Rattle.toll_requests.proofs.reading.ask.Goals as goal
 
@@ -26,3 +27,9 @@ returns-in-Err-clause-reads g c = λ h bytes at few known.
 
 pub returns-in-Err-asked_of-clause-sure : goal.returns-in-Err-asked_of-clause-sure
 returns-in-Err-asked_of-clause-sure g c = λ has same. c.send_no_memory.ensures.sure (room_for_memory _ has) (cc same)
+
+pub returns-in-Err-clause-available : goal.returns-in-Err-clause-available
+returns-in-Err-clause-available g c = λ same. refusal_is_available c.in-Err.refusal _ _ _ c.refuse.ensures.sent (cc same)
+
+pub returns-in-Err-asked_of-clause-available : goal.returns-in-Err-asked_of-clause-available
+returns-in-Err-asked_of-clause-available g c = λ same. memory_is_available _ _ _ c.send_no_memory.ensures.sent (cc same)

@@ -1,0 +1,3 @@
+pub mod SendLaws
+pub mod ImportLaws
+pub mod LiveLaws

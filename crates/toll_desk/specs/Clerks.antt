@@ -1,0 +1,38 @@
+-- What a clerk is told, and a session that passes requests on.
+use Rattle.std.specs.Prelude.{◌≡◌, ◌⊎◌, ℕ, List, Option, Some, None}
+use Rattle.live_board.specs.Passes.{Pass}
+use Rattle.toll_requests.specs.declared.asked.Asked.{Asked}
+use Rattle.toll_requests.specs.declared.session_end.SessionEnd.{SessionEnd}
+use Rattle.toll_desk.specs.declared.passed.Passed.{Passed}
+use Rattle.toll_desk.specs.Answers.{Wire}
+use Rattle.toll_desk.specs.Desk.{IsOfKept}
+use Rattle.toll_desk.specs.Sessions.{EndsAtOnce, Asks, ServesLive}
+
+-- what a clerk tells: nothing; or the request that was passed to it, if one was
+abbrev pub Told : Type 0
+Told = Option (Option Passed)
+
+-- none was passed, where that is told
+abbrev pub IsFresh : Told → Type 0
+IsFresh None = Unit {0}
+IsFresh (Some None) = Unit {0}
+IsFresh (Some (Some p)) = ⊥
+
+-- a request was passed once, and ended so, where that is told
+abbrev pub Passes : Told → Told → Asked → SessionEnd → Type 0
+Passes None after asked end = Unit {0}
+Passes (Some p) after asked end = after ≡ Some (Some (record { asked = asked; end = end }))
+
+-- a request of what is kept is passed on once, as it was read, and its clerk's end is the session's: nothing is written
+-- by a clerk that tells, so nothing by the session, and the reader is left as it was
+abbrev pub PassesOn : List ℕ → Told → Told → Pass → Pass → Wire → Wire → SessionEnd → Type 0
+PassesOn bytes told now p q old new end =
+    (asked : Asked) × (mid : Wire) × Asks bytes asked old mid × IsOfKept asked × Passes told now asked end
+    × ((t : Option Passed) → told ≡ Some t → new.written ≡ old.written) × (q ≡ p)
+
+-- a session that passes on what is asked of what is kept; all else is answered, and the clerk stays as it was
+abbrev pub Shares : List ℕ → Told → Told → Pass → Pass → Wire → Wire → SessionEnd → Type 0
+Shares bytes told now p q old new end =
+    (EndsAtOnce bytes old new end × (now ≡ told) × (q ≡ p))
+    ⊎ (PassesOn bytes told now p q old new end
+    ⊎ (ServesLive bytes p q old new end × (now ≡ told)))

@@ -1,0 +1,38 @@
+-- What the desk answers of what is kept.
+use Rattle.std.specs.Prelude.{◌≡◌, ℕ, Bool, List, Some}
+use Rattle.std.specs.Io.KnownBytes.{prepend_known}
+use Rattle.road_time.specs.declared.day.Limits.{Limits}
+use Rattle.keeper.specs.Calls.{WhenRefused}
+use Rattle.keeper.specs.Office.{Office, record_of}
+use Rattle.toll_requests.specs.declared.asked.Asked.{Asked}
+use Rattle.toll_requests.specs.declared.asked.Asked.TheVariants.{Day, Import, Spent, Live, LiveTotal}
+use Rattle.toll_requests.specs.declared.session_end.SessionEnd.{SessionEnd}
+use Rattle.toll_desk.specs.Answers.{Wire, day_reply, spent_reply, AnswersUnlessFailed}
+use Rattle.toll_desk.specs.Imports.{State, ImportsDay}
+
+-- what is kept is told as it was, nothing is published, and nothing is read
+abbrev pub LeavesAll : Office → State → State → Wire → Wire → Type 0
+LeavesAll o was now old new = (now.told ≡ Some o) × (now.posted ≡ was.posted) × (new.left ≡ old.left)
+
+-- a session's end of what is asked of what is kept: the reply of a day or of an amount, which leaves all as it is, or
+-- that of an import
+abbrev pub AnswersKept : WhenRefused → Bool → Asked → Limits → Office → State → State → Wire → Wire → SessionEnd → Type 0
+AnswersKept w exact (Day day) limits o was now old new end =
+    LeavesAll o was now old new
+    × AnswersUnlessFailed (day_reply (record_of o day)) was.faults now.faults old.room old.written new.written end
+AnswersKept w exact (Spent day xway vid) limits o was now old new end =
+    LeavesAll o was now old new
+    × AnswersUnlessFailed (spent_reply o day xway vid) was.faults now.faults old.room old.written new.written end
+AnswersKept w exact (Import day count early) limits o was now old new end =
+    (all : List ℕ) → prepend_known early old.left ≡ Some all
+    → ImportsDay w exact day limits count all o was now old new end
+AnswersKept w exact (Live vid) limits o was now old new end = Unit {0}
+AnswersKept w exact LiveTotal limits o was now old new end = Unit {0}
+
+-- it is asked of what is kept, and not of the live board
+abbrev pub IsOfKept : Asked → Type 0
+IsOfKept (Day day) = Unit {0}
+IsOfKept (Spent day xway vid) = Unit {0}
+IsOfKept (Import day count early) = Unit {0}
+IsOfKept (Live vid) = ⊥
+IsOfKept LiveTotal = ⊥

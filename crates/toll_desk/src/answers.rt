@@ -1,0 +1,113 @@
+// Answers of what is kept.
+ghost use Rattle.std.specs.Prelude.{◌≡◌, ◌≢◌, ◌≤◌, ℕ, List, Some, IfOk, string_bytes};
+ghost use Rattle.road_io.specs.Faults.{Rose};
+ghost use Rattle.road_io.specs.Rooms.{Endless};
+ghost use Rattle.keeper.specs.Office.{Office, record_of};
+ghost use Rattle.toll_requests.specs.declared.session_end.SessionEnd.TheVariants.{Answered, LinkFault};
+ghost use Rattle.toll_desk.specs.Answers.{Answers, AnswersUnlessFailed, day_reply, spent_reply, keeper_reply};
+
+use http::StatusCode;
+use keeper::{DayRecord, KeepFault, Keeper};
+use road_io::Link;
+use road_time::NoMemory;
+use std::alloc::Global;
+use toll_requests::{SessionEnd, send_error, send_no_memory, send_reply};
+use toll_texts::{day_body, spent_body};
+
+/// Sends an answer whose body may have found no memory.
+pub fn send_made<L: Link>(
+    alloc: Global,
+    link: &mut L,
+    status: StatusCode,
+    body: Result<String, NoMemory>,
+) -> SessionEnd
+    ensures sent { (text : List ℕ) → IfOk body (λ s. string_bytes s ≡ text)
+        → Answers (record { status = status; body = text })
+        (L.room link.old) (L.written link.old) (L.written link.new) result }
+    ensures unavailable { status ≢ 503 → result ≢ Answered 503 }
+    ensures unread { L.left link.new ≡ L.left link.old }
+    ensures sure { L.room link.old ≡ Endless → result ≢ LinkFault }
+    ensures cause { result ≡ LinkFault → Rose (L.faults link.old) (L.faults link.new) }
+    ensures later { L.faults link.old ≤ L.faults link.new }
+{
+    match body {
+        Ok(text) => send_reply(alloc, link, status, text.as_str()),
+        Err(_) => send_no_memory(link),
+    }
+}
+
+/// Answers that the keeper failed.
+pub fn send_keeper_fault<L: Link>(alloc: Global, link: &mut L) -> SessionEnd
+    ensures sent { Answers keeper_reply (L.room link.old) (L.written link.old) (L.written link.new) result }
+    ensures unread { L.left link.new ≡ L.left link.old }
+    ensures sure { L.room link.old ≡ Endless → result ≢ LinkFault }
+    ensures cause { result ≡ LinkFault → Rose (L.faults link.old) (L.faults link.new) }
+    ensures later { L.faults link.old ≤ L.faults link.new }
+{
+    send_error(alloc, link, StatusCode::SERVICE_UNAVAILABLE, "keeper")
+}
+
+/// Answers a day, if it is kept.
+fn send_day<L: Link>(alloc: Global, kept: Option<DayRecord>, link: &mut L) -> SessionEnd
+    ensures sent { Answers (day_reply kept) (L.room link.old) (L.written link.old) (L.written link.new) result }
+    ensures unavailable { result ≢ Answered 503 }
+    ensures unread { L.left link.new ≡ L.left link.old }
+    ensures sure { L.room link.old ≡ Endless → result ≢ LinkFault }
+    ensures cause { result ≡ LinkFault → Rose (L.faults link.old) (L.faults link.new) }
+    ensures later { L.faults link.old ≤ L.faults link.new }
+{
+    match kept {
+        Some(kept) => send_made(alloc, link, StatusCode::OK, day_body(alloc, &kept)),
+        None => send_error(alloc, link, StatusCode::NOT_FOUND, "no day"),
+    }
+}
+
+/// Answers a day, if it is kept.
+pub fn answer_day<L: Link, K: Keeper>(
+    alloc: Global,
+    day: u32,
+    keeper: &mut K,
+    link: &mut L,
+) -> SessionEnd
+    ensures sent { (o : Office) → K.told keeper.old ≡ Some o → AnswersUnlessFailed (day_reply (record_of o day))
+        (K.faults keeper.old) (K.faults keeper.new) (L.room link.old) (L.written link.old) (L.written link.new) result }
+    ensures told { (o : Office) → K.told keeper.old ≡ Some o → K.told keeper.new ≡ Some o }
+    ensures unavailable { result ≡ Answered 503 → Rose (K.faults keeper.old) (K.faults keeper.new) }
+    ensures unread { L.left link.new ≡ L.left link.old }
+    ensures sure { L.room link.old ≡ Endless → result ≢ LinkFault }
+    ensures cause { result ≡ LinkFault → Rose (L.faults link.old) (L.faults link.new) }
+    ensures later { L.faults link.old ≤ L.faults link.new }
+    ensures keeper_later { K.faults keeper.old ≤ K.faults keeper.new }
+{
+    match keeper.day(day) {
+        Ok(kept) => send_day(alloc, kept, link),
+        Err(KeepFault::Failed) => send_keeper_fault(alloc, link),
+        Err(KeepFault::NoMemory) => send_no_memory(link),
+    }
+}
+
+/// Answers what a vehicle was charged on an expressway on a day.
+pub fn answer_spent<L: Link, K: Keeper>(
+    alloc: Global,
+    day: u32,
+    xway: u8,
+    vid: u32,
+    keeper: &mut K,
+    link: &mut L,
+) -> SessionEnd
+    ensures sent { (o : Office) → K.told keeper.old ≡ Some o → AnswersUnlessFailed (spent_reply o day xway vid)
+        (K.faults keeper.old) (K.faults keeper.new) (L.room link.old) (L.written link.old) (L.written link.new) result }
+    ensures told { (o : Office) → K.told keeper.old ≡ Some o → K.told keeper.new ≡ Some o }
+    ensures unavailable { result ≡ Answered 503 → Rose (K.faults keeper.old) (K.faults keeper.new) }
+    ensures unread { L.left link.new ≡ L.left link.old }
+    ensures sure { L.room link.old ≡ Endless → result ≢ LinkFault }
+    ensures cause { result ≡ LinkFault → Rose (L.faults link.old) (L.faults link.new) }
+    ensures later { L.faults link.old ≤ L.faults link.new }
+    ensures keeper_later { K.faults keeper.old ≤ K.faults keeper.new }
+{
+    match keeper.spent(day, vid, xway) {
+        Ok(amount) => send_made(alloc, link, StatusCode::OK, spent_body(alloc, amount)),
+        Err(KeepFault::Failed) => send_keeper_fault(alloc, link),
+        Err(KeepFault::NoMemory) => send_no_memory(link),
+    }
+}

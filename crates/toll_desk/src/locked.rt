@@ -1,0 +1,27 @@
+// A desk that many sessions share.
+use crate::clerk::Clerk;
+use crate::desk::Desk;
+use keeper::Keeper;
+use partition_workers::Crew;
+use road_io::Link;
+use std::alloc::Global;
+use std::sync::{Mutex, Wait};
+use std::thread::Threads;
+use toll_requests::{Asked, SessionEnd};
+
+/// Takes the lock of a desk for each request. It tells nothing.
+#[derive(Drop)]
+pub struct Locked<'a, K: Keeper, C: Crew, R: Wait + Threads + Drop> {
+    pub rt: R,
+    pub desk: &'a Mutex<Desk<K, C, R>>,
+}
+
+impl<'a, K: Keeper, C: Crew, R: Wait + Threads + Drop> Clerk for Locked<'a, K, C, R> {
+    ghost use Rattle.std.specs.Prelude.{None};
+
+    ghost passed = { λ _. None };
+
+    fn answer<L: Link>(&mut self, alloc: Global, asked: Asked, link: &mut L) -> SessionEnd {
+        self.desk.lock(&self.rt).answer(alloc, &asked, link)
+    }
+}

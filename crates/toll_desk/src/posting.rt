@@ -1,0 +1,122 @@
+// Answers of imports.
+ghost use Rattle.std.specs.Prelude.{◌≡◌, ◌≢◌, ◌≤◌, ℕ, List, [], Some, length};
+ghost use Rattle.std.specs.Io.KnownBytes.{prepend_known};
+ghost use Rattle.road_io.specs.Faults.{Rose};
+ghost use Rattle.road_io.specs.Plans.{NeverFails};
+ghost use Rattle.road_io.specs.Rooms.{Endless};
+ghost use Rattle.road_time.specs.Fits.{IsLimits};
+ghost use Rattle.keeper.specs.Office.{Office};
+ghost use Rattle.import_once.specs.declared.outcomes.Outcome.TheVariants.{KeeperFault};
+ghost use Rattle.toll_requests.specs.declared.session_end.SessionEnd.TheVariants.{Answered, LinkFault};
+ghost use Rattle.toll_desk.specs.Answers.{Answers, wire_of, outcome_reply};
+ghost use Rattle.toll_desk.specs.Imports.{state_of, ImportsDay};
+
+use crate::answers::{send_keeper_fault, send_made};
+use crate::importing::import_body;
+use http::StatusCode;
+use import_once::Outcome;
+use import_plan::Plan;
+use keeper::Keeper;
+use live_board::BoardWriter;
+use partition_workers::Crew;
+use road_io::Link;
+use road_time::Limits;
+use std::alloc::Global;
+use std::sync::Wait;
+use std::thread::Threads;
+use toll_requests::{BodyEnd, SessionEnd, send_no_memory};
+use toll_texts::{differs_body, imported_body, passed_body, refused_body};
+
+/// Answers how an import ended.
+fn send_outcome<L: Link>(alloc: Global, link: &mut L, outcome: Outcome) -> SessionEnd
+    ensures sent { Answers (outcome_reply outcome) (L.room link.old) (L.written link.old) (L.written link.new) result }
+    ensures unavailable { result ≡ Answered 503 → outcome ≡ KeeperFault }
+    ensures unread { L.left link.new ≡ L.left link.old }
+    ensures sure { L.room link.old ≡ Endless → result ≢ LinkFault }
+    ensures cause { result ≡ LinkFault → Rose (L.faults link.old) (L.faults link.new) }
+    ensures later { L.faults link.old ≤ L.faults link.new }
+{
+    match outcome {
+        Outcome::Stored(kept) => {
+            send_made(
+                alloc,
+                link,
+                StatusCode::OK,
+                imported_body(alloc, &kept, "stored"),
+            )
+        }
+        Outcome::Already(kept) => {
+            send_made(
+                alloc,
+                link,
+                StatusCode::OK,
+                imported_body(alloc, &kept, "already"),
+            )
+        }
+        Outcome::Refused { line, cause } => send_made(
+            alloc,
+            link,
+            StatusCode::UNPROCESSABLE_ENTITY,
+            refused_body(alloc, line, &cause),
+        ),
+        Outcome::DayPassed { last } => {
+            send_made(alloc, link, StatusCode::CONFLICT, passed_body(alloc, last))
+        }
+        Outcome::Differs { kept, found } => send_made(
+            alloc,
+            link,
+            StatusCode::CONFLICT,
+            differs_body(alloc, &kept, &found),
+        ),
+        Outcome::KeeperFault => send_keeper_fault(alloc, link),
+        Outcome::NoMemory => send_no_memory(link),
+        Outcome::Answered(_) => send_no_memory(link),
+        Outcome::ReadFault => send_no_memory(link),
+        Outcome::WriteFault => send_no_memory(link),
+    }
+}
+
+/// Imports a day from the body of a request, publishes its charges, and answers how that ended.
+pub fn answer_import<L: Link, K: Keeper, C: Crew, R: Wait + Threads + Drop>(
+    rt: &R,
+    alloc: Global,
+    day: u32,
+    plan: &Plan,
+    limits: &Limits,
+    early: &[u8],
+    count: u64,
+    keeper: &mut K,
+    crew: &mut C,
+    writer: &mut BoardWriter<R>,
+    link: &mut L,
+) -> SessionEnd
+    requires low { 70 ≤ day }
+    requires high { day ≤ 1000000 }
+    requires width { (1 ≤ plan.now.width) × (plan.now.width ≤ 64) }
+    requires within { IsLimits limits.now }
+    requires idle { C.out crew.old ≡ [] }
+    requires few { length early.now ≤ count }
+    ensures imports { (all : List ℕ) (o : Office) → prepend_known early.now (L.left link.old) ≡ Some all
+        → K.told keeper.old ≡ Some o → ImportsDay K.refuses C.exact day limits.now count all o
+        (state_of (K.told keeper.old) (K.faults keeper.old) writer.old.posted)
+        (state_of (K.told keeper.new) (K.faults keeper.new) writer.new.posted)
+        (wire_of (L.left link.old) (L.plan link.old) (L.written link.old) (L.room link.old))
+        (wire_of (L.left link.new) (L.plan link.new) (L.written link.new) (L.room link.new)) result }
+    ensures idle { C.out crew.new ≡ [] }
+    ensures crew { C.which crew.new ≡ C.which crew.old }
+    ensures board { writer.new.board ≡ writer.old.board }
+    ensures unavailable { result ≡ Answered 503 → Rose (K.faults keeper.old) (K.faults keeper.new) }
+    ensures sure { NeverFails (L.plan link.old) → L.room link.old ≡ Endless → result ≢ LinkFault }
+    ensures cause { result ≡ LinkFault → Rose (L.faults link.old) (L.faults link.new) }
+    ensures later { L.faults link.old ≤ L.faults link.new }
+    ensures keeper_later { K.faults keeper.old ≤ K.faults keeper.new }
+{
+    let (outcome, end) = import_body(
+        rt, alloc, day, plan, limits, early, count, link, keeper, crew, writer,
+    );
+    match end {
+        BodyEnd::Whole => send_outcome(alloc, link, outcome),
+        BodyEnd::Cut => SessionEnd::Cut,
+        BodyEnd::LinkFault => SessionEnd::LinkFault,
+    }
+}
