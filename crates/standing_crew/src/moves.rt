@@ -1,0 +1,162 @@
+// The steps on a cell, each as one call.
+ghost use Rattle.std.specs.Prelude.{◌≡◌, ◌<◌, ◌≤◌, Some, None, IfSome, IfNone, OnOk, IfErr, MatchBool};
+ghost use Rattle.atomic_table.specs.Table.{rest};
+ghost use Rattle.expressway.specs.Results.{IsResultOf};
+ghost use Rattle.expressway.specs.declared.job.Job.{Job as TheJob};
+ghost use Rattle.standing_crew.specs.Steps.{IsOfInput};
+ghost use Rattle.standing_crew.specs.Views.{CanBeRun, input_of, with_taken};
+ghost use Rattle.standing_crew.specs.Views.{after_announce, after_take, after_collect, after_stop};
+ghost use Rattle.standing_crew.specs.Calls.{IsAt, IsSame, KeepsSeat, HasTurn};
+
+use crate::cells::{CellSeat, CellTable, Parcel};
+use crate::plays::{Announces, Collects, GivesBack, Looks, Opens, Rings, Shuts, Stops, Takes};
+use expressway::{Done, Job};
+
+const FREE: u64 = 0;
+
+const READY: u64 = 1;
+
+const TAKEN: u64 = 2;
+
+const DONE: u64 = 3;
+
+const OPEN: u64 = 4;
+
+// Behind the cells' words stands the stop, and behind that these.
+pub(crate) const BELL: usize = 1;
+
+pub(crate) const SLEEPERS: usize = 2;
+
+pub(crate) const CREW_WAITS: usize = 3;
+
+/// The crew announces a job in a cell that is free. The job comes back where the cell is not.
+pub(crate) fn announce(
+    cells: &CellTable,
+    seat: &mut CellSeat,
+    cell: usize,
+    job: Job,
+) -> Result<(), Job>
+    requires crew { IsAt cells.now.table_id seat.old × (seat.old.id ≡ 0) }
+    requires cell { cell < cells.now.table_id.slots }
+    requires free { input_of seat.old.me.0 cell ≡ None }
+    requires ready { CanBeRun job }
+    ensures same { IsSame seat.old seat.new }
+    ensures ok { OnOk result (seat.new.me ≡ after_announce seat.old.me cell job) }
+    ensures err { IfErr result (λ back. (back ≡ job) × (seat.new.me ≡ seat.old.me)) }
+{
+    if cells.compare_exchange::<Opens>(seat, cell, FREE, OPEN) != FREE {
+        return Err(job);
+    }
+    cells.exchange(seat, cell, Some(Parcel::Waiting(job)));
+    cells.store::<Announces>(seat, cell, READY);
+    Ok(())
+}
+
+/// Takes the job of a cell, if it is ready.
+pub(crate) fn take(cells: &CellTable, seat: &mut CellSeat, cell: usize) -> Option<Job>
+    requires seat { IsAt cells.now.table_id seat.old }
+    requires cell { cell < cells.now.table_id.slots }
+    requires idle { seat.old.me.0.taken ≡ None }
+    ensures same { IsSame seat.old seat.new }
+    ensures taken { IfSome result (λ job. CanBeRun job × (seat.new.me ≡ after_take seat.old.me cell job)) }
+    ensures none { IfNone result (seat.new.me ≡ seat.old.me) }
+{
+    if cells.peek(cell) != READY
+        || cells.compare_exchange::<Takes>(seat, cell, READY, TAKEN) != READY
+    {
+        return None;
+    }
+    match cells.exchange(seat, cell, None) {
+        Some(Parcel::Waiting(job)) => Some(job),
+        _ => unreachable!(),
+    }
+}
+
+/// Gives back what was done of the job that was taken.
+pub(crate) fn give_back(cells: &CellTable, seat: &mut CellSeat, cell: usize, done: Done)
+    requires seat { IsAt cells.now.table_id seat.old }
+    requires cell { cell < cells.now.table_id.slots }
+    requires turn { HasTurn seat.old cell }
+    requires result { (job : TheJob) × (seat.old.me.0.taken ≡ Some (cell, job)) × IsResultOf job done }
+    ensures same { IsSame seat.old seat.new }
+    ensures given { seat.new.me ≡ (with_taken seat.old.me.0 None, rest seat.old.me.1) }
+{
+    cells.exchange(seat, cell, Some(Parcel::Finished(done)));
+    cells.store::<GivesBack>(seat, cell, DONE);
+}
+
+/// The crew takes what was done of a cell's job, if it is done.
+pub(crate) fn collect(cells: &CellTable, seat: &mut CellSeat, cell: usize) -> Option<Done>
+    requires crew { IsAt cells.now.table_id seat.old × (seat.old.id ≡ 0) }
+    requires cell { cell < cells.now.table_id.slots }
+    ensures same { IsSame seat.old seat.new }
+    ensures done { IfSome result (IsOfInput (input_of seat.old.me.0 cell)) }
+    ensures collected { IfSome result (λ done. seat.new.me ≡ after_collect seat.old.me cell) }
+    ensures none { IfNone result (seat.new.me ≡ seat.old.me) }
+{
+    if cells.compare_exchange::<Collects>(seat, cell, DONE, OPEN) != DONE {
+        return None;
+    }
+    let parcel = cells.exchange(seat, cell, None);
+    cells.store::<Shuts>(seat, cell, FREE);
+    match parcel {
+        Some(Parcel::Finished(done)) => Some(done),
+        _ => unreachable!(),
+    }
+}
+
+/// Raises the stop.
+pub(crate) fn raise_stop(cells: &CellTable, seat: &mut CellSeat, count: usize)
+    requires seat { IsAt cells.now.table_id seat.old }
+    requires count { count ≡ cells.now.table_id.slots }
+    ensures same { IsSame seat.old seat.new }
+    ensures stopped { seat.new.me ≡ after_stop seat.old.me }
+{
+    cells.store::<Stops>(seat, count, 1);
+}
+
+/// Whether the stop was raised.
+pub(crate) fn sees_stop(cells: &CellTable, seat: &mut CellSeat, count: usize) -> bool
+    requires seat { IsAt cells.now.table_id seat.old }
+    requires count { count ≡ cells.now.table_id.slots }
+    ensures same { IsSame seat.old seat.new }
+    ensures seen { MatchBool result (seat.new.me ≡ after_stop seat.old.me) (seat.new.me ≡ seat.old.me) }
+{
+    cells.load::<Looks>(seat, count) == 1
+}
+
+/// Rings the bell, for helpers that wait.
+pub(crate) fn ring(cells: &CellTable, seat: &mut CellSeat, count: usize)
+    requires seat { IsAt cells.now.table_id seat.old }
+    requires count { (count ≡ cells.now.table_id.slots) × (count ≤ 64) }
+    ensures { KeepsSeat seat.old seat.new }
+{
+    cells.fetch_add::<Rings>(seat, count + BELL, 1);
+}
+
+/// Says of a helper that it is about to sleep.
+pub(crate) fn lie_down(cells: &CellTable, seat: &mut CellSeat, count: usize)
+    requires seat { IsAt cells.now.table_id seat.old }
+    requires count { (count ≡ cells.now.table_id.slots) × (count ≤ 64) }
+    ensures { KeepsSeat seat.old seat.new }
+{
+    cells.fetch_add::<Rings>(seat, count + SLEEPERS, 1);
+}
+
+/// Says of a helper that it sleeps no more.
+pub(crate) fn rise(cells: &CellTable, seat: &mut CellSeat, count: usize)
+    requires seat { IsAt cells.now.table_id seat.old }
+    requires count { (count ≡ cells.now.table_id.slots) × (count ≤ 64) }
+    ensures { KeepsSeat seat.old seat.new }
+{
+    cells.fetch_sub::<Rings>(seat, count + SLEEPERS, 1);
+}
+
+/// Says whether the crew is about to sleep.
+pub(crate) fn set_waits(cells: &CellTable, seat: &mut CellSeat, count: usize, waits: u64)
+    requires seat { IsAt cells.now.table_id seat.old }
+    requires count { (count ≡ cells.now.table_id.slots) × (count ≤ 64) }
+    ensures { KeepsSeat seat.old seat.new }
+{
+    cells.store::<Rings>(seat, count + CREW_WAITS, waits);
+}

@@ -1,0 +1,145 @@
+// What a helper does until the stop, and the crew until a job is done. Both sleep where there is nothing to
+// do.
+ghost use Rattle.std.specs.Prelude.{◌≡◌, ◌<◌, ◌≤◌, Some, None};
+ghost use Rattle.standing_crew.specs.Steps.{IsOfInput};
+ghost use Rattle.standing_crew.specs.Views.{after_collect, after_stop, input_of};
+ghost use Rattle.standing_crew.specs.Calls.{IsAt, IsSame, KeepsSeat};
+
+use crate::cells::{CellSeat, CellTable};
+use crate::moves::{BELL, CREW_WAITS, collect, lie_down, rise, sees_stop, set_waits};
+use crate::work::run_at;
+use expressway::Done;
+use partition_workers::Gate;
+use std::alloc::Global;
+use std::sync::Wait;
+
+/// Runs the ready jobs of all cells once over, for the crew if it sleeps too, and says whether there was one.
+fn help_once<G: Gate>(
+    alloc: Global,
+    cells: &CellTable,
+    seat: &mut CellSeat,
+    gate: &G,
+    count: usize,
+) -> bool
+    requires seat { IsAt cells.now.table_id seat.old }
+    requires count { (count ≡ cells.now.table_id.slots) × (count ≤ 64) }
+    requires idle { seat.old.me.0.taken ≡ None }
+    ensures { KeepsSeat seat.old seat.new }
+{
+    let mut any = false;
+    for cell in 0..count {
+        if run_at(alloc, cells, seat, gate, cell) {
+            any = true;
+            if cells.peek(count + CREW_WAITS) != 0 {
+                cells.wake_all(cell);
+            }
+        }
+    }
+    any
+}
+
+/// Sleeps until the bell is rung, if it was not since it was looked at.
+fn sleep<R: Wait>(rt: &R, cells: &CellTable, seat: &mut CellSeat, count: usize, rung: u64)
+    requires seat { IsAt cells.now.table_id seat.old }
+    requires count { (count ≡ cells.now.table_id.slots) × (count ≤ 64) }
+    ensures { KeepsSeat seat.old seat.new }
+{
+    lie_down(cells, seat, count);
+    cells.park(rt, count + BELL, (rung & 0xffff_ffff) as u32);
+    rise(cells, seat, count);
+}
+
+/// Runs ready jobs until the stop was seen, and sleeps where no cell is ready.
+pub(crate) fn help_at<R: Wait, G: Gate>(
+    rt: &R,
+    alloc: Global,
+    cells: &CellTable,
+    seat: &mut CellSeat,
+    gate: &G,
+    count: usize,
+)
+    requires seat { IsAt cells.now.table_id seat.old }
+    requires count { (count ≡ cells.now.table_id.slots) × (count ≤ 64) }
+    requires idle { seat.old.me.0.taken ≡ None }
+    ensures same { IsSame seat.old seat.new }
+    ensures stopped { seat.new.me ≡ after_stop seat.old.me }
+{
+    for _ in rt.forever() {
+        let rung = cells.peek(count + BELL);
+        if !help_once(alloc, cells, seat, gate, count) {
+            if sees_stop(cells, seat, count) {
+                return;
+            }
+            sleep(rt, cells, seat, count, rung);
+        }
+    }
+    unreachable!()
+}
+
+/// Runs one ready job of some cell, and says whether there was one.
+fn run_one<G: Gate>(
+    alloc: Global,
+    cells: &CellTable,
+    seat: &mut CellSeat,
+    gate: &G,
+    count: usize,
+) -> bool
+    requires seat { IsAt cells.now.table_id seat.old }
+    requires count { (count ≡ cells.now.table_id.slots) × (count ≤ 64) }
+    requires idle { seat.old.me.0.taken ≡ None }
+    ensures { KeepsSeat seat.old seat.new }
+{
+    for cell in 0..count {
+        if run_at(alloc, cells, seat, gate, cell) {
+            return true;
+        }
+    }
+    false
+}
+
+/// Sleeps while a cell's job is taken. A helper gives back before it looks whether the crew waits, so either
+/// the crew sees that, or the helper wakes it.
+fn sleep_at<R: Wait>(rt: &R, cells: &CellTable, seat: &mut CellSeat, count: usize, cell: usize)
+    requires seat { IsAt cells.now.table_id seat.old }
+    requires count { (count ≡ cells.now.table_id.slots) × (count ≤ 64) }
+    requires cell { cell < count }
+    ensures { KeepsSeat seat.old seat.new }
+{
+    set_waits(cells, seat, count, 1);
+    cells.park(rt, cell, 2);
+    set_waits(cells, seat, count, 0);
+}
+
+/// What was done of a cell's job. While it is not done, it runs ready jobs, that of the cell first, and
+/// sleeps where there is none.
+pub(crate) fn await_done<R: Wait, G: Gate>(
+    rt: &R,
+    alloc: Global,
+    cells: &CellTable,
+    seat: &mut CellSeat,
+    gate: &G,
+    count: usize,
+    cell: usize,
+) -> Done
+    requires crew { IsAt cells.now.table_id seat.old × (seat.old.id ≡ 0) }
+    requires count { (count ≡ cells.now.table_id.slots) × (count ≤ 64) }
+    requires cell { cell < count }
+    requires idle { seat.old.me.0.taken ≡ None }
+    ensures same { IsSame seat.old seat.new }
+    ensures collected { seat.new.me ≡ after_collect seat.old.me cell }
+    ensures done { IsOfInput (input_of seat.old.me.0 cell) result }
+{
+    for _ in rt.forever() {
+        match collect(cells, seat, cell) {
+            Some(done) => return done,
+            None => {
+                if !run_at(alloc, cells, seat, gate, cell)
+                    && !run_one(alloc, cells, seat, gate, count)
+                {
+                    sleep_at(rt, cells, seat, count, cell);
+                }
+            }
+        }
+    }
+    unreachable!()
+}
