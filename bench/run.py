@@ -1,0 +1,108 @@
+#!/usr/bin/env python3
+"""Measures the program: makes days, imports and answers them, and prints a table.
+
+    python3 bench/run.py PROGRAM [--days 1000000,classic,greatest] [--workers 1,2,4] [--runs 3] [--folder DAYS]
+
+PROGRAM is crates/toll_office/out/toll_office. A day is `classic`, `greatest` or a number of lines; it stays in DAYS and
+is used again. `sha256sum` and `wc -l` of the same file are measured in the same run. Each figure is the least of the
+runs: processor time (user and system) and wall time in nanoseconds a line, both as multiples of `sha256sum`'s, and the
+greatest memory in megabytes (16 at least, which this script has itself).
+"""
+import argparse
+import os
+import pathlib
+import shutil
+import subprocess
+import sys
+import tempfile
+import time
+
+HERE = pathlib.Path(__file__).resolve().parent
+SEED = "1"
+# lines, vehicles, expressways, minutes
+NAMED = {
+    "classic": (12_000_000, 500_000, 1, 180),
+    "greatest": (16_000_000, 500_000, 256, 240),
+}
+
+
+def shape_of(day):
+    """The words of a day for the generator: one of a number of lines is of one expressway, for up to a whole day."""
+    if day in NAMED:
+        return NAMED[day]
+    lines = int(day)
+    return lines, 500_000, 1, max(10, min(1440, round((lines / 1000) ** 0.5 * 2)))
+
+
+def make_day(folder, day):
+    """The file of a day, made where it is not there."""
+    path = folder / f"{day}.csv"
+    if not path.exists():
+        maker = folder / "day"
+        subprocess.run(["cc", "-O2", "-o", maker, HERE / "day.c"], check=True)
+        part = folder / f"{day}.part"
+        with open(part, "wb") as out:
+            subprocess.run([maker, *map(str, shape_of(day)), SEED], stdout=out, check=True)
+        part.rename(path)
+    return path
+
+
+def measure(command, source):
+    """Processor seconds, wall seconds and megabytes of one run in an empty folder."""
+    room = tempfile.mkdtemp()
+    try:
+        with open(source, "rb") as given, open(os.path.join(room, "out"), "wb") as taken:
+            begin = time.monotonic()
+            child = subprocess.Popen(command, stdin=given, stdout=taken, cwd=room)
+            _, status, used = os.wait4(child.pid, 0)
+            wall = time.monotonic() - begin
+        child.returncode = os.waitstatus_to_exitcode(status)
+        if child.returncode != 0:
+            sys.exit(f"{command} ended with status {child.returncode}")
+        return used.ru_utime + used.ru_stime, wall, used.ru_maxrss / 1024
+    finally:
+        shutil.rmtree(room)
+
+
+def least(command, source, runs):
+    """The least processor time, wall time and memory of some runs."""
+    return tuple(map(min, zip(*(measure(command, source) for _ in range(runs)))))
+
+
+def lines_in(path):
+    with open(path, "rb") as file:
+        return sum(block.count(b"\n") for block in iter(lambda: file.read(1 << 20), b""))
+
+
+def main():
+    words = argparse.ArgumentParser(description=__doc__, formatter_class=argparse.RawDescriptionHelpFormatter)
+    words.add_argument("program", type=pathlib.Path)
+    words.add_argument("--days", default="1000000,classic,greatest")
+    words.add_argument("--workers", default="1,2,4")
+    words.add_argument("--runs", type=int, default=3)
+    words.add_argument("--folder", type=pathlib.Path, default=pathlib.Path(tempfile.gettempdir()) / "days")
+    given = words.parse_args()
+    given.folder.mkdir(parents=True, exist_ok=True)
+    program = str(given.program.resolve())
+    print("| Day | Lines | Command | Processor ns a line | Wall ns a line | Times `sha256sum`, processor | wall | MB |")
+    print("|---|---|---|---|---|---|---|---|")
+    for day in given.days.split(","):
+        path = make_day(given.folder, day)
+        lines = lines_in(path)
+        base = least(["sha256sum", "-"], path, given.runs)
+        commands = [["sha256sum", "-"], ["wc", "-l"]]
+        for what in ("import", "answers"):
+            for workers in given.workers.split(","):
+                commands.append([program, what, "100", "--workers", workers])
+        for command in commands:
+            used = base if command[0] == "sha256sum" else least(command, path, given.runs)
+            name = " ".join([pathlib.Path(command[0]).name, *command[1:]])
+            print(
+                f"| {day} | {lines} | `{name}` | {used[0] * 1e9 / lines:.0f} | {used[1] * 1e9 / lines:.0f}"
+                f" | {used[0] / base[0]:.2f} | {used[1] / base[1]:.2f} | {used[2]:.0f} |",
+                flush=True,
+            )
+
+
+if __name__ == "__main__":
+    main()
