@@ -13,8 +13,6 @@ mod ranges;
 mod reader;
 mod recent;
 mod sorter;
-#[cfg(test)]
-mod tests;
 mod tuple_lines;
 mod tuples;
 mod waiting;

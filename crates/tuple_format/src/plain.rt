@@ -37,20 +37,20 @@ fn is_unused(text: &[u8]) -> bool
     true
 }
 
-/// A field of one to nine digits, and what follows its comma.
+/// A field of one to ten digits, and what follows its comma.
 #[inline(always)]
-fn digits(text: &[u8]) -> Option<(u32, &[u8])>
+fn digits(text: &[u8]) -> Option<(u64, &[u8])>
     ensures { IfSome result (λ p. IsField text.now p.0 p.1.now) }
 {
-    let (head, _) = text.split_first_chunk::<10>()?;
+    let (head, _) = text.split_first_chunk::<11>()?;
     let mut value: u64 = 0;
-    for i in 0..10usize {
+    for i in 0..11usize {
         let b = head[i];
         if b < b'0' || b > b'9' {
             if b != b',' || i == 0 {
                 return None;
             }
-            return Some((value as u32, &text[i + 1..]));
+            return Some((value, &text[i + 1..]));
         }
         value = 10 * value + u64::from(b - b'0');
     }
@@ -59,7 +59,7 @@ fn digits(text: &[u8]) -> Option<(u32, &[u8])>
 
 /// A field of one digit, and what follows its comma.
 #[inline(always)]
-fn digit(text: &[u8]) -> Option<(u32, &[u8])>
+fn digit(text: &[u8]) -> Option<(u64, &[u8])>
     ensures { IfSome result (λ p. IsField text.now p.0 p.1.now) }
 {
     if text.len() < 2 {
@@ -69,7 +69,7 @@ fn digit(text: &[u8]) -> Option<(u32, &[u8])>
     if b < b'0' || b > b'9' || text[1] != b',' {
         return None;
     }
-    Some((u32::from(b - b'0'), &text[2..]))
+    Some((u64::from(b - b'0'), &text[2..]))
 }
 
 /// The report of a text in the plain form; what it leaves, the general reader takes.
@@ -89,20 +89,26 @@ pub fn plain_report(text: &[u8]) -> Option<Report>
     if !is_unused(rest) || kind != 0 {
         return None;
     }
-    if time > LAST_SECOND || vid > LAST_NAME || spd > TOP_SPEED || xway > LAST_XWAY {
+    if time > u64::from(LAST_SECOND) || vid > u64::from(LAST_NAME) || spd > u64::from(TOP_SPEED) {
         return None;
     }
-    if lane > LAST_LANE || dir > LAST_DIRECTION || seg > LAST_SEGMENT || pos > LAST_POSITION {
+    if xway > u64::from(LAST_XWAY) || lane > u64::from(LAST_LANE) {
+        return None;
+    }
+    if dir > u64::from(LAST_DIRECTION) || seg > u64::from(LAST_SEGMENT) {
+        return None;
+    }
+    if pos > u64::from(LAST_POSITION) {
         return None;
     }
     Some(Report {
-        time,
-        vid,
+        time: time as u32,
+        vid: vid as u32,
         spd: spd as u8,
         xway: xway as u8,
         lane: lane as u8,
         dir: dir as u8,
         seg: seg as u8,
-        pos,
+        pos: pos as u32,
     })
 }

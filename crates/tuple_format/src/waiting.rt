@@ -1,6 +1,8 @@
 // The tuples that wait, in the order of Time.
 ghost use Rattle.std.specs.Prelude.{◌≡◌, ◌++◌, ◌∷◌, [], OnOk, OnErr, IfSome, IfNone, option_copied, slice_get};
+ghost use Rattle.std.specs.Map.{values_of};
 ghost use Rattle.road_time.specs.Order.{placed};
+ghost use Rattle.tuple_format.specs.Turns.{Keyed};
 
 use crate::clock::time_of;
 use road_time::{NoMemory, Tuple};
@@ -15,24 +17,43 @@ pub struct Turn {
     pub number: u64,
 }
 
-/// Tuples in the order of Time, those of equal Time as they came.
+/// Tuples in the order of Time, those of equal Time as they came. One that waits alone needs no turn.
 #[derive(Drop)]
 pub struct Waiting {
+    only: Option<Tuple>,
     turns: BTreeMap<Turn, Tuple>,
     count: u64,
 }
 
 impl Model for Waiting {
     ghost use Rattle.std.specs.Prelude.{List};
-    ghost use Rattle.std.specs.Map.{values_of};
     ghost use Rattle.road_time.specs.declared.road.Tuple.{Tuple};
-    ghost use Rattle.tuple_format.specs.Turns.{Keyed};
+    ghost use Rattle.tuple_format.specs.Turns.{waiting_of, HasTurns};
 
     ghost Value = { List Tuple };
 
-    ghost view = { λ w. values_of w.turns.entries };
+    ghost view = { λ w. waiting_of w.only w.turns.entries };
 
-    ghost invariant = { λ w. Keyed w.count w.turns.entries };
+    ghost invariant = { λ w. HasTurns w.only w.count w.turns.entries };
+}
+
+/// Gives a tuple its turn behind those that are not later.
+fn place(turns: &mut BTreeMap<Turn, Tuple>, count: &mut u64, tuple: &Tuple) -> Result<(), NoMemory>
+    requires { Keyed count.old turns.old.entries }
+    ensures keyed { Keyed count.new turns.new.entries }
+    ensures put { OnOk result (values_of turns.new.entries ≡ placed (values_of turns.old.entries) tuple.now) }
+    ensures kept { OnErr result (turns.new.entries ≡ turns.old.entries) }
+{
+    let Some(next) = count.checked_add(1) else {
+        return Err(NoMemory);
+    };
+    let turn = Turn {
+        time: time_of(tuple),
+        number: *count,
+    };
+    turns.insert(turn, *tuple)?;
+    *count = next;
+    Ok(())
 }
 
 impl Waiting {
@@ -41,6 +62,7 @@ impl Waiting {
         ensures { result ≡ [] }
     {
         Waiting {
+            only: None,
             turns: BTreeMap::new(alloc),
             count: 0,
         }
@@ -51,24 +73,33 @@ impl Waiting {
         ensures put { OnOk result (self.new ≡ placed self.old tuple.now) }
         ensures kept { OnErr result (self.new ≡ self.old) }
     {
-        let Some(count) = self.count.checked_add(1) else {
-            return Err(NoMemory);
-        };
-        let turn = Turn {
-            time: time_of(tuple),
-            number: self.count,
-        };
-        self.turns.insert(turn, *tuple)?;
-        self.count = count;
-        Ok(())
+        match self.only {
+            None => {
+                if self.turns.is_empty() {
+                    self.only = Some(*tuple);
+                    return Ok(());
+                }
+                place(&mut self.turns, &mut self.count, tuple)
+            }
+            Some(first) => {
+                place(&mut self.turns, &mut self.count, &first)?;
+                self.only = None;
+                place(&mut self.turns, &mut self.count, tuple)
+            }
+        }
     }
 
     /// The first tuple.
     pub fn first(&self) -> Option<&Tuple>
         ensures { option_copied result ≡ slice_get self.now 0 }
     {
-        let (_, tuple) = self.turns.first_key_value()?;
-        Some(tuple)
+        match &self.only {
+            Some(first) => Some(first),
+            None => {
+                let (_, tuple) = self.turns.first_key_value()?;
+                Some(tuple)
+            }
+        }
     }
 
     /// Takes the first tuple out.
@@ -77,7 +108,12 @@ impl Waiting {
         ensures none { IfNone result (self.old ≡ []) }
         ensures kept { IfNone result (self.new ≡ self.old) }
     {
-        let (_, tuple) = self.turns.pop_first()?;
-        Some(tuple)
+        match self.only.take() {
+            Some(first) => Some(first),
+            None => {
+                let (_, tuple) = self.turns.pop_first()?;
+                Some(tuple)
+            }
+        }
     }
 }

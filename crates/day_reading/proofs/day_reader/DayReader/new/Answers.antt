@@ -1,6 +1,7 @@
 use Rattle.std.proofs.Common.{◌++◌, [], Some, refl, ap, arith}
 use Rattle.road_io.specs.Cutter.{held}
 use Rattle.day_reading.specs.Readings.{HasRead}
+use Rattle.day_reading.proofs.GatherLaws.{allowed_none, fit_none}
 use Rattle.day_reading.proofs.day_reader.DayReader.new.Goals as goal
 
 pub returns-clause-reading : goal.returns-clause-reading
@@ -24,6 +25,19 @@ returns-clause-reading c = λ bytes.
         sorter_is = c.new-2.ensures.sorter;
       };
     }
+
+pub returns-clause-gathering : goal.returns-clause-gathering
+returns-clause-gathering c = record {
+  line_limit = c.new-2.ensures.limit;
+  fit = fit_none c.args.limits.now;
+  stands = record {
+    before = [];
+    allowed = allowed_none c.args.limits.now;
+    number_is = c.in_ok-cutter.ensures.3;
+    gate_is = c.new-2.ensures.gate;
+    gave = (c.new-2.ensures.sorter, refl);
+  };
+}
 
 pub returns-clause-read : goal.returns-clause-read
 returns-clause-read c = λ bytes.
