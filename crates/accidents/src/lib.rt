@@ -1,7 +1,7 @@
 //! Who stands where, and in which stretches an accident stood in the minute before.
-//! One idea: an accident lasts as long as two vehicles stand at one place, so of each stretch it is enough to keep how many of its places have two,
-//! since when one has had without end, and in which of the last two minutes one stood that has ended. So `Stops::advance` only sets the second,
-//! and "stood in the minute before" is a comparison.
+//! One idea: an accident lasts as long as two vehicles stand at one place, so of each stretch it is enough to keep
+//! how many of its places have two, since when one has had without end, and in which of the last two minutes one
+//! stood that has ended. So `Stops::advance` only sets the second, and "stood in the minute before" is a comparison.
 #![tactic(auto)]
 
 pub mod places;
@@ -12,6 +12,3 @@ pub mod stops;
 pub use places::Stopped;
 pub use spell::Spell;
 pub use stops::Stops;
-
-#[cfg(test)]
-mod tests;

@@ -34,7 +34,8 @@ pub(crate) fn count_at(counts: &IndexMap<Place, u32>, place: Place) -> u32
 
 /// One vehicle less at the place.
 pub(crate) fn one_less(counts: &mut IndexMap<Place, u32>, place: Place)
-    ensures { (p : PlaceValue) → count_of counts.new.entries p ≡ (if same_place place p then count_of counts.old.entries place - 1 else count_of counts.old.entries p) }
+    ensures { (p : PlaceValue) → count_of counts.new.entries p ≡
+        (if same_place place p then count_of counts.old.entries place - 1 else count_of counts.old.entries p) }
 {
     let count = count_at(counts, place);
     if count < 2 {

@@ -23,9 +23,13 @@ pub(crate) fn begin_if(
     stretch: Stretch,
     second: u32,
 ) -> Result<(), NoMemory>
-    ensures others { OnOk result ((k : StretchValue) → same_stretch stretch k ≡ false → spell_of spells.new.entries k ≡ spell_of spells.old.entries k) }
-    ensures places { OnOk result ((spell_of spells.new.entries stretch).places ≡ (spell_of spells.old.entries stretch).places + (if one then 1 else 0)) }
-    ensures history { OnOk result ((stood_at : ℕ → Bool) → IsHistory second (spell_of spells.old.entries stretch) stood_at → IsHistory second (spell_of spells.new.entries stretch) stood_at) }
+    ensures others { OnOk result ((k : StretchValue) → same_stretch stretch k ≡ false
+        → spell_of spells.new.entries k ≡ spell_of spells.old.entries k) }
+    ensures places { OnOk result ((spell_of spells.new.entries stretch).places ≡
+        (spell_of spells.old.entries stretch).places + (if one then 1 else 0)) }
+    ensures history { OnOk result ((stood_at : ℕ → Bool)
+        → IsHistory second (spell_of spells.old.entries stretch) stood_at
+        → IsHistory second (spell_of spells.new.entries stretch) stood_at) }
     ensures refused { OnErr result (spells.new.entries ≡ spells.old.entries) }
 {
     if one {
@@ -42,9 +46,12 @@ pub(crate) fn end_if(
     stretch: Stretch,
     second: u32,
 )
-    ensures others { (k : StretchValue) → same_stretch stretch k ≡ false → spell_of spells.new.entries k ≡ spell_of spells.old.entries k }
-    ensures places { (spell_of spells.new.entries stretch).places ≡ (spell_of spells.old.entries stretch).places - (if one then 1 else 0) }
-    ensures history { (stood_at : ℕ → Bool) → IsHistory second (spell_of spells.old.entries stretch) stood_at → IsHistory second (spell_of spells.new.entries stretch) stood_at }
+    ensures others { (k : StretchValue) → same_stretch stretch k ≡ false
+        → spell_of spells.new.entries k ≡ spell_of spells.old.entries k }
+    ensures places { (spell_of spells.new.entries stretch).places ≡ (spell_of spells.old.entries stretch).places -
+        (if one then 1 else 0) }
+    ensures history { (stood_at : ℕ → Bool) → IsHistory second (spell_of spells.old.entries stretch) stood_at
+        → IsHistory second (spell_of spells.new.entries stretch) stood_at }
 {
     if one {
         if let Some(spell) = spells.get_mut(&stretch) {

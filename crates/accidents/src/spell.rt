@@ -25,7 +25,8 @@ pub(crate) const NONE: Spell = Spell {
 /// An accident at one more place.
 pub(crate) fn with_place(spell: Spell, second: u32) -> Result<Spell, NoMemory>
     ensures places { IfOk result (λ s. s.places ≡ spell.places + 1) }
-    ensures history { IfOk result (λ s. (stood_at : ℕ → Bool) → IsHistory second spell stood_at → IsHistory second s stood_at) }
+    ensures history { IfOk result (λ s. (stood_at : ℕ → Bool) → IsHistory second spell stood_at
+        → IsHistory second s stood_at) }
 {
     match spell.places.checked_add(1) {
         None => Err(NoMemory),

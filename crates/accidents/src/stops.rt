@@ -15,7 +15,8 @@ use std::alloc::Global;
 use std::marker::Model;
 
 /// Who stands where, and what is kept of the stretches, at the current second.
-/// Contracts see it as that second and three finite maps: who stands, how many stand at each place, and the accidents of each stretch.
+/// Contracts see it as that second and three finite maps: who stands, how many stand at each place, and the accidents
+/// of each stretch.
 #[derive(Drop)]
 pub struct Stops {
     second: u32,
@@ -100,7 +101,8 @@ impl Stops {
 
     /// Whether an accident stood in the stretch in the minute before the current one.
     pub fn stood_last_minute(&self, stretch: Stretch) -> bool
-        ensures { (entries : List Entry) → StandsFor self.now entries → result ≡ stood (standing_at entries) (minute_of self.now.second - 1) stretch }
+        ensures { (entries : List Entry) → StandsFor self.now entries
+            → result ≡ stood (standing_at entries) (minute_of self.now.second - 1) stretch }
     {
         stood_before(spell_at(&self.spells, stretch), self.second)
     }
@@ -109,7 +111,8 @@ impl Stops {
     pub fn nearest(&self, stretch: Stretch) -> Option<u8>
         requires segment { stretch.seg ≤ 99 }
         requires direction { stretch.dir ≤ 1 }
-        ensures { (entries : List Entry) → StandsFor self.now entries → result ≡ near (standing_at entries) (minute_of self.now.second) stretch }
+        ensures { (entries : List Entry) → StandsFor self.now entries
+            → result ≡ near (standing_at entries) (minute_of self.now.second) stretch }
     {
         for i in 0..5u8 {
             if let Some(seg) = downstream(stretch.seg, stretch.dir, i) {

@@ -15,6 +15,3 @@ pub mod worked;
 
 pub use book::Book;
 pub use publisher::{Charged, NoPublisher, Publisher};
-
-#[cfg(test)]
-mod tests;

@@ -42,7 +42,9 @@ pub fn history_for<K: Keeper>(
 ) -> Result<Vec<SpentRow>, KeepFault>
     requires fit { IsDay tuples.now }
     requires low { 70 ≤ number }
-    ensures told { (o : Office) → K.told keeper.old ≡ Some o → IfOk result (λ rows. (tariffs : TariffMap) → notices tuples.now tariffs number (paid rows.items) ≡ notices tuples.now tariffs number (paid_of o.rows)) }
+    ensures told { (o : Office) → K.told keeper.old ≡ Some o
+        → IfOk result (λ rows. (tariffs : TariffMap)
+        → notices tuples.now tariffs number (paid rows.items) ≡ notices tuples.now tariffs number (paid_of o.rows)) }
     ensures keys { IfOk result (λ rows. KeysDiffer rows.items) }
     ensures same { K.told keeper.new ≡ K.told keeper.old }
     ensures cause { result ≡ Err Failed → Rose (K.faults keeper.old) (K.faults keeper.new) }

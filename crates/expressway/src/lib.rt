@@ -15,6 +15,3 @@ pub use carriage::Carriage;
 pub use finding::{Finding, Findings};
 pub use job::{Done, Job, run};
 pub use lane_event::{Events, LaneEvent};
-
-#[cfg(test)]
-mod tests;

@@ -4,15 +4,16 @@ ghost use Rattle.road_time.specs.Rates.{IsTariff};
 ghost use Rattle.keeper.specs.History.{paid};
 ghost use Rattle.keeper.specs.Office.{RowsRise, record_of, last_day as last_day_of, rows_between, vehicle_rows_between};
 ghost use Rattle.keeper.specs.Kept.{IsDayPut, IsPastPut, IsLater, HasNoDays, with_day, with_past, with_tariff_of};
-ghost use Rattle.keeper.specs.Calls.{SoundIfTold, IfTold, Reads, Puts, GoesAsPlanned, PutsAsPlanned, Wants, CountsFaults};
+ghost use Rattle.keeper.specs.Calls.{SoundIfTold, IfTold, Reads, Puts, GoesAsPlanned, PutsAsPlanned, Wants};
+ghost use Rattle.keeper.specs.Calls.{CountsFaults};
 
 use crate::kept::{DayRecord, KeepFault, PastRecord};
 use road_time::{SpentRow, Tariff, Tariffs};
 
 /// Keeps days, amounts, a history and tariffs. `told` is what it keeps, where it tells that, `faults` the calls that it
-/// failed at and counted, `plan` which of its calls to come fail, where it tells that, `refuses` what it does at a put that it
-/// refuses, and `needs_memory` whether its small answers need any. Days are counted from 1, and
-/// amounts are of a day, a vehicle and an expressway.
+/// failed at and counted, `plan` which of its calls to come fail, where it tells that, `refuses` what it does at a
+/// put that it refuses, and `needs_memory` whether its small answers need any. Days are counted from 1, and amounts
+/// are of a day, a vehicle and an expressway.
 pub trait Keeper {
     ghost use Rattle.std.specs.Prelude.{ℕ, Bool, Option};
     ghost use Rattle.keeper.specs.Office.{Office};
@@ -70,7 +71,8 @@ pub trait Keeper {
 
     /// The amounts of a vehicle on the days `from` to `to`, both included, in the order of day and expressway.
     fn vehicle_rows(&mut self, vid: u32, from: u32, to: u32) -> Result<Vec<SpentRow>, KeepFault>
-        ensures state { Reads (told self.old) (told self.new) result (λ o rows. rows.items ≡ vehicle_rows_between o vid from to) }
+        ensures state { Reads (told self.old) (told self.new) result
+            (λ o rows. rows.items ≡ vehicle_rows_between o vid from to) }
         ensures rise { IfOk result (λ rows. RowsRise rows.items) }
         ensures sound { SoundIfTold (told self.new) }
         ensures planned { GoesAsPlanned (plan self.old) (plan self.new) result }
@@ -83,8 +85,8 @@ pub trait Keeper {
         ensures planned { GoesAsPlanned (plan self.old) (plan self.new) result }
         ensures cause { CountsFaults (faults self.old) (faults self.new) result };
 
-    /// Keeps a day after all kept ones, with its amounts. The amounts are of that day, above 0, in the order of vehicles
-    /// and expressways, and come to the record's total.
+    /// Keeps a day after all kept ones, with its amounts. The amounts are of that day, above 0, in the order of
+    /// vehicles and expressways, and come to the record's total.
     fn put_day(&mut self, kept: &DayRecord, rows: &[SpentRow]) -> Result<(), KeepFault>
         requires fits { IsDayPut kept.now rows.now }
         requires later { IfTold (told self.old) (λ o. IsLater kept.now.day o) }

@@ -1,8 +1,8 @@
 //! What a keeper in a file keeps: the answers of the keeper in memory, a file of version 1, files that are spoiled, and
 //! calls that are refused.
 //!
-//! It makes its files where it runs, but for `theirs.db`, which lies there: sqlite3 3.40.1 made it from `theirs.sql`. It
-//! prints a line for each row.
+//! It makes its files where it runs, but for `theirs.db`, which lies there: sqlite3 3.40.1 made it from `theirs.sql`.
+//! It prints a line for each row.
 #![tactic(auto)]
 
 mod old;

@@ -30,8 +30,8 @@ pub fn is_fault<S: Opens>(rt: HostRuntime, path: &str) -> Result<bool, KeepFault
     Ok(file.last_day() == Err(KeepFault::Failed))
 }
 
-/// Whether a kept day without its seal is a fault, whether another hand may then mend the file, which the keeper has let
-/// go, and whether the same keeper finds the day in it afterwards.
+/// Whether a kept day without its seal is a fault, whether another hand may then mend the file, which the keeper has
+/// let go, and whether the same keeper finds the day in it afterwards.
 pub fn after_a_fault<S: Opens>(rt: HostRuntime, path: &str) -> Result<[bool; 3], KeepFault> {
     put_day::<S>(rt, path)?;
     by_hand::<S>(rt, path, "UPDATE day_tariffs SET day = 101")?;

@@ -12,7 +12,9 @@ use std::collections::HashMap;
 #[inline(always)]
 pub fn charge(sums: &mut HashMap<u32, u64>, charged: &Charged)
     requires { 0 < spare sums.old }
-    ensures added { (v : ℕ) → lookup (nat_eq v) sums.new.entries ≡ (if nat_eq charged.now.vid v then Some (added (sum_at sums.old.entries charged.now.vid) charged.now.toll) else lookup (nat_eq v) sums.old.entries) }
+    ensures added { (v : ℕ) → lookup (nat_eq v) sums.new.entries ≡
+        (if nat_eq charged.now.vid v then Some
+        (added (sum_at sums.old.entries charged.now.vid) charged.now.toll) else lookup (nat_eq v) sums.old.entries) }
     ensures room { spare sums.old ≤ spare sums.new + 1 }
 {
     match sums.get_mut(&charged.vid) {

@@ -30,6 +30,3 @@ pub use parts::{Board, Readers};
 pub use reader::BoardReader;
 pub use told::Told;
 pub use writer::BoardWriter;
-
-#[cfg(test)]
-mod tests;

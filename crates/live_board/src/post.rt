@@ -31,12 +31,23 @@ pub fn submit<R: Wait>(
 ) -> (Keeping, Option<Front>, Result<(), NoMemory>)
     requires head { head.now ≡ head_of front.book }
     requires book { writer.desk.shown.value.front.book ≡ front.book }
-    requires front { front.log ≡ (posted_on writer.desk.shown.value (drop writer.behind writer.log.items)).published ++ (posted_on writer.desk.shown.value (drop writer.behind writer.log.items)).queued }
-    requires below { all_accounts (board_after (posted_with (operation_of change) (posted_on writer.desk.shown.value (drop writer.behind writer.log.items))).published) < 2 ^ 63 }
+    requires front { front.log ≡ (posted_on writer.desk.shown.value
+        (drop writer.behind writer.log.items)).published ++
+        (posted_on writer.desk.shown.value (drop writer.behind writer.log.items)).queued }
+    requires below { all_accounts (board_after
+        (posted_with (operation_of change)
+        (posted_on writer.desk.shown.value (drop writer.behind writer.log.items))).published) < 2 ^ 63 }
     ensures book { result.0.desk.shown.value.front.book ≡ front.book }
-    ensures held { Held front.book (posted_on result.0.desk.shown.value (drop result.0.behind result.0.log.items)) result.1 }
-    ensures ok { OnOk result.2 (posted_on result.0.desk.shown.value (drop result.0.behind result.0.log.items) ≡ posted_with (operation_of change) (posted_on writer.desk.shown.value (drop writer.behind writer.log.items))) }
-    ensures err { OnErr result.2 ((posted_on result.0.desk.shown.value (drop result.0.behind result.0.log.items) ≡ posted_on writer.desk.shown.value (drop writer.behind writer.log.items)) ⊎ (posted_on result.0.desk.shown.value (drop result.0.behind result.0.log.items) ≡ queued_with (operation_of change) (posted_on writer.desk.shown.value (drop writer.behind writer.log.items)))) }
+    ensures held { Held front.book (posted_on result.0.desk.shown.value
+        (drop result.0.behind result.0.log.items)) result.1 }
+    ensures ok { OnOk result.2 (posted_on result.0.desk.shown.value
+        (drop result.0.behind result.0.log.items) ≡ posted_with (operation_of change)
+        (posted_on writer.desk.shown.value (drop writer.behind writer.log.items))) }
+    ensures err { OnErr result.2 ((posted_on result.0.desk.shown.value
+        (drop result.0.behind result.0.log.items) ≡ posted_on writer.desk.shown.value
+        (drop writer.behind writer.log.items))
+        ⊎ (posted_on result.0.desk.shown.value (drop result.0.behind result.0.log.items) ≡ queued_with
+        (operation_of change) (posted_on writer.desk.shown.value (drop writer.behind writer.log.items)))) }
 {
     let mut writer = writer;
     let about = Snapshot::of(&change);

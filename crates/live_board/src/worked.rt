@@ -96,7 +96,8 @@ pub fn a_charge_that_may_be_refused<R: Wait + Drop>(
     requires new { writer.old.posted ≡ unposted }
     requires one { reader.old.board ≡ writer.old.board }
     ensures published { IfOk result (λ answers. IsTrue answers.0 → writer.new.posted.published ≡ with_toll) }
-    ensures either { IfOk result (λ _. (writer.new.posted.published ≡ with_toll) ⊎ (writer.new.posted.published ≡ without_toll)) }
+    ensures either { IfOk result (λ _. (writer.new.posted.published ≡ with_toll)
+        ⊎ (writer.new.posted.published ≡ without_toll)) }
 {
     writer.begin(100)?;
     let published = writer.publish(&[TOLL], 54).is_ok();

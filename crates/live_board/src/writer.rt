@@ -38,9 +38,16 @@ impl<R: Wait + Drop> Model for BoardWriter<R> {
 
     ghost coded = { writing_code };
 
-    ghost view = { λ w. record { board = numbers_of w.head.book; posted = unwrap_or (option_map (λ s. posted_on s.desk.shown.value (drop s.behind s.log.items)) w.writer) unposted } };
+    ghost view = { λ w. record {
+      board = numbers_of w.head.book;
+      posted = unwrap_or
+          (option_map (λ s. posted_on s.desk.shown.value (drop s.behind s.log.items)) w.writer) unposted;
+    } };
 
-    ghost invariant = { λ w. (w.head ≡ head_of w.head.book) × (option_map (λ s. s.desk.shown.value.front.book) w.writer ≡ Some w.head.book) × Held w.head.book (unwrap_or (option_map (λ s. posted_on s.desk.shown.value (drop s.behind s.log.items)) w.writer) unposted) w.front };
+    ghost invariant = { λ w. (w.head ≡ head_of w.head.book)
+        × (option_map (λ s. s.desk.shown.value.front.book) w.writer ≡ Some w.head.book)
+        × Held w.head.book (unwrap_or (option_map
+        (λ s. posted_on s.desk.shown.value (drop s.behind s.log.items)) w.writer) unposted) w.front };
 }
 
 impl<R: Wait + Drop> BoardWriter<R> {

@@ -1,7 +1,7 @@
 //! Keeping a history: the amounts that vehicles paid on the 69 days before a day, from a file of lines.
 //!
-//! A line is refused as a line of a day is, or where an earlier line is of the same vehicle, day and expressway. The amounts
-//! above zero are kept, all or none.
+//! A line is refused as a line of a day is, or where an earlier line is of the same vehicle, day and expressway. The
+//! amounts above zero are kept, all or none.
 #![tactic(auto)]
 
 mod amounts;
@@ -18,8 +18,3 @@ pub use amounts::{Amounts, Key};
 pub use importing::import_past;
 pub use lines::read_row;
 pub use outcomes::{PastCause, PastOutcome};
-
-#[cfg(test)]
-mod import_tests;
-#[cfg(test)]
-mod tests;

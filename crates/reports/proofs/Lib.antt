@@ -1,5 +1,4 @@
 pub mod LineLaws
-pub mod DayLaws
 pub mod WayLaws
 pub mod EndingLaws
 pub mod ExportLaws

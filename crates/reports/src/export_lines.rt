@@ -13,9 +13,12 @@ use std::io::Write;
 
 /// Writes a record of four fields. A refusal of `csv` is want of memory.
 fn put_fields<W: Write + Drop>(writer: &mut Writer<W>, fields: &[&[u8]]) -> Result<(), NoMemory>
-    requires { (spec.fields_written writer.old ≡ 0) × (spec.has_written writer.old ≡ false) × (spec.writer_setup writer.old ≡ spec.default_writer) }
-    ensures ready { OnOk result ((spec.fields_written writer.new ≡ 0) × (spec.has_written writer.new ≡ false) × (spec.writer_setup writer.new ≡ spec.default_writer)) }
-    ensures wrote { OnOk result (Appends (spec.text_written W.contents writer.old) (spec.text_written W.contents writer.new) (spec.row_text spec.default_writer (map (λ f. f.now) fields.now))) }
+    requires { (spec.fields_written writer.old ≡ 0) × (spec.has_written writer.old ≡ false)
+        × (spec.writer_setup writer.old ≡ spec.default_writer) }
+    ensures ready { OnOk result ((spec.fields_written writer.new ≡ 0) × (spec.has_written writer.new ≡ false)
+        × (spec.writer_setup writer.new ≡ spec.default_writer)) }
+    ensures wrote { OnOk result (Appends (spec.text_written W.contents writer.old)
+        (spec.text_written W.contents writer.new) (spec.row_text spec.default_writer (map (λ f. f.now) fields.now))) }
 {
     match writer.write_fields(fields) {
         Ok(()) => Ok(()),
@@ -25,8 +28,10 @@ fn put_fields<W: Write + Drop>(writer: &mut Writer<W>, fields: &[&[u8]]) -> Resu
 
 /// Writes the names of the columns.
 fn put_head<W: Write + Drop>(writer: &mut Writer<W>) -> Result<(), NoMemory>
-    requires { (spec.fields_written writer.old ≡ 0) × (spec.has_written writer.old ≡ false) × (spec.writer_setup writer.old ≡ spec.default_writer) }
-    ensures ready { OnOk result ((spec.fields_written writer.new ≡ 0) × (spec.has_written writer.new ≡ false) × (spec.writer_setup writer.new ≡ spec.default_writer)) }
+    requires { (spec.fields_written writer.old ≡ 0) × (spec.has_written writer.old ≡ false)
+        × (spec.writer_setup writer.old ≡ spec.default_writer) }
+    ensures ready { OnOk result ((spec.fields_written writer.new ≡ 0) × (spec.has_written writer.new ≡ false)
+        × (spec.writer_setup writer.new ≡ spec.default_writer)) }
     ensures wrote { OnOk result (Appends (spec.text_written W.contents writer.old) (spec.text_written W.contents writer.new) (codes "vid,day,xway,tolls\n")) }
 {
     put_fields(writer, &[b"vid", b"day", b"xway", b"tolls"])
@@ -34,9 +39,12 @@ fn put_head<W: Write + Drop>(writer: &mut Writer<W>) -> Result<(), NoMemory>
 
 /// Writes the line of an amount.
 fn put_row<W: Write + Drop>(writer: &mut Writer<W>, row: &SpentRow) -> Result<(), NoMemory>
-    requires { (spec.fields_written writer.old ≡ 0) × (spec.has_written writer.old ≡ false) × (spec.writer_setup writer.old ≡ spec.default_writer) }
-    ensures ready { OnOk result ((spec.fields_written writer.new ≡ 0) × (spec.has_written writer.new ≡ false) × (spec.writer_setup writer.new ≡ spec.default_writer)) }
-    ensures wrote { OnOk result (Appends (spec.text_written W.contents writer.old) (spec.text_written W.contents writer.new) (export_line row.now)) }
+    requires { (spec.fields_written writer.old ≡ 0) × (spec.has_written writer.old ≡ false)
+        × (spec.writer_setup writer.old ≡ spec.default_writer) }
+    ensures ready { OnOk result ((spec.fields_written writer.new ≡ 0) × (spec.has_written writer.new ≡ false)
+        × (spec.writer_setup writer.new ≡ spec.default_writer)) }
+    ensures wrote { OnOk result (Appends (spec.text_written W.contents writer.old)
+        (spec.text_written W.contents writer.new) (export_line row.now)) }
 {
     let (mut vid, mut day, mut xway, mut tolls) = (
         Buffer::new(),

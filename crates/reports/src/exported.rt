@@ -25,7 +25,8 @@ pub fn export_csv<K: Keeper, O: Sink>(
     keeper: &mut K,
     sink: &mut O,
 ) -> Result<(), ReportFault>
-    ensures wrote { (o : Office) → K.told keeper.old ≡ Some o → Reported result (O.written sink.old) (O.written sink.new) (export_report day o) }
+    ensures wrote { (o : Office) → K.told keeper.old ≡ Some o
+        → Reported result (O.written sink.old) (O.written sink.new) (export_report day o) }
     ensures kept { K.told keeper.new ≡ K.told keeper.old }
     ensures nothing { result ≡ Err NoDay → sink.new ≡ sink.old }
     ensures keeper_cause { result ≡ Err KeeperFault → Rose (K.faults keeper.old) (K.faults keeper.new) }

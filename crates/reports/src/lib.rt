@@ -1,20 +1,15 @@
-//! What is printed of a day: its accident log, recomputed by the plain rules, and the statements and the export of what is kept of it.
+//! What is printed of a day: its accident log, recomputed by the plain rules, and the statements and the export of
+//! what is kept of it.
 #![tactic(auto)]
 
 mod day_lines;
-#[cfg(test)]
-mod days;
 mod export_lines;
 mod exported;
-#[cfg(test)]
-mod kept_tests;
 mod mishaps;
 mod putting;
 mod report_fault;
 mod stated_day;
 mod stated_vehicle;
-#[cfg(test)]
-mod tests;
 mod vehicle_lines;
 mod way_sums;
 

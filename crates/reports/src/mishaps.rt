@@ -61,8 +61,8 @@ fn text_for(alloc: Global, tuples: &[Tuple]) -> Result<Vec<u8>, NoMemory>
     Ok(text)
 }
 
-/// Writes a line `FROM,TO,XWAY,DIR,LANE,SEG,POS` for each accident of the day: its first second, its last or -1 where it
-/// stands at the end of the day, and its place. After a fault a prefix was written.
+/// Writes a line `FROM,TO,XWAY,DIR,LANE,SEG,POS` for each accident of the day: its first second, its last or -1 where
+/// it stands at the end of the day, and its place. After a fault a prefix was written.
 pub fn accident_log<O: Sink>(
     alloc: Global,
     tuples: &[Tuple],

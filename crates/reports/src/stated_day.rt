@@ -52,7 +52,8 @@ fn find_record<K: Keeper>(day: u32, keeper: &mut K) -> Result<DayRecord, ReportF
 
 /// The amounts of a day.
 fn find_rows<K: Keeper>(day: u32, keeper: &mut K) -> Result<Vec<SpentRow>, ReportFault>
-    ensures found { (o : Office) → K.told keeper.old ≡ Some o → IfOk result (λ rows. rows.items ≡ rows_between o day day) }
+    ensures found { (o : Office) → K.told keeper.old ≡ Some o
+        → IfOk result (λ rows. rows.items ≡ rows_between o day day) }
     ensures kept { K.told keeper.new ≡ K.told keeper.old }
     ensures own { (result ≢ Err WriteFault) × (result ≢ Err NoDay) }
     ensures cause { result ≡ Err KeeperFault → Rose (K.faults keeper.old) (K.faults keeper.new) }
@@ -67,7 +68,8 @@ fn find_rows<K: Keeper>(day: u32, keeper: &mut K) -> Result<Vec<SpentRow>, Repor
 
 /// What is kept of a day.
 pub(crate) fn find_day<K: Keeper>(day: u32, keeper: &mut K) -> Result<KeptDay, ReportFault>
-    ensures found { (o : Office) → K.told keeper.old ≡ Some o → IfOk result (λ d. (record_of o day ≡ Some d.record) × (d.rows.items ≡ rows_between o day day)) }
+    ensures found { (o : Office) → K.told keeper.old ≡ Some o
+        → IfOk result (λ d. (record_of o day ≡ Some d.record) × (d.rows.items ≡ rows_between o day day)) }
     ensures none { (o : Office) → K.told keeper.old ≡ Some o → result ≡ Err NoDay → record_of o day ≡ None }
     ensures kept { K.told keeper.new ≡ K.told keeper.old }
     ensures own { result ≢ Err WriteFault }
@@ -92,7 +94,8 @@ pub fn day_statement<K: Keeper, O: Sink>(
     keeper: &mut K,
     sink: &mut O,
 ) -> Result<(), ReportFault>
-    ensures wrote { (o : Office) → K.told keeper.old ≡ Some o → Reported result (O.written sink.old) (O.written sink.new) (day_report day o) }
+    ensures wrote { (o : Office) → K.told keeper.old ≡ Some o
+        → Reported result (O.written sink.old) (O.written sink.new) (day_report day o) }
     ensures kept { K.told keeper.new ≡ K.told keeper.old }
     ensures nothing { result ≡ Err NoDay → sink.new ≡ sink.old }
     ensures keeper_cause { result ≡ Err KeeperFault → Rose (K.faults keeper.old) (K.faults keeper.new) }

@@ -17,8 +17,8 @@ use road_io::Sink;
 use road_time::NoMemory;
 use std::alloc::Global;
 
-/// Writes what is kept of a vehicle on the days `from` to `to`, both included: a line for each day and expressway, and the
-/// sum. A vehicle without amounts has the first and the last line. After a fault a prefix was written.
+/// Writes what is kept of a vehicle on the days `from` to `to`, both included: a line for each day and expressway,
+/// and the sum. A vehicle without amounts has the first and the last line. After a fault a prefix was written.
 pub fn vehicle_statement<K: Keeper, O: Sink>(
     alloc: Global,
     vid: u32,
@@ -27,7 +27,8 @@ pub fn vehicle_statement<K: Keeper, O: Sink>(
     keeper: &mut K,
     sink: &mut O,
 ) -> Result<(), ReportFault>
-    ensures wrote { (o : Office) → K.told keeper.old ≡ Some o → Wrote result (O.written sink.old) (O.written sink.new) (vehicle_report vid from to o) }
+    ensures wrote { (o : Office) → K.told keeper.old ≡ Some o
+        → Wrote result (O.written sink.old) (O.written sink.new) (vehicle_report vid from to o) }
     ensures own { result ≢ Err NoDay }
     ensures kept { K.told keeper.new ≡ K.told keeper.old }
     ensures keeper_cause { result ≡ Err KeeperFault → Rose (K.faults keeper.old) (K.faults keeper.new) }

@@ -19,6 +19,3 @@ pub use link::{Link, send_all};
 pub use memory::{MemLink, MemSink, MemSource};
 pub use sink::{Sink, VoidSink, Writing, put_all};
 pub use source::{Failed, Reading, Source};
-
-#[cfg(test)]
-mod tests;

@@ -12,6 +12,3 @@ mod window;
 pub mod worked;
 
 pub use speeds::Speeds;
-
-#[cfg(test)]
-mod tests;

@@ -15,7 +15,8 @@ pub fn rows_of<S: Alter>(
     sql: &str,
     params: &[ValueRef<'_>],
 ) -> Result<Vec<Row>, KeepFault>
-    ensures shown { IsSuch S.Store conn.new result (λ rows. HasShown S.Store sql.now (bound params.now) conn.old conn.new rows.items) }
+    ensures shown { IsSuch S.Store conn.new result
+        (λ rows. HasShown S.Store sql.now (bound params.now) conn.old conn.new rows.items) }
     ensures clean { StaysInDoubt S.Store conn.old conn.new }
 {
     match conn.query_all(sql, params) {

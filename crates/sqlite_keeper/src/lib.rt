@@ -1,9 +1,9 @@
 //! A keeper of days, amounts, a history and tariffs in a SQLite file.
 //!
 //! `SqliteKeeper` opens its file at the first call, and anew after a call that failed. It makes the tables that are
-//! missing, or takes over those of version 1. A put is one transaction. `close` leaves all that is kept in the file alone.
-//! What the file holds is another hand's until it is read: a column that holds no record, row, history or tariff, and
-//! keys that do not rise, are counted faults.
+//! missing, or takes over those of version 1. A put is one transaction. `close` leaves all that is kept in the file
+//! alone. What the file holds is another hand's until it is read: a column that holds no record, row, history or
+//! tariff, and keys that do not rise, are counted faults.
 #![tactic(auto)]
 
 mod asks;

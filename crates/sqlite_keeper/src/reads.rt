@@ -1,7 +1,10 @@
 // What is read of the tables.
 ghost use Rattle.std.specs.Prelude.{◌≤◌, [], IfOk, IfSome};
 ghost use Rattle.keeper.specs.Office.{RowsRise};
-ghost use Rattle.sqlite_keeper.specs.Shows.{greatest_text, day_text, seal_text, IsSeal, past_text, IsHistory, IsBefore, spent_text, one, two, three, IsAmount, rows_text, vehicle_text, AreAmounts, tariffs_text, AreTariffs, StaysInDoubt, IsSuch, Answers, IsLast, ShowsLast, IsDay, ShowsDay};
+ghost use Rattle.sqlite_keeper.specs.Shows.{greatest_text, day_text, seal_text, IsSeal, past_text, IsHistory};
+ghost use Rattle.sqlite_keeper.specs.Shows.{IsBefore, spent_text, one, two, three, IsAmount, rows_text, vehicle_text};
+ghost use Rattle.sqlite_keeper.specs.Shows.{AreAmounts, tariffs_text, AreTariffs, StaysInDoubt, IsSuch, Answers};
+ghost use Rattle.sqlite_keeper.specs.Shows.{IsLast, ShowsLast, IsDay, ShowsDay};
 
 use crate::asks::rows_of;
 use crate::columns::{bytes, number};
@@ -160,7 +163,8 @@ pub fn rows<S: Alter>(
     to: u32,
 ) -> Result<Vec<SpentRow>, KeepFault>
     ensures rise { IfOk result (λ rows. RowsRise rows.items) }
-    ensures shown { Answers S.Store rows_text (two from to) conn.old conn.new result (λ rows found. AreAmounts rows found.items) }
+    ensures shown { Answers S.Store rows_text (two from to) conn.old conn.new result
+        (λ rows found. AreAmounts rows found.items) }
 {
     let found = rows_of(
         conn,
@@ -179,7 +183,8 @@ pub fn vehicle_rows<S: Alter>(
     to: u32,
 ) -> Result<Vec<SpentRow>, KeepFault>
     ensures rise { IfOk result (λ rows. RowsRise rows.items) }
-    ensures shown { Answers S.Store vehicle_text (three vid from to) conn.old conn.new result (λ rows found. AreAmounts rows found.items) }
+    ensures shown { Answers S.Store vehicle_text (three vid from to) conn.old conn.new result
+        (λ rows found. AreAmounts rows found.items) }
 {
     let found = rows_of(
         conn,

@@ -1,6 +1,9 @@
-// What the columns of a row hold, and the record, amount, history or tariff that it is. Nothing here knows the database.
+// What the columns of a row hold, and the record, amount, history or tariff that it is. Nothing here knows the
+// database.
 ghost use Rattle.std.specs.Prelude.{◌≡◌, ◌&&◌, ◌==◌, ◌<◌, ◌≤◌, is_some, length, pos, IfSome};
-ghost use Rattle.sqlite_keeper.specs.Stored.{is_between, last_8, last_32, last_63, holds_row, holds_tariff, holds_past, holds_numbers, holds_digests, IsStoredRow, IsStoredTariff, IsStoredPast, IsStoredDay};
+ghost use Rattle.sqlite_keeper.specs.Stored.{is_between, last_8, last_32, last_63, holds_row, holds_tariff};
+ghost use Rattle.sqlite_keeper.specs.Stored.{holds_past, holds_numbers, holds_digests, IsStoredRow, IsStoredTariff};
+ghost use Rattle.sqlite_keeper.specs.Stored.{IsStoredPast, IsStoredDay};
 ghost use Rattle.road_time.specs.Rates.{IsTariff};
 
 use keeper::{DayRecord, Digest, PastRecord};

@@ -1,9 +1,9 @@
 //! The desk: what the office answers over a link, one request at a time.
 //!
-//! `session` reads a request and answers it: of what is kept by a `Desk`, which imports the body of a POST as the office
-//! imports a day and publishes its charges, and of the live board by its reader, which never waits. `session_shared` has
-//! a `Clerk` answer what is asked of what is kept: a `Locked` desk, for many sessions at once, or a `OneClerk`, which
-//! remembers what it was asked.
+//! `session` reads a request and answers it: of what is kept by a `Desk`, which imports the body of a POST as the
+//! office imports a day and publishes its charges, and of the live board by its reader, which never waits.
+//! `session_shared` has a `Clerk` answer what is asked of what is kept: a `Locked` desk, for many sessions at once,
+//! or a `OneClerk`, which remembers what it was asked.
 #![tactic(auto)]
 
 mod answers;
@@ -27,6 +27,3 @@ pub use passed::Passed;
 pub use sessions::session;
 pub use sharing::session_shared;
 pub use toll_requests::{Asked, Early, SessionEnd};
-
-#[cfg(test)]
-mod tests;

@@ -19,7 +19,8 @@ fn is_named(key: &[u8], name: &[u8]) -> bool
 /// The first of some values and one more, and whether there are several.
 fn with_value(first: Option<Span>, value: Span) -> (Option<Span>, bool)
     ensures within { (n : ℕ) → IfSome first (IsWithin n) → IsWithin n value → IfSome result.0 (IsWithin n) }
-    ensures found { (buf : List ℕ) (values : List (List ℕ)) (several : Bool) → Finds values (option_map (span_bytes buf) first) several
+    ensures found { (buf : List ℕ) (values : List (List ℕ)) (several : Bool)
+        → Finds values (option_map (span_bytes buf) first) several
         → Finds (values ++ span_bytes buf value ∷ []) (option_map (span_bytes buf) result.0) result.1 }
 {
     match first {
@@ -39,7 +40,8 @@ fn look_at(
     requires inside { IsHeaderWithin (length buf.now) field.now }
     requires first_inside { IfSome first (IsWithin (length buf.now)) }
     ensures found { (values : List (List ℕ)) → Finds values (option_map (span_bytes buf.now) first) several
-        → Finds (values ++ value_if name.now (header_bytes buf.now field.now) []) (option_map (span_bytes buf.now) result.0) result.1 }
+        → Finds (values ++ value_if name.now (header_bytes buf.now field.now) [])
+        (option_map (span_bytes buf.now) result.0) result.1 }
     ensures within { IfSome result.0 (IsWithin (length buf.now)) }
 {
     if is_named(field.name.of(buf), name) {
@@ -52,7 +54,8 @@ fn look_at(
 /// The first value of the fields with a name, and whether there are several.
 fn find_field(buf: &[u8], fields: &[HeaderSpan], name: &[u8]) -> (Option<Span>, bool)
     requires { All (IsHeaderWithin (length buf.now)) fields.now }
-    ensures found { Finds (values_of name.now (map (header_bytes buf.now) fields.now)) (option_map (span_bytes buf.now) result.0) result.1 }
+    ensures found { Finds (values_of name.now (map (header_bytes buf.now) fields.now))
+        (option_map (span_bytes buf.now) result.0) result.1 }
     ensures within { IfSome result.0 (IsWithin (length buf.now)) }
 {
     let mut first: Option<Span> = None;

@@ -1,5 +1,6 @@
 // The body of a request, as a source.
-ghost use Rattle.std.specs.Prelude.{◌≡◌, ◌≤◌, ◌<◌, ◌-◌, ◌+◌, ℕ, Bool, true, List, Option, length, None, Some, IfOk, OnErr};
+ghost use Rattle.std.specs.Prelude.{◌≡◌, ◌≤◌, ◌<◌, ◌-◌, ◌+◌, ℕ, Bool, true, List, Option, length, None, Some, IfOk};
+ghost use Rattle.std.specs.Prelude.{OnErr};
 ghost use Rattle.std.specs.Io.{ReadsAtMost};
 ghost use Rattle.std.specs.Io.KnownBytes.{ReadConsumes};
 ghost use Rattle.road_io.specs.Faults.{HasCause};
@@ -40,8 +41,8 @@ impl Start for Brand {
     ghost faults = { 0 };
 }
 
-/// The body of a request: the bytes that came with its head, and then those of the link, exactly as many as are declared.
-/// The end of the link before that is a fault.
+/// The body of a request: the bytes that came with its head, and then those of the link, exactly as many as are
+/// declared. The end of the link before that is a fault.
 #[derive(Drop)]
 pub struct Body<'a, 'b, L: Link, N: Start> {
     pub link: &'a mut L,

@@ -50,7 +50,8 @@ fn ask<L: Link>(
 ) -> Result<Asked, SessionEnd>
     requires within { IsRequestWithin buf.now headers.now spans.now }
     requires short { length buf.now ≤ 8192 }
-    ensures reads { (h : RequestHead) (bytes : List ℕ) → IsRequestAt buf.now headers.now spans.now h → length h.fields ≤ 64
+    ensures reads { (h : RequestHead) (bytes : List ℕ) → IsRequestAt buf.now headers.now spans.now h
+        → length h.fields ≤ 64
         → prepend_known buf.now (L.left link.old) ≡ Some bytes
         → ReadsAsked bytes (L.left link.new) (L.written link.old) (L.written link.new) result }
     ensures unread { L.left link.new ≡ L.left link.old }
@@ -98,7 +99,8 @@ pub fn read_routed<L: Link>(
     }
 }
 
-/// Reads the head of a request and routes it, by routes that are made for it. A request that is refused here is answered here.
+/// Reads the head of a request and routes it, by routes that are made for it. A request that is refused here is
+/// answered here.
 pub fn read_asked<L: Link>(alloc: Global, link: &mut L) -> Result<Asked, SessionEnd>
     ensures reads { (bytes : List ℕ) → L.left link.old ≡ Some bytes
         → ReadsAsked bytes (L.left link.new) (L.written link.old) (L.written link.new) result }

@@ -3,7 +3,8 @@ ghost use Rattle.std.specs.Prelude.{◌≡◌, ◌≢◌, ◌≤◌, length, tru
 ghost use Rattle.road_io.specs.Faults.{Rose};
 ghost use Rattle.toll_texts.specs.Plain.{is_plain};
 ghost use Rattle.toll_texts.specs.Replies.{error_reply, no_memory_reply};
-ghost use Rattle.toll_requests.specs.Sends.{Sends, SendsReply, Replies, HasRoom, HasRoomFor, refusal_reply, refusal_room};
+ghost use Rattle.toll_requests.specs.Sends.{Sends, SendsReply, Replies, HasRoom, HasRoomFor, refusal_reply};
+ghost use Rattle.toll_requests.specs.Sends.{refusal_room};
 ghost use Rattle.toll_requests.specs.declared.session_end.SessionEnd.TheVariants.{LinkFault};
 
 use crate::session_end::SessionEnd;
@@ -47,7 +48,8 @@ pub fn send_reply<L: Link>(
     status: StatusCode,
     body: &str,
 ) -> SessionEnd
-    ensures sent { Replies (record { status = status; body = body.now }) (L.written link.old) (L.written link.new) result }
+    ensures sent { Replies (record { status = status; body = body.now }) (L.written link.old)
+        (L.written link.new) result }
     ensures unread { L.left link.new ≡ L.left link.old }
     ensures plan_kept { L.plan link.new ≡ L.plan link.old }
     ensures cause { result ≡ LinkFault → Rose (L.faults link.old) (L.faults link.new) }

@@ -21,7 +21,8 @@ fn slow(lav: Option<&Frac>, speed: u8) -> bool
     }
 }
 
-/// What a vehicle is charged for a stretch in a minute: by its tariff, the cars and the average of the minutes before, and whether an accident blocks it.
+/// What a vehicle is charged for a stretch in a minute: by its tariff, the cars and the average of the minutes
+/// before, and whether an accident blocks it.
 pub fn toll(tariff: &Tariff, cars: u32, lav: Option<&Frac>, blocked: bool) -> u64
     requires tariff { IsTariff tariff.now }
     requires cars { cars ≤ 500000 }

@@ -7,6 +7,3 @@ mod formula;
 
 pub use averages::{below, whole_lav};
 pub use formula::toll;
-
-#[cfg(test)]
-mod tests;

@@ -15,6 +15,3 @@ mod trip;
 
 pub use generating::generate;
 pub use plan::{GenFault, GenPlan};
-
-#[cfg(test)]
-mod tests;

@@ -59,7 +59,8 @@ impl Course {
 
 /// Adds a report, if it is before the end.
 pub fn add_report(report: Report, end: u32, tuples: &mut Vec<Tuple>) -> Result<(), NoMemory>
-    ensures { OnOk result (tuples.new.items ≡ tuples.old.items ++ (if nat_lt report.time end then ReportTuple report ∷ [] else [])) }
+    ensures { OnOk result (tuples.new.items ≡ tuples.old.items ++
+        (if nat_lt report.time end then ReportTuple report ∷ [] else [])) }
 {
     if report.time < end {
         tuples.push(Tuple::Report(report))?;

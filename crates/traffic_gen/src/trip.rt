@@ -1,7 +1,8 @@
 // Trips: vehicles that enter, drive at one speed, leave, and may ask.
 ghost use Rattle.std.specs.Prelude.{◌≡◌, ◌≤◌, ◌<◌, ◌++◌, Some, None, OnOk, IfSome, if◌then◌else◌};
 ghost use Rattle.traffic_gen.specs.Plans.{InRange};
-ghost use Rattle.traffic_gen.specs.Trips.{drawn_past, drawn_trip, IsTrip, lane_at, trip_report, asks, asking_time, spent_request, requests, trip_tuples};
+ghost use Rattle.traffic_gen.specs.Trips.{drawn_past, drawn_trip, IsTrip, lane_at, trip_report, asks, asking_time};
+ghost use Rattle.traffic_gen.specs.Trips.{spent_request, requests, trip_tuples};
 ghost use Rattle.traffic_gen.specs.Reports.{reports_before};
 
 use crate::directions::direction;
@@ -41,7 +42,8 @@ impl Trip {
     pub fn draw(plan: &GenPlan, vid: u32, rng: &mut Lcg64Xsh32) -> Trip
         requires plan { InRange plan.now }
         requires vehicle { vid ≤ 5000 }
-        ensures drawn { (result ≡ (drawn_trip plan.now vid rng.old).0) × (rng.new ≡ (drawn_trip plan.now vid rng.old).1) }
+        ensures drawn { (result ≡ (drawn_trip plan.now vid rng.old).0)
+            × (rng.new ≡ (drawn_trip plan.now vid rng.old).1) }
         ensures trip { IsTrip result }
     {
         let xway = draw(rng, u32::from(plan.xways)) as u8;
@@ -101,7 +103,8 @@ impl Trip {
     /// Adds its reports.
     fn add_reports(&self, end: u32, tuples: &mut Vec<Tuple>) -> Result<(), NoMemory>
         requires trip { IsTrip self.now }
-        ensures { OnOk result (tuples.new.items ≡ tuples.old.items ++ reports_before end (trip_report self.now) self.now.reports) }
+        ensures { OnOk result (tuples.new.items ≡ tuples.old.items ++ reports_before end
+            (trip_report self.now) self.now.reports) }
     {
         for k in 0..self.reports {
             add_report(self.report(k), end, tuples)?;

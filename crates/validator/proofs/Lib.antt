@@ -12,4 +12,3 @@ pub mod AboutLaws
 pub mod WindowLaws
 pub mod GroupLaws
 pub mod SumParts
-pub mod DayParts

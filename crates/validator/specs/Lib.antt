@@ -9,4 +9,3 @@ pub mod Halts
 pub mod Recent
 pub mod Groups
 pub mod RowParts
-pub mod Days

@@ -36,7 +36,8 @@ pub struct Halt {
 
 /// The run after one more report.
 fn next(last: Option<Seen>, here: Place) -> Seen
-    ensures { (own : List ReportValue) → (r : ReportValue) → kept own ≡ last → place_of_lem r ≡ here → kept (r ∷ own) ≡ Some result }
+    ensures { (own : List ReportValue) → (r : ReportValue) → kept own ≡ last → place_of_lem r ≡ here
+        → kept (r ∷ own) ≡ Some result }
 {
     match last {
         None => Seen {
@@ -66,8 +67,10 @@ fn next(last: Option<Seen>, here: Place) -> Seen
 
 /// Whether the vehicle stands after its next report.
 fn see(seen: &mut HashMap<u32, Seen>, r: &Report) -> Result<bool, NoMemory>
-    ensures stands { IfOk result (λ b. (own : List ReportValue) → kept own ≡ get nat_eq seen.old r.now.vid → b ≡ stands (r.now ∷ own) (place_of_lem r.now)) }
-    ensures run { OnOk result ((own : List ReportValue) → kept own ≡ get nat_eq seen.old r.now.vid → kept (r.now ∷ own) ≡ get nat_eq seen.new r.now.vid) }
+    ensures stands { IfOk result (λ b. (own : List ReportValue) → kept own ≡ get nat_eq seen.old r.now.vid
+        → b ≡ stands (r.now ∷ own) (place_of_lem r.now)) }
+    ensures run { OnOk result ((own : List ReportValue) → kept own ≡ get nat_eq seen.old r.now.vid
+        → kept (r.now ∷ own) ≡ get nat_eq seen.new r.now.vid) }
     ensures others { OnOk result ((v : ℕ) → (r.now.vid == v) ≡ false → get nat_eq seen.new v ≡ get nat_eq seen.old v) }
 {
     let now = next(seen.get(&r.vid).copied(), place_of(r));

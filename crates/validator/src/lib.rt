@@ -17,8 +17,6 @@ use std::alloc::Global;
 
 mod account;
 mod blocked;
-#[cfg(test)]
-mod days;
 mod found;
 mod halts;
 mod mishaps;
@@ -27,8 +25,6 @@ mod output;
 mod owed;
 mod recent;
 mod rows;
-#[cfg(test)]
-mod tests;
 mod verdict;
 
 pub use mishaps::plain_log;
@@ -82,7 +78,8 @@ fn vehicles_at(
     in_minute: u32,
     stretch: Stretch,
 ) -> Result<Vec<u32>, NoMemory>
-    ensures { IfOk result (λ vids. vids.items ≡ vehicles_of (notes_at (notes_of (reports tuples.now)) in_minute stretch)) }
+    ensures { IfOk result (λ vids. vids.items ≡ vehicles_of
+        (notes_at (notes_of (reports tuples.now)) in_minute stretch)) }
 {
     let mut vids: Vec<u32> = Vec::new(alloc);
     for tuple in tuples {
@@ -169,7 +166,8 @@ fn speed12_at(
     vid: u32,
 ) -> Result<u64, NoMemory>
     requires lines { length tuples.now ≤ 16000000 }
-    ensures mean { IfOk result (λ s. s ≡ speed12 (notes_of_vehicle (notes_at (notes_of (reports tuples.now)) in_minute stretch) vid)) }
+    ensures mean { IfOk result (λ s. s ≡ speed12
+        (notes_of_vehicle (notes_at (notes_of (reports tuples.now)) in_minute stretch) vid)) }
     ensures bounded { IfOk result (λ s. s ≤ 3060) }
 {
     let speeds = speeds_of(alloc, tuples, in_minute, stretch, vid)?;

@@ -1,13 +1,16 @@
 // The accident log of a day.
-ghost use Rattle.std.specs.Prelude.{◌≡◌, ◌≤◌, ◌+◌, ◌-◌, ◌++◌, ◌∷◌, [], ◌&&◌, not, map, length, IfOk, OnOk, ℕ, Bool, List};
+ghost use Rattle.std.specs.Prelude.{◌≡◌, ◌≤◌, ◌+◌, ◌-◌, ◌++◌, ◌∷◌, [], ◌&&◌, not, map, length, IfOk, OnOk, ℕ, Bool};
+ghost use Rattle.std.specs.Prelude.{List};
 ghost use Rattle.std.specs.List.{filter, filter_map, fold};
 ghost use Rattle.std.specs.BTreeSet.{insert_key};
 ghost use Rattle.road_time.specs.Fits.{IsDay};
 ghost use Rattle.road_time.specs.Order.{greatest_time};
 ghost use Rattle.road_time.specs.Tuples.{reports};
-ghost use Rattle.road_time.specs.Log.{places_of, place_cmp, stands_first, stands_for, ends_at as ends_at_lem, mishap_if, log_of};
+ghost use Rattle.road_time.specs.Log.{places_of, place_cmp, stands_first, stands_for, ends_at as ends_at_lem};
+ghost use Rattle.road_time.specs.Log.{mishap_if, log_of};
 ghost use Rattle.validator.specs.Halts.{is_at as is_at_lem, halts_of};
-ghost use Rattle.validator.specs.Groups.{stands_with as stands_with_lem, has_other as has_other_lem, shown_group, groups_of, mishap_in};
+ghost use Rattle.validator.specs.Groups.{stands_with as stands_with_lem, has_other as has_other_lem, shown_group};
+ghost use Rattle.validator.specs.Groups.{groups_of, mishap_in};
 
 use crate::halts::{Halt, covers, halts};
 use crate::near::{place_of, report_of};
@@ -105,7 +108,8 @@ fn add_mishaps(
 ) -> Result<(), NoMemory>
     requires day { last ≤ 86399 }
     requires inside { from ≤ last }
-    ensures { OnOk result (log.new.items ≡ log.old.items ++ filter_map (mishap_in last from) (map shown_group groups.now)) }
+    ensures { OnOk result (log.new.items ≡ log.old.items ++ filter_map (mishap_in last from)
+        (map shown_group groups.now)) }
 {
     for group in groups {
         if let Some(mishap) = mishap_at(group, last, from) {
@@ -116,7 +120,7 @@ fn add_mishaps(
 }
 
 /// The greatest Time of the day, 0 for none.
-pub fn last_second(tuples: &[Tuple]) -> u32
+fn last_second(tuples: &[Tuple]) -> u32
     requires { IsDay tuples.now }
     ensures day { result ≤ 86399 }
     ensures exact { result ≡ greatest_time tuples.now }
@@ -166,7 +170,8 @@ fn add_group(
     halts: &[Halt],
     place: Place,
 ) -> Result<(), NoMemory>
-    ensures { OnOk result (map shown_group groups.new.items ≡ map shown_group groups.old.items ++ groups_of halts.now (place ∷ [])) }
+    ensures { OnOk result (map shown_group groups.new.items ≡ map shown_group groups.old.items ++ groups_of halts.now
+        (place ∷ [])) }
 {
     let some = halts_at(alloc, halts, place)?;
     if !some.is_empty() {
@@ -188,7 +193,8 @@ fn groups_at(alloc: Global, places: &[Place], halts: &[Halt]) -> Result<Vec<Grou
 
 /// The places where somebody stands, in order, each with its halts.
 fn groups(alloc: Global, tuples: &[Tuple]) -> Result<Vec<Group>, NoMemory>
-    ensures { IfOk result (λ groups. map shown_group groups.items ≡ groups_of (halts_of (reports tuples.now)) (places_of (reports tuples.now))) }
+    ensures { IfOk result (λ groups. map shown_group groups.items ≡ groups_of (halts_of (reports tuples.now))
+        (places_of (reports tuples.now))) }
 {
     let places = places(alloc, tuples)?;
     let halts = halts(alloc, tuples)?;

@@ -1,8 +1,10 @@
 // Accidents, recomputed over the whole list.
 ghost use Rattle.std.specs.Prelude.{◌≡◌, ◌≤◌, ◌-◌, IfOk, ℕ, length, ◌&&◌, ◌==◌, not};
 ghost use Rattle.std.specs.List.{list_any, prefix_len};
-ghost use Rattle.road_time.specs.Tuples.{reports, report_of as report_of_lem, place_of as place_of_lem, stretch_around as stretch_around_lem, same_place};
-ghost use Rattle.road_time.specs.Stops.{up_to, is_stopped as is_stopped_lem, trail as trail_lem, stops as stops_lem, has_accident as has_accident_lem, stood as stood_lem, near, segments_ahead};
+ghost use Rattle.road_time.specs.Tuples.{reports, report_of as report_of_lem, place_of as place_of_lem};
+ghost use Rattle.road_time.specs.Tuples.{stretch_around as stretch_around_lem, same_place};
+ghost use Rattle.road_time.specs.Stops.{up_to, is_stopped as is_stopped_lem, trail as trail_lem, stops as stops_lem};
+ghost use Rattle.road_time.specs.Stops.{has_accident as has_accident_lem, stood as stood_lem, near, segments_ahead};
 ghost use Rattle.road_time.specs.Tolls.{stops_at, near_at};
 ghost use Rattle.road_time.specs.Ways.{downstream_of};
 

@@ -47,7 +47,8 @@ fn told(
     requires halts { halts.now ≡ halts_of (reports tuples.now) }
     requires valid { IsReport r.now }
     requires known { Known (reports tuples.now) tariffs.now found.old }
-    ensures exact { IfOk result (λ f. shown_told f ≡ finding_if (is_told prev r.now) (finding_at (reports tuples.now) tariffs.now r.now)) }
+    ensures exact { IfOk result (λ f. shown_told f ≡ finding_if (is_told prev r.now)
+        (finding_at (reports tuples.now) tariffs.now r.now)) }
     ensures kept { OnOk result (Known (reports tuples.now) tariffs.now found.new) }
 {
     if begins(prev, r) && r.lane != 4 {
@@ -117,8 +118,11 @@ fn take_report(
     requires halts { halts.now ≡ halts_of (reports tuples.now) }
     requires valid { IsReport r.now }
     requires known { Known (reports tuples.now) tariffs.now output.old.found }
-    requires small { (vid : ℕ) → owed_kept (get nat_eq output.old.accounts vid) + toll_kept (get nat_eq output.old.accounts vid) < 2 ^ 64 }
-    ensures { OnOk result ((number : ℕ) → (kept : ℕ → ℕ → ℕ → ℕ) → (before : List TupleValue) → IsOutput tuples.now tariffs.now number kept output.old before → IsOutput tuples.now tariffs.now number kept output.new (before ++ ReportTuple r.now ∷ [])) }
+    requires small { (vid : ℕ) → owed_kept (get nat_eq output.old.accounts vid) + toll_kept
+        (get nat_eq output.old.accounts vid) < 2 ^ 64 }
+    ensures { OnOk result ((number : ℕ) → (kept : ℕ → ℕ → ℕ → ℕ) → (before : List TupleValue)
+        → IsOutput tuples.now tariffs.now number kept output.old before
+        → IsOutput tuples.now tariffs.now number kept output.new (before ++ ReportTuple r.now ∷ [])) }
 {
     let last = output.accounts.get(&r.vid).copied();
     let now = told(
@@ -152,7 +156,9 @@ fn take_tuple(
     requires late { 70 ≤ day }
     requires valid { IsValid tuple.now }
     requires stands { Stands tuples.now tariffs.now day (paid_lem history.now) output.old }
-    ensures { OnOk result ((before : List TupleValue) → IsOutput tuples.now tariffs.now day (paid_lem history.now) output.old before → IsOutput tuples.now tariffs.now day (paid_lem history.now) output.new (before ++ tuple.now ∷ [])) }
+    ensures { OnOk result ((before : List TupleValue)
+        → IsOutput tuples.now tariffs.now day (paid_lem history.now) output.old before
+        → IsOutput tuples.now tariffs.now day (paid_lem history.now) output.new (before ++ tuple.now ∷ [])) }
 {
     match tuple {
         Tuple::Report(r) => {
@@ -223,7 +229,8 @@ fn outputs(
 pub fn charges(alloc: Global, tuples: &[Tuple], tariffs: &Tariffs) -> Result<Vec<Charge>, NoMemory>
     requires fit { IsDay tuples.now }
     ensures few { IfOk result (λ cs. sum_of (map shown_charge cs.items) < 2 ^ 63) }
-    ensures exact { IfOk result (λ cs. map shown_charge cs.items ≡ charges_lem tuples.now tariffs.now (moments tuples.now)) }
+    ensures exact { IfOk result (λ cs. map shown_charge cs.items ≡ charges_lem tuples.now tariffs.now
+        (moments tuples.now)) }
 {
     let none: [SpentRow; 0] = [];
     let output = outputs(alloc, tuples, tariffs, 70, &none)?;

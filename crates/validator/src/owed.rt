@@ -4,7 +4,8 @@ ghost use Rattle.road_time.specs.declared.road.Frac.{Frac};
 ghost use Rattle.road_time.specs.Tuples.{reports};
 ghost use Rattle.road_time.specs.Rates.{IsTariff, is_slow as is_slow_lem, toll_of as toll_of_lem};
 ghost use Rattle.road_time.specs.Tolls.{toll_at};
-ghost use Rattle.road_time.specs.Sights.{sight_of as sight_of_lem, sights as sights_lem, sights_of as sights_of_lem, previous as previous_lem};
+ghost use Rattle.road_time.specs.Sights.{sight_of as sight_of_lem, sights as sights_lem, sights_of as sights_of_lem};
+ghost use Rattle.road_time.specs.Sights.{previous as previous_lem};
 ghost use Rattle.road_time.specs.Stays.{begins as begins_lem, is_charged, stay_start as stay_start_lem};
 ghost use Rattle.road_time.specs.Day.{owed_amount};
 ghost use Rattle.road_time.specs.declared.road.Tuple.{Tuple as TupleValue};
@@ -146,7 +147,8 @@ pub fn plain_owed(
 ) -> Result<u64, NoMemory>
     requires fit { IsDay tuples.now }
     requires inside { position < length tuples.now }
-    ensures { IfOk result (λ n. (x : TupleValue) → slice_get tuples.now position ≡ Some x → n ≡ owed_amount tuples.now tariffs.now (take position tuples.now, x)) }
+    ensures { IfOk result (λ n. (x : TupleValue) → slice_get tuples.now position ≡ Some x
+        → n ≡ owed_amount tuples.now tariffs.now (take position tuples.now, x)) }
 {
     let Some(r) = report_of(&tuples[position]) else {
         return Ok(0);

@@ -71,7 +71,8 @@ fn add_rows(
     xways: &[u8],
 ) -> Result<(), NoMemory>
     requires { sum_of (map shown_charge own.now) < 2 ^ 63 }
-    ensures { OnOk result (rows.new.items ≡ rows.old.items ++ filter has_tolls (map (row_on day vid (map shown_charge own.now)) xways.now)) }
+    ensures { OnOk result (rows.new.items ≡ rows.old.items ++ filter has_tolls
+        (map (row_on day vid (map shown_charge own.now)) xways.now)) }
 {
     for xway in xways {
         let tolls = sum_on(own, *xway);
@@ -96,7 +97,8 @@ fn add_vehicle_rows(
     charges: &[Charge],
 ) -> Result<(), NoMemory>
     requires { sum_of (map shown_charge charges.now) < 2 ^ 63 }
-    ensures { OnOk result (rows.new.items ≡ rows.old.items ++ filter has_tolls (rows_to day vid (charges_to_lem vid (map shown_charge charges.now)))) }
+    ensures { OnOk result (rows.new.items ≡ rows.old.items ++ filter has_tolls
+        (rows_to day vid (charges_to_lem vid (map shown_charge charges.now)))) }
 {
     let own = charges_to(alloc, charges, vid)?;
     let xways = expressways(alloc, own.as_slice())?;
@@ -112,7 +114,8 @@ fn rows_for(
     vids: &[u32],
 ) -> Result<Vec<SpentRow>, NoMemory>
     requires { sum_of (map shown_charge charges.now) < 2 ^ 63 }
-    ensures { IfOk result (λ rows. rows.items ≡ filter has_tolls (flat_map (λ v. rows_to day v (charges_to_lem v (map shown_charge charges.now))) vids.now)) }
+    ensures { IfOk result (λ rows. rows.items ≡ filter has_tolls
+        (flat_map (λ v. rows_to day v (charges_to_lem v (map shown_charge charges.now))) vids.now)) }
 {
     let mut rows: Vec<SpentRow> = Vec::new(alloc);
     for vid in vids {

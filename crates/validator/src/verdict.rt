@@ -9,7 +9,8 @@ use crate::output::plain_notices;
 use road_time::{NoMemory, Notice, SpentRow, Tariffs, Tuple};
 use std::alloc::Global;
 
-/// Whether notices are those of a day, and where not, the first line, from 1, at which they part: what the day has there, and what was found.
+/// Whether notices are those of a day, and where not, the first line, from 1, at which they part: what the day has
+/// there, and what was found.
 #[derive(Clone, Copy, Debug, PartialEq, Eq)]
 pub enum Verdict {
     Agree,
@@ -111,7 +112,8 @@ fn compare(wanted: &[Notice], found: &[Notice]) -> Verdict
     Verdict::Agree
 }
 
-/// Whether the notices are the whole output of the day with this number, where the history says what was paid on earlier days.
+/// Whether the notices are the whole output of the day with this number, where the history says what was paid on
+/// earlier days.
 pub fn check(
     alloc: Global,
     tuples: &[Tuple],
@@ -124,7 +126,8 @@ pub fn check(
     requires low { 70 ≤ day }
     requires high { day ≤ 1000000 }
     requires keys { KeysDiffer history.now }
-    ensures { IfOk result (λ verdict. IsVerdict (notices_lem tuples.now tariffs.now day (paid history.now)) notices.now verdict) }
+    ensures { IfOk result (λ verdict. IsVerdict
+        (notices_lem tuples.now tariffs.now day (paid history.now)) notices.now verdict) }
 {
     let wanted = plain_notices(alloc, tuples, tariffs, day, history)?;
     Ok(compare(wanted.as_slice(), notices))

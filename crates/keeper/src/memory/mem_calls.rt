@@ -23,8 +23,8 @@ impl MemKeeper {
         Ok(MemKeeper { office, failing })
     }
 
-    /// Keeps what was kept before tariffs were, each day under the seal of no tariffs. Days, amounts and history come in
-    /// order and fit together.
+    /// Keeps what was kept before tariffs were, each day under the seal of no tariffs. Days, amounts and history come
+    /// in order and fit together.
     pub fn from_old(
         alloc: Global,
         days: &[OldRecord],

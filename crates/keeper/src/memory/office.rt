@@ -3,7 +3,8 @@ ghost use Rattle.std.specs.Prelude.{◌≡◌, ◌==◌, ◌&&◌, nat_le, IfOk}
 ghost use Rattle.std.specs.List.{find, filter};
 ghost use Rattle.std.specs.declared.cmp.Ordering.{Ordering};
 ghost use Rattle.keeper.specs.History.{paid};
-ghost use Rattle.keeper.specs.Office.{nothing_kept, key_cmp, RowsRise, record_of, last_day as last_day_of, rows_between, vehicle_rows_between};
+ghost use Rattle.keeper.specs.Office.{nothing_kept, key_cmp, RowsRise, record_of, last_day as last_day_of};
+ghost use Rattle.keeper.specs.Office.{rows_between, vehicle_rows_between};
 ghost use Rattle.keeper.specs.Memory.{office_in};
 
 use super::MemOffice;
@@ -135,7 +136,8 @@ fn of_vehicle(
     from: u32,
     to: u32,
 ) -> Result<Vec<SpentRow>, NoMemory>
-    ensures { IfOk result (λ some. some.items ≡ filter (λ r. r.vid == vid && (nat_le from r.day && nat_le r.day to)) rows.now) }
+    ensures { IfOk result (λ some. some.items ≡ filter
+        (λ r. r.vid == vid && (nat_le from r.day && nat_le r.day to)) rows.now) }
 {
     let some = rows
         .iter()

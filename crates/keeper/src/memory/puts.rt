@@ -9,8 +9,8 @@ use crate::kept::{DayRecord, PastRecord};
 use road_time::{NoMemory, SpentRow, Tariff};
 
 impl MemOffice {
-    /// Keeps a day after all kept ones. Room for its record is made first, then its amounts join as a whole, and the record
-    /// cannot be refused any more.
+    /// Keeps a day after all kept ones. Room for its record is made first, then its amounts join as a whole, and the
+    /// record cannot be refused any more.
     pub fn put_day(&mut self, kept: &DayRecord, rows: &[SpentRow]) -> Result<(), NoMemory>
         requires fits { IsDayPut kept.now rows.now }
         requires later { IsLater kept.now.day (office_in self.old) }

@@ -1,0 +1,5 @@
+// Requests in, answers out.
+mod boards;
+mod desk;
+mod replies;
+mod requests;

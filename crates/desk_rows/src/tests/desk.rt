@@ -1,0 +1,267 @@
+// What comes of each request, byte for byte, over a desk in memory and its board.
+ghost use Rattle.std.specs.Prelude.{◌≡◌, IfOk};
+
+mod held;
+mod rows;
+mod sharing;
+
+use import_plan::Plan;
+use keeper::{Keeper, MemKeeper};
+use live_board::{Board, BoardReader, BoardWriter, board};
+use partition_workers::{Crew, InlineCrew};
+use road_io::MemLink;
+use road_time::{Limits, NoMemory};
+use rows::{ROWS, Row};
+use std::alloc::Global;
+use std::sync::Wait;
+use std::thread::Threads;
+use toll_desk::{Desk, SessionEnd, session};
+
+const LEAVING: &[u8] =
+    b"0,60,100,30,0,1,0,10,52800,-1,-1,-1,-1,-1,-1\n0,90,100,30,0,1,0,11,58080,-1,-1,-1,-1,-1,-1\n0,120,100,30,0,4,0,11,60000,-1,-1,-1,-1,-1,-1\n0,150,100,30,1,0,0,5,26400,-1,-1,-1,-1,-1,-1\n2,160,100,-1,-1,-1,-1,-1,-1,9,-1,-1,-1,-1,-1\n";
+
+/// A POST of the day on which vehicle 100 is charged as it leaves a crowded stretch.
+fn charged_on_leaving(alloc: Global) -> Result<Vec<u8>, NoMemory> {
+    let mut lines = Vec::new(alloc);
+    for v in 1..52u32 {
+        let line = format!(in alloc; "0,0,{v},30,0,1,0,10,52800,-1,-1,-1,-1,-1,-1\n")?;
+        lines.extend_from_slice(line.as_bytes())?;
+    }
+    lines.extend_from_slice(LEAVING)?;
+    let count = lines.len();
+    let head = format!(in alloc; "POST /days/100 HTTP/1.1\r\nContent-Length: {count}\r\n\r\n")?;
+    let mut request = Vec::from_slice(alloc, head.as_bytes())?;
+    request.extend_from_slice(lines.as_slice())?;
+    Ok(request)
+}
+
+/// The answer of a status line and a body; none without a status.
+fn answer_of(alloc: Global, status: &str, body: &str) -> Result<String, NoMemory> {
+    if status.is_empty() {
+        return Ok(String::new(alloc));
+    }
+    let count = body.len();
+    Ok(format!(in alloc;
+        "HTTP/1.1 {status}\r\nContent-Length: {count}\r\nContent-Type: application/json\r\nConnection: close\r\n\r\n{body}"
+    )?)
+}
+
+/// A desk of width 4, each job run as it is started.
+fn desk_of<R: Wait + Threads + Drop>(
+    rt: R,
+    alloc: Global,
+    keeper: MemKeeper,
+    writer: BoardWriter<R>,
+) -> Desk<MemKeeper, InlineCrew, R>
+    ensures writer { result.writer ≡ writer }
+{
+    Desk {
+        rt,
+        keeper,
+        crew: InlineCrew::new(alloc, false),
+        writer,
+        plan: Plan {
+            width: 4,
+            turns: None,
+        },
+        limits: Limits::DAY,
+    }
+}
+
+/// How a session over a link of these bytes ends, and what was written.
+fn ask<K: Keeper, C: Crew, R: Wait + Threads + Drop>(
+    alloc: Global,
+    desk: &mut Desk<K, C, R>,
+    reader: &mut BoardReader,
+    input: &[u8],
+    piece: usize,
+) -> Result<(SessionEnd, Vec<u8>), NoMemory>
+    requires board { reader.old.board ≡ desk.old.writer.board }
+    ensures board { IfOk result (λ _. reader.new.board ≡ desk.new.writer.board) }
+{
+    let mut link = MemLink::new(alloc, input, piece.max(1), 1000, &[])?;
+    let end = session(alloc, &mut link, reader, desk);
+    let written = Vec::from_slice(alloc, link.bytes())?;
+    Ok((end, written))
+}
+
+/// The number of the first row that is not answered as it is to be, their count where all are.
+fn first_wrong<K: Keeper, C: Crew, R: Wait + Threads + Drop>(
+    alloc: Global,
+    desk: &mut Desk<K, C, R>,
+    reader: &mut BoardReader,
+    rows: &[Row],
+    piece: usize,
+) -> Result<usize, NoMemory>
+    requires board { reader.old.board ≡ desk.old.writer.board }
+{
+    let mut at = 0;
+    while at < rows.len() {
+        let (end, written) = ask(alloc, desk, reader, rows[at].request, piece)?;
+        let wanted = answer_of(alloc, rows[at].status, rows[at].body)?;
+        if end != rows[at].end || written.as_slice() != wanted.as_bytes() {
+            return Ok(at);
+        }
+        at += 1;
+    }
+    Ok(at)
+}
+
+/// The worked rows of requests, in whatever pieces their bytes come.
+#[test]
+fn each_request_has_its_answer(rt: HostRuntime) -> Result<(), NoMemory> {
+    let alloc = rt.alloc();
+    for piece in [1, 7, 1000] {
+        let keeper = MemKeeper::new(alloc, &[])?;
+        let Board { writer, readers } = board(rt, alloc, 1)?;
+        let mut readers = readers.into_vec();
+        let mut desk = desk_of(rt, alloc, keeper, writer);
+        let wrong = match readers.pop() {
+            Some(mut reader) => first_wrong(alloc, &mut desk, &mut reader, &ROWS, piece),
+            None => Err(NoMemory),
+        };
+        desk.end();
+        assert_eq!(rt; wrong?, ROWS.len());
+    }
+    Ok(())
+}
+
+/// What is asked after the day of a charge.
+const AFTER_A_CHARGE: [Row; 3] = [
+    Row {
+        request: b"GET /live/100 HTTP/1.1\r\n\r\n",
+        end: SessionEnd::Answered(200),
+        status: "200 OK",
+        body: "{\"as_of\":56,\"balance\":2,\"day\":100}",
+    },
+    Row {
+        request: b"GET /live HTTP/1.1\r\n\r\n",
+        end: SessionEnd::Answered(200),
+        status: "200 OK",
+        body: "{\"as_of\":56,\"day\":100,\"total\":2}",
+    },
+    Row {
+        request: b"GET /spent/100/0/100 HTTP/1.1\r\n\r\n",
+        end: SessionEnd::Answered(200),
+        status: "200 OK",
+        body: "{\"spent\":2}",
+    },
+];
+
+/// Posts the day of a charge, and then asks for it.
+fn post_and_ask<R: Wait + Threads + Drop>(
+    alloc: Global,
+    desk: &mut Desk<MemKeeper, InlineCrew, R>,
+    reader: &mut BoardReader,
+) -> Result<usize, NoMemory>
+    requires board { reader.old.board ≡ desk.old.writer.board }
+{
+    let request = charged_on_leaving(alloc)?;
+    let (end, _) = ask(alloc, desk, reader, request.as_slice(), 100)?;
+    if end != SessionEnd::Answered(200) {
+        return Ok(usize::MAX);
+    }
+    first_wrong(alloc, desk, reader, &AFTER_A_CHARGE, 100)
+}
+
+/// A day that is posted is seen at once by the reader of its session: an account, the total, and an amount.
+#[test]
+fn a_posted_day_is_seen_at_once(rt: HostRuntime) -> Result<(), NoMemory> {
+    let alloc = rt.alloc();
+    let keeper = MemKeeper::new(alloc, &[])?;
+    let Board { writer, readers } = board(rt, alloc, 1)?;
+    let mut readers = readers.into_vec();
+    let mut desk = desk_of(rt, alloc, keeper, writer);
+    let wrong = match readers.pop() {
+        Some(mut reader) => post_and_ask(alloc, &mut desk, &mut reader),
+        None => Err(NoMemory),
+    };
+    desk.end();
+    assert_eq!(rt; wrong?, AFTER_A_CHARGE.len());
+    Ok(())
+}
+
+const EMPTY_DAY: &[u8] = b"POST /days/100 HTTP/1.1\r\nContent-Length: 0\r\n\r\n";
+
+const FOUR_LINES: &[u8] = b"POST /days/100 HTTP/1.1\r\nContent-Length: 4\r\n\r\n\n\n\n\n";
+
+/// How a session over a link ends, whether nothing was written, and how a POST of an empty day ends after it.
+fn then_an_empty_day<R: Wait + Threads + Drop>(
+    alloc: Global,
+    desk: &mut Desk<MemKeeper, InlineCrew, R>,
+    reader: &mut BoardReader,
+    link: &mut MemLink,
+) -> Result<(SessionEnd, bool, SessionEnd), NoMemory>
+    requires board { reader.old.board ≡ desk.old.writer.board }
+{
+    let end = session(alloc, link, reader, desk);
+    let silent = link.bytes().is_empty();
+    let (next, _) = ask(alloc, desk, reader, EMPTY_DAY, 100)?;
+    Ok((end, silent, next))
+}
+
+/// The same, of a new desk whose keeper fails at these calls.
+fn over_a_new_desk<R: Wait + Threads + Drop + Copy>(
+    rt: R,
+    alloc: Global,
+    fails: &[u32],
+    link: &mut MemLink,
+) -> Result<(SessionEnd, bool, SessionEnd), NoMemory> {
+    let keeper = MemKeeper::new(alloc, fails)?;
+    let Board { writer, readers } = board(rt, alloc, 1)?;
+    let mut readers = readers.into_vec();
+    let mut desk = desk_of(rt, alloc, keeper, writer);
+    let came = match readers.pop() {
+        Some(mut reader) => then_an_empty_day(alloc, &mut desk, &mut reader, link),
+        None => Err(NoMemory),
+    };
+    desk.end();
+    came
+}
+
+/// A POST that is cut at any byte is cut, answers nothing and stores nothing.
+#[test]
+fn a_cut_post_stores_nothing(rt: HostRuntime) -> Result<(), NoMemory> {
+    let alloc = rt.alloc();
+    for at in 0..FOUR_LINES.len() {
+        let mut link = MemLink::new(alloc, &FOUR_LINES[..at], 100, 1000, &[])?;
+        let came = over_a_new_desk(rt, alloc, &[], &mut link)?;
+        assert_eq!(rt;
+            came,
+            (SessionEnd::Cut, true, SessionEnd::Answered(200)),
+            "{at}"
+        );
+    }
+    Ok(())
+}
+
+/// A POST whose link fails at a read, then at a write, and whose keeper fails at a call: the next POST is answered.
+#[test]
+fn a_fault_is_told(rt: HostRuntime) -> Result<(), NoMemory> {
+    let alloc = rt.alloc();
+    for call in 0..3u32 {
+        let mut link = MemLink::new(alloc, FOUR_LINES, 23, 1000, &[call])?;
+        let came = over_a_new_desk(rt, alloc, &[], &mut link)?;
+        assert_eq!(rt;
+            came,
+            (SessionEnd::LinkFault, true, SessionEnd::Answered(200)),
+            "{call}"
+        );
+    }
+    let mut narrow = MemLink::new(alloc, EMPTY_DAY, 100, 300, &[])?;
+    let came = over_a_new_desk(rt, alloc, &[], &mut narrow)?;
+    assert_eq!(rt;
+        came,
+        (SessionEnd::LinkFault, false, SessionEnd::Answered(200))
+    );
+    for call in 0..3u32 {
+        let mut link = MemLink::new(alloc, EMPTY_DAY, 100, 1000, &[])?;
+        let came = over_a_new_desk(rt, alloc, &[call], &mut link)?;
+        assert_eq!(rt;
+            came,
+            (SessionEnd::Answered(503), false, SessionEnd::Answered(200)),
+            "{call}"
+        );
+    }
+    Ok(())
+}

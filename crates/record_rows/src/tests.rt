@@ -1,0 +1,6 @@
+// What is kept and stated of days.
+mod amounts;
+mod generated;
+mod histories;
+mod keepers;
+mod statements;

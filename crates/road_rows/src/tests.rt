@@ -1,0 +1,13 @@
+// Lines, lists and single calls in, answers out.
+mod averages;
+mod books;
+mod bytes;
+mod carriages;
+mod days;
+mod lines;
+mod logs;
+mod roads;
+mod rules;
+mod stays;
+mod stops;
+mod tariffs;
