@@ -25,7 +25,7 @@ struct Step {
 }
 
 /// The example day after its history.
-const EXAMPLE_DAY: [Step; 11] = [
+const EXAMPLE_DAY: [Step; 12] = [
     Step {
         command: "past 100",
         file: "past.csv",
@@ -44,6 +44,10 @@ const EXAMPLE_DAY: [Step; 11] = [
     },
     Step {
         command: "validate 100",
+        file: "day.csv",
+    },
+    Step {
+        command: "audit 100 --shards 3 --workers 2",
         file: "day.csv",
     },
     Step {
@@ -262,7 +266,7 @@ fn words_of(rt: HostRuntime, command: &str) -> anyhow::Result<Vec<String>> {
 }
 
 /// The status of a command over a keeper, its output into a sink, each job in a thread of its own.
-fn answer<R: Threads + Copy, O: Sink, K: Keeper>(
+fn answer<R: Threads + Sync + Copy, O: Sink, K: Keeper>(
     rt: HostRuntime,
     threads: R,
     step: Step,
@@ -290,7 +294,7 @@ fn answer<R: Threads + Copy, O: Sink, K: Keeper>(
 }
 
 /// Runs a command over a keeper, and prints its status.
-fn run<R: Threads + Copy, K: Keeper>(
+fn run<R: Threads + Sync + Copy, K: Keeper>(
     rt: HostRuntime,
     threads: R,
     step: Step,
@@ -303,7 +307,7 @@ fn run<R: Threads + Copy, K: Keeper>(
 }
 
 /// Imports a day into a sink of so much room, and prints what it holds and the status.
-fn run_in_room<R: Threads + Copy, K: Keeper>(
+fn run_in_room<R: Threads + Sync + Copy, K: Keeper>(
     rt: HostRuntime,
     threads: R,
     room: usize,
@@ -318,7 +322,7 @@ fn run_in_room<R: Threads + Copy, K: Keeper>(
 }
 
 /// Keeps a history where one line of it is allowed, and prints the status.
-fn run_with_one_line<R: Threads + Copy, K: Keeper>(
+fn run_with_one_line<R: Threads + Sync + Copy, K: Keeper>(
     rt: HostRuntime,
     threads: R,
     keeper: &mut K,
@@ -334,7 +338,7 @@ fn run_with_one_line<R: Threads + Copy, K: Keeper>(
 }
 
 /// Imports a day into a sink of so much room, and then with room for all.
-fn in_room<R: Threads + Copy, S: Opens>(
+fn in_room<R: Threads + Sync + Copy, S: Opens>(
     rt: HostRuntime,
     threads: R,
     path: &str,
@@ -349,7 +353,7 @@ fn in_room<R: Threads + Copy, S: Opens>(
 }
 
 /// Keeps a history of two lines where one is allowed.
-fn with_one_line<R: Threads + Copy, S: Opens>(
+fn with_one_line<R: Threads + Sync + Copy, S: Opens>(
     rt: HostRuntime,
     threads: R,
     path: &str,
@@ -361,7 +365,7 @@ fn with_one_line<R: Threads + Copy, S: Opens>(
 }
 
 /// Runs commands over a file, which is opened anew for each.
-fn over_file<R: Threads + Copy, S: Opens>(
+fn over_file<R: Threads + Sync + Copy, S: Opens>(
     rt: HostRuntime,
     threads: R,
     path: &str,
@@ -375,7 +379,7 @@ fn over_file<R: Threads + Copy, S: Opens>(
 }
 
 /// Runs commands over a keeper in memory, and then over a file.
-fn over_both<R: Threads + Copy, S: Opens>(
+fn over_both<R: Threads + Sync + Copy, S: Opens>(
     rt: HostRuntime,
     threads: R,
     path: &str,
@@ -389,7 +393,7 @@ fn over_both<R: Threads + Copy, S: Opens>(
 }
 
 /// All runs, with files in a kind of store.
-fn all<R: Threads + Copy, S: Opens>(rt: HostRuntime, threads: R) -> anyhow::Result<()> {
+fn all<R: Threads + Sync + Copy, S: Opens>(rt: HostRuntime, threads: R) -> anyhow::Result<()> {
     over_both::<R, S>(rt, threads, "example.db", &EXAMPLE_DAY)?;
     over_both::<R, S>(rt, threads, "empty.db", &EMPTY_DAY)?;
     over_both::<R, S>(rt, threads, "charged.db", &CHARGED_ON_LEAVING)?;

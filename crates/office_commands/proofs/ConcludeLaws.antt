@@ -1,5 +1,5 @@
 -- What a run wrote and kept together, from what it wrote and what it kept.
-use Rattle.std.proofs.Common.{◌≡◌, ◌⊎◌, inl, inr, ℕ, ◌++◌, List, [], take, Option, Some, None, Result, Ok, Err, refl, sym, ap, subst, ◌∙◌}
+use Rattle.std.proofs.Common.{◌≡◌, ◌⊎◌, inl, inr, ℕ, List, [], take, Option, Some, None, Result, Ok, Err, refl, sym, ap, ◌∙◌}
 use Rattle.std.specs.Io.KnownBytes.{Appends}
 use Rattle.road_io.proofs.SinkLaws.{appends_on}
 use Rattle.road_io.specs.declared.source.Failed.{Failed}
@@ -8,11 +8,11 @@ use Rattle.keeper.specs.declared.kept.KeepFault.TheVariants as keeping
 use Rattle.keeper.specs.Calls.{WhenRefused}
 use Rattle.keeper.specs.Office.{Office}
 use Rattle.office_commands.specs.declared.closing.Closing.{Closing}
-use Rattle.office_commands.specs.declared.closing.Closing.TheVariants.{ReadFault, KeeperFault, NoMemory}
+use Rattle.office_commands.specs.declared.closing.Closing.TheVariants.{NoMemory}
 use Rattle.office_commands.specs.Closings.{closing_line, status_of}
 use Rattle.office_commands.specs.Commands.{Answer}
 use Rattle.office_commands.proofs.EndingLaws.{IsOf, is_of, unchanged}
-use Rattle.office_commands.specs.Endings.{Sort, Own, Unread, Unkept, Unroomed, sort_of, IsFront, StandsBy, StandsBefore, Wrote, LeftBy, KeepsBy, Keeps, Closes, Halted, HoldsBy, Did, Said, SaidAll, WroteAlone, WroteLess, Concludes, Holds, status_by}
+use Rattle.office_commands.specs.Endings.{Sort, Own, Unread, Unkept, Unroomed, sort_of, StandsBy, StandsBefore, Wrote, LeftBy, KeepsBy, Keeps, Closes, Halted, HoldsBy, Did, Said, Concludes, Holds, status_by}
 
 module _ (w : WhenRefused) (a : Answer) (was : Office) (old mid : Option (List ℕ)) (now : Option Office) where
   same_holds : (s : Sort) (c : Closing) (text : List ℕ) → now ≡ Some was → StandsBy s a c text → KeepsBy s w a was now → HoldsBy s w a was c text now

@@ -253,19 +253,6 @@ module _ (w : WhenRefused) (a : Answer) (was : Office) (now : Option Office) whe
         go Unkept is keeps = absurd (k (h.0 ∙ ap status_of is))
         go Unroomed is keeps = absurd (m (h.0 ∙ ap status_of is))
 
-    -- after a read fault all is as it was
-    pub kept_unread : (c : Closing) → KeepsBy (sort_of c) w a was now → ClosedBy c → status ≡ 4 → now ≡ Some was
-    kept_unread c s (inr (inl h)) e = absurd (omega (arith, h.0, e))
-    kept_unread c s (inr (inr h)) e = absurd (omega (arith, h.0, e))
-    kept_unread c s (inl (inr h)) e = absurd (omega (arith, h.0, e))
-    kept_unread c s (inl (inl h)) e = go (sort_of c) (is_of c) s
-      where
-        go : (x : Sort) → IsOf x c → KeepsBy x w a was now → now ≡ Some was
-        go Own is keeps = absurd (is.0 (sym h.0 ∙ e))
-        go Unread is keeps = keeps
-        go Unkept is keeps = absurd (omega (arith, h.0 ∙ ap status_of is, e))
-        go Unroomed is keeps = absurd (omega (arith, h.0 ∙ ap status_of is, e))
-
     -- after a keeper's fault what a refused put leaves is kept
     pub kept_refused : (c : Closing) → KeepsBy (sort_of c) w a was now → ClosedBy c → status ≡ 6 → LeftBy w keeping.Failed a was now
     kept_refused c s (inr (inl h)) e = absurd (omega (arith, h.0, e))

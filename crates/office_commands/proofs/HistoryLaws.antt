@@ -1,5 +1,5 @@
 -- What a command that keeps a history names and keeps, from what keeping it did.
-use Rattle.std.proofs.Common.{◌≡◌, ◌≢◌, ◌∙◌, ◌==◌, ℕ, Bool, true, false, if◌then◌else◌, List, [], ◌∷◌, Option, Some, None, refl, sym, ap, subst, arith}
+use Rattle.std.proofs.Common.{◌≡◌, ◌≢◌, ◌∙◌, ◌==◌, ◌⊎◌, ℕ, Bool, true, false, if◌then◌else◌, List, [], ◌∷◌, Option, Some, None, refl, sym, ap, subst, arith}
 use Rattle.std.specs.Str.{bytes_eq}
 use Rattle.road_time.specs.declared.day.Limits.{Limits}
 use Rattle.road_time.specs.declared.day.SpentRow.{SpentRow}
@@ -11,7 +11,7 @@ use Rattle.keeper.specs.Calls.{WhenRefused}
 use Rattle.keeper.specs.Office.{Office}
 use Rattle.day_reading.specs.Days.{StopsSoon}
 use Rattle.past_file.specs.declared.outcomes.PastCause.{PastCause}
-use Rattle.past_file.specs.Imports.{PastAnswer, past_again, past_read, past_new, past_by as past_by_kept, Does, LeavesRest, RefusesSoon, KeepsAll}
+use Rattle.past_file.specs.Imports.{PastAnswer, past_again, past_read, past_new, past_by as past_by_kept, Does, LeavesRest, RefusesSoon, KeepsAll, IsUncompared}
 use Rattle.past_file.specs.declared.outcomes.PastOutcome.{PastOutcome}
 use Rattle.past_file.specs.declared.outcomes.PastOutcome.TheVariants.{Stored, Already, Row, PastLate, OtherBase, Differs, ReadFault, KeeperFault, NoMemory}
 use Rattle.office_commands.specs.declared.closing.Closing.{Closing}
@@ -20,6 +20,7 @@ use Rattle.office_commands.specs.Closings.{status_of}
 use Rattle.office_commands.specs.Endings.{StandsBefore, Holds, sort_of, KeepsBy}
 use Rattle.office_commands.specs.Rests.{LeavesOfPast, HasStoppedPast, HasReadPast}
 use Rattle.office_commands.proofs.EndingLaws.{whole_front}
+use Rattle.office_commands.proofs.OutcomeLaws.{neither}
 
 module _ (w : WhenRefused) (base : ℕ) (a : PastAnswer) (was : Office) (now : Option Office) where
   -- the closing line of a history that was kept, or of why not
@@ -131,3 +132,15 @@ past_held base P (Differs k found) c e h = λ well failed room. h
 past_held base P ReadFault c e h = λ well failed room. h
 past_held base P KeeperFault c e h = λ well failed room. absurd (failed (ap status_of e))
 past_held base P NoMemory c e h = λ well failed room. absurd (room (ap status_of e))
+
+-- a history that ended at a refused line, or as the keeper failed, was compared with none
+pub past_alone : (base : ℕ) (P : Type 0) (done : PastOutcome) (c : Closing) → c ≡ past_closing base done → (IsUncompared done → P) → (status_of c ≡ 2) ⊎ (status_of c ≡ 6) → P
+past_alone base P (Stored r) c e h s = h tt
+past_alone base P (Row line cause) c e h s = h tt
+past_alone base P (PastLate last) c e h s = h tt
+past_alone base P (OtherBase other) c e h s = h tt
+past_alone base P KeeperFault c e h s = h tt
+past_alone base P (Already r) c e h s = absurd (neither _ 0 (ap status_of e) (λ t. omega (arith, t)) (λ t. omega (arith, t)) s)
+past_alone base P (Differs k found) c e h s = absurd (neither _ 3 (ap status_of e) (λ t. omega (arith, t)) (λ t. omega (arith, t)) s)
+past_alone base P ReadFault c e h s = absurd (neither _ 4 (ap status_of e) (λ t. omega (arith, t)) (λ t. omega (arith, t)) s)
+past_alone base P NoMemory c e h s = absurd (neither _ 8 (ap status_of e) (λ t. omega (arith, t)) (λ t. omega (arith, t)) s)

@@ -5,7 +5,7 @@ pub mod TariffLaws
 pub mod DayLaws
 pub mod BoundLaws
 pub mod AsideLaws
-pub mod ValidateLaws
+pub mod ComparingLaws
 pub mod HistoryLaws
 pub mod TrafficLaws
 pub mod PutLaws

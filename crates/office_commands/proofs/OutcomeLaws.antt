@@ -1,5 +1,5 @@
 -- What a command wrote and kept, from what importing or answering its day did.
-use Rattle.std.proofs.Common.{◌≡◌, ◌≤◌, inl, inr, ℕ, List, take, length-take, Option, Some, Result, Ok, Err, IsOk, OnErr, refl, sym, ap, subst, arith}
+use Rattle.std.proofs.Common.{◌≡◌, ◌≢◌, ◌≤◌, ◌⊎◌, ◌∙◌, inl, inr, ℕ, List, take, length-take, Option, Some, Result, Ok, Err, IsOk, OnErr, refl, sym, ap, subst, arith}
 use Rattle.std.specs.Io.KnownBytes.{Appends}
 use Rattle.road_io.specs.Faults.{Rose, HasCause}
 use Rattle.road_io.specs.declared.source.Failed.{Failed}
@@ -109,6 +109,11 @@ module _ (w : WhenRefused) (number : ℕ) (a : day.Answer) (was : Office) (old n
 -- the status of a run whose closing line is known
 pub code_is : (c : Option Closing) (k : Closing) → c ≡ Some k → code_of (Ok c) ≡ status_of k
 code_is c k e = ap (λ x. code_of (Ok x)) e
+
+-- another code is neither that of a refused line nor that of a keeper that failed
+pub neither : (code k : ℕ) → code ≡ k → k ≢ 2 → k ≢ 6 → (code ≡ 2) ⊎ (code ≡ 6) → ⊥
+neither code k e named failed (inl s) = named (sym e ∙ s)
+neither code k e named failed (inr s) = failed (sym e ∙ s)
 
 -- what is kept is as it was, unless a day was stored, the keeper failed or memory ran out
 pub held : (number : ℕ) (P : Type 0) (done : Outcome) (r : Result (Option Closing) Failed) → Ends (closing_by number done) r → KeepsAll done P → Holds (code_of r) P

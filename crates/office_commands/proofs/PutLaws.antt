@@ -10,7 +10,7 @@ pub puts_same : (m : Option Command) (o : Office) (now : Option Office) → now 
 puts_same None o now e = tt
 puts_same (Some (command.Answers run)) o now e = tt
 puts_same (Some (command.Import run)) o now e = (o, e, inl refl)
-puts_same (Some (command.Validate number late)) o now e = tt
+puts_same (Some (command.Compare asked)) o now e = tt
 puts_same (Some (command.Past base)) o now e = (o, e, inl refl)
 puts_same (Some (command.Day number)) o now e = tt
 puts_same (Some (command.Vehicle vid from to)) o now e = tt

@@ -1,5 +1,5 @@
 -- What a run leaves of its source, from what its parts left.
-use Rattle.std.proofs.Common.{◌≡◌, ◌≢◌, ℕ, Bool, true, false, if◌then◌else◌, nat_le, List, [], Option, Some, None, Result, Ok, Err, refl, sym, ap, subst, ◌∙◌, arith}
+use Rattle.std.proofs.Common.{◌≡◌, ◌≢◌, ◌⊎◌, inl, inr, ℕ, Bool, true, false, if◌then◌else◌, nat_le, List, [], Option, Some, None, Result, Ok, Err, refl, sym, subst, ◌∙◌, arith}
 use Rattle.std.specs.Str.{bytes_eq}
 use Rattle.road_time.specs.declared.road.Tuple.{Tuple}
 use Rattle.road_time.specs.Form.{Fault}
@@ -20,21 +20,22 @@ use Rattle.day_reading.specs.declared.whole_day.ReadStop.{ReadStop}
 use Rattle.day_reading.specs.declared.whole_day.ReadStop.TheVariants as stops
 use Rattle.office_words.specs.declared.command.Command.{Command}
 use Rattle.office_words.specs.declared.command.Command.TheVariants as command
+use Rattle.office_words.specs.declared.command.Recomputing.TheVariants.{Plainly}
 use Rattle.road_time.specs.declared.day.Limits.{Limits}
 use Rattle.road_time.specs.Reads.{reads}
-use Rattle.import_once.specs.Imports as day
-use Rattle.import_once.specs.Imports.{Work, import_worked, again, unwritten, unless_passed, unless_recorded, Merges, LeavesRest, LeavesRead, IsOfAnswers}
+use Rattle.past_file.specs.Imports.{most_past}
+use Rattle.import_once.specs.Imports.{Work, import_worked, again, unwritten, unless_passed, unless_recorded, Merges, LeavesRest, LeavesRead, IsOfAnswers, IsUncompared}
 use Rattle.import_once.specs.declared.outcomes.Outcome.{Outcome}
 use Rattle.import_once.specs.declared.outcomes.Outcome.TheVariants.{Stored, Already, Answered, Refused, DayPassed, Differs, ReadFault, WriteFault, KeeperFault, NoMemory}
 use Rattle.office_commands.specs.declared.closing.Closing.{Closing}
 use Rattle.office_commands.specs.declared.closing.Closing.TheVariants as closing
 use Rattle.office_commands.specs.Closings.{status_of}
-use Rattle.office_commands.specs.Commands.{closing_by}
+use Rattle.office_commands.specs.Commands.{closing_by, change_kept}
 use Rattle.office_commands.specs.Days.{refused_at, recomputed}
 use Rattle.office_commands.specs.Endings.{Ends, Holds, code_of, stopping, refusing}
 use Rattle.office_commands.specs.Entries.{IsComparison}
-use Rattle.office_commands.specs.Rests.{HasStopped, HasEnded, HasReadTo, HasReadDay, ReadAsAsked, EndsAt, SaysBy, LeavesOfDay, LeavesAsKept, HoldsAsked}
-use Rattle.office_commands.proofs.OutcomeLaws.{code_is}
+use Rattle.office_commands.specs.Rests.{HasStopped, HasEnded, HasReadTo, HasReadDay, ReadAsAsked, EndsAt, SaysBy, LeavesOfDay, LeavesAsKept, HoldsAsked, ReadsUncompared}
+use Rattle.office_commands.proofs.OutcomeLaws.{code_is, neither}
 
 module _ (refused : Option (ℕ × Fault)) (bytes : List ℕ) (left : Option (List ℕ)) where
   abbrev To : ℕ → Type 0
@@ -104,6 +105,24 @@ module _ (refused : Option (ℕ × Fault)) (bytes : List ℕ) (left : Option (Li
   imported_to number NoMemory (Ok c) e l s = absurd (omega (arith, code_is c _ e, s))
   imported_to number WriteFault (Ok c) e l s = absurd e
   imported_to number done (Err x) e l s = absurd (omega (arith, s))
+
+-- a day whose import ended at a refused line, or as the keeper failed, was compared with none
+pub imported_alone : (number : ℕ) (P : Type 0) (done : Outcome) (r : Result (Option Closing) Failed) → Ends (closing_by number done) r → (IsUncompared done → P) → (code_of r ≡ 2) ⊎ (code_of r ≡ 6) → P
+imported_alone number P (Stored kept) r e h s = h tt
+imported_alone number P (Refused line cause) r e h s = h tt
+imported_alone number P (DayPassed last) r e h s = h tt
+imported_alone number P WriteFault r e h s = h tt
+imported_alone number P KeeperFault r e h s = h tt
+imported_alone number P (Already kept) (Ok c) e h s = absurd (neither _ 0 (code_is c _ e) (λ t. omega (arith, t)) (λ t. omega (arith, t)) s)
+imported_alone number P (Answered kept) (Ok c) e h s = absurd (neither _ 0 (code_is c _ e) (λ t. omega (arith, t)) (λ t. omega (arith, t)) s)
+imported_alone number P (Differs kept found) (Ok c) e h s = absurd (neither _ 3 (code_is c _ e) (λ t. omega (arith, t)) (λ t. omega (arith, t)) s)
+imported_alone number P ReadFault (Ok c) e h s = absurd (neither _ 4 (code_is c _ e) (λ t. omega (arith, t)) (λ t. omega (arith, t)) s)
+imported_alone number P NoMemory (Ok c) e h s = absurd (neither _ 8 (code_is c _ e) (λ t. omega (arith, t)) (λ t. omega (arith, t)) s)
+imported_alone number P (Already kept) (Err x) e h s = absurd e
+imported_alone number P (Answered kept) (Err x) e h s = absurd e
+imported_alone number P (Differs kept found) (Err x) e h s = absurd e
+imported_alone number P ReadFault (Err x) e h s = absurd e
+imported_alone number P NoMemory (Err x) e h s = absurd e
 
 -- how the import of a day that is kept ends
 abbrev IsAgain : Outcome → Type 0
@@ -216,13 +235,23 @@ day_status limits late status code before after same day = record {
   to = λ bytes told. to_status (reads bytes limits late).refused bytes after status code same (day.to bytes told);
 }
 
+uncompared_status : (most status code : ℕ) (before after : Option (List ℕ)) → Ended status code → ReadsUncompared most code before after → ReadsUncompared most status before after
+uncompared_status most status code before after same h = λ s. h (moved s)
+  where
+    moved : (status ≡ 2) ⊎ (status ≡ 6) → (code ≡ 2) ⊎ (code ≡ 6)
+    moved (inl s) = inl (sym (same (λ e. omega (arith, s, e)) (λ e. omega (arith, s, e))) ∙ s)
+    moved (inr s) = inr (sym (same (λ e. omega (arith, s, e)) (λ e. omega (arith, s, e))) ∙ s)
+
 pub read_status : (limits : Limits) (m : Option Command) (status code : ℕ) (before after : Option (List ℕ)) → Ended status code → ReadAsAsked limits m code before after → ReadAsAsked limits m status before after
 read_status limits None status code before after same h = tt
 read_status limits (Some (command.Answers run')) status code before after same h = day_status limits run'.late status code before after same h
-read_status limits (Some (command.Import run')) status code before after same h = λ bytes told s. h bytes told (sym (same (λ e. omega (arith, s, e)) (λ e. omega (arith, s, e))) ∙ s)
-read_status limits (Some (command.Validate number late)) status code before after same h = day_status (recomputed limits) late status code before after same h
-read_status limits (Some (command.Accidents late)) status code before after same h = day_status (recomputed limits) late status code before after same h
-read_status limits (Some (command.Past base)) status code before after same h = tt
+read_status limits (Some (command.Import run')) status code before after same h = (
+  λ bytes told s. h.0 bytes told (sym (same (λ e. omega (arith, s, e)) (λ e. omega (arith, s, e))) ∙ s),
+  uncompared_status (most_read limits) status code before after same h.1,
+)
+read_status limits (Some (command.Compare asked)) status code before after same h = day_status (recomputed asked.how limits) asked.late status code before after same h
+read_status limits (Some (command.Accidents late)) status code before after same h = day_status (recomputed Plainly limits) late status code before after same h
+read_status limits (Some (command.Past base)) status code before after same h = uncompared_status (most_past limits) status code before after same h
 read_status limits (Some (command.Day number)) status code before after same h = tt
 read_status limits (Some (command.Vehicle vid from to)) status code before after same h = tt
 read_status limits (Some (command.Export number)) status code before after same h = tt
@@ -235,7 +264,7 @@ pub rest_status : (limits : Limits) (m : Option Command) (status code : ℕ) (o 
 rest_status limits None status code o bytes left same h = tt
 rest_status limits (Some (command.Answers run')) status code o bytes left same h = tt
 rest_status limits (Some (command.Import run')) status code o bytes left same h = λ s. h (sym (same (λ e. omega (arith, s, e)) (λ e. omega (arith, s, e))) ∙ s)
-rest_status limits (Some (command.Validate number late)) status code o bytes left same h = tt
+rest_status limits (Some (command.Compare asked)) status code o bytes left same h = tt
 rest_status limits (Some (command.Accidents late)) status code o bytes left same h = tt
 rest_status limits (Some (command.Past base)) status code o bytes left same h = record {
   ended = λ s. h.ended (sym (same (λ e. omega (arith, s, e)) (λ e. omega (arith, s, e))) ∙ s);
@@ -258,7 +287,7 @@ pub held_status : (m : Option Command) (status code : ℕ) (P : Type 0) → Ende
 held_status None status code P same unbroken h = tt
 held_status (Some (command.Answers run')) status code P same unbroken h = tt
 held_status (Some (command.Import run')) status code P same unbroken h = holds_status status code P same unbroken h
-held_status (Some (command.Validate number late)) status code P same unbroken h = tt
+held_status (Some (command.Compare asked)) status code P same unbroken h = tt
 held_status (Some (command.Accidents late)) status code P same unbroken h = tt
 held_status (Some (command.Past base)) status code P same unbroken h = holds_status status code P same unbroken h
 held_status (Some (command.Day number)) status code P same unbroken h = tt
@@ -273,10 +302,10 @@ held_status (Some (command.Rehearse seed size run')) status code P same unbroken
 pub read_other : (limits : Limits) (m : Option Command) (code : ℕ) (left : Option (List ℕ)) → code ≢ 0 → code ≢ 7 → code ≢ 2 → ReadAsAsked limits m code left left
 read_other limits None code left well parted named = tt
 read_other limits (Some (command.Answers run')) code left well parted named = record { within = nothing_read (most_read limits) left; to = λ bytes told. to_other (reads bytes limits run'.late).refused bytes left code well parted named }
-read_other limits (Some (command.Import run')) code left well parted named = λ bytes told s. absurd (named s)
-read_other limits (Some (command.Validate number late)) code left well parted named = record { within = nothing_read (most_read (recomputed limits)) left; to = λ bytes told. to_other (reads bytes (recomputed limits) late).refused bytes left code well parted named }
-read_other limits (Some (command.Accidents late)) code left well parted named = record { within = nothing_read (most_read (recomputed limits)) left; to = λ bytes told. to_other (reads bytes (recomputed limits) late).refused bytes left code well parted named }
-read_other limits (Some (command.Past base)) code left well parted named = tt
+read_other limits (Some (command.Import run')) code left well parted named = (λ bytes told s. absurd (named s), λ s. nothing_read (most_read limits) left)
+read_other limits (Some (command.Compare asked)) code left well parted named = record { within = nothing_read (most_read (recomputed asked.how limits)) left; to = λ bytes told. to_other (reads bytes (recomputed asked.how limits) asked.late).refused bytes left code well parted named }
+read_other limits (Some (command.Accidents late)) code left well parted named = record { within = nothing_read (most_read (recomputed Plainly limits)) left; to = λ bytes told. to_other (reads bytes (recomputed Plainly limits) late).refused bytes left code well parted named }
+read_other limits (Some (command.Past base)) code left well parted named = λ s. nothing_read (most_past limits) left
 read_other limits (Some (command.Day number)) code left well parted named = tt
 read_other limits (Some (command.Vehicle vid from to)) code left well parted named = tt
 read_other limits (Some (command.Export number)) code left well parted named = tt
@@ -289,7 +318,7 @@ pub rest_other : (limits : Limits) (m : Option Command) (code : ℕ) (o : Office
 rest_other limits None code o bytes left well named = tt
 rest_other limits (Some (command.Answers run')) code o bytes left well named = tt
 rest_other limits (Some (command.Import run')) code o bytes left well named = λ s. absurd (well s)
-rest_other limits (Some (command.Validate number late)) code o bytes left well named = tt
+rest_other limits (Some (command.Compare asked)) code o bytes left well named = tt
 rest_other limits (Some (command.Accidents late)) code o bytes left well named = tt
 rest_other limits (Some (command.Past base)) code o bytes left well named = record { ended = λ s. absurd (well s); refused_there = λ s. absurd (named s) }
 rest_other limits (Some (command.Day number)) code o bytes left well named = tt
@@ -305,7 +334,7 @@ pub held_same : (m : Option Command) (code : ℕ) (P : Type 0) → P → HoldsAs
 held_same None code P same = tt
 held_same (Some (command.Answers run')) code P same = tt
 held_same (Some (command.Import run')) code P same = λ well failed room. same
-held_same (Some (command.Validate number late)) code P same = tt
+held_same (Some (command.Compare asked)) code P same = tt
 held_same (Some (command.Accidents late)) code P same = tt
 held_same (Some (command.Past base)) code P same = λ well failed room. same
 held_same (Some (command.Day number)) code P same = tt
@@ -315,3 +344,19 @@ held_same (Some (command.Tariff xway crowd speed factor)) code P same = λ well 
 held_same (Some command.Tariffs) code P same = tt
 held_same (Some (command.Generate seed size)) code P same = tt
 held_same (Some (command.Rehearse seed size run')) code P same = tt
+
+-- after a read fault nothing was put, and what is not put is as it was
+pub unread_same : (m : Option Command) (code : ℕ) (P : Type 0) → HoldsAsked m code P → (change_kept m ≡ false → P) → code ≡ 4 → P
+unread_same None code P held same s = same refl
+unread_same (Some (command.Answers run')) code P held same s = same refl
+unread_same (Some (command.Import run')) code P held same s = held (λ e. omega (arith, s, e)) (λ e. omega (arith, s, e)) (λ e. omega (arith, s, e))
+unread_same (Some (command.Compare asked)) code P held same s = same refl
+unread_same (Some (command.Accidents late)) code P held same s = same refl
+unread_same (Some (command.Past base)) code P held same s = held (λ e. omega (arith, s, e)) (λ e. omega (arith, s, e)) (λ e. omega (arith, s, e))
+unread_same (Some (command.Day number)) code P held same s = same refl
+unread_same (Some (command.Vehicle vid from to)) code P held same s = same refl
+unread_same (Some (command.Export number)) code P held same s = same refl
+unread_same (Some (command.Tariff xway crowd speed factor)) code P held same s = held (λ e. omega (arith, s, e)) (λ e. omega (arith, s, e)) (λ e. omega (arith, s, e))
+unread_same (Some command.Tariffs) code P held same s = same refl
+unread_same (Some (command.Generate seed size)) code P held same s = same refl
+unread_same (Some (command.Rehearse seed size run')) code P held same s = same refl

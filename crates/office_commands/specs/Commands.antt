@@ -29,11 +29,13 @@ use Rattle.office_words.specs.declared.command.Command.TheVariants as command
 use Rattle.tuple_format.specs.declared.cause.Cause.{Cause}
 use Rattle.office_commands.specs.declared.closing.Closing.{Closing}
 use Rattle.office_commands.specs.declared.closing.Closing.TheVariants.{Answered, Stored, Already, TariffPut, PastStored, PastAlready, Words, Refused, PastRefused, DayPassed, DiffersDay, NoDay, PastLate, PastKept, DiffersPast, ReadFault, KeeperFault, NoMemory}
+use Rattle.office_words.specs.declared.command.Comparison.{Comparison}
 use Rattle.office_words.specs.declared.command.DayRun.{DayRun}
+use Rattle.office_words.specs.declared.command.Recomputing.TheVariants.{Plainly}
 use Rattle.office_words.specs.declared.command.Size.{Size}
 use Rattle.traffic_gen.specs.Traffic.{file_of}
 use Rattle.office_commands.specs.Traffic.{plan_of, rehearsed_record, rehearsed}
-use Rattle.office_commands.specs.Days.{recomputed, refusal_of}
+use Rattle.office_commands.specs.Days.{recomputed, in_bulk, refusal_of}
 use Rattle.office_commands.specs.Asides.{compared}
 use Rattle.office_commands.specs.Entries.{most_compared}
 
@@ -90,18 +92,24 @@ abbrev pub accidents_of : List Tuple → Office → Answer
 accidents_of tuples o = told (log_text (log_of tuples)) o
 
 -- how the notices of a day compare with lines
-abbrev pub validation_of : ℕ → List Tuple → List (List ℕ) → Office → Answer
-validation_of number tuples lines o = closed (compared (notices_of_day number tuples o) lines) o
+abbrev pub comparison_of : ℕ → List Tuple → List (List ℕ) → Office → Answer
+comparison_of number tuples lines o = closed (compared (notices_of_day number tuples o) lines) o
 
--- the command `validate DAY`
-abbrev pub validate_row : Limits → ℕ → ℕ → List ℕ → List ℕ → Office → Answer
-validate_row limits number late bytes aside o =
-    unless_refused (refusal_of (reads bytes (recomputed limits) late).refused) (validation_of number (reads bytes (recomputed limits) late).tuples (lines_of aside) o)
+-- the tuples of a day that is compared
+abbrev pub compared_tuples : Limits → Comparison → List ℕ → List Tuple
+compared_tuples limits asked bytes = (reads bytes (recomputed asked.how limits) asked.late).tuples
+
+-- the commands `validate DAY` and `audit DAY`
+abbrev pub compare_row : Limits → Comparison → List ℕ → List ℕ → Office → Answer
+compare_row limits asked bytes aside o =
+    unless_refused (refusal_of (reads bytes (recomputed asked.how limits) asked.late).refused)
+    (comparison_of asked.day (compared_tuples limits asked bytes) (lines_of aside) o)
 
 -- the command `accidents`
 abbrev pub accidents_row : Limits → ℕ → List ℕ → Office → Answer
 accidents_row limits late bytes o =
-    unless_refused (refusal_of (reads bytes (recomputed limits) late).refused) (accidents_of (reads bytes (recomputed limits) late).tuples o)
+    unless_refused (refusal_of (reads bytes (recomputed Plainly limits) late).refused)
+    (accidents_of (reads bytes (recomputed Plainly limits) late).tuples o)
 
 -- a report of a day, which has none where the day is not kept
 abbrev pub report_row : ℕ → Option (List ℕ) → Office → Answer
@@ -164,7 +172,7 @@ rehearse_row seed size run o = closed (rehearsed (rehearsed_record run.day (plan
 abbrev pub command_row : Limits → List ℕ → List ℕ → Office → Command → Answer
 command_row limits bytes aside o (command.Answers run) = answers_row limits run bytes o
 command_row limits bytes aside o (command.Import run) = import_row limits run bytes o
-command_row limits bytes aside o (command.Validate number late) = validate_row limits number late bytes aside o
+command_row limits bytes aside o (command.Compare asked) = compare_row limits asked bytes aside o
 command_row limits bytes aside o (command.Past base) = past_row limits base bytes o
 command_row limits bytes aside o (command.Day number) = day_row number o
 command_row limits bytes aside o (command.Vehicle vid from to) = vehicle_row vid from to o
@@ -188,7 +196,7 @@ office_answer words limits bytes aside o = row_of limits bytes aside o (means wo
 abbrev pub uses_source : Command → Bool
 uses_source (command.Answers run) = true
 uses_source (command.Import run) = true
-uses_source (command.Validate number late) = true
+uses_source (command.Compare asked) = true
 uses_source (command.Past base) = true
 uses_source (command.Day number) = false
 uses_source (command.Vehicle vid from to) = false
@@ -203,7 +211,7 @@ uses_source (command.Rehearse seed size run) = false
 abbrev pub uses_aside : Command → Bool
 uses_aside (command.Answers run) = false
 uses_aside (command.Import run) = false
-uses_aside (command.Validate number late) = true
+uses_aside (command.Compare asked) = true
 uses_aside (command.Past base) = false
 uses_aside (command.Day number) = false
 uses_aside (command.Vehicle vid from to) = false
@@ -218,7 +226,7 @@ uses_aside (command.Rehearse seed size run) = false
 abbrev pub uses_keeper : Command → Bool
 uses_keeper (command.Answers run) = true
 uses_keeper (command.Import run) = true
-uses_keeper (command.Validate number late) = true
+uses_keeper (command.Compare asked) = true
 uses_keeper (command.Past base) = true
 uses_keeper (command.Day number) = true
 uses_keeper (command.Vehicle vid from to) = true
@@ -233,7 +241,7 @@ uses_keeper (command.Rehearse seed size run) = false
 abbrev pub uses_crew : Command → Bool
 uses_crew (command.Answers run) = true
 uses_crew (command.Import run) = true
-uses_crew (command.Validate number late) = false
+uses_crew (command.Compare asked) = in_bulk asked.how
 uses_crew (command.Past base) = false
 uses_crew (command.Day number) = false
 uses_crew (command.Vehicle vid from to) = false
@@ -300,15 +308,23 @@ KeeperTells words kept o = use_keeper (means words) ≡ true → kept ≡ Some o
 abbrev pub IsRight : List Text → Bool → Type 0
 IsRight words exact = use_crew (means words) ≡ true → exact ≡ true
 
+-- and where they have one for the aside too
+abbrev pub IsRightAside : List Text → Bool → Type 0
+IsRightAside words exact = use_aside (means words) ≡ true → use_crew (means words) ≡ true → exact ≡ true
+
+-- the most that is read of an aside with which a day's notices are compared
+abbrev pub most_noticed : ℕ → List Tuple → Office → ℕ
+most_noticed number tuples o = most_compared (length (notices_of_day number tuples o))
+
 -- the most that a command reads of its source
 abbrev pub most_of : Limits → Office → Command → ℕ
 most_of limits o (command.Answers run) = most_read limits
 most_of limits o (command.Import run) = most_imported (record_of o run.day) limits
-most_of limits o (command.Validate number late) = most_read (recomputed limits)
+most_of limits o (command.Compare asked) = most_read (recomputed asked.how limits)
 most_of limits o (command.Past base) = most_kept o.past limits
 most_of limits o (command.Day number) = 0
 most_of limits o (command.Vehicle vid from to) = 0
-most_of limits o (command.Accidents late) = most_read (recomputed limits)
+most_of limits o (command.Accidents late) = most_read (recomputed Plainly limits)
 most_of limits o (command.Export number) = 0
 most_of limits o (command.Tariff xway crowd speed factor) = 0
 most_of limits o command.Tariffs = 0
@@ -319,7 +335,7 @@ most_of limits o (command.Rehearse seed size run) = 0
 abbrev pub most_aside_of : Limits → List ℕ → Office → Command → ℕ
 most_aside_of limits bytes o (command.Answers run) = 0
 most_aside_of limits bytes o (command.Import run) = 0
-most_aside_of limits bytes o (command.Validate number late) = most_compared (length (notices_of_day number (reads bytes (recomputed limits) late).tuples o))
+most_aside_of limits bytes o (command.Compare asked) = most_noticed asked.day (compared_tuples limits asked bytes) o
 most_aside_of limits bytes o (command.Past base) = 0
 most_aside_of limits bytes o (command.Day number) = 0
 most_aside_of limits bytes o (command.Vehicle vid from to) = 0
@@ -344,7 +360,7 @@ most_aside_asked limits bytes o (Some c) = most_aside_of limits bytes o c
 abbrev pub changes_kept : Command → Bool
 changes_kept (command.Answers run) = false
 changes_kept (command.Import run) = true
-changes_kept (command.Validate number late) = false
+changes_kept (command.Compare asked) = false
 changes_kept (command.Past base) = true
 changes_kept (command.Day number) = false
 changes_kept (command.Vehicle vid from to) = false

@@ -1,5 +1,5 @@
 -- What a run leaves of its source.
-use Rattle.std.specs.Prelude.{ℕ, ◌≡◌, ◌≢◌, ◌+◌, List, [], drop, Option, Some, None}
+use Rattle.std.specs.Prelude.{ℕ, ◌≡◌, ◌≢◌, ◌+◌, ◌⊎◌, List, [], drop, Option, Some, None}
 use Rattle.road_time.specs.declared.day.Limits.{Limits}
 use Rattle.road_time.specs.Form.{Fault}
 use Rattle.road_time.specs.Reads.{reads}
@@ -9,8 +9,10 @@ use Rattle.keeper.specs.declared.kept.PastRecord.{PastRecord}
 use Rattle.keeper.specs.Office.{Office, record_of}
 use Rattle.keeper.specs.PastReads.{PastFault, past_reads}
 use Rattle.day_reading.specs.Days.{ReadsWithin, StopsSoon, most_read}
+use Rattle.past_file.specs.Imports.{most_past}
 use Rattle.office_words.specs.declared.command.Command.{Command}
 use Rattle.office_words.specs.declared.command.Command.TheVariants as command
+use Rattle.office_words.specs.declared.command.Recomputing.TheVariants.{Plainly}
 use Rattle.office_commands.specs.Days.{recomputed}
 use Rattle.office_commands.specs.Endings.{Holds}
 
@@ -47,12 +49,18 @@ pub record HasReadDay (limits : Limits) (late status : ℕ) (before after : Opti
 abbrev pub StopsThere : Limits → ℕ → ℕ → Option (List ℕ) → Option (List ℕ) → Type 0
 StopsThere limits late status before after = (bytes : List ℕ) → before ≡ Some bytes → status ≡ 2 → HasStopped (reads bytes limits late).refused bytes after
 
+-- where a line was refused, or the keeper failed, nothing was compared: no more was read than this
+abbrev pub ReadsUncompared : ℕ → ℕ → Option (List ℕ) → Option (List ℕ) → Type 0
+ReadsUncompared most status before after = (status ≡ 2) ⊎ (status ≡ 6) → ReadsWithin most before after
+
 -- how a command read its source, whatever is kept
 abbrev pub ReadsAs : Limits → Command → ℕ → Option (List ℕ) → Option (List ℕ) → Type 0
 ReadsAs limits (command.Answers run) status before after = HasReadDay limits run.late status before after
-ReadsAs limits (command.Import run) status before after = StopsThere limits run.late status before after
-ReadsAs limits (command.Validate number late) status before after = HasReadDay (recomputed limits) late status before after
-ReadsAs limits (command.Accidents late) status before after = HasReadDay (recomputed limits) late status before after
+ReadsAs limits (command.Import run) status before after =
+    StopsThere limits run.late status before after × ReadsUncompared (most_read limits) status before after
+ReadsAs limits (command.Past base) status before after = ReadsUncompared (most_past limits) status before after
+ReadsAs limits (command.Compare asked) status before after = HasReadDay (recomputed asked.how limits) asked.late status before after
+ReadsAs limits (command.Accidents late) status before after = HasReadDay (recomputed Plainly limits) late status before after
 ReadsAs limits _ status before after = Unit {0}
 
 -- how words had their source read, whatever is kept

@@ -36,10 +36,16 @@ pub fn answers<S: Source, O: Sink, K: Keeper, C: Crew, R: Threads>(
     requires range { IsRun run }
     requires within { IsLimits limits.now }
     requires idle { C.out crew.old ≡ [] }
-    ensures wrote { C.exact ≡ true → (bytes : List ℕ) (o : Office) → S.left source.old ≡ Some bytes → K.told keeper.old ≡ Some o → Wrote (answers_row limits.now run bytes o) result (O.written sink.old) (O.written sink.new) }
-    ensures keeps { C.exact ≡ true → (bytes : List ℕ) (o : Office) → S.left source.old ≡ Some bytes → K.told keeper.old ≡ Some o → Keeps K.refuses (answers_row limits.now run bytes o) o (K.told keeper.new) result }
-    ensures does { C.exact ≡ true → (bytes : List ℕ) (o : Office) → S.left source.old ≡ Some bytes → K.told keeper.old ≡ Some o
-        → Did K.refuses (answers_row limits.now run bytes o) o (O.written sink.old) (O.written sink.new) (K.told keeper.new) result }
+    ensures wrote { C.exact ≡ true → (bytes : List ℕ) (o : Office) → S.left source.old ≡ Some bytes
+        → K.told keeper.old ≡ Some o
+        → Wrote (answers_row limits.now run bytes o) result (O.written sink.old) (O.written sink.new) }
+    ensures keeps { C.exact ≡ true → (bytes : List ℕ) (o : Office) → S.left source.old ≡ Some bytes
+        → K.told keeper.old ≡ Some o
+        → Keeps K.refuses (answers_row limits.now run bytes o) o (K.told keeper.new) result }
+    ensures does { C.exact ≡ true → (bytes : List ℕ) (o : Office) → S.left source.old ≡ Some bytes
+        → K.told keeper.old ≡ Some o
+        → Did K.refuses (answers_row limits.now run bytes o) o (O.written sink.old) (O.written sink.new)
+        (K.told keeper.new) result }
     ensures reads { HasReadDay limits.now run.late (code_of result) (S.left source.old) (S.left source.new) }
     ensures kept { K.told keeper.new ≡ K.told keeper.old }
     ensures idle { C.out crew.new ≡ [] }

@@ -8,7 +8,8 @@ ghost use Rattle.road_io.specs.Plans.{NeverFails};
 ghost use Rattle.road_io.specs.Cutter.{ahead, line_of, number_of, fault_of};
 ghost use Rattle.day_reading.specs.Days.{ReadsWithin};
 ghost use Rattle.office_commands.specs.Asides.{entry_of, is_marked, compared, compared_from};
-ghost use Rattle.office_commands.specs.Entries.{Enters, entered, GoesOn, PartsAt, IsComparison, IsComparisonOr, HasReadLines, most_compared};
+ghost use Rattle.office_commands.specs.Entries.{Enters, entered, GoesOn, PartsAt, IsComparison, IsComparisonOr};
+ghost use Rattle.office_commands.specs.Entries.{HasReadLines, most_compared};
 ghost use Rattle.office_commands.specs.declared.closing.Closing.{Closing as ClosingValue};
 ghost use Rattle.office_commands.specs.declared.closing.Closing.TheVariants.{DiffersLine};
 ghost use Rattle.day_reading.specs.declared.whole_day.ReadStop.TheVariants.{ReadFault, NoMemory as NoRoom};
@@ -43,9 +44,14 @@ fn is_marked(text: &[u8]) -> bool
 fn next_entry<A: Source>(cutter: &mut LineCutter, aside: &mut A) -> Result<Entry, ReadStop>
     requires number { number_of cutter.old + 1 < 2 ^ 64 }
     requires whole { fault_of cutter.old ≡ None }
-    ensures enters { IfOk result (λ entry. Enters entry (ahead cutter.old (A.left aside.old)) (ahead cutter.new (A.left aside.new)) (line_of cutter.new)) }
-    ensures next { IfOk result (λ entry. entry ≡ Entry.Line → (number_of cutter.new ≡ number_of cutter.old + 1) × (fault_of cutter.new ≡ None) × (length (line_of cutter.new) ≤ 200)) }
-    ensures read { (lines : ℕ) (bytes : List ℕ) → HasReadLines (ahead cutter.old (A.left aside.old)) lines bytes → HasReadLines (ahead cutter.new (A.left aside.new)) (lines + 1) bytes }
+    ensures enters { IfOk result
+        (λ entry. Enters entry (ahead cutter.old (A.left aside.old)) (ahead cutter.new (A.left aside.new))
+        (line_of cutter.new)) }
+    ensures next { IfOk result
+        (λ entry. entry ≡ Entry.Line → (number_of cutter.new ≡ number_of cutter.old + 1) ×
+        (fault_of cutter.new ≡ None) × (length (line_of cutter.new) ≤ 200)) }
+    ensures read { (lines : ℕ) (bytes : List ℕ) → HasReadLines (ahead cutter.old (A.left aside.old)) lines bytes
+        → HasReadLines (ahead cutter.new (A.left aside.new)) (lines + 1) bytes }
     ensures cause { result ≡ Err ReadFault → Rose (A.faults aside.old) (A.faults aside.new) }
     ensures memory { result ≢ Err NoRoom }
     ensures sure { NeverFails (A.plan aside.old) → (result ≢ Err ReadFault) × NeverFails (A.plan aside.new) }
@@ -107,11 +113,14 @@ fn compare_one<A: Source>(
 ) -> Result<Option<Closing>, ReadStop>
     requires number { number_of cutter.old + 1 < 2 ^ 64 }
     requires whole { fault_of cutter.old ≡ None }
-    ensures same { result ≡ Ok None → GoesOn line notice.now (ahead cutter.old (A.left aside.old)) (ahead cutter.new (A.left aside.new)) }
-    ensures other { (c : ClosingValue) → result ≡ Ok (Some c) → PartsAt line notice.now (ahead cutter.old (A.left aside.old)) c }
+    ensures same { result ≡ Ok None
+        → GoesOn line notice.now (ahead cutter.old (A.left aside.old)) (ahead cutter.new (A.left aside.new)) }
+    ensures other { (c : ClosingValue) → result ≡ Ok (Some c)
+        → PartsAt line notice.now (ahead cutter.old (A.left aside.old)) c }
     ensures own { IfOk result (IsComparisonOr) }
     ensures next { result ≡ Ok None → (number_of cutter.new ≡ number_of cutter.old + 1) × (fault_of cutter.new ≡ None) }
-    ensures read { (lines : ℕ) (bytes : List ℕ) → HasReadLines (ahead cutter.old (A.left aside.old)) lines bytes → HasReadLines (ahead cutter.new (A.left aside.new)) (lines + 1) bytes }
+    ensures read { (lines : ℕ) (bytes : List ℕ) → HasReadLines (ahead cutter.old (A.left aside.old)) lines bytes
+        → HasReadLines (ahead cutter.new (A.left aside.new)) (lines + 1) bytes }
     ensures cause { result ≡ Err ReadFault → Rose (A.faults aside.old) (A.faults aside.new) }
     ensures sure { NeverFails (A.plan aside.old) → (result ≢ Err ReadFault) × NeverFails (A.plan aside.new) }
     ensures later { A.faults aside.old ≤ A.faults aside.new }
@@ -137,9 +146,11 @@ fn compare_end<A: Source>(
     requires first { 1 ≤ line }
     requires number { number_of cutter.old + 1 < 2 ^ 64 }
     requires whole { fault_of cutter.old ≡ None }
-    ensures exact { (lines : List ℕ) → ahead cutter.old (A.left aside.old) ≡ Some lines → IfOk result (λ c. c ≡ compared_from line [] (entered lines)) }
+    ensures exact { (lines : List ℕ) → ahead cutter.old (A.left aside.old) ≡ Some lines
+        → IfOk result (λ c. c ≡ compared_from line [] (entered lines)) }
     ensures own { IfOk result IsComparison }
-    ensures bounded { (lines : ℕ) (bytes : List ℕ) → HasReadLines (ahead cutter.old (A.left aside.old)) lines bytes → (count : ℕ) × (count ≤ most_compared lines) × (A.left aside.new ≡ Some (drop count bytes)) }
+    ensures bounded { (lines : ℕ) (bytes : List ℕ) → HasReadLines (ahead cutter.old (A.left aside.old)) lines bytes
+        → (count : ℕ) × (count ≤ most_compared lines) × (A.left aside.new ≡ Some (drop count bytes)) }
     ensures cause { result ≡ Err ReadFault → Rose (A.faults aside.old) (A.faults aside.new) }
     ensures sure { NeverFails (A.plan aside.old) → result ≢ Err ReadFault }
     ensures later { A.faults aside.old ≤ A.faults aside.new }
@@ -166,7 +177,8 @@ pub fn compare<A: Source>(
     wanted: &[Notice],
     aside: &mut A,
 ) -> Result<Closing, ReadStop>
-    ensures exact { (lines : List ℕ) → A.left aside.old ≡ Some lines → IfOk result (λ c. c ≡ compared wanted.now (lines_of lines)) }
+    ensures exact { (lines : List ℕ) → A.left aside.old ≡ Some lines
+        → IfOk result (λ c. c ≡ compared wanted.now (lines_of lines)) }
     ensures own { IfOk result IsComparison }
     ensures bounded { ReadsWithin (most_compared (length wanted.now)) (A.left aside.old) (A.left aside.new) }
     ensures cause { result ≡ Err ReadFault → Rose (A.faults aside.old) (A.faults aside.new) }

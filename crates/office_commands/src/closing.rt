@@ -1,8 +1,11 @@
 // The closing lines, and the statuses that they go with.
 ghost use Rattle.std.specs.Prelude.{◌≡◌, IfOk};
 ghost use Rattle.std.specs.String.{string_bytes};
-ghost use Rattle.office_commands.specs.Closings.{closing_line, stored_line, already_line, tariff_line, differs_line, differs_past_line, status_of, rehearsed_end, rehearsed_line};
-ghost use Rattle.office_commands.specs.declared.closing.Closing.TheVariants.{PastStored, PastAlready, PastRefused, DiffersDay, PastLate, PastKept, DiffersPast, Rehearsed};
+ghost use Rattle.office_commands.specs.Closings.{closing_line, stored_line, already_line, tariff_line, differs_line};
+ghost use Rattle.office_commands.specs.Closings.{differs_past_line, status_of, rehearsed_end, rehearsed_line};
+ghost use Rattle.office_commands.specs.declared.closing.Closing.TheVariants.{PastStored, PastAlready, PastRefused};
+ghost use Rattle.office_commands.specs.declared.closing.Closing.TheVariants.{DiffersDay, PastLate, PastKept};
+ghost use Rattle.office_commands.specs.declared.closing.Closing.TheVariants.{DiffersPast, Rehearsed};
 
 use crate::entry_text::EntryText;
 use keeper::Digest;
@@ -242,7 +245,9 @@ fn rehearsal(
     notices_digest: &Digest,
     total: u64,
 ) -> Result<String, NoMemory>
-    ensures { IfOk result (λ line. string_bytes line ≡ closing_line (Rehearsed bytes digest.now tuples notices notices_digest.now total)) }
+    ensures { IfOk result
+        (λ line. string_bytes line ≡ closing_line
+        (Rehearsed bytes digest.now tuples notices notices_digest.now total)) }
 {
     let notices_text = notices_digest.text(alloc)?;
     let rest = rehearsed_end(alloc, notices, notices_text.as_str(), total)?;

@@ -6,12 +6,13 @@ ghost use Rattle.road_io.specs.Faults.{Rose};
 ghost use Rattle.road_io.specs.Plans.{NeverFails};
 ghost use Rattle.day_reading.specs.Days.{ReadsWithin, most_read};
 ghost use Rattle.day_reading.specs.declared.whole_day.ReadStop.TheVariants.{ReadFault};
-ghost use Rattle.office_commands.specs.Days.{recomputed, refusal_of, refused_at};
+ghost use Rattle.office_commands.specs.Days.{most_lines, recomputed, refusal_of, refused_at};
 ghost use Rattle.office_commands.specs.Endings.{stopping};
 ghost use Rattle.office_commands.specs.Rests.{EndsAt};
 
 use crate::closing::Closing;
 use day_reading::{DayEnd, ReadStop};
+use office_words::Recomputing;
 use road_io::Source;
 use road_time::{Limits, Tuple};
 use std::alloc::Global;
@@ -35,12 +36,22 @@ pub fn stopped(stop: ReadStop) -> Closing
     }
 }
 
-/// The limits of a day that is recomputed by the plain rules.
-fn recomputed(limits: &Limits) -> Limits
-    ensures { result ≡ recomputed limits.now }
+/// How many lines a day may have that is recomputed.
+fn most_lines(how: Recomputing) -> u32
+    ensures { result ≡ most_lines how }
+{
+    match how {
+        Recomputing::Plainly => 1_000_000,
+        Recomputing::InBulk { .. } => 4_000_000,
+    }
+}
+
+/// The limits of a day that is recomputed.
+fn recomputed(limits: &Limits, how: Recomputing) -> Limits
+    ensures { result ≡ recomputed how limits.now }
 {
     Limits {
-        lines: limits.lines.min(1_000_000),
+        lines: limits.lines.min(most_lines(how)),
         ..*limits
     }
 }
@@ -55,27 +66,31 @@ fn refused_at(end: DayEnd) -> Option<(u64, Cause)>
     }
 }
 
-/// Reads a day that is recomputed by the plain rules, to its end or to the first line that is refused.
+/// Reads a day that is recomputed, to its end or to the first line that is refused.
 pub fn read_day<S: Source, R: Threads>(
     rt: &R,
     alloc: Global,
     limits: &Limits,
+    how: Recomputing,
     late: u8,
     source: &mut S,
 ) -> Result<Day, ReadStop>
     requires within { IsLimits limits.now }
     requires soon { late ≤ 120 }
-    ensures tuples { (bytes : List ℕ) → S.left source.old ≡ Some bytes → IfOk result (λ d. d.tuples.items ≡ (reads bytes (recomputed limits.now) late).tuples) }
-    ensures refused { (bytes : List ℕ) → S.left source.old ≡ Some bytes → IfOk result (λ d. d.refused ≡ refusal_of (reads bytes (recomputed limits.now) late).refused) }
-    ensures fit { IfOk result (λ d. Fit d.tuples.items (recomputed limits.now)) }
+    ensures tuples { (bytes : List ℕ) → S.left source.old ≡ Some bytes
+        → IfOk result (λ d. d.tuples.items ≡ (reads bytes (recomputed how limits.now) late).tuples) }
+    ensures refused { (bytes : List ℕ) → S.left source.old ≡ Some bytes
+        → IfOk result (λ d. d.refused ≡ refusal_of (reads bytes (recomputed how limits.now) late).refused) }
+    ensures fit { IfOk result (λ d. Fit d.tuples.items (recomputed how limits.now)) }
     ensures ends { (bytes : List ℕ) → S.left source.old ≡ Some bytes
-        → IfOk result (λ d. EndsAt d.refused (reads bytes (recomputed limits.now) late).refused bytes (S.left source.new)) }
-    ensures bounded { ReadsWithin (most_read (recomputed limits.now)) (S.left source.old) (S.left source.new) }
+        → IfOk result
+        (λ d. EndsAt d.refused (reads bytes (recomputed how limits.now) late).refused bytes (S.left source.new)) }
+    ensures bounded { ReadsWithin (most_read (recomputed how limits.now)) (S.left source.old) (S.left source.new) }
     ensures cause { result ≡ Err ReadFault → Rose (S.faults source.old) (S.faults source.new) }
     ensures sure { NeverFails (S.plan source.old) → result ≢ Err ReadFault }
     ensures later { S.faults source.old ≤ S.faults source.new }
 {
-    let lesser = recomputed(limits);
+    let lesser = recomputed(limits, how);
     match day_reading::read_day(rt, alloc, &lesser, late, source) {
         Ok(day) => Ok(Day {
             refused: refused_at(day.end),

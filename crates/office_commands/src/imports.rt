@@ -5,12 +5,12 @@ ghost use Rattle.road_io.specs.Plans.{NeverFails};
 ghost use Rattle.road_io.specs.Rooms.{Endless};
 ghost use Rattle.keeper.specs.Office.{Office, record_of};
 ghost use Rattle.road_time.specs.Fits.{IsLimits};
-ghost use Rattle.day_reading.specs.Days.{ReadsWithin};
+ghost use Rattle.day_reading.specs.Days.{ReadsWithin, most_read};
 ghost use Rattle.import_once.specs.Imports.{most_imported, PutsOnce};
 ghost use Rattle.office_words.specs.Meaning.{IsRun};
 ghost use Rattle.office_commands.specs.Commands.{import_row, IsPassed};
 ghost use Rattle.office_commands.specs.Endings.{Wrote, Keeps, Did, Holds, code_of};
-ghost use Rattle.office_commands.specs.Rests.{StopsThere, LeavesOfDay};
+ghost use Rattle.office_commands.specs.Rests.{StopsThere, ReadsUncompared, LeavesOfDay};
 ghost use Rattle.office_commands.specs.declared.closing.Closing.TheVariants.{ReadFault, KeeperFault, Words};
 
 use crate::closing::Closing;
@@ -38,11 +38,19 @@ pub fn import<S: Source, O: Sink, K: Keeper, C: Crew, R: Threads>(
     requires range { IsRun run }
     requires within { IsLimits limits.now }
     requires idle { C.out crew.old ≡ [] }
-    ensures wrote { C.exact ≡ true → (bytes : List ℕ) (o : Office) → S.left source.old ≡ Some bytes → K.told keeper.old ≡ Some o → Wrote (import_row limits.now run bytes o) result (O.written sink.old) (O.written sink.new) }
-    ensures keeps { C.exact ≡ true → (bytes : List ℕ) (o : Office) → S.left source.old ≡ Some bytes → K.told keeper.old ≡ Some o → Keeps K.refuses (import_row limits.now run bytes o) o (K.told keeper.new) result }
-    ensures does { C.exact ≡ true → (bytes : List ℕ) (o : Office) → S.left source.old ≡ Some bytes → K.told keeper.old ≡ Some o
-        → Did K.refuses (import_row limits.now run bytes o) o (O.written sink.old) (O.written sink.new) (K.told keeper.new) result }
+    ensures wrote { C.exact ≡ true → (bytes : List ℕ) (o : Office) → S.left source.old ≡ Some bytes
+        → K.told keeper.old ≡ Some o
+        → Wrote (import_row limits.now run bytes o) result (O.written sink.old) (O.written sink.new) }
+    ensures keeps { C.exact ≡ true → (bytes : List ℕ) (o : Office) → S.left source.old ≡ Some bytes
+        → K.told keeper.old ≡ Some o
+        → Keeps K.refuses (import_row limits.now run bytes o) o (K.told keeper.new) result }
+    ensures does { C.exact ≡ true → (bytes : List ℕ) (o : Office) → S.left source.old ≡ Some bytes
+        → K.told keeper.old ≡ Some o
+        → Did K.refuses (import_row limits.now run bytes o) o (O.written sink.old) (O.written sink.new)
+        (K.told keeper.new) result }
     ensures stops { StopsThere limits.now run.late (code_of result) (S.left source.old) (S.left source.new) }
+    ensures uncompared { ReadsUncompared (most_read limits.now) (code_of result)
+        (S.left source.old) (S.left source.new) }
     ensures rest { (bytes : List ℕ) (o : Office) → S.left source.old ≡ Some bytes → K.told keeper.old ≡ Some o
         → code_of result ≡ 0 → LeavesOfDay (record_of o run.day) bytes (S.left source.new) }
     ensures held { Holds (code_of result) (K.told keeper.new ≡ K.told keeper.old) }
@@ -51,7 +59,8 @@ pub fn import<S: Source, O: Sink, K: Keeper, C: Crew, R: Threads>(
     ensures idle { C.out crew.new ≡ [] }
     ensures crew { C.which crew.new ≡ C.which crew.old }
     ensures said { result ≢ Ok (Some Words) }
-    ensures bounded { (o : Office) → K.told keeper.old ≡ Some o → ReadsWithin (most_imported (record_of o run.day) limits.now) (S.left source.old) (S.left source.new) }
+    ensures bounded { (o : Office) → K.told keeper.old ≡ Some o
+        → ReadsWithin (most_imported (record_of o run.day) limits.now) (S.left source.old) (S.left source.new) }
     ensures read_cause { result ≡ Ok (Some ReadFault) → Rose (S.faults source.old) (S.faults source.new) }
     ensures read_later { S.faults source.old ≤ S.faults source.new }
     ensures read_sure { NeverFails (S.plan source.old) → result ≢ Ok (Some ReadFault) }

@@ -8,6 +8,7 @@
 mod answers;
 mod aside;
 mod closing;
+mod comparing;
 mod day;
 mod entry;
 mod entry_text;
@@ -19,10 +20,9 @@ mod refusal;
 mod statements;
 mod tariffs;
 mod traffic;
-mod validate;
 
 pub use crate::closing::Closing;
 pub use crate::entry::office;
 
-/// The file that `validate` compares with, in the folder where the program runs.
+/// The file that `validate` and `audit` compare with, in the folder where the program runs.
 pub const ASIDE_FILE: &str = "notices.txt";

@@ -6,6 +6,7 @@ ghost use Rattle.road_io.specs.Plans.{NeverFails};
 ghost use Rattle.road_io.specs.Rooms.{Endless};
 ghost use Rattle.keeper.specs.Office.{Office};
 ghost use Rattle.day_reading.specs.Days.{ReadsWithin, most_read};
+ghost use Rattle.office_words.specs.declared.command.Recomputing.TheVariants.{Plainly};
 ghost use Rattle.office_commands.specs.Days.{recomputed};
 ghost use Rattle.office_commands.specs.Commands.{accidents_row, accidents_of, unless_refused};
 ghost use Rattle.office_commands.specs.Endings.{Wrote, code_of};
@@ -14,6 +15,7 @@ ghost use Rattle.office_commands.specs.declared.closing.Closing.TheVariants.{Rea
 
 use crate::closing::Closing;
 use crate::day::{Day, read_day, stopped};
+use office_words::Recomputing;
 use reports::{ReportFault, accident_log};
 use road_io::{Failed, Sink, Source};
 use road_time::Limits;
@@ -27,7 +29,9 @@ fn write_accidents<O: Sink>(
     sink: &mut O,
 ) -> Result<Option<Closing>, Failed>
     requires { IsDay day.now.tuples.items }
-    ensures wrote { (o : Office) → Wrote (unless_refused day.now.refused (accidents_of day.now.tuples.items o)) result (O.written sink.old) (O.written sink.new) }
+    ensures wrote { (o : Office)
+        → Wrote (unless_refused day.now.refused (accidents_of day.now.tuples.items o)) result (O.written sink.old)
+        (O.written sink.new) }
     ensures unread { result ≢ Ok (Some ReadFault) }
     ensures unasked { result ≢ Ok (Some KeeperFault) }
     ensures said { result ≢ Ok (Some Words) }
@@ -56,18 +60,20 @@ pub fn accidents<S: Source, O: Sink, R: Threads>(
 ) -> Result<Option<Closing>, Failed>
     requires soon { late ≤ 120 }
     requires limits { IsLimits limits.now }
-    ensures wrote { (bytes : List ℕ) (o : Office) → S.left source.old ≡ Some bytes → Wrote (accidents_row limits.now late bytes o) result (O.written sink.old) (O.written sink.new) }
+    ensures wrote { (bytes : List ℕ) (o : Office) → S.left source.old ≡ Some bytes
+        → Wrote (accidents_row limits.now late bytes o) result (O.written sink.old) (O.written sink.new) }
     ensures said { result ≢ Ok (Some Words) }
     ensures unasked { result ≢ Ok (Some KeeperFault) }
-    ensures reads { HasReadDay (recomputed limits.now) late (code_of result) (S.left source.old) (S.left source.new) }
-    ensures bounded { ReadsWithin (most_read (recomputed limits.now)) (S.left source.old) (S.left source.new) }
+    ensures reads { HasReadDay (recomputed Plainly limits.now) late (code_of result) (S.left source.old)
+        (S.left source.new) }
+    ensures bounded { ReadsWithin (most_read (recomputed Plainly limits.now)) (S.left source.old) (S.left source.new) }
     ensures read_cause { result ≡ Ok (Some ReadFault) → Rose (S.faults source.old) (S.faults source.new) }
     ensures read_later { S.faults source.old ≤ S.faults source.new }
     ensures read_sure { NeverFails (S.plan source.old) → result ≢ Ok (Some ReadFault) }
     ensures write_cause { HasCause (O.faults sink.old) (O.faults sink.new) result }
     ensures write_sure { O.room sink.old ≡ Endless → IsOk result × (O.room sink.new ≡ Endless) }
 {
-    match read_day(rt, alloc, limits, late, source) {
+    match read_day(rt, alloc, limits, Recomputing::Plainly, late, source) {
         Ok(day) => write_accidents(alloc, &day, sink),
         Err(stop) => Ok(Some(stopped(stop))),
     }

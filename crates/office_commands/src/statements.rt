@@ -39,8 +39,10 @@ pub fn day<O: Sink, K: Keeper>(
     sink: &mut O,
     keeper: &mut K,
 ) -> Result<Option<Closing>, Failed>
-    ensures wrote { (o : Office) → K.told keeper.old ≡ Some o → Wrote (day_row day o) result (O.written sink.old) (O.written sink.new) }
-    ensures keeps { (o : Office) → K.told keeper.old ≡ Some o → Keeps K.refuses (day_row day o) o (K.told keeper.new) result }
+    ensures wrote { (o : Office) → K.told keeper.old ≡ Some o
+        → Wrote (day_row day o) result (O.written sink.old) (O.written sink.new) }
+    ensures keeps { (o : Office) → K.told keeper.old ≡ Some o
+        → Keeps K.refuses (day_row day o) o (K.told keeper.new) result }
     ensures said { result ≢ Ok (Some Words) }
     ensures unread { result ≢ Ok (Some ReadFault) }
     ensures write_cause { HasCause (O.faults sink.old) (O.faults sink.new) result }
@@ -62,8 +64,10 @@ pub fn vehicle<O: Sink, K: Keeper>(
     sink: &mut O,
     keeper: &mut K,
 ) -> Result<Option<Closing>, Failed>
-    ensures wrote { (o : Office) → K.told keeper.old ≡ Some o → Wrote (vehicle_row vid from to o) result (O.written sink.old) (O.written sink.new) }
-    ensures keeps { (o : Office) → K.told keeper.old ≡ Some o → Keeps K.refuses (vehicle_row vid from to o) o (K.told keeper.new) result }
+    ensures wrote { (o : Office) → K.told keeper.old ≡ Some o
+        → Wrote (vehicle_row vid from to o) result (O.written sink.old) (O.written sink.new) }
+    ensures keeps { (o : Office) → K.told keeper.old ≡ Some o
+        → Keeps K.refuses (vehicle_row vid from to o) o (K.told keeper.new) result }
     ensures said { result ≢ Ok (Some Words) }
     ensures unread { result ≢ Ok (Some ReadFault) }
     ensures write_cause { HasCause (O.faults sink.old) (O.faults sink.new) result }
@@ -83,8 +87,10 @@ pub fn export<O: Sink, K: Keeper>(
     sink: &mut O,
     keeper: &mut K,
 ) -> Result<Option<Closing>, Failed>
-    ensures wrote { (o : Office) → K.told keeper.old ≡ Some o → Wrote (export_row day o) result (O.written sink.old) (O.written sink.new) }
-    ensures keeps { (o : Office) → K.told keeper.old ≡ Some o → Keeps K.refuses (export_row day o) o (K.told keeper.new) result }
+    ensures wrote { (o : Office) → K.told keeper.old ≡ Some o
+        → Wrote (export_row day o) result (O.written sink.old) (O.written sink.new) }
+    ensures keeps { (o : Office) → K.told keeper.old ≡ Some o
+        → Keeps K.refuses (export_row day o) o (K.told keeper.new) result }
     ensures said { result ≢ Ok (Some Words) }
     ensures unread { result ≢ Ok (Some ReadFault) }
     ensures write_cause { HasCause (O.faults sink.old) (O.faults sink.new) result }

@@ -20,8 +20,10 @@ pub fn tariff<K: Keeper>(xway: u8, crowd: u32, speed: u8, factor: u8, keeper: &m
     requires crowd { crowd ≤ 500000 }
     requires speed { speed ≤ 100 }
     requires factor { factor ≤ 20 }
-    ensures exact { (o : Office) → K.told keeper.old ≡ Some o → StandsBefore (tariff_row xway crowd speed factor o) result [] }
-    ensures keeps { (o : Office) → K.told keeper.old ≡ Some o → KeepsBy (sort_of result) K.refuses (tariff_row xway crowd speed factor o) o (K.told keeper.new) }
+    ensures exact { (o : Office) → K.told keeper.old ≡ Some o
+        → StandsBefore (tariff_row xway crowd speed factor o) result [] }
+    ensures keeps { (o : Office) → K.told keeper.old ≡ Some o
+        → KeepsBy (sort_of result) K.refuses (tariff_row xway crowd speed factor o) o (K.told keeper.new) }
     ensures said { result ≢ Words }
     ensures unread { result ≢ ReadFault }
     ensures keeper_cause { result ≡ KeeperFault → Rose (K.faults keeper.old) (K.faults keeper.new) }
@@ -50,8 +52,10 @@ pub fn tariffs<O: Sink, K: Keeper>(
     sink: &mut O,
     keeper: &mut K,
 ) -> Result<Option<Closing>, Failed>
-    ensures wrote { (o : Office) → K.told keeper.old ≡ Some o → Wrote (tariffs_row o) result (O.written sink.old) (O.written sink.new) }
-    ensures keeps { (o : Office) → K.told keeper.old ≡ Some o → Keeps K.refuses (tariffs_row o) o (K.told keeper.new) result }
+    ensures wrote { (o : Office) → K.told keeper.old ≡ Some o
+        → Wrote (tariffs_row o) result (O.written sink.old) (O.written sink.new) }
+    ensures keeps { (o : Office) → K.told keeper.old ≡ Some o
+        → Keeps K.refuses (tariffs_row o) o (K.told keeper.new) result }
     ensures said { result ≢ Ok (Some Words) }
     ensures unread { result ≢ Ok (Some ReadFault) }
     ensures write_cause { HasCause (O.faults sink.old) (O.faults sink.new) result }

@@ -105,7 +105,8 @@ fn kept_alone<C: Crew, R: Threads>(
     requires range { IsRun run }
     requires whole { (reads file.now DAY run.late).refused ≡ None }
     requires idle { C.out crew.old ≡ [] }
-    ensures kept { C.exact ≡ true → IfOk result (λ r. r ≡ kept_record run.day file.now (reads file.now DAY run.late).tuples nothing_kept) }
+    ensures kept { C.exact ≡ true
+        → IfOk result (λ r. r ≡ kept_record run.day file.now (reads file.now DAY run.late).tuples nothing_kept) }
     ensures idle { C.out crew.new ≡ [] }
     ensures crew { C.which crew.new ≡ C.which crew.old }
 {

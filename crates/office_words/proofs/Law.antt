@@ -146,7 +146,7 @@ module _ (fs : List Form) where
 
 -- the places of each command are found in their turn
 ready : AllReady forms
-ready = ((refl, (as_place 1 refl, refl)), ((refl, (as_place 1 refl, refl)), ((refl, (as_place 1 refl, refl)), ((refl, (as_place 1 refl, refl)), ((refl, (as_place 1 refl, refl)), ((refl, (as_place 1 refl, (refl, (as_place 2 refl, (refl, (as_place 3 refl, refl)))))), (refl, ((refl, (as_place 1 refl, refl)), ((refl, (as_place 1 refl, (refl, (as_place 2 refl, (refl, (as_place 3 refl, (refl, (as_place 4 refl, refl)))))))), (refl, ((refl, (as_place 1 refl, refl)), ((refl, (as_place 1 refl, refl)), tt))))))))))))
+ready = ((refl, (as_place 1 refl, refl)), ((refl, (as_place 1 refl, refl)), ((refl, (as_place 1 refl, refl)), ((refl, (as_place 1 refl, refl)), ((refl, (as_place 1 refl, refl)), ((refl, (as_place 1 refl, refl)), ((refl, (as_place 1 refl, (refl, (as_place 2 refl, (refl, (as_place 3 refl, refl)))))), (refl, ((refl, (as_place 1 refl, refl)), ((refl, (as_place 1 refl, (refl, (as_place 2 refl, (refl, (as_place 3 refl, (refl, (as_place 4 refl, refl)))))))), (refl, ((refl, (as_place 1 refl, refl)), ((refl, (as_place 1 refl, refl)), tt)))))))))))))
 
 pub law : (words : List Text) → FindsWhatIsSpoken words
 law words = law_of forms ready words

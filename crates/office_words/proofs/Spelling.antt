@@ -6,7 +6,7 @@ use Rattle.std.proofs.lemmas.Bool.{eqb-true}
 use Rattle.std.proofs.lemmas.Option.{none-some}
 use Rattle.std.proofs.lemmas.Slice.Eq.{bytes_eq-Decides}
 use Rattle.office_words.specs.Grammar.{Form, Text, Said, Look, long_look, look_after_two, look_after_one, is_equals, ending, alone, joined, refused, plain, look, contains, is_said, give, whole, placed, says, spoken}
-use Rattle.office_words.specs.Table.{forms, runs, sizes}
+use Rattle.office_words.specs.Table.{forms, audits, runs, sizes}
 use Rattle.office_words.specs.Spelling.{Item, in_place, apart, joint, AllFit, words_of, told, filled, IsFresh, Spells, IsSpelled}
 
 -- ---- what a look tells of a word
@@ -124,7 +124,7 @@ by_value f word words left name said l = elim l [
 ]
 
 -- the places to come are the form's, are apart from one another and from the options, and none is said
-abbrev Open : Form → List Text → Said → Type 0
+abbrev pub Open : Form → List Text → Said → Type 0
 Open f [] said = Unit {0}
 Open f (p ∷ left) said = (contains f.places p ≡ true) × (is_said p said ≡ false) × (contains left p ≡ false) × (contains f.options p ≡ false) × Open f left said
 
@@ -356,6 +356,10 @@ sizes_plain : AllPlainly sizes
 unfolding look
 sizes_plain = ((refl, λ v. refl), ((refl, λ v. refl), ((refl, λ v. refl), ((refl, λ v. refl), tt))))
 
+audits_plain : AllPlainly audits
+unfolding look
+audits_plain = ((refl, λ v. refl), ((refl, λ v. refl), ((refl, λ v. refl), tt)))
+
 late_plain : AllPlainly (codes "late" ∷ [])
 unfolding look
 late_plain = ((refl, λ v. refl), tt)
@@ -372,24 +376,27 @@ all_sound = (
     (
       (late_plain, (refl, refl, refl, refl, tt)),
       (
-        (tt, (refl, refl, refl, refl, tt)),
+        (audits_plain, (refl, refl, refl, refl, tt)),
         (
           (tt, (refl, refl, refl, refl, tt)),
           (
-            (tt, (refl, refl, refl, refl, (refl, refl, refl, refl, (refl, refl, refl, refl, tt)))),
+            (tt, (refl, refl, refl, refl, tt)),
             (
-              (late_plain, tt),
+              (tt, (refl, refl, refl, refl, (refl, refl, refl, refl, (refl, refl, refl, refl, tt)))),
               (
-                (tt, (refl, refl, refl, refl, tt)),
+                (late_plain, tt),
                 (
-                  (tt, (refl, refl, refl, refl, (refl, refl, refl, refl, (refl, refl, refl, refl, (refl, refl, refl, refl, tt))))),
+                  (tt, (refl, refl, refl, refl, tt)),
                   (
-                    (tt, tt),
+                    (tt, (refl, refl, refl, refl, (refl, refl, refl, refl, (refl, refl, refl, refl, (refl, refl, refl, refl, tt))))),
                     (
-                      (sizes_plain, (refl, refl, refl, refl, tt)),
+                      (tt, tt),
                       (
-                        (plain_both sizes runs sizes_plain runs_plain, (refl, refl, refl, refl, tt)),
-                        tt,
+                        (sizes_plain, (refl, refl, refl, refl, tt)),
+                        (
+                          (plain_both sizes runs sizes_plain runs_plain, (refl, refl, refl, refl, tt)),
+                          tt,
+                        ),
                       ),
                     ),
                   ),

@@ -11,7 +11,10 @@ use Rattle.office_words.specs.Grammar.{Text, Said, spoken}
 use Rattle.office_words.specs.Table.{forms}
 use Rattle.office_words.specs.declared.command.Command.{Command}
 use Rattle.office_words.specs.declared.command.Command.TheVariants as command
+use Rattle.office_words.specs.declared.command.Comparison.{Comparison}
 use Rattle.office_words.specs.declared.command.DayRun.{DayRun}
+use Rattle.office_words.specs.declared.command.Recomputing.{Recomputing}
+use Rattle.office_words.specs.declared.command.Recomputing.TheVariants.{Plainly, InBulk}
 use Rattle.office_words.specs.declared.command.Size.{Size}
 use Rattle.office_words.specs.declared.command.WordFault.{WordFault}
 use Rattle.office_words.specs.declared.command.WordFault.TheVariants as fault
@@ -55,9 +58,13 @@ day_in value = needed 70 1000000 (value (codes "day"))
 abbrev pub late_in : Values → Option ℕ
 late_in value = optional 0 120 0 (value (codes "late"))
 
--- over how many workers a day's work is cut, and the number that draws their turns
+-- over how many workers a day's work is cut
+abbrev pub width_in : Values → Option ℕ
+width_in value = optional 1 64 1 (value (codes "workers"))
+
+-- over how many workers, and the number that draws their turns
 abbrev pub plan_in : Values → Option Plan
-plan_in value = with (optional 1 64 1 (value (codes "workers"))) (λ width.
+plan_in value = with (width_in value) (λ width.
     with (chosen 0 (2 ^ 64 - 1) (value (codes "turns"))) (λ turns.
     Some (record { width = width; turns = turns })))
 
@@ -76,7 +83,18 @@ import_in value = with (day_in value) (λ day. with (run_in day value) (λ run. 
 
 -- the command `validate DAY`
 abbrev pub validate_in : Values → Option Command
-validate_in value = with (day_in value) (λ day. with (late_in value) (λ late. Some (command.Validate day late)))
+validate_in value = with (day_in value) (λ day. with (late_in value) (λ late.
+    Some (command.Compare (record { day = day; late = late; how = Plainly }))))
+
+-- by how many shards of vehicles and over how many workers notices are recomputed in bulk
+abbrev pub bulk_in : Values → Option Recomputing
+bulk_in value = with (optional 1 64 1 (value (codes "shards"))) (λ shards. with (width_in value) (λ width.
+    Some (InBulk shards width)))
+
+-- the command `audit DAY`
+abbrev pub audit_in : Values → Option Command
+audit_in value = with (day_in value) (λ day. with (late_in value) (λ late. with (bulk_in value) (λ how.
+    Some (command.Compare (record { day = day; late = late; how = how })))))
 
 -- the command `past BASE`
 abbrev pub past_in : Values → Option Command
@@ -126,6 +144,7 @@ meaning name value =
     if bytes_eq name (codes "answers") then answers_in value
     else (if bytes_eq name (codes "import") then import_in value
     else (if bytes_eq name (codes "validate") then validate_in value
+    else (if bytes_eq name (codes "audit") then audit_in value
     else (if bytes_eq name (codes "past") then past_in value
     else (if bytes_eq name (codes "day") then with (day_in value) (λ day. Some (command.Day day))
     else (if bytes_eq name (codes "vehicle") then vehicle_in value
@@ -135,7 +154,7 @@ meaning name value =
     else (if bytes_eq name (codes "tariffs") then Some command.Tariffs
     else (if bytes_eq name (codes "generate") then generate_in value
     else (if bytes_eq name (codes "rehearse") then rehearse_in value
-    else None)))))))))))
+    else None))))))))))))
 
 -- the value that was said of a name
 abbrev pub value_of : Said → Values
@@ -168,6 +187,18 @@ pub record IsPlan (plan : Plan) : Type 0 where
   pub some_workers : 1 ≤ plan.width
   pub few_workers : plan.width ≤ 64
 
+-- notices are recomputed plainly, or in bulk by 1 to 64 shards and over 1 to 64 workers
+abbrev pub IsRecomputing : Recomputing → Type 0
+IsRecomputing Plainly = Unit {0}
+IsRecomputing (InBulk shards width) = (1 ≤ shards) × (shards ≤ 64) × (1 ≤ width) × (width ≤ 64)
+
+-- what a comparison is told is in its ranges
+pub record IsComparing (asked : Comparison) : Type 0 where
+  pub low : 70 ≤ asked.day
+  pub high : asked.day ≤ 1000000
+  pub soon : asked.late ≤ 120
+  pub how : IsRecomputing asked.how
+
 -- what a day's run is told is in its ranges
 pub record IsRun (run : DayRun) : Type 0 where
   pub low : 70 ≤ run.day
@@ -179,7 +210,7 @@ pub record IsRun (run : DayRun) : Type 0 where
 abbrev pub IsInRange : Command → Type 0
 IsInRange (command.Answers run) = IsRun run
 IsInRange (command.Import run) = IsRun run
-IsInRange (command.Validate day late) = (70 ≤ day) × (day ≤ 1000000) × (late ≤ 120)
+IsInRange (command.Compare asked) = IsComparing asked
 IsInRange (command.Past base) = (70 ≤ base) × (base ≤ 1000000)
 IsInRange (command.Day day) = (70 ≤ day) × (day ≤ 1000000)
 IsInRange (command.Vehicle vid from to) = (vid ≤ 2147483647) × (1 ≤ from) × (from ≤ to) × (to ≤ 1000000)

@@ -14,11 +14,16 @@ sizes = codes "vehicles" ∷ codes "minutes" ∷ codes "xways" ∷ codes "crashe
 abbrev pub runs : List Text
 runs = codes "late" ∷ codes "workers" ∷ codes "turns" ∷ []
 
+-- the options of the command that recomputes a day in bulk
+abbrev pub audits : List Text
+audits = codes "late" ∷ codes "shards" ∷ codes "workers" ∷ []
+
 -- what is built: each command with its places and its options
 abbrev pub forms : List Form
 forms = form (codes "answers") (codes "day" ∷ []) runs
     ∷ form (codes "import") (codes "day" ∷ []) runs
     ∷ form (codes "validate") (codes "day" ∷ []) (codes "late" ∷ [])
+    ∷ form (codes "audit") (codes "day" ∷ []) audits
     ∷ form (codes "past") (codes "base" ∷ []) []
     ∷ form (codes "day") (codes "day" ∷ []) []
     ∷ form (codes "vehicle") (codes "vid" ∷ codes "from" ∷ codes "to" ∷ []) []

@@ -21,6 +21,23 @@ pub struct DayRun {
     pub plan: Plan,
 }
 
+/// How the notices of a day are recomputed: by the plain rules, or in bulk, by 1 to 64 shards of vehicles and over 1 to 64
+/// workers.
+#[derive(Clone, Copy, Debug, PartialEq)]
+pub enum Recomputing {
+    Plainly,
+    InBulk { shards: u8, width: u8 },
+}
+
+/// What a comparison is told: the day, 70 to 1,000,000, by how many seconds its lines may come late, 0 to 120, and how its
+/// notices are recomputed.
+#[derive(Clone, Copy, Debug, PartialEq)]
+pub struct Comparison {
+    pub day: u32,
+    pub late: u8,
+    pub how: Recomputing,
+}
+
 /// A command with its numbers, each in its range. Lines may come late by 0 to 120 seconds.
 #[derive(Clone, Copy, Debug, PartialEq)]
 pub enum Command {
@@ -28,11 +45,8 @@ pub enum Command {
     Answers(DayRun),
     /// Imports a day: answers it and keeps it.
     Import(DayRun),
-    /// Compares notices with those of a day.
-    Validate {
-        day: u32,
-        late: u8,
-    },
+    /// Compares notices with those of a day, as `validate` and `audit` do.
+    Compare(Comparison),
     /// Keeps a history, its days counted back from a base, 70 to 1,000,000.
     Past {
         base: u32,

@@ -11,9 +11,11 @@ mod reading;
 mod table;
 mod words;
 
-pub use command::{Command, DayRun, Size, WordFault};
+pub use command::{Command, Comparison, DayRun, Recomputing, Size, WordFault};
 pub use laws::{spelling_law, words_law};
-pub use words::read_words;
+pub use numbers::{needed, optional};
+pub use table::{option, place};
+pub use words::{fault_of, read_words};
 
 #[cfg(test)]
 mod tests;

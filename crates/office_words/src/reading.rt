@@ -1,10 +1,11 @@
 // The command that matches stand for.
 ghost use Rattle.std.specs.Prelude.{◌≡◌, ◌≤◌, IfSome, codes};
 ghost use Rattle.clap.specs.Words.{first_value, found_of};
-ghost use Rattle.office_words.specs.Meaning.{day_in, late_in, plan_in, run_in, answers_in, import_in, validate_in, past_in, vehicle_in, tariff_in};
-ghost use Rattle.office_words.specs.Meaning.{meaning, seed_in, size_in, generate_in, rehearse_in, IsInRange, IsPlan, IsRun, IsSize};
+ghost use Rattle.office_words.specs.Meaning.{day_in, late_in, width_in, plan_in, run_in, answers_in, import_in};
+ghost use Rattle.office_words.specs.Meaning.{bulk_in, validate_in, audit_in, past_in, vehicle_in, tariff_in};
+ghost use Rattle.office_words.specs.Meaning.{meaning, seed_in, size_in, generate_in, rehearse_in, IsInRange, IsPlan, IsRecomputing, IsRun, IsSize};
 
-use crate::command::{Command, DayRun, Size};
+use crate::command::{Command, Comparison, DayRun, Recomputing, Size};
 use crate::numbers::{chosen, needed, optional};
 use clap::ArgMatches;
 use import_plan::Plan;
@@ -25,15 +26,32 @@ fn late(m: &ArgMatches<'_>) -> Option<u8>
     Some(n as u8)
 }
 
+fn width(m: &ArgMatches<'_>) -> Option<u8>
+    ensures value { result ≡ width_in (first_value (found_of m.now)) }
+    ensures range { IfSome result (λ n. (1 ≤ n) × (n ≤ 64)) }
+{
+    let n = optional(m, "workers", 1, 64, 1)?;
+    Some(n as u8)
+}
+
 fn plan(m: &ArgMatches<'_>) -> Option<Plan>
     ensures value { result ≡ plan_in (first_value (found_of m.now)) }
     ensures range { IfSome result IsPlan }
 {
-    let width = optional(m, "workers", 1, 64, 1)?;
+    let width = width(m)?;
     let turns = chosen(m, "turns", 0, u64::MAX)?;
-    Some(Plan {
-        width: width as u8,
-        turns,
+    Some(Plan { width, turns })
+}
+
+fn in_bulk(m: &ArgMatches<'_>) -> Option<Recomputing>
+    ensures value { result ≡ bulk_in (first_value (found_of m.now)) }
+    ensures range { IfSome result IsRecomputing }
+{
+    let shards = optional(m, "shards", 1, 64, 1)?;
+    let width = width(m)?;
+    Some(Recomputing::InBulk {
+        shards: shards as u8,
+        width,
     })
 }
 
@@ -71,7 +89,18 @@ fn validate(m: &ArgMatches<'_>) -> Option<Command>
 {
     let day = day(m)?;
     let late = late(m)?;
-    Some(Command::Validate { day, late })
+    let how = Recomputing::Plainly;
+    Some(Command::Compare(Comparison { day, late, how }))
+}
+
+fn audit(m: &ArgMatches<'_>) -> Option<Command>
+    ensures value { result ≡ audit_in (first_value (found_of m.now)) }
+    ensures range { IfSome result IsInRange }
+{
+    let day = day(m)?;
+    let late = late(m)?;
+    let how = in_bulk(m)?;
+    Some(Command::Compare(Comparison { day, late, how }))
 }
 
 fn past(m: &ArgMatches<'_>) -> Option<Command>
@@ -168,6 +197,7 @@ pub fn command(name: &str, m: &ArgMatches<'_>) -> Option<Command>
         "answers" => answers(m),
         "import" => import(m),
         "validate" => validate(m),
+        "audit" => audit(m),
         "past" => past(m),
         "day" => Some(Command::Day { day: day(m)? }),
         "vehicle" => vehicle(m),

@@ -10,14 +10,16 @@ ghost use Rattle.office_words.specs.Table.{form, forms};
 use clap::{Arg, ArgAction, ArgMatches, Command, Error};
 use std::alloc::{AllocError, Global};
 
-fn place<'a>(alloc: Global, id: &'a str) -> Arg<'a>
+/// A word in its place, which is named for what the word stands for.
+pub fn place<'a>(alloc: Global, id: &'a str) -> Arg<'a>
     ensures rule { rule_of result ≡ place_rule id.entry.now }
     ensures local { result.global ≡ false }
 {
     Arg::new(alloc, id).required(true).action(ArgAction::Set)
 }
 
-fn option<'a>(alloc: Global, id: &'a str) -> Arg<'a>
+/// An option with a value, `--NAME VALUE` or `--NAME=VALUE`.
+pub fn option<'a>(alloc: Global, id: &'a str) -> Arg<'a>
     ensures rule { rule_of result ≡ option_rule id.entry.now }
     ensures local { result.global ≡ false }
 {
@@ -72,7 +74,7 @@ fn bare<'a>(alloc: Global) -> Command<'a>
 
 /// The commands that read a day or a history.
 fn with_days<'a>(alloc: Global, top: Command<'a>) -> Result<Command<'a>, AllocError>
-    ensures { IfOk result (λ c. app_of c ≡ with_forms (app_of top.entry) (take 4 (drop 0 forms))) }
+    ensures { IfOk result (λ c. app_of c ≡ with_forms (app_of top.entry) (take 5 (drop 0 forms))) }
 {
     let top = with(
         alloc,
@@ -89,12 +91,19 @@ fn with_days<'a>(alloc: Global, top: Command<'a>) -> Result<Command<'a>, AllocEr
         &["late", "workers", "turns"],
     )?;
     let top = with(alloc, top, "validate", &["day"], &["late"])?;
+    let top = with(
+        alloc,
+        top,
+        "audit",
+        &["day"],
+        &["late", "shards", "workers"],
+    )?;
     with(alloc, top, "past", &["base"], &[])
 }
 
 /// The reports.
 fn with_reports<'a>(alloc: Global, top: Command<'a>) -> Result<Command<'a>, AllocError>
-    ensures { IfOk result (λ c. app_of c ≡ with_forms (app_of top.entry) (take 4 (drop 4 forms))) }
+    ensures { IfOk result (λ c. app_of c ≡ with_forms (app_of top.entry) (take 4 (drop 5 forms))) }
 {
     let top = with(alloc, top, "day", &["day"], &[])?;
     let top = with(alloc, top, "vehicle", &["vid", "from", "to"], &[])?;
@@ -104,7 +113,7 @@ fn with_reports<'a>(alloc: Global, top: Command<'a>) -> Result<Command<'a>, Allo
 
 /// The tariffs.
 fn with_tariffs<'a>(alloc: Global, top: Command<'a>) -> Result<Command<'a>, AllocError>
-    ensures { IfOk result (λ c. app_of c ≡ with_forms (app_of top.entry) (take 2 (drop 8 forms))) }
+    ensures { IfOk result (λ c. app_of c ≡ with_forms (app_of top.entry) (take 2 (drop 9 forms))) }
 {
     let top = with(
         alloc,
@@ -118,7 +127,7 @@ fn with_tariffs<'a>(alloc: Global, top: Command<'a>) -> Result<Command<'a>, Allo
 
 /// The traffic that a seed makes.
 fn with_traffic<'a>(alloc: Global, top: Command<'a>) -> Result<Command<'a>, AllocError>
-    ensures { IfOk result (λ c. app_of c ≡ with_forms (app_of top.entry) (take 2 (drop 10 forms))) }
+    ensures { IfOk result (λ c. app_of c ≡ with_forms (app_of top.entry) (take 2 (drop 11 forms))) }
 {
     let top = with(
         alloc,

@@ -1,5 +1,5 @@
 // What no clause says: that words written out mean what a reader expects.
-use crate::{Command, DayRun, Size, WordFault, read_words};
+use crate::{Command, Comparison, DayRun, Recomputing, Size, WordFault, read_words};
 use import_plan::Plan;
 use std::alloc::{AllocError, Global};
 
@@ -26,6 +26,10 @@ fn run(day: u32, late: u8, width: u8, turns: Option<u64>) -> DayRun {
     }
 }
 
+fn compared(day: u32, late: u8, how: Recomputing) -> Command {
+    Command::Compare(Comparison { day, late, how })
+}
+
 #[test]
 fn words_and_their_commands(rt: HostRuntime) {
     let alloc = rt.alloc();
@@ -38,7 +42,7 @@ fn words_and_their_commands(rt: HostRuntime) {
     assert!(rt; read(alloc, &["answers", "--late=5", "100"]) == late);
     assert!(rt; read(alloc, &["answers", "--late", "5", "100"]) == late);
     assert!(rt; read(alloc, &["answers", "--late=5", "--", "100"]) == late);
-    assert!(rt; read(alloc, &["validate", "100"]) == Ok(Command::Validate { day: 100, late: 0 }));
+    assert!(rt; read(alloc, &["validate", "100"]) == Ok(compared(100, 0, Recomputing::Plainly)));
     assert!(rt; read(alloc, &["accidents"]) == Ok(Command::Accidents { late: 0 }));
     assert!(rt;
         read(alloc, &["accidents", "--late", "120"]) == Ok(Command::Accidents { late: 120 })
@@ -217,4 +221,37 @@ fn words_and_how_the_work_is_done(rt: HostRuntime) {
     assert!(rt; read(alloc, &["validate", "100", "--turns", "1"]) == words);
     assert!(rt; read(alloc, &["accidents", "--workers", "1"]) == words);
     assert!(rt; read(alloc, &["past", "100", "--workers", "1"]) == words);
+}
+
+#[test]
+fn words_and_how_a_day_is_recomputed(rt: HostRuntime) {
+    let alloc = rt.alloc();
+    let words = Err(WordFault::Words);
+    let one = Recomputing::InBulk {
+        shards: 1,
+        width: 1,
+    };
+    let two = Recomputing::InBulk {
+        shards: 2,
+        width: 3,
+    };
+    let late = &[
+        "audit",
+        "--workers",
+        "3",
+        "100",
+        "--shards=2",
+        "--late",
+        "5",
+    ];
+    assert!(rt; read(alloc, &["audit", "100"]) == Ok(compared(100, 0, one)));
+    assert!(rt; read(alloc, late) == Ok(compared(100, 5, two)));
+    assert!(rt; read(alloc, &["audit"]) == words);
+    assert!(rt; read(alloc, &["audit", "69"]) == words);
+    assert!(rt; read(alloc, &["audit", "100", "--shards", "0"]) == words);
+    assert!(rt; read(alloc, &["audit", "100", "--shards", "65"]) == words);
+    assert!(rt; read(alloc, &["audit", "100", "--workers", "65"]) == words);
+    assert!(rt; read(alloc, &["audit", "100", "--turns", "1"]) == words);
+    assert!(rt; read(alloc, &["validate", "100", "--shards", "1"]) == words);
+    assert!(rt; read(alloc, &["import", "100", "--shards", "1"]) == words);
 }

@@ -11,7 +11,7 @@ use clap::error::ErrorKind;
 use std::alloc::Global;
 
 /// Why there are no matches.
-fn fault_of(error: &Error) -> WordFault
+pub fn fault_of(error: &Error) -> WordFault
     ensures { (result ≡ WordFault.Words) → (kind_of error.now ≡ kind.OutOfMemory) → ⊥ }
 {
     match error.kind() {

@@ -157,7 +157,7 @@ fn are_answers(words: &[&str]) -> bool {
 }
 
 /// A day's lines end so by the words, however the work is done.
-pub fn row<R: Abort + Threads>(
+pub fn row<R: Abort + Threads + Sync>(
     rt: &R,
     alloc: Global,
     words: &[&str],

@@ -24,7 +24,7 @@ const ALREADY: &[u8] = b"# already day 100 tuples 56 notices 55 total 2\n";
 const NO_DAY: &[u8] = b"# no day 100\n";
 
 /// Nothing is kept, and then the day is stored once.
-fn stores_then<R: Abort + Threads>(
+fn stores_then<R: Abort + Threads + Sync>(
     rt: &R,
     alloc: Global,
     input: &[u8],
@@ -139,7 +139,7 @@ fn each_call_fails(rt: HostRuntime) -> Result<(), Fail> {
 }
 
 /// One line, by a sink of this room: what it holds, and what the same import answers then.
-fn one_line<R: Abort + Threads>(
+fn one_line<R: Abort + Threads + Sync>(
     rt: &R,
     alloc: Global,
     room: usize,

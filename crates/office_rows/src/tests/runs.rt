@@ -45,7 +45,7 @@ impl<'a> Ends<'a> {
 }
 
 /// The text and status of `office` where nothing is kept.
-pub fn run<R: Threads>(
+pub fn run<R: Threads + Sync>(
     rt: &R,
     alloc: Global,
     limits: &Limits,
@@ -59,7 +59,7 @@ pub fn run<R: Threads>(
 }
 
 /// The text and status of `office` over a keeper.
-pub fn run_on<K: Keeper, R: Threads>(
+pub fn run_on<K: Keeper, R: Threads + Sync>(
     rt: &R,
     alloc: Global,
     limits: &Limits,
@@ -92,7 +92,7 @@ pub fn run_on<K: Keeper, R: Threads>(
 }
 
 /// A command over a keeper writes this text and has this status.
-pub fn writes<K: Keeper, R: Abort + Threads>(
+pub fn writes<K: Keeper, R: Abort + Threads + Sync>(
     rt: &R,
     alloc: Global,
     words: &[&str],
@@ -117,7 +117,7 @@ pub struct Step<'a> {
 }
 
 /// Commands one after the other over one keeper.
-pub fn each_writes<K: Keeper, R: Abort + Threads>(
+pub fn each_writes<K: Keeper, R: Abort + Threads + Sync>(
     rt: &R,
     alloc: Global,
     keeper: &mut K,

@@ -3,13 +3,13 @@ use Rattle.road_io.specs.declared.source.Failed.{Failed}
 use Rattle.office_commands.specs.declared.closing.Closing.{Closing}
 use Rattle.office_commands.specs.Commands.{office_answer}
 use Rattle.office_commands.specs.Endings.{Wrote, Keeps}
-use Rattle.office_commands.proofs.EndingLaws.{is_unread, is_unkept, exact, all_written, read_fault, keeper_fault, no_memory, write_fault, kept_whole, kept_exact, kept_unread, kept_refused}
-use Rattle.std.proofs.Common.{ℕ, Err, refl}
+use Rattle.office_commands.proofs.EndingLaws.{is_unread, is_unkept, exact, all_written, read_fault, keeper_fault, no_memory, write_fault, kept_whole, kept_exact, kept_refused}
+use Rattle.std.proofs.Common.{ℕ, refl}
 use Rattle.office_words.specs.Meaning.{means}
 use Rattle.office_commands.specs.Endings.{Did, code_of}
 use Rattle.office_commands.specs.Rests.{ReadAsAsked, LeavesAsKept, HoldsAsked}
 use Rattle.office_commands.proofs.ConcludeLaws.{concluded, concluded_alone, concluded_less}
-use Rattle.office_commands.proofs.RestLaws.{read_status, rest_status, held_status}
+use Rattle.office_commands.proofs.RestLaws.{read_status, rest_status, held_status, unread_same}
 use Rattle.office_commands.proofs.entry.office.Goals as goal
 
 pub returns-in-Ok-Some-clause-exact : goal.returns-in-Ok-Some-clause-exact
@@ -76,13 +76,12 @@ returns-in-Ok-Some-clause-keeps g c = λ right bytes lines o told kept no_read n
     kept_exact w a o now (g.O.Sink.written c.run.new.sink) _ _ c.in-Ok-Some.closing keeps c.close.ensures.closes no_read no_write no_keeper no_room
 
 pub returns-in-Ok-Some-clause-keeps_unread : goal.returns-in-Ok-Some-clause-keeps_unread
-returns-in-Ok-Some-clause-keeps_unread g c = λ right bytes lines o told kept is.
-    let a = office_answer (map string_bytes c.args.words.now) c.args.limits.now bytes lines o in
-    let w = g.K.Keeper.refuses in
-    let now = g.K.Keeper.told c.run.new.keeper in
+returns-in-Ok-Some-clause-keeps_unread g c = λ o kept is.
+    let m = means (map string_bytes c.args.words.now) in
     let res : c.run.result ≡ Ok (Some c.in-Ok-Some.closing) = cc in
-    let keeps = subst (λ (r : Result (Option Closing) Failed). Keeps w a o now r) res (c.run.ensures.keeps right bytes lines o told kept) in
-    kept_unread w a o now (g.O.Sink.written c.run.new.sink) _ _ c.in-Ok-Some.closing keeps c.close.ensures.closes is
+    let status = c.close.ensures.status (λ e. omega (arith, is, e)) (λ e. omega (arith, is, e)) in
+    unread_same m (code_of c.run.result) (g.K.Keeper.told c.run.new.keeper ≡ Some o) (c.run.ensures.held o kept)
+    (c.run.ensures.unchanged o kept) (ap code_of res ∙ sym status ∙ is)
 
 pub returns-in-Ok-Some-clause-keeps_refused : goal.returns-in-Ok-Some-clause-keeps_refused
 returns-in-Ok-Some-clause-keeps_refused g c = λ right bytes lines o told kept is.

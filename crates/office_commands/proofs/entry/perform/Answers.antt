@@ -1,17 +1,17 @@
 use Rattle.std.proofs.Common.{◌≡◌, [], sym, ap, subst, refl}
 use Rattle.office_words.specs.declared.command.Command.{Command}
-use Rattle.office_words.specs.declared.command.Command.TheVariants.{Answers, Import, Past, Validate, Day, Vehicle, Accidents, Export, Tariff, Tariffs, Generate, Rehearse}
+use Rattle.office_words.specs.declared.command.Recomputing.TheVariants.{Plainly}
+use Rattle.office_words.specs.declared.command.Command.TheVariants.{Answers, Import, Past, Compare, Day, Vehicle, Accidents, Export, Tariff, Tariffs, Generate, Rehearse}
 use Rattle.road_io.proofs.SinkLaws.{appends_none}
-use Rattle.road_time.specs.Lines.{lines_of}
 use Rattle.road_time.specs.Reads.{reads}
 use Rattle.reports.specs.Statements.{day_report}
 use Rattle.reports.specs.Exports.{export_report}
 use Rattle.office_commands.proofs.ReportLaws.{report_office}
 use Rattle.office_commands.specs.Days.{recomputed, refusal_of}
-use Rattle.office_commands.specs.Commands.{most_of, most_aside_of, command_row, accidents_row, validate_row, uses_source, uses_aside, uses_keeper, uses_crew, day_row, vehicle_row, export_row, tariffs_row, generate_row, rehearse_row}
+use Rattle.office_commands.specs.Commands.{most_of, most_aside_of, command_row, accidents_row, compare_row, uses_source, uses_aside, uses_keeper, uses_crew, day_row, vehicle_row, export_row, tariffs_row, generate_row, rehearse_row}
 use Rattle.office_commands.specs.Endings.{StandsBefore, Wrote, sort_of, KeepsBy, Keeps}
 use Rattle.office_commands.proofs.EndingLaws.{kept_same, closing_same, unchanged}
-use Rattle.office_commands.proofs.ValidateLaws.{same_office, accidents_office}
+use Rattle.office_commands.proofs.ComparingLaws.{same_row, no_row_text, accidents_office}
 use Rattle.day_reading.specs.Days.{ReadsWithin}
 use Rattle.day_reading.proofs.BoundLaws.{nothing_read}
 use Rattle.std.proofs.Common.{Some, Ok, ◌∙◌}
@@ -19,7 +19,6 @@ use Rattle.office_commands.specs.Commands.{past_row, tariff_row, PutsAsked}
 use Rattle.office_commands.specs.Endings.{Did, code_of}
 use Rattle.office_commands.specs.Rests.{ReadsAs, LeavesAsKept, HoldsAsked}
 use Rattle.office_commands.proofs.EndingLaws.{kept_whole}
-use Rattle.office_commands.proofs.ValidateLaws.{no_text}
 use Rattle.office_commands.specs.declared.closing.Closing.TheVariants.{ReadFault}
 use Rattle.office_commands.proofs.ConcludeLaws.{did_unchanged, did_silent, closing_holds, closing_of}
 use Rattle.office_commands.proofs.entry.perform.Goals as goal
@@ -73,7 +72,7 @@ pub returns-in-Accidents-clause-keeps : goal.returns-in-Accidents-clause-keeps
 returns-in-Accidents-clause-keeps g c = λ right bytes lines o told kept.
     let is : c.args.command ≡ Accidents c.in-Accidents.late = cc in
     subst (λ (d : Command). Keeps g.K.Keeper.refuses (command_row c.args.limits.now bytes lines o d) o (g.K.Keeper.told c.args.keeper.now) c.accidents.result) (sym is)
-    (kept_same g.K.Keeper.refuses (accidents_row c.args.limits.now c.in-Accidents.late bytes o) o (g.K.Keeper.told c.args.keeper.now) c.accidents.result (accidents_office (refusal_of (reads bytes (recomputed c.args.limits.now) c.in-Accidents.late).refused) (reads bytes (recomputed c.args.limits.now) c.in-Accidents.late).tuples o) kept)
+    (kept_same g.K.Keeper.refuses (accidents_row c.args.limits.now c.in-Accidents.late bytes o) o (g.K.Keeper.told c.args.keeper.now) c.accidents.result (accidents_office (refusal_of (reads bytes (recomputed Plainly c.args.limits.now) c.in-Accidents.late).refused) (reads bytes (recomputed Plainly c.args.limits.now) c.in-Accidents.late).tuples o) kept)
 
 pub returns-in-Export-clause-wrote : goal.returns-in-Export-clause-wrote
 returns-in-Export-clause-wrote g c = λ right bytes lines o told also kept.
@@ -95,22 +94,22 @@ returns-in-Tariffs-clause-keeps g c = λ right bytes lines o told kept.
     let is : c.args.command ≡ Tariffs = cc in
     subst (λ (d : Command). Keeps g.K.Keeper.refuses (command_row c.args.limits.now bytes lines o d) o (g.K.Keeper.told c.tariffs.new.keeper) c.tariffs.result) (sym is) (c.tariffs.ensures.keeps o kept)
 
-pub returns-in-Validate-clause-wrote : goal.returns-in-Validate-clause-wrote
-returns-in-Validate-clause-wrote g c = λ right bytes lines o told also kept.
-    let is : c.args.command ≡ Validate c.in-Validate.day c.in-Validate.late = cc in (
+pub returns-in-Compare-clause-wrote : goal.returns-in-Compare-clause-wrote
+returns-in-Compare-clause-wrote g c = λ right bytes lines o told also kept.
+    let is : c.args.command ≡ Compare c.in-Compare.asked = cc in (
       [],
-      subst (λ (d : Command). StandsBefore (command_row c.args.limits.now bytes lines o d) c.validate.result []) (sym is) (c.validate.ensures.exact bytes lines o (told (ap uses_source is)) (also (ap uses_aside is)) (kept (ap uses_keeper is))),
+      subst (λ (d : Command). StandsBefore (command_row c.args.limits.now bytes lines o d) c.compare_source.result []) (sym is) (c.compare_source.ensures.exact (λ bulk. right (ap uses_crew is ∙ bulk)) bytes lines o (told (ap uses_source is)) (also (ap uses_aside is)) (kept (ap uses_keeper is))),
       appends_none _,
     )
 
-pub returns-in-Validate-clause-keeps : goal.returns-in-Validate-clause-keeps
-returns-in-Validate-clause-keeps g c = λ right bytes lines o told kept.
-    let is : c.args.command ≡ Validate c.in-Validate.day c.in-Validate.late = cc in
+pub returns-in-Compare-clause-keeps : goal.returns-in-Compare-clause-keeps
+returns-in-Compare-clause-keeps g c = λ right bytes lines o told kept.
+    let is : c.args.command ≡ Compare c.in-Compare.asked = cc in
     let limits = c.args.limits.now in
-    let read = reads bytes (recomputed limits) c.in-Validate.late in
-    let after = g.K.Keeper.told c.validate.new.keeper in
-    subst (λ (d : Command). KeepsBy (sort_of c.validate.result) g.K.Keeper.refuses (command_row limits bytes lines o d) o after) (sym is)
-    (closing_same g.K.Keeper.refuses (validate_row limits c.in-Validate.day c.in-Validate.late bytes lines o) o after c.validate.result (same_office (refusal_of read.refused) c.in-Validate.day read.tuples (lines_of lines) o) (c.validate.ensures.kept o kept))
+    let after = g.K.Keeper.told c.compare_source.new.keeper in
+    subst (λ (d : Command). KeepsBy (sort_of c.compare_source.result) g.K.Keeper.refuses (command_row limits bytes lines o d) o after) (sym is)
+    (closing_same g.K.Keeper.refuses (compare_row limits c.in-Compare.asked bytes lines o) o after c.compare_source.result
+    (same_row limits c.in-Compare.asked bytes lines o) (c.compare_source.ensures.kept o kept))
 
 pub returns-in-Tariff-clause-wrote : goal.returns-in-Tariff-clause-wrote
 returns-in-Tariff-clause-wrote g c = λ right bytes lines o told also kept.
@@ -135,20 +134,20 @@ returns-in-Import-clause-bounded g c = λ o kept.
     let is : c.args.command ≡ Import c.in-Import.run' = cc in
     subst (λ (d : Command). ReadsWithin (most_of c.args.limits.now o d) (g.S.Source.left c.args.source.now) (g.S.Source.left c.import.new.source)) (sym is) (c.import.ensures.bounded o (kept (ap uses_keeper is)))
 
-pub returns-in-Validate-clause-bounded : goal.returns-in-Validate-clause-bounded
-returns-in-Validate-clause-bounded g c = λ o kept.
-    let is : c.args.command ≡ Validate c.in-Validate.day c.in-Validate.late = cc in
-    subst (λ (d : Command). ReadsWithin (most_of c.args.limits.now o d) (g.S.Source.left c.args.source.now) (g.S.Source.left c.validate.new.source)) (sym is) (c.validate.ensures.bounded)
+pub returns-in-Compare-clause-bounded : goal.returns-in-Compare-clause-bounded
+returns-in-Compare-clause-bounded g c = λ o kept.
+    let is : c.args.command ≡ Compare c.in-Compare.asked = cc in
+    subst (λ (d : Command). ReadsWithin (most_of c.args.limits.now o d) (g.S.Source.left c.args.source.now) (g.S.Source.left c.compare_source.new.source)) (sym is) (c.compare_source.ensures.bounded)
 
 pub returns-in-Accidents-clause-bounded : goal.returns-in-Accidents-clause-bounded
 returns-in-Accidents-clause-bounded g c = λ o kept.
     let is : c.args.command ≡ Accidents c.in-Accidents.late = cc in
     subst (λ (d : Command). ReadsWithin (most_of c.args.limits.now o d) (g.S.Source.left c.args.source.now) (g.S.Source.left c.accidents.new.source)) (sym is) (c.accidents.ensures.bounded)
 
-pub returns-in-Validate-clause-aside_bounded : goal.returns-in-Validate-clause-aside_bounded
-returns-in-Validate-clause-aside_bounded g c = λ bytes o told kept.
-    let is : c.args.command ≡ Validate c.in-Validate.day c.in-Validate.late = cc in
-    subst (λ (d : Command). ReadsWithin (most_aside_of c.args.limits.now bytes o d) (g.A.Source.left c.args.aside.now) (g.A.Source.left c.validate.new.aside)) (sym is) (c.validate.ensures.aside_bounded bytes o (told (ap uses_source is)) (kept (ap uses_keeper is)))
+pub returns-in-Compare-clause-aside_bounded : goal.returns-in-Compare-clause-aside_bounded
+returns-in-Compare-clause-aside_bounded g c = λ right bytes o told kept.
+    let is : c.args.command ≡ Compare c.in-Compare.asked = cc in
+    subst (λ (d : Command). ReadsWithin (most_aside_of c.args.limits.now bytes o d) (g.A.Source.left c.args.aside.now) (g.A.Source.left c.compare_source.new.aside)) (sym is) (c.compare_source.ensures.aside_bounded (λ bulk. right (ap uses_aside is) (ap uses_crew is ∙ bulk)) bytes o (told (ap uses_source is)) (kept (ap uses_keeper is)))
 
 pub returns-in-Day-clause-bounded : goal.returns-in-Day-clause-bounded
 returns-in-Day-clause-bounded g c = λ o kept. nothing_read (most_of c.args.limits.now o c.args.command) (g.S.Source.left c.args.source.now)
@@ -166,28 +165,28 @@ pub returns-in-Tariffs-clause-bounded : goal.returns-in-Tariffs-clause-bounded
 returns-in-Tariffs-clause-bounded g c = λ o kept. nothing_read (most_of c.args.limits.now o c.args.command) (g.S.Source.left c.args.source.now)
 
 pub returns-in-Answers-clause-aside_bounded : goal.returns-in-Answers-clause-aside_bounded
-returns-in-Answers-clause-aside_bounded g c = λ bytes o told kept. nothing_read (most_aside_of c.args.limits.now bytes o c.args.command) (g.A.Source.left c.args.aside.now)
+returns-in-Answers-clause-aside_bounded g c = λ right bytes o told kept. nothing_read (most_aside_of c.args.limits.now bytes o c.args.command) (g.A.Source.left c.args.aside.now)
 
 pub returns-in-Import-clause-aside_bounded : goal.returns-in-Import-clause-aside_bounded
-returns-in-Import-clause-aside_bounded g c = λ bytes o told kept. nothing_read (most_aside_of c.args.limits.now bytes o c.args.command) (g.A.Source.left c.args.aside.now)
+returns-in-Import-clause-aside_bounded g c = λ right bytes o told kept. nothing_read (most_aside_of c.args.limits.now bytes o c.args.command) (g.A.Source.left c.args.aside.now)
 
 pub returns-in-Accidents-clause-aside_bounded : goal.returns-in-Accidents-clause-aside_bounded
-returns-in-Accidents-clause-aside_bounded g c = λ bytes o told kept. nothing_read (most_aside_of c.args.limits.now bytes o c.args.command) (g.A.Source.left c.args.aside.now)
+returns-in-Accidents-clause-aside_bounded g c = λ right bytes o told kept. nothing_read (most_aside_of c.args.limits.now bytes o c.args.command) (g.A.Source.left c.args.aside.now)
 
 pub returns-in-Day-clause-aside_bounded : goal.returns-in-Day-clause-aside_bounded
-returns-in-Day-clause-aside_bounded g c = λ bytes o told kept. nothing_read (most_aside_of c.args.limits.now bytes o c.args.command) (g.A.Source.left c.args.aside.now)
+returns-in-Day-clause-aside_bounded g c = λ right bytes o told kept. nothing_read (most_aside_of c.args.limits.now bytes o c.args.command) (g.A.Source.left c.args.aside.now)
 
 pub returns-in-Vehicle-clause-aside_bounded : goal.returns-in-Vehicle-clause-aside_bounded
-returns-in-Vehicle-clause-aside_bounded g c = λ bytes o told kept. nothing_read (most_aside_of c.args.limits.now bytes o c.args.command) (g.A.Source.left c.args.aside.now)
+returns-in-Vehicle-clause-aside_bounded g c = λ right bytes o told kept. nothing_read (most_aside_of c.args.limits.now bytes o c.args.command) (g.A.Source.left c.args.aside.now)
 
 pub returns-in-Export-clause-aside_bounded : goal.returns-in-Export-clause-aside_bounded
-returns-in-Export-clause-aside_bounded g c = λ bytes o told kept. nothing_read (most_aside_of c.args.limits.now bytes o c.args.command) (g.A.Source.left c.args.aside.now)
+returns-in-Export-clause-aside_bounded g c = λ right bytes o told kept. nothing_read (most_aside_of c.args.limits.now bytes o c.args.command) (g.A.Source.left c.args.aside.now)
 
 pub returns-in-Tariff-clause-aside_bounded : goal.returns-in-Tariff-clause-aside_bounded
-returns-in-Tariff-clause-aside_bounded g c = λ bytes o told kept. nothing_read (most_aside_of c.args.limits.now bytes o c.args.command) (g.A.Source.left c.args.aside.now)
+returns-in-Tariff-clause-aside_bounded g c = λ right bytes o told kept. nothing_read (most_aside_of c.args.limits.now bytes o c.args.command) (g.A.Source.left c.args.aside.now)
 
 pub returns-in-Tariffs-clause-aside_bounded : goal.returns-in-Tariffs-clause-aside_bounded
-returns-in-Tariffs-clause-aside_bounded g c = λ bytes o told kept. nothing_read (most_aside_of c.args.limits.now bytes o c.args.command) (g.A.Source.left c.args.aside.now)
+returns-in-Tariffs-clause-aside_bounded g c = λ right bytes o told kept. nothing_read (most_aside_of c.args.limits.now bytes o c.args.command) (g.A.Source.left c.args.aside.now)
 
 pub returns-in-Day-clause-unchanged : goal.returns-in-Day-clause-unchanged
 returns-in-Day-clause-unchanged g c = λ o kept same.
@@ -224,7 +223,7 @@ returns-in-Past-clause-bounded g c = λ o kept.
     subst (λ (d : Command). ReadsWithin (most_of c.args.limits.now o d) (g.S.Source.left c.args.source.now) (g.S.Source.left c.past.new.source)) (sym is) (c.past.ensures.bounded o (kept (ap uses_keeper is)))
 
 pub returns-in-Past-clause-aside_bounded : goal.returns-in-Past-clause-aside_bounded
-returns-in-Past-clause-aside_bounded g c = λ bytes o told kept. nothing_read (most_aside_of c.args.limits.now bytes o c.args.command) (g.A.Source.left c.args.aside.now)
+returns-in-Past-clause-aside_bounded g c = λ right bytes o told kept. nothing_read (most_aside_of c.args.limits.now bytes o c.args.command) (g.A.Source.left c.args.aside.now)
 
 pub returns-in-Generate-clause-wrote : goal.returns-in-Generate-clause-wrote
 returns-in-Generate-clause-wrote g c = λ right bytes lines o told also kept.
@@ -241,7 +240,7 @@ pub returns-in-Generate-clause-bounded : goal.returns-in-Generate-clause-bounded
 returns-in-Generate-clause-bounded g c = λ o kept. nothing_read (most_of c.args.limits.now o c.args.command) (g.S.Source.left c.args.source.now)
 
 pub returns-in-Generate-clause-aside_bounded : goal.returns-in-Generate-clause-aside_bounded
-returns-in-Generate-clause-aside_bounded g c = λ bytes o told kept. nothing_read (most_aside_of c.args.limits.now bytes o c.args.command) (g.A.Source.left c.args.aside.now)
+returns-in-Generate-clause-aside_bounded g c = λ right bytes o told kept. nothing_read (most_aside_of c.args.limits.now bytes o c.args.command) (g.A.Source.left c.args.aside.now)
 
 pub returns-in-Rehearse-clause-wrote : goal.returns-in-Rehearse-clause-wrote
 returns-in-Rehearse-clause-wrote g c = λ right bytes lines o told also kept.
@@ -261,7 +260,7 @@ pub returns-in-Rehearse-clause-bounded : goal.returns-in-Rehearse-clause-bounded
 returns-in-Rehearse-clause-bounded g c = λ o kept. nothing_read (most_of c.args.limits.now o c.args.command) (g.S.Source.left c.args.source.now)
 
 pub returns-in-Rehearse-clause-aside_bounded : goal.returns-in-Rehearse-clause-aside_bounded
-returns-in-Rehearse-clause-aside_bounded g c = λ bytes o told kept. nothing_read (most_aside_of c.args.limits.now bytes o c.args.command) (g.A.Source.left c.args.aside.now)
+returns-in-Rehearse-clause-aside_bounded g c = λ right bytes o told kept. nothing_read (most_aside_of c.args.limits.now bytes o c.args.command) (g.A.Source.left c.args.aside.now)
 
 pub returns-in-Answers-clause-does : goal.returns-in-Answers-clause-does
 returns-in-Answers-clause-does g c = λ right bytes lines o told also kept.
@@ -324,7 +323,7 @@ returns-in-Accidents-clause-does g c = λ right bytes lines o told also kept.
     let new = g.O.Sink.written c.accidents.new.sink in
     let now = g.K.Keeper.told c.args.keeper.now in
     subst (λ (d : Command). Did g.K.Keeper.refuses (command_row c.args.limits.now bytes lines o d) o old new now c.accidents.result) (sym is)
-    (did_unchanged g.K.Keeper.refuses (accidents_row c.args.limits.now c.in-Accidents.late bytes o) o old new now c.accidents.result (accidents_office (refusal_of (reads bytes (recomputed c.args.limits.now) c.in-Accidents.late).refused) (reads bytes (recomputed c.args.limits.now) c.in-Accidents.late).tuples o) (c.accidents.ensures.wrote bytes o (told (ap uses_source is))) (kept_same g.K.Keeper.refuses (accidents_row c.args.limits.now c.in-Accidents.late bytes o) o now c.accidents.result (accidents_office (refusal_of (reads bytes (recomputed c.args.limits.now) c.in-Accidents.late).refused) (reads bytes (recomputed c.args.limits.now) c.in-Accidents.late).tuples o) kept))
+    (did_unchanged g.K.Keeper.refuses (accidents_row c.args.limits.now c.in-Accidents.late bytes o) o old new now c.accidents.result (accidents_office (refusal_of (reads bytes (recomputed Plainly c.args.limits.now) c.in-Accidents.late).refused) (reads bytes (recomputed Plainly c.args.limits.now) c.in-Accidents.late).tuples o) (c.accidents.ensures.wrote bytes o (told (ap uses_source is))) (kept_same g.K.Keeper.refuses (accidents_row c.args.limits.now c.in-Accidents.late bytes o) o now c.accidents.result (accidents_office (refusal_of (reads bytes (recomputed Plainly c.args.limits.now) c.in-Accidents.late).refused) (reads bytes (recomputed Plainly c.args.limits.now) c.in-Accidents.late).tuples o) kept))
 
 pub returns-in-Generate-clause-does : goal.returns-in-Generate-clause-does
 returns-in-Generate-clause-does g c = λ right bytes lines o told also kept.
@@ -335,14 +334,17 @@ returns-in-Generate-clause-does g c = λ right bytes lines o told also kept.
     subst (λ (d : Command). Did g.K.Keeper.refuses (command_row c.args.limits.now bytes lines o d) o old new now c.generate.result) (sym is)
     (did_unchanged g.K.Keeper.refuses (generate_row c.in-Generate.seed c.in-Generate.size o) o old new now c.generate.result refl (c.generate.ensures.wrote o) (kept_same g.K.Keeper.refuses (generate_row c.in-Generate.seed c.in-Generate.size o) o now c.generate.result refl kept))
 
-pub returns-in-Validate-clause-does : goal.returns-in-Validate-clause-does
-returns-in-Validate-clause-does g c = λ right bytes lines o told also kept.
-    let is : c.args.command ≡ Validate c.in-Validate.day c.in-Validate.late = cc in
+pub returns-in-Compare-clause-does : goal.returns-in-Compare-clause-does
+returns-in-Compare-clause-does g c = λ right bytes lines o told also kept.
+    let is : c.args.command ≡ Compare c.in-Compare.asked = cc in
+    let limits = c.args.limits.now in
     let old = g.O.Sink.written c.args.sink.now in
-    let new = old in
-    let now = g.K.Keeper.told c.validate.new.keeper in
-    subst (λ (d : Command). Did g.K.Keeper.refuses (command_row c.args.limits.now bytes lines o d) o old new now (Ok (Some c.validate.result))) (sym is)
-    (did_silent g.K.Keeper.refuses (validate_row c.args.limits.now c.in-Validate.day c.in-Validate.late bytes lines o) o old new now c.validate.result (no_text (refusal_of (reads bytes (recomputed c.args.limits.now) c.in-Validate.late).refused) c.in-Validate.day (reads bytes (recomputed c.args.limits.now) c.in-Validate.late).tuples (lines_of lines) o) (c.validate.ensures.exact bytes lines o (told (ap uses_source is)) (also (ap uses_aside is)) kept) (closing_same g.K.Keeper.refuses (validate_row c.args.limits.now c.in-Validate.day c.in-Validate.late bytes lines o) o now c.validate.result (same_office (refusal_of (reads bytes (recomputed c.args.limits.now) c.in-Validate.late).refused) c.in-Validate.day (reads bytes (recomputed c.args.limits.now) c.in-Validate.late).tuples (lines_of lines) o) (c.validate.ensures.kept o kept)) (appends_none old))
+    let now = g.K.Keeper.told c.compare_source.new.keeper in
+    let a = compare_row limits c.in-Compare.asked bytes lines o in
+    let exact = c.compare_source.ensures.exact (λ bulk. right (ap uses_crew is ∙ bulk)) bytes lines o (told (ap uses_source is)) (also (ap uses_aside is)) kept in
+    subst (λ (d : Command). Did g.K.Keeper.refuses (command_row limits bytes lines o d) o old old now (Ok (Some c.compare_source.result))) (sym is)
+    (did_silent g.K.Keeper.refuses a o old old now c.compare_source.result (no_row_text limits c.in-Compare.asked bytes lines o) exact
+    (closing_same g.K.Keeper.refuses a o now c.compare_source.result (same_row limits c.in-Compare.asked bytes lines o) (c.compare_source.ensures.kept o kept)) (appends_none old))
 
 pub returns-in-Past-clause-does : goal.returns-in-Past-clause-does
 returns-in-Past-clause-does g c = λ right bytes lines o told also kept.
@@ -384,27 +386,27 @@ returns-in-Answers-clause-rest g c = λ bytes o told kept.
 pub returns-in-Import-clause-reads : goal.returns-in-Import-clause-reads
 returns-in-Import-clause-reads g c =
     let is : c.args.command ≡ Import c.in-Import.run' = cc in
-    subst (λ (d : Command). ReadsAs c.args.limits.now d (code_of c.import.result) (g.S.Source.left c.args.source.now) (g.S.Source.left c.import.new.source)) (sym is) c.import.ensures.stops
+    subst (λ (d : Command). ReadsAs c.args.limits.now d (code_of c.import.result) (g.S.Source.left c.args.source.now) (g.S.Source.left c.import.new.source)) (sym is) (c.import.ensures.stops, c.import.ensures.uncompared)
 
 pub returns-in-Import-clause-rest : goal.returns-in-Import-clause-rest
 returns-in-Import-clause-rest g c = λ bytes o told kept.
     let is : c.args.command ≡ Import c.in-Import.run' = cc in
     subst (λ (d : Command). LeavesAsKept c.args.limits.now (Some d) (code_of c.import.result) o bytes (g.S.Source.left c.import.new.source)) (sym is) (c.import.ensures.rest bytes o (told (ap uses_source is)) kept)
 
-pub returns-in-Validate-clause-reads : goal.returns-in-Validate-clause-reads
-returns-in-Validate-clause-reads g c =
-    let is : c.args.command ≡ Validate c.in-Validate.day c.in-Validate.late = cc in
-    subst (λ (d : Command). ReadsAs c.args.limits.now d (code_of (Ok (Some c.validate.result))) (g.S.Source.left c.args.source.now) (g.S.Source.left c.validate.new.source)) (sym is) c.validate.ensures.reads
+pub returns-in-Compare-clause-reads : goal.returns-in-Compare-clause-reads
+returns-in-Compare-clause-reads g c =
+    let is : c.args.command ≡ Compare c.in-Compare.asked = cc in
+    subst (λ (d : Command). ReadsAs c.args.limits.now d (code_of (Ok (Some c.compare_source.result))) (g.S.Source.left c.args.source.now) (g.S.Source.left c.compare_source.new.source)) (sym is) c.compare_source.ensures.reads
 
-pub returns-in-Validate-clause-rest : goal.returns-in-Validate-clause-rest
-returns-in-Validate-clause-rest g c = λ bytes o told kept.
-    let is : c.args.command ≡ Validate c.in-Validate.day c.in-Validate.late = cc in
-    subst (λ (d : Command). LeavesAsKept c.args.limits.now (Some d) (code_of (Ok (Some c.validate.result))) o bytes (g.S.Source.left c.validate.new.source)) (sym is) tt
+pub returns-in-Compare-clause-rest : goal.returns-in-Compare-clause-rest
+returns-in-Compare-clause-rest g c = λ bytes o told kept.
+    let is : c.args.command ≡ Compare c.in-Compare.asked = cc in
+    subst (λ (d : Command). LeavesAsKept c.args.limits.now (Some d) (code_of (Ok (Some c.compare_source.result))) o bytes (g.S.Source.left c.compare_source.new.source)) (sym is) tt
 
 pub returns-in-Past-clause-reads : goal.returns-in-Past-clause-reads
 returns-in-Past-clause-reads g c =
     let is : c.args.command ≡ Past c.in-Past.base = cc in
-    subst (λ (d : Command). ReadsAs c.args.limits.now d (code_of (Ok (Some c.past.result))) (g.S.Source.left c.args.source.now) (g.S.Source.left c.past.new.source)) (sym is) tt
+    subst (λ (d : Command). ReadsAs c.args.limits.now d (code_of (Ok (Some c.past.result))) (g.S.Source.left c.args.source.now) (g.S.Source.left c.past.new.source)) (sym is) c.past.ensures.uncompared
 
 pub returns-in-Past-clause-rest : goal.returns-in-Past-clause-rest
 returns-in-Past-clause-rest g c = λ bytes o told kept.
@@ -501,10 +503,10 @@ returns-in-Import-clause-held g c = λ o kept.
     let is : c.args.command ≡ Import c.in-Import.run' = cc in
     subst (λ (d : Command). HoldsAsked (Some d) (code_of c.import.result) (g.K.Keeper.told c.import.new.keeper ≡ Some o)) (sym is) (λ well failed room. c.import.ensures.held well failed room ∙ kept)
 
-pub returns-in-Validate-clause-held : goal.returns-in-Validate-clause-held
-returns-in-Validate-clause-held g c = λ o kept.
-    let is : c.args.command ≡ Validate c.in-Validate.day c.in-Validate.late = cc in
-    subst (λ (d : Command). HoldsAsked (Some d) (code_of (Ok (Some c.validate.result))) (g.K.Keeper.told c.validate.new.keeper ≡ Some o)) (sym is) tt
+pub returns-in-Compare-clause-held : goal.returns-in-Compare-clause-held
+returns-in-Compare-clause-held g c = λ o kept.
+    let is : c.args.command ≡ Compare c.in-Compare.asked = cc in
+    subst (λ (d : Command). HoldsAsked (Some d) (code_of (Ok (Some c.compare_source.result))) (g.K.Keeper.told c.compare_source.new.keeper ≡ Some o)) (sym is) tt
 
 pub returns-in-Past-clause-held : goal.returns-in-Past-clause-held
 returns-in-Past-clause-held g c = λ o kept.
@@ -567,10 +569,10 @@ returns-in-Import-clause-read_sure g c = λ source aside.
     let is : c.args.command ≡ Import c.in-Import.run' = cc in
     c.import.ensures.read_sure (source (ap uses_source is))
 
-pub returns-in-Validate-clause-read_sure : goal.returns-in-Validate-clause-read_sure
-returns-in-Validate-clause-read_sure g c = λ source aside.
-    let is : c.args.command ≡ Validate c.in-Validate.day c.in-Validate.late = cc in
-    λ bad. c.validate.ensures.read_sure (source (ap uses_source is)) (aside (ap uses_aside is)) (closing_of c.validate.result ReadFault (Ok (Some c.validate.result)) refl bad)
+pub returns-in-Compare-clause-read_sure : goal.returns-in-Compare-clause-read_sure
+returns-in-Compare-clause-read_sure g c = λ source aside.
+    let is : c.args.command ≡ Compare c.in-Compare.asked = cc in
+    λ bad. c.compare_source.ensures.read_sure (source (ap uses_source is)) (aside (ap uses_aside is)) (closing_of c.compare_source.result ReadFault (Ok (Some c.compare_source.result)) refl bad)
 
 pub returns-in-Past-clause-read_sure : goal.returns-in-Past-clause-read_sure
 returns-in-Past-clause-read_sure g c = λ source aside.
@@ -582,13 +584,18 @@ returns-in-Accidents-clause-read_sure g c = λ source aside.
     let is : c.args.command ≡ Accidents c.in-Accidents.late = cc in
     c.accidents.ensures.read_sure (source (ap uses_source is))
 
-pub returns-in-Validate-clause-refused_first : goal.returns-in-Validate-clause-refused_first
-returns-in-Validate-clause-refused_first g c = λ s. c.validate.ensures.refused_first s
+pub returns-in-Compare-clause-refused_first : goal.returns-in-Compare-clause-refused_first
+returns-in-Compare-clause-refused_first g c = λ s. c.compare_source.ensures.refused_first s
 
-pub returns-in-Validate-clause-source_first : goal.returns-in-Validate-clause-source_first
-returns-in-Validate-clause-source_first g c = λ bytes left more. c.validate.ensures.source_first bytes left more
+pub returns-in-Compare-clause-source_first : goal.returns-in-Compare-clause-source_first
+returns-in-Compare-clause-source_first g c = λ bytes left more. c.compare_source.ensures.source_first bytes left more
 
 pub returns-in-Past-clause-puts : goal.returns-in-Past-clause-puts
 returns-in-Past-clause-puts g c = λ o kept.
     let is : c.args.command ≡ Past c.in-Past.base = cc in
     subst (λ (d : Command). PutsAsked (Some d) o (g.K.Keeper.told c.past.new.keeper)) (sym is) (c.past.ensures.puts o kept)
+
+pub returns-in-Compare-clause-crew_unused : goal.returns-in-Compare-clause-crew_unused
+returns-in-Compare-clause-crew_unused g c = λ none.
+    let is : c.args.command ≡ Compare c.in-Compare.asked = cc in
+    c.compare_source.ensures.unused (sym (ap uses_crew is) ∙ none)

@@ -10,7 +10,7 @@ use Rattle.std.proofs.Common.{map, string_bytes}
 use Rattle.office_words.specs.Meaning.{means}
 use Rattle.day_reading.specs.Days.{ReadsWithin}
 use Rattle.day_reading.proofs.BoundLaws.{nothing_read}
-use Rattle.std.proofs.Common.{Ok, Option, arith}
+use Rattle.std.proofs.Common.{Option, arith}
 use Rattle.office_words.specs.declared.command.Command.{Command}
 use Rattle.office_commands.specs.Endings.{Did, code_of}
 use Rattle.office_commands.specs.Rests.{ReadAsAsked, LeavesAsKept, HoldsAsked}
@@ -85,22 +85,22 @@ returns-in-Ok-clause-bounded g c = λ o kept.
     subst (λ m. ReadsWithin (most_asked c.args.limits.now o m) (g.S.Source.left c.args.source.now) (g.S.Source.left c.perform.new.source)) (sym is) (c.perform.ensures.bounded o (λ used. kept (ap use_keeper is ∙ used)))
 
 pub returns-in-Ok-clause-aside_bounded : goal.returns-in-Ok-clause-aside_bounded
-returns-in-Ok-clause-aside_bounded g c = λ bytes o told kept.
+returns-in-Ok-clause-aside_bounded g c = λ right bytes o told kept.
     let is = meant _ c.in-Ok.command c.read_words.result c.read_words.ensures.reads c.in-Ok.is in
     subst (λ m. ReadsWithin (most_aside_asked c.args.limits.now bytes o m) (g.A.Source.left c.args.aside.now) (g.A.Source.left c.perform.new.aside)) (sym is)
-    (c.perform.ensures.aside_bounded bytes o (λ used. told (ap use_source is ∙ used)) (λ used. kept (ap use_keeper is ∙ used)))
+    (c.perform.ensures.aside_bounded (λ compared used. right (ap use_aside is ∙ compared) (ap use_crew is ∙ used)) bytes o (λ used. told (ap use_source is ∙ used)) (λ used. kept (ap use_keeper is ∙ used)))
 
 pub returns-in-Err-Words-clause-bounded : goal.returns-in-Err-Words-clause-bounded
 returns-in-Err-Words-clause-bounded g c = λ o kept. nothing_read (most_asked c.args.limits.now o (means (map string_bytes c.args.words.now))) (g.S.Source.left c.args.source.now)
 
 pub returns-in-Err-Words-clause-aside_bounded : goal.returns-in-Err-Words-clause-aside_bounded
-returns-in-Err-Words-clause-aside_bounded g c = λ bytes o told kept. nothing_read (most_aside_asked c.args.limits.now bytes o (means (map string_bytes c.args.words.now))) (g.A.Source.left c.args.aside.now)
+returns-in-Err-Words-clause-aside_bounded g c = λ right bytes o told kept. nothing_read (most_aside_asked c.args.limits.now bytes o (means (map string_bytes c.args.words.now))) (g.A.Source.left c.args.aside.now)
 
 pub returns-in-Err-NoMemory-clause-bounded : goal.returns-in-Err-NoMemory-clause-bounded
 returns-in-Err-NoMemory-clause-bounded g c = λ o kept. nothing_read (most_asked c.args.limits.now o (means (map string_bytes c.args.words.now))) (g.S.Source.left c.args.source.now)
 
 pub returns-in-Err-NoMemory-clause-aside_bounded : goal.returns-in-Err-NoMemory-clause-aside_bounded
-returns-in-Err-NoMemory-clause-aside_bounded g c = λ bytes o told kept. nothing_read (most_aside_asked c.args.limits.now bytes o (means (map string_bytes c.args.words.now))) (g.A.Source.left c.args.aside.now)
+returns-in-Err-NoMemory-clause-aside_bounded g c = λ right bytes o told kept. nothing_read (most_aside_asked c.args.limits.now bytes o (means (map string_bytes c.args.words.now))) (g.A.Source.left c.args.aside.now)
 
 pub returns-in-Ok-clause-unchanged : goal.returns-in-Ok-clause-unchanged
 returns-in-Ok-clause-unchanged g c = λ o kept same.

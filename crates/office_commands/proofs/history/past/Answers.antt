@@ -1,6 +1,7 @@
 use Rattle.std.proofs.Common.{◌≡◌}
-use Rattle.past_file.specs.Imports.{past_answer}
-use Rattle.office_commands.proofs.HistoryLaws.{past_stands, past_keeps, past_rest, past_held}
+use Rattle.day_reading.specs.Days.{ReadsWithin}
+use Rattle.past_file.specs.Imports.{past_answer, most_past}
+use Rattle.office_commands.proofs.HistoryLaws.{past_stands, past_keeps, past_rest, past_held, past_alone}
 use Rattle.office_commands.proofs.history.past.Goals as goal
 
 pub returns-clause-exact : goal.returns-clause-exact
@@ -18,3 +19,10 @@ returns-clause-rest g c = λ bytes o left told.
 
 pub returns-clause-held : goal.returns-clause-held
 returns-clause-held g c = past_held c.args.base (g.K.Keeper.told c.import_past-done.new.keeper ≡ g.K.Keeper.told c.args.keeper.now) c.import_past-done.result c.past_ended.result c.past_ended.ensures.ends c.import_past-done.ensures.keeps
+
+pub returns-clause-uncompared : goal.returns-clause-uncompared
+returns-clause-uncompared g c =
+    let before = g.S.Source.left c.args.source.now in
+    let after = g.S.Source.left c.import_past-done.new.source in
+    past_alone c.args.base (ReadsWithin (most_past c.args.limits.now) before after) c.import_past-done.result
+    c.past_ended.result c.past_ended.ensures.ends c.import_past-done.ensures.uncompared

@@ -3,10 +3,11 @@ use Rattle.import_once.specs.declared.outcomes.Outcome.TheVariants.{WriteFault}
 use Rattle.import_once.specs.Imports.{import_answer}
 use Rattle.office_commands.proofs.OutcomeLaws.{wrote, keeps, caused, well}
 use Rattle.road_time.specs.Reads.{reads}
+use Rattle.day_reading.specs.Days.{ReadsWithin, most_read}
 use Rattle.keeper.specs.Office.{record_of}
 use Rattle.import_once.specs.Imports.{work_by}
 use Rattle.office_commands.proofs.OutcomeLaws.{did, held}
-use Rattle.office_commands.proofs.RestLaws.{imported_to, rests}
+use Rattle.office_commands.proofs.RestLaws.{imported_to, imported_alone, rests}
 use Rattle.office_commands.proofs.imports.import.Goals as goal
 
 pub returns-clause-wrote : goal.returns-clause-wrote
@@ -48,3 +49,10 @@ returns-clause-rest g c = λ bytes o left told.
 
 pub returns-clause-held : goal.returns-clause-held
 returns-clause-held g c = held c.args.run.day (g.K.Keeper.told c.import-done.new.keeper ≡ g.K.Keeper.told c.args.keeper.now) c.import-done.result c.ended.result c.ended.ensures.ends c.import-done.ensures.keeps
+
+pub returns-clause-uncompared : goal.returns-clause-uncompared
+returns-clause-uncompared g c =
+    let before = g.S.Source.left c.args.source.now in
+    let after = g.S.Source.left c.import-done.new.source in
+    imported_alone c.args.run.day (ReadsWithin (most_read c.args.limits.now) before after) c.import-done.result
+    c.ended.result c.ended.ensures.ends c.import-done.ensures.uncompared

@@ -4,4 +4,4 @@ use Rattle.office_words.proofs.Steps.{adds}
 use Rattle.office_words.proofs.table.with_tariffs.Goals as goal
 
 pub returns : goal.returns
-returns c = IfOk-weaker c.with-2.result _ _ (λ x h. h ∙ ap (adds 9) c.in_ok-top.ensures) c.with-2.ensures
+returns c = IfOk-weaker c.with-2.result _ _ (λ x h. h ∙ ap (adds 10) c.in_ok-top.ensures) c.with-2.ensures

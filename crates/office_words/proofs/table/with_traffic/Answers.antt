@@ -4,4 +4,4 @@ use Rattle.office_words.proofs.Steps.{adds}
 use Rattle.office_words.proofs.table.with_traffic.Goals as goal
 
 pub returns : goal.returns
-returns c = IfOk-weaker c.with-2.result _ _ (λ x h. h ∙ ap (adds 11) c.in_ok-top.ensures) c.with-2.ensures
+returns c = IfOk-weaker c.with-2.result _ _ (λ x h. h ∙ ap (adds 12) c.in_ok-top.ensures) c.with-2.ensures

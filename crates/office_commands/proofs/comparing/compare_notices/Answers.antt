@@ -5,10 +5,10 @@ use Rattle.office_commands.specs.Asides.{compared}
 use Rattle.office_commands.specs.Commands.{closed}
 use Rattle.office_commands.specs.Endings.{StandsBefore}
 use Rattle.office_commands.proofs.EndingLaws.{stands_alone, stops_empty}
-use Rattle.std.proofs.Common.{arith, ◌∙◌}
+use Rattle.std.proofs.Common.{◌∙◌}
 use Rattle.office_commands.specs.Closings.{status_of}
 use Rattle.office_commands.proofs.RestLaws.{compared_says, stopped_says}
-use Rattle.office_commands.proofs.validate.compare_notices.Goals as goal
+use Rattle.office_commands.proofs.comparing.compare_notices.Goals as goal
 
 pub returns-in-Ok-clause-exact : goal.returns-in-Ok-clause-exact
 returns-in-Ok-clause-exact g c = λ lines o told.

@@ -1,4 +1,4 @@
-use Rattle.std.proofs.Common.{◌≡◌, ℕ, List, length, Option, Some, Ok, [], refl, sym, subst, ◌∙◌}
+use Rattle.std.proofs.Common.{◌≡◌, ℕ, List, Option, Some, Ok, [], refl, sym, subst, ◌∙◌}
 use Rattle.road_time.specs.declared.road.Tuple.{Tuple}
 use Rattle.road_time.specs.Reads.{reads}
 use Rattle.road_time.specs.Lines.{lines_of}
@@ -6,54 +6,52 @@ use Rattle.tuple_format.specs.declared.cause.Cause.{Cause}
 use Rattle.keeper.proofs.CallLaws.{reads_same, reads_ok}
 use Rattle.office_commands.specs.declared.closing.Closing.{Closing}
 use Rattle.office_commands.specs.Days.{recomputed}
-use Rattle.office_commands.specs.Commands.{notices_of_day, validate_row, validation_of, unless_refused}
+use Rattle.office_commands.specs.Commands.{compare_row, most_noticed, comparison_of, unless_refused}
 use Rattle.office_commands.specs.Endings.{StandsBefore}
 use Rattle.office_commands.proofs.EndingLaws.{refuses_empty, stops_empty}
 use Rattle.day_reading.specs.Days.{ReadsWithin}
-use Rattle.office_commands.specs.Entries.{most_compared}
-use Rattle.std.proofs.Common.{ap}
 use Rattle.office_commands.specs.Closings.{status_of}
 use Rattle.office_commands.specs.Rests.{HasReadTo}
-use Rattle.office_commands.proofs.RestLaws.{to_by, to_stopped, to_refused, says_refused, ends_there, stopped_says, refused_says}
+use Rattle.office_commands.proofs.RestLaws.{to_by, to_stopped, to_refused, says_refused, ends_there}
 use Rattle.day_reading.proofs.BoundLaws.{nothing_read}
 use Rattle.day_reading.specs.Days.{most_read}
-use Rattle.office_commands.proofs.validate.validate.Goals as goal
+use Rattle.office_commands.proofs.comparing.compare_source.Goals as goal
 
 pub returns-in-Err-clause-exact : goal.returns-in-Err-clause-exact
-returns-in-Err-clause-exact g c = λ bytes lines o told lying kept.
-    let a = validate_row c.args.limits.now c.args.day c.args.late bytes lines o in
+returns-in-Err-clause-exact g c = λ right bytes lines o told lying kept.
+    let a = compare_row c.args.limits.now c.args.asked bytes lines o in
     subst (λ (k : Closing). StandsBefore a k []) (sym c.refused.ensures) (refuses_empty a c.in-Err.fault)
 
 pub returns-clause-exact : goal.returns-clause-exact
-returns-clause-exact g c = λ bytes lines o told lying kept.
-    let a = validate_row c.args.limits.now c.args.day c.args.late bytes lines o in
+returns-clause-exact g c = λ right bytes lines o told lying kept.
+    let a = compare_row c.args.limits.now c.args.asked bytes lines o in
     subst (λ (k : Closing). StandsBefore a k []) (sym c.stopped.ensures) (stops_empty a c.in-Err-read_day.stop)
 
 pub returns-in-Ok-read_day-clause-exact : goal.returns-in-Ok-read_day-clause-exact
-returns-in-Ok-read_day-clause-exact g c = λ bytes lines o told lying kept.
+returns-in-Ok-read_day-clause-exact g c = λ right bytes lines o told lying kept.
     let before = g.K.Keeper.told c.args.keeper.now in
     let after = g.K.Keeper.told c.tariffs.new.self in
     let still : after ≡ Some o = reads_same before after c.tariffs.result (λ p kept. kept ≡ p.tariffs) c.tariffs.ensures.state ∙ kept in
     let ok : c.tariffs.result ≡ Ok c.in-Ok.tariffs = cc in
     let rates : c.in-Ok.tariffs ≡ o.tariffs = reads_ok before after c.tariffs.result (λ p kept. kept ≡ p.tariffs) o c.in-Ok.tariffs c.tariffs.ensures.state kept ok in
-    let read = reads bytes (recomputed c.args.limits.now) c.args.late in
-    subst (λ (r : Option (ℕ × Cause)). StandsBefore (unless_refused r (validation_of c.args.day read.tuples (lines_of lines) o)) c.compare_day.result []) (c.in-Ok-read_day.ensures.refused bytes told)
-    (subst (λ (ts : List Tuple). StandsBefore (unless_refused c.in-Ok-read_day.read.refused (validation_of c.args.day ts (lines_of lines) o)) c.compare_day.result []) (c.in-Ok-read_day.ensures.tuples bytes told) (c.compare_day.ensures.exact lines o lying still rates))
+    let read = reads bytes (recomputed c.args.asked.how c.args.limits.now) c.args.asked.late in
+    subst (λ (r : Option (ℕ × Cause)). StandsBefore (unless_refused r (comparison_of c.args.asked.day read.tuples (lines_of lines) o)) c.compare_day.result []) (c.in-Ok-read_day.ensures.refused bytes told)
+    (subst (λ (ts : List Tuple). StandsBefore (unless_refused c.in-Ok-read_day.read.refused (comparison_of c.args.asked.day ts (lines_of lines) o)) c.compare_day.result []) (c.in-Ok-read_day.ensures.tuples bytes told) (c.compare_day.ensures.exact right lines o lying still rates))
 
 pub returns-in-Ok-read_day-clause-aside_bounded : goal.returns-in-Ok-read_day-clause-aside_bounded
-returns-in-Ok-read_day-clause-aside_bounded g c = λ bytes o told kept.
+returns-in-Ok-read_day-clause-aside_bounded g c = λ right bytes o told kept.
     let before = g.K.Keeper.told c.args.keeper.now in
     let after = g.K.Keeper.told c.tariffs.new.self in
     let still : after ≡ Some o = reads_same before after c.tariffs.result (λ p kept. kept ≡ p.tariffs) c.tariffs.ensures.state ∙ kept in
     let ok : c.tariffs.result ≡ Ok c.in-Ok.tariffs = cc in
     let rates : c.in-Ok.tariffs ≡ o.tariffs = reads_ok before after c.tariffs.result (λ p kept. kept ≡ p.tariffs) o c.in-Ok.tariffs c.tariffs.ensures.state kept ok in
-    subst (λ (ts : List Tuple). ReadsWithin (most_compared (length (notices_of_day c.args.day ts o))) (g.A.Source.left c.args.aside.now) (g.A.Source.left c.compare_day.new.aside)) (c.in-Ok-read_day.ensures.tuples bytes told) (c.compare_day.ensures.bounded o still rates)
+    subst (λ (ts : List Tuple). ReadsWithin (most_noticed c.args.asked.day ts o) (g.A.Source.left c.args.aside.now) (g.A.Source.left c.compare_day.new.aside)) (c.in-Ok-read_day.ensures.tuples bytes told) (c.compare_day.ensures.bounded right o still rates)
 
 pub returns-in-Err-clause-reads : goal.returns-in-Err-clause-reads
 returns-in-Err-clause-reads g c = record {
-  within = nothing_read (most_read (recomputed c.args.limits.now)) (g.S.Source.left c.args.source.now);
+  within = nothing_read (most_read (recomputed c.args.asked.how c.args.limits.now)) (g.S.Source.left c.args.source.now);
   to = λ bytes left.
-      let refused = (reads bytes (recomputed c.args.limits.now) c.args.late).refused in
+      let refused = (reads bytes (recomputed c.args.asked.how c.args.limits.now) c.args.asked.late).refused in
       subst (λ (k : Closing). HasReadTo refused (status_of k) bytes (g.S.Source.left c.args.source.now)) (sym c.refused.ensures) (to_refused refused bytes _ c.in-Err.fault);
 }
 
@@ -61,7 +59,7 @@ pub returns-clause-reads : goal.returns-clause-reads
 returns-clause-reads g c = record {
   within = c.read_day.ensures.bounded;
   to = λ bytes left.
-      let refused = (reads bytes (recomputed c.args.limits.now) c.args.late).refused in
+      let refused = (reads bytes (recomputed c.args.asked.how c.args.limits.now) c.args.asked.late).refused in
       subst (λ (k : Closing). HasReadTo refused (status_of k) bytes (g.S.Source.left c.read_day.new.source)) (sym c.stopped.ensures) (to_stopped refused bytes _ c.in-Err-read_day.stop);
 }
 
@@ -69,7 +67,7 @@ pub returns-in-Ok-read_day-clause-reads : goal.returns-in-Ok-read_day-clause-rea
 returns-in-Ok-read_day-clause-reads g c = record {
   within = c.read_day.ensures.bounded;
   to = λ bytes left.
-      let refused = (reads bytes (recomputed c.args.limits.now) c.args.late).refused in
+      let refused = (reads bytes (recomputed c.args.asked.how c.args.limits.now) c.args.asked.late).refused in
       to_by refused bytes (g.S.Source.left c.read_day.new.source) c.in-Ok-read_day.read.refused (status_of c.compare_day.result) (c.in-Ok-read_day.ensures.ends bytes left) c.compare_day.ensures.says;
 }
 
@@ -84,5 +82,5 @@ returns-in-Ok-read_day-clause-refused_first g c = λ s. c.compare_day.ensures.so
 
 pub returns-in-Ok-read_day-clause-source_first : goal.returns-in-Ok-read_day-clause-source_first
 returns-in-Ok-read_day-clause-source_first g c = λ bytes left more.
-    let refused = (reads bytes (recomputed c.args.limits.now) c.args.late).refused in
+    let refused = (reads bytes (recomputed c.args.asked.how c.args.limits.now) c.args.asked.late).refused in
     c.compare_day.ensures.source_first (ends_there refused bytes (g.S.Source.left c.read_day.new.source) c.in-Ok-read_day.read.refused (c.in-Ok-read_day.ensures.ends bytes left) more)

@@ -1,0 +1,65 @@
+use Rattle.std.proofs.Common.{◌≡◌, ◌∙◌, ℕ, List, length, [], Option, Some, None, refl, sym, ap, subst}
+use Rattle.road_time.specs.declared.road.Notice.{Notice}
+use Rattle.road_time.specs.Lines.{lines_of}
+use Rattle.tuple_format.specs.declared.cause.Cause.{Cause}
+use Rattle.day_reading.specs.Days.{ReadsWithin}
+use Rattle.office_commands.specs.declared.closing.Closing.{Closing}
+use Rattle.office_commands.specs.Asides.{compared}
+use Rattle.office_commands.specs.Closings.{status_of}
+use Rattle.office_commands.specs.Commands.{notices_of_day, comparison_of, unless_refused, closed}
+use Rattle.office_commands.specs.Endings.{StandsBefore}
+use Rattle.office_commands.specs.Entries.{most_compared}
+use Rattle.office_commands.specs.Rests.{SaysBy}
+use Rattle.office_commands.proofs.EndingLaws.{refuses_empty}
+use Rattle.office_commands.proofs.RestLaws.{refused_says}
+use Rattle.office_commands.proofs.comparing.compare_day.Goals as goal
+
+pub returns-in-Ok-clause-exact : goal.returns-in-Ok-clause-exact
+returns-in-Ok-clause-exact g c = λ right lines o told kept rates.
+    let day = c.args.day.now in
+    let number = c.args.asked.day in
+    let refused : day.refused ≡ None = cc in
+    let row = comparison_of number day.tuples.items (lines_of lines) o in
+    let known : c.items.result.now ≡ notices_of_day number day.tuples.items o =
+    c.items.ensures
+    ∙ c.in-Ok.ensures.exact right o kept rates
+    ∙ ap (λ ts. notices_of_day number ts o) c.as_slice.ensures.value in
+    subst (λ (r : Option (ℕ × Cause)). StandsBefore (unless_refused r row) c.compare_notices.result []) (sym refused)
+    (subst (λ (ns : List Notice). StandsBefore (closed (compared ns (lines_of lines)) o) c.compare_notices.result []) known
+    (c.compare_notices.ensures.exact lines o told))
+
+pub returns-in-Err-clause-exact : goal.returns-in-Err-clause-exact
+returns-in-Err-clause-exact g c = λ right lines o told kept rates.
+    let row = comparison_of c.args.asked.day c.args.day.now.tuples.items (lines_of lines) o in
+    let a = unless_refused c.args.day.now.refused row in
+    subst (λ (k : Closing). StandsBefore a k []) (sym c.refused.ensures) (refuses_empty a c.in-Err.fault)
+
+pub returns-in-Ok-clause-bounded : goal.returns-in-Ok-clause-bounded
+returns-in-Ok-clause-bounded g c = λ right o kept rates.
+    let day = c.args.day.now in
+    let number = c.args.asked.day in
+    let known : c.items.result.now ≡ notices_of_day number day.tuples.items o =
+    c.items.ensures
+    ∙ c.in-Ok.ensures.exact right o kept rates
+    ∙ ap (λ ts. notices_of_day number ts o) c.as_slice.ensures.value in
+    let before = g.A.Source.left c.args.aside.now in
+    let after = g.A.Source.left c.compare_notices.new.aside in
+    subst (λ (ns : List Notice). ReadsWithin (most_compared (length ns)) before after) known
+    c.compare_notices.ensures.bounded
+
+pub returns-in-Some-clause-says : goal.returns-in-Some-clause-says
+returns-in-Some-clause-says g c =
+    let is : c.args.day.now.refused ≡ Some (c.in-Some.line, c.in-Some.cause) = cc in
+    subst (λ (r : Option (ℕ × Cause)). SaysBy r 2) (sym is) refl
+
+pub returns-in-Err-clause-says : goal.returns-in-Err-clause-says
+returns-in-Err-clause-says g c =
+    let none : c.args.day.now.refused ≡ None = cc in
+    subst (λ (r : Option (ℕ × Cause)). SaysBy r (status_of c.refused.result)) (sym none)
+    (λ s. refused_says c.in-Err.fault (sym (ap status_of c.refused.ensures) ∙ s))
+
+pub returns-in-Ok-clause-says : goal.returns-in-Ok-clause-says
+returns-in-Ok-clause-says g c =
+    let none : c.args.day.now.refused ≡ None = cc in
+    subst (λ (r : Option (ℕ × Cause)). SaysBy r (status_of c.compare_notices.result)) (sym none)
+    c.compare_notices.ensures.unnamed

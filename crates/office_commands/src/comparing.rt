@@ -1,0 +1,220 @@
+// The commands `validate DAY` and `audit DAY`: notices compared with those of the rules.
+ghost use Rattle.std.specs.Prelude.{◌≡◌, ◌≢◌, ◌≤◌, ◌⊎◌, [], ℕ, List, Some, None, Err, IfOk, false, length};
+ghost use Rattle.road_time.specs.Day.{notices};
+ghost use Rattle.road_time.specs.Fits.{IsDay, IsLimits};
+ghost use Rattle.road_time.specs.Lines.{lines_of};
+ghost use Rattle.road_io.specs.Faults.{Rose};
+ghost use Rattle.road_io.specs.Plans.{NeverFails};
+ghost use Rattle.keeper.specs.Office.{Office};
+ghost use Rattle.keeper.specs.declared.kept.KeepFault.TheVariants.{Failed};
+ghost use Rattle.validator.specs.History.{paid, KeysDiffer};
+ghost use Rattle.day_reading.specs.Days.{ReadsWithin, most_read};
+ghost use Rattle.office_words.specs.Meaning.{IsComparing};
+ghost use Rattle.office_commands.specs.Asides.{compared};
+ghost use Rattle.office_commands.specs.Commands.{compare_row, comparison_of, compared_tuples};
+ghost use Rattle.office_commands.specs.Commands.{notices_of_day, most_noticed};
+ghost use Rattle.office_commands.specs.Commands.{unless_refused, closed};
+ghost use Rattle.office_commands.specs.Days.{recomputed, in_bulk, IsRightFor};
+ghost use Rattle.office_commands.specs.Entries.{most_compared};
+ghost use Rattle.office_commands.specs.Closings.{status_of};
+ghost use Rattle.office_commands.specs.Endings.{StandsBefore};
+ghost use Rattle.office_commands.specs.Rests.{HasReadDay, SaysBy};
+ghost use Rattle.office_commands.specs.declared.closing.Closing.TheVariants.{ReadFault, KeeperFault, Words};
+
+use crate::aside::compare;
+use crate::closing::Closing;
+use crate::day::{Day, read_day, stopped};
+use crate::refusal::refused;
+use asked_history::history_for;
+use keeper::{KeepFault, Keeper};
+use office_words::{Comparison, Recomputing};
+use partition_workers::Crew;
+use road_io::Source;
+use road_time::{Limits, NoMemory, Notice, SpentRow, Tariffs, Tuple};
+use std::alloc::Global;
+use std::thread::Threads;
+use validator::plain_notices;
+use vehicle_workers::{NoticeList, bulk};
+
+/// The notices of a day, recomputed by the plain rules or in bulk.
+fn recompute<C: Crew, R: Threads + Sync>(
+    rt: &R,
+    alloc: Global,
+    asked: Comparison,
+    tuples: &[Tuple],
+    tariffs: &Tariffs,
+    history: &[SpentRow],
+    crew: &mut C,
+) -> Result<NoticeList, NoMemory>
+    requires fit { IsDay tuples.now }
+    requires range { IsComparing asked }
+    requires keys { KeysDiffer history.now }
+    requires idle { C.out crew.old ≡ [] }
+    ensures exact { IsRightFor asked.how C.exact
+        → IfOk result (λ all. all ≡ notices tuples.now tariffs.now asked.day (paid history.now)) }
+    ensures unused { in_bulk asked.how ≡ false → crew.new ≡ crew.old }
+    ensures idle { C.out crew.new ≡ [] }
+    ensures crew { C.which crew.new ≡ C.which crew.old }
+{
+    match asked.how {
+        Recomputing::Plainly => {
+            let all = plain_notices(alloc, tuples, tariffs, asked.day, history)?;
+            Ok(NoticeList::from_vec(all))
+        }
+        Recomputing::InBulk { shards, width } => bulk(
+            rt, alloc, tuples, tariffs, asked.day, history, shards, width, crew,
+        ),
+    }
+}
+
+/// The notices of a day that was read, after what the keeper keeps.
+fn wanted_notices<K: Keeper, C: Crew, R: Threads + Sync>(
+    rt: &R,
+    alloc: Global,
+    asked: Comparison,
+    tuples: &[Tuple],
+    tariffs: &Tariffs,
+    keeper: &mut K,
+    crew: &mut C,
+) -> Result<NoticeList, KeepFault>
+    requires fit { IsDay tuples.now }
+    requires range { IsComparing asked }
+    requires idle { C.out crew.old ≡ [] }
+    ensures exact { IsRightFor asked.how C.exact → (o : Office) → K.told keeper.old ≡ Some o → tariffs.now ≡ o.tariffs
+        → IfOk result (λ all. all ≡ notices_of_day asked.day tuples.now o) }
+    ensures kept { K.told keeper.new ≡ K.told keeper.old }
+    ensures unused { in_bulk asked.how ≡ false → crew.new ≡ crew.old }
+    ensures idle { C.out crew.new ≡ [] }
+    ensures crew { C.which crew.new ≡ C.which crew.old }
+    ensures cause { result ≡ Err Failed → Rose (K.faults keeper.old) (K.faults keeper.new) }
+    ensures later { K.faults keeper.old ≤ K.faults keeper.new }
+    ensures sure { NeverFails (K.plan keeper.old) → result ≢ Err Failed }
+{
+    let history = history_for(alloc, asked.day, tuples, keeper)?;
+    match recompute(rt, alloc, asked, tuples, tariffs, history.as_slice(), crew) {
+        Ok(all) => Ok(all),
+        Err(_) => Err(KeepFault::NoMemory),
+    }
+}
+
+/// Compares notices with the lines of an aside.
+fn compare_notices<A: Source>(alloc: Global, wanted: &[Notice], aside: &mut A) -> Closing
+    ensures exact { (lines : List ℕ) (o : Office) → A.left aside.old ≡ Some lines
+        → StandsBefore (closed (compared wanted.now (lines_of lines)) o) result [] }
+    ensures own { (result ≢ KeeperFault) × (result ≢ Words) }
+    ensures unnamed { status_of result ≢ 2 }
+    ensures bounded { ReadsWithin (most_compared (length wanted.now)) (A.left aside.old) (A.left aside.new) }
+    ensures cause { result ≡ ReadFault → Rose (A.faults aside.old) (A.faults aside.new) }
+    ensures sure { NeverFails (A.plan aside.old) → result ≢ ReadFault }
+    ensures later { A.faults aside.old ≤ A.faults aside.new }
+{
+    match compare(alloc, wanted, aside) {
+        Ok(closing) => closing,
+        Err(stop) => stopped(stop),
+    }
+}
+
+/// Compares the notices of a day that was read with the lines of an aside.
+fn compare_day<A: Source, K: Keeper, C: Crew, R: Threads + Sync>(
+    rt: &R,
+    alloc: Global,
+    asked: Comparison,
+    day: &Day,
+    tariffs: &Tariffs,
+    aside: &mut A,
+    keeper: &mut K,
+    crew: &mut C,
+) -> Closing
+    requires fit { IsDay day.now.tuples.items }
+    requires range { IsComparing asked }
+    requires idle { C.out crew.old ≡ [] }
+    ensures exact { IsRightFor asked.how C.exact → (lines : List ℕ) (o : Office) → A.left aside.old ≡ Some lines
+        → K.told keeper.old ≡ Some o → tariffs.now ≡ o.tariffs
+        → StandsBefore (unless_refused day.now.refused
+        (comparison_of asked.day day.now.tuples.items (lines_of lines) o)) result [] }
+    ensures kept { K.told keeper.new ≡ K.told keeper.old }
+    ensures said { result ≢ Words }
+    ensures says { SaysBy day.now.refused (status_of result) }
+    ensures source_first { day.now.refused ≢ None → aside.new ≡ aside.old }
+    ensures bounded { IsRightFor asked.how C.exact → (o : Office) → K.told keeper.old ≡ Some o
+        → tariffs.now ≡ o.tariffs
+        → ReadsWithin (most_noticed asked.day day.now.tuples.items o) (A.left aside.old) (A.left aside.new) }
+    ensures unused { in_bulk asked.how ≡ false → crew.new ≡ crew.old }
+    ensures idle { C.out crew.new ≡ [] }
+    ensures crew { C.which crew.new ≡ C.which crew.old }
+    ensures read_cause { result ≡ ReadFault → Rose (A.faults aside.old) (A.faults aside.new) }
+    ensures read_sure { NeverFails (A.plan aside.old) → result ≢ ReadFault }
+    ensures read_later { A.faults aside.old ≤ A.faults aside.new }
+    ensures keeper_cause { result ≡ KeeperFault → Rose (K.faults keeper.old) (K.faults keeper.new) }
+    ensures keeper_later { K.faults keeper.old ≤ K.faults keeper.new }
+    ensures keeper_sure { NeverFails (K.plan keeper.old) → result ≢ KeeperFault }
+{
+    if let Some((line, cause)) = day.refused {
+        return Closing::Refused { line, cause };
+    }
+    match wanted_notices(
+        rt,
+        alloc,
+        asked,
+        day.tuples.as_slice(),
+        tariffs,
+        keeper,
+        crew,
+    ) {
+        Ok(wanted) => compare_notices(alloc, wanted.items(), aside),
+        Err(fault) => refused(fault),
+    }
+}
+
+/// Compares the notices of what the source has, after what the keeper keeps, with the lines of an aside, unless a
+/// line is refused.
+pub fn compare_source<S: Source, A: Source, K: Keeper, C: Crew, R: Threads + Sync>(
+    rt: &R,
+    alloc: Global,
+    asked: Comparison,
+    limits: &Limits,
+    source: &mut S,
+    aside: &mut A,
+    keeper: &mut K,
+    crew: &mut C,
+) -> Closing
+    requires range { IsComparing asked }
+    requires within { IsLimits limits.now }
+    requires idle { C.out crew.old ≡ [] }
+    ensures exact { IsRightFor asked.how C.exact → (bytes lines : List ℕ) (o : Office) → S.left source.old ≡ Some bytes
+        → A.left aside.old ≡ Some lines → K.told keeper.old ≡ Some o
+        → StandsBefore (compare_row limits.now asked bytes lines o) result [] }
+    ensures kept { (o : Office) → K.told keeper.old ≡ Some o → K.told keeper.new ≡ Some o }
+    ensures said { result ≢ Words }
+    ensures reads { HasReadDay (recomputed asked.how limits.now) asked.late (status_of result)
+        (S.left source.old) (S.left source.new) }
+    ensures refused_first { status_of result ≡ 2 → aside.new ≡ aside.old }
+    ensures source_first { (bytes : List ℕ) → S.left source.old ≡ Some bytes → S.left source.new ≢ Some []
+        → aside.new ≡ aside.old }
+    ensures bounded { ReadsWithin (most_read (recomputed asked.how limits.now)) (S.left source.old)
+        (S.left source.new) }
+    ensures aside_bounded { IsRightFor asked.how C.exact → (bytes : List ℕ) (o : Office)
+        → S.left source.old ≡ Some bytes → K.told keeper.old ≡ Some o
+        → ReadsWithin (most_noticed asked.day (compared_tuples limits.now asked bytes) o)
+        (A.left aside.old) (A.left aside.new) }
+    ensures unused { in_bulk asked.how ≡ false → crew.new ≡ crew.old }
+    ensures idle { C.out crew.new ≡ [] }
+    ensures crew { C.which crew.new ≡ C.which crew.old }
+    ensures read_cause { result ≡ ReadFault
+        → Rose (S.faults source.old) (S.faults source.new) ⊎ Rose (A.faults aside.old) (A.faults aside.new) }
+    ensures read_later { S.faults source.old ≤ S.faults source.new }
+    ensures aside_later { A.faults aside.old ≤ A.faults aside.new }
+    ensures read_sure { NeverFails (S.plan source.old) → NeverFails (A.plan aside.old) → result ≢ ReadFault }
+    ensures keeper_cause { result ≡ KeeperFault → Rose (K.faults keeper.old) (K.faults keeper.new) }
+    ensures keeper_later { K.faults keeper.old ≤ K.faults keeper.new }
+    ensures keeper_sure { NeverFails (K.plan keeper.old) → result ≢ KeeperFault }
+{
+    let tariffs = match keeper.tariffs() {
+        Ok(tariffs) => tariffs,
+        Err(fault) => return refused(fault),
+    };
+    match read_day(rt, alloc, limits, asked.how, asked.late, source) {
+        Ok(read) => compare_day(rt, alloc, asked, &read, &tariffs, aside, keeper, crew),
+        Err(stop) => stopped(stop),
+    }
+}
