@@ -216,19 +216,33 @@ fn answered_and_stopped<R: Wait + Drop, G: Gate + Drop>(
     (crew, right)
 }
 
-/// Four helpers help beside two jobs, and come back.
-#[test]
-fn four_helpers_help_and_come_back(rt: HostRuntime) -> Result<(), NoMemory> {
-    let alloc = rt.alloc();
-    let Crewed { crew, helpers } = standing(rt, alloc, 64, 4, false, NoGate)?;
-    let (helpers, (_, right)) = beside(
+/// Two jobs beside so many helpers, which come back and are closed with their crew: whether each job was
+/// answered with its own findings, and all helpers came back.
+fn answered_and_closed<R: Threads + Wait + Sync + Copy + Drop>(
+    rt: R,
+    alloc: Global,
+    count: u8,
+) -> Result<bool, NoMemory>
+    requires { count ≤ 16 }
+{
+    let Crewed { crew, helpers } = standing(rt, alloc, 64, count, false, NoGate)?;
+    let (helpers, (crew, right)) = beside(
         &rt,
         &NoGate,
         helpers,
         move || answered_and_stopped(alloc, crew),
     );
-    assert!(rt; right?, "each its own");
-    assert_eq!(rt; helpers.len(), 4, "all helpers");
+    let right = right?;
+    let all = helpers.len() == usize::from(count);
+    crew.close(helpers);
+    Ok(right && all)
+}
+
+/// Four helpers help beside two jobs, come back, and are closed with their crew.
+#[test]
+fn four_helpers_help_and_come_back(rt: HostRuntime) -> Result<(), NoMemory> {
+    let right = answered_and_closed(rt, rt.alloc(), 4)?;
+    assert!(rt; right, "each its own, and all helpers");
     Ok(())
 }
 

@@ -1,18 +1,31 @@
 //! The tolling office of an expressway, over standard input and output and two files.
 //!
 //! `main` hands the words, standard input, the file `ASIDE_FILE`, standard output and what is kept in the file
-//! `KEPT_FILE` to `office`, whose jobs run in threads of their own, closes what is kept, and ends with its status.
+//! `KEPT_FILE` to `office`, beside helpers that take its jobs; then it closes the crew with its helpers and
+//! what is kept, and ends with the status. A helper whose thread cannot be had helps with nothing; with none
+//! of them the office's own thread runs all jobs.
 #![tactic(auto)]
 
+ghost use Rattle.std.specs.Prelude.{◌≡◌, []};
+
 use office_commands::{ASIDE_FILE, Closing, office};
-use partition_workers::{NoGate, ThreadCrew};
+use partition_workers::{Crew, NoGate};
 use road_io::{FileSource, StdSink, StdSource};
 use road_time::Limits;
 use sqlite_keeper::{KEPT_FILE, SqliteKeeper};
+use standing_crew::{Crewed, StandingCrew, beside, standing};
 use std::alloc::Global;
 use std::env;
 use std::io::ErrorKind;
 use std::process::ExitCode;
+use std::sync::Wait;
+use std::thread::Threads;
+
+/// How many jobs may lie ready or be done, each in a cell of its own: one for each of the most workers.
+const CELLS: u8 = 64;
+
+/// How many helpers take jobs beside the office.
+const HELPERS: u8 = 4;
 
 /// The words after the program's name; none where they are no text.
 fn words_of(rt: &HostRuntime) -> Result<Vec<String>, Closing> {
@@ -34,31 +47,62 @@ fn words_of(rt: &HostRuntime) -> Result<Vec<String>, Closing> {
     Ok(words)
 }
 
-fn main(rt: HostRuntime) -> ExitCode {
+/// The status of the office over standard input and output and its two files, by a crew.
+fn run_office<R: Threads + Sync, C: Crew>(rt: &HostRuntime, threads: &R, crew: &mut C) -> u8
+    requires { C.out crew.old ≡ [] }
+    ensures idle { C.out crew.new ≡ [] }
+    ensures which { C.which crew.new ≡ C.which crew.old }
+{
+    let words = match words_of(rt) {
+        Ok(words) => words,
+        Err(closing) => return closing.status(),
+    };
     let mut source = StdSource::new(rt.stdin());
     let mut sink = StdSink::new(rt.stdout());
-    let Ok(mut aside) = FileSource::at(rt.alloc(), rt, ASIDE_FILE) else {
-        return ExitCode::from(Closing::NoMemory.status());
+    let Ok(mut aside) = FileSource::at(rt.alloc(), *rt, ASIDE_FILE) else {
+        return Closing::NoMemory.status();
     };
-    let Ok(mut keeper) = SqliteKeeper::at(rt.alloc(), rt, KEPT_FILE) else {
-        return ExitCode::from(Closing::NoMemory.status());
+    let Ok(mut keeper) = SqliteKeeper::at(rt.alloc(), *rt, KEPT_FILE) else {
+        return Closing::NoMemory.status();
     };
-    let mut crew = ThreadCrew::new(rt, rt.alloc(), NoGate);
-    let status = match words_of(&rt) {
-        Ok(words) => office(
-            &rt,
-            rt.alloc(),
-            words.as_slice(),
-            &Limits::DAY,
-            &mut source,
-            &mut aside,
-            &mut sink,
-            &mut keeper,
-            &mut crew,
-        ),
-        Err(closing) => closing.status(),
-    };
+    let status = office(
+        threads,
+        rt.alloc(),
+        words.as_slice(),
+        &Limits::DAY,
+        &mut source,
+        &mut aside,
+        &mut sink,
+        &mut keeper,
+        crew,
+    );
     // What was put stays either way: where the file cannot be closed, it lies in the log beside it.
     let _ = keeper.close();
+    status
+}
+
+/// The same by a standing crew, which is told to stop then.
+fn run_and_stop<R: Threads + Wait + Sync + Drop>(
+    rt: &HostRuntime,
+    threads: &R,
+    crew: StandingCrew<R, NoGate>,
+) -> (StandingCrew<R, NoGate>, u8)
+    requires { ⟦<StandingCrew<R, NoGate> as Crew>⟧.out crew ≡ [] }
+    ensures idle { ⟦<StandingCrew<R, NoGate> as Crew>⟧.out result.0 ≡ [] }
+    ensures which { ⟦<StandingCrew<R, NoGate> as Crew>⟧.which result.0 ≡ ⟦<StandingCrew<R, NoGate> as Crew>⟧.which crew }
+{
+    let mut crew = crew;
+    let status = run_office(rt, threads, &mut crew);
+    crew.stop();
+    (crew, status)
+}
+
+fn main(rt: HostRuntime) -> ExitCode {
+    let Ok(crewed) = standing(rt, rt.alloc(), CELLS, HELPERS, false, NoGate) else {
+        return ExitCode::from(Closing::NoMemory.status());
+    };
+    let Crewed { crew, helpers } = crewed;
+    let (helpers, (crew, status)) = beside(&rt, &NoGate, helpers, || run_and_stop(&rt, &rt, crew));
+    crew.close(helpers);
     ExitCode::from(status)
 }

@@ -7,10 +7,12 @@ use expressway::LaneEvent;
 use import_once::{Outcome, import};
 use import_plan::Plan;
 use keeper::MemKeeper;
-use partition_workers::{Crew, InlineCrew, LateCrew, Started};
+use partition_workers::{Crew, InlineCrew, LateCrew, NoGate, Started};
 use road_io::{MemSink, MemSource};
 use road_time::{Limits, NoMemory};
+use standing_crew::{Crewed, beside, standing};
 use std::alloc::Global;
+use std::sync::Wait;
 use std::thread::Threads;
 
 /// What an event tells, with its position: that a vehicle was seen, or that one left its place.
@@ -202,6 +204,28 @@ fn starts_these_late<R: Threads>(
     Ok(stored && are_jobs(crew.jobs(), rows))
 }
 
+/// The same by one of 64 cells, beside its four helpers.
+fn starts_these_beside<R: Threads + Wait + Sync + Copy + Drop>(
+    rt: R,
+    alloc: Global,
+    width: u8,
+    backlog: u32,
+    rows: &[Row],
+) -> Result<bool, NoMemory>
+    requires few { (1 ≤ width) × (width ≤ 64) }
+    requires some { (1 ≤ backlog) × (backlog ≤ 65536) }
+{
+    let Crewed { crew, helpers } = standing(rt, alloc, 64, 4, true, NoGate)?;
+    let mut crew = crew;
+    let (_, stored) = beside(&rt, &NoGate, helpers, || {
+        let stored = is_stored_by(&rt, alloc, width, backlog, None, &mut crew);
+        crew.stop();
+        stored
+    });
+    let stored = stored?;
+    Ok(stored && are_jobs(crew.jobs(), rows))
+}
+
 /// The same in turns that a number draws, whatever the jobs.
 fn is_stored_in_turns<R: Threads>(
     rt: &R,
@@ -230,9 +254,14 @@ fn an_import_starts_the_jobs_of_its_rounds(rt: HostRuntime) -> Result<(), NoMemo
     for (width, backlog, jobs) in rows {
         let soon = starts_these(&rt, alloc, width, backlog, jobs)?;
         let late = starts_these_late(&rt, alloc, width, backlog, jobs)?;
+        let beside_helpers = starts_these_beside(rt, alloc, width, backlog, jobs)?;
         let turned = is_stored_in_turns(&rt, alloc, width, backlog, 1)?;
         assert!(rt; soon, "{width} workers, {backlog} lines");
         assert!(rt; late, "{width} workers, {backlog} lines, late");
+        assert!(rt;
+            beside_helpers,
+            "{width} workers, {backlog} lines, beside helpers"
+        );
         assert!(rt; turned, "{width} workers, {backlog} lines, in turns");
     }
     Ok(())

@@ -28,7 +28,7 @@ pub fn whole(bytes: &[u8]) -> Input<'_> {
 }
 
 /// The text and the status of `office`, over a keeper and a crew, into room for so many bytes.
-pub fn run<K: Keeper, C: Crew, R: Threads>(
+pub fn run<K: Keeper, C: Crew, R: Threads + Sync>(
     rt: &R,
     alloc: Global,
     words: &[&str],
