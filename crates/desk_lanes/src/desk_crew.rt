@@ -1,0 +1,37 @@
+// Crews whose desks loops share.
+ghost use Rattle.std.specs.Prelude.{◌≡◌, ◌≤◌, []};
+ghost use Rattle.road_time.specs.Fits.{IsLimits};
+
+use import_plan::Plan;
+use lane_loops::Host;
+use live_board::BoardWriter;
+use road_time::Limits;
+use std::sync::Wait;
+
+/// A crew whose desk loops in many threads may share. `out` are the numbers of the tickets whose jobs are out.
+/// Each such crew has a shared desk of its own, since a desk of some crew could not be shared: of a crew that is not
+/// known, it is known in its own thread alone that its tickets may be let go.
+pub trait DeskCrew<K, R: Wait + Drop> {
+    ghost use Rattle.std.specs.Prelude.{ℕ, List};
+
+    type Shared: Host + Send + Sync;
+
+    ghost out: { Self → List ℕ };
+
+    /// Makes a desk with this crew, and puts it under a lock.
+    fn share(
+        self,
+        rt: R,
+        keeper: K,
+        writer: BoardWriter<R>,
+        plan: Plan,
+        limits: Limits,
+    ) -> Self::Shared
+        requires idle { out self ≡ [] }
+        requires some { 1 ≤ plan.width }
+        requires few { plan.width ≤ 64 }
+        requires within { IsLimits limits };
+
+    /// Ends the desk and the board's writer, and gives the keeper back. It may wait for readers.
+    fn end(shared: Self::Shared) -> K;
+}

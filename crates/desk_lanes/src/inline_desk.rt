@@ -1,0 +1,65 @@
+// A shared desk that runs its jobs itself.
+ghost use Rattle.std.specs.Prelude.{◌≡◌, ◌≤◌, []};
+ghost use Rattle.road_time.specs.Fits.{IsLimits};
+
+use crate::attending::attend;
+use crate::desk_crew::DeskCrew;
+use import_plan::Plan;
+use keeper::Keeper;
+use lane_loops::Host;
+use live_board::{BoardReader, BoardWriter};
+use partition_workers::{Crew, InlineCrew};
+use road_io::Link;
+use road_time::Limits;
+use std::alloc::Global;
+use std::sync::{Mutex, Wait};
+use std::thread::Threads;
+use toll_desk::Desk;
+
+/// A desk that loops share, and that runs each job as it is started.
+pub struct InlineDesk<K: Keeper, R: Wait + Threads + Drop + Copy> {
+    rt: R,
+    desk: Mutex<Desk<K, InlineCrew, R>>,
+}
+
+impl<K: Keeper, R: Wait + Threads + Drop + Copy> Host for InlineDesk<K, R> {
+    fn attend<L: Link>(&self, alloc: Global, line: &mut L, reader: &mut BoardReader) {
+        attend(self.rt, alloc, &self.desk, line, reader);
+    }
+}
+
+impl<K: Keeper + Send, R: Wait + Threads + Drop + Copy + Send + Sync> DeskCrew<K, R>
+    for InlineCrew {
+    type Shared = InlineDesk<K, R>;
+
+    ghost out = { λ crew. ⟦<InlineCrew as Crew>⟧.out crew };
+
+    fn share(
+        self,
+        rt: R,
+        keeper: K,
+        writer: BoardWriter<R>,
+        plan: Plan,
+        limits: Limits,
+    ) -> InlineDesk<K, R>
+        requires idle { ⟦<InlineCrew as Crew>⟧.out self ≡ [] }
+        requires some { 1 ≤ plan.width }
+        requires few { plan.width ≤ 64 }
+        requires within { IsLimits limits }
+    {
+        let desk = Mutex::new(Desk {
+            rt,
+            keeper,
+            crew: self,
+            writer,
+            plan,
+            limits,
+        });
+        InlineDesk { rt, desk }
+    }
+
+    fn end(shared: InlineDesk<K, R>) -> K {
+        let InlineDesk { rt: _, desk } = shared;
+        desk.into_inner().end()
+    }
+}

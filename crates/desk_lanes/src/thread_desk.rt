@@ -1,0 +1,52 @@
+// The shared desk whose jobs have threads of their own.
+ghost use Rattle.std.specs.Prelude.{◌≡◌, ◌≤◌, []};
+ghost use Rattle.road_time.specs.Fits.{IsLimits};
+
+use crate::desk_crew::DeskCrew;
+use crate::shared_desk::SharedDesk;
+use import_plan::Plan;
+use keeper::Keeper;
+use live_board::BoardWriter;
+use partition_workers::{Crew, NoGate, ThreadCrew, ThreadTicket};
+use road_time::Limits;
+use std::sync::Wait;
+use std::thread::Threads;
+use toll_desk::Desk;
+
+impl<K: Keeper + Send, R: Wait + Threads + Drop + Copy + Send + Sync> DeskCrew<K, R>
+    for ThreadCrew<R, NoGate>
+where
+    ThreadCrew<R, NoGate>: Crew<Ticket = ThreadTicket, Name = ()>,
+{
+    type Shared = SharedDesk<K, ThreadCrew<R, NoGate>, R>;
+
+    ghost out = { λ crew. ⟦<ThreadCrew<R, NoGate> as Crew>⟧.out crew };
+
+    fn share(
+        self,
+        rt: R,
+        keeper: K,
+        writer: BoardWriter<R>,
+        plan: Plan,
+        limits: Limits,
+    ) -> SharedDesk<K, ThreadCrew<R, NoGate>, R>
+        requires idle { ⟦<ThreadCrew<R, NoGate> as Crew>⟧.out self ≡ [] }
+        requires some { 1 ≤ plan.width }
+        requires few { plan.width ≤ 64 }
+        requires within { IsLimits limits }
+    {
+        let desk = Desk {
+            rt,
+            keeper,
+            crew: self,
+            writer,
+            plan,
+            limits,
+        };
+        SharedDesk::new(rt, desk)
+    }
+
+    fn end(shared: SharedDesk<K, ThreadCrew<R, NoGate>, R>) -> K {
+        shared.into_desk().end()
+    }
+}

@@ -1,0 +1,24 @@
+use Rattle.std.proofs.Common.{◌≡◌, ◌∙◌, ap, sym, subst, length, map, arith}
+use Rattle.std.specs.List.{All}
+use Rattle.std.proofs.lemmas.List.{length-map}
+use Rattle.std.proofs.lemmas.List.Elements.{length_all_zip}
+use Rattle.lane_doors.specs.Doors.{has_fault}
+use Rattle.desk_server.proofs.EarLaws.{fresh_in, rose_fails}
+use Rattle.desk_server.proofs.opening.serve_over.Goals as goal
+
+pub serve-end-requires-clause-fresh : goal.serve-end-requires-clause-fresh
+serve-end-requires-clause-fresh g c κs within =
+    fresh_in g.N.Listener.accepted g.N.Listener.faults c.seat-lanes.result
+    (subst (All (λ ear. (g.N.Listener.accepted ear ≡ 0) × (g.N.Listener.faults ear ≡ 0))) (sym c.seat-lanes.ensures) c.requires.fresh)
+
+pub rise-requires-clause-room : goal.rise-requires-clause-room
+rise-requires-clause-room g c =
+    let seated = ap length c.seat-lanes.ensures in
+    let long = length-map c.seat-lanes.result (λ lane. lane.listener) in
+    let kept = length_all_zip _ c.seat-lanes.result c.serve-end.new.lanes c.serve-end.ensures.lanes in
+    omega (arith, seated, long, kept, c.requires.for_ears)
+
+pub returns-clause-fault : goal.returns-clause-fault
+returns-clause-fault g c is =
+    ap (has_fault g.N.Listener.faults) c.rise.ensures
+    ∙ rose_fails g.N.Listener.faults c.seat-lanes.result c.serve-end.new.lanes (c.serve-end.ensures.cause is)

@@ -1,0 +1,15 @@
+//! The server: `serve_words` opens a door by its words, serves the desk over it, and closes it.
+//!
+//! All is prepared before the door is opened: a live board with a reader for each lane, and room for the lanes. The desk
+//! has the keeper, the crew and the board's writer, and imports each day over four workers.
+#![tactic(auto)]
+
+mod ending;
+mod opening;
+mod serving;
+
+pub use ending::ServerEnd;
+pub use serving::serve_words;
+
+#[cfg(test)]
+mod tests;

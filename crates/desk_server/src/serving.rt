@@ -1,0 +1,59 @@
+// The server, by its words.
+ghost use Rattle.std.specs.Prelude.{◌≡◌, ◌≤◌, ◌⊎◌, [], None, map, string_bytes};
+ghost use Rattle.road_io.specs.Faults.{Rose};
+ghost use Rattle.road_time.specs.Fits.{IsLimits};
+ghost use Rattle.server_words.specs.Meaning.{means};
+ghost use Rattle.desk_server.specs.Endings.{counts_of, EndsWith, HasServed};
+
+use crate::ending::ServerEnd;
+use crate::opening::serve_as;
+use desk_lanes::DeskCrew;
+use lane_doors::Door;
+use office_words::WordFault;
+use road_time::Limits;
+use server_words::read_words;
+use std::alloc::Global;
+use std::sync::Wait;
+use std::thread::Threads;
+
+/// Serves the desk by the words after the program's name, and gives the exit status, and the keeper back, which the
+/// caller is to close. The door has accepted nothing before. 0 comes only where the door has accepted as many
+/// connections as the words' sessions, 1 exactly where the words are of no stated form, 2 only where an opening was
+/// refused, 4 only where a listener failed, 8 for want of memory. It waits.
+pub fn serve_words<
+    D: Door,
+    K,
+    C: DeskCrew<K, R> + Drop,
+    R: Wait + Threads + Drop + Copy + Send + Sync,
+>(
+    rt: R,
+    alloc: Global,
+    words: &[String],
+    limits: &Limits,
+    door: &mut D,
+    keeper: K,
+    crew: C,
+) -> (u8, K)
+    requires within { IsLimits limits.now }
+    requires idle { C.out crew ≡ [] }
+    requires unused { D.accepted door.old ≡ 0 }
+    ensures ends { EndsWith (means (map string_bytes words.now))
+        (counts_of (D.refused door.old) (D.faults door.old) (D.accepted door.old))
+        (counts_of (D.refused door.new) (D.faults door.new) (D.accepted door.new)) result.0 }
+    ensures served { result.0 ≡ 0 → HasServed (means (map string_bytes words.now))
+        (counts_of (D.refused door.new) (D.faults door.new) (D.accepted door.new)) }
+    ensures words { result.0 ≡ 1 → means (map string_bytes words.now) ≡ None }
+    ensures no_words { means (map string_bytes words.now) ≡ None → (result.0 ≡ 1) ⊎ (result.0 ≡ 8) }
+    ensures untouched { result.0 ≡ 1 → door.new ≡ door.old }
+    ensures refused { result.0 ≡ 2 → Rose (D.refused door.old) (D.refused door.new) }
+    ensures fault { result.0 ≡ 4 → Rose (D.faults door.old) (D.faults door.new) }
+    ensures refused_later { D.refused door.old ≤ D.refused door.new }
+    ensures faults_later { D.faults door.old ≤ D.faults door.new }
+{
+    let (end, keeper) = match read_words(alloc, words) {
+        Ok(serving) => serve_as(rt, alloc, &serving, limits, door, keeper, crew),
+        Err(WordFault::Words) => (ServerEnd::Words, keeper),
+        Err(WordFault::NoMemory) => (ServerEnd::NoMemory, keeper),
+    };
+    (end.status(), keeper)
+}

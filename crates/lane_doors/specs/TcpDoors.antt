@@ -1,0 +1,24 @@
+-- What a door on a port counted.
+use Rattle.std.specs.Prelude.{ℕ}
+use Rattle.lane_doors.specs.declared.tcp_door.TcpDoor.{TcpDoor}
+use Rattle.lane_doors.specs.declared.tcp_ear.TcpEar.{TcpEar}
+
+-- the connections that an ear accepted
+abbrev pub accepted_by : TcpEar → ℕ
+accepted_by e = e.accepted
+
+-- its calls that failed
+abbrev pub faults_of : TcpEar → ℕ
+faults_of e = e.faults
+
+-- the openings that the door refused
+abbrev pub refused_by : TcpDoor → ℕ
+refused_by d = d.refused
+
+-- the closings of ears of which one had failed
+abbrev pub faults_at : TcpDoor → ℕ
+faults_at d = d.faults
+
+-- the connections that its ears accepted
+abbrev pub accepted_at : TcpDoor → ℕ
+accepted_at d = d.accepted

@@ -1,0 +1,49 @@
+// What a server opens to hear connections.
+ghost use Rattle.std.specs.Prelude.{ℕ, ◌≡◌, ◌≤◌, ◌<◌, ◌^◌, ◌+◌, All, Err, IfOk, length};
+ghost use Rattle.road_io.specs.Faults.{Rose};
+ghost use Rattle.lane_doors.specs.Doors.{accepted_in, has_fault, counted_where};
+ghost use Rattle.lane_doors.specs.declared.door.DoorFault.TheVariants.{Failed};
+
+use crate::ears::Ears;
+use lane_loops::Listener;
+use std::alloc::Global;
+
+/// Why a door was not opened.
+#[derive(Clone, Copy, Debug, PartialEq, Eq)]
+pub enum DoorFault {
+    /// The opening was refused.
+    Failed,
+    /// Memory ran out.
+    NoMemory,
+}
+
+/// Opens ears on a port, and closes them. `refused` counts the openings that were refused, `faults` the closings of ears
+/// of which one had failed, and `accepted` the connections that closed ears had accepted. None of them falls.
+pub trait Door {
+    type Ear: Listener + Send + Drop;
+
+    ghost refused: { Self → ℕ };
+
+    ghost faults: { Self → ℕ };
+
+    ghost accepted: { Self → ℕ };
+
+    /// Opens 1 to 64 ears on a port, which have accepted nothing.
+    fn open(&mut self, alloc: Global, port: u16, ears: u8) -> Result<Ears<Self::Ear>, DoorFault>
+        requires some { 1 ≤ ears }
+        requires few { ears ≤ 64 }
+        ensures count { IfOk result (λ opened. length opened ≡ ears) }
+        ensures fresh { IfOk result (All (λ ear. (Self.Ear.accepted ear ≡ 0) × (Self.Ear.faults ear ≡ 0))) }
+        ensures cause { result ≡ Err Failed → Rose (refused self.old) (refused self.new) }
+        ensures later { refused self.old ≤ refused self.new }
+        ensures faults { faults self.new ≡ faults self.old }
+        ensures accepted { accepted self.new ≡ accepted self.old };
+
+    /// Closes ears, and counts what they accepted and whether one of them failed.
+    fn close(&mut self, ears: Ears<Self::Ear>)
+        requires room { accepted self.old + accepted_in Self.Ear.accepted ears < 2 ^ 64 }
+        ensures accepted { accepted self.new ≡ accepted self.old + accepted_in Self.Ear.accepted ears }
+        ensures faults { faults self.new ≡ counted_where (has_fault Self.Ear.faults ears) (faults self.old) }
+        ensures later { faults self.old ≤ faults self.new }
+        ensures refused { refused self.new ≡ refused self.old };
+}

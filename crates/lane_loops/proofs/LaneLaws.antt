@@ -1,0 +1,69 @@
+-- what lanes did in all
+use Rattle.std.proofs.Common.{◌≡◌, ◌≤◌, ◌+◌, ◌++◌, ◌∷◌, [], ℕ, List, Bool, true, false, suc, refl, sym, ap, ◌∙◌}
+use Rattle.std.proofs.Common.{⊎_elim, arith, ◌||◌}
+use Rattle.std.specs.List.{list_any, AllZip}
+use Rattle.std.proofs.lemmas.Bool.{cases_Bool, false≢true}
+use Rattle.std.proofs.lemmas.List.Sums.{sum_by_push}
+use Rattle.std.proofs.lemmas.List.Elements.{AllZip-push}
+use Rattle.std.proofs.lemmas.List.Folds.{list_any-append}
+use Rattle.lane_loops.specs.declared.lane.Lane.{Lane}
+use Rattle.lane_loops.specs.Lanes.{Serves, Ran, RanAll, AnyRose}
+
+-- a lane accepted at most as many connections as it drew tickets
+few : {N : Type 0} (faults accepted : N → ℕ) (x y : Lane N) (d e : ℕ) →
+    Ran faults accepted x y d e → accepted y.listener ≤ d
+few faults accepted x y d e one =
+    ⊎_elim (λ (yes : y.failed ≡ true). omega (arith, one.failed yes))
+    (λ (no : y.failed ≡ false). omega (arith, one.served no)) (cases_Bool y.failed)
+
+-- neither of two is true
+neither : (a b : Bool) → (a || (b || false)) ≡ false → (a ≡ false) × (b ≡ false)
+neither true b e = absurd (false≢true (sym e))
+neither false true e = absurd (false≢true (sym e))
+neither false false e = (refl, refl)
+
+-- no lane failed, the last one neither
+apart : {N : Type 0} (ys : List (Lane N)) (y : Lane N) → list_any (λ lane. lane.failed) (ys ++ y ∷ []) ≡ false →
+    (list_any (λ lane. lane.failed) ys ≡ false) × (y.failed ≡ false)
+apart ys y e =
+    neither (list_any (λ lane. lane.failed) ys) y.failed
+    (sym (list_any-append (λ lane. lane.failed) ys (y ∷ [])) ∙ e)
+
+-- one lane more ran
+ran_push : {N : Type 0} (faults accepted : N → ℕ) (xs ys : List (Lane N)) (x y : Lane N) (a b d e : ℕ) →
+    RanAll faults accepted xs ys a b → Ran faults accepted x y d e →
+    RanAll faults accepted (xs ++ x ∷ []) (ys ++ y ∷ []) (a + d) (b + e)
+ran_push faults accepted xs ys x y a b d e all one =
+    let more = sum_by_push (λ lane. accepted lane.listener) ys y in
+    let less = few faults accepted x y d e one in
+    record {
+      serves = AllZip-push (Serves faults) xs ys x y all.serves one.serves;
+      within = omega (arith, more, less, all.within);
+      served = λ none. (let (old, new) = apart ys y none in omega (arith, more, all.served old, one.served new));
+      over = λ none some. omega (arith, one.over (apart ys y none).1);
+    }
+
+-- the same, of a list and sums that are known to be so
+pub ran_behind : {N : Type 0} (faults accepted : N → ℕ) (xs ys done : List (Lane N)) (x y : Lane N)
+    (a b d e drawn ends : ℕ) → done ≡ ys ++ y ∷ [] → drawn ≡ a + d → ends ≡ b + e →
+    RanAll faults accepted xs ys a b → Ran faults accepted x y d e →
+    RanAll faults accepted (xs ++ x ∷ []) done drawn ends
+ran_behind faults accepted xs ys done x y a b d e drawn ends p q r many one =
+    rw (p, q, r) (ran_push faults accepted xs ys x y a b d e many one)
+
+-- where a lane failed, the count of its listener rose
+pub any_rose : {N : Type 0} (faults : N → ℕ) (xs ys : List (Lane N)) → AllZip (Serves faults) xs ys →
+    list_any (λ lane. lane.failed) ys ≡ true → AnyRose faults xs ys
+any_rose faults [] [] z e = absurd (false≢true e)
+any_rose faults [] (y ∷ ys) z e = absurd z
+any_rose faults (x ∷ xs) [] z e = absurd z
+any_rose faults (x ∷ xs) (y ∷ ys) (one, more) e =
+    ⊎_elim (λ (yes : y.failed ≡ true). (0, (x, y), omega arith, refl, one.cause yes))
+    (λ (no : y.failed ≡ false). there (any_rose faults xs ys more (sym (ap (λ b. b || rest) no) ∙ e)))
+    (cases_Bool y.failed)
+  where
+    rest : Bool
+    rest = list_any (λ lane. lane.failed) ys
+
+    there : AnyRose faults xs ys → AnyRose faults (x ∷ xs) (y ∷ ys)
+    there (k, p, less, at, rose) = (suc k, p, omega (arith, less), at, rose)

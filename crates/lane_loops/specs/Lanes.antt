@@ -1,0 +1,41 @@
+-- What lanes do.
+use Rattle.std.specs.Prelude.{◌≡◌, ◌≤◌, ◌<◌, ◌+◌, ℕ, List, true, false, Any, sum_by, zip, length}
+use Rattle.std.specs.List.{AllZip, list_any}
+use Rattle.road_io.specs.Faults.{Rose}
+use Rattle.live_board.specs.Passes.{StartsWith}
+use Rattle.lane_loops.specs.declared.lane.Lane.{Lane}
+
+-- a lane served: its listener's faults did not fall, and rose where it failed; its reader is one of its board, and lost
+-- nothing that it saw
+pub record Serves {N : Type 0} (faults : N → ℕ) (old new : Lane N) : Type 0 where
+  pub later : faults old.listener ≤ faults new.listener
+  pub cause : new.failed ≡ true → Rose (faults old.listener) (faults new.listener)
+  pub board : new.reader.board ≡ old.reader.board
+  pub had : StartsWith new.reader.seen old.reader.seen
+
+-- a lane failed
+abbrev pub HasFailed : {N : Type 0} → List (Lane N) → Type 0
+HasFailed lanes = Any (λ lane. lane.failed ≡ true) lanes
+
+-- the count of a lane's listener rose
+abbrev pub AnyRose : {N : Type 0} → (N → ℕ) → List (Lane N) → List (Lane N) → Type 0
+AnyRose faults old new = Any (λ p. Rose (faults p.0.listener) (faults p.1.listener)) (zip old new)
+
+-- the connections that lanes accepted in all
+abbrev pub accepted_in_all : {N : Type 0} → (N → ℕ) → List (Lane N) → ℕ
+accepted_in_all accepted lanes = sum_by (λ lane. accepted lane.listener) lanes
+
+-- a lane ran: it drew as many tickets as its listener accepted connections, and one more where it failed; where it did
+-- not fail it found none left
+pub record Ran {N : Type 0} (faults accepted : N → ℕ) (old new : Lane N) (drawn ends : ℕ) : Type 0 where
+  pub serves : Serves faults old new
+  pub served : new.failed ≡ false → accepted new.listener ≡ drawn
+  pub over : new.failed ≡ false → 0 < ends
+  pub failed : new.failed ≡ true → accepted new.listener + 1 ≡ drawn
+
+-- lanes ran: so many tickets were drawn in all
+pub record RanAll {N : Type 0} (faults accepted : N → ℕ) (old new : List (Lane N)) (drawn ends : ℕ) : Type 0 where
+  pub serves : AllZip (Serves faults) old new
+  pub within : accepted_in_all accepted new ≤ drawn
+  pub served : list_any (λ lane. lane.failed) new ≡ false → accepted_in_all accepted new ≡ drawn
+  pub over : list_any (λ lane. lane.failed) new ≡ false → 0 < length new → 0 < ends

@@ -1,0 +1,65 @@
+// The loop of one lane.
+ghost use Rattle.std.specs.Prelude.{◌≡◌, ◌+◌, ◌<◌, ◌-◌, ◌^◌, true, false};
+ghost use Rattle.lane_loops.specs.Lanes.{Serves};
+
+use crate::host::Host;
+use crate::lane::Lane;
+use crate::listener::Listener;
+use crate::stub::Stub;
+use crate::tickets::{Draws, Tickets, draw};
+use road_io::Failed;
+use std::alloc::Global;
+use std::sync::ledger::Ledger;
+use std::sync::{Mutex, Wait};
+
+impl<N: Listener> Lane<N> {
+    /// Accepts a connection and has it served. Where the listener fails the lane failed.
+    fn turn<H: Host>(&mut self, alloc: Global, host: &H) -> bool
+        requires room { N.accepted self.old.listener < 2 ^ 64 - 1 }
+        requires goes { self.old.failed ≡ false }
+        ensures serves { Serves N.faults self.old self.new }
+        ensures accepts { result ≡ true → N.accepted self.new.listener ≡ N.accepted self.old.listener + 1 }
+        ensures refuses { result ≡ false → N.accepted self.new.listener ≡ N.accepted self.old.listener }
+        ensures failed { self.new.failed ≡ true → result ≡ false }
+        ensures goes { self.new.failed ≡ false → result ≡ true }
+    {
+        match self.listener.accept() {
+            Ok(line) => {
+                let mut line = line;
+                host.attend(alloc, &mut line, &mut self.reader);
+                true
+            }
+            Err(Failed) => {
+                self.failed = true;
+                false
+            }
+        }
+    }
+
+    /// Turns, until no ticket is left or the listener fails.
+    pub fn run<H: Host, D: Draws, E: Ledger, R: Wait>(
+        &mut self,
+        rt: &R,
+        alloc: Global,
+        host: &H,
+        tickets: &Mutex<Tickets<D, E>>,
+        stub: &mut Stub<D, E>,
+    )
+        requires drawn { 0 < stub.old.drawn.parts }
+        requires ends { 0 < stub.old.ends.parts }
+        requires fresh { N.accepted self.old.listener ≡ stub.old.drawn.amount }
+        ensures serves { Serves N.faults self.old self.new }
+        ensures served { self.new.failed ≡ false → N.accepted self.new.listener ≡ stub.new.drawn.amount }
+        ensures over { self.new.failed ≡ false → 0 < stub.new.ends.amount }
+        ensures failed { self.new.failed ≡ true → N.accepted self.new.listener + 1 ≡ stub.new.drawn.amount }
+        ensures drawn_parts { stub.new.drawn.parts ≡ stub.old.drawn.parts }
+        ensures ends_parts { stub.new.ends.parts ≡ stub.old.ends.parts }
+    {
+        self.failed = false;
+        while draw(rt, tickets, stub) {
+            if !self.turn(alloc, host) {
+                return;
+            }
+        }
+    }
+}

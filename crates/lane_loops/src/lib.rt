@@ -1,0 +1,28 @@
+//! Serving a number of connections by loops that share them, a thread for each.
+//!
+//! A `Lane` is what one loop works with: a `Listener` that gives connections, and a reader of the live board. `serve`
+//! runs a loop for each of the `Lanes`. Each turn of a loop draws a ticket, accepts a connection, and has a `Host` serve
+//! it. Each ticket is drawn once, by whichever loop comes first: what the lanes drew is counted by a ledger, whose
+//! shares they hold. A second ledger counts the loops that found no ticket left. So where no listener failed, the
+//! listeners accepted as many connections in all as there were tickets.
+#![tactic(auto)]
+
+mod host;
+mod lane;
+mod lane_loop;
+mod lanes;
+mod listener;
+mod mem_listener;
+mod running;
+mod serve_end;
+mod serving;
+mod stub;
+mod tickets;
+
+pub use host::Host;
+pub use lane::Lane;
+pub use lanes::Lanes;
+pub use listener::Listener;
+pub use mem_listener::MemListener;
+pub use serve_end::ServeEnd;
+pub use serving::serve;

@@ -1,0 +1,15 @@
+-- That `clap` finds in the words what the grammar says, and how words of the form are spelled.
+use Rattle.std.specs.Prelude.{◌≡◌, ◌↔◌, List, map, Some, option_map}
+use Rattle.office_words.specs.Grammar.{Text, Said}
+use Rattle.office_words.specs.Laws.{AllText, row_said}
+use Rattle.office_words.specs.Spelling.{Spells}
+use Rattle.server_words.specs.App.{found_in}
+use Rattle.server_words.specs.Meaning.{server_form, said_by_words}
+
+-- what clap finds is what is said
+abbrev pub FindsWhatIsSaid : List Text → Type 0
+FindsWhatIsSaid words = AllText words → found_in words ≡ option_map (map row_said) (said_by_words words)
+
+-- it is said exactly where the words are spelled so
+abbrev pub IsSaidOnlySo : List Text → Type 0
+IsSaidOnlySo words = (said : Said) → said_by_words words ≡ Some said ↔ Spells server_form words said
