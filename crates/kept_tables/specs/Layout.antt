@@ -1,0 +1,126 @@
+use Rattle.std.specs.Prelude.{ℕ, Bool, true, false, List, [], ◌∷◌, Some, None, codes, pos}
+use Rattle.sqlite_value.specs.declared.value.Value.TheVariants.{Null, Int}
+use Rattle.sqlite_value.specs.declared.keys.Collation.TheVariants.{Binary}
+use Rattle.sqlite_sql.specs.Term.{Term, lit, col, op2}
+use Rattle.sqlite_sql.specs.declared.ops.BinaryOp.TheVariants.{Compare}
+use Rattle.sqlite_sql.specs.declared.ops.CompareOp.TheVariants.{Eq}
+use Rattle.sqlite_schema.specs.declared.schema.Column.{Column}
+use Rattle.sqlite_schema.specs.declared.schema.Table.{Table}
+use Rattle.sqlite_schema.specs.declared.schema.Index.{Index}
+use Rattle.sqlite_schema.specs.declared.schema.Schema.{Schema}
+use Rattle.sqlite_schema.specs.declared.schema.Kind.{Kind}
+use Rattle.sqlite_schema.specs.declared.schema.Kind.TheVariants.{Integer, Blob}
+
+-- a column of a strict table
+abbrev pub column_of : List ℕ → Kind → Bool → Column
+column_of name kind required = record {
+  name = name;
+  kind = kind;
+  is_strict = true;
+  not_null = required;
+  default = Null;
+  collation = Binary;
+}
+
+-- a column that is the key, of numbers, and of bytes
+abbrev pub key : List ℕ → Column
+key name = column_of name Integer false
+
+-- a column of numbers
+abbrev pub number : List ℕ → Column
+number name = column_of name Integer true
+
+-- a column of bytes
+abbrev pub bytes : List ℕ → Column
+bytes name = column_of name Blob true
+
+-- a table whose first column is its key, with its checks
+abbrev pub keyed : List ℕ → ℕ → List Column → List Term → Table
+keyed name tree columns checks = record {
+  name = name;
+  tree = tree;
+  columns = columns;
+  key = Some 0;
+  primary = 0 ∷ [];
+  uniques = [];
+  orders = [];
+  checks = checks;
+  references = [];
+  computed = [];
+  stamps = record { places = []; terms = []; formats = [] };
+  is_counted = false;
+}
+
+-- the key is 1, so the table has one row at most
+abbrev pub only_one : List Term
+only_one = op2 (Compare Eq Binary) (col 1 0) (lit (Int (pos 1))) ∷ []
+
+-- the records of days
+abbrev pub days : Table
+days = keyed (codes "days") 0
+    (key (codes "day") ∷ bytes (codes "digest") ∷ number (codes "bytes") ∷ number (codes "tuples") ∷
+    number (codes "notices") ∷ bytes (codes "notices_digest") ∷ number (codes "total") ∷ []) []
+
+-- amounts, whose key is made of three columns, so that each row has a number that no column shows
+abbrev pub spent : Table
+spent = record {
+  name = codes "spent";
+  tree = 1;
+  columns = number (codes "day") ∷ number (codes "vid") ∷ number (codes "xway") ∷ number (codes "tolls") ∷ [];
+  key = None;
+  primary = 1 ∷ 2 ∷ 3 ∷ [];
+  uniques = (1 ∷ 2 ∷ 3 ∷ []) ∷ [];
+  orders = (record { digits = 0 }) ∷ [];
+  checks = [];
+  references = [];
+  computed = [];
+  stamps = record { places = []; terms = []; formats = [] };
+  is_counted = false;
+}
+
+-- the index of that key
+abbrev pub spent_key : Index
+spent_key = record {
+  name = codes "sqlite_autoindex_spent_1";
+  tree = 2;
+  table = 1;
+  columns = 1 ∷ 2 ∷ 3 ∷ [];
+  order = record { digits = 0 };
+  is_unique = true;
+}
+
+-- the record of a history
+abbrev pub past : Table
+past = keyed (codes "past") 3
+    (key (codes "one") ∷ number (codes "base") ∷ bytes (codes "digest") ∷ number (codes "bytes") ∷
+    number (codes "rows_kept") ∷ []) only_one
+
+-- the seals of the tariffs that days were charged under
+abbrev pub day_tariffs : Table
+day_tariffs = keyed (codes "day_tariffs") 4 (key (codes "day") ∷ bytes (codes "digest") ∷ []) []
+
+-- tariffs
+abbrev pub tariffs : Table
+tariffs =
+    keyed (codes "tariffs") 5 (key (codes "xway") ∷ number (codes "crowd") ∷ number (codes "speed") ∷
+    number (codes "factor") ∷ []) []
+
+-- the version of the tables
+abbrev pub form : Table
+form = keyed (codes "form") 6 (key (codes "one") ∷ number (codes "version") ∷ []) only_one
+
+-- no tables
+abbrev pub no_tables : Schema
+no_tables = record { tables = []; indexes = []; views = [] }
+
+-- the tables of version 1
+abbrev pub old_tables : Schema
+old_tables = record { tables = days ∷ spent ∷ past ∷ []; indexes = spent_key ∷ []; views = [] }
+
+-- the tables of version 2
+abbrev pub all_tables : Schema
+all_tables = record {
+  tables = days ∷ spent ∷ past ∷ day_tariffs ∷ tariffs ∷ form ∷ [];
+  indexes = spent_key ∷ [];
+  views = [];
+}

@@ -1,0 +1,12 @@
+pub mod Layout
+pub mod Texts
+pub mod Select
+pub mod Same
+pub mod Codec
+pub mod Shown
+pub mod Stands
+pub mod Tests
+pub mod Told
+pub mod Amounts
+pub mod Steps
+pub mod Laws

@@ -1,0 +1,154 @@
+use Rattle.std.specs.Prelude.{ℕ, Bool, true, false, List, [], ◌∷◌, None, pos, negsuc, codes}
+use Rattle.std.specs.List.{list_all}
+use Rattle.sqlite_value.specs.declared.value.Value.TheVariants.{Int, Null}
+use Rattle.sqlite_value.specs.declared.keys.Collation.TheVariants.{Binary}
+use Rattle.sqlite_value.specs.declared.keys.Key.{Key}
+use Rattle.sqlite_value.specs.Order.{Row}
+use Rattle.sqlite_sql.specs.Term.{Term, lit, col, op2, holds}
+use Rattle.sqlite_sql.specs.Query.{Query, inner, end}
+use Rattle.sqlite_sql.specs.declared.ops.BinaryOp.TheVariants.{Compare}
+use Rattle.sqlite_sql.specs.declared.ops.CompareOp.{CompareOp}
+use Rattle.sqlite_sql.specs.declared.ops.CompareOp.TheVariants.{Eq, Ge, Le}
+use Rattle.sqlite_schema.specs.declared.command.Command.{Command}
+use Rattle.sqlite_schema.specs.declared.command.Command.TheVariants.{Select, Insert, Delete}
+use Rattle.sqlite_schema.specs.declared.command.Source.TheVariants.{Values}
+
+-- all rows of one table that pass some tests, with what is shown of each, in an order
+abbrev pub plain : ℕ → List Term → List Term → List (Term × Key) → Query
+plain table tests shown order = record {
+  from = inner table end;
+  filter = tests;
+  group = None;
+  project = shown;
+  distinct = false;
+  collations = [];
+  order = order;
+  limit = lit (Int (negsuc 0));
+  offset = lit (Int (pos 0));
+}
+
+-- a row passes
+abbrev pub passes : List Term → Row → Row → Bool
+passes tests params row = list_all (holds (params ∷ row ∷ [])) tests
+
+-- a place of the row, and a parameter
+abbrev pub place : ℕ → Term
+place at = col 1 at
+
+-- a parameter
+abbrev pub given : ℕ → Term
+given at = col 0 at
+
+-- a place is what a parameter is, or stands to it so
+abbrev pub compared : CompareOp → ℕ → ℕ → Term
+compared how at param = op2 (Compare how Binary) (place at) (given param)
+
+-- rising, by a place
+abbrev pub rising : ℕ → Term × Key
+rising at = (place at, record { collation = Binary; descending = false })
+
+-- falling, by a place
+abbrev pub falling : ℕ → Term × Key
+falling at = (place at, record { collation = Binary; descending = true })
+
+-- the first row alone
+abbrev pub topmost : ℕ → List Term → List (Term × Key) → Query
+topmost table shown order = record (plain table [] shown order) { limit = lit (Int (pos 1)) }
+
+-- the key is 1
+abbrev pub is_one : Term
+is_one = op2 (Compare Eq Binary) (place 0) (lit (Int (pos 1)))
+
+-- what the texts are understood as
+abbrev pub spent_query : Query
+spent_query = plain 1 (compared Eq 1 0 ∷ compared Eq 2 1 ∷ compared Eq 3 2 ∷ []) (place 4 ∷ []) []
+
+-- the amounts of some days
+abbrev pub rows_query : Query
+rows_query =
+    plain 1 (compared Ge 1 0 ∷ compared Le 1 1 ∷ []) (place 1 ∷ place 2 ∷ place 3 ∷ place 4 ∷ []) (rising 1 ∷
+    rising 2 ∷ rising 3 ∷ [])
+
+-- all tariffs
+abbrev pub tariffs_query : Query
+tariffs_query = plain 5 [] (place 0 ∷ place 2 ∷ place 3 ∷ place 4 ∷ []) (rising 0 ∷ [])
+
+-- the numbers of the rows of an expressway
+abbrev pub tariff_ids : Query
+tariff_ids = plain 5 (compared Eq 0 0 ∷ []) (place 0 ∷ []) []
+
+-- the values of a tariff
+abbrev pub tariff_values : List Term
+tariff_values = given 0 ∷ lit Null ∷ given 1 ∷ given 2 ∷ given 3 ∷ []
+
+-- the query for an amount
+abbrev pub spent_command : Command
+spent_command = Select (record { lets = []; body = spent_query }) (codes "tolls" ∷ [])
+
+-- the query for amounts
+abbrev pub rows_command : Command
+rows_command =
+    Select (record { lets = []; body = rows_query }) (codes "day" ∷ codes "vid" ∷ codes "xway" ∷ codes "tolls" ∷ [])
+
+-- the query for the tariffs
+abbrev pub tariffs_command : Command
+tariffs_command =
+    Select (record { lets = []; body = tariffs_query }) (codes "xway" ∷ codes "crowd" ∷ codes "speed" ∷ codes "factor" ∷ [])
+
+-- a tariff is taken away
+abbrev pub drop_command : Command
+drop_command = Delete 4 (record { lets = []; body = tariff_ids })
+
+-- a tariff is put
+abbrev pub put_command : Command
+put_command = Insert 4 (Values tariff_values 5)
+
+-- the amounts of a vehicle
+abbrev pub vehicle_query : Query
+vehicle_query =
+    plain 1 (compared Eq 2 0 ∷ compared Ge 1 1 ∷ compared Le 1 2 ∷ []) (place 1 ∷ place 2 ∷ place 3 ∷ place 4 ∷
+    []) (rising 1 ∷ rising 2 ∷ rising 3 ∷ [])
+
+-- the last day
+abbrev pub last_query : Query
+last_query = topmost 0 (place 0 ∷ []) (falling 0 ∷ [])
+
+-- a day
+abbrev pub day_query : Query
+day_query = plain 0 (compared Eq 0 0 ∷ []) (place 2 ∷ place 3 ∷ place 4 ∷ place 5 ∷ place 6 ∷ place 7 ∷ []) []
+
+-- the seal of a day
+abbrev pub seal_query : Query
+seal_query = plain 4 (compared Eq 0 0 ∷ []) (place 2 ∷ []) []
+
+-- the history
+abbrev pub past_query : Query
+past_query = plain 3 (is_one ∷ []) (place 2 ∷ place 3 ∷ place 4 ∷ place 5 ∷ []) []
+
+-- all days
+abbrev pub days_query : Query
+days_query = plain 0 [] (place 0 ∷ []) (rising 0 ∷ [])
+
+-- the version
+abbrev pub version_query : Query
+version_query = plain 6 (is_one ∷ []) (place 2 ∷ []) []
+
+-- a query as a command, with the names of its columns
+abbrev pub asks_by : Query → List (List ℕ) → Command
+asks_by q names = Select (record { lets = []; body = q }) names
+
+-- a day is put
+abbrev pub day_command : Command
+day_command = Insert 0 (Values (given 0 ∷ lit Null ∷ given 1 ∷ given 2 ∷ given 3 ∷ given 4 ∷ given 5 ∷ given 6 ∷ []) 8)
+
+-- a seal is put
+abbrev pub seal_command : Command
+seal_command = Insert 3 (Values (given 0 ∷ lit Null ∷ given 1 ∷ []) 3)
+
+-- a history is put
+abbrev pub past_command : Command
+past_command = Insert 2 (Values (lit (Int (pos 1)) ∷ lit Null ∷ given 0 ∷ given 1 ∷ given 2 ∷ given 3 ∷ []) 6)
+
+-- the version is put
+abbrev pub version_command : Command
+version_command = Insert 5 (Values (lit (Int (pos 1)) ∷ lit Null ∷ lit (Int (pos 2)) ∷ []) 3)

@@ -1,0 +1,157 @@
+use Rattle.std.specs.Prelude.{◌≡◌, ◌⊎◌, ◌<◌, ◌^◌, ℕ, List, [], ◌∷◌, ◌++◌, map, drop, length, Option, Some, None, IfSome, IsPermutation}
+use Rattle.std.specs.List.{AllByRecursion}
+use Rattle.std.specs.Ordering.{nat_cmp}
+use Rattle.std.specs.Map.{lookup}
+use Rattle.std.specs.BTreeMap.{is_at}
+use Rattle.sqlite_value.specs.Order.{Row}
+use Rattle.sqlite.specs.Effect.{Database}
+use Rattle.road_time.specs.declared.day.SpentRow.{SpentRow}
+use Rattle.road_time.specs.Rates.{Tariffs}
+use Rattle.keeper.specs.declared.digest.Digest.{Digest}
+use Rattle.keeper.specs.declared.kept.DayRecord.{DayRecord}
+use Rattle.keeper.specs.declared.kept.OldRecord.{OldRecord}
+use Rattle.keeper.specs.declared.kept.PastRecord.{PastRecord}
+use Rattle.keeper.specs.Office.{Office, IsSound, nothing_kept}
+use Rattle.keeper.specs.Kept.{old_office, sealed, seal_of}
+use Rattle.kept_tables.specs.Layout.{no_tables, old_tables, all_tables, days, spent, spent_key, past, day_tariffs, tariffs, form}
+use Rattle.kept_tables.specs.Codec.{day_row, seal_row, old_row, spent_row, past_row, tariff_row, version_row}
+
+-- a digest has 32 bytes
+abbrev pub IsWhole : Digest → Type 0
+IsWhole d = (length d.bytes ≡ 32) × AllByRecursion (λ b. b < 256) d.bytes
+
+-- the numbers and digests of a day fit its fields
+pub record FitsDay (r : DayRecord) : Type 0 where
+  pub day : r.day < 2 ^ 32
+  pub bytes : r.bytes < 2 ^ 63
+  pub tuples : r.tuples < 2 ^ 63
+  pub notices : r.notices < 2 ^ 63
+  pub total : r.total < 2 ^ 63
+  pub digest : IsWhole r.digest
+  pub told : IsWhole r.notices_digest
+  pub seal : IsWhole r.tariffs
+
+-- those of an amount
+abbrev pub FitsSpent : SpentRow → Type 0
+FitsSpent r = (r.day < 2 ^ 32) × (r.vid < 2 ^ 32) × (r.xway < 2 ^ 8) × (r.tolls < 2 ^ 63)
+
+-- those of a history
+abbrev pub FitsPast : PastRecord → Type 0
+FitsPast p = (p.base < 2 ^ 32) × (p.bytes < 2 ^ 63) × (p.rows < 2 ^ 63) × IsWhole p.digest
+
+-- all that an office keeps fits its fields
+pub record FitsFields (o : Office) : Type 0 where
+  pub days : AllByRecursion FitsDay o.days
+  pub rows : AllByRecursion FitsSpent o.rows
+  pub past : IfSome o.past FitsPast
+  pub tariffs : AllByRecursion (λ e. e.0 < 2 ^ 8) o.tariffs
+
+-- the rows of a history, if one is kept
+abbrev pub past_rows : Option PastRecord → List Row
+past_rows None = []
+past_rows (Some p) = past_row p ∷ []
+
+-- amounts are kept in any order, each with a number of its own before its columns
+abbrev pub AreKept : List SpentRow → List Row → Type 0
+AreKept rows kept = IsPermutation (map spent_row rows) (map (drop 1) kept)
+
+-- the three tables of version 1 alone are there, and hold these
+pub record HoldsOld (db : Database) (records : List OldRecord) (rows : List SpentRow) (history : Option PastRecord) : Type 0 where
+  pub schema : db.schema ≡ old_tables
+  pub days_are : db.trees days.tree ≡ map old_row records
+  pub rows_are : AreKept rows (db.trees spent.tree)
+  pub past_is : db.trees past.tree ≡ past_rows history
+
+-- they hold what an office was before tariffs were, which fits its fields and is sound
+pub record HasOld (db : Database) (o : Office) : Type 0 where
+  pub records : List OldRecord
+  pub rows : List SpentRow
+  pub history : Option PastRecord
+  pub tables : HoldsOld db records rows history
+  pub office : o ≡ old_office records rows history
+  pub fits : FitsFields o
+  pub sound : IsSound o
+
+-- what six tables hold: the records of days, the days that have their seal, amounts, a history and tariffs
+pub record Contents : Type 0 where
+  pub days : List DayRecord
+  pub sealed : List DayRecord
+  pub rows : List SpentRow
+  pub past : Option PastRecord
+  pub tariffs : Tariffs
+
+-- with one record of a day more, one seal more, a history, and more amounts
+abbrev pub with_record : DayRecord → Contents → Contents
+with_record r c = record c { days = c.days ++ r ∷ [] }
+
+-- with one seal more
+abbrev pub with_seal : DayRecord → Contents → Contents
+with_seal r c = record c { sealed = c.sealed ++ r ∷ [] }
+
+-- with a history
+abbrev pub with_history : PastRecord → Contents → Contents
+with_history p c = record c { past = Some p }
+
+-- with more amounts
+abbrev pub with_rows : List SpentRow → Contents → Contents
+with_rows rows c = record c { rows = c.rows ++ rows }
+
+-- what the tables of version 1 hold, in six tables, before a day has its seal
+abbrev pub unsealed : List OldRecord → List SpentRow → Option PastRecord → Contents
+unsealed records rows history = record {
+  days = map (sealed (seal_of [])) records;
+  sealed = [];
+  rows = rows;
+  past = history;
+  tariffs = [];
+}
+
+-- all six tables are there, with these rows for their version, and hold this
+pub record HoldsAs (version_is : List Row) (db : Database) (c : Contents) : Type 0 where
+  pub schema : db.schema ≡ all_tables
+  pub days_are : db.trees days.tree ≡ map day_row c.days
+  pub rows_are : AreKept c.rows (db.trees spent.tree)
+  pub past_is : db.trees past.tree ≡ past_rows c.past
+  pub seals_are : db.trees day_tariffs.tree ≡ map seal_row c.sealed
+  pub tariffs_are : db.trees tariffs.tree ≡ map tariff_row c.tariffs
+  pub version : db.trees form.tree ≡ version_is
+
+-- they are there in version 2
+abbrev pub Holds : Database → Contents → Type 0
+Holds db c = HoldsAs (version_row ∷ []) db c
+
+-- one table has these rows afterwards, and the others what they had
+pub record Changes (tree : ℕ) (after : List Row) (old new : Database) : Type 0 where
+  pub schema : new.schema ≡ all_tables
+  pub rows : new.trees tree ≡ after
+  pub others : (t : ℕ) → (t ≡ tree → ⊥) → (spent_key.tree ≡ t → ⊥) → new.trees t ≡ old.trees t
+
+-- what the tables hold of an office
+abbrev pub contents_of : Office → Contents
+contents_of o = record { days = o.days; sealed = o.days; rows = o.rows; past = o.past; tariffs = o.tariffs }
+
+-- the tables hold an office, which may be any
+abbrev pub HasTables : Database → Office → Type 0
+HasTables db o = Holds db (contents_of o)
+
+-- the tables hold an office that fits its fields and is sound
+pub record HasOffice (db : Database) (o : Office) : Type 0 where
+  pub tables : HasTables db o
+  pub fits : FitsFields o
+  pub sound : IsSound o
+
+-- an empty database, and an empty office
+abbrev pub HasNothing : Database → Office → Type 0
+HasNothing db o = (db.schema ≡ no_tables) × (o ≡ nothing_kept)
+
+-- a database stands for an office
+abbrev pub StandsForOffice : Database → Office → Type 0
+StandsForOffice db o = HasNothing db o ⊎ (HasOld db o ⊎ HasOffice db o)
+
+-- it stands for none
+abbrev pub StandsForNone : Database → Type 0
+StandsForNone db = (o : Office) → ¬ StandsForOffice db o
+
+-- an expressway has no tariff of its own
+abbrev pub LacksTariff : ℕ → Office → Type 0
+LacksTariff xway o = lookup (is_at (nat_cmp xway)) o.tariffs ≡ None
