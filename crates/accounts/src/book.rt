@@ -11,8 +11,9 @@ use std::alloc::Global;
 use std::collections::HashMap;
 use std::marker::Model;
 
-/// What each vehicle was told last and was charged on each expressway, and how many charges were made. What a vehicle was charged on the
-/// expressway of its first charge stands in its own entry, so that a charge there makes one look-up; the other map has further expressways alone.
+/// What each vehicle was told last and was charged on each expressway, and how many charges were made. What a vehicle
+/// was charged on the expressway of its first charge stands in its own entry, so that a charge there makes one look-up;
+/// the other map has further expressways alone.
 #[derive(Drop)]
 pub struct Book {
     alloc: Global,
@@ -31,7 +32,11 @@ impl Model for Book {
 
     ghost use Rattle.accounts.specs.Books.{told_of, spent_of, IsSound};
 
-    ghost view = { λ b. record { told = told_of b.vehicles.entries; spent = spent_of b.vehicles.entries b.further.entries; made = b.made } };
+    ghost view = { λ b. record {
+      told = told_of b.vehicles.entries;
+      spent = spent_of b.vehicles.entries b.further.entries;
+      made = b.made;
+    } };
 
     ghost invariant = { λ b. IsSound b.vehicles.entries b.further.entries b.total b.made };
 }
@@ -60,14 +65,18 @@ impl Book {
         Ok(())
     }
 
-    /// Charges a vehicle the toll that it was told last, on an expressway, and gives that toll. The one error is want of memory.
-    /// It asks that the vehicle was told a toll, and that fewer than 16,000,000 charges were made.
+    /// Charges a vehicle the toll that it was told last, on an expressway, and gives that toll. The one error is want
+    /// of memory. It asks that the vehicle was told a toll, and that fewer than 16,000,000 charges were made.
     pub fn charge(&mut self, vid: u32, xway: u8) -> Result<u64, NoMemory>
         requires told { IsSome (get self.old.told vid) }
         requires few { self.old.made < 16000000 }
         ensures toll { IfOk result (λ toll. Some toll ≡ get self.old.told vid) }
         ensures capped { IfOk result (λ toll. toll ≤ 500000000000) }
-        ensures booked { IfOk result (λ toll. self.new ≡ record self.old { spent = with_charge self.old.spent (record { vid = vid; xway = xway; toll = toll }); made = self.old.made + 1 }) }
+        ensures booked { IfOk result (λ toll. self.new
+            ≡ record self.old {
+              spent = with_charge self.old.spent (record { vid = vid; xway = xway; toll = toll });
+              made = self.old.made + 1;
+            }) }
         ensures refused { OnErr result (self.new ≡ self.old) }
     {
         let Some(vehicle) = self.vehicles.get_mut(&vid) else {
@@ -104,8 +113,8 @@ impl Book {
         self.total
     }
 
-    /// What each vehicle was charged on each expressway, as rows of a day in the order of vehicles and expressways, zero sums left out.
-    /// The one error is want of memory.
+    /// What each vehicle was charged on each expressway, as rows of a day in the order of vehicles and expressways,
+    /// zero sums left out. The one error is want of memory.
     pub fn spent_rows(&self, day: u32) -> Result<Vec<SpentRow>, NoMemory>
         ensures { IfOk result (λ rows. AreRowsOf self.now.spent day rows.items) }
     {

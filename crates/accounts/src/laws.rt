@@ -1,7 +1,8 @@
 //! Laws over the definitions, as contracts of functions that run nothing.
 ghost use Rattle.accounts.specs.Laws.{BookLaw, GrowLaw, LiveLaw};
 
-/// A board to which a day's charges were published shows the day's accounts at its mark, and still does when more tuples follow.
+/// A board to which a day's charges were published shows the day's accounts at its mark, and still does when more
+/// tuples follow.
 pub fn live_law()
     ensures shows { LiveLaw }
     ensures grows { GrowLaw }

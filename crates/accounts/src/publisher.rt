@@ -31,13 +31,15 @@ pub trait Publisher {
         ensures ok { OnOk result (posted self.new ≡ option_map (posted_with (Begin day)) (posted self.old)) }
         ensures err { OnErr result (IsRefused (Begin day) (posted self.old) (posted self.new)) };
 
-    /// Publishes what is queued, and the charges up to a mark. It asks that the tolls since the day began sum up to less than 2^63.
-    /// The one error is want of memory, and then nothing is published.
+    /// Publishes what is queued, and the charges up to a mark. It asks that the tolls since the day began sum up to
+    /// less than 2^63. The one error is want of memory, and then nothing is published.
     fn publish(&mut self, charges: &[Charged], mark: u64) -> Result<(), NoMemory>
         requires { FitsBoard (Step (map charge_of charges.now) mark) (posted self.old) }
         ensures which { which self.new ≡ which self.old }
-        ensures ok { OnOk result (posted self.new ≡ option_map (posted_with (Step (map charge_of charges.now) mark)) (posted self.old)) }
-        ensures err { OnErr result (IsRefused (Step (map charge_of charges.now) mark) (posted self.old) (posted self.new)) };
+        ensures ok { OnOk result (posted self.new
+            ≡ option_map (posted_with (Step (map charge_of charges.now) mark)) (posted self.old)) }
+        ensures err { OnErr result (IsRefused (Step (map charge_of charges.now) mark) (posted self.old)
+            (posted self.new)) };
 }
 
 /// Publishes nothing, keeps nothing and is never refused.

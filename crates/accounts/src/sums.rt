@@ -12,7 +12,10 @@ use std::collections::HashMap;
 #[inline(always)]
 pub fn add(sums: &mut HashMap<(u32, u8), u64>, owner: (u32, u8), toll: u64) -> Result<(), NoMemory>
     requires { sum_at sums.old.entries owner + toll < 2 ^ 64 }
-    ensures added { OnOk result ((q : ℕ × ℕ) → lookup (same_owner q) sums.new.entries ≡ (if same_owner owner q then Some (sum_at sums.old.entries owner + toll) else lookup (same_owner q) sums.old.entries)) }
+    ensures added { OnOk result ((q : ℕ × ℕ)
+        → lookup (same_owner q) sums.new.entries
+        ≡ (if same_owner owner q then Some (sum_at sums.old.entries owner + toll) else lookup (same_owner q)
+        sums.old.entries)) }
     ensures refused { OnErr result (sums.new.entries ≡ sums.old.entries) }
 {
     match sums.get_mut(&owner) {
@@ -36,7 +39,10 @@ pub fn add_further(
     toll: u64,
 ) -> Result<(), NoMemory>
     requires { sum_at sums.old.entries owner + toll < 2 ^ 64 }
-    ensures added { OnOk result ((q : ℕ × ℕ) → lookup (same_owner q) sums.new.entries ≡ (if is_further first owner.1 && same_owner owner q then Some (sum_at sums.old.entries owner + toll) else lookup (same_owner q) sums.old.entries)) }
+    ensures added { OnOk result ((q : ℕ × ℕ)
+        → lookup (same_owner q) sums.new.entries
+        ≡ (if is_further first owner.1 && same_owner owner q then Some (sum_at sums.old.entries owner + toll)
+        else lookup (same_owner q) sums.old.entries)) }
     ensures refused { OnErr result (sums.new.entries ≡ sums.old.entries) }
 {
     if is_further(first, owner.1) {

@@ -14,7 +14,8 @@ pub struct First {
     pub sum: u64,
 }
 
-/// The toll that a vehicle was told last, the sum of what it was charged, and the part of it on the expressway of the first charge.
+/// The toll that a vehicle was told last, the sum of what it was charged, and the part of it on the expressway of the
+/// first charge.
 #[derive(Clone, Copy, Debug, PartialEq, Eq)]
 pub struct Vehicle {
     pub told: u64,
@@ -25,7 +26,13 @@ pub struct Vehicle {
 /// Keeps the toll that a vehicle is told.
 #[inline(always)]
 pub fn tell(vehicles: &mut HashMap<u32, Vehicle>, vid: u32, toll: u64) -> Result<(), NoMemory>
-    ensures told { OnOk result ((v : ℕ) → lookup (nat_eq v) vehicles.new.entries ≡ (if nat_eq vid v then Some (record { told = toll; sum = (vehicle_at vehicles.old.entries vid).sum; first = (vehicle_at vehicles.old.entries vid).first }) else lookup (nat_eq v) vehicles.old.entries)) }
+    ensures told { OnOk result ((v : ℕ)
+        → lookup (nat_eq v) vehicles.new.entries
+        ≡ (if nat_eq vid v then Some (record {
+          told = toll;
+          sum = (vehicle_at vehicles.old.entries vid).sum;
+          first = (vehicle_at vehicles.old.entries vid).first;
+        }) else lookup (nat_eq v) vehicles.old.entries)) }
     ensures apart { OnOk result (IsDistinct nat_eq (keys_of vehicles.new.entries)) }
     ensures refused { OnErr result (vehicles.new.entries ≡ vehicles.old.entries) }
 {

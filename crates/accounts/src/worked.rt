@@ -15,7 +15,8 @@ pub struct Answers {
 
 /// Vehicle 100 is told a toll of 2, and charged on expressway 0: the answers, and the rows of day 100.
 pub fn one_charge(alloc: Global) -> Result<(Answers, Vec<SpentRow>), NoMemory>
-    ensures { IfOk result (λ r. (r.0 ≡ record { charged = 2; balance = 2; total = 2 }) × (r.1.items ≡ record { day = 100; vid = 100; xway = 0; tolls = 2 } ∷ [])) }
+    ensures { IfOk result (λ r. (r.0 ≡ record { charged = 2; balance = 2; total = 2 })
+        × (r.1.items ≡ record { day = 100; vid = 100; xway = 0; tolls = 2 } ∷ [])) }
 {
     let mut book = Book::new(alloc);
     book.notify(100, 2)?;
@@ -29,7 +30,8 @@ pub fn one_charge(alloc: Global) -> Result<(Answers, Vec<SpentRow>), NoMemory>
     Ok((answers, rows))
 }
 
-/// Vehicle 100 is told a toll of 2 and then of 0, and charged: the answers, with the balance of a vehicle that never was, and the rows.
+/// Vehicle 100 is told a toll of 2 and then of 0, and charged: the answers, with the balance of a vehicle that never
+/// was, and the rows.
 pub fn a_charge_of_nothing(alloc: Global) -> Result<(Answers, Vec<SpentRow>), NoMemory>
     ensures { IfOk result (λ r. (r.0 ≡ record { charged = 0; balance = 0; total = 0 }) × (r.1.items ≡ [])) }
 {
@@ -47,9 +49,12 @@ pub fn a_charge_of_nothing(alloc: Global) -> Result<(Answers, Vec<SpentRow>), No
     Ok((answers, rows))
 }
 
-/// Vehicle 100 is told a toll of 2, and charged on expressways 1, 0 and 1: the answers, and the rows of day 100, in order.
+/// Vehicle 100 is told a toll of 2, and charged on expressways 1, 0 and 1: the answers, and the rows of day 100, in
+/// order.
 pub fn two_expressways(alloc: Global) -> Result<(Answers, Vec<SpentRow>), NoMemory>
-    ensures { IfOk result (λ r. (r.0 ≡ record { charged = 2; balance = 6; total = 6 }) × (r.1.items ≡ record { day = 100; vid = 100; xway = 0; tolls = 2 } ∷ record { day = 100; vid = 100; xway = 1; tolls = 4 } ∷ [])) }
+    ensures { IfOk result (λ r. (r.0 ≡ record { charged = 2; balance = 6; total = 6 })
+        × (r.1.items ≡ record { day = 100; vid = 100; xway = 0; tolls = 2 }
+        ∷ record { day = 100; vid = 100; xway = 1; tolls = 4 } ∷ [])) }
 {
     let mut book = Book::new(alloc);
     book.notify(100, 2)?;

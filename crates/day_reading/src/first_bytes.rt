@@ -1,5 +1,6 @@
 // The first bytes of a source, taken piece by piece for a digest.
-ghost use Rattle.std.specs.Prelude.{◌≡◌, ◌≢◌, ◌≤◌, ◌<◌, ◌+◌, ◌++◌, List, ℕ, Some, Err, IfOk, IsOk, OnErr, length, take, drop};
+ghost use Rattle.std.specs.Prelude.{◌≡◌, ◌≢◌, ◌≤◌, ◌<◌, ◌+◌, ◌++◌, List, ℕ, Some, Err, IfOk, IsOk, OnErr, length};
+ghost use Rattle.std.specs.Prelude.{take, drop};
 ghost use Rattle.road_io.specs.Faults.{Rose, HasCause};
 ghost use Rattle.road_io.specs.Plans.{NeverFails};
 ghost use Rattle.keeper.specs.Digests.{Took};
@@ -35,7 +36,8 @@ fn read_some<S: Source>(
     ensures bound { IfOk result (λ n. n ≤ length buffer.old) }
     ensures took { (bytes before : List ℕ) → S.left source.old ≡ Some bytes → Took digester.old before
         → IfOk result (λ n. TakesPiece n bytes before digester.new (S.left source.new)) }
-    ensures left { (bytes : List ℕ) → S.left source.old ≡ Some bytes → IfOk result (λ n. S.left source.new ≡ Some (drop n bytes)) }
+    ensures left { (bytes : List ℕ) → S.left source.old ≡ Some bytes
+        → IfOk result (λ n. S.left source.new ≡ Some (drop n bytes)) }
     ensures failed { (bytes : List ℕ) → S.left source.old ≡ Some bytes → OnErr result (S.left source.new ≡ Some bytes) }
     ensures same { S.name source.new ≡ S.name source.old }
     ensures sure { NeverFails (S.plan source.old) → IsOk result × NeverFails (S.plan source.new) }
@@ -59,7 +61,8 @@ fn take_front<S: Source>(
     requires { 0 < length buffer.old }
     ensures bounded { ReadsWithin most (S.left source.old) (S.left source.new) }
     ensures took { (bytes before : List ℕ) → S.left source.old ≡ Some bytes → Took digester.old before
-        → IfOk result (λ u. Took digester.new (before ++ take most bytes) × (S.left source.new ≡ Some (drop most bytes))) }
+        → IfOk result
+        (λ u. Took digester.new (before ++ take most bytes) × (S.left source.new ≡ Some (drop most bytes))) }
     ensures len { length buffer.new ≡ length buffer.old }
     ensures same { S.name source.new ≡ S.name source.old }
     ensures sure { NeverFails (S.plan source.old) → IsOk result × NeverFails (S.plan source.new) }
@@ -85,7 +88,8 @@ fn take_one_more<S: Source>(bytes: u64, buffer: &mut [u8], source: &mut S) -> Re
     requires { 0 < length buffer.old }
     ensures bounded { ReadsWithin (bytes + 1) (S.left source.old) (S.left source.new) }
     ensures found { (all : List ℕ) → S.left source.old ≡ Some all
-        → IfOk result (λ digest. (digest ≡ found_digest all bytes) × (S.left source.new ≡ Some (drop (bytes + 1) all))) }
+        → IfOk result
+        (λ digest. (digest ≡ found_digest all bytes) × (S.left source.new ≡ Some (drop (bytes + 1) all))) }
     ensures same { S.name source.new ≡ S.name source.old }
     ensures sure { NeverFails (S.plan source.old) → IsOk result × NeverFails (S.plan source.new) }
     ensures cause { HasCause (S.faults source.old) (S.faults source.new) result }
@@ -104,7 +108,8 @@ fn take_one_more<S: Source>(bytes: u64, buffer: &mut [u8], source: &mut S) -> Re
 pub fn find_digest<S: Source>(alloc: Global, bytes: u64, source: &mut S) -> Result<Digest, ReadStop>
     ensures bounded { ReadsWithin (bytes + 1) (S.left source.old) (S.left source.new) }
     ensures found { (all : List ℕ) → S.left source.old ≡ Some all
-        → IfOk result (λ digest. (digest ≡ found_digest all bytes) × (S.left source.new ≡ Some (drop (bytes + 1) all))) }
+        → IfOk result
+        (λ digest. (digest ≡ found_digest all bytes) × (S.left source.new ≡ Some (drop (bytes + 1) all))) }
     ensures same { S.name source.new ≡ S.name source.old }
     ensures sure { NeverFails (S.plan source.old) → (result ≢ Err ReadFault) × NeverFails (S.plan source.new) }
     ensures later { S.faults source.old ≤ S.faults source.new }

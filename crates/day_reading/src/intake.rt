@@ -34,7 +34,8 @@ fn take_tuple(
     line: u64,
     tuple: &Tuple,
 ) -> Option<Ending>
-    ensures takes { (limits : LimitsValue) (late : ℕ) → TakesTuple limits late result line tuple.now gate.old gate.new sorter.old sorter.new }
+    ensures takes { (limits : LimitsValue) (late : ℕ)
+        → TakesTuple limits late result line tuple.now gate.old gate.new sorter.old sorter.new }
     ensures after { StopsAfter result line }
     ensures unread { result ≢ Some (Stopped ReadFault) }
 {
@@ -66,7 +67,8 @@ impl Intake {
     /// Takes the tuple of a line of at most 200 bytes, if it has one, or says how the reading ends.
     pub fn take(&mut self, line: u64, text: &[u8]) -> Option<Ending>
         requires { length text.now ≤ 200 }
-        ensures takes { (limits : LimitsValue) (late : ℕ) → limits.lines ≡ self.old.line_limit → TakesLine limits late result line text.now self.old.gate self.new.gate self.old.sorter self.new.sorter }
+        ensures takes { (limits : LimitsValue) (late : ℕ) → limits.lines ≡ self.old.line_limit
+            → TakesLine limits late result line text.now self.old.gate self.new.gate self.old.sorter self.new.sorter }
         ensures after { StopsAfter result line }
         ensures unread { result ≢ Some (Stopped ReadFault) }
         ensures within { IfNone result (line ≤ self.old.line_limit) }

@@ -18,6 +18,3 @@ pub use day_reader::DayReader;
 pub use ending::ReadEnd;
 pub use first_bytes::find_digest;
 pub use whole_day::{Day, DayEnd, ReadStop, read_day};
-
-#[cfg(test)]
-mod tests;

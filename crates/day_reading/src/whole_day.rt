@@ -65,11 +65,14 @@ pub fn read_day<S: Source, R: Threads>(
 ) -> Result<Day, ReadStop>
     requires within { IsLimits limits.now }
     requires soon { late ≤ 120 }
-    ensures tuples { (bytes : List ℕ) → S.left source.old ≡ Some bytes → IfOk result (λ d. d.tuples.items ≡ (reads bytes limits.now late).tuples) }
-    ensures end { (bytes : List ℕ) → S.left source.old ≡ Some bytes → IfOk result (λ d. EndsReading d.end bytes (reads bytes limits.now late).refused) }
+    ensures tuples { (bytes : List ℕ) → S.left source.old ≡ Some bytes
+        → IfOk result (λ d. d.tuples.items ≡ (reads bytes limits.now late).tuples) }
+    ensures end { (bytes : List ℕ) → S.left source.old ≡ Some bytes
+        → IfOk result (λ d. EndsReading d.end bytes (reads bytes limits.now late).refused) }
     ensures fit { IfOk result (λ d. Fit d.tuples.items limits.now) }
     ensures short { IfOk result (λ d. IsShort d.end) }
-    ensures left { (bytes : List ℕ) → S.left source.old ≡ Some bytes → IfOk result (λ d. LeavesBehind d.end bytes (S.left source.new)) }
+    ensures left { (bytes : List ℕ) → S.left source.old ≡ Some bytes
+        → IfOk result (λ d. LeavesBehind d.end bytes (S.left source.new)) }
     ensures bounded { ReadsWithin (most_read limits.now) (S.left source.old) (S.left source.new) }
     ensures cause { result ≡ Err ReadFault → Rose (S.faults source.old) (S.faults source.new) }
     ensures sure { NeverFails (S.plan source.old) → (result ≢ Err ReadFault) × NeverFails (S.plan source.new) }

@@ -28,8 +28,8 @@ use road_time::Tuple;
 use settling::Closed;
 use std::thread::Threads;
 
-/// What is left of a day that was imported to its end or to the first line that is refused: what its settling left, how many tuples it has,
-/// and how its reading ended.
+/// What is left of a day that was imported to its end or to the first line that is refused: what its settling left, how
+/// many tuples it has, and how its reading ended.
 #[derive(Drop)]
 pub struct WorkedDay {
     pub closed: Closed,
@@ -54,34 +54,54 @@ pub fn run_opened<C: Crew, S: Source, K: Keeper, O: Sink, P: Publisher, R: Threa
     requires width { plan.now.width ≡ run.floor.inboxes.width }
     requires none { run.tickets.items ≡ [] }
     requires unfailed { HasFailedAhead ahead → ⊥ }
-    requires runs { (e : Setting) × (late : ℕ) × Runs C.out C.number C.holds C.gave C.exact C.jobs C.answers e (C.jobs crew.old) (C.answers crew.old) run crew.old start
-        × IsGatheringAhead ahead run.floor.limits late [] × (e.number ≡ day) × (e.history ≡ history_of (K.told keeper.old)) × IsAbreast (P.posted publisher.old) 0 }
+    requires runs { (e : Setting) × (late : ℕ)
+        × Runs C.out C.number C.holds C.gave C.exact C.jobs C.answers e (C.jobs crew.old) (C.answers crew.old) run
+        crew.old start
+        × IsGatheringAhead ahead run.floor.limits late [] × (e.number ≡ day)
+        × (e.history ≡ history_of (K.told keeper.old)) × IsAbreast (P.posted publisher.old) 0 }
     ensures idle { C.out crew.new ≡ [] }
     ensures crew { C.which crew.new ≡ C.which crew.old }
-    ensures ran { IfOk result (λ r. (e : Setting) (late : ℕ) → Runs C.out C.number C.holds C.gave C.exact C.jobs C.answers e (C.jobs crew.old) (C.answers crew.old) run crew.old start
+    ensures ran { IfOk result (λ r. (e : Setting) (late : ℕ)
+        → Runs C.out C.number C.holds C.gave C.exact C.jobs C.answers e (C.jobs crew.old) (C.answers crew.old) run
+        crew.old start
         → IsGatheringAhead ahead run.floor.limits late [] → e.number ≡ day → e.history ≡ history_of (K.told keeper.old)
-        → HasRun (task_of e run.floor.inboxes.width run.floor.limits late) C.exact (λ bytes. IsAhead ahead run.floor.limits late (S.left source.old) bytes [])
-        (C.answers crew.old) (C.answers crew.new) (C.jobs crew.old) (C.jobs crew.new) (O.written sink.old) (O.written sink.new) (P.posted publisher.old) (P.posted publisher.new) r) }
-    ensures stopped { IfErr result (λ fault. (e : Setting) (late : ℕ) → Runs C.out C.number C.holds C.gave C.exact C.jobs C.answers e (C.jobs crew.old) (C.answers crew.old) run crew.old start
+        → HasRun (task_of e run.floor.inboxes.width run.floor.limits late) C.exact
+        (λ bytes. IsAhead ahead run.floor.limits late (S.left source.old) bytes [])
+        (C.answers crew.old) (C.answers crew.new) (C.jobs crew.old) (C.jobs crew.new) (O.written sink.old)
+        (O.written sink.new) (P.posted publisher.old) (P.posted publisher.new) r) }
+    ensures stopped { IfErr result (λ fault. (e : Setting) (late : ℕ)
+        → Runs C.out C.number C.holds C.gave C.exact C.jobs C.answers e (C.jobs crew.old) (C.answers crew.old) run
+        crew.old start
         → IsGatheringAhead ahead run.floor.limits late [] → e.number ≡ day → e.history ≡ history_of (K.told keeper.old)
-        → HasStopped (task_of e run.floor.inboxes.width run.floor.limits late) C.exact (λ bytes. IsAhead ahead run.floor.limits late (S.left source.old) bytes [])
-        (C.jobs crew.old) (C.jobs crew.new) (O.written sink.old) (O.written sink.new) (P.posted publisher.old) (P.posted publisher.new) fault) }
+        → HasStopped (task_of e run.floor.inboxes.width run.floor.limits late) C.exact
+        (λ bytes. IsAhead ahead run.floor.limits late (S.left source.old) bytes [])
+        (C.jobs crew.old) (C.jobs crew.new) (O.written sink.old) (O.written sink.new) (P.posted publisher.old)
+        (P.posted publisher.new) fault) }
     ensures bounded { (bytes : List ℕ) → HasReadAhead ahead run.floor.limits.lines (S.left source.old) bytes
         → (count : ℕ) × (count ≤ most_read run.floor.limits) × (S.left source.new ≡ Some (drop count bytes)) }
-    ensures leaves { IfOk result (λ r. (e : Setting) (late : ℕ) → Runs C.out C.number C.holds C.gave C.exact C.jobs C.answers e (C.jobs crew.old) (C.answers crew.old) run crew.old start
+    ensures leaves { IfOk result (λ r. (e : Setting) (late : ℕ)
+        → Runs C.out C.number C.holds C.gave C.exact C.jobs C.answers e (C.jobs crew.old) (C.answers crew.old) run
+        crew.old start
         → IsGatheringAhead ahead run.floor.limits late [] → e.number ≡ day → e.history ≡ history_of (K.told keeper.old)
-        → (bytes : List ℕ) → IsAhead ahead run.floor.limits late (S.left source.old) bytes [] → HasReadAhead ahead run.floor.limits.lines (S.left source.old) bytes
+        → (bytes : List ℕ) → IsAhead ahead run.floor.limits late (S.left source.old) bytes []
+        → HasReadAhead ahead run.floor.limits.lines (S.left source.old) bytes
         → LeavesBehind r.end bytes (S.left source.new)) }
-    ensures rest { OnOk result ((e : Setting) (late : ℕ) → Runs C.out C.number C.holds C.gave C.exact C.jobs C.answers e (C.jobs crew.old) (C.answers crew.old) run crew.old start
+    ensures rest { OnOk result ((e : Setting) (late : ℕ)
+        → Runs C.out C.number C.holds C.gave C.exact C.jobs C.answers e (C.jobs crew.old) (C.answers crew.old) run
+        crew.old start
         → IsGatheringAhead ahead run.floor.limits late [] → e.number ≡ day → e.history ≡ history_of (K.told keeper.old)
-        → (bytes : List ℕ) → IsAhead ahead run.floor.limits late (S.left source.old) bytes [] → HasReadAhead ahead run.floor.limits.lines (S.left source.old) bytes
+        → (bytes : List ℕ) → IsAhead ahead run.floor.limits late (S.left source.old) bytes []
+        → HasReadAhead ahead run.floor.limits.lines (S.left source.old) bytes
         → (reads bytes run.floor.limits late).refused ≡ None → S.left source.new ≡ Some []) }
     ensures source_same { S.name source.new ≡ S.name source.old }
     ensures publisher { P.which publisher.new ≡ P.which publisher.old }
     ensures same { K.told keeper.new ≡ K.told keeper.old }
-    ensures source { IsCounted ReadFault (S.faults source.old) (S.faults source.new) (NeverFails (S.plan source.old)) (NeverFails (S.plan source.new)) result }
-    ensures sink { IsCounted WriteFault (O.faults sink.old) (O.faults sink.new) (O.room sink.old ≡ Endless) (O.room sink.new ≡ Endless) result }
-    ensures keeper { IsCounted KeeperFault (K.faults keeper.old) (K.faults keeper.new) (NeverFails (K.plan keeper.old)) (NeverFails (K.plan keeper.new)) result }
+    ensures source { IsCounted ReadFault (S.faults source.old) (S.faults source.new) (NeverFails (S.plan source.old))
+        (NeverFails (S.plan source.new)) result }
+    ensures sink { IsCounted WriteFault (O.faults sink.old) (O.faults sink.new) (O.room sink.old ≡ Endless)
+        (O.room sink.new ≡ Endless) result }
+    ensures keeper { IsCounted KeeperFault (K.faults keeper.old) (K.faults keeper.new) (NeverFails (K.plan keeper.old))
+        (NeverFails (K.plan keeper.new)) result }
 {
     match run_plan(
         rt, plan, &mut run, crew, &mut ahead, source, &mut these, day, keeper, sink, publisher,

@@ -24,8 +24,9 @@ use road_time::{Limits, Tariffs};
 use std::alloc::Global;
 use std::thread::Threads;
 
-/// Imports the tuples of a day to its end, or to the first line that is refused: it reads, and makes turns by the plan until all is settled. What is
-/// written is their output, by the findings that the crew answered. On every exit the crew has nothing out.
+/// Imports the tuples of a day to its end, or to the first line that is refused: it reads, and makes turns by the plan
+/// until all is settled. What is written is their output, by the findings that the crew answered. On every exit the
+/// crew has nothing out.
 pub fn run_day<C: Crew, S: Source, K: Keeper, O: Sink, P: Publisher, R: Threads>(
     rt: &R,
     alloc: Global,
@@ -46,21 +47,43 @@ pub fn run_day<C: Crew, S: Source, K: Keeper, O: Sink, P: Publisher, R: Threads>
     requires idle { C.out crew.old ≡ [] }
     ensures idle { C.out crew.new ≡ [] }
     ensures crew { C.which crew.new ≡ C.which crew.old }
-    ensures ran { IfOk result (λ run. HasRun (record { width = plan.now.width; limits = limits.now; late = late; tariffs = tariffs.now; number = day; history = history_of (K.told keeper.old) })
-        C.exact (λ bytes. S.left source.old ≡ Some bytes) (C.answers crew.old) (C.answers crew.new) (C.jobs crew.old) (C.jobs crew.new)
+    ensures ran { IfOk result (λ run.
+        HasRun (record {
+          width = plan.now.width;
+          limits = limits.now;
+          late = late;
+          tariffs = tariffs.now;
+          number = day;
+          history = history_of (K.told keeper.old);
+        })
+        C.exact (λ bytes. S.left source.old ≡ Some bytes) (C.answers crew.old) (C.answers crew.new) (C.jobs crew.old)
+        (C.jobs crew.new)
         (O.written sink.old) (O.written sink.new) (P.posted publisher.old) (P.posted publisher.new) run) }
-    ensures stopped { IfErr result (λ fault. HasStopped (record { width = plan.now.width; limits = limits.now; late = late; tariffs = tariffs.now; number = day; history = history_of (K.told keeper.old) })
+    ensures stopped { IfErr result (λ fault.
+        HasStopped (record {
+          width = plan.now.width;
+          limits = limits.now;
+          late = late;
+          tariffs = tariffs.now;
+          number = day;
+          history = history_of (K.told keeper.old);
+        })
         C.exact (λ bytes. S.left source.old ≡ Some bytes) (C.jobs crew.old) (C.jobs crew.new)
         (O.written sink.old) (O.written sink.new) (P.posted publisher.old) (P.posted publisher.new) fault) }
     ensures bounded { ReadsWithin (most_read limits.now) (S.left source.old) (S.left source.new) }
-    ensures leaves { IfOk result (λ run. (bytes : List ℕ) → S.left source.old ≡ Some bytes → LeavesBehind run.end bytes (S.left source.new)) }
-    ensures rest { OnOk result ((bytes : List ℕ) → S.left source.old ≡ Some bytes → (reads bytes limits.now late).refused ≡ None → S.left source.new ≡ Some []) }
+    ensures leaves { IfOk result (λ run. (bytes : List ℕ) → S.left source.old ≡ Some bytes
+        → LeavesBehind run.end bytes (S.left source.new)) }
+    ensures rest { OnOk result ((bytes : List ℕ) → S.left source.old ≡ Some bytes
+        → (reads bytes limits.now late).refused ≡ None → S.left source.new ≡ Some []) }
     ensures source_same { S.name source.new ≡ S.name source.old }
     ensures publisher { P.which publisher.new ≡ P.which publisher.old }
     ensures same { K.told keeper.new ≡ K.told keeper.old }
-    ensures source { IsCounted ReadFault (S.faults source.old) (S.faults source.new) (NeverFails (S.plan source.old)) (NeverFails (S.plan source.new)) result }
-    ensures sink { IsCounted WriteFault (O.faults sink.old) (O.faults sink.new) (O.room sink.old ≡ Endless) (O.room sink.new ≡ Endless) result }
-    ensures keeper { IsCounted KeeperFault (K.faults keeper.old) (K.faults keeper.new) (NeverFails (K.plan keeper.old)) (NeverFails (K.plan keeper.new)) result }
+    ensures source { IsCounted ReadFault (S.faults source.old) (S.faults source.new) (NeverFails (S.plan source.old))
+        (NeverFails (S.plan source.new)) result }
+    ensures sink { IsCounted WriteFault (O.faults sink.old) (O.faults sink.new) (O.room sink.old ≡ Endless)
+        (O.room sink.new ≡ Endless) result }
+    ensures keeper { IsCounted KeeperFault (K.faults keeper.old) (K.faults keeper.new) (NeverFails (K.plan keeper.old))
+        (NeverFails (K.plan keeper.new)) result }
 {
     let Ok(run) = begin(alloc, plan.width, limits, tariffs) else {
         return Err(DayFault::NoMemory);

@@ -12,20 +12,29 @@ use crate::begun::Import;
 use partition_workers::{Crew, finish_among};
 use road_time::NoMemory;
 
-/// Finishes one of the jobs that are out, by its place among them, and takes back what was done. After a refusal the floor serves no more.
+/// Finishes one of the jobs that are out, by its place among them, and takes back what was done. After a refusal the
+/// floor serves no more.
 pub fn finish_one<C: Crew>(
     run: &mut Import<C::Ticket>,
     crew: &mut C,
     place: usize,
 ) -> Result<(), NoMemory>
     requires within { place < length run.old.tickets.items }
-    requires runs { (e : Setting) × (told : Option Told) × (answered : Option (List Finding)) × (s : State) × Runs C.out C.number C.holds C.gave C.exact C.jobs C.answers e told answered run.old crew.old s }
+    requires runs { (e : Setting) × (told : Option Told) × (answered : Option (List Finding)) × (s : State)
+        × Runs C.out C.number C.holds C.gave C.exact C.jobs C.answers e told answered run.old crew.old s }
     ensures width { run.new.floor.inboxes.width ≡ run.old.floor.inboxes.width }
     ensures limits { run.new.floor.limits ≡ run.old.floor.limits }
     ensures which { C.which crew.new ≡ C.which crew.old }
     ensures fewer { length run.new.tickets.items + 1 ≡ length run.old.tickets.items }
-    ensures came { OnOk result ((e : Setting) (told : Option Told) (answered : Option (List Finding)) (s : State) → Runs C.out C.number C.holds C.gave C.exact C.jobs C.answers e told answered run.old crew.old s → (now : State) × CameBack run.old.floor.inboxes.width s now × Runs C.out C.number C.holds C.gave C.exact C.jobs C.answers e told answered run.new crew.new now) }
-    ensures stopped { OnErr result ((e : Setting) (told : Option Told) (answered : Option (List Finding)) (s : State) → Runs C.out C.number C.holds C.gave C.exact C.jobs C.answers e told answered run.old crew.old s → (day : List Tuple) → AreFirst s.fed day → Stopped C.out C.number C.holds C.gave C.jobs told run.old.floor.inboxes.width run.old.floor.limits day run.new crew.new) }
+    ensures came { OnOk result ((e : Setting) (told : Option Told) (answered : Option (List Finding)) (s : State)
+        → Runs C.out C.number C.holds C.gave C.exact C.jobs C.answers e told answered run.old crew.old s
+        → (now : State) × CameBack run.old.floor.inboxes.width s now
+        × Runs C.out C.number C.holds C.gave C.exact C.jobs C.answers e told answered run.new crew.new now) }
+    ensures stopped { OnErr result ((e : Setting) (told : Option Told) (answered : Option (List Finding)) (s : State)
+        → Runs C.out C.number C.holds C.gave C.exact C.jobs C.answers e told answered run.old crew.old s
+        → (day : List Tuple) → AreFirst s.fed day
+        → Stopped C.out C.number C.holds C.gave C.jobs told run.old.floor.inboxes.width run.old.floor.limits day run.new
+        crew.new) }
 {
     let Some(ticket) = run.tickets.remove(place) else {
         unreachable!();

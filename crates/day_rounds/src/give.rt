@@ -10,19 +10,26 @@ use crate::begun::Import;
 use partition_workers::{Crew, start_beside};
 use road_time::NoMemory;
 
-/// Gives a worker its next job, if there is one, and starts it. The one error is want of memory, and then nothing has changed.
+/// Gives a worker its next job, if there is one, and starts it. The one error is want of memory, and then nothing has
+/// changed.
 pub fn give_one<C: Crew>(
     run: &mut Import<C::Ticket>,
     crew: &mut C,
     worker: u8,
 ) -> Result<(), NoMemory>
     requires within { worker < run.old.floor.inboxes.width }
-    requires runs { (e : Setting) × (told : Option Told) × (answered : Option (List Finding)) × (s : State) × Runs C.out C.number C.holds C.gave C.exact C.jobs C.answers e told answered run.old crew.old s }
+    requires runs { (e : Setting) × (told : Option Told) × (answered : Option (List Finding)) × (s : State)
+        × Runs C.out C.number C.holds C.gave C.exact C.jobs C.answers e told answered run.old crew.old s }
     ensures width { run.new.floor.inboxes.width ≡ run.old.floor.inboxes.width }
     ensures limits { run.new.floor.limits ≡ run.old.floor.limits }
     ensures which { C.which crew.new ≡ C.which crew.old }
-    ensures given { OnOk result ((e : Setting) (told : Option Told) (answered : Option (List Finding)) (s : State) → Runs C.out C.number C.holds C.gave C.exact C.jobs C.answers e told answered run.old crew.old s → Runs C.out C.number C.holds C.gave C.exact C.jobs C.answers e told answered run.new crew.new (given_if s worker)) }
-    ensures refused { OnErr result ((e : Setting) (told : Option Told) (answered : Option (List Finding)) (s : State) → Runs C.out C.number C.holds C.gave C.exact C.jobs C.answers e told answered run.old crew.old s → Runs C.out C.number C.holds C.gave C.exact C.jobs C.answers e told answered run.new crew.new s) }
+    ensures given { OnOk result ((e : Setting) (told : Option Told) (answered : Option (List Finding)) (s : State)
+        → Runs C.out C.number C.holds C.gave C.exact C.jobs C.answers e told answered run.old crew.old s
+        → Runs C.out C.number C.holds C.gave C.exact C.jobs C.answers e told answered run.new crew.new
+        (given_if s worker)) }
+    ensures refused { OnErr result ((e : Setting) (told : Option Told) (answered : Option (List Finding)) (s : State)
+        → Runs C.out C.number C.holds C.gave C.exact C.jobs C.answers e told answered run.old crew.old s
+        → Runs C.out C.number C.holds C.gave C.exact C.jobs C.answers e told answered run.new crew.new s) }
 {
     run.tickets.reserve(1)?;
     let Some(job) = run.floor.give(worker) else {

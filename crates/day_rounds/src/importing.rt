@@ -28,7 +28,8 @@ pub fn begin<T: Drop>(
     tariffs: &Tariffs,
 ) -> Result<Import<T>, NoMemory>
     requires { AreTerms width limits.now }
-    ensures stands { IfOk result (λ run. (number : ℕ) (history : History) → StandsFor (record { tariffs = tariffs.now; number = number; history = history }) run.floor start) }
+    ensures stands { IfOk result (λ run. (number : ℕ) (history : History)
+        → StandsFor (record { tariffs = tariffs.now; number = number; history = history }) run.floor start) }
     ensures width { IfOk result (λ run. run.floor.inboxes.width ≡ width) }
     ensures limits { IfOk result (λ run. run.floor.limits ≡ limits.now) }
     ensures tickets { IfOk result (λ run. run.tickets.items ≡ []) }
@@ -42,10 +43,14 @@ pub fn begin<T: Drop>(
 
 /// Finishes all that is out after a refusal.
 pub fn stop<C: Crew>(run: Import<C::Ticket>, crew: &mut C)
-    requires { (told : Option Told) × (width : ℕ) × (limits : DayLimits) × (day : List RoadTuple) × Stopped C.out C.number C.holds C.gave C.jobs told width limits day run crew.old }
+    requires { (told : Option Told) × (width : ℕ) × (limits : DayLimits) × (day : List RoadTuple)
+        × Stopped C.out C.number C.holds C.gave C.jobs told width limits day run crew.old }
     ensures idle { C.out crew.new ≡ [] }
     ensures which { C.which crew.new ≡ C.which crew.old }
-    ensures jobs { (told : Option Told) (width : ℕ) (limits : DayLimits) (day : List RoadTuple) → Stopped C.out C.number C.holds C.gave C.jobs told width limits day run crew.old → (since : List Job) × HaveFirstStarted width limits.backlog day since × WhereTold (ListsFirst since) told (C.jobs crew.new) }
+    ensures jobs { (told : Option Told) (width : ℕ) (limits : DayLimits) (day : List RoadTuple)
+        → Stopped C.out C.number C.holds C.gave C.jobs told width limits day run crew.old
+        → (since : List Job) × HaveFirstStarted width limits.backlog day since
+        × WhereTold (ListsFirst since) told (C.jobs crew.new) }
 {
     let Import { tickets, .. } = run;
     let _whole = finish_all(crew, tickets);

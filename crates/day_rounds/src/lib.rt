@@ -1,5 +1,5 @@
-//! A day on the floor, with any crew: its tuples are read, fed, worked on and settled, in rounds or in turns that a number draws, and it is
-//! closed.
+//! A day on the floor, with any crew: its tuples are read, fed, worked on and settled, in rounds or in turns that a
+//! number draws, and it is closed.
 #![tactic(auto)]
 
 mod begun;

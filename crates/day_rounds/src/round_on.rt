@@ -49,33 +49,47 @@ pub fn next_round<C: Crew, S: Source, K: Keeper, O: Sink, P: Publisher, R: Threa
     requires none { run.old.tickets.items ≡ [] }
     requires unfailed { HasFailedAhead ahead.old → ⊥ }
     requires runs { (e : Setting) × (told : Option Told) × (answered : Option (List Finding)) × (late : ℕ) × (s : State)
-        × Runs C.out C.number C.holds C.gave C.exact C.jobs C.answers e told answered run.old crew.old s × IsGatheringAhead ahead.old run.old.floor.limits late s.fed
-        × (e.number ≡ day) × (e.history ≡ history_of (K.told keeper.old)) × IsAbreast (P.posted publisher.old) (sum_of (settled_charges s)) }
+        × Runs C.out C.number C.holds C.gave C.exact C.jobs C.answers e told answered run.old crew.old s
+        × IsGatheringAhead ahead.old run.old.floor.limits late s.fed
+        × (e.number ≡ day) × (e.history ≡ history_of (K.told keeper.old))
+        × IsAbreast (P.posted publisher.old) (sum_of (settled_charges s)) }
     ensures width { run.new.floor.inboxes.width ≡ run.old.floor.inboxes.width }
     ensures limits { run.new.floor.limits ≡ run.old.floor.limits }
     ensures crew { C.which crew.new ≡ C.which crew.old }
     ensures none { OnOk result (run.new.tickets.items ≡ []) }
-    ensures done { IfOk result (λ n. (e : Setting) (told : Option Told) (answered : Option (List Finding)) (late : ℕ) (s : State)
-        → Runs C.out C.number C.holds C.gave C.exact C.jobs C.answers e told answered run.old crew.old s → IsGatheringAhead ahead.old run.old.floor.limits late s.fed
+    ensures done { IfOk result (λ n.
+        (e : Setting) (told : Option Told) (answered : Option (List Finding)) (late : ℕ) (s : State)
+        → Runs C.out C.number C.holds C.gave C.exact C.jobs C.answers e told answered run.old crew.old s
+        → IsGatheringAhead ahead.old run.old.floor.limits late s.fed
         → e.number ≡ day → e.history ≡ history_of (K.told keeper.old)
-        → (xs : List RoadTuple) × (now : State) × HasGiven run.old.floor.limits late xs ahead.old ahead.new (S.left source.old) (S.left source.new)
-        × IsSettled run.old.floor.limits.backlog e s xs (O.written sink.old) (O.written sink.new) (P.posted publisher.old) (P.posted publisher.new) now
-        × (n ≡ now.settled) × Runs C.out C.number C.holds C.gave C.exact C.jobs C.answers e told answered run.new crew.new now
+        → (xs : List RoadTuple) × (now : State)
+        × HasGiven run.old.floor.limits late xs ahead.old ahead.new (S.left source.old) (S.left source.new)
+        × IsSettled run.old.floor.limits.backlog e s xs (O.written sink.old) (O.written sink.new)
+        (P.posted publisher.old) (P.posted publisher.new) now
+        × (n ≡ now.settled) × Runs C.out C.number C.holds C.gave C.exact C.jobs C.answers e told answered run.new
+        crew.new now
         × IsAbreast (P.posted publisher.new) (sum_of (settled_charges now))
         × (s.settled ≡ length s.fed → has_more ahead.old ≡ true → 1 ≤ length xs)) }
-    ensures halted { IfErr result (λ fault. (e : Setting) (told : Option Told) (answered : Option (List Finding)) (late : ℕ) (s : State)
-        → Runs C.out C.number C.holds C.gave C.exact C.jobs C.answers e told answered run.old crew.old s → IsGatheringAhead ahead.old run.old.floor.limits late s.fed
+    ensures halted { IfErr result (λ fault.
+        (e : Setting) (told : Option Told) (answered : Option (List Finding)) (late : ℕ) (s : State)
+        → Runs C.out C.number C.holds C.gave C.exact C.jobs C.answers e told answered run.old crew.old s
+        → IsGatheringAhead ahead.old run.old.floor.limits late s.fed
         → e.number ≡ day → e.history ≡ history_of (K.told keeper.old)
-        → IsHalted C.out C.number C.holds C.gave C.exact C.jobs fault e told run.old.floor.inboxes.width run.old.floor.limits late s ahead.old (S.left source.old)
+        → IsHalted C.out C.number C.holds C.gave C.exact C.jobs fault e told run.old.floor.inboxes.width
+        run.old.floor.limits late s ahead.old (S.left source.old)
         (O.written sink.old) (O.written sink.new) (P.posted publisher.old) (P.posted publisher.new) run.new crew.new) }
     ensures unfailed { OnOk result (HasFailedAhead ahead.new → ⊥) }
-    ensures read { (lines : ℕ) (bytes : List ℕ) → HasReadAhead ahead.old lines (S.left source.old) bytes → HasReadAhead ahead.new lines (S.left source.new) bytes }
+    ensures read { (lines : ℕ) (bytes : List ℕ) → HasReadAhead ahead.old lines (S.left source.old) bytes
+        → HasReadAhead ahead.new lines (S.left source.new) bytes }
     ensures source_same { S.name source.new ≡ S.name source.old }
     ensures publisher { P.which publisher.new ≡ P.which publisher.old }
     ensures same { K.told keeper.new ≡ K.told keeper.old }
-    ensures source { IsCounted ReadFault (S.faults source.old) (S.faults source.new) (NeverFails (S.plan source.old)) (NeverFails (S.plan source.new)) result }
-    ensures sink { IsCounted WriteFault (O.faults sink.old) (O.faults sink.new) (O.room sink.old ≡ Endless) (O.room sink.new ≡ Endless) result }
-    ensures keeper { IsCounted KeeperFault (K.faults keeper.old) (K.faults keeper.new) (NeverFails (K.plan keeper.old)) (NeverFails (K.plan keeper.new)) result }
+    ensures source { IsCounted ReadFault (S.faults source.old) (S.faults source.new) (NeverFails (S.plan source.old))
+        (NeverFails (S.plan source.new)) result }
+    ensures sink { IsCounted WriteFault (O.faults sink.old) (O.faults sink.new) (O.room sink.old ≡ Endless)
+        (O.room sink.new ≡ Endless) result }
+    ensures keeper { IsCounted KeeperFault (K.faults keeper.old) (K.faults keeper.new) (NeverFails (K.plan keeper.old))
+        (NeverFails (K.plan keeper.new)) result }
 {
     let room = run.floor.room() as usize;
     match gather(rt, ahead, source, room, these) {

@@ -40,31 +40,43 @@ pub fn round<C: Crew, K: Keeper, O: Sink, P: Publisher>(
     requires width { width ≡ run.old.floor.inboxes.width }
     requires none { run.old.tickets.items ≡ [] }
     requires runs { (e : Setting) × (told : Option Told) × (answered : Option (List Finding)) × (s : State)
-        × Runs C.out C.number C.holds C.gave C.exact C.jobs C.answers e told answered run.old crew.old s × CanFeedAll run.old.floor.limits s these.now
-        × (e.number ≡ day) × (e.history ≡ history_of (K.told keeper.old)) × IsAbreast (P.posted publisher.old) (sum_of (settled_charges s)) }
+        × Runs C.out C.number C.holds C.gave C.exact C.jobs C.answers e told answered run.old crew.old s
+        × CanFeedAll run.old.floor.limits s these.now
+        × (e.number ≡ day) × (e.history ≡ history_of (K.told keeper.old))
+        × IsAbreast (P.posted publisher.old) (sum_of (settled_charges s)) }
     ensures width { run.new.floor.inboxes.width ≡ run.old.floor.inboxes.width }
     ensures limits { run.new.floor.limits ≡ run.old.floor.limits }
     ensures crew { C.which crew.new ≡ C.which crew.old }
     ensures none { OnOk result (run.new.tickets.items ≡ []) }
     ensures done { IfOk result (λ n. (e : Setting) (told : Option Told) (answered : Option (List Finding)) (s : State)
-        → Runs C.out C.number C.holds C.gave C.exact C.jobs C.answers e told answered run.old crew.old s → CanFeedAll run.old.floor.limits s these.now
+        → Runs C.out C.number C.holds C.gave C.exact C.jobs C.answers e told answered run.old crew.old s
+        → CanFeedAll run.old.floor.limits s these.now
         → e.number ≡ day → e.history ≡ history_of (K.told keeper.old)
-        → (now : State) × IsSettled run.old.floor.limits.backlog e s these.now (O.written sink.old) (O.written sink.new) (P.posted publisher.old) (P.posted publisher.new) now
-        × (n ≡ now.settled) × Runs C.out C.number C.holds C.gave C.exact C.jobs C.answers e told answered run.new crew.new now
+        → (now : State)
+        × IsSettled run.old.floor.limits.backlog e s these.now (O.written sink.old) (O.written sink.new)
+        (P.posted publisher.old) (P.posted publisher.new) now
+        × (n ≡ now.settled) × Runs C.out C.number C.holds C.gave C.exact C.jobs C.answers e told answered run.new
+        crew.new now
         × IsAbreast (P.posted publisher.new) (sum_of (settled_charges now))) }
     ensures stopped { OnErr result ((e : Setting) (told : Option Told) (answered : Option (List Finding)) (s : State)
-        → Runs C.out C.number C.holds C.gave C.exact C.jobs C.answers e told answered run.old crew.old s → CanFeedAll run.old.floor.limits s these.now
+        → Runs C.out C.number C.holds C.gave C.exact C.jobs C.answers e told answered run.old crew.old s
+        → CanFeedAll run.old.floor.limits s these.now
         → (whole : List RoadTuple) → AreFirst (s.fed ++ these.now) whole
-        → Stopped C.out C.number C.holds C.gave C.jobs told run.old.floor.inboxes.width run.old.floor.limits whole run.new crew.new) }
-    ensures front { IfErr result (λ fault. (e : Setting) (told : Option Told) (answered : Option (List Finding)) (s : State)
-        → Runs C.out C.number C.holds C.gave C.exact C.jobs C.answers e told answered run.old crew.old s → CanFeedAll run.old.floor.limits s these.now
+        → Stopped C.out C.number C.holds C.gave C.jobs told run.old.floor.inboxes.width run.old.floor.limits whole
+        run.new crew.new) }
+    ensures front { IfErr result (λ fault.
+        (e : Setting) (told : Option Told) (answered : Option (List Finding)) (s : State)
+        → Runs C.out C.number C.holds C.gave C.exact C.jobs C.answers e told answered run.old crew.old s
+        → CanFeedAll run.old.floor.limits s these.now
         → e.number ≡ day → e.history ≡ history_of (K.told keeper.old) → C.exact ≡ true
-        → (first : Option (List ℕ)) → HasText e s first (O.written sink.old) → HasFront fault e (s.fed ++ these.now) first (O.written sink.new)) }
+        → (first : Option (List ℕ)) → HasText e s first (O.written sink.old)
+        → HasFront fault e (s.fed ++ these.now) first (O.written sink.new)) }
     ensures published { OnErr result (published_of (P.posted publisher.new) ≡ published_of (P.posted publisher.old)) }
     ensures publisher { P.which publisher.new ≡ P.which publisher.old }
     ensures same { K.told keeper.new ≡ K.told keeper.old }
     ensures sink { SinkFaults (O.faults sink.old) (O.faults sink.new) (O.room sink.old) (O.room sink.new) result }
-    ensures keeper { KeeperFaults (K.faults keeper.old) (K.faults keeper.new) (K.plan keeper.old) (K.plan keeper.new) result }
+    ensures keeper { KeeperFaults (K.faults keeper.old) (K.faults keeper.new) (K.plan keeper.old) (K.plan keeper.new)
+        result }
 {
     let Ok(()) = work_round(run, crew, width, these) else {
         return Err(SettleFault::NoMemory);

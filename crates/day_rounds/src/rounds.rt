@@ -20,7 +20,9 @@ pub fn feed_these<T: Drop>(run: &mut Import<T>, these: &[Tuple]) -> Result<(), N
     ensures width { run.new.floor.inboxes.width ≡ run.old.floor.inboxes.width }
     ensures limits { run.new.floor.limits ≡ run.old.floor.limits }
     ensures tickets { run.new.tickets.items ≡ run.old.tickets.items }
-    ensures fed { OnOk result ((e : Setting) (s : State) → StandsFor e run.old.floor s → CanFeedAll run.old.floor.limits s these.now → StandsFor e run.new.floor (fed_all run.old.floor.inboxes.width s these.now)) }
+    ensures fed { OnOk result ((e : Setting) (s : State) → StandsFor e run.old.floor s
+        → CanFeedAll run.old.floor.limits s these.now
+        → StandsFor e run.new.floor (fed_all run.old.floor.inboxes.width s these.now)) }
 {
     for tuple in these {
         run.floor.feed(*tuple)?;
@@ -35,12 +37,19 @@ pub fn give_all<C: Crew>(
     width: u8,
 ) -> Result<(), NoMemory>
     requires width { width ≡ run.old.floor.inboxes.width }
-    requires runs { (e : Setting) × (told : Option Told) × (answered : Option (List Finding)) × (s : State) × Runs C.out C.number C.holds C.gave C.exact C.jobs C.answers e told answered run.old crew.old s }
+    requires runs { (e : Setting) × (told : Option Told) × (answered : Option (List Finding)) × (s : State)
+        × Runs C.out C.number C.holds C.gave C.exact C.jobs C.answers e told answered run.old crew.old s }
     ensures width { run.new.floor.inboxes.width ≡ run.old.floor.inboxes.width }
     ensures limits { run.new.floor.limits ≡ run.old.floor.limits }
     ensures which { C.which crew.new ≡ C.which crew.old }
-    ensures given { OnOk result ((e : Setting) (told : Option Told) (answered : Option (List Finding)) (s : State) → Runs C.out C.number C.holds C.gave C.exact C.jobs C.answers e told answered run.old crew.old s → Runs C.out C.number C.holds C.gave C.exact C.jobs C.answers e told answered run.new crew.new (given_all s width)) }
-    ensures refused { OnErr result ((e : Setting) (told : Option Told) (answered : Option (List Finding)) (s : State) → Runs C.out C.number C.holds C.gave C.exact C.jobs C.answers e told answered run.old crew.old s → (n : ℕ) × Runs C.out C.number C.holds C.gave C.exact C.jobs C.answers e told answered run.new crew.new (given_all s n)) }
+    ensures given { OnOk result ((e : Setting) (told : Option Told) (answered : Option (List Finding)) (s : State)
+        → Runs C.out C.number C.holds C.gave C.exact C.jobs C.answers e told answered run.old crew.old s
+        → Runs C.out C.number C.holds C.gave C.exact C.jobs C.answers e told answered run.new crew.new
+        (given_all s width)) }
+    ensures refused { OnErr result ((e : Setting) (told : Option Told) (answered : Option (List Finding)) (s : State)
+        → Runs C.out C.number C.holds C.gave C.exact C.jobs C.answers e told answered run.old crew.old s
+        → (n : ℕ) × Runs C.out C.number C.holds C.gave C.exact C.jobs C.answers e told answered run.new crew.new
+        (given_all s n)) }
 {
     for worker in 0..width {
         give_one(run, crew, worker)?;
@@ -50,13 +59,21 @@ pub fn give_all<C: Crew>(
 
 /// Finishes all jobs that are out, in the order of their starts. After a refusal the floor serves no more.
 pub fn finish_firsts<C: Crew>(run: &mut Import<C::Ticket>, crew: &mut C) -> Result<(), NoMemory>
-    requires runs { (e : Setting) × (told : Option Told) × (answered : Option (List Finding)) × (s : State) × Runs C.out C.number C.holds C.gave C.exact C.jobs C.answers e told answered run.old crew.old s }
+    requires runs { (e : Setting) × (told : Option Told) × (answered : Option (List Finding)) × (s : State)
+        × Runs C.out C.number C.holds C.gave C.exact C.jobs C.answers e told answered run.old crew.old s }
     ensures width { run.new.floor.inboxes.width ≡ run.old.floor.inboxes.width }
     ensures limits { run.new.floor.limits ≡ run.old.floor.limits }
     ensures which { C.which crew.new ≡ C.which crew.old }
     ensures none { OnOk result (run.new.tickets.items ≡ []) }
-    ensures came { OnOk result ((e : Setting) (told : Option Told) (answered : Option (List Finding)) (s : State) → Runs C.out C.number C.holds C.gave C.exact C.jobs C.answers e told answered run.old crew.old s → (now : State) × IsLater s now × Runs C.out C.number C.holds C.gave C.exact C.jobs C.answers e told answered run.new crew.new now) }
-    ensures stopped { OnErr result ((e : Setting) (told : Option Told) (answered : Option (List Finding)) (s : State) → Runs C.out C.number C.holds C.gave C.exact C.jobs C.answers e told answered run.old crew.old s → (day : List RoadTuple) → AreFirst s.fed day → Stopped C.out C.number C.holds C.gave C.jobs told run.old.floor.inboxes.width run.old.floor.limits day run.new crew.new) }
+    ensures came { OnOk result ((e : Setting) (told : Option Told) (answered : Option (List Finding)) (s : State)
+        → Runs C.out C.number C.holds C.gave C.exact C.jobs C.answers e told answered run.old crew.old s
+        → (now : State) × IsLater s now × Runs C.out C.number C.holds C.gave C.exact C.jobs C.answers e told answered
+        run.new crew.new now) }
+    ensures stopped { OnErr result ((e : Setting) (told : Option Told) (answered : Option (List Finding)) (s : State)
+        → Runs C.out C.number C.holds C.gave C.exact C.jobs C.answers e told answered run.old crew.old s
+        → (day : List RoadTuple) → AreFirst s.fed day
+        → Stopped C.out C.number C.holds C.gave C.jobs told run.old.floor.inboxes.width run.old.floor.limits day run.new
+        crew.new) }
 {
     while !run.tickets.is_empty() {
         finish_one(run, crew, 0)?;
@@ -64,7 +81,8 @@ pub fn finish_firsts<C: Crew>(run: &mut Import<C::Ticket>, crew: &mut C) -> Resu
     Ok(())
 }
 
-/// Feeds some tuples, gives each worker its job, and finishes all in that order: nothing is out or waits then, where nothing was out before.
+/// Feeds some tuples, gives each worker its job, and finishes all in that order: nothing is out or waits then, where
+/// nothing was out before.
 pub fn work_round<C: Crew>(
     run: &mut Import<C::Ticket>,
     crew: &mut C,
@@ -72,14 +90,24 @@ pub fn work_round<C: Crew>(
     these: &[Tuple],
 ) -> Result<(), NoMemory>
     requires width { width ≡ run.old.floor.inboxes.width }
-    requires runs { (e : Setting) × (told : Option Told) × (answered : Option (List Finding)) × (s : State) × Runs C.out C.number C.holds C.gave C.exact C.jobs C.answers e told answered run.old crew.old s × CanFeedAll run.old.floor.limits s these.now }
+    requires runs { (e : Setting) × (told : Option Told) × (answered : Option (List Finding)) × (s : State)
+        × Runs C.out C.number C.holds C.gave C.exact C.jobs C.answers e told answered run.old crew.old s
+        × CanFeedAll run.old.floor.limits s these.now }
     requires none { run.old.tickets.items ≡ [] }
     ensures width { run.new.floor.inboxes.width ≡ run.old.floor.inboxes.width }
     ensures limits { run.new.floor.limits ≡ run.old.floor.limits }
     ensures which { C.which crew.new ≡ C.which crew.old }
     ensures none { OnOk result (run.new.tickets.items ≡ []) }
-    ensures done { OnOk result ((e : Setting) (told : Option Told) (answered : Option (List Finding)) (s : State) → Runs C.out C.number C.holds C.gave C.exact C.jobs C.answers e told answered run.old crew.old s → CanFeedAll run.old.floor.limits s these.now → (now : State) × IsDone run.old.floor.inboxes.width s these.now now × Runs C.out C.number C.holds C.gave C.exact C.jobs C.answers e told answered run.new crew.new now) }
-    ensures stopped { OnErr result ((e : Setting) (told : Option Told) (answered : Option (List Finding)) (s : State) → Runs C.out C.number C.holds C.gave C.exact C.jobs C.answers e told answered run.old crew.old s → CanFeedAll run.old.floor.limits s these.now → (day : List RoadTuple) → AreFirst (s.fed ++ these.now) day → Stopped C.out C.number C.holds C.gave C.jobs told run.old.floor.inboxes.width run.old.floor.limits day run.new crew.new) }
+    ensures done { OnOk result ((e : Setting) (told : Option Told) (answered : Option (List Finding)) (s : State)
+        → Runs C.out C.number C.holds C.gave C.exact C.jobs C.answers e told answered run.old crew.old s
+        → CanFeedAll run.old.floor.limits s these.now
+        → (now : State) × IsDone run.old.floor.inboxes.width s these.now now
+        × Runs C.out C.number C.holds C.gave C.exact C.jobs C.answers e told answered run.new crew.new now) }
+    ensures stopped { OnErr result ((e : Setting) (told : Option Told) (answered : Option (List Finding)) (s : State)
+        → Runs C.out C.number C.holds C.gave C.exact C.jobs C.answers e told answered run.old crew.old s
+        → CanFeedAll run.old.floor.limits s these.now → (day : List RoadTuple) → AreFirst (s.fed ++ these.now) day
+        → Stopped C.out C.number C.holds C.gave C.jobs told run.old.floor.inboxes.width run.old.floor.limits day run.new
+        crew.new) }
 {
     feed_these(run, these)?;
     give_all(run, crew, width)?;

@@ -44,7 +44,8 @@ pub fn run_rounds<C: Crew, S: Source, K: Keeper, O: Sink, P: Publisher, R: Threa
     requires none { run.old.tickets.items ≡ [] }
     requires unfailed { HasFailedAhead ahead.old → ⊥ }
     requires runs { (e : Setting) × (told : Option Told) × (answered : Option (List Finding)) × (late : ℕ)
-        × Runs C.out C.number C.holds C.gave C.exact C.jobs C.answers e told answered run.old crew.old start × IsGatheringAhead ahead.old run.old.floor.limits late []
+        × Runs C.out C.number C.holds C.gave C.exact C.jobs C.answers e told answered run.old crew.old start
+        × IsGatheringAhead ahead.old run.old.floor.limits late []
         × (e.number ≡ day) × (e.history ≡ history_of (K.told keeper.old)) × IsAbreast (P.posted publisher.old) 0 }
     ensures width { run.new.floor.inboxes.width ≡ run.old.floor.inboxes.width }
     ensures limits { run.new.floor.limits ≡ run.old.floor.limits }
@@ -52,23 +53,32 @@ pub fn run_rounds<C: Crew, S: Source, K: Keeper, O: Sink, P: Publisher, R: Threa
     ensures none { OnOk result (run.new.tickets.items ≡ []) }
     ensures ended { OnOk result (has_more ahead.new ≡ false) }
     ensures done { IfOk result (λ n. (e : Setting) (told : Option Told) (answered : Option (List Finding)) (late : ℕ)
-        → Runs C.out C.number C.holds C.gave C.exact C.jobs C.answers e told answered run.old crew.old start → IsGatheringAhead ahead.old run.old.floor.limits late []
+        → Runs C.out C.number C.holds C.gave C.exact C.jobs C.answers e told answered run.old crew.old start
+        → IsGatheringAhead ahead.old run.old.floor.limits late []
         → e.number ≡ day → e.history ≡ history_of (K.told keeper.old)
         → (now : State) × IsOn run.old.floor.limits late e ahead.old ahead.new (S.left source.old) (S.left source.new)
         (O.written sink.old) (O.written sink.new) (P.posted publisher.old) (P.posted publisher.new) now
-        × (now.settled ≡ length now.fed) × (n ≡ now.settled) × Runs C.out C.number C.holds C.gave C.exact C.jobs C.answers e told answered run.new crew.new now) }
-    ensures halted { IfErr result (λ fault. (e : Setting) (told : Option Told) (answered : Option (List Finding)) (late : ℕ)
-        → Runs C.out C.number C.holds C.gave C.exact C.jobs C.answers e told answered run.old crew.old start → IsGatheringAhead ahead.old run.old.floor.limits late []
+        × (now.settled ≡ length now.fed) × (n ≡ now.settled)
+        × Runs C.out C.number C.holds C.gave C.exact C.jobs C.answers e told answered run.new crew.new now) }
+    ensures halted { IfErr result (λ fault.
+        (e : Setting) (told : Option Told) (answered : Option (List Finding)) (late : ℕ)
+        → Runs C.out C.number C.holds C.gave C.exact C.jobs C.answers e told answered run.old crew.old start
+        → IsGatheringAhead ahead.old run.old.floor.limits late []
         → e.number ≡ day → e.history ≡ history_of (K.told keeper.old)
-        → IsCut C.out C.number C.holds C.gave C.exact C.jobs fault e told run.old.floor.inboxes.width run.old.floor.limits late ahead.old (S.left source.old)
+        → IsCut C.out C.number C.holds C.gave C.exact C.jobs fault e told run.old.floor.inboxes.width
+        run.old.floor.limits late ahead.old (S.left source.old)
         (O.written sink.old) (O.written sink.new) (P.posted publisher.old) (P.posted publisher.new) run.new crew.new) }
-    ensures read { (lines : ℕ) (bytes : List ℕ) → HasReadAhead ahead.old lines (S.left source.old) bytes → HasReadAhead ahead.new lines (S.left source.new) bytes }
+    ensures read { (lines : ℕ) (bytes : List ℕ) → HasReadAhead ahead.old lines (S.left source.old) bytes
+        → HasReadAhead ahead.new lines (S.left source.new) bytes }
     ensures source_same { S.name source.new ≡ S.name source.old }
     ensures publisher { P.which publisher.new ≡ P.which publisher.old }
     ensures same { K.told keeper.new ≡ K.told keeper.old }
-    ensures source { IsCounted ReadFault (S.faults source.old) (S.faults source.new) (NeverFails (S.plan source.old)) (NeverFails (S.plan source.new)) result }
-    ensures sink { IsCounted WriteFault (O.faults sink.old) (O.faults sink.new) (O.room sink.old ≡ Endless) (O.room sink.new ≡ Endless) result }
-    ensures keeper { IsCounted KeeperFault (K.faults keeper.old) (K.faults keeper.new) (NeverFails (K.plan keeper.old)) (NeverFails (K.plan keeper.new)) result }
+    ensures source { IsCounted ReadFault (S.faults source.old) (S.faults source.new) (NeverFails (S.plan source.old))
+        (NeverFails (S.plan source.new)) result }
+    ensures sink { IsCounted WriteFault (O.faults sink.old) (O.faults sink.new) (O.room sink.old ≡ Endless)
+        (O.room sink.new ≡ Endless) result }
+    ensures keeper { IsCounted KeeperFault (K.faults keeper.old) (K.faults keeper.new) (NeverFails (K.plan keeper.old))
+        (NeverFails (K.plan keeper.new)) result }
 {
     let mut settled = 0;
     'day: while ahead.more() {

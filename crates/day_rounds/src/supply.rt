@@ -21,10 +21,12 @@ pub fn gather<S: Source, R: Threads>(
     these: &mut Vec<Tuple>,
 ) -> Result<(), ReadStop>
     requires unfailed { HasFailedAhead ahead.old → ⊥ }
-    ensures given { OnOk result ((limits : DayLimits) (late : ℕ) → HasGiven limits late these.new.items ahead.old ahead.new (S.left source.old) (S.left source.new)) }
+    ensures given { OnOk result ((limits : DayLimits) (late : ℕ)
+        → HasGiven limits late these.new.items ahead.old ahead.new (S.left source.old) (S.left source.new)) }
     ensures few { OnOk result (length these.new.items ≤ count) }
     ensures some { OnOk result (has_more ahead.old ≡ true → 1 ≤ count → 1 ≤ length these.new.items) }
-    ensures read { (lines : ℕ) (bytes : List ℕ) → HasReadAhead ahead.old lines (S.left source.old) bytes → HasReadAhead ahead.new lines (S.left source.new) bytes }
+    ensures read { (lines : ℕ) (bytes : List ℕ) → HasReadAhead ahead.old lines (S.left source.old) bytes
+        → HasReadAhead ahead.new lines (S.left source.new) bytes }
     ensures source_same { S.name source.new ≡ S.name source.old }
     ensures unfailed { OnOk result (HasFailedAhead ahead.new → ⊥) }
     ensures later { S.faults source.old ≤ S.faults source.new }

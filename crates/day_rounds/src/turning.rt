@@ -35,11 +35,15 @@ pub fn give_drawn<C: Crew>(
     rng: &mut Lcg64Xsh32,
 ) -> Result<(), NoMemory>
     requires width { width ≡ run.old.floor.inboxes.width }
-    requires runs { (e : Setting) × (told : Option Told) × (answered : Option (List Finding)) × (s : State) × Runs C.out C.number C.holds C.gave C.exact C.jobs C.answers e told answered run.old crew.old s }
+    requires runs { (e : Setting) × (told : Option Told) × (answered : Option (List Finding)) × (s : State)
+        × Runs C.out C.number C.holds C.gave C.exact C.jobs C.answers e told answered run.old crew.old s }
     ensures width { run.new.floor.inboxes.width ≡ run.old.floor.inboxes.width }
     ensures limits { run.new.floor.limits ≡ run.old.floor.limits }
     ensures which { C.which crew.new ≡ C.which crew.old }
-    ensures given { (e : Setting) (told : Option Told) (answered : Option (List Finding)) (s : State) → Runs C.out C.number C.holds C.gave C.exact C.jobs C.answers e told answered run.old crew.old s → (now : State) × (k : ℕ) × IsGiven run.old.floor.inboxes.width k s now × Runs C.out C.number C.holds C.gave C.exact C.jobs C.answers e told answered run.new crew.new now }
+    ensures given { (e : Setting) (told : Option Told) (answered : Option (List Finding)) (s : State)
+        → Runs C.out C.number C.holds C.gave C.exact C.jobs C.answers e told answered run.old crew.old s
+        → (now : State) × (k : ℕ) × IsGiven run.old.floor.inboxes.width k s now
+        × Runs C.out C.number C.holds C.gave C.exact C.jobs C.answers e told answered run.new crew.new now }
     ensures drawn { OnOk result (rng.new ≡ after_draws width rng.old) }
 {
     for _count in 0..width {
@@ -56,12 +60,20 @@ fn give_if_none<C: Crew>(
     worker: u8,
 ) -> Result<(), NoMemory>
     requires within { worker < run.old.floor.inboxes.width }
-    requires runs { (e : Setting) × (told : Option Told) × (answered : Option (List Finding)) × (s : State) × Runs C.out C.number C.holds C.gave C.exact C.jobs C.answers e told answered run.old crew.old s }
+    requires runs { (e : Setting) × (told : Option Told) × (answered : Option (List Finding)) × (s : State)
+        × Runs C.out C.number C.holds C.gave C.exact C.jobs C.answers e told answered run.old crew.old s }
     ensures width { run.new.floor.inboxes.width ≡ run.old.floor.inboxes.width }
     ensures limits { run.new.floor.limits ≡ run.old.floor.limits }
     ensures which { C.which crew.new ≡ C.which crew.old }
-    ensures given { OnOk result ((e : Setting) (told : Option Told) (answered : Option (List Finding)) (s : State) → Runs C.out C.number C.holds C.gave C.exact C.jobs C.answers e told answered run.old crew.old s → (now : State) × (k : ℕ) × IsGiven run.old.floor.inboxes.width k s now × Runs C.out C.number C.holds C.gave C.exact C.jobs C.answers e told answered run.new crew.new now × (((run.old.tickets.items ≡ []) → (v : ℕ) → v < worker → (s.share v).waiting ≡ []) → run.new.tickets.items ≡ [] → (v : ℕ) → v < worker + 1 → (now.share v).waiting ≡ [])) }
-    ensures refused { OnErr result ((e : Setting) (told : Option Told) (answered : Option (List Finding)) (s : State) → Runs C.out C.number C.holds C.gave C.exact C.jobs C.answers e told answered run.old crew.old s → Runs C.out C.number C.holds C.gave C.exact C.jobs C.answers e told answered run.new crew.new s) }
+    ensures given { OnOk result ((e : Setting) (told : Option Told) (answered : Option (List Finding)) (s : State)
+        → Runs C.out C.number C.holds C.gave C.exact C.jobs C.answers e told answered run.old crew.old s
+        → (now : State) × (k : ℕ) × IsGiven run.old.floor.inboxes.width k s now
+        × Runs C.out C.number C.holds C.gave C.exact C.jobs C.answers e told answered run.new crew.new now
+        × (((run.old.tickets.items ≡ []) → (v : ℕ) → v < worker → (s.share v).waiting ≡ []) → run.new.tickets.items ≡ []
+        → (v : ℕ) → v < worker + 1 → (now.share v).waiting ≡ [])) }
+    ensures refused { OnErr result ((e : Setting) (told : Option Told) (answered : Option (List Finding)) (s : State)
+        → Runs C.out C.number C.holds C.gave C.exact C.jobs C.answers e told answered run.old crew.old s
+        → Runs C.out C.number C.holds C.gave C.exact C.jobs C.answers e told answered run.new crew.new s) }
 {
     if !run.tickets.is_empty() {
         return Ok(());
@@ -76,12 +88,20 @@ pub fn give_least<C: Crew>(
     width: u8,
 ) -> Result<(), NoMemory>
     requires width { width ≡ run.old.floor.inboxes.width }
-    requires runs { (e : Setting) × (told : Option Told) × (answered : Option (List Finding)) × (s : State) × Runs C.out C.number C.holds C.gave C.exact C.jobs C.answers e told answered run.old crew.old s }
+    requires runs { (e : Setting) × (told : Option Told) × (answered : Option (List Finding)) × (s : State)
+        × Runs C.out C.number C.holds C.gave C.exact C.jobs C.answers e told answered run.old crew.old s }
     ensures width { run.new.floor.inboxes.width ≡ run.old.floor.inboxes.width }
     ensures limits { run.new.floor.limits ≡ run.old.floor.limits }
     ensures which { C.which crew.new ≡ C.which crew.old }
-    ensures given { OnOk result ((e : Setting) (told : Option Told) (answered : Option (List Finding)) (s : State) → Runs C.out C.number C.holds C.gave C.exact C.jobs C.answers e told answered run.old crew.old s → (now : State) × (k : ℕ) × IsGiven run.old.floor.inboxes.width k s now × Runs C.out C.number C.holds C.gave C.exact C.jobs C.answers e told answered run.new crew.new now × (run.new.tickets.items ≡ [] → (worker : ℕ) → worker < width → (now.share worker).waiting ≡ [])) }
-    ensures refused { OnErr result ((e : Setting) (told : Option Told) (answered : Option (List Finding)) (s : State) → Runs C.out C.number C.holds C.gave C.exact C.jobs C.answers e told answered run.old crew.old s → (now : State) × (k : ℕ) × IsGiven run.old.floor.inboxes.width k s now × Runs C.out C.number C.holds C.gave C.exact C.jobs C.answers e told answered run.new crew.new now) }
+    ensures given { OnOk result ((e : Setting) (told : Option Told) (answered : Option (List Finding)) (s : State)
+        → Runs C.out C.number C.holds C.gave C.exact C.jobs C.answers e told answered run.old crew.old s
+        → (now : State) × (k : ℕ) × IsGiven run.old.floor.inboxes.width k s now
+        × Runs C.out C.number C.holds C.gave C.exact C.jobs C.answers e told answered run.new crew.new now
+        × (run.new.tickets.items ≡ [] → (worker : ℕ) → worker < width → (now.share worker).waiting ≡ [])) }
+    ensures refused { OnErr result ((e : Setting) (told : Option Told) (answered : Option (List Finding)) (s : State)
+        → Runs C.out C.number C.holds C.gave C.exact C.jobs C.answers e told answered run.old crew.old s
+        → (now : State) × (k : ℕ) × IsGiven run.old.floor.inboxes.width k s now
+        × Runs C.out C.number C.holds C.gave C.exact C.jobs C.answers e told answered run.new crew.new now) }
 {
     for worker in 0..width {
         give_if_none(run, crew, worker)?;
@@ -95,16 +115,27 @@ pub fn finish_drawn<C: Crew>(
     crew: &mut C,
     rng: &mut Lcg64Xsh32,
 ) -> Result<(), NoMemory>
-    requires runs { (e : Setting) × (told : Option Told) × (answered : Option (List Finding)) × (s : State) × Runs C.out C.number C.holds C.gave C.exact C.jobs C.answers e told answered run.old crew.old s }
+    requires runs { (e : Setting) × (told : Option Told) × (answered : Option (List Finding)) × (s : State)
+        × Runs C.out C.number C.holds C.gave C.exact C.jobs C.answers e told answered run.old crew.old s }
     ensures width { run.new.floor.inboxes.width ≡ run.old.floor.inboxes.width }
     ensures limits { run.new.floor.limits ≡ run.old.floor.limits }
     ensures which { C.which crew.new ≡ C.which crew.old }
-    ensures came { OnOk result ((e : Setting) (told : Option Told) (answered : Option (List Finding)) (s : State) → Runs C.out C.number C.holds C.gave C.exact C.jobs C.answers e told answered run.old crew.old s → (now : State) × (k : ℕ) × IsMoved run.old.floor.inboxes.width k s now × (length run.new.tickets.items + k ≡ length run.old.tickets.items) × Runs C.out C.number C.holds C.gave C.exact C.jobs C.answers e told answered run.new crew.new now) }
-    ensures some { OnOk result (1 ≤ length run.old.tickets.items → length run.new.tickets.items + 1 ≤ length run.old.tickets.items) }
-    ensures stopped { OnErr result ((e : Setting) (told : Option Told) (answered : Option (List Finding)) (s : State) → Runs C.out C.number C.holds C.gave C.exact C.jobs C.answers e told answered run.old crew.old s → (day : List RoadTuple) → AreFirst s.fed day → Stopped C.out C.number C.holds C.gave C.jobs told run.old.floor.inboxes.width run.old.floor.limits day run.new crew.new) }
+    ensures came { OnOk result ((e : Setting) (told : Option Told) (answered : Option (List Finding)) (s : State)
+        → Runs C.out C.number C.holds C.gave C.exact C.jobs C.answers e told answered run.old crew.old s
+        → (now : State) × (k : ℕ) × IsMoved run.old.floor.inboxes.width k s now
+        × (length run.new.tickets.items + k ≡ length run.old.tickets.items)
+        × Runs C.out C.number C.holds C.gave C.exact C.jobs C.answers e told answered run.new crew.new now) }
+    ensures some { OnOk result (1 ≤ length run.old.tickets.items
+        → length run.new.tickets.items + 1 ≤ length run.old.tickets.items) }
+    ensures stopped { OnErr result ((e : Setting) (told : Option Told) (answered : Option (List Finding)) (s : State)
+        → Runs C.out C.number C.holds C.gave C.exact C.jobs C.answers e told answered run.old crew.old s
+        → (day : List RoadTuple) → AreFirst s.fed day
+        → Stopped C.out C.number C.holds C.gave C.jobs told run.old.floor.inboxes.width run.old.floor.limits day run.new
+        crew.new) }
     ensures none { OnOk result (length run.old.tickets.items ≡ 0 → rng.new ≡ rng.old) }
     ensures drawn { OnOk result (1 ≤ length run.old.tickets.items
-        → (length run.new.tickets.items + (1 + (drawn (length run.old.tickets.items) rng.old).0) ≡ length run.old.tickets.items)
+        → (length run.new.tickets.items + (1 + (drawn (length run.old.tickets.items) rng.old).0)
+        ≡ length run.old.tickets.items)
         × (rng.new ≡ after_draws (2 + (drawn (length run.old.tickets.items) rng.old).0) rng.old)) }
 {
     let held = run.tickets.len();
@@ -128,12 +159,21 @@ pub fn work_turn<C: Crew>(
     rng: &mut Lcg64Xsh32,
 ) -> Result<(), NoMemory>
     requires width { width ≡ run.old.floor.inboxes.width }
-    requires runs { (e : Setting) × (told : Option Told) × (answered : Option (List Finding)) × (s : State) × Runs C.out C.number C.holds C.gave C.exact C.jobs C.answers e told answered run.old crew.old s }
+    requires runs { (e : Setting) × (told : Option Told) × (answered : Option (List Finding)) × (s : State)
+        × Runs C.out C.number C.holds C.gave C.exact C.jobs C.answers e told answered run.old crew.old s }
     ensures width { run.new.floor.inboxes.width ≡ run.old.floor.inboxes.width }
     ensures limits { run.new.floor.limits ≡ run.old.floor.limits }
     ensures which { C.which crew.new ≡ C.which crew.old }
-    ensures worked { OnOk result ((e : Setting) (told : Option Told) (answered : Option (List Finding)) (s : State) → Runs C.out C.number C.holds C.gave C.exact C.jobs C.answers e told answered run.old crew.old s → (now : State) × (k : ℕ) × IsMoved run.old.floor.inboxes.width k s now × Runs C.out C.number C.holds C.gave C.exact C.jobs C.answers e told answered run.new crew.new now × (k ≡ 0 → mark run.old.floor.inboxes.width s ≡ length s.fed)) }
-    ensures stopped { OnErr result ((e : Setting) (told : Option Told) (answered : Option (List Finding)) (s : State) → Runs C.out C.number C.holds C.gave C.exact C.jobs C.answers e told answered run.old crew.old s → (day : List RoadTuple) → AreFirst s.fed day → Stopped C.out C.number C.holds C.gave C.jobs told run.old.floor.inboxes.width run.old.floor.limits day run.new crew.new) }
+    ensures worked { OnOk result ((e : Setting) (told : Option Told) (answered : Option (List Finding)) (s : State)
+        → Runs C.out C.number C.holds C.gave C.exact C.jobs C.answers e told answered run.old crew.old s
+        → (now : State) × (k : ℕ) × IsMoved run.old.floor.inboxes.width k s now
+        × Runs C.out C.number C.holds C.gave C.exact C.jobs C.answers e told answered run.new crew.new now
+        × (k ≡ 0 → mark run.old.floor.inboxes.width s ≡ length s.fed)) }
+    ensures stopped { OnErr result ((e : Setting) (told : Option Told) (answered : Option (List Finding)) (s : State)
+        → Runs C.out C.number C.holds C.gave C.exact C.jobs C.answers e told answered run.old crew.old s
+        → (day : List RoadTuple) → AreFirst s.fed day
+        → Stopped C.out C.number C.holds C.gave C.jobs told run.old.floor.inboxes.width run.old.floor.limits day run.new
+        crew.new) }
 {
     give_drawn(run, crew, width, rng)?;
     give_least(run, crew, width)?;

@@ -1,5 +1,6 @@
 // Turns as they are drawn.
-ghost use Rattle.std.specs.Prelude.{true, false, ◌≡◌, ◌++◌, ◌+◌, ◌≤◌, [], ℕ, List, Option, IfOk, IfErr, OnOk, OnErr, length};
+ghost use Rattle.std.specs.Prelude.{true, false, ◌≡◌, ◌++◌, ◌+◌, ◌≤◌, [], ℕ, List, Option, IfOk, IfErr, OnOk, OnErr};
+ghost use Rattle.std.specs.Prelude.{length};
 ghost use Rattle.road_time.specs.declared.road.Tuple.{Tuple as RoadTuple};
 ghost use Rattle.road_time.specs.Day.{sum_of};
 ghost use Rattle.expressway.specs.Results.{AreFirst};
@@ -38,25 +39,33 @@ pub fn feed_turn<C: Crew>(
 ) -> Result<(), NoMemory>
     requires width { width ≡ run.old.floor.inboxes.width }
     requires runs { (e : Setting) × (told : Option Told) × (answered : Option (List Finding)) × (s : State)
-        × Runs C.out C.number C.holds C.gave C.exact C.jobs C.answers e told answered run.old crew.old s × CanFeedAll run.old.floor.limits s these.now }
+        × Runs C.out C.number C.holds C.gave C.exact C.jobs C.answers e told answered run.old crew.old s
+        × CanFeedAll run.old.floor.limits s these.now }
     ensures width { run.new.floor.inboxes.width ≡ run.old.floor.inboxes.width }
     ensures limits { run.new.floor.limits ≡ run.old.floor.limits }
     ensures which { C.which crew.new ≡ C.which crew.old }
     ensures worked { OnOk result ((e : Setting) (told : Option Told) (answered : Option (List Finding)) (s : State)
-        → Runs C.out C.number C.holds C.gave C.exact C.jobs C.answers e told answered run.old crew.old s → CanFeedAll run.old.floor.limits s these.now
-        → (now : State) × (k : ℕ) × IsMoved run.old.floor.inboxes.width k (fed_all run.old.floor.inboxes.width s these.now) now
+        → Runs C.out C.number C.holds C.gave C.exact C.jobs C.answers e told answered run.old crew.old s
+        → CanFeedAll run.old.floor.limits s these.now
+        → (now : State) × (k : ℕ)
+        × IsMoved run.old.floor.inboxes.width k (fed_all run.old.floor.inboxes.width s these.now) now
         × Runs C.out C.number C.holds C.gave C.exact C.jobs C.answers e told answered run.new crew.new now
-        × (k ≡ 0 → mark run.old.floor.inboxes.width (fed_all run.old.floor.inboxes.width s these.now) ≡ length (fed_all run.old.floor.inboxes.width s these.now).fed)) }
+        × (k ≡ 0
+        → mark run.old.floor.inboxes.width (fed_all run.old.floor.inboxes.width s these.now)
+        ≡ length (fed_all run.old.floor.inboxes.width s these.now).fed)) }
     ensures stopped { OnErr result ((e : Setting) (told : Option Told) (answered : Option (List Finding)) (s : State)
-        → Runs C.out C.number C.holds C.gave C.exact C.jobs C.answers e told answered run.old crew.old s → CanFeedAll run.old.floor.limits s these.now
+        → Runs C.out C.number C.holds C.gave C.exact C.jobs C.answers e told answered run.old crew.old s
+        → CanFeedAll run.old.floor.limits s these.now
         → (whole : List RoadTuple) → AreFirst (s.fed ++ these.now) whole
-        → Stopped C.out C.number C.holds C.gave C.jobs told run.old.floor.inboxes.width run.old.floor.limits whole run.new crew.new) }
+        → Stopped C.out C.number C.holds C.gave C.jobs told run.old.floor.inboxes.width run.old.floor.limits whole
+        run.new crew.new) }
 {
     feed_these(run, these)?;
     work_turn(run, crew, width, rng)
 }
 
-/// A turn over some tuples: they are fed, some jobs are given and finished as they are drawn, and what can be is settled.
+/// A turn over some tuples: they are fed, some jobs are given and finished as they are drawn, and what can be is
+/// settled.
 pub fn turn<C: Crew, K: Keeper, O: Sink, P: Publisher>(
     run: &mut Import<C::Ticket>,
     crew: &mut C,
@@ -70,31 +79,42 @@ pub fn turn<C: Crew, K: Keeper, O: Sink, P: Publisher>(
 ) -> Result<u64, SettleFault>
     requires width { width ≡ run.old.floor.inboxes.width }
     requires runs { (e : Setting) × (told : Option Told) × (answered : Option (List Finding)) × (s : State)
-        × Runs C.out C.number C.holds C.gave C.exact C.jobs C.answers e told answered run.old crew.old s × CanFeedAll run.old.floor.limits s these.now
-        × (e.number ≡ day) × (e.history ≡ history_of (K.told keeper.old)) × IsAbreast (P.posted publisher.old) (sum_of (settled_charges s)) }
+        × Runs C.out C.number C.holds C.gave C.exact C.jobs C.answers e told answered run.old crew.old s
+        × CanFeedAll run.old.floor.limits s these.now
+        × (e.number ≡ day) × (e.history ≡ history_of (K.told keeper.old))
+        × IsAbreast (P.posted publisher.old) (sum_of (settled_charges s)) }
     ensures width { run.new.floor.inboxes.width ≡ run.old.floor.inboxes.width }
     ensures limits { run.new.floor.limits ≡ run.old.floor.limits }
     ensures crew { C.which crew.new ≡ C.which crew.old }
     ensures done { IfOk result (λ n. (e : Setting) (told : Option Told) (answered : Option (List Finding)) (s : State)
-        → Runs C.out C.number C.holds C.gave C.exact C.jobs C.answers e told answered run.old crew.old s → CanFeedAll run.old.floor.limits s these.now
+        → Runs C.out C.number C.holds C.gave C.exact C.jobs C.answers e told answered run.old crew.old s
+        → CanFeedAll run.old.floor.limits s these.now
         → e.number ≡ day → e.history ≡ history_of (K.told keeper.old)
         → (now : State) × (k : ℕ)
-        × IsTurned run.old.floor.inboxes.width run.old.floor.limits.backlog k e s these.now (O.written sink.old) (O.written sink.new) (P.posted publisher.old) (P.posted publisher.new) now
-        × (n ≡ now.settled) × Runs C.out C.number C.holds C.gave C.exact C.jobs C.answers e told answered run.new crew.new now
+        × IsTurned run.old.floor.inboxes.width run.old.floor.limits.backlog k e s these.now (O.written sink.old)
+        (O.written sink.new) (P.posted publisher.old) (P.posted publisher.new) now
+        × (n ≡ now.settled) × Runs C.out C.number C.holds C.gave C.exact C.jobs C.answers e told answered run.new
+        crew.new now
         × IsAbreast (P.posted publisher.new) (sum_of (settled_charges now))) }
     ensures stopped { OnErr result ((e : Setting) (told : Option Told) (answered : Option (List Finding)) (s : State)
-        → Runs C.out C.number C.holds C.gave C.exact C.jobs C.answers e told answered run.old crew.old s → CanFeedAll run.old.floor.limits s these.now
+        → Runs C.out C.number C.holds C.gave C.exact C.jobs C.answers e told answered run.old crew.old s
+        → CanFeedAll run.old.floor.limits s these.now
         → (whole : List RoadTuple) → AreFirst (s.fed ++ these.now) whole
-        → Stopped C.out C.number C.holds C.gave C.jobs told run.old.floor.inboxes.width run.old.floor.limits whole run.new crew.new) }
-    ensures front { IfErr result (λ fault. (e : Setting) (told : Option Told) (answered : Option (List Finding)) (s : State)
-        → Runs C.out C.number C.holds C.gave C.exact C.jobs C.answers e told answered run.old crew.old s → CanFeedAll run.old.floor.limits s these.now
+        → Stopped C.out C.number C.holds C.gave C.jobs told run.old.floor.inboxes.width run.old.floor.limits whole
+        run.new crew.new) }
+    ensures front { IfErr result (λ fault.
+        (e : Setting) (told : Option Told) (answered : Option (List Finding)) (s : State)
+        → Runs C.out C.number C.holds C.gave C.exact C.jobs C.answers e told answered run.old crew.old s
+        → CanFeedAll run.old.floor.limits s these.now
         → e.number ≡ day → e.history ≡ history_of (K.told keeper.old) → C.exact ≡ true
-        → (first : Option (List ℕ)) → HasText e s first (O.written sink.old) → HasFront fault e (s.fed ++ these.now) first (O.written sink.new)) }
+        → (first : Option (List ℕ)) → HasText e s first (O.written sink.old)
+        → HasFront fault e (s.fed ++ these.now) first (O.written sink.new)) }
     ensures published { OnErr result (published_of (P.posted publisher.new) ≡ published_of (P.posted publisher.old)) }
     ensures publisher { P.which publisher.new ≡ P.which publisher.old }
     ensures same { K.told keeper.new ≡ K.told keeper.old }
     ensures sink { SinkFaults (O.faults sink.old) (O.faults sink.new) (O.room sink.old) (O.room sink.new) result }
-    ensures keeper { KeeperFaults (K.faults keeper.old) (K.faults keeper.new) (K.plan keeper.old) (K.plan keeper.new) result }
+    ensures keeper { KeeperFaults (K.faults keeper.old) (K.faults keeper.new) (K.plan keeper.old) (K.plan keeper.new)
+        result }
 {
     let Ok(()) = feed_turn(run, crew, width, these, rng) else {
         return Err(SettleFault::NoMemory);

@@ -15,6 +15,3 @@ pub use desk_crew::DeskCrew;
 pub use inline_desk::InlineDesk;
 pub use lane_loops::{Lane, Lanes, Listener, MemListener, ServeEnd, serve};
 pub use shared_desk::SharedDesk;
-
-#[cfg(test)]
-mod tests;

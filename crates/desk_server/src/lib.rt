@@ -10,6 +10,3 @@ mod serving;
 
 pub use ending::ServerEnd;
 pub use serving::serve_words;
-
-#[cfg(test)]
-mod tests;

@@ -9,6 +9,3 @@ mod beside_digester;
 mod held;
 
 pub use beside_digester::BesideDigester;
-
-#[cfg(test)]
-mod tests;

@@ -15,7 +15,8 @@ pub(crate) fn feed_all(floor: &mut Floor, tuples: &[Tuple]) -> Result<(), NoMemo
     requires room { length tuples.now ≤ (limits_of floor.old).backlog }
     ensures width { width_of floor.new ≡ width_of floor.old }
     ensures limits { limits_of floor.new ≡ limits_of floor.old }
-    ensures fed { OnOk result ((g : Setting) → StandsFor g floor.old start → StandsFor g floor.new (after_fed (width_of floor.old) start tuples.now)) }
+    ensures fed { OnOk result ((g : Setting) → StandsFor g floor.old start
+        → StandsFor g floor.new (after_fed (width_of floor.old) start tuples.now)) }
 {
     for tuple in tuples {
         floor.feed(*tuple)?;

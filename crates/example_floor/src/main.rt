@@ -1,7 +1,8 @@
 //! Rows of the floor: days of a few lines that are fed, cut over workers, run, settled and closed.
 //!
-//! It prints for each day what waits, the mark before and after the jobs, the jobs, and what is left. What it must print
-//! was worked out by hand. `turns::run_and_settle` is a proved caller of the floor: what it writes is the output of the rules.
+//! It prints for each day what waits, the mark before and after the jobs, the jobs, and what is left. What it must
+//! print was worked out by hand. `turns::run_and_settle` is a proved caller of the floor: what it writes is the output
+//! of the rules.
 #![tactic(auto)]
 
 mod feeding;

@@ -48,9 +48,11 @@ fn settle_day<K: Keeper, O: Sink>(
     ensures wrote { OnOk result ((kept : ℕ → ℕ → ℕ → ℕ) → history_of (K.told keeper.old) ≡ Some kept
         → Appends (O.written sink.old) (O.written sink.new) (out (notices tuples.now [] 100 kept))) }
     ensures took { OnOk result ((kept : ℕ → ℕ → ℕ → ℕ) → history_of (K.told keeper.old) ≡ Some kept
-        → TakesDay tuples.now [] 100 kept (O.written sink.old, O.room sink.old) (O.written sink.new, O.room sink.new) (K.plan keeper.old) (K.plan keeper.new)) }
+        → TakesDay tuples.now [] 100 kept (O.written sink.old, O.room sink.old) (O.written sink.new, O.room sink.new)
+        (K.plan keeper.old) (K.plan keeper.new)) }
     ensures stopped { IfErr result (λ fault. (kept : ℕ → ℕ → ℕ → ℕ) → history_of (K.told keeper.old) ≡ Some kept
-        → StopsDay fault tuples.now [] 100 kept (O.written sink.old, O.room sink.old) (O.written sink.new, O.room sink.new) (K.plan keeper.old) (K.plan keeper.new)) }
+        → StopsDay fault tuples.now [] 100 kept (O.written sink.old, O.room sink.old)
+        (O.written sink.new, O.room sink.new) (K.plan keeper.old) (K.plan keeper.new)) }
 {
     let tariffs = Tariffs::new(rt.alloc());
     let Ok(mut floor) = Floor::new(rt.alloc(), width, &Limits::DAY, &tariffs) else {
@@ -78,8 +80,8 @@ fn settle_day<K: Keeper, O: Sink>(
     }
 }
 
-/// Settles a day into a sink in memory. Of a day that is longer than the sink's room it has as much as there is room for;
-/// and where the keeper fails, the first of its calls that was planned to fail is one of the day's requests.
+/// Settles a day into a sink in memory. Of a day that is longer than the sink's room it has as much as there is room
+/// for; and where the keeper fails, the first of its calls that was planned to fail is one of the day's requests.
 fn settle_in_memory(
     rt: HostRuntime,
     width: u8,
@@ -91,18 +93,22 @@ fn settle_in_memory(
     requires few { width ≤ 64 }
     requires fit { Fit tuples.now DAY }
     requires room { length tuples.now ≤ DAY.backlog }
-    ensures fits { OnOk result (length (out (notices tuples.now [] 100 (paid (kept_by keeper.old).rows))) ≤ room_of sink.old) }
+    ensures fits { OnOk result (length (out (notices tuples.now [] 100 (paid (kept_by keeper.old).rows)))
+        ≤ room_of sink.old) }
     ensures passed { OnOk result ((i : ℕ) → i < asked tuples.now → plan_of keeper.old i ≡ false) }
     ensures full { result ≡ Err WriteFault
-        → bytes_of sink.new ≡ bytes_of sink.old ++ take (room_of sink.old) (out (notices tuples.now [] 100 (paid (kept_by keeper.old).rows))) }
+        → bytes_of sink.new
+        ≡ bytes_of sink.old ++ take (room_of sink.old)
+        (out (notices tuples.now [] 100 (paid (kept_by keeper.old).rows))) }
     ensures failed { result ≡ Err KeeperFault
-        → (i : ℕ) × (i < asked tuples.now) × (plan_of keeper.old i ≡ true) × ((j : ℕ) → j < i → plan_of keeper.old j ≡ false) }
+        → (i : ℕ) × (i < asked tuples.now) × (plan_of keeper.old i ≡ true)
+        × ((j : ℕ) → j < i → plan_of keeper.old j ≡ false) }
 {
     settle_day(rt, width, tuples, keeper, sink)
 }
 
-/// Prints what is done with a day's lines: over so many workers, a keeper that fails at some calls, and a sink with room
-/// for so many bytes.
+/// Prints what is done with a day's lines: over so many workers, a keeper that fails at some calls, and a sink with
+/// room for so many bytes.
 fn show_row<R: Threads>(
     rt: HostRuntime,
     threads: &R,

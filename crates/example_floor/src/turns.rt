@@ -30,9 +30,13 @@ pub fn run_next(rt: HostRuntime, floor: &mut Floor, worker: u8) -> Result<(), No
     requires serves { Serves floor.old }
     ensures width { width_of floor.new ≡ width_of floor.old }
     ensures limits { limits_of floor.new ≡ limits_of floor.old }
-    ensures ran { OnOk result ((g : Setting) (s : State) → StandsFor g floor.old s → StandsFor g floor.new (after_run g.tariffs s worker)) }
-    ensures charged { OnOk result ((g : Setting) (s : State) → StandsFor g floor.old s → settled_charges (after_run g.tariffs s worker) ≡ settled_charges s) }
-    ensures right { OnOk result ((g : Setting) (s : State) → StandsFor g floor.old s → IsTrue g.tariffs (width_of floor.old) s → IsTrue g.tariffs (width_of floor.old) (after_run g.tariffs s worker)) }
+    ensures ran { OnOk result ((g : Setting) (s : State) → StandsFor g floor.old s
+        → StandsFor g floor.new (after_run g.tariffs s worker)) }
+    ensures charged { OnOk result ((g : Setting) (s : State) → StandsFor g floor.old s
+        → settled_charges (after_run g.tariffs s worker) ≡ settled_charges s) }
+    ensures right { OnOk result ((g : Setting) (s : State) → StandsFor g floor.old s
+        → IsTrue g.tariffs (width_of floor.old) s
+        → IsTrue g.tariffs (width_of floor.old) (after_run g.tariffs s worker)) }
 {
     let Some(job) = floor.give(worker) else {
         let _shown = show_none(rt, worker).is_ok();
@@ -56,9 +60,12 @@ pub fn run_all(rt: HostRuntime, floor: &mut Floor, width: u8) -> Result<(), NoMe
     requires serves { Serves floor.old }
     ensures width { width_of floor.new ≡ width_of floor.old }
     ensures limits { limits_of floor.new ≡ limits_of floor.old }
-    ensures ran { OnOk result ((g : Setting) (s : State) → StandsFor g floor.old s → StandsFor g floor.new (after_runs g.tariffs s width)) }
-    ensures charged { OnOk result ((g : Setting) (s : State) → StandsFor g floor.old s → settled_charges (after_runs g.tariffs s width) ≡ settled_charges s) }
-    ensures answered { OnOk result ((g : Setting) (s : State) → StandsFor g floor.old s → AllHome s → IsTrue g.tariffs width s → AreAnswered g.tariffs width s.fed (after_runs g.tariffs s width)) }
+    ensures ran { OnOk result ((g : Setting) (s : State) → StandsFor g floor.old s
+        → StandsFor g floor.new (after_runs g.tariffs s width)) }
+    ensures charged { OnOk result ((g : Setting) (s : State) → StandsFor g floor.old s
+        → settled_charges (after_runs g.tariffs s width) ≡ settled_charges s) }
+    ensures answered { OnOk result ((g : Setting) (s : State) → StandsFor g floor.old s → AllHome s
+        → IsTrue g.tariffs width s → AreAnswered g.tariffs width s.fed (after_runs g.tariffs s width)) }
 {
     for worker in 0..width {
         run_next(rt, floor, worker)?;
@@ -67,7 +74,8 @@ pub fn run_all(rt: HostRuntime, floor: &mut Floor, width: u8) -> Result<(), NoMe
 }
 
 /// Runs the next job of each worker, and settles. Where no job was out, the findings were true and nothing was settled,
-/// it writes the output of the rules, or is stopped where the sink's room is full or the keeper's call was planned to fail.
+/// it writes the output of the rules, or is stopped where the sink's room is full or the keeper's call was planned to
+/// fail.
 pub fn run_and_settle<K: Keeper, O: Sink, P: Publisher>(
     rt: HostRuntime,
     floor: &mut Floor,
@@ -78,15 +86,26 @@ pub fn run_and_settle<K: Keeper, O: Sink, P: Publisher>(
     publisher: &mut P,
 ) -> Result<u64, SettleFault>
     requires width { width ≡ width_of floor.old }
-    requires serves { (g : Setting) × (s : State) × StandsFor g floor.old s × (g.number ≡ day) × (g.history ≡ history_of (K.told keeper.old)) × IsAbreast (P.posted publisher.old) (sum_of (settled_charges s)) }
-    ensures settled { IfOk result (λ n. (g : Setting) (s : State) → StandsFor g floor.old s → g.number ≡ day → g.history ≡ history_of (K.told keeper.old) → AllHome s → IsTrue g.tariffs width s → (n ≡ length s.fed) × StandsFor g floor.new (after_settle (after_runs g.tariffs s width) n)) }
-    ensures wrote { OnOk result ((g : Setting) (s : State) (kept : ℕ → ℕ → ℕ → ℕ) → StandsFor g floor.old s → g.number ≡ day → g.history ≡ history_of (K.told keeper.old) → g.history ≡ Some kept → AllHome s → IsTrue g.tariffs width s → s.settled ≡ 0 → Appends (O.written sink.old) (O.written sink.new) (out (notices s.fed g.tariffs day kept))) }
-    ensures took { OnOk result ((g : Setting) (s : State) (kept : ℕ → ℕ → ℕ → ℕ) → StandsFor g floor.old s → g.number ≡ day → g.history ≡ history_of (K.told keeper.old)
+    requires serves { (g : Setting) × (s : State) × StandsFor g floor.old s × (g.number ≡ day)
+        × (g.history ≡ history_of (K.told keeper.old))
+        × IsAbreast (P.posted publisher.old) (sum_of (settled_charges s)) }
+    ensures settled { IfOk result (λ n. (g : Setting) (s : State) → StandsFor g floor.old s → g.number ≡ day
+        → g.history ≡ history_of (K.told keeper.old) → AllHome s → IsTrue g.tariffs width s
+        → (n ≡ length s.fed) × StandsFor g floor.new (after_settle (after_runs g.tariffs s width) n)) }
+    ensures wrote { OnOk result ((g : Setting) (s : State) (kept : ℕ → ℕ → ℕ → ℕ) → StandsFor g floor.old s
+        → g.number ≡ day → g.history ≡ history_of (K.told keeper.old) → g.history ≡ Some kept → AllHome s
+        → IsTrue g.tariffs width s → s.settled ≡ 0
+        → Appends (O.written sink.old) (O.written sink.new) (out (notices s.fed g.tariffs day kept))) }
+    ensures took { OnOk result ((g : Setting) (s : State) (kept : ℕ → ℕ → ℕ → ℕ) → StandsFor g floor.old s
+        → g.number ≡ day → g.history ≡ history_of (K.told keeper.old)
         → g.history ≡ Some kept → AllHome s → IsTrue g.tariffs width s → s.settled ≡ 0
-        → TakesDay s.fed g.tariffs day kept (O.written sink.old, O.room sink.old) (O.written sink.new, O.room sink.new) (K.plan keeper.old) (K.plan keeper.new)) }
-    ensures stopped { IfErr result (λ fault. (g : Setting) (s : State) (kept : ℕ → ℕ → ℕ → ℕ) → StandsFor g floor.old s → g.number ≡ day → g.history ≡ history_of (K.told keeper.old)
+        → TakesDay s.fed g.tariffs day kept (O.written sink.old, O.room sink.old) (O.written sink.new, O.room sink.new)
+        (K.plan keeper.old) (K.plan keeper.new)) }
+    ensures stopped { IfErr result (λ fault. (g : Setting) (s : State) (kept : ℕ → ℕ → ℕ → ℕ) → StandsFor g floor.old s
+        → g.number ≡ day → g.history ≡ history_of (K.told keeper.old)
         → g.history ≡ Some kept → AllHome s → IsTrue g.tariffs width s → s.settled ≡ 0
-        → StopsDay fault s.fed g.tariffs day kept (O.written sink.old, O.room sink.old) (O.written sink.new, O.room sink.new) (K.plan keeper.old) (K.plan keeper.new)) }
+        → StopsDay fault s.fed g.tariffs day kept (O.written sink.old, O.room sink.old)
+        (O.written sink.new, O.room sink.new) (K.plan keeper.old) (K.plan keeper.new)) }
 {
     if run_all(rt, floor, width).is_err() {
         return Err(SettleFault::NoMemory);

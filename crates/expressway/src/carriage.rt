@@ -14,8 +14,8 @@ use road_time::{NoMemory, Tariffs};
 use std::alloc::Global;
 use std::marker::Model;
 
-/// What one worker keeps of its ways: the sliding averages, who stands where, and the tariffs. It stands for the events that were run on it.
-/// It moves as one pointer.
+/// What one worker keeps of its ways: the sliding averages, who stands where, and the tariffs. It stands for the events
+/// that were run on it. It moves as one pointer.
 #[derive(Drop)]
 pub struct Carriage {
     parts: Box<Parts>,
@@ -46,8 +46,10 @@ impl Carriage {
     pub(crate) fn next(&mut self, event: &LaneEvent) -> Result<Option<Finding>, NoMemory>
         requires { (before : List Event) × IsReady self.old before (event.now ∷ []) }
         ensures tariffs { OnOk result (self.new.tariffs ≡ self.old.tariffs) }
-        ensures carried { OnOk result ((before : List Event) → IsReady self.old before (event.now ∷ []) → StandsFor self.new (before ++ event.now ∷ [])) }
-        ensures found { IfOk result (λ found. (before : List Event) → IsReady self.old before (event.now ∷ []) → cons_option (option_map shown found) [] ≡ findings before (event.now ∷ []) self.old.tariffs) }
+        ensures carried { OnOk result ((before : List Event) → IsReady self.old before (event.now ∷ [])
+            → StandsFor self.new (before ++ event.now ∷ [])) }
+        ensures found { IfOk result (λ found. (before : List Event) → IsReady self.old before (event.now ∷ [])
+            → cons_option (option_map shown found) [] ≡ findings before (event.now ∷ []) self.old.tariffs) }
     {
         self.parts.next(event)
     }

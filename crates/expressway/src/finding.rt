@@ -3,8 +3,8 @@ ghost use Rattle.std.specs.Prelude.{◌≡◌};
 
 use std::marker::Model;
 
-/// What the vehicle of the report at a position is to be told: the average in whole miles per hour, -1 for none, the toll of the stretch that it enters,
-/// and the segment of the nearest accident ahead.
+/// What the vehicle of the report at a position is to be told: the average in whole miles per hour, -1 for none, the
+/// toll of the stretch that it enters, and the segment of the nearest accident ahead.
 #[derive(Clone, Copy, Debug, PartialEq, Eq)]
 pub struct Finding {
     pub position: u32,

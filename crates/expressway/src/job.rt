@@ -23,8 +23,8 @@ pub struct Job {
     pub events: Events,
 }
 
-/// What was done of a job: the carriage after its events, and what they found. Where memory ran out the findings are those of its first events, and the
-/// carriage serves no more.
+/// What was done of a job: the carriage after its events, and what they found. Where memory ran out the findings are
+/// those of its first events, and the carriage serves no more.
 #[derive(Drop)]
 pub struct Done {
     pub worker: u8,
@@ -36,7 +36,8 @@ pub struct Done {
 
 /// Keeps a finding, if there is one.
 fn keep(found: &mut Vec<Finding>, finding: Option<Finding>) -> Result<(), NoMemory>
-    ensures kept { OnOk result (map shown found.new.items ≡ map shown found.old.items ++ cons_option (option_map shown finding) []) }
+    ensures kept { OnOk result (map shown found.new.items
+        ≡ map shown found.old.items ++ cons_option (option_map shown finding) []) }
     ensures refused { OnErr result (found.new.items ≡ found.old.items) }
 {
     if let Some(finding) = finding {
@@ -54,9 +55,12 @@ fn run_each(
     requires ready { (before : List Event) × IsReady carriage.old before events.now }
     requires nothing { found.old.items ≡ [] }
     ensures tariffs { OnOk result (carriage.new.tariffs ≡ carriage.old.tariffs) }
-    ensures carried { OnOk result ((before : List Event) → IsReady carriage.old before events.now → StandsFor carriage.new (before ++ events.now)) }
-    ensures found { OnOk result ((before : List Event) → IsReady carriage.old before events.now → map shown found.new.items ≡ findings before events.now carriage.old.tariffs) }
-    ensures first { OnErr result ((before : List Event) → IsReady carriage.old before events.now → AreFirst (map shown found.new.items) (findings before events.now carriage.old.tariffs)) }
+    ensures carried { OnOk result ((before : List Event) → IsReady carriage.old before events.now
+        → StandsFor carriage.new (before ++ events.now)) }
+    ensures found { OnOk result ((before : List Event) → IsReady carriage.old before events.now
+        → map shown found.new.items ≡ findings before events.now carriage.old.tariffs) }
+    ensures first { OnErr result ((before : List Event) → IsReady carriage.old before events.now
+        → AreFirst (map shown found.new.items) (findings before events.now carriage.old.tariffs)) }
 {
     for event in events {
         let finding = carriage.next(event)?;
@@ -65,8 +69,9 @@ fn run_each(
     Ok(())
 }
 
-/// Runs the events of a job on its carriage. It asks that the carriage stands for some events, that the job's may follow them (Times do not fall, and a vehicle
-/// leaves only where it stands), and that all reports of both are a day's.
+/// Runs the events of a job on its carriage. It asks that the carriage stands for some events, that the job's may
+/// follow them (Times do not fall, and a vehicle leaves only where it stands), and that all reports of both are a
+/// day's.
 pub fn run(alloc: Global, job: Job) -> Done
     requires { (before : List Event) × IsReady job.carriage before job.events }
     ensures { IsResultOf job result }

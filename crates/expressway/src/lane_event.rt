@@ -4,8 +4,9 @@ ghost use Rattle.std.specs.Prelude.{◌≡◌};
 use road_time::{Place, Report};
 use std::marker::Model;
 
-/// What a worker is told: a report of one of its ways, with its position in the day, whether it begins a stay and whether its vehicle is stopped there,
-/// or that a vehicle left a place of one where it stood, with the position and second of the report by which it did.
+/// What a worker is told: a report of one of its ways, with its position in the day, whether it begins a stay and
+/// whether its vehicle is stopped there, or that a vehicle left a place of one where it stood, with the position and
+/// second of the report by which it did.
 #[derive(Clone, Copy, Debug, PartialEq, Eq)]
 pub enum LaneEvent {
     Seen {

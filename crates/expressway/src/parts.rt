@@ -81,7 +81,8 @@ fn note(speeds: &mut Speeds, report: &Report) -> Result<(), NoMemory>
     requires minute { speeds.old.minute ≡ minute_of report.now.time }
     requires one { (notes : List Note) × AveragesStandFor speeds.old notes × CanNote notes (note_of report.now) }
     ensures minute { speeds.new.minute ≡ speeds.old.minute }
-    ensures noted { OnOk result ((notes : List Note) → AveragesStandFor speeds.old notes → CanNote notes (note_of report.now) → AveragesStandFor speeds.new (notes ++ note_of report.now ∷ [])) }
+    ensures noted { OnOk result ((notes : List Note) → AveragesStandFor speeds.old notes
+        → CanNote notes (note_of report.now) → AveragesStandFor speeds.new (notes ++ note_of report.now ∷ [])) }
 {
     speeds.note(stretch_of(report), report.vid, report.spd)
 }
@@ -90,7 +91,8 @@ fn note(speeds: &mut Speeds, report: &Report) -> Result<(), NoMemory>
 fn stop_if(stops: &mut Stops, stopped: bool, report: &Report) -> Result<(), NoMemory>
     requires second { stops.old.second ≡ report.now.time }
     ensures second { stops.new.second ≡ stops.old.second }
-    ensures stopped { OnOk result ((before : List Entry) (position : ℕ) (begins : Bool) → StopsStandFor stops.old before → StopsStandFor stops.new (before ++ entries (Seen position report.now begins stopped ∷ []))) }
+    ensures stopped { OnOk result ((before : List Entry) (position : ℕ) (begins : Bool) → StopsStandFor stops.old before
+        → StopsStandFor stops.new (before ++ entries (Seen position report.now begins stopped ∷ []))) }
 {
     if stopped {
         stops.stop(place(report), report.vid)?;
@@ -127,7 +129,11 @@ impl Parts {
     fn find(&self, position: u32, report: &Report) -> Finding
         requires segment { report.now.seg ≤ 99 }
         requires direction { report.now.dir ≤ 1 }
-        ensures { (before : List Event) → IsAt self.now report.now.time before → shown result ≡ (position, finding_by (notes_of (seen before)) (standing_at (entries before)) self.now.tariffs report.now) }
+        ensures { (before : List Event) → IsAt self.now report.now.time before
+            → shown result ≡ (
+              position,
+              finding_by (notes_of (seen before)) (standing_at (entries before)) self.now.tariffs report.now,
+            ) }
     {
         let stretch = stretch_of(report);
         let tariff = self.tariffs.of(report.xway);
@@ -146,7 +152,9 @@ impl Parts {
     fn find_if(&self, position: u32, report: &Report, begins: bool) -> Option<Finding>
         requires segment { report.now.seg ≤ 99 }
         requires direction { report.now.dir ≤ 1 }
-        ensures { (before : List Event) → IsAt self.now report.now.time before → option_map shown result ≡ found_if (begins && not (report.now.lane == 4)) (notes_of (seen before)) (standing_at (entries before)) self.now.tariffs position report.now }
+        ensures { (before : List Event) → IsAt self.now report.now.time before
+            → option_map shown result ≡ found_if (begins && not (report.now.lane == 4)) (notes_of (seen before))
+            (standing_at (entries before)) self.now.tariffs position report.now }
     {
         if begins && report.lane != EXIT_LANE {
             Some(self.find(position, report))
@@ -165,8 +173,13 @@ impl Parts {
     ) -> Result<Option<Finding>, NoMemory>
         requires { (before : List Event) × IsReady self.old before (Seen position report.now begins stopped ∷ []) }
         ensures tariffs { OnOk result (self.new.tariffs ≡ self.old.tariffs) }
-        ensures carried { OnOk result ((before : List Event) → IsReady self.old before (Seen position report.now begins stopped ∷ []) → StandsFor self.new (before ++ Seen position report.now begins stopped ∷ [])) }
-        ensures found { IfOk result (λ found. (before : List Event) → IsReady self.old before (Seen position report.now begins stopped ∷ []) → cons_option (option_map shown found) [] ≡ findings before (Seen position report.now begins stopped ∷ []) self.old.tariffs) }
+        ensures carried { OnOk result ((before : List Event)
+            → IsReady self.old before (Seen position report.now begins stopped ∷ [])
+            → StandsFor self.new (before ++ Seen position report.now begins stopped ∷ [])) }
+        ensures found { IfOk result (λ found. (before : List Event)
+            → IsReady self.old before (Seen position report.now begins stopped ∷ [])
+            → cons_option (option_map shown found) []
+            ≡ findings before (Seen position report.now begins stopped ∷ []) self.old.tariffs) }
     {
         self.advance(report.time);
         let finding = self.find_if(position, report, begins);
@@ -177,9 +190,12 @@ impl Parts {
 
     /// A vehicle left a place.
     fn leave(&mut self, time: u32, vid: u32, place: Place)
-        requires { (position : ℕ) × (before : List Event) × IsReady self.old before (Leave position time vid place ∷ []) }
+        requires { (position : ℕ) × (before : List Event)
+            × IsReady self.old before (Leave position time vid place ∷ []) }
         ensures tariffs { self.new.tariffs ≡ self.old.tariffs }
-        ensures carried { (position : ℕ) (before : List Event) → IsReady self.old before (Leave position time vid place ∷ []) → StandsFor self.new (before ++ Leave position time vid place ∷ []) }
+        ensures carried { (position : ℕ) (before : List Event)
+            → IsReady self.old before (Leave position time vid place ∷ [])
+            → StandsFor self.new (before ++ Leave position time vid place ∷ []) }
     {
         self.advance(time);
         self.stops.leave(place, vid);
@@ -189,8 +205,10 @@ impl Parts {
     pub(crate) fn next(&mut self, event: &LaneEvent) -> Result<Option<Finding>, NoMemory>
         requires { (before : List Event) × IsReady self.old before (event.now ∷ []) }
         ensures tariffs { OnOk result (self.new.tariffs ≡ self.old.tariffs) }
-        ensures carried { OnOk result ((before : List Event) → IsReady self.old before (event.now ∷ []) → StandsFor self.new (before ++ event.now ∷ [])) }
-        ensures found { IfOk result (λ found. (before : List Event) → IsReady self.old before (event.now ∷ []) → cons_option (option_map shown found) [] ≡ findings before (event.now ∷ []) self.old.tariffs) }
+        ensures carried { OnOk result ((before : List Event) → IsReady self.old before (event.now ∷ [])
+            → StandsFor self.new (before ++ event.now ∷ [])) }
+        ensures found { IfOk result (λ found. (before : List Event) → IsReady self.old before (event.now ∷ [])
+            → cons_option (option_map shown found) [] ≡ findings before (event.now ∷ []) self.old.tariffs) }
     {
         match *event {
             LaneEvent::Seen {

@@ -16,6 +16,3 @@ pub use laws::{spelling_law, words_law};
 pub use numbers::{needed, optional};
 pub use table::{option, place};
 pub use words::{fault_of, read_words};
-
-#[cfg(test)]
-mod tests;

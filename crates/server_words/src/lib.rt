@@ -12,6 +12,3 @@ mod words;
 pub use laws::{spelling_law, words_law};
 pub use serving::Serving;
 pub use words::read_words;
-
-#[cfg(test)]
-mod tests;

@@ -17,7 +17,8 @@ pub fn charge_stay(
     requires told { WasTold charge vid book.old }
     requires few { book.old.made < 16000000 }
     ensures booked { OnOk result (book.new ≡ charged_with (charges_for charge vid book.old) book.old) }
-    ensures listed { OnOk result (map charge_of charges.new.items ≡ map charge_of charges.old.items ++ charges_for charge vid book.old) }
+    ensures listed { OnOk result (map charge_of charges.new.items
+        ≡ map charge_of charges.old.items ++ charges_for charge vid book.old) }
 {
     match charge {
         Charge::No => Ok(()),

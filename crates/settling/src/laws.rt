@@ -1,5 +1,6 @@
 //! Laws of what is settled, as contracts of functions that run nothing.
-ghost use Rattle.settling.specs.Laws.{ExactLaw, FedLaw, FeedLaw, FindingLaw, LaterLaw, FillLaw, TotalLaw, MergedLaw, WroteLaw};
+ghost use Rattle.settling.specs.Laws.{ExactLaw, FedLaw, FeedLaw, FindingLaw, LaterLaw, FillLaw, TotalLaw, MergedLaw};
+ghost use Rattle.settling.specs.Laws.{WroteLaw};
 
 /// After a history that is told, notices are those of the definitions.
 pub fn exact_law()

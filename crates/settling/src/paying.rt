@@ -12,7 +12,8 @@ pub fn paid_on<K: Keeper>(keeper: &mut K, day: u32, vid: u32, xway: u8) -> Resul
     ensures paid { IfOk result (λ amount. IsPaid (history_of (K.told keeper.old)) day vid xway amount) }
     ensures same { K.told keeper.new ≡ K.told keeper.old }
     ensures once { AsksOnce result (K.plan keeper.old) (K.plan keeper.new) }
-    ensures faults { KeeperFaults (K.faults keeper.old) (K.faults keeper.new) (K.plan keeper.old) (K.plan keeper.new) result }
+    ensures faults { KeeperFaults (K.faults keeper.old) (K.faults keeper.new) (K.plan keeper.old) (K.plan keeper.new)
+        result }
     ensures other { write_failed result ≡ false }
 {
     match keeper.spent(day, vid, xway) {

@@ -41,7 +41,8 @@ impl Printer {
 
     /// Hands the piece on.
     pub fn flush<O: Sink>(&mut self, sink: &mut O) -> Result<(), SettleFault>
-        ensures hands { HandsOn result self.old self.new (O.written sink.old, O.room sink.old) (O.written sink.new, O.room sink.new) }
+        ensures hands { HandsOn result self.old self.new (O.written sink.old, O.room sink.old)
+            (O.written sink.new, O.room sink.new) }
         ensures faults { SinkFaults (O.faults sink.old) (O.faults sink.new) (O.room sink.old) (O.room sink.new) result }
         ensures other { keeper_failed result ≡ false }
     {
@@ -59,7 +60,8 @@ impl Printer {
     #[inline(always)]
     pub fn put<O: Sink>(&mut self, notice: &Notice, sink: &mut O) -> Result<(), SettleFault>
         requires { self.old.notices + 1 < 2 ^ 64 }
-        ensures says { Says result self.old self.new (O.written sink.old, O.room sink.old) (O.written sink.new, O.room sink.new) (notice.now ∷ []) }
+        ensures says { Says result self.old self.new (O.written sink.old, O.room sink.old)
+            (O.written sink.new, O.room sink.new) (notice.now ∷ []) }
         ensures faults { SinkFaults (O.faults sink.old) (O.faults sink.new) (O.room sink.old) (O.room sink.new) result }
         ensures other { keeper_failed result ≡ false }
     {
@@ -83,7 +85,8 @@ impl Printer {
         sink: &mut O,
     ) -> Result<(), SettleFault>
         requires { self.old.notices + 1 < 2 ^ 64 }
-        ensures says { Says result self.old self.new (O.written sink.old, O.room sink.old) (O.written sink.new, O.room sink.new) (alert_to time vid alert) }
+        ensures says { Says result self.old self.new (O.written sink.old, O.room sink.old)
+            (O.written sink.new, O.room sink.new) (alert_to time vid alert) }
         ensures faults { SinkFaults (O.faults sink.old) (O.faults sink.new) (O.room sink.old) (O.room sink.new) result }
         ensures other { keeper_failed result ≡ false }
     {
@@ -102,7 +105,8 @@ impl Printer {
         sink: &mut O,
     ) -> Result<(), SettleFault>
         requires { self.old.notices + 2 < 2 ^ 64 }
-        ensures says { Says result self.old self.new (O.written sink.old, O.room sink.old) (O.written sink.new, O.room sink.new) (told_notices true time vid found) }
+        ensures says { Says result self.old self.new (O.written sink.old, O.room sink.old)
+            (O.written sink.new, O.room sink.new) (told_notices true time vid found) }
         ensures faults { SinkFaults (O.faults sink.old) (O.faults sink.new) (O.room sink.old) (O.room sink.new) result }
         ensures other { keeper_failed result ≡ false }
     {

@@ -29,7 +29,8 @@ pub struct Settler {
 impl Settler {
     /// Nothing is settled. It takes no memory.
     pub fn new(alloc: Global) -> Self
-        ensures { (finding : Sight → Finding) (number : ℕ) (history : History) → StandsFor result finding number history [] }
+        ensures { (finding : Sight → Finding) (number : ℕ) (history : History)
+            → StandsFor result finding number history [] }
     {
         Settler {
             book: Book::new(alloc),

@@ -1,5 +1,6 @@
 // What is kept of a tuple that waits to be settled.
-ghost use Rattle.std.specs.Prelude.{◌≡◌, ◌<◌, ◌==◌, ◌&&◌, not, List, None, length, slice_index, slice_set, slice_get, Some};
+ghost use Rattle.std.specs.Prelude.{◌≡◌, ◌<◌, ◌==◌, ◌&&◌, not, List, None, length, slice_index, slice_set, slice_get};
+ghost use Rattle.std.specs.Prelude.{Some};
 ghost use Rattle.std.specs.VecDeque.{deque_len};
 ghost use Rattle.road_time.specs.declared.road.Tuple.{Tuple as TupleValue};
 ghost use Rattle.road_time.specs.declared.road.Tuple.TheVariants.{Report as ReportTuple};
@@ -78,7 +79,8 @@ impl Due {
     /// What a report calls for, by what the tracker told of it.
     #[inline(always)]
     pub fn of_report(report: &Report, tracked: &Tracked) -> Due
-        ensures { result ≡ ReportDue report.now.time report.now.vid tracked.now.charge (tracked.now.begins && not (report.now.lane == 4)) }
+        ensures { result ≡ ReportDue report.now.time report.now.vid tracked.now.charge
+            (tracked.now.begins && not (report.now.lane == 4)) }
     {
         Due::Report {
             time: report.time,
@@ -117,7 +119,8 @@ impl Slot {
     /// The slot of a report, by what the tracker told of it.
     #[inline(always)]
     pub fn of_report(report: &Report, tracked: &Tracked) -> Slot
-        ensures { (finding : Sight → Finding) (day : List TupleValue) → IsTold tracked.now day report.now → finding (length day, report.now) ≡ no_finding
+        ensures { (finding : Sight → Finding) (day : List TupleValue) → IsTold tracked.now day report.now
+            → finding (length day, report.now) ≡ no_finding
             → result ≡ slot_of finding (day, ReportTuple report.now) }
     {
         Slot {
@@ -129,7 +132,8 @@ impl Slot {
     /// The slot of a tuple that is no report.
     #[inline(always)]
     pub fn of_request(tuple: &Tuple) -> Slot
-        ensures { (finding : Sight → Finding) (day : List TupleValue) → report_of tuple.now ≡ None → result ≡ slot_of finding (day, tuple.now) }
+        ensures { (finding : Sight → Finding) (day : List TupleValue) → report_of tuple.now ≡ None
+            → result ≡ slot_of finding (day, tuple.now) }
     {
         Slot {
             due: Due::of_request(tuple),
@@ -143,7 +147,8 @@ impl Slot {
 pub fn fill(slots: &mut VecDeque<Slot>, at: usize, found: Found)
     requires { at < deque_len slots.old }
     ensures len { deque_len slots.new ≡ deque_len slots.old }
-    ensures filled { (slot : SlotValue) → slice_get slots.old.items at ≡ Some slot → slots.new.items ≡ slice_set slots.old.items at (record { due = slot.due; found = found }) }
+    ensures filled { (slot : SlotValue) → slice_get slots.old.items at ≡ Some slot
+        → slots.new.items ≡ slice_set slots.old.items at (record { due = slot.due; found = found }) }
 {
     slots[at].found = found;
 }

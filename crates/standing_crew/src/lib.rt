@@ -29,6 +29,3 @@ pub use helper::{Helper, Helpers, help};
 pub use hiring::{Crewed, standing};
 pub use place::Place;
 pub use sends::{crew_may_go, helper_may_go};
-
-#[cfg(test)]
-mod tests;

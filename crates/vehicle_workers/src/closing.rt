@@ -1,5 +1,6 @@
 // The accounts and notices of a day, in one pass at its end.
-ghost use Rattle.std.specs.Prelude.{◌≡◌, ◌≤◌, ◌<◌, ◌-◌, ◌++◌, ◌∷◌, [], ℕ, List, Some, OnOk, IfOk, All, length, slice_index_or};
+ghost use Rattle.std.specs.Prelude.{◌≡◌, ◌≤◌, ◌<◌, ◌-◌, ◌++◌, ◌∷◌, [], ℕ, List, Some, OnOk, IfOk, All, length};
+ghost use Rattle.std.specs.Prelude.{slice_index_or};
 ghost use Rattle.road_time.specs.declared.road.Tuple.{Tuple as TupleValue};
 ghost use Rattle.road_time.specs.declared.road.Tuple.TheVariants.{Report as ReportTuple};
 ghost use Rattle.road_time.specs.declared.road.Notice.{Notice as NoticeValue};
@@ -8,7 +9,8 @@ ghost use Rattle.road_time.specs.Day.{notices_by, given};
 ghost use Rattle.road_time.specs.Sights.{Sight, moments};
 ghost use Rattle.road_time.specs.Tolls.{Finding as FindingValue};
 ghost use Rattle.settling.specs.Answers.{alert_to, told_notices, IsSaid};
-ghost use Rattle.settling.specs.Books.{WasTold, CanSettle, HasFewTolls, charges_for, charged_with, told_with, book_after};
+ghost use Rattle.settling.specs.Books.{WasTold, CanSettle, HasFewTolls, charges_for, charged_with, told_with};
+ghost use Rattle.settling.specs.Books.{book_after};
 ghost use Rattle.settling.specs.Slots.{slot_of, found_of};
 ghost use Rattle.vehicle_workers.specs.Seen.{tracked_by, tracked_after};
 ghost use Rattle.vehicle_workers.specs.Closing.{IsPlaced};
@@ -89,7 +91,9 @@ fn close_slot(
     requires few { book.old.made < 16000000 }
     requires toll { slot.found.toll ≤ 500000000000 }
     ensures booked { OnOk result (book.new ≡ book_after slot.due slot.found.toll book.old) }
-    ensures said { OnOk result ((said : List NoticeValue) × IsSaid (Some (amounts_of payments.now.amounts.entries)) number slot.due slot.found book.old said × (notices.new.items ≡ notices.old.items ++ said)) }
+    ensures said { OnOk result ((said : List NoticeValue)
+        × IsSaid (Some (amounts_of payments.now.amounts.entries)) number slot.due slot.found book.old said
+        × (notices.new.items ≡ notices.old.items ++ said)) }
 {
     match slot.due {
         Due::Nothing => Ok(()),
@@ -124,7 +128,9 @@ fn close_slot(
 
 /// The slot of a tuple, by what it told and what was found for its position.
 fn slot_for(tuple: &Tuple, tracked: Option<Tracked>, found: Found) -> Slot
-    ensures { (finding : Sight → FindingValue) (before : List TupleValue) → tracked ≡ tracked_by (before, tuple.now) → ((r : Report) → found ≡ found_of (finding (length before, r))) → result ≡ slot_of finding (before, tuple.now) }
+    ensures { (finding : Sight → FindingValue) (before : List TupleValue) → tracked ≡ tracked_by (before, tuple.now)
+        → ((r : Report) → found ≡ found_of (finding (length before, r)))
+        → result ≡ slot_of finding (before, tuple.now) }
 {
     match tuple {
         Tuple::Report(report) => match tracked {
@@ -179,7 +185,9 @@ pub(crate) fn close(
     requires len { length tracked.now ≡ length tuples.now }
     requires places { length places.now ≡ length tuples.now }
     requires found { (found : List (ℕ × FindingValue)) × IsPlaced places.now found × HasFewTolls (given found) }
-    ensures { IfOk result (λ notices. (found : List (ℕ × FindingValue)) → IsPlaced places.now found → HasFewTolls (given found) → notices.items ≡ notices_by (given found) number (amounts_of payments.now.amounts.entries) (moments tuples.now)) }
+    ensures { IfOk result (λ notices. (found : List (ℕ × FindingValue)) → IsPlaced places.now found
+        → HasFewTolls (given found) → notices.items
+        ≡ notices_by (given found) number (amounts_of payments.now.amounts.entries) (moments tuples.now)) }
 {
     let mut book = Book::new(alloc);
     let mut notices = Vec::with_capacity(alloc, count_notices(tracked, places))?;

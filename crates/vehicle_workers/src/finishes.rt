@@ -1,5 +1,6 @@
 // Finishing the jobs that are out, over any crew.
-ghost use Rattle.std.specs.Prelude.{◌≡◌, ◌≤◌, ◌<◌, ◌+◌, ◌++◌, ◌∷◌, [], ◌&&◌, ◌||◌, not, is_err, true, false, ℕ, Bool, List, Option, IfOk, OnOk, OnErr, All, length, map};
+ghost use Rattle.std.specs.Prelude.{◌≡◌, ◌≤◌, ◌<◌, ◌+◌, ◌++◌, ◌∷◌, [], ◌&&◌, ◌||◌, not, is_err, true, false, ℕ, Bool};
+ghost use Rattle.std.specs.Prelude.{List, Option, IfOk, OnOk, OnErr, All, length, map};
 ghost use Rattle.road_time.specs.Fits.{IsDay};
 ghost use Rattle.road_time.specs.Rates.{Tariffs as TariffsValue};
 ghost use Rattle.expressway.specs.declared.job.Job.{Job as TheJob};
@@ -43,11 +44,17 @@ pub fn finish_rest<C: Crew>(
     mut tickets: VecDeque<C::Ticket>,
     found: &mut Vec<Finding>,
 ) -> bool
-    requires out { (told : Option Told) × (tariffs : TariffsValue) × (todo : List TheJob) × Running C.out C.number C.holds C.gave C.jobs told crew.old tariffs tickets.items [] todo false }
+    requires out { (told : Option Told) × (tariffs : TariffsValue) × (todo : List TheJob)
+        × Running C.out C.number C.holds C.gave C.jobs told crew.old tariffs tickets.items [] todo false }
     requires none { found.old.items ≡ [] }
     ensures idle { C.out crew.new ≡ [] }
-    ensures told { (told : Option Told) (tariffs : TariffsValue) (todo : List TheJob) → Running C.out C.number C.holds C.gave C.jobs told crew.old tariffs tickets.items [] todo false → (refused : Bool) × (result ≡ true → refused ≡ false) × IsListingWhereTold told todo [] refused (C.jobs crew.new) }
-    ensures found { result ≡ true → (told : Option Told) (tariffs : TariffsValue) (todo : List TheJob) → Running C.out C.number C.holds C.gave C.jobs told crew.old tariffs tickets.items [] todo false → HasFound C.exact C.answers (C.answers crew.old) crew.new tariffs todo found.new.items }
+    ensures told { (told : Option Told) (tariffs : TariffsValue) (todo : List TheJob)
+        → Running C.out C.number C.holds C.gave C.jobs told crew.old tariffs tickets.items [] todo false
+        → (refused : Bool) × (result ≡ true → refused ≡ false)
+        × IsListingWhereTold told todo [] refused (C.jobs crew.new) }
+    ensures found { result ≡ true → (told : Option Told) (tariffs : TariffsValue) (todo : List TheJob)
+        → Running C.out C.number C.holds C.gave C.jobs told crew.old tariffs tickets.items [] todo false
+        → HasFound C.exact C.answers (C.answers crew.old) crew.new tariffs todo found.new.items }
     ensures which { C.which crew.new ≡ C.which crew.old }
 {
     let mut whole = true;

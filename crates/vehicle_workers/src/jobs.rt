@@ -1,5 +1,6 @@
 // One job for each worker that has events, over any crew.
-ghost use Rattle.std.specs.Prelude.{◌≡◌, ◌≤◌, ◌<◌, ◌+◌, ◌++◌, ◌∷◌, [], ◌&&◌, ◌||◌, not, is_err, true, false, ℕ, Bool, List, Option, IfOk, OnOk, OnErr, All, length, map};
+ghost use Rattle.std.specs.Prelude.{◌≡◌, ◌≤◌, ◌<◌, ◌+◌, ◌++◌, ◌∷◌, [], ◌&&◌, ◌||◌, not, is_err, true, false, ℕ, Bool};
+ghost use Rattle.std.specs.Prelude.{List, Option, IfOk, OnOk, OnErr, All, length, map};
 ghost use Rattle.road_time.specs.Fits.{IsDay};
 ghost use Rattle.road_time.specs.Rates.{Tariffs as TariffsValue};
 ghost use Rattle.expressway.specs.declared.job.Job.{Job as TheJob};
@@ -59,7 +60,8 @@ pub fn find_all<C: Crew>(
     requires tracked { tracked.now ≡ tracked_after [] tuples.now }
     requires few { width ≤ 64 }
     requires idle { C.out crew.old ≡ [] }
-    ensures exact { C.exact ≡ true → IfOk result (λ found. map shown found.items ≡ all_findings tuples.now tariffs.now width) }
+    ensures exact { C.exact ≡ true → IfOk result
+        (λ found. map shown found.items ≡ all_findings tuples.now tariffs.now width) }
     ensures possible { IfOk result (λ found. All IsPossible found.items) }
     ensures answers { IfOk result (λ found. WhereTold (Adds found.items) (C.answers crew.old) (C.answers crew.new)) }
     ensures jobs { OnOk result (WhereTold (StartsAll tuples.now width) (C.jobs crew.old) (C.jobs crew.new)) }

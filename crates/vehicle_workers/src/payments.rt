@@ -17,7 +17,8 @@ impl Payments {
     /// What the rows of a history say. It walks them once; of two rows of one day, vehicle and expressway the first
     /// stands.
     pub(crate) fn of(alloc: Global, history: &[SpentRow]) -> Result<Self, NoMemory>
-        ensures { IfOk result (λ new. (day vid xway : ℕ) → amounts_of new.amounts.entries day vid xway ≡ paid_lem history.now day vid xway) }
+        ensures { IfOk result (λ new. (day vid xway : ℕ)
+            → amounts_of new.amounts.entries day vid xway ≡ paid_lem history.now day vid xway) }
     {
         let mut amounts = HashMap::with_capacity(alloc, history.len())?;
         let mut left = history;

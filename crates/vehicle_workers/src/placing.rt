@@ -19,7 +19,8 @@ const NOTHING: Found = Found {
 /// Puts a finding at its position, if there is one, whatever is there.
 fn place(places: &mut Vec<Found>, finding: &Finding)
     ensures len { length places.new.items ≡ length places.old.items }
-    ensures placed { (later : List (ℕ × FindingValue)) → IsPlaced places.old.items later → IsPlaced places.new.items (shown finding.now ∷ later) }
+    ensures placed { (later : List (ℕ × FindingValue)) → IsPlaced places.old.items later
+        → IsPlaced places.new.items (shown finding.now ∷ later) }
 {
     let at = finding.position as usize;
     if at < places.len() {

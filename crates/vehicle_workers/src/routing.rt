@@ -41,7 +41,8 @@ fn add_events(
     width: u8,
 ) -> Result<(), NoMemory>
     requires { 1 ≤ width }
-    ensures { OnOk result (events.new.items ≡ events.old.items ++ told_to worker width (tracked_events position report.now tracked.now)) }
+    ensures { OnOk result (events.new.items
+        ≡ events.old.items ++ told_to worker width (tracked_events position report.now tracked.now)) }
 {
     if let Some(place) = tracked.left {
         let is_own = has_way(place.xway, place.dir, worker, width);
@@ -80,7 +81,9 @@ fn add_events_at(
     width: u8,
 ) -> Result<(), NoMemory>
     requires { 1 ≤ width }
-    ensures { OnOk result ((before : List TupleValue) → length before ≡ position → tracked ≡ tracked_by (before, tuple.now) → events.new.items ≡ events.old.items ++ told_to worker width (events_at (before, tuple.now))) }
+    ensures { OnOk result ((before : List TupleValue) → length before ≡ position
+        → tracked ≡ tracked_by (before, tuple.now)
+        → events.new.items ≡ events.old.items ++ told_to worker width (events_at (before, tuple.now))) }
 {
     if let Tuple::Report(report) = tuple {
         if let Some(told) = tracked {

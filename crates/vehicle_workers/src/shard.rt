@@ -50,8 +50,12 @@ impl Shard {
     /// Sees a report of one of its vehicles.
     fn keep(&mut self, report: &Report, place: usize, count: usize) -> Result<(), NoMemory>
         requires { belongs_lem place count report.now ≡ true }
-        ensures tracked { OnOk result ((day : List TupleValue) → StandsFor self.old.tracker (own_of place count (reports day)) → StandsFor self.new.tracker (own_of place count (reports (day ++ ReportTuple report.now ∷ [])))) }
-        ensures told { OnOk result ((day : List TupleValue) → StandsFor self.old.tracker (own_of place count (reports day)) → self.new.told.items ≡ self.old.told.items ++ tracked_of day report.now ∷ []) }
+        ensures tracked { OnOk result ((day : List TupleValue)
+            → StandsFor self.old.tracker (own_of place count (reports day))
+            → StandsFor self.new.tracker (own_of place count (reports (day ++ ReportTuple report.now ∷ [])))) }
+        ensures told { OnOk result ((day : List TupleValue)
+            → StandsFor self.old.tracker (own_of place count (reports day))
+            → self.new.told.items ≡ self.old.told.items ++ tracked_of day report.now ∷ []) }
     {
         let tracked = self.tracker.see(report)?;
         self.told.push_back(tracked)?;
@@ -61,8 +65,12 @@ impl Shard {
     /// Sees a tuple, if it is a report of one of its vehicles.
     fn take(&mut self, tuple: &Tuple, place: usize, count: usize) -> Result<(), NoMemory>
         requires { 0 < count }
-        ensures tracked { OnOk result ((day : List TupleValue) → StandsFor self.old.tracker (own_of place count (reports day)) → StandsFor self.new.tracker (own_of place count (reports (day ++ tuple.now ∷ [])))) }
-        ensures told { OnOk result ((day : List TupleValue) → StandsFor self.old.tracker (own_of place count (reports day)) → self.new.told.items ≡ self.old.told.items ++ cons_option (own_tracked place count (day, tuple.now)) []) }
+        ensures tracked { OnOk result ((day : List TupleValue)
+            → StandsFor self.old.tracker (own_of place count (reports day))
+            → StandsFor self.new.tracker (own_of place count (reports (day ++ tuple.now ∷ [])))) }
+        ensures told { OnOk result ((day : List TupleValue)
+            → StandsFor self.old.tracker (own_of place count (reports day))
+            → self.new.told.items ≡ self.old.told.items ++ cons_option (own_tracked place count (day, tuple.now)) []) }
     {
         match tuple {
             Tuple::Report(report) => {
@@ -79,8 +87,12 @@ impl Shard {
     /// Sees the reports of its vehicles among tuples.
     fn take_all(&mut self, tuples: &[Tuple], place: usize, count: usize) -> Result<(), NoMemory>
         requires { 0 < count }
-        ensures tracked { OnOk result ((day : List TupleValue) → StandsFor self.old.tracker (own_of place count (reports day)) → StandsFor self.new.tracker (own_of place count (reports (day ++ tuples.now)))) }
-        ensures told { OnOk result ((day : List TupleValue) → StandsFor self.old.tracker (own_of place count (reports day)) → self.new.told.items ≡ self.old.told.items ++ told_after place count day tuples.now) }
+        ensures tracked { OnOk result ((day : List TupleValue)
+            → StandsFor self.old.tracker (own_of place count (reports day))
+            → StandsFor self.new.tracker (own_of place count (reports (day ++ tuples.now)))) }
+        ensures told { OnOk result ((day : List TupleValue)
+            → StandsFor self.old.tracker (own_of place count (reports day))
+            → self.new.told.items ≡ self.old.told.items ++ told_after place count day tuples.now) }
     {
         for tuple in tuples {
             self.take(tuple, place, count)?;
@@ -102,8 +114,10 @@ impl Shard {
     pub(crate) fn next_told(&mut self) -> Option<Tracked>
         ensures tracker { self.new.tracker ≡ self.old.tracker }
         ensures refused { self.new.refused ≡ self.old.refused }
-        ensures first { (t : TrackedValue) (rest : List TrackedValue) → self.old.told.items ≡ t ∷ rest → result ≡ Some t }
-        ensures left { (t : TrackedValue) (rest : List TrackedValue) → self.old.told.items ≡ t ∷ rest → self.new.told.items ≡ rest }
+        ensures first { (t : TrackedValue) (rest : List TrackedValue) → self.old.told.items ≡ t ∷ rest
+            → result ≡ Some t }
+        ensures left { (t : TrackedValue) (rest : List TrackedValue) → self.old.told.items ≡ t ∷ rest
+            → self.new.told.items ≡ rest }
     {
         self.told.pop_front()
     }

@@ -1,5 +1,6 @@
 // The shards of the vehicles, at work at once.
-ghost use Rattle.std.specs.Prelude.{◌≡◌, ◌≤◌, ◌<◌, ◌++◌, ◌∷◌, ℕ, [], true, false, List, OnOk, IfOk, length, vec_len, slice_index_or};
+ghost use Rattle.std.specs.Prelude.{◌≡◌, ◌≤◌, ◌<◌, ◌++◌, ◌∷◌, ℕ, [], true, false, List, OnOk, IfOk, length, vec_len};
+ghost use Rattle.std.specs.Prelude.{slice_index_or};
 ghost use Rattle.road_time.specs.declared.road.Tuple.{Tuple as TupleValue};
 ghost use Rattle.vehicle_workers.specs.declared.shard.Shard.{Shard as ShardValue};
 ghost use Rattle.vehicle_workers.specs.Seen.{tracked_by, tracked_after};
@@ -34,7 +35,8 @@ impl Model for Shards {
 
 /// No shard was refused memory.
 fn all_serve(shards: &[Shard]) -> bool
-    ensures { result ≡ true → (place : ℕ) (d : ShardValue) → place < length shards.now → (slice_index_or shards.now place d).refused ≡ false }
+    ensures { result ≡ true → (place : ℕ) (d : ShardValue) → place < length shards.now
+        → (slice_index_or shards.now place d).refused ≡ false }
 {
     for at in 0..shards.len() {
         if shards[at].refused {
@@ -48,7 +50,9 @@ fn all_serve(shards: &[Shard]) -> bool
 fn go_over_all<R: Threads + Sync>(rt: &R, shards: &mut [Shard], tuples: &[Tuple])
     requires { 0 < length shards.old }
     ensures len { length shards.new ≡ length shards.old }
-    ensures each { (place : ℕ) (d : ShardValue) → place < length shards.old → WentOver place (length shards.old) tuples.now (slice_index_or shards.old place d) (slice_index_or shards.new place d) }
+    ensures each { (place : ℕ) (d : ShardValue) → place < length shards.old
+        → WentOver place (length shards.old) tuples.now (slice_index_or shards.old place d)
+        (slice_index_or shards.new place d) }
 {
     let count = shards.len();
     thread::for_each_mut(
@@ -63,8 +67,10 @@ fn go_over_all<R: Threads + Sync>(rt: &R, shards: &mut [Shard], tuples: &[Tuple]
 fn take_told(shards: &mut [Shard], tuple: &Tuple) -> Option<Tracked>
     requires { 0 < length shards.old }
     ensures len { length shards.new ≡ length shards.old }
-    ensures told { (whole given rest : List TupleValue) → Await whole given (tuple.now ∷ rest) shards.old → result ≡ tracked_by (given, tuple.now) }
-    ensures left { (whole given rest : List TupleValue) → Await whole given (tuple.now ∷ rest) shards.old → Await whole (given ++ tuple.now ∷ []) rest shards.new }
+    ensures told { (whole given rest : List TupleValue) → Await whole given (tuple.now ∷ rest) shards.old
+        → result ≡ tracked_by (given, tuple.now) }
+    ensures left { (whole given rest : List TupleValue) → Await whole given (tuple.now ∷ rest) shards.old
+        → Await whole (given ++ tuple.now ∷ []) rest shards.new }
 {
     match tuple {
         Tuple::Report(report) => {
@@ -83,8 +89,10 @@ fn gather(
 ) -> Result<Vec<Option<Tracked>>, NoMemory>
     requires { 0 < length shards.old }
     ensures len { length shards.new ≡ length shards.old }
-    ensures list { IfOk result (λ list. (whole given : List TupleValue) → Await whole given tuples.now shards.old → list.items ≡ tracked_after given tuples.now) }
-    ensures left { OnOk result ((whole given : List TupleValue) → Await whole given tuples.now shards.old → HaveSeen shards.new whole) }
+    ensures list { IfOk result (λ list. (whole given : List TupleValue) → Await whole given tuples.now shards.old
+        → list.items ≡ tracked_after given tuples.now) }
+    ensures left { OnOk result ((whole given : List TupleValue) → Await whole given tuples.now shards.old
+        → HaveSeen shards.new whole) }
 {
     let mut list = Vec::new(alloc);
     list.reserve(tuples.len())?;
@@ -116,8 +124,10 @@ fn see_by<R: Threads + Sync>(
 ) -> Result<Vec<Option<Tracked>>, NoMemory>
     requires { 0 < length shards.old }
     ensures len { length shards.new ≡ length shards.old }
-    ensures told { IfOk result (λ list. (given : List TupleValue) → HaveSeen shards.old given → list.items ≡ tracked_after given tuples.now) }
-    ensures seen { OnOk result ((given : List TupleValue) → HaveSeen shards.old given → HaveSeen shards.new (given ++ tuples.now)) }
+    ensures told { IfOk result (λ list. (given : List TupleValue) → HaveSeen shards.old given
+        → list.items ≡ tracked_after given tuples.now) }
+    ensures seen { OnOk result ((given : List TupleValue) → HaveSeen shards.old given
+        → HaveSeen shards.new (given ++ tuples.now)) }
 {
     go_over_all(rt, shards, tuples);
     if !all_serve(shards) {
@@ -147,8 +157,10 @@ impl Shards {
         rt: &R,
         tuples: &[Tuple],
     ) -> Result<TrackedList, NoMemory>
-        ensures told { IfOk result (λ list. (given : List TupleValue) → HaveSeen self.old given → list ≡ tracked_after given tuples.now) }
-        ensures seen { OnOk result ((given : List TupleValue) → HaveSeen self.old given → HaveSeen self.new (given ++ tuples.now)) }
+        ensures told { IfOk result (λ list. (given : List TupleValue) → HaveSeen self.old given
+            → list ≡ tracked_after given tuples.now) }
+        ensures seen { OnOk result ((given : List TupleValue) → HaveSeen self.old given
+            → HaveSeen self.new (given ++ tuples.now)) }
     {
         let list = see_by(rt, self.alloc, self.shards.as_mut_slice(), tuples)?;
         Ok(TrackedList::from_vec(list))

@@ -1,5 +1,6 @@
 // Starting one job for each worker that has events, over any crew.
-ghost use Rattle.std.specs.Prelude.{◌≡◌, ◌≤◌, ◌<◌, ◌+◌, ◌++◌, ◌∷◌, [], ◌&&◌, ◌||◌, not, is_err, true, false, ℕ, Bool, List, Option, IfOk, OnOk, OnErr, All, length, map};
+ghost use Rattle.std.specs.Prelude.{◌≡◌, ◌≤◌, ◌<◌, ◌+◌, ◌++◌, ◌∷◌, [], ◌&&◌, ◌||◌, not, is_err, true, false, ℕ, Bool};
+ghost use Rattle.std.specs.Prelude.{List, Option, IfOk, OnOk, OnErr, All, length, map};
 ghost use Rattle.road_time.specs.Fits.{IsDay};
 ghost use Rattle.road_time.specs.Rates.{Tariffs as TariffsValue};
 ghost use Rattle.expressway.specs.declared.job.Job.{Job as TheJob};
@@ -29,8 +30,13 @@ fn start_job<C: Crew>(
     tickets: &mut VecDeque<C::Ticket>,
 ) -> Result<(), NoMemory>
     requires ready { IsReady job.carriage [] job.events }
-    requires room { (told : Option Told) × (todo : List TheJob) × Running C.out C.number C.holds C.gave C.jobs told crew.old job.carriage.tariffs tickets.old.items [] todo false × (length todo < 64) }
-    ensures started { OnOk result ((told : Option Told) (todo : List TheJob) → Running C.out C.number C.holds C.gave C.jobs told crew.old job.carriage.tariffs tickets.old.items [] todo false → Running C.out C.number C.holds C.gave C.jobs told crew.new job.carriage.tariffs tickets.new.items [] (todo ++ job ∷ []) false) }
+    requires room { (told : Option Told) × (todo : List TheJob)
+        × Running C.out C.number C.holds C.gave C.jobs told crew.old job.carriage.tariffs tickets.old.items [] todo
+        false × (length todo < 64) }
+    ensures started { OnOk result ((told : Option Told) (todo : List TheJob)
+        → Running C.out C.number C.holds C.gave C.jobs told crew.old job.carriage.tariffs tickets.old.items [] todo
+        false → Running C.out C.number C.holds C.gave C.jobs told crew.new job.carriage.tariffs tickets.new.items []
+        (todo ++ job ∷ []) false) }
     ensures crew { OnErr result (crew.new ≡ crew.old) }
     ensures tickets { OnErr result (tickets.new.items ≡ tickets.old.items) }
     ensures which { C.which crew.new ≡ C.which crew.old }
@@ -80,8 +86,13 @@ fn start_worker<C: Crew>(
     requires tracked { tracked.now ≡ tracked_after [] tuples.now }
     requires worker { worker < width }
     requires few { width ≤ 64 }
-    requires runs { (told : Option Told) × HasStarted C.out C.number C.holds C.gave C.jobs told crew.old tariffs.now tickets.old.items tuples.now width worker }
-    ensures started { OnOk result ((told : Option Told) → HasStarted C.out C.number C.holds C.gave C.jobs told crew.old tariffs.now tickets.old.items tuples.now width worker → HasStarted C.out C.number C.holds C.gave C.jobs told crew.new tariffs.now tickets.new.items tuples.now width (worker + 1)) }
+    requires runs { (told : Option Told)
+        × HasStarted C.out C.number C.holds C.gave C.jobs told crew.old tariffs.now tickets.old.items tuples.now width
+        worker }
+    ensures started { OnOk result ((told : Option Told)
+        → HasStarted C.out C.number C.holds C.gave C.jobs told crew.old tariffs.now tickets.old.items tuples.now width
+        worker → HasStarted C.out C.number C.holds C.gave C.jobs told crew.new tariffs.now tickets.new.items tuples.now
+        width (worker + 1)) }
     ensures crew { OnErr result (crew.new ≡ crew.old) }
     ensures tickets { OnErr result (tickets.new.items ≡ tickets.old.items) }
     ensures which { C.which crew.new ≡ C.which crew.old }
@@ -112,8 +123,11 @@ pub fn start_all<C: Crew>(
     requires few { width ≤ 64 }
     requires idle { C.out crew.old ≡ [] }
     requires none { tickets.old.items ≡ [] }
-    ensures all { OnOk result (HasStarted C.out C.number C.holds C.gave C.jobs (C.jobs crew.old) crew.new tariffs.now tickets.new.items tuples.now width width) }
-    ensures first { OnErr result ((workers : ℕ) × (workers ≤ width) × HasStarted C.out C.number C.holds C.gave C.jobs (C.jobs crew.old) crew.new tariffs.now tickets.new.items tuples.now width workers) }
+    ensures all { OnOk result (HasStarted C.out C.number C.holds C.gave C.jobs (C.jobs crew.old) crew.new tariffs.now
+        tickets.new.items tuples.now width width) }
+    ensures first { OnErr result ((workers : ℕ) × (workers ≤ width)
+        × HasStarted C.out C.number C.holds C.gave C.jobs (C.jobs crew.old) crew.new tariffs.now tickets.new.items
+        tuples.now width workers) }
     ensures which { C.which crew.new ≡ C.which crew.old }
     ensures answers { C.answers crew.new ≡ C.answers crew.old }
 {

@@ -86,7 +86,9 @@ pub fn bulk<R: Threads + Sync, C: Crew>(
     requires narrow { width ≤ 64 }
     requires idle { C.out crew.old ≡ [] }
     ensures exact { C.exact ≡ true → IfOk result (λ all. all ≡ notices tuples.now tariffs.now day (paid history.now)) }
-    ensures merged { IfOk result (λ all. (found : List FindingValue) × WhereTold (Adds found) (C.answers crew.old) (C.answers crew.new) × (all ≡ merged tuples.now (map shown found) day (paid history.now))) }
+    ensures merged { IfOk result (λ all. (found : List FindingValue)
+        × WhereTold (Adds found) (C.answers crew.old) (C.answers crew.new)
+        × (all ≡ merged tuples.now (map shown found) day (paid history.now))) }
     ensures jobs { OnOk result (WhereTold (StartsAll tuples.now width) (C.jobs crew.old) (C.jobs crew.new)) }
     ensures first { OnErr result (WhereTold (StartsFirst tuples.now width) (C.jobs crew.old) (C.jobs crew.new)) }
     ensures idle { C.out crew.new ≡ [] }

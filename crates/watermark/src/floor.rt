@@ -1,12 +1,14 @@
 // The floor: it hands a day's events to workers, and takes their findings back in any order.
-ghost use Rattle.std.specs.Prelude.{◌≡◌, ◌+◌, ◌-◌, ◌≤◌, ◌<◌, ℕ, IfErr, length, map, OnOk, OnErr, IsOk, IfOk, IfSome, IfNone, false};
+ghost use Rattle.std.specs.Prelude.{◌≡◌, ◌+◌, ◌-◌, ◌≤◌, ◌<◌, ℕ, IfErr, length, map, OnOk, OnErr, IsOk, IfOk, IfSome};
+ghost use Rattle.std.specs.Prelude.{IfNone, false};
 ghost use Rattle.expressway.specs.Findings.{shown};
 ghost use Rattle.watermark.specs.Terms.{AreTerms};
 ghost use Rattle.watermark.specs.Shares.{State, start, can_give, mark};
 ghost use Rattle.watermark.specs.Steps.{after_feed, after_give, after_back};
 ghost use Rattle.watermark.specs.Sound.{CanFeed};
 ghost use Rattle.watermark.specs.Jobs.{IsNext, MayComeBack};
-ghost use Rattle.watermark.specs.Floors.{Setting, width_of, limits_of, StandsFor, Serves, Writes, WritesSome, Takes, Stops};
+ghost use Rattle.watermark.specs.Floors.{Setting, width_of, limits_of, StandsFor, Serves, Writes, WritesSome, Takes};
+ghost use Rattle.watermark.specs.Floors.{Stops};
 ghost use Rattle.settling.specs.Answers.{History, history_of};
 ghost use Rattle.settling.specs.Boards.{IsAbreast, Publishes};
 ghost use Rattle.settling.specs.Closes.{IsClosed};
@@ -41,7 +43,8 @@ pub struct Floor {
 }
 
 impl Floor {
-    /// A floor of so many workers, 1 to 64, under these limits and tariffs. Nothing was fed. The one error is want of memory.
+    /// A floor of so many workers, 1 to 64, under these limits and tariffs. Nothing was fed. The one error is want of
+    /// memory.
     pub fn new(
         alloc: Global,
         width: u8,
@@ -49,7 +52,8 @@ impl Floor {
         tariffs: &Tariffs,
     ) -> Result<Floor, NoMemory>
         requires { AreTerms width limits.now }
-        ensures stands { IfOk result (λ floor. (number : ℕ) (history : History) → StandsFor (record { tariffs = tariffs.now; number = number; history = history }) floor start) }
+        ensures stands { IfOk result (λ floor. (number : ℕ) (history : History)
+            → StandsFor (record { tariffs = tariffs.now; number = number; history = history }) floor start) }
         ensures width { IfOk result (λ floor. width_of floor ≡ width) }
         ensures limits { IfOk result (λ floor. limits_of floor ≡ limits.now) }
     {
@@ -78,7 +82,8 @@ impl Floor {
     /// How many more may be fed before any is settled.
     pub fn room(&self) -> u32
         requires { Serves self.now }
-        ensures { (g : Setting) (s : State) → StandsFor g self.now s → length s.fed + result ≡ s.settled + (limits_of self.now).backlog }
+        ensures { (g : Setting) (s : State) → StandsFor g self.now s
+            → length s.fed + result ≡ s.settled + (limits_of self.now).backlog }
     {
         self.limits.backlog - self.pending()
     }
@@ -96,7 +101,8 @@ impl Floor {
         requires { (g : Setting) × (s : State) × StandsFor g self.old s × CanFeed (limits_of self.old) s tuple }
         ensures width { width_of self.new ≡ width_of self.old }
         ensures limits { limits_of self.new ≡ limits_of self.old }
-        ensures fed { OnOk result ((g : Setting) (s : State) → StandsFor g self.old s → CanFeed (limits_of self.old) s tuple → StandsFor g self.new (after_feed (width_of self.old) s tuple)) }
+        ensures fed { OnOk result ((g : Setting) (s : State) → StandsFor g self.old s
+            → CanFeed (limits_of self.old) s tuple → StandsFor g self.new (after_feed (width_of self.old) s tuple)) }
         ensures refused { OnErr result ((g : Setting) (s : State) → StandsFor g self.old s → StandsFor g self.new s) }
     {
         self.slots.reserve(1)?;
@@ -110,14 +116,17 @@ impl Floor {
         Ok(())
     }
 
-    /// Moves a worker's carriage and its events that wait out as a job; none where a job of its is out or no event waits.
+    /// Moves a worker's carriage and its events that wait out as a job; none where a job of its is out or no event
+    /// waits.
     pub fn give(&mut self, worker: u8) -> Option<Job>
         requires within { worker < width_of self.old }
         requires serves { Serves self.old }
         ensures width { width_of self.new ≡ width_of self.old }
         ensures limits { limits_of self.new ≡ limits_of self.old }
-        ensures none { IfNone result ((g : Setting) (s : State) → StandsFor g self.old s → (can_give (s.share worker) ≡ false) × StandsFor g self.new s) }
-        ensures some { IfSome result (λ job. (g : Setting) (s : State) → StandsFor g self.old s → IsNext g.tariffs s worker job × StandsFor g self.new (after_give s worker)) }
+        ensures none { IfNone result ((g : Setting) (s : State) → StandsFor g self.old s
+            → (can_give (s.share worker) ≡ false) × StandsFor g self.new s) }
+        ensures some { IfSome result (λ job. (g : Setting) (s : State) → StandsFor g self.old s
+            → IsNext g.tariffs s worker job × StandsFor g self.new (after_give s worker)) }
     {
         let Some(events) = self.inboxes.give(self.alloc, worker) else {
             return None;
@@ -139,11 +148,14 @@ impl Floor {
 
     /// Takes what was done of a worker's job back. The room for it is there, so that it is never refused.
     pub fn back(&mut self, done: Done) -> Result<(), NoMemory>
-        requires { (g : Setting) × (s : State) × StandsFor g self.old s × MayComeBack g.tariffs (width_of self.old) s done }
+        requires { (g : Setting) × (s : State) × StandsFor g self.old s
+            × MayComeBack g.tariffs (width_of self.old) s done }
         ensures width { width_of self.new ≡ width_of self.old }
         ensures limits { limits_of self.new ≡ limits_of self.old }
         ensures taken { IsOk result }
-        ensures back { OnOk result ((g : Setting) (s : State) → StandsFor g self.old s → MayComeBack g.tariffs (width_of self.old) s done → StandsFor g self.new (after_back s done.worker (map shown done.findings))) }
+        ensures back { OnOk result ((g : Setting) (s : State) → StandsFor g self.old s
+            → MayComeBack g.tariffs (width_of self.old) s done
+            → StandsFor g self.new (after_back s done.worker (map shown done.findings))) }
     {
         let Done {
             worker,
@@ -165,9 +177,9 @@ impl Floor {
         u64::from(self.inboxes.least(self.fed()))
     }
 
-    /// Settles, in order, every position below the mark: it books, writes the notices and answers, publishes the charges with the new mark,
-    /// and answers how many positions are settled so far. After a refusal some first bytes of the text were written, no step was published, and
-    /// the floor serves no more.
+    /// Settles, in order, every position below the mark: it books, writes the notices and answers, publishes the
+    /// charges with the new mark, and answers how many positions are settled so far. After a refusal some first bytes
+    /// of the text were written, no step was published, and the floor serves no more.
     pub fn settle<K: Keeper, O: Sink, P: Publisher>(
         &mut self,
         day: u32,
@@ -175,23 +187,41 @@ impl Floor {
         sink: &mut O,
         publisher: &mut P,
     ) -> Result<u64, SettleFault>
-        requires { (g : Setting) × (s : State) × StandsFor g self.old s × (g.number ≡ day) × (g.history ≡ history_of (K.told keeper.old)) × IsAbreast (P.posted publisher.old) (sum_of (settled_charges s)) }
+        requires { (g : Setting) × (s : State) × StandsFor g self.old s × (g.number ≡ day)
+            × (g.history ≡ history_of (K.told keeper.old))
+            × IsAbreast (P.posted publisher.old) (sum_of (settled_charges s)) }
         ensures width { width_of self.new ≡ width_of self.old }
         ensures limits { limits_of self.new ≡ limits_of self.old }
-        ensures settled { IfOk result (λ n. (g : Setting) (s : State) → StandsFor g self.old s → g.number ≡ day → g.history ≡ history_of (K.told keeper.old) → (n ≡ mark (width_of self.old) s) × StandsFor g self.new (after_settle s n)) }
-        ensures wrote { IfOk result (λ n. (g : Setting) (s : State) → StandsFor g self.old s → g.number ≡ day → g.history ≡ history_of (K.told keeper.old) → Writes g s n (O.written sink.old) (O.written sink.new)) }
-        ensures stopped { IfErr result (λ fault. (g : Setting) (s : State) → StandsFor g self.old s → g.number ≡ day → g.history ≡ history_of (K.told keeper.old) → WritesSome fault g s (mark (width_of self.old) s) (O.written sink.old) (O.written sink.new)) }
-        ensures took { IfOk result (λ n. (g : Setting) (s : State) → StandsFor g self.old s → g.number ≡ day → g.history ≡ history_of (K.told keeper.old)
-            → Takes g s n (O.written sink.old, O.room sink.old) (O.written sink.new, O.room sink.new) (K.plan keeper.old) (K.plan keeper.new)) }
-        ensures where_stopped { IfErr result (λ fault. (g : Setting) (s : State) → StandsFor g self.old s → g.number ≡ day → g.history ≡ history_of (K.told keeper.old)
-            → Stops fault g s (mark (width_of self.old) s) (O.written sink.old, O.room sink.old) (O.written sink.new, O.room sink.new)
+        ensures settled { IfOk result (λ n. (g : Setting) (s : State) → StandsFor g self.old s → g.number ≡ day
+            → g.history ≡ history_of (K.told keeper.old)
+            → (n ≡ mark (width_of self.old) s) × StandsFor g self.new (after_settle s n)) }
+        ensures wrote { IfOk result (λ n. (g : Setting) (s : State) → StandsFor g self.old s → g.number ≡ day
+            → g.history ≡ history_of (K.told keeper.old) → Writes g s n (O.written sink.old) (O.written sink.new)) }
+        ensures stopped { IfErr result (λ fault. (g : Setting) (s : State) → StandsFor g self.old s → g.number ≡ day
+            → g.history ≡ history_of (K.told keeper.old)
+            → WritesSome fault g s (mark (width_of self.old) s) (O.written sink.old) (O.written sink.new)) }
+        ensures took { IfOk result (λ n. (g : Setting) (s : State) → StandsFor g self.old s → g.number ≡ day
+            → g.history ≡ history_of (K.told keeper.old)
+            → Takes g s n (O.written sink.old, O.room sink.old) (O.written sink.new, O.room sink.new)
             (K.plan keeper.old) (K.plan keeper.new)) }
-        ensures published { (g : Setting) (s : State) → StandsFor g self.old s → g.number ≡ day → g.history ≡ history_of (K.told keeper.old) → Publishes result (mark (width_of self.old) s - s.settled) (charged_to s (mark (width_of self.old) s)) (mark (width_of self.old) s) (P.posted publisher.old) (P.posted publisher.new) }
-        ensures abreast { IfOk result (λ n. (g : Setting) (s : State) → StandsFor g self.old s → g.number ≡ day → g.history ≡ history_of (K.told keeper.old) → IsAbreast (P.posted publisher.new) (sum_of (settled_charges (after_settle s n)))) }
+        ensures where_stopped { IfErr result
+            (λ fault. (g : Setting) (s : State) → StandsFor g self.old s → g.number ≡ day
+            → g.history ≡ history_of (K.told keeper.old)
+            → Stops fault g s (mark (width_of self.old) s) (O.written sink.old, O.room sink.old)
+            (O.written sink.new, O.room sink.new)
+            (K.plan keeper.old) (K.plan keeper.new)) }
+        ensures published { (g : Setting) (s : State) → StandsFor g self.old s → g.number ≡ day
+            → g.history ≡ history_of (K.told keeper.old)
+            → Publishes result (mark (width_of self.old) s - s.settled) (charged_to s (mark (width_of self.old) s))
+            (mark (width_of self.old) s) (P.posted publisher.old) (P.posted publisher.new) }
+        ensures abreast { IfOk result (λ n. (g : Setting) (s : State) → StandsFor g self.old s → g.number ≡ day
+            → g.history ≡ history_of (K.told keeper.old)
+            → IsAbreast (P.posted publisher.new) (sum_of (settled_charges (after_settle s n)))) }
         ensures which { P.which publisher.new ≡ P.which publisher.old }
         ensures same { K.told keeper.new ≡ K.told keeper.old }
         ensures sink { SinkFaults (O.faults sink.old) (O.faults sink.new) (O.room sink.old) (O.room sink.new) result }
-        ensures keeper { KeeperFaults (K.faults keeper.old) (K.faults keeper.new) (K.plan keeper.old) (K.plan keeper.new) result }
+        ensures keeper { KeeperFaults (K.faults keeper.old) (K.faults keeper.new) (K.plan keeper.old)
+            (K.plan keeper.new) result }
     {
         let mark = self.inboxes.least(self.fed());
         let count = mark - self.settled;
@@ -210,7 +240,8 @@ impl Floor {
     /// What is left of the day, under its number, where all tuples are settled. The one error is want of memory.
     pub fn close(self, day: u32) -> Result<Closed, NoMemory>
         requires { (g : Setting) × (s : State) × StandsFor g self s × (s.settled ≡ length s.fed) }
-        ensures { IfOk result (λ closed. (g : Setting) (s : State) → StandsFor g self s → s.settled ≡ length s.fed → IsClosed closed day (given s.found) g.number g.history s.fed) }
+        ensures { IfOk result (λ closed. (g : Setting) (s : State) → StandsFor g self s → s.settled ≡ length s.fed
+            → IsClosed closed day (given s.found) g.number g.history s.fed) }
     {
         let Floor { settler, .. } = self;
         settler.close(day)

@@ -1,5 +1,6 @@
 // What each worker is told, as tuples come in.
-ghost use Rattle.std.specs.Prelude.{◌≡◌, ◌≤◌, ◌<◌, ◌+◌, ◌++◌, ◌∷◌, [], ◌==◌, ℕ, List, min, true, false, length, vec_len, IfOk, IfSome, IfNone, OnOk, OnErr, if◌then◌else◌};
+ghost use Rattle.std.specs.Prelude.{◌≡◌, ◌≤◌, ◌<◌, ◌+◌, ◌++◌, ◌∷◌, [], ◌==◌, ℕ, List, min, true, false, length};
+ghost use Rattle.std.specs.Prelude.{vec_len, IfOk, IfSome, IfNone, OnOk, OnErr, if◌then◌else◌};
 ghost use Rattle.road_time.specs.declared.road.Tuple.{Tuple as Fed};
 ghost use Rattle.road_time.specs.declared.road.Tuple.TheVariants.{Report as ReportTuple};
 ghost use Rattle.road_time.specs.declared.day.Limits.{Limits};
@@ -103,7 +104,8 @@ fn put(desks: &mut Vec<Desk>, worker: u8, event: LaneEvent)
     requires within { worker < vec_len desks.old }
     requires room { HasRoom 1 desks.old.items worker }
     ensures len { vec_len desks.new ≡ vec_len desks.old }
-    ensures put { (w : ℕ) (share : Share) → StandsAt desks.old.items w share → StandsAt desks.new.items w (if w == worker then with_events (event ∷ []) share else share) }
+    ensures put { (w : ℕ) (share : Share) → StandsAt desks.old.items w share
+        → StandsAt desks.new.items w (if w == worker then with_events (event ∷ []) share else share) }
     ensures kept { (w n : ℕ) → HasRoom (n + 1) desks.old.items w → HasRoom n desks.new.items w }
 {
     desks[usize::from(worker)].put(event);
@@ -138,7 +140,8 @@ fn make_rooms(
     requires direction { IfSome left (λ p. p.dir ≤ 1) }
     ensures len { vec_len desks.new ≡ vec_len desks.old }
     ensures same { (w : ℕ) (share : Share) → StandsAt desks.old.items w share → StandsAt desks.new.items w share }
-    ensures left { OnOk result (IfSome left (λ p. HasRoom 2 desks.new.items (worker_for (way_of (stretch_around p)) width))) }
+    ensures left { OnOk result (IfSome left
+        (λ p. HasRoom 2 desks.new.items (worker_for (way_of (stretch_around p)) width))) }
     ensures worker { OnOk result (HasRoom 2 desks.new.items worker) }
 {
     match left {
@@ -168,7 +171,9 @@ fn put_events(
     requires left_room { IfSome left (λ p. HasRoom 2 desks.old.items (worker_for (way_of (stretch_around p)) width)) }
     requires seen_room { HasRoom 2 desks.old.items (worker_for (way_of (stretch_of report.now)) width) }
     ensures len { vec_len desks.new ≡ vec_len desks.old }
-    ensures put { (w : ℕ) (share : Share) → StandsAt desks.old.items w share → StandsAt desks.new.items w (with_events (told_to w width (tracked_events position report.now left tracked)) share) }
+    ensures put { (w : ℕ) (share : Share) → StandsAt desks.old.items w share
+        → StandsAt desks.new.items w (with_events (told_to w width (tracked_events position report.now left tracked))
+        share) }
 {
     let worker = worker_of_report(report, width);
     let event = seen(position, report, tracked);
@@ -202,9 +207,13 @@ impl Inboxes {
     fn feed_report(&mut self, position: u32, report: &Report) -> Result<Due, NoMemory>
         requires { MayCome self.old position (ReportTuple report.now) }
         ensures width { self.new.width ≡ self.old.width }
-        ensures fed { OnOk result ((day : List Fed) (share : ℕ → Share) → StandFor self.old day share → length day ≡ position → StandFor self.new (day ++ ReportTuple report.now ∷ []) (λ w. fed_to w self.old.width day (ReportTuple report.now) (share w))) }
-        ensures due { IfOk result (λ due. (day : List Fed) (share : ℕ → Share) → StandFor self.old day share → due ≡ due_of (day, ReportTuple report.now)) }
-        ensures refused { OnErr result ((day : List Fed) (share : ℕ → Share) → StandFor self.old day share → StandFor self.new day share) }
+        ensures fed { OnOk result ((day : List Fed) (share : ℕ → Share) → StandFor self.old day share
+            → length day ≡ position → StandFor self.new (day ++ ReportTuple report.now ∷ [])
+            (λ w. fed_to w self.old.width day (ReportTuple report.now) (share w))) }
+        ensures due { IfOk result (λ due. (day : List Fed) (share : ℕ → Share) → StandFor self.old day share
+            → due ≡ due_of (day, ReportTuple report.now)) }
+        ensures refused { OnErr result ((day : List Fed) (share : ℕ → Share) → StandFor self.old day share
+            → StandFor self.new day share) }
     {
         let left = self.tracker.left(report);
         let worker = worker_of_report(report, self.width);
@@ -214,13 +223,18 @@ impl Inboxes {
         Ok(Due::of_report(report, &tracked))
     }
 
-    /// The next tuple of the day comes in, at its position, and what it calls for is told. The one error is want of memory, and then nothing has changed.
+    /// The next tuple of the day comes in, at its position, and what it calls for is told. The one error is want of
+    /// memory, and then nothing has changed.
     pub(crate) fn feed(&mut self, position: u32, tuple: &Tuple) -> Result<Due, NoMemory>
         requires { MayCome self.old position tuple.now }
         ensures width { self.new.width ≡ self.old.width }
-        ensures fed { OnOk result ((day : List Fed) (share : ℕ → Share) → StandFor self.old day share → length day ≡ position → StandFor self.new (day ++ tuple.now ∷ []) (λ w. fed_to w self.old.width day tuple.now (share w))) }
-        ensures due { IfOk result (λ due. (day : List Fed) (share : ℕ → Share) → StandFor self.old day share → due ≡ due_of (day, tuple.now)) }
-        ensures refused { OnErr result ((day : List Fed) (share : ℕ → Share) → StandFor self.old day share → StandFor self.new day share) }
+        ensures fed { OnOk result ((day : List Fed) (share : ℕ → Share) → StandFor self.old day share
+            → length day ≡ position → StandFor self.new (day ++ tuple.now ∷ [])
+            (λ w. fed_to w self.old.width day tuple.now (share w))) }
+        ensures due { IfOk result (λ due. (day : List Fed) (share : ℕ → Share) → StandFor self.old day share
+            → due ≡ due_of (day, tuple.now)) }
+        ensures refused { OnErr result ((day : List Fed) (share : ℕ → Share) → StandFor self.old day share
+            → StandFor self.new day share) }
     {
         match tuple {
             Tuple::Report(report) => self.feed_report(position, report),
@@ -232,8 +246,11 @@ impl Inboxes {
     pub(crate) fn give(&mut self, alloc: Global, worker: u8) -> Option<Vec<LaneEvent>>
         requires { worker < vec_len self.old.desks }
         ensures width { self.new.width ≡ self.old.width }
-        ensures none { IfNone result ((day : List Fed) (share : ℕ → Share) → StandFor self.old day share → (can_give (share worker) ≡ false) × StandFor self.new day share) }
-        ensures some { IfSome result (λ events. (day : List Fed) (share : ℕ → Share) (number : ℕ) → StandFor self.old day share → (can_give (share worker) ≡ true) × (events.items ≡ (share worker).waiting) × StandFor self.new day (at_worker worker (given_out number) share)) }
+        ensures none { IfNone result ((day : List Fed) (share : ℕ → Share) → StandFor self.old day share
+            → (can_give (share worker) ≡ false) × StandFor self.new day share) }
+        ensures some { IfSome result (λ events. (day : List Fed) (share : ℕ → Share) (number : ℕ)
+            → StandFor self.old day share → (can_give (share worker) ≡ true) × (events.items ≡ (share worker).waiting)
+            × StandFor self.new day (at_worker worker (given_out number) share)) }
     {
         let events = self.desks[usize::from(worker)].give(alloc)?;
         Some(events)
@@ -243,14 +260,16 @@ impl Inboxes {
     pub(crate) fn back(&mut self, worker: u8)
         requires { worker < vec_len self.old.desks }
         ensures width { self.new.width ≡ self.old.width }
-        ensures back { (day : List Fed) (share : ℕ → Share) → StandFor self.old day share → StandFor self.new day (at_worker worker taken_back share) }
+        ensures back { (day : List Fed) (share : ℕ → Share) → StandFor self.old day share
+            → StandFor self.new day (at_worker worker taken_back share) }
     {
         self.desks[usize::from(worker)].back();
     }
 
     /// The least, over the workers, of the position of the first event that is not back, and a number.
     pub(crate) fn least(&self, fed: u32) -> u32
-        ensures { (day : List Fed) (share : ℕ → Share) → StandFor self.now day share → result ≡ least_of share self.now.width fed }
+        ensures { (day : List Fed) (share : ℕ → Share) → StandFor self.now day share
+            → result ≡ least_of share self.now.width fed }
     {
         let mut least = fed;
         for desk in &self.desks {

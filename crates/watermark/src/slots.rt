@@ -19,7 +19,10 @@ fn fill_one(slots: &mut VecDeque<Slot>, settled: u32, finding: Finding)
     requires low { settled ≤ finding.position }
     requires high { finding.position < settled + deque_len slots.old }
     ensures len { deque_len slots.new ≡ deque_len slots.old }
-    ensures filled { (found : List (ℕ × Told)) (before rest : List Tuple) → slots.old.items ≡ slots_of (given found) before rest → length before ≡ settled → found_at finding.position found ≡ [] → ReportAt (before ++ rest) finding.position → slots.new.items ≡ slots_of (given (found ++ shown finding ∷ [])) before rest }
+    ensures filled { (found : List (ℕ × Told)) (before rest : List Tuple)
+        → slots.old.items ≡ slots_of (given found) before rest → length before ≡ settled
+        → found_at finding.position found ≡ [] → ReportAt (before ++ rest) finding.position
+        → slots.new.items ≡ slots_of (given (found ++ shown finding ∷ [])) before rest }
 {
     fill_slot(slots, (finding.position - settled) as usize, said(finding));
 }
@@ -28,7 +31,11 @@ fn fill_one(slots: &mut VecDeque<Slot>, settled: u32, finding: Finding)
 pub(crate) fn fill(slots: &mut VecDeque<Slot>, settled: u32, findings: &[Finding])
     requires { All (λ f. (settled ≤ f.position) × (f.position < settled + deque_len slots.old)) findings.now }
     ensures len { deque_len slots.new ≡ deque_len slots.old }
-    ensures filled { (found : List (ℕ × Told)) (before rest : List Tuple) → slots.old.items ≡ slots_of (given found) before rest → length before ≡ settled → AreFresh found (map shown findings.now) → AllByRecursion (λ f. ReportAt (before ++ rest) f.0) (map shown findings.now) → slots.new.items ≡ slots_of (given (found ++ map shown findings.now)) before rest }
+    ensures filled { (found : List (ℕ × Told)) (before rest : List Tuple)
+        → slots.old.items ≡ slots_of (given found) before rest → length before ≡ settled
+        → AreFresh found (map shown findings.now)
+        → AllByRecursion (λ f. ReportAt (before ++ rest) f.0) (map shown findings.now)
+        → slots.new.items ≡ slots_of (given (found ++ map shown findings.now)) before rest }
 {
     for finding in findings {
         fill_one(slots, settled, *finding);

@@ -1,5 +1,6 @@
 // Reading a day one tuple ahead, so that it is known whether another one follows.
-ghost use Rattle.std.specs.Prelude.{◌≡◌, ◌≢◌, ◌≤◌, ◌<◌, ◌∷◌, [], ℕ, List, Option, Some, None, Ok, Err, IfOk, IfSome, is_some, length, true, false};
+ghost use Rattle.std.specs.Prelude.{◌≡◌, ◌≢◌, ◌≤◌, ◌<◌, ◌∷◌, [], ℕ, List, Option, Some, None, Ok, Err, IfOk, IfSome};
+ghost use Rattle.std.specs.Prelude.{is_some, length, true, false};
 ghost use Rattle.road_time.specs.declared.road.Tuple.{Tuple as TupleValue};
 ghost use Rattle.road_time.specs.declared.day.Limits.{Limits as LimitsValue};
 ghost use Rattle.road_time.specs.declared.day.TheConstants.Limits.{DAY};
@@ -10,7 +11,8 @@ ghost use Rattle.road_io.specs.Cutter.{number_of};
 ghost use Rattle.day_reading.specs.Lines.{FollowsAfter};
 ghost use Rattle.day_reading.specs.Days.{EndsReading, IsShort, LeavesBehind, ReadsWithin, most_read};
 ghost use Rattle.day_reading.specs.Readings.{IsReading, IsGathering, Gives, GathersOn, HasReadOf, HasFailed};
-ghost use Rattle.day_reading.specs.Ahead.{answer_of, has_more, IsAhead, IsGatheringAhead, HasReadAhead, HasFailedAhead, GivesAhead, GathersAhead};
+ghost use Rattle.day_reading.specs.Ahead.{answer_of, has_more, IsAhead, IsGatheringAhead, HasReadAhead};
+ghost use Rattle.day_reading.specs.Ahead.{HasFailedAhead, GivesAhead, GathersAhead};
 ghost use Rattle.day_reading.specs.declared.whole_day.ReadStop.TheVariants.{ReadFault};
 
 use super::{DayAhead, Following};
@@ -31,14 +33,16 @@ fn look<S: Source, R: Threads>(
     ensures gives { (limits : LimitsValue) (late : ℕ) (bytes : List ℕ) (given : List TupleValue)
         → IsReading reader.old limits late (S.left source.old) bytes given
         → IfOk result (λ f. Gives (answer_of f) reader.new limits late (S.left source.new) bytes given) }
-    ensures gathers { (limits : LimitsValue) (late : ℕ) (given : List TupleValue) → IsGathering reader.old limits late given
+    ensures gathers { (limits : LimitsValue) (late : ℕ) (given : List TupleValue)
+        → IsGathering reader.old limits late given
         → IfOk result (λ f. GathersOn (answer_of f) reader.new limits late given) }
     ensures read { (lines : ℕ) (bytes : List ℕ) → HasReadOf reader.old lines (S.left source.old) bytes
         → HasReadOf reader.new lines (S.left source.new) bytes }
     ensures after { IfOk result (λ f. FollowsAfter f (number_of reader.new.cutter)) }
     ensures same { S.name source.new ≡ S.name source.old }
     ensures later { S.faults source.old ≤ S.faults source.new }
-    ensures cause { (HasFailed reader.old → ⊥) → result ≡ Err ReadFault → Rose (S.faults source.old) (S.faults source.new) }
+    ensures cause { (HasFailed reader.old → ⊥) → result ≡ Err ReadFault
+        → Rose (S.faults source.old) (S.faults source.new) }
     ensures unfailed { (HasFailed reader.old → ⊥) → result ≢ Err ReadFault → HasFailed reader.new → ⊥ }
     ensures sure { (HasFailed reader.old → ⊥) → NeverFails (S.plan source.old)
         → (result ≢ Err ReadFault) × NeverFails (S.plan source.new) }
@@ -89,9 +93,11 @@ impl DayAhead {
     /// Whether a tuple is left.
     pub fn more(&self) -> bool
         ensures exact { result ≡ has_more self.now }
-        ensures all { result ≡ false → (limits : LimitsValue) (late : ℕ) (left : Option (List ℕ)) (bytes : List ℕ) (given : List TupleValue)
+        ensures all { result ≡ false → (limits : LimitsValue) (late : ℕ) (left : Option (List ℕ)) (bytes : List ℕ)
+            (given : List TupleValue)
             → IsAhead self.now limits late left bytes given → given ≡ (reads bytes limits late).tuples }
-        ensures some { result ≡ true → (limits : LimitsValue) (late : ℕ) (left : Option (List ℕ)) (bytes : List ℕ) (given : List TupleValue)
+        ensures some { result ≡ true → (limits : LimitsValue) (late : ℕ) (left : Option (List ℕ)) (bytes : List ℕ)
+            (given : List TupleValue)
             → IsAhead self.now limits late left bytes given → length given < length (reads bytes limits late).tuples }
     {
         matches!(self.following, Following::Waits(_))
@@ -106,7 +112,8 @@ impl DayAhead {
         ensures gives { (limits : LimitsValue) (late : ℕ) (bytes : List ℕ) (given : List TupleValue)
             → IsAhead self.old limits late (S.left source.old) bytes given
             → GivesAhead result self.new limits late (S.left source.new) bytes given }
-        ensures gathers { (limits : LimitsValue) (late : ℕ) (given : List TupleValue) → IsGatheringAhead self.old limits late given
+        ensures gathers { (limits : LimitsValue) (late : ℕ) (given : List TupleValue)
+            → IsGatheringAhead self.old limits late given
             → GathersAhead result self.new limits late given }
         ensures some { IfOk result (λ given. is_some given ≡ has_more self.old) }
         ensures read { (lines : ℕ) (bytes : List ℕ) → HasReadAhead self.old lines (S.left source.old) bytes
@@ -134,11 +141,15 @@ impl DayAhead {
     /// How the reading ended, where no tuple is left.
     pub fn end<R: Threads>(self, rt: &R) -> DayEnd
         requires { has_more self ≡ false }
-        ensures exact { (limits : LimitsValue) (late : ℕ) (left : Option (List ℕ)) (bytes : List ℕ) (given : List TupleValue)
+        ensures exact { (limits : LimitsValue) (late : ℕ) (left : Option (List ℕ)) (bytes : List ℕ)
+            (given : List TupleValue)
             → IsAhead self limits late left bytes given → EndsReading result bytes (reads bytes limits late).refused }
-        ensures left { (limits : LimitsValue) (late : ℕ) (left : Option (List ℕ)) (bytes : List ℕ) (given : List TupleValue)
-            → IsAhead self limits late left bytes given → HasReadAhead self limits.lines left bytes → LeavesBehind result bytes left }
-        ensures short { (limits : LimitsValue) (late : ℕ) (given : List TupleValue) → IsGatheringAhead self limits late given
+        ensures left { (limits : LimitsValue) (late : ℕ) (left : Option (List ℕ)) (bytes : List ℕ)
+            (given : List TupleValue)
+            → IsAhead self limits late left bytes given → HasReadAhead self limits.lines left bytes
+            → LeavesBehind result bytes left }
+        ensures short { (limits : LimitsValue) (late : ℕ) (given : List TupleValue)
+            → IsGatheringAhead self limits late given
             → limits.lines ≤ DAY.lines → IsShort result }
     {
         match self.following {

@@ -1,12 +1,14 @@
 // Reading a day, tuple by tuple.
-ghost use Rattle.std.specs.Prelude.{◌≡◌, ◌≢◌, ◌↔◌, ◌≤◌, ◌+◌, ◌*◌, ◌++◌, ◌∷◌, [], ℕ, List, Option, Some, None, Ok, Err, IfOk, IsOk, IfNone, IfSome, length, slice_get};
+ghost use Rattle.std.specs.Prelude.{◌≡◌, ◌≢◌, ◌↔◌, ◌≤◌, ◌+◌, ◌*◌, ◌++◌, ◌∷◌, [], ℕ, List, Option, Some, None, Ok, Err};
+ghost use Rattle.std.specs.Prelude.{IfOk, IsOk, IfNone, IfSome, length, slice_get};
 ghost use Rattle.road_time.specs.declared.road.Tuple.{Tuple as TupleValue};
 ghost use Rattle.road_time.specs.declared.day.Limits.{Limits as LimitsValue};
 ghost use Rattle.road_io.specs.Faults.{Rose};
 ghost use Rattle.road_io.specs.Plans.{NeverFails};
 ghost use Rattle.road_io.specs.Cutter.{number_of};
 ghost use Rattle.keeper.specs.Digests.{digest_of};
-ghost use Rattle.day_reading.specs.Readings.{IsReading, IsGathering, IsGivingOut, Gives, GathersOn, HasTaken, HasReadOf, HasFailed, RefusesAfter};
+ghost use Rattle.day_reading.specs.Readings.{IsReading, IsGathering, IsGivingOut, Gives, GathersOn, HasTaken};
+ghost use Rattle.day_reading.specs.Readings.{HasReadOf, HasFailed, RefusesAfter};
 ghost use Rattle.day_reading.specs.declared.ending.Ending.{Ending as EndingValue};
 ghost use Rattle.road_time.specs.Reads.{reads};
 ghost use Rattle.day_reading.specs.declared.ending.ReadEnd.TheVariants.{ReadFault};
@@ -79,16 +81,21 @@ impl DayReader {
     /// Reads one line more, or says how the reading of lines ends.
     fn read_one<S: Source, R: Threads>(&mut self, rt: &R, source: &mut S) -> Option<Ending>
         requires { self.old.end ≡ None }
-        ensures reading { (limits : LimitsValue) (late : ℕ) (bytes : List ℕ) (given : List TupleValue) → IsReading self.old limits late (S.left source.old) bytes given → IsReading self.new limits late (S.left source.new) bytes given }
-        ensures gathering { (limits : LimitsValue) (late : ℕ) (given : List TupleValue) → IsGathering self.old limits late given → IsGathering self.new limits late given }
+        ensures reading { (limits : LimitsValue) (late : ℕ) (bytes : List ℕ) (given : List TupleValue)
+            → IsReading self.old limits late (S.left source.old) bytes given
+            → IsReading self.new limits late (S.left source.new) bytes given }
+        ensures gathering { (limits : LimitsValue) (late : ℕ) (given : List TupleValue)
+            → IsGathering self.old limits late given → IsGathering self.new limits late given }
         ensures end { self.new.end ≡ result }
         ensures next { IfNone result (number_of self.new.cutter ≡ number_of self.old.cutter + 1) }
         ensures limit { self.new.intake.line_limit ≡ self.old.intake.line_limit }
-        ensures read { (lines : ℕ) (bytes : List ℕ) → HasReadOf self.old lines (S.left source.old) bytes → HasReadOf self.new lines (S.left source.new) bytes }
+        ensures read { (lines : ℕ) (bytes : List ℕ) → HasReadOf self.old lines (S.left source.old) bytes
+            → HasReadOf self.new lines (S.left source.new) bytes }
         ensures same { S.name source.new ≡ S.name source.old }
         ensures later { S.faults source.old ≤ S.faults source.new }
         ensures cause { result ≡ Some (Stopped ReadFault) → Rose (S.faults source.old) (S.faults source.new) }
-        ensures sure { NeverFails (S.plan source.old) → (result ≢ Some (Stopped ReadFault)) × NeverFails (S.plan source.new) }
+        ensures sure { NeverFails (S.plan source.old)
+            → (result ≢ Some (Stopped ReadFault)) × NeverFails (S.plan source.new) }
     {
         let _limit = self.intake.line_limit;
         match self.cutter.advance(source) {
@@ -118,13 +125,22 @@ impl DayReader {
 
     /// The next of those that wait, where lines are read no more.
     fn next_out(&mut self) -> Option<Tuple>
-        ensures some { IfSome result (λ x. (end : EndingValue) → self.old.end ≡ Some end → IsGivingOut end → (limits : LimitsValue) (late : ℕ) (left : Option (List ℕ)) (bytes : List ℕ) (given : List TupleValue) → IsReading self.old limits late left bytes given → IsReading self.new limits late left bytes (given ++ x ∷ [])) }
-        ensures none { IfNone result ((end : EndingValue) → self.old.end ≡ Some end → IsGivingOut end → (limits : LimitsValue) (late : ℕ) (left : Option (List ℕ)) (bytes : List ℕ) (given : List TupleValue) → IsReading self.old limits late left bytes given → IsReading self.new limits late left bytes given × (given ≡ (reads bytes limits late).tuples)) }
-        ensures gathers { (end : EndingValue) → self.old.end ≡ Some end → IsGivingOut end → (limits : LimitsValue) (late : ℕ) (given : List TupleValue) → IsGathering self.old limits late given → GathersOn (Ok result) self.new limits late given }
+        ensures some { IfSome result (λ x. (end : EndingValue) → self.old.end ≡ Some end → IsGivingOut end
+            → (limits : LimitsValue) (late : ℕ) (left : Option (List ℕ)) (bytes : List ℕ) (given : List TupleValue)
+            → IsReading self.old limits late left bytes given
+            → IsReading self.new limits late left bytes (given ++ x ∷ [])) }
+        ensures none { IfNone result ((end : EndingValue) → self.old.end ≡ Some end → IsGivingOut end
+            → (limits : LimitsValue) (late : ℕ) (left : Option (List ℕ)) (bytes : List ℕ) (given : List TupleValue)
+            → IsReading self.old limits late left bytes given
+            → IsReading self.new limits late left bytes given × (given ≡ (reads bytes limits late).tuples)) }
+        ensures gathers { (end : EndingValue) → self.old.end ≡ Some end → IsGivingOut end
+            → (limits : LimitsValue) (late : ℕ) (given : List TupleValue) → IsGathering self.old limits late given
+            → GathersOn (Ok result) self.new limits late given }
         ensures end { self.new.end ≡ self.old.end }
         ensures consumed { self.new.consumed ≡ self.old.consumed }
         ensures cutter { self.new.cutter ≡ self.old.cutter }
-        ensures read { (lines : ℕ) (left : Option (List ℕ)) (bytes : List ℕ) → HasReadOf self.old lines left bytes → HasReadOf self.new lines left bytes }
+        ensures read { (lines : ℕ) (left : Option (List ℕ)) (bytes : List ℕ) → HasReadOf self.old lines left bytes
+            → HasReadOf self.new lines left bytes }
     {
         let _limit = self.intake.line_limit;
         match self.intake.sorter.end() {
@@ -139,11 +155,16 @@ impl DayReader {
     /// The next of those that wait, if no line to come can have one before it.
     fn next_on(&mut self) -> Option<Tuple>
         requires { self.old.end ≡ None }
-        ensures some { IfSome result (λ x. (limits : LimitsValue) (late : ℕ) (left : Option (List ℕ)) (bytes : List ℕ) (given : List TupleValue) → IsReading self.old limits late left bytes given → IsReading self.new limits late left bytes (given ++ x ∷ [])) }
+        ensures some { IfSome result (λ x.
+            (limits : LimitsValue) (late : ℕ) (left : Option (List ℕ)) (bytes : List ℕ) (given : List TupleValue)
+            → IsReading self.old limits late left bytes given
+            → IsReading self.new limits late left bytes (given ++ x ∷ [])) }
         ensures none { IfNone result (self.new ≡ self.old) }
-        ensures gathers { (limits : LimitsValue) (late : ℕ) (given : List TupleValue) → IsGathering self.old limits late given → GathersOn (Ok result) self.new limits late given }
+        ensures gathers { (limits : LimitsValue) (late : ℕ) (given : List TupleValue)
+            → IsGathering self.old limits late given → GathersOn (Ok result) self.new limits late given }
         ensures end { self.new.end ≡ None }
-        ensures read { (lines : ℕ) (left : Option (List ℕ)) (bytes : List ℕ) → HasReadOf self.old lines left bytes → HasReadOf self.new lines left bytes }
+        ensures read { (lines : ℕ) (left : Option (List ℕ)) (bytes : List ℕ) → HasReadOf self.old lines left bytes
+            → HasReadOf self.new lines left bytes }
     {
         let _limit = self.intake.line_limit;
         match self.intake.sorter.take() {
@@ -158,12 +179,16 @@ impl DayReader {
     /// Gives those that wait, and then the line that was refused; a fault is answered at once.
     fn drain_stopped(&mut self, stop: ReadEnd) -> Result<Option<Tuple>, ReadEnd>
         requires { self.old.end ≡ Some (Stopped stop) }
-        ensures gives { (limits : LimitsValue) (late : ℕ) (left : Option (List ℕ)) (bytes : List ℕ) (given : List TupleValue) → IsReading self.old limits late left bytes given → Gives result self.new limits late left bytes given }
-        ensures gathers { (limits : LimitsValue) (late : ℕ) (given : List TupleValue) → IsGathering self.old limits late given → GathersOn result self.new limits late given }
+        ensures gives { (limits : LimitsValue) (late : ℕ) (left : Option (List ℕ)) (bytes : List ℕ)
+            (given : List TupleValue) → IsReading self.old limits late left bytes given
+            → Gives result self.new limits late left bytes given }
+        ensures gathers { (limits : LimitsValue) (late : ℕ) (given : List TupleValue)
+            → IsGathering self.old limits late given → GathersOn result self.new limits late given }
         ensures end { self.new.end ≡ self.old.end }
         ensures after { RefusesAfter result (number_of self.new.cutter) }
         ensures fault { result ≡ Err ReadFault ↔ (stop ≡ ReadFault) }
-        ensures read { (lines : ℕ) (left : Option (List ℕ)) (bytes : List ℕ) → HasReadOf self.old lines left bytes → HasReadOf self.new lines left bytes }
+        ensures read { (lines : ℕ) (left : Option (List ℕ)) (bytes : List ℕ) → HasReadOf self.old lines left bytes
+            → HasReadOf self.new lines left bytes }
     {
         match stop {
             ReadEnd::Refused { line, cause } => match self.next_out() {
@@ -178,12 +203,16 @@ impl DayReader {
     /// Gives those that wait, and then the end.
     fn drain(&mut self, end: Ending) -> Result<Option<Tuple>, ReadEnd>
         requires { self.old.end ≡ Some end }
-        ensures gives { (limits : LimitsValue) (late : ℕ) (left : Option (List ℕ)) (bytes : List ℕ) (given : List TupleValue) → IsReading self.old limits late left bytes given → Gives result self.new limits late left bytes given }
-        ensures gathers { (limits : LimitsValue) (late : ℕ) (given : List TupleValue) → IsGathering self.old limits late given → GathersOn result self.new limits late given }
+        ensures gives { (limits : LimitsValue) (late : ℕ) (left : Option (List ℕ)) (bytes : List ℕ)
+            (given : List TupleValue) → IsReading self.old limits late left bytes given
+            → Gives result self.new limits late left bytes given }
+        ensures gathers { (limits : LimitsValue) (late : ℕ) (given : List TupleValue)
+            → IsGathering self.old limits late given → GathersOn result self.new limits late given }
         ensures end { self.new.end ≡ self.old.end }
         ensures after { RefusesAfter result (number_of self.new.cutter) }
         ensures fault { result ≡ Err ReadFault ↔ (end ≡ Stopped ReadFault) }
-        ensures read { (lines : ℕ) (left : Option (List ℕ)) (bytes : List ℕ) → HasReadOf self.old lines left bytes → HasReadOf self.new lines left bytes }
+        ensures read { (lines : ℕ) (left : Option (List ℕ)) (bytes : List ℕ) → HasReadOf self.old lines left bytes
+            → HasReadOf self.new lines left bytes }
     {
         match end {
             Ending::Whole => match self.next_out() {
@@ -200,15 +229,21 @@ impl DayReader {
         rt: &R,
         source: &mut S,
     ) -> Result<Option<Tuple>, ReadEnd>
-        ensures gives { (limits : LimitsValue) (late : ℕ) (bytes : List ℕ) (given : List TupleValue) → IsReading self.old limits late (S.left source.old) bytes given → Gives result self.new limits late (S.left source.new) bytes given }
-        ensures gathers { (limits : LimitsValue) (late : ℕ) (given : List TupleValue) → IsGathering self.old limits late given → GathersOn result self.new limits late given }
-        ensures read { (lines : ℕ) (bytes : List ℕ) → HasReadOf self.old lines (S.left source.old) bytes → HasReadOf self.new lines (S.left source.new) bytes }
+        ensures gives { (limits : LimitsValue) (late : ℕ) (bytes : List ℕ) (given : List TupleValue)
+            → IsReading self.old limits late (S.left source.old) bytes given
+            → Gives result self.new limits late (S.left source.new) bytes given }
+        ensures gathers { (limits : LimitsValue) (late : ℕ) (given : List TupleValue)
+            → IsGathering self.old limits late given → GathersOn result self.new limits late given }
+        ensures read { (lines : ℕ) (bytes : List ℕ) → HasReadOf self.old lines (S.left source.old) bytes
+            → HasReadOf self.new lines (S.left source.new) bytes }
         ensures after { RefusesAfter result (number_of self.new.cutter) }
         ensures same { S.name source.new ≡ S.name source.old }
         ensures later { S.faults source.old ≤ S.faults source.new }
-        ensures cause { (HasFailed self.old → ⊥) → result ≡ Err ReadFault → Rose (S.faults source.old) (S.faults source.new) }
+        ensures cause { (HasFailed self.old → ⊥) → result ≡ Err ReadFault
+            → Rose (S.faults source.old) (S.faults source.new) }
         ensures unfailed { (HasFailed self.old → ⊥) → result ≢ Err ReadFault → HasFailed self.new → ⊥ }
-        ensures sure { (HasFailed self.old → ⊥) → NeverFails (S.plan source.old) → (result ≢ Err ReadFault) × NeverFails (S.plan source.new) }
+        ensures sure { (HasFailed self.old → ⊥) → NeverFails (S.plan source.old)
+            → (result ≢ Err ReadFault) × NeverFails (S.plan source.new) }
     {
         if let Some(end) = self.end {
             return self.drain(end);

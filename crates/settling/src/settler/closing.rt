@@ -59,7 +59,9 @@ pub struct Closed {
 impl Settler {
     /// What is left of a day, under its number. The one error is want of memory.
     pub fn close(self, day: u32) -> Result<Closed, NoMemory>
-        ensures { IfOk result (λ closed. (finding : Sight → Finding) (number : ℕ) (history : History) (before : List Tuple) → StandsFor self finding number history before → IsClosed closed day finding number history before) }
+        ensures { IfOk result (λ closed.
+            (finding : Sight → Finding) (number : ℕ) (history : History) (before : List Tuple)
+            → StandsFor self finding number history before → IsClosed closed day finding number history before) }
     {
         let rows = self.book.spent_rows(day)?;
         let total = self.book.total();

@@ -1,5 +1,6 @@
 // A run's charges are published, and positions are settled.
-ghost use Rattle.std.specs.Prelude.{◌≡◌, ◌≤◌, ◌<◌, ◌+◌, ◌^◌, ◌++◌, ℕ, [], List, false, OnOk, IfOk, IfErr, take, drop, length, map};
+ghost use Rattle.std.specs.Prelude.{◌≡◌, ◌≤◌, ◌<◌, ◌+◌, ◌^◌, ◌++◌, ℕ, [], List, false, OnOk, IfOk, IfErr, take, drop};
+ghost use Rattle.std.specs.Prelude.{length, map};
 ghost use Rattle.road_time.specs.declared.road.Tuple.{Tuple};
 ghost use Rattle.road_time.specs.Sights.{Sight, moments_after};
 ghost use Rattle.road_time.specs.Tolls.{Finding};
@@ -22,10 +23,12 @@ use std::collections::VecDeque;
 impl Settler {
     /// Publishes the listed charges with the new mark, if any position was settled.
     fn publish<P: Publisher>(&mut self, count: u32, publisher: &mut P) -> Result<(), SettleFault>
-        requires abreast { (total : ℕ) × IsAbreast (P.posted publisher.old) total × (total + sum_of (map charge_of self.old.charges.items) ≡ total_in self.old.book.spent) }
+        requires abreast { (total : ℕ) × IsAbreast (P.posted publisher.old) total
+            × (total + sum_of (map charge_of self.old.charges.items) ≡ total_in self.old.book.spent) }
         requires few { total_in self.old.book.spent < 2 ^ 63 }
         requires idle { count ≡ 0 → self.old.charges.items ≡ [] }
-        ensures published { Publishes result count (map charge_of self.old.charges.items) self.old.settled (P.posted publisher.old) (P.posted publisher.new) }
+        ensures published { Publishes result count (map charge_of self.old.charges.items) self.old.settled
+            (P.posted publisher.old) (P.posted publisher.new) }
         ensures abreast { OnOk result (IsAbreast (P.posted publisher.new) (total_in self.old.book.spent)) }
         ensures which { P.which publisher.new ≡ P.which publisher.old }
         ensures listed { OnOk result (self.new.charges.items ≡ []) }
@@ -47,9 +50,9 @@ impl Settler {
         }
     }
 
-    /// Settles the first positions that wait, so many, in order: it books, writes all of their notices and answers, publishes the
-    /// charges with the new mark, and answers how many positions are settled so far. After a refusal some first bytes of their text
-    /// were written, no step was published, and the settler serves no more.
+    /// Settles the first positions that wait, so many, in order: it books, writes all of their notices and answers,
+    /// publishes the charges with the new mark, and answers how many positions are settled so far. After a refusal some
+    /// first bytes of their text were written, no step was published, and the settler serves no more.
     pub fn settle<K: Keeper, O: Sink, P: Publisher>(
         &mut self,
         count: u32,
@@ -59,29 +62,50 @@ impl Settler {
         sink: &mut O,
         publisher: &mut P,
     ) -> Result<u64, SettleFault>
-        requires waits { (finding : Sight → Finding) × (before : List Tuple) × (rest : List Tuple) × StandsFor self.old finding number (history_of (K.told keeper.old)) before × Waits slots.old.items finding before rest × (count ≤ length rest) }
+        requires waits { (finding : Sight → Finding) × (before : List Tuple) × (rest : List Tuple)
+            × StandsFor self.old finding number (history_of (K.told keeper.old)) before
+            × Waits slots.old.items finding before rest × (count ≤ length rest) }
         requires abreast { IsAbreast (P.posted publisher.old) (total_in self.old.book.spent) }
-        ensures settled { IfOk result (λ n. (finding : Sight → Finding) (before rest : List Tuple) → StandsFor self.old finding number (history_of (K.told keeper.old)) before → Waits slots.old.items finding before rest → count ≤ length rest
-            → (n ≡ length before + count) × StandsFor self.new finding number (history_of (K.told keeper.new)) (before ++ take count rest) × Waits slots.new.items finding (before ++ take count rest) (drop count rest)) }
-        ensures wrote { OnOk result ((finding : Sight → Finding) (before rest : List Tuple) → StandsFor self.old finding number (history_of (K.told keeper.old)) before → Waits slots.old.items finding before rest → count ≤ length rest
-            → WritesRun finding number (history_of (K.told keeper.old)) before (take count rest) (O.written sink.old) (O.written sink.new)) }
-        ensures stopped { IfErr result (λ fault. (finding : Sight → Finding) (before rest : List Tuple) → StandsFor self.old finding number (history_of (K.told keeper.old)) before → Waits slots.old.items finding before rest → count ≤ length rest
-            → WritesSomeOfRun fault finding number (history_of (K.told keeper.old)) before (take count rest) (O.written sink.old) (O.written sink.new)) }
-        ensures took { OnOk result ((finding : Sight → Finding) (before rest : List Tuple) → StandsFor self.old finding number (history_of (K.told keeper.old)) before
+        ensures settled { IfOk result (λ n. (finding : Sight → Finding) (before rest : List Tuple)
+            → StandsFor self.old finding number (history_of (K.told keeper.old)) before
+            → Waits slots.old.items finding before rest → count ≤ length rest
+            → (n ≡ length before + count)
+            × StandsFor self.new finding number (history_of (K.told keeper.new)) (before ++ take count rest)
+            × Waits slots.new.items finding (before ++ take count rest) (drop count rest)) }
+        ensures wrote { OnOk result ((finding : Sight → Finding) (before rest : List Tuple)
+            → StandsFor self.old finding number (history_of (K.told keeper.old)) before
+            → Waits slots.old.items finding before rest → count ≤ length rest
+            → WritesRun finding number (history_of (K.told keeper.old)) before (take count rest) (O.written sink.old)
+            (O.written sink.new)) }
+        ensures stopped { IfErr result (λ fault. (finding : Sight → Finding) (before rest : List Tuple)
+            → StandsFor self.old finding number (history_of (K.told keeper.old)) before
+            → Waits slots.old.items finding before rest → count ≤ length rest
+            → WritesSomeOfRun fault finding number (history_of (K.told keeper.old)) before (take count rest)
+            (O.written sink.old) (O.written sink.new)) }
+        ensures took { OnOk result ((finding : Sight → Finding) (before rest : List Tuple)
+            → StandsFor self.old finding number (history_of (K.told keeper.old)) before
             → Waits slots.old.items finding before rest → count ≤ length rest
             → TakesRun finding number (history_of (K.told keeper.old)) before (take count rest)
-            (O.written sink.old, O.room sink.old) (O.written sink.new, O.room sink.new) (K.plan keeper.old) (K.plan keeper.new)) }
-        ensures where_stopped { IfErr result (λ fault. (finding : Sight → Finding) (before rest : List Tuple) → StandsFor self.old finding number (history_of (K.told keeper.old)) before
+            (O.written sink.old, O.room sink.old) (O.written sink.new, O.room sink.new) (K.plan keeper.old)
+            (K.plan keeper.new)) }
+        ensures where_stopped { IfErr result
+            (λ fault. (finding : Sight → Finding) (before rest : List Tuple)
+            → StandsFor self.old finding number (history_of (K.told keeper.old)) before
             → Waits slots.old.items finding before rest → count ≤ length rest
             → StopsRun fault finding number (history_of (K.told keeper.old)) before (take count rest)
-            (O.written sink.old, O.room sink.old) (O.written sink.new, O.room sink.new) (K.plan keeper.old) (K.plan keeper.new)) }
-        ensures published { (finding : Sight → Finding) (before rest : List Tuple) → StandsFor self.old finding number (history_of (K.told keeper.old)) before → Waits slots.old.items finding before rest → count ≤ length rest
-            → Publishes result count (charges_by finding (moments_after before (take count rest))) (length before + count) (P.posted publisher.old) (P.posted publisher.new) }
+            (O.written sink.old, O.room sink.old) (O.written sink.new, O.room sink.new) (K.plan keeper.old)
+            (K.plan keeper.new)) }
+        ensures published { (finding : Sight → Finding) (before rest : List Tuple)
+            → StandsFor self.old finding number (history_of (K.told keeper.old)) before
+            → Waits slots.old.items finding before rest → count ≤ length rest
+            → Publishes result count (charges_by finding (moments_after before (take count rest)))
+            (length before + count) (P.posted publisher.old) (P.posted publisher.new) }
         ensures abreast { OnOk result (IsAbreast (P.posted publisher.new) (total_in self.new.book.spent)) }
         ensures which { P.which publisher.new ≡ P.which publisher.old }
         ensures same { K.told keeper.new ≡ K.told keeper.old }
         ensures sink { SinkFaults (O.faults sink.old) (O.faults sink.new) (O.room sink.old) (O.room sink.new) result }
-        ensures keeper { KeeperFaults (K.faults keeper.old) (K.faults keeper.new) (K.plan keeper.old) (K.plan keeper.new) result }
+        ensures keeper { KeeperFaults (K.faults keeper.old) (K.faults keeper.new) (K.plan keeper.old)
+            (K.plan keeper.new) result }
     {
         if let Err(fault) = self.write_run(count, slots, number, keeper, sink) {
             return Err(fault);

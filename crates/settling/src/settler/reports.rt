@@ -26,7 +26,8 @@ impl Settler {
         requires toll { found.toll ≤ 500000000000 }
         requires count { self.old.printer.notices + 2 < 2 ^ 64 }
         ensures booked { OnOk result (self.new.book ≡ told_with told vid found.toll self.old.book) }
-        ensures says { Says result self.old.printer self.new.printer (O.written sink.old, O.room sink.old) (O.written sink.new, O.room sink.new) (told_notices told time vid found) }
+        ensures says { Says result self.old.printer self.new.printer (O.written sink.old, O.room sink.old)
+            (O.written sink.new, O.room sink.new) (told_notices told time vid found) }
         ensures charges { self.new.charges ≡ self.old.charges }
         ensures settled { self.new.settled ≡ self.old.settled }
         ensures faults { SinkFaults (O.faults sink.old) (O.faults sink.new) (O.room sink.old) (O.room sink.new) result }
@@ -41,7 +42,8 @@ impl Settler {
         self.printer.put_told(time, vid, found, sink)
     }
 
-    /// Settles a report: the stay that it leaves is charged the toll that was told last, and only then it is told its own.
+    /// Settles a report: the stay that it leaves is charged the toll that was told last, and only then it is told its
+    /// own.
     pub(super) fn settle_report<O: Sink>(
         &mut self,
         time: u32,
@@ -55,9 +57,12 @@ impl Settler {
         requires few { self.old.book.made < 16000000 }
         requires toll { found.toll ≤ 500000000000 }
         requires count { self.old.printer.notices + 2 < 2 ^ 64 }
-        ensures booked { OnOk result (self.new.book ≡ told_with told vid found.toll (charged_with (charges_for charge vid self.old.book) self.old.book)) }
-        ensures listed { OnOk result (map charge_of self.new.charges.items ≡ map charge_of self.old.charges.items ++ charges_for charge vid self.old.book) }
-        ensures says { Says result self.old.printer self.new.printer (O.written sink.old, O.room sink.old) (O.written sink.new, O.room sink.new) (told_notices told time vid found) }
+        ensures booked { OnOk result (self.new.book
+            ≡ told_with told vid found.toll (charged_with (charges_for charge vid self.old.book) self.old.book)) }
+        ensures listed { OnOk result (map charge_of self.new.charges.items
+            ≡ map charge_of self.old.charges.items ++ charges_for charge vid self.old.book) }
+        ensures says { Says result self.old.printer self.new.printer (O.written sink.old, O.room sink.old)
+            (O.written sink.new, O.room sink.new) (told_notices told time vid found) }
         ensures settled { self.new.settled ≡ self.old.settled }
         ensures faults { SinkFaults (O.faults sink.old) (O.faults sink.new) (O.room sink.old) (O.room sink.new) result }
         ensures other { keeper_failed result ≡ false }

@@ -27,21 +27,31 @@ impl Settler {
         keeper: &mut K,
         sink: &mut O,
     ) -> Result<(), SettleFault>
-        requires { (finding : Sight → Finding) × (before : List Tuple) × (run : List Tuple) × (x : Tuple) × (rest : List Tuple) × (old : Level) × (plan : Plan)
-            × InRun self.old finding number (history_of (K.told keeper.old)) before run old (O.written sink.old, O.room sink.old) plan (K.plan keeper.old)
+        requires { (finding : Sight → Finding) × (before : List Tuple) × (run : List Tuple) × (x : Tuple)
+            × (rest : List Tuple) × (old : Level) × (plan : Plan)
+            × InRun self.old finding number (history_of (K.told keeper.old)) before run old
+            (O.written sink.old, O.room sink.old) plan (K.plan keeper.old)
             × Waits slots.old.items finding (before ++ run) (x ∷ rest) }
-        ensures ok { OnOk result ((finding : Sight → Finding) (before run : List Tuple) (x : Tuple) (rest : List Tuple) (old : Level) (plan : Plan)
-            → InRun self.old finding number (history_of (K.told keeper.old)) before run old (O.written sink.old, O.room sink.old) plan (K.plan keeper.old)
+        ensures ok { OnOk result ((finding : Sight → Finding) (before run : List Tuple) (x : Tuple) (rest : List Tuple)
+            (old : Level) (plan : Plan)
+            → InRun self.old finding number (history_of (K.told keeper.old)) before run old
+            (O.written sink.old, O.room sink.old) plan (K.plan keeper.old)
             → Waits slots.old.items finding (before ++ run) (x ∷ rest)
-            → InRun self.new finding number (history_of (K.told keeper.new)) before (run ++ x ∷ []) old (O.written sink.new, O.room sink.new) plan (K.plan keeper.new)
+            → InRun self.new finding number (history_of (K.told keeper.new)) before (run ++ x ∷ []) old
+            (O.written sink.new, O.room sink.new) plan (K.plan keeper.new)
             × Waits slots.new.items finding (before ++ (run ++ x ∷ [])) rest) }
-        ensures err { IfErr result (λ fault. (finding : Sight → Finding) (before run : List Tuple) (x : Tuple) (rest : List Tuple) (old : Level) (plan : Plan)
-            → InRun self.old finding number (history_of (K.told keeper.old)) before run old (O.written sink.old, O.room sink.old) plan (K.plan keeper.old)
+        ensures err { IfErr result (λ fault.
+            (finding : Sight → Finding) (before run : List Tuple) (x : Tuple) (rest : List Tuple) (old : Level)
+            (plan : Plan)
+            → InRun self.old finding number (history_of (K.told keeper.old)) before run old
+            (O.written sink.old, O.room sink.old) plan (K.plan keeper.old)
             → Waits slots.old.items finding (before ++ run) (x ∷ rest)
-            → StopsRun fault finding number (history_of (K.told keeper.old)) before (run ++ x ∷ []) old (O.written sink.new, O.room sink.new) plan (K.plan keeper.new)) }
+            → StopsRun fault finding number (history_of (K.told keeper.old)) before (run ++ x ∷ []) old
+            (O.written sink.new, O.room sink.new) plan (K.plan keeper.new)) }
         ensures same { K.told keeper.new ≡ K.told keeper.old }
         ensures sink { SinkFaults (O.faults sink.old) (O.faults sink.new) (O.room sink.old) (O.room sink.new) result }
-        ensures keeper { KeeperFaults (K.faults keeper.old) (K.faults keeper.new) (K.plan keeper.old) (K.plan keeper.new) result }
+        ensures keeper { KeeperFaults (K.faults keeper.old) (K.faults keeper.new) (K.plan keeper.old)
+            (K.plan keeper.new) result }
     {
         let Some(slot) = slots.pop_front() else {
             unreachable!()
@@ -62,19 +72,26 @@ impl Settler {
         keeper: &mut K,
         sink: &mut O,
     ) -> Result<(), SettleFault>
-        requires waits { (finding : Sight → Finding) × (before : List Tuple) × (rest : List Tuple) × StandsFor self.old finding number (history_of (K.told keeper.old)) before × Waits slots.old.items finding before rest × (count ≤ length rest) }
+        requires waits { (finding : Sight → Finding) × (before : List Tuple) × (rest : List Tuple)
+            × StandsFor self.old finding number (history_of (K.told keeper.old)) before
+            × Waits slots.old.items finding before rest × (count ≤ length rest) }
         ensures ok { OnOk result ((finding : Sight → Finding) (before rest : List Tuple)
-            → StandsFor self.old finding number (history_of (K.told keeper.old)) before → Waits slots.old.items finding before rest → count ≤ length rest
+            → StandsFor self.old finding number (history_of (K.told keeper.old)) before
+            → Waits slots.old.items finding before rest → count ≤ length rest
             → InRun self.new finding number (history_of (K.told keeper.new)) before (take count rest)
-            (O.written sink.old, O.room sink.old) (O.written sink.new, O.room sink.new) (K.plan keeper.old) (K.plan keeper.new)
+            (O.written sink.old, O.room sink.old) (O.written sink.new, O.room sink.new) (K.plan keeper.old)
+            (K.plan keeper.new)
             × Waits slots.new.items finding (before ++ take count rest) (drop count rest)) }
         ensures err { IfErr result (λ fault. (finding : Sight → Finding) (before rest : List Tuple)
-            → StandsFor self.old finding number (history_of (K.told keeper.old)) before → Waits slots.old.items finding before rest → count ≤ length rest
+            → StandsFor self.old finding number (history_of (K.told keeper.old)) before
+            → Waits slots.old.items finding before rest → count ≤ length rest
             → StopsRun fault finding number (history_of (K.told keeper.old)) before (take count rest)
-            (O.written sink.old, O.room sink.old) (O.written sink.new, O.room sink.new) (K.plan keeper.old) (K.plan keeper.new)) }
+            (O.written sink.old, O.room sink.old) (O.written sink.new, O.room sink.new) (K.plan keeper.old)
+            (K.plan keeper.new)) }
         ensures same { K.told keeper.new ≡ K.told keeper.old }
         ensures sink { SinkFaults (O.faults sink.old) (O.faults sink.new) (O.room sink.old) (O.room sink.new) result }
-        ensures keeper { KeeperFaults (K.faults keeper.old) (K.faults keeper.new) (K.plan keeper.old) (K.plan keeper.new) result }
+        ensures keeper { KeeperFaults (K.faults keeper.old) (K.faults keeper.new) (K.plan keeper.old)
+            (K.plan keeper.new) result }
     {
         for _ in 0..count {
             if let Err(fault) = self.settle_next(slots, number, keeper, sink) {
@@ -93,19 +110,26 @@ impl Settler {
         keeper: &mut K,
         sink: &mut O,
     ) -> Result<(), SettleFault>
-        requires waits { (finding : Sight → Finding) × (before : List Tuple) × (rest : List Tuple) × StandsFor self.old finding number (history_of (K.told keeper.old)) before × Waits slots.old.items finding before rest × (count ≤ length rest) }
+        requires waits { (finding : Sight → Finding) × (before : List Tuple) × (rest : List Tuple)
+            × StandsFor self.old finding number (history_of (K.told keeper.old)) before
+            × Waits slots.old.items finding before rest × (count ≤ length rest) }
         ensures ok { OnOk result ((finding : Sight → Finding) (before rest : List Tuple)
-            → StandsFor self.old finding number (history_of (K.told keeper.old)) before → Waits slots.old.items finding before rest → count ≤ length rest
+            → StandsFor self.old finding number (history_of (K.told keeper.old)) before
+            → Waits slots.old.items finding before rest → count ≤ length rest
             → HasRun self.new finding number (history_of (K.told keeper.new)) before (take count rest)
-            (O.written sink.old, O.room sink.old) (O.written sink.new, O.room sink.new) (K.plan keeper.old) (K.plan keeper.new)
+            (O.written sink.old, O.room sink.old) (O.written sink.new, O.room sink.new) (K.plan keeper.old)
+            (K.plan keeper.new)
             × Waits slots.new.items finding (before ++ take count rest) (drop count rest)) }
         ensures err { IfErr result (λ fault. (finding : Sight → Finding) (before rest : List Tuple)
-            → StandsFor self.old finding number (history_of (K.told keeper.old)) before → Waits slots.old.items finding before rest → count ≤ length rest
+            → StandsFor self.old finding number (history_of (K.told keeper.old)) before
+            → Waits slots.old.items finding before rest → count ≤ length rest
             → StopsRun fault finding number (history_of (K.told keeper.old)) before (take count rest)
-            (O.written sink.old, O.room sink.old) (O.written sink.new, O.room sink.new) (K.plan keeper.old) (K.plan keeper.new)) }
+            (O.written sink.old, O.room sink.old) (O.written sink.new, O.room sink.new) (K.plan keeper.old)
+            (K.plan keeper.new)) }
         ensures same { K.told keeper.new ≡ K.told keeper.old }
         ensures sink { SinkFaults (O.faults sink.old) (O.faults sink.new) (O.room sink.old) (O.room sink.new) result }
-        ensures keeper { KeeperFaults (K.faults keeper.old) (K.faults keeper.new) (K.plan keeper.old) (K.plan keeper.new) result }
+        ensures keeper { KeeperFaults (K.faults keeper.old) (K.faults keeper.new) (K.plan keeper.old)
+            (K.plan keeper.new) result }
     {
         if let Err(fault) = self.settle_run(count, slots, number, keeper, sink) {
             return Err(fault);

@@ -29,14 +29,17 @@ impl Settler {
         requires toll { slot.found.toll ≤ 500000000000 }
         requires count { self.old.printer.notices + 2 < 2 ^ 64 }
         ensures booked { OnOk result (self.new.book ≡ book_after slot.due slot.found.toll self.old.book) }
-        ensures listed { OnOk result (map charge_of self.new.charges.items ≡ map charge_of self.old.charges.items ++ charges_in slot.due self.old.book) }
-        ensures says { (told : List NoticeValue) × IsSaid (history_of (K.told keeper.old)) number slot.due slot.found self.old.book told
+        ensures listed { OnOk result (map charge_of self.new.charges.items
+            ≡ map charge_of self.old.charges.items ++ charges_in slot.due self.old.book) }
+        ensures says { (told : List NoticeValue)
+            × IsSaid (history_of (K.told keeper.old)) number slot.due slot.found self.old.book told
             × SettlesSlot result slot.due self.old.printer self.new.printer (O.written sink.old, O.room sink.old)
             (O.written sink.new, O.room sink.new) (K.plan keeper.old) (K.plan keeper.new) told }
         ensures settled { self.new.settled ≡ self.old.settled }
         ensures same { K.told keeper.new ≡ K.told keeper.old }
         ensures sink { SinkFaults (O.faults sink.old) (O.faults sink.new) (O.room sink.old) (O.room sink.new) result }
-        ensures keeper { KeeperFaults (K.faults keeper.old) (K.faults keeper.new) (K.plan keeper.old) (K.plan keeper.new) result }
+        ensures keeper { KeeperFaults (K.faults keeper.old) (K.faults keeper.new) (K.plan keeper.old)
+            (K.plan keeper.new) result }
     {
         match slot.due {
             Due::Nothing => Ok(()),

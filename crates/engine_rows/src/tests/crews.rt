@@ -1,0 +1,296 @@
+// Crews that are asked as a caller asks them.
+ghost use Rattle.std.specs.Prelude.{◌≡◌, [], true, List, IfOk, map};
+ghost use Rattle.expressway.specs.Checks.{can_be_run};
+ghost use Rattle.expressway.specs.declared.job.Job.{Job as TheJob};
+ghost use Rattle.expressway.specs.declared.lane_event.LaneEvent.{LaneEvent as Event};
+ghost use Rattle.expressway.specs.Ready.{IsReady};
+ghost use Rattle.partition_workers.specs.Callers.{HasOut};
+
+use expressway::{Carriage, Done, Events, Finding, Job, LaneEvent};
+use partition_workers::{
+    Crew, Entry, Gate, Held, InlineCrew, LateCrew, MarkCrew, NoGate, Places, Starter, ThreadCrew,
+    ThreadPlaces, begin, finish_among, run_both, start_beside,
+};
+use road_time::{NoMemory, Report, Tariffs};
+use std::alloc::Global;
+use std::collections::VecDeque;
+use std::sync::Arc;
+use std::sync::atomic::{AtomicU64, Ordering};
+use std::thread::Threads;
+
+fn moves<T: Send>() {}
+
+/// Crews, and what they keep, may move between threads.
+#[test]
+fn crews_move_between_threads(_rt: HostRuntime) {
+    moves::<Entry>();
+    moves::<Places>();
+    moves::<ThreadPlaces>();
+    moves::<InlineCrew>();
+    moves::<LateCrew>();
+    moves::<ThreadCrew<HostRuntime, NoGate>>();
+}
+
+/// The event that a report of vehicle 7 at the day's first second begins a stay.
+fn one_event(position: u32) -> [LaneEvent; 1]
+    ensures { can_be_run result ≡ true }
+{
+    [LaneEvent::Seen {
+        position,
+        report: Report {
+            time: 0,
+            vid: 7,
+            spd: 30,
+            xway: 0,
+            lane: 0,
+            dir: 0,
+            seg: 10,
+            pos: 52800,
+        },
+        begins: true,
+        stopped: false,
+    }]
+}
+
+/// A job of a worker with events, on a new carriage.
+fn job_of(alloc: Global, worker: u8, number: u32, events: &[LaneEvent]) -> Result<Job, NoMemory>
+    requires { can_be_run events.now ≡ true }
+    ensures { IfOk result (λ job. (before : List Event) × IsReady job.carriage before job.events) }
+{
+    let mut all = Vec::new(alloc);
+    all.extend_from_slice(events)?;
+    let tariffs = Tariffs::new(alloc);
+    let carriage = Carriage::new(alloc, &tariffs)?;
+    Ok(Job {
+        worker,
+        number,
+        carriage,
+        events: Events::from_vec(all),
+    })
+}
+
+/// A job of a worker with that event at the position of its number.
+fn one_report(alloc: Global, worker: u8, number: u32) -> Result<Job, NoMemory>
+    ensures { IfOk result (λ job. (before : List Event) × IsReady job.carriage before job.events) }
+{
+    let job = job_of(alloc, worker, number, &one_event(number))?;
+    Ok(job)
+}
+
+/// What is found for that report.
+fn one_finding(number: u32, toll: u64) -> [Finding; 1] {
+    [Finding {
+        position: number,
+        lav: -1,
+        toll,
+        alert: None,
+    }]
+}
+
+/// Whether a job of a worker was run to its end, with what is found for its report.
+fn is_right(done: &Done, worker: u8, number: u32, toll: u64) -> bool {
+    done.worker == worker
+        && done.number == number
+        && done.result.is_ok()
+        && done.findings.items() == one_finding(number, toll).as_slice()
+}
+
+/// Two jobs over a crew, the second finished first: whether each was answered with its own findings.
+fn are_answered<C: Crew>(alloc: Global, crew: &mut C, toll: u64) -> Result<bool, NoMemory>
+    requires { C.out crew.old ≡ [] }
+    ensures { IfOk result (λ right. C.out crew.new ≡ []) }
+{
+    let (first, second) = run_both(crew, one_report(alloc, 0, 0)?, one_report(alloc, 1, 1)?);
+    Ok(is_right(&first, 0, 0, toll) && is_right(&second, 1, 1, toll))
+}
+
+/// Starts 64 jobs, by the numbers 0 to 63.
+fn start_all<C: Crew>(alloc: Global, crew: &mut C) -> Result<VecDeque<C::Ticket>, NoMemory>
+    requires { C.out crew.old ≡ [] }
+    ensures { IfOk result (λ tickets. (tasks : List (C.Ticket × TheJob)) × (map (λ t. t.0) tasks ≡ tickets.items)
+        × HasOut C.out C.number C.holds C.gave crew.new tasks) }
+{
+    let mut tickets = VecDeque::new(alloc);
+    for number in 0..64 {
+        let job = one_report(alloc, 3, number)?;
+        tickets.push_back(start_beside(crew, job))?;
+    }
+    Ok(tickets)
+}
+
+/// Finishes them in the order of their starts: whether they were 64, each answered with its own findings.
+fn finish_each<C: Crew>(crew: &mut C, mut tickets: VecDeque<C::Ticket>, toll: u64) -> bool
+    requires { (tasks : List (C.Ticket × TheJob)) × (map (λ t. t.0) tasks ≡ tickets.items)
+        × HasOut C.out C.number C.holds C.gave crew.old tasks }
+{
+    for number in 0..64 {
+        let Some(ticket) = tickets.pop_front() else {
+            return false;
+        };
+        let done = finish_among(crew, ticket);
+        if !is_right(&done, 3, number, toll) {
+            return false;
+        }
+    }
+    true
+}
+
+/// Two jobs over a crew in the other order, then 64 out together: whether each was answered with its own findings.
+fn serves<C: Crew + Drop>(alloc: Global, mut crew: C, toll: u64) -> Result<bool, NoMemory>
+    requires { C.out crew ≡ [] }
+{
+    let two = are_answered(alloc, &mut crew, toll)?;
+    let tickets = start_all(alloc, &mut crew)?;
+    Ok(two && finish_each(&mut crew, tickets, toll))
+}
+
+/// Each crew answers each job with its own findings, in whatever order they are finished, with as many as 64 out.
+#[test]
+fn each_crew_answers_each_job(rt: HostRuntime) -> Result<(), NoMemory> {
+    let alloc = rt.alloc();
+    assert!(rt; serves(alloc, InlineCrew::new(alloc, true), 0)?, "inline");
+    assert!(rt; serves(alloc, LateCrew::new(alloc, true), 0)?, "late");
+    assert!(rt;
+        serves(alloc, ThreadCrew::new(rt, alloc, NoGate), 0)?,
+        "threads"
+    );
+    assert!(rt; serves(alloc, MarkCrew::new(alloc, 6), 6)?, "mark");
+    Ok(())
+}
+
+/// A `MarkCrew` tells the findings that it answered, each with its toll, in the order of the finishes.
+#[test]
+fn what_was_answered_has_the_toll(rt: HostRuntime) -> Result<(), NoMemory> {
+    let alloc = rt.alloc();
+    let mut mark = MarkCrew::new(alloc, 6);
+    assert!(rt; are_answered(alloc, &mut mark, 6)?, "both jobs");
+    let [second] = one_finding(1, 6);
+    let [first] = one_finding(0, 6);
+    assert_eq!(rt; mark.answered(), [second, first].as_slice(), "answered");
+    Ok(())
+}
+
+/// Jobs are told as they are started. A job that cannot be listed ends the list, and is not run.
+#[test]
+fn jobs_are_told_as_they_are_started(rt: HostRuntime) -> Result<(), NoMemory> {
+    let alloc = rt.alloc();
+    let mut crew = LateCrew::new(alloc, true);
+    let (first, second) = run_both(
+        &mut crew,
+        one_report(alloc, 2, 0)?,
+        one_report(alloc, 1, 1)?,
+    );
+    let rows = [
+        (2u8, 0u32, first.result.is_ok()),
+        (1, 1, second.result.is_ok()),
+    ];
+    let mut listed = crew.jobs().iter();
+    for (worker, number, ran) in rows {
+        match listed.next() {
+            Some(job) => assert_eq!(rt;
+                (job.worker, job.number, job.events.items().len()),
+                (worker, number, 1),
+                "job {number}"
+            ),
+            None => assert!(rt; !ran, "job {number} is not listed"),
+        }
+    }
+    assert!(rt; listed.next().is_none(), "two jobs");
+    assert!(rt; InlineCrew::new(alloc, false).jobs().is_empty(), "untold");
+    Ok(())
+}
+
+/// Holds job 0 until job 1 has passed, for so many looks, and notes whether it saw that.
+#[derive(Clone, Drop)]
+struct SecondFirst {
+    passed: Arc<AtomicU64, Global>,
+    saw: Arc<AtomicU64, Global>,
+}
+
+const LOOKS: u32 = 300_000_000;
+
+impl Gate for SecondFirst {
+    fn pass(&self, _worker: u8, number: u32) {
+        if number != 0 {
+            self.passed.store(1, Ordering::SeqCst);
+            return;
+        }
+        for _ in 0..LOOKS {
+            if self.passed.load(Ordering::SeqCst) == 1 {
+                self.saw.store(1, Ordering::SeqCst);
+                return;
+            }
+        }
+    }
+}
+
+impl Starter for SecondFirst {
+    fn begin<R: Threads>(&self, rt: &R, alloc: Global, job: Job) -> Held {
+        begin(rt, alloc, self, job)
+    }
+}
+
+/// A crew whose caller passes the gate before each start.
+#[derive(Drop)]
+struct OnCaller<C> {
+    gate: SecondFirst,
+    crew: C,
+}
+
+impl<C: Crew> Crew for OnCaller<C> {
+    type Ticket = C::Ticket;
+
+    type Name = C::Name;
+
+    ghost exact = { C.exact };
+
+    ghost out = { λ s. C.out s.crew };
+
+    ghost number = { C.number };
+
+    ghost holds = { λ s n job. C.holds s.crew n job };
+
+    ghost gave = { λ s t. C.gave s.crew t };
+
+    ghost which = { λ s. C.which s.crew };
+
+    ghost jobs = { λ s. C.jobs s.crew };
+
+    ghost answers = { λ s. C.answers s.crew };
+
+    fn start(&mut self, job: Job) -> C::Ticket {
+        self.gate.pass(job.worker, job.number);
+        self.crew.start(job)
+    }
+
+    fn finish(&mut self, ticket: C::Ticket) -> Done {
+        self.crew.finish(ticket)
+    }
+}
+
+/// A job that is held sees the next one pass in a thread of its own, and does not where the caller runs both.
+#[test]
+fn a_held_job_sees_the_next_one_pass_in_threads(rt: HostRuntime) -> Result<(), NoMemory> {
+    let alloc = rt.alloc();
+    let gate = SecondFirst {
+        passed: Arc::new(alloc, AtomicU64::new(0))?,
+        saw: Arc::new(alloc, AtomicU64::new(0))?,
+    };
+    let saw = Arc::try_clone(&gate.saw)?;
+    let mut threads = ThreadCrew::new(rt, alloc, gate);
+    assert!(rt; are_answered(alloc, &mut threads, 0)?, "in threads");
+    assert_eq!(rt; saw.load(Ordering::SeqCst), 1, "seen");
+
+    let gate = SecondFirst {
+        passed: Arc::new(alloc, AtomicU64::new(0))?,
+        saw: Arc::new(alloc, AtomicU64::new(0))?,
+    };
+    let unseen = Arc::try_clone(&gate.saw)?;
+    let mut on_caller = OnCaller {
+        gate,
+        crew: InlineCrew::new(alloc, false),
+    };
+    assert!(rt; are_answered(alloc, &mut on_caller, 0)?, "on the caller");
+    assert_eq!(rt; unseen.load(Ordering::SeqCst), 0, "unseen");
+    Ok(())
+}

@@ -1,0 +1,8 @@
+//! Rows of words and lanes: what is read of the words of commands and of the server, and what its lanes answer.
+//!
+//! It has tests alone. They need nothing private of the crates below, and stand apart so that no crate is proved
+//! twice for them.
+#![tactic(auto)]
+
+#[cfg(test)]
+mod tests;
