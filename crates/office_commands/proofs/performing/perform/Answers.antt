@@ -21,7 +21,7 @@ use Rattle.office_commands.specs.Rests.{ReadsAs, LeavesAsKept, HoldsAsked}
 use Rattle.office_commands.proofs.EndingLaws.{kept_whole}
 use Rattle.office_commands.specs.declared.closing.Closing.TheVariants.{ReadFault}
 use Rattle.office_commands.proofs.ConcludeLaws.{did_unchanged, did_silent, closing_holds, closing_of}
-use Rattle.office_commands.proofs.entry.perform.Goals as goal
+use Rattle.office_commands.proofs.performing.perform.Goals as goal
 
 pub returns-in-Answers-clause-wrote : goal.returns-in-Answers-clause-wrote
 returns-in-Answers-clause-wrote g c = λ right bytes lines o told also kept.
