@@ -43,8 +43,9 @@ pub struct Floor {
 }
 
 impl Floor {
-    /// A floor of so many workers, 1 to 64, under these limits and tariffs. Nothing was fed. The one error is want of
-    /// memory.
+    /// A floor of so many workers, 1 to 64, under these limits and tariffs. Nothing was fed. It asks of the limits a
+    /// backlog of at least one, and no more lines, vehicles and backlog than the greatest day's. The one error is want
+    /// of memory.
     pub fn new(
         alloc: Global,
         width: u8,

@@ -51,7 +51,7 @@ returns-in-Ok-close-clause-ran g c e late h gathers number history =
     (whole_run k.out k.number k.holds k.gave k.exact k.jobs k.answers e told answered last.run last.crew s runs f.limits late c.args.ahead last.ahead _ _ _ _ _ _ same_on all v.ended same_gathers v.none r is
     (subst (λ d. IsClosed r.closed d (given s.found) e.number e.history s.fed) (sym number) (c.in-Ok-close.ensures e s runs.stands all))
     c.end-end.ensures.exact
-    (c.end-end.ensures.short last.run.floor.limits late s.fed (same_on.given.gathers [] same_gathers) runs.stands.terms.within.lines))
+    (c.end-end.ensures.short last.run.floor.limits late s.fed (same_on.given.gathers [] same_gathers) runs.stands.terms.lines))
 
 pub returns-in_default-clause-stopped : goal.returns-in_default-clause-stopped
 returns-in_default-clause-stopped g c e late h gathers number history =

@@ -52,7 +52,7 @@ returns-in-Ok-round-clause-done g c e told answered late s h gathers number hist
       is,
       runs,
       abreast,
-      λ all more. subst (λ ys. 1 ≤ length ys) (sym c.as_slice.ensures.value) (c.in-Ok.ensures.some more (some_room s s.fed c.room-room.result f.limits.backlog refl all has h.stands.terms.within.some_backlog)),
+      λ all more. subst (λ ys. 1 ≤ length ys) (sym c.as_slice.ensures.value) (c.in-Ok.ensures.some more (some_room s s.fed c.room-room.result f.limits.backlog refl all has h.stands.terms.some_backlog)),
     )
 
 pub returns-in-Err-round-clause-halted : goal.returns-in-Err-round-clause-halted

@@ -54,7 +54,7 @@ returns-in-Ok-turn-clause-done g c e told answered late s h gathers number histo
       runs,
       abreast,
       λ all more. subst (λ ys. 1 ≤ length ys) (sym c.as_slice.ensures.value)
-          (c.in-Ok.ensures.some more (c.some_of-count.ensures.some (some_room s s.fed c.room-room.result f.limits.backlog refl all has h.stands.terms.within.some_backlog) (c.more.ensures.exact ∙ more))),
+          (c.in-Ok.ensures.some more (c.some_of-count.ensures.some (some_room s s.fed c.room-room.result f.limits.backlog refl all has h.stands.terms.some_backlog) (c.more.ensures.exact ∙ more))),
     )
 
 pub returns-in-Err-turn-clause-halted : goal.returns-in-Err-turn-clause-halted
