@@ -2,7 +2,7 @@
 ghost use Rattle.std.specs.Prelude.{◌≡◌, ◌+◌, ◌-◌, ℕ, Bool, false, OnOk, OnErr, if◌then◌else◌};
 ghost use Rattle.road_time.specs.Tuples.{same_stretch};
 ghost use Rattle.road_time.specs.declared.road.Stretch.{Stretch as StretchValue};
-ghost use Rattle.accidents.specs.History.{IsHistory};
+ghost use Rattle.accidents.specs.History.{IsHistory, stood_last};
 ghost use Rattle.accidents.specs.Kept.{spell_of};
 
 use crate::spell::{NONE, Spell, with_place, without_place};
@@ -31,6 +31,8 @@ pub(crate) fn begin_if(
         → IsHistory second (spell_of spells.old.entries stretch) stood_at
         → IsHistory second (spell_of spells.new.entries stretch) stood_at) }
     ensures refused { OnErr result (spells.new.entries ≡ spells.old.entries) }
+    ensures last { (k : StretchValue) → stood_last second (spell_of spells.new.entries k)
+        ≡ stood_last second (spell_of spells.old.entries k) }
 {
     if one {
         let spell = with_place(spell_at(spells, stretch), second)?;
@@ -52,6 +54,8 @@ pub(crate) fn end_if(
         (if one then 1 else 0) }
     ensures history { (stood_at : ℕ → Bool) → IsHistory second (spell_of spells.old.entries stretch) stood_at
         → IsHistory second (spell_of spells.new.entries stretch) stood_at }
+    ensures last { (k : StretchValue) → stood_last second (spell_of spells.new.entries k)
+        ≡ stood_last second (spell_of spells.old.entries k) }
 {
     if one {
         if let Some(spell) = spells.get_mut(&stretch) {

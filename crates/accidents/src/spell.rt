@@ -27,6 +27,7 @@ pub(crate) fn with_place(spell: Spell, second: u32) -> Result<Spell, NoMemory>
     ensures places { IfOk result (λ s. s.places ≡ spell.places + 1) }
     ensures history { IfOk result (λ s. (stood_at : ℕ → Bool) → IsHistory second spell stood_at
         → IsHistory second s stood_at) }
+    ensures last { IfOk result (λ s. stood_last second s ≡ stood_last second spell) }
 {
     match spell.places.checked_add(1) {
         None => Err(NoMemory),
@@ -78,6 +79,7 @@ fn mark_if(stood: bool, minute: u32) -> u32
 pub(crate) fn without_place(spell: Spell, second: u32) -> Spell
     ensures places { result.places ≡ spell.places - 1 }
     ensures history { (stood_at : ℕ → Bool) → IsHistory second spell stood_at → IsHistory second result stood_at }
+    ensures last { stood_last second result ≡ stood_last second spell }
 {
     if spell.places == 0 {
         spell

@@ -4,7 +4,9 @@ ghost use Rattle.road_time.specs.Clock.{minute_of};
 ghost use Rattle.road_time.specs.Stops.{stood, near};
 ghost use Rattle.road_time.specs.Entries.{Entry, standing_at};
 ghost use Rattle.accidents.specs.Kept.{has_stopped};
+ghost use Rattle.accidents.specs.Near.{stood_in, near_in};
 ghost use Rattle.accidents.specs.Stands.{StandsFor};
+ghost use Rattle.road_time.specs.declared.road.Stretch.{Stretch as StretchValue};
 
 use crate::places::{Stopped, count_at, one_less, stretch_of};
 use crate::recent::{begin_if, end_if, spell_at};
@@ -61,6 +63,7 @@ impl Stops {
         ensures idle { has_stopped self.old.standing place vid ≡ true → self.new ≡ self.old }
         ensures refused { OnErr result (self.new ≡ self.old) }
         ensures new { OnErr result (has_stopped self.old.standing place vid ≡ false) }
+        ensures last { (k : StretchValue) → stood_in self.new k ≡ stood_in self.old k }
     {
         let stopped = Stopped { vid, place };
         if self.standing.contains(&stopped) {
@@ -81,6 +84,7 @@ impl Stops {
         ensures second { self.new.second ≡ self.old.second }
         ensures left { (entries : List Entry) → StandsFor self.old entries → StandsFor self.new (entries ++ record { second = self.old.second; vid = vid; place = place; stops = false } ∷ []) }
         ensures idle { has_stopped self.old.standing place vid ≡ false → self.new ≡ self.old }
+        ensures last { (k : StretchValue) → stood_in self.new k ≡ stood_in self.old k }
     {
         let stopped = Stopped { vid, place };
         if self.standing.swap_remove(&stopped) {
@@ -101,8 +105,9 @@ impl Stops {
 
     /// Whether an accident stood in the stretch in the minute before the current one.
     pub fn stood_last_minute(&self, stretch: Stretch) -> bool
-        ensures { (entries : List Entry) → StandsFor self.now entries
+        ensures exact { (entries : List Entry) → StandsFor self.now entries
             → result ≡ stood (standing_at entries) (minute_of self.now.second - 1) stretch }
+        ensures kept { result ≡ stood_in self.now stretch }
     {
         stood_before(spell_at(&self.spells, stretch), self.second)
     }
@@ -111,8 +116,9 @@ impl Stops {
     pub fn nearest(&self, stretch: Stretch) -> Option<u8>
         requires segment { stretch.seg ≤ 99 }
         requires direction { stretch.dir ≤ 1 }
-        ensures { (entries : List Entry) → StandsFor self.now entries
+        ensures exact { (entries : List Entry) → StandsFor self.now entries
             → result ≡ near (standing_at entries) (minute_of self.now.second) stretch }
+        ensures kept { result ≡ near_in self.now stretch }
     {
         for i in 0..5u8 {
             if let Some(seg) = downstream(stretch.seg, stretch.dir, i) {

@@ -14,3 +14,4 @@ pub mod ReadyLaws
 pub mod RunSteps
 pub mod CheckLaws
 pub mod ShapeLaws
+pub mod KnownLaws

@@ -2,6 +2,7 @@ pub mod Events
 pub mod Findings
 pub mod Runs
 pub mod Kept
+pub mod Known
 pub mod Stands
 pub mod Ready
 pub mod Results

@@ -8,6 +8,7 @@
 pub mod carriage;
 pub mod finding;
 pub mod job;
+mod known;
 pub mod lane_event;
 pub mod laws;
 mod parts;

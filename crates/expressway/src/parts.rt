@@ -1,5 +1,6 @@
 // What one worker keeps of its ways, by its parts.
-ghost use Rattle.std.specs.Prelude.{◌≡◌, ◌≤◌, ◌==◌, ◌&&◌, not, ◌++◌, ◌∷◌, [], ℕ, Bool, List, IfOk, OnOk};
+ghost use Rattle.std.specs.Prelude.{◌≡◌, ◌≤◌, ◌<◌, ◌+◌, ◌==◌, ◌&&◌, not, ◌++◌, ◌∷◌, []};
+ghost use Rattle.std.specs.Prelude.{ℕ, Bool, List, IfOk, OnOk, IfSome};
 ghost use Rattle.std.specs.List.{cons_option};
 ghost use Rattle.std.specs.Option.{option_map};
 ghost use Rattle.road_time.specs.Clock.{minute_of};
@@ -13,10 +14,15 @@ ghost use Rattle.expressway.specs.declared.lane_event.LaneEvent.{LaneEvent as Ev
 ghost use Rattle.expressway.specs.declared.lane_event.LaneEvent.TheVariants.{Seen, Leave};
 ghost use Rattle.expressway.specs.Events.{seen, entries};
 ghost use Rattle.expressway.specs.Findings.{shown, found_if, findings};
+ghost use Rattle.expressway.specs.Known.{found_in, known_as};
+ghost use Rattle.speed_stats.specs.Parts.{flow_in};
+ghost use Rattle.accidents.specs.Near.{stood_in};
+ghost use Rattle.road_time.specs.declared.road.Stretch.{Stretch as StretchValue};
 ghost use Rattle.expressway.specs.Stands.{IsAt, StandsFor};
 ghost use Rattle.expressway.specs.Ready.{IsReady};
 
 use crate::finding::Finding;
+use crate::known::{Known, keep, know_nothing, place as place_known};
 use crate::lane_event::LaneEvent;
 use accidents::Stops;
 use road_time::{NoMemory, Place, Report, Stretch, Tariffs};
@@ -28,12 +34,14 @@ use toll_rule::{toll, whole_lav};
 /// The lane in which a vehicle leaves an expressway.
 const EXIT_LANE: u8 = 4;
 
-/// The sliding averages, who stands where, and the tariffs.
+/// The sliding averages, who stands where, and the tariffs; and what is known of stretches, which is found once a
+/// minute.
 #[derive(Drop)]
 pub struct Parts {
     speeds: Speeds,
     stops: Stops,
     tariffs: Tariffs,
+    known: Vec<Option<Known>>,
 }
 
 impl Model for Parts {
@@ -41,7 +49,12 @@ impl Model for Parts {
 
     ghost Value = { Kept };
 
+    ghost use Rattle.expressway.specs.Known.{IsInStep};
+
     ghost view = { λ c. record { speeds = c.speeds; stops = c.stops; tariffs = c.tariffs } };
+
+    ghost invariant = { λ c. IsInStep (record { speeds = c.speeds; stops = c.stops; tariffs = c.tariffs })
+        c.known.items };
 }
 
 /// The minute of a second, also of one past the day.
@@ -83,6 +96,8 @@ fn note(speeds: &mut Speeds, report: &Report) -> Result<(), NoMemory>
     ensures minute { speeds.new.minute ≡ speeds.old.minute }
     ensures noted { OnOk result ((notes : List Note) → AveragesStandFor speeds.old notes
         → CanNote notes (note_of report.now) → AveragesStandFor speeds.new (notes ++ note_of report.now ∷ [])) }
+    ensures past { (k : StretchValue) (m : ℕ) → m < speeds.old.minute → speeds.old.minute < m + 6
+        → flow_in speeds.new.rings k m ≡ flow_in speeds.old.rings k m }
 {
     speeds.note(stretch_of(report), report.vid, report.spd)
 }
@@ -93,6 +108,7 @@ fn stop_if(stops: &mut Stops, stopped: bool, report: &Report) -> Result<(), NoMe
     ensures second { stops.new.second ≡ stops.old.second }
     ensures stopped { OnOk result ((before : List Entry) (position : ℕ) (begins : Bool) → StopsStandFor stops.old before
         → StopsStandFor stops.new (before ++ entries (Seen position report.now begins stopped ∷ []))) }
+    ensures last { (k : StretchValue) → stood_in stops.new k ≡ stood_in stops.old k }
 {
     if stopped {
         stops.stop(place(report), report.vid)?;
@@ -107,10 +123,12 @@ impl Parts {
         ensures tariffs { IfOk result (λ c. c.tariffs ≡ tariffs.now) }
     {
         let tariffs = tariffs.copy()?;
+        let known = know_nothing(alloc)?;
         Ok(Parts {
             speeds: Speeds::new(alloc),
             stops: Stops::new(alloc),
             tariffs,
+            known,
         })
     }
 
@@ -125,15 +143,16 @@ impl Parts {
         self.stops.advance(second);
     }
 
-    /// What is told of the stretch of a report of the current second.
-    fn find(&self, position: u32, report: &Report) -> Finding
+    /// What is told of the stretch of a report of the current second, by what is kept.
+    fn find_anew(&self, position: u32, report: &Report) -> Finding
         requires segment { report.now.seg ≤ 99 }
         requires direction { report.now.dir ≤ 1 }
-        ensures { (before : List Event) → IsAt self.now report.now.time before
+        ensures exact { (before : List Event) → IsAt self.now report.now.time before
             → shown result ≡ (
               position,
               finding_by (notes_of (seen before)) (standing_at (entries before)) self.now.tariffs report.now,
             ) }
+        ensures kept { shown result ≡ (position, found_in self.now (stretch_of_lem report.now)) }
     {
         let stretch = stretch_of(report);
         let tariff = self.tariffs.of(report.xway);
@@ -148,19 +167,88 @@ impl Parts {
         }
     }
 
+    /// What is known of a stretch in the current minute.
+    #[inline(always)]
+    fn known_of(&self, stretch: Stretch) -> Option<Known>
+        ensures { IfSome result (λ q. known_as q ≡ found_in self.now stretch) }
+    {
+        let known = (*self.known.get(place_known(stretch))?)?;
+        if known.stretch == stretch && known.minute == minute_at(self.stops.second()) {
+            Some(known)
+        } else {
+            None
+        }
+    }
+
+    /// From now on what was found of the stretch of a report is known.
+    #[inline(always)]
+    fn know(&mut self, report: &Report, finding: Finding)
+        requires { (shown finding).1 ≡ found_in self.old (stretch_of_lem report.now) }
+        ensures { self.new ≡ self.old }
+    {
+        let stretch = stretch_of(report);
+        let one = Known {
+            toll: finding.toll,
+            stretch,
+            minute: minute_at(self.stops.second()),
+            lav: finding.lav,
+            alert: finding.alert,
+        };
+        keep(&mut self.known, place_known(stretch), one);
+    }
+
+    /// What is told of the stretch of a report of the current second.
+    fn find(&self, position: u32, report: &Report) -> Finding
+        requires segment { report.now.seg ≤ 99 }
+        requires direction { report.now.dir ≤ 1 }
+        ensures exact { (before : List Event) → IsAt self.now report.now.time before
+            → shown result ≡ (
+              position,
+              finding_by (notes_of (seen before)) (standing_at (entries before)) self.now.tariffs report.now,
+            ) }
+        ensures kept { shown result ≡ (position, found_in self.now (stretch_of_lem report.now)) }
+    {
+        match self.known_of(stretch_of(report)) {
+            Some(known) => Finding {
+                position,
+                lav: known.lav,
+                toll: known.toll,
+                alert: known.alert,
+            },
+            None => self.find_anew(position, report),
+        }
+    }
+
     /// What the vehicle of a report of the current second is told, if the report begins a stay outside the exit lane.
     fn find_if(&self, position: u32, report: &Report, begins: bool) -> Option<Finding>
         requires segment { report.now.seg ≤ 99 }
         requires direction { report.now.dir ≤ 1 }
-        ensures { (before : List Event) → IsAt self.now report.now.time before
+        ensures exact { (before : List Event) → IsAt self.now report.now.time before
             → option_map shown result ≡ found_if (begins && not (report.now.lane == 4)) (notes_of (seen before))
             (standing_at (entries before)) self.now.tariffs position report.now }
+        ensures kept { IfSome result (λ f. (shown f).1 ≡ found_in self.now (stretch_of_lem report.now)) }
     {
         if begins && report.lane != EXIT_LANE {
             Some(self.find(position, report))
         } else {
             None
         }
+    }
+
+    /// The same, and what was found is known from now on.
+    fn tell(&mut self, position: u32, report: &Report, begins: bool) -> Option<Finding>
+        requires segment { report.now.seg ≤ 99 }
+        requires direction { report.now.dir ≤ 1 }
+        ensures same { self.new ≡ self.old }
+        ensures told { (before : List Event) → IsAt self.old report.now.time before
+            → option_map shown result ≡ found_if (begins && not (report.now.lane == 4)) (notes_of (seen before))
+            (standing_at (entries before)) self.old.tariffs position report.now }
+    {
+        let finding = self.find_if(position, report, begins);
+        if let Some(found) = finding {
+            self.know(report, found);
+        }
+        finding
     }
 
     /// A report was seen: gives what its vehicle is told, and then keeps it.
@@ -182,7 +270,7 @@ impl Parts {
             ≡ findings before (Seen position report.now begins stopped ∷ []) self.old.tariffs) }
     {
         self.advance(report.time);
-        let finding = self.find_if(position, report, begins);
+        let finding = self.tell(position, report, begins);
         note(&mut self.speeds, report)?;
         stop_if(&mut self.stops, stopped, report)?;
         Ok(finding)

@@ -1,3 +1,4 @@
 pub mod MeanLaws
 pub mod NoteSteps
+pub mod PastLaws
 pub mod WorkedLaws

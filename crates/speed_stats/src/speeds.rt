@@ -1,5 +1,5 @@
 // The sliding averages of all stretches.
-ghost use Rattle.std.specs.Prelude.{◌≡◌, ◌≤◌, ◌-◌, ◌*◌, ◌^◌, ◌++◌, ◌∷◌, [], List, IfSome, OnOk, OnErr};
+ghost use Rattle.std.specs.Prelude.{◌≡◌, ◌≤◌, ◌<◌, ◌+◌, ◌-◌, ◌*◌, ◌^◌, ◌++◌, ◌∷◌, [], ℕ, List, IfSome, OnOk, OnErr};
 ghost use Rattle.road_time.specs.Notes.{Note, cars};
 ghost use Rattle.road_time.specs.Lav.{lav};
 ghost use Rattle.speed_stats.specs.Parts.{flow_in, IsSmall};
@@ -34,6 +34,8 @@ impl Model for Speeds {
 
 impl Speeds {
     ghost use Rattle.speed_stats.specs.Stands.{StandsFor, CanNote};
+    ghost use Rattle.speed_stats.specs.Past.{cars_in, lav_in};
+    ghost use Rattle.road_time.specs.declared.road.Stretch.{Stretch as StretchValue};
 
     /// Minute 1, and nothing noted. It takes no memory.
     pub fn new(alloc: Global) -> Self
@@ -56,6 +58,8 @@ impl Speeds {
         ensures minute { self.new.minute ≡ self.old.minute }
         ensures noted { OnOk result ((notes : List Note) → StandsFor self.old notes → CanNote notes (record { minute = self.old.minute; stretch = stretch; vid = vid; spd = spd }) → StandsFor self.new (notes ++ record { minute = self.old.minute; stretch = stretch; vid = vid; spd = spd } ∷ [])) }
         ensures refused { OnErr result (self.new ≡ self.old) }
+        ensures past { (k : StretchValue) (m : ℕ) → m < self.old.minute → self.old.minute < m + 6
+            → flow_in self.new.rings k m ≡ flow_in self.old.rings k m }
     {
         let car = Car { stretch, vid };
         let minute = self.minute;
@@ -81,6 +85,7 @@ impl Speeds {
         requires { self.old.minute ≤ minute }
         ensures minute { self.new.minute ≡ minute }
         ensures kept { (notes : List Note) → StandsFor self.old notes → StandsFor self.new notes }
+        ensures same { self.old.minute ≡ minute → self.new ≡ self.old }
     {
         if minute == self.minute {
             return;
@@ -105,6 +110,7 @@ impl Speeds {
     pub fn cars(&self, stretch: Stretch) -> u32
         ensures few { result ≤ 500000 }
         ensures exact { (notes : List Note) → StandsFor self.now notes → result ≡ cars notes (self.now.minute - 1) stretch }
+        ensures kept { result ≡ cars_in self.now stretch }
     {
         self.flow(stretch, self.minute.saturating_sub(1)).cars
     }
@@ -114,6 +120,7 @@ impl Speeds {
     pub fn lav(&self, stretch: Stretch) -> Option<Frac>
         ensures average { IfSome result (λ f. (1 ≤ f.den) × (f.den ≤ 2 ^ 101) × (f.num ≤ 100 * f.den)) }
         ensures exact { (notes : List Note) → StandsFor self.now notes → result ≡ lav notes self.now.minute stretch }
+        ensures kept { result ≡ lav_in self.now stretch }
     {
         let ring = self.rings.get(&stretch)?;
         let flows = [

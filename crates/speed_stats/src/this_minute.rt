@@ -1,16 +1,41 @@
 // What was noted of each vehicle in the current minute.
 ghost use Rattle.std.specs.Prelude.{◌≡◌, ◌≤◌, [], IfOk, OnOk, OnErr, if◌then◌else◌};
 ghost use Rattle.speed_stats.specs.Parts.{mean12 as mean12_of, more as more_of, sum_in, same_car};
+ghost use Rattle.speed_stats.specs.Numbers.{number_of as number_of_lem};
 ghost use Rattle.speed_stats.specs.declared.this_minute.Car.{Car as CarValue};
+ghost use Rattle.std.specs.Hash as fed;
+ghost use Rattle.std.specs.Cmp.Rules.{hashing};
+ghost use Rattle.std.proofs.Common.{rules};
 
 use road_time::{NoMemory, Stretch};
 use std::collections::HashMap;
+use std::hash::{Hash, Hasher};
 
 /// A vehicle in a stretch.
-#[derive(Clone, Copy, Debug, PartialEq, Eq, Hash)]
+#[derive(Clone, Copy, Debug, PartialEq, Eq)]
 pub struct Car {
     pub stretch: Stretch,
     pub vid: u32,
+}
+
+/// The number that a vehicle in a stretch is hashed by.
+#[inline(always)]
+fn number_of(car: Car) -> u64
+    ensures { result ≡ number_of_lem car }
+{
+    let way = 256 * u64::from(car.stretch.xway) + u64::from(car.stretch.dir);
+    256 * (256 * way + u64::from(car.stretch.seg)) * 65_536 + u64::from(car.vid)
+}
+
+impl Hash for Car {
+    ghost hash_input = { λ c. fed.u64 (number_of_lem c) };
+
+    ghost respects_eq = { Prim.search (hashing, rules) };
+
+    #[inline(always)]
+    fn hash<H: Hasher>(&self, state: &mut H) {
+        state.write_u64(number_of(*self));
+    }
 }
 
 /// The speeds that were noted of a vehicle: their sum in miles per hour, and their number.

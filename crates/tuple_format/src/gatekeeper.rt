@@ -8,11 +8,12 @@ ghost use Rattle.tuple_format.specs.Gates.{StandsFor, Judges, kept_of, kept_faul
 use crate::cause::Cause;
 use crate::clock::{minute_of, time_of};
 use crate::recent::Recent;
+use indexmap::IndexMap;
 use road_time::{Limits, Tuple};
 use std::alloc::Global;
-use std::collections::HashMap;
 use std::marker::Model;
 use thiserror::Error;
+use usual_order::{UsualOrder, find};
 
 /// Why a tuple is not let in.
 #[derive(Clone, Copy, Debug, PartialEq, Eq, Error)]
@@ -31,7 +32,8 @@ pub struct Gatekeeper {
     vehicle_limit: u32,
     lateness: u8,
     greatest: u32,
-    seen: HashMap<u32, Recent>,
+    seen: IndexMap<u32, Recent>,
+    order: UsualOrder,
 }
 
 impl Model for Gatekeeper {
@@ -45,7 +47,8 @@ impl Model for Gatekeeper {
 /// Notes a report of a vehicle, unless it is a report too many.
 #[inline(always)]
 fn note(
-    seen: &mut HashMap<u32, Recent>,
+    seen: &mut IndexMap<u32, Recent>,
+    order: &mut UsualOrder,
     vid: u32,
     minute: u32,
     limit: u32,
@@ -55,8 +58,10 @@ fn note(
     ensures number { OnOk result (length seen.new.entries ≡ length seen.old.entries + (if is_some (kept_of seen.old.entries vid) then 0 else 1)) }
     ensures kept { OnErr result (seen.new.entries ≡ seen.old.entries) }
 {
-    match seen.get_mut(&vid) {
-        Some(recent) => {
+    match find(seen, order.guess(), vid) {
+        Some(at) => {
+            order.follow(at);
+            let (_, recent) = seen.pair_mut(at);
             let before = *recent;
             let count = before.count(minute);
             if count > 3 {
@@ -66,12 +71,14 @@ fn note(
             Ok(())
         }
         None => {
-            if seen.len() >= limit as usize {
+            let at = seen.len();
+            if at >= limit as usize {
                 return Err(AdmitFault::Refused(Cause::Vehicles(limit)));
             }
             if seen.insert(vid, Recent::first(minute)).is_err() {
                 return Err(AdmitFault::NoMemory);
             }
+            order.follow(at);
             Ok(())
         }
     }
@@ -87,7 +94,8 @@ impl Gatekeeper {
             vehicle_limit: limits.vehicles,
             lateness: late,
             greatest: 0,
-            seen: HashMap::new(alloc),
+            seen: IndexMap::new(alloc),
+            order: UsualOrder::new(alloc),
         }
     }
 
@@ -104,6 +112,7 @@ impl Gatekeeper {
         if let Tuple::Report(report) = tuple {
             note(
                 &mut self.seen,
+                &mut self.order,
                 report.vid,
                 minute_of(time),
                 self.vehicle_limit,

@@ -1,9 +1,10 @@
-use Rattle.std.proofs.Common.{ap, sym, subst, ◌∙◌}
+use Rattle.std.proofs.Common.{◌≡◌, ◌≤◌, arith, ap, sym, subst, ◌∙◌}
 use Rattle.road_time.specs.Tolls.{notes_of}
 use Rattle.accidents.specs.Kept.{Kept as Standing}
 use Rattle.expressway.specs.Events.{seen, entries}
 use Rattle.expressway.specs.Kept.{Kept}
 use Rattle.expressway.specs.Stands.{IsAt}
+use Rattle.expressway.proofs.KnownLaws.{moved_step}
 use Rattle.expressway.proofs.parts.Parts.advance.Goals as goal
 
 pub returns-clause-at : goal.returns-clause-at
@@ -15,3 +16,10 @@ returns-clause-at c = λ before last at.
       minute = c.roll.ensures.minute ∙ c.minute_at.ensures;
       second = ap (λ (s : Standing). s.second) c.advance.ensures.second;
     }
+
+pub invariant_of-self : goal.invariant_of-self
+invariant_of-self c =
+    let was : c.self.inside.speeds.minute ≡ c.args.self.now.speeds.minute = ap (λ (k : Kept). k.speeds.minute) c.self.view_is in
+    let up : c.self.inside.speeds.minute ≤ c.minute_at.result = omega (arith, was, c.requires.minute, c.minute_at.ensures) in
+    moved_step (record { speeds = c.self.inside.speeds; stops = c.self.inside.stops; tariffs = c.self.inside.tariffs }) c.self.inside.known.items c.self.invariant
+    c.roll.new.self c.minute_at.result c.roll.ensures.minute up c.roll.ensures.same c.advance.new.self c.args.second c.minute_at.ensures c.advance.ensures.second

@@ -1,10 +1,11 @@
-use Rattle.std.proofs.Common.{◌++◌, ◌∷◌, [], false, sym, subst, ◌∙◌}
+use Rattle.std.proofs.Common.{refl, ◌++◌, ◌∷◌, [], false, sym, subst, ◌∙◌}
 use Rattle.accidents.specs.Stands.{StandsFor as StopsStandFor}
 use Rattle.expressway.specs.declared.lane_event.LaneEvent.TheVariants.{Leave}
 use Rattle.expressway.specs.Events.{entries}
 use Rattle.expressway.specs.Kept.{Kept}
 use Rattle.expressway.specs.Stands.{IsAt, last_second}
 use Rattle.expressway.proofs.StepLaws.{minutes_le, second_le, at_left}
+use Rattle.expressway.proofs.KnownLaws.{noted_step}
 use Rattle.expressway.proofs.parts.Parts.leave.Goals as goal
 
 pub advance-requires-clause-minute : goal.advance-requires-clause-minute
@@ -19,3 +20,8 @@ returns-clause-carried c = λ position before ready.
     let left = subst (λ s. StopsStandFor c.leave.new.self (entries before ++ record { second = s; vid = c.args.vid; place = c.args.place; stops = false } ∷ [])) now.second (c.leave.ensures.left (entries before) now.standing) in
     at_left (record { speeds = c.self.inside.speeds; stops = c.leave.new.self; tariffs = c.self.inside.tariffs }) before position c.args.time c.args.vid c.args.place
     now.averages left now.minute (c.leave.ensures.second ∙ now.second)
+
+pub invariant_of-self : goal.invariant_of-self
+invariant_of-self c =
+    noted_step (record { speeds = c.self.inside.speeds; stops = c.self.inside.stops; tariffs = c.self.inside.tariffs }) c.self.inside.known.items c.self.invariant
+    c.self.inside.speeds refl (λ k m early late. refl) c.leave.new.self c.leave.ensures.second c.leave.ensures.last

@@ -6,6 +6,7 @@ use Rattle.road_time.specs.Tuples.{same_stretch}
 use Rattle.speed_stats.specs.Kept.{Kept}
 use Rattle.speed_stats.specs.Parts.{IsSmall, AreSmall, grown, flow_of, flow_in, sum_in, no_flow}
 use Rattle.speed_stats.proofs.NoteSteps.{total_few, count_few, speeds_few, part_few, cars_few, noted_as, kept_made, grown_small, small_after, ring_small}
+use Rattle.speed_stats.proofs.PastLaws.{past_put}
 use Rattle.speed_stats.proofs.speeds.Speeds.note.Goals as goal
 
 pub add-requires-clause-total : goal.add-requires-clause-total
@@ -132,3 +133,24 @@ invariant_of-self-in-None c =
     small_after rings c.self.invariant c.args.stretch c.put-in-None.new.self
     (c.put-in-None.ensures.small small (λ m. subst IsSmall (sym (c.new-ring.ensures m)) (record { few = omega arith; slow = omega arith }))) _
     (λ j. c.in_ok-insert-in-None.ensures.updates.0 j ∙ ap (λ es. cond (same_stretch c.args.stretch j) (Some c.put-in-None.new.self) (lookup (same_stretch j) es)) same)
+
+pub returns-in_err-before-in-Some-clause-past : goal.returns-in_err-before-in-Some-clause-past
+returns-in_err-before-in-Some-clause-past c = λ k m early late.
+    ap (λ es. flow_in es k m) ((c.get_mut.follows.holds c.in-Some.ring.now).0 ∙ set_value_same (same_stretch c.args.stretch) c.self.inside.rings.entries c.in-Some.ring.now (sym c.in-Some.ensures.value))
+    ∙ ap (λ (s : Kept). flow_in s.rings k m) c.self.view_is
+
+pub returns-in_ok-before-in-Some-clause-past : goal.returns-in_ok-before-in-Some-clause-past
+returns-in_ok-before-in-Some-clause-past c = λ k m early late.
+    let was : c.self.inside.minute ≡ c.args.self.now.minute = ap (λ (s : Kept). s.minute) c.self.view_is in
+    past_put c.self.inside.rings.entries _ c.args.stretch c.put.new.self m (λ j. ((c.get_mut.follows.holds c.put.new.self).3 (search rules)).0 j)
+    (c.put.ensures.window m (omega (arith, was, late)) (omega (arith, was, early)) ∙ ap (λ o. flow_of o m) c.in-Some.ensures.value) k
+    ∙ ap (λ (s : Kept). flow_in s.rings k m) c.self.view_is
+
+pub returns-in_ok-insert-in-None-clause-past : goal.returns-in_ok-insert-in-None-clause-past
+returns-in_ok-insert-in-None-clause-past c = λ k m early late.
+    let was : c.self.inside.minute ≡ c.args.self.now.minute = ap (λ (s : Kept). s.minute) c.self.view_is in
+    let same : c.reserve.new.self.entries ≡ c.self.inside.rings.entries = search rules in
+    past_put c.self.inside.rings.entries c.insert.new.self.entries c.args.stretch c.put-in-None.new.self m
+    (λ j. c.in_ok-insert-in-None.ensures.updates.0 j ∙ ap (λ es. cond (same_stretch c.args.stretch j) (Some c.put-in-None.new.self) (lookup (same_stretch j) es)) same)
+    (c.put-in-None.ensures.window m (omega (arith, was, late)) (omega (arith, was, early)) ∙ c.new-ring.ensures m ∙ ap (λ o. flow_of o m) c.in-None.ensures.value) k
+    ∙ ap (λ (s : Kept). flow_in s.rings k m) c.self.view_is
