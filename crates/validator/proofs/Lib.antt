@@ -9,6 +9,6 @@ pub mod RunLaws
 pub mod HaltLaws
 pub mod MarkLaws
 pub mod AboutLaws
-pub mod WindowLaws
+pub mod GatherLaws
 pub mod GroupLaws
 pub mod SumParts

@@ -7,9 +7,10 @@ use Rattle.road_time.specs.Tuples.{same_stretch}
 use Rattle.road_time.specs.Rates.{Tariffs}
 use Rattle.road_time.proofs.SameLaws.{stretch_is}
 use Rattle.road_time.proofs.EachLaws.{some_is}
-use Rattle.validator.specs.declared.found.Spot.{Spot}
+use Rattle.validator.specs.declared.spots.Spot.{Spot}
 use Rattle.validator.specs.declared.found.Found.{Found}
-use Rattle.validator.specs.Findings.{finding_on, shown_found, same_spot}
+use Rattle.validator.specs.Gathered.{same_spot}
+use Rattle.validator.specs.Findings.{finding_on, shown_found}
 
 spot_made : {m m' : ℕ} {k k' : Stretch} → m ≡ m' → k ≡ k' → ◌≡◌ {A = Spot} (record { minute = m; stretch = k }) (record { minute = m'; stretch = k' })
 spot_made p q = rw (p, q) refl

@@ -1,13 +1,13 @@
-use Rattle.std.specs.Prelude.{◌≡◌, ℕ, ◌≤◌, ◌*◌, ◌==◌, ◌&&◌, Bool, true, false, List, Option, Some, None}
+use Rattle.std.specs.Prelude.{◌≡◌, ℕ, ◌≤◌, ◌*◌, Bool, true, false, List, Option, Some, None}
 use Rattle.std.specs.HashMap.{get, HashMap}
 use Rattle.road_time.specs.declared.road.Report.{Report}
 use Rattle.road_time.specs.declared.road.Stretch.{Stretch}
 use Rattle.road_time.specs.declared.road.Frac.{Frac}
-use Rattle.road_time.specs.Tuples.{same_stretch}
 use Rattle.road_time.specs.Rates.{Tariffs, whole_of}
 use Rattle.road_time.specs.Tolls.{Finding, lav_at, toll_at, near_at}
-use Rattle.validator.specs.declared.found.Spot.{Spot}
+use Rattle.validator.specs.declared.spots.Spot.{Spot}
 use Rattle.validator.specs.declared.found.Found.{Found}
+use Rattle.validator.specs.Gathered.{same_spot}
 
 -- the rules' finding for a stretch in a minute
 abbrev pub finding_on : List Report → Tariffs → ℕ → Stretch → Finding
@@ -20,10 +20,6 @@ finding_on reports tariffs minute stretch = record {
 -- a finding of the code, as the definitions have it
 abbrev pub shown_found : Found → Finding
 shown_found f = record { lav = f.lav; toll = f.toll; alert = f.alert }
-
--- two spots are the same
-abbrev pub same_spot : Spot → Spot → Bool
-same_spot a b = a.minute == b.minute && same_stretch a.stretch b.stretch
 
 -- what was found of spots is what the rules find there
 abbrev pub Known : {S : Type 0} → List Report → Tariffs → HashMap Spot Found S → Type 0

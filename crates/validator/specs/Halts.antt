@@ -68,6 +68,10 @@ Fall (r ∷ older) = AllByRecursion (λ x. x.time ≤ r.time) older × Fall olde
 abbrev pub is_about : ℕ → Stretch → Halt → Bool
 is_about start stretch h = same_stretch (stretch_around h.place) stretch && (nat_lt h.from (start + 60) && is_before start h.to)
 
+-- the halt is in the stretch
+abbrev pub is_in : Stretch → Halt → Bool
+is_in stretch h = same_stretch (stretch_around h.place) stretch
+
 -- the halt is at the place
 abbrev pub is_at : Place → Halt → Bool
 is_at place h = same_place h.place place

@@ -6,6 +6,6 @@ pub mod History
 pub mod Outputs
 pub mod Verdicts
 pub mod Halts
-pub mod Recent
 pub mod Groups
 pub mod RowParts
+pub mod Gathered

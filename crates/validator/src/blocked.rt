@@ -2,10 +2,13 @@
 ghost use Rattle.std.specs.Prelude.{◌≡◌, ◌≤◌, ◌-◌, IfOk};
 ghost use Rattle.std.specs.List.{filter};
 ghost use Rattle.road_time.specs.Stops.{has_accident as has_accident_lem, stood as stood_lem, near};
-ghost use Rattle.validator.specs.Halts.{halting, is_about as is_about_lem};
+ghost use Rattle.road_time.specs.Tuples.{reports};
+ghost use Rattle.validator.specs.Halts.{halting, halts_of, is_about as is_about_lem};
+ghost use Rattle.validator.specs.Gathered.{IsGathered};
 
 use crate::halts::{Halt, covers};
 use crate::near::{has_accident, stretch_around};
+use crate::spots::Gathered;
 use road_time::{NoMemory, Place, Stretch, downstream};
 use std::alloc::Global;
 
@@ -39,6 +42,24 @@ fn halts_about(
         }
     }
     Ok(some)
+}
+
+/// The halts of the day in the stretch that touch the minute that begins at the second.
+fn halts_there(
+    alloc: Global,
+    gathered: &Gathered,
+    start: u32,
+    stretch: Stretch,
+) -> Result<Vec<Halt>, NoMemory>
+    requires right { IsGathered gathered.now }
+    requires start { start ≤ 86400 }
+    ensures { IfOk result (λ some. some.items ≡ filter (is_about_lem start stretch)
+        (halts_of (reports gathered.now.tuples.now))) }
+{
+    match gathered.halts.get(&stretch) {
+        None => Ok(Vec::new(alloc)),
+        Some(there) => halts_about(alloc, there.as_slice(), start, stretch),
+    }
 }
 
 /// A vehicle and its place.
@@ -77,18 +98,20 @@ fn accident_by(
 /// At some second of the minute an accident stood in the stretch.
 fn stood_by(
     alloc: Global,
-    halts: &[Halt],
+    gathered: &Gathered,
     in_minute: u32,
     stretch: Stretch,
 ) -> Result<bool, NoMemory>
-    requires { in_minute ≤ 1440 }
-    ensures { IfOk result (λ b. b ≡ stood_lem (halting halts.now) in_minute stretch) }
+    requires right { IsGathered gathered.now }
+    requires last { in_minute ≤ 1440 }
+    ensures { IfOk result (λ b. b ≡ stood_lem (halting (halts_of
+        (reports gathered.now.tuples.now))) in_minute stretch) }
 {
     if in_minute == 0 {
         return Ok(false);
     }
     let start = 60 * (in_minute - 1);
-    let some = halts_about(alloc, halts, start, stretch)?;
+    let some = halts_there(alloc, gathered, start, stretch)?;
     if some.is_empty() {
         return Ok(false);
     }
@@ -103,19 +126,20 @@ fn stood_by(
 /// The segment of the nearest accident that stood in the minute before.
 pub fn near_by(
     alloc: Global,
-    halts: &[Halt],
+    gathered: &Gathered,
     in_minute: u32,
     stretch: Stretch,
 ) -> Result<Option<u8>, NoMemory>
+    requires right { IsGathered gathered.now }
     requires first { 1 ≤ in_minute }
     requires last { in_minute ≤ 1440 }
     requires segment { stretch.seg ≤ 99 }
     requires direction { stretch.dir ≤ 1 }
-    ensures { IfOk result (λ n. n ≡ near (halting halts.now) in_minute stretch) }
+    ensures { IfOk result (λ n. n ≡ near (halting (halts_of (reports gathered.now.tuples.now))) in_minute stretch) }
 {
     for i in 0..5u8 {
         if let Some(seg) = downstream(stretch.seg, stretch.dir, i) {
-            if stood_by(alloc, halts, in_minute - 1, Stretch { seg, ..stretch })? {
+            if stood_by(alloc, gathered, in_minute - 1, Stretch { seg, ..stretch })? {
                 return Ok(Some(seg));
             }
         }

@@ -4,24 +4,16 @@ ghost use Rattle.road_time.specs.Tuples.{reports};
 ghost use Rattle.road_time.specs.Fits.{IsDay, IsReport};
 ghost use Rattle.road_time.specs.Tolls.{finding_at};
 ghost use Rattle.road_time.specs.Rates.{whole_of};
-ghost use Rattle.validator.specs.Halts.{halts_of};
+ghost use Rattle.validator.specs.Gathered.{IsGathered};
 ghost use Rattle.validator.specs.Findings.{finding_on, shown_found, Known, IsSmall};
 
+use crate::average::average_on;
 use crate::blocked::near_by;
-use crate::halts::Halt;
 use crate::owed::toll_of;
-use crate::recent::average_on;
-use crate::stretch_of;
-use road_time::{Frac, NoMemory, Report, Stretch, Tariffs, Tuple, minute};
+use crate::spots::{Gathered, Spot, spot_of};
+use road_time::{Frac, NoMemory, Report, Stretch, Tariffs};
 use std::alloc::Global;
 use std::collections::HashMap;
-
-/// A stretch in a minute.
-#[derive(Clone, Copy, Debug, PartialEq, Eq, Hash)]
-pub struct Spot {
-    pub minute: u32,
-    pub stretch: Stretch,
-}
 
 /// What is told of a stretch in a minute: the average, the toll, and the segment of the nearest accident.
 #[derive(Clone, Copy, Debug, PartialEq, Eq)]
@@ -42,25 +34,25 @@ fn whole(average: Option<Frac>) -> i16
     }
 }
 
-/// What is told of the stretch in the minute, by one scan of the list.
+/// What is told of the stretch in the minute.
 fn found_at(
     alloc: Global,
-    tuples: &[Tuple],
-    halts: &[Halt],
+    gathered: &Gathered,
     tariffs: &Tariffs,
     in_minute: u32,
     stretch: Stretch,
 ) -> Result<Found, NoMemory>
-    requires fit { IsDay tuples.now }
-    requires halts { halts.now ≡ halts_of (reports tuples.now) }
+    requires fit { IsDay gathered.now.tuples.now }
+    requires right { IsGathered gathered.now }
     requires first { 1 ≤ in_minute }
     requires last { in_minute ≤ 1440 }
     requires segment { stretch.seg ≤ 99 }
     requires direction { stretch.dir ≤ 1 }
-    ensures { IfOk result (λ f. shown_found f ≡ finding_on (reports tuples.now) tariffs.now in_minute stretch) }
+    ensures { IfOk result (λ f. shown_found f
+        ≡ finding_on (reports gathered.now.tuples.now) tariffs.now in_minute stretch) }
 {
-    let average = average_on(alloc, tuples, in_minute, stretch)?;
-    let alert = near_by(alloc, halts, in_minute, stretch)?;
+    let average = average_on(alloc, gathered, in_minute, stretch)?;
+    let alert = near_by(alloc, gathered, in_minute, stretch)?;
     Ok(Found {
         lav: whole(average.lav),
         toll: toll_of(
@@ -76,27 +68,23 @@ fn found_at(
 /// What is told at the report: found before, or now.
 pub fn found_for(
     alloc: Global,
-    tuples: &[Tuple],
-    halts: &[Halt],
+    gathered: &Gathered,
     tariffs: &Tariffs,
     found: &mut HashMap<Spot, Found>,
     r: &Report,
 ) -> Result<Found, NoMemory>
-    requires fit { IsDay tuples.now }
-    requires halts { halts.now ≡ halts_of (reports tuples.now) }
+    requires fit { IsDay gathered.now.tuples.now }
+    requires right { IsGathered gathered.now }
     requires valid { IsReport r.now }
-    requires known { Known (reports tuples.now) tariffs.now found.old }
-    ensures exact { IfOk result (λ f. shown_found f ≡ finding_at (reports tuples.now) tariffs.now r.now) }
-    ensures kept { OnOk result (Known (reports tuples.now) tariffs.now found.new) }
+    requires known { Known (reports gathered.now.tuples.now) tariffs.now found.old }
+    ensures exact { IfOk result (λ f. shown_found f ≡ finding_at (reports gathered.now.tuples.now) tariffs.now r.now) }
+    ensures kept { OnOk result (Known (reports gathered.now.tuples.now) tariffs.now found.new) }
 {
-    let spot = Spot {
-        minute: minute(r.time),
-        stretch: stretch_of(r),
-    };
+    let spot = spot_of(r);
     if let Some(before) = found.get(&spot) {
         return Ok(*before);
     }
-    let now = found_at(alloc, tuples, halts, tariffs, spot.minute, spot.stretch)?;
+    let now = found_at(alloc, gathered, tariffs, spot.minute, spot.stretch)?;
     found.insert(spot, now)?;
     Ok(now)
 }

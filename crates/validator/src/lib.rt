@@ -16,6 +16,7 @@ use road_time::{Frac, NoMemory, Report, Stretch, Tuple};
 use std::alloc::Global;
 
 mod account;
+mod average;
 mod blocked;
 mod found;
 mod halts;
@@ -23,8 +24,8 @@ mod mishaps;
 mod near;
 mod output;
 mod owed;
-mod recent;
 mod rows;
+mod spots;
 mod verdict;
 
 pub use mishaps::plain_log;

@@ -13,13 +13,13 @@ ghost use Rattle.road_time.specs.Sights.{moments};
 ghost use Rattle.validator.specs.Findings.{shown_told, finding_if, Known};
 ghost use Rattle.validator.specs.Accounts.{shown_charge, notices_told, owed_kept, toll_kept};
 ghost use Rattle.validator.specs.History.{is_row, paid as paid_lem, KeysDiffer};
-ghost use Rattle.validator.specs.Halts.{halts_of};
+ghost use Rattle.validator.specs.Gathered.{IsGathered};
 ghost use Rattle.validator.specs.Outputs.{IsOutput, Stands};
 
 use crate::account::{Account, Charge, add_charge, after, newest, owed};
-use crate::found::{Found, Spot, found_for};
-use crate::halts::{Halt, halts};
+use crate::found::{Found, found_for};
 use crate::owed::begins;
+use crate::spots::{Gathered, Spot, gather};
 use road_time::{NoMemory, Notice, Report, SpentRow, Tariffs, Tuple};
 use std::alloc::Global;
 use std::collections::HashMap;
@@ -36,23 +36,22 @@ pub struct Output {
 /// What the report is told, after its vehicle's previous one.
 fn told(
     alloc: Global,
-    tuples: &[Tuple],
-    halts: &[Halt],
+    gathered: &Gathered,
     tariffs: &Tariffs,
     found: &mut HashMap<Spot, Found>,
     prev: Option<Report>,
     r: &Report,
 ) -> Result<Option<Found>, NoMemory>
-    requires fit { IsDay tuples.now }
-    requires halts { halts.now ≡ halts_of (reports tuples.now) }
+    requires fit { IsDay gathered.now.tuples.now }
+    requires right { IsGathered gathered.now }
     requires valid { IsReport r.now }
-    requires known { Known (reports tuples.now) tariffs.now found.old }
+    requires known { Known (reports gathered.now.tuples.now) tariffs.now found.old }
     ensures exact { IfOk result (λ f. shown_told f ≡ finding_if (is_told prev r.now)
-        (finding_at (reports tuples.now) tariffs.now r.now)) }
-    ensures kept { OnOk result (Known (reports tuples.now) tariffs.now found.new) }
+        (finding_at (reports gathered.now.tuples.now) tariffs.now r.now)) }
+    ensures kept { OnOk result (Known (reports gathered.now.tuples.now) tariffs.now found.new) }
 {
     if begins(prev, r) && r.lane != 4 {
-        let now = found_for(alloc, tuples, halts, tariffs, found, r)?;
+        let now = found_for(alloc, gathered, tariffs, found, r)?;
         Ok(Some(now))
     } else {
         Ok(None)
@@ -108,32 +107,23 @@ fn paid(history: &[SpentRow], day: u32, vid: u32, xway: u8) -> u64
 /// Takes a report: its notices, and its vehicle's account after it.
 fn take_report(
     alloc: Global,
-    tuples: &[Tuple],
-    halts: &[Halt],
+    gathered: &Gathered,
     tariffs: &Tariffs,
     output: &mut Output,
     r: &Report,
 ) -> Result<(), NoMemory>
-    requires fit { IsDay tuples.now }
-    requires halts { halts.now ≡ halts_of (reports tuples.now) }
+    requires fit { IsDay gathered.now.tuples.now }
+    requires right { IsGathered gathered.now }
     requires valid { IsReport r.now }
-    requires known { Known (reports tuples.now) tariffs.now output.old.found }
+    requires known { Known (reports gathered.now.tuples.now) tariffs.now output.old.found }
     requires small { (vid : ℕ) → owed_kept (get nat_eq output.old.accounts vid) + toll_kept
         (get nat_eq output.old.accounts vid) < 2 ^ 64 }
     ensures { OnOk result ((number : ℕ) → (kept : ℕ → ℕ → ℕ → ℕ) → (before : List TupleValue)
-        → IsOutput tuples.now tariffs.now number kept output.old before
-        → IsOutput tuples.now tariffs.now number kept output.new (before ++ ReportTuple r.now ∷ [])) }
+        → IsOutput gathered.now.tuples.now tariffs.now number kept output.old before
+        → IsOutput gathered.now.tuples.now tariffs.now number kept output.new (before ++ ReportTuple r.now ∷ [])) }
 {
     let last = output.accounts.get(&r.vid).copied();
-    let now = told(
-        alloc,
-        tuples,
-        halts,
-        tariffs,
-        &mut output.found,
-        newest(last),
-        r,
-    )?;
+    let now = told(alloc, gathered, tariffs, &mut output.found, newest(last), r)?;
     add_told(&mut output.notices, r, now)?;
     add_charge(&mut output.charges, last, r)?;
     output.accounts.insert(r.vid, after(last, r, now))?;
@@ -143,26 +133,26 @@ fn take_report(
 /// Takes a tuple: what it causes, and what is kept after it.
 fn take_tuple(
     alloc: Global,
-    tuples: &[Tuple],
-    halts: &[Halt],
+    gathered: &Gathered,
     tariffs: &Tariffs,
     day: u32,
     history: &[SpentRow],
     output: &mut Output,
     tuple: &Tuple,
 ) -> Result<(), NoMemory>
-    requires fit { IsDay tuples.now }
-    requires halts { halts.now ≡ halts_of (reports tuples.now) }
+    requires fit { IsDay gathered.now.tuples.now }
+    requires right { IsGathered gathered.now }
     requires late { 70 ≤ day }
     requires valid { IsValid tuple.now }
-    requires stands { Stands tuples.now tariffs.now day (paid_lem history.now) output.old }
+    requires stands { Stands gathered.now.tuples.now tariffs.now day (paid_lem history.now) output.old }
     ensures { OnOk result ((before : List TupleValue)
-        → IsOutput tuples.now tariffs.now day (paid_lem history.now) output.old before
-        → IsOutput tuples.now tariffs.now day (paid_lem history.now) output.new (before ++ tuple.now ∷ [])) }
+        → IsOutput gathered.now.tuples.now tariffs.now day (paid_lem history.now) output.old before
+        → IsOutput gathered.now.tuples.now tariffs.now day (paid_lem history.now) output.new
+        (before ++ tuple.now ∷ [])) }
 {
     match tuple {
         Tuple::Report(r) => {
-            take_report(alloc, tuples, halts, tariffs, output, r)?;
+            take_report(alloc, gathered, tariffs, output, r)?;
         }
         Tuple::Balance { time, vid, qid } => {
             let amount = owed(output.accounts.get(vid).copied());
@@ -203,24 +193,15 @@ fn outputs(
     requires late { 70 ≤ day }
     ensures { IfOk result (λ o. IsOutput tuples.now tariffs.now day (paid_lem history.now) o tuples.now) }
 {
-    let halts = halts(alloc, tuples)?;
+    let gathered = gather(alloc, tuples)?;
     let mut output = Output {
         accounts: HashMap::new(alloc),
         found: HashMap::new(alloc),
         charges: Vec::new(alloc),
         notices: Vec::new(alloc),
     };
-    for tuple in tuples {
-        take_tuple(
-            alloc,
-            tuples,
-            halts.as_slice(),
-            tariffs,
-            day,
-            history,
-            &mut output,
-            tuple,
-        )?;
+    for tuple in gathered.tuples {
+        take_tuple(alloc, &gathered, tariffs, day, history, &mut output, tuple)?;
     }
     Ok(output)
 }

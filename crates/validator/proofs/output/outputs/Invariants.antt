@@ -5,4 +5,4 @@ use Rattle.validator.proofs.output.outputs.Given as goal
 
 abbrev pub invariant-loop-tuple : goal.invariant-loop-tuple
 invariant-loop-tuple l =
-    IsOutput l.tuples l.tariffs l.day (paid l.history) l.output (take l.tuple-index l.tuples)
+    IsOutput l.gathered.tuples.now l.tariffs l.day (paid l.history) l.output (take l.tuple-index l.gathered.tuples.now)

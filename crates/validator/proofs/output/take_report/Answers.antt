@@ -15,7 +15,7 @@ use Rattle.validator.proofs.output.take_report.Goals as goal
 
 pub returns : goal.returns
 returns c = λ number kept before st.
-    let day = c.args.tuples.now in
+    let day = c.args.gathered.now.tuples.now in
     let g = c.args.tariffs.now in
     let r = c.args.r.now in
     let finding = rules_of day g in

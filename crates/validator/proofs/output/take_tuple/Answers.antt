@@ -14,11 +14,11 @@ use Rattle.validator.proofs.output.take_tuple.Goals as goal
 
 pub take_report-requires-clause-small : goal.take_report-requires-clause-small
 take_report-requires-clause-small c =
-    accounts_small c.args.tuples.now c.args.tariffs.now (get nat_eq c.args.output.now.accounts) c.requires.stands.0 c.requires.stands.1 c.requires.stands.2.accounts
+    accounts_small c.args.gathered.now.tuples.now c.args.tariffs.now (get nat_eq c.args.output.now.accounts) c.requires.stands.0 c.requires.stands.1 c.requires.stands.2.accounts
 
 pub returns-in_ok-push-in-Balance : goal.returns-in_ok-push-in-Balance
 returns-in_ok-push-in-Balance c = λ before st.
-    let day = c.args.tuples.now in
+    let day = c.args.gathered.now.tuples.now in
     let finding = rules_of day c.args.tariffs.now in
     let kept = paid c.args.history.now in
     let x = Balance c.in-Balance.time c.in-Balance.vid c.in-Balance.qid in
@@ -37,7 +37,7 @@ returns-in_ok-push-in-Balance c = λ before st.
 
 pub returns-in_ok-push-in-Spent : goal.returns-in_ok-push-in-Spent
 returns-in_ok-push-in-Spent c = λ before st.
-    let day = c.args.tuples.now in
+    let day = c.args.gathered.now.tuples.now in
     let finding = rules_of day c.args.tariffs.now in
     let kept = paid c.args.history.now in
     let x = Spent c.in-Spent.time c.in-Spent.vid c.in-Spent.xway c.in-Spent.qid c.in-Spent.ago in
@@ -55,7 +55,7 @@ returns-in_ok-push-in-Spent c = λ before st.
 
 pub returns-in-Travel : goal.returns-in-Travel
 returns-in-Travel c = λ before st.
-    let day = c.args.tuples.now in
+    let day = c.args.gathered.now.tuples.now in
     let finding = rules_of day c.args.tariffs.now in
     let kept = paid c.args.history.now in
     let x = Travel c.in-Travel.time in
