@@ -12,8 +12,7 @@ mod spoiled;
 mod worked;
 
 use spoiled::{Spoiled, answered, is_made};
-use sqlite::{File, FileStore};
-use sqlite_keeper::Opens;
+use sqlite_keeper::{KeptStore, Opens};
 use std::io;
 use std::rt::HostRuntime;
 
@@ -83,7 +82,7 @@ fn refusals<S: Opens>(rt: HostRuntime) -> io::Result<()> {
 fn closed_file(rt: HostRuntime) -> io::Result<()> {
     let closed = refused::closed(rt, "closed.db");
     std::fs::copy(&rt, "closed.db", "copied.db")?;
-    let day = refused::has_day::<FileStore<File>>(rt, "copied.db");
+    let day = refused::has_day::<KeptStore>(rt, "copied.db");
     println!(rt; "closed: {closed:?}, and a copy has the day: {day:?}")
 }
 
@@ -98,11 +97,11 @@ fn rows<S: Opens>(rt: HostRuntime) -> io::Result<()> {
     spoiled_files::<S>(rt)?;
     odd_files::<S>(rt)?;
     refusals::<S>(rt)?;
-    let sealed = old::sealed_by_another::<S>(rt);
-    println!(rt; "a seal of no kept day is gone: {sealed:?}")
+    let alone = old::with_one_table::<S>(rt);
+    println!(rt; "one of the tables alone is a fault: {alone:?}")
 }
 
 fn main(rt: HostRuntime) -> io::Result<()> {
-    rows::<FileStore<File>>(rt)?;
+    rows::<KeptStore>(rt)?;
     closed_file(rt)
 }

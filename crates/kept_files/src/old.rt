@@ -48,8 +48,8 @@ fn has_history<S: Opens>(rt: HostRuntime) -> Result<bool, KeepFault> {
     Ok(past && rows && tariff)
 }
 
-/// Whether a file of version 1 in which another hand sealed a day that is not kept takes that day.
-pub fn sealed_by_another<S: Opens>(rt: HostRuntime) -> Result<bool, KeepFault> {
+/// Whether a file in which another hand made one of the tables is a fault.
+pub fn with_one_table<S: Opens>(rt: HostRuntime) -> Result<bool, KeepFault> {
     let path = "sealed.db";
     by_hand::<S>(
         rt,
@@ -57,9 +57,7 @@ pub fn sealed_by_another<S: Opens>(rt: HostRuntime) -> Result<bool, KeepFault> {
         "CREATE TABLE day_tariffs (day INTEGER PRIMARY KEY, digest BLOB NOT NULL) STRICT;
 INSERT INTO day_tariffs VALUES (100, x'00')",
     )?;
-    put_day::<S>(rt, path)?;
-    let mut file = Counted::<S>::at(rt.alloc(), rt, path)?;
-    Ok(file.day(100)?.is_some())
+    Ok(put_day::<S>(rt, path) == Err(KeepFault::Failed))
 }
 
 /// Whether a file of version 1 can be made, and has its day and its history each of the times that it is opened.

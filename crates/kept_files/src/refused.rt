@@ -1,8 +1,7 @@
 // Calls that are refused, and what they leave.
 use crate::worked::{by_hand, put_day};
 use keeper::{KeepFault, Keeper};
-use sqlite::{File, FileStore};
-use sqlite_keeper::{Counted, Opens};
+use sqlite_keeper::{Counted, KeptStore, Opens};
 use std::rt::HostRuntime;
 
 /// Whether nothing of day 100 is kept in the file at a path, which is opened anew.
@@ -51,7 +50,7 @@ fn with_day<S: Opens>(rt: HostRuntime, path: &str) -> Result<Counted<S>, KeepFau
 
 /// Closes a file with the day.
 pub fn closed(rt: HostRuntime, path: &str) -> Result<(), KeepFault> {
-    match with_day::<FileStore<File>>(rt, path) {
+    match with_day::<KeptStore>(rt, path) {
         Ok(file) => file.close(),
         Err(fault) => Err(fault),
     }

@@ -17,18 +17,9 @@ use Rattle.sqlite_resolve.specs.Compile.{first, compiled, planned, meaning, retu
 use Rattle.sqlite_tied.specs.Compute.{everything}
 use Rattle.sqlite.specs.Listing.{understood, reads_listing, listing_schema, if_select, is_select}
 use Rattle.sqlite.specs.State.{State, IsUnchanged, KeepsCommit, Shown, CommitsShowing, FailsToQuery}
+use Rattle.kept_tables.specs.Asks.{is_ask, asks}
 use Rattle.kept_tables.specs.Texts.{find_spent, find_tariffs, list_spent, list_vehicle, find_last, find_day, find_seal, find_past, list_days, find_version}
 use Rattle.kept_tables.proofs.StepLaws.{kept_same, kept_if_unread}
-
--- the statement is a query
-abbrev pub is_ask : Statement → Bool
-is_ask (written.Select s) = true
-is_ask _ = false
-
--- so is the text
-abbrev pub asks : Result Parsed CompileError → Bool
-asks (Ok p) = is_ask p.statement
-asks (Err e) = false
 
 -- a query returns no rows beside its own
 shows_nothing : (schema : Schema) (base : ℕ) (s : Statement) → is_ask s ≡ true → returning schema base s ≡ Ok None

@@ -25,7 +25,7 @@ use Rattle.kept_tables.specs.Texts.{find_day, find_seal, find_past, find_last, l
 use Rattle.kept_tables.specs.Select.{passes, day_query, seal_query, past_query, last_query, days_query}
 use Rattle.kept_tables.specs.Codec.{day_row, seal_row, past_row, past_values}
 use Rattle.kept_tables.specs.Shown.{day_columns, seal_columns, number_columns, rows_of, last_rows}
-use Rattle.kept_tables.specs.Stands.{HasOffice, Holds, Contents, past_rows}
+use Rattle.kept_tables.specs.Stands.{HasOffice, HoldsAs, Contents, past_rows}
 use Rattle.kept_tables.proofs.QueryLaws.{find_day_is, find_day_plain, find_seal_is, find_seal_plain, find_past_is, find_past_plain, find_last_is, find_last_plain, list_days_is, list_days_plain}
 use Rattle.kept_tables.proofs.SelectLaws.{table_answer, ordered_by, first_by, shown}
 use Rattle.kept_tables.proofs.AmountLaws.{same_numbers, last_true, none_left}
@@ -109,8 +109,8 @@ abbrev day_out : DayRecord → Output
 day_out r = output days_query ([] ∷ day_row r ∷ [])
 
 -- the numbers of the days that are kept
-pub days_shown : (c : Contents) (old new : State) (found : List Row) → Holds old.now c → DaysRise c.days → Shown list_days [] old new found → found ≡ map number_columns c.days
-days_shown c old new found has rise shown_so =
+pub days_shown : (version : List Row) (c : Contents) (old new : State) (found : List Row) → HoldsAs version old.now c → DaysRise c.days → Shown list_days [] old new found → found ≡ map number_columns c.days
+days_shown version c old new found has rise shown_so =
     let read = reads_as list_days [] old new all_tables has.schema _ list_days_is list_days_plain.0 list_days_plain.1 found shown_so in
     let all : filter (passes [] []) (old.now.trees 0) ≡ map day_row c.days = filter_all (passes [] []) (old.now.trees 0) (all_of (λ r. passes [] [] r ≡ true) (λ _. refl) (old.now.trees 0)) ∙ has.days_are in
     let outs : map day_out c.days ≡ map (λ (r : Row). output days_query ([] ∷ r ∷ [])) (filter (passes [] []) (old.now.trees 0)) =

@@ -178,3 +178,13 @@ no_version = refl
 pub no_old_version : understood old_tables find_version ≡ Err NoSuchTable
 unfolding understood everything listing_schema
 no_old_version = refl
+
+-- without tables, all days are not understood
+pub no_days : understood no_tables list_days ≡ Err NoSuchTable
+unfolding understood everything listing_schema
+no_days = refl
+
+-- over the tables of version 1 they are
+pub old_days_plain : IsPlain (understood old_tables list_days)
+unfolding understood everything
+old_days_plain = (refl, refl)

@@ -1,5 +1,6 @@
 pub mod Layout
 pub mod Texts
+pub mod Asks
 pub mod Select
 pub mod Same
 pub mod Codec

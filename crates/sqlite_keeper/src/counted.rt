@@ -3,50 +3,55 @@ ghost use Rattle.std.specs.Prelude.{◌≡◌, None, Err, IfOk};
 ghost use Rattle.keeper.specs.Calls.{CountsFaults};
 ghost use Rattle.keeper.specs.declared.kept.KeepFault.TheVariants.{Failed};
 
-use crate::refusals::{count, refusal};
-use crate::schema::prepare;
 use keeper::KeepFault;
+use keeper_proof::{ProvedKeeper, Steady};
+use keeper_writes::refusals::{count, refusal};
 use road_time::NoMemory;
-use sqlite::{Alter, Connection, File, FileStore};
+use sqlite::{Connection, FileFrom, FileStore, Wary};
 use std::alloc::Global;
 use std::rt::HostRuntime;
 
-/// A store that is opened by the path of its file.
-pub trait Opens: Alter + Drop {
+/// A store in a file. What a crash leaves of it is said without the hypothesis that a torn write leaves each byte old
+/// or new.
+pub type KeptStore = FileStore<FileFrom<Wary>>;
+
+/// A store that is opened by the path of its file, and may shut at a fault.
+pub trait Opens: Steady {
+    ghost use Rattle.std.specs.Prelude.{◌≡◌, false};
+
     /// The file at a path.
     fn open(rt: &HostRuntime, path: &str) -> Result<Connection<Self>, KeepFault>;
+
+    ghost shuts: { Self.Steady.is_steady ≡ false };
 }
 
-impl Opens for FileStore<File> {
-    fn open(rt: &HostRuntime, path: &str) -> Result<Connection<FileStore<File>>, KeepFault> {
-        match Connection::open(rt, path) {
+impl Opens for KeptStore {
+    ghost use Rattle.std.specs.Prelude.{refl};
+
+    ghost shuts = { refl };
+
+    fn open(rt: &HostRuntime, path: &str) -> Result<Connection<KeptStore>, KeepFault> {
+        match Connection::open_from(rt, path, false, Wary) {
             Ok(conn) => Ok(conn),
-            Err(error) => Err(refusal(error)),
+            Err((error, _)) => Err(refusal(error)),
         }
     }
 }
 
 /// A database that is opened when it is first asked for.
 #[derive(Drop)]
-pub struct Database<S: Alter + Drop> {
+pub struct Database<S: Opens> {
     rt: HostRuntime,
     path: String,
-    conn: Option<Connection<S>>,
+    pub(crate) kept: Option<ProvedKeeper<S>>,
 }
 
 /// A database that counts the calls that failed.
 #[derive(Drop)]
-pub struct Counted<S: Alter + Drop> {
+pub struct Counted<S: Opens> {
     pub(crate) database: Database<S>,
     pub(crate) faults: u64,
 }
-
-/// The file in which the program keeps all, in the folder where it runs.
-pub const KEPT_FILE: &str = "tolls.db";
-
-/// A keeper in a SQLite file. The file is opened, and made where it is not there, at the first call, and anew at the
-/// call after one that failed. `close` ends it.
-pub type SqliteKeeper = Counted<FileStore<File>>;
 
 impl<S: Opens> Counted<S> {
     /// The keeper in the file at a path.
@@ -57,7 +62,7 @@ impl<S: Opens> Counted<S> {
         let database = Database {
             rt,
             path,
-            conn: None,
+            kept: None,
         };
         Ok(Counted {
             database,
@@ -69,16 +74,16 @@ impl<S: Opens> Counted<S> {
     pub(crate) fn hand_on<T>(&mut self, answer: Result<T, KeepFault>) -> Result<T, KeepFault>
         ensures same { result ≡ answer }
         ensures cause { CountsFaults self.old.faults self.new.faults answer }
-        ensures anew { answer ≡ Err Failed → self.new.database.conn ≡ None }
+        ensures anew { answer ≡ Err Failed → self.new.database.kept ≡ None }
     {
         if let Err(KeepFault::Failed) = &answer {
-            self.database.conn = None;
+            self.database.kept = None;
         }
         count(&mut self.faults, answer)
     }
 }
 
-impl Counted<FileStore<File>> {
+impl Counted<KeptStore> {
     /// Closes the file, if it is open: what its log has is copied into it. Where that is Ok, the file alone has all
     /// that is kept, and its log has nothing.
     pub fn close(self) -> Result<(), KeepFault> {
@@ -89,17 +94,17 @@ impl Counted<FileStore<File>> {
         let Database {
             rt: _,
             path: _,
-            conn,
+            kept,
         } = database;
-        match conn {
-            Some(conn) => shut(conn),
+        match kept {
+            Some(kept) => shut(kept.give_up()),
             None => Ok(()),
         }
     }
 }
 
 /// Closes the file of a connection.
-fn shut(conn: Connection<FileStore<File>>) -> Result<(), KeepFault> {
+fn shut(conn: Connection<KeptStore>) -> Result<(), KeepFault> {
     match conn.close() {
         Ok(()) => Ok(()),
         Err(error) => Err(refusal(error)),
@@ -107,20 +112,14 @@ fn shut(conn: Connection<FileStore<File>>) -> Result<(), KeepFault> {
 }
 
 impl<S: Opens> Database<S> {
-    /// The allocator.
-    pub(crate) fn alloc(&self) -> Global {
-        self.rt.alloc()
-    }
-
-    /// The connection, which is made at the first call and kept where the file has its tables.
-    pub(crate) fn ready(&mut self) -> Result<&mut Connection<S>, KeepFault> {
-        if self.conn.is_none() {
-            let mut conn = S::open(&self.rt, self.path.as_str())?;
-            prepare(&mut conn, self.rt.alloc())?;
-            self.conn = Some(conn);
+    /// The keeper on the connection, which is made at the first call.
+    pub(crate) fn ready(&mut self) -> Result<&mut ProvedKeeper<S>, KeepFault> {
+        if self.kept.is_none() {
+            let conn = S::open(&self.rt, self.path.as_str())?;
+            self.kept = Some(ProvedKeeper::adopt(self.rt.alloc(), conn));
         }
-        match &mut self.conn {
-            Some(conn) => Ok(conn),
+        match &mut self.kept {
+            Some(kept) => Ok(kept),
             None => Err(KeepFault::Failed),
         }
     }

@@ -1,0 +1,22 @@
+use Rattle.std.proofs.Common.{Err, ap, ◌∙◌, ◌&&◌, ◌==◌, nat_le, Vec, Global}
+use Rattle.std.proofs.lemmas.List.Kept.{IsStrictlySortedBy-filter}
+use Rattle.sqlite_keyed.proofs.ListLemmas.{all-filter}
+use Rattle.road_time.specs.declared.day.SpentRow.{SpentRow}
+use Rattle.keeper.specs.Office.{row_cmp, vehicle_rows_between}
+use Rattle.kept_tables.specs.Stands.{FitsSpent}
+use Rattle.kept_tables.proofs.AskLaws.{list_vehicle_asks}
+use Rattle.keeper_writes.specs.Causes.{WasRefused}
+use Rattle.keeper_proof.proofs.GiveLaws.{gives_so, refused_so}
+use Rattle.keeper_proof.proofs.LookLaws.{vehicle_rows_look}
+use Rattle.keeper_proof.proofs.reads.vehicle_rows.Goals as goal
+
+pub look-requires : goal.look-requires
+look-requires g c = list_vehicle_asks
+
+pub returns-in_err-found-clause-gives : goal.returns-in_err-found-clause-gives
+returns-in_err-found-clause-gives g c clean o has =
+    refused_so (WasRefused g.S.Store) (λ (v : Vec SpentRow Global). v.items) c.from_residual.result c.in_err-found.field-0.0 (vehicle_rows_between o c.args.vid c.args.from c.args.to) c.from_residual.ensures.1 (λ is. c.in_err-found.ensures.because clean (ap Err is))
+
+pub returns-clause-gives : goal.returns-clause-gives
+returns-clause-gives g c clean o has =
+    gives_so (WasRefused g.S.Store) (λ (v : Vec SpentRow Global). v.items) c.amounts_of.result (vehicle_rows_between o c.args.vid c.args.from c.args.to) (c.amounts_of.ensures.gives (vehicle_rows_between o c.args.vid c.args.from c.args.to) (all-filter FitsSpent (λ r. r.vid == c.args.vid && (nat_le c.args.from r.day && nat_le r.day c.args.to)) o.rows has.fits.rows) (IsStrictlySortedBy-filter row_cmp (λ r. r.vid == c.args.vid && (nat_le c.args.from r.day && nat_le r.day c.args.to)) o.rows has.sound.rows_rise) (c.deref.ensures.value ∙ vehicle_rows_look g.S.Store c.args.conn.now c.look.new.conn o has c.in_ok-found.found.items c.args.vid c.args.from c.args.to (rw (c.params-to_sql.ensures, c.params-to_sql-2.ensures, c.params-to_sql-3.ensures) at (c.in_ok-found.ensures.shown clean))))

@@ -1,0 +1,39 @@
+// A query of what was committed.
+ghost use Rattle.std.specs.Prelude.{◌≡◌, true, Err, IfOk};
+ghost use Rattle.sqlite_resolve.specs.Compile.{first};
+ghost use Rattle.sqlite.specs.Values.{bound};
+ghost use Rattle.sqlite.specs.Held.{state};
+ghost use Rattle.sqlite.specs.State.{HasCleanDisk, KeepsCommit, Survives};
+ghost use Rattle.keeper.specs.declared.kept.KeepFault.TheVariants.{Failed};
+ghost use Rattle.kept_tables.specs.Asks.{asks};
+ghost use Rattle.keeper_writes.specs.Causes.{WasRefused};
+ghost use Rattle.keeper_proof.specs.Looks.{ShowsCommitted};
+
+use keeper::KeepFault;
+use keeper_writes::refusals::refusal;
+use keeper_writes::unfinished::settle;
+use sqlite::types::ValueRef;
+use sqlite::{Alter, Connection, Row};
+
+/// The rows that a query shows, after what was under way is undone.
+pub fn look<S: Alter>(
+    conn: &mut Connection<S>,
+    sql: &str,
+    params: &[ValueRef<'_>],
+) -> Result<Vec<Row>, KeepFault>
+    requires { asks (first sql.now) ≡ true }
+    ensures kept { HasCleanDisk (state S.Store conn.new)
+        → KeepsCommit (state S.Store conn.old) (state S.Store conn.new) }
+    ensures shown { HasCleanDisk (state S.Store conn.new)
+        → IfOk result (λ rows. ShowsCommitted S.Store sql.now (bound params.now) conn.old conn.new rows.items) }
+    ensures because { HasCleanDisk (state S.Store conn.new) → result ≡ Err Failed → WasRefused S.Store }
+    ensures survives { Survives (state S.Store conn.old) (state S.Store conn.new) (λ _. ⊥) }
+{
+    if let Err(error) = settle(conn) {
+        return Err(refusal(error));
+    }
+    match conn.query_all(sql, params) {
+        Ok(rows) => Ok(rows),
+        Err(error) => Err(refusal(error)),
+    }
+}

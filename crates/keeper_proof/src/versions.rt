@@ -1,0 +1,51 @@
+// Whether the tables are there, in version 2.
+ghost use Rattle.std.specs.Prelude.{◌≡◌, ◌≢◌, [], ◌∷◌, pos, Err, IsTrue, OnOk};
+ghost use Rattle.sqlite_value.specs.declared.value.Value.TheVariants.{Int};
+ghost use Rattle.sqlite.specs.Held.{state};
+ghost use Rattle.sqlite.specs.State.{HasCleanDisk, KeepsCommit, Survives};
+ghost use Rattle.keeper.specs.Office.{Office};
+ghost use Rattle.keeper.specs.declared.kept.KeepFault.TheVariants.{Failed};
+ghost use Rattle.kept_tables.specs.Stands.{HasOffice, StandsForOffice};
+ghost use Rattle.keeper_writes.specs.Causes.{WasRefused};
+
+use crate::looks::look;
+use crate::values::number_63;
+use keeper::KeepFault;
+use sqlite::{Alter, Connection, Row};
+
+/// Whether all six tables are there in version 2; refused where they are not.
+pub fn ready<S: Alter>(conn: &mut Connection<S>) -> Result<(), KeepFault>
+    ensures kept { HasCleanDisk (state S.Store conn.new)
+        → KeepsCommit (state S.Store conn.old) (state S.Store conn.new) }
+    ensures stands { HasCleanDisk (state S.Store conn.new) → (o : Office)
+        → StandsForOffice (state S.Store conn.old).committed o
+        → OnOk result (IsTrue (state S.Store conn.new).is_open × HasOffice (state S.Store conn.old).committed o) }
+    ensures because { HasCleanDisk (state S.Store conn.new) → (o : Office)
+        → StandsForOffice (state S.Store conn.old).committed o → result ≡ Err Failed → WasRefused S.Store }
+    ensures survives { Survives (state S.Store conn.old) (state S.Store conn.new) (λ _. ⊥) }
+{
+    let found = look(conn, "SELECT version FROM form WHERE one = 1", &[])?;
+    is_second(&found)
+}
+
+/// Whether an answer has version 2; refused where it has not.
+fn is_second(found: &[Row]) -> Result<(), KeepFault>
+    ensures { found.now ≡ (Int (pos 2) ∷ []) ∷ [] → result ≢ Err Failed }
+{
+    match found {
+        [row] => is_two(row),
+        _ => Err(KeepFault::Failed),
+    }
+}
+
+/// Whether a row has version 2.
+fn is_two(row: &Row) -> Result<(), KeepFault>
+    ensures { row.now ≡ Int (pos 2) ∷ [] → result ≢ Err Failed }
+{
+    let version = number_63(row, 0)?;
+    if version == 2 {
+        Ok(())
+    } else {
+        Err(KeepFault::Failed)
+    }
+}

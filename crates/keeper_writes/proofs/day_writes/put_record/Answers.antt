@@ -1,0 +1,52 @@
+use Rattle.std.proofs.Common.{◌≡◌, to_z, of_z, w64, rules, inl, inr}
+use Rattle.sqlite.specs.Held.{state}
+use Rattle.kept_tables.specs.Texts.{put_day}
+use Rattle.kept_tables.proofs.DayWriteLaws.{day_puts}
+use Rattle.kept_tables.proofs.PutLaws.{whole_by}
+use Rattle.keeper_writes.proofs.day_writes.put_record.Goals as goal
+
+pub returns-in-Ok-clause-puts : goal.returns-in-Ok-clause-puts
+returns-in-Ok-clause-puts g c clean inside contents holds later =
+    let old = state g.S.Store c.args.tx.now.conn.now in
+    let new = state g.S.Store c.execute.new.self.conn.now in
+    let bytes : to_z w64 (of_z w64 c.column-bytes.result) ≡ c.column-bytes.result = search rules in
+    let tuples : to_z w64 (of_z w64 c.column-tuples.result) ≡ c.column-tuples.result = search rules in
+    let notices : to_z w64 (of_z w64 c.column-notices.result) ≡ c.column-notices.result = search rules in
+    let total : to_z w64 (of_z w64 c.column-total.result) ≡ c.column-total.result = search rules in
+    let ran = (rw (
+      c.params-to_sql.ensures,
+      c.params-to_sql-2.ensures,
+      c.params-to_sql-3.ensures,
+      c.params-to_sql-4.ensures,
+      c.params-to_sql-5.ensures,
+      c.params-to_sql-6.ensures,
+      c.params-to_sql-7.ensures,
+      c.bytes_of-digest.ensures.same,
+      bytes,
+      tuples,
+      notices,
+      c.bytes_of-told.ensures.same,
+      total,
+      c.column-bytes.ensures,
+      c.column-tuples.ensures,
+      c.column-notices.ensures,
+      c.column-total.ensures,
+    )
+    at (c.in-Ok.ensures.runs clean inside)).0 in
+    day_puts old new contents c.args.kept.now c.in-Ok.field-0 holds later ran
+
+pub returns-in-Err-clause-refused : goal.returns-in-Err-clause-refused
+returns-in-Err-clause-refused g c clean inside =
+    record { sql = put_day; params = _; before = c.args.tx.now.conn.now; after = c.execute.new.self.conn.now; refused = inr (inl (c.in-Err.ensures.runs clean inside)) }
+
+pub returns-in-Ok-clause-digest : goal.returns-in-Ok-clause-digest
+returns-in-Ok-clause-digest g c = whole_by c.args.kept.now.digest c.bytes_of-digest.ensures.long c.bytes_of-digest.ensures.each
+
+pub returns-in-Ok-clause-told : goal.returns-in-Ok-clause-told
+returns-in-Ok-clause-told g c = whole_by c.args.kept.now.notices_digest c.bytes_of-told.ensures.long c.bytes_of-told.ensures.each
+
+pub returns-in-Err-clause-digest : goal.returns-in-Err-clause-digest
+returns-in-Err-clause-digest g c = whole_by c.args.kept.now.digest c.bytes_of-digest.ensures.long c.bytes_of-digest.ensures.each
+
+pub returns-in-Err-clause-told : goal.returns-in-Err-clause-told
+returns-in-Err-clause-told g c = whole_by c.args.kept.now.notices_digest c.bytes_of-told.ensures.long c.bytes_of-told.ensures.each

@@ -1,0 +1,51 @@
+use Rattle.std.proofs.Common.{[], sym, subst, ◌∙◌, arith, inl, inr}
+use Rattle.sqlite.specs.Held.{state}
+use Rattle.sqlite.specs.Effect.{Database}
+use Rattle.sqlite.specs.State.{HasCleanDisk}
+use Rattle.kept_tables.specs.Steps.{FitsAny}
+use Rattle.kept_tables.proofs.CrashLaws.{put_survives}
+use Rattle.keeper.specs.Kept.{with_tariff_of}
+use Rattle.kept_tables.specs.Stands.{HasOffice}
+use Rattle.kept_tables.specs.Texts.{undo}
+use Rattle.keeper_writes.proofs.CauseLaws.{not_memory}
+use Rattle.kept_tables.proofs.StepLaws.{kept_then}
+use Rattle.keeper_writes.proofs.puts.put_tariff.Goals as goal
+
+pub returns-in-Err-clause-because : goal.returns-in-Err-clause-because
+returns-in-Err-clause-because g c clean failed = record {
+  error = c.in-Err.error;
+  cause = not_memory c.refusal.result c.in-Err.error c.refusal.ensures failed;
+  refused = record { sql = undo; params = []; before = c.args.conn.now; after = c.settle.new.conn; refused = inl (c.in-Err.ensures.refused clean) };
+}
+
+pub returns-in-Ok-clause-put : goal.returns-in-Ok-clause-put
+returns-in-Ok-clause-put g c clean still o has =
+    let mid = state g.S.Store c.settle.new.conn in
+    let early : HasCleanDisk mid = omega (arith, c.replace.ensures.crash.clean) in
+    let before = c.in-Ok.ensures.open clean still in
+    let now = c.in_default.ensures.settled early before ∙ (c.settle.ensures.kept early).committed before in
+    c.in-Ok.ensures.put clean o (subst (λ (db : Database). HasOffice db o) (sym now) has)
+
+pub returns-in-Ok-clause-crash : goal.returns-in-Ok-clause-crash
+returns-in-Ok-clause-crash g c =
+    put_survives (state g.S.Store c.args.conn.now) (state g.S.Store c.settle.new.conn) (state g.S.Store c.replace.new.conn) FitsAny (with_tariff_of c.args.xway c.args.tariff.now)
+    (λ clean here. c.in_default.ensures.settled clean here) c.settle.ensures.kept c.settle.ensures.survives c.replace.ensures.crash
+
+pub returns-in-Err-replace-clause-crash : goal.returns-in-Err-replace-clause-crash
+returns-in-Err-replace-clause-crash g c =
+    put_survives (state g.S.Store c.args.conn.now) (state g.S.Store c.settle.new.conn) (state g.S.Store c.replace.new.conn) FitsAny (with_tariff_of c.args.xway c.args.tariff.now)
+    (λ clean here. c.in_default.ensures.settled clean here) c.settle.ensures.kept c.settle.ensures.survives c.replace.ensures.crash
+
+pub returns-in-Err-replace-clause-refused : goal.returns-in-Err-replace-clause-refused
+returns-in-Err-replace-clause-refused g c clean =
+    kept_then (state g.S.Store c.args.conn.now) (state g.S.Store c.settle.new.conn) (state g.S.Store c.replace.new.conn) (c.settle.ensures.kept (omega (arith, c.replace.ensures.crash.clean))) (c.in-Err-replace.ensures.refused clean)
+
+pub returns-in-Err-replace-clause-because : goal.returns-in-Err-replace-clause-because
+returns-in-Err-replace-clause-because g c clean failed =
+    let mid = state g.S.Store c.settle.new.conn in
+    let early : HasCleanDisk mid = omega (arith, c.replace.ensures.crash.clean) in
+    let calm = c.in_default.ensures.calm early in
+    elim (c.in-Err-replace.ensures.because clean) [
+      | inl inside ↦ absurd (let e = sym calm ∙ inside in cc)
+      | inr refused ↦ record { error = c.in-Err-replace.error; cause = not_memory c.refusal-in-Err-replace.result c.in-Err-replace.error c.refusal-in-Err-replace.ensures failed; refused = refused }
+    ]

@@ -1,0 +1,18 @@
+use Rattle.std.proofs.Common.{◌≡◌, take, IsTrue}
+use Rattle.sqlite.specs.State.{HasCleanDisk, Survives, Shows}
+use Rattle.sqlite.specs.Held.{state}
+use Rattle.std.specs.List.{AllByRecursion}
+use Rattle.kept_tables.specs.Stands.{FitsSpent}
+use Rattle.kept_tables.specs.Layout.{all_tables}
+use Rattle.kept_tables.specs.Steps.{Adds}
+use Rattle.keeper_writes.proofs.spent_writes.put_amounts.Given as goal
+
+abbrev pub invariant-rows : goal.invariant-rows
+invariant-rows g l =
+    let old = state g.S.Store l.fn.tx.conn.now in
+    let now = state g.S.Store l.tx.conn.now in
+    (l.tx.conn.ghost_name ≡ l.fn.tx.conn.ghost_name) × Survives old now (λ _. ⊥)
+    × (HasCleanDisk now → IsTrue old.in_transaction → IsTrue now.in_transaction)
+    × (HasCleanDisk now → IsTrue old.is_open → IsTrue old.in_transaction → Shows old now now.now old.committed old.in_transaction)
+    × (HasCleanDisk now → IsTrue old.in_transaction → old.now.schema ≡ all_tables → Adds old.now now.now (take l.row-index l.rows))
+    × AllByRecursion FitsSpent (take l.row-index l.rows)

@@ -1,0 +1,21 @@
+use Rattle.std.proofs.Common.{◌≡◌, false, sym, subst, ◌∙◌, arith, OnOk, IsTrue}
+use Rattle.sqlite.specs.Held.{state}
+use Rattle.sqlite.specs.State.{HasCleanDisk}
+use Rattle.road_time.specs.Rates.{benchmark, same_tariff}
+use Rattle.keeper.specs.Kept.{with_tariff_of}
+use Rattle.keeper.specs.Office.{Office}
+use Rattle.kept_tables.specs.Stands.{HasOffice}
+use Rattle.kept_tables.proofs.TariffWriteLaws.{set_after_taken}
+use Rattle.keeper_writes.proofs.tariff_writes.write.Goals as goal
+
+pub returns-clause-wrote : goal.returns-clause-wrote
+returns-clause-wrote g c clean inside o has =
+    let mid = state g.S.Store c.take.new.tx.conn.now in
+    let new = state g.S.Store c.give.new.tx.conn.now in
+    let early : HasCleanDisk mid = omega (arith, c.give.ensures.survives.clean) in
+    let between = with_tariff_of c.args.xway benchmark o in
+    let took = c.in_ok-take.ensures.took early inside o has in
+    let still : IsTrue mid.in_transaction = (c.in_ok-take.ensures.inside early inside).mode ∙ inside in
+    let own : same_tariff c.args.tariff.now benchmark ≡ false = sym c.eq.ensures ∙ c.if-eq.false in
+    let gave = c.give.ensures.gave clean still between took own in
+    subst (λ (p : Office). OnOk c.give.result (HasOffice new.now p)) (set_after_taken c.args.xway c.args.tariff.now o has.sound.tariffs own) gave

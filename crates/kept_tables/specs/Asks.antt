@@ -1,0 +1,16 @@
+-- Which texts are queries.
+use Rattle.std.specs.Prelude.{Bool, true, false, Result, Ok, Err}
+use Rattle.sqlite_ast.specs.declared.Statement.{Statement}
+use Rattle.sqlite_ast.specs.declared.Statement.TheVariants as written
+use Rattle.sqlite_syntax.specs.declared.statement.Parsed.{Parsed}
+use Rattle.sqlite_resolve.specs.declared.error.CompileError.{CompileError}
+
+-- the statement is a query
+abbrev pub is_ask : Statement → Bool
+is_ask (written.Select s) = true
+is_ask _ = false
+
+-- so is the text
+abbrev pub asks : Result Parsed CompileError → Bool
+asks (Ok p) = is_ask p.statement
+asks (Err e) = false
