@@ -7,6 +7,8 @@
 mod ending;
 mod opening;
 mod serving;
+mod threads;
 
 pub use ending::ServerEnd;
 pub use serving::serve_words;
+pub use threads::serve_in_threads;

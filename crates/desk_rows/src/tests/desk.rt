@@ -181,6 +181,41 @@ fn a_posted_day_is_seen_at_once(rt: HostRuntime) -> Result<(), NoMemory> {
     Ok(())
 }
 
+/// How the first of two posts of the day of a charge ends, and which row of those after them is wrong, their count where
+/// the second post is answered and none is.
+fn post_twice<R: Wait + Threads + Drop>(
+    alloc: Global,
+    desk: &mut Desk<MemKeeper, InlineCrew, R>,
+    reader: &mut BoardReader,
+) -> Result<(SessionEnd, usize), NoMemory>
+    requires board { reader.old.board ≡ desk.old.writer.board }
+{
+    let request = charged_on_leaving(alloc)?;
+    let (end, _) = ask(alloc, desk, reader, request.as_slice(), 100)?;
+    let wrong = post_and_ask(alloc, desk, reader)?;
+    Ok((end, wrong))
+}
+
+/// A day that is posted while an allocation fails is answered as ever, or by 500; posted again it is kept and seen.
+/// `rt try --test --fail-alloc 1..` has each allocation fail in turn: then a run may end for want of memory too.
+#[test]
+fn a_post_without_memory_is_answered(rt: HostRuntime) -> Result<(), NoMemory> {
+    let alloc = rt.alloc();
+    let keeper = MemKeeper::new(alloc, &[])?;
+    let Board { writer, readers } = board(rt, alloc, 1)?;
+    let mut readers = readers.into_vec();
+    let mut desk = desk_of(rt, alloc, keeper, writer);
+    let came = match readers.pop() {
+        Some(mut reader) => post_twice(alloc, &mut desk, &mut reader),
+        None => Err(NoMemory),
+    };
+    desk.end();
+    let (end, wrong) = came?;
+    assert!(rt; end == SessionEnd::Answered(200) || end == SessionEnd::Answered(500));
+    assert_eq!(rt; wrong, AFTER_A_CHARGE.len());
+    Ok(())
+}
+
 const EMPTY_DAY: &[u8] = b"POST /days/100 HTTP/1.1\r\nContent-Length: 0\r\n\r\n";
 
 const FOUR_LINES: &[u8] = b"POST /days/100 HTTP/1.1\r\nContent-Length: 4\r\n\r\n\n\n\n\n";

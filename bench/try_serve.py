@@ -1,0 +1,380 @@
+#!/usr/bin/env python3
+"""Tries the server as a new user would, and prints what was seen.
+
+    python3 bench/try_serve.py PROGRAM [--lines 100000] [--asks 1000] [--folder DAYS]
+
+PROGRAM is the executable `toll_serve`. The server runs in a new folder, on a free port of this machine. Asked are: every
+path and every refusal, with the whole answer; a day of so many lines, posted while four clients read the live board; so
+many kept days one after another; a slow client and a silent one beside three that work; a body that is held back. The
+server then ends by its sessions, and Python's `sqlite3` reads what it kept. The script ends with status 1 at the first
+answer that is not the expected one.
+"""
+import argparse
+import http.client
+import json
+import pathlib
+import shutil
+import socket
+import sqlite3
+import statistics
+import subprocess
+import sys
+import tempfile
+import threading
+import time
+
+from run import lines_in, make_day
+
+EMPTY = "e3b0c44298fc1c149afbf4c8996fb92427ae41e4649b934ca495991b7852b855"
+LATE = (b"0,10,1,30,0,1,0,10,52800,-1,-1,-1,-1,-1,-1\n"
+        b"0,10,2,30,0,1,0,10,52800,-1,-1,-1,-1,-1,-1\n"
+        b"0,9,3,30,0,1,0,10,52800,-1,-1,-1,-1,-1,-1\n")
+SILENCE = 30
+
+
+def fail(text):
+    sys.exit(f"not as expected: {text}")
+
+
+def expect(what, found, wanted):
+    if found != wanted:
+        fail(f"{what}: found {found!r}, wanted {wanted!r}")
+
+
+def report(lines):
+    """A vehicle's reports, one a line: time, vehicle, speed, lane, segment, position on expressway 0 eastbound."""
+    return b"".join(b"0,%d,%d,%d,0,%d,0,%d,%d,-1,-1,-1,-1,-1,-1\n" % line for line in lines)
+
+
+def charged_day():
+    """Fifty-one vehicles slow down a segment; vehicle 100 is told a toll of 2, leaves the segment and asks its balance."""
+    crowd = [(0, vid, 30, 1, 10, 52800) for vid in range(1, 52)]
+    path = [(60, 100, 30, 1, 10, 52800), (90, 100, 30, 1, 11, 58080), (120, 100, 30, 4, 11, 60000)]
+    away = b"0,150,100,30,1,0,0,5,26400,-1,-1,-1,-1,-1,-1\n2,160,100,-1,-1,-1,-1,-1,-1,9,-1,-1,-1,-1,-1\n"
+    return report(crowd) + report(path) + away
+
+
+class Server:
+    """The program in a folder, which ends after so many connections."""
+
+    def __init__(self, program, folder, sessions, readers=4):
+        with socket.socket() as probe:
+            probe.bind(("127.0.0.1", 0))
+            self.port = probe.getsockname()[1]
+        words = [program, str(self.port), "--sessions", str(sessions), "--readers", str(readers)]
+        self.child = subprocess.Popen(words, cwd=folder, stdin=subprocess.DEVNULL, stdout=subprocess.PIPE, stderr=subprocess.PIPE)
+        self.left = sessions
+        self.lock = threading.Lock()
+        self.started = time.monotonic()
+
+    def connect(self, seconds=60):
+        """A connection, which counts as one; a server that is not there yet is waited for."""
+        with self.lock:
+            self.left -= 1
+        while True:
+            try:
+                return socket.create_connection(("127.0.0.1", self.port), timeout=seconds)
+            except ConnectionRefusedError:
+                if self.child.poll() is not None or time.monotonic() > self.started + 10:
+                    fail(f"the server does not listen, its status is {self.child.poll()}")
+                time.sleep(0.01)
+
+    def curl(self, method, path, body=None):
+        """The same by `curl`, as a user types it."""
+        with self.lock:
+            self.left -= 1
+        words = ["curl", "-s", "-i", "-X", method, f"http://127.0.0.1:{self.port}{path}"]
+        if body is not None:
+            words += ["--data-binary", "@-"]
+        shown = subprocess.run(words, input=body, capture_output=True, timeout=600)
+        expect(f"curl {method} {path}: its status", shown.returncode, 0)
+        head, text = shown.stdout.decode().split("\r\n\r\n")
+        first, *fields = head.split("\r\n")
+        expect(f"curl {method} {path}: fields", fields[1:], ["Content-Type: application/json", "Connection: close"])
+        _, status, phrase = first.split(" ", 2)
+        return int(status), phrase, text
+
+    def raw(self, sent, seconds=60):
+        """All bytes that come back for these bytes, until the server closes."""
+        with self.connect(seconds) as wire:
+            wire.sendall(sent)
+            wire.shutdown(socket.SHUT_WR)
+            return all_of(wire)
+
+    def ask(self, method, path, body=None, seconds=600):
+        """Status, phrase and body of an answer."""
+        asked = http.client.HTTPConnection("127.0.0.1", self.port)
+        asked.sock = self.connect(seconds)
+        asked.request(method, path, body)
+        answer = asked.getresponse()
+        text = answer.read()
+        expect(f"{method} {path}: Content-Type", answer.headers["Content-Type"], "application/json")
+        expect(f"{method} {path}: Connection", answer.headers["Connection"], "close")
+        asked.close()
+        return answer.status, answer.reason, text.decode()
+
+    def end(self):
+        """Uses up the connections that are left, by requests that are none, and waits for the end."""
+        while self.left > 0:
+            with self.connect() as wire:
+                wire.sendall(b"\0")
+                all_of(wire)
+        out, err = self.child.communicate(timeout=60)
+        return self.child.returncode, out + err
+
+
+def all_of(wire):
+    taken = b""
+    while True:
+        try:
+            piece = wire.recv(65536)
+        except ConnectionResetError:
+            return taken
+        if not piece:
+            return taken
+        taken += piece
+
+
+def answer_bytes(status, phrase, body):
+    head = f"HTTP/1.1 {status} {phrase}\r\nContent-Length: {len(body)}\r\nContent-Type: application/json\r\nConnection: close\r\n\r\n"
+    return (head + body).encode()
+
+
+def try_words(program):
+    """Words of no stated form end with status 1, and make no file."""
+    folder = tempfile.mkdtemp()
+    for words in ([], ["0"], ["65536"], ["8080", "--sessions", "0"], ["8080", "--readers", "65"], ["--help"], ["8080", "8081"]):
+        done = subprocess.run([program, *words], cwd=folder, capture_output=True, timeout=60)
+        expect(f"words {words}", (done.returncode, done.stdout, done.stderr), (1, b"", b""))
+    expect("files after wrong words", list(pathlib.Path(folder).iterdir()), [])
+    shutil.rmtree(folder)
+    print("words of no stated form: status 1, nothing printed, no file")
+
+
+def try_answers(program, folder):
+    """Every path and every refusal."""
+    server = Server(program, folder, 60)
+    server.ask("GET", "/live")
+    busy = subprocess.run([program, str(server.port)], cwd=tempfile.gettempdir(), capture_output=True, timeout=60)
+    expect("a port that is taken", (busy.returncode, busy.stdout, busy.stderr), (2, b"", b""))
+    no_path = (404, "Not Found", '{"error":"no path"}')
+    method = (405, "Method Not Allowed", '{"error":"method"}')
+    wanted = [
+        ("GET", "/days/100", None, (404, "Not Found", '{"error":"no day"}')),
+        ("GET", "/live", None, (200, "OK", '{"as_of":0,"day":0,"total":0}')),
+        ("GET", "/live/7", None, (200, "OK", '{"as_of":0,"balance":0,"day":0}')),
+        ("GET", "/spent/100/0/100", None, (200, "OK", '{"spent":0}')),
+        ("GET", "/days/7", None, no_path),
+        ("GET", "/days/1000001", None, no_path),
+        ("GET", "/days/100/", None, no_path),
+        ("GET", "/spent/100/256/1", None, no_path),
+        ("GET", "/spent/0/0/1", None, no_path),
+        ("GET", "/nothing", None, no_path),
+        ("DELETE", "/days/100", None, method),
+        ("POST", "/live", b"", method),
+        ("POST", "/days/100", LATE, (422, "Unprocessable Entity", '{"cause":"late 10 9","error":"refused","line":3}')),
+        ("GET", "/days/100", None, (404, "Not Found", '{"error":"no day"}')),
+    ]
+    for way, path, body, answer in wanted:
+        expect(f"{way} {path}", server.ask(way, path, body), answer)
+        if shutil.which("curl"):
+            expect(f"curl {way} {path}", server.curl(way, path, body), answer)
+    post = b"POST /days/100 HTTP/1.1\r\n"
+    for sent, answer in [
+        (b"HEAD /days/100 HTTP/1.1\r\n\r\n", answer_bytes(*method)),
+        (post + b"\r\n", answer_bytes(411, "Length Required", '{"error":"length needed"}')),
+        (post + b"Content-Length: 4000000001\r\n\r\n", answer_bytes(413, "Payload Too Large", '{"error":"too long"}')),
+        (post + b"Content-Length: x\r\n\r\n", answer_bytes(400, "Bad Request", '{"error":"length"}')),
+        (b"\0", answer_bytes(400, "Bad Request", '{"error":"head"}')),
+        (b"GET /live HTTP/1.1\r\nA: ".ljust(8192, b"a"), answer_bytes(400, "Bad Request", '{"error":"head"}')),
+        (b"GET", b""),
+        (post + b"Content-Length: 5\r\n\r\nabc", b""),
+    ]:
+        expect(f"{sent[:60]!r}", server.raw(sent), answer)
+    lines = charged_day()
+    status, phrase, text = server.ask("POST", "/days/100", lines)
+    day = json.loads(text)
+    expect("POST of a charged day", (status, day["outcome"], day["tuples"], day["notices"], day["total"], day["bytes"]),
+           (200, "stored", 56, 55, 2, len(lines)))
+    expect("its answer again", json.loads(server.ask("POST", "/days/100", lines)[2]), {**day, "outcome": "already"})
+    expect("GET of it", json.loads(server.ask("GET", "/days/100?x")[2]), {k: v for k, v in day.items() if k != "outcome"})
+    expect("GET /live/100", server.ask("GET", "/live/100"), (200, "OK", '{"as_of":56,"balance":2,"day":100}'))
+    expect("GET /live", server.ask("GET", "/live"), (200, "OK", '{"as_of":56,"day":100,"total":2}'))
+    expect("GET /spent", server.ask("GET", "/spent/100/0/100"), (200, "OK", '{"spent":2}'))
+    other = json.loads(server.ask("POST", "/days/100", b"abc")[2])
+    expect("other bytes", (other["error"], other["kept"], other["found"]), ("differs", day["digest"], other["found"]))
+    expect("an earlier day", server.ask("POST", "/days/99", b""), (409, "Conflict", '{"error":"passed","last":100}'))
+    empty = json.loads(server.ask("POST", "/days/101", b"")[2])
+    expect("an empty day", (empty["outcome"], empty["digest"], empty["tuples"]), ("stored", EMPTY, 0))
+    if shutil.which("curl"):
+        for way, path, body, answer in [
+            ("POST", "/days/100", lines, (200, {**day, "outcome": "already"})),
+            ("POST", "/days/100", b"abc", (409, other)),
+            ("POST", "/days/99", b"", (409, {"error": "passed", "last": 101})),
+            ("GET", "/days/100", None, (200, {k: v for k, v in day.items() if k != "outcome"})),
+            ("GET", "/spent/100/0/100", None, (200, {"spent": 2})),
+            ("GET", "/live/100", None, (200, {"as_of": 0, "balance": 0, "day": 101})),
+        ]:
+            status, _, text = server.curl(way, path, body)
+            expect(f"curl {way} {path}", (status, json.loads(text)), answer)
+    asked = 60 - server.left
+    expect("the end", server.end(), (0, b""))
+    print(f"every path and refusal: {asked} connections, each answered as stated; the server ended by its sessions, status 0")
+
+
+class Watcher(threading.Thread):
+    """Reads the live board over and over, and notes marks that fall."""
+
+    def __init__(self, server, path, stop):
+        super().__init__()
+        self.server, self.path, self.stop = server, path, stop
+        self.seen, self.fell, self.slowest, self.error = [], 0, 0.0, None
+
+    def run(self):
+        try:
+            while not self.stop.is_set():
+                begin = time.monotonic()
+                status, _, text = self.server.ask("GET", self.path)
+                self.slowest = max(self.slowest, time.monotonic() - begin)
+                live = json.loads(text)
+                mark = (live["day"], live["as_of"])
+                if status != 200 or (self.seen and mark < self.seen[-1]):
+                    self.fell += 1
+                self.seen.append(mark)
+                time.sleep(0.005)
+        except (OSError, SystemExit, http.client.HTTPException) as error:
+            self.error = repr(error)
+
+
+def try_day(program, folder, path):
+    """A day is posted while four clients read the live board for its whole time."""
+    lines = lines_in(path)
+    server = Server(program, folder, 20_000, readers=8)
+    stop = threading.Event()
+    server.ask("GET", "/live")
+    watchers = [Watcher(server, path, stop) for path in ("/live", "/live/1", "/live", "/live/2")]
+    for watcher in watchers:
+        watcher.start()
+    begin = time.monotonic()
+    with open(path, "rb") as body:
+        status, _, text = server.ask("POST", "/days/200", body.read())
+    took = time.monotonic() - begin
+    stop.set()
+    for watcher in watchers:
+        watcher.join()
+    day = json.loads(text)
+    expect("POST of the day", (status, day.get("outcome")), (200, "stored"))
+    for watcher in watchers:
+        expect("a watcher", (watcher.error, watcher.fell), (None, 0))
+    marks = {mark for watcher in watchers for mark in watcher.seen if mark[0] == 200}
+    live = json.loads(server.ask("GET", "/live")[2])
+    expect("the last live total", live, {"as_of": day["tuples"], "day": 200, "total": day["total"]})
+    asked = sum(len(watcher.seen) for watcher in watchers)
+    slowest = max(watcher.slowest for watcher in watchers)
+    print(f"a day of {lines} lines: posted in {took:.2f} s; four clients asked {asked} live totals and accounts meanwhile, with {len(marks)}"
+          f" marks of the day, none fell, the slowest answer took {slowest * 1000:.1f} ms; the last is the kept total {day['total']}")
+    return server, day
+
+
+def try_asks(server, asks):
+    """Kept days one after another."""
+    times = []
+    for _ in range(asks):
+        begin = time.monotonic()
+        status, _, _ = server.ask("GET", "/days/200")
+        times.append(time.monotonic() - begin)
+        expect("GET of a kept day", status, 200)
+    times.sort()
+    print(f"{asks} kept days one after another: median {statistics.median(times) * 1e6:.0f} microseconds,"
+          f" 99th percentile {times[int(0.99 * (len(times) - 1))] * 1e6:.0f}")
+
+
+def try_slow(server):
+    """A client that sends one byte a second, and one that is silent, beside three that work; a body that is held back."""
+    silent = server.connect(SILENCE * 3)
+    begun = time.monotonic()
+    slow = server.connect()
+    answers, errors = [], []
+
+    def works():
+        try:
+            while time.monotonic() < begun + 6:
+                begin = time.monotonic()
+                expect("a client beside a slow one", server.ask("GET", "/days/200")[0], 200)
+                answers.append(time.monotonic() - begin)
+                time.sleep(0.01)
+        except (OSError, SystemExit, http.client.HTTPException) as error:
+            errors.append(repr(error))
+
+    clients = [threading.Thread(target=works) for _ in range(3)]
+    for client in clients:
+        client.start()
+    for byte in b"GET /live HTTP/1.1\r\n\r\n"[:6]:
+        slow.sendall(bytes([byte]))
+        time.sleep(1)
+    slow.sendall(b"GET /live HTTP/1.1\r\n\r\n"[6:])
+    taken = all_of(slow)
+    slow.close()
+    for client in clients:
+        client.join()
+    expect("clients beside a slow one", errors, [])
+    expect("the slow client's answer", taken.split(b"\r\n")[0], b"HTTP/1.1 200 OK")
+    print(f"a client of one byte a second and a silent one beside three: {len(answers)} answers, the slowest"
+          f" {max(answers) * 1000:.1f} ms; the slow one was answered too")
+    held = server.connect(SILENCE * 3)
+    held.sendall(b"POST /days/201 HTTP/1.1\r\nContent-Length: 10\r\n\r\n0,0")
+    time.sleep(0.2)
+    begin = time.monotonic()
+    expect("a live account beside a held body", server.ask("GET", "/live/1")[0], 200)
+    beside = time.monotonic() - begin
+    begin = time.monotonic()
+    expect("an earlier day behind a held body", server.ask("GET", "/days/200", seconds=SILENCE * 3)[0], 200)
+    behind = time.monotonic() - begin
+    expect("the held body", all_of(held), b"")
+    held.close()
+    print(f"a body that is held back: a live account is answered in {beside * 1000:.1f} ms; a kept day waits {behind:.1f} s,"
+          " until the silent client is let go, unanswered")
+    expect("the silent client", all_of(silent), b"")
+    silent.close()
+    expect("the day that was held back", server.ask("GET", "/days/201")[0], 404)
+
+
+def try_kept(folder, day):
+    """What was kept, by another reader of the file: once the server has ended, the file alone has all."""
+    alone = tempfile.mkdtemp()
+    shutil.copy(pathlib.Path(folder) / "tolls.db", alone)
+    kept = sqlite3.connect(pathlib.Path(alone) / "tolls.db")
+    expect("integrity_check", kept.execute("PRAGMA integrity_check").fetchone(), ("ok",))
+    expect("the days", [row[0] for row in kept.execute("SELECT day FROM days ORDER BY day")], [100, 101, 200])
+    expect("the day's total", kept.execute("SELECT total FROM days WHERE day = 200").fetchone()[0], day["total"])
+    expect("the sum of its amounts", kept.execute("SELECT total(tolls) FROM spent WHERE day = 200").fetchone()[0], day["total"])
+    rows = kept.execute("SELECT count(*) FROM spent").fetchone()[0]
+    kept.close()
+    shutil.rmtree(alone)
+    print(f"sqlite3 reads a copy of tolls.db without its log: three days, {rows} amounts, the day's sum is its total")
+
+
+def main():
+    words = argparse.ArgumentParser(description=__doc__, formatter_class=argparse.RawDescriptionHelpFormatter)
+    words.add_argument("program", type=pathlib.Path)
+    words.add_argument("--lines", type=int, default=100_000)
+    words.add_argument("--asks", type=int, default=1000)
+    words.add_argument("--folder", type=pathlib.Path, default=pathlib.Path(tempfile.gettempdir()) / "days")
+    given = words.parse_args()
+    given.folder.mkdir(parents=True, exist_ok=True)
+    program = str(given.program.resolve())
+    path = make_day(given.folder, str(given.lines))
+    folder = tempfile.mkdtemp()
+    try_words(program)
+    try_answers(program, folder)
+    server, day = try_day(program, folder, path)
+    try_asks(server, given.asks)
+    try_slow(server)
+    expect("the end", server.end(), (0, b""))
+    try_kept(folder, day)
+    shutil.rmtree(folder)
+    print("all as expected")
+
+
+if __name__ == "__main__":
+    main()

@@ -1,0 +1,43 @@
+// The server, with threads for its jobs.
+ghost use Rattle.std.specs.Prelude.{◌≡◌, ◌≤◌, ◌⊎◌, None, map, string_bytes};
+ghost use Rattle.road_io.specs.Faults.{Rose};
+ghost use Rattle.road_time.specs.Fits.{IsLimits};
+ghost use Rattle.server_words.specs.Meaning.{means};
+ghost use Rattle.desk_server.specs.Endings.{counts_of, EndsWith, HasServed};
+
+use crate::serving::serve_words;
+use keeper::Keeper;
+use lane_doors::Door;
+use partition_workers::{NoGate, ThreadCrew};
+use road_time::Limits;
+use std::alloc::Global;
+use std::sync::Wait;
+use std::thread::Threads;
+
+/// Serves the desk as `serve_words` does, with a crew that runs each job in a thread of its own.
+pub fn serve_in_threads<D: Door, K: Keeper + Send, R: Wait + Threads + Drop + Copy + Send + Sync>(
+    rt: R,
+    alloc: Global,
+    words: &[String],
+    limits: &Limits,
+    door: &mut D,
+    keeper: K,
+) -> (u8, K)
+    requires within { IsLimits limits.now }
+    requires unused { D.accepted door.old ≡ 0 }
+    ensures ends { EndsWith (means (map string_bytes words.now))
+        (counts_of (D.refused door.old) (D.faults door.old) (D.accepted door.old))
+        (counts_of (D.refused door.new) (D.faults door.new) (D.accepted door.new)) result.0 }
+    ensures served { result.0 ≡ 0 → HasServed (means (map string_bytes words.now))
+        (counts_of (D.refused door.new) (D.faults door.new) (D.accepted door.new)) }
+    ensures words { result.0 ≡ 1 → means (map string_bytes words.now) ≡ None }
+    ensures no_words { means (map string_bytes words.now) ≡ None → (result.0 ≡ 1) ⊎ (result.0 ≡ 8) }
+    ensures untouched { result.0 ≡ 1 → door.new ≡ door.old }
+    ensures refused { result.0 ≡ 2 → Rose (D.refused door.old) (D.refused door.new) }
+    ensures fault { result.0 ≡ 4 → Rose (D.faults door.old) (D.faults door.new) }
+    ensures refused_later { D.refused door.old ≤ D.refused door.new }
+    ensures faults_later { D.faults door.old ≤ D.faults door.new }
+{
+    let crew = ThreadCrew::new(rt, alloc, NoGate);
+    serve_words(rt, alloc, words, limits, door, keeper, crew)
+}
