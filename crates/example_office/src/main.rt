@@ -12,8 +12,7 @@ use office_commands::{ASIDE_FILE, office};
 use partition_workers::{NoGate, ThreadCrew};
 use road_io::{FileSource, MemSink, Sink, StdSink};
 use road_time::Limits;
-use sqlite::{File, FileStore};
-use sqlite_keeper::{Counted, Opens};
+use sqlite_keeper::{Counted, KeptStore, Opens};
 use std::rt::HostRuntime;
 use std::thread::Threads;
 
@@ -407,5 +406,5 @@ fn all<R: Threads + Sync + Copy, S: Opens>(rt: HostRuntime, threads: R) -> anyho
 }
 
 fn main(rt: HostRuntime) -> anyhow::Result<()> {
-    all::<HostRuntime, FileStore<File>>(rt, rt)
+    all::<HostRuntime, KeptStore>(rt, rt)
 }
