@@ -32,7 +32,12 @@ impl Model for Stops {
 
     ghost Value = { Kept };
 
-    ghost view = { λ s. record { second = s.second; standing = s.standing.keys; counts = s.counts.entries; spells = s.spells.entries } };
+    ghost view = { λ s. record {
+      second = s.second;
+      standing = s.standing.keys;
+      counts = s.counts.entries;
+      spells = s.spells.entries;
+    } };
 }
 
 impl Stops {
@@ -59,7 +64,9 @@ impl Stops {
     /// The vehicle stands at the place from the current second on. Where it stands there already nothing changes.
     pub fn stop(&mut self, place: Place, vid: u32) -> Result<(), NoMemory>
         ensures second { self.new.second ≡ self.old.second }
-        ensures stopped { OnOk result ((entries : List Entry) → StandsFor self.old entries → StandsFor self.new (entries ++ record { second = self.old.second; vid = vid; place = place; stops = true } ∷ [])) }
+        ensures stopped { OnOk result ((entries : List Entry) → StandsFor self.old entries
+            → StandsFor self.new (entries
+            ++ record { second = self.old.second; vid = vid; place = place; stops = true } ∷ [])) }
         ensures idle { has_stopped self.old.standing place vid ≡ true → self.new ≡ self.old }
         ensures refused { OnErr result (self.new ≡ self.old) }
         ensures new { OnErr result (has_stopped self.old.standing place vid ≡ false) }
@@ -82,7 +89,9 @@ impl Stops {
     /// The vehicle stands at the place no more. Where it does not stand there nothing changes.
     pub fn leave(&mut self, place: Place, vid: u32)
         ensures second { self.new.second ≡ self.old.second }
-        ensures left { (entries : List Entry) → StandsFor self.old entries → StandsFor self.new (entries ++ record { second = self.old.second; vid = vid; place = place; stops = false } ∷ []) }
+        ensures left { (entries : List Entry) → StandsFor self.old entries
+            → StandsFor self.new (entries
+            ++ record { second = self.old.second; vid = vid; place = place; stops = false } ∷ []) }
         ensures idle { has_stopped self.old.standing place vid ≡ false → self.new ≡ self.old }
         ensures last { (k : StretchValue) → stood_in self.new k ≡ stood_in self.old k }
     {

@@ -5,7 +5,7 @@ ghost use Rattle.std.specs.List.{cons_option};
 ghost use Rattle.std.specs.Option.{option_map};
 ghost use Rattle.road_time.specs.Clock.{minute_of};
 ghost use Rattle.road_time.specs.Notes.{Note, note_of};
-ghost use Rattle.road_time.specs.Tuples.{place_of, stretch_of as stretch_of_lem};
+ghost use Rattle.road_time.specs.Tuples.{place_of, stretch_of as defined_stretch_of};
 ghost use Rattle.road_time.specs.Entries.{Entry, standing_at};
 ghost use Rattle.road_time.specs.Tolls.{notes_of, finding_by};
 ghost use Rattle.speed_stats.specs.Stands.{StandsFor as AveragesStandFor, CanNote};
@@ -66,7 +66,7 @@ fn minute_at(second: u32) -> u32
 
 /// The stretch of a report.
 fn stretch_of(report: &Report) -> Stretch
-    ensures { result ≡ stretch_of_lem report.now }
+    ensures { result ≡ defined_stretch_of report.now }
 {
     Stretch {
         xway: report.xway,
@@ -152,7 +152,7 @@ impl Parts {
               position,
               finding_by (notes_of (seen before)) (standing_at (entries before)) self.now.tariffs report.now,
             ) }
-        ensures kept { shown result ≡ (position, found_in self.now (stretch_of_lem report.now)) }
+        ensures kept { shown result ≡ (position, found_in self.now (defined_stretch_of report.now)) }
     {
         let stretch = stretch_of(report);
         let tariff = self.tariffs.of(report.xway);
@@ -183,7 +183,7 @@ impl Parts {
     /// From now on what was found of the stretch of a report is known.
     #[inline(always)]
     fn know(&mut self, report: &Report, finding: Finding)
-        requires { (shown finding).1 ≡ found_in self.old (stretch_of_lem report.now) }
+        requires { (shown finding).1 ≡ found_in self.old (defined_stretch_of report.now) }
         ensures { self.new ≡ self.old }
     {
         let stretch = stretch_of(report);
@@ -206,7 +206,7 @@ impl Parts {
               position,
               finding_by (notes_of (seen before)) (standing_at (entries before)) self.now.tariffs report.now,
             ) }
-        ensures kept { shown result ≡ (position, found_in self.now (stretch_of_lem report.now)) }
+        ensures kept { shown result ≡ (position, found_in self.now (defined_stretch_of report.now)) }
     {
         match self.known_of(stretch_of(report)) {
             Some(known) => Finding {
@@ -226,7 +226,7 @@ impl Parts {
         ensures exact { (before : List Event) → IsAt self.now report.now.time before
             → option_map shown result ≡ found_if (begins && not (report.now.lane == 4)) (notes_of (seen before))
             (standing_at (entries before)) self.now.tariffs position report.now }
-        ensures kept { IfSome result (λ f. (shown f).1 ≡ found_in self.now (stretch_of_lem report.now)) }
+        ensures kept { IfSome result (λ f. (shown f).1 ≡ found_in self.now (defined_stretch_of report.now)) }
     {
         if begins && report.lane != EXIT_LANE {
             Some(self.find(position, report))

@@ -21,7 +21,8 @@ pub struct MemOffice {
     rows: Vec<SpentRow>,
     past: Option<PastRecord>,
     tariffs: Tariffs,
-    ghost sound: { IsSound (record { days = days.items; rows = rows.items; past = past; tariffs = tariffs }) } by { Prim.hlevel props },
+    ghost sound: { IsSound
+        (record { days = days.items; rows = rows.items; past = past; tariffs = tariffs }) } by { Prim.hlevel props },
 }
 
 /// Which calls of a keeper fail, how many were made, and how many failed.

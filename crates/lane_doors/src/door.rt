@@ -17,8 +17,8 @@ pub enum DoorFault {
     NoMemory,
 }
 
-/// Opens ears on a port, and closes them. `refused` counts the openings that were refused, `faults` the closings of ears
-/// of which one had failed, and `accepted` the connections that closed ears had accepted. None of them falls.
+/// Opens ears on a port, and closes them. `refused` counts the openings that were refused, `faults` the closings of
+/// ears of which one had failed, and `accepted` the connections that closed ears had accepted. None of them falls.
 pub trait Door {
     type Ear: Listener + Send + Drop;
 

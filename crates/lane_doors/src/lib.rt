@@ -1,8 +1,8 @@
 //! Doors: what a server opens to hear connections, and closes when it ends.
 //!
-//! A `Door` opens a number of ears, which are listeners, and counts at their closing what they accepted and whether one
-//! failed. `TcpDoor` hears on a port of this machine, for this machine alone; `MemDoor` has listeners in memory. Ears are
-//! seated in lanes, each with a reader of the live board, and rise from them again.
+//! A `Door` opens a number of ears, which are listeners, and counts at their closing what they accepted and whether
+//! one failed. `TcpDoor` hears on a port of this machine, for this machine alone; `MemDoor` has listeners in memory.
+//! Ears are seated in lanes, each with a reader of the live board, and rise from them again.
 #![tactic(auto)]
 
 mod counting;

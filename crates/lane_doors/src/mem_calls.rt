@@ -15,7 +15,8 @@ use std::alloc::Global;
 use std::mem::replace;
 
 impl MemDoor {
-    /// Has these listeners, which have accepted nothing and have no fault, and refuses each opening where it is told to.
+    /// Has these listeners, which have accepted nothing and have no fault, and refuses each opening where it is told
+    /// to.
     pub fn new(ears: Vec<MemListener>, refuses: bool) -> MemDoor
         requires { All (λ ear. (accepted_by ear ≡ 0) × (faults_of ear ≡ 0)) ears.items }
         ensures ears { ears_of result ≡ ears.items }

@@ -1,10 +1,10 @@
 //! Serving a number of connections by loops that share them, a thread for each.
 //!
 //! A `Lane` is what one loop works with: a `Listener` that gives connections, and a reader of the live board. `serve`
-//! runs a loop for each of the `Lanes`. Each turn of a loop draws a ticket, accepts a connection, and has a `Host` serve
-//! it. Each ticket is drawn once, by whichever loop comes first: what the lanes drew is counted by a ledger, whose
-//! shares they hold. A second ledger counts the loops that found no ticket left. So where no listener failed, the
-//! listeners accepted as many connections in all as there were tickets.
+//! runs a loop for each of the `Lanes`. Each turn of a loop draws a ticket, accepts a connection, and has a `Host`
+//! serve it. Each ticket is drawn once, by whichever loop comes first: what the lanes drew is counted by a ledger,
+//! whose shares they hold. A second ledger counts the loops that found no ticket left. So where no listener failed,
+//! the listeners accepted as many connections in all as there were tickets.
 #![tactic(auto)]
 
 mod host;

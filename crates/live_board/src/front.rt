@@ -69,7 +69,8 @@ impl Front {
     /// Adds a change's operation to the history, which is to have no more than this.
     pub fn add(&self, head: &Head, about: &Snapshot<Change>) -> Option<Front>
         requires { head.now ≡ head_of self.now.book }
-        ensures { IfSome result (λ f. f ≡ record { book = self.now.book; log = self.now.log ++ operation_of about.now.value ∷ [] }) }
+        ensures { IfSome result (λ f. f
+            ≡ record { book = self.now.book; log = self.now.log ++ operation_of about.now.value ∷ [] }) }
     {
         if self.count == u64::MAX {
             return None;

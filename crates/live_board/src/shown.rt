@@ -31,7 +31,13 @@ impl Model for Shown {
 
     ghost coded = { totals_code };
 
-    ghost view = { λ s. record { begun = s.begun; number = s.day; mark = s.mark; sums = from_entries s.sums.entries; whole = s.whole } };
+    ghost view = { λ s. record {
+      begun = s.begun;
+      number = s.day;
+      mark = s.mark;
+      sums = from_entries s.sums.entries;
+      whole = s.whole;
+    } };
 }
 
 impl Shown {

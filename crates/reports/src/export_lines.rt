@@ -32,7 +32,9 @@ fn put_head<W: Write + Drop>(writer: &mut Writer<W>) -> Result<(), NoMemory>
         × (spec.writer_setup writer.old ≡ spec.default_writer) }
     ensures ready { OnOk result ((spec.fields_written writer.new ≡ 0) × (spec.has_written writer.new ≡ false)
         × (spec.writer_setup writer.new ≡ spec.default_writer)) }
-    ensures wrote { OnOk result (Appends (spec.text_written W.contents writer.old) (spec.text_written W.contents writer.new) (codes "vid,day,xway,tolls\n")) }
+    ensures wrote { OnOk result (Appends
+        (spec.text_written W.contents writer.old) (spec.text_written W.contents writer.new)
+        (codes "vid,day,xway,tolls\n")) }
 {
     put_fields(writer, &[b"vid", b"day", b"xway", b"tolls"])
 }

@@ -1,8 +1,8 @@
 //! Bytes in and bytes out, and the lines of what comes in.
 //!
 //! A `Source` gives bytes, a `Sink` takes them and a `Link` does both, each with a count of faults that only a failed
-//! call raises. All three stand in memory too, where they fail exactly as they are told. A `LineCutter` cuts a source into lines,
-//! the same ones however reads are cut, in one buffer of fixed size.
+//! call raises. All three stand in memory too, where they fail exactly as they are told. A `LineCutter` cuts a source
+//! into lines, the same ones however reads are cut, in one buffer of fixed size.
 #![tactic(auto)]
 
 mod cutter;

@@ -9,8 +9,8 @@ ghost use Rattle.road_io.specs.Rooms.{Room, Takes, Refuses, Puts};
 
 use crate::source::Failed;
 
-/// Bytes both ways. `left` is what is still to be read and `written` what was written, where it tells that; `plan` tells
-/// which of its reads to come fail, `room` how many bytes more it takes, and `most` how many a call moves.
+/// Bytes both ways. `left` is what is still to be read and `written` what was written, where it tells that; `plan`
+/// tells which of its reads to come fail, `room` how many bytes more it takes, and `most` how many a call moves.
 pub trait Link {
     ghost left: { Self → Option (List ℕ) };
 
@@ -36,7 +36,8 @@ pub trait Link {
         ensures room_kept { room self.new ≡ room self.old }
         ensures cause { HasCause (faults self.old) (faults self.new) result };
 
-    /// Takes a prefix of at least one byte, and answers its length; it fails exactly where there is no room, if it tells that.
+    /// Takes a prefix of at least one byte, and answers its length; it fails exactly where there is no room, if it
+    /// tells that.
     fn write(&mut self, piece: &[u8]) -> Result<usize, Failed>
         requires { 0 < length piece.now }
         ensures prefix { IfOk result (λ n. (0 < n) × (n ≤ length piece.now)) }

@@ -20,7 +20,8 @@ pub trait Sink {
 
     ghost most: { Self → Portion };
 
-    /// Takes a prefix of at least one byte, and answers its length; it fails exactly where there is no room, if it tells that.
+    /// Takes a prefix of at least one byte, and answers its length; it fails exactly where there is no room, if it
+    /// tells that.
     fn write(&mut self, piece: &[u8]) -> Result<usize, Failed>
         requires { 0 < length piece.now }
         ensures prefix { IfOk result (λ n. (0 < n) × (n ≤ length piece.now)) }

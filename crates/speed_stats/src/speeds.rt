@@ -49,14 +49,18 @@ impl Speeds {
         }
     }
 
-    /// Notes a report of the current minute: a vehicle's speed in miles per hour, at most 100.
-    /// It asks that fewer than four notes of the vehicle are of this minute, and that the notes with this one are of at most 500,000 vehicles.
-    /// The one error is want of memory.
+    /// Notes a report of the current minute: a vehicle's speed in miles per hour, at most 100. It asks that fewer
+    /// than four notes of the vehicle are of this minute, and that the notes with this one are of at most 500,000
+    /// vehicles. The one error is want of memory.
     pub fn note(&mut self, stretch: Stretch, vid: u32, spd: u8) -> Result<(), NoMemory>
         requires slow { spd ≤ 100 }
-        requires one { (notes : List Note) × StandsFor self.old notes × CanNote notes (record { minute = self.old.minute; stretch = stretch; vid = vid; spd = spd }) }
+        requires one { (notes : List Note) × StandsFor self.old notes
+            × CanNote notes (record { minute = self.old.minute; stretch = stretch; vid = vid; spd = spd }) }
         ensures minute { self.new.minute ≡ self.old.minute }
-        ensures noted { OnOk result ((notes : List Note) → StandsFor self.old notes → CanNote notes (record { minute = self.old.minute; stretch = stretch; vid = vid; spd = spd }) → StandsFor self.new (notes ++ record { minute = self.old.minute; stretch = stretch; vid = vid; spd = spd } ∷ [])) }
+        ensures noted { OnOk result ((notes : List Note) → StandsFor self.old notes
+            → CanNote notes (record { minute = self.old.minute; stretch = stretch; vid = vid; spd = spd })
+            → StandsFor self.new (notes
+            ++ record { minute = self.old.minute; stretch = stretch; vid = vid; spd = spd } ∷ [])) }
         ensures refused { OnErr result (self.new ≡ self.old) }
         ensures past { (k : StretchValue) (m : ℕ) → m < self.old.minute → self.old.minute < m + 6
             → flow_in self.new.rings k m ≡ flow_in self.old.rings k m }
@@ -109,14 +113,15 @@ impl Speeds {
     /// The cars of the stretch in the minute before.
     pub fn cars(&self, stretch: Stretch) -> u32
         ensures few { result ≤ 500000 }
-        ensures exact { (notes : List Note) → StandsFor self.now notes → result ≡ cars notes (self.now.minute - 1) stretch }
+        ensures exact { (notes : List Note) → StandsFor self.now notes
+            → result ≡ cars notes (self.now.minute - 1) stretch }
         ensures kept { result ≡ cars_in self.now stretch }
     {
         self.flow(stretch, self.minute.saturating_sub(1)).cars
     }
 
-    /// The average speed that tolls of the current minute go by, over the five minutes before it: none if they have no note.
-    /// It is at most 100 miles per hour, and its denominator at most 2^101.
+    /// The average speed that tolls of the current minute go by, over the five minutes before it: none if they have
+    /// no note. It is at most 100 miles per hour, and its denominator at most 2^101.
     pub fn lav(&self, stretch: Stretch) -> Option<Frac>
         ensures average { IfSome result (λ f. (1 ≤ f.den) × (f.den ≤ 2 ^ 101) × (f.num ≤ 100 * f.den)) }
         ensures exact { (notes : List Note) → StandsFor self.now notes → result ≡ lav notes self.now.minute stretch }

@@ -1,7 +1,7 @@
 // What was noted of each vehicle in the current minute.
 ghost use Rattle.std.specs.Prelude.{◌≡◌, ◌≤◌, [], IfOk, OnOk, OnErr, if◌then◌else◌};
 ghost use Rattle.speed_stats.specs.Parts.{mean12 as mean12_of, more as more_of, sum_in, same_car};
-ghost use Rattle.speed_stats.specs.Numbers.{number_of as number_of_lem};
+ghost use Rattle.speed_stats.specs.Numbers.{number_of as defined_number_of};
 ghost use Rattle.speed_stats.specs.declared.this_minute.Car.{Car as CarValue};
 ghost use Rattle.std.specs.Hash as fed;
 ghost use Rattle.std.specs.Cmp.Rules.{hashing};
@@ -21,14 +21,14 @@ pub struct Car {
 /// The number that a vehicle in a stretch is hashed by.
 #[inline(always)]
 fn number_of(car: Car) -> u64
-    ensures { result ≡ number_of_lem car }
+    ensures { result ≡ defined_number_of car }
 {
     let way = 256 * u64::from(car.stretch.xway) + u64::from(car.stretch.dir);
     256 * (256 * way + u64::from(car.stretch.seg)) * 65_536 + u64::from(car.vid)
 }
 
 impl Hash for Car {
-    ghost hash_input = { λ c. fed.u64 (number_of_lem c) };
+    ghost hash_input = { λ c. fed.u64 (defined_number_of c) };
 
     ghost respects_eq = { Prim.search (hashing, rules) };
 
@@ -82,7 +82,9 @@ pub fn add(seen: &mut HashMap<Car, Sum>, car: Car, spd: u8) -> Result<Sum, NoMem
     requires count { (sum_in seen.old.entries car).count ≤ 3 }
     requires slow { spd ≤ 100 }
     ensures before { IfOk result (λ before. before ≡ sum_in seen.old.entries car) }
-    ensures sums { OnOk result ((c : CarValue) → sum_in seen.new.entries c ≡ (if same_car car c then more_of (sum_in seen.old.entries car) spd else sum_in seen.old.entries c)) }
+    ensures sums { OnOk result ((c : CarValue)
+        → sum_in seen.new.entries c
+        ≡ (if same_car car c then more_of (sum_in seen.old.entries car) spd else sum_in seen.old.entries c)) }
     ensures refused { OnErr result (seen.new.entries ≡ seen.old.entries) }
 {
     match seen.get_mut(&car) {

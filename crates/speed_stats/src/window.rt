@@ -1,7 +1,8 @@
 // The flows of the last six minutes of a stretch, and the mean of their averages.
 ghost use Rattle.std.specs.Prelude.{◌≡◌, ◌≤◌, ◌<◌, ◌+◌, ◌*◌, ◌^◌, ℕ, All, length, map, IfSome};
 ghost use Rattle.road_time.specs.Lav.{lav_of};
-ghost use Rattle.speed_stats.specs.Parts.{mean12 as mean12_of, more as more_of, grown as grown_of, ring_flow, shown, no_flow, IsSmall};
+ghost use Rattle.speed_stats.specs.Parts.{mean12 as mean12_of, more as more_of, grown as grown_of, ring_flow, shown};
+ghost use Rattle.speed_stats.specs.Parts.{no_flow, IsSmall};
 
 use crate::this_minute::{Sum, mean12, more};
 use road_time::Frac;
@@ -88,7 +89,8 @@ impl Ring {
         ensures here { ring_flow self.new minute ≡ flow }
         ensures window { (m : ℕ) → minute < m + 6 → m < minute → ring_flow self.new m ≡ ring_flow self.old m }
         ensures later { (m : ℕ) → minute < m → ring_flow self.old m ≡ no_flow → ring_flow self.new m ≡ no_flow }
-        ensures small { IsSmall flow → ((m : ℕ) → IsSmall (ring_flow self.old m)) → (m : ℕ) → IsSmall (ring_flow self.new m) }
+        ensures small { IsSmall flow → ((m : ℕ) → IsSmall (ring_flow self.old m)) → (m : ℕ)
+            → IsSmall (ring_flow self.new m) }
     {
         self.slots[(minute % 6) as usize] = Slot { minute, flow };
     }

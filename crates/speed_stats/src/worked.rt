@@ -19,9 +19,11 @@ pub struct Seen {
     pub lav: Option<Frac>,
 }
 
-/// The speeds 10 and 20 of one vehicle and 90 of another in the first minute, as the second minute sees them, and the seventh.
+/// The speeds 10 and 20 of one vehicle and 90 of another in the first minute, as the second minute sees them, and the
+/// seventh.
 pub fn two_vehicles(alloc: Global) -> Result<(Seen, Seen), NoMemory>
-    ensures { IfOk result (λ seen. seen ≡ (record { cars = 2; lav = Some (record { num = 1260; den = 24 }) }, record { cars = 0; lav = None })) }
+    ensures { IfOk result (λ seen. seen
+        ≡ (record { cars = 2; lav = Some (record { num = 1260; den = 24 }) }, record { cars = 0; lav = None })) }
 {
     let mut speeds = Speeds::new(alloc);
     speeds.note(HERE, 1, 10)?;
@@ -42,7 +44,8 @@ pub fn two_vehicles(alloc: Global) -> Result<(Seen, Seen), NoMemory>
 
 /// A speed of 20 in the first minute and of 31 in the fourth, as the sixth minute sees them, and the seventh.
 pub fn two_minutes(alloc: Global) -> Result<(Option<Frac>, Option<Frac>), NoMemory>
-    ensures { IfOk result (λ lavs. lavs ≡ (Some (record { num = 612; den = 24 }), Some (record { num = 372; den = 12 }))) }
+    ensures { IfOk result (λ lavs. lavs
+        ≡ (Some (record { num = 612; den = 24 }), Some (record { num = 372; den = 12 }))) }
 {
     let mut speeds = Speeds::new(alloc);
     speeds.note(HERE, 1, 20)?;

@@ -90,7 +90,8 @@ impl<R: Wait + Drop, G: Gate + Drop> StandingCrew<R, G> {
     pub fn stop(&mut self)
         ensures stopped { self.new.seat.me.0.stopped ≡ true }
         ensures out { ⟦<StandingCrew<R, G> as Crew>⟧.out self.new ≡ ⟦<StandingCrew<R, G> as Crew>⟧.out self.old }
-        ensures held { (n : ℕ) (j : TheJob) → ⟦<StandingCrew<R, G> as Crew>⟧.holds self.old n j → ⟦<StandingCrew<R, G> as Crew>⟧.holds self.new n j }
+        ensures held { (n : ℕ) (j : TheJob) → ⟦<StandingCrew<R, G> as Crew>⟧.holds self.old n j
+            → ⟦<StandingCrew<R, G> as Crew>⟧.holds self.new n j }
         ensures which { ⟦<StandingCrew<R, G> as Crew>⟧.which self.new ≡ ⟦<StandingCrew<R, G> as Crew>⟧.which self.old }
         ensures jobs { ⟦<StandingCrew<R, G> as Crew>⟧.jobs self.new ≡ ⟦<StandingCrew<R, G> as Crew>⟧.jobs self.old }
     {

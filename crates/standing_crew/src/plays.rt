@@ -1,6 +1,7 @@
 // What each step at the cells tells. These types are for the proofs alone.
 ghost use Rattle.standing_crew.specs.Views.{new_helper};
-ghost use Rattle.standing_crew.specs.Steps.{opens, announces, takes_job, gives_back, collects, shuts, stops, looks, rings};
+ghost use Rattle.standing_crew.specs.Steps.{opens, announces, takes_job, gives_back, collects, shuts, stops, looks};
+ghost use Rattle.standing_crew.specs.Steps.{rings};
 
 use crate::cells::{Parcel, View};
 use atomic_table::{Join, Play, Split};

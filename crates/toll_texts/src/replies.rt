@@ -48,5 +48,6 @@ pub fn reply_text(alloc: Global, status: StatusCode, body: &str) -> Result<Strin
 pub fn no_memory_text() -> &'static [u8]
     ensures { result.now ≡ replies.reply_bytes replies.no_memory_reply }
 {
-    b"HTTP/1.1 500 Internal Server Error\r\nContent-Length: 18\r\nContent-Type: application/json\r\nConnection: close\r\n\r\n{\"error\":\"memory\"}"
+    b"HTTP/1.1 500 Internal Server Error\r\nContent-Length: 18\r\nContent-Type: application/json\r\n\
+        Connection: close\r\n\r\n{\"error\":\"memory\"}"
 }

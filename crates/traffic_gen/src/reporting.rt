@@ -42,7 +42,9 @@ impl Course {
         requires start { self.now.start ≤ 86400 }
         requires few { k ≤ 36 }
         requires on_road { motion.pos < 528000 }
-        ensures { result ≡ report_at (time_at self.now.start k) self.now.vid motion.spd self.now.xway motion.lane self.now.dir motion.pos }
+        ensures { result
+            ≡ report_at (time_at self.now.start k) self.now.vid motion.spd
+            self.now.xway motion.lane self.now.dir motion.pos }
     {
         Report {
             time: self.start + 30 * k,

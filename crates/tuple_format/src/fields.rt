@@ -1,5 +1,6 @@
 // The fields of a text, and the numbers that they are.
-ghost use Rattle.std.specs.Prelude.{◌≡◌, ◌≤◌, ◌+◌, ◌==◌, ◌∷◌, count_by, length, option_copied, Some, None, pos, if◌then◌else◌};
+ghost use Rattle.std.specs.Prelude.{◌≡◌, ◌≤◌, ◌+◌, ◌==◌, ◌∷◌, count_by, length, option_copied, Some, None, pos};
+ghost use Rattle.std.specs.Prelude.{if◌then◌else◌};
 ghost use Rattle.std.specs.List.{filter_map};
 ghost use Rattle.std.specs.Str.Parse.{digits_value};
 ghost use Rattle.road_time.specs.Numbers.{are_digits, number_of, fields_of_text};
@@ -69,7 +70,8 @@ pub fn number(field: &[u8]) -> Option<i64>
 /// The numbers of a text of fifteen fields, or the first field that is none.
 pub fn numbers(text: &[u8]) -> Result<[i64; 15], Cause>
     requires { length (fields_of_text text.now) ≡ 15 }
-    ensures { result ≡ numbered (first_odd (fields_of_text text.now)) (filter_map (number_of 10) (fields_of_text text.now)) }
+    ensures { result
+        ≡ numbered (first_odd (fields_of_text text.now)) (filter_map (number_of 10) (fields_of_text text.now)) }
 {
     let mut numbers = [0i64; 15];
     let mut rest = Some(text);

@@ -1,5 +1,6 @@
 // Which tuples of a day are let in.
-ghost use Rattle.std.specs.Prelude.{◌≡◌, ◌≤◌, ◌+◌, ◌++◌, ◌∷◌, [], ℕ, List, OnOk, OnErr, Some, None, nat_eq, is_some, length, if◌then◌else◌};
+ghost use Rattle.std.specs.Prelude.{◌≡◌, ◌≤◌, ◌+◌, ◌++◌, ◌∷◌, [], ℕ, List, OnOk, OnErr, Some, None, nat_eq, is_some};
+ghost use Rattle.std.specs.Prelude.{length, if◌then◌else◌};
 ghost use Rattle.road_time.specs.declared.road.Tuple.{Tuple as TupleValue};
 ghost use Rattle.road_time.specs.declared.day.Limits.{Limits as LimitsValue};
 ghost use Rattle.road_time.specs.Reads.{admit_fault};
@@ -41,7 +42,12 @@ impl Model for Gatekeeper {
 
     ghost Value = { Gate };
 
-    ghost view = { λ g. record { vehicle_limit = g.vehicle_limit; lateness = g.lateness; greatest = g.greatest; seen = g.seen.entries } };
+    ghost view = { λ g. record {
+      vehicle_limit = g.vehicle_limit;
+      lateness = g.lateness;
+      greatest = g.greatest;
+      seen = g.seen.entries;
+    } };
 }
 
 /// Notes a report of a vehicle, unless it is a report too many.
@@ -53,9 +59,14 @@ fn note(
     minute: u32,
     limit: u32,
 ) -> Result<(), AdmitFault>
-    ensures judged { Judges result (kept_fault (kept_of seen.old.entries vid) (length seen.old.entries) limit vid minute) }
-    ensures noted { OnOk result ((v : ℕ) → kept_of seen.new.entries v ≡ (if nat_eq vid v then Some (noted_of (kept_of seen.old.entries vid) minute) else kept_of seen.old.entries v)) }
-    ensures number { OnOk result (length seen.new.entries ≡ length seen.old.entries + (if is_some (kept_of seen.old.entries vid) then 0 else 1)) }
+    ensures judged { Judges result
+        (kept_fault (kept_of seen.old.entries vid) (length seen.old.entries) limit vid minute) }
+    ensures noted { OnOk result ((v : ℕ)
+        → kept_of seen.new.entries v
+        ≡ (if nat_eq vid v then Some (noted_of (kept_of seen.old.entries vid) minute)
+        else kept_of seen.old.entries v)) }
+    ensures number { OnOk result (length seen.new.entries
+        ≡ length seen.old.entries + (if is_some (kept_of seen.old.entries vid) then 0 else 1)) }
     ensures kept { OnErr result (seen.new.entries ≡ seen.old.entries) }
 {
     match find(seen, order.guess(), vid) {
@@ -101,8 +112,10 @@ impl Gatekeeper {
 
     /// Lets the next tuple in, or says why not; then nothing is changed.
     pub fn admit(&mut self, tuple: &Tuple) -> Result<(), AdmitFault>
-        ensures judged { (limits : LimitsValue) → (late : ℕ) → (before : List TupleValue) → StandsFor self.old limits late before → Judges result (admit_fault limits late before tuple.now) }
-        ensures admitted { OnOk result ((limits : LimitsValue) → (late : ℕ) → (before : List TupleValue) → StandsFor self.old limits late before → StandsFor self.new limits late (before ++ tuple.now ∷ [])) }
+        ensures judged { (limits : LimitsValue) → (late : ℕ) → (before : List TupleValue)
+            → StandsFor self.old limits late before → Judges result (admit_fault limits late before tuple.now) }
+        ensures admitted { OnOk result ((limits : LimitsValue) → (late : ℕ) → (before : List TupleValue)
+            → StandsFor self.old limits late before → StandsFor self.new limits late (before ++ tuple.now ∷ [])) }
         ensures kept { OnErr result (self.new ≡ self.old) }
     {
         let time = time_of(tuple);

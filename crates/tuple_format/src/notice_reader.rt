@@ -3,7 +3,8 @@ ghost use Rattle.std.specs.Prelude.{◌≡◌, ◌≢◌, ◌∷◌, [], Some, t
 ghost use Rattle.std.specs.Str.{bytes_eq};
 ghost use Rattle.std.specs.Fmt.{signed_decimal};
 ghost use Rattle.road_time.specs.declared.road.Notice.{Notice as NoticeValue};
-ghost use Rattle.road_time.specs.Text.{is_lav, is_notice, notice_numbers, notice_text, read_notice as read_notice_lem};
+ghost use Rattle.road_time.specs.Text.{is_lav, is_notice, notice_numbers, notice_text};
+ghost use Rattle.road_time.specs.Text.{read_notice as defined_read_notice};
 ghost use Rattle.tuple_format.specs.Candidates.{IsNatural, IsLav, short_candidate};
 
 use crate::fields::split_field;
@@ -122,7 +123,7 @@ fn is_text(notice: &Notice, line: &[u8]) -> bool
 
 /// The notice whose text the line is, without its LF. A notice has one text alone.
 pub fn read_notice(line: &[u8]) -> Option<Notice>
-    ensures read { result ≡ read_notice_lem line.now }
+    ensures read { result ≡ defined_read_notice line.now }
     ensures some { IfSome result (λ n. (is_notice n ≡ true) × (notice_text n ≡ line.now)) }
     ensures none { IfNone result ((n : NoticeValue) → is_notice n ≡ true → notice_text n ≢ line.now) }
 {

@@ -1,5 +1,6 @@
 // Writing a notice's line, from its end to its front.
-ghost use Rattle.std.specs.Prelude.{◌≡◌, ◌+◌, ◌<◌, ◌≤◌, [], ◌∷◌, ◌++◌, length, drop, pos, OnOk, OnErr, vec_len, vec_capacity};
+ghost use Rattle.std.specs.Prelude.{◌≡◌, ◌+◌, ◌<◌, ◌≤◌, [], ◌∷◌, ◌++◌, length, drop, pos, OnOk, OnErr, vec_len};
+ghost use Rattle.std.specs.Prelude.{vec_capacity};
 ghost use Rattle.std.specs.Fmt.{signed_decimal};
 ghost use Rattle.road_time.specs.Text.{notice_text, notice_numbers};
 ghost use Rattle.tuple_format.specs.Ends.{fields_then};

@@ -1,6 +1,6 @@
 // How many reports a vehicle has in the last minutes.
 ghost use Rattle.std.specs.Prelude.{◌≡◌, ◌≤◌, ◌<◌};
-ghost use Rattle.tuple_format.specs.Recents.{count_in, first_in, moved as moved_lem, noted as noted_lem};
+ghost use Rattle.tuple_format.specs.Recents.{count_in, first_in, moved as defined_moved, noted as defined_noted};
 
 /// How many reports a vehicle has in the minute of its newest one and in the two minutes before.
 #[derive(Clone, Copy, Debug, PartialEq, Eq)]
@@ -45,7 +45,7 @@ impl Recent {
     #[inline(always)]
     fn moved(self, minute: u32) -> Recent
         requires { self.minute < minute }
-        ensures { result ≡ moved_lem self minute }
+        ensures { result ≡ defined_moved self minute }
     {
         let (before, earlier) = match minute - self.minute {
             1 => (self.newest, self.before),
@@ -64,7 +64,7 @@ impl Recent {
     #[inline(always)]
     pub fn noted(self, minute: u32) -> Recent
         requires { count_in self minute ≤ 3 }
-        ensures { result ≡ noted_lem self minute }
+        ensures { result ≡ defined_noted self minute }
     {
         if minute > self.minute {
             return self.moved(minute);

@@ -1,7 +1,8 @@
 // Tuples that come late, given in the order of Time.
-ghost use Rattle.std.specs.Prelude.{◌≡◌, ◌≤◌, ◌<◌, ◌+◌, ◌++◌, ◌∷◌, [], ℕ, Bool, true, false, List, Some, OnOk, OnErr, IfSome, IfNone, length, slice_get};
+ghost use Rattle.std.specs.Prelude.{◌≡◌, ◌≤◌, ◌<◌, ◌+◌, ◌++◌, ◌∷◌, [], ℕ, Bool, true, false, List, Some, OnOk, OnErr};
+ghost use Rattle.std.specs.Prelude.{IfSome, IfNone, length, slice_get};
 ghost use Rattle.road_time.specs.declared.road.Tuple.{Tuple as TupleValue};
-ghost use Rattle.road_time.specs.Tuples.{time_of as time_of_lem};
+ghost use Rattle.road_time.specs.Tuples.{time_of as defined_time_of};
 ghost use Rattle.road_time.specs.Order.{by_time, greatest_time};
 ghost use Rattle.tuple_format.specs.Sorting.{IsSorting};
 
@@ -43,7 +44,9 @@ impl Sorter {
 
     /// Puts a tuple in.
     pub fn put(&mut self, tuple: &Tuple) -> Result<(), NoMemory>
-        ensures put { OnOk result ((late : ℕ) → (put : List TupleValue) → (taken : ℕ) → IsSorting self.old late put taken false → greatest_time put ≤ time_of_lem tuple.now + late → IsSorting self.new late (put ++ tuple.now ∷ []) taken false) }
+        ensures put { OnOk result ((late : ℕ) → (put : List TupleValue) → (taken : ℕ)
+            → IsSorting self.old late put taken false → greatest_time put ≤ defined_time_of tuple.now + late
+            → IsSorting self.new late (put ++ tuple.now ∷ []) taken false) }
         ensures kept { OnErr result (self.new ≡ self.old) }
     {
         self.waiting.put(tuple)?;
@@ -53,8 +56,13 @@ impl Sorter {
 
     /// The next tuple, if no tuple can come before it any more.
     pub fn take(&mut self) -> Option<Tuple>
-        ensures next { IfSome result (λ x. (late : ℕ) → (put : List TupleValue) → (taken : ℕ) → (ended : Bool) → IsSorting self.old late put taken ended → (slice_get (by_time put) taken ≡ Some x) × (time_of_lem x + late ≤ greatest_time put) × IsSorting self.new late put (taken + 1) ended) }
-        ensures none { IfNone result ((late : ℕ) → (put : List TupleValue) → (taken : ℕ) → (ended : Bool) → IsSorting self.old late put taken ended → (x : TupleValue) → slice_get (by_time put) taken ≡ Some x → greatest_time put < time_of_lem x + late) }
+        ensures next { IfSome result (λ x. (late : ℕ) → (put : List TupleValue) → (taken : ℕ) → (ended : Bool)
+            → IsSorting self.old late put taken ended
+            → (slice_get (by_time put) taken ≡ Some x) × (defined_time_of x + late ≤ greatest_time put)
+            × IsSorting self.new late put (taken + 1) ended) }
+        ensures none { IfNone result ((late : ℕ) → (put : List TupleValue) → (taken : ℕ) → (ended : Bool)
+            → IsSorting self.old late put taken ended → (x : TupleValue) → slice_get (by_time put) taken ≡ Some x
+            → greatest_time put < defined_time_of x + late) }
         ensures kept { IfNone result (self.new ≡ self.old) }
     {
         let first = self.waiting.first()?;
@@ -67,8 +75,12 @@ impl Sorter {
 
     /// The next tuple, where no more will be put.
     pub fn end(&mut self) -> Option<Tuple>
-        ensures next { IfSome result (λ x. (late : ℕ) → (put : List TupleValue) → (taken : ℕ) → (ended : Bool) → IsSorting self.old late put taken ended → (slice_get (by_time put) taken ≡ Some x) × IsSorting self.new late put (taken + 1) true) }
-        ensures none { IfNone result ((late : ℕ) → (put : List TupleValue) → (taken : ℕ) → (ended : Bool) → IsSorting self.old late put taken ended → (taken ≡ length put) × IsSorting self.new late put taken true) }
+        ensures next { IfSome result (λ x. (late : ℕ) → (put : List TupleValue) → (taken : ℕ) → (ended : Bool)
+            → IsSorting self.old late put taken ended
+            → (slice_get (by_time put) taken ≡ Some x) × IsSorting self.new late put (taken + 1) true) }
+        ensures none { IfNone result ((late : ℕ) → (put : List TupleValue) → (taken : ℕ) → (ended : Bool)
+            → IsSorting self.old late put taken ended
+            → (taken ≡ length put) × IsSorting self.new late put taken true) }
     {
         let tuple = self.waiting.take()?;
         Some(tuple)

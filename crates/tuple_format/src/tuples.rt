@@ -1,6 +1,6 @@
 // What the numbers of a line may be, and the tuple that they make.
 ghost use Rattle.std.specs.Prelude.{◌≡◌, ◌+◌, ◌<◌, ◌^◌, length, map, drop, ℤ, pos, ◌≤ℤ◌, ◌<ℤ◌, slice_index_or, ◌∷◌};
-ghost use Rattle.road_time.specs.Form.{is_allowed, first_out as first_out_lem, of_numbers, nat_of};
+ghost use Rattle.road_time.specs.Form.{is_allowed, first_out as defined_first_out, of_numbers, nat_of};
 ghost use Rattle.tuple_format.specs.Causes.{answered};
 ghost use Rattle.tuple_format.specs.Uses.{use_of};
 
@@ -111,7 +111,7 @@ fn allows(field: Use, z: i64) -> bool
 
 /// The number from 2 of the first field that holds what it may not.
 fn first_out(uses: &[Use; 14], numbers: &[i64; 15]) -> Option<u8>
-    ensures { result ≡ first_out_lem 2 (map use_of uses.now) (drop 1 numbers.now) }
+    ensures { result ≡ defined_first_out 2 (map use_of uses.now) (drop 1 numbers.now) }
 {
     for i in 0..14usize {
         if !allows(uses[i], numbers[i + 1]) {

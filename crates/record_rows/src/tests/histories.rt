@@ -74,7 +74,17 @@ fn others<R: Threads>(rt: &R, alloc: Global) -> Result<bool, KeepFault> {
 
 /// Day 100 without a tuple.
 fn empty_day(digest: Digest) -> DayRecord
-    ensures { result ≡ record { day = 100; digest = digest; bytes = 0; tuples = 0; notices = 0; notices_digest = digest; tariffs = digest; total = 0 } }
+    ensures { result
+        ≡ record {
+          day = 100;
+          digest = digest;
+          bytes = 0;
+          tuples = 0;
+          notices = 0;
+          notices_digest = digest;
+          tariffs = digest;
+          total = 0;
+        } }
 {
     DayRecord {
         day: 100,

@@ -37,7 +37,16 @@ fn row(day: u32, tolls: u64) -> SpentRow
 
 /// Day 100 without a tuple.
 fn empty_day(digest: Digest) -> OldRecord
-    ensures { result ≡ record { day = 100; digest = digest; bytes = 0; tuples = 0; notices = 0; notices_digest = digest; total = 0 } }
+    ensures { result
+        ≡ record {
+          day = 100;
+          digest = digest;
+          bytes = 0;
+          tuples = 0;
+          notices = 0;
+          notices_digest = digest;
+          total = 0;
+        } }
 {
     OldRecord {
         day: 100,

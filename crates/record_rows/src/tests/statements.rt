@@ -9,7 +9,17 @@ use std::alloc::Global;
 
 /// Day 100, on which vehicle 100 was charged `total` on expressway 0.
 fn day_of(digest: Digest, total: u64) -> DayRecord
-    ensures { result ≡ record { day = 100; digest = digest; bytes = 0; tuples = 0; notices = 0; notices_digest = digest; tariffs = digest; total = total } }
+    ensures { result
+        ≡ record {
+          day = 100;
+          digest = digest;
+          bytes = 0;
+          tuples = 0;
+          notices = 0;
+          notices_digest = digest;
+          tariffs = digest;
+          total = total;
+        } }
 {
     DayRecord {
         day: 100,
@@ -66,7 +76,9 @@ fn empty_day(alloc: Global) -> Result<bool, KeepFault> {
     let mut sink = MemSink::new(alloc, 400, 65536)?;
     let stated = day_statement(alloc, 100, &mut keeper, &mut sink) == Ok(());
     let text =
-        b"day 100\ndigest e3b0c44298fc1c149afbf4c8996fb92427ae41e4649b934ca495991b7852b855\nbytes 0\ntuples 0\nnotices 0\nnotices-digest e3b0c44298fc1c149afbf4c8996fb92427ae41e4649b934ca495991b7852b855\ntariffs e3b0c44298fc1c149afbf4c8996fb92427ae41e4649b934ca495991b7852b855\ntotal 0\n";
+        b"day 100\ndigest e3b0c44298fc1c149afbf4c8996fb92427ae41e4649b934ca495991b7852b855\nbytes 0\ntuples 0\n\
+            notices 0\nnotices-digest e3b0c44298fc1c149afbf4c8996fb92427ae41e4649b934ca495991b7852b855\n\
+            tariffs e3b0c44298fc1c149afbf4c8996fb92427ae41e4649b934ca495991b7852b855\ntotal 0\n";
     Ok(stated && sink.bytes() == text.as_slice())
 }
 
@@ -93,7 +105,8 @@ fn history(alloc: Global) -> Result<bool, KeepFault> {
     let mut sink = MemSink::new(alloc, 400, 7)?;
     let stated = vehicle_statement(alloc, 7, 31, 99, &mut keeper, &mut sink) == Ok(());
     let text =
-        b"vehicle 7 days 31 to 99\n     31   0                   28\n     99   0                    5\ntotal                         33\n";
+        b"vehicle 7 days 31 to 99\n     31   0                   28\n     99   0                    5\n\
+            total                         33\n";
     let none = day_statement(alloc, 99, &mut keeper, &mut sink) == Err(ReportFault::NoDay);
     Ok(stated && none && sink.bytes() == text.as_slice())
 }

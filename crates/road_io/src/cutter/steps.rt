@@ -1,5 +1,6 @@
 // Cutting the bytes of a source into lines: the steps.
-ghost use Rattle.std.specs.Prelude.{◌≡◌, ◌≢◌, ◌+◌, ◌-◌, ◌<◌, ◌≤◌, ◌^◌, [], List, ℕ, Some, None, Ok, Err, IfOk, IsOk, OnOk, IfSome, IfNone, Option, length, take, drop, vec_len, true, false};
+ghost use Rattle.std.specs.Prelude.{◌≡◌, ◌≢◌, ◌+◌, ◌-◌, ◌<◌, ◌≤◌, ◌^◌, [], List, ℕ, Some, None, Ok, Err, IfOk, IsOk};
+ghost use Rattle.std.specs.Prelude.{OnOk, IfSome, IfNone, Option, length, take, drop, vec_len, true, false};
 ghost use Rattle.std.specs.List.{slice_range};
 ghost use Rattle.std.specs.Io.KnownBytes.{ReadConsumes, Consumes, Keeps, IsAtEnd};
 ghost use Rattle.road_io.specs.Faults.{HasCause, Rose};
@@ -70,7 +71,8 @@ fn read_behind<S: Source>(
 impl LineCutter {
     /// A cutter before its first line.
     pub fn new(alloc: Global) -> Result<LineCutter, NoMemory>
-        ensures { IfOk result (λ c. (held c ≡ []) × (line_of c ≡ []) × (rest_of c ≡ []) × (number_of c ≡ 0) × (fault_of c ≡ None)) }
+        ensures { IfOk result (λ c. (held c ≡ []) × (line_of c ≡ []) × (rest_of c ≡ []) × (number_of c ≡ 0)
+            × (fault_of c ≡ None)) }
     {
         let buf = vec![in alloc; 0u8; 65_536]?;
         Ok(LineCutter {
@@ -137,9 +139,11 @@ impl LineCutter {
     fn cut_held(&mut self) -> Option<Result<bool, LineFault>>
         requires number { number_of self.old + 1 < 2 ^ 64 }
         requires open { fault_of self.old ≡ None }
-        ensures cuts { IfSome result (λ answer. (left : Option (List ℕ)) → Cuts answer (ahead self.old left) (ahead self.new left) (line_of self.new)) }
+        ensures cuts { IfSome result (λ answer. (left : Option (List ℕ))
+            → Cuts answer (ahead self.old left) (ahead self.new left) (line_of self.new)) }
         ensures stands { IfSome result (λ answer. Stands answer (number_of self.old) self.new) }
-        ensures taken { result ≡ Some (Ok true) → (left : Option (List ℕ)) → Consumes (ahead self.old left) (ahead self.new left) (rest_of self.new) }
+        ensures taken { result ≡ Some (Ok true) → (left : Option (List ℕ))
+            → Consumes (ahead self.old left) (ahead self.new left) (rest_of self.new) }
         ensures unread { IfSome result (λ answer. answer ≢ Err ReadFault) }
         ensures more { IfNone result ((self.new ≡ self.old) × IsCut More (held self.old)) }
     {
@@ -168,9 +172,11 @@ impl LineCutter {
         requires number { number_of self.old + 1 < 2 ^ 64 }
         requires open { fault_of self.old ≡ None }
         requires short { IsCut More (held self.old) }
-        ensures cuts { (left : Option (List ℕ)) → IsAtEnd left → Cuts (Ok result) (ahead self.old left) (ahead self.new left) (line_of self.new) }
+        ensures cuts { (left : Option (List ℕ)) → IsAtEnd left
+            → Cuts (Ok result) (ahead self.old left) (ahead self.new left) (line_of self.new) }
         ensures stands { Stands (Ok result) (number_of self.old) self.new }
-        ensures taken { result ≡ true → (left : Option (List ℕ)) → Consumes (ahead self.old left) (ahead self.new left) (rest_of self.new) }
+        ensures taken { result ≡ true → (left : Option (List ℕ))
+            → Consumes (ahead self.old left) (ahead self.new left) (rest_of self.new) }
     {
         self.from = self.start;
         self.to = self.end;
@@ -186,14 +192,19 @@ impl LineCutter {
     #[inline(always)]
     pub fn advance<S: Source>(&mut self, source: &mut S) -> Result<bool, LineFault>
         requires { number_of self.old + 1 < 2 ^ 64 }
-        ensures cuts { fault_of self.old ≡ None → Cuts result (ahead self.old (S.left source.old)) (ahead self.new (S.left source.new)) (line_of self.new) }
+        ensures cuts { fault_of self.old ≡ None
+            → Cuts result (ahead self.old (S.left source.old)) (ahead self.new (S.left source.new)) (line_of self.new) }
         ensures stands { fault_of self.old ≡ None → Stands result (number_of self.old) self.new }
-        ensures taken { fault_of self.old ≡ None → result ≡ Ok true → Consumes (ahead self.old (S.left source.old)) (ahead self.new (S.left source.new)) (rest_of self.new) }
-        ensures stuck { (f : LineFault) → fault_of self.old ≡ Some f → (result ≡ Err f) × (self.new ≡ self.old) × (source.new ≡ source.old) }
-        ensures sure { fault_of self.old ≡ None → NeverFails (S.plan source.old) → (result ≢ Err ReadFault) × NeverFails (S.plan source.new) }
+        ensures taken { fault_of self.old ≡ None → result ≡ Ok true
+            → Consumes (ahead self.old (S.left source.old)) (ahead self.new (S.left source.new)) (rest_of self.new) }
+        ensures stuck { (f : LineFault) → fault_of self.old ≡ Some f
+            → (result ≡ Err f) × (self.new ≡ self.old) × (source.new ≡ source.old) }
+        ensures sure { fault_of self.old ≡ None → NeverFails (S.plan source.old)
+            → (result ≢ Err ReadFault) × NeverFails (S.plan source.new) }
         ensures same { S.name source.new ≡ S.name source.old }
         ensures later { S.faults source.old ≤ S.faults source.new }
-        ensures cause { fault_of self.old ≡ None → result ≡ Err ReadFault → Rose (S.faults source.old) (S.faults source.new) }
+        ensures cause { fault_of self.old ≡ None → result ≡ Err ReadFault
+            → Rose (S.faults source.old) (S.faults source.new) }
     {
         if let Some(fault) = self.fault {
             return Err(fault);

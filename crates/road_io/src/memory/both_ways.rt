@@ -13,7 +13,8 @@ use road_time::NoMemory;
 use std::alloc::Global;
 
 impl MemLink {
-    /// Gives `input` and takes `room` bytes, at most `piece` at a time; the reads whose numbers from 0 stand in `fails` fail.
+    /// Gives `input` and takes `room` bytes, at most `piece` at a time; the reads whose numbers from 0 stand in
+    /// `fails` fail.
     pub fn new(
         alloc: Global,
         input: &[u8],
