@@ -1,5 +1,5 @@
 -- a day in the midst of its import goes on
-use Rattle.std.proofs.Common.{◌≡◌, ℕ, ◌+◌, ◌-◌, ◌<◌, ◌≤◌, Bool, List, [], ◌++◌, sym, arith, subst}
+use Rattle.std.proofs.Common.{◌≡◌, ℕ, ◌+◌, ◌-◌, ◌<◌, ◌≤◌, Bool, List, [], ◌++◌, length, sym, arith, subst}
 use Rattle.std.specs.Prelude.{Option}
 use Rattle.std.proofs.KnownBytes.{Appends-nil}
 use Rattle.road_time.specs.declared.road.Tuple.{Tuple}
@@ -18,6 +18,8 @@ use Rattle.day_rounds.specs.Published.{HasStepped}
 use Rattle.day_rounds.specs.Readers.{HasGiven}
 use Rattle.day_rounds.specs.Halts.{IsHalted, IsCut}
 use Rattle.day_rounds.specs.Days.{IsOn}
+use Rattle.day_reading.proofs.AheadLaws.{ahead_fit}
+use Rattle.day_rounds.specs.Runs.{CanFeedAll}
 use Rattle.day_rounds.proofs.PublishLaws.{stepped_start, steps_under}
 use Rattle.day_rounds.proofs.ReaderLaws.{given_none, given_more}
 
@@ -42,20 +44,26 @@ on_gathers limits l same late e a b was mid o p x y s on h = subst (λ m. IsGath
 
 module _ {S T : Type 0} (out : S → List ℕ) (number : T → ℕ) (holds : S → ℕ → Job → Type 0) (gave : S → T → Type 0) (exact : Bool) (jobs : S → Option Told) where
   -- a day that is stopped in its midst
-  pub cut_at : (fault : DayFault) (e : Setting) (told : Option Told) (w width : ℕ) (l limits : Limits) → w ≡ width → l ≡ limits → (late : ℕ) (s : State) (a b : DayAhead) (was mid o p q : Option (List ℕ)) (x y z : Option Posted) (run : Import T) (crew : S) →
-      IsOn limits late e a b was mid o p x y s → IsHalted out number holds gave exact jobs fault e told w l late s b mid p q y z run crew →
+  pub cut_at : (fault : DayFault) (e : Setting) (told : Option Told) (w width : ℕ) (l limits : Limits) → w ≡ width → l ≡ limits → (late : ℕ) (s : State) (given : List Tuple) (a b : DayAhead) (was mid o p q : Option (List ℕ)) (x y z : Option Posted) (run : Import T) (crew : S) →
+      HasGiven limits late given a b was mid → HasText e s o p → HasStepped limits.backlog s x y → IsHalted out number holds gave exact jobs fault e told w l late s given b mid p q y z run crew →
       IsCut out number holds gave exact jobs fault e told width limits late a was o q x z run crew
-  cut_at fault e told w width l limits wide same late s a b was mid o p q x y z run crew on halted =
-      let h = subst (λ n. IsHalted out number holds gave exact jobs fault e told n limits late s b mid p q y z run crew) wide
-      (subst (λ m. IsHalted out number holds gave exact jobs fault e told w m late s b mid p q y z run crew) same halted) in
+  cut_at fault e told w width l limits wide same late s given a b was mid o p q x y z run crew gave_all text steps halted =
+      let h = subst (λ n. IsHalted out number holds gave exact jobs fault e told n limits late s given b mid p q y z run crew) wide
+      (subst (λ m. IsHalted out number holds gave exact jobs fault e told w m late s given b mid p q y z run crew) same halted) in
       record {
         fed = h.fed;
         fit = h.fit;
-        read = λ bytes ahead. h.read bytes (on.given.reads bytes [] ahead);
+        read = λ bytes ahead. h.read bytes (gave_all.reads bytes [] ahead);
         stopped = h.stopped;
-        front = λ is. h.front is o on.text;
-        steps = λ is. h.steps is x on.steps;
+        front = λ is. h.front is o text;
+        steps = λ is. h.steps is x steps;
       }
+
+-- tuples that were given and are not fed yet may be fed, where all that was fed is settled
+pub next_can : (limits l : Limits) → l ≡ limits → (late : ℕ) (s : State) (xs : List Tuple) (a b : DayAhead) (was left : Option (List ℕ)) → HasGiven limits late (s.fed ++ xs) a b was left → IsGatheringAhead a limits late [] →
+    s.settled ≡ length s.fed → length xs ≤ limits.backlog → CanFeedAll l s xs
+next_can limits l same late s xs a b was left given gathers all few =
+    subst (λ m. CanFeedAll m s xs) (sym same) (record { fit = ahead_fit b limits late (s.fed ++ xs) (given.gathers [] gathers); room = omega (arith, all, few) })
 
 -- a day has fewer tuples left to read
 pub fewer_left : (lines before now some : ℕ) → now ≡ before + some → 1 ≤ some → now ≤ lines → lines - now < lines - before

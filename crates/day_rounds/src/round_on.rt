@@ -1,10 +1,10 @@
 // A round over the next tuples of a day.
-ghost use Rattle.std.specs.Prelude.{true, ◌≡◌, ◌≤◌, [], ℕ, List, Option, IfOk, IfErr, OnOk, length};
-ghost use Rattle.road_time.specs.declared.road.Tuple.{Tuple as RoadTuple};
+ghost use Rattle.std.specs.Prelude.{false, ◌≡◌, ◌≤◌, ◌++◌, [], ℕ, List, Option, IfOk, IfErr, OnOk, length};
+ghost use Rattle.road_time.specs.declared.day.Limits.{Limits as DayLimits};
 ghost use Rattle.road_time.specs.Day.{sum_of};
 ghost use Rattle.road_io.specs.Plans.{NeverFails};
 ghost use Rattle.road_io.specs.Rooms.{Endless};
-ghost use Rattle.day_reading.specs.Ahead.{has_more, IsGatheringAhead, HasReadAhead, HasFailedAhead};
+ghost use Rattle.day_reading.specs.Ahead.{has_more, HasReadAhead, HasFailedAhead};
 ghost use Rattle.expressway.specs.declared.finding.Finding.{Finding};
 ghost use Rattle.partition_workers.specs.Told.{Told};
 ghost use Rattle.settling.specs.Answers.{history_of};
@@ -12,7 +12,7 @@ ghost use Rattle.settling.specs.Boards.{IsAbreast};
 ghost use Rattle.watermark.specs.Shares.{State};
 ghost use Rattle.watermark.specs.Written.{settled_charges};
 ghost use Rattle.watermark.specs.Floors.{Setting};
-ghost use Rattle.day_rounds.specs.Runs.{Runs};
+ghost use Rattle.day_rounds.specs.Runs.{Runs, CanFeedAll};
 ghost use Rattle.day_rounds.specs.Rounds.{IsSettled};
 ghost use Rattle.day_rounds.specs.Readers.{HasGiven};
 ghost use Rattle.day_rounds.specs.Halts.{IsHalted};
@@ -22,7 +22,6 @@ ghost use Rattle.day_rounds.specs.declared.fault.DayFault.TheVariants.{ReadFault
 use crate::begun::Import;
 use crate::fault::{DayFault, reading_stopped, settling_stopped};
 use crate::rounding::round;
-use crate::supply::gather;
 use accounts::Publisher;
 use day_reading::DayAhead;
 use keeper::Keeper;
@@ -31,7 +30,8 @@ use road_io::{Sink, Source};
 use road_time::Tuple;
 use std::thread::Threads;
 
-/// A round over the next tuples of a day, as many as there is room for. It answers how many are settled.
+/// A round over the next tuples of a day, which were read; those after them are read meanwhile, as many as there is
+/// room for. It answers how many are settled.
 pub fn next_round<C: Crew, S: Source, K: Keeper, O: Sink, P: Publisher, R: Threads>(
     rt: &R,
     run: &mut Import<C::Ticket>,
@@ -48,35 +48,37 @@ pub fn next_round<C: Crew, S: Source, K: Keeper, O: Sink, P: Publisher, R: Threa
     requires width { width ≡ run.old.floor.inboxes.width }
     requires none { run.old.tickets.items ≡ [] }
     requires unfailed { HasFailedAhead ahead.old → ⊥ }
-    requires runs { (e : Setting) × (told : Option Told) × (answered : Option (List Finding)) × (late : ℕ) × (s : State)
+    requires runs { (e : Setting) × (told : Option Told) × (answered : Option (List Finding)) × (s : State)
         × Runs C.out C.number C.holds C.gave C.exact C.jobs C.answers e told answered run.old crew.old s
-        × IsGatheringAhead ahead.old run.old.floor.limits late s.fed
+        × CanFeedAll run.old.floor.limits s these.old.items
         × (e.number ≡ day) × (e.history ≡ history_of (K.told keeper.old))
-        × IsAbreast (P.posted publisher.old) (sum_of (settled_charges s)) }
+        × IsAbreast (P.posted publisher.old) (sum_of (settled_charges s)) × (s.settled ≡ length s.fed) }
     ensures width { run.new.floor.inboxes.width ≡ run.old.floor.inboxes.width }
     ensures limits { run.new.floor.limits ≡ run.old.floor.limits }
     ensures crew { C.which crew.new ≡ C.which crew.old }
     ensures none { OnOk result (run.new.tickets.items ≡ []) }
     ensures done { IfOk result (λ n.
-        (e : Setting) (told : Option Told) (answered : Option (List Finding)) (late : ℕ) (s : State)
+        (e : Setting) (told : Option Told) (answered : Option (List Finding)) (s : State)
         → Runs C.out C.number C.holds C.gave C.exact C.jobs C.answers e told answered run.old crew.old s
-        → IsGatheringAhead ahead.old run.old.floor.limits late s.fed
+        → CanFeedAll run.old.floor.limits s these.old.items
         → e.number ≡ day → e.history ≡ history_of (K.told keeper.old)
-        → (xs : List RoadTuple) × (now : State)
-        × HasGiven run.old.floor.limits late xs ahead.old ahead.new (S.left source.old) (S.left source.new)
-        × IsSettled run.old.floor.limits.backlog e s xs (O.written sink.old) (O.written sink.new)
+        → (now : State)
+        × IsSettled run.old.floor.limits.backlog e s these.old.items (O.written sink.old) (O.written sink.new)
         (P.posted publisher.old) (P.posted publisher.new) now
         × (n ≡ now.settled) × Runs C.out C.number C.holds C.gave C.exact C.jobs C.answers e told answered run.new
         crew.new now
-        × IsAbreast (P.posted publisher.new) (sum_of (settled_charges now))
-        × (s.settled ≡ length s.fed → has_more ahead.old ≡ true → 1 ≤ length xs)) }
+        × IsAbreast (P.posted publisher.new) (sum_of (settled_charges now))) }
+    ensures given { OnOk result ((limits : DayLimits) (late : ℕ)
+        → HasGiven limits late these.new.items ahead.old ahead.new (S.left source.old) (S.left source.new)) }
+    ensures few { OnOk result (length these.new.items ≤ run.old.floor.limits.backlog) }
+    ensures ended { OnOk result (these.new.items ≡ [] → has_more ahead.new ≡ false) }
     ensures halted { IfErr result (λ fault.
         (e : Setting) (told : Option Told) (answered : Option (List Finding)) (late : ℕ) (s : State)
         → Runs C.out C.number C.holds C.gave C.exact C.jobs C.answers e told answered run.old crew.old s
-        → IsGatheringAhead ahead.old run.old.floor.limits late s.fed
+        → CanFeedAll run.old.floor.limits s these.old.items
         → e.number ≡ day → e.history ≡ history_of (K.told keeper.old)
         → IsHalted C.out C.number C.holds C.gave C.exact C.jobs fault e told run.old.floor.inboxes.width
-        run.old.floor.limits late s ahead.old (S.left source.old)
+        run.old.floor.limits late s (s.fed ++ these.old.items) ahead.old (S.left source.old)
         (O.written sink.old) (O.written sink.new) (P.posted publisher.old) (P.posted publisher.new) run.new crew.new) }
     ensures unfailed { OnOk result (HasFailedAhead ahead.new → ⊥) }
     ensures read { (lines : ℕ) (bytes : List ℕ) → HasReadAhead ahead.old lines (S.left source.old) bytes
@@ -92,20 +94,13 @@ pub fn next_round<C: Crew, S: Source, K: Keeper, O: Sink, P: Publisher, R: Threa
         (NeverFails (K.plan keeper.new)) result }
 {
     let room = run.floor.room() as usize;
-    match gather(rt, ahead, source, room, these) {
-        Err(stop) => Err(reading_stopped(stop)),
-        Ok(()) => match round(
-            run,
-            crew,
-            width,
-            these.as_slice(),
-            day,
-            keeper,
-            sink,
-            publisher,
-        ) {
-            Ok(settled) => Ok(settled),
-            Err(fault) => Err(settling_stopped(fault)),
+    match round(
+        rt, run, crew, width, ahead, source, room, these, day, keeper, sink, publisher,
+    ) {
+        Err(fault) => Err(settling_stopped(fault)),
+        Ok(round) => match round.stop {
+            None => Ok(round.settled),
+            Some(stop) => Err(reading_stopped(stop)),
         },
     }
 }

@@ -1,7 +1,12 @@
 // Rounds that settle.
-ghost use Rattle.std.specs.Prelude.{true, ◌≡◌, ◌++◌, ◌+◌, ◌≤◌, [], ℕ, List, Option, IfOk, IfErr, OnOk, OnErr};
+ghost use Rattle.std.specs.Prelude.{true, ◌≡◌, ◌≢◌, ◌++◌, ◌+◌, ◌≤◌, [], ℕ, List, Option, Some, IfOk, IfErr, OnOk};
+ghost use Rattle.std.specs.Prelude.{OnErr};
 ghost use Rattle.road_time.specs.declared.road.Tuple.{Tuple as RoadTuple};
 ghost use Rattle.road_time.specs.Day.{sum_of};
+ghost use Rattle.road_io.specs.Faults.{Rose};
+ghost use Rattle.road_io.specs.Plans.{NeverFails};
+ghost use Rattle.day_reading.specs.Ahead.{HasReadAhead, HasFailedAhead};
+ghost use Rattle.day_reading.specs.declared.whole_day.ReadStop.TheVariants.{ReadFault};
 ghost use Rattle.expressway.specs.Results.{AreFirst};
 ghost use Rattle.expressway.specs.declared.finding.Finding.{Finding};
 ghost use Rattle.partition_workers.specs.Told.{Told};
@@ -12,6 +17,7 @@ ghost use Rattle.watermark.specs.Shares.{State};
 ghost use Rattle.watermark.specs.Written.{settled_charges};
 ghost use Rattle.watermark.specs.Floors.{Setting};
 ghost use Rattle.day_rounds.specs.Runs.{Runs, Stopped, CanFeedAll};
+ghost use Rattle.day_rounds.specs.Readers.{HasReadOn};
 ghost use Rattle.day_rounds.specs.Rounds.{IsSettled};
 ghost use Rattle.day_rounds.specs.Published.{published_of};
 ghost use Rattle.day_rounds.specs.Fronts.{HasText, HasFront};
@@ -20,66 +26,93 @@ use crate::begun::Import;
 use crate::rounds::work_round;
 use crate::settled::settle_done;
 use accounts::Publisher;
+use day_reading::{DayAhead, ReadStop};
 use keeper::Keeper;
 use partition_workers::Crew;
-use road_io::Sink;
+use road_io::{Sink, Source};
 use road_time::Tuple;
 use settling::SettleFault;
+use std::thread::Threads;
 
-/// A round over some tuples: they are fed, each worker's job is done, and all is settled.
-pub fn round<C: Crew, K: Keeper, O: Sink, P: Publisher>(
+/// What a round leaves: how many are settled, and why reading stopped, if it did.
+#[derive(Clone, Copy, Debug, PartialEq, Eq)]
+pub struct Rounded {
+    pub settled: u64,
+    pub stop: Option<ReadStop>,
+}
+
+/// A round over some tuples: they are fed, each worker's job is done while the next ones are read in their place, and
+/// all is settled.
+pub fn round<C: Crew, S: Source, K: Keeper, O: Sink, P: Publisher, R: Threads>(
+    rt: &R,
     run: &mut Import<C::Ticket>,
     crew: &mut C,
     width: u8,
-    these: &[Tuple],
+    ahead: &mut DayAhead,
+    source: &mut S,
+    count: usize,
+    these: &mut Vec<Tuple>,
     day: u32,
     keeper: &mut K,
     sink: &mut O,
     publisher: &mut P,
-) -> Result<u64, SettleFault>
+) -> Result<Rounded, SettleFault>
     requires width { width ≡ run.old.floor.inboxes.width }
     requires none { run.old.tickets.items ≡ [] }
+    requires unfailed { HasFailedAhead ahead.old → ⊥ }
     requires runs { (e : Setting) × (told : Option Told) × (answered : Option (List Finding)) × (s : State)
         × Runs C.out C.number C.holds C.gave C.exact C.jobs C.answers e told answered run.old crew.old s
-        × CanFeedAll run.old.floor.limits s these.now
+        × CanFeedAll run.old.floor.limits s these.old.items
         × (e.number ≡ day) × (e.history ≡ history_of (K.told keeper.old))
         × IsAbreast (P.posted publisher.old) (sum_of (settled_charges s)) }
     ensures width { run.new.floor.inboxes.width ≡ run.old.floor.inboxes.width }
     ensures limits { run.new.floor.limits ≡ run.old.floor.limits }
     ensures crew { C.which crew.new ≡ C.which crew.old }
     ensures none { OnOk result (run.new.tickets.items ≡ []) }
-    ensures done { IfOk result (λ n. (e : Setting) (told : Option Told) (answered : Option (List Finding)) (s : State)
+    ensures done { IfOk result (λ r. (e : Setting) (told : Option Told) (answered : Option (List Finding)) (s : State)
         → Runs C.out C.number C.holds C.gave C.exact C.jobs C.answers e told answered run.old crew.old s
-        → CanFeedAll run.old.floor.limits s these.now
+        → CanFeedAll run.old.floor.limits s these.old.items
         → e.number ≡ day → e.history ≡ history_of (K.told keeper.old)
         → (now : State)
-        × IsSettled run.old.floor.limits.backlog e s these.now (O.written sink.old) (O.written sink.new)
+        × IsSettled run.old.floor.limits.backlog e s these.old.items (O.written sink.old) (O.written sink.new)
         (P.posted publisher.old) (P.posted publisher.new) now
-        × (n ≡ now.settled) × Runs C.out C.number C.holds C.gave C.exact C.jobs C.answers e told answered run.new
-        crew.new now
+        × (r.settled ≡ now.settled)
+        × Runs C.out C.number C.holds C.gave C.exact C.jobs C.answers e told answered run.new crew.new now
         × IsAbreast (P.posted publisher.new) (sum_of (settled_charges now))) }
     ensures stopped { OnErr result ((e : Setting) (told : Option Told) (answered : Option (List Finding)) (s : State)
         → Runs C.out C.number C.holds C.gave C.exact C.jobs C.answers e told answered run.old crew.old s
-        → CanFeedAll run.old.floor.limits s these.now
-        → (whole : List RoadTuple) → AreFirst (s.fed ++ these.now) whole
+        → CanFeedAll run.old.floor.limits s these.old.items
+        → (whole : List RoadTuple) → AreFirst (s.fed ++ these.old.items) whole
         → Stopped C.out C.number C.holds C.gave C.jobs told run.old.floor.inboxes.width run.old.floor.limits whole
         run.new crew.new) }
     ensures front { IfErr result (λ fault.
         (e : Setting) (told : Option Told) (answered : Option (List Finding)) (s : State)
         → Runs C.out C.number C.holds C.gave C.exact C.jobs C.answers e told answered run.old crew.old s
-        → CanFeedAll run.old.floor.limits s these.now
+        → CanFeedAll run.old.floor.limits s these.old.items
         → e.number ≡ day → e.history ≡ history_of (K.told keeper.old) → C.exact ≡ true
         → (first : Option (List ℕ)) → HasText e s first (O.written sink.old)
-        → HasFront fault e (s.fed ++ these.now) first (O.written sink.new)) }
+        → HasFront fault e (s.fed ++ these.old.items) first (O.written sink.new)) }
     ensures published { OnErr result (published_of (P.posted publisher.new) ≡ published_of (P.posted publisher.old)) }
+    ensures read_on { IfOk result (λ r. HasReadOn r.stop count these.new.items ahead.old ahead.new
+        (S.left source.old) (S.left source.new)) }
+    ensures read { (lines : ℕ) (bytes : List ℕ) → HasReadAhead ahead.old lines (S.left source.old) bytes
+        → HasReadAhead ahead.new lines (S.left source.new) bytes }
+    ensures source_same { S.name source.new ≡ S.name source.old }
+    ensures later { S.faults source.old ≤ S.faults source.new }
+    ensures cause { IfOk result (λ r. r.stop ≡ Some ReadFault → Rose (S.faults source.old) (S.faults source.new)) }
+    ensures sure { NeverFails (S.plan source.old)
+        → IfOk result (λ r. r.stop ≢ Some ReadFault) × NeverFails (S.plan source.new) }
     ensures publisher { P.which publisher.new ≡ P.which publisher.old }
     ensures same { K.told keeper.new ≡ K.told keeper.old }
     ensures sink { SinkFaults (O.faults sink.old) (O.faults sink.new) (O.room sink.old) (O.room sink.new) result }
     ensures keeper { KeeperFaults (K.faults keeper.old) (K.faults keeper.new) (K.plan keeper.old) (K.plan keeper.new)
         result }
 {
-    let Ok(()) = work_round(run, crew, width, these) else {
+    let Ok(stop) = work_round(rt, run, crew, width, ahead, source, count, these) else {
         return Err(SettleFault::NoMemory);
     };
-    settle_done(&mut run.floor, day, keeper, sink, publisher)
+    match settle_done(&mut run.floor, day, keeper, sink, publisher) {
+        Ok(settled) => Ok(Rounded { settled, stop }),
+        Err(fault) => Err(fault),
+    }
 }

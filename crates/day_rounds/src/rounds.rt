@@ -1,18 +1,27 @@
 // The rounds of an import.
-ghost use Rattle.std.specs.Prelude.{◌≡◌, ◌<◌, ◌++◌, [], ℕ, List, Option, OnOk, OnErr, length};
+ghost use Rattle.std.specs.Prelude.{◌≡◌, ◌≢◌, ◌≤◌, ◌<◌, ◌++◌, [], ℕ, List, Option, Some, OnOk, OnErr, IfOk, length};
 ghost use Rattle.road_time.specs.declared.road.Tuple.{Tuple as RoadTuple};
+ghost use Rattle.road_io.specs.Faults.{Rose};
+ghost use Rattle.road_io.specs.Plans.{NeverFails};
+ghost use Rattle.day_reading.specs.Ahead.{HasReadAhead, HasFailedAhead};
+ghost use Rattle.day_reading.specs.declared.whole_day.ReadStop.TheVariants.{ReadFault};
 ghost use Rattle.expressway.specs.Results.{AreFirst};
 ghost use Rattle.expressway.specs.declared.finding.Finding.{Finding};
 ghost use Rattle.partition_workers.specs.Told.{Told};
 ghost use Rattle.watermark.specs.Shares.{State};
 ghost use Rattle.watermark.specs.Floors.{Setting, StandsFor};
+ghost use Rattle.day_rounds.specs.Readers.{HasReadOn};
 ghost use Rattle.day_rounds.specs.Runs.{Runs, Stopped, CanFeedAll, IsLater, IsDone, fed_all, given_all};
 
 use crate::begun::Import;
 use crate::finish::finish_one;
 use crate::give::give_one;
+use crate::supply::read_on;
+use day_reading::{DayAhead, ReadStop};
 use partition_workers::Crew;
+use road_io::Source;
 use road_time::{NoMemory, Tuple};
+use std::thread::Threads;
 
 /// Feeds some tuples. After a refusal some of them were fed.
 pub fn feed_these<T: Drop>(run: &mut Import<T>, these: &[Tuple]) -> Result<(), NoMemory>
@@ -81,35 +90,53 @@ pub fn finish_firsts<C: Crew>(run: &mut Import<C::Ticket>, crew: &mut C) -> Resu
     Ok(())
 }
 
-/// Feeds some tuples, gives each worker its job, and finishes all in that order: nothing is out or waits then, where
-/// nothing was out before.
-pub fn work_round<C: Crew>(
+/// Feeds some tuples, gives each worker its job, reads the next tuples in their place while the jobs are out, and
+/// finishes all in the order of their starts: nothing is out or waits then, where nothing was out before. It says why
+/// reading stopped, if it did.
+pub fn work_round<C: Crew, S: Source, R: Threads>(
+    rt: &R,
     run: &mut Import<C::Ticket>,
     crew: &mut C,
     width: u8,
-    these: &[Tuple],
-) -> Result<(), NoMemory>
+    ahead: &mut DayAhead,
+    source: &mut S,
+    count: usize,
+    these: &mut Vec<Tuple>,
+) -> Result<Option<ReadStop>, NoMemory>
     requires width { width ≡ run.old.floor.inboxes.width }
     requires runs { (e : Setting) × (told : Option Told) × (answered : Option (List Finding)) × (s : State)
         × Runs C.out C.number C.holds C.gave C.exact C.jobs C.answers e told answered run.old crew.old s
-        × CanFeedAll run.old.floor.limits s these.now }
+        × CanFeedAll run.old.floor.limits s these.old.items }
     requires none { run.old.tickets.items ≡ [] }
+    requires unfailed { HasFailedAhead ahead.old → ⊥ }
     ensures width { run.new.floor.inboxes.width ≡ run.old.floor.inboxes.width }
     ensures limits { run.new.floor.limits ≡ run.old.floor.limits }
     ensures which { C.which crew.new ≡ C.which crew.old }
     ensures none { OnOk result (run.new.tickets.items ≡ []) }
     ensures done { OnOk result ((e : Setting) (told : Option Told) (answered : Option (List Finding)) (s : State)
         → Runs C.out C.number C.holds C.gave C.exact C.jobs C.answers e told answered run.old crew.old s
-        → CanFeedAll run.old.floor.limits s these.now
-        → (now : State) × IsDone run.old.floor.inboxes.width s these.now now
+        → CanFeedAll run.old.floor.limits s these.old.items
+        → (now : State) × IsDone run.old.floor.inboxes.width s these.old.items now
         × Runs C.out C.number C.holds C.gave C.exact C.jobs C.answers e told answered run.new crew.new now) }
     ensures stopped { OnErr result ((e : Setting) (told : Option Told) (answered : Option (List Finding)) (s : State)
         → Runs C.out C.number C.holds C.gave C.exact C.jobs C.answers e told answered run.old crew.old s
-        → CanFeedAll run.old.floor.limits s these.now → (day : List RoadTuple) → AreFirst (s.fed ++ these.now) day
+        → CanFeedAll run.old.floor.limits s these.old.items
+        → (day : List RoadTuple) → AreFirst (s.fed ++ these.old.items) day
         → Stopped C.out C.number C.holds C.gave C.jobs told run.old.floor.inboxes.width run.old.floor.limits day run.new
         crew.new) }
+    ensures read_on { IfOk result (λ stop. HasReadOn stop count these.new.items ahead.old ahead.new
+        (S.left source.old) (S.left source.new)) }
+    ensures read { (lines : ℕ) (bytes : List ℕ) → HasReadAhead ahead.old lines (S.left source.old) bytes
+        → HasReadAhead ahead.new lines (S.left source.new) bytes }
+    ensures source_same { S.name source.new ≡ S.name source.old }
+    ensures later { S.faults source.old ≤ S.faults source.new }
+    ensures cause { IfOk result (λ stop. stop ≡ Some ReadFault → Rose (S.faults source.old) (S.faults source.new)) }
+    ensures sure { NeverFails (S.plan source.old)
+        → IfOk result (λ stop. stop ≢ Some ReadFault) × NeverFails (S.plan source.new) }
 {
-    feed_these(run, these)?;
+    feed_these(run, these.as_slice())?;
     give_all(run, crew, width)?;
-    finish_firsts(run, crew)
+    let stop = read_on(rt, ahead, source, count, these);
+    finish_firsts(run, crew)?;
+    Ok(stop)
 }

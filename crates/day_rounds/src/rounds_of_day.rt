@@ -16,8 +16,9 @@ ghost use Rattle.day_rounds.specs.Faults.{IsCounted};
 ghost use Rattle.day_rounds.specs.declared.fault.DayFault.TheVariants.{ReadFault, WriteFault, KeeperFault};
 
 use crate::begun::Import;
-use crate::fault::DayFault;
+use crate::fault::{DayFault, reading_stopped};
 use crate::round_on::next_round;
+use crate::supply::read_on;
 use accounts::Publisher;
 use day_reading::DayAhead;
 use keeper::Keeper;
@@ -26,7 +27,8 @@ use road_io::{Sink, Source};
 use road_time::Tuple;
 use std::thread::Threads;
 
-/// Rounds over a day, from the start, until no tuple is left. It answers how many are settled, which is all.
+/// Rounds over a day, from the start, until no tuple is left. The tuples of a round are read while the jobs of the one
+/// before are out. It answers how many are settled, which is all.
 pub fn run_rounds<C: Crew, S: Source, K: Keeper, O: Sink, P: Publisher, R: Threads>(
     rt: &R,
     run: &mut Import<C::Ticket>,
@@ -80,8 +82,12 @@ pub fn run_rounds<C: Crew, S: Source, K: Keeper, O: Sink, P: Publisher, R: Threa
     ensures keeper { IsCounted KeeperFault (K.faults keeper.old) (K.faults keeper.new) (NeverFails (K.plan keeper.old))
         (NeverFails (K.plan keeper.new)) result }
 {
+    let room = run.floor.room() as usize;
+    if let Some(stop) = read_on(rt, ahead, source, room, these) {
+        return Err(reading_stopped(stop));
+    }
     let mut settled = 0;
-    'day: while ahead.more() {
+    'day: while !these.is_empty() {
         match next_round(
             rt, run, crew, width, ahead, source, these, day, keeper, sink, publisher,
         ) {

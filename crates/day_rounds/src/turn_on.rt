@@ -94,7 +94,7 @@ pub fn next_turn<C: Crew, S: Source, K: Keeper, O: Sink, P: Publisher, R: Thread
         → IsGatheringAhead ahead.old run.old.floor.limits late s.fed
         → e.number ≡ day → e.history ≡ history_of (K.told keeper.old)
         → IsHalted C.out C.number C.holds C.gave C.exact C.jobs fault e told run.old.floor.inboxes.width
-        run.old.floor.limits late s ahead.old (S.left source.old)
+        run.old.floor.limits late s s.fed ahead.old (S.left source.old)
         (O.written sink.old) (O.written sink.new) (P.posted publisher.old) (P.posted publisher.new) run.new crew.new) }
     ensures unfailed { OnOk result (HasFailedAhead ahead.new → ⊥) }
     ensures read { (lines : ℕ) (bytes : List ℕ) → HasReadAhead ahead.old lines (S.left source.old) bytes

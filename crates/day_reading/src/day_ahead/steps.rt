@@ -25,6 +25,7 @@ use std::alloc::Global;
 use std::thread::Threads;
 
 /// Reads what follows.
+#[inline(always)]
 fn look<S: Source, R: Threads>(
     rt: &R,
     reader: &mut DayReader,
@@ -104,6 +105,7 @@ impl DayAhead {
     }
 
     /// Gives the tuple that waits, and reads what follows it; none where no tuple is left. A fault is answered at once.
+    #[inline(always)]
     pub fn next<S: Source, R: Threads>(
         &mut self,
         rt: &R,

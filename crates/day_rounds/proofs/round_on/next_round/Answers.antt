@@ -1,76 +1,73 @@
-use Rattle.std.proofs.Common.{◌≤◌, ◌++◌, [], length, refl, sym, subst}
+use Rattle.std.proofs.Common.{◌≡◌, ◌++◌, ◌∙◌, [], None, refl, sym, subst, arith}
 use Rattle.std.proofs.lemmas.List.{append-nil}
+use Rattle.road_time.specs.Fits.{Fit}
 use Rattle.expressway.specs.Results.{AreFirst}
 use Rattle.day_rounds.specs.Faults.{HasDayFront}
-use Rattle.day_rounds.specs.Readers.{HasGiven}
+use Rattle.day_rounds.specs.Published.{HasStepped, HasSteps}
+use Rattle.day_rounds.specs.Runs.{Stopped}
 use Rattle.day_rounds.proofs.FrontLaws.{front_before}
 use Rattle.day_rounds.proofs.HaltLaws.{front_of_settling, front_of_reading, stepped_rules}
 use Rattle.day_rounds.proofs.LoopLaws.{some_room}
-use Rattle.day_rounds.proofs.ReaderLaws.{given_can, given_first}
+use Rattle.day_rounds.proofs.ReaderLaws.{given_first}
 use Rattle.day_rounds.proofs.RoundLaws.{stopped_by}
 use Rattle.day_rounds.proofs.round_on.next_round.Goals as goal
 
 pub round-requires-clause-runs : goal.round-requires-clause-runs
 round-requires-clause-runs g c =
-    let f = c.args.run.now.floor in
-    let xs = c.as_slice.result.now in
-    let (e, told, answered, late, s, h, gathers, number, history, abreast) = c.requires.runs in
-    let given : HasGiven f.limits late xs c.args.ahead.now c.gather.new.ahead (g.S.Source.left c.args.source.now) (g.S.Source.left c.gather.new.source) =
-    subst (λ ys. HasGiven f.limits late ys c.args.ahead.now c.gather.new.ahead (g.S.Source.left c.args.source.now) (g.S.Source.left c.gather.new.source)) (sym c.as_slice.ensures.value) (c.in-Ok.ensures.given f.limits late) in
-    let few : length xs ≤ c.room-room.result = subst (λ ys. length ys ≤ c.room-room.result) (sym c.as_slice.ensures.value) c.in-Ok.ensures.few in
-    (e, told, answered, s, h, given_can f.limits late s xs c.args.ahead.now c.gather.new.ahead _ _ c.room-room.result given gathers (c.room-room.ensures e s h.stands) few, number, history, abreast)
+    let (e, told, answered, s, h, can, number, history, abreast, all) = c.requires.runs in
+    (e, told, answered, s, h, can, number, history, abreast)
 
-pub returns-in-Err-clause-halted : goal.returns-in-Err-clause-halted
-returns-in-Err-clause-halted g c e told answered late s h gathers number history =
+pub returns-in-None-clause-few : goal.returns-in-None-clause-few
+returns-in-None-clause-few g c =
+    let (e, told, answered, s, h, can, number, history, abreast, all) = c.requires.runs in
+    let has = c.room-room.ensures e s h.stands in
+    let none : c.in-Ok.round.stop ≡ None = cc in
+    let few = c.in-Ok.ensures.read_on.few none in
+    omega (arith, has, all, few)
+
+pub returns-in-None-clause-ended : goal.returns-in-None-clause-ended
+returns-in-None-clause-ended g c =
+    let (e, told, answered, s, h, can, number, history, abreast, all) = c.requires.runs in
+    let none : c.in-Ok.round.stop ≡ None = cc in
+    c.in-Ok.ensures.read_on.ended none (some_room s s.fed c.room-room.result c.args.run.now.floor.limits.backlog refl all (c.room-room.ensures e s h.stands) h.stands.terms.some_backlog)
+
+pub returns-in-Some-clause-halted : goal.returns-in-Some-clause-halted
+returns-in-Some-clause-halted g c e told answered late s h can number history =
     let k = g.C.Crew in
     let f = c.args.run.now.floor in
-    let first : AreFirst s.fed s.fed = ([], sym (append-nil s.fed)) in
-    record {
-      fed = s.fed;
-      fit = h.stands.sound.fit;
-      read = λ bytes ahead. given_first f.limits late c.args.ahead.now (g.S.Source.left c.args.source.now) bytes s.fed ahead;
-      stopped = stopped_by k.out k.number k.holds k.gave k.exact k.jobs k.answers e told answered c.args.run.now c.args.crew.now s h c.args.run.now refl s.fed first;
-      front = λ exact begin had. subst (λ x. HasDayFront x e s.fed begin (g.O.Sink.written c.args.sink.now)) (sym c.reading_stopped.ensures)
-          (front_of_reading c.in-Err.stop e s.fed begin _ (front_before f.inboxes.width f.limits e s h.stands.terms.some h.stands.sound (h.right exact) s.fed first h.stands.sound.fit begin _ had));
-      steps = λ exact before have. stepped_rules f.inboxes.width f.limits e s h.stands.terms.some h.stands.sound (h.right exact) s.fed first h.stands.sound.fit before _ _ have refl;
-    }
-
-pub returns-in-Ok-round-clause-done : goal.returns-in-Ok-round-clause-done
-returns-in-Ok-round-clause-done g c e told answered late s h gathers number history =
-    let f = c.args.run.now.floor in
-    let xs = c.as_slice.result.now in
-    let given : HasGiven f.limits late xs c.args.ahead.now c.gather.new.ahead (g.S.Source.left c.args.source.now) (g.S.Source.left c.gather.new.source) =
-    subst (λ ys. HasGiven f.limits late ys c.args.ahead.now c.gather.new.ahead (g.S.Source.left c.args.source.now) (g.S.Source.left c.gather.new.source)) (sym c.as_slice.ensures.value) (c.in-Ok.ensures.given f.limits late) in
-    let few : length xs ≤ c.room-room.result = subst (λ ys. length ys ≤ c.room-room.result) (sym c.as_slice.ensures.value) c.in-Ok.ensures.few in
-    let has = c.room-room.ensures e s h.stands in
-    let can = given_can f.limits late s xs c.args.ahead.now c.gather.new.ahead _ _ c.room-room.result given gathers has few in
-    let (now, settled, is, runs, abreast) = c.in-Ok-round.ensures.done e told answered s h can number history in (
-      xs,
-      now,
-      given,
-      settled,
-      is,
-      runs,
-      abreast,
-      λ all more. subst (λ ys. 1 ≤ length ys) (sym c.as_slice.ensures.value) (c.in-Ok.ensures.some more (some_room s s.fed c.room-room.result f.limits.backlog refl all has h.stands.terms.some_backlog)),
-    )
-
-pub returns-in-Err-round-clause-halted : goal.returns-in-Err-round-clause-halted
-returns-in-Err-round-clause-halted g c e told answered late s h gathers number history =
-    let f = c.args.run.now.floor in
-    let xs = c.as_slice.result.now in
-    let given : HasGiven f.limits late xs c.args.ahead.now c.gather.new.ahead (g.S.Source.left c.args.source.now) (g.S.Source.left c.gather.new.source) =
-    subst (λ ys. HasGiven f.limits late ys c.args.ahead.now c.gather.new.ahead (g.S.Source.left c.args.source.now) (g.S.Source.left c.gather.new.source)) (sym c.as_slice.ensures.value) (c.in-Ok.ensures.given f.limits late) in
-    let few : length xs ≤ c.room-room.result = subst (λ ys. length ys ≤ c.room-room.result) (sym c.as_slice.ensures.value) c.in-Ok.ensures.few in
-    let can = given_can f.limits late s xs c.args.ahead.now c.gather.new.ahead _ _ c.room-room.result given gathers (c.room-room.ensures e s h.stands) few in
-    let fed = s.fed ++ xs in
-    let v = c.in-Err-round.ensures in
+    let run = c.round.new.run in
+    let n = run.floor in
+    let v = c.in-Ok.ensures in
+    let fed = s.fed ++ c.args.these.now.items in
+    let (now, settled, is, runs, abreast) = v.done e told answered s h can number history in
+    let first : AreFirst now.fed fed = ([], sym settled.fed ∙ sym (append-nil now.fed)) in
+    let fit = subst (Fit fed) (sym v.limits) can.fit in
     record {
       fed = fed;
       fit = can.fit;
-      read = λ bytes ahead. given_first f.limits late c.gather.new.ahead (g.S.Source.left c.gather.new.source) bytes fed (given.reads bytes s.fed ahead);
+      read = λ bytes ahead. given_first f.limits late c.args.ahead.now (g.S.Source.left c.args.source.now) bytes fed ahead;
+      stopped = subst (λ m. Stopped k.out k.number k.holds k.gave k.jobs told m f.limits fed run c.round.new.crew) v.width
+          (subst (λ l. Stopped k.out k.number k.holds k.gave k.jobs told n.inboxes.width l fed run c.round.new.crew) v.limits
+          (stopped_by k.out k.number k.holds k.gave k.exact k.jobs k.answers e told answered run c.round.new.crew now runs run refl fed first));
+      front = λ exact begin had. subst (λ x. HasDayFront x e fed begin (g.O.Sink.written c.round.new.sink)) (sym c.reading_stopped.ensures)
+          (front_of_reading c.in-Some.stop e fed begin _ (front_before n.inboxes.width n.limits e now runs.stands.terms.some runs.stands.sound (runs.right exact) fed first fit begin _ (settled.text begin had)));
+      steps = λ exact before have. subst (λ l. HasSteps e.tariffs fed l.backlog before (g.P.Publisher.posted c.round.new.publisher)) v.limits
+          (stepped_rules n.inboxes.width n.limits e now runs.stands.terms.some runs.stands.sound (runs.right exact) fed first fit before _ _
+          (subst (λ l. HasStepped l.backlog now before (g.P.Publisher.posted c.round.new.publisher)) (sym v.limits) (settled.steps before have)) refl);
+    }
+
+pub returns-in-Err-clause-halted : goal.returns-in-Err-clause-halted
+returns-in-Err-clause-halted g c e told answered late s h can number history =
+    let f = c.args.run.now.floor in
+    let xs = c.args.these.now.items in
+    let fed = s.fed ++ xs in
+    let v = c.in-Err.ensures in
+    record {
+      fed = fed;
+      fit = can.fit;
+      read = λ bytes ahead. given_first f.limits late c.args.ahead.now (g.S.Source.left c.args.source.now) bytes fed ahead;
       stopped = v.stopped e told answered s h can fed ([], sym (append-nil fed));
       front = λ exact begin had. subst (λ x. HasDayFront x e fed begin (g.O.Sink.written c.round.new.sink)) (sym c.settling_stopped.ensures)
-          (front_of_settling c.in-Err-round.fault e fed begin _ (v.front e told answered s h can number history exact begin had));
+          (front_of_settling c.in-Err.fault e fed begin _ (v.front e told answered s h can number history exact begin had));
       steps = λ exact before have. stepped_rules f.inboxes.width f.limits e s h.stands.terms.some h.stands.sound (h.right exact) fed (xs, refl) can.fit before _ _ have v.published;
     }

@@ -1,37 +1,71 @@
-use Rattle.std.proofs.Common.{◌-◌, ◌<◌, ◌≤◌, ◌∙◌, length, refl, sym, ap, subst, arith, length-append}
+use Rattle.std.proofs.Common.{◌≡◌, ◌-◌, ◌<◌, ◌≤◌, ◌++◌, ◌∙◌, [], None, length, refl, sym, ap, subst, arith, length-append, rules}
+use Rattle.std.proofs.lemmas.List.{append-nil}
 use Rattle.settling.specs.Answers.{history_of}
 use Rattle.watermark.specs.Shares.{start}
-use Rattle.day_rounds.proofs.DayLaws.{on_start, on_next, on_gathers, cut_at, fewer_left}
+use Rattle.day_rounds.specs.Faults.{HasDayFront}
+use Rattle.day_rounds.specs.Readers.{HasGiven}
+use Rattle.day_rounds.proofs.DayLaws.{on_start, cut_at, next_can, fewer_left}
+use Rattle.day_rounds.proofs.FrontLaws.{front_before}
+use Rattle.day_rounds.proofs.HaltLaws.{front_of_reading, stepped_rules}
+use Rattle.day_rounds.proofs.LoopLaws.{no_more, some_room}
+use Rattle.day_rounds.proofs.PublishLaws.{steps_under}
+use Rattle.day_rounds.proofs.ReaderLaws.{given_first, given_more}
+use Rattle.day_rounds.proofs.RoundLaws.{stopped_by}
 use Rattle.day_rounds.proofs.rounds_of_day.run_rounds.Goals as goal
+
+pub returns-in-Some-clause-halted : goal.returns-in-Some-clause-halted
+returns-in-Some-clause-halted g c e told answered late h gathers number history =
+    let k = g.C.Crew in
+    let f = c.args.run.now.floor in
+    let on = on_start f.limits late e c.args.ahead.now (g.S.Source.left c.args.source.now) (g.O.Sink.written c.args.sink.now) (g.P.Publisher.posted c.args.publisher.now) in
+    record {
+      fed = [];
+      fit = h.stands.sound.fit;
+      read = λ bytes ahead. given_first f.limits late c.args.ahead.now (g.S.Source.left c.args.source.now) bytes [] ahead;
+      stopped = stopped_by k.out k.number k.holds k.gave k.exact k.jobs k.answers e told answered c.args.run.now c.args.crew.now start h c.args.run.now refl [] ([], refl);
+      front = λ exact. subst (λ x. HasDayFront x e [] (g.O.Sink.written c.args.sink.now) (g.O.Sink.written c.args.sink.now)) (sym c.reading_stopped.ensures)
+          (front_of_reading c.in-Some.stop e [] _ _ (front_before f.inboxes.width f.limits e start h.stands.terms.some h.stands.sound (h.right exact) [] ([], refl) h.stands.sound.fit _ _ on.text));
+      steps = λ exact. stepped_rules f.inboxes.width f.limits e start h.stands.terms.some h.stands.sound (h.right exact) [] ([], refl) h.stands.sound.fit _ _ _ on.steps refl;
+    }
 
 pub day-init : goal.day-init
 day-init g c =
+    let (e, told, answered, late, h, gathers, number, history, abreast) = c.requires.runs in
+    let f = c.args.run.now.floor in
+    let r = c.read_on.ensures in
+    let none : c.read_on.result ≡ None = cc in
+    let room = c.room-room.ensures e start h.stands in
+    let few = r.read_on.few none in
     record {
       none = c.requires.none;
       width = refl;
       limits = refl;
       crew = refl;
-      source_same = refl;
-      unfailed = c.requires.unfailed;
-      read = λ lines bytes h. h;
+      source_same = r.source_same;
+      unfailed = r.read_on.unfailed none;
+      read = r.read;
       publisher = refl;
       same = refl;
-      source_later = omega arith;
-      source_sure = λ e. e;
+      source_later = r.later;
+      source_sure = λ never. (r.sure never).1;
       sink_later = omega arith;
       sink_sure = λ e. e;
       keeper_later = omega arith;
       keeper_sure = λ e. e;
+      few = omega (arith, room, few);
+      ended = r.read_on.ended none (some_room start [] c.room-room.result f.limits.backlog refl refl room h.stands.terms.some_backlog);
       at = λ e told answered late h gathers number history.
-          (start, on_start c.args.run.now.floor.limits late e c.args.ahead.now (g.S.Source.left c.args.source.now) (g.O.Sink.written c.args.sink.now) (g.P.Publisher.posted c.args.publisher.now), refl, refl, h, c.requires.runs.8);
+          let on = on_start f.limits late e c.args.ahead.now (g.S.Source.left c.args.source.now) (g.O.Sink.written c.args.sink.now) (g.P.Publisher.posted c.args.publisher.now) in
+          (start, r.read_on.given none f.limits late, on.text, on.steps, refl, refl, h, c.requires.runs.8);
     }
 
 pub next_round-requires-clause-runs : goal.next_round-requires-clause-runs
 next_round-requires-clause-runs g c =
     let inv = c.day.invariant in
     let (e, told, answered, late, h, gathers, number, history, abreast) = c.requires.runs in
-    let (s, on, all, is, runs, even) = inv.at e told answered late h gathers number history in
-    (e, told, answered, late, s, runs, on_gathers c.args.run.now.floor.limits c.day.run.floor.limits inv.limits late e c.args.ahead.now c.day.ahead _ _ _ _ _ _ s on gathers, number, history ∙ ap history_of (sym inv.same), even)
+    let (s, given, text, steps, all, is, runs, even) = inv.at e told answered late h gathers number history in
+    let can = next_can c.args.run.now.floor.limits c.day.run.floor.limits inv.limits late s c.day.these.items c.args.ahead.now c.day.ahead _ _ given gathers all inv.few in
+    (e, told, answered, s, runs, can, number, history ∙ ap history_of (sym inv.same), even, all)
 
 pub returns-in-Err-clause-halted : goal.returns-in-Err-clause-halted
 returns-in-Err-clause-halted g c e told answered late h gathers number history =
@@ -39,9 +73,10 @@ returns-in-Err-clause-halted g c e told answered late h gathers number history =
     let inv = c.day.invariant in
     let f = c.args.run.now.floor in
     let d = c.day.run.floor in
-    let (s, on, all, is, runs, even) = inv.at e told answered late h gathers number history in
-    cut_at k.out k.number k.holds k.gave k.exact k.jobs c.in-Err.fault e told d.inboxes.width f.inboxes.width d.limits f.limits inv.width inv.limits late s c.args.ahead.now c.day.ahead _ _ _ _ _ _ _ _ c.next_round.new.run c.next_round.new.crew on
-    (c.in-Err.ensures.halted e told answered late s runs (on_gathers f.limits d.limits inv.limits late e c.args.ahead.now c.day.ahead _ _ _ _ _ _ s on gathers) number (history ∙ ap history_of (sym inv.same)))
+    let (s, given, text, steps, all, is, runs, even) = inv.at e told answered late h gathers number history in
+    let can = next_can f.limits d.limits inv.limits late s c.day.these.items c.args.ahead.now c.day.ahead _ _ given gathers all inv.few in
+    cut_at k.out k.number k.holds k.gave k.exact k.jobs c.in-Err.fault e told d.inboxes.width f.inboxes.width d.limits f.limits inv.width inv.limits late s (s.fed ++ c.day.these.items) c.args.ahead.now c.day.ahead _ _ _ _ _ _ _ _ c.next_round.new.run c.next_round.new.crew given text steps
+    (c.in-Err.ensures.halted e told answered late s runs can number (history ∙ ap history_of (sym inv.same)))
 
 pub day-preserved : goal.day-preserved
 day-preserved g c =
@@ -49,6 +84,7 @@ day-preserved g c =
     let v = c.in-Ok.ensures in
     let f = c.args.run.now.floor in
     let d = c.day.run.floor in
+    let next = c.next_round.new.these.items in
     record {
       none = v.none;
       width = v.width ∙ inv.width;
@@ -65,11 +101,22 @@ day-preserved g c =
       sink_sure = λ e. (v.sink.sure (inv.sink_sure e)).1;
       keeper_later = (let a = v.keeper.later in let b = inv.keeper_later in omega (arith, a, b));
       keeper_sure = λ e. (v.keeper.sure (inv.keeper_sure e)).1;
+      few = subst (λ l. length next ≤ l.backlog) inv.limits v.few;
+      ended = v.ended;
       at = λ e told answered late h gathers number history.
-          let (s, on, all, is, runs, even) = inv.at e told answered late h gathers number history in
-          let (xs, now, given, settled, count, last, still, some) =
-          v.done e told answered late s runs (on_gathers f.limits d.limits inv.limits late e c.args.ahead.now c.day.ahead _ _ _ _ _ _ s on gathers) number (history ∙ ap history_of (sym inv.same)) in
-          (now, on_next f.limits d.limits inv.limits late e c.args.ahead.now c.day.ahead c.next_round.new.ahead _ _ _ _ _ _ _ _ _ s now xs on given settled.fed settled.text settled.steps, settled.settled, count, last, still);
+          let (s, given, text, steps, all, is, runs, even) = inv.at e told answered late h gathers number history in
+          let can = next_can f.limits d.limits inv.limits late s c.day.these.items c.args.ahead.now c.day.ahead _ _ given gathers all inv.few in
+          let (now, settled, count, last, still) = v.done e told answered s runs can number (history ∙ ap history_of (sym inv.same)) in (
+            now,
+            subst (λ ts. HasGiven f.limits late (ts ++ next) c.args.ahead.now c.next_round.new.ahead (g.S.Source.left c.args.source.now) (g.S.Source.left c.next_round.new.source)) (sym settled.fed)
+                (given_more f.limits late (s.fed ++ c.day.these.items) next c.args.ahead.now c.day.ahead c.next_round.new.ahead _ _ _ given (v.given f.limits late)),
+            settled.text _ text,
+            steps_under d.limits f.limits inv.limits s now _ _ settled.steps _ steps,
+            settled.settled,
+            count,
+            last,
+            still,
+          );
     }
 
 pub day-smaller : goal.day-smaller
@@ -78,21 +125,29 @@ day-smaller g c =
     let v = c.in-Ok.ensures in
     let f = c.args.run.now.floor in
     let d = c.day.run.floor in
+    let xs = c.day.these.items in
     let (e, told, answered, late, h, gathers, number, history, abreast) = c.requires.runs in
-    let (s, on, all, is, runs, even) = inv.at e told answered late h gathers number history in
-    let (xs, now, given, settled, count, last, still, some) =
-    v.done e told answered late s runs (on_gathers f.limits d.limits inv.limits late e c.args.ahead.now c.day.ahead _ _ _ _ _ _ s on gathers) number (history ∙ ap history_of (sym inv.same)) in
+    let (s, given, text, steps, all, is, runs, even) = inv.at e told answered late h gathers number history in
+    let can = next_can f.limits d.limits inv.limits late s xs c.args.ahead.now c.day.ahead _ _ given gathers all inv.few in
+    let (now, settled, count, last, still) = v.done e told answered s runs can number (history ∙ ap history_of (sym inv.same)) in
     let long = ap length settled.fed ∙ length-append s.fed xs in
     let full = settled.settled in
-    let more = some all (sym c.more.ensures.exact ∙ c.day-test.true) in
+    let more : 1 ≤ length xs = search rules in
     let few : length now.fed ≤ d.limits.lines = subst (λ l. length now.fed ≤ l.lines) v.limits last.stands.sound.fit.lines in
     subst (λ l. l.lines - c.in-Ok.count < d.limits.lines - c.day.settled) (sym v.limits)
     (fewer_left d.limits.lines c.day.settled c.in-Ok.count (length xs) (omega (arith, long, full, count, all, is)) more (omega (arith, few, full, count)))
 
+pub returns-clause-ended : goal.returns-clause-ended
+returns-clause-ended g c =
+    let empty : length c.day.these.items ≡ 0 = search rules in
+    c.day.invariant.ended (no_more c.day.these.items empty)
+
 pub returns-clause-done : goal.returns-clause-done
 returns-clause-done g c e told answered late h gathers number history =
-    let (s, on, all, is, runs, even) = c.day.invariant.at e told answered late h gathers number history in
-    (s, on, all, is, runs)
+    let (s, given, text, steps, all, is, runs, even) = c.day.invariant.at e told answered late h gathers number history in
+    let empty : length c.day.these.items ≡ 0 = search rules in
+    let none = ap (λ xs. s.fed ++ xs) (no_more c.day.these.items empty) ∙ append-nil s.fed in
+    (s, record { given = subst (λ xs. HasGiven c.args.run.now.floor.limits late xs c.args.ahead.now c.day.ahead (g.S.Source.left c.args.source.now) (g.S.Source.left c.day.source)) none given; text = text; steps = steps }, all, is, runs)
 
 pub returns-in-Err-clause-read : goal.returns-in-Err-clause-read
 returns-in-Err-clause-read g c lines bytes h = c.in-Err.ensures.read lines bytes (c.day.invariant.read lines bytes h)

@@ -1,9 +1,9 @@
-use Rattle.std.proofs.Common.{◌≡◌, ◌≤◌, ◌-◌, ℕ, List, [], length}
+use Rattle.std.proofs.Common.{◌≡◌, ◌≤◌, ◌-◌, ◌++◌, ℕ, List, [], false, length}
 use Rattle.std.specs.Prelude.{Option}
 use Rattle.road_time.specs.Day.{sum_of}
 use Rattle.road_io.specs.Plans.{NeverFails}
 use Rattle.road_io.specs.Rooms.{Endless}
-use Rattle.day_reading.specs.Ahead.{IsGatheringAhead, HasReadAhead, HasFailedAhead}
+use Rattle.day_reading.specs.Ahead.{has_more, IsGatheringAhead, HasReadAhead, HasFailedAhead}
 use Rattle.expressway.specs.declared.finding.Finding.{Finding}
 use Rattle.partition_workers.specs.Told.{Told}
 use Rattle.settling.specs.Answers.{history_of}
@@ -12,7 +12,9 @@ use Rattle.watermark.specs.Shares.{State, start}
 use Rattle.watermark.specs.Written.{settled_charges}
 use Rattle.watermark.specs.Floors.{Setting}
 use Rattle.day_rounds.specs.Runs.{Runs}
-use Rattle.day_rounds.specs.Days.{IsOn}
+use Rattle.day_rounds.specs.Fronts.{HasText}
+use Rattle.day_rounds.specs.Published.{HasStepped}
+use Rattle.day_rounds.specs.Readers.{HasGiven}
 use Rattle.day_rounds.proofs.rounds_of_day.run_rounds.Given as goal
 
 abbrev pub invariant-day : goal.invariant-day
@@ -34,9 +36,12 @@ invariant-day g l =
       sink_sure : g.O.Sink.room l.fn.sink ≡ Endless → g.O.Sink.room l.sink ≡ Endless;
       keeper_later : g.K.Keeper.faults l.fn.keeper ≤ g.K.Keeper.faults l.keeper;
       keeper_sure : NeverFails (g.K.Keeper.plan l.fn.keeper) → NeverFails (g.K.Keeper.plan l.keeper);
+      few : length l.these.items ≤ l.fn.run.floor.limits.backlog;
+      ended : l.these.items ≡ [] → has_more l.ahead ≡ false;
       at : (e : Setting) (told : Option Told) (answered : Option (List Finding)) (late : ℕ) → Runs k.out k.number k.holds k.gave k.exact k.jobs k.answers e told answered l.fn.run l.fn.crew start → IsGatheringAhead l.fn.ahead l.fn.run.floor.limits late [] →
           e.number ≡ l.day → e.history ≡ history_of (g.K.Keeper.told l.fn.keeper) →
-          (now : State) × IsOn l.fn.run.floor.limits late e l.fn.ahead l.ahead (g.S.Source.left l.fn.source) (g.S.Source.left l.source) (g.O.Sink.written l.fn.sink) (g.O.Sink.written l.sink) (g.P.Publisher.posted l.fn.publisher) (g.P.Publisher.posted l.publisher) now
+          (now : State) × HasGiven l.fn.run.floor.limits late (now.fed ++ l.these.items) l.fn.ahead l.ahead (g.S.Source.left l.fn.source) (g.S.Source.left l.source)
+          × HasText e now (g.O.Sink.written l.fn.sink) (g.O.Sink.written l.sink) × HasStepped l.fn.run.floor.limits.backlog now (g.P.Publisher.posted l.fn.publisher) (g.P.Publisher.posted l.publisher)
           × (now.settled ≡ length now.fed) × (l.settled ≡ now.settled) × Runs k.out k.number k.holds k.gave k.exact k.jobs k.answers e told answered l.run l.crew now × IsAbreast (g.P.Publisher.posted l.publisher) (sum_of (settled_charges now));
     }
 

@@ -48,7 +48,7 @@ returns-in-Err-clause-halted g c e told answered late h gathers number history =
     let f = c.args.run.now.floor in
     let d = c.day.run.floor in
     let (s, on, marked, is, runs, even, waits) = inv.at e told answered late h gathers number history in
-    cut_at k.out k.number k.holds k.gave k.exact k.jobs c.in-Err.fault e told d.inboxes.width f.inboxes.width d.limits f.limits inv.width inv.limits late s c.args.ahead.now c.day.ahead _ _ _ _ _ _ _ _ c.next_turn.new.run c.next_turn.new.crew on
+    cut_at k.out k.number k.holds k.gave k.exact k.jobs c.in-Err.fault e told d.inboxes.width f.inboxes.width d.limits f.limits inv.width inv.limits late s s.fed c.args.ahead.now c.day.ahead _ _ _ _ _ _ _ _ c.next_turn.new.run c.next_turn.new.crew on.given on.text on.steps
     (c.in-Err.ensures.halted e told answered late s runs (on_gathers f.limits d.limits inv.limits late e c.args.ahead.now c.day.ahead _ _ _ _ _ _ s on gathers) number (history ∙ ap history_of (sym inv.same)))
 
 pub pending-pending-requires : goal.pending-pending-requires
