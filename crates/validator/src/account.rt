@@ -76,7 +76,8 @@ pub fn add_charge(
     last: Option<Account>,
     r: &Report,
 ) -> Result<(), NoMemory>
-    ensures { OnOk result (map shown_charge charges.new.items ≡ map shown_charge charges.old.items ++ charge_after last r.now) }
+    ensures { OnOk result (map shown_charge charges.new.items
+        ≡ map shown_charge charges.old.items ++ charge_after last r.now) }
 {
     if let Some(account) = last {
         if leaves_stay(Some(account.newest), r) {

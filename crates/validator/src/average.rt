@@ -4,13 +4,13 @@ ghost use Rattle.road_time.specs.declared.road.Frac.{Frac as FracValue};
 ghost use Rattle.road_time.specs.Fits.{IsDay};
 ghost use Rattle.road_time.specs.Tuples.{reports};
 ghost use Rattle.road_time.specs.Notes.{cars};
-ghost use Rattle.road_time.specs.Lav.{flow_at as flow_at_lem};
+ghost use Rattle.road_time.specs.Lav.{flow_at as defined_flow_at};
 ghost use Rattle.road_time.specs.Tolls.{notes_of, lav_at};
 ghost use Rattle.validator.specs.Flows.{shown};
 ghost use Rattle.validator.specs.Gathered.{IsGathered};
 
+use crate::flows::{Flow, flow_at, mean_average};
 use crate::spots::{Gathered, Spot};
-use crate::{Flow, flow_at, mean_average};
 use road_time::{Frac, NoMemory, Stretch};
 use std::alloc::Global;
 
@@ -24,7 +24,7 @@ fn flow_on(
     requires fit { IsDay gathered.now.tuples.now }
     requires right { IsGathered gathered.now }
     ensures flow { IfOk result (λ f. shown f
-        ≡ flow_at_lem (notes_of (reports gathered.now.tuples.now)) stretch in_minute) }
+        ≡ defined_flow_at (notes_of (reports gathered.now.tuples.now)) stretch in_minute) }
     ensures bounded { IfOk result (λ f. f.speeds12 ≤ 3060 * f.cars) }
 {
     let spot = Spot {

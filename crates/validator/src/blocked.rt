@@ -1,13 +1,14 @@
 // Which accident blocks a stretch, by when each vehicle stands where.
 ghost use Rattle.std.specs.Prelude.{◌≡◌, ◌≤◌, ◌-◌, IfOk};
 ghost use Rattle.std.specs.List.{filter};
-ghost use Rattle.road_time.specs.Stops.{has_accident as has_accident_lem, stood as stood_lem, near};
+ghost use Rattle.road_time.specs.Stops.{has_accident as defined_has_accident, stood as defined_stood, near};
 ghost use Rattle.road_time.specs.Tuples.{reports};
-ghost use Rattle.validator.specs.Halts.{halting, halts_of, is_about as is_about_lem};
+ghost use Rattle.validator.specs.Halts.{halting, halts_of, is_about as defined_is_about};
 ghost use Rattle.validator.specs.Gathered.{IsGathered};
 
 use crate::halts::{Halt, covers};
-use crate::near::{has_accident, stretch_around};
+use crate::near::has_accident;
+use crate::places::stretch_around;
 use crate::spots::Gathered;
 use road_time::{NoMemory, Place, Stretch, downstream};
 use std::alloc::Global;
@@ -15,7 +16,7 @@ use std::alloc::Global;
 /// The halt is in the stretch, and touches the minute that begins at the second.
 fn is_about(start: u32, stretch: Stretch, halt: &Halt) -> bool
     requires { start ≤ 86400 }
-    ensures { result ≡ is_about_lem start stretch halt.now }
+    ensures { result ≡ defined_is_about start stretch halt.now }
 {
     stretch_around(halt.place) == stretch
         && halt.from < start + 60
@@ -33,7 +34,7 @@ fn halts_about(
     stretch: Stretch,
 ) -> Result<Vec<Halt>, NoMemory>
     requires { start ≤ 86400 }
-    ensures { IfOk result (λ some. some.items ≡ filter (is_about_lem start stretch) halts.now) }
+    ensures { IfOk result (λ some. some.items ≡ filter (defined_is_about start stretch) halts.now) }
 {
     let mut some: Vec<Halt> = Vec::new(alloc);
     for halt in halts {
@@ -53,7 +54,7 @@ fn halts_there(
 ) -> Result<Vec<Halt>, NoMemory>
     requires right { IsGathered gathered.now }
     requires start { start ≤ 86400 }
-    ensures { IfOk result (λ some. some.items ≡ filter (is_about_lem start stretch)
+    ensures { IfOk result (λ some. some.items ≡ filter (defined_is_about start stretch)
         (halts_of (reports gathered.now.tuples.now))) }
 {
     match gathered.halts.get(&stretch) {
@@ -89,7 +90,7 @@ fn accident_by(
     second: u32,
     stretch: Stretch,
 ) -> Result<bool, NoMemory>
-    ensures { IfOk result (λ b. b ≡ has_accident_lem (halting halts.now second) stretch) }
+    ensures { IfOk result (λ b. b ≡ defined_has_accident (halting halts.now second) stretch) }
 {
     let some = standing(alloc, halts, second)?;
     Ok(has_accident(some.as_slice(), stretch))
@@ -104,7 +105,7 @@ fn stood_by(
 ) -> Result<bool, NoMemory>
     requires right { IsGathered gathered.now }
     requires last { in_minute ≤ 1440 }
-    ensures { IfOk result (λ b. b ≡ stood_lem (halting (halts_of
+    ensures { IfOk result (λ b. b ≡ defined_stood (halting (halts_of
         (reports gathered.now.tuples.now))) in_minute stretch) }
 {
     if in_minute == 0 {

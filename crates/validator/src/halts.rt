@@ -2,11 +2,11 @@
 ghost use Rattle.std.specs.Prelude.{◌≡◌, ◌∷◌, ◌++◌, ◌==◌, ℕ, nat_eq, false, reverse, IfOk, OnOk, List, Some};
 ghost use Rattle.std.specs.HashMap.{get};
 ghost use Rattle.road_time.specs.declared.road.Report.{Report as ReportValue};
-ghost use Rattle.road_time.specs.Tuples.{reports, place_of as place_of_lem};
+ghost use Rattle.road_time.specs.Tuples.{reports, place_of as defined_place_of};
 ghost use Rattle.road_time.specs.Stops.{stands, trail};
-ghost use Rattle.validator.specs.Halts.{kept, marks_of, halt_if, halts_of, covers as covers_lem};
+ghost use Rattle.validator.specs.Halts.{kept, marks_of, halt_if, halts_of, covers as defined_covers};
 
-use crate::near::{place_of, report_of};
+use crate::places::{place_of, report_of};
 use road_time::{NoMemory, Place, Report, Tuple};
 use std::alloc::Global;
 use std::collections::HashMap;
@@ -36,7 +36,7 @@ pub struct Halt {
 
 /// The run after one more report.
 fn next(last: Option<Seen>, here: Place) -> Seen
-    ensures { (own : List ReportValue) → (r : ReportValue) → kept own ≡ last → place_of_lem r ≡ here
+    ensures { (own : List ReportValue) → (r : ReportValue) → kept own ≡ last → defined_place_of r ≡ here
         → kept (r ∷ own) ≡ Some result }
 {
     match last {
@@ -68,7 +68,7 @@ fn next(last: Option<Seen>, here: Place) -> Seen
 /// Whether the vehicle stands after its next report.
 fn see(seen: &mut HashMap<u32, Seen>, r: &Report) -> Result<bool, NoMemory>
     ensures stands { IfOk result (λ b. (own : List ReportValue) → kept own ≡ get nat_eq seen.old r.now.vid
-        → b ≡ stands (r.now ∷ own) (place_of_lem r.now)) }
+        → b ≡ stands (r.now ∷ own) (defined_place_of r.now)) }
     ensures run { OnOk result ((own : List ReportValue) → kept own ≡ get nat_eq seen.old r.now.vid
         → kept (r.now ∷ own) ≡ get nat_eq seen.new r.now.vid) }
     ensures others { OnOk result ((v : ℕ) → (r.now.vid == v) ≡ false → get nat_eq seen.new v ≡ get nat_eq seen.old v) }
@@ -126,7 +126,7 @@ pub fn halts(alloc: Global, tuples: &[Tuple]) -> Result<Vec<Halt>, NoMemory>
 
 /// Whether the vehicle stands at the end of the second.
 pub fn covers(second: u32, halt: &Halt) -> bool
-    ensures { result ≡ covers_lem second halt.now }
+    ensures { result ≡ defined_covers second halt.now }
 {
     halt.from <= second
         && match halt.to {

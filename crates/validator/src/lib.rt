@@ -1,33 +1,24 @@
-// The plain rules, recomputed over the whole list of tuples.
+//! The plain rules, recomputed over the whole list of tuples: what the engine's output is compared with.
 #![tactic(auto)]
-
-ghost use Rattle.std.specs.Prelude.{◌≡◌, ◌≤◌, ◌-◌, ◌*◌, ◌/◌, ◌<◌, ◌^◌, Some, IfOk, OnOk, ℕ, All, map, length, sum};
-ghost use Rattle.std.specs.List.{filter_map};
-ghost use Rattle.road_time.specs.Notes.{cars, vehicles_of, notes_at, notes_of_vehicle, speed12};
-ghost use Rattle.road_time.specs.declared.road.Frac.{Frac as FracValue};
-ghost use Rattle.road_time.specs.Fits.{IsDay};
-ghost use Rattle.road_time.specs.Lav.{lav, lav_of, flow_at as flow_at_lem};
-ghost use Rattle.validator.specs.Flows.{shown};
-ghost use Rattle.road_time.specs.Tolls.{notes_of};
-ghost use Rattle.road_time.specs.Tuples.{reports};
-ghost use Rattle.validator.specs.Seen.{noted_vehicle, noted_speed, with_vehicle};
-
-use road_time::{Frac, NoMemory, Report, Stretch, Tuple};
-use std::alloc::Global;
 
 mod account;
 mod average;
 mod blocked;
+mod cars;
+mod flows;
 mod found;
 mod halts;
 mod mishaps;
 mod near;
 mod output;
 mod owed;
+mod places;
 mod rows;
 mod spots;
 mod verdict;
 
+pub use cars::plain_cars;
+pub use flows::plain_lav;
 pub use mishaps::plain_log;
 pub use near::plain_near;
 pub use output::plain_notices;
@@ -35,220 +26,3 @@ pub use owed::{plain_owed, plain_toll};
 pub use road_time::Mishap;
 pub use rows::plain_rows;
 pub use verdict::{Verdict, check};
-
-pub fn stretch_of(r: &Report) -> Stretch
-    ensures { result ≡ record { xway = r.now.xway; dir = r.now.dir; seg = r.now.seg } }
-{
-    Stretch {
-        xway: r.xway,
-        dir: r.dir,
-        seg: r.seg,
-    }
-}
-
-/// The vehicle that a tuple reports from the stretch in the minute.
-fn vehicle_at(tuple: &Tuple, in_minute: u32, stretch: Stretch) -> Option<u32>
-    ensures { result ≡ noted_vehicle in_minute stretch tuple.now }
-{
-    match tuple {
-        Tuple::Report(r) => {
-            if r.time / 60 + 1 == in_minute && stretch_of(r) == stretch {
-                Some(r.vid)
-            } else {
-                None
-            }
-        }
-        _ => None,
-    }
-}
-
-/// Adds a vehicle, if it is not there yet.
-fn add_vehicle(vids: &mut Vec<u32>, vid: u32) -> Result<(), NoMemory>
-    ensures { OnOk result (vids.new.items ≡ with_vehicle vids.old.items vid) }
-{
-    if !vids.contains(&vid) {
-        vids.push(vid)?;
-    }
-    Ok(())
-}
-
-/// The vehicles that reported from the stretch in the minute.
-fn vehicles_at(
-    alloc: Global,
-    tuples: &[Tuple],
-    in_minute: u32,
-    stretch: Stretch,
-) -> Result<Vec<u32>, NoMemory>
-    ensures { IfOk result (λ vids. vids.items ≡ vehicles_of
-        (notes_at (notes_of (reports tuples.now)) in_minute stretch)) }
-{
-    let mut vids: Vec<u32> = Vec::new(alloc);
-    for tuple in tuples {
-        if let Some(vid) = vehicle_at(tuple, in_minute, stretch) {
-            add_vehicle(&mut vids, vid)?;
-        }
-    }
-    Ok(vids)
-}
-
-/// The cars for a minute: the vehicles that reported from the stretch in the minute before.
-#[tactic(auto, using(road_time::proofs::FitLaws::few_vehicles))]
-pub fn plain_cars(
-    alloc: Global,
-    tuples: &[Tuple],
-    in_minute: u32,
-    stretch: Stretch,
-) -> Result<u32, NoMemory>
-    requires { IsDay tuples.now }
-    ensures few { IfOk result (λ n. n ≤ 500000) }
-    ensures exact { IfOk result (λ n. n ≡ cars (notes_of (reports tuples.now)) (in_minute - 1) stretch) }
-{
-    let vids = vehicles_at(alloc, tuples, in_minute.saturating_sub(1), stretch)?;
-    Ok(vids.len() as u32)
-}
-
-/// The speed that a tuple reports of the vehicle from the stretch in the minute.
-fn speed_at(tuple: &Tuple, in_minute: u32, stretch: Stretch, vid: u32) -> Option<u8>
-    ensures { result ≡ noted_speed in_minute stretch vid tuple.now }
-{
-    match tuple {
-        Tuple::Report(r) => {
-            if r.time / 60 + 1 == in_minute && stretch_of(r) == stretch && r.vid == vid {
-                Some(r.spd)
-            } else {
-                None
-            }
-        }
-        _ => None,
-    }
-}
-
-/// The vehicle's speeds in the stretch and the minute.
-fn speeds_of(
-    alloc: Global,
-    tuples: &[Tuple],
-    in_minute: u32,
-    stretch: Stretch,
-    vid: u32,
-) -> Result<Vec<u8>, NoMemory>
-    ensures { IfOk result (λ speeds. speeds.items ≡ filter_map (noted_speed in_minute stretch vid) tuples.now) }
-{
-    Ok(
-        tuples
-            .iter()
-            .filter_map(|tuple| speed_at(tuple, in_minute, stretch, vid))
-            .collect(alloc)?,
-    )
-}
-
-/// Twelve times the mean of the speeds, or 0.
-fn mean12(speeds: &[u8]) -> u64
-    requires lines { length speeds.now ≤ 16000000 }
-    ensures mean { result ≡ (12 * sum speeds.now) / length speeds.now }
-    ensures bounded { result ≤ 3060 }
-{
-    if speeds.is_empty() {
-        return 0;
-    }
-    let mut total: u64 = 0;
-    for speed in speeds {
-        total += u64::from(*speed);
-    }
-    12 * total / speeds.len() as u64
-}
-
-/// Twelve times the mean of the vehicle's speeds in the stretch and the minute, or 0.
-#[tactic(auto, using(crate::proofs::SeenLaws::speed12_from, crate::proofs::SeenLaws::few_speeds))]
-fn speed12_at(
-    alloc: Global,
-    tuples: &[Tuple],
-    in_minute: u32,
-    stretch: Stretch,
-    vid: u32,
-) -> Result<u64, NoMemory>
-    requires lines { length tuples.now ≤ 16000000 }
-    ensures mean { IfOk result (λ s. s ≡ speed12
-        (notes_of_vehicle (notes_at (notes_of (reports tuples.now)) in_minute stretch) vid)) }
-    ensures bounded { IfOk result (λ s. s ≤ 3060) }
-{
-    let speeds = speeds_of(alloc, tuples, in_minute, stretch, vid)?;
-    Ok(mean12(speeds.as_slice()))
-}
-
-/// The cars of a stretch in a minute, and their speeds in twelfths.
-#[derive(Clone, Copy, Debug, PartialEq, Eq)]
-pub struct Flow {
-    pub cars: u32,
-    pub speeds12: u64,
-}
-
-#[tactic(auto, using(road_time::proofs::NoteLaws::no_more_cars))]
-fn flow_at(
-    alloc: Global,
-    tuples: &[Tuple],
-    in_minute: u32,
-    stretch: Stretch,
-) -> Result<Flow, NoMemory>
-    requires lines { length tuples.now ≤ 16000000 }
-    ensures flow { IfOk result (λ f. shown f ≡ flow_at_lem (notes_of (reports tuples.now)) stretch in_minute) }
-    ensures bounded { IfOk result (λ f. f.speeds12 ≤ 3060 * f.cars) }
-{
-    let vids = vehicles_at(alloc, tuples, in_minute, stretch)?;
-    let mut sum: u64 = 0;
-    for vid in &vids {
-        sum += speed12_at(alloc, tuples, in_minute, stretch, *vid)?;
-    }
-    Ok(Flow {
-        cars: vids.len() as u32,
-        speeds12: sum,
-    })
-}
-
-/// The mean of the averages of the flows that have cars.
-fn mean_average(flows: &[Flow]) -> Option<Frac>
-    requires few { length flows.now ≤ 5 }
-    requires cars { All (λ f. f.cars ≤ 500000) flows.now }
-    requires speeds { All (λ f. f.speeds12 ≤ 3060 * f.cars) flows.now }
-    ensures small { (f : FracValue) → result ≡ Some f → f.den < 2 ^ 120 }
-    ensures exact { result ≡ lav_of (map shown flows.now) }
-{
-    let mut num: u128 = 0;
-    let mut den: u128 = 1;
-    let mut busy: u128 = 0;
-    for flow in flows {
-        if flow.cars > 0 {
-            num = num * u128::from(flow.cars) + u128::from(flow.speeds12) * den;
-            den *= u128::from(flow.cars);
-            busy += 1;
-        }
-    }
-    if busy == 0 {
-        None
-    } else {
-        Some(Frac {
-            num,
-            den: 12 * busy * den,
-        })
-    }
-}
-
-/// The average speed that tolls of the minute go by.
-#[tactic(auto, using(road_time::proofs::FitLaws::cars_few_day))]
-pub fn plain_lav(
-    alloc: Global,
-    tuples: &[Tuple],
-    in_minute: u32,
-    stretch: Stretch,
-) -> Result<Option<Frac>, NoMemory>
-    requires { IsDay tuples.now }
-    ensures small { IfOk result (λ l. (f : FracValue) → l ≡ Some f → f.den < 2 ^ 120) }
-    ensures exact { IfOk result (λ l. l ≡ lav (notes_of (reports tuples.now)) in_minute stretch) }
-{
-    let a = flow_at(alloc, tuples, in_minute.saturating_sub(5), stretch)?;
-    let b = flow_at(alloc, tuples, in_minute.saturating_sub(4), stretch)?;
-    let c = flow_at(alloc, tuples, in_minute.saturating_sub(3), stretch)?;
-    let d = flow_at(alloc, tuples, in_minute.saturating_sub(2), stretch)?;
-    let e = flow_at(alloc, tuples, in_minute.saturating_sub(1), stretch)?;
-    let flows = [a, b, c, d, e];
-    Ok(mean_average(&flows))
-}

@@ -6,14 +6,15 @@ ghost use Rattle.std.specs.BTreeSet.{insert_key};
 ghost use Rattle.road_time.specs.Fits.{IsDay};
 ghost use Rattle.road_time.specs.Order.{greatest_time};
 ghost use Rattle.road_time.specs.Tuples.{reports};
-ghost use Rattle.road_time.specs.Log.{places_of, place_cmp, stands_first, stands_for, ends_at as ends_at_lem};
+ghost use Rattle.road_time.specs.Log.{places_of, place_cmp, stands_first, stands_for, ends_at as defined_ends_at};
 ghost use Rattle.road_time.specs.Log.{mishap_if, log_of};
-ghost use Rattle.validator.specs.Halts.{is_at as is_at_lem, halts_of};
-ghost use Rattle.validator.specs.Groups.{stands_with as stands_with_lem, has_other as has_other_lem, shown_group};
+ghost use Rattle.validator.specs.Halts.{is_at as defined_is_at, halts_of};
+ghost use Rattle.validator.specs.Groups.{stands_with as defined_stands_with, has_other as defined_has_other};
+ghost use Rattle.validator.specs.Groups.{shown_group};
 ghost use Rattle.validator.specs.Groups.{groups_of, mishap_in};
 
 use crate::halts::{Halt, covers, halts};
-use crate::near::{place_of, report_of};
+use crate::places::{place_of, report_of};
 use road_time::{Mishap, NoMemory, Place, Tuple};
 use std::alloc::Global;
 use std::collections::BTreeSet;
@@ -27,14 +28,14 @@ pub struct Group {
 
 /// Another vehicle stands there at the end of the second.
 fn has_other(halts: &[Halt], second: u32, vid: u32) -> bool
-    ensures { result ≡ has_other_lem halts.now second vid }
+    ensures { result ≡ defined_has_other halts.now second vid }
 {
     halts.iter().any(|b| covers(second, b) && vid != b.vid)
 }
 
 /// Two vehicles stand there at the end of the second.
 fn stands_with(halts: &[Halt], second: u32) -> bool
-    ensures { result ≡ stands_with_lem halts.now second }
+    ensures { result ≡ defined_stands_with halts.now second }
 {
     halts
         .iter()
@@ -43,7 +44,7 @@ fn stands_with(halts: &[Halt], second: u32) -> bool
 
 /// Seconds at which two vehicles stand there begin at this one.
 fn begins_at(halts: &[Halt], second: u32) -> bool
-    ensures { result ≡ stands_first (stands_with_lem halts.now) second }
+    ensures { result ≡ stands_first (defined_stands_with halts.now) second }
 {
     if second == 0 {
         stands_with(halts, 0)
@@ -57,7 +58,7 @@ fn seconds_from(halts: &[Halt], from: u32, last: u32) -> u32
     requires day { last ≤ 86399 }
     requires inside { from ≤ last }
     ensures fits { from + result ≤ last + 1 }
-    ensures exact { result ≡ stands_for (stands_with_lem halts.now) last from }
+    ensures exact { result ≡ stands_for (defined_stands_with halts.now) last from }
 {
     for second in from..last + 1 {
         if !stands_with(halts, second) {
@@ -71,7 +72,7 @@ fn seconds_from(halts: &[Halt], from: u32, last: u32) -> u32
 fn ends_at(last: u32, from: u32, seconds: u32) -> Option<u32>
     requires day { last ≤ 86399 }
     requires fits { from + seconds ≤ last + 1 }
-    ensures { result ≡ ends_at_lem last from seconds }
+    ensures { result ≡ defined_ends_at last from seconds }
 {
     if from + seconds == last + 1 {
         None
@@ -152,7 +153,7 @@ fn places(alloc: Global, tuples: &[Tuple]) -> Result<Vec<Place>, NoMemory>
 
 /// The halts at the place.
 fn halts_at(alloc: Global, halts: &[Halt], place: Place) -> Result<Vec<Halt>, NoMemory>
-    ensures { IfOk result (λ some. some.items ≡ filter (is_at_lem place) halts.now) }
+    ensures { IfOk result (λ some. some.items ≡ filter (defined_is_at place) halts.now) }
 {
     let mut some: Vec<Halt> = Vec::new(alloc);
     for halt in halts {

@@ -1,46 +1,17 @@
-// Accidents, recomputed over the whole list.
-ghost use Rattle.std.specs.Prelude.{◌≡◌, ◌≤◌, ◌-◌, IfOk, ℕ, length, ◌&&◌, ◌==◌, not};
+// Accidents, recomputed over the whole list: each question goes through all reports, so that the answer can be read off
+// the rule. A whole day asks for too many: it is recomputed by when each vehicle stands where (`blocked`).
+ghost use Rattle.std.specs.Prelude.{◌≡◌, IfOk, ◌&&◌, ◌==◌, not};
 ghost use Rattle.std.specs.List.{list_any, prefix_len};
-ghost use Rattle.road_time.specs.Tuples.{reports, report_of as report_of_lem, place_of as place_of_lem};
-ghost use Rattle.road_time.specs.Tuples.{stretch_around as stretch_around_lem, same_place};
-ghost use Rattle.road_time.specs.Stops.{up_to, is_stopped as is_stopped_lem, trail as trail_lem, stops as stops_lem};
-ghost use Rattle.road_time.specs.Stops.{has_accident as has_accident_lem, stood as stood_lem, near, segments_ahead};
+ghost use Rattle.road_time.specs.Tuples.{reports, place_of as defined_place_of, same_place};
+ghost use Rattle.road_time.specs.Stops.{up_to, is_stopped as defined_is_stopped, trail as defined_trail};
+ghost use Rattle.road_time.specs.Stops.{stops as defined_stops};
+ghost use Rattle.road_time.specs.Stops.{has_accident as defined_has_accident, stood as defined_stood};
 ghost use Rattle.road_time.specs.Tolls.{stops_at, near_at};
 ghost use Rattle.road_time.specs.Ways.{downstream_of};
 
+use crate::places::{place_of, report_of, stretch_around};
 use road_time::{NoMemory, Place, Report, Stretch, Tuple};
 use std::alloc::Global;
-
-pub fn report_of(tuple: &Tuple) -> Option<Report>
-    ensures { result ≡ report_of_lem tuple.now }
-{
-    match tuple {
-        Tuple::Report(r) => Some(*r),
-        _ => None,
-    }
-}
-
-pub fn place_of(r: &Report) -> Place
-    ensures { result ≡ place_of_lem r.now }
-{
-    Place {
-        xway: r.xway,
-        dir: r.dir,
-        lane: r.lane,
-        seg: r.seg,
-        pos: r.pos,
-    }
-}
-
-pub fn stretch_around(p: Place) -> Stretch
-    ensures { result ≡ stretch_around_lem p }
-{
-    Stretch {
-        xway: p.xway,
-        dir: p.dir,
-        seg: p.seg,
-    }
-}
 
 /// The reports up to the end of the second.
 fn reports_up_to(alloc: Global, tuples: &[Tuple], second: u64) -> Result<Vec<Report>, NoMemory>
@@ -57,7 +28,7 @@ fn reports_up_to(alloc: Global, tuples: &[Tuple], second: u64) -> Result<Vec<Rep
 
 /// The vehicle's reports, the newest first.
 pub fn trail(alloc: Global, reports: &[Report], vid: u32) -> Result<Vec<Report>, NoMemory>
-    ensures { IfOk result (λ rs. rs.items ≡ trail_lem reports.now vid) }
+    ensures { IfOk result (λ rs. rs.items ≡ defined_trail reports.now vid) }
 {
     Ok(
         reports
@@ -71,7 +42,7 @@ pub fn trail(alloc: Global, reports: &[Report], vid: u32) -> Result<Vec<Report>,
 
 /// How many of the first reports are at the place, before another one.
 fn run_at(trail: &[Report], place: Place) -> usize
-    ensures { result ≡ prefix_len (λ r. same_place (place_of_lem r) place) trail.now }
+    ensures { result ≡ prefix_len (λ r. same_place (defined_place_of r) place) trail.now }
 {
     for (i, r) in trail.iter().enumerate() {
         if place_of(r) != place {
@@ -83,7 +54,7 @@ fn run_at(trail: &[Report], place: Place) -> usize
 
 /// The vehicle's last four reports exist and are at the place.
 fn is_stopped(alloc: Global, reports: &[Report], vid: u32, place: Place) -> Result<bool, NoMemory>
-    ensures { IfOk result (λ b. b ≡ is_stopped_lem reports.now vid place) }
+    ensures { IfOk result (λ b. b ≡ defined_is_stopped reports.now vid place) }
 {
     let trail = trail(alloc, reports, vid)?;
     Ok(run_at(trail.as_slice(), place) >= 4)
@@ -91,7 +62,7 @@ fn is_stopped(alloc: Global, reports: &[Report], vid: u32, place: Place) -> Resu
 
 /// The vehicles that are stopped after the reports, each with its place.
 fn stops(alloc: Global, reports: &[Report]) -> Result<Vec<(u32, Place)>, NoMemory>
-    ensures { IfOk result (λ ss. ss.items ≡ stops_lem reports.now) }
+    ensures { IfOk result (λ ss. ss.items ≡ defined_stops reports.now) }
 {
     let mut stopped = Vec::new(alloc);
     for r in reports {
@@ -112,7 +83,7 @@ fn has_partner(stops: &[(u32, Place)], vid: u32, place: Place) -> bool
 
 /// Two vehicles stand at one place of the stretch.
 pub fn has_accident(stops: &[(u32, Place)], stretch: Stretch) -> bool
-    ensures { result ≡ has_accident_lem stops.now stretch }
+    ensures { result ≡ defined_has_accident stops.now stretch }
 {
     stops.iter().any(|a| stretch_around(a.1) == stretch && has_partner(stops, a.0, a.1))
 }
@@ -124,7 +95,7 @@ fn accident_at(
     second: u64,
     stretch: Stretch,
 ) -> Result<bool, NoMemory>
-    ensures { IfOk result (λ b. b ≡ has_accident_lem (stops_at (reports tuples.now) second) stretch) }
+    ensures { IfOk result (λ b. b ≡ defined_has_accident (stops_at (reports tuples.now) second) stretch) }
 {
     let seen = reports_up_to(alloc, tuples, second)?;
     let stopped = stops(alloc, seen.as_slice())?;
@@ -138,7 +109,7 @@ fn stood(
     in_minute: u32,
     stretch: Stretch,
 ) -> Result<bool, NoMemory>
-    ensures { IfOk result (λ b. b ≡ stood_lem (stops_at (reports tuples.now)) in_minute stretch) }
+    ensures { IfOk result (λ b. b ≡ defined_stood (stops_at (reports tuples.now)) in_minute stretch) }
 {
     if in_minute == 0 {
         return Ok(false);

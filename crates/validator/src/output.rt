@@ -8,11 +8,11 @@ ghost use Rattle.road_time.specs.Tuples.{reports};
 ghost use Rattle.road_time.specs.Fits.{IsDay, IsReport, IsValid};
 ghost use Rattle.road_time.specs.Stays.{is_told};
 ghost use Rattle.road_time.specs.Tolls.{finding_at};
-ghost use Rattle.road_time.specs.Day.{notices as notices_lem, charges as charges_lem, sum_of};
+ghost use Rattle.road_time.specs.Day.{notices as defined_notices, charges as defined_charges, sum_of};
 ghost use Rattle.road_time.specs.Sights.{moments};
 ghost use Rattle.validator.specs.Findings.{shown_told, finding_if, Known};
 ghost use Rattle.validator.specs.Accounts.{shown_charge, notices_told, owed_kept, toll_kept};
-ghost use Rattle.validator.specs.History.{is_row, paid as paid_lem, KeysDiffer};
+ghost use Rattle.validator.specs.History.{is_row, paid as defined_paid, KeysDiffer};
 ghost use Rattle.validator.specs.Gathered.{IsGathered};
 ghost use Rattle.validator.specs.Outputs.{IsOutput, Stands};
 
@@ -96,7 +96,7 @@ fn row_of(history: &[SpentRow], day: u32, vid: u32, xway: u8) -> Option<SpentRow
 
 /// What a vehicle paid on an expressway on a day.
 fn paid(history: &[SpentRow], day: u32, vid: u32, xway: u8) -> u64
-    ensures { result ≡ paid_lem history.now day vid xway }
+    ensures { result ≡ defined_paid history.now day vid xway }
 {
     match row_of(history, day, vid, xway) {
         None => 0,
@@ -144,10 +144,10 @@ fn take_tuple(
     requires right { IsGathered gathered.now }
     requires late { 70 ≤ day }
     requires valid { IsValid tuple.now }
-    requires stands { Stands gathered.now.tuples.now tariffs.now day (paid_lem history.now) output.old }
+    requires stands { Stands gathered.now.tuples.now tariffs.now day (defined_paid history.now) output.old }
     ensures { OnOk result ((before : List TupleValue)
-        → IsOutput gathered.now.tuples.now tariffs.now day (paid_lem history.now) output.old before
-        → IsOutput gathered.now.tuples.now tariffs.now day (paid_lem history.now) output.new
+        → IsOutput gathered.now.tuples.now tariffs.now day (defined_paid history.now) output.old before
+        → IsOutput gathered.now.tuples.now tariffs.now day (defined_paid history.now) output.new
         (before ++ tuple.now ∷ [])) }
 {
     match tuple {
@@ -191,7 +191,7 @@ fn outputs(
 ) -> Result<Output, NoMemory>
     requires fit { IsDay tuples.now }
     requires late { 70 ≤ day }
-    ensures { IfOk result (λ o. IsOutput tuples.now tariffs.now day (paid_lem history.now) o tuples.now) }
+    ensures { IfOk result (λ o. IsOutput tuples.now tariffs.now day (defined_paid history.now) o tuples.now) }
 {
     let gathered = gather(alloc, tuples)?;
     let mut output = Output {
@@ -210,7 +210,7 @@ fn outputs(
 pub fn charges(alloc: Global, tuples: &[Tuple], tariffs: &Tariffs) -> Result<Vec<Charge>, NoMemory>
     requires fit { IsDay tuples.now }
     ensures few { IfOk result (λ cs. sum_of (map shown_charge cs.items) < 2 ^ 63) }
-    ensures exact { IfOk result (λ cs. map shown_charge cs.items ≡ charges_lem tuples.now tariffs.now
+    ensures exact { IfOk result (λ cs. map shown_charge cs.items ≡ defined_charges tuples.now tariffs.now
         (moments tuples.now)) }
 {
     let none: [SpentRow; 0] = [];
@@ -230,7 +230,7 @@ pub fn plain_notices(
     requires low { 70 ≤ day }
     requires high { day ≤ 1000000 }
     requires keys { KeysDiffer history.now }
-    ensures { IfOk result (λ all. all.items ≡ notices_lem tuples.now tariffs.now day (paid_lem history.now)) }
+    ensures { IfOk result (λ all. all.items ≡ defined_notices tuples.now tariffs.now day (defined_paid history.now)) }
 {
     let output = outputs(alloc, tuples, tariffs, day, history)?;
     Ok(output.notices)

@@ -2,23 +2,26 @@
 ghost use Rattle.std.specs.Prelude.{◌≡◌, ◌≤◌, ◌<◌, ◌^◌, IfOk, ℕ, length, take, Some, slice_get};
 ghost use Rattle.road_time.specs.declared.road.Frac.{Frac};
 ghost use Rattle.road_time.specs.Tuples.{reports};
-ghost use Rattle.road_time.specs.Rates.{IsTariff, is_slow as is_slow_lem, toll_of as toll_of_lem};
+ghost use Rattle.road_time.specs.Rates.{IsTariff, is_slow as defined_is_slow, toll_of as defined_toll_of};
 ghost use Rattle.road_time.specs.Tolls.{toll_at};
-ghost use Rattle.road_time.specs.Sights.{sight_of as sight_of_lem, sights as sights_lem, sights_of as sights_of_lem};
-ghost use Rattle.road_time.specs.Sights.{previous as previous_lem};
-ghost use Rattle.road_time.specs.Stays.{begins as begins_lem, is_charged, stay_start as stay_start_lem};
+ghost use Rattle.road_time.specs.Sights.{sight_of as defined_sight_of, sights as defined_sights};
+ghost use Rattle.road_time.specs.Sights.{sights_of as defined_sights_of};
+ghost use Rattle.road_time.specs.Sights.{previous as defined_previous};
+ghost use Rattle.road_time.specs.Stays.{begins as defined_begins, is_charged, stay_start as defined_stay_start};
 ghost use Rattle.road_time.specs.Day.{owed_amount};
 ghost use Rattle.road_time.specs.declared.road.Tuple.{Tuple as TupleValue};
 ghost use Rattle.road_time.specs.Fits.{IsDay};
 
-use crate::near::{plain_near, report_of};
-use crate::{plain_cars, plain_lav, stretch_of};
+use crate::cars::plain_cars;
+use crate::flows::plain_lav;
+use crate::near::plain_near;
+use crate::places::{report_of, stretch_of};
 use road_time::{Frac, NoMemory, Report, Stretch, Tariff, Tariffs, Tuple, minute};
 use std::alloc::Global;
 
 /// The newest of a vehicle's reports.
 fn previous(own: &[(usize, Report)]) -> Option<Report>
-    ensures { result ≡ previous_lem own.now }
+    ensures { result ≡ defined_previous own.now }
 {
     match own.split_first() {
         None => None,
@@ -28,7 +31,7 @@ fn previous(own: &[(usize, Report)]) -> Option<Report>
 
 /// The report begins a stay, after its vehicle's previous report.
 pub fn begins(prev: Option<Report>, r: &Report) -> bool
-    ensures { result ≡ begins_lem prev r.now }
+    ensures { result ≡ defined_begins prev r.now }
 {
     match prev {
         None => true,
@@ -38,7 +41,7 @@ pub fn begins(prev: Option<Report>, r: &Report) -> bool
 
 /// Of a vehicle's reports, the newest first, the one that began the stay of the newest.
 fn stay_start(own: &[(usize, Report)]) -> Option<(usize, Report)>
-    ensures { result ≡ stay_start_lem own.now }
+    ensures { result ≡ defined_stay_start own.now }
 {
     let mut rest = own;
     while let Some((newest, older)) = rest.split_first() {
@@ -53,7 +56,7 @@ fn stay_start(own: &[(usize, Report)]) -> Option<(usize, Report)>
 fn is_slow(speed: u8, average: Option<Frac>) -> bool
     requires speed { speed ≤ 100 }
     requires fits { (f : Frac) → average ≡ Some f → f.den < 2 ^ 120 }
-    ensures { result ≡ is_slow_lem speed average }
+    ensures { result ≡ defined_is_slow speed average }
 {
     match average {
         None => false,
@@ -65,7 +68,7 @@ pub fn toll_of(tariff: Tariff, count: u32, average: Option<Frac>, blocked: bool)
     requires valid { IsTariff tariff }
     requires few { count ≤ 500000 }
     requires fits { (f : Frac) → average ≡ Some f → f.den < 2 ^ 120 }
-    ensures { result ≡ toll_of_lem tariff count average blocked }
+    ensures { result ≡ defined_toll_of tariff count average blocked }
 {
     if count > tariff.crowd && is_slow(tariff.speed, average) && !blocked {
         let over = u64::from(count - tariff.crowd);
@@ -94,7 +97,7 @@ pub fn plain_toll(
 
 /// The report that a tuple is, with the tuple's position.
 fn sight_of(at: usize, tuple: &Tuple) -> Option<(usize, Report)>
-    ensures { result ≡ sight_of_lem (at, tuple.now) }
+    ensures { result ≡ defined_sight_of (at, tuple.now) }
 {
     match tuple {
         Tuple::Report(r) => Some((at, *r)),
@@ -103,7 +106,7 @@ fn sight_of(at: usize, tuple: &Tuple) -> Option<(usize, Report)>
 }
 
 fn sights(alloc: Global, tuples: &[Tuple]) -> Result<Vec<(usize, Report)>, NoMemory>
-    ensures { IfOk result (λ all. all.items ≡ sights_lem tuples.now) }
+    ensures { IfOk result (λ all. all.items ≡ defined_sights tuples.now) }
 {
     Ok(
         tuples
@@ -116,7 +119,7 @@ fn sights(alloc: Global, tuples: &[Tuple]) -> Result<Vec<(usize, Report)>, NoMem
 
 /// The vehicle's reports, the newest first.
 fn sights_of(alloc: Global, tuples: &[Tuple], vid: u32) -> Result<Vec<(usize, Report)>, NoMemory>
-    ensures { IfOk result (λ own. own.items ≡ sights_of_lem tuples.now vid) }
+    ensures { IfOk result (λ own. own.items ≡ defined_sights_of tuples.now vid) }
 {
     let all = sights(alloc, tuples)?;
     Ok(

@@ -2,7 +2,7 @@
 ghost use Rattle.std.specs.Prelude.{◌≡◌, ◌≤◌, ◌<◌, ◌^◌, ◌++◌, map, IfOk, OnOk, ℕ};
 ghost use Rattle.std.specs.List.{filter, flat_map};
 ghost use Rattle.road_time.specs.Fits.{IsDay};
-ghost use Rattle.road_time.specs.Day.{sum_of, charges_to as charges_to_lem};
+ghost use Rattle.road_time.specs.Day.{sum_of, charges_to as defined_charges_to};
 ghost use Rattle.road_time.specs.Rows.{in_order, charges_on, rows_to, rows_of};
 ghost use Rattle.validator.specs.RowParts.{row_on, has_tolls};
 ghost use Rattle.validator.specs.Accounts.{shown_charge};
@@ -37,7 +37,7 @@ fn expressways(alloc: Global, charges: &[Charge]) -> Result<Vec<u8>, NoMemory>
 
 /// The charges of a vehicle.
 fn charges_to(alloc: Global, charges: &[Charge], vid: u32) -> Result<Vec<Charge>, NoMemory>
-    ensures { IfOk result (λ own. map shown_charge own.items ≡ charges_to_lem vid (map shown_charge charges.now)) }
+    ensures { IfOk result (λ own. map shown_charge own.items ≡ defined_charges_to vid (map shown_charge charges.now)) }
 {
     let mut own: Vec<Charge> = Vec::new(alloc);
     for charge in charges {
@@ -98,7 +98,7 @@ fn add_vehicle_rows(
 ) -> Result<(), NoMemory>
     requires { sum_of (map shown_charge charges.now) < 2 ^ 63 }
     ensures { OnOk result (rows.new.items ≡ rows.old.items ++ filter has_tolls
-        (rows_to day vid (charges_to_lem vid (map shown_charge charges.now)))) }
+        (rows_to day vid (defined_charges_to vid (map shown_charge charges.now)))) }
 {
     let own = charges_to(alloc, charges, vid)?;
     let xways = expressways(alloc, own.as_slice())?;
@@ -115,7 +115,7 @@ fn rows_for(
 ) -> Result<Vec<SpentRow>, NoMemory>
     requires { sum_of (map shown_charge charges.now) < 2 ^ 63 }
     ensures { IfOk result (λ rows. rows.items ≡ filter has_tolls
-        (flat_map (λ v. rows_to day v (charges_to_lem v (map shown_charge charges.now))) vids.now)) }
+        (flat_map (λ v. rows_to day v (defined_charges_to v (map shown_charge charges.now))) vids.now)) }
 {
     let mut rows: Vec<SpentRow> = Vec::new(alloc);
     for vid in vids {

@@ -7,11 +7,10 @@ ghost use Rattle.road_time.specs.declared.road.Stretch.{Stretch as StretchValue}
 ghost use Rattle.road_time.specs.Tuples.{same_stretch};
 ghost use Rattle.validator.specs.declared.spots.Spot.{Spot as SpotValue};
 ghost use Rattle.validator.specs.Halts.{is_in};
-ghost use Rattle.validator.specs.Gathered.{same_spot, spot_of as spot_of_lem, is_of, listed, IsGathered};
+ghost use Rattle.validator.specs.Gathered.{same_spot, spot_of as defined_spot_of, is_of, listed, IsGathered};
 
 use crate::halts::{Halt, halts};
-use crate::near::stretch_around;
-use crate::stretch_of;
+use crate::places::{stretch_around, stretch_of};
 use road_time::{NoMemory, Report, Stretch, Tuple};
 use std::alloc::Global;
 use std::collections::HashMap;
@@ -33,7 +32,7 @@ pub struct Gathered<'a> {
 
 /// The stretch and the minute of a report.
 pub fn spot_of(r: &Report) -> Spot
-    ensures { result ≡ spot_of_lem r.now }
+    ensures { result ≡ defined_spot_of r.now }
 {
     Spot {
         minute: r.time / 60 + 1,

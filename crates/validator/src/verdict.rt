@@ -1,7 +1,7 @@
 // Whether notices are those of a day.
 ghost use Rattle.std.specs.Prelude.{◌≡◌, ◌≤◌, IfOk, true, slice_get};
 ghost use Rattle.road_time.specs.Fits.{IsDay};
-ghost use Rattle.road_time.specs.Day.{notices as notices_lem};
+ghost use Rattle.road_time.specs.Day.{notices as defined_notices};
 ghost use Rattle.validator.specs.History.{paid, KeysDiffer};
 ghost use Rattle.validator.specs.Verdicts.{IsVerdict};
 
@@ -127,7 +127,7 @@ pub fn check(
     requires high { day ≤ 1000000 }
     requires keys { KeysDiffer history.now }
     ensures { IfOk result (λ verdict. IsVerdict
-        (notices_lem tuples.now tariffs.now day (paid history.now)) notices.now verdict) }
+        (defined_notices tuples.now tariffs.now day (paid history.now)) notices.now verdict) }
 {
     let wanted = plain_notices(alloc, tuples, tariffs, day, history)?;
     Ok(compare(wanted.as_slice(), notices))

@@ -1,7 +1,8 @@
 //! A day's audit: vehicles are tracked by shards at once, findings are made by ways, charges come last.
 //!
 //! A tracker asks nothing of other vehicles' reports. So any shard of the vehicles is tracked alone, and what each
-//! position tells stands in its shard's queue. Each worker's ways are one job over the events that its positions tell it.
+//! position tells stands in its shard's queue. Each worker's ways are one job over the events that its positions tell
+//! it.
 #![tactic(auto)]
 
 mod closing;

@@ -1,6 +1,6 @@
 // What vehicles paid on earlier days, looked up.
 ghost use Rattle.std.specs.Prelude.{◌≡◌, ℕ, IfOk};
-ghost use Rattle.validator.specs.History.{paid as paid_lem};
+ghost use Rattle.validator.specs.History.{paid as defined_paid};
 ghost use Rattle.vehicle_workers.specs.Payments.{amounts_of};
 
 use road_time::{NoMemory, SpentRow};
@@ -18,7 +18,7 @@ impl Payments {
     /// stands.
     pub(crate) fn of(alloc: Global, history: &[SpentRow]) -> Result<Self, NoMemory>
         ensures { IfOk result (λ new. (day vid xway : ℕ)
-            → amounts_of new.amounts.entries day vid xway ≡ paid_lem history.now day vid xway) }
+            → amounts_of new.amounts.entries day vid xway ≡ defined_paid history.now day vid xway) }
     {
         let mut amounts = HashMap::with_capacity(alloc, history.len())?;
         let mut left = history;

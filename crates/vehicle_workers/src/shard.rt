@@ -7,7 +7,7 @@ ghost use Rattle.road_time.specs.Tuples.{reports};
 ghost use Rattle.crossings.specs.declared.tracked.Tracked.{Tracked as TrackedValue};
 ghost use Rattle.crossings.specs.Stands.{StandsFor};
 ghost use Rattle.vehicle_workers.specs.Seen.{tracked_of};
-ghost use Rattle.vehicle_workers.specs.Own.{belongs as belongs_lem, own_of, own_tracked, told_after};
+ghost use Rattle.vehicle_workers.specs.Own.{belongs as defined_belongs, own_of, own_tracked, told_after};
 ghost use Rattle.vehicle_workers.specs.Stands.{WentOver};
 
 use crossings::{Tracked, Tracker};
@@ -28,7 +28,7 @@ pub struct Shard {
 #[inline(always)]
 fn belongs(report: &Report, place: usize, count: usize) -> bool
     requires { 0 < count }
-    ensures { result ≡ belongs_lem place count report.now }
+    ensures { result ≡ defined_belongs place count report.now }
 {
     report.vid as usize % count == place
 }
@@ -49,7 +49,7 @@ impl Shard {
 
     /// Sees a report of one of its vehicles.
     fn keep(&mut self, report: &Report, place: usize, count: usize) -> Result<(), NoMemory>
-        requires { belongs_lem place count report.now ≡ true }
+        requires { defined_belongs place count report.now ≡ true }
         ensures tracked { OnOk result ((day : List TupleValue)
             → StandsFor self.old.tracker (own_of place count (reports day))
             → StandsFor self.new.tracker (own_of place count (reports (day ++ ReportTuple report.now ∷ [])))) }

@@ -1,6 +1,6 @@
 use Rattle.std.proofs.Common.{◌≡◌, ◌≤◌, None, IfOk, length, ap, sym, ◌∙◌, subst, rules}
 use Rattle.std.specs.HashMap.{get}
-use Rattle.road_time.specs.Lav.{Flow, flow_at as flow_lem}
+use Rattle.road_time.specs.Lav.{Flow, flow_at as defined_flow}
 use Rattle.road_time.specs.Tuples.{reports}
 use Rattle.road_time.specs.Tolls.{notes_of}
 use Rattle.validator.specs.declared.spots.Spot.{Spot}
@@ -27,5 +27,5 @@ pub returns-in-Some-clause-flow : goal.returns-in-Some-clause-flow
 returns-in-Some-clause-flow c =
     let s : Spot = record { minute = c.args.in_minute; stretch = c.args.stretch } in
     let kept : c.as_slice.result.now ≡ listed (get same_spot c.args.gathered.now.by_spot s) = search rules in
-    let same = ap (λ xs. flow_lem (notes_of (reports xs)) c.args.stretch c.args.in_minute) (kept ∙ c.requires.right.by_spot s) ∙ flow_there s c.args.gathered.now.tuples.now in
+    let same = ap (λ xs. defined_flow (notes_of (reports xs)) c.args.stretch c.args.in_minute) (kept ∙ c.requires.right.by_spot s) ∙ flow_there s c.args.gathered.now.tuples.now in
     subst (λ (flow : Flow). IfOk c.flow_at.result (λ f. shown f ≡ flow)) same c.flow_at.ensures.flow

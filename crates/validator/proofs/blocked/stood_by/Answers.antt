@@ -1,5 +1,5 @@
 use Rattle.std.proofs.Common.{◌≡◌, ◌-◌, ◌*◌, ◌+◌, [], ◌∷◌, List, length, arith, sym, ap, ◌∙◌, rules, refl}
-use Rattle.road_time.specs.Stops.{stood as stood_lem, has_accident}
+use Rattle.road_time.specs.Stops.{stood as defined_stood, has_accident}
 use Rattle.road_time.proofs.StoodLaws.{stood_at, stood_never, stood_zero}
 use Rattle.validator.specs.declared.halts.Halt.{Halt}
 use Rattle.road_time.specs.Tuples.{reports}
@@ -13,7 +13,7 @@ none_left (x ∷ xs) e = absurd (omega arith)
 
 pub returns-then-in_minute-eq0 : goal.returns-then-in_minute-eq0
 returns-then-in_minute-eq0 c =
-    sym (ap (λ m. stood_lem (halting (halts_of (reports c.args.gathered.now.tuples.now))) m c.args.stretch) c.if-in_minute-eq0.true ∙ stood_zero (halting (halts_of (reports c.args.gathered.now.tuples.now))) c.args.stretch)
+    sym (ap (λ m. defined_stood (halting (halts_of (reports c.args.gathered.now.tuples.now))) m c.args.stretch) c.if-in_minute-eq0.true ∙ stood_zero (halting (halts_of (reports c.args.gathered.now.tuples.now))) c.args.stretch)
 
 pub returns-then-is_empty : goal.returns-then-is_empty
 returns-then-is_empty c =
