@@ -1,10 +1,9 @@
 -- What an import did, from what its stages did.
-use Rattle.std.proofs.Common.{◌≡◌, ◌≤◌, ◌<◌, nat_le, ◌⊎◌, inl, inr, ℕ, List, [], length, Option, Some, None, refl, sym, ap, subst, ◌∙◌, arith}
+use Rattle.std.proofs.Common.{◌≡◌, ◌<◌, nat_le, inl, inr, ℕ, List, length, Option, Some, None, refl, sym, ap, subst, ◌∙◌}
 use Rattle.std.proofs.Math.Seq.{take-length}
 use Rattle.std.proofs.lemmas.Bool.{cond-false, lt-leb}
 use Rattle.std.specs.Io.KnownBytes.{Appends}
 use Rattle.road_time.specs.declared.road.Tuple.{Tuple}
-use Rattle.road_time.specs.declared.day.Limits.{Limits}
 use Rattle.road_time.specs.declared.day.SpentRow.{SpentRow}
 use Rattle.road_time.specs.Form.{Fault}
 use Rattle.road_time.specs.Rates.{Tariffs}
@@ -19,16 +18,15 @@ use Rattle.keeper.specs.Office.{Office, last_day}
 use Rattle.keeper.specs.Kept.{with_day}
 use Rattle.keeper.specs.Calls.{WhenRefused, Leaves}
 use Rattle.settling.specs.Closes.{IsClosed}
-use Rattle.settling.specs.Printing.{WritesFront, WritesLess}
 use Rattle.day_reading.specs.declared.whole_day.DayEnd.{DayEnd}
 use Rattle.day_reading.specs.declared.whole_day.DayEnd.TheVariants.{Whole, Refused as RefusedAt}
 use Rattle.day_reading.specs.Days.{EndsReading, LeavesBehind}
 use Rattle.import_once.specs.declared.outcomes.Outcome.{Outcome}
-use Rattle.import_once.specs.declared.outcomes.Outcome.TheVariants.{Stored, Already, Answered, Refused, DayPassed, Differs, ReadFault, WriteFault, KeeperFault, NoMemory}
+use Rattle.import_once.specs.declared.outcomes.Outcome.TheVariants.{Stored, Already, Answered, Refused, Differs, ReadFault, WriteFault, KeeperFault, NoMemory}
 use Rattle.day_rounds.specs.declared.day_run.WorkedDay.{WorkedDay}
 use Rattle.day_rounds.specs.declared.fault.DayFault.{DayFault}
 use Rattle.day_rounds.specs.declared.fault.DayFault.TheVariants as stop
-use Rattle.import_once.specs.Imports.{Answer, Work, work_by, worked_record, worked_office, import_worked, answers_worked, unless_passed, Does, Merges, KeepsAll, LeavesAlone, LeavesRead, IsOfNewDay, IsOfKeptDay}
+use Rattle.import_once.specs.Imports.{DayAnswer, Work, work_by, worked_record, worked_office, import_worked, answers_worked, unless_passed, Does, Merges, KeepsAll, LeavesAlone, LeavesRead, IsOfNewDay, IsOfKeptDay}
 use Rattle.import_once.specs.Stages.{run_record, Stores, Finishes, Tells, IsAnswered, IsWhole, IsOfEnd}
 use Rattle.day_rounds.specs.Faults.{WritesUpTo}
 use Rattle.import_once.specs.Runs.{stopping, WhereWorked}
@@ -47,28 +45,17 @@ module _ (w : WhenRefused) (work : Work) (number : ℕ) (bytes : List ℕ) (day 
   stores_does kept rows NoMemory e f h =
       let next : with_day kept rows o ≡ worked_office work number bytes day o = cc in
       inr (wrote, (h.0, h.1, subst (λ n. Leaves w keeping.NoMemory h.0 o n) next h.2))
-  stores_does kept rows (Already k) e f h = absurd h
-  stores_does kept rows (Answered k) e f h = absurd h
-  stores_does kept rows (Refused line cause) e f h = absurd h
-  stores_does kept rows (DayPassed last) e f h = absurd h
-  stores_does kept rows (Differs k found) e f h = absurd h
-  stores_does kept rows ReadFault e f h = absurd h
-  stores_does kept rows WriteFault e f h = absurd h
+  stores_does kept rows _ e f h = absurd h
 
 -- what is done is done also where nothing is said of what was written before a fault
-pub does_merges : (w : WhenRefused) (a : Answer) (was : Office) (old new : Option (List ℕ)) (now : Option Office) (outcome : Outcome) → Does w a was old new now outcome → Merges w a was old new now outcome
-does_merges w a was old new now (Stored kept) h = h
-does_merges w a was old new now (Already kept) h = h
-does_merges w a was old new now (Answered kept) h = h
-does_merges w a was old new now (Refused line cause) h = h
-does_merges w a was old new now (DayPassed last) h = h
-does_merges w a was old new now (Differs kept found) h = h
+pub does_merges : (w : WhenRefused) (a : DayAnswer) (was : Office) (old new : Option (List ℕ)) (now : Option Office) (outcome : Outcome) → Does w a was old new now outcome → Merges w a was old new now outcome
 does_merges w a was old new now ReadFault h = h.1
 does_merges w a was old new now WriteFault h = h.1
 does_merges w a was old new now KeeperFault (inl h) = inl h.1
 does_merges w a was old new now KeeperFault (inr h) = inr h
 does_merges w a was old new now NoMemory (inl h) = inl h.1
 does_merges w a was old new now NoMemory (inr h) = inr h
+does_merges w a was old new now _ h = h
 
 module _ (w : WhenRefused) (number : ℕ) (found : List (ℕ × Finding)) (bytes : List ℕ) (day : List Tuple) (o : Office) (old new : Option (List ℕ)) (now : Option Office) (run : WorkedDay) (tariffs : Tariffs)
     (wrote : Appends old new (out (work_by found number day o).told)) (count : run.tuples ≡ length day) (closed : IsClosed run.closed number (given found) number (Some (paid o.rows)) day) (under : tariffs ≡ o.tariffs) where
@@ -91,14 +78,7 @@ module _ (w : WhenRefused) (number : ℕ) (found : List (ℕ × Finding)) (bytes
       → Does w (answers_worked (work_by found number day o) number bytes day None o) o old new now outcome
   tells_whole kept (Answered r) e h = record { outcome_is = ap Answered (h ∙ e); wrote = wrote; kept = same }
   tells_whole kept NoMemory e h = inl ((length (out (work_by found number day o).told), subst (Appends old new) (sym (take-length (out (work_by found number day o).told))) wrote), same)
-  tells_whole kept (Stored r) e h = absurd h
-  tells_whole kept (Already k) e h = absurd h
-  tells_whole kept (Refused line cause) e h = absurd h
-  tells_whole kept (DayPassed last) e h = absurd h
-  tells_whole kept (Differs k there) e h = absurd h
-  tells_whole kept ReadFault e h = absurd h
-  tells_whole kept WriteFault e h = absurd h
-  tells_whole kept KeeperFault e h = absurd h
+  tells_whole kept _ e h = absurd h
 
   pub tells_does : (end : DayEnd) (refused : Option (ℕ × Fault)) (outcome : Outcome) → EndsReading end bytes refused → Tells number end run tariffs outcome
       → Does w (answers_worked (work_by found number day o) number bytes day refused o) o old new now outcome
@@ -112,13 +92,13 @@ module _ (w : WhenRefused) (number : ℕ) (found : List (ℕ × Finding)) (bytes
       (record { outcome_is = ap (Refused line) (sym e.2); wrote = wrote; kept = same }))
 
 -- the work of a day was stopped
-pub stops_does : (w : WhenRefused) (a : Answer) (o : Office) (old new : Option (List ℕ)) (now : Option Office) (s : DayFault) → WritesUpTo s a.text old new → now ≡ Some o → Does w a o old new now (stopping s)
+pub stops_does : (w : WhenRefused) (a : DayAnswer) (o : Office) (old new : Option (List ℕ)) (now : Option Office) (s : DayFault) → WritesUpTo s a.text old new → now ≡ Some o → Does w a o old new now (stopping s)
 stops_does w a o old new now stop.ReadFault h same = (h, same)
 stops_does w a o old new now stop.WriteFault h same = (h, same)
 stops_does w a o old new now stop.KeeperFault h same = inl (h, same)
 stops_does w a o old new now stop.NoMemory h same = inl (h, same)
 
-pub stops_merges : (w : WhenRefused) (a : Answer) (o : Office) (old new : Option (List ℕ)) (now : Option Office) (s : DayFault) → now ≡ Some o → Merges w a o old new now (stopping s)
+pub stops_merges : (w : WhenRefused) (a : DayAnswer) (o : Office) (old new : Option (List ℕ)) (now : Option Office) (s : DayFault) → now ≡ Some o → Merges w a o old new now (stopping s)
 stops_merges w a o old new now stop.ReadFault same = same
 stops_merges w a o old new now stop.WriteFault same = same
 stops_merges w a o old new now stop.KeeperFault same = inl same
@@ -134,7 +114,7 @@ text_answered work number bytes day None o = refl
 text_answered work number bytes day (Some (line, fault)) o = refl
 
 -- a day after all that is kept is read
-pub new_is_read : (read : Answer) (number : ℕ) (o : Office) → last_day o < number → unless_passed read number o ≡ read
+pub new_is_read : (read : DayAnswer) (number : ℕ) (o : Office) → last_day o < number → unless_passed read number o ≡ read
 new_is_read read number o h = cond-false (nat_le number (last_day o)) _ _ (lt-leb number (last_day o) h)
 
 -- what holds holds where a day was worked
@@ -142,46 +122,21 @@ pub where_worked : (outcome : Outcome) (P : Type 0) → P → WhereWorked outcom
 where_worked (Stored kept) P p = p
 where_worked (Answered kept) P p = p
 where_worked (Refused line cause) P p = p
-where_worked (Already kept) P p = tt
-where_worked (DayPassed last) P p = tt
-where_worked (Differs kept found) P p = tt
-where_worked ReadFault P p = tt
-where_worked WriteFault P p = tt
-where_worked KeeperFault P p = tt
-where_worked NoMemory P p = tt
+where_worked _ P p = tt
 
 -- where the work of a day was stopped, what is kept is as it was
 pub stops_keeps : (s : DayFault) (P : Type 0) → P → KeepsAll (stopping s) P
 stops_keeps stop.ReadFault P p = p
 stops_keeps stop.WriteFault P p = p
-stops_keeps stop.KeeperFault P p = tt
-stops_keeps stop.NoMemory P p = tt
-
--- a day that is read leaves nothing alone
-pub new_alone : (outcome : Outcome) (source others : Type 0) → IsOfNewDay outcome → LeavesAlone outcome source others
-new_alone (Stored kept) source others h = tt
-new_alone (Already kept) source others h = absurd h
-new_alone (Answered kept) source others h = absurd h
-new_alone (Refused line cause) source others h = tt
-new_alone (DayPassed last) source others h = absurd h
-new_alone (Differs kept found) source others h = absurd h
-new_alone ReadFault source others h = tt
-new_alone WriteFault source others h = tt
-new_alone KeeperFault source others h = tt
-new_alone NoMemory source others h = tt
+stops_keeps _ P p = tt
 
 -- of a day that is kept the others are left alone
 pub kept_alone : (outcome : Outcome) (source others : Type 0) → IsOfKeptDay outcome → others → LeavesAlone outcome source others
-kept_alone (Stored kept) source others h o = absurd h
 kept_alone (Already kept) source others h o = o
-kept_alone (Answered kept) source others h o = absurd h
-kept_alone (Refused line cause) source others h o = tt
-kept_alone (DayPassed last) source others h o = absurd h
 kept_alone (Differs kept found) source others h o = o
 kept_alone ReadFault source others h o = tt
-kept_alone WriteFault source others h o = absurd h
-kept_alone KeeperFault source others h o = absurd h
 kept_alone NoMemory source others h o = tt
+kept_alone _ source others h o = absurd h
 
 -- of a day that was read to its end no line was refused
 pub whole_unrefused : (end : DayEnd) (bytes : List ℕ) (refused : Option (ℕ × Fault)) → EndsReading end bytes refused → IsWhole end → refused ≡ None
@@ -193,14 +148,7 @@ pub tells_leaves : (number : ℕ) (run' : WorkedDay) (tariffs : Tariffs) (end : 
     → EndsReading end bytes refused → LeavesBehind end bytes left → Tells number end run' tariffs outcome → LeavesRead outcome refused bytes left
 tells_leaves number run' tariffs (Whole n digest) refused bytes left (Answered kept) e l h = (e.0, l)
 tells_leaves number run' tariffs (Whole n digest) refused bytes left NoMemory e l h = tt
-tells_leaves number run' tariffs (Whole n digest) refused bytes left (Stored kept) e l h = absurd h
-tells_leaves number run' tariffs (Whole n digest) refused bytes left (Already kept) e l h = absurd h
-tells_leaves number run' tariffs (Whole n digest) refused bytes left (Refused line cause) e l h = absurd h
-tells_leaves number run' tariffs (Whole n digest) refused bytes left (DayPassed last) e l h = absurd h
-tells_leaves number run' tariffs (Whole n digest) refused bytes left (Differs k found) e l h = absurd h
-tells_leaves number run' tariffs (Whole n digest) refused bytes left ReadFault e l h = absurd h
-tells_leaves number run' tariffs (Whole n digest) refused bytes left WriteFault e l h = absurd h
-tells_leaves number run' tariffs (Whole n digest) refused bytes left KeeperFault e l h = absurd h
+tells_leaves number run' tariffs (Whole n digest) refused bytes left _ e l h = absurd h
 tells_leaves number run' tariffs (RefusedAt line cause) refused bytes left outcome e l h = subst (λ (o : Outcome). LeavesRead o refused bytes left) (sym h) (e, l)
 
 -- what is left of that of a day that was stored, or whose refused line was named
@@ -211,30 +159,16 @@ ends_leaves (RefusedAt line cause) refused bytes left (Stored kept) e l new h = 
 ends_leaves end refused bytes left (Refused line cause) e l new h =
     (subst (λ (d : DayEnd). EndsReading d bytes refused) h e, subst (λ (d : DayEnd). LeavesBehind d bytes left) h l)
 ends_leaves end refused bytes left (Answered kept) e l new h = absurd new
-ends_leaves end refused bytes left (Already kept) e l new h = tt
-ends_leaves end refused bytes left (DayPassed last) e l new h = tt
-ends_leaves end refused bytes left (Differs k found) e l new h = tt
-ends_leaves end refused bytes left ReadFault e l new h = tt
-ends_leaves end refused bytes left WriteFault e l new h = tt
-ends_leaves end refused bytes left KeeperFault e l new h = tt
-ends_leaves end refused bytes left NoMemory e l new h = tt
+ends_leaves end refused bytes left _ e l new h = tt
 
 -- of a day whose work was stopped nothing is said
 pub stops_leaves : (s : DayFault) (refused : Option (ℕ × Fault)) (bytes : List ℕ) (left : Option (List ℕ)) → LeavesRead (stopping s) refused bytes left
 stops_leaves stop.ReadFault refused bytes left = tt
-stops_leaves stop.WriteFault refused bytes left = tt
-stops_leaves stop.KeeperFault refused bytes left = tt
-stops_leaves stop.NoMemory refused bytes left = tt
+stops_leaves _ refused bytes left = tt
 
 -- nor of one that is kept
 pub kept_leaves : (outcome : Outcome) (refused : Option (ℕ × Fault)) (bytes : List ℕ) (left : Option (List ℕ)) → IsOfKeptDay outcome → LeavesRead outcome refused bytes left
 kept_leaves (Stored kept) refused bytes left h = absurd h
 kept_leaves (Answered kept) refused bytes left h = absurd h
 kept_leaves (Refused line cause) refused bytes left h = absurd h
-kept_leaves (Already kept) refused bytes left h = tt
-kept_leaves (DayPassed last) refused bytes left h = tt
-kept_leaves (Differs k found) refused bytes left h = tt
-kept_leaves ReadFault refused bytes left h = tt
-kept_leaves WriteFault refused bytes left h = tt
-kept_leaves KeeperFault refused bytes left h = tt
-kept_leaves NoMemory refused bytes left h = tt
+kept_leaves _ refused bytes left h = tt

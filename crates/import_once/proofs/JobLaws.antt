@@ -1,8 +1,7 @@
 -- Which jobs a crew tells of a day, and what is published of it, by how its import ended.
-use Rattle.std.proofs.Common.{◌≡◌, ◌≤◌, ◌⊎◌, inl, inr, ⊎_elim, ℕ, List, [], ◌∷◌, ◌++◌, length, map, Option, Some, None, refl, sym, ap, subst, ◌∙◌, append-nil, append_assoc, arith}
+use Rattle.std.proofs.Common.{◌≡◌, inl, inr, ℕ, List, [], ◌∷◌, ◌++◌, length, map, Option, Some, None, refl, sym, ap, ◌∙◌, append-nil, append_assoc, arith}
 use Rattle.std.specs.Option.{option_map}
 use Rattle.road_time.specs.declared.road.Tuple.{Tuple}
-use Rattle.road_time.specs.declared.day.Limits.{Limits}
 use Rattle.road_time.specs.Rates.{Tariffs}
 use Rattle.road_time.specs.Day.{rules}
 use Rattle.expressway.specs.declared.job.Job.{Job}
@@ -16,33 +15,25 @@ use Rattle.day_rounds.specs.declared.fault.DayFault.{DayFault}
 use Rattle.day_rounds.specs.declared.fault.DayFault.TheVariants as stop
 use Rattle.day_rounds.specs.Runs.{start_of}
 use Rattle.day_rounds.specs.Imports.{HaveAllStarted, HaveFirstStarted}
-use Rattle.day_rounds.specs.Published.{AreStepsBy, HasSteps, published_of}
+use Rattle.day_rounds.specs.Published.{HasSteps, published_of}
 use Rattle.day_rounds.specs.Outcomes.{Task, HasStepsBy}
 use Rattle.import_once.specs.declared.outcomes.Outcome.{Outcome}
-use Rattle.import_once.specs.declared.outcomes.Outcome.TheVariants.{Stored, Already, Answered, Refused, DayPassed, Differs, ReadFault, WriteFault, KeeperFault, NoMemory}
+use Rattle.import_once.specs.declared.outcomes.Outcome.TheVariants.{Stored, Answered, Refused}
 use Rattle.import_once.specs.Imports.{IsOfKeptDay}
-use Rattle.import_once.specs.Runs.{stopping, WhereWorked, HasStarted, HasStepped, HasPublished, Publishes}
+use Rattle.import_once.specs.Runs.{stopping, WhereWorked, HasStarted, HasStepped, Publishes}
 use Rattle.import_once.proofs.FinishLaws.{where_worked}
 
 -- a day whose work was stopped was not worked
 pub stops_unworked : (s : DayFault) (P : Type 0) → WhereWorked (stopping s) P
 stops_unworked stop.ReadFault P = tt
-stops_unworked stop.WriteFault P = tt
-stops_unworked stop.KeeperFault P = tt
-stops_unworked stop.NoMemory P = tt
+stops_unworked _ P = tt
 
 -- a day that is kept is not worked
 pub kept_unworked : (outcome : Outcome) (P : Type 0) → IsOfKeptDay outcome → WhereWorked outcome P
 kept_unworked (Stored kept) P h = absurd h
-kept_unworked (Already kept) P h = tt
 kept_unworked (Answered kept) P h = absurd h
 kept_unworked (Refused line cause) P h = absurd h
-kept_unworked (DayPassed last) P h = tt
-kept_unworked (Differs kept found) P h = tt
-kept_unworked ReadFault P h = tt
-kept_unworked WriteFault P h = tt
-kept_unworked KeeperFault P h = tt
-kept_unworked NoMemory P h = tt
+kept_unworked _ P h = tt
 
 -- what lists all lists the first
 lists_first : (jobs : List Job) (was now : Option Told) → WhereTold (ListsAll jobs) was now → WhereTold (ListsFirst jobs) was now

@@ -1,5 +1,5 @@
 -- Imports of one day, one after another.
-use Rattle.std.proofs.Common.{◌≡◌, ◌⊎◌, inl, inr, ⊎_elim, ℕ, ◌==◌, ◌&&◌, Bool, true, false, nat_le, cond, List, [], ◌∷◌, ◌++◌, Option, Some, None, refl, sym, ap, subst, ◌∙◌, eq-eqb}
+use Rattle.std.proofs.Common.{◌≡◌, ◌⊎◌, inl, inr, ⊎_elim, ℕ, ◌==◌, Bool, true, false, nat_le, List, [], ◌∷◌, ◌++◌, Option, Some, None, refl, sym, ap, subst, ◌∙◌, eq-eqb}
 use Rattle.std.specs.List.{find}
 use Rattle.std.proofs.lemmas.Bool.{cases_Bool, cond-true, cond-false}
 use Rattle.road_time.specs.declared.road.Tuple.{Tuple}
@@ -13,8 +13,8 @@ use Rattle.keeper.specs.Office.{Office, record_of, last_day}
 use Rattle.keeper.specs.Kept.{kept_record, next_office}
 use Rattle.keeper.specs.Calls.{WhenRefused, PutsNothing, FailsLate, AllOrNothing, Leaves}
 use Rattle.import_once.specs.declared.outcomes.Outcome.{Outcome}
-use Rattle.import_once.specs.declared.outcomes.Outcome.TheVariants.{Stored, Already, Answered, Refused, DayPassed, Differs, ReadFault, WriteFault, KeeperFault, NoMemory}
-use Rattle.import_once.specs.Imports.{Answer, Does, unless_recorded, unless_passed, import_read, import_answer}
+use Rattle.import_once.specs.declared.outcomes.Outcome.TheVariants.{ReadFault, WriteFault, KeeperFault, NoMemory}
+use Rattle.import_once.specs.Imports.{DayAnswer, Does, unless_recorded, unless_passed, import_read}
 use Rattle.import_once.specs.Laws.{KeepsOnce, KeepOnce, after_all, RepeatLaw, OnceLaw}
 
 -- where an element that fits stands last, one is found
@@ -51,7 +51,7 @@ repeat_law number bytes day was (now ∷ later) h =
     h.0.either
 
 -- an office as it was, or as it should be
-abbrev Either : Office → Answer → Office → Type 0
+abbrev Either : Office → DayAnswer → Office → Type 0
 Either was a now = (now ≡ was) ⊎ (now ≡ a.office)
 
 some_same : (p q : Office) → ◌≡◌ {A = Option Office} (Some p) (Some q) → p ≡ q
@@ -64,21 +64,16 @@ leaves_either FailsLate keeping.Failed now was whole h = inr h
 leaves_either FailsLate keeping.NoMemory now was whole h = inl h
 leaves_either AllOrNothing e now was whole h = h
 
-module _ (w : WhenRefused) (a : Answer) (was now : Office) (old new : Option (List ℕ)) where
+module _ (w : WhenRefused) (a : DayAnswer) (was now : Office) (old new : Option (List ℕ)) where
   -- what is left is the one or the other, however a call ended
   does_either : (outcome : Outcome) → Does w a was old new (Some now) outcome → Either was a now
-  does_either (Stored r) h = inr (some_same now a.office h.kept)
-  does_either (Already r) h = inr (some_same now a.office h.kept)
-  does_either (Answered r) h = inr (some_same now a.office h.kept)
-  does_either (Refused line cause) h = inr (some_same now a.office h.kept)
-  does_either (DayPassed last) h = inr (some_same now a.office h.kept)
-  does_either (Differs k found) h = inr (some_same now a.office h.kept)
   does_either ReadFault h = inl (some_same now was h.1)
   does_either WriteFault h = inl (some_same now was h.1)
   does_either KeeperFault (inl h) = inl (some_same now was h.1)
   does_either KeeperFault (inr h) = let same : h.1.0 ≡ now = sym (some_same now h.1.0 h.1.1) in leaves_either w keeping.Failed now was a.office (subst (λ (o : Office). Leaves w keeping.Failed o was a.office) same h.1.2)
   does_either NoMemory (inl h) = inl (some_same now was h.1)
   does_either NoMemory (inr h) = let same : h.1.0 ≡ now = sym (some_same now h.1.0 h.1.1) in leaves_either w keeping.NoMemory now was a.office (subst (λ (o : Office). Leaves w keeping.NoMemory o was a.office) same h.1.2)
+  does_either _ h = inr (some_same now a.office h.kept)
 
 -- what importing a day that was read leaves
 read_office : (number : ℕ) (bytes : List ℕ) (day : List Tuple) (refused : Option (ℕ × Fault)) (o : Office) → ((import_read number bytes day refused o).office ≡ o) ⊎ ((import_read number bytes day refused o).office ≡ next_office number bytes day o)
@@ -89,10 +84,10 @@ read_office number bytes day (Some (line, fault)) o = inl refl
 new_office : (number late : ℕ) (limits : Limits) (bytes : List ℕ) (o : Office) → ((unless_passed (import_read number bytes (reads bytes limits late).tuples (reads bytes limits late).refused o) number o).office ≡ o) ⊎ ((unless_passed (import_read number bytes (reads bytes limits late).tuples (reads bytes limits late).refused o) number o).office ≡ next_office number bytes (reads bytes limits late).tuples o)
 new_office number late limits bytes o =
     ⊎_elim
-    (λ (passed : nat_le number (last_day o) ≡ true). inl (ap (λ (a : Answer). a.office) (cond-true (nat_le number (last_day o)) _ _ passed)))
+    (λ (passed : nat_le number (last_day o) ≡ true). inl (ap (λ (a : DayAnswer). a.office) (cond-true (nat_le number (last_day o)) _ _ passed)))
     (λ (later : nat_le number (last_day o) ≡ false). (
     let e : unless_passed (import_read number bytes (reads bytes limits late).tuples (reads bytes limits late).refused o) number o ≡ import_read number bytes (reads bytes limits late).tuples (reads bytes limits late).refused o = cond-false (nat_le number (last_day o)) _ _ later in
-    subst (λ (a : Answer). (a.office ≡ o) ⊎ (a.office ≡ next_office number bytes (reads bytes limits late).tuples o)) (sym e) (read_office number bytes (reads bytes limits late).tuples (reads bytes limits late).refused o)))
+    subst (λ (a : DayAnswer). (a.office ≡ o) ⊎ (a.office ≡ next_office number bytes (reads bytes limits late).tuples o)) (sym e) (read_office number bytes (reads bytes limits late).tuples (reads bytes limits late).refused o)))
     (cases_Bool (nat_le number (last_day o)))
 
 none_some : {X : Type 0} (x : X) → None ≡ Some x → ⊥
@@ -104,7 +99,7 @@ once_by w number late limits bytes was now old new outcome (Some kept) e h =
     let same : now ≡ was = ⊎_elim (λ (s : now ≡ was). s) (λ (s : now ≡ was). s) (does_either w (unless_recorded (Some kept) (import_read number bytes (reads bytes limits late).tuples (reads bytes limits late).refused was) number bytes was) was now old new outcome h) in
     record { kept = λ r f. same; either = inl same }
 once_by w number late limits bytes was now old new outcome None e h =
-    let a : Answer = unless_passed (import_read number bytes (reads bytes limits late).tuples (reads bytes limits late).refused was) number was in
+    let a : DayAnswer = unless_passed (import_read number bytes (reads bytes limits late).tuples (reads bytes limits late).refused was) number was in
     record {
       kept = λ r f. absurd (none_some r (sym e ∙ f));
       either = ⊎_elim

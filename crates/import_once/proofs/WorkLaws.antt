@@ -1,7 +1,5 @@
 -- What a day's work comes to as a record and its amounts.
-use Rattle.std.specs.Map.{lookup}
-use Rattle.std.specs.Option.{unwrap_or}
-use Rattle.std.proofs.Common.{◌≡◌, ◌<◌, ◌≤◌, ◌^◌, ◌==◌, Bool, true, false, cond, ℕ, List, [], ◌∷◌, length, Option, Some, None, refl, sym, ap, subst, ◌∙◌, arith}
+use Rattle.std.proofs.Common.{◌≡◌, ◌<◌, ◌≤◌, ◌^◌, ℕ, List, [], length, Some, sym, ap, subst, ◌∙◌, arith}
 use Rattle.road_time.specs.declared.road.Tuple.{Tuple}
 use Rattle.road_time.specs.declared.road.Notice.{Notice}
 use Rattle.road_time.specs.declared.day.SpentRow.{SpentRow}
@@ -10,7 +8,7 @@ use Rattle.road_time.specs.Fits.{Fit, IsLimits}
 use Rattle.road_time.specs.Rates.{Tariffs}
 use Rattle.road_time.specs.Sights.{moments, Sight}
 use Rattle.road_time.specs.Tolls.{Finding}
-use Rattle.road_time.specs.Day.{Charge, given, merged, notices, charges, charges_by, sum_of, notices_by, no_finding}
+use Rattle.road_time.specs.Day.{Charge, given, notices, charges_by, sum_of}
 use Rattle.road_time.specs.Rows.{rows_from}
 use Rattle.road_time.specs.Text.{out}
 use Rattle.road_time.proofs.BoundLaws.{total_few}
@@ -18,7 +16,6 @@ use Rattle.road_time.proofs.SightLaws.{length-moments}
 use Rattle.road_time.proofs.RowLaws.{are_rows}
 use Rattle.road_time.proofs.SumLaws.{rows_add_up}
 use Rattle.keeper.specs.declared.digest.Digest.{Digest}
-use Rattle.keeper.specs.declared.kept.DayRecord.{DayRecord}
 use Rattle.keeper.specs.Digests.{digest_of}
 use Rattle.keeper.specs.History.{paid}
 use Rattle.keeper.specs.Office.{Office, RowsRise, sum_of_rows}
@@ -31,7 +28,7 @@ use Rattle.settling.proofs.AnswerLaws.{notices_few, notices_exact}
 use Rattle.day_reading.specs.Days.{IsShort}
 use Rattle.day_rounds.specs.Imports.{AreRightFor}
 use Rattle.day_rounds.specs.declared.day_run.WorkedDay.{WorkedDay}
-use Rattle.import_once.specs.Imports.{Work, work_of, work_by, worked_record}
+use Rattle.import_once.specs.Imports.{work_of, work_by, worked_record}
 use Rattle.import_once.specs.Stages.{run_record, CanPut}
 
 -- a day that was worked may be put, whatever was found for it

@@ -28,11 +28,13 @@ after_all was (now ∷ later) = after_all now later
 -- however often one day is imported of one input, it is kept once or not at all
 abbrev pub RepeatLaw : Type 0
 RepeatLaw =
-    (number : ℕ) (bytes : List ℕ) (day : List Tuple) (was : Office) (later : List Office) → KeepOnce number bytes day was later
+    (number : ℕ) (bytes : List ℕ) (day : List Tuple) (was : Office) (later : List Office)
+    → KeepOnce number bytes day was later
     → (after_all was later ≡ was) ⊎ (after_all was later ≡ next_office number bytes day was)
 
 -- what an import does is such an import
 abbrev pub OnceLaw : Type 0
 OnceLaw =
     (w : WhenRefused) (number late : ℕ) (limits : Limits) (bytes : List ℕ) (was now : Office) (old new : Option (List ℕ)) (outcome : Outcome)
-    → Does w (import_answer number late limits bytes was) was old new (Some now) outcome → KeepsOnce number bytes (reads bytes limits late).tuples was now
+    → Does w (import_answer number late limits bytes was) was old new (Some now) outcome
+    → KeepsOnce number bytes (reads bytes limits late).tuples was now

@@ -1,5 +1,5 @@
 -- What a day's work gives an import.
-use Rattle.std.specs.Prelude.{ℕ, ◌≡◌, ◌≤◌, ◌++◌, ◌⊎◌, Bool, true, List, ◌∷◌, length, Option, Some}
+use Rattle.std.specs.Prelude.{ℕ, ◌≡◌, ◌≤◌, ◌++◌, ◌⊎◌, List, ◌∷◌, length, Option, Some}
 use Rattle.std.specs.Option.{option_map}
 use Rattle.road_time.specs.declared.road.Tuple.{Tuple}
 use Rattle.road_time.specs.Rates.{Tariffs}
@@ -19,7 +19,7 @@ use Rattle.day_rounds.specs.Imports.{HaveAllStarted, HaveFirstStarted}
 use Rattle.day_rounds.specs.Published.{AreStepsBy, published_of}
 use Rattle.import_once.specs.declared.outcomes.Outcome.{Outcome}
 use Rattle.import_once.specs.declared.outcomes.Outcome.TheVariants as outcome
-use Rattle.import_once.specs.Imports.{Answer, Merges}
+use Rattle.import_once.specs.Imports.{DayAnswer, Merges}
 
 -- the outcome of a day whose work was stopped
 abbrev pub stopping : DayFault → Outcome
@@ -33,16 +33,10 @@ abbrev pub WhereWorked : Outcome → Type 0 → Type 0
 WhereWorked (outcome.Stored kept) P = P
 WhereWorked (outcome.Answered kept) P = P
 WhereWorked (outcome.Refused line cause) P = P
-WhereWorked (outcome.Already kept) P = Unit {0}
-WhereWorked (outcome.DayPassed last) P = Unit {0}
-WhereWorked (outcome.Differs kept found) P = Unit {0}
-WhereWorked outcome.ReadFault P = Unit {0}
-WhereWorked outcome.WriteFault P = Unit {0}
-WhereWorked outcome.KeeperFault P = Unit {0}
-WhereWorked outcome.NoMemory P = Unit {0}
+WhereWorked _ P = Unit {0}
 
 -- what was done over any crew: the work of the day is that by the findings that the crew answered, where it was worked
-pub record DoesByCrew (w : WhenRefused) (answer : List (ℕ × RoadFinding) → Answer) (was : Office) (answered now_answered : Option (List Finding)) (old new : Option (List ℕ)) (now : Option Office) (outcome : Outcome) : Type 0 where
+pub record DoesByCrew (w : WhenRefused) (answer : List (ℕ × RoadFinding) → DayAnswer) (was : Office) (answered now_answered : Option (List Finding)) (old new : Option (List ℕ)) (now : Option Office) (outcome : Outcome) : Type 0 where
   pub found : List (ℕ × RoadFinding)
   pub answers_are : WhereWorked outcome (HasAnswered answered found now_answered)
   pub merges : Merges w (answer found) was old new now outcome
@@ -63,7 +57,8 @@ pub record HasStepped (tariffs : Tariffs) (day : List Tuple) (backlog : ℕ) (ol
   pub published : published_of now ≡ option_map (λ p. p.published ++ steps) old
   pub whole : WhereWorked outcome (mark ≡ length day)
 
--- what was queued is published, and then that the day begins, and its steps by the rules up to some mark; where it was worked, up to its end
+-- what was queued is published, and then that the day begins, and its steps by the rules up to some mark; where it was
+-- worked, up to its end
 pub record HasPublished (tariffs : Tariffs) (day : List Tuple) (number backlog : ℕ) (was : Posted) (now : Option Posted) (outcome : Outcome) : Type 0 where
   pub steps : List Operation
   pub mark : ℕ
@@ -75,4 +70,5 @@ pub record HasPublished (tariffs : Tariffs) (day : List Tuple) (number backlog :
 -- what an import publishes of a day: it and its steps; or, where it was not worked, nothing
 abbrev pub Publishes : Tariffs → List Tuple → ℕ → ℕ → Posted → Option Posted → Outcome → Type 0
 Publishes tariffs day number backlog was now outcome =
-    HasPublished tariffs day number backlog was now outcome ⊎ ((published_of now ≡ Some was.published) × WhereWorked outcome ⊥)
+    HasPublished tariffs day number backlog was now outcome
+    ⊎ ((published_of now ≡ Some was.published) × WhereWorked outcome ⊥)

@@ -13,7 +13,8 @@ use Rattle.day_reading.specs.declared.whole_day.DayEnd.{DayEnd}
 use Rattle.day_reading.specs.declared.whole_day.DayEnd.TheVariants as end
 use Rattle.day_reading.specs.Days.{IsShort}
 use Rattle.import_once.specs.declared.outcomes.Outcome.{Outcome}
-use Rattle.import_once.specs.declared.outcomes.Outcome.TheVariants.{Stored, Already, Answered, Refused, DayPassed, Differs, ReadFault, WriteFault, KeeperFault, NoMemory}
+use Rattle.import_once.specs.declared.outcomes.Outcome.TheVariants.{Stored, Already, Answered, Refused, Differs}
+use Rattle.import_once.specs.declared.outcomes.Outcome.TheVariants.{ReadFault, KeeperFault, NoMemory}
 use Rattle.day_rounds.specs.declared.day_run.WorkedDay.{WorkedDay}
 use Rattle.import_once.specs.Imports.{again}
 
@@ -36,37 +37,29 @@ pub record CanPut (number : ℕ) (run : WorkedDay) : Type 0 where
 -- a day was put with its amounts, or was refused, which leaves what its keeper leaves
 abbrev pub Stores : WhenRefused → DayRecord → List SpentRow → Office → Option Office → Outcome → Type 0
 Stores w kept rows was now (Stored r) = (r ≡ kept) × (now ≡ Some (with_day kept rows was))
-Stores w kept rows was now KeeperFault = (o : Office) × (now ≡ Some o) × Leaves w keeping.Failed o was (with_day kept rows was)
-Stores w kept rows was now NoMemory = (o : Office) × (now ≡ Some o) × Leaves w keeping.NoMemory o was (with_day kept rows was)
-Stores w kept rows was now (Already r) = ⊥
-Stores w kept rows was now (Answered r) = ⊥
-Stores w kept rows was now (Refused line cause) = ⊥
-Stores w kept rows was now (DayPassed last) = ⊥
-Stores w kept rows was now (Differs k found) = ⊥
-Stores w kept rows was now ReadFault = ⊥
-Stores w kept rows was now WriteFault = ⊥
+Stores w kept rows was now KeeperFault =
+    (o : Office) × (now ≡ Some o) × Leaves w keeping.Failed o was (with_day kept rows was)
+Stores w kept rows was now NoMemory =
+    (o : Office) × (now ≡ Some o) × Leaves w keeping.NoMemory o was (with_day kept rows was)
+Stores w kept rows was now _ = ⊥
 
 -- a day that was read whole was put, or was refused; of another one the first refused line is named, and nothing is put
 abbrev pub Finishes : WhenRefused → ℕ → DayEnd → WorkedDay → Tariffs → Office → Option Office → Outcome → Type 0
-Finishes w number (end.Whole bytes digest) run tariffs was now outcome = Stores w (run_record number bytes digest run tariffs) run.closed.rows was now outcome
-Finishes w number (end.Refused line cause) run tariffs was now outcome = (outcome ≡ Refused line cause) × (now ≡ Some was)
+Finishes w number (end.Whole bytes digest) run tariffs was now outcome =
+    Stores w (run_record number bytes digest run tariffs) run.closed.rows was now outcome
+Finishes w number (end.Refused line cause) run tariffs was now outcome =
+    (outcome ≡ Refused line cause) × (now ≡ Some was)
 
 -- a record is answered, or memory ran out
 abbrev pub IsAnswered : DayRecord → Outcome → Type 0
 IsAnswered kept (Answered r) = r ≡ kept
 IsAnswered kept NoMemory = Unit {0}
-IsAnswered kept (Stored r) = ⊥
-IsAnswered kept (Already r) = ⊥
-IsAnswered kept (Refused line cause) = ⊥
-IsAnswered kept (DayPassed last) = ⊥
-IsAnswered kept (Differs k found) = ⊥
-IsAnswered kept ReadFault = ⊥
-IsAnswered kept WriteFault = ⊥
-IsAnswered kept KeeperFault = ⊥
+IsAnswered kept _ = ⊥
 
 -- a day that was read whole is answered, unless memory runs out; of another one the first refused line is named
 abbrev pub Tells : ℕ → DayEnd → WorkedDay → Tariffs → Outcome → Type 0
-Tells number (end.Whole bytes digest) run tariffs outcome = IsAnswered (run_record number bytes digest run tariffs) outcome
+Tells number (end.Whole bytes digest) run tariffs outcome =
+    IsAnswered (run_record number bytes digest run tariffs) outcome
 Tells number (end.Refused line cause) run tariffs outcome = outcome ≡ Refused line cause
 
 -- a day was read to its end
@@ -82,13 +75,10 @@ IsOfEnd read _ = Unit {0}
 
 -- the source was compared with a kept day, and one byte more than it had is not left
 abbrev pub Compares : DayRecord → List ℕ → Option (List ℕ) → Outcome → Type 0
-Compares kept bytes left (Already r) = (Already r ≡ again kept (found_digest bytes kept.bytes)) × (left ≡ Some (drop (kept.bytes + 1) bytes))
-Compares kept bytes left (Differs k found) = (Differs k found ≡ again kept (found_digest bytes kept.bytes)) × (left ≡ Some (drop (kept.bytes + 1) bytes))
+Compares kept bytes left (Already r) =
+    (Already r ≡ again kept (found_digest bytes kept.bytes)) × (left ≡ Some (drop (kept.bytes + 1) bytes))
+Compares kept bytes left (Differs k found) =
+    (Differs k found ≡ again kept (found_digest bytes kept.bytes)) × (left ≡ Some (drop (kept.bytes + 1) bytes))
 Compares kept bytes left ReadFault = Unit {0}
 Compares kept bytes left NoMemory = Unit {0}
-Compares kept bytes left (Stored r) = ⊥
-Compares kept bytes left (Answered r) = ⊥
-Compares kept bytes left (Refused line cause) = ⊥
-Compares kept bytes left (DayPassed last) = ⊥
-Compares kept bytes left WriteFault = ⊥
-Compares kept bytes left KeeperFault = ⊥
+Compares kept bytes left _ = ⊥

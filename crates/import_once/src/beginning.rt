@@ -1,9 +1,6 @@
 // A day begins, and is imported under the kept tariffs.
-ghost use Rattle.std.specs.Prelude.{◌≡◌, ◌≢◌, ◌≤◌, List, ℕ, Some, [], true};
+ghost use Rattle.std.specs.Prelude.{◌≡◌, ◌≤◌, List, ℕ, Some, [], true};
 ghost use Rattle.road_time.specs.Reads.{reads};
-ghost use Rattle.road_io.specs.Faults.{Rose};
-ghost use Rattle.road_io.specs.Plans.{NeverFails};
-ghost use Rattle.road_io.specs.Rooms.{Endless};
 ghost use Rattle.keeper.specs.declared.kept.DayRecord.{DayRecord};
 ghost use Rattle.keeper.specs.Office.{Office};
 ghost use Rattle.keeper.specs.Kept.{IsLater};
@@ -11,6 +8,7 @@ ghost use Rattle.keeper.specs.Calls.{IfTold};
 ghost use Rattle.settling.specs.Boards.{IsAbreast};
 ghost use Rattle.road_time.specs.Fits.{IsLimits};
 ghost use Rattle.day_reading.specs.Days.{ReadsWithin, most_read};
+ghost use Rattle.import_once.specs.Faults.{FaultsByPlan, FaultsByRoom};
 ghost use Rattle.import_once.specs.Imports.{new_import, new_import_found};
 ghost use Rattle.import_once.specs.Imports.{Does, LeavesRead, PutsOnce};
 ghost use Rattle.import_once.specs.Imports.{KeepsAll, IsOfNewDay};
@@ -78,16 +76,13 @@ fn import_under<S: Source, O: Sink, K: Keeper, C: Crew, P: Publisher, R: Threads
     ensures idle { C.out crew.new ≡ [] }
     ensures crew { C.which crew.new ≡ C.which crew.old }
     ensures publisher { P.which publisher.new ≡ P.which publisher.old }
-    ensures read_cause { result ≡ ReadFault → Rose (S.faults source.old) (S.faults source.new) }
     ensures read_same { S.name source.new ≡ S.name source.old }
-    ensures read_later { S.faults source.old ≤ S.faults source.new }
-    ensures read_sure { NeverFails (S.plan source.old) → result ≢ ReadFault }
-    ensures write_cause { result ≡ WriteFault → Rose (O.faults sink.old) (O.faults sink.new) }
-    ensures write_later { O.faults sink.old ≤ O.faults sink.new }
-    ensures write_sure { O.room sink.old ≡ Endless → (result ≢ WriteFault) × (O.room sink.new ≡ Endless) }
-    ensures keeper_cause { result ≡ KeeperFault → Rose (K.faults keeper.old) (K.faults keeper.new) }
-    ensures keeper_later { K.faults keeper.old ≤ K.faults keeper.new }
-    ensures keeper_sure { NeverFails (K.plan keeper.old) → result ≢ KeeperFault }
+    ensures source { FaultsByPlan (S.faults source.old) (S.faults source.new) (S.plan source.old)
+        (result ≡ ReadFault) }
+    ensures sink { FaultsByRoom (O.faults sink.old) (O.faults sink.new) (O.room sink.old) (O.room sink.new)
+        (result ≡ WriteFault) }
+    ensures keeper { FaultsByPlan (K.faults keeper.old) (K.faults keeper.new) (K.plan keeper.old)
+        (result ≡ KeeperFault) }
 {
     match run_day(
         rt, alloc, plan, limits, late, tariffs, number, source, keeper, sink, crew, publisher,
@@ -145,16 +140,13 @@ pub(crate) fn import_begun<S: Source, O: Sink, K: Keeper, C: Crew, P: Publisher,
     ensures idle { C.out crew.new ≡ [] }
     ensures crew { C.which crew.new ≡ C.which crew.old }
     ensures publisher { P.which publisher.new ≡ P.which publisher.old }
-    ensures read_cause { result ≡ ReadFault → Rose (S.faults source.old) (S.faults source.new) }
     ensures read_same { S.name source.new ≡ S.name source.old }
-    ensures read_later { S.faults source.old ≤ S.faults source.new }
-    ensures read_sure { NeverFails (S.plan source.old) → result ≢ ReadFault }
-    ensures write_cause { result ≡ WriteFault → Rose (O.faults sink.old) (O.faults sink.new) }
-    ensures write_later { O.faults sink.old ≤ O.faults sink.new }
-    ensures write_sure { O.room sink.old ≡ Endless → (result ≢ WriteFault) × (O.room sink.new ≡ Endless) }
-    ensures keeper_cause { result ≡ KeeperFault → Rose (K.faults keeper.old) (K.faults keeper.new) }
-    ensures keeper_later { K.faults keeper.old ≤ K.faults keeper.new }
-    ensures keeper_sure { NeverFails (K.plan keeper.old) → result ≢ KeeperFault }
+    ensures source { FaultsByPlan (S.faults source.old) (S.faults source.new) (S.plan source.old)
+        (result ≡ ReadFault) }
+    ensures sink { FaultsByRoom (O.faults sink.old) (O.faults sink.new) (O.room sink.old) (O.room sink.new)
+        (result ≡ WriteFault) }
+    ensures keeper { FaultsByPlan (K.faults keeper.old) (K.faults keeper.new) (K.plan keeper.old)
+        (result ≡ KeeperFault) }
 {
     match publisher.begin(number) {
         Ok(()) => import_under(

@@ -1,13 +1,12 @@
 // The record and the amounts of a day that was worked, and how it is put.
-ghost use Rattle.std.specs.Prelude.{◌≡◌, ◌≢◌, ◌≤◌, ℕ, Some, IfOk};
-ghost use Rattle.road_io.specs.Faults.{Rose};
-ghost use Rattle.road_io.specs.Plans.{NeverFails};
+ghost use Rattle.std.specs.Prelude.{◌≡◌, ◌≢◌, ℕ, Some, IfOk};
 ghost use Rattle.keeper.specs.Office.{Office};
 ghost use Rattle.keeper.specs.Kept.{IsDayPut, IsLater};
 ghost use Rattle.keeper.specs.Calls.{IfTold};
 ghost use Rattle.keeper.specs.declared.kept.DayRecord.{DayRecord as DayRecordValue};
 ghost use Rattle.keeper.specs.declared.digest.Digest.{Digest as DigestValue};
 ghost use Rattle.day_reading.specs.declared.whole_day.DayEnd.TheVariants.{Whole};
+ghost use Rattle.import_once.specs.Faults.{FaultsByPlan};
 ghost use Rattle.import_once.specs.Imports.{IsOfNewDay, IsOfAnswers, PutsOnce, KeepsAll};
 ghost use Rattle.import_once.specs.Stages.{run_record, CanPut, Stores, Finishes, Tells, IsWhole, IsOfEnd};
 ghost use Rattle.import_once.specs.declared.outcomes.Outcome.TheVariants.{Stored, ReadFault, WriteFault, KeeperFault};
@@ -55,9 +54,8 @@ fn store<K: Keeper>(kept: &DayRecord, rows: &[SpentRow], keeper: &mut K) -> Outc
     ensures of_end { (bytes : ℕ) (digest : DigestValue) → IsOfEnd (Whole bytes digest) result }
     ensures unread { result ≢ ReadFault }
     ensures unwritten { result ≢ WriteFault }
-    ensures cause { result ≡ KeeperFault → Rose (K.faults keeper.old) (K.faults keeper.new) }
-    ensures later { K.faults keeper.old ≤ K.faults keeper.new }
-    ensures sure { NeverFails (K.plan keeper.old) → result ≢ KeeperFault }
+    ensures keeper { FaultsByPlan (K.faults keeper.old) (K.faults keeper.new) (K.plan keeper.old)
+        (result ≡ KeeperFault) }
 {
     match keeper.put_day(kept, rows) {
         Ok(()) => Outcome::Stored(*kept),
@@ -85,9 +83,8 @@ pub fn finish_import<K: Keeper>(
     ensures new_day { IsOfNewDay result }
     ensures unread { result ≢ ReadFault }
     ensures unwritten { result ≢ WriteFault }
-    ensures cause { result ≡ KeeperFault → Rose (K.faults keeper.old) (K.faults keeper.new) }
-    ensures later { K.faults keeper.old ≤ K.faults keeper.new }
-    ensures sure { NeverFails (K.plan keeper.old) → result ≢ KeeperFault }
+    ensures keeper { FaultsByPlan (K.faults keeper.old) (K.faults keeper.new) (K.plan keeper.old)
+        (result ≡ KeeperFault) }
 {
     match run.end {
         DayEnd::Refused { line, cause } => Outcome::Refused { line, cause },

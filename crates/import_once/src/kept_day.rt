@@ -1,8 +1,7 @@
 // A day that is kept is read up to one byte more than it had, and compared.
-ghost use Rattle.std.specs.Prelude.{◌≡◌, ◌≢◌, ◌≤◌, ◌+◌, List, ℕ, Some};
-ghost use Rattle.road_io.specs.Faults.{Rose};
-ghost use Rattle.road_io.specs.Plans.{NeverFails};
+ghost use Rattle.std.specs.Prelude.{◌≡◌, ◌≢◌, ◌+◌, List, ℕ, Some};
 ghost use Rattle.day_reading.specs.Days.{ReadsWithin};
+ghost use Rattle.import_once.specs.Faults.{FaultsByPlan};
 ghost use Rattle.import_once.specs.Imports.{again, IsOfKeptDay, IsUncompared};
 ghost use Rattle.import_once.specs.Stages.{Compares};
 ghost use Rattle.import_once.specs.declared.outcomes.Outcome.TheVariants.{ReadFault, WriteFault, KeeperFault};
@@ -38,10 +37,9 @@ pub fn compare<S: Source>(alloc: Global, kept: &DayRecord, source: &mut S) -> Ou
     ensures bounded { ReadsWithin (kept.now.bytes + 1) (S.left source.old) (S.left source.new) }
     ensures unwritten { result ≢ WriteFault }
     ensures unasked { result ≢ KeeperFault }
-    ensures cause { result ≡ ReadFault → Rose (S.faults source.old) (S.faults source.new) }
     ensures same { S.name source.new ≡ S.name source.old }
-    ensures later { S.faults source.old ≤ S.faults source.new }
-    ensures sure { NeverFails (S.plan source.old) → result ≢ ReadFault }
+    ensures source { FaultsByPlan (S.faults source.old) (S.faults source.new) (S.plan source.old)
+        (result ≡ ReadFault) }
 {
     match find_digest(alloc, kept.bytes, source) {
         Ok(found) => same_or_not(kept, found),

@@ -15,7 +15,7 @@ use Rattle.office_words.specs.declared.command.Command.{Command}
 use Rattle.office_words.specs.declared.command.WordFault.{WordFault}
 use Rattle.office_words.specs.declared.command.WordFault.TheVariants as faults
 use Rattle.office_commands.specs.declared.closing.Closing.{Closing}
-use Rattle.office_commands.specs.declared.closing.Closing.TheVariants.{Answered, Stored, Already, Agree, TariffPut, PastStored, PastAlready, Words, Refused, PastRefused, DayPassed, DiffersDay, NoDay, PastLate, PastKept, DiffersPast, ReadFault, KeeperFault, DiffersLine, NoMemory, Rehearsed}
+use Rattle.office_commands.specs.declared.closing.Closing.TheVariants.{Words, ReadFault, KeeperFault, NoMemory}
 use Rattle.office_commands.specs.Closings.{closing_line, status_of}
 use Rattle.office_commands.specs.Commands.{Answer}
 use Rattle.office_commands.specs.Endings.{Sort, Own, Unread, Unkept, Unroomed, sort_of, IsFront, StandsBy, StandsBefore, Wrote, LeftBy, KeepsBy, Keeps, IsWhole, Closes, WroteAll, WroteFault, WroteSome, last_line, status_by, stopping, refusing}
@@ -29,27 +29,10 @@ IsOf Unroomed c = c ≡ NoMemory
 
 -- each closing line is of its sort
 pub is_of : (c : Closing) → IsOf (sort_of c) c
-is_of (Answered day tuples notices) = (λ e. omega (arith, e), λ e. omega (arith, e), λ e. omega (arith, e), λ e. omega (arith, e))
-is_of (Stored day tuples notices total) = (λ e. omega (arith, e), λ e. omega (arith, e), λ e. omega (arith, e), λ e. omega (arith, e))
-is_of (Already day tuples notices total) = (λ e. omega (arith, e), λ e. omega (arith, e), λ e. omega (arith, e), λ e. omega (arith, e))
-is_of (Agree notices) = (λ e. omega (arith, e), λ e. omega (arith, e), λ e. omega (arith, e), λ e. omega (arith, e))
-is_of (TariffPut xway crowd speed factor) = (λ e. omega (arith, e), λ e. omega (arith, e), λ e. omega (arith, e), λ e. omega (arith, e))
-is_of (PastStored base rows) = (λ e. omega (arith, e), λ e. omega (arith, e), λ e. omega (arith, e), λ e. omega (arith, e))
-is_of (PastAlready base rows) = (λ e. omega (arith, e), λ e. omega (arith, e), λ e. omega (arith, e), λ e. omega (arith, e))
-is_of Words = (λ e. omega (arith, e), λ e. omega (arith, e), λ e. omega (arith, e), λ e. omega (arith, e))
-is_of (Refused line cause) = (λ e. omega (arith, e), λ e. omega (arith, e), λ e. omega (arith, e), λ e. omega (arith, e))
-is_of (PastRefused line cause) = (λ e. omega (arith, e), λ e. omega (arith, e), λ e. omega (arith, e), λ e. omega (arith, e))
-is_of (DayPassed day last) = (λ e. omega (arith, e), λ e. omega (arith, e), λ e. omega (arith, e), λ e. omega (arith, e))
-is_of (DiffersDay day kept found) = (λ e. omega (arith, e), λ e. omega (arith, e), λ e. omega (arith, e), λ e. omega (arith, e))
-is_of (NoDay day) = (λ e. omega (arith, e), λ e. omega (arith, e), λ e. omega (arith, e), λ e. omega (arith, e))
-is_of (PastLate last) = (λ e. omega (arith, e), λ e. omega (arith, e), λ e. omega (arith, e), λ e. omega (arith, e))
-is_of (PastKept base) = (λ e. omega (arith, e), λ e. omega (arith, e), λ e. omega (arith, e), λ e. omega (arith, e))
-is_of (DiffersPast base kept found) = (λ e. omega (arith, e), λ e. omega (arith, e), λ e. omega (arith, e), λ e. omega (arith, e))
-is_of (DiffersLine line wanted found) = (λ e. omega (arith, e), λ e. omega (arith, e), λ e. omega (arith, e), λ e. omega (arith, e))
 is_of ReadFault = refl
 is_of KeeperFault = refl
 is_of NoMemory = refl
-is_of (Rehearsed bytes digest tuples notices notices_digest total) = (λ e. omega (arith, e), λ e. omega (arith, e), λ e. omega (arith, e), λ e. omega (arith, e))
+is_of _ = (λ e. omega (arith, e), λ e. omega (arith, e), λ e. omega (arith, e), λ e. omega (arith, e))
 
 -- a status of 4 is that of a source that failed
 pub is_unread : (c : Closing) → status_of c ≡ 4 → c ≡ ReadFault
@@ -74,26 +57,7 @@ is_unkept c e = go (sort_of c) (is_of c)
 -- and one of 1 that of other words
 pub is_words : (c : Closing) → status_of c ≡ 1 → c ≡ Words
 is_words Words e = refl
-is_words (Answered day tuples notices) e = absurd (omega (arith, e))
-is_words (Stored day tuples notices total) e = absurd (omega (arith, e))
-is_words (Already day tuples notices total) e = absurd (omega (arith, e))
-is_words (Agree notices) e = absurd (omega (arith, e))
-is_words (TariffPut xway crowd speed factor) e = absurd (omega (arith, e))
-is_words (PastStored base rows) e = absurd (omega (arith, e))
-is_words (PastAlready base rows) e = absurd (omega (arith, e))
-is_words (Refused line cause) e = absurd (omega (arith, e))
-is_words (PastRefused line cause) e = absurd (omega (arith, e))
-is_words (DayPassed day last) e = absurd (omega (arith, e))
-is_words (DiffersDay day kept found) e = absurd (omega (arith, e))
-is_words (NoDay day) e = absurd (omega (arith, e))
-is_words (PastLate last) e = absurd (omega (arith, e))
-is_words (PastKept base) e = absurd (omega (arith, e))
-is_words (DiffersPast base kept found) e = absurd (omega (arith, e))
-is_words ReadFault e = absurd (omega (arith, e))
-is_words KeeperFault e = absurd (omega (arith, e))
-is_words (DiffersLine line wanted found) e = absurd (omega (arith, e))
-is_words NoMemory e = absurd (omega (arith, e))
-is_words (Rehearsed bytes digest tuples notices notices_digest total) e = absurd (omega (arith, e))
+is_words _ e = absurd (omega (arith, e))
 
 -- a whole text is some first bytes of itself
 pub whole_front : (text whole : List ℕ) → text ≡ whole → IsFront text whole
@@ -102,9 +66,7 @@ whole_front text whole e = (length whole, e ∙ sym (take_all (length whole) who
 -- what may stand before any closing line is some first bytes of the text
 front_by : (s : Sort) (a : Answer) (c : Closing) (text : List ℕ) → StandsBy s a c text → IsFront text a.text
 front_by Own a c text h = whole_front text a.text h.1
-front_by Unread a c text h = h
-front_by Unkept a c text h = h
-front_by Unroomed a c text h = h
+front_by _ a c text h = h
 
 front_of : (a : Answer) (c : Closing) (text : List ℕ) → StandsBefore a c text → IsFront text a.text
 front_of a c text h = front_by (sort_of c) a c text h

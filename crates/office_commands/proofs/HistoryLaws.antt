@@ -25,15 +25,10 @@ use Rattle.office_commands.proofs.OutcomeLaws.{neither}
 module _ (w : WhenRefused) (base : ℕ) (a : PastAnswer) (was : Office) (now : Option Office) where
   -- the closing line of a history that was kept, or of why not
   stands_by : (done : PastOutcome) → Does w a was now done → StandsBefore (past_by base a) (past_closing base done) []
-  stands_by (Stored r) h = (ap (λ d. Some (past_closing base d)) h.outcome_is, refl)
-  stands_by (Already r) h = (ap (λ d. Some (past_closing base d)) h.outcome_is, refl)
-  stands_by (Row line cause) h = (ap (λ d. Some (past_closing base d)) h.outcome_is, refl)
-  stands_by (PastLate last) h = (ap (λ d. Some (past_closing base d)) h.outcome_is, refl)
-  stands_by (OtherBase kept) h = (ap (λ d. Some (past_closing base d)) h.outcome_is, refl)
-  stands_by (Differs kept found) h = (ap (λ d. Some (past_closing base d)) h.outcome_is, refl)
   stands_by ReadFault h = whole_front [] [] refl
   stands_by KeeperFault h = whole_front [] [] refl
   stands_by NoMemory h = whole_front [] [] refl
+  stands_by _ h = (ap (λ d. Some (past_closing base d)) h.outcome_is, refl)
 
   -- and what is kept after it
   keeps_by : (done : PastOutcome) → Does w a was now done → KeepsBy (sort_of (past_closing base done)) w (past_by base a) was now
@@ -43,9 +38,7 @@ module _ (w : WhenRefused) (base : ℕ) (a : PastAnswer) (was : Office) (now : O
   keeps_by (PastLate last) h = h.kept
   keeps_by (OtherBase kept) h = h.kept
   keeps_by (Differs kept found) h = h.kept
-  keeps_by ReadFault h = h
-  keeps_by KeeperFault h = h
-  keeps_by NoMemory h = h
+  keeps_by _ h = h
 
   -- the same of the closing that is named
   pub past_stands : (done : PastOutcome) (c : Closing) → c ≡ past_closing base done → Does w a was now done → StandsBefore (past_by base a) c []
@@ -114,33 +107,19 @@ past_rest w limits base bytes o None now left (Row line cause) c e h rest soon =
   refused_there = λ s. new_named line cause o.days base limits bytes o left h.outcome_is soon;
 }
 past_rest w limits base bytes o (Some k) now left (Row line cause) c e h rest soon = absurd (again_apart k base bytes (Row line cause) h.outcome_is tt)
-past_rest w limits base bytes o p now left (PastLate last) c e h rest soon = read_ill limits base p bytes left c _ e (λ s. omega (arith, s)) (λ s. omega (arith, s))
-past_rest w limits base bytes o p now left (OtherBase other) c e h rest soon = read_ill limits base p bytes left c _ e (λ s. omega (arith, s)) (λ s. omega (arith, s))
-past_rest w limits base bytes o p now left (Differs k found) c e h rest soon = read_ill limits base p bytes left c _ e (λ s. omega (arith, s)) (λ s. omega (arith, s))
-past_rest w limits base bytes o p now left ReadFault c e h rest soon = read_ill limits base p bytes left c _ e (λ s. omega (arith, s)) (λ s. omega (arith, s))
-past_rest w limits base bytes o p now left KeeperFault c e h rest soon = read_ill limits base p bytes left c _ e (λ s. omega (arith, s)) (λ s. omega (arith, s))
-past_rest w limits base bytes o p now left NoMemory c e h rest soon = read_ill limits base p bytes left c _ e (λ s. omega (arith, s)) (λ s. omega (arith, s))
+past_rest w limits base bytes o p now left _ c e h rest soon = read_ill limits base p bytes left c _ e (λ s. omega (arith, s)) (λ s. omega (arith, s))
 
 -- what is kept is as it was, unless a history was put, the keeper failed or memory ran out
 pub past_held : (base : ℕ) (P : Type 0) (done : PastOutcome) (c : Closing) → c ≡ past_closing base done → KeepsAll done P → Holds (status_of c) P
 past_held base P (Stored r) c e h = λ well failed room. absurd (well (ap status_of e))
-past_held base P (Already r) c e h = λ well failed room. h
-past_held base P (Row line cause) c e h = λ well failed room. h
-past_held base P (PastLate last) c e h = λ well failed room. h
-past_held base P (OtherBase other) c e h = λ well failed room. h
-past_held base P (Differs k found) c e h = λ well failed room. h
-past_held base P ReadFault c e h = λ well failed room. h
 past_held base P KeeperFault c e h = λ well failed room. absurd (failed (ap status_of e))
 past_held base P NoMemory c e h = λ well failed room. absurd (room (ap status_of e))
+past_held base P _ c e h = λ well failed room. h
 
 -- a history that ended at a refused line, or as the keeper failed, was compared with none
 pub past_alone : (base : ℕ) (P : Type 0) (done : PastOutcome) (c : Closing) → c ≡ past_closing base done → (IsUncompared done → P) → (status_of c ≡ 2) ⊎ (status_of c ≡ 6) → P
-past_alone base P (Stored r) c e h s = h tt
-past_alone base P (Row line cause) c e h s = h tt
-past_alone base P (PastLate last) c e h s = h tt
-past_alone base P (OtherBase other) c e h s = h tt
-past_alone base P KeeperFault c e h s = h tt
 past_alone base P (Already r) c e h s = absurd (neither _ 0 (ap status_of e) (λ t. omega (arith, t)) (λ t. omega (arith, t)) s)
 past_alone base P (Differs k found) c e h s = absurd (neither _ 3 (ap status_of e) (λ t. omega (arith, t)) (λ t. omega (arith, t)) s)
 past_alone base P ReadFault c e h s = absurd (neither _ 4 (ap status_of e) (λ t. omega (arith, t)) (λ t. omega (arith, t)) s)
 past_alone base P NoMemory c e h s = absurd (neither _ 8 (ap status_of e) (λ t. omega (arith, t)) (λ t. omega (arith, t)) s)
+past_alone base P _ c e h s = h tt

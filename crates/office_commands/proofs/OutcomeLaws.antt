@@ -17,7 +17,7 @@ use Rattle.office_commands.specs.Closings.{status_of}
 use Rattle.office_commands.specs.Endings.{Wrote, Keeps, Ends, Halted, Did, Holds, code_of}
 use Rattle.office_commands.proofs.EndingLaws.{whole_front}
 
-module _ (w : WhenRefused) (number : ℕ) (a : day.Answer) (was : Office) (old new : Option (List ℕ)) (now : Option Office) where
+module _ (w : WhenRefused) (number : ℕ) (a : day.DayAnswer) (was : Office) (old new : Option (List ℕ)) (now : Option Office) where
   abbrev DoesIt : Outcome → Type 0
   DoesIt done = Does w a was old new now done
 
@@ -29,12 +29,6 @@ module _ (w : WhenRefused) (number : ℕ) (a : day.Answer) (was : Office) (old n
 
   -- the text of a call that stored, answered, or said why not, and of one that was stopped
   pub wrote : (done : Outcome) (r : Result (Option Closing) Failed) → Ends (closing_by number done) r → DoesIt done → WroteIt r
-  wrote (Stored kept) (Ok c) e h = subst (λ x. WroteIt (Ok x)) (sym e) (a.text, (ap (closing_by number) h.outcome_is, refl), h.wrote)
-  wrote (Already kept) (Ok c) e h = subst (λ x. WroteIt (Ok x)) (sym e) (a.text, (ap (closing_by number) h.outcome_is, refl), h.wrote)
-  wrote (Answered kept) (Ok c) e h = subst (λ x. WroteIt (Ok x)) (sym e) (a.text, (ap (closing_by number) h.outcome_is, refl), h.wrote)
-  wrote (Refused line cause) (Ok c) e h = subst (λ x. WroteIt (Ok x)) (sym e) (a.text, (ap (closing_by number) h.outcome_is, refl), h.wrote)
-  wrote (DayPassed last) (Ok c) e h = subst (λ x. WroteIt (Ok x)) (sym e) (a.text, (ap (closing_by number) h.outcome_is, refl), h.wrote)
-  wrote (Differs kept found) (Ok c) e h = subst (λ x. WroteIt (Ok x)) (sym e) (a.text, (ap (closing_by number) h.outcome_is, refl), h.wrote)
   wrote ReadFault (Ok c) e h = subst (λ x. WroteIt (Ok x)) (sym e) (take h.0.0 a.text, (h.0.0, refl), h.0.1)
   wrote KeeperFault (Ok c) e (inl h) = subst (λ x. WroteIt (Ok x)) (sym e) (take h.0.0 a.text, (h.0.0, refl), h.0.1)
   wrote KeeperFault (Ok c) e (inr h) = subst (λ x. WroteIt (Ok x)) (sym e) (a.text, whole_front a.text a.text refl, h.0)
@@ -42,15 +36,8 @@ module _ (w : WhenRefused) (number : ℕ) (a : day.Answer) (was : Office) (old n
   wrote NoMemory (Ok c) e (inr h) = subst (λ x. WroteIt (Ok x)) (sym e) (a.text, whole_front a.text a.text refl, h.0)
   wrote WriteFault (Ok c) e h = absurd e
   wrote WriteFault (Err x) e h = (take h.0.0 a.text, (h.0.0, refl), h.0.2)
-  wrote (Stored kept) (Err x) e h = absurd e
-  wrote (Already kept) (Err x) e h = absurd e
-  wrote (Answered kept) (Err x) e h = absurd e
-  wrote (Refused line cause) (Err x) e h = absurd e
-  wrote (DayPassed last) (Err x) e h = absurd e
-  wrote (Differs kept found) (Err x) e h = absurd e
-  wrote ReadFault (Err x) e h = absurd e
-  wrote KeeperFault (Err x) e h = absurd e
-  wrote NoMemory (Err x) e h = absurd e
+  wrote _ (Err x) e h = absurd e
+  wrote _ (Ok c) e h = subst (λ x. WroteIt (Ok x)) (sym e) (a.text, (ap (closing_by number) h.outcome_is, refl), h.wrote)
 
   -- and what is kept after it
   pub keeps : (done : Outcome) (r : Result (Option Closing) Failed) → Ends (closing_by number done) r → DoesIt done → KeepsIt r
@@ -67,18 +54,10 @@ module _ (w : WhenRefused) (number : ℕ) (a : day.Answer) (was : Office) (old n
   keeps NoMemory (Ok c) e (inr h) = subst (λ x. KeepsIt (Ok x)) (sym e) (inr h.1)
   keeps WriteFault (Ok c) e h = absurd e
   keeps WriteFault (Err x) e h = h.1
-  keeps (Stored kept) (Err x) e h = absurd e
-  keeps (Already kept) (Err x) e h = absurd e
-  keeps (Answered kept) (Err x) e h = absurd e
-  keeps (Refused line cause) (Err x) e h = absurd e
-  keeps (DayPassed last) (Err x) e h = absurd e
-  keeps (Differs kept found) (Err x) e h = absurd e
-  keeps ReadFault (Err x) e h = absurd e
-  keeps KeeperFault (Err x) e h = absurd e
-  keeps NoMemory (Err x) e h = absurd e
+  keeps _ (Err x) e h = absurd e
 
 -- what stands behind a call that was stopped
-module _ (w : WhenRefused) (number : ℕ) (a : day.Answer) (was : Office) (old new : Option (List ℕ)) (now : Option Office) where
+module _ (w : WhenRefused) (number : ℕ) (a : day.DayAnswer) (was : Office) (old new : Option (List ℕ)) (now : Option Office) where
   stopped_did : (fault : KeepFault) → day.Halts w fault a was old new now → (text : List ℕ) × Halted w fault (row_by number a) was text now × Appends old new text
   stopped_did fault (inl h) = (take h.0.0 a.text, inl ((h.0.0, refl), h.1), h.0.1)
   stopped_did fault (inr h) = (a.text, inr (refl, h.1), h.0)
@@ -96,15 +75,7 @@ module _ (w : WhenRefused) (number : ℕ) (a : day.Answer) (was : Office) (old n
   did NoMemory (Ok c) e h = subst (λ x. Did w (row_by number a) was old new now (Ok x)) (sym e) (stopped_did keeping.NoMemory h)
   did WriteFault (Ok c) e h = absurd e
   did WriteFault (Err x) e h = (take h.0.0 a.text, (h.0.0, refl), h.0.2, h.1, λ other. omega (arith, h.0.1, length-take h.0.0 a.text))
-  did (Stored kept) (Err x) e h = absurd e
-  did (Already kept) (Err x) e h = absurd e
-  did (Answered kept) (Err x) e h = absurd e
-  did (Refused line cause) (Err x) e h = absurd e
-  did (DayPassed last) (Err x) e h = absurd e
-  did (Differs kept found) (Err x) e h = absurd e
-  did ReadFault (Err x) e h = absurd e
-  did KeeperFault (Err x) e h = absurd e
-  did NoMemory (Err x) e h = absurd e
+  did _ (Err x) e h = absurd e
 
 -- the status of a run whose closing line is known
 pub code_is : (c : Option Closing) (k : Closing) → c ≡ Some k → code_of (Ok c) ≡ status_of k
@@ -118,25 +89,12 @@ neither code k e named failed (inr s) = failed (sym e ∙ s)
 -- what is kept is as it was, unless a day was stored, the keeper failed or memory ran out
 pub held : (number : ℕ) (P : Type 0) (done : Outcome) (r : Result (Option Closing) Failed) → Ends (closing_by number done) r → KeepsAll done P → Holds (code_of r) P
 held number P (Stored kept) (Ok c) e h = λ well failed room. absurd (well (code_is c _ e))
-held number P (Already kept) (Ok c) e h = λ well failed room. h
-held number P (Answered kept) (Ok c) e h = λ well failed room. h
-held number P (Refused line cause) (Ok c) e h = λ well failed room. h
-held number P (DayPassed last) (Ok c) e h = λ well failed room. h
-held number P (Differs kept found) (Ok c) e h = λ well failed room. h
-held number P ReadFault (Ok c) e h = λ well failed room. h
 held number P KeeperFault (Ok c) e h = λ well failed room. absurd (failed (code_is c _ e))
 held number P NoMemory (Ok c) e h = λ well failed room. absurd (room (code_is c _ e))
 held number P WriteFault (Ok c) e h = absurd e
 held number P WriteFault (Err x) e h = λ well failed room. h
-held number P (Stored kept) (Err x) e h = absurd e
-held number P (Already kept) (Err x) e h = absurd e
-held number P (Answered kept) (Err x) e h = absurd e
-held number P (Refused line cause) (Err x) e h = absurd e
-held number P (DayPassed last) (Err x) e h = absurd e
-held number P (Differs kept found) (Err x) e h = absurd e
-held number P ReadFault (Err x) e h = absurd e
-held number P KeeperFault (Err x) e h = absurd e
-held number P NoMemory (Err x) e h = absurd e
+held number P _ (Err x) e h = absurd e
+held number P _ (Ok c) e h = λ well failed room. h
 
 -- a command fails only where its sink failed
 pub caused : (P : Type 0) (r : Result (Option Closing) Failed) (before now : ℕ) → OnErr r P → before ≤ now → (P → Rose before now) → HasCause before now r

@@ -1,22 +1,13 @@
 -- What is kept where nothing was put.
-use Rattle.std.proofs.Common.{◌≡◌, inl, refl, Option, Some, None}
+use Rattle.std.proofs.Common.{◌≡◌, inl, refl, Option, Some}
 use Rattle.keeper.specs.Office.{Office}
 use Rattle.office_words.specs.declared.command.Command.{Command}
 use Rattle.office_words.specs.declared.command.Command.TheVariants as command
-use Rattle.office_commands.specs.Commands.{PutsAsked}
+use Rattle.office_commands.specs.Uses.{PutsAsked}
 
 -- what is kept as it was is kept as words may have it
 pub puts_same : (m : Option Command) (o : Office) (now : Option Office) → now ≡ Some o → PutsAsked m o now
-puts_same None o now e = tt
-puts_same (Some (command.Answers run)) o now e = tt
 puts_same (Some (command.Import run)) o now e = (o, e, inl refl)
-puts_same (Some (command.Compare asked)) o now e = tt
 puts_same (Some (command.Past base)) o now e = (o, e, inl refl)
-puts_same (Some (command.Day number)) o now e = tt
-puts_same (Some (command.Vehicle vid from to)) o now e = tt
-puts_same (Some (command.Accidents late)) o now e = tt
-puts_same (Some (command.Export number)) o now e = tt
 puts_same (Some (command.Tariff xway crowd speed factor)) o now e = inl e
-puts_same (Some command.Tariffs) o now e = tt
-puts_same (Some (command.Generate seed size)) o now e = tt
-puts_same (Some (command.Rehearse seed size run)) o now e = tt
+puts_same _ o now e = tt

@@ -30,11 +30,11 @@ use Rattle.import_once.specs.declared.outcomes.Outcome.TheVariants.{Stored, Alre
 use Rattle.office_commands.specs.declared.closing.Closing.{Closing}
 use Rattle.office_commands.specs.declared.closing.Closing.TheVariants as closing
 use Rattle.office_commands.specs.Closings.{status_of}
-use Rattle.office_commands.specs.Commands.{closing_by, change_kept}
+use Rattle.office_commands.specs.Commands.{closing_by}
 use Rattle.office_commands.specs.Days.{refused_at, recomputed}
 use Rattle.office_commands.specs.Endings.{Ends, Holds, code_of, stopping, refusing}
 use Rattle.office_commands.specs.Entries.{IsComparison}
-use Rattle.office_commands.specs.Rests.{HasStopped, HasEnded, HasReadTo, HasReadDay, ReadAsAsked, EndsAt, SaysBy, LeavesOfDay, LeavesAsKept, HoldsAsked, ReadsUncompared}
+use Rattle.office_commands.specs.Rests.{HasStopped, HasEnded, HasReadTo, HasReadDay, ReadsAsked, EndsAt, SaysBy, LeavesOfDay, LeavesAsKept, ReadsUncompared}
 use Rattle.office_commands.proofs.OutcomeLaws.{code_is, neither}
 
 module _ (refused : Option (ℕ × Fault)) (bytes : List ℕ) (left : Option (List ℕ)) where
@@ -82,37 +82,18 @@ module _ (refused : Option (ℕ × Fault)) (bytes : List ℕ) (left : Option (Li
   answered_to number NoMemory (Ok c) e own l = answered_ill c _ e (λ s. omega (arith, s)) (λ s. omega (arith, s)) (λ s. omega (arith, s))
   answered_to number WriteFault (Ok c) e own l = absurd e
   answered_to number WriteFault (Err x) e own l = to_other 5 (λ s. omega (arith, s)) (λ s. omega (arith, s)) (λ s. omega (arith, s))
-  answered_to number (Stored kept) r e own l = absurd own
-  answered_to number (Already kept) r e own l = absurd own
-  answered_to number (DayPassed last) r e own l = absurd own
-  answered_to number (Differs kept found) r e own l = absurd own
-  answered_to number (Answered kept) (Err x) e own l = absurd e
-  answered_to number (Refused line cause) (Err x) e own l = absurd e
-  answered_to number ReadFault (Err x) e own l = absurd e
-  answered_to number KeeperFault (Err x) e own l = absurd e
-  answered_to number NoMemory (Err x) e own l = absurd e
+  answered_to number _ (Err x) e own l = absurd e
+  answered_to number _ r e own l = absurd own
 
   -- a day that was to be kept, and a line of which was refused
   pub imported_to : (number : ℕ) (done : Outcome) (r : Result (Option Closing) Failed) → Ends (closing_by number done) r → LeavesRead done refused bytes left → code_of r ≡ 2 → HasStopped refused bytes left
   imported_to number (Refused line cause) (Ok c) e l s = (line, l.0.0, l.0.1, l.1)
-  imported_to number (Stored kept) (Ok c) e l s = absurd (omega (arith, code_is c _ e, s))
-  imported_to number (Already kept) (Ok c) e l s = absurd (omega (arith, code_is c _ e, s))
-  imported_to number (Answered kept) (Ok c) e l s = absurd (omega (arith, code_is c _ e, s))
-  imported_to number (DayPassed last) (Ok c) e l s = absurd (omega (arith, code_is c _ e, s))
-  imported_to number (Differs kept found) (Ok c) e l s = absurd (omega (arith, code_is c _ e, s))
-  imported_to number ReadFault (Ok c) e l s = absurd (omega (arith, code_is c _ e, s))
-  imported_to number KeeperFault (Ok c) e l s = absurd (omega (arith, code_is c _ e, s))
-  imported_to number NoMemory (Ok c) e l s = absurd (omega (arith, code_is c _ e, s))
   imported_to number WriteFault (Ok c) e l s = absurd e
   imported_to number done (Err x) e l s = absurd (omega (arith, s))
+  imported_to number _ (Ok c) e l s = absurd (omega (arith, code_is c _ e, s))
 
 -- a day whose import ended at a refused line, or as the keeper failed, was compared with none
 pub imported_alone : (number : ℕ) (P : Type 0) (done : Outcome) (r : Result (Option Closing) Failed) → Ends (closing_by number done) r → (IsUncompared done → P) → (code_of r ≡ 2) ⊎ (code_of r ≡ 6) → P
-imported_alone number P (Stored kept) r e h s = h tt
-imported_alone number P (Refused line cause) r e h s = h tt
-imported_alone number P (DayPassed last) r e h s = h tt
-imported_alone number P WriteFault r e h s = h tt
-imported_alone number P KeeperFault r e h s = h tt
 imported_alone number P (Already kept) (Ok c) e h s = absurd (neither _ 0 (code_is c _ e) (λ t. omega (arith, t)) (λ t. omega (arith, t)) s)
 imported_alone number P (Answered kept) (Ok c) e h s = absurd (neither _ 0 (code_is c _ e) (λ t. omega (arith, t)) (λ t. omega (arith, t)) s)
 imported_alone number P (Differs kept found) (Ok c) e h s = absurd (neither _ 3 (code_is c _ e) (λ t. omega (arith, t)) (λ t. omega (arith, t)) s)
@@ -123,6 +104,7 @@ imported_alone number P (Answered kept) (Err x) e h s = absurd e
 imported_alone number P (Differs kept found) (Err x) e h s = absurd e
 imported_alone number P ReadFault (Err x) e h s = absurd e
 imported_alone number P NoMemory (Err x) e h s = absurd e
+imported_alone number P _ r e h s = h tt
 
 -- how the import of a day that is kept ends
 abbrev IsAgain : Outcome → Type 0
@@ -165,38 +147,15 @@ rests w work number bytes tuples refused o None old new now left (Already kept) 
 rests w work number bytes tuples refused o (Some k) old new now left (Already kept) (Ok c) m whole rest e s = rest
 rests w work number bytes tuples refused o None old new now left (Answered kept) res m whole rest e s = absurd (subst IsNew (sym m.outcome_is) (is_new work number bytes tuples refused o))
 rests w work number bytes tuples refused o (Some k) old new now left (Answered kept) res m whole rest e s = absurd (subst IsAgain (sym m.outcome_is) (is_again k (found_digest bytes k.bytes)))
-rests w work number bytes tuples refused o r old new now left (Refused line cause) (Ok c) m whole rest e s = absurd (omega (arith, code_is c _ e, s))
-rests w work number bytes tuples refused o r old new now left (DayPassed last) (Ok c) m whole rest e s = absurd (omega (arith, code_is c _ e, s))
-rests w work number bytes tuples refused o r old new now left (Differs k found) (Ok c) m whole rest e s = absurd (omega (arith, code_is c _ e, s))
-rests w work number bytes tuples refused o r old new now left ReadFault (Ok c) m whole rest e s = absurd (omega (arith, code_is c _ e, s))
-rests w work number bytes tuples refused o r old new now left KeeperFault (Ok c) m whole rest e s = absurd (omega (arith, code_is c _ e, s))
-rests w work number bytes tuples refused o r old new now left NoMemory (Ok c) m whole rest e s = absurd (omega (arith, code_is c _ e, s))
 rests w work number bytes tuples refused o r old new now left WriteFault (Ok c) m whole rest e s = absurd e
 rests w work number bytes tuples refused o r old new now left done (Err x) m whole rest e s = absurd (omega (arith, s))
+rests w work number bytes tuples refused o r old new now left _ (Ok c) m whole rest e s = absurd (omega (arith, code_is c _ e, s))
 
 -- a comparison names no refused line
 pub compared_says : (c : Closing) → IsComparison c → status_of c ≢ 2
-compared_says (closing.Answered day tuples notices) h = absurd h
-compared_says (closing.Stored day tuples notices total) h = absurd h
-compared_says (closing.Already day tuples notices total) h = absurd h
 compared_says (closing.Agree notices) h = λ s. omega (arith, s)
-compared_says (closing.TariffPut xway crowd speed factor) h = absurd h
-compared_says (closing.PastStored base rows) h = absurd h
-compared_says (closing.PastAlready base rows) h = absurd h
-compared_says closing.Words h = absurd h
-compared_says (closing.Refused line cause) h = absurd h
-compared_says (closing.PastRefused line cause) h = absurd h
-compared_says (closing.DayPassed day last) h = absurd h
-compared_says (closing.DiffersDay day kept found) h = absurd h
-compared_says (closing.NoDay day) h = absurd h
-compared_says (closing.PastLate last) h = absurd h
-compared_says (closing.PastKept base) h = absurd h
-compared_says (closing.DiffersPast base kept found) h = absurd h
-compared_says closing.ReadFault h = absurd h
-compared_says closing.KeeperFault h = absurd h
 compared_says (closing.DiffersLine line wanted found) h = λ s. omega (arith, s)
-compared_says closing.NoMemory h = absurd h
-compared_says (closing.Rehearsed bytes digest tuples notices notices_digest total) h = absurd h
+compared_says _ h = absurd h
 
 -- nor does a run that could not read
 pub stopped_says : (stop : ReadStop) → status_of (stopping stop) ≢ 2
@@ -242,8 +201,7 @@ uncompared_status most status code before after same h = λ s. h (moved s)
     moved (inl s) = inl (sym (same (λ e. omega (arith, s, e)) (λ e. omega (arith, s, e))) ∙ s)
     moved (inr s) = inr (sym (same (λ e. omega (arith, s, e)) (λ e. omega (arith, s, e))) ∙ s)
 
-pub read_status : (limits : Limits) (m : Option Command) (status code : ℕ) (before after : Option (List ℕ)) → Ended status code → ReadAsAsked limits m code before after → ReadAsAsked limits m status before after
-read_status limits None status code before after same h = tt
+pub read_status : (limits : Limits) (m : Option Command) (status code : ℕ) (before after : Option (List ℕ)) → Ended status code → ReadsAsked limits m code before after → ReadsAsked limits m status before after
 read_status limits (Some (command.Answers run')) status code before after same h = day_status limits run'.late status code before after same h
 read_status limits (Some (command.Import run')) status code before after same h = (
   λ bytes told s. h.0 bytes told (sym (same (λ e. omega (arith, s, e)) (λ e. omega (arith, s, e))) ∙ s),
@@ -252,111 +210,36 @@ read_status limits (Some (command.Import run')) status code before after same h 
 read_status limits (Some (command.Compare asked)) status code before after same h = day_status (recomputed asked.how limits) asked.late status code before after same h
 read_status limits (Some (command.Accidents late)) status code before after same h = day_status (recomputed Plainly limits) late status code before after same h
 read_status limits (Some (command.Past base)) status code before after same h = uncompared_status (most_past limits) status code before after same h
-read_status limits (Some (command.Day number)) status code before after same h = tt
-read_status limits (Some (command.Vehicle vid from to)) status code before after same h = tt
-read_status limits (Some (command.Export number)) status code before after same h = tt
-read_status limits (Some (command.Tariff xway crowd speed factor)) status code before after same h = tt
-read_status limits (Some command.Tariffs) status code before after same h = tt
-read_status limits (Some (command.Generate seed size)) status code before after same h = tt
-read_status limits (Some (command.Rehearse seed size run')) status code before after same h = tt
+read_status limits _ status code before after same h = tt
 
 pub rest_status : (limits : Limits) (m : Option Command) (status code : ℕ) (o : Office) (bytes : List ℕ) (left : Option (List ℕ)) → Ended status code → LeavesAsKept limits m code o bytes left → LeavesAsKept limits m status o bytes left
-rest_status limits None status code o bytes left same h = tt
-rest_status limits (Some (command.Answers run')) status code o bytes left same h = tt
 rest_status limits (Some (command.Import run')) status code o bytes left same h = λ s. h (sym (same (λ e. omega (arith, s, e)) (λ e. omega (arith, s, e))) ∙ s)
-rest_status limits (Some (command.Compare asked)) status code o bytes left same h = tt
-rest_status limits (Some (command.Accidents late)) status code o bytes left same h = tt
 rest_status limits (Some (command.Past base)) status code o bytes left same h = record {
   ended = λ s. h.ended (sym (same (λ e. omega (arith, s, e)) (λ e. omega (arith, s, e))) ∙ s);
   refused_there = λ s. h.refused_there (sym (same (λ e. omega (arith, s, e)) (λ e. omega (arith, s, e))) ∙ s);
 }
-rest_status limits (Some (command.Day number)) status code o bytes left same h = tt
-rest_status limits (Some (command.Vehicle vid from to)) status code o bytes left same h = tt
-rest_status limits (Some (command.Export number)) status code o bytes left same h = tt
-rest_status limits (Some (command.Tariff xway crowd speed factor)) status code o bytes left same h = tt
-rest_status limits (Some command.Tariffs) status code o bytes left same h = tt
-rest_status limits (Some (command.Generate seed size)) status code o bytes left same h = tt
-rest_status limits (Some (command.Rehearse seed size run')) status code o bytes left same h = tt
+rest_status limits _ status code o bytes left same h = tt
 
-holds_status : (status code : ℕ) (P : Type 0) → Ended status code → status ≢ 5 → Holds code P → Holds status P
+pub holds_status : (status code : ℕ) (P : Type 0) → Ended status code → status ≢ 5 → Holds code P → Holds status P
 holds_status status code P same unbroken h = λ well failed room.
     let is = same unbroken room in
     h (λ e. well (is ∙ e)) (λ e. failed (is ∙ e)) (λ e. room (is ∙ e))
 
-pub held_status : (m : Option Command) (status code : ℕ) (P : Type 0) → Ended status code → status ≢ 5 → HoldsAsked m code P → HoldsAsked m status P
-held_status None status code P same unbroken h = tt
-held_status (Some (command.Answers run')) status code P same unbroken h = tt
-held_status (Some (command.Import run')) status code P same unbroken h = holds_status status code P same unbroken h
-held_status (Some (command.Compare asked)) status code P same unbroken h = tt
-held_status (Some (command.Accidents late)) status code P same unbroken h = tt
-held_status (Some (command.Past base)) status code P same unbroken h = holds_status status code P same unbroken h
-held_status (Some (command.Day number)) status code P same unbroken h = tt
-held_status (Some (command.Vehicle vid from to)) status code P same unbroken h = tt
-held_status (Some (command.Export number)) status code P same unbroken h = tt
-held_status (Some (command.Tariff xway crowd speed factor)) status code P same unbroken h = holds_status status code P same unbroken h
-held_status (Some command.Tariffs) status code P same unbroken h = tt
-held_status (Some (command.Generate seed size)) status code P same unbroken h = tt
-held_status (Some (command.Rehearse seed size run')) status code P same unbroken h = tt
-
 -- a source that was not read, after a run that says nothing of a reading
-pub read_other : (limits : Limits) (m : Option Command) (code : ℕ) (left : Option (List ℕ)) → code ≢ 0 → code ≢ 7 → code ≢ 2 → ReadAsAsked limits m code left left
-read_other limits None code left well parted named = tt
+pub read_other : (limits : Limits) (m : Option Command) (code : ℕ) (left : Option (List ℕ)) → code ≢ 0 → code ≢ 7 → code ≢ 2 → ReadsAsked limits m code left left
 read_other limits (Some (command.Answers run')) code left well parted named = record { within = nothing_read (most_read limits) left; to = λ bytes told. to_other (reads bytes limits run'.late).refused bytes left code well parted named }
 read_other limits (Some (command.Import run')) code left well parted named = (λ bytes told s. absurd (named s), λ s. nothing_read (most_read limits) left)
 read_other limits (Some (command.Compare asked)) code left well parted named = record { within = nothing_read (most_read (recomputed asked.how limits)) left; to = λ bytes told. to_other (reads bytes (recomputed asked.how limits) asked.late).refused bytes left code well parted named }
 read_other limits (Some (command.Accidents late)) code left well parted named = record { within = nothing_read (most_read (recomputed Plainly limits)) left; to = λ bytes told. to_other (reads bytes (recomputed Plainly limits) late).refused bytes left code well parted named }
 read_other limits (Some (command.Past base)) code left well parted named = λ s. nothing_read (most_past limits) left
-read_other limits (Some (command.Day number)) code left well parted named = tt
-read_other limits (Some (command.Vehicle vid from to)) code left well parted named = tt
-read_other limits (Some (command.Export number)) code left well parted named = tt
-read_other limits (Some (command.Tariff xway crowd speed factor)) code left well parted named = tt
-read_other limits (Some command.Tariffs) code left well parted named = tt
-read_other limits (Some (command.Generate seed size)) code left well parted named = tt
-read_other limits (Some (command.Rehearse seed size run')) code left well parted named = tt
+read_other limits _ code left well parted named = tt
 
 pub rest_other : (limits : Limits) (m : Option Command) (code : ℕ) (o : Office) (bytes : List ℕ) (left : Option (List ℕ)) → code ≢ 0 → code ≢ 2 → LeavesAsKept limits m code o bytes left
-rest_other limits None code o bytes left well named = tt
-rest_other limits (Some (command.Answers run')) code o bytes left well named = tt
 rest_other limits (Some (command.Import run')) code o bytes left well named = λ s. absurd (well s)
-rest_other limits (Some (command.Compare asked)) code o bytes left well named = tt
-rest_other limits (Some (command.Accidents late)) code o bytes left well named = tt
 rest_other limits (Some (command.Past base)) code o bytes left well named = record { ended = λ s. absurd (well s); refused_there = λ s. absurd (named s) }
-rest_other limits (Some (command.Day number)) code o bytes left well named = tt
-rest_other limits (Some (command.Vehicle vid from to)) code o bytes left well named = tt
-rest_other limits (Some (command.Export number)) code o bytes left well named = tt
-rest_other limits (Some (command.Tariff xway crowd speed factor)) code o bytes left well named = tt
-rest_other limits (Some command.Tariffs) code o bytes left well named = tt
-rest_other limits (Some (command.Generate seed size)) code o bytes left well named = tt
-rest_other limits (Some (command.Rehearse seed size run')) code o bytes left well named = tt
-
--- what is kept is as it was
-pub held_same : (m : Option Command) (code : ℕ) (P : Type 0) → P → HoldsAsked m code P
-held_same None code P same = tt
-held_same (Some (command.Answers run')) code P same = tt
-held_same (Some (command.Import run')) code P same = λ well failed room. same
-held_same (Some (command.Compare asked)) code P same = tt
-held_same (Some (command.Accidents late)) code P same = tt
-held_same (Some (command.Past base)) code P same = λ well failed room. same
-held_same (Some (command.Day number)) code P same = tt
-held_same (Some (command.Vehicle vid from to)) code P same = tt
-held_same (Some (command.Export number)) code P same = tt
-held_same (Some (command.Tariff xway crowd speed factor)) code P same = λ well failed room. same
-held_same (Some command.Tariffs) code P same = tt
-held_same (Some (command.Generate seed size)) code P same = tt
-held_same (Some (command.Rehearse seed size run')) code P same = tt
+rest_other limits _ code o bytes left well named = tt
 
 -- after a read fault nothing was put, and what is not put is as it was
-pub unread_same : (m : Option Command) (code : ℕ) (P : Type 0) → HoldsAsked m code P → (change_kept m ≡ false → P) → code ≡ 4 → P
-unread_same None code P held same s = same refl
-unread_same (Some (command.Answers run')) code P held same s = same refl
-unread_same (Some (command.Import run')) code P held same s = held (λ e. omega (arith, s, e)) (λ e. omega (arith, s, e)) (λ e. omega (arith, s, e))
-unread_same (Some (command.Compare asked)) code P held same s = same refl
-unread_same (Some (command.Accidents late)) code P held same s = same refl
-unread_same (Some (command.Past base)) code P held same s = held (λ e. omega (arith, s, e)) (λ e. omega (arith, s, e)) (λ e. omega (arith, s, e))
-unread_same (Some (command.Day number)) code P held same s = same refl
-unread_same (Some (command.Vehicle vid from to)) code P held same s = same refl
-unread_same (Some (command.Export number)) code P held same s = same refl
-unread_same (Some (command.Tariff xway crowd speed factor)) code P held same s = held (λ e. omega (arith, s, e)) (λ e. omega (arith, s, e)) (λ e. omega (arith, s, e))
-unread_same (Some command.Tariffs) code P held same s = same refl
-unread_same (Some (command.Generate seed size)) code P held same s = same refl
-unread_same (Some (command.Rehearse seed size run')) code P held same s = same refl
+pub unread_same : (changes : Bool) (code : ℕ) (P : Type 0) → (changes ≡ true → Holds code P) → (changes ≡ false → P) → code ≡ 4 → P
+unread_same true code P held same s = held refl (λ e. omega (arith, s, e)) (λ e. omega (arith, s, e)) (λ e. omega (arith, s, e))
+unread_same false code P held same s = same refl

@@ -13,7 +13,7 @@ use Rattle.keeper.specs.Calls.{WhenRefused}
 use Rattle.keeper.specs.Kept.{kept_record}
 use Rattle.keeper.specs.Office.{Office, nothing_kept}
 use Rattle.keeper.specs.declared.kept.DayRecord.{DayRecord}
-use Rattle.import_once.specs.Imports.{Answer, Work, Does, Merges, work_of, work_by, worked_record, import_worked, unless_passed, import_answer, import_found}
+use Rattle.import_once.specs.Imports.{DayAnswer, Work, Does, Merges, work_of, work_by, worked_record, import_worked, unless_passed, import_answer, import_found}
 use Rattle.import_once.specs.declared.outcomes.Outcome.{Outcome}
 use Rattle.import_once.specs.declared.outcomes.Outcome.TheVariants.{Stored, Already, Answered, Refused, DayPassed, Differs, ReadFault, WriteFault, KeeperFault, NoMemory}
 use Rattle.traffic_gen.specs.declared.plan.GenPlan.{GenPlan}
@@ -48,16 +48,9 @@ alone day file late = kept_record day file (reads file DAY late).tuples nothing_
 abbrev pub Stores : DayRecord → Outcome → Type 0
 Stores r (Stored kept) = kept ≡ r
 Stores r NoMemory = Unit {0}
-Stores r (Already kept) = ⊥
-Stores r (Answered kept) = ⊥
-Stores r (Refused line cause) = ⊥
-Stores r (DayPassed last) = ⊥
-Stores r (Differs kept found) = ⊥
-Stores r ReadFault = ⊥
-Stores r WriteFault = ⊥
-Stores r KeeperFault = ⊥
+Stores r _ = ⊥
 
-module _ (w : WhenRefused) (a : Answer) (r : DayRecord) (stored : a.outcome ≡ Stored r) (was : Office) (old new : Option (List ℕ)) (now : Option Office) where
+module _ (w : WhenRefused) (a : DayAnswer) (r : DayRecord) (stored : a.outcome ≡ Stored r) (was : Office) (old new : Option (List ℕ)) (now : Option Office) where
   -- no outcome of a day that is not new is that
   other : (done : Outcome) → done ≡ a.outcome → Stores r done
   other done e = subst (Stores r) (sym (e ∙ stored)) refl
@@ -95,7 +88,7 @@ module _ (day : ℕ) (some : 70 ≤ day) (file : List ℕ) (late : ℕ) (whole :
   -- where nothing is kept no day is passed, and the file is stored with the work of its day
   stored_by : (work : Work) → (unless_passed (import_worked work day file tuples (reads file DAY late).refused nothing_kept) day nothing_kept).outcome ≡ Stored (worked_record work day file tuples nothing_kept)
   stored_by work =
-      ap (λ (a : Answer). a.outcome) (cond-false _ _ _ (lt-leb day 0 (omega (arith, some))))
+      ap (λ (a : DayAnswer). a.outcome) (cond-false _ _ _ (lt-leb day 0 (omega (arith, some))))
       ∙ ap (λ (r : Option (ℕ × Fault)). (import_worked work day file tuples r nothing_kept).outcome) whole
 
   -- what an import by the rules is to answer
@@ -110,14 +103,7 @@ module _ (day : ℕ) (some : 70 ≤ day) (file : List ℕ) (late : ℕ) (whole :
 pub none_else : (r : DayRecord) (done : Outcome) → Stores r done → ((kept : DayRecord) → done ≢ Stored kept) → done ≢ NoMemory → ⊥
 none_else r (Stored kept) h stored memory = stored kept refl
 none_else r NoMemory h stored memory = memory refl
-none_else r (Already kept) h stored memory = h
-none_else r (Answered kept) h stored memory = h
-none_else r (Refused line cause) h stored memory = h
-none_else r (DayPassed last) h stored memory = h
-none_else r (Differs kept found) h stored memory = h
-none_else r ReadFault h stored memory = h
-none_else r WriteFault h stored memory = h
-none_else r KeeperFault h stored memory = h
+none_else r _ h stored memory = h
 
 module _ (plan : GenPlan) (late : ℕ) (file : List ℕ) (ranged : first_out plan ≡ None) (same : file ≡ file_of plan) where
   -- the file of a plan is read whole

@@ -1,5 +1,6 @@
 -- Notices that are compared with those of the rules.
-use Rattle.std.specs.Prelude.{ℕ, ◌+◌, ◌-◌, ◌==◌, ◌&&◌, nat_le, Bool, false, List, [], ◌∷◌, length, Option, Some, None, if◌then◌else◌}
+use Rattle.std.specs.Prelude.{ℕ, ◌+◌, ◌-◌, ◌==◌, ◌&&◌, nat_le, Bool, false, List, [], ◌∷◌, length, Option, Some, None}
+use Rattle.std.specs.Prelude.{if◌then◌else◌}
 use Rattle.std.specs.Str.{bytes_eq}
 use Rattle.road_time.specs.declared.road.Notice.{Notice}
 use Rattle.road_time.specs.Lines.{without_cr}
@@ -41,7 +42,8 @@ abbrev pub compared_from : ℕ → List Notice → List (List ℕ) → Closing
 compared_from n [] [] = Agree (n - 1)
 compared_from n [] (l ∷ ls) = DiffersLine n Nothing (found_as l)
 compared_from n (w ∷ ws) [] = DiffersLine n (Read w) Nothing
-compared_from n (w ∷ ws) (l ∷ ls) = if is_text_of w l then compared_from (n + 1) ws ls else DiffersLine n (Read w) (found_as l)
+compared_from n (w ∷ ws) (l ∷ ls) =
+    if is_text_of w l then compared_from (n + 1) ws ls else DiffersLine n (Read w) (found_as l)
 
 -- how notices compare with lines
 abbrev pub compared : List Notice → List (List ℕ) → Closing

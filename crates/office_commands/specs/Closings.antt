@@ -8,7 +8,11 @@ use Rattle.past_file.specs.Causes.{past_cause_text}
 use Rattle.office_commands.specs.declared.entry_text.EntryText.{EntryText}
 use Rattle.office_commands.specs.declared.entry_text.EntryText.TheVariants.{Nothing, Malformed, Read}
 use Rattle.office_commands.specs.declared.closing.Closing.{Closing}
-use Rattle.office_commands.specs.declared.closing.Closing.TheVariants.{Answered, Stored, Already, Agree, TariffPut, PastStored, PastAlready, Words, Refused, PastRefused, DayPassed, DiffersDay, NoDay, PastLate, PastKept, DiffersPast, ReadFault, KeeperFault, DiffersLine, NoMemory, Rehearsed}
+use Rattle.office_commands.specs.declared.closing.Closing.TheVariants.{Answered, Stored, Already, Agree, TariffPut}
+use Rattle.office_commands.specs.declared.closing.Closing.TheVariants.{PastStored, PastAlready, Words, Refused}
+use Rattle.office_commands.specs.declared.closing.Closing.TheVariants.{PastRefused, DayPassed, DiffersDay, NoDay}
+use Rattle.office_commands.specs.declared.closing.Closing.TheVariants.{PastLate, PastKept, DiffersPast, ReadFault}
+use Rattle.office_commands.specs.declared.closing.Closing.TheVariants.{KeeperFault, DiffersLine, NoMemory, Rehearsed}
 
 -- how a line of notices is named
 abbrev pub entry_text : EntryText → List ℕ
@@ -33,33 +37,47 @@ tariff_line xway crowd speed factor =
 
 -- the line of a day that is kept of other bytes, with the texts of the digests
 unfoldable pub differs_line : ℕ → List ℕ → List ℕ → List ℕ
-differs_line day kept found = codes "# differs day " ++ (decimal day ++ (codes " kept " ++ (kept ++ (codes " found " ++ (found ++ codes "\n")))))
+differs_line day kept found =
+    codes "# differs day " ++ (decimal day ++ (codes " kept " ++ (kept ++ (codes " found " ++ (found ++ codes "\n")))))
 
 -- the line of a history that is kept of other bytes, with the texts of the digests
 unfoldable pub differs_past_line : ℕ → List ℕ → List ℕ → List ℕ
-differs_past_line base kept found = codes "# differs past " ++ (decimal base ++ (codes " kept " ++ (kept ++ (codes " found " ++ (found ++ codes "\n")))))
+differs_past_line base kept found =
+    codes "# differs past "
+    ++ (decimal base ++ (codes " kept " ++ (kept ++ (codes " found " ++ (found ++ codes "\n")))))
 
 -- the end of the line of a rehearsal, with the text of the digest of its notices
 unfoldable pub rehearsed_end : ℕ → List ℕ → ℕ → List ℕ
-rehearsed_end notices digest total = codes " notices " ++ (decimal notices ++ (codes " notices-digest " ++ (digest ++ (codes " total " ++ (decimal total ++ codes "\n")))))
+rehearsed_end notices digest total =
+    codes " notices "
+    ++ (decimal notices ++ (codes " notices-digest " ++ (digest ++ (codes " total " ++ (decimal total ++ codes "\n")))))
 
 -- the line of a rehearsal, with the text of the digest of its file and its end
 unfoldable pub rehearsed_line : ℕ → List ℕ → ℕ → List ℕ → List ℕ
-rehearsed_line bytes digest tuples rest = codes "# rehearsed bytes " ++ (decimal bytes ++ (codes " digest " ++ (digest ++ (codes " tuples " ++ (decimal tuples ++ rest)))))
+rehearsed_line bytes digest tuples rest =
+    codes "# rehearsed bytes "
+    ++ (decimal bytes ++ (codes " digest " ++ (digest ++ (codes " tuples " ++ (decimal tuples ++ rest)))))
 
 -- the closing line, with its LF
 abbrev pub closing_line : Closing → List ℕ
-closing_line (Answered day tuples notices) = codes "# answered day " ++ (decimal day ++ (codes " tuples " ++ (decimal tuples ++ (codes " notices " ++ (decimal notices ++ codes "\n")))))
+closing_line (Answered day tuples notices) =
+    codes "# answered day "
+    ++ (decimal day ++ (codes " tuples " ++ (decimal tuples ++ (codes " notices " ++ (decimal notices ++ codes "\n")))))
 closing_line (Stored day tuples notices total) = stored_line day tuples notices total
 closing_line (Already day tuples notices total) = already_line day tuples notices total
 closing_line (Agree notices) = codes "# agree notices " ++ (decimal notices ++ codes "\n")
 closing_line (TariffPut xway crowd speed factor) = tariff_line xway crowd speed factor
-closing_line (PastStored base rows) = codes "# past base " ++ (decimal base ++ (codes " rows " ++ (decimal rows ++ codes "\n")))
-closing_line (PastAlready base rows) = codes "# already past base " ++ (decimal base ++ (codes " rows " ++ (decimal rows ++ codes "\n")))
+closing_line (PastStored base rows) =
+    codes "# past base " ++ (decimal base ++ (codes " rows " ++ (decimal rows ++ codes "\n")))
+closing_line (PastAlready base rows) =
+    codes "# already past base " ++ (decimal base ++ (codes " rows " ++ (decimal rows ++ codes "\n")))
 closing_line Words = codes "# words\n"
-closing_line (Refused line cause) = codes "# refused line " ++ (decimal line ++ (codes " " ++ (cause_text cause ++ codes "\n")))
-closing_line (PastRefused line cause) = codes "# refused line " ++ (decimal line ++ (codes " " ++ (past_cause_text cause ++ codes "\n")))
-closing_line (DayPassed day last) = codes "# passed day " ++ (decimal day ++ (codes " last " ++ (decimal last ++ codes "\n")))
+closing_line (Refused line cause) =
+    codes "# refused line " ++ (decimal line ++ (codes " " ++ (cause_text cause ++ codes "\n")))
+closing_line (PastRefused line cause) =
+    codes "# refused line " ++ (decimal line ++ (codes " " ++ (past_cause_text cause ++ codes "\n")))
+closing_line (DayPassed day last) =
+    codes "# passed day " ++ (decimal day ++ (codes " last " ++ (decimal last ++ codes "\n")))
 closing_line (DiffersDay day kept found) = differs_line day (encode_lower kept.bytes) (encode_lower found.bytes)
 closing_line (NoDay day) = codes "# no day " ++ (decimal day ++ codes "\n")
 closing_line (PastLate last) = codes "# past late last " ++ (decimal last ++ codes "\n")

@@ -11,11 +11,14 @@ use Rattle.day_reading.specs.declared.whole_day.ReadStop.TheVariants as stops
 use Rattle.reports.specs.declared.report_fault.ReportFault.{ReportFault}
 use Rattle.reports.specs.declared.report_fault.ReportFault.TheVariants as reports
 use Rattle.office_commands.specs.declared.closing.Closing.{Closing}
-use Rattle.office_commands.specs.declared.closing.Closing.TheVariants.{Answered, Stored, Already, Agree, TariffPut, PastStored, PastAlready, Words, Refused, PastRefused, DayPassed, DiffersDay, NoDay, PastLate, PastKept, DiffersPast, ReadFault, KeeperFault, DiffersLine, NoMemory, Rehearsed}
+use Rattle.office_commands.specs.declared.closing.Closing.TheVariants.{NoDay}
+use Rattle.office_commands.specs.declared.closing.Closing.TheVariants.{ReadFault}
+use Rattle.office_commands.specs.declared.closing.Closing.TheVariants.{KeeperFault, NoMemory}
 use Rattle.office_commands.specs.Closings.{closing_line, status_of}
 use Rattle.office_commands.specs.Commands.{Answer}
 
--- What a closing line says: how the command ends, that it could not read, that the keeper failed, or that memory ran out.
+-- What a closing line says: how the command ends, that it could not read, that the keeper failed, or that memory ran
+-- out.
 pub data Sort : Type 0 where
   Own : Sort
   Unread : Sort
@@ -24,44 +27,27 @@ pub data Sort : Type 0 where
 
 -- what each closing line says
 abbrev pub sort_of : Closing → Sort
-sort_of (Answered day tuples notices) = Own
-sort_of (Stored day tuples notices total) = Own
-sort_of (Already day tuples notices total) = Own
-sort_of (Agree notices) = Own
-sort_of (TariffPut xway crowd speed factor) = Own
-sort_of (PastStored base rows) = Own
-sort_of (PastAlready base rows) = Own
-sort_of Words = Own
-sort_of (Refused line cause) = Own
-sort_of (PastRefused line cause) = Own
-sort_of (DayPassed day last) = Own
-sort_of (DiffersDay day kept found) = Own
-sort_of (NoDay day) = Own
-sort_of (PastLate last) = Own
-sort_of (PastKept base) = Own
-sort_of (DiffersPast base kept found) = Own
 sort_of ReadFault = Unread
 sort_of KeeperFault = Unkept
-sort_of (DiffersLine line wanted found) = Own
 sort_of NoMemory = Unroomed
-sort_of (Rehearsed bytes digest tuples notices notices_digest total) = Own
+sort_of _ = Own
 
 -- a text is some first bytes of another
 abbrev pub IsFront : List ℕ → List ℕ → Type 0
 IsFront text whole = (k : ℕ) × (text ≡ take k whole)
 
--- what may stand before a closing line of a sort: the whole text before the command's own, some first bytes of it before that of a fault
+-- what may stand before a closing line of a sort: the whole text before the command's own, some first bytes of it
+-- before that of a fault
 abbrev pub StandsBy : Sort → Answer → Closing → List ℕ → Type 0
 StandsBy Own a c text = (Some c ≡ a.closing) × (text ≡ a.text)
-StandsBy Unread a c text = IsFront text a.text
-StandsBy Unkept a c text = IsFront text a.text
-StandsBy Unroomed a c text = IsFront text a.text
+StandsBy _ a c text = IsFront text a.text
 
 -- what may stand before a closing line
 abbrev pub StandsBefore : Answer → Closing → List ℕ → Type 0
 StandsBefore a c text = StandsBy (sort_of c) a c text
 
--- a command wrote what may stand before the closing line that it names, or all where it has none, or its sink failed after some first bytes of its text
+-- a command wrote what may stand before the closing line that it names, or all where it has none, or its sink failed
+-- after some first bytes of its text
 abbrev pub Wrote : Answer → Result (Option Closing) Failed → Option (List ℕ) → Option (List ℕ) → Type 0
 Wrote a (Ok (Some c)) old new = (text : List ℕ) × StandsBefore a c text × Appends old new text
 Wrote a (Ok None) old new = (None ≡ a.closing) × Appends old new a.text
@@ -98,15 +84,12 @@ Ends (Some k) (Err e) = ⊥
 -- how a report of a day ends, as a command
 abbrev pub EndsReport : ℕ → Result (Unit {0}) ReportFault → Result (Option Closing) Failed → Type 0
 EndsReport day (Ok u) (Ok c) = c ≡ None
-EndsReport day (Ok u) (Err e) = ⊥
 EndsReport day (Err reports.NoDay) (Ok c) = c ≡ Some (NoDay day)
-EndsReport day (Err reports.NoDay) (Err e) = ⊥
 EndsReport day (Err reports.KeeperFault) (Ok c) = c ≡ Some KeeperFault
-EndsReport day (Err reports.KeeperFault) (Err e) = ⊥
 EndsReport day (Err reports.WriteFault) (Ok c) = ⊥
 EndsReport day (Err reports.WriteFault) (Err e) = Unit {0}
 EndsReport day (Err reports.NoMemory) (Ok c) = c ≡ Some NoMemory
-EndsReport day (Err reports.NoMemory) (Err e) = ⊥
+EndsReport day _ (Err e) = ⊥
 
 -- the closing of a run that could not read
 abbrev pub stopping : ReadStop → Closing
@@ -142,11 +125,26 @@ WroteAll a old new = Appends old new (a.text ++ last_line a.closing)
 abbrev pub WroteFault : Answer → Closing → Option (List ℕ) → Option (List ℕ) → Type 0
 WroteFault a c old new = (text : List ℕ) × IsFront text a.text × Appends old new (text ++ closing_line c)
 
--- some first bytes of the text were written; or all that may stand before a closing line, and then some first bytes of that line and not all
+-- some first bytes of the text were written; or all that may stand before a closing line, and then some first bytes of
+-- that line and not all
 abbrev pub WroteSome : Answer → Option (List ℕ) → Option (List ℕ) → Type 0
 WroteSome a old new =
     ((text : List ℕ) × IsFront text a.text × Appends old new text)
     ⊎ ((c : Closing) × (text : List ℕ) × (k : ℕ) × StandsBefore a c text × (k < length (closing_line c)) × Appends old new (text ++ take k (closing_line c)))
+
+-- what was written, by the status that a run ended with
+pub record Writes (a : Answer) (status : ℕ) (old new : Option (List ℕ)) : Type 0 where
+  pub exact : status ≢ 4 → status ≢ 5 → status ≢ 6 → status ≢ 8 → (status ≡ status_by a.closing) × WroteAll a old new
+  pub read_fault : status ≡ 4 → WroteFault a ReadFault old new
+  pub write_fault : status ≡ 5 → WroteSome a old new
+  pub keeper_fault : status ≡ 6 → WroteFault a KeeperFault old new
+  pub no_memory : status ≡ 8 → WroteFault a NoMemory old new
+
+-- what is kept, by the status that a run ended with, and whatever that is: what was kept, or all that is asked
+pub record KeepsTo (w : WhenRefused) (a : Answer) (status : ℕ) (was : Office) (now : Option Office) : Type 0 where
+  pub exact : status ≢ 4 → status ≢ 5 → status ≢ 6 → status ≢ 8 → now ≡ Some a.office
+  pub refused : status ≡ 6 → LeftBy w keeping.Failed a was now
+  pub whole : IsWhole a was now
 
 -- the status that a run is to end with, if its closing line is written
 abbrev pub code_of : Result (Option Closing) Failed → ℕ
@@ -156,7 +154,8 @@ code_of (Err e) = 5
 
 -- One relation over what was written and what is kept:
 
--- a fault or want of memory: some first bytes of the text stand there and what is kept is as it was, or the whole text does and the put was refused
+-- a fault or want of memory: some first bytes of the text stand there and what is kept is as it was, or the whole text
+-- does and the put was refused
 abbrev pub Halted : WhenRefused → KeepFault → Answer → Office → List ℕ → Option Office → Type 0
 Halted w fault a was text now =
     (IsFront text a.text × (now ≡ Some was))
@@ -173,12 +172,15 @@ HoldsBy Unroomed w a was c text now = Halted w keeping.NoMemory a was text now
 abbrev pub IsShort : Answer → List ℕ → Option Office → Type 0
 IsShort a text now = now ≢ Some a.office → length text < length a.text
 
--- the sink failed in the text: some first bytes of it stand there, not all where a day is still to be kept, and what is kept is as it was
+-- the sink failed in the text: some first bytes of it stand there, not all where a day is still to be kept, and what is
+-- kept is as it was
 abbrev pub Broke : Answer → Office → Option (List ℕ) → Option (List ℕ) → Option Office → Type 0
-Broke a was old new now = (text : List ℕ) × IsFront text a.text × Appends old new text × (now ≡ Some was) × IsShort a text now
+Broke a was old new now =
+    (text : List ℕ) × IsFront text a.text × Appends old new text × (now ≡ Some was) × IsShort a text now
 
 -- what a command wrote and what is kept then, by how it ended
-abbrev pub Did : WhenRefused → Answer → Office → Option (List ℕ) → Option (List ℕ) → Option Office → Result (Option Closing) Failed → Type 0
+abbrev pub Did : WhenRefused → Answer → Office → Option (List ℕ) → Option (List ℕ) → Option Office
+    → Result (Option Closing) Failed → Type 0
 Did w a was old new now (Ok (Some c)) = (text : List ℕ) × HoldsBy (sort_of c) w a was c text now × Appends old new text
 Did w a was old new now (Ok None) = (None ≡ a.closing) × Appends old new a.text × (now ≡ Some a.office)
 Did w a was old new now (Err e) = Broke a was old new now
@@ -192,7 +194,8 @@ Said text c status old new =
 -- a run with a closing line said it, or that memory ran out, behind what it wrote
 abbrev pub SaidAll : WhenRefused → Answer → Office → ℕ → Option (List ℕ) → Option (List ℕ) → Option Office → Type 0
 SaidAll w a was status old new now =
-    (c : Closing) × (text : List ℕ) × HoldsBy (sort_of c) w a was c text now × (Said text c status old new ⊎ Said text NoMemory status old new)
+    (c : Closing) × (text : List ℕ) × HoldsBy (sort_of c) w a was c text now
+    × (Said text c status old new ⊎ Said text NoMemory status old new)
 
 -- a run without one wrote all
 abbrev pub WroteAlone : Answer → ℕ → Option (List ℕ) → Option (List ℕ) → Option Office → Type 0
@@ -204,7 +207,8 @@ WroteLess a was status old new now = (status ≡ 5) × Broke a was old new now
 
 -- the status, what was written and what is kept
 abbrev pub Concludes : WhenRefused → Answer → Office → ℕ → Option (List ℕ) → Option (List ℕ) → Option Office → Type 0
-Concludes w a was status old new now = SaidAll w a was status old new now ⊎ (WroteAlone a status old new now ⊎ WroteLess a was status old new now)
+Concludes w a was status old new now =
+    SaidAll w a was status old new now ⊎ (WroteAlone a status old new now ⊎ WroteLess a was status old new now)
 
 -- what is kept is as it was, unless a command ended well, its keeper failed, or memory ran out
 abbrev pub Holds : ℕ → Type 0 → Type 0

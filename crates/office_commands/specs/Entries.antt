@@ -3,7 +3,8 @@ use Rattle.std.specs.Prelude.{ℕ, ◌≡◌, ◌+◌, ◌*◌, ◌<◌, ◌≤�
 use Rattle.road_time.specs.Lines.{lines_of}
 use Rattle.road_time.specs.declared.road.Notice.{Notice}
 use Rattle.office_commands.specs.declared.closing.Closing.{Closing}
-use Rattle.office_commands.specs.declared.closing.Closing.TheVariants.{Answered, Stored, Already, Agree, TariffPut, PastStored, PastAlready, Words, Refused, PastRefused, DayPassed, DiffersDay, NoDay, PastLate, PastKept, DiffersPast, ReadFault, KeeperFault, DiffersLine, NoMemory, Rehearsed}
+use Rattle.office_commands.specs.declared.closing.Closing.TheVariants.{Agree}
+use Rattle.office_commands.specs.declared.closing.Closing.TheVariants.{DiffersLine}
 use Rattle.office_commands.specs.declared.aside.Entry.{Entry}
 use Rattle.office_commands.specs.declared.aside.Entry.TheVariants.{Line, Long, End}
 use Rattle.office_commands.specs.Asides.{entries_of, compared_from}
@@ -18,42 +19,29 @@ EndsEntries bytes = entered bytes ≡ []
 
 -- an entry comes first and is taken, or it is long, or none is left
 abbrev pub Enters : Entry → Option (List ℕ) → Option (List ℕ) → List ℕ → Type 0
-Enters Line before after line = (bytes : List ℕ) → before ≡ Some bytes → (now : List ℕ) × (after ≡ Some now) × (entered bytes ≡ line ∷ entered now)
-Enters Long before after line = (bytes : List ℕ) → before ≡ Some bytes → (first : List ℕ) × (rest : List (List ℕ)) × (200 < length first) × (entered bytes ≡ first ∷ rest)
+Enters Line before after line =
+    (bytes : List ℕ) → before ≡ Some bytes → (now : List ℕ) × (after ≡ Some now) × (entered bytes ≡ line ∷ entered now)
+Enters Long before after line =
+    (bytes : List ℕ) → before ≡ Some bytes
+    → (first : List ℕ) × (rest : List (List ℕ)) × (200 < length first) × (entered bytes ≡ first ∷ rest)
 Enters End before after line = (bytes : List ℕ) → before ≡ Some bytes → EndsEntries bytes
 
 -- the entry is the text of the notice, and the comparison goes on behind it
 abbrev pub GoesOn : ℕ → Notice → Option (List ℕ) → Option (List ℕ) → Type 0
 GoesOn n w before after = (rest : List Notice) (bytes : List ℕ) → before ≡ Some bytes
-    → (now : List ℕ) × (after ≡ Some now) × (compared_from n (w ∷ rest) (entered bytes) ≡ compared_from (n + 1) rest (entered now))
+    → (now : List ℕ) × (after ≡ Some now)
+    × (compared_from n (w ∷ rest) (entered bytes) ≡ compared_from (n + 1) rest (entered now))
 
 -- the comparison ends at the entry
 abbrev pub PartsAt : ℕ → Notice → Option (List ℕ) → Closing → Type 0
-PartsAt n w before c = (rest : List Notice) (bytes : List ℕ) → before ≡ Some bytes → c ≡ compared_from n (w ∷ rest) (entered bytes)
+PartsAt n w before c =
+    (rest : List Notice) (bytes : List ℕ) → before ≡ Some bytes → c ≡ compared_from n (w ∷ rest) (entered bytes)
 
 -- a closing line of a comparison
 abbrev pub IsComparison : Closing → Type 0
-IsComparison (Answered day tuples notices) = ⊥
-IsComparison (Stored day tuples notices total) = ⊥
-IsComparison (Already day tuples notices total) = ⊥
 IsComparison (Agree notices) = Unit {0}
-IsComparison (TariffPut xway crowd speed factor) = ⊥
-IsComparison (PastStored base rows) = ⊥
-IsComparison (PastAlready base rows) = ⊥
-IsComparison Words = ⊥
-IsComparison (Refused line cause) = ⊥
-IsComparison (PastRefused line cause) = ⊥
-IsComparison (DayPassed day last) = ⊥
-IsComparison (DiffersDay day kept found) = ⊥
-IsComparison (NoDay day) = ⊥
-IsComparison (PastLate last) = ⊥
-IsComparison (PastKept base) = ⊥
-IsComparison (DiffersPast base kept found) = ⊥
-IsComparison ReadFault = ⊥
-IsComparison KeeperFault = ⊥
 IsComparison (DiffersLine line wanted found) = Unit {0}
-IsComparison NoMemory = ⊥
-IsComparison (Rehearsed bytes digest tuples notices notices_digest total) = ⊥
+IsComparison _ = ⊥
 
 -- none, or a closing line of a comparison
 abbrev pub IsComparisonOr : Option Closing → Type 0

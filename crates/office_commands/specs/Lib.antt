@@ -4,5 +4,7 @@ pub mod Days
 pub mod Asides
 pub mod Entries
 pub mod Commands
+pub mod Uses
+pub mod Faults
 pub mod Endings
 pub mod Rests

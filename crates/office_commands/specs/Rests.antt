@@ -14,11 +14,11 @@ use Rattle.office_words.specs.declared.command.Command.{Command}
 use Rattle.office_words.specs.declared.command.Command.TheVariants as command
 use Rattle.office_words.specs.declared.command.Recomputing.TheVariants.{Plainly}
 use Rattle.office_commands.specs.Days.{recomputed}
-use Rattle.office_commands.specs.Endings.{Holds}
 
 -- reading ended at the first refused line: no more than one buffer behind it was taken
 abbrev pub HasStopped : Option (ℕ × Fault) → List ℕ → Option (List ℕ) → Type 0
-HasStopped refused bytes left = (line : ℕ) × (fault : Fault) × (refused ≡ Some (line, fault)) × StopsSoon line bytes left
+HasStopped refused bytes left =
+    (line : ℕ) × (fault : Fault) × (refused ≡ Some (line, fault)) × StopsSoon line bytes left
 
 -- no line was refused, and nothing is left
 abbrev pub HasEnded : Option (ℕ × Fault) → Option (List ℕ) → Type 0
@@ -47,28 +47,28 @@ pub record HasReadDay (limits : Limits) (late status : ℕ) (before after : Opti
 
 -- of a day that is to be kept a refused line ends the reading
 abbrev pub StopsThere : Limits → ℕ → ℕ → Option (List ℕ) → Option (List ℕ) → Type 0
-StopsThere limits late status before after = (bytes : List ℕ) → before ≡ Some bytes → status ≡ 2 → HasStopped (reads bytes limits late).refused bytes after
+StopsThere limits late status before after =
+    (bytes : List ℕ) → before ≡ Some bytes → status ≡ 2 → HasStopped (reads bytes limits late).refused bytes after
 
 -- where a line was refused, or the keeper failed, nothing was compared: no more was read than this
 abbrev pub ReadsUncompared : ℕ → ℕ → Option (List ℕ) → Option (List ℕ) → Type 0
 ReadsUncompared most status before after = (status ≡ 2) ⊎ (status ≡ 6) → ReadsWithin most before after
 
--- how a command read its source, whatever is kept
-abbrev pub ReadsAs : Limits → Command → ℕ → Option (List ℕ) → Option (List ℕ) → Type 0
-ReadsAs limits (command.Answers run) status before after = HasReadDay limits run.late status before after
-ReadsAs limits (command.Import run) status before after =
-    StopsThere limits run.late status before after × ReadsUncompared (most_read limits) status before after
-ReadsAs limits (command.Past base) status before after = ReadsUncompared (most_past limits) status before after
-ReadsAs limits (command.Compare asked) status before after = HasReadDay (recomputed asked.how limits) asked.late status before after
-ReadsAs limits (command.Accidents late) status before after = HasReadDay (recomputed Plainly limits) late status before after
-ReadsAs limits _ status before after = Unit {0}
-
 -- how words had their source read, whatever is kept
-abbrev pub ReadAsAsked : Limits → Option Command → ℕ → Option (List ℕ) → Option (List ℕ) → Type 0
-ReadAsAsked limits None status before after = Unit {0}
-ReadAsAsked limits (Some c) status before after = ReadsAs limits c status before after
+abbrev pub ReadsAsked : Limits → Option Command → ℕ → Option (List ℕ) → Option (List ℕ) → Type 0
+ReadsAsked limits (Some (command.Answers run)) status before after = HasReadDay limits run.late status before after
+ReadsAsked limits (Some (command.Import run)) status before after =
+    StopsThere limits run.late status before after × ReadsUncompared (most_read limits) status before after
+ReadsAsked limits (Some (command.Past base)) status before after =
+    ReadsUncompared (most_past limits) status before after
+ReadsAsked limits (Some (command.Compare asked)) status before after =
+    HasReadDay (recomputed asked.how limits) asked.late status before after
+ReadsAsked limits (Some (command.Accidents late)) status before after =
+    HasReadDay (recomputed Plainly limits) late status before after
+ReadsAsked limits _ status before after = Unit {0}
 
--- what an import leaves of its source: nothing, or of that of a day that was kept before all behind one byte more than it had
+-- what an import leaves of its source: nothing, or of that of a day that was kept before all behind one byte more than
+-- it had
 abbrev pub LeavesOfDay : Option DayRecord → List ℕ → Option (List ℕ) → Type 0
 LeavesOfDay None bytes left = left ≡ Some []
 LeavesOfDay (Some kept) bytes left = left ≡ Some (drop (kept.bytes + 1) bytes)
@@ -80,7 +80,8 @@ LeavesOfPast (Some kept) bytes left = left ≡ Some (drop (kept.bytes + 1) bytes
 
 -- reading a history ended at its first refused line: no more than one buffer behind it was taken
 abbrev pub HasStoppedPast : Option (ℕ × PastFault) → List ℕ → Option (List ℕ) → Type 0
-HasStoppedPast refused bytes left = (line : ℕ) × (fault : PastFault) × (refused ≡ Some (line, fault)) × StopsSoon line bytes left
+HasStoppedPast refused bytes left =
+    (line : ℕ) × (fault : PastFault) × (refused ≡ Some (line, fault)) × StopsSoon line bytes left
 
 -- what the status says of the reading of a history
 pub record HasReadPast (limits : Limits) (base status : ℕ) (kept : Option PastRecord) (bytes : List ℕ) (left : Option (List ℕ)) : Type 0 where
@@ -89,13 +90,7 @@ pub record HasReadPast (limits : Limits) (base status : ℕ) (kept : Option Past
 
 -- an import, or a history, left so much of its source
 abbrev pub LeavesAsKept : Limits → Option Command → ℕ → Office → List ℕ → Option (List ℕ) → Type 0
-LeavesAsKept limits (Some (command.Import run)) status o bytes left = status ≡ 0 → LeavesOfDay (record_of o run.day) bytes left
+LeavesAsKept limits (Some (command.Import run)) status o bytes left =
+    status ≡ 0 → LeavesOfDay (record_of o run.day) bytes left
 LeavesAsKept limits (Some (command.Past base)) status o bytes left = HasReadPast limits base status o.past bytes left
 LeavesAsKept limits _ status o bytes left = Unit {0}
-
--- what is kept is as it was after a day, a history or a tariff that was not put
-abbrev pub HoldsAsked : Option Command → ℕ → Type 0 → Type 0
-HoldsAsked (Some (command.Import run)) code same = Holds code same
-HoldsAsked (Some (command.Tariff xway crowd speed factor)) code same = Holds code same
-HoldsAsked (Some (command.Past base)) code same = Holds code same
-HoldsAsked _ code same = Unit {0}

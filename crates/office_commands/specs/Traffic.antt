@@ -14,7 +14,8 @@ use Rattle.office_commands.specs.declared.closing.Closing.TheVariants.{NoMemory,
 
 -- what is to be generated from a seed
 abbrev pub plan_of : ℕ → Size → GenPlan
-plan_of seed size = record { seed = seed; vehicles = size.vehicles; minutes = size.minutes; xways = size.xways; crashes = size.crashes }
+plan_of seed size =
+    record { seed = seed; vehicles = size.vehicles; minutes = size.minutes; xways = size.xways; crashes = size.crashes }
 
 -- what is kept of generated traffic as a day, where nothing else is kept: the same however late lines may come
 abbrev pub rehearsed_record : ℕ → GenPlan → DayRecord

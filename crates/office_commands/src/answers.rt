@@ -1,8 +1,5 @@
 // The command `answers DAY`: the output of a day.
-ghost use Rattle.std.specs.Prelude.{◌≡◌, ◌≢◌, ◌≤◌, ℕ, List, [], Some, Ok, IsOk, true};
-ghost use Rattle.road_io.specs.Faults.{Rose, HasCause};
-ghost use Rattle.road_io.specs.Plans.{NeverFails};
-ghost use Rattle.road_io.specs.Rooms.{Endless};
+ghost use Rattle.std.specs.Prelude.{◌≡◌, ◌≢◌, ℕ, List, [], Some, Ok, true};
 ghost use Rattle.keeper.specs.Office.{Office};
 ghost use Rattle.road_time.specs.Fits.{IsLimits};
 ghost use Rattle.day_reading.specs.Days.{ReadsWithin, most_read};
@@ -11,6 +8,8 @@ ghost use Rattle.office_commands.specs.Commands.{answers_row};
 ghost use Rattle.office_commands.specs.Endings.{Wrote, Keeps, Did, code_of};
 ghost use Rattle.office_commands.specs.Rests.{HasReadDay};
 ghost use Rattle.office_commands.specs.declared.closing.Closing.TheVariants.{ReadFault, KeeperFault, Words};
+ghost use Rattle.office_commands.specs.Faults.{SinkFaults};
+ghost use Rattle.import_once.specs.Faults.{FaultsByPlan};
 
 use crate::closing::Closing;
 use crate::outcome::ended;
@@ -52,14 +51,11 @@ pub fn answers<S: Source, O: Sink, K: Keeper, C: Crew, R: Threads>(
     ensures crew { C.which crew.new ≡ C.which crew.old }
     ensures said { result ≢ Ok (Some Words) }
     ensures bounded { ReadsWithin (most_read limits.now) (S.left source.old) (S.left source.new) }
-    ensures read_cause { result ≡ Ok (Some ReadFault) → Rose (S.faults source.old) (S.faults source.new) }
-    ensures read_later { S.faults source.old ≤ S.faults source.new }
-    ensures read_sure { NeverFails (S.plan source.old) → result ≢ Ok (Some ReadFault) }
-    ensures write_cause { HasCause (O.faults sink.old) (O.faults sink.new) result }
-    ensures write_sure { O.room sink.old ≡ Endless → IsOk result × (O.room sink.new ≡ Endless) }
-    ensures keeper_cause { result ≡ Ok (Some KeeperFault) → Rose (K.faults keeper.old) (K.faults keeper.new) }
-    ensures keeper_later { K.faults keeper.old ≤ K.faults keeper.new }
-    ensures keeper_sure { NeverFails (K.plan keeper.old) → result ≢ Ok (Some KeeperFault) }
+    ensures source { FaultsByPlan (S.faults source.old) (S.faults source.new) (S.plan source.old)
+        (result ≡ Ok (Some ReadFault)) }
+    ensures sink { SinkFaults (O.faults sink.old) (O.faults sink.new) (O.room sink.old) (O.room sink.new) result }
+    ensures keeper { FaultsByPlan (K.faults keeper.old) (K.faults keeper.new) (K.plan keeper.old)
+        (result ≡ Ok (Some KeeperFault)) }
 {
     let done = import_once::answers(
         rt, alloc, run.day, &run.plan, run.late, limits, source, sink, keeper, crew,

@@ -2,7 +2,7 @@
 ghost use Rattle.std.specs.Prelude.{◌≡◌, ◌≢◌, ◌≤◌, ◌<◌, ◌+◌, ◌^◌, [], ℕ, List, Some, None, Ok, Err, IfOk, length, drop};
 ghost use Rattle.std.specs.Str.{bytes_eq};
 ghost use Rattle.road_time.specs.Lines.{lines_of, without_cr};
-ghost use Rattle.road_time.specs.Text.{notice_text, read_notice as read_notice_lem};
+ghost use Rattle.road_time.specs.Text.{notice_text, read_notice as defined_read_notice};
 ghost use Rattle.road_io.specs.Faults.{Rose};
 ghost use Rattle.road_io.specs.Plans.{NeverFails};
 ghost use Rattle.road_io.specs.Cutter.{ahead, line_of, number_of, fault_of};
@@ -13,6 +13,7 @@ ghost use Rattle.office_commands.specs.Entries.{HasReadLines, most_compared};
 ghost use Rattle.office_commands.specs.declared.closing.Closing.{Closing as ClosingValue};
 ghost use Rattle.office_commands.specs.declared.closing.Closing.TheVariants.{DiffersLine};
 ghost use Rattle.day_reading.specs.declared.whole_day.ReadStop.TheVariants.{ReadFault, NoMemory as NoRoom};
+ghost use Rattle.import_once.specs.Faults.{FaultsByPlan};
 
 use crate::closing::Closing;
 use crate::entry_text::EntryText;
@@ -73,7 +74,7 @@ fn next_entry<A: Source>(cutter: &mut LineCutter, aside: &mut A) -> Result<Entry
 
 /// How a line of at most 200 bytes is named.
 fn entry_of(line: &[u8]) -> EntryText
-    ensures { result ≡ entry_of (read_notice_lem (without_cr line.now)) }
+    ensures { result ≡ entry_of (defined_read_notice (without_cr line.now)) }
 {
     match read_notice(trimmed(line)) {
         Some(notice) => EntryText::Read(notice),
@@ -151,9 +152,7 @@ fn compare_end<A: Source>(
     ensures own { IfOk result IsComparison }
     ensures bounded { (lines : ℕ) (bytes : List ℕ) → HasReadLines (ahead cutter.old (A.left aside.old)) lines bytes
         → (count : ℕ) × (count ≤ most_compared lines) × (A.left aside.new ≡ Some (drop count bytes)) }
-    ensures cause { result ≡ Err ReadFault → Rose (A.faults aside.old) (A.faults aside.new) }
-    ensures sure { NeverFails (A.plan aside.old) → result ≢ Err ReadFault }
-    ensures later { A.faults aside.old ≤ A.faults aside.new }
+    ensures aside { FaultsByPlan (A.faults aside.old) (A.faults aside.new) (A.plan aside.old) (result ≡ Err ReadFault) }
 {
     match next_entry(cutter, aside) {
         Ok(Entry::Line) => Ok(Closing::DiffersLine {
@@ -181,9 +180,7 @@ pub fn compare<A: Source>(
         → IfOk result (λ c. c ≡ compared wanted.now (lines_of lines)) }
     ensures own { IfOk result IsComparison }
     ensures bounded { ReadsWithin (most_compared (length wanted.now)) (A.left aside.old) (A.left aside.new) }
-    ensures cause { result ≡ Err ReadFault → Rose (A.faults aside.old) (A.faults aside.new) }
-    ensures sure { NeverFails (A.plan aside.old) → result ≢ Err ReadFault }
-    ensures later { A.faults aside.old ≤ A.faults aside.new }
+    ensures aside { FaultsByPlan (A.faults aside.old) (A.faults aside.new) (A.plan aside.old) (result ≡ Err ReadFault) }
 {
     let Ok(mut cutter) = LineCutter::new(alloc) else {
         return Err(ReadStop::NoMemory);

@@ -1,9 +1,8 @@
 // The commands `validate DAY` and `audit DAY`: notices compared with those of the rules.
-ghost use Rattle.std.specs.Prelude.{◌≡◌, ◌≢◌, ◌≤◌, ◌⊎◌, [], ℕ, List, Some, None, Err, IfOk, false, length};
+ghost use Rattle.std.specs.Prelude.{◌≡◌, ◌≢◌, [], ℕ, List, Some, None, Err, IfOk, false, length};
 ghost use Rattle.road_time.specs.Day.{notices};
 ghost use Rattle.road_time.specs.Fits.{IsDay, IsLimits};
 ghost use Rattle.road_time.specs.Lines.{lines_of};
-ghost use Rattle.road_io.specs.Faults.{Rose};
 ghost use Rattle.road_io.specs.Plans.{NeverFails};
 ghost use Rattle.keeper.specs.Office.{Office};
 ghost use Rattle.keeper.specs.declared.kept.KeepFault.TheVariants.{Failed};
@@ -12,7 +11,7 @@ ghost use Rattle.day_reading.specs.Days.{ReadsWithin, most_read};
 ghost use Rattle.office_words.specs.Meaning.{IsComparing};
 ghost use Rattle.office_commands.specs.Asides.{compared};
 ghost use Rattle.office_commands.specs.Commands.{compare_row, comparison_of, compared_tuples};
-ghost use Rattle.office_commands.specs.Commands.{notices_of_day, most_noticed};
+ghost use Rattle.office_commands.specs.Commands.{notices_of_day};
 ghost use Rattle.office_commands.specs.Commands.{unless_refused, closed};
 ghost use Rattle.office_commands.specs.Days.{recomputed, in_bulk, IsRightFor};
 ghost use Rattle.office_commands.specs.Entries.{most_compared};
@@ -20,6 +19,9 @@ ghost use Rattle.office_commands.specs.Closings.{status_of};
 ghost use Rattle.office_commands.specs.Endings.{StandsBefore};
 ghost use Rattle.office_commands.specs.Rests.{HasReadDay, SaysBy};
 ghost use Rattle.office_commands.specs.declared.closing.Closing.TheVariants.{ReadFault, KeeperFault, Words};
+ghost use Rattle.office_commands.specs.Uses.{most_noticed};
+ghost use Rattle.office_commands.specs.Faults.{ReadFaults};
+ghost use Rattle.import_once.specs.Faults.{FaultsByPlan};
 
 use crate::aside::compare;
 use crate::closing::Closing;
@@ -86,9 +88,8 @@ fn wanted_notices<K: Keeper, C: Crew, R: Threads + Sync>(
     ensures unused { in_bulk asked.how ≡ false → crew.new ≡ crew.old }
     ensures idle { C.out crew.new ≡ [] }
     ensures crew { C.which crew.new ≡ C.which crew.old }
-    ensures cause { result ≡ Err Failed → Rose (K.faults keeper.old) (K.faults keeper.new) }
-    ensures later { K.faults keeper.old ≤ K.faults keeper.new }
-    ensures sure { NeverFails (K.plan keeper.old) → result ≢ Err Failed }
+    ensures keeper { FaultsByPlan (K.faults keeper.old) (K.faults keeper.new) (K.plan keeper.old)
+        (result ≡ Err Failed) }
 {
     let history = history_for(alloc, asked.day, tuples, keeper)?;
     match recompute(rt, alloc, asked, tuples, tariffs, history.as_slice(), crew) {
@@ -104,9 +105,7 @@ fn compare_notices<A: Source>(alloc: Global, wanted: &[Notice], aside: &mut A) -
     ensures own { (result ≢ KeeperFault) × (result ≢ Words) }
     ensures unnamed { status_of result ≢ 2 }
     ensures bounded { ReadsWithin (most_compared (length wanted.now)) (A.left aside.old) (A.left aside.new) }
-    ensures cause { result ≡ ReadFault → Rose (A.faults aside.old) (A.faults aside.new) }
-    ensures sure { NeverFails (A.plan aside.old) → result ≢ ReadFault }
-    ensures later { A.faults aside.old ≤ A.faults aside.new }
+    ensures aside { FaultsByPlan (A.faults aside.old) (A.faults aside.new) (A.plan aside.old) (result ≡ ReadFault) }
 {
     match compare(alloc, wanted, aside) {
         Ok(closing) => closing,
@@ -142,12 +141,9 @@ fn compare_day<A: Source, K: Keeper, C: Crew, R: Threads + Sync>(
     ensures unused { in_bulk asked.how ≡ false → crew.new ≡ crew.old }
     ensures idle { C.out crew.new ≡ [] }
     ensures crew { C.which crew.new ≡ C.which crew.old }
-    ensures read_cause { result ≡ ReadFault → Rose (A.faults aside.old) (A.faults aside.new) }
-    ensures read_sure { NeverFails (A.plan aside.old) → result ≢ ReadFault }
-    ensures read_later { A.faults aside.old ≤ A.faults aside.new }
-    ensures keeper_cause { result ≡ KeeperFault → Rose (K.faults keeper.old) (K.faults keeper.new) }
-    ensures keeper_later { K.faults keeper.old ≤ K.faults keeper.new }
-    ensures keeper_sure { NeverFails (K.plan keeper.old) → result ≢ KeeperFault }
+    ensures aside { FaultsByPlan (A.faults aside.old) (A.faults aside.new) (A.plan aside.old) (result ≡ ReadFault) }
+    ensures keeper { FaultsByPlan (K.faults keeper.old) (K.faults keeper.new) (K.plan keeper.old)
+        (result ≡ KeeperFault) }
 {
     if let Some((line, cause)) = day.refused {
         return Closing::Refused { line, cause };
@@ -200,14 +196,10 @@ pub fn compare_source<S: Source, A: Source, K: Keeper, C: Crew, R: Threads + Syn
     ensures unused { in_bulk asked.how ≡ false → crew.new ≡ crew.old }
     ensures idle { C.out crew.new ≡ [] }
     ensures crew { C.which crew.new ≡ C.which crew.old }
-    ensures read_cause { result ≡ ReadFault
-        → Rose (S.faults source.old) (S.faults source.new) ⊎ Rose (A.faults aside.old) (A.faults aside.new) }
-    ensures read_later { S.faults source.old ≤ S.faults source.new }
-    ensures aside_later { A.faults aside.old ≤ A.faults aside.new }
-    ensures read_sure { NeverFails (S.plan source.old) → NeverFails (A.plan aside.old) → result ≢ ReadFault }
-    ensures keeper_cause { result ≡ KeeperFault → Rose (K.faults keeper.old) (K.faults keeper.new) }
-    ensures keeper_later { K.faults keeper.old ≤ K.faults keeper.new }
-    ensures keeper_sure { NeverFails (K.plan keeper.old) → result ≢ KeeperFault }
+    ensures read { ReadFaults (S.faults source.old) (S.faults source.new) (A.faults aside.old) (A.faults aside.new)
+        (NeverFails (S.plan source.old)) (NeverFails (A.plan aside.old)) (result ≡ ReadFault) }
+    ensures keeper { FaultsByPlan (K.faults keeper.old) (K.faults keeper.new) (K.plan keeper.old)
+        (result ≡ KeeperFault) }
 {
     let tariffs = match keeper.tariffs() {
         Ok(tariffs) => tariffs,

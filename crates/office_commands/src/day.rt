@@ -1,14 +1,13 @@
 // A day, read whole.
-ghost use Rattle.std.specs.Prelude.{◌≡◌, ◌≢◌, ◌≤◌, List, ℕ, Some, Err, IfOk};
+ghost use Rattle.std.specs.Prelude.{◌≡◌, ◌≤◌, List, ℕ, Some, Err, IfOk};
 ghost use Rattle.road_time.specs.Fits.{Fit, IsLimits};
 ghost use Rattle.road_time.specs.Reads.{reads};
-ghost use Rattle.road_io.specs.Faults.{Rose};
-ghost use Rattle.road_io.specs.Plans.{NeverFails};
 ghost use Rattle.day_reading.specs.Days.{ReadsWithin, most_read};
 ghost use Rattle.day_reading.specs.declared.whole_day.ReadStop.TheVariants.{ReadFault};
 ghost use Rattle.office_commands.specs.Days.{most_lines, recomputed, refusal_of, refused_at};
 ghost use Rattle.office_commands.specs.Endings.{stopping};
 ghost use Rattle.office_commands.specs.Rests.{EndsAt};
+ghost use Rattle.import_once.specs.Faults.{FaultsByPlan};
 
 use crate::closing::Closing;
 use day_reading::{DayEnd, ReadStop};
@@ -86,9 +85,8 @@ pub fn read_day<S: Source, R: Threads>(
         → IfOk result
         (λ d. EndsAt d.refused (reads bytes (recomputed how limits.now) late).refused bytes (S.left source.new)) }
     ensures bounded { ReadsWithin (most_read (recomputed how limits.now)) (S.left source.old) (S.left source.new) }
-    ensures cause { result ≡ Err ReadFault → Rose (S.faults source.old) (S.faults source.new) }
-    ensures sure { NeverFails (S.plan source.old) → result ≢ Err ReadFault }
-    ensures later { S.faults source.old ≤ S.faults source.new }
+    ensures source { FaultsByPlan (S.faults source.old) (S.faults source.new) (S.plan source.old)
+        (result ≡ Err ReadFault) }
 {
     let lesser = recomputed(limits, how);
     match day_reading::read_day(rt, alloc, &lesser, late, source) {

@@ -1,16 +1,15 @@
 // The command `past BASE`: the amounts of the 69 days before a day, which are kept from then on.
 ghost use Rattle.std.specs.Prelude.{◌≡◌, ◌≢◌, ◌≤◌, [], ℕ, List, Some};
-ghost use Rattle.road_io.specs.Faults.{Rose};
-ghost use Rattle.road_io.specs.Plans.{NeverFails};
 ghost use Rattle.keeper.specs.Office.{Office};
 ghost use Rattle.day_reading.specs.Days.{ReadsWithin};
 ghost use Rattle.past_file.specs.Imports.{NeedsNone, PutsPast, most_kept, most_past};
 ghost use Rattle.past_file.specs.declared.outcomes.PastOutcome.TheVariants as outcome;
-ghost use Rattle.office_commands.specs.Commands.{past_closing, past_row};
+ghost use Rattle.office_commands.specs.Commands.{past_closing, history_row};
 ghost use Rattle.office_commands.specs.Endings.{StandsBefore, Holds, sort_of, KeepsBy};
 ghost use Rattle.office_commands.specs.Closings.{status_of};
 ghost use Rattle.office_commands.specs.Rests.{HasReadPast, ReadsUncompared};
 ghost use Rattle.office_commands.specs.declared.closing.Closing.TheVariants.{ReadFault, KeeperFault, Words};
+ghost use Rattle.import_once.specs.Faults.{FaultsByPlan};
 
 use crate::closing::Closing;
 use keeper::Keeper;
@@ -57,9 +56,9 @@ pub fn past<S: Source, K: Keeper, R: Threads>(
 ) -> Closing
     requires low { 70 ≤ base }
     ensures exact { (bytes : List ℕ) (o : Office) → S.left source.old ≡ Some bytes → K.told keeper.old ≡ Some o
-        → StandsBefore (past_row limits.now base bytes o) result [] }
+        → StandsBefore (history_row limits.now base bytes o) result [] }
     ensures keeps { (bytes : List ℕ) (o : Office) → S.left source.old ≡ Some bytes → K.told keeper.old ≡ Some o
-        → KeepsBy (sort_of result) K.refuses (past_row limits.now base bytes o) o (K.told keeper.new) }
+        → KeepsBy (sort_of result) K.refuses (history_row limits.now base bytes o) o (K.told keeper.new) }
     ensures rest { (bytes : List ℕ) (o : Office) → S.left source.old ≡ Some bytes → K.told keeper.old ≡ Some o
         → HasReadPast limits.now base (status_of result) o.past bytes (S.left source.new) }
     ensures uncompared { ReadsUncompared (most_past limits.now) (status_of result)
@@ -70,12 +69,9 @@ pub fn past<S: Source, K: Keeper, R: Threads>(
     ensures said { result ≢ Words }
     ensures bounded { (o : Office) → K.told keeper.old ≡ Some o
         → ReadsWithin (most_kept o.past limits.now) (S.left source.old) (S.left source.new) }
-    ensures read_cause { result ≡ ReadFault → Rose (S.faults source.old) (S.faults source.new) }
-    ensures read_later { S.faults source.old ≤ S.faults source.new }
-    ensures read_sure { NeverFails (S.plan source.old) → result ≢ ReadFault }
-    ensures keeper_cause { result ≡ KeeperFault → Rose (K.faults keeper.old) (K.faults keeper.new) }
-    ensures keeper_later { K.faults keeper.old ≤ K.faults keeper.new }
-    ensures keeper_sure { NeverFails (K.plan keeper.old) → result ≢ KeeperFault }
+    ensures source { FaultsByPlan (S.faults source.old) (S.faults source.new) (S.plan source.old) (result ≡ ReadFault) }
+    ensures keeper { FaultsByPlan (K.faults keeper.old) (K.faults keeper.new) (K.plan keeper.old)
+        (result ≡ KeeperFault) }
 {
     let done = import_past(rt, alloc, base, limits, source, keeper);
     past_ended(base, done)

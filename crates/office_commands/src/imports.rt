@@ -1,17 +1,17 @@
 // The command `import DAY`: the output of a day, which is kept from then on.
-ghost use Rattle.std.specs.Prelude.{◌≡◌, ◌≢◌, ◌≤◌, ℕ, List, [], Some, Ok, IsOk, true};
-ghost use Rattle.road_io.specs.Faults.{Rose, HasCause};
-ghost use Rattle.road_io.specs.Plans.{NeverFails};
-ghost use Rattle.road_io.specs.Rooms.{Endless};
+ghost use Rattle.std.specs.Prelude.{◌≡◌, ◌≢◌, ℕ, List, [], Some, Ok, true};
 ghost use Rattle.keeper.specs.Office.{Office, record_of};
 ghost use Rattle.road_time.specs.Fits.{IsLimits};
 ghost use Rattle.day_reading.specs.Days.{ReadsWithin, most_read};
 ghost use Rattle.import_once.specs.Imports.{most_imported, PutsOnce};
 ghost use Rattle.office_words.specs.Meaning.{IsRun};
-ghost use Rattle.office_commands.specs.Commands.{import_row, IsPassed};
+ghost use Rattle.office_commands.specs.Commands.{import_row};
 ghost use Rattle.office_commands.specs.Endings.{Wrote, Keeps, Did, Holds, code_of};
 ghost use Rattle.office_commands.specs.Rests.{StopsThere, ReadsUncompared, LeavesOfDay};
 ghost use Rattle.office_commands.specs.declared.closing.Closing.TheVariants.{ReadFault, KeeperFault, Words};
+ghost use Rattle.office_commands.specs.Uses.{IsPassed};
+ghost use Rattle.office_commands.specs.Faults.{SinkFaults};
+ghost use Rattle.import_once.specs.Faults.{FaultsByPlan};
 
 use crate::closing::Closing;
 use crate::outcome::ended;
@@ -61,14 +61,11 @@ pub fn import<S: Source, O: Sink, K: Keeper, C: Crew, R: Threads>(
     ensures said { result ≢ Ok (Some Words) }
     ensures bounded { (o : Office) → K.told keeper.old ≡ Some o
         → ReadsWithin (most_imported (record_of o run.day) limits.now) (S.left source.old) (S.left source.new) }
-    ensures read_cause { result ≡ Ok (Some ReadFault) → Rose (S.faults source.old) (S.faults source.new) }
-    ensures read_later { S.faults source.old ≤ S.faults source.new }
-    ensures read_sure { NeverFails (S.plan source.old) → result ≢ Ok (Some ReadFault) }
-    ensures write_cause { HasCause (O.faults sink.old) (O.faults sink.new) result }
-    ensures write_sure { O.room sink.old ≡ Endless → IsOk result × (O.room sink.new ≡ Endless) }
-    ensures keeper_cause { result ≡ Ok (Some KeeperFault) → Rose (K.faults keeper.old) (K.faults keeper.new) }
-    ensures keeper_later { K.faults keeper.old ≤ K.faults keeper.new }
-    ensures keeper_sure { NeverFails (K.plan keeper.old) → result ≢ Ok (Some KeeperFault) }
+    ensures source { FaultsByPlan (S.faults source.old) (S.faults source.new) (S.plan source.old)
+        (result ≡ Ok (Some ReadFault)) }
+    ensures sink { SinkFaults (O.faults sink.old) (O.faults sink.new) (O.room sink.old) (O.room sink.new) result }
+    ensures keeper { FaultsByPlan (K.faults keeper.old) (K.faults keeper.new) (K.plan keeper.old)
+        (result ≡ Ok (Some KeeperFault)) }
 {
     let mut publisher = NoPublisher;
     let done = import_once::import(

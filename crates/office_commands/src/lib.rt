@@ -1,8 +1,8 @@
 //! The commands of the program `toll_office`.
 //!
-//! `office` does what the words ask over any source, aside, sink and keeper, and its contract says exactly what is written
-//! and kept, and which status comes. The program hands it the words, standard input, the file `ASIDE_FILE`, standard output
-//! and what is kept in a file.
+//! `office` does what the words ask over any source, aside, sink and keeper, and its contract says exactly what is
+//! written and kept, and which status comes. The program hands it the words, standard input, the file `ASIDE_FILE`,
+//! standard output and what is kept in a file.
 #![tactic(auto)]
 
 mod answers;

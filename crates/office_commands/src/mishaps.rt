@@ -1,9 +1,6 @@
 // The command `accidents`: the accident log of a day.
-ghost use Rattle.std.specs.Prelude.{◌≡◌, ◌≢◌, ◌≤◌, ℕ, List, Some, Ok, IsOk};
+ghost use Rattle.std.specs.Prelude.{◌≡◌, ◌≢◌, ◌≤◌, ℕ, List, Some, Ok};
 ghost use Rattle.road_time.specs.Fits.{IsDay, IsLimits};
-ghost use Rattle.road_io.specs.Faults.{Rose, HasCause};
-ghost use Rattle.road_io.specs.Plans.{NeverFails};
-ghost use Rattle.road_io.specs.Rooms.{Endless};
 ghost use Rattle.keeper.specs.Office.{Office};
 ghost use Rattle.day_reading.specs.Days.{ReadsWithin, most_read};
 ghost use Rattle.office_words.specs.declared.command.Recomputing.TheVariants.{Plainly};
@@ -12,6 +9,8 @@ ghost use Rattle.office_commands.specs.Commands.{accidents_row, accidents_of, un
 ghost use Rattle.office_commands.specs.Endings.{Wrote, code_of};
 ghost use Rattle.office_commands.specs.Rests.{HasReadDay, SaysBy};
 ghost use Rattle.office_commands.specs.declared.closing.Closing.TheVariants.{ReadFault, KeeperFault, Words};
+ghost use Rattle.office_commands.specs.Faults.{SinkFaults};
+ghost use Rattle.import_once.specs.Faults.{FaultsByPlan};
 
 use crate::closing::Closing;
 use crate::day::{Day, read_day, stopped};
@@ -36,8 +35,7 @@ fn write_accidents<O: Sink>(
     ensures unasked { result ≢ Ok (Some KeeperFault) }
     ensures said { result ≢ Ok (Some Words) }
     ensures says { SaysBy day.now.refused (code_of result) }
-    ensures cause { HasCause (O.faults sink.old) (O.faults sink.new) result }
-    ensures sure { O.room sink.old ≡ Endless → IsOk result × (O.room sink.new ≡ Endless) }
+    ensures sink { SinkFaults (O.faults sink.old) (O.faults sink.new) (O.room sink.old) (O.room sink.new) result }
 {
     if let Some((line, cause)) = day.refused {
         return Ok(Some(Closing::Refused { line, cause }));
@@ -67,11 +65,9 @@ pub fn accidents<S: Source, O: Sink, R: Threads>(
     ensures reads { HasReadDay (recomputed Plainly limits.now) late (code_of result) (S.left source.old)
         (S.left source.new) }
     ensures bounded { ReadsWithin (most_read (recomputed Plainly limits.now)) (S.left source.old) (S.left source.new) }
-    ensures read_cause { result ≡ Ok (Some ReadFault) → Rose (S.faults source.old) (S.faults source.new) }
-    ensures read_later { S.faults source.old ≤ S.faults source.new }
-    ensures read_sure { NeverFails (S.plan source.old) → result ≢ Ok (Some ReadFault) }
-    ensures write_cause { HasCause (O.faults sink.old) (O.faults sink.new) result }
-    ensures write_sure { O.room sink.old ≡ Endless → IsOk result × (O.room sink.new ≡ Endless) }
+    ensures source { FaultsByPlan (S.faults source.old) (S.faults source.new) (S.plan source.old)
+        (result ≡ Ok (Some ReadFault)) }
+    ensures sink { SinkFaults (O.faults sink.old) (O.faults sink.new) (O.room sink.old) (O.room sink.new) result }
 {
     match read_day(rt, alloc, limits, Recomputing::Plainly, late, source) {
         Ok(day) => write_accidents(alloc, &day, sink),

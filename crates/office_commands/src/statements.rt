@@ -1,13 +1,12 @@
 // The commands `day DAY`, `vehicle VID FROM TO` and `export DAY`: what is kept, as texts.
-ghost use Rattle.std.specs.Prelude.{◌≡◌, ◌≢◌, ◌≤◌, Some, Ok, Err, IsOk, OnErr};
-ghost use Rattle.road_io.specs.Faults.{Rose, HasCause};
-ghost use Rattle.road_io.specs.Plans.{NeverFails};
-ghost use Rattle.road_io.specs.Rooms.{Endless};
+ghost use Rattle.std.specs.Prelude.{◌≡◌, ◌≢◌, Some, Ok, Err, OnErr};
 ghost use Rattle.keeper.specs.Office.{Office};
 ghost use Rattle.reports.specs.declared.report_fault.ReportFault.TheVariants as report_fault;
 ghost use Rattle.office_commands.specs.Commands.{day_row, vehicle_row, export_row};
 ghost use Rattle.office_commands.specs.Endings.{Wrote, Keeps, EndsReport};
 ghost use Rattle.office_commands.specs.declared.closing.Closing.TheVariants.{ReadFault, KeeperFault, Words};
+ghost use Rattle.office_commands.specs.Faults.{SinkFaults};
+ghost use Rattle.import_once.specs.Faults.{FaultsByPlan};
 
 use crate::closing::Closing;
 use keeper::Keeper;
@@ -45,11 +44,9 @@ pub fn day<O: Sink, K: Keeper>(
         → Keeps K.refuses (day_row day o) o (K.told keeper.new) result }
     ensures said { result ≢ Ok (Some Words) }
     ensures unread { result ≢ Ok (Some ReadFault) }
-    ensures write_cause { HasCause (O.faults sink.old) (O.faults sink.new) result }
-    ensures write_sure { O.room sink.old ≡ Endless → IsOk result × (O.room sink.new ≡ Endless) }
-    ensures keeper_cause { result ≡ Ok (Some KeeperFault) → Rose (K.faults keeper.old) (K.faults keeper.new) }
-    ensures keeper_later { K.faults keeper.old ≤ K.faults keeper.new }
-    ensures keeper_sure { NeverFails (K.plan keeper.old) → result ≢ Ok (Some KeeperFault) }
+    ensures sink { SinkFaults (O.faults sink.old) (O.faults sink.new) (O.room sink.old) (O.room sink.new) result }
+    ensures keeper { FaultsByPlan (K.faults keeper.old) (K.faults keeper.new) (K.plan keeper.old)
+        (result ≡ Ok (Some KeeperFault)) }
 {
     let done = day_statement(alloc, day, keeper, sink);
     reported(day, done)
@@ -70,11 +67,9 @@ pub fn vehicle<O: Sink, K: Keeper>(
         → Keeps K.refuses (vehicle_row vid from to o) o (K.told keeper.new) result }
     ensures said { result ≢ Ok (Some Words) }
     ensures unread { result ≢ Ok (Some ReadFault) }
-    ensures write_cause { HasCause (O.faults sink.old) (O.faults sink.new) result }
-    ensures write_sure { O.room sink.old ≡ Endless → IsOk result × (O.room sink.new ≡ Endless) }
-    ensures keeper_cause { result ≡ Ok (Some KeeperFault) → Rose (K.faults keeper.old) (K.faults keeper.new) }
-    ensures keeper_later { K.faults keeper.old ≤ K.faults keeper.new }
-    ensures keeper_sure { NeverFails (K.plan keeper.old) → result ≢ Ok (Some KeeperFault) }
+    ensures sink { SinkFaults (O.faults sink.old) (O.faults sink.new) (O.room sink.old) (O.room sink.new) result }
+    ensures keeper { FaultsByPlan (K.faults keeper.old) (K.faults keeper.new) (K.plan keeper.old)
+        (result ≡ Ok (Some KeeperFault)) }
 {
     let done = vehicle_statement(alloc, vid, from, to, keeper, sink);
     reported(from, done)
@@ -93,11 +88,9 @@ pub fn export<O: Sink, K: Keeper>(
         → Keeps K.refuses (export_row day o) o (K.told keeper.new) result }
     ensures said { result ≢ Ok (Some Words) }
     ensures unread { result ≢ Ok (Some ReadFault) }
-    ensures write_cause { HasCause (O.faults sink.old) (O.faults sink.new) result }
-    ensures write_sure { O.room sink.old ≡ Endless → IsOk result × (O.room sink.new ≡ Endless) }
-    ensures keeper_cause { result ≡ Ok (Some KeeperFault) → Rose (K.faults keeper.old) (K.faults keeper.new) }
-    ensures keeper_later { K.faults keeper.old ≤ K.faults keeper.new }
-    ensures keeper_sure { NeverFails (K.plan keeper.old) → result ≢ Ok (Some KeeperFault) }
+    ensures sink { SinkFaults (O.faults sink.old) (O.faults sink.new) (O.room sink.old) (O.room sink.new) result }
+    ensures keeper { FaultsByPlan (K.faults keeper.old) (K.faults keeper.new) (K.plan keeper.old)
+        (result ≡ Ok (Some KeeperFault)) }
 {
     let done = export_csv(alloc, day, keeper, sink);
     reported(day, done)

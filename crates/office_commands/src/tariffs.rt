@@ -1,12 +1,11 @@
 // The commands `tariff XWAY CROWD SPEED FACTOR` and `tariffs`.
-ghost use Rattle.std.specs.Prelude.{◌≡◌, ◌≢◌, ◌≤◌, [], Some, Ok, IsOk};
-ghost use Rattle.road_io.specs.Faults.{Rose, HasCause};
-ghost use Rattle.road_io.specs.Plans.{NeverFails};
-ghost use Rattle.road_io.specs.Rooms.{Endless};
+ghost use Rattle.std.specs.Prelude.{◌≡◌, ◌≢◌, ◌≤◌, [], Some, Ok};
 ghost use Rattle.keeper.specs.Office.{Office};
 ghost use Rattle.office_commands.specs.Commands.{tariff_row, tariffs_row};
 ghost use Rattle.office_commands.specs.Endings.{StandsBefore, Wrote, sort_of, KeepsBy, Keeps};
 ghost use Rattle.office_commands.specs.declared.closing.Closing.TheVariants.{ReadFault, KeeperFault, Words};
+ghost use Rattle.office_commands.specs.Faults.{SinkFaults};
+ghost use Rattle.import_once.specs.Faults.{FaultsByPlan};
 
 use crate::closing::Closing;
 use crate::refusal::refused;
@@ -26,9 +25,8 @@ pub fn tariff<K: Keeper>(xway: u8, crowd: u32, speed: u8, factor: u8, keeper: &m
         → KeepsBy (sort_of result) K.refuses (tariff_row xway crowd speed factor o) o (K.told keeper.new) }
     ensures said { result ≢ Words }
     ensures unread { result ≢ ReadFault }
-    ensures keeper_cause { result ≡ KeeperFault → Rose (K.faults keeper.old) (K.faults keeper.new) }
-    ensures keeper_later { K.faults keeper.old ≤ K.faults keeper.new }
-    ensures keeper_sure { NeverFails (K.plan keeper.old) → result ≢ KeeperFault }
+    ensures keeper { FaultsByPlan (K.faults keeper.old) (K.faults keeper.new) (K.plan keeper.old)
+        (result ≡ KeeperFault) }
 {
     let tariff = Tariff {
         crowd,
@@ -58,11 +56,9 @@ pub fn tariffs<O: Sink, K: Keeper>(
         → Keeps K.refuses (tariffs_row o) o (K.told keeper.new) result }
     ensures said { result ≢ Ok (Some Words) }
     ensures unread { result ≢ Ok (Some ReadFault) }
-    ensures write_cause { HasCause (O.faults sink.old) (O.faults sink.new) result }
-    ensures write_sure { O.room sink.old ≡ Endless → IsOk result × (O.room sink.new ≡ Endless) }
-    ensures keeper_cause { result ≡ Ok (Some KeeperFault) → Rose (K.faults keeper.old) (K.faults keeper.new) }
-    ensures keeper_later { K.faults keeper.old ≤ K.faults keeper.new }
-    ensures keeper_sure { NeverFails (K.plan keeper.old) → result ≢ Ok (Some KeeperFault) }
+    ensures sink { SinkFaults (O.faults sink.old) (O.faults sink.new) (O.room sink.old) (O.room sink.new) result }
+    ensures keeper { FaultsByPlan (K.faults keeper.old) (K.faults keeper.new) (K.plan keeper.old)
+        (result ≡ Ok (Some KeeperFault)) }
 {
     let kept = match keeper.tariffs() {
         Ok(kept) => kept,

@@ -12,8 +12,8 @@ pub struct Size {
     pub crashes: u32,
 }
 
-/// What a day's run is told: the day, 70 to 1,000,000, by how many seconds its lines may come late, 0 to 120, and how its
-/// work is done.
+/// What a day's run is told: the day, 70 to 1,000,000, by how many seconds its lines may come late, 0 to 120, and how
+/// its work is done.
 #[derive(Clone, Copy, Debug, PartialEq)]
 pub struct DayRun {
     pub day: u32,
@@ -21,16 +21,16 @@ pub struct DayRun {
     pub plan: Plan,
 }
 
-/// How the notices of a day are recomputed: by the plain rules, or in bulk, by 1 to 64 shards of vehicles and over 1 to 64
-/// workers.
+/// How the notices of a day are recomputed: by the plain rules, or in bulk, by 1 to 64 shards of vehicles and over 1
+/// to 64 workers.
 #[derive(Clone, Copy, Debug, PartialEq)]
 pub enum Recomputing {
     Plainly,
     InBulk { shards: u8, width: u8 },
 }
 
-/// What a comparison is told: the day, 70 to 1,000,000, by how many seconds its lines may come late, 0 to 120, and how its
-/// notices are recomputed.
+/// What a comparison is told: the day, 70 to 1,000,000, by how many seconds its lines may come late, 0 to 120, and
+/// how its notices are recomputed.
 #[derive(Clone, Copy, Debug, PartialEq)]
 pub struct Comparison {
     pub day: u32,

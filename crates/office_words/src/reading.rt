@@ -3,7 +3,8 @@ ghost use Rattle.std.specs.Prelude.{◌≡◌, ◌≤◌, IfSome, codes};
 ghost use Rattle.clap.specs.Words.{first_value, found_of};
 ghost use Rattle.office_words.specs.Meaning.{day_in, late_in, width_in, plan_in, run_in, answers_in, import_in};
 ghost use Rattle.office_words.specs.Meaning.{bulk_in, validate_in, audit_in, past_in, vehicle_in, tariff_in};
-ghost use Rattle.office_words.specs.Meaning.{meaning, seed_in, size_in, generate_in, rehearse_in, IsInRange, IsPlan, IsRecomputing, IsRun, IsSize};
+ghost use Rattle.office_words.specs.Meaning.{meaning, seed_in, size_in, generate_in, rehearse_in, IsInRange, IsPlan};
+ghost use Rattle.office_words.specs.Meaning.{IsRecomputing, IsRun, IsSize};
 
 use crate::command::{Command, Comparison, DayRun, Recomputing, Size};
 use crate::numbers::{chosen, needed, optional};

@@ -1,7 +1,8 @@
 // The table of commands, as clap is told it.
 ghost use Rattle.std.specs.Prelude.{◌≡◌, IfOk, false, map, string_bytes, take, drop};
 ghost use Rattle.clap.specs.Words.{app_of, rule_of, FailsBy, fault_of, HasMatchesOf};
-ghost use Rattle.office_words.specs.App.{option_rule, place_rule, app_of_form, app_of_forms, shape_of_form, bare_app, with_forms};
+ghost use Rattle.office_words.specs.App.{option_rule, place_rule, app_of_form, app_of_forms, shape_of_form, bare_app};
+ghost use Rattle.office_words.specs.App.{with_forms};
 ghost use Rattle.clap.specs.Simple.{with_subcommand};
 ghost use Rattle.clap.specs.Walk.{texts};
 ghost use Rattle.clap.specs.declared.builder.command.Command.TheViews.{out-Command};
@@ -33,7 +34,8 @@ fn command<'a>(
     places: &[&'a str],
     options: &[&'a str],
 ) -> Result<Command<'a>, AllocError>
-    ensures app { IfOk result (λ c. app_of c ≡ app_of_form (form name.entry.now (texts places.now) (texts options.now))) }
+    ensures app { IfOk result (λ c. app_of c
+        ≡ app_of_form (form name.entry.now (texts places.now) (texts options.now))) }
     ensures local { IfOk result (λ c. (out-Command c).has_globals ≡ false) }
 {
     let mut made = Command::new(alloc, name);

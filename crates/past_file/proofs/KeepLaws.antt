@@ -21,15 +21,10 @@ use Rattle.past_file.specs.Imports.{PastAnswer, unchanged, again, past_again, pa
 
 -- the cause of a fault is one
 pub cause_is : (fault : PastFault) (cause : PastCause) → IsCause fault cause → cause ≡ past_cause_of fault
-cause_is (OfLine Long) cause h = h
-cause_is (OfLine (Many n)) cause h = h
-cause_is (OfLine (Fields n)) cause h = h
-cause_is (OfLine (Number n)) cause h = h
-cause_is (OfLine (Range n)) cause h = h
 cause_is (OfLine (Late a b)) cause h = absurd h
 cause_is (OfLine (TooOften a b)) cause h = absurd h
 cause_is (OfLine (Vehicles n)) cause h = absurd h
-cause_is Twice cause h = h
+cause_is _ cause h = h
 
 -- the greatest of some days is no less than the first
 greatest_least : (n : ℕ) (ds : List DayRecord) → n ≤ greatest_day n ds

@@ -15,7 +15,8 @@ use Rattle.keeper.specs.Calls.{WhenRefused, Leaves}
 use Rattle.day_reading.specs.Days.{StopsSoon}
 use Rattle.past_file.specs.Causes.{past_cause_of}
 use Rattle.past_file.specs.declared.outcomes.PastOutcome.{PastOutcome}
-use Rattle.past_file.specs.declared.outcomes.PastOutcome.TheVariants.{Stored, Already, Row, PastLate, OtherBase, Differs, ReadFault, KeeperFault, NoMemory}
+use Rattle.past_file.specs.declared.outcomes.PastOutcome.TheVariants.{Stored, Already, Row, PastLate, OtherBase}
+use Rattle.past_file.specs.declared.outcomes.PastOutcome.TheVariants.{Differs, ReadFault, KeeperFault, NoMemory}
 
 -- what a call answers, and the office that it leaves
 pub record PastAnswer : Type 0 where
@@ -28,7 +29,8 @@ unchanged outcome o = record { outcome = outcome; office = o }
 
 -- the amounts of all lines are kept; or a line was refused, and nothing is
 abbrev pub past_read : ℕ → List ℕ → List SpentRow → Option (ℕ × PastFault) → Office → PastAnswer
-past_read base bytes rows None o = record { outcome = Stored (past_record base bytes rows); office = next_past base bytes rows o }
+past_read base bytes rows None o =
+    record { outcome = Stored (past_record base bytes rows); office = next_past base bytes rows o }
 past_read base bytes rows (Some (line, fault)) o = unchanged (Row line (past_cause_of fault)) o
 
 -- a history is kept of this base: whether what was found is what is kept
@@ -37,11 +39,13 @@ again kept found = if bytes_eq found.bytes kept.digest.bytes then Already kept e
 
 -- a history is kept: one of another base is not compared
 abbrev pub past_again : PastRecord → ℕ → List ℕ → PastOutcome
-past_again kept base bytes = if kept.base == base then again kept (found_digest bytes kept.bytes) else OtherBase kept.base
+past_again kept base bytes =
+    if kept.base == base then again kept (found_digest bytes kept.bytes) else OtherBase kept.base
 
 -- no history is kept: where a day is, it is too late for one
 abbrev pub past_new : List DayRecord → ℕ → Limits → List ℕ → Office → PastAnswer
-past_new [] base limits bytes o = past_read base bytes (past_reads bytes base limits).rows (past_reads bytes base limits).refused o
+past_new [] base limits bytes o =
+    past_read base bytes (past_reads bytes base limits).rows (past_reads bytes base limits).refused o
 past_new (d ∷ ds) base limits bytes o = unchanged (PastLate (last_day o)) o
 
 -- by the history that is kept, if one is
@@ -66,17 +70,13 @@ Halts w fault a was now = (now ≡ Some was) ⊎ ((o : Office) × (now ≡ Some 
 
 -- what was done, by how the call ended
 abbrev pub Does : WhenRefused → PastAnswer → Office → Option Office → PastOutcome → Type 0
-Does w a was now (Stored kept) = DoesAll a (Stored kept) now
-Does w a was now (Already kept) = DoesAll a (Already kept) now
-Does w a was now (Row line cause) = DoesAll a (Row line cause) now
-Does w a was now (PastLate last) = DoesAll a (PastLate last) now
-Does w a was now (OtherBase kept) = DoesAll a (OtherBase kept) now
-Does w a was now (Differs kept found) = DoesAll a (Differs kept found) now
 Does w a was now ReadFault = now ≡ Some was
 Does w a was now KeeperFault = Halts w keeping.Failed a was now
 Does w a was now NoMemory = Halts w keeping.NoMemory a was now
+Does w a was now outcome = DoesAll a outcome now
 
--- what is left of the source: nothing where a history was read whole, and all behind one byte more than a kept history had
+-- what is left of the source: nothing where a history was read whole, and all behind one byte more than a kept history
+-- had
 abbrev pub LeavesRest : PastOutcome → Option PastRecord → List ℕ → Option (List ℕ) → Type 0
 LeavesRest (Stored r) kept bytes left = left ≡ Some []
 LeavesRest (Already r) (Some kept) bytes left = left ≡ Some (drop (kept.bytes + 1) bytes)
@@ -110,19 +110,17 @@ RefusesSoon _ bytes left = Unit {0}
 
 -- an end that no comparison with a kept history has
 abbrev pub IsUncompared : PastOutcome → Type 0
-IsUncompared (Stored kept) = Unit {0}
 IsUncompared (Already kept) = ⊥
-IsUncompared (Row line cause) = Unit {0}
-IsUncompared (PastLate last) = Unit {0}
-IsUncompared (OtherBase kept) = Unit {0}
 IsUncompared (Differs kept found) = ⊥
 IsUncompared ReadFault = ⊥
-IsUncompared KeeperFault = Unit {0}
 IsUncompared NoMemory = ⊥
+IsUncompared _ = Unit {0}
 
 -- a history of this base was put with its amounts
 abbrev pub IsPastOf : ℕ → Office → Office → Type 0
-IsPastOf base was now = (kept : PastRecord) × (rows : List SpentRow) × (kept.base ≡ base) × IsPastPut kept rows × (now ≡ with_past kept rows was)
+IsPastOf base was now =
+    (kept : PastRecord) × (rows : List SpentRow) × (kept.base ≡ base) × IsPastPut kept rows
+    × (now ≡ with_past kept rows was)
 
 -- what is kept is as it was, or with one history more
 abbrev pub PutsPast : ℕ → Office → Option Office → Type 0
@@ -131,11 +129,6 @@ PutsPast base was now = (o : Office) × (now ≡ Some o) × ((o ≡ was) ⊎ IsP
 -- what is kept is as it was, but where a history was put, or its put refused
 abbrev pub KeepsAll : PastOutcome → Type 0 → Type 0
 KeepsAll (Stored kept) same = Unit {0}
-KeepsAll (Already kept) same = same
-KeepsAll (Row line cause) same = same
-KeepsAll (PastLate last) same = same
-KeepsAll (OtherBase kept) same = same
-KeepsAll (Differs kept found) same = same
-KeepsAll ReadFault same = same
 KeepsAll KeeperFault same = Unit {0}
 KeepsAll NoMemory same = Unit {0}
+KeepsAll _ same = same

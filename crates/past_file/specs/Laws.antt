@@ -7,4 +7,5 @@ use Rattle.past_file.specs.Causes.{IsCause, past_cause_of}
 -- the fault of a refused line is one that a history's line may have, and its cause says it
 abbrev pub CausesLaw : Type 0
 CausesLaw =
-    (base : ℕ) (limits : Limits) (bytes : List ℕ) (line : ℕ) (fault : PastFault) → (past_reads bytes base limits).refused ≡ Some (line, fault) → IsCause fault (past_cause_of fault)
+    (base : ℕ) (limits : Limits) (bytes : List ℕ) (line : ℕ) (fault : PastFault)
+    → (past_reads bytes base limits).refused ≡ Some (line, fault) → IsCause fault (past_cause_of fault)

@@ -1,5 +1,6 @@
 -- Lines of a history that are read on.
-use Rattle.std.specs.Prelude.{ℕ, ◌≡◌, ◌≤◌, ◌+◌, ◌++◌, ◌∷◌, [], List, Bool, false, true, length, Option, Some, None, Result, Ok, Err}
+use Rattle.std.specs.Prelude.{ℕ, ◌≡◌, ◌≤◌, ◌+◌, ◌++◌, ◌∷◌, [], List, Bool, false, true, length, Option, Some, None}
+use Rattle.std.specs.Prelude.{Result, Ok, Err}
 use Rattle.std.specs.List.{list_any}
 use Rattle.road_time.specs.declared.day.Limits.{Limits}
 use Rattle.road_time.specs.declared.day.SpentRow.{SpentRow}
@@ -40,7 +41,8 @@ StopsTwice number (Some NoMemory) = Unit {0}
 
 -- a line was judged behind those before it
 abbrev pub Judges : Option PastStop → ℕ → Limits → ℕ → List ℕ → Amounts → Amounts → Type 0
-Judges None base limits number line old new = (before : List (List ℕ)) → length before + 1 ≡ number → HasRows old base (past_rows base before)
+Judges None base limits number line old new =
+    (before : List (List ℕ)) → length before + 1 ≡ number → HasRows old base (past_rows base before)
     → (past_fault base limits before line ≡ None) × HasRows new base (past_rows base (before ++ line ∷ []))
 Judges (Some (Row n cause)) base limits number line old new = (n ≡ number)
     × ((before : List (List ℕ)) → length before + 1 ≡ number → HasRows old base (past_rows base before) → (fault : PastFault) × (past_fault base limits before line ≡ Some fault) × IsCause fault cause)
@@ -61,9 +63,11 @@ pub record ReadsOn (front : Option (List ℕ)) (number : ℕ) (consumed : Consum
 
 -- a reader reads the history that the bytes are, where so much of the source is left
 abbrev pub IsReading : PastReader → ℕ → Limits → Option (List ℕ) → List ℕ → Type 0
-IsReading r base limits left bytes = ReadsOn (ahead r.cutter left) (number_of r.cutter) r.consumed r.amounts base limits bytes
+IsReading r base limits left bytes =
+    ReadsOn (ahead r.cutter left) (number_of r.cutter) r.consumed r.amounts base limits bytes
 
--- what a reader took and holds of a source's bytes, and what is left of them, is all that the source had; and it took no more lines than it cut
+-- what a reader took and holds of a source's bytes, and what is left of them, is all that the source had; and it took
+-- no more lines than it cut
 abbrev pub HasReadOf : PastReader → Option (List ℕ) → List ℕ → Type 0
 HasReadOf r left bytes = HasReadLines (ahead r.cutter left) (number_of r.cutter) r.consumed bytes
 
@@ -76,7 +80,8 @@ pub record EndsWhole (consumed : Consumed) (amounts : Amounts) (base : ℕ) (lim
 
 -- a line was refused
 abbrev pub EndsRefused : ℕ → PastCause → ℕ → Limits → List ℕ → Type 0
-EndsRefused line cause base limits bytes = (fault : PastFault) × ((past_reads bytes base limits).refused ≡ Some (line, fault)) × IsCause fault cause
+EndsRefused line cause base limits bytes =
+    (fault : PastFault) × ((past_reads bytes base limits).refused ≡ Some (line, fault)) × IsCause fault cause
 
 -- a line more was read, or all were, or one was refused
 abbrev pub Steps : Result Bool PastStop → PastReader → ℕ → Limits → Option (List ℕ) → List ℕ → Type 0
@@ -95,7 +100,9 @@ Ends (Some NoMemory) r base limits left bytes = Unit {0}
 
 -- a history that was read whole is the one that the bytes are, or the first refused line is
 abbrev pub ReadsPast : Result History PastStop → ℕ → Limits → Option (List ℕ) → List ℕ → Type 0
-ReadsPast (Ok h) base limits left bytes = ((past_reads bytes base limits).refused ≡ None) × (h.past ≡ past_record base bytes (past_reads bytes base limits).rows)
+ReadsPast (Ok h) base limits left bytes =
+    ((past_reads bytes base limits).refused ≡ None)
+    × (h.past ≡ past_record base bytes (past_reads bytes base limits).rows)
     × (h.rows.items ≡ past_kept (past_reads bytes base limits).rows) × (left ≡ Some [])
 ReadsPast (Err (Row line cause)) base limits left bytes = EndsRefused line cause base limits bytes
 ReadsPast (Err ReadFault) base limits left bytes = Unit {0}

@@ -8,7 +8,8 @@ use Rattle.office_words.specs.App.{unless}
 use Rattle.office_words.specs.Spelling.{Spells}
 use Rattle.office_words.proofs.Leaf.{leaf, as_place}
 use Rattle.office_words.proofs.Turns.{walk_finds}
-use Rattle.office_words.proofs.Spelling.{AllPlainly, Open, read_back, spelled_back}
+use Rattle.office_words.proofs.Looks.{AllPlainly}
+use Rattle.office_words.proofs.Spelling.{Open, read_back, spelled_back}
 use Rattle.server_words.specs.App.{server_app}
 use Rattle.server_words.specs.Meaning.{server_form, said_by_words}
 use Rattle.server_words.specs.Laws.{FindsWhatIsSaid, IsSaidOnlySo}

@@ -1,6 +1,7 @@
 // How to serve.
 
-/// How to serve: the port, 1 to 65,535, how many connections are accepted, at least one, and by how many readers, 1 to 64.
+/// How to serve: the port, 1 to 65,535, how many connections are accepted, at least one, and by how many readers, 1
+/// to 64.
 #[derive(Clone, Copy, Debug, PartialEq)]
 pub struct Serving {
     pub port: u16,

@@ -18,8 +18,8 @@ pub const STOPPED_ON_ANOTHER_WAY: &[u8] = b"0,0,1,0,0,2,0,10,55000,-1,-1,-1,-1,-
 pub const STOPPED_TOLD: &[u8] =
     b"0,1,0,-1,0\n0,2,0,-1,0\n0,2,130,-1,0\n1,180,3,10\n0,3,180,0,0\n0,4,240,16,0\n";
 
-/// A vehicle comes to a crowd a minute after it, leaves its stretch, so that it is charged, then the road, comes back on
-/// another expressway, and asks what it paid.
+/// A vehicle comes to a crowd a minute after it, leaves its stretch, so that it is charged, then the road, comes back
+/// on another expressway, and asks what it paid.
 const CHARGED: &[u8] = b"0,60,100,30,0,1,0,10,52800,-1,-1,-1,-1,-1,-1\n\
 0,90,100,30,0,1,0,11,58080,-1,-1,-1,-1,-1,-1\n\
 0,120,100,30,0,4,0,11,60000,-1,-1,-1,-1,-1,-1\n\

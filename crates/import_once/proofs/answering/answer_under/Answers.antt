@@ -1,6 +1,5 @@
-use Rattle.std.proofs.Common.{◌≡◌, ◌∙◌, ℕ, List, Option, Some, sym, ap, subst}
+use Rattle.std.proofs.Common.{◌≡◌, ◌∙◌, ℕ, List, Some, sym, ap, subst}
 use Rattle.road_time.specs.declared.road.Tuple.{Tuple}
-use Rattle.road_time.specs.Form.{Fault}
 use Rattle.road_time.specs.Reads.{reads}
 use Rattle.road_time.specs.Rates.{Tariffs}
 use Rattle.road_time.specs.Day.{given, notices}

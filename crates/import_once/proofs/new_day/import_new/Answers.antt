@@ -1,7 +1,7 @@
 use Rattle.std.proofs.Common.{◌≡◌, ◌∙◌, Some, Ok, sym, subst, arith}
 use Rattle.road_time.specs.Reads.{reads}
 use Rattle.keeper.specs.Office.{last_day}
-use Rattle.import_once.specs.Imports.{Answer, import_read, import_merged, unless_passed, Does, Merges}
+use Rattle.import_once.specs.Imports.{DayAnswer, import_read, import_merged, Does, Merges}
 use Rattle.import_once.proofs.FinishLaws.{new_is_read}
 use Rattle.keeper.proofs.CallLaws.{reads_same, reads_ok}
 use Rattle.import_once.proofs.JobLaws.{none_started}
@@ -16,7 +16,7 @@ returns-else-last-number-clause-does g c = λ exact bytes o left told.
     let last : c.in-Ok.last ≡ last_day o = reads_ok before after c.last_day.result (λ p last. last ≡ last_day p) o c.in-Ok.last c.last_day.ensures.state told ok in
     let read = reads bytes c.args.limits.now c.args.late in
     let done = c.import_later.ensures.does exact bytes o left kept in
-    subst (λ (a : Answer). Does g.K.Keeper.refuses a o (g.O.Sink.written c.args.sink.now) (g.O.Sink.written c.import_later.new.sink) (g.K.Keeper.told c.import_later.new.keeper) c.import_later.result)
+    subst (λ (a : DayAnswer). Does g.K.Keeper.refuses a o (g.O.Sink.written c.args.sink.now) (g.O.Sink.written c.import_later.new.sink) (g.K.Keeper.told c.import_later.new.keeper) c.import_later.result)
     (sym (new_is_read (import_read c.args.number bytes read.tuples read.refused o) c.args.number o (omega (arith, c.if-last-number.false, last)))) done
 
 pub returns-else-last-number-clause-merged : goal.returns-else-last-number-clause-merged
@@ -31,7 +31,7 @@ returns-else-last-number-clause-merged g c = λ bytes o left told.
     record {
       found = done.found;
       answers_are = done.answers_are;
-      merges = subst (λ (a : Answer). Merges g.K.Keeper.refuses a o (g.O.Sink.written c.args.sink.now) (g.O.Sink.written c.import_later.new.sink) (g.K.Keeper.told c.import_later.new.keeper) c.import_later.result)
+      merges = subst (λ (a : DayAnswer). Merges g.K.Keeper.refuses a o (g.O.Sink.written c.args.sink.now) (g.O.Sink.written c.import_later.new.sink) (g.K.Keeper.told c.import_later.new.keeper) c.import_later.result)
           (sym (new_is_read (import_merged done.found c.args.number bytes read.tuples read.refused o) c.args.number o (omega (arith, c.if-last-number.false, last)))) done.merges;
     }
 

@@ -17,13 +17,11 @@ returns-clause-keeps g c = λ right bytes o left told.
     let a = answers_answer c.args.run.day c.args.run.late c.args.limits.now bytes o in
     keeps g.K.Keeper.refuses c.args.run.day a o (g.O.Sink.written c.args.sink.now) (g.O.Sink.written c.answers-done.new.sink) (g.K.Keeper.told c.answers-done.new.keeper) c.answers-done.result c.ended.result c.ended.ensures.ends (c.answers-done.ensures.does right bytes o left told)
 
-pub returns-clause-write_cause : goal.returns-clause-write_cause
-returns-clause-write_cause g c = caused (c.answers-done.result ≡ WriteFault) c.ended.result _ _ c.ended.ensures.failed c.answers-done.ensures.write_later c.answers-done.ensures.write_cause
-
-pub returns-clause-write_sure : goal.returns-clause-write_sure
-returns-clause-write_sure g c = λ endless.
-    let sure = c.answers-done.ensures.write_sure endless in
-    (well (c.answers-done.result ≡ WriteFault) c.ended.result c.ended.ensures.failed sure.0, sure.1)
+pub returns-clause-sink : goal.returns-clause-sink
+returns-clause-sink g c = record {
+  caused = caused (c.answers-done.result ≡ WriteFault) c.ended.result _ _ c.ended.ensures.failed c.answers-done.ensures.sink.later c.answers-done.ensures.sink.cause;
+  sure = λ endless. (let sure = c.answers-done.ensures.sink.sure endless in (well (c.answers-done.result ≡ WriteFault) c.ended.result c.ended.ensures.failed sure.0, sure.1));
+}
 
 pub returns-clause-does : goal.returns-clause-does
 returns-clause-does g c = λ right bytes o left told.

@@ -6,7 +6,7 @@ use Rattle.tuple_format.specs.declared.cause.Cause.{Cause}
 use Rattle.keeper.proofs.CallLaws.{reads_same, reads_ok}
 use Rattle.office_commands.specs.declared.closing.Closing.{Closing}
 use Rattle.office_commands.specs.Days.{recomputed}
-use Rattle.office_commands.specs.Commands.{compare_row, most_noticed, comparison_of, unless_refused}
+use Rattle.office_commands.specs.Commands.{compare_row, comparison_of, unless_refused}
 use Rattle.office_commands.specs.Endings.{StandsBefore}
 use Rattle.office_commands.proofs.EndingLaws.{refuses_empty, stops_empty}
 use Rattle.day_reading.specs.Days.{ReadsWithin}
@@ -15,6 +15,7 @@ use Rattle.office_commands.specs.Rests.{HasReadTo}
 use Rattle.office_commands.proofs.RestLaws.{to_by, to_stopped, to_refused, says_refused, ends_there}
 use Rattle.day_reading.proofs.BoundLaws.{nothing_read}
 use Rattle.day_reading.specs.Days.{most_read}
+use Rattle.office_commands.specs.Uses.{most_noticed}
 use Rattle.office_commands.proofs.comparing.compare_source.Goals as goal
 
 pub returns-in-Err-clause-exact : goal.returns-in-Err-clause-exact

@@ -20,13 +20,11 @@ returns-clause-keeps g c = λ right bytes o left told.
     let a = import_answer c.args.run.day c.args.run.late c.args.limits.now bytes o in
     keeps g.K.Keeper.refuses c.args.run.day a o (g.O.Sink.written c.args.sink.now) (g.O.Sink.written c.import-done.new.sink) (g.K.Keeper.told c.import-done.new.keeper) c.import-done.result c.ended.result c.ended.ensures.ends (c.import-done.ensures.does right bytes o left told)
 
-pub returns-clause-write_cause : goal.returns-clause-write_cause
-returns-clause-write_cause g c = caused (c.import-done.result ≡ WriteFault) c.ended.result _ _ c.ended.ensures.failed c.import-done.ensures.write_later c.import-done.ensures.write_cause
-
-pub returns-clause-write_sure : goal.returns-clause-write_sure
-returns-clause-write_sure g c = λ endless.
-    let sure = c.import-done.ensures.write_sure endless in
-    (well (c.import-done.result ≡ WriteFault) c.ended.result c.ended.ensures.failed sure.0, sure.1)
+pub returns-clause-sink : goal.returns-clause-sink
+returns-clause-sink g c = record {
+  caused = caused (c.import-done.result ≡ WriteFault) c.ended.result _ _ c.ended.ensures.failed c.import-done.ensures.sink.later c.import-done.ensures.sink.cause;
+  sure = λ endless. (let sure = c.import-done.ensures.sink.sure endless in (well (c.import-done.result ≡ WriteFault) c.ended.result c.ended.ensures.failed sure.0, sure.1));
+}
 
 pub returns-clause-does : goal.returns-clause-does
 returns-clause-does g c = λ right bytes o left told.

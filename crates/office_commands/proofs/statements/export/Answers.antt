@@ -15,10 +15,8 @@ pub returns-clause-keeps : goal.returns-clause-keeps
 returns-clause-keeps g c = λ o told.
     kept_same g.K.Keeper.refuses (export_row c.args.day o) o (g.K.Keeper.told c.export_csv-done.new.keeper) c.reported.result (report_office c.args.day (export_report c.args.day o) o) (c.export_csv-done.ensures.kept ∙ told)
 
-pub returns-clause-write_cause : goal.returns-clause-write_cause
-returns-clause-write_cause g c = caused (c.export_csv-done.result ≡ Err WriteFault) c.reported.result _ _ c.reported.ensures.failed c.export_csv-done.ensures.write_later c.export_csv-done.ensures.write_cause
-
-pub returns-clause-write_sure : goal.returns-clause-write_sure
-returns-clause-write_sure g c = λ endless.
-    let sure = c.export_csv-done.ensures.write_sure endless in
-    (well (c.export_csv-done.result ≡ Err WriteFault) c.reported.result c.reported.ensures.failed sure.0, sure.1)
+pub returns-clause-sink : goal.returns-clause-sink
+returns-clause-sink g c = record {
+  caused = caused (c.export_csv-done.result ≡ Err WriteFault) c.reported.result _ _ c.reported.ensures.failed c.export_csv-done.ensures.write_later c.export_csv-done.ensures.write_cause;
+  sure = λ endless. (let sure = c.export_csv-done.ensures.write_sure endless in (well (c.export_csv-done.result ≡ Err WriteFault) c.reported.result c.reported.ensures.failed sure.0, sure.1));
+}

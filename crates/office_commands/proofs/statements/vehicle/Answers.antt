@@ -15,10 +15,8 @@ pub returns-clause-keeps : goal.returns-clause-keeps
 returns-clause-keeps g c = λ o told.
     kept_same g.K.Keeper.refuses (vehicle_row c.args.vid c.args.from c.args.to o) o (g.K.Keeper.told c.vehicle_statement-done.new.keeper) c.reported.result refl (c.vehicle_statement-done.ensures.kept ∙ told)
 
-pub returns-clause-write_cause : goal.returns-clause-write_cause
-returns-clause-write_cause g c = caused (c.vehicle_statement-done.result ≡ Err WriteFault) c.reported.result _ _ c.reported.ensures.failed c.vehicle_statement-done.ensures.write_later c.vehicle_statement-done.ensures.write_cause
-
-pub returns-clause-write_sure : goal.returns-clause-write_sure
-returns-clause-write_sure g c = λ endless.
-    let sure = c.vehicle_statement-done.ensures.write_sure endless in
-    (well (c.vehicle_statement-done.result ≡ Err WriteFault) c.reported.result c.reported.ensures.failed sure.0, sure.1)
+pub returns-clause-sink : goal.returns-clause-sink
+returns-clause-sink g c = record {
+  caused = caused (c.vehicle_statement-done.result ≡ Err WriteFault) c.reported.result _ _ c.reported.ensures.failed c.vehicle_statement-done.ensures.write_later c.vehicle_statement-done.ensures.write_cause;
+  sure = λ endless. (let sure = c.vehicle_statement-done.ensures.write_sure endless in (well (c.vehicle_statement-done.result ≡ Err WriteFault) c.reported.result c.reported.ensures.failed sure.0, sure.1));
+}

@@ -19,10 +19,8 @@ returns-clause-wrote g c = λ o.
     subst (λ (p : GenPlan). Wrote (told (file_of p) o) c.generated.result old new) c.plan_for-plan.ensures.plan
     (wrote_traffic c.plan_for-plan.result o old new c.generate-done.result c.generated.result c.generated.ensures.ends c.generate-done.ensures.wrote)
 
-pub returns-clause-write_cause : goal.returns-clause-write_cause
-returns-clause-write_cause g c = caused (c.generate-done.result ≡ Err WriteFault) c.generated.result _ _ c.generated.ensures.failed c.generate-done.ensures.later c.generate-done.ensures.cause
-
-pub returns-clause-write_sure : goal.returns-clause-write_sure
-returns-clause-write_sure g c = λ endless.
-    let sure = c.generate-done.ensures.sure endless in
-    (well (c.generate-done.result ≡ Err WriteFault) c.generated.result c.generated.ensures.failed sure.0, sure.1)
+pub returns-clause-sink : goal.returns-clause-sink
+returns-clause-sink g c = record {
+  caused = caused (c.generate-done.result ≡ Err WriteFault) c.generated.result _ _ c.generated.ensures.failed c.generate-done.ensures.later c.generate-done.ensures.cause;
+  sure = λ endless. (let sure = c.generate-done.ensures.sure endless in (well (c.generate-done.result ≡ Err WriteFault) c.generated.result c.generated.ensures.failed sure.0, sure.1));
+}

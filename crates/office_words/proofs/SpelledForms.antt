@@ -1,0 +1,121 @@
+-- The forms of the office: words are read by them as they are spelled.
+use Rattle.std.proofs.Common.{◌≡◌, ◌∙◌, ◌+◌, Bool, true, false, refl, sym, ap, subst, List, [], ◌∷◌, ◌++◌, Option, Some, None, bytes_eq, codes, find, ◌↔◌}
+use Rattle.std.specs.Option.{unwrap_or}
+use Rattle.std.proofs.lemmas.Option.{none-some}
+use Rattle.office_words.specs.Grammar.{Form, Text, Said, look, says, spoken}
+use Rattle.office_words.specs.Table.{forms, audits, runs, sizes}
+use Rattle.office_words.specs.Spelling.{Spells, IsSpelled}
+use Rattle.office_words.proofs.Looks.{AllPlainly}
+use Rattle.office_words.proofs.Spelling.{Open, read_back, spelled_back}
+
+-- a form's options are read as they are written, and its places and options have names of their own
+abbrev Sound : Form → Type 0
+Sound f = AllPlainly f.options × Open f f.places []
+
+abbrev AllSound : List Form → Type 0
+AllSound [] = Unit {0}
+AllSound (f ∷ fs) = Sound f × AllSound fs
+
+sound_found : (fs : List Form) (word : Text) (f : Form) → AllSound fs → find (λ g. bytes_eq g.name word) fs ≡ Some f → Sound f
+sound_found [] word f all e = absurd (none-some f e)
+sound_found (g ∷ fs) word f all e = go (bytes_eq g.name word) refl (sound_found fs word f all.1)
+  where
+    go : (b : Bool) → bytes_eq g.name word ≡ b → (find (λ x. bytes_eq x.name word) fs ≡ Some f → Sound f) → Sound f
+    go true hit rest =
+        let same : Some g ≡ Some f = rw hit at e in
+        subst Sound (ap (λ x. unwrap_or x g) same) all.0
+    go false hit rest = rest (rw hit at e)
+
+-- the options are read as they are written
+runs_plain : AllPlainly runs
+unfolding look
+runs_plain = ((refl, λ v. refl), ((refl, λ v. refl), ((refl, λ v. refl), tt)))
+
+sizes_plain : AllPlainly sizes
+unfolding look
+sizes_plain = ((refl, λ v. refl), ((refl, λ v. refl), ((refl, λ v. refl), ((refl, λ v. refl), tt))))
+
+audits_plain : AllPlainly audits
+unfolding look
+audits_plain = ((refl, λ v. refl), ((refl, λ v. refl), ((refl, λ v. refl), tt)))
+
+late_plain : AllPlainly (codes "late" ∷ [])
+unfolding look
+late_plain = ((refl, λ v. refl), tt)
+
+plain_both : (ns ms : List Text) → AllPlainly ns → AllPlainly ms → AllPlainly (ns ++ ms)
+plain_both [] ms a b = b
+plain_both (n ∷ ns) ms a b = (a.0, plain_both ns ms a.1 b)
+
+all_sound : AllSound forms
+all_sound = (
+  (runs_plain, (refl, refl, refl, refl, tt)),
+  (
+    (runs_plain, (refl, refl, refl, refl, tt)),
+    (
+      (late_plain, (refl, refl, refl, refl, tt)),
+      (
+        (audits_plain, (refl, refl, refl, refl, tt)),
+        (
+          (tt, (refl, refl, refl, refl, tt)),
+          (
+            (tt, (refl, refl, refl, refl, tt)),
+            (
+              (tt, (refl, refl, refl, refl, (refl, refl, refl, refl, (refl, refl, refl, refl, tt)))),
+              (
+                (late_plain, tt),
+                (
+                  (tt, (refl, refl, refl, refl, tt)),
+                  (
+                    (tt, (refl, refl, refl, refl, (refl, refl, refl, refl, (refl, refl, refl, refl, (refl, refl, refl, refl, tt))))),
+                    (
+                      (tt, tt),
+                      (
+                        (sizes_plain, (refl, refl, refl, refl, tt)),
+                        (
+                          (plain_both sizes runs sizes_plain runs_plain, (refl, refl, refl, refl, tt)),
+                          tt,
+                        ),
+                      ),
+                    ),
+                  ),
+                ),
+              ),
+            ),
+          ),
+        ),
+      ),
+    ),
+  ),
+)
+
+pub is_spelled : (words : List Text) (name : Text) (said : Said) → spoken forms words ≡ Some (name, said) ↔ IsSpelled forms words name said
+is_spelled words name said = (to words, from)
+  where
+    to : (ws : List Text) → spoken forms ws ≡ Some (name, said) → IsSpelled forms ws name said
+    to [] e = absurd (none-some _ e)
+    to (word ∷ rest) e = named (find (λ f. bytes_eq f.name word) forms) refl
+      where
+        named : (o : Option Form) → find (λ f. bytes_eq f.name word) forms ≡ o → IsSpelled forms (word ∷ rest) name said
+        named None i = absurd (none-some _ (rw i at e))
+        named (Some f) i = spoken_so (says f f.places None [] rest) refl
+          where
+            spoken_so : (o : Option Said) → says f f.places None [] rest ≡ o → IsSpelled forms (word ∷ rest) name said
+            spoken_so None j = absurd (none-some _ (rw (i, j) at e))
+            spoken_so (Some s) j =
+                let same : Some (f.name, s) ≡ Some (name, said) = rw (i, j) at e in
+                let pair_is : (f.name, s) ≡ (name, said) = ap (λ x. unwrap_or x (f.name, s)) same in
+                record {
+                  form = f;
+                  first = word;
+                  rest = rest;
+                  words_are = refl;
+                  named = i;
+                  name_is = sym (ap (λ p. p.0) pair_is);
+                  spells = subst (Spells f rest) (ap (λ p. p.1) pair_is) (spelled_back f (sound_found forms word f all_sound i).0 rest s (sound_found forms word f all_sound i).1 j);
+                }
+
+    from : IsSpelled forms words name said → spoken forms words ≡ Some (name, said)
+    from s =
+        let back = read_back s.form (sound_found forms s.first s.form all_sound s.named).0 s.rest said s.spells in
+        ap (spoken forms) s.words_are ∙ rw (s.named, back) (ap (λ n. Some (n, said)) (sym s.name_is))
