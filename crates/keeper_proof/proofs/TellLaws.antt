@@ -1,5 +1,5 @@
 -- What a keeper on a steady store tells after a call.
-use Rattle.std.proofs.Common.{◌≡◌, Bool, true, false, IsTrue, Option, Some, None, Result, Ok, Err, OnOk, OnErr, inr, sym, subst}
+use Rattle.std.proofs.Common.{◌≡◌, Bool, true, false, IsTrue, Option, Some, None, Result, Ok, Err, IsOk, OnOk, OnErr, inr, sym, subst}
 use Rattle.sqlite.specs.Effect.{Database}
 use Rattle.sqlite.specs.State.{State, HasCleanDisk, KeepsCommit}
 use Rattle.keeper.specs.declared.kept.KeepFault.{KeepFault}
@@ -54,6 +54,11 @@ any_fits steady db = go (told_in steady db)
 pub either_stands : {T E : Type 0} (r : Result T E) (db : Database) (o : Office) → OnOk r (HasOffice db o) × OnErr r (StandsForOffice db o) → StandsForOffice db o
 either_stands (Ok x) db o h = inr (inr h.0)
 either_stands (Err e) db o h = h.1
+
+-- a call that is done has what it has then
+pub made_has : {T E : Type 0} (r : Result T E) (P Q : Type 0) → IsOk r → OnOk r P × OnErr r Q → P
+made_has (Ok x) P Q done h = h.0
+made_has (Err e) P Q done h = absurd (cc)
 
 -- where nothing is told, anything that is asked of it holds
 pub untold_fits : (steady : Bool) → steady ≡ false → (db : Database) (fits : Office → Type 0) → IfTold (told_in steady db) fits

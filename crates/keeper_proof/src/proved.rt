@@ -1,14 +1,19 @@
 // A keeper on a connection.
-ghost use Rattle.std.specs.Prelude.{◌≡◌, true, Some, IsTrue};
+ghost use Rattle.std.specs.Prelude.{◌≡◌, ◌↔◌, true, Some, None, Err, IsOk, IsTrue};
 ghost use Rattle.sqlite.specs.Held.{state};
 ghost use Rattle.sqlite.specs.State.{HasCleanDisk, Survives};
+ghost use Rattle.sqlite.specs.declared.error.Error.TheVariants.{SqliteFailure};
+ghost use Rattle.sqlite.specs.declared.error.ErrorCode.TheVariants.{OutOfMemory};
 ghost use Rattle.keeper.specs.Office.{Office};
-ghost use Rattle.kept_tables.specs.Stands.{StandsForOffice};
+ghost use Rattle.keeper.specs.declared.kept.KeepFault.TheVariants.{NoMemory};
+ghost use Rattle.kept_tables.specs.Stands.{HasOffice, StandsForOffice};
 ghost use Rattle.kept_tables.specs.Told.{told_in};
 ghost use Rattle.table_making.specs.Growth.{CommitsSame};
 
 use crate::steady::Steady;
-use sqlite::Connection;
+use keeper::KeepFault;
+use keeper_writes::refusals::refusal;
+use sqlite::{Connection, Error};
 use std::alloc::Global;
 use table_making::make;
 
@@ -18,11 +23,24 @@ pub struct ProvedKeeper<S: Steady> {
     pub(crate) alloc: Global,
     pub(crate) conn: Connection<S>,
     pub(crate) faults: u64,
+    pub(crate) unmade: Option<KeepFault>,
+}
+
+/// Why tables could not be made, none where they were.
+fn why_unmade(made: Result<(), Error>) -> Option<KeepFault>
+    ensures none { result ≡ None → IsOk made }
+    ensures memory { (result ≡ Some NoMemory) ↔ (made ≡ Err (SqliteFailure OutOfMemory)) }
+{
+    match made {
+        Ok(()) => None,
+        Err(error) => Some(refusal(error)),
+    }
 }
 
 impl<S: Steady> ProvedKeeper<S> {
     /// The keeper on a connection. What is under way in it is undone, and the tables are made where none are there or
-    /// those of version 1. Where that is refused, all calls are, until the connection is adopted anew.
+    /// those of version 1. Where that is refused, `unmade` says why, and all calls are refused until the connection is
+    /// adopted anew.
     pub fn adopt(alloc: Global, connection: Connection<S>) -> ProvedKeeper<S>
         ensures tells { S.Steady.is_steady ≡ true → (o : Office)
             → StandsForOffice (state S.Store connection).committed o
@@ -30,17 +48,28 @@ impl<S: Steady> ProvedKeeper<S> {
         ensures stands { HasCleanDisk (state S.Store result.conn) → IsTrue (state S.Store result.conn).is_open
             → (o : Office) → StandsForOffice (state S.Store connection).committed o
             → StandsForOffice (state S.Store result.conn).committed o }
+        ensures made { HasCleanDisk (state S.Store result.conn) → IsTrue (state S.Store result.conn).is_open
+            → result.unmade ≡ None → (o : Office) → StandsForOffice (state S.Store connection).committed o
+            → HasOffice (state S.Store result.conn).committed o }
         ensures crash { Survives (state S.Store connection) (state S.Store result.conn) (CommitsSame
             (state S.Store connection).committed) }
         ensures faultless { result.faults ≡ 0 }
     {
         let mut conn = connection;
-        let _ = make(&mut conn, alloc);
+        let made = make(&mut conn, alloc);
         ProvedKeeper {
             alloc,
             conn,
             faults: 0,
+            unmade: why_unmade(made),
         }
+    }
+
+    /// Why the tables could not be made as the connection was adopted, none where they were.
+    pub fn unmade(&self) -> Option<KeepFault>
+        ensures { result ≡ self.now.unmade }
+    {
+        self.unmade
     }
 
     /// The connection.
@@ -51,6 +80,7 @@ impl<S: Steady> ProvedKeeper<S> {
             alloc: _,
             conn,
             faults: _,
+            unmade: _,
         } = self;
         conn
     }

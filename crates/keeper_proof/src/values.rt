@@ -22,7 +22,8 @@ pub fn number_63(row: &Row, at: usize) -> Result<u64, KeepFault>
 
 /// A column's number of 32 bits.
 pub fn number_32(row: &Row, at: usize) -> Result<u32, KeepFault>
-    ensures gives { (n : ℕ) → at < length row.now → n < 2 ^ 32 → column row.now at ≡ Int (pos n) → Gives (λ x. x) result n }
+    ensures gives { (n : ℕ) → at < length row.now → n < 2 ^ 32 → column row.now at ≡ Int (pos n)
+        → Gives (λ x. x) result n }
     ensures exact { IfOk result (λ n. column row.now at ≡ Int (pos n)) }
 {
     match row.get::<u32>(at) {
@@ -33,7 +34,8 @@ pub fn number_32(row: &Row, at: usize) -> Result<u32, KeepFault>
 
 /// A column's number of 8 bits.
 pub fn number_8(row: &Row, at: usize) -> Result<u8, KeepFault>
-    ensures gives { (n : ℕ) → at < length row.now → n < 2 ^ 8 → column row.now at ≡ Int (pos n) → Gives (λ x. x) result n }
+    ensures gives { (n : ℕ) → at < length row.now → n < 2 ^ 8 → column row.now at ≡ Int (pos n)
+        → Gives (λ x. x) result n }
     ensures exact { IfOk result (λ n. column row.now at ≡ Int (pos n)) }
 {
     let number = number_32(row, at)?;

@@ -11,13 +11,13 @@ mod sequence;
 mod spoiled;
 mod worked;
 
+use keeper_at_path::{AtPath, KeptStore};
 use spoiled::{Spoiled, answered, is_made};
-use sqlite_keeper::{KeptStore, Opens};
 use std::io;
 use std::rt::HostRuntime;
 
 /// The last day of a file when it is new, after a history and after a day, each with what both keepers say then.
-fn last_days<S: Opens>(rt: HostRuntime) -> io::Result<()> {
+fn last_days<S: AtPath>(rt: HostRuntime) -> io::Result<()> {
     let new = sequence::at_first::<S>(rt);
     println!(rt; "new, and the same: {new:?}")?;
     let history = sequence::after_history::<S>(rt);
@@ -27,7 +27,7 @@ fn last_days<S: Opens>(rt: HostRuntime) -> io::Result<()> {
 }
 
 /// The same steps over both keepers, and steps that change no day.
-fn further_steps<S: Opens>(rt: HostRuntime) -> io::Result<()> {
+fn further_steps<S: AtPath>(rt: HostRuntime) -> io::Result<()> {
     let tariff = sequence::with_tariff::<S>(rt, 5);
     println!(rt; "with a tariff, and the same: {tariff:?}")?;
     let refusal = sequence::after_refusal::<S>(rt);
@@ -37,7 +37,7 @@ fn further_steps<S: Opens>(rt: HostRuntime) -> io::Result<()> {
 }
 
 /// The files that are spoiled, each in its way.
-fn spoiled_files<S: Opens>(rt: HostRuntime) -> io::Result<()> {
+fn spoiled_files<S: AtPath>(rt: HostRuntime) -> io::Result<()> {
     for spoiled in [
         Spoiled::ShortDigest,
         Spoiled::NegativeNumber,
@@ -59,7 +59,7 @@ fn spoiled_files<S: Opens>(rt: HostRuntime) -> io::Result<()> {
 }
 
 /// The files that are none.
-fn odd_files<S: Opens>(rt: HostRuntime) -> io::Result<()> {
+fn odd_files<S: AtPath>(rt: HostRuntime) -> io::Result<()> {
     std::fs::write(&rt, "text.db", "kept days")?;
     let text = refused::is_fault::<S>(rt, "text.db");
     let left = std::fs::read_to_string(&rt, "text.db")?;
@@ -69,7 +69,7 @@ fn odd_files<S: Opens>(rt: HostRuntime) -> io::Result<()> {
 }
 
 /// The calls that are refused, and what they leave.
-fn refusals<S: Opens>(rt: HostRuntime) -> io::Result<()> {
+fn refusals<S: AtPath>(rt: HostRuntime) -> io::Result<()> {
     let whole = refused::at_the_last_amount::<S>(rt, "refused.db");
     println!(rt; "refused at the last amount: {whole:?}")?;
     let open = refused::while_open::<S>(rt, "open.db");
@@ -79,15 +79,15 @@ fn refusals<S: Opens>(rt: HostRuntime) -> io::Result<()> {
 }
 
 /// A file that was closed, copied without the log that stood beside it.
-fn closed_file(rt: HostRuntime) -> io::Result<()> {
-    let closed = refused::closed(rt, "closed.db");
+fn closed_file<S: AtPath>(rt: HostRuntime) -> io::Result<()> {
+    let closed = refused::closed::<S>(rt, "closed.db");
     std::fs::copy(&rt, "closed.db", "copied.db")?;
-    let day = refused::has_day::<KeptStore>(rt, "copied.db");
+    let day = refused::has_day::<S>(rt, "copied.db");
     println!(rt; "closed: {closed:?}, and a copy has the day: {day:?}")
 }
 
 /// All rows, over the keeper in a store.
-fn rows<S: Opens>(rt: HostRuntime) -> io::Result<()> {
+fn rows<S: AtPath>(rt: HostRuntime) -> io::Result<()> {
     last_days::<S>(rt)?;
     further_steps::<S>(rt)?;
     let theirs = sequence::of_another::<S>(rt, "theirs.db");
@@ -103,5 +103,5 @@ fn rows<S: Opens>(rt: HostRuntime) -> io::Result<()> {
 
 fn main(rt: HostRuntime) -> io::Result<()> {
     rows::<KeptStore>(rt)?;
-    closed_file(rt)
+    closed_file::<KeptStore>(rt)
 }

@@ -1,8 +1,8 @@
 // A file of version 1.
 use crate::worked::{by_hand, history, put_day, row};
 use keeper::{DayRecord, Digester, KeepFault, Keeper};
+use keeper_at_path::{AtPath, KeeperIn};
 use road_time::Tariff;
-use sqlite_keeper::{Counted, Opens};
 use std::rt::HostRuntime;
 
 const FILE: &str = "old.db";
@@ -22,7 +22,7 @@ INSERT INTO spent VALUES (99, 7, 0, 5), (31, 7, 0, 28);
 INSERT INTO past VALUES (1, 100, x'e3b0c44298fc1c149afbf4c8996fb92427ae41e4649b934ca495991b7852b855', 18, 2)";
 
 /// Whether the file, which is opened anew, has day 100 under the seal of no tariffs.
-fn has_day<S: Opens>(rt: HostRuntime) -> Result<bool, KeepFault> {
+fn has_day<S: AtPath>(rt: HostRuntime) -> Result<bool, KeepFault> {
     let digest = Digester::new().finish();
     let wanted = DayRecord {
         day: 100,
@@ -34,14 +34,14 @@ fn has_day<S: Opens>(rt: HostRuntime) -> Result<bool, KeepFault> {
         tariffs: digest,
         total: 0,
     };
-    let mut file = Counted::<S>::at(rt.alloc(), rt, FILE)?;
+    let mut file = KeeperIn::<S>::at(rt.alloc(), rt, FILE)?;
     Ok(file.day(100)? == Some(wanted))
 }
 
 /// Whether the file, which is opened anew, has the history, and no tariff.
-fn has_history<S: Opens>(rt: HostRuntime) -> Result<bool, KeepFault> {
+fn has_history<S: AtPath>(rt: HostRuntime) -> Result<bool, KeepFault> {
     let digest = Digester::new().finish();
-    let mut file = Counted::<S>::at(rt.alloc(), rt, FILE)?;
+    let mut file = KeeperIn::<S>::at(rt.alloc(), rt, FILE)?;
     let past = file.past()? == Some(history(digest));
     let rows = file.rows(0, 100)?.as_slice() == [row(31, 28), row(99, 5)].as_slice();
     let tariff = file.tariffs()?.of(0) == Tariff::BENCHMARK;
@@ -49,7 +49,7 @@ fn has_history<S: Opens>(rt: HostRuntime) -> Result<bool, KeepFault> {
 }
 
 /// Whether a file in which another hand made one of the tables is a fault.
-pub fn with_one_table<S: Opens>(rt: HostRuntime) -> Result<bool, KeepFault> {
+pub fn with_one_table<S: AtPath>(rt: HostRuntime) -> Result<bool, KeepFault> {
     let path = "sealed.db";
     by_hand::<S>(
         rt,
@@ -61,7 +61,7 @@ INSERT INTO day_tariffs VALUES (100, x'00')",
 }
 
 /// Whether a file of version 1 can be made, and has its day and its history each of the times that it is opened.
-pub fn taken_over<S: Opens>(rt: HostRuntime) -> Result<[bool; 5], KeepFault> {
+pub fn taken_over<S: AtPath>(rt: HostRuntime) -> Result<[bool; 5], KeepFault> {
     let made = by_hand::<S>(rt, FILE, OLD).is_ok();
     let day = has_day::<S>(rt)?;
     let history = has_history::<S>(rt)?;

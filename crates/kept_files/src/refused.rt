@@ -1,19 +1,20 @@
 // Calls that are refused, and what they leave.
 use crate::worked::{by_hand, put_day};
 use keeper::{KeepFault, Keeper};
-use sqlite_keeper::{Counted, KeptStore, Opens};
+use keeper_at_path::{AtPath, KeeperIn};
+use sqlite_keeper::SqliteKeeper;
 use std::rt::HostRuntime;
 
 /// Whether nothing of day 100 is kept in the file at a path, which is opened anew.
-fn is_without_day<S: Opens>(rt: HostRuntime, path: &str) -> Result<bool, KeepFault> {
-    let mut file = Counted::<S>::at(rt.alloc(), rt, path)?;
+fn is_without_day<S: AtPath>(rt: HostRuntime, path: &str) -> Result<bool, KeepFault> {
+    let mut file = KeeperIn::<S>::at(rt.alloc(), rt, path)?;
     let none = file.day(100)? == None && file.spent(100, 7, 0)? == 0;
     Ok(none && file.last_day()? == 0)
 }
 
 /// Whether a day is refused at its last amount, which another hand has put, whether nothing of it is kept then, and
 /// whether it can be put once that amount is gone.
-pub fn at_the_last_amount<S: Opens>(rt: HostRuntime, path: &str) -> Result<[bool; 4], KeepFault> {
+pub fn at_the_last_amount<S: AtPath>(rt: HostRuntime, path: &str) -> Result<[bool; 4], KeepFault> {
     let new = is_without_day::<S>(rt, path)?;
     let taken = by_hand::<S>(rt, path, "INSERT INTO spent VALUES (100, 8, 1, 9)").is_ok();
     let refused = put_day::<S>(rt, path) == Err(KeepFault::Failed);
@@ -24,51 +25,43 @@ pub fn at_the_last_amount<S: Opens>(rt: HostRuntime, path: &str) -> Result<[bool
 }
 
 /// Whether the last day of the file at a path is a fault.
-pub fn is_fault<S: Opens>(rt: HostRuntime, path: &str) -> Result<bool, KeepFault> {
-    let mut file = Counted::<S>::at(rt.alloc(), rt, path)?;
+pub fn is_fault<S: AtPath>(rt: HostRuntime, path: &str) -> Result<bool, KeepFault> {
+    let mut file = KeeperIn::<S>::at(rt.alloc(), rt, path)?;
     Ok(file.last_day() == Err(KeepFault::Failed))
 }
 
 /// Whether a kept day without its seal is a fault, whether another hand may then mend the file, which the keeper has
 /// let go, and whether the same keeper finds the day in it afterwards.
-pub fn after_a_fault<S: Opens>(rt: HostRuntime, path: &str) -> Result<[bool; 3], KeepFault> {
+pub fn after_a_fault<S: AtPath>(rt: HostRuntime, path: &str) -> Result<[bool; 3], KeepFault> {
     put_day::<S>(rt, path)?;
     by_hand::<S>(rt, path, "UPDATE day_tariffs SET day = 101")?;
-    let mut file = Counted::<S>::at(rt.alloc(), rt, path)?;
+    let mut file = KeeperIn::<S>::at(rt.alloc(), rt, path)?;
     let refused = file.day(100) == Err(KeepFault::Failed);
     let mended = by_hand::<S>(rt, path, "UPDATE day_tariffs SET day = 100").is_ok();
     Ok([refused, mended, file.day(100)?.is_some()])
 }
 
-/// A keeper in the file at a path, which is open and has the day.
-fn with_day<S: Opens>(rt: HostRuntime, path: &str) -> Result<Counted<S>, KeepFault> {
-    put_day::<S>(rt, path)?;
-    let mut file = Counted::<S>::at(rt.alloc(), rt, path)?;
-    file.last_day()?;
-    Ok(file)
-}
-
 /// Closes a file with the day.
-pub fn closed(rt: HostRuntime, path: &str) -> Result<(), KeepFault> {
-    match with_day::<KeptStore>(rt, path) {
-        Ok(file) => file.close(),
-        Err(fault) => Err(fault),
-    }
+pub fn closed<S: AtPath>(rt: HostRuntime, path: &str) -> Result<(), KeepFault> {
+    put_day::<S>(rt, path)?;
+    let mut file = SqliteKeeper::at(rt.alloc(), rt, path)?;
+    file.last_day()?;
+    file.close()
 }
 
 /// Whether the file at a path has the day and the second of its amounts.
-pub fn has_day<S: Opens>(rt: HostRuntime, path: &str) -> Result<bool, KeepFault> {
-    let mut file = Counted::<S>::at(rt.alloc(), rt, path)?;
+pub fn has_day<S: AtPath>(rt: HostRuntime, path: &str) -> Result<bool, KeepFault> {
+    let mut file = KeeperIn::<S>::at(rt.alloc(), rt, path)?;
     Ok(file.day(100)?.is_some() && file.spent(100, 8, 1)? == 2)
 }
 
 /// Whether a keeper fails while another has its file open, whether the other has lost nothing, and whether the first
 /// finds the day once the other is gone.
-pub fn while_open<S: Opens>(rt: HostRuntime, path: &str) -> Result<[bool; 3], KeepFault> {
+pub fn while_open<S: AtPath>(rt: HostRuntime, path: &str) -> Result<[bool; 3], KeepFault> {
     put_day::<S>(rt, path)?;
-    let mut other = Counted::<S>::at(rt.alloc(), rt, path)?;
+    let mut other = KeeperIn::<S>::at(rt.alloc(), rt, path)?;
     let before = other.last_day()? == 100;
-    let mut file = Counted::<S>::at(rt.alloc(), rt, path)?;
+    let mut file = KeeperIn::<S>::at(rt.alloc(), rt, path)?;
     let refused = file.last_day() == Err(KeepFault::Failed);
     let after = other.last_day()? == 100;
     drop(other);

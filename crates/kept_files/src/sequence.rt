@@ -3,8 +3,8 @@ ghost use Rattle.std.specs.Prelude.{◌≤◌};
 
 use crate::worked::{day, history, other_row, put_day, row};
 use keeper::{Digester, KeepFault, Keeper, MemKeeper};
+use keeper_at_path::{AtPath, KeeperIn};
 use road_time::Tariff;
-use sqlite_keeper::{Counted, Opens};
 use std::rt::HostRuntime;
 
 const FILE: &str = "kept.db";
@@ -42,12 +42,12 @@ fn same_tariffs<K: Keeper, L: Keeper>(one: &mut K, other: &mut L) -> Result<bool
 }
 
 /// The last day of the file at a path, which is opened anew, and whether it says the same as the keeper in memory.
-fn agree<S: Opens>(
+fn agree<S: AtPath>(
     rt: HostRuntime,
     path: &str,
     memory: &mut MemKeeper,
 ) -> Result<(u32, bool), KeepFault> {
-    let mut file = Counted::<S>::at(rt.alloc(), rt, path)?;
+    let mut file = KeeperIn::<S>::at(rt.alloc(), rt, path)?;
     let days = same_days(&mut file, memory)?;
     let amounts = same_amounts(&mut file, memory)?;
     let rows = same_rows(&mut file, memory)?;
@@ -56,9 +56,9 @@ fn agree<S: Opens>(
 }
 
 /// Puts the history into the file.
-fn file_history<S: Opens>(rt: HostRuntime) -> Result<(), KeepFault> {
+fn file_history<S: AtPath>(rt: HostRuntime) -> Result<(), KeepFault> {
     let digest = Digester::new().finish();
-    let mut file = Counted::<S>::at(rt.alloc(), rt, FILE)?;
+    let mut file = KeeperIn::<S>::at(rt.alloc(), rt, FILE)?;
     file.put_past(&history(digest), &[row(31, 28), row(99, 5)])
 }
 
@@ -80,7 +80,7 @@ fn memory_day(memory: &mut MemKeeper) -> Result<(), KeepFault> {
 }
 
 /// Puts a tariff into the file.
-fn file_tariff<S: Opens>(rt: HostRuntime, factor: u8) -> Result<(), KeepFault>
+fn file_tariff<S: AtPath>(rt: HostRuntime, factor: u8) -> Result<(), KeepFault>
     requires { factor ≤ 20 }
 {
     let tariff = Tariff {
@@ -88,7 +88,7 @@ fn file_tariff<S: Opens>(rt: HostRuntime, factor: u8) -> Result<(), KeepFault>
         speed: 40,
         factor,
     };
-    let mut file = Counted::<S>::at(rt.alloc(), rt, FILE)?;
+    let mut file = KeeperIn::<S>::at(rt.alloc(), rt, FILE)?;
     file.put_tariff(3, &tariff)
 }
 
@@ -114,27 +114,27 @@ fn memory_tariff(rt: HostRuntime, factor: u8) -> Result<MemKeeper, KeepFault>
 }
 
 /// What both say at first.
-pub fn at_first<S: Opens>(rt: HostRuntime) -> Result<(u32, bool), KeepFault> {
+pub fn at_first<S: AtPath>(rt: HostRuntime) -> Result<(u32, bool), KeepFault> {
     let mut memory = MemKeeper::new(rt.alloc(), &[])?;
     agree::<S>(rt, FILE, &mut memory)
 }
 
 /// What both say after the history.
-pub fn after_history<S: Opens>(rt: HostRuntime) -> Result<(u32, bool), KeepFault> {
+pub fn after_history<S: AtPath>(rt: HostRuntime) -> Result<(u32, bool), KeepFault> {
     file_history::<S>(rt)?;
     let mut memory = memory_history(rt)?;
     agree::<S>(rt, FILE, &mut memory)
 }
 
 /// What both say after the day besides.
-pub fn after_day<S: Opens>(rt: HostRuntime) -> Result<(u32, bool), KeepFault> {
+pub fn after_day<S: AtPath>(rt: HostRuntime) -> Result<(u32, bool), KeepFault> {
     put_day::<S>(rt, FILE)?;
     let mut memory = memory_both(rt)?;
     agree::<S>(rt, FILE, &mut memory)
 }
 
 /// What both say with a tariff besides.
-pub fn with_tariff<S: Opens>(rt: HostRuntime, factor: u8) -> Result<(u32, bool), KeepFault>
+pub fn with_tariff<S: AtPath>(rt: HostRuntime, factor: u8) -> Result<(u32, bool), KeepFault>
     requires { factor ≤ 20 }
 {
     file_tariff::<S>(rt, factor)?;
@@ -143,7 +143,7 @@ pub fn with_tariff<S: Opens>(rt: HostRuntime, factor: u8) -> Result<(u32, bool),
 }
 
 /// What both say after the day is refused where it is kept.
-pub fn after_refusal<S: Opens>(rt: HostRuntime) -> Result<(u32, bool), KeepFault> {
+pub fn after_refusal<S: AtPath>(rt: HostRuntime) -> Result<(u32, bool), KeepFault> {
     let refused = put_day::<S>(rt, FILE) == Err(KeepFault::Failed);
     let mut memory = memory_tariff(rt, 5)?;
     let (last, same) = agree::<S>(rt, FILE, &mut memory)?;
@@ -151,7 +151,7 @@ pub fn after_refusal<S: Opens>(rt: HostRuntime) -> Result<(u32, bool), KeepFault
 }
 
 /// What both say of the file at a path, in which another hand put the history, the day and the tariff.
-pub fn of_another<S: Opens>(rt: HostRuntime, path: &str) -> Result<(u32, bool), KeepFault> {
+pub fn of_another<S: AtPath>(rt: HostRuntime, path: &str) -> Result<(u32, bool), KeepFault> {
     let mut memory = memory_tariff(rt, 5)?;
     agree::<S>(rt, path, &mut memory)
 }

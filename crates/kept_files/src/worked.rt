@@ -2,8 +2,8 @@
 ghost use Rattle.std.specs.Prelude.{◌≡◌};
 
 use keeper::{DayRecord, Digest, Digester, KeepFault, Keeper, PastRecord};
+use keeper_at_path::{AtPath, KeeperIn};
 use road_time::SpentRow;
-use sqlite_keeper::{Counted, Opens};
 use std::rt::HostRuntime;
 
 /// The history of vehicle 7 before day 100.
@@ -44,7 +44,17 @@ pub fn other_row() -> SpentRow
 
 /// Day 100 of two tuples, which charges as much as `total`.
 pub fn day(digest: Digest, total: u64) -> DayRecord
-    ensures { result ≡ record { day = 100; digest = digest; bytes = 40; tuples = 2; notices = 1; notices_digest = digest; tariffs = digest; total = total } }
+    ensures { result
+        ≡ record {
+          day = 100;
+          digest = digest;
+          bytes = 40;
+          tuples = 2;
+          notices = 1;
+          notices_digest = digest;
+          tariffs = digest;
+          total = total;
+        } }
 {
     DayRecord {
         day: 100,
@@ -59,14 +69,14 @@ pub fn day(digest: Digest, total: u64) -> DayRecord
 }
 
 /// Puts the day into the file at a path, which is opened anew.
-pub fn put_day<S: Opens>(rt: HostRuntime, path: &str) -> Result<(), KeepFault> {
+pub fn put_day<S: AtPath>(rt: HostRuntime, path: &str) -> Result<(), KeepFault> {
     let digest = Digester::new().finish();
-    let mut file = Counted::<S>::at(rt.alloc(), rt, path)?;
+    let mut file = KeeperIn::<S>::at(rt.alloc(), rt, path)?;
     file.put_day(&day(digest, 5), &[row(100, 3), other_row()])
 }
 
 /// Runs statements on the file at a path, as another hand may.
-pub fn by_hand<S: Opens>(rt: HostRuntime, path: &str, text: &str) -> Result<(), KeepFault> {
+pub fn by_hand<S: AtPath>(rt: HostRuntime, path: &str, text: &str) -> Result<(), KeepFault> {
     let mut conn = S::open(&rt, path)?;
     match conn.execute_batch(text) {
         Ok(()) => Ok(()),

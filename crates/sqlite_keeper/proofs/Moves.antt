@@ -14,7 +14,7 @@ use Rattle.sqlite.below.sqlite_disk.proofs.modelled.Modelled.TheSendSync as Mode
 use Rattle.sqlite.specs.contracts.FileStore as FileStore
 use Rattle.sqlite.below.sqlite_store.specs.contracts.store.FileStoreStore.TheImpl as FileStoreStore
 use Rattle.sqlite.proofs.FileStore.TheSendSync as FileStoreMoves
-use Rattle.sqlite_keeper.proofs.counted.Counted.TheSendSync as CountedMoves
+use Rattle.keeper_at_path.proofs.keeper_in.KeeperIn.TheSendSync as KeeperInMoves
 use Rattle.sqlite_keeper.specs.contracts.kept_file.SqliteKeeper.{the_row, the_type}
 
 -- a file of the machine may move
@@ -31,7 +31,7 @@ keeper_moves =
     let disk = ModelledDisk.ghosts Host.the_row Wary.the_row HostCalls.ghosts ModelledDisk.no_dict
     WaryStart.ghosts ModelledDisk.no_dict ModelledDisk.no_dict in
     declared_send the_type (
-      CountedMoves.the_send (FileStore.the_row file disk) (FileStoreStore.ghosts file disk FileStoreStore.no_dict)
+      KeeperInMoves.the_send (FileStore.the_row file disk) (FileStoreStore.ghosts file disk FileStoreStore.no_dict)
           (FileStoreMoves.the_send file disk
           (ModelledMoves.the_send Host.the_row Wary.the_row HostCalls.ghosts WaryStart.ghosts host_moves)),
       tt,

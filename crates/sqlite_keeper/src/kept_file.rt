@@ -1,9 +1,11 @@
 // A keeper in a SQLite file.
 ghost use Rattle.std.specs.Prelude.{◌≡◌, IfOk, None};
 
-use crate::counted::{Counted, KeptStore};
 use keeper::{DayRecord, KeepFault, Keeper, PastRecord};
+use keeper_at_path::{KeeperIn, KeptStore};
+use keeper_writes::refusals::refusal;
 use road_time::{NoMemory, SpentRow, Tariff, Tariffs};
+use sqlite::Connection;
 use std::alloc::Global;
 use std::rt::HostRuntime;
 
@@ -15,23 +17,34 @@ pub const KEPT_FILE: &str = "tolls.db";
 /// database behind it.
 #[derive(Drop)]
 pub struct SqliteKeeper {
-    counted: Counted<KeptStore>,
+    in_file: KeeperIn<KeptStore>,
 }
 
 impl SqliteKeeper {
     /// The keeper in the file at a path.
     pub fn at(alloc: Global, rt: HostRuntime, path: &str) -> Result<SqliteKeeper, NoMemory>
-        ensures { IfOk result (λ keeper. keeper.counted.faults ≡ 0) }
+        ensures { IfOk result (λ keeper. keeper.in_file.faults ≡ 0) }
     {
-        let counted = Counted::at(alloc, rt, path)?;
-        Ok(SqliteKeeper { counted })
+        let in_file = KeeperIn::at(alloc, rt, path)?;
+        Ok(SqliteKeeper { in_file })
     }
 
     /// Closes the file, if it is open: what its log has is copied into it. Where that is Ok, the file alone has all
     /// that is kept, and its log has nothing.
     pub fn close(self) -> Result<(), KeepFault> {
-        let SqliteKeeper { counted } = self;
-        counted.close()
+        let SqliteKeeper { in_file } = self;
+        match in_file.give_up() {
+            Some(conn) => shut(conn),
+            None => Ok(()),
+        }
+    }
+}
+
+/// Closes the file of a connection.
+fn shut(conn: Connection<KeptStore>) -> Result<(), KeepFault> {
+    match conn.close() {
+        Ok(()) => Ok(()),
+        Err(error) => Err(refusal(error)),
     }
 }
 
@@ -41,7 +54,7 @@ impl Keeper for SqliteKeeper {
 
     ghost told = { λ k. None };
 
-    ghost faults = { λ k. k.counted.faults };
+    ghost faults = { λ k. k.in_file.faults };
 
     ghost plan = { λ k. None };
 
@@ -50,42 +63,42 @@ impl Keeper for SqliteKeeper {
     ghost needs_memory = { true };
 
     fn last_day(&mut self) -> Result<u32, KeepFault> {
-        self.counted.last_day()
+        self.in_file.last_day()
     }
 
     fn day(&mut self, day: u32) -> Result<Option<DayRecord>, KeepFault> {
-        self.counted.day(day)
+        self.in_file.day(day)
     }
 
     fn past(&mut self) -> Result<Option<PastRecord>, KeepFault> {
-        self.counted.past()
+        self.in_file.past()
     }
 
     fn spent(&mut self, day: u32, vid: u32, xway: u8) -> Result<u64, KeepFault> {
-        self.counted.spent(day, vid, xway)
+        self.in_file.spent(day, vid, xway)
     }
 
     fn rows(&mut self, from: u32, to: u32) -> Result<Vec<SpentRow>, KeepFault> {
-        self.counted.rows(from, to)
+        self.in_file.rows(from, to)
     }
 
     fn vehicle_rows(&mut self, vid: u32, from: u32, to: u32) -> Result<Vec<SpentRow>, KeepFault> {
-        self.counted.vehicle_rows(vid, from, to)
+        self.in_file.vehicle_rows(vid, from, to)
     }
 
     fn tariffs(&mut self) -> Result<Tariffs, KeepFault> {
-        self.counted.tariffs()
+        self.in_file.tariffs()
     }
 
     fn put_day(&mut self, kept: &DayRecord, rows: &[SpentRow]) -> Result<(), KeepFault> {
-        self.counted.put_day(kept, rows)
+        self.in_file.put_day(kept, rows)
     }
 
     fn put_past(&mut self, kept: &PastRecord, rows: &[SpentRow]) -> Result<(), KeepFault> {
-        self.counted.put_past(kept, rows)
+        self.in_file.put_past(kept, rows)
     }
 
     fn put_tariff(&mut self, xway: u8, tariff: &Tariff) -> Result<(), KeepFault> {
-        self.counted.put_tariff(xway, tariff)
+        self.in_file.put_tariff(xway, tariff)
     }
 }

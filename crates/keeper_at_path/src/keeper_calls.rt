@@ -1,11 +1,12 @@
 // The calls of a keeper in a database.
 ghost use Rattle.std.specs.Prelude.{None};
 
-use crate::counted::{Counted, Opens};
+use crate::at_path::AtPath;
+use crate::keeper_in::KeeperIn;
 use keeper::{DayRecord, KeepFault, Keeper, PastRecord};
 use road_time::{SpentRow, Tariff, Tariffs};
 
-impl<S: Opens> Keeper for Counted<S> {
+impl<S: AtPath> Keeper for KeeperIn<S> {
     ghost use Rattle.std.specs.Prelude.{true};
     ghost use Rattle.keeper.specs.Calls.{AllOrNothing};
 

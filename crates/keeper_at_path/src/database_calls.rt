@@ -4,11 +4,12 @@ ghost use Rattle.road_time.specs.Rates.{IsTariff};
 ghost use Rattle.keeper.specs.Office.{RowsRise};
 ghost use Rattle.keeper.specs.Kept.{IsDayPut, IsPastPut};
 
-use crate::counted::{Database, Opens};
+use crate::at_path::AtPath;
+use crate::database::Database;
 use keeper::{DayRecord, KeepFault, Keeper, PastRecord};
 use road_time::{SpentRow, Tariff, Tariffs};
 
-impl<S: Opens> Database<S> {
+impl<S: AtPath> Database<S> {
     pub fn last_day(&mut self) -> Result<u32, KeepFault> {
         self.ready()?.last_day()
     }

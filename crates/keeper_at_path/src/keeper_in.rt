@@ -1,0 +1,54 @@
+// A keeper in a database that is opened by a path: it counts the calls that failed.
+ghost use Rattle.std.specs.Prelude.{◌≡◌, None, Err, IfOk};
+ghost use Rattle.keeper.specs.Calls.{CountsFaults};
+ghost use Rattle.keeper.specs.declared.kept.KeepFault.TheVariants.{Failed};
+
+use crate::at_path::AtPath;
+use crate::database::Database;
+use keeper::KeepFault;
+use keeper_writes::refusals::count;
+use road_time::NoMemory;
+use sqlite::Connection;
+use std::alloc::Global;
+use std::rt::HostRuntime;
+
+/// A database that counts the calls that failed.
+#[derive(Drop)]
+pub struct KeeperIn<S: AtPath> {
+    pub(crate) database: Database<S>,
+    pub(crate) faults: u64,
+}
+
+impl<S: AtPath> KeeperIn<S> {
+    /// The keeper in the file at a path.
+    pub fn at(alloc: Global, rt: HostRuntime, path: &str) -> Result<KeeperIn<S>, NoMemory>
+        ensures { IfOk result (λ keeper. keeper.faults ≡ 0) }
+    {
+        let path = String::from_str(alloc, path)?;
+        Ok(KeeperIn {
+            database: Database::new(rt, path),
+            faults: 0,
+        })
+    }
+
+    /// The connection, if the database is open.
+    pub fn give_up(self) -> Option<Connection<S>> {
+        let KeeperIn {
+            database,
+            faults: _,
+        } = self;
+        database.give_up()
+    }
+
+    /// Hands an answer on. A failure is counted, and lets the connection go, so that the next call opens the file anew.
+    pub(crate) fn hand_on<T>(&mut self, answer: Result<T, KeepFault>) -> Result<T, KeepFault>
+        ensures same { result ≡ answer }
+        ensures cause { CountsFaults self.old.faults self.new.faults answer }
+        ensures anew { answer ≡ Err Failed → self.new.database.kept ≡ None }
+    {
+        if let Err(KeepFault::Failed) = &answer {
+            self.database.kept = None;
+        }
+        count(&mut self.faults, answer)
+    }
+}

@@ -1,0 +1,156 @@
+// A day that is put over disks that stop.
+use crate::days::{day, put_day, row};
+use crate::disks::{Fused, empty_disks, found, open, shut};
+use keeper::{Digester, KeepFault, Keeper};
+use keeper_proof::{ProvedKeeper, Steady};
+use sqlite::{Connection, Files};
+use sqlite_disk::{Fuse, Memory};
+use std::alloc::Global;
+
+/// Which of the two disks stops.
+#[derive(Clone, Copy, Debug, PartialEq, Eq)]
+pub enum Stopped {
+    Log,
+    File,
+}
+
+/// How much of the day is kept.
+#[derive(Clone, Copy, Debug, PartialEq, Eq)]
+enum Kept {
+    Nothing,
+    Day,
+    Part,
+}
+
+/// How far a run went.
+#[derive(Clone, Copy, Debug, PartialEq, Eq)]
+enum Went {
+    NotPut,
+    Put,
+    PutAndClosed,
+}
+
+/// A database with its tables.
+fn with_tables<S: Steady>(alloc: Global, conn: Connection<S>) -> Result<Connection<S>, KeepFault> {
+    let mut keeper = ProvedKeeper::adopt(alloc, conn);
+    keeper.last_day()?;
+    Ok(keeper.give_up())
+}
+
+/// Puts the day; whether that was done, and the database then.
+fn with_day<S: Steady>(alloc: Global, conn: Connection<S>) -> (bool, Connection<S>) {
+    let mut keeper = ProvedKeeper::adopt(alloc, conn);
+    let put = put_day(&mut keeper) == Ok(true);
+    (put, keeper.give_up())
+}
+
+/// How much of the day a database has.
+fn kept_in<S: Steady>(alloc: Global, conn: Connection<S>) -> Result<Kept, KeepFault> {
+    let mut keeper = ProvedKeeper::adopt(alloc, conn);
+    kept_by(&mut keeper)
+}
+
+/// Disks whose database has its tables, and is closed.
+fn new_disks(alloc: Global) -> Result<Files<Memory>, KeepFault> {
+    let Ok(conn) = open(alloc, empty_disks(alloc)) else {
+        return Err(KeepFault::Failed);
+    };
+    match shut(with_tables(alloc, conn)?) {
+        (true, disks) => Ok(disks),
+        _ => Err(KeepFault::Failed),
+    }
+}
+
+/// Puts the day over disks and closes them; how far that went, and the disks then.
+fn put_over(alloc: Global, disks: Files<Fused>) -> (Went, Files<Fused>) {
+    let conn = match open(alloc, disks) {
+        Ok(conn) => conn,
+        Err(left) => return (Went::NotPut, left),
+    };
+    let (put, conn) = with_day(alloc, conn);
+    let (closed, left) = shut(conn);
+    (how_far(put, closed), left)
+}
+
+/// How much of the day disks hold.
+fn kept_on(alloc: Global, disks: Files<Memory>) -> Result<Kept, KeepFault> {
+    let Ok(conn) = open(alloc, disks) else {
+        return Ok(Kept::Part);
+    };
+    kept_in(alloc, conn)
+}
+
+/// How far a run went.
+fn how_far(put: bool, closed: bool) -> Went {
+    match (put, closed) {
+        (true, true) => Went::PutAndClosed,
+        (true, false) => Went::Put,
+        (false, _) => Went::NotPut,
+    }
+}
+
+/// How much of the day a keeper has.
+fn kept_by<K: Keeper>(keeper: &mut K) -> Result<Kept, KeepFault> {
+    let digest = Digester::new().finish();
+    let record = keeper.day(100)?;
+    let rows = keeper.rows(0, 200)?;
+    let last = keeper.last_day()?;
+    if record == None && rows.is_empty() && last == 0 {
+        Ok(Kept::Nothing)
+    } else if record == Some(day(digest))
+        && rows.as_slice() == [row(100, 5)].as_slice()
+        && last == 100
+    {
+        Ok(Kept::Day)
+    } else {
+        Ok(Kept::Part)
+    }
+}
+
+/// Disks of which one stops after some calls.
+fn fused(disks: Files<Memory>, stopped: Stopped, calls: u64) -> Files<Fused> {
+    let (of_log, of_file) = match stopped {
+        Stopped::Log => (calls, u64::MAX),
+        Stopped::File => (u64::MAX, calls),
+    };
+    Files {
+        log: Fuse::new(disks.log, of_log),
+        db: Fuse::new(disks.db, of_file),
+    }
+}
+
+/// How far a run goes where a disk stops after some calls, and how much of the day is kept then.
+fn run(alloc: Global, stopped: Stopped, calls: u64) -> Result<(Went, Kept), KeepFault> {
+    let disks = new_disks(alloc)?;
+    let (went, left) = put_over(alloc, fused(disks, stopped, calls));
+    let kept = kept_on(alloc, found(alloc, &left)?)?;
+    Ok((went, kept))
+}
+
+/// Whether a run left what it may: the whole day where it was told as put, else that or nothing.
+fn is_whole(went: Went, kept: Kept) -> bool {
+    match kept {
+        Kept::Day => true,
+        Kept::Nothing => went == Went::NotPut,
+        Kept::Part => false,
+    }
+}
+
+/// How many runs stopped, after how many of them the day is kept, and whether each left what it may, also the one that
+/// did not stop.
+pub fn stops(alloc: Global, stopped: Stopped) -> Result<(u64, u64, bool), KeepFault> {
+    let mut days = 0u64;
+    for calls in 0..10_000u64 {
+        let (went, kept) = run(alloc, stopped, calls)?;
+        if !is_whole(went, kept) {
+            return Ok((calls, days, false));
+        }
+        if went == Went::PutAndClosed {
+            return Ok((calls, days, true));
+        }
+        if kept == Kept::Day {
+            days = days.saturating_add(1);
+        }
+    }
+    Err(KeepFault::Failed)
+}

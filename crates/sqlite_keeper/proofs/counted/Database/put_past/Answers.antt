@@ -1,5 +1,0 @@
-use Rattle.keeper_proof.proofs.TellLaws.{untold_fits}
-use Rattle.sqlite_keeper.proofs.counted.Database.put_past.Goals as goal
-
-pub put_past-requires : goal.put_past-requires
-put_past-requires g c = record { fits = c.requires; first = untold_fits g.S.Steady.is_steady g.met.S.Opens.shuts _ _ }
