@@ -1,4 +1,4 @@
-// A session over a desk under a lock.
+// A session over a desk that is shared.
 ghost use Rattle.std.specs.Prelude.{◌≡◌};
 ghost use Rattle.live_board.specs.Passes.{StartsWith};
 
@@ -9,19 +9,25 @@ use road_io::Link;
 use std::alloc::Global;
 use std::sync::{Mutex, Wait};
 use std::thread::Threads;
-use toll_desk::{Desk, Locked, session_shared};
+use toll_desk::{ImportDesk, TwoLocks, session_shared};
 
-/// Runs a session on a connection. It takes the lock of the desk for a request of what is kept, and for no other.
+/// Runs a session on a connection. A POST has the imports' lock until it is answered; for each call of the keeper a
+/// request of what is kept takes the keeper's lock; no other takes a lock.
 pub fn attend<L: Link, K: Keeper, C: Crew, R: Wait + Threads + Drop>(
     rt: R,
     alloc: Global,
-    desk: &Mutex<Desk<K, C, R>>,
+    keeper: &Mutex<K>,
+    imports: &Mutex<ImportDesk<C, R>>,
     line: &mut L,
     reader: &mut BoardReader,
 )
     ensures board { reader.new.board ≡ reader.old.board }
     ensures had { StartsWith reader.new.seen reader.old.seen }
 {
-    let mut clerk = Locked { rt, desk };
+    let mut clerk = TwoLocks {
+        rt,
+        keeper,
+        imports,
+    };
     session_shared(alloc, line, reader, &mut clerk);
 }

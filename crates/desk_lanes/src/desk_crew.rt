@@ -18,7 +18,7 @@ pub trait DeskCrew<K, R: Wait + Drop> {
 
     ghost out: { Self → List ℕ };
 
-    /// Makes a desk with this crew, and puts it under a lock.
+    /// Makes a desk with this crew, and puts its keeper under one lock and the rest under another.
     fn share(
         self,
         rt: R,

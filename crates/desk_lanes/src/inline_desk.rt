@@ -14,17 +14,18 @@ use road_time::Limits;
 use std::alloc::Global;
 use std::sync::{Mutex, Wait};
 use std::thread::Threads;
-use toll_desk::Desk;
+use toll_desk::ImportDesk;
 
-/// A desk that loops share, and that runs each job as it is started.
+/// A desk that loops share, and that runs each job as it is started. Its keeper has a lock of its own.
 pub struct InlineDesk<K: Keeper, R: Wait + Threads + Drop + Copy> {
     rt: R,
-    desk: Mutex<Desk<K, InlineCrew, R>>,
+    keeper: Mutex<K>,
+    imports: Mutex<ImportDesk<InlineCrew, R>>,
 }
 
 impl<K: Keeper, R: Wait + Threads + Drop + Copy> Host for InlineDesk<K, R> {
     fn attend<L: Link>(&self, alloc: Global, line: &mut L, reader: &mut BoardReader) {
-        attend(self.rt, alloc, &self.desk, line, reader);
+        attend(self.rt, alloc, &self.keeper, &self.imports, line, reader);
     }
 }
 
@@ -47,19 +48,27 @@ impl<K: Keeper + Send, R: Wait + Threads + Drop + Copy + Send + Sync> DeskCrew<K
         requires few { plan.width ≤ 64 }
         requires within { IsLimits limits }
     {
-        let desk = Mutex::new(Desk {
+        let imports = Mutex::new(ImportDesk {
             rt,
-            keeper,
             crew: self,
             writer,
             plan,
             limits,
         });
-        InlineDesk { rt, desk }
+        InlineDesk {
+            rt,
+            keeper: Mutex::new(keeper),
+            imports,
+        }
     }
 
     fn end(shared: InlineDesk<K, R>) -> K {
-        let InlineDesk { rt: _, desk } = shared;
-        desk.into_inner().end()
+        let InlineDesk {
+            rt: _,
+            keeper,
+            imports,
+        } = shared;
+        imports.into_inner().end();
+        keeper.into_inner()
     }
 }

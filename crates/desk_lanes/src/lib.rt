@@ -1,8 +1,9 @@
 //! The desk, served over lanes: `serve` with a desk as its host, on each connection a session.
 //!
-//! A crew with whom a desk may be shared (`DeskCrew`) makes a desk of itself, a keeper and the live board's writer, and
-//! puts it under a lock. The sessions of all lanes take that lock for what is asked of what is kept; live accounts are
-//! answered by each lane's own reader, and wait for nobody.
+//! A crew with whom a desk may be shared (`DeskCrew`) makes a desk of itself, a keeper and the live board's writer,
+//! and puts the keeper under one lock and the rest under another. The sessions of all lanes take the keeper's lock
+//! for one call at a time. A POST takes the other until it is answered: so POSTs wait for one another, and who asks
+//! for a kept day waits for none of them. Live accounts are answered by each lane's own reader, and wait for nobody.
 #![tactic(auto)]
 
 mod attending;

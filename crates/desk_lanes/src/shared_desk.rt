@@ -1,4 +1,5 @@
 // A desk that loops share.
+use crate::attending::attend;
 use keeper::Keeper;
 use lane_loops::Host;
 use live_board::BoardReader;
@@ -7,37 +8,39 @@ use road_io::Link;
 use std::alloc::Global;
 use std::sync::{Mutex, Wait};
 use std::thread::Threads;
-use toll_desk::{Desk, Locked, session_shared};
+use toll_desk::ImportDesk;
 
-/// A desk that loops in many threads share. It runs a session on each connection, which takes the desk's lock for a
-/// request of what is kept, and for no other.
+/// A desk that loops in many threads share. It runs a session on each connection. Its keeper has a lock of its own,
+/// which is taken for one call at a time; a POST takes that of the imports too, until it is answered.
 pub struct SharedDesk<K: Keeper, C: Crew, R: Wait + Threads + Drop + Copy> {
     rt: R,
-    desk: Mutex<Desk<K, C, R>>,
+    keeper: Mutex<K>,
+    imports: Mutex<ImportDesk<C, R>>,
 }
 
 impl<K: Keeper, C: Crew, R: Wait + Threads + Drop + Copy> SharedDesk<K, C, R> {
-    /// Puts a desk under a lock.
-    pub(crate) fn new(rt: R, desk: Desk<K, C, R>) -> Self {
+    /// Puts a keeper and the part of a desk that imports under a lock each.
+    pub(crate) fn new(rt: R, keeper: K, imports: ImportDesk<C, R>) -> Self {
         SharedDesk {
             rt,
-            desk: Mutex::new(desk),
+            keeper: Mutex::new(keeper),
+            imports: Mutex::new(imports),
         }
     }
 
-    /// Takes the desk out.
-    pub(crate) fn into_desk(self) -> Desk<K, C, R> {
-        let SharedDesk { rt: _, desk } = self;
-        desk.into_inner()
+    /// Takes both out.
+    pub(crate) fn into_parts(self) -> (K, ImportDesk<C, R>) {
+        let SharedDesk {
+            rt: _,
+            keeper,
+            imports,
+        } = self;
+        (keeper.into_inner(), imports.into_inner())
     }
 }
 
 impl<K: Keeper, C: Crew, R: Wait + Threads + Drop + Copy> Host for SharedDesk<K, C, R> {
     fn attend<L: Link>(&self, alloc: Global, line: &mut L, reader: &mut BoardReader) {
-        let mut clerk = Locked {
-            rt: self.rt,
-            desk: &self.desk,
-        };
-        session_shared(alloc, line, reader, &mut clerk);
+        attend(self.rt, alloc, &self.keeper, &self.imports, line, reader);
     }
 }

@@ -11,7 +11,7 @@ use partition_workers::{Crew, NoGate, ThreadCrew, ThreadTicket};
 use road_time::Limits;
 use std::sync::Wait;
 use std::thread::Threads;
-use toll_desk::Desk;
+use toll_desk::ImportDesk;
 
 impl<K: Keeper + Send, R: Wait + Threads + Drop + Copy + Send + Sync> DeskCrew<K, R>
     for ThreadCrew<R, NoGate>
@@ -35,18 +35,19 @@ where
         requires few { plan.width ≤ 64 }
         requires within { IsLimits limits }
     {
-        let desk = Desk {
+        let imports = ImportDesk {
             rt,
-            keeper,
             crew: self,
             writer,
             plan,
             limits,
         };
-        SharedDesk::new(rt, desk)
+        SharedDesk::new(rt, keeper, imports)
     }
 
     fn end(shared: SharedDesk<K, ThreadCrew<R, NoGate>, R>) -> K {
-        shared.into_desk().end()
+        let (keeper, imports) = shared.into_parts();
+        imports.end();
+        keeper
     }
 }

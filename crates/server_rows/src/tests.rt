@@ -1,5 +1,7 @@
-// The words of the programs, and the lanes of the server.
+// The words of the programs, and the doors and lanes of the server.
 mod command_words;
+mod doors;
 mod lanes;
 mod serving;
 mod serving_words;
+mod shared_keepers;

@@ -1,6 +1,7 @@
 -- What the desk answers of what is kept.
-use Rattle.std.specs.Prelude.{◌≡◌, ℕ, Bool, List, Some}
+use Rattle.std.specs.Prelude.{◌≡◌, ℕ, Bool, List, Option, Some}
 use Rattle.std.specs.Io.KnownBytes.{prepend_known}
+use Rattle.road_io.specs.Rooms.{Room}
 use Rattle.road_time.specs.declared.day.Limits.{Limits}
 use Rattle.keeper.specs.Calls.{WhenRefused}
 use Rattle.keeper.specs.Office.{Office, record_of}
@@ -28,6 +29,17 @@ AnswersKept w exact (Import day count early) limits o was now old new end =
     → ImportsDay w exact day limits count all o was now old new end
 AnswersKept w exact (Live vid) limits o was now old new end = Unit {0}
 AnswersKept w exact LiveTotal limits o was now old new end = Unit {0}
+
+-- a session's end of what is asked of a keeper alone, which keeps what it kept: the reply of a day or of an amount
+abbrev pub AnswersRead : Asked → Office → Option Office → ℕ → ℕ → Room → Option (List ℕ) → Option (List ℕ) → SessionEnd
+    → Type 0
+AnswersRead (Day day) o told before now room old new end =
+    (told ≡ Some o) × AnswersUnlessFailed (day_reply (record_of o day)) before now room old new end
+AnswersRead (Spent day xway vid) o told before now room old new end =
+    (told ≡ Some o) × AnswersUnlessFailed (spent_reply o day xway vid) before now room old new end
+AnswersRead (Import day count early) o told before now room old new end = Unit {0}
+AnswersRead (Live vid) o told before now room old new end = Unit {0}
+AnswersRead LiveTotal o told before now room old new end = Unit {0}
 
 -- it is asked of what is kept, and not of the live board
 abbrev pub IsOfKept : Asked → Type 0

@@ -12,6 +12,7 @@ ghost use Rattle.toll_desk.specs.Imports.{state_of};
 ghost use Rattle.toll_desk.specs.Desk.{AnswersKept, IsOfKept};
 
 use crate::answers::{answer_day, answer_spent};
+use crate::import_desk::ImportDesk;
 use crate::posting::answer_import;
 use import_plan::Plan;
 use keeper::Keeper;
@@ -108,9 +109,10 @@ impl<K: Keeper, C: Crew + Drop, R: Wait + Threads + Drop> Desk<K, C, R> {
     }
 }
 
-/// A desk may move between threads, where its keeper, crew and runtime may.
+/// A desk may move between threads, where its keeper, crew and runtime may, and so may the part of it that imports.
 pub fn desk_moves<K: Keeper + Send, C: Crew + Send, R: Wait + Threads + Drop + Send>() {
     moves::<Desk<K, C, R>>();
+    moves::<ImportDesk<C, R>>();
 }
 
 fn moves<T: Send>() {}

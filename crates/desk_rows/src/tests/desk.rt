@@ -1,6 +1,7 @@
 // What comes of each request, byte for byte, over a desk in memory and its board.
 ghost use Rattle.std.specs.Prelude.{◌≡◌, IfOk};
 
+mod beside;
 mod held;
 mod rows;
 mod sharing;
@@ -18,7 +19,9 @@ use std::thread::Threads;
 use toll_desk::{Desk, SessionEnd, session};
 
 const LEAVING: &[u8] =
-    b"0,60,100,30,0,1,0,10,52800,-1,-1,-1,-1,-1,-1\n0,90,100,30,0,1,0,11,58080,-1,-1,-1,-1,-1,-1\n0,120,100,30,0,4,0,11,60000,-1,-1,-1,-1,-1,-1\n0,150,100,30,1,0,0,5,26400,-1,-1,-1,-1,-1,-1\n2,160,100,-1,-1,-1,-1,-1,-1,9,-1,-1,-1,-1,-1\n";
+    b"0,60,100,30,0,1,0,10,52800,-1,-1,-1,-1,-1,-1\n0,90,100,30,0,1,0,11,58080,-1,-1,-1,-1,-1,-1\n\
+        0,120,100,30,0,4,0,11,60000,-1,-1,-1,-1,-1,-1\n0,150,100,30,1,0,0,5,26400,-1,-1,-1,-1,-1,-1\n\
+        2,160,100,-1,-1,-1,-1,-1,-1,9,-1,-1,-1,-1,-1\n";
 
 /// A POST of the day on which vehicle 100 is charged as it leaves a crowded stretch.
 fn charged_on_leaving(alloc: Global) -> Result<Vec<u8>, NoMemory> {
@@ -42,7 +45,8 @@ fn answer_of(alloc: Global, status: &str, body: &str) -> Result<String, NoMemory
     }
     let count = body.len();
     Ok(format!(in alloc;
-        "HTTP/1.1 {status}\r\nContent-Length: {count}\r\nContent-Type: application/json\r\nConnection: close\r\n\r\n{body}"
+        "HTTP/1.1 {status}\r\nContent-Length: {count}\r\nContent-Type: application/json\r\nConnection: close\r\n\r\n\
+            {body}"
     )?)
 }
 
@@ -181,8 +185,8 @@ fn a_posted_day_is_seen_at_once(rt: HostRuntime) -> Result<(), NoMemory> {
     Ok(())
 }
 
-/// How the first of two posts of the day of a charge ends, and which row of those after them is wrong, their count where
-/// the second post is answered and none is.
+/// How the first of two posts of the day of a charge ends, and which row of those after them is wrong, their count
+/// where the second post is answered and none is.
 fn post_twice<R: Wait + Threads + Drop>(
     alloc: Global,
     desk: &mut Desk<MemKeeper, InlineCrew, R>,

@@ -35,12 +35,18 @@ fn answers(rt: HostRuntime) -> Result<(), NoMemory> {
     let imported = imported_body(alloc, &EMPTY, "stored")?;
     assert!(rt;
         imported.as_str()
-            == "{\"bytes\":0,\"day\":100,\"digest\":\"e3b0c44298fc1c149afbf4c8996fb92427ae41e4649b934ca495991b7852b855\",\"notices\":0,\"notices_digest\":\"e3b0c44298fc1c149afbf4c8996fb92427ae41e4649b934ca495991b7852b855\",\"outcome\":\"stored\",\"tariffs\":\"e3b0c44298fc1c149afbf4c8996fb92427ae41e4649b934ca495991b7852b855\",\"total\":0,\"tuples\":0}"
+            == "{\"bytes\":0,\"day\":100,\
+                \"digest\":\"e3b0c44298fc1c149afbf4c8996fb92427ae41e4649b934ca495991b7852b855\",\"notices\":0,\
+                \"notices_digest\":\"e3b0c44298fc1c149afbf4c8996fb92427ae41e4649b934ca495991b7852b855\",\
+                \"outcome\":\"stored\",\
+                \"tariffs\":\"e3b0c44298fc1c149afbf4c8996fb92427ae41e4649b934ca495991b7852b855\",\"total\":0,\
+                \"tuples\":0}"
     );
     let reply = reply_text(alloc, StatusCode::OK, imported.as_str())?;
     assert!(rt;
         reply.as_str().starts_with(
-            "HTTP/1.1 200 OK\r\nContent-Length: 310\r\nContent-Type: application/json\r\nConnection: close\r\n\r\n{\"bytes\":0,"
+            "HTTP/1.1 200 OK\r\nContent-Length: 310\r\nContent-Type: application/json\r\nConnection: close\r\n\r\n\
+                {\"bytes\":0,"
         )
     );
     let busy = DayRecord {
@@ -52,13 +58,18 @@ fn answers(rt: HostRuntime) -> Result<(), NoMemory> {
     };
     assert!(rt;
         day_body(alloc, &busy)?.as_str()
-            == "{\"bytes\":1999,\"day\":100,\"digest\":\"e3b0c44298fc1c149afbf4c8996fb92427ae41e4649b934ca495991b7852b855\",\"notices\":57,\"notices_digest\":\"e3b0c44298fc1c149afbf4c8996fb92427ae41e4649b934ca495991b7852b855\",\"tariffs\":\"e3b0c44298fc1c149afbf4c8996fb92427ae41e4649b934ca495991b7852b855\",\"total\":18446744073709551615,\"tuples\":56}"
+            == "{\"bytes\":1999,\"day\":100,\
+                \"digest\":\"e3b0c44298fc1c149afbf4c8996fb92427ae41e4649b934ca495991b7852b855\",\"notices\":57,\
+                \"notices_digest\":\"e3b0c44298fc1c149afbf4c8996fb92427ae41e4649b934ca495991b7852b855\",\
+                \"tariffs\":\"e3b0c44298fc1c149afbf4c8996fb92427ae41e4649b934ca495991b7852b855\",\
+                \"total\":18446744073709551615,\"tuples\":56}"
     );
     let other = Digest { bytes: [0x0a; 32] };
     let differs = differs_body(alloc, &NOTHING, &other)?;
     assert!(rt;
         differs.as_str()
-            == "{\"error\":\"differs\",\"found\":\"0a0a0a0a0a0a0a0a0a0a0a0a0a0a0a0a0a0a0a0a0a0a0a0a0a0a0a0a0a0a0a0a\",\"kept\":\"e3b0c44298fc1c149afbf4c8996fb92427ae41e4649b934ca495991b7852b855\"}"
+            == "{\"error\":\"differs\",\"found\":\"0a0a0a0a0a0a0a0a0a0a0a0a0a0a0a0a0a0a0a0a0a0a0a0a0a0a0a0a0a0a0a0a\",\
+                \"kept\":\"e3b0c44298fc1c149afbf4c8996fb92427ae41e4649b934ca495991b7852b855\"}"
     );
     assert!(rt; error_body(alloc, "no day")?.as_str() == "{\"error\":\"no day\"}");
     assert!(rt; passed_body(alloc, 100)?.as_str() == "{\"error\":\"passed\",\"last\":100}");

@@ -6,22 +6,28 @@ use toll_heads::Routes;
 use toll_requests::{Asked, BodyEnd, SessionEnd, read_asked, read_routed, skip_body};
 
 const BAD_HEAD: &[u8] =
-    b"HTTP/1.1 400 Bad Request\r\nContent-Length: 16\r\nContent-Type: application/json\r\nConnection: close\r\n\r\n{\"error\":\"head\"}";
+    b"HTTP/1.1 400 Bad Request\r\nContent-Length: 16\r\nContent-Type: application/json\r\nConnection: close\r\n\r\n\
+        {\"error\":\"head\"}";
 
 const NO_PATH: &[u8] =
-    b"HTTP/1.1 404 Not Found\r\nContent-Length: 19\r\nContent-Type: application/json\r\nConnection: close\r\n\r\n{\"error\":\"no path\"}";
+    b"HTTP/1.1 404 Not Found\r\nContent-Length: 19\r\nContent-Type: application/json\r\nConnection: close\r\n\r\n\
+        {\"error\":\"no path\"}";
 
 const BAD_METHOD: &[u8] =
-    b"HTTP/1.1 405 Method Not Allowed\r\nContent-Length: 18\r\nContent-Type: application/json\r\nConnection: close\r\n\r\n{\"error\":\"method\"}";
+    b"HTTP/1.1 405 Method Not Allowed\r\nContent-Length: 18\r\nContent-Type: application/json\r\n\
+        Connection: close\r\n\r\n{\"error\":\"method\"}";
 
 const BAD_LENGTH: &[u8] =
-    b"HTTP/1.1 400 Bad Request\r\nContent-Length: 18\r\nContent-Type: application/json\r\nConnection: close\r\n\r\n{\"error\":\"length\"}";
+    b"HTTP/1.1 400 Bad Request\r\nContent-Length: 18\r\nContent-Type: application/json\r\nConnection: close\r\n\r\n\
+        {\"error\":\"length\"}";
 
 const NO_LENGTH: &[u8] =
-    b"HTTP/1.1 411 Length Required\r\nContent-Length: 25\r\nContent-Type: application/json\r\nConnection: close\r\n\r\n{\"error\":\"length needed\"}";
+    b"HTTP/1.1 411 Length Required\r\nContent-Length: 25\r\nContent-Type: application/json\r\n\
+        Connection: close\r\n\r\n{\"error\":\"length needed\"}";
 
 const TOO_LONG: &[u8] =
-    b"HTTP/1.1 413 Payload Too Large\r\nContent-Length: 20\r\nContent-Type: application/json\r\nConnection: close\r\n\r\n{\"error\":\"too long\"}";
+    b"HTTP/1.1 413 Payload Too Large\r\nContent-Length: 20\r\nContent-Type: application/json\r\n\
+        Connection: close\r\n\r\n{\"error\":\"too long\"}";
 
 /// What came of a request.
 #[derive(Clone, Copy, Debug, PartialEq, Eq)]

@@ -62,7 +62,8 @@ pub const ROWS: [Row; 23] = [
         body: "{\"as_of\":0,\"day\":0,\"total\":0}",
     },
     Row {
-        request: b"POST /days/100 HTTP/1.1\r\nContent-Length: 128\r\n\r\n0,10,1,30,0,1,0,10,52800,-1,-1,-1,-1,-1,-1\n0,10,2,30,0,1,0,10,52800,-1,-1,-1,-1,-1,-1\n0,9,3,30,0,1,0,10,52800,-1,-1,-1,-1,-1,-1\n",
+        request: b"POST /days/100 HTTP/1.1\r\nContent-Length: 128\r\n\r\n0,10,1,30,0,1,0,10,52800,-1,-1,-1,-1,-1,-1\n\
+            0,10,2,30,0,1,0,10,52800,-1,-1,-1,-1,-1,-1\n0,9,3,30,0,1,0,10,52800,-1,-1,-1,-1,-1,-1\n",
         end: SessionEnd::Answered(422),
         status: "422 Unprocessable Entity",
         body: "{\"cause\":\"late 10 9\",\"error\":\"refused\",\"line\":3}",
@@ -101,19 +102,28 @@ pub const ROWS: [Row; 23] = [
         request: b"POST /days/100 HTTP/1.1\r\nContent-Length: 0\r\n\r\n",
         end: SessionEnd::Answered(200),
         status: "200 OK",
-        body: "{\"bytes\":0,\"day\":100,\"digest\":\"e3b0c44298fc1c149afbf4c8996fb92427ae41e4649b934ca495991b7852b855\",\"notices\":0,\"notices_digest\":\"e3b0c44298fc1c149afbf4c8996fb92427ae41e4649b934ca495991b7852b855\",\"outcome\":\"stored\",\"tariffs\":\"e3b0c44298fc1c149afbf4c8996fb92427ae41e4649b934ca495991b7852b855\",\"total\":0,\"tuples\":0}",
+        body: "{\"bytes\":0,\"day\":100,\
+            \"digest\":\"e3b0c44298fc1c149afbf4c8996fb92427ae41e4649b934ca495991b7852b855\",\"notices\":0,\
+            \"notices_digest\":\"e3b0c44298fc1c149afbf4c8996fb92427ae41e4649b934ca495991b7852b855\",\
+            \"outcome\":\"stored\",\"tariffs\":\"e3b0c44298fc1c149afbf4c8996fb92427ae41e4649b934ca495991b7852b855\",\
+            \"total\":0,\"tuples\":0}",
     },
     Row {
         request: b"POST /days/100 HTTP/1.1\r\nContent-Length: 0\r\n\r\nmore",
         end: SessionEnd::Answered(200),
         status: "200 OK",
-        body: "{\"bytes\":0,\"day\":100,\"digest\":\"e3b0c44298fc1c149afbf4c8996fb92427ae41e4649b934ca495991b7852b855\",\"notices\":0,\"notices_digest\":\"e3b0c44298fc1c149afbf4c8996fb92427ae41e4649b934ca495991b7852b855\",\"outcome\":\"already\",\"tariffs\":\"e3b0c44298fc1c149afbf4c8996fb92427ae41e4649b934ca495991b7852b855\",\"total\":0,\"tuples\":0}",
+        body: "{\"bytes\":0,\"day\":100,\
+            \"digest\":\"e3b0c44298fc1c149afbf4c8996fb92427ae41e4649b934ca495991b7852b855\",\"notices\":0,\
+            \"notices_digest\":\"e3b0c44298fc1c149afbf4c8996fb92427ae41e4649b934ca495991b7852b855\",\
+            \"outcome\":\"already\",\"tariffs\":\"e3b0c44298fc1c149afbf4c8996fb92427ae41e4649b934ca495991b7852b855\",\
+            \"total\":0,\"tuples\":0}",
     },
     Row {
         request: b"POST /days/100 HTTP/1.1\r\nContent-Length: 3\r\n\r\nabc",
         end: SessionEnd::Answered(409),
         status: "409 Conflict",
-        body: "{\"error\":\"differs\",\"found\":\"ca978112ca1bbdcafac231b39a23dc4da786eff8147c4e72b9807785afee48bb\",\"kept\":\"e3b0c44298fc1c149afbf4c8996fb92427ae41e4649b934ca495991b7852b855\"}",
+        body: "{\"error\":\"differs\",\"found\":\"ca978112ca1bbdcafac231b39a23dc4da786eff8147c4e72b9807785afee48bb\",\
+            \"kept\":\"e3b0c44298fc1c149afbf4c8996fb92427ae41e4649b934ca495991b7852b855\"}",
     },
     Row {
         request: b"POST /days/100 HTTP/1.1\r\nContent-Length: 4\r\n\r\nabc",
@@ -137,7 +147,10 @@ pub const ROWS: [Row; 23] = [
         request: b"GET /days/100 HTTP/1.1\r\n\r\n",
         end: SessionEnd::Answered(200),
         status: "200 OK",
-        body: "{\"bytes\":0,\"day\":100,\"digest\":\"e3b0c44298fc1c149afbf4c8996fb92427ae41e4649b934ca495991b7852b855\",\"notices\":0,\"notices_digest\":\"e3b0c44298fc1c149afbf4c8996fb92427ae41e4649b934ca495991b7852b855\",\"tariffs\":\"e3b0c44298fc1c149afbf4c8996fb92427ae41e4649b934ca495991b7852b855\",\"total\":0,\"tuples\":0}",
+        body: "{\"bytes\":0,\"day\":100,\
+            \"digest\":\"e3b0c44298fc1c149afbf4c8996fb92427ae41e4649b934ca495991b7852b855\",\"notices\":0,\
+            \"notices_digest\":\"e3b0c44298fc1c149afbf4c8996fb92427ae41e4649b934ca495991b7852b855\",\
+            \"tariffs\":\"e3b0c44298fc1c149afbf4c8996fb92427ae41e4649b934ca495991b7852b855\",\"total\":0,\"tuples\":0}",
     },
     Row {
         request: b"GET /spent/100/0/100 HTTP/1.1\r\n\r\n",

@@ -1,0 +1,99 @@
+// The part of a desk that imports.
+ghost use Rattle.std.specs.Prelude.{◌≡◌, ◌≢◌, ◌≤◌, ℕ, List, [], Some, length};
+ghost use Rattle.std.specs.Io.KnownBytes.{prepend_known};
+ghost use Rattle.road_io.specs.Faults.{Rose};
+ghost use Rattle.road_io.specs.Plans.{NeverFails};
+ghost use Rattle.road_io.specs.Rooms.{Endless};
+ghost use Rattle.road_time.specs.Fits.{IsLimits};
+ghost use Rattle.keeper.specs.Office.{Office};
+ghost use Rattle.toll_requests.specs.declared.session_end.SessionEnd.TheVariants.{Answered, LinkFault};
+ghost use Rattle.toll_desk.specs.Answers.{wire_of};
+ghost use Rattle.toll_desk.specs.Imports.{state_of, ImportsDay};
+
+use crate::posting::answer_import;
+use import_plan::Plan;
+use keeper::Keeper;
+use live_board::BoardWriter;
+use partition_workers::Crew;
+use road_io::Link;
+use road_time::Limits;
+use std::alloc::Global;
+use std::sync::Wait;
+use std::thread::Threads;
+use toll_requests::SessionEnd;
+
+/// The part of a desk that imports: all of it but the keeper, which is handed in for each import.
+#[derive(Drop)]
+pub struct ImportDesk<C: Crew, R: Wait + Threads + Drop> {
+    pub rt: R,
+    pub crew: C,
+    pub writer: BoardWriter<R>,
+    pub plan: Plan,
+    pub limits: Limits,
+    ghost some: { 1 ≤ plan.width },
+    ghost few: { plan.width ≤ 64 },
+    ghost within: { IsLimits limits },
+    ghost idle: { C.out crew ≡ [] },
+}
+
+impl<C: Crew, R: Wait + Threads + Drop> ImportDesk<C, R> {
+    /// Imports a day of the body of a POST, publishes its charges, and answers how that ended.
+    pub fn answer<L: Link, K: Keeper>(
+        &mut self,
+        alloc: Global,
+        day: u32,
+        early: &[u8],
+        count: u64,
+        keeper: &mut K,
+        link: &mut L,
+    ) -> SessionEnd
+        requires low { 70 ≤ day }
+        requires high { day ≤ 1000000 }
+        requires few { length early.now ≤ count }
+        ensures imports { (all : List ℕ) (o : Office) → prepend_known early.now (L.left link.old) ≡ Some all
+            → K.told keeper.old ≡ Some o → ImportsDay K.refuses C.exact day self.old.limits count all o
+            (state_of (K.told keeper.old) (K.faults keeper.old) self.old.writer.posted)
+            (state_of (K.told keeper.new) (K.faults keeper.new) self.new.writer.posted)
+            (wire_of (L.left link.old) (L.plan link.old) (L.written link.old) (L.room link.old))
+            (wire_of (L.left link.new) (L.plan link.new) (L.written link.new) (L.room link.new)) result }
+        ensures plan { self.new.plan ≡ self.old.plan }
+        ensures limits { self.new.limits ≡ self.old.limits }
+        ensures crew { C.which self.new.crew ≡ C.which self.old.crew }
+        ensures board { self.new.writer.board ≡ self.old.writer.board }
+        ensures unavailable { result ≡ Answered 503 → Rose (K.faults keeper.old) (K.faults keeper.new) }
+        ensures sure { NeverFails (L.plan link.old) → L.room link.old ≡ Endless → result ≢ LinkFault }
+        ensures cause { result ≡ LinkFault → Rose (L.faults link.old) (L.faults link.new) }
+        ensures later { L.faults link.old ≤ L.faults link.new }
+        ensures keeper_later { K.faults keeper.old ≤ K.faults keeper.new }
+    {
+        let plan = self.plan;
+        let limits = self.limits;
+        answer_import(
+            &self.rt,
+            alloc,
+            day,
+            &plan,
+            &limits,
+            early,
+            count,
+            keeper,
+            &mut self.crew,
+            &mut self.writer,
+            link,
+        )
+    }
+}
+
+impl<C: Crew + Drop, R: Wait + Threads + Drop> ImportDesk<C, R> {
+    /// Ends the writer of the board. It may wait for readers that are in the middle of an answer.
+    pub fn end(self) {
+        let ImportDesk {
+            rt: _,
+            crew: _,
+            writer,
+            plan: _,
+            limits: _,
+        } = self;
+        writer.end();
+    }
+}

@@ -1,0 +1,72 @@
+// A desk that many sessions share, whose keeper lies under a lock of its own.
+ghost use Rattle.std.specs.Prelude.{◌≡◌, ◌≢◌, ◌≤◌, Some};
+ghost use Rattle.road_io.specs.Faults.{Rose};
+ghost use Rattle.road_io.specs.Plans.{NeverFails};
+ghost use Rattle.road_io.specs.Rooms.{Endless};
+ghost use Rattle.keeper.specs.Office.{Office};
+ghost use Rattle.toll_requests.specs.Requests.{IsAsked};
+ghost use Rattle.toll_requests.specs.declared.session_end.SessionEnd.TheVariants.{Answered, LinkFault};
+ghost use Rattle.toll_desk.specs.Desk.{AnswersRead, IsOfKept};
+
+use crate::answers::{answer_day, answer_spent};
+use crate::clerk::Clerk;
+use crate::import_desk::ImportDesk;
+use keeper::Keeper;
+use partition_workers::Crew;
+use road_io::Link;
+use shared_keeper::SharedKeeper;
+use std::alloc::Global;
+use std::sync::{Mutex, Wait};
+use std::thread::Threads;
+use toll_requests::{Asked, SessionEnd};
+
+/// Takes the lock of the imports for a POST until that is answered, and the lock of the keeper for one call at a time:
+/// so who asks for what is kept waits for no POST, and POSTs wait for one another. It tells nothing.
+#[derive(Drop)]
+pub struct TwoLocks<'a, K: Keeper, C: Crew, R: Wait + Threads + Drop> {
+    pub rt: R,
+    pub keeper: &'a Mutex<K>,
+    pub imports: &'a Mutex<ImportDesk<C, R>>,
+}
+
+/// Answers a request of what is kept: of a day or an amount by the keeper alone, a POST with the imports locked.
+fn answer_shared<L: Link, K: Keeper, C: Crew, R: Wait + Threads + Drop>(
+    rt: &R,
+    alloc: Global,
+    imports: &Mutex<ImportDesk<C, R>>,
+    asked: &Asked,
+    keeper: &mut K,
+    link: &mut L,
+) -> SessionEnd
+    requires asked { IsAsked asked.now }
+    requires kept { IsOfKept asked.now }
+    ensures reads { (o : Office) → K.told keeper.old ≡ Some o → AnswersRead asked.now o (K.told keeper.new)
+        (K.faults keeper.old) (K.faults keeper.new) (L.room link.old) (L.written link.old) (L.written link.new) result }
+    ensures unavailable { result ≡ Answered 503 → Rose (K.faults keeper.old) (K.faults keeper.new) }
+    ensures sure { NeverFails (L.plan link.old) → L.room link.old ≡ Endless → result ≢ LinkFault }
+    ensures cause { result ≡ LinkFault → Rose (L.faults link.old) (L.faults link.new) }
+    ensures later { L.faults link.old ≤ L.faults link.new }
+{
+    match asked {
+        Asked::Day(day) => answer_day(alloc, *day, keeper, link),
+        Asked::Spent { day, xway, vid } => answer_spent(alloc, *day, *xway, *vid, keeper, link),
+        Asked::Import { day, length, early } => {
+            imports
+                .lock(rt)
+                .answer(alloc, *day, early.items(), *length, keeper, link)
+        }
+        Asked::Live(_) => unreachable!(),
+        Asked::LiveTotal => unreachable!(),
+    }
+}
+
+impl<'a, K: Keeper, C: Crew, R: Wait + Threads + Drop> Clerk for TwoLocks<'a, K, C, R> {
+    ghost use Rattle.std.specs.Prelude.{None};
+
+    ghost passed = { λ _. None };
+
+    fn answer<L: Link>(&mut self, alloc: Global, asked: Asked, link: &mut L) -> SessionEnd {
+        let mut keeper = SharedKeeper::new(&self.rt, self.keeper);
+        answer_shared(&self.rt, alloc, self.imports, &asked, &mut keeper, link)
+    }
+}
