@@ -2,10 +2,7 @@
 mod audits;
 mod days;
 mod faults;
-mod history;
 mod input;
-mod kept;
-mod past;
 mod road;
 mod runs;
 mod traffic;

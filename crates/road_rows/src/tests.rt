@@ -5,7 +5,6 @@ mod bytes;
 mod carriages;
 mod days;
 mod lines;
-mod logs;
 mod roads;
 mod rules;
 mod stays;

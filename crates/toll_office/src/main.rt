@@ -89,7 +89,8 @@ fn run_and_stop<R: Threads + Wait + Sync + Drop>(
 ) -> (StandingCrew<R, NoGate>, u8)
     requires { ⟦<StandingCrew<R, NoGate> as Crew>⟧.out crew ≡ [] }
     ensures idle { ⟦<StandingCrew<R, NoGate> as Crew>⟧.out result.0 ≡ [] }
-    ensures which { ⟦<StandingCrew<R, NoGate> as Crew>⟧.which result.0 ≡ ⟦<StandingCrew<R, NoGate> as Crew>⟧.which crew }
+    ensures which { ⟦<StandingCrew<R, NoGate> as Crew>⟧.which result.0
+        ≡ ⟦<StandingCrew<R, NoGate> as Crew>⟧.which crew }
 {
     let mut crew = crew;
     let status = run_office(rt, threads, &mut crew);

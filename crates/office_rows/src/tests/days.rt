@@ -180,5 +180,31 @@ pub fn row<R: Abort + Threads + Sync>(
         assert!(rt; got.0.as_slice() == wanted.as_slice(), "{text}");
         assert_eq!(rt; got.1, status, "{text}");
     }
+    if are_answers(words) && status == 0 {
+        agree(
+            rt,
+            alloc,
+            words,
+            Ends::of(input.as_slice(), wanted.as_slice()),
+        )?;
+    }
+    Ok(())
+}
+
+/// By the plain rules, and recomputed in bulk, the day's notices are these as well.
+fn agree<R: Abort + Threads + Sync>(
+    rt: &R,
+    alloc: Global,
+    words: &[&str],
+    ends: Ends<'_>,
+) -> Result<(), Fail> {
+    for compared in ["validate", "audit"] {
+        let mut all = Vec::new(alloc);
+        all.push(compared)?;
+        all.extend_from_slice(words.get(1..).unwrap_or(&[]))?;
+        let got = run(rt, alloc, &Limits::DAY, all.as_slice(), ends)?;
+        assert!(rt; got.0.as_slice().starts_with(b"# agree notices "));
+        assert_eq!(rt; got.1, 0);
+    }
     Ok(())
 }

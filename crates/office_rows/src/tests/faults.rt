@@ -1,4 +1,4 @@
-// A source, a sink or a keeper that fails at each place of an import.
+// A source, a sink or a keeper that fails at each place of an import, and of a history.
 use super::days::{FIFTY_ONE, LEAVES, day, told};
 use super::runs::{Ends, ONE, run_on, writes};
 use keeper::{Keeper, LateKeeper, MemKeeper};
@@ -22,6 +22,15 @@ const STORED: &str =
 const ALREADY: &[u8] = b"# already day 100 tuples 56 notices 55 total 2\n";
 
 const NO_DAY: &[u8] = b"# no day 100\n";
+
+const PAST: &[&str] = &["past", "100"];
+
+/// Two amounts of vehicle 7, and what a history of them ends with, and one that is kept already.
+const TWO: &str = "7,69,0,28\n7,1,0,5\n";
+
+const KEPT: &[u8] = b"# past base 100 rows 2\n";
+
+const KEPT_ALREADY: &[u8] = b"# already past base 100 rows 2\n";
 
 /// Nothing is kept, and then the day is stored once.
 fn stores_then<R: Abort + Threads + Sync>(
@@ -82,7 +91,8 @@ fn each_read_fails(rt: HostRuntime) -> Result<(), Fail> {
     Ok(())
 }
 
-/// The sink has no room for all, at each sixteenth room and the last forty; the day is kept where all notices were written.
+/// The sink has no room for all, at each sixteenth room and the last forty; the day is kept where all notices were
+/// written.
 #[test]
 fn each_room_is_too_small(rt: HostRuntime) -> Result<(), Fail> {
     let alloc = rt.alloc();
@@ -186,4 +196,28 @@ fn one_line_and_one_fault(rt: HostRuntime) -> Result<(), Fail> {
     }
     let mut unasked = MemKeeper::new(alloc, &[0])?;
     writes(&rt, alloc, &["accidents"], free, &mut unasked, b"", 0)
+}
+
+/// Each read of a history and each call of its keeper fails; nothing is kept, but where a put fails after it was done.
+#[test]
+fn each_fault_of_a_history(rt: HostRuntime) -> Result<(), Fail> {
+    let alloc = rt.alloc();
+    let whole = Ends::of(TWO.as_bytes(), b"");
+    let read_fault: &[u8] = b"# read fault\n";
+    let keeper_fault: &[u8] = b"# keeper fault\n";
+    for number in 0..3u32 {
+        let unread = Ends {
+            input_fails: &[number],
+            ..whole
+        };
+        let mut keeper = MemKeeper::new(alloc, &[])?;
+        writes(&rt, alloc, PAST, unread, &mut keeper, read_fault, 4)?;
+        writes(&rt, alloc, PAST, whole, &mut keeper, KEPT, 0)?;
+        let mut failing = MemKeeper::new(alloc, &[number])?;
+        writes(&rt, alloc, PAST, whole, &mut failing, keeper_fault, 6)?;
+        writes(&rt, alloc, PAST, whole, &mut failing, KEPT, 0)?;
+    }
+    let mut late = LateKeeper::new(alloc, &[2])?;
+    writes(&rt, alloc, PAST, whole, &mut late, keeper_fault, 6)?;
+    writes(&rt, alloc, PAST, whole, &mut late, KEPT_ALREADY, 0)
 }

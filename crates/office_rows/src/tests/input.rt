@@ -125,7 +125,8 @@ fn small_limits(rt: HostRuntime) -> Result<(), Fail> {
         &two_lines,
         &day,
         Ends::of(
-            b"0,0,7,30,0,0,0,10,52800,-1,-1,-1,-1,-1,-1\n0,30,7,30,0,0,0,10,52800,-1,-1,-1,-1,-1,-1\n0,60,7,30,0,0,0,10,52800,-1,-1,-1,-1,-1,-1\n",
+            b"0,0,7,30,0,0,0,10,52800,-1,-1,-1,-1,-1,-1\n0,30,7,30,0,0,0,10,52800,-1,-1,-1,-1,-1,-1\n\
+                0,60,7,30,0,0,0,10,52800,-1,-1,-1,-1,-1,-1\n",
             b"",
         ),
     )?;
@@ -165,7 +166,7 @@ fn small_limits(rt: HostRuntime) -> Result<(), Fail> {
 
 #[test]
 fn words_and_their_ends(rt: HostRuntime) -> Result<(), Fail> {
-    let rows: [(&[&str], &str, u8); 31] = [
+    let rows: [(&[&str], &str, u8); 37] = [
         (&["answers", "100"], ANSWERED, 0),
         (&["answers", "--late=5", "100"], ANSWERED, 0),
         (&["answers", "--late", "5", "100"], ANSWERED, 0),
@@ -202,6 +203,12 @@ fn words_and_their_ends(rt: HostRuntime) -> Result<(), Fail> {
         (&["accidents", "100"], "# words\n", 1),
         (&["import"], "# words\n", 1),
         (&["import", "69"], "# words\n", 1),
+        (&["import", "100", "--late", "121"], "# words\n", 1),
+        (&["past", "69"], "# words\n", 1),
+        (&["generate"], "# words\n", 1),
+        (&["rehearse", "1", "2"], "# words\n", 1),
+        (&["tariff", "0", "50", "101", "2"], "# words\n", 1),
+        (&["tariff", "256", "50", "40", "2"], "# words\n", 1),
         (&["vehicle", "7", "9", "8"], "# words\n", 1),
         (&["--help"], "# words\n", 1),
         (&["help"], "# words\n", 1),

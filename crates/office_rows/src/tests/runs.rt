@@ -16,8 +16,8 @@ pub const ONE: &str = "0,0,7,30,0,0,0,10,52800,-1,-1,-1,-1,-1,-1\n";
 
 pub const ANSWERED: &str = "0,7,0,-1,0\n# answered day 100 tuples 1 notices 1\n";
 
-/// What `office` reads and writes: a source and an aside that fail at some reads, and a sink of some room. The source is
-/// read in pieces, and the sink takes pieces.
+/// What `office` reads and writes: a source and an aside that fail at some reads, and a sink of some room. The source
+/// is read in pieces, and the sink takes pieces.
 #[derive(Clone, Copy)]
 pub struct Ends<'a> {
     pub input: &'a [u8],

@@ -7,15 +7,19 @@ use std::test::Fail;
 
 /// The file of seed 1, three vehicles, a minute and a crash, as it was worked out apart.
 const SMALL: &str =
-    "0,7,1,0,0,2,0,44,234960,-1,-1,-1,-1,-1,-1\n0,8,2,0,0,2,0,44,234960,-1,-1,-1,-1,-1,-1\n0,37,1,0,0,2,0,44,234960,-1,-1,-1,-1,-1,-1\n0,38,2,0,0,2,0,44,234960,-1,-1,-1,-1,-1,-1\n0,52,3,36,0,0,1,40,211300,-1,-1,-1,-1,-1,-1\n";
+    "0,7,1,0,0,2,0,44,234960,-1,-1,-1,-1,-1,-1\n0,8,2,0,0,2,0,44,234960,-1,-1,-1,-1,-1,-1\n\
+        0,37,1,0,0,2,0,44,234960,-1,-1,-1,-1,-1,-1\n0,38,2,0,0,2,0,44,234960,-1,-1,-1,-1,-1,-1\n\
+        0,52,3,36,0,0,1,40,211300,-1,-1,-1,-1,-1,-1\n";
 
 /// What is kept of it, and of each of its vehicles one toll of nothing.
 const REHEARSED: &str =
-    "# rehearsed bytes 214 digest 44b1e36c4310330d3d17cbbcf5f28201b22024c6656d64ccaf892d6980c2dd12 tuples 5 notices 3 notices-digest 840545c82b1741458b319a0d4c02b173fa515b039caa58dd9c5fbadc029f86fb total 0\n";
+    "# rehearsed bytes 214 digest 44b1e36c4310330d3d17cbbcf5f28201b22024c6656d64ccaf892d6980c2dd12 tuples 5 notices 3 \
+        notices-digest 840545c82b1741458b319a0d4c02b173fa515b039caa58dd9c5fbadc029f86fb total 0\n";
 
 /// The front of what is kept of the file of seed 1, twenty vehicles, ten minutes and a crash, worked out apart too.
 const FRONT: &[u8] =
-    b"# rehearsed bytes 10897 digest 8ac83ba753b7ebcaf695edac1bce21276c84ac988aab905b1df0352e37e0fe6e tuples 240 notices ";
+    b"# rehearsed bytes 10897 digest 8ac83ba753b7ebcaf695edac1bce21276c84ac988aab905b1df0352e37e0fe6e tuples 240 \
+        notices ";
 
 /// The sizes of that file, in several spellings, before and after its day is kept; and sizes that are out of range.
 const OF_A_SMALL_FILE: [Step<'static>; 10] = [

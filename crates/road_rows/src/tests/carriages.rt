@@ -13,7 +13,10 @@ use std::alloc::Global;
 /// The event that a report was seen: position, second, vehicle, speed, expressway, lane, direction, segment, feet,
 /// and whether it begins a stay and its vehicle is stopped.
 macro_rules! seen {
-    ($position:expr, $time:expr, $vid:expr, $spd:expr, $xway:expr, $lane:expr, $dir:expr, $seg:expr, $pos:expr, $begins:expr, $stopped:expr) => {
+    (
+        $position:expr, $time:expr, $vid:expr, $spd:expr, $xway:expr, $lane:expr,
+        $dir:expr, $seg:expr, $pos:expr, $begins:expr, $stopped:expr
+    ) => {
         LaneEvent::Seen {
             position: $position,
             report: Report {
