@@ -3,9 +3,8 @@
 
     python3 bench/try_memory.py crates/toll_serve/out/toll_serve [--day FILE] [--port 8090] [--from N] [--to N]
 
-A run may answer as with ample memory, or with 500, or with 503 where what is kept could not be opened, and end with 0; or it ends
-with 8. The clean server over the same folder then answers that the day is stored, or was, and the record is that of a day that
-was never refused. It wants a C compiler.
+A run may answer as with ample memory, or with 500, and end with 0; or it ends with 8. The clean server over the same folder then
+answers that the day is stored, or was, and the record is that of a day that was never refused. It wants a C compiler.
 """
 import argparse
 import json
@@ -73,7 +72,7 @@ def main():
     program, lines = str(given.program.resolve()), given.day.read_bytes()
     post = b"POST /days/100 HTTP/1.1\r\nContent-Length: %d\r\n\r\n" % len(lines) + lines
     ask = b"GET /days/100 HTTP/1.1\r\n\r\n"
-    ends = {"answered": 0, "500": 0, "503": 0, "status 8": 0}
+    ends = {"answered": 0, "500": 0, "status 8": 0}
     with tempfile.TemporaryDirectory() as top:
         shim = f"{top}/fail_alloc.so"
         subprocess.run(["cc", "-O2", "-shared", "-fPIC", "-o", shim, HERE / "fail_alloc.c", "-ldl"], check=True)
@@ -90,8 +89,8 @@ def main():
                 made = struct.unpack("q", it.read(8))[0]
             if status == 0 and answer == first:
                 ends["answered"] += 1
-            elif status == 0 and body_of(answer)[0] in ([b"500"], [b"503"]):
-                ends[body_of(answer)[0][0].decode()] += 1
+            elif status == 0 and body_of(answer)[0] == [b"500"]:
+                ends["500"] += 1
             elif status == 8:
                 ends["status 8"] += 1
             else:

@@ -5,9 +5,10 @@
 
 PROGRAM is the executable `toll_serve`. The server runs in a new folder, on a free port of this machine. Asked are: every
 path and every refusal, with the whole answer; a day of so many lines, posted while four clients read the live board; so
-many kept days one after another; a slow client and a silent one beside three that work; a body that is held back. The
-server then ends by its sessions, and Python's `sqlite3` reads what it kept. The script ends with status 1 at the first
-answer that is not the expected one.
+many kept days one after another; a slow client and a silent one beside three that work; a POST whose body comes a byte a
+second, and one whose body is held back, beside clients that ask for what is kept. The server then ends by its sessions, and
+Python's `sqlite3` reads what it kept. The script ends with status 1 at the first answer that is not the expected one, or
+that comes late.
 """
 import argparse
 import http.client
@@ -30,6 +31,7 @@ LATE = (b"0,10,1,30,0,1,0,10,52800,-1,-1,-1,-1,-1,-1\n"
         b"0,10,2,30,0,1,0,10,52800,-1,-1,-1,-1,-1,-1\n"
         b"0,9,3,30,0,1,0,10,52800,-1,-1,-1,-1,-1,-1\n")
 SILENCE = 30
+AT_ONCE = 1.0
 
 
 def fail(text):
@@ -289,54 +291,109 @@ def try_asks(server, asks):
           f" 99th percentile {times[int(0.99 * (len(times) - 1))] * 1e6:.0f}")
 
 
+class Worker(threading.Thread):
+    """Asks for something over and over, for so many seconds, and notes how long each answer took."""
+
+    def __init__(self, server, path, seconds):
+        super().__init__()
+        self.server, self.path, self.end = server, path, time.monotonic() + seconds
+        self.took, self.error = [], None
+
+    def run(self):
+        try:
+            while time.monotonic() < self.end:
+                begin = time.monotonic()
+                expect(f"GET {self.path} beside a slow client", self.server.ask("GET", self.path)[0], 200)
+                self.took.append(time.monotonic() - begin)
+                time.sleep(0.01)
+        except (OSError, SystemExit, http.client.HTTPException) as error:
+            self.error = repr(error)
+
+
+def slowest(workers):
+    """How many answers workers had, and the slowest, which must not have been late."""
+    for worker in workers:
+        worker.join()
+    expect("clients beside a slow one", [worker.error for worker in workers if worker.error], [])
+    took = [each for worker in workers for each in worker.took]
+    expect(f"an answer later than {AT_ONCE} s", [each for each in took if each > AT_ONCE], [])
+    return len(took), max(took) * 1000
+
+
+def work(server, paths, seconds):
+    workers = [Worker(server, path, seconds) for path in paths]
+    for worker in workers:
+        worker.start()
+    return workers
+
+
+def trickle(wire, piece):
+    """Sends a byte a second."""
+    for byte in piece:
+        wire.sendall(bytes([byte]))
+        time.sleep(1)
+
+
 def try_slow(server):
     """A client that sends one byte a second, and one that is silent, beside three that work; a body that is held back."""
     silent = server.connect(SILENCE * 3)
-    begun = time.monotonic()
     slow = server.connect()
-    answers, errors = [], []
-
-    def works():
-        try:
-            while time.monotonic() < begun + 6:
-                begin = time.monotonic()
-                expect("a client beside a slow one", server.ask("GET", "/days/200")[0], 200)
-                answers.append(time.monotonic() - begin)
-                time.sleep(0.01)
-        except (OSError, SystemExit, http.client.HTTPException) as error:
-            errors.append(repr(error))
-
-    clients = [threading.Thread(target=works) for _ in range(3)]
-    for client in clients:
-        client.start()
-    for byte in b"GET /live HTTP/1.1\r\n\r\n"[:6]:
-        slow.sendall(bytes([byte]))
-        time.sleep(1)
+    workers = work(server, ["/days/200"] * 3, 6)
+    trickle(slow, b"GET /live HTTP/1.1\r\n\r\n"[:6])
     slow.sendall(b"GET /live HTTP/1.1\r\n\r\n"[6:])
     taken = all_of(slow)
     slow.close()
-    for client in clients:
-        client.join()
-    expect("clients beside a slow one", errors, [])
+    answers, most = slowest(workers)
     expect("the slow client's answer", taken.split(b"\r\n")[0], b"HTTP/1.1 200 OK")
-    print(f"a client of one byte a second and a silent one beside three: {len(answers)} answers, the slowest"
-          f" {max(answers) * 1000:.1f} ms; the slow one was answered too")
+    print(f"a client of one byte a second and a silent one beside three: {answers} answers, the slowest {most:.1f} ms;"
+          " the slow one was answered too")
+    try_trickle(server)
     held = server.connect(SILENCE * 3)
     held.sendall(b"POST /days/201 HTTP/1.1\r\nContent-Length: 10\r\n\r\n0,0")
     time.sleep(0.2)
-    begin = time.monotonic()
-    expect("a live account beside a held body", server.ask("GET", "/live/1")[0], 200)
-    beside = time.monotonic() - begin
-    begin = time.monotonic()
-    expect("an earlier day behind a held body", server.ask("GET", "/days/200", seconds=SILENCE * 3)[0], 200)
-    behind = time.monotonic() - begin
+    answers, most = slowest(work(server, ["/live/1", "/days/200", "/spent/200/0/1"], 3))
     expect("the held body", all_of(held), b"")
     held.close()
-    print(f"a body that is held back: a live account is answered in {beside * 1000:.1f} ms; a kept day waits {behind:.1f} s,"
-          " until the silent client is let go, unanswered")
+    print(f"a body that is held back: {answers} live accounts, kept days and amounts meanwhile, the slowest {most:.1f} ms;"
+          " the client is let go unanswered")
     expect("the silent client", all_of(silent), b"")
     silent.close()
     expect("the day that was held back", server.ask("GET", "/days/201")[0], 404)
+
+
+def try_trickle(server):
+    """A POST whose body comes a byte a second, beside three clients that ask for what is kept and one that posts."""
+    seconds = 8
+    wire = server.connect()
+    wire.sendall(b"POST /days/201 HTTP/1.1\r\nContent-Length: %d\r\n\r\n" % len(LATE) + LATE[:-seconds])
+    time.sleep(0.2)
+    workers = work(server, ["/days/200", "/spent/200/0/1", "/days/100"], seconds)
+    other = Posts(server)
+    other.start()
+    trickle(wire, LATE[-seconds:])
+    status = all_of(wire).split(b"\r\n")[0]
+    wire.close()
+    answers, most = slowest(workers)
+    other.join()
+    expect("the POST of one byte a second", status, b"HTTP/1.1 422 Unprocessable Entity")
+    expect("a POST beside it", other.answer, (409, "Conflict", '{"error":"passed","last":200}'))
+    if other.took < seconds / 2:
+        fail(f"a POST beside it was answered after {other.took:.1f} s, while the other went on")
+    print(f"a POST of one byte a second: {answers} kept days and amounts meanwhile, the slowest {most:.1f} ms; a second POST"
+          f" waited {other.took:.1f} s, until the first was answered")
+
+
+class Posts(threading.Thread):
+    """Posts a day that is passed."""
+
+    def __init__(self, server):
+        super().__init__()
+        self.server, self.answer, self.took = server, None, 0.0
+
+    def run(self):
+        begin = time.monotonic()
+        self.answer = self.server.ask("POST", "/days/99", b"")
+        self.took = time.monotonic() - begin
 
 
 def try_kept(folder, day):
