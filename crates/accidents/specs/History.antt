@@ -10,8 +10,10 @@ is_marked s m = s.last == m || s.before == m
 pub record IsHistory (second : ℕ) (s : Spell) (stood_at : ℕ → Bool) : Type 0 where
   pub begun : 1 ≤ s.places → s.since ≤ second
   pub ever_since : 1 ≤ s.places → (t : ℕ) → s.since ≤ t → t < second → stood_at t ≡ true
-  pub marked : (m : ℕ) → 1 ≤ m → second / 60 ≤ m → is_marked s m ≡ true → (t : ℕ) × (60 * (m - 1) ≤ t) × (t < 60 * (m - 1) + 60) × (t < second) × (stood_at t ≡ true)
-  pub unmarked : (m : ℕ) → 1 ≤ m → second / 60 ≤ m → is_marked s m ≡ false → (t : ℕ) → 60 * (m - 1) ≤ t → t < 60 * (m - 1) + 60 → t < second → (1 ≤ s.places → t < s.since) → stood_at t ≡ false
+  pub marked : (m : ℕ) → 1 ≤ m → second / 60 ≤ m → is_marked s m ≡ true → (t : ℕ) × (60 * (m - 1) ≤ t)
+      × (t < 60 * (m - 1) + 60) × (t < second) × (stood_at t ≡ true)
+  pub unmarked : (m : ℕ) → 1 ≤ m → second / 60 ≤ m → is_marked s m ≡ false → (t : ℕ) → 60 * (m - 1) ≤ t →
+      t < 60 * (m - 1) + 60 → t < second → (1 ≤ s.places → t < s.since) → stood_at t ≡ false
 
 -- whether an accident stood in the minute before, and earlier in this one, where one stood until now
 abbrev pub stood_earlier : ℕ → Spell → Bool
@@ -22,4 +24,5 @@ stood_lately second s = nat_lt s.since second && nat_lt (60 * (second / 60)) sec
 
 -- whether an accident stood in the minute before
 abbrev pub stood_last : ℕ → Spell → Bool
-stood_last second s = nat_lt 0 (second / 60) && (nat_le 1 s.places && nat_lt s.since (60 * (second / 60)) || is_marked s (second / 60))
+stood_last second s =
+    nat_lt 0 (second / 60) && (nat_le 1 s.places && nat_lt s.since (60 * (second / 60)) || is_marked s (second / 60))

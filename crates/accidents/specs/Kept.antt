@@ -7,7 +7,8 @@ use Rattle.road_time.specs.Tuples.{same_stretch, same_place}
 use Rattle.accidents.specs.declared.spell.Spell.{Spell}
 use Rattle.accidents.specs.declared.places.Stopped.{Stopped}
 
--- what is kept: the current second, who stands where, how many stand at each place where one does, and the accidents of each stretch that had one
+-- what is kept: the current second, who stands where, how many stand at each place where one does, and the accidents
+-- of each stretch that had one
 pub record Kept : Type 0 where
   pub second : ℕ
   pub standing : List Stopped

@@ -13,9 +13,12 @@ use Rattle.accidents.specs.Kept.{Kept, has_stopped, count_of, spell_of}
 abbrev pub is_crowded : (Place → ℕ) → Stretch → Place → Bool
 is_crowded count k p = same_stretch (stretch_around p) k && nat_le 2 (count p)
 
--- what is kept is that of the entries: none is later than the current second; who stands is who stands after them; each place has as many vehicles as are kept for it,
--- and each stretch as many places with two or more; and of each stretch the seconds before the current one at which an accident stood are kept
-pub record Stand (second : ℕ) (has : Place → ℕ → Bool) (count : Place → ℕ) (spell : Stretch → Spell) (entries : List Entry) : Type 0 where
+-- what is kept is that of the entries: none is later than the current second; who stands is who stands after them;
+-- each place has as many vehicles as are kept for it,
+-- and each stretch as many places with two or more; and of each stretch the seconds before the current one at which an
+-- accident stood are kept
+pub record Stand (second : ℕ) (has : Place → ℕ → Bool) (count : Place → ℕ) (spell : Stretch → Spell)
+    (entries : List Entry) : Type 0 where
   pub none_after : All (λ e. e.second ≤ second) entries
   pub standing : (p : Place) (v : ℕ) → has p v ≡ is_standing entries v p
   pub counts : (p : Place) → IsCounted nat_eq (has p) (count p)

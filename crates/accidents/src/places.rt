@@ -1,28 +1,17 @@
 // Who stands at a place, and how many do.
 ghost use Rattle.std.specs.Prelude.{◌≡◌, ◌-◌, if◌then◌else◌};
-ghost use Rattle.road_time.specs.Tuples.{stretch_around, same_place};
+ghost use Rattle.road_time.specs.Tuples.{same_place};
 ghost use Rattle.road_time.specs.declared.road.Place.{Place as PlaceValue};
 ghost use Rattle.accidents.specs.Kept.{count_of};
 
 use indexmap::IndexMap;
-use road_time::{Place, Stretch};
+use road_time::Place;
 
 /// A vehicle that stands at a place.
 #[derive(Clone, Copy, Debug, PartialEq, Eq, Hash)]
 pub struct Stopped {
     pub vid: u32,
     pub place: Place,
-}
-
-/// The stretch in which a place lies.
-pub(crate) fn stretch_of(place: Place) -> Stretch
-    ensures { result ≡ stretch_around place }
-{
-    Stretch {
-        xway: place.xway,
-        dir: place.dir,
-        seg: place.seg,
-    }
 }
 
 /// How many vehicles stand at the place.

@@ -8,7 +8,7 @@ ghost use Rattle.accidents.specs.Near.{stood_in, near_in};
 ghost use Rattle.accidents.specs.Stands.{StandsFor};
 ghost use Rattle.road_time.specs.declared.road.Stretch.{Stretch as StretchValue};
 
-use crate::places::{Stopped, count_at, one_less, stretch_of};
+use crate::places::{Stopped, count_at, one_less};
 use crate::recent::{begin_if, end_if, spell_at};
 use crate::spell::{Spell, stood_before};
 use indexmap::{IndexMap, IndexSet};
@@ -80,7 +80,7 @@ impl Stops {
         let more = count.checked_add(1).ok_or(NoMemory)?;
         self.standing.reserve(1)?;
         self.counts.reserve(1)?;
-        begin_if(&mut self.spells, count == 1, stretch_of(place), self.second)?;
+        begin_if(&mut self.spells, count == 1, place.stretch(), self.second)?;
         self.counts.insert(place, more)?;
         self.standing.insert(stopped)?;
         Ok(())
@@ -99,7 +99,7 @@ impl Stops {
         if self.standing.swap_remove(&stopped) {
             let count = count_at(&self.counts, place);
             one_less(&mut self.counts, place);
-            end_if(&mut self.spells, count == 2, stretch_of(place), self.second);
+            end_if(&mut self.spells, count == 2, place.stretch(), self.second);
         }
     }
 

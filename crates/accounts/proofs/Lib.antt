@@ -5,3 +5,4 @@ pub mod RowSteps
 pub mod WorkedLaws
 pub mod EntryLaws
 pub mod ShownLaws
+pub mod OwnerOrder

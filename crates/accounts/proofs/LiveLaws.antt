@@ -21,7 +21,9 @@ pub record Shows (day : List Tuple) (tariffs : Tariffs) (number : ℕ) (b : Boar
 
 module _ (day : List Tuple) (tariffs : Tariffs) (number : ℕ) where
   -- a step from its mark keeps that
-  shows_step : (b : Board) (cs : List Charge) (next : ℕ) → Shows day tariffs number b → b.mark < next → next ≤ length day → cs ≡ charges_between (rules day tariffs) day b.mark next → Shows day tariffs number (board_with b (Step cs next))
+  shows_step : (b : Board) (cs : List Charge) (next : ℕ) → Shows day tariffs number b → b.mark < next →
+      next ≤ length day → cs ≡ charges_between (rules day tariffs) day b.mark next →
+      Shows day tariffs number (board_with b (Step cs next))
   shows_step b cs next h less inside is = record {
     of_day = h.of_day;
     inside = inside;
@@ -29,17 +31,20 @@ module _ (day : List Tuple) (tariffs : Tariffs) (number : ℕ) where
   }
 
   -- so do steps
-  shows_steps : (b : Board) (ops : List Operation) → Shows day tariffs number b → AreSteps day tariffs b.mark ops → Shows day tariffs number (fold board_with b ops)
+  shows_steps : (b : Board) (ops : List Operation) → Shows day tariffs number b → AreSteps day tariffs b.mark ops →
+      Shows day tariffs number (fold board_with b ops)
   shows_steps b [] h steps = h
   shows_steps b (Begin n ∷ ops) h steps = absurd steps
-  shows_steps b (Step cs next ∷ ops) h steps = shows_steps (board_with b (Step cs next)) ops (shows_step b cs next h steps.0 steps.1 steps.2) steps.3
+  shows_steps b (Step cs next ∷ ops) h steps =
+      shows_steps (board_with b (Step cs next)) ops (shows_step b cs next h steps.0 steps.1 steps.2) steps.3
 
   -- a day that begins shows nothing charged
   begun : (b : Board) → Shows day tariffs number (board_with b (Begin number))
   begun b = record { of_day = refl; inside = omega arith; exact = refl }
 
   -- a day and its steps, whatever was published before
-  pub shown : (earlier steps : List Operation) → AreSteps day tariffs 0 steps → Shows day tariffs number (board_after (earlier ++ Begin number ∷ steps))
+  pub shown : (earlier steps : List Operation) → AreSteps day tariffs 0 steps →
+      Shows day tariffs number (board_after (earlier ++ Begin number ∷ steps))
   shown earlier steps h =
       subst (Shows day tariffs number) (sym (fold-append board_with blank earlier (Begin number ∷ steps)))
       (shows_steps (board_with (board_after earlier) (Begin number)) steps (begun (board_after earlier)) h)
@@ -56,5 +61,7 @@ module _ (day later : List Tuple) (order : InOrder (day ++ later)) (tariffs : Ta
       longer e = omega (arith, e, length-append day later)
 
   -- and so is what is published of it
-  pub live_more : (number : ℕ) (ops : List Operation) → IsLive day tariffs number ops → IsLive (day ++ later) tariffs number ops
-  live_more number ops live = record { earlier = live.earlier; steps = live.steps; whole = live.whole; exact = grown 0 live.steps live.exact }
+  pub live_more : (number : ℕ) (ops : List Operation) → IsLive day tariffs number ops →
+      IsLive (day ++ later) tariffs number ops
+  live_more number ops live =
+      record { earlier = live.earlier; steps = live.steps; whole = live.whole; exact = grown 0 live.steps live.exact }

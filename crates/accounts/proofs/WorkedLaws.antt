@@ -25,10 +25,18 @@ pub some_is : (a b : ℕ) → Some a ≡ Some b → a ≡ b
 some_is a b e = cc
 
 -- the rows of charges are those that the definitions make of them
-pub rows_by : (cs : List Charge) (m : Spent) (number : ℕ) (rows : List SpentRow) → m ≡ spent_by cs → AreRowsOf m number rows → rows ≡ rows_from number cs
+pub rows_by : (cs : List Charge) (m : Spent) (number : ℕ) (rows : List SpentRow) → m ≡ spent_by cs →
+    AreRowsOf m number rows → rows ≡ rows_from number cs
 rows_by cs m number rows e are =
     let there = subst (λ x. AreRowsOf x number rows) e are in
-    only_rows cs number rows (record { in_order = there.in_order; of_day = there.of_day; none_zero = there.none_zero; exact = λ v x. there.exact v x ∙ amount_by cs v x })
+    only_rows cs number rows
+    (record {
+      in_order = there.in_order;
+      of_day = there.of_day;
+      none_zero = there.none_zero;
+      exact =
+          λ v x. there.exact v x ∙ amount_by cs v x;
+    })
 
 -- the account of one charge
 pub one_account : (m : Spent) (toll : ℕ) → m ≡ spent_by (charge toll ∷ []) → account_in m 100 ≡ toll
@@ -75,5 +83,6 @@ three_total m e =
     omega (arith, here, by, one, two, last)
 
 -- three answers by their parts
-pub answers_made : {a b c x y z : ℕ} → a ≡ x → b ≡ y → c ≡ z → ◌≡◌ {A = Answers} (record { charged = a; balance = b; total = c }) (record { charged = x; balance = y; total = z })
+pub answers_made : {a b c x y z : ℕ} → a ≡ x → b ≡ y → c ≡ z →
+    ◌≡◌ {A = Answers} (record { charged = a; balance = b; total = c }) (record { charged = x; balance = y; total = z })
 answers_made p q r = cc

@@ -37,7 +37,8 @@ abbrev pub AreSteps : List Tuple → Tariffs → ℕ → List Operation → Type
 AreSteps day tariffs mark [] = Unit {0}
 AreSteps day tariffs mark (Begin number ∷ ops) = ⊥
 AreSteps day tariffs mark (Step charges next ∷ ops) =
-    (mark < next) × (next ≤ length day) × (charges ≡ charges_between (rules day tariffs) day mark next) × AreSteps day tariffs next ops
+    (mark < next) × (next ≤ length day) × (charges ≡ charges_between (rules day tariffs) day mark next)
+    × AreSteps day tariffs next ops
 
 -- the operations end with the begin of a day and its steps
 pub record IsLive (day : List Tuple) (tariffs : Tariffs) (number : ℕ) (ops : List Operation) : Type 0 where

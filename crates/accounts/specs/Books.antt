@@ -18,7 +18,9 @@ pub record Accounts : Type 0 where
 -- a book is stored as its parts
 abbrev pub accounts_code : Coded Accounts
 accounts_code =
-    code_by (FinMap nat_cmp ℕ × (Spent × ℕ)) (coded× (code coded_ℕ coded_ℕ) (coded× (code (coded× coded_ℕ coded_ℕ) coded_ℕ) coded_ℕ)) (λ b. (b.told, (b.spent, b.made))) (λ p. record { told = p.0; spent = p.1.0; made = p.1.1 }) (λ _. refl)
+    code_by (FinMap nat_cmp ℕ × (Spent × ℕ))
+    (coded× (code coded_ℕ coded_ℕ) (coded× (code (coded× coded_ℕ coded_ℕ) coded_ℕ) coded_ℕ))
+    (λ b. (b.told, (b.spent, b.made))) (λ p. record { told = p.0; spent = p.1.0; made = p.1.1 }) (λ _. refl)
 
 -- what the entries of vehicles tell
 abbrev pub told_of : List (ℕ × Vehicle) → FinMap nat_cmp ℕ
@@ -28,10 +30,12 @@ told_of vehicles = from_entries (map (λ e. (e.0, e.1.told)) vehicles)
 abbrev pub spent_of : List (ℕ × Vehicle) → List ((ℕ × ℕ) × ℕ) → Spent
 spent_of vehicles further = sums_of (all_sums vehicles further)
 
--- each vehicle's sum is its account, the total that of all, and none is more than the charges made can come to; a sum that the first charge's entry keeps stands nowhere else
+-- each vehicle's sum is its account, the total that of all, and none is more than the charges made can come to; a sum
+-- that the first charge's entry keeps stands nowhere else
 pub record IsSound (vehicles : List (ℕ × Vehicle)) (further : List ((ℕ × ℕ) × ℕ)) (total made : ℕ) : Type 0 where
   pub unique : IsDistinct nat_eq (keys_of vehicles)
-  pub apart : (vid xway : ℕ) → is_further (vehicle_at vehicles vid).first xway ≡ false → lookup (same_owner (vid, xway)) further ≡ None
+  pub apart : (vid xway : ℕ) → is_further (vehicle_at vehicles vid).first xway ≡ false →
+      lookup (same_owner (vid, xway)) further ≡ None
   pub told : (vid : ℕ) → (vehicle_at vehicles vid).told ≤ 500000000000
   pub account : (vid : ℕ) → (vehicle_at vehicles vid).sum ≡ account_in (spent_of vehicles further) vid
   pub whole : total ≡ total_in (spent_of vehicles further)

@@ -63,4 +63,5 @@ owner_of r = (r.vid, r.xway)
 -- the rows of a day from entries, zero sums left out
 abbrev pub listed : ℕ → List ((ℕ × ℕ) × ℕ) → List SpentRow
 listed day [] = []
-listed day (e ∷ es) = if nat_lt 0 e.1 then record { day = day; vid = e.0.0; xway = e.0.1; tolls = e.1 } ∷ listed day es else listed day es
+listed day (e ∷ es) = if nat_lt 0 e.1 then record { day = day; vid = e.0.0; xway = e.0.1; tolls = e.1 }
+    ∷ listed day es else listed day es

@@ -1,5 +1,6 @@
 -- The output of a day is the same by any history that has the amounts that are asked for.
-use Rattle.std.proofs.Common.{◌≡◌, ℕ, ◌-◌, ◌≤◌, ◌||◌, Bool, true, false, List, [], ◌∷◌, ◌++◌, Option, Some, None, refl, sym, ap, ◌∙◌, arith}
+use Rattle.std.proofs.Common.{◌≡◌, ℕ, ◌-◌, ◌≤◌, ◌||◌, Bool, true, false, List, [], ◌∷◌, ◌++◌, Option, Some, None, refl}
+use Rattle.std.proofs.Common.{sym, ap, ◌∙◌, arith}
 use Rattle.std.specs.List.{AllByRecursion, list_any, find}
 use Rattle.std.proofs.lemmas.List.Elements.{recursion_from_All}
 use Rattle.road_time.specs.declared.road.Tuple.{Tuple}
@@ -25,18 +26,23 @@ SameFor number a b (Travel time) = Unit {0}
 
 module _ (finding : Sight → Finding) (number : ℕ) (a b : ℕ → ℕ → ℕ → ℕ) where
   -- the answer to a tuple is the same by both
-  same_answer : (before : List Tuple) (x : Tuple) → SameFor number a b x → answer_by finding number a (before, x) ≡ answer_by finding number b (before, x)
+  same_answer : (before : List Tuple) (x : Tuple) → SameFor number a b x →
+      answer_by finding number a (before, x) ≡ answer_by finding number b (before, x)
   same_answer before (ReportTuple r) h = refl
   same_answer before (Balance time vid qid) h = refl
-  same_answer before (Spent time vid xway qid day) h = let same : a (number - day) vid xway ≡ b (number - day) vid xway = h in cc
+  same_answer before (Spent time vid xway qid day) h =
+      let same : a (number - day) vid xway ≡ b (number - day) vid xway = h in cc
   same_answer before (Travel time) h = refl
 
   -- what tuples after some others cause is the same by both
-  same_notices : (before xs : List Tuple) → AllByRecursion (SameFor number a b) xs → notices_by finding number a (moments_after before xs) ≡ notices_by finding number b (moments_after before xs)
+  same_notices : (before xs : List Tuple) → AllByRecursion (SameFor number a b) xs →
+      notices_by finding number a (moments_after before xs) ≡ notices_by finding number b (moments_after before xs)
   same_notices before [] h = refl
   same_notices before (x ∷ xs) h =
-      ap (λ ns. (told_by finding (before, x) ++ ns) ++ notices_by finding number a (moments_after (before ++ x ∷ []) xs)) (same_answer before x h.0)
-      ∙ ap (λ ns. (told_by finding (before, x) ++ answer_by finding number b (before, x)) ++ ns) (same_notices (before ++ x ∷ []) xs h.1)
+      ap (λ ns. (told_by finding (before, x) ++ ns) ++ notices_by finding number a
+      (moments_after (before ++ x ∷ []) xs)) (same_answer before x h.0)
+      ∙ ap (λ ns. (told_by finding (before, x) ++ answer_by finding number b (before, x)) ++ ns)
+      (same_notices (before ++ x ∷ []) xs h.1)
 
 -- the amount of a row is the same by both words
 same_tolls : (o : Option SpentRow) → plain.tolls_of o ≡ kept.tolls_of o
@@ -48,23 +54,30 @@ pub same_paid : (rows : List SpentRow) (day vid xway : ℕ) → plain.paid rows 
 same_paid rows day vid xway = same_tolls (find (kept.is_row day vid xway) rows)
 
 -- a valid tuple of a day is answered alike by all amounts and by those of the 69 days before
-valid_same : (number : ℕ) (o : Office) (rows : List SpentRow) → rows ≡ rows_between o (number - 69) (number - 1) → 70 ≤ number → (x : Tuple) → IsValid x → SameFor number (plain.paid rows) (kept.paid o.rows) x
+valid_same : (number : ℕ) (o : Office) (rows : List SpentRow) → rows ≡ rows_between o (number - 69) (number - 1) →
+    70 ≤ number → (x : Tuple) → IsValid x → SameFor number (plain.paid rows) (kept.paid o.rows) x
 valid_same number o rows e low (ReportTuple r) v = tt
 valid_same number o rows e low (Balance time vid qid) v = tt
 valid_same number o rows e low (Spent time vid xway qid day) v =
     let from : number - 69 ≤ number - day = omega (arith, v.4, v.5) in
     let to : number - day ≤ number - 1 = omega (arith, v.4, v.5) in
-    same_paid rows (number - day) vid xway ∙ ap (λ rs. kept.paid rs (number - day) vid xway) e ∙ history_law o (number - 69) (number - 1) (number - day) vid xway from to
+    same_paid rows (number - day) vid xway ∙ ap (λ rs. kept.paid rs (number - day) vid xway) e
+    ∙ history_law o (number - 69) (number - 1) (number - day) vid xway from to
 valid_same number o rows e low (Travel time) v = tt
 
-all_same : (number : ℕ) (o : Office) (rows : List SpentRow) → rows ≡ rows_between o (number - 69) (number - 1) → 70 ≤ number → (xs : List Tuple) → AllByRecursion IsValid xs → AllByRecursion (SameFor number (plain.paid rows) (kept.paid o.rows)) xs
+all_same : (number : ℕ) (o : Office) (rows : List SpentRow) → rows ≡ rows_between o (number - 69) (number - 1) →
+    70 ≤ number → (xs : List Tuple) → AllByRecursion IsValid xs →
+    AllByRecursion (SameFor number (plain.paid rows) (kept.paid o.rows)) xs
 all_same number o rows e low [] v = tt
 all_same number o rows e low (x ∷ xs) v = (valid_same number o rows e low x v.0, all_same number o rows e low xs v.1)
 
 -- a day's output by the amounts of the 69 days before is that by all amounts
-pub by_history : (number : ℕ) (o : Office) (rows : List SpentRow) → rows ≡ rows_between o (number - 69) (number - 1) → 70 ≤ number → (day : List Tuple) → IsDay day → (tariffs : Tariffs) → notices day tariffs number (plain.paid rows) ≡ notices day tariffs number (kept.paid o.rows)
+pub by_history : (number : ℕ) (o : Office) (rows : List SpentRow) → rows ≡ rows_between o (number - 69) (number - 1) →
+    70 ≤ number → (day : List Tuple) → IsDay day → (tariffs : Tariffs) →
+    notices day tariffs number (plain.paid rows) ≡ notices day tariffs number (kept.paid o.rows)
 by_history number o rows e low day fit tariffs =
-    same_notices (rules day tariffs) number (plain.paid rows) (kept.paid o.rows) [] day (all_same number o rows e low day (recursion_from_All IsValid day fit.valid))
+    same_notices (rules day tariffs) number (plain.paid rows) (kept.paid o.rows) [] day
+    (all_same number o rows e low day (recursion_from_All IsValid day fit.valid))
 
 -- a tuple that asks for nothing is answered alike by any two histories
 unasked_same : (number : ℕ) (a b : ℕ → ℕ → ℕ → ℕ) (x : Tuple) → asks_history x ≡ false → SameFor number a b x
@@ -73,7 +86,8 @@ unasked_same number a b (Balance time vid qid) e = tt
 unasked_same number a b (Spent time vid xway qid day) e = let bad : ⊥ = cc in absurd bad
 unasked_same number a b (Travel time) e = tt
 
-none_asks : (number : ℕ) (a b : ℕ → ℕ → ℕ → ℕ) (xs : List Tuple) → list_any asks_history xs ≡ false → AllByRecursion (SameFor number a b) xs
+none_asks : (number : ℕ) (a b : ℕ → ℕ → ℕ → ℕ) (xs : List Tuple) → list_any asks_history xs ≡ false →
+    AllByRecursion (SameFor number a b) xs
 none_asks number a b [] e = tt
 none_asks number a b (x ∷ xs) e =
     let parts = or_parts (asks_history x) (list_any asks_history xs) e in
@@ -84,7 +98,8 @@ none_asks number a b (x ∷ xs) e =
     or_parts false q e = (refl, e)
 
 -- the output of a day that asks for nothing is the same by any two histories
-pub by_none : (number : ℕ) (a b : ℕ → ℕ → ℕ → ℕ) (day : List Tuple) (tariffs : Tariffs) → list_any asks_history day ≡ false → notices day tariffs number a ≡ notices day tariffs number b
+pub by_none : (number : ℕ) (a b : ℕ → ℕ → ℕ → ℕ) (day : List Tuple) (tariffs : Tariffs) →
+    list_any asks_history day ≡ false → notices day tariffs number a ≡ notices day tariffs number b
 by_none number a b day tariffs e = same_notices (rules day tariffs) number a b [] day (none_asks number a b day e)
 
 -- rows whose keys differ by one word differ by the other

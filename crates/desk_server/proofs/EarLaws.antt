@@ -1,5 +1,6 @@
 -- What ears count, in lanes and out of them.
-use Rattle.std.proofs.Common.{◌≡◌, ◌∙◌, ◌<◌, ◌||◌, ℕ, zero, suc, Bool, true, false, refl, sym, subst, List, [], ◌∷◌, map, length, arith, nat_lt, lt-ltb}
+use Rattle.std.proofs.Common.{◌≡◌, ◌∙◌, ◌<◌, ◌||◌, ℕ, zero, suc, Bool, true, false, refl, sym, subst, List, [], ◌∷◌}
+use Rattle.std.proofs.Common.{map, length, arith, nat_lt, lt-ltb}
 use Rattle.std.specs.List.{All}
 use Rattle.road_io.specs.Faults.{Rose}
 use Rattle.lane_loops.specs.Lanes.{AnyRose}
@@ -7,7 +8,8 @@ use Rattle.lane_loops.specs.declared.lane.Lane.{Lane}
 use Rattle.lane_doors.specs.Doors.{has_fault}
 
 -- lanes of ears that accepted nothing have accepted nothing
-pub fresh_in : {N : Type 0} (f h : N → ℕ) (lanes : List (Lane N)) → All (λ ear. (f ear ≡ 0) × (h ear ≡ 0)) (map (λ lane. lane.listener) lanes) → All (λ lane. f lane.listener ≡ 0) lanes
+pub fresh_in : {N : Type 0} (f h : N → ℕ) (lanes : List (Lane N)) →
+    All (λ ear. (f ear ≡ 0) × (h ear ≡ 0)) (map (λ lane. lane.listener) lanes) → All (λ lane. f lane.listener ≡ 0) lanes
 fresh_in f h [] all k d below = absurd (omega arith)
 fresh_in f h (lane ∷ lanes) all zero d below = (all 0 d.listener (omega arith)).0
 fresh_in f h (lane ∷ lanes) all (suc k) d below =
@@ -22,11 +24,13 @@ or_true true = refl
 or_true false = refl
 
 -- where the count of a lane's listener rose, an ear failed
-pub rose_fails : {N : Type 0} (f : N → ℕ) (old new : List (Lane N)) → AnyRose f old new → has_fault f (map (λ lane. lane.listener) new) ≡ true
+pub rose_fails : {N : Type 0} (f : N → ℕ) (old new : List (Lane N)) → AnyRose f old new →
+    has_fault f (map (λ lane. lane.listener) new) ≡ true
 rose_fails f [] new (k, p, below, at, rose) = absurd (omega (arith, below))
 rose_fails f (o ∷ old) [] (k, p, below, at, rose) = absurd (omega (arith, below))
 rose_fails f (o ∷ old) (n ∷ new) (zero, p, below, at, rose) =
-    let above : nat_lt 0 (f n.listener) ≡ true = subst (λ q. nat_lt 0 (f q.1.listener) ≡ true) (sym at) (rose_above (f p.0.listener) (f p.1.listener) rose) in
+    let above : nat_lt 0 (f n.listener) ≡ true =
+    subst (λ q. nat_lt 0 (f q.1.listener) ≡ true) (sym at) (rose_above (f p.0.listener) (f p.1.listener) rose) in
     rw above refl
 rose_fails f (o ∷ old) (n ∷ new) (suc k, p, below, at, rose) =
     rw (rose_fails f old new (k, p, omega (arith, below), at, rose)) (or_true (nat_lt 0 (f n.listener)))

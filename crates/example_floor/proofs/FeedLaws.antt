@@ -1,5 +1,6 @@
 -- some tuples are fed, one after another
-use Rattle.std.proofs.Common.{◌≡◌, ℕ, ◌+◌, ◌<◌, ◌≤◌, List, [], ◌∷◌, ◌++◌, length, take, drop, refl, sym, ap, ◌∙◌, arith, subst, append_assoc, append-nil, length-append}
+use Rattle.std.proofs.Common.{◌≡◌, ℕ, ◌+◌, ◌<◌, ◌≤◌, List, [], ◌∷◌, ◌++◌, length, take, drop, refl, sym, ap, ◌∙◌, arith}
+use Rattle.std.proofs.Common.{subst, append_assoc, append-nil, length-append}
 use Rattle.std.specs.Prelude.{slice_index_or}
 use Rattle.std.proofs.lemmas.List.{take_more, take-append-drop, length-take-le}
 use Rattle.road_time.specs.declared.day.Limits.{Limits}
@@ -23,7 +24,8 @@ start_room n backlog h = omega (arith, h)
 
 module _ (width : ℕ) where
   -- one tuple more, after some
-  pub fed_push : (s : State) (xs : List Tuple) (x : Tuple) → after_fed width s (xs ++ x ∷ []) ≡ after_feed width (after_fed width s xs) x
+  pub fed_push : (s : State) (xs : List Tuple) (x : Tuple) →
+      after_fed width s (xs ++ x ∷ []) ≡ after_feed width (after_fed width s xs) x
   fed_push s [] x = refl
   fed_push s (y ∷ xs) x = fed_push (after_feed width s y) xs x
 
@@ -42,23 +44,30 @@ module _ (width : ℕ) where
   fed_out s (x ∷ xs) w = fed_out (after_feed width s x) xs w
 
   -- findings stay true
-  pub fed_true : (tariffs : Tariffs) (of : ℕ) (s : State) (xs : List Tuple) → IsTrue tariffs of s → IsTrue tariffs of (after_fed width s xs)
+  pub fed_true : (tariffs : Tariffs) (of : ℕ) (s : State) (xs : List Tuple) → IsTrue tariffs of s →
+      IsTrue tariffs of (after_fed width s xs)
   fed_true tariffs of s [] h = h
   fed_true tariffs of s (x ∷ xs) h = fed_true tariffs of (after_feed width s x) xs h
 
   -- the next one may be fed after the first ones
-  pub can_next : (limits : Limits) (s : State) (xs : List Tuple) (i : ℕ) (d : Tuple) → Fit (s.fed ++ xs) limits → length s.fed + length xs ≤ s.settled + limits.backlog → i < length xs →
+  pub can_next : (limits : Limits) (s : State) (xs : List Tuple) (i : ℕ) (d : Tuple) → Fit (s.fed ++ xs) limits →
+      length s.fed + length xs ≤ s.settled + limits.backlog → i < length xs →
       CanFeed limits (after_fed width s (take i xs)) (slice_index_or xs i d)
   can_next limits s xs i d fit room h =
       let x = slice_index_or xs i d in
       let first = take i xs in
       let whole : s.fed ++ xs ≡ ((after_fed width s first).fed ++ x ∷ []) ++ drop (i + 1) xs =
-      ap (λ ys. s.fed ++ ys) (sym (take-append-drop (i + 1) xs) ∙ ap (λ ys. ys ++ drop (i + 1) xs) (take_more xs i d h)) ∙
-      (sym (append_assoc s.fed (first ++ x ∷ []) (drop (i + 1) xs)) ∙ ap (λ ys. ys ++ drop (i + 1) xs) (sym (append_assoc s.fed first (x ∷ [])) ∙ ap (λ ys. ys ++ x ∷ []) (sym (fed_are s first)))) in
-      let long : length (after_fed width s first).fed ≡ length s.fed + length first = ap length (fed_are s first) ∙ length-append s.fed first in
+      ap (λ ys. s.fed ++ ys) (sym (take-append-drop (i + 1) xs) ∙ ap (λ ys. ys ++ drop (i + 1) xs) (take_more xs i d h))
+      ∙
+      (sym (append_assoc s.fed (first ++ x ∷ []) (drop (i + 1) xs))
+      ∙ ap (λ ys. ys ++ drop (i + 1) xs)
+      (sym (append_assoc s.fed first (x ∷ [])) ∙ ap (λ ys. ys ++ x ∷ []) (sym (fed_are s first)))) in
+      let long : length (after_fed width s first).fed ≡ length s.fed + length first = ap length (fed_are s first)
+      ∙ length-append s.fed first in
       let few : length first ≡ i = length-take-le i xs (omega (arith, h)) in
       let same = fed_settled s first in
       record {
-        fit = fit_left ((after_fed width s first).fed ++ x ∷ []) (drop (i + 1) xs) limits (subst (λ d. Fit d limits) whole fit);
+        fit = fit_left ((after_fed width s first).fed ++ x ∷ []) (drop (i + 1) xs) limits
+            (subst (λ d. Fit d limits) whole fit);
         room = omega (arith, h, room, long, few, same);
       }

@@ -9,12 +9,16 @@ use Rattle.settling.specs.declared.fault.SettleFault.TheVariants.{KeeperFault, W
 use Rattle.settling.specs.Levels.{Level, Adds, AddsFront, AddsPieces, FillsUp}
 use Rattle.settling.specs.Asking.{Plan, Passes, PassesUpTo, FailsAfter, asked_by, asked}
 
--- the sink took the whole output of a day, and the keeper was asked for each request, and planned none of these calls to fail
+-- the sink took the whole output of a day, and the keeper was asked for each request, and planned none of these calls
+-- to fail
 abbrev pub TakesDay : List Tuple → Tariffs → ℕ → (ℕ → ℕ → ℕ → ℕ) → Level → Level → Plan → Plan → Type 0
-TakesDay day tariffs number kept old now plan left = Adds old now (out (notices day tariffs number kept)) × Passes (asked day) plan left
+TakesDay day tariffs number kept old now plan left = Adds old now (out (notices day tariffs number kept))
+    × Passes (asked day) plan left
 
--- the keeper failed at a request, as it was planned, and at none before; of the output of the tuples up to there all is written but what a piece holds
-pub record FailsInDay (day : List Tuple) (tariffs : Tariffs) (number : ℕ) (kept : ℕ → ℕ → ℕ → ℕ) (old now : Level) (plan left : Plan) : Type 0 where
+-- the keeper failed at a request, as it was planned, and at none before; of the output of the tuples up to there all
+-- is written but what a piece holds
+pub record FailsInDay (day : List Tuple) (tariffs : Tariffs) (number : ℕ) (kept : ℕ → ℕ → ℕ → ℕ) (old now : Level)
+    (plan left : Plan) : Type 0 where
   pub done : List Tuple
   pub request : Tuple
   pub later : List Tuple
@@ -23,8 +27,11 @@ pub record FailsInDay (day : List Tuple) (tariffs : Tariffs) (number : ℕ) (kep
   pub wrote : AddsPieces (out (notices done tariffs number kept)) old now
   pub failed : FailsAfter (asked done) plan left
 
--- where it was stopped: by the keeper at the call that was planned to fail; by the sink where its room was full; or for want of memory
+-- where it was stopped: by the keeper at the call that was planned to fail; by the sink where its room was full; or
+-- for want of memory
 abbrev pub StopsDay : SettleFault → List Tuple → Tariffs → ℕ → (ℕ → ℕ → ℕ → ℕ) → Level → Level → Plan → Plan → Type 0
 StopsDay KeeperFault day tariffs number kept old now plan left = FailsInDay day tariffs number kept old now plan left
-StopsDay WriteFault day tariffs number kept old now plan left = FillsUp (out (notices day tariffs number kept)) old now × PassesUpTo (asked day) plan left
-StopsDay NoMemory day tariffs number kept old now plan left = AddsFront (out (notices day tariffs number kept)) old now × PassesUpTo (asked day) plan left
+StopsDay WriteFault day tariffs number kept old now plan left = FillsUp (out (notices day tariffs number kept)) old now
+    × PassesUpTo (asked day) plan left
+StopsDay NoMemory day tariffs number kept old now plan left = AddsFront (out (notices day tariffs number kept)) old now
+    × PassesUpTo (asked day) plan left

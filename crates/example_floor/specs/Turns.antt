@@ -16,7 +16,8 @@ after_fed width s (x ∷ xs) = after_fed width (after_feed width s x) xs
 -- a worker's job is given and taken back with what its events find, if it may be given one
 abbrev pub after_run : Tariffs → State → ℕ → State
 after_run tariffs s worker =
-    if can_give (s.share worker) then after_back (after_give s worker) worker (findings (s.share worker).back (s.share worker).waiting tariffs) else s
+    if can_give (s.share worker) then after_back (after_give s worker) worker
+    (findings (s.share worker).back (s.share worker).waiting tariffs) else s
 
 -- and so the jobs of the first so many workers
 abbrev pub after_runs : Tariffs → State → ℕ → State
@@ -34,4 +35,5 @@ pub record AreAnswered (tariffs : Tariffs) (width : ℕ) (fed : List Tuple) (s :
   pub home : AllHome s
   pub true_found : IsTrue tariffs width s
   pub exact : (number : ℕ) (kept : ℕ → ℕ → ℕ → ℕ) → merged fed s.found number kept ≡ notices fed tariffs number kept
-  pub fronts : (n : ℕ) → n ≤ length fed → (number : ℕ) (kept : ℕ → ℕ → ℕ → ℕ) → merged (take n fed) s.found number kept ≡ notices (take n fed) tariffs number kept
+  pub fronts : (n : ℕ) → n ≤ length fed → (number : ℕ) (kept : ℕ → ℕ → ℕ → ℕ) →
+      merged (take n fed) s.found number kept ≡ notices (take n fed) tariffs number kept

@@ -1,5 +1,6 @@
 -- what passes the tests that compute can be run
-use Rattle.std.proofs.Common.{◌≡◌, ℕ, ◌≤◌, ◌==◌, ◌⊎◌, ⊎_elim, inl, inr, Bool, true, false, cond, List, [], ◌∷◌, ◌++◌, length, map, nat_le, refl, ap, arith, subst}
+use Rattle.std.proofs.Common.{◌≡◌, ℕ, ◌≤◌, ◌==◌, ◌⊎◌, ⊎_elim, inl, inr, Bool, true, false, cond, List, [], ◌∷◌, ◌++◌}
+use Rattle.std.proofs.Common.{length, map, nat_le, refl, ap, arith, subst}
 use Rattle.std.specs.List.{list_all, count_by, AllByRecursion}
 use Rattle.std.proofs.lemmas.List.{length-map}
 use Rattle.std.proofs.lemmas.List.Elements.{All-from_recursion}
@@ -21,23 +22,31 @@ use Rattle.expressway.specs.Checks.{follows, all_follow, in_range, times_rise, i
 use Rattle.expressway.proofs.ReadyLaws.{as_tuples, reports_back}
 
 -- what passes a test has what the test tells
-all_pass : {X : Type 0} (P : X → Type 0) (test : X → Bool) → ((x : X) → test x ≡ true → P x) → (xs : List X) → list_all test xs ≡ true → AllByRecursion P xs
+all_pass : {X : Type 0} (P : X → Type 0) (test : X → Bool) → ((x : X) → test x ≡ true → P x) → (xs : List X) →
+    list_all test xs ≡ true → AllByRecursion P xs
 all_pass P test f [] h = tt
-all_pass P test f (x ∷ xs) h = let both = and_parts (test x) (list_all test xs) h in (f x both.0, all_pass P test f xs both.1)
+all_pass P test f (x ∷ xs) h = let both = and_parts (test x) (list_all test xs) h in
+    (f x both.0, all_pass P test f xs both.1)
 
 -- events that pass are of no later second
-none_after : (second : ℕ) (es : List LaneEvent) → list_all (λ e. nat_le (time_told e) second) es ≡ true → NoneAfter second es
-none_after second es h = all_pass (λ e. time_told e ≤ second) (λ e. nat_le (time_told e) second) (λ e g. leb-true (time_told e) second g) es h
+none_after : (second : ℕ) (es : List LaneEvent) → list_all (λ e. nat_le (time_told e) second) es ≡ true →
+    NoneAfter second es
+none_after second es h =
+    all_pass (λ e. time_told e ≤ second) (λ e. nat_le (time_told e) second) (λ e g. leb-true (time_told e) second g) es
+    h
 
 -- an event that passes may come after those
 may_follow : (before : List LaneEvent) (e : LaneEvent) → follows before e ≡ true → MayFollow before e
 may_follow before (Seen position r begins stopped) h = none_after r.time before h
-may_follow before (Leave position time vid place) h = let both = and_parts (list_all (λ e. nat_le (time_told e) time) before) (is_standing (entries before) vid place) h in (none_after time before both.0, both.1)
+may_follow before (Leave position time vid place) h = let both =
+    and_parts (list_all (λ e. nat_le (time_told e) time) before) (is_standing (entries before) vid place) h in
+    (none_after time before both.0, both.1)
 
 -- events that pass may come one by one
 may_run : (before es : List LaneEvent) → all_follow before es ≡ true → MayRun before es
 may_run before [] h = tt
-may_run before (e ∷ es) h = let both = and_parts (follows before e) (all_follow (before ++ e ∷ []) es) h in (may_follow before e both.0, may_run (before ++ e ∷ []) es both.1)
+may_run before (e ∷ es) h = let both = and_parts (follows before e) (all_follow (before ++ e ∷ []) es) h in
+    (may_follow before e both.0, may_run (before ++ e ∷ []) es both.1)
 
 -- a report that passes is in range
 is_report : (r : Report) → in_range r ≡ true → IsReport r
@@ -48,39 +57,56 @@ is_report r h =
     let d = and_parts (nat_le r.xway 255) _ c.1 in
     let e = and_parts (nat_le r.lane 4) _ d.1 in
     let f = and_parts (nat_le r.dir 1) _ e.1 in
-    let g = and_parts (nat_le r.seg 99) (nat_le r.pos 527999) f.1 in
-    (leb-true _ _ a.0, leb-true _ _ b.0, leb-true _ _ c.0, leb-true _ _ d.0, leb-true _ _ e.0, leb-true _ _ f.0, leb-true _ _ g.0, leb-true _ _ g.1)
+    let g = and_parts (nat_le r.seg 99) (nat_le r.pos 527999) f.1 in (
+      leb-true _ _ a.0,
+      leb-true _ _ b.0,
+      leb-true _ _ c.0,
+      leb-true _ _ d.0,
+      leb-true _ _ e.0,
+      leb-true _ _ f.0,
+      leb-true _ _ g.0,
+      leb-true _ _ g.1,
+    )
 
 -- reports that pass are valid tuples
 all_valid : (rs : List Report) → list_all in_range rs ≡ true → AllByRecursion IsValid (as_tuples rs)
 all_valid [] h = tt
-all_valid (r ∷ rs) h = let both = and_parts (in_range r) (list_all in_range rs) h in (is_report r both.0, all_valid rs both.1)
+all_valid (r ∷ rs) h = let both = and_parts (in_range r) (list_all in_range rs) h in
+    (is_report r both.0, all_valid rs both.1)
 
 -- none of those that pass is of an earlier second
-none_before : (second : ℕ) (rs : List Report) → list_all (λ q. nat_le second q.time) rs ≡ true → NoneBefore second (as_tuples rs)
+none_before : (second : ℕ) (rs : List Report) → list_all (λ q. nat_le second q.time) rs ≡ true →
+    NoneBefore second (as_tuples rs)
 none_before second [] h = tt
-none_before second (r ∷ rs) h = let both = and_parts (nat_le second r.time) (list_all (λ q. nat_le second q.time) rs) h in (leb-true second r.time both.0, none_before second rs both.1)
+none_before second (r ∷ rs) h = let both =
+    and_parts (nat_le second r.time) (list_all (λ q. nat_le second q.time) rs) h in
+    (leb-true second r.time both.0, none_before second rs both.1)
 
 -- Times of those that pass do not fall
 in_order : (rs : List Report) → times_rise rs ≡ true → InOrder (as_tuples rs)
 in_order [] h = tt
-in_order (r ∷ rs) h = let both = and_parts (list_all (λ q. nat_le r.time q.time) rs) (times_rise rs) h in (none_before r.time rs both.0, in_order rs both.1)
+in_order (r ∷ rs) h = let both = and_parts (list_all (λ q. nat_le r.time q.time) rs) (times_rise rs) h in
+    (none_before r.time rs both.0, in_order rs both.1)
 
 -- a report that is not of the vehicle in the minute is not counted
-not_counted : (vid minute : ℕ) (r : Report) (rs : List Report) → is_in vid minute r ≡ false → count_by (is_in vid minute) rs ≡ 0 → count_by (is_in vid minute) (r ∷ rs) ≡ 0
+not_counted : (vid minute : ℕ) (r : Report) (rs : List Report) → is_in vid minute r ≡ false →
+    count_by (is_in vid minute) rs ≡ 0 → count_by (is_in vid minute) (r ∷ rs) ≡ 0
 not_counted vid minute r rs e h =
     let none : ◌≡◌ {A = ℕ} (cond {A = ℕ} (is_in vid minute r) 1 0) 0 = ap (λ b. cond {A = ℕ} b 1 0) e in
     omega (arith, sum_by-cons (λ q. cond (is_in vid minute q) 1 0) r rs, none, h)
 
 -- none of the reports is of a vehicle in a minute, or at most four of all are
-rare_or_none : (all : List Report) (vid minute : ℕ) (rs : List Report) → all_rare all rs ≡ true → (count_by (is_in vid minute) rs ≡ 0) ⊎ (count_by (is_in vid minute) all ≤ 4)
+rare_or_none : (all : List Report) (vid minute : ℕ) (rs : List Report) → all_rare all rs ≡ true →
+    (count_by (is_in vid minute) rs ≡ 0) ⊎ (count_by (is_in vid minute) all ≤ 4)
 rare_or_none all vid minute [] h = inl refl
 rare_or_none all vid minute (r ∷ rs) h =
     let both = and_parts (nat_le (count_by (is_in r.vid (minute_of r.time)) all) 4) (all_rare all rs) h in
     ⊎_elim
     (λ yes. let same = and_parts (r.vid == vid) (minute_of r.time == minute) yes in
-    inr (subst (λ m. count_by (is_in vid m) all ≤ 4) (eqb-true (minute_of r.time) minute same.1) (subst (λ v. count_by (is_in v (minute_of r.time)) all ≤ 4) (eqb-true r.vid vid same.0) (leb-true _ 4 both.0))))
-    (λ no. ⊎_elim (λ e. inl (not_counted vid minute r rs no e)) (λ few. inr few) (rare_or_none all vid minute rs both.1))
+    inr (subst (λ m. count_by (is_in vid m) all ≤ 4) (eqb-true (minute_of r.time) minute same.1)
+    (subst (λ v. count_by (is_in v (minute_of r.time)) all ≤ 4) (eqb-true r.vid vid same.0) (leb-true _ 4 both.0))))
+    (λ no. ⊎_elim (λ e. inl (not_counted vid minute r rs no e)) (λ few. inr few)
+    (rare_or_none all vid minute rs both.1))
     (cases_Bool (is_in vid minute r))
 
 -- none is at most four
@@ -104,4 +130,5 @@ is_day rs h =
 
 -- events that pass can be run on a new carriage
 pub checked : (es : List LaneEvent) → can_be_run es ≡ true → CanRun [] es
-checked es h = let both = and_parts (all_follow [] es) (are_a_day (seen es)) h in record { order = may_run [] es both.0; day = is_day (seen es) both.1 }
+checked es h = let both = and_parts (all_follow [] es) (are_a_day (seen es)) h in
+    record { order = may_run [] es both.0; day = is_day (seen es) both.1 }

@@ -1,5 +1,6 @@
 -- what is told of a stretch by what is kept is what is found for its reports, and stays the same within a minute
-use Rattle.std.proofs.Common.{◌≡◌, ◌+◌, ◌-◌, ◌/◌, ◌≤◌, ◌<◌, ◌*◌, ◌&&◌, ◌||◌, nat_lt, nat_le, ℕ, Bool, List, All, Option, Some, None, is_some, replicate, get_or, length, ⊎_elim, refl, sym, ap, subst, ◌∙◌, arith}
+use Rattle.std.proofs.Common.{◌≡◌, ◌+◌, ◌-◌, ◌/◌, ◌≤◌, ◌<◌, ◌*◌, ◌&&◌, ◌||◌, nat_lt, nat_le, ℕ, Bool, List, All, Option}
+use Rattle.std.proofs.Common.{Some, None, is_some, replicate, get_or, length, ⊎_elim, refl, sym, ap, subst, ◌∙◌, arith}
 use Rattle.std.proofs.lemmas.Bool.{cases_eq}
 use Rattle.std.proofs.lemmas.List.{get_or-replicate, length-replicate}
 use Rattle.std.proofs.lemmas.List.Elements.{All-get_or, All-from_get_or}
@@ -51,7 +52,8 @@ found_in_is c r before at =
 abbrev stood_at : ℕ → Spell → Bool
 stood_at m s = nat_lt 0 m && (nat_le 1 s.places && nat_lt s.since (60 * m) || is_marked s m)
 
-pub stood_later : (second later : ℕ) (s : Spell) → minute_of later ≡ minute_of second → stood_last later s ≡ stood_last second s
+pub stood_later : (second later : ℕ) (s : Spell) → minute_of later ≡ minute_of second →
+    stood_last later s ≡ stood_last second s
 stood_later second later s h =
     let same : later / 60 ≡ second / 60 = omega (arith, h) in
     ap (λ m. stood_at m s) same
@@ -59,22 +61,29 @@ stood_later second later s h =
 module _ (c d : Kept) where
   -- in the same minute, with the averages of the minutes before and the stops of the minute before, the same is told
   pub found_same : d.tariffs ≡ c.tariffs → 1 ≤ c.speeds.minute → d.speeds.minute ≡ c.speeds.minute →
-      ((k : Stretch) (m : ℕ) → m < c.speeds.minute → c.speeds.minute < m + 6 → flow_in d.speeds.rings k m ≡ flow_in c.speeds.rings k m) →
+      ((k : Stretch) (m : ℕ) → m < c.speeds.minute → c.speeds.minute < m + 6 →
+      flow_in d.speeds.rings k m ≡ flow_in c.speeds.rings k m) →
       ((k : Stretch) → stood_in d.stops k ≡ stood_in c.stops k) → (k : Stretch) → found_in d k ≡ found_in c k
   found_same tariffs first minute past last k =
       ap (λ t. found_in (record { speeds = d.speeds; stops = d.stops; tariffs = t }) k) tariffs
-      ∙ made c.tariffs k.xway (lav_in_same c.speeds d.speeds first minute past k) (cars_in_same c.speeds d.speeds first minute past k) (near_in_same d.stops c.stops last k)
+      ∙ made c.tariffs k.xway (lav_in_same c.speeds d.speeds first minute past k)
+      (cars_in_same c.speeds d.speeds first minute past k) (near_in_same d.stops c.stops last k)
 
   -- so what is known stays true
-  true_same : d.speeds.minute ≡ c.speeds.minute → ((k : Stretch) → found_in d k ≡ found_in c k) → (q : Option Known) → IsTrueIn c q → IsTrueIn d q
+  true_same : d.speeds.minute ≡ c.speeds.minute → ((k : Stretch) → found_in d k ≡ found_in c k) → (q : Option Known) →
+      IsTrueIn c q → IsTrueIn d q
   true_same minute same None h = tt
   true_same minute same (Some q) h = (omega (arith, h.0, minute), λ e. h.1 (e ∙ minute) ∙ sym (same q.stretch))
 
-  pub step_same : (known : List (Option Known)) → d.speeds.minute ≡ c.speeds.minute → minute_of d.stops.second ≡ minute_of c.stops.second →
+  pub step_same : (known : List (Option Known)) → d.speeds.minute ≡ c.speeds.minute →
+      minute_of d.stops.second ≡ minute_of c.stops.second →
       ((k : Stretch) → found_in d k ≡ found_in c k) → IsInStep c known → IsInStep d known
   step_same known minute second same h = record {
     minute = minute ∙ h.minute ∙ sym second;
-    known_ones = All-from_get_or (IsTrueIn d) known None (λ i within. true_same minute same (get_or known i None) (All-get_or (IsTrueIn c) known i None within h.known_ones));
+    known_ones =
+        All-from_get_or (IsTrueIn d) known None
+        (λ i within. true_same minute same (get_or known i None)
+        (All-get_or (IsTrueIn c) known i None within h.known_ones));
   }
 
   -- in a later minute it says nothing
@@ -82,15 +91,20 @@ module _ (c d : Kept) where
   true_later later None h = tt
   true_later later (Some q) h = (omega (arith, h.0, later), λ e. absurd (omega (arith, h.0, later, e)))
 
-  pub step_later : (known : List (Option Known)) → c.speeds.minute < d.speeds.minute → d.speeds.minute ≡ minute_of d.stops.second → IsInStep c known → IsInStep d known
+  pub step_later : (known : List (Option Known)) → c.speeds.minute < d.speeds.minute →
+      d.speeds.minute ≡ minute_of d.stops.second → IsInStep c known → IsInStep d known
   step_later known later minute h = record {
     minute = minute;
-    known_ones = All-from_get_or (IsTrueIn d) known None (λ i within. true_later later (get_or known i None) (All-get_or (IsTrueIn c) known i None within h.known_ones));
+    known_ones =
+        All-from_get_or (IsTrueIn d) known None
+        (λ i within. true_later later (get_or known i None) (All-get_or (IsTrueIn c) known i None within h.known_ones));
   }
 
 -- what is known stays true where a report of the current minute is noted, and vehicles stop or leave
-pub noted_step : (c : Kept) (known : List (Option Known)) → IsInStep c known → (speeds : Averages) → speeds.minute ≡ c.speeds.minute →
-    ((k : Stretch) (m : ℕ) → m < c.speeds.minute → c.speeds.minute < m + 6 → flow_in speeds.rings k m ≡ flow_in c.speeds.rings k m) →
+pub noted_step : (c : Kept) (known : List (Option Known)) → IsInStep c known → (speeds : Averages) →
+    speeds.minute ≡ c.speeds.minute →
+    ((k : Stretch) (m : ℕ) → m < c.speeds.minute → c.speeds.minute < m + 6 →
+    flow_in speeds.rings k m ≡ flow_in c.speeds.rings k m) →
     (stops : Standing) → stops.second ≡ c.stops.second → ((k : Stretch) → stood_in stops k ≡ stood_in c.stops k) →
     IsInStep (record { speeds = speeds; stops = stops; tariffs = c.tariffs }) known
 noted_step c known h speeds minute past stops second last =
@@ -98,10 +112,14 @@ noted_step c known h speeds minute past stops second last =
     step_same c d known minute (ap minute_of second) (found_same c d refl (omega (arith, h.minute)) minute past last) h
 
 -- and where the second moves on
-pub moved_step : (c : Kept) (known : List (Option Known)) → IsInStep c known → (speeds : Averages) (minute : ℕ) → speeds.minute ≡ minute →
-    c.speeds.minute ≤ minute → (c.speeds.minute ≡ minute → speeds ≡ c.speeds) → (stops : Standing) (second : ℕ) → minute ≡ minute_of second →
-    stops ≡ record c.stops { second = second } → IsInStep (record { speeds = speeds; stops = stops; tariffs = c.tariffs }) known
-moved_step c known h speeds minute new up same stops second of moved = ⊎_elim here later (cases_eq c.speeds.minute minute)
+pub moved_step : (c : Kept) (known : List (Option Known)) → IsInStep c known → (speeds : Averages) (minute : ℕ) →
+    speeds.minute ≡ minute →
+    c.speeds.minute ≤ minute → (c.speeds.minute ≡ minute → speeds ≡ c.speeds) → (stops : Standing) (second : ℕ) →
+    minute ≡ minute_of second →
+    stops ≡ record c.stops { second = second } →
+    IsInStep (record { speeds = speeds; stops = stops; tariffs = c.tariffs }) known
+moved_step c known h speeds minute new up same stops second of moved =
+    ⊎_elim here later (cases_eq c.speeds.minute minute)
   where
     d : Kept
     d = record { speeds = speeds; stops = stops; tariffs = c.tariffs }
@@ -113,14 +131,16 @@ moved_step c known h speeds minute new up same stops second of moved = ⊎_elim 
     here e =
         let seconds : minute_of second ≡ minute_of c.stops.second = sym of ∙ sym e ∙ h.minute in
         step_same c d known (new ∙ sym e) (ap minute_of now ∙ seconds)
-        (found_same c d refl (omega (arith, h.minute)) (new ∙ sym e) (λ k m early late. ap (λ (a : Averages). flow_in a.rings k m) (same e))
+        (found_same c d refl (omega (arith, h.minute)) (new ∙ sym e)
+        (λ k m early late. ap (λ (a : Averages). flow_in a.rings k m) (same e))
         (λ k. ap (λ s. stood_in s k) moved ∙ stood_later c.stops.second second (spell_of c.stops.spells k) seconds)) h
 
     later : (c.speeds.minute ≡ minute → ⊥) → IsInStep d known
     later ne = step_later c d known (omega (arith, new, up, ne)) (new ∙ of ∙ ap minute_of (sym now)) h
 
 -- what is known at a place is true
-pub true_at : (c : Kept) (known : List (Option Known)) (at : ℕ) (d : Option Known) (q : Known) → All (IsTrueIn c) known → at < length known → get_or known at d ≡ Some q → IsTrueIn c (Some q)
+pub true_at : (c : Kept) (known : List (Option Known)) (at : ℕ) (d : Option Known) (q : Known) → All (IsTrueIn c) known
+    → at < length known → get_or known at d ≡ Some q → IsTrueIn c (Some q)
 true_at c known at d q all within h = subst (IsTrueIn c) h (All-get_or (IsTrueIn c) known at d within all)
 
 -- nothing known is true
@@ -128,4 +148,5 @@ pub nothing_known : (c : Kept) (n : ℕ) → All (IsTrueIn c) (replicate n None)
 nothing_known c n =
     let nothing : List (Option Known) = replicate n None in
     let long : length nothing ≡ n = length-replicate n None in
-    All-from_get_or (IsTrueIn c) nothing None (λ i within. subst (IsTrueIn c) (sym (get_or-replicate n i None None (subst (λ m. i < m) long within))) tt)
+    All-from_get_or (IsTrueIn c) nothing None
+    (λ i within. subst (IsTrueIn c) (sym (get_or-replicate n i None None (subst (λ m. i < m) long within))) tt)

@@ -53,21 +53,26 @@ minute_le : (a b : ℕ) → a ≤ b → minute_of a ≤ minute_of b
 minute_le a b h = omega arith
 
 -- the next event is not before the second of a carriage
-pub second_le : (c : Kept) (before : List LaneEvent) (e : LaneEvent) → IsReady c before (e ∷ []) → c.stops.second ≤ time_told e
+pub second_le : (c : Kept) (before : List LaneEvent) (e : LaneEvent) → IsReady c before (e ∷ []) →
+    c.stops.second ≤ time_told e
 second_le c before e r =
     let last = last_le (time_told e) before (follows before e r.runs.order.0) in
     let now = r.stands.second in
     omega (arith, last, now)
 
 -- nor before its minute
-pub minutes_le : (c : Kept) (before : List LaneEvent) (e : LaneEvent) → IsReady c before (e ∷ []) → c.speeds.minute ≤ minute_of (time_told e)
+pub minutes_le : (c : Kept) (before : List LaneEvent) (e : LaneEvent) → IsReady c before (e ∷ []) →
+    c.speeds.minute ≤ minute_of (time_told e)
 minutes_le c before e r =
-    let last = minute_le (last_second before) (time_told e) (last_le (time_told e) before (follows before e r.runs.order.0)) in
+    let last =
+    minute_le (last_second before) (time_told e) (last_le (time_told e) before (follows before e r.runs.order.0)) in
     let now = r.stands.minute in
     omega (arith, last, now)
 
 -- a carriage with the notes and the entries of one event more, at its second, stands for the events with it
-pub at_next : (c : Kept) (before : List LaneEvent) (e : LaneEvent) → AveragesStandFor c.speeds (notes_of (seen before) ++ notes_of (seen (e ∷ []))) → StopsStandFor c.stops (entries before ++ entries (e ∷ [])) →
+pub at_next : (c : Kept) (before : List LaneEvent) (e : LaneEvent) →
+    AveragesStandFor c.speeds (notes_of (seen before) ++ notes_of (seen (e ∷ []))) →
+    StopsStandFor c.stops (entries before ++ entries (e ∷ [])) →
     c.speeds.minute ≡ minute_of (time_told e) → c.stops.second ≡ time_told e → StandsFor c (before ++ e ∷ [])
 at_next c before e a s m t = record {
   averages = rw (seen_push before e, map-append note_of (seen before) (seen (e ∷ []))) a;
@@ -77,17 +82,24 @@ at_next c before e a s m t = record {
 }
 
 -- the same for a leave, of which there is no note
-pub at_left : (c : Kept) (before : List LaneEvent) (position time vid : ℕ) (place : Place) → AveragesStandFor c.speeds (notes_of (seen before)) →
+pub at_left : (c : Kept) (before : List LaneEvent) (position time vid : ℕ) (place : Place) →
+    AveragesStandFor c.speeds (notes_of (seen before)) →
     StopsStandFor c.stops (entries before ++ record { second = time; vid = vid; place = place; stops = false } ∷ []) →
-    c.speeds.minute ≡ minute_of time → c.stops.second ≡ time → StandsFor c (before ++ Leave position time vid place ∷ [])
-at_left c before position time vid place a s m t = at_next c before (Leave position time vid place) (rw (append-nil (notes_of (seen before))) a) s m t
+    c.speeds.minute ≡ minute_of time → c.stops.second ≡ time →
+    StandsFor c (before ++ Leave position time vid place ∷ [])
+at_left c before position time vid place a s m t =
+    at_next c before (Leave position time vid place) (rw (append-nil (notes_of (seen before))) a) s m t
 
 -- a finding by its parts
 abbrev pub found_as : ℕ → ℤ → ℕ → Option ℕ → ℕ × Finding
 found_as position whole toll alert = (position, record { lav = whole; toll = toll; alert = alert })
 
 -- what the parts of a carriage say of a report's stretch in its minute is what is found for the report
-pub found_is : (ns : List Note) (stops_at : ℕ → List Stop) (tariffs : Tariffs) (r : Report) (position minute second : ℕ) (k : Stretch) (tariff : Tariff) (n toll : ℕ) (average : Option Frac) (whole : ℤ) (alert : Option ℕ) →
-    minute ≡ minute_of r.time → second ≡ r.time → k ≡ stretch_of r → tariff ≡ tariff_of tariffs r.xway → n ≡ cars ns (minute - 1) k → average ≡ lav ns minute k → alert ≡ near stops_at (minute_of second) k →
-    whole ≡ whole_of average → toll ≡ toll_of tariff n average (is_some alert) → found_as position whole toll alert ≡ (position, finding_by ns stops_at tariffs r)
-found_is ns stops_at tariffs r position minute second k tariff n toll average whole alert m s e t c l a w h = rw (h, w, t, c, l, a, m, s, e) refl
+pub found_is : (ns : List Note) (stops_at : ℕ → List Stop) (tariffs : Tariffs) (r : Report) (position minute second : ℕ)
+    (k : Stretch) (tariff : Tariff) (n toll : ℕ) (average : Option Frac) (whole : ℤ) (alert : Option ℕ) →
+    minute ≡ minute_of r.time → second ≡ r.time → k ≡ stretch_of r → tariff ≡ tariff_of tariffs r.xway →
+    n ≡ cars ns (minute - 1) k → average ≡ lav ns minute k → alert ≡ near stops_at (minute_of second) k →
+    whole ≡ whole_of average → toll ≡ toll_of tariff n average (is_some alert) →
+    found_as position whole toll alert ≡ (position, finding_by ns stops_at tariffs r)
+found_is ns stops_at tariffs r position minute second k tariff n toll average whole alert m s e t c l a w h =
+    rw (h, w, t, c, l, a, m, s, e) refl

@@ -11,7 +11,8 @@ use Rattle.expressway.specs.Events.{seen, entries, time_told}
 -- whether an event may come after others
 abbrev pub follows : List LaneEvent → LaneEvent → Bool
 follows before (Seen position r begins stopped) = list_all (λ e. nat_le (time_told e) r.time) before
-follows before (Leave position time vid place) = list_all (λ e. nat_le (time_told e) time) before && is_standing (entries before) vid place
+follows before (Leave position time vid place) =
+    list_all (λ e. nat_le (time_told e) time) before && is_standing (entries before) vid place
 
 -- whether events may come after others, one by one
 abbrev pub all_follow : List LaneEvent → List LaneEvent → Bool
@@ -21,7 +22,10 @@ all_follow before (e ∷ es) = follows before e && all_follow (before ++ e ∷ [
 -- whether the numbers of a report are in their ranges
 abbrev pub in_range : Report → Bool
 in_range r =
-    nat_le r.time 86399 && (nat_le r.vid 2147483647 && (nat_le r.spd 100 && (nat_le r.xway 255 && (nat_le r.lane 4 && (nat_le r.dir 1 && (nat_le r.seg 99 && nat_le r.pos 527999))))))
+    nat_le r.time 86399
+    && (nat_le r.vid 2147483647
+    && (nat_le r.spd 100
+    && (nat_le r.xway 255 && (nat_le r.lane 4 && (nat_le r.dir 1 && (nat_le r.seg 99 && nat_le r.pos 527999))))))
 
 -- whether Times do not fall
 abbrev pub times_rise : List Report → Bool
@@ -38,7 +42,10 @@ all_rare all rs = list_all (λ r. nat_le (count_by (is_in r.vid (minute_of r.tim
 
 -- whether reports are a day's
 abbrev pub are_a_day : List Report → Bool
-are_a_day rs = list_all in_range rs && (nat_le (length rs) 16000000 && (times_rise rs && (nat_le (length (distinct (map (λ r. r.vid) rs))) 500000 && all_rare rs rs)))
+are_a_day rs =
+    list_all in_range rs
+    && (nat_le (length rs) 16000000
+    && (times_rise rs && (nat_le (length (distinct (map (λ r. r.vid) rs))) 500000 && all_rare rs rs)))
 
 -- whether events can be run on a new carriage
 abbrev pub can_be_run : List LaneEvent → Bool

@@ -19,14 +19,16 @@ abbrev pub leave_of : ℕ → Report → Option Place → List LaneEvent
 leave_of position r None = []
 leave_of position r (Some place) = Leave position r.time r.vid place ∷ []
 
--- the events of a report at a position, after its vehicle's previous report and its earlier ones, the newest first: the place that it left, and then that it was seen
+-- the events of a report at a position, after its vehicle's previous report and its earlier ones, the newest first:
+-- the place that it left, and then that it was seen
 abbrev pub events_of : ℕ → Option Report → List Report → Report → List LaneEvent
 events_of position prev own r =
     leave_of position r (left_by own r) ++ Seen position r (begins prev r) (stands (r ∷ own) (place_of r)) ∷ []
 
 -- the events of a moment
 abbrev pub events_at : Moment → List LaneEvent
-events_at (before, ReportTuple r) = events_of (length before) (previous (sights_of before r.vid)) (trail (reports before) r.vid) r
+events_at (before, ReportTuple r) =
+    events_of (length before) (previous (sights_of before r.vid)) (trail (reports before) r.vid) r
 events_at (before, Balance time vid qid) = []
 events_at (before, Spent time vid xway qid of_day) = []
 events_at (before, Travel time) = []
@@ -69,7 +71,8 @@ seen es = filter_map report_seen es
 
 -- what an event says of stops: a report after which its vehicle is stopped is a stop at its place
 abbrev pub entry_of : LaneEvent → Option Entry
-entry_of (Seen position r begins true) = Some (record { second = r.time; vid = r.vid; place = place_of r; stops = true })
+entry_of (Seen position r begins true) =
+    Some (record { second = r.time; vid = r.vid; place = place_of r; stops = true })
 entry_of (Seen position r begins false) = None
 entry_of (Leave position time vid place) = Some (record { second = time; vid = vid; place = place; stops = false })
 

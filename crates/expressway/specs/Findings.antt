@@ -22,7 +22,8 @@ found_if true notes stops_at tariffs position r = Some (position, finding_by not
 
 -- the finding of an event, if it is a report that begins a stay outside lane 4
 abbrev pub finding_of : List Note → (ℕ → List Stop) → Tariffs → LaneEvent → Option (ℕ × Finding)
-finding_of notes stops_at tariffs (Seen position r begins stopped) = found_if (begins && not (r.lane == 4)) notes stops_at tariffs position r
+finding_of notes stops_at tariffs (Seen position r begins stopped) =
+    found_if (begins && not (r.lane == 4)) notes stops_at tariffs position r
 finding_of notes stops_at tariffs (Leave position time vid place) = None
 
 -- the findings of events that come after earlier ones, under the tariffs, each with its position

@@ -15,7 +15,8 @@ use Rattle.road_time.specs.Stays.{is_told}
 use Rattle.road_time.specs.Stops.{up_to, is_stopped}
 use Rattle.road_time.specs.Entries.{is_standing, entries_up_to}
 use Rattle.road_time.specs.Tolls.{Finding}
-use Rattle.road_time.specs.Day.{rules, told_sight, given, charges_between, balance_by, total_by, notices, balance, total, merged}
+use Rattle.road_time.specs.Day.{rules, told_sight, given, charges_between, balance_by, total_by, notices, balance}
+use Rattle.road_time.specs.Day.{total, merged}
 use Rattle.expressway.specs.declared.lane_event.LaneEvent.{LaneEvent}
 use Rattle.expressway.specs.declared.job.Job.{Job}
 use Rattle.expressway.specs.declared.job.Done.{Done}
@@ -39,34 +40,42 @@ SeenLaw =
 abbrev pub StoppedLaw : Type 0
 StoppedLaw =
     (day : List Tuple) (limits : Limits) → Fit day limits → (width : ℕ) (place : Place) (vid second : ℕ) →
-    is_standing (entries_up_to second (entries (events_for day (worker_for (way_of (stretch_around place)) width) width))) vid place
+    is_standing
+    (entries_up_to second (entries (events_for day (worker_for (way_of (stretch_around place)) width) width))) vid
+    place
     ≡ is_stopped (up_to second (reports day)) vid place
 
--- what a worker finds at the position of a report of its ways that is told, is what the rules tell there over the whole day and under the tariffs
+-- what a worker finds at the position of a report of its ways that is told, is what the rules tell there over the
+-- whole day and under the tariffs
 abbrev pub FindingLaw : Type 0
 FindingLaw =
-    (day : List Tuple) (limits : Limits) → Fit day limits → (tariffs : Tariffs) (width : ℕ) (before later : List Tuple) (r : Report) →
+    (day : List Tuple) (limits : Limits) → Fit day limits →
+    (tariffs : Tariffs) (width : ℕ) (before later : List Tuple) (r : Report) →
     day ≡ before ++ ReportTuple r ∷ later → is_told (previous (sights_of before r.vid)) r ≡ true →
     found_at (length before) (findings [] (events_for day (worker_for (way_of (stretch_of r)) width) width) tariffs)
     ≡ (length before, rules day tariffs (length before, r)) ∷ []
 
 -- the reports of a day that are told and that lie on a worker's ways
 abbrev pub told_sights : List Tuple → ℕ → ℕ → List Sight
-told_sights day worker width = filter (λ s. worker_for (way_of (stretch_of s.1)) width == worker) (filter_map told_sight (moments day))
+told_sights day worker width =
+    filter (λ s. worker_for (way_of (stretch_of s.1)) width == worker) (filter_map told_sight (moments day))
 
 -- all that a worker finds is what the rules find for those reports, in order
 abbrev pub WorkerLaw : Type 0
 WorkerLaw =
     (day : List Tuple) (limits : Limits) → Fit day limits → (tariffs : Tariffs) (worker width : ℕ) →
-    findings [] (events_for day worker width) tariffs ≡ map (λ s. (s.0, rules day tariffs s)) (told_sights day worker width)
+    findings [] (events_for day worker width) tariffs ≡ map (λ s. (s.0, rules day tariffs s))
+    (told_sights day worker width)
 
 -- a worker's events may be run from the first one on
 abbrev pub RunLaw : Type 0
-RunLaw = (day : List Tuple) (limits : Limits) → Fit day limits → (worker width : ℕ) → MayRun [] (events_for day worker width)
+RunLaw = (day : List Tuple) (limits : Limits) → Fit day limits → (worker width : ℕ) →
+    MayRun [] (events_for day worker width)
 
 -- the reports that a worker sees are a fit day
 abbrev pub CarriedLaw : Type 0
-CarriedLaw = (day : List Tuple) (limits : Limits) → Fit day limits → (worker width : ℕ) → Fit (map (λ r. ReportTuple r) (seen (events_for day worker width))) limits
+CarriedLaw = (day : List Tuple) (limits : Limits) → Fit day limits → (worker width : ℕ) →
+    Fit (map (λ r. ReportTuple r) (seen (events_for day worker width))) limits
 
 -- the events of a day that the office takes can be run on a new carriage
 abbrev pub ReadyLaw : Type 0
@@ -74,7 +83,8 @@ ReadyLaw = (day : List Tuple) → IsDay day → (worker width : ℕ) → CanRun 
 
 -- where events can be run, the first of them can, and the later ones after those
 abbrev pub PartsLaw : Type 0
-PartsLaw = (before es later : List LaneEvent) → CanRun before (es ++ later) → CanRun before es × CanRun (before ++ es) later
+PartsLaw = (before es later : List LaneEvent) → CanRun before (es ++ later) → CanRun before es
+    × CanRun (before ++ es) later
 
 -- what is done of a job has the shape of its result
 abbrev pub ShapeLaw : Type 0
@@ -88,19 +98,22 @@ JobLaw =
 
 -- the findings of all workers, of so many
 abbrev pub all_findings : List Tuple → Tariffs → ℕ → List (ℕ × Finding)
-all_findings day tariffs width = flat_map (λ worker. findings [] (events_for day worker width) tariffs) (range_with_len 0 width)
+all_findings day tariffs width =
+    flat_map (λ worker. findings [] (events_for day worker width) tariffs) (range_with_len 0 width)
 
 -- whatever the number of workers, their findings make the rules' notices
 abbrev pub PartitionLaw : Type 0
 PartitionLaw =
-    (day : List Tuple) (limits : Limits) → Fit day limits → (tariffs : Tariffs) (width : ℕ) → 1 ≤ width → (number : ℕ) (kept : ℕ → ℕ → ℕ → ℕ) →
+    (day : List Tuple) (limits : Limits) → Fit day limits → (tariffs : Tariffs) (width : ℕ) → 1 ≤ width →
+    (number : ℕ) (kept : ℕ → ℕ → ℕ → ℕ) →
     merged day (all_findings day tariffs width) number kept ≡ notices day tariffs number kept
 
 -- a worker's events are in the order of their positions
 abbrev pub PositionLaw : Type 0
 PositionLaw =
     (day : List Tuple) (worker width : ℕ) →
-    Rise (events_for day worker width) × AllByRecursion (λ e. position_told e < length day) (events_for day worker width)
+    Rise (events_for day worker width)
+    × AllByRecursion (λ e. position_told e < length day) (events_for day worker width)
 
 -- the first event, if there is one, is of no position below n
 abbrev pub IsFrom : ℕ → List LaneEvent → Type 0
@@ -115,34 +128,47 @@ pub record AreBack (day : List Tuple) (width n : ℕ) (back out : ℕ → List L
 -- the findings given are those of the events that are back, in whatever order the workers gave them
 abbrev pub AreGiven : Tariffs → ℕ → (ℕ → List LaneEvent) → List (ℕ × Finding) → Type 0
 AreGiven tariffs width back found =
-    (position : ℕ) → found_at position found ≡ found_at position (flat_map (λ worker. findings [] (back worker) tariffs) (range_with_len 0 width))
+    (position : ℕ) →
+    found_at position found ≡ found_at position
+    (flat_map (λ worker. findings [] (back worker) tariffs) (range_with_len 0 width))
 
 -- the findings given have the positions of those, whatever their values
 abbrev pub HaveTheirPositions : Tariffs → ℕ → (ℕ → List LaneEvent) → List (ℕ × Finding) → Type 0
 HaveTheirPositions tariffs width back found =
     (position : ℕ) →
-    map (λ f. f.0) (found_at position found) ≡ map (λ f. f.0) (found_at position (flat_map (λ worker. findings [] (back worker) tariffs) (range_with_len 0 width)))
+    map (λ f. f.0) (found_at position found) ≡ map (λ f. f.0)
+    (found_at position (flat_map (λ worker. findings [] (back worker) tariffs) (range_with_len 0 width)))
 
--- where no event that is out is of a position below n, there is exactly one finding given at each of the first n positions that is told
+-- where no event that is out is of a position below n, there is exactly one finding given at each of the first n
+-- positions that is told
 abbrev pub OneLaw : Type 0
 OneLaw =
-    (day : List Tuple) (limits : Limits) → Fit day limits → (tariffs : Tariffs) (width : ℕ) → 1 ≤ width → (n : ℕ) → n ≤ length day →
-    (back out : ℕ → List LaneEvent) → AreBack day width n back out → (found : List (ℕ × Finding)) → HaveTheirPositions tariffs width back found →
-    (before later : List Tuple) (r : Report) → take n day ≡ before ++ ReportTuple r ∷ later → is_told (previous (sights_of before r.vid)) r ≡ true →
+    (day : List Tuple) (limits : Limits) → Fit day limits → (tariffs : Tariffs) (width : ℕ) → 1 ≤ width → (n : ℕ) →
+    n ≤ length day →
+    (back out : ℕ → List LaneEvent) → AreBack day width n back out → (found : List (ℕ × Finding)) →
+    HaveTheirPositions tariffs width back found →
+    (before later : List Tuple) (r : Report) → take n day ≡ before ++ ReportTuple r ∷ later →
+    is_told (previous (sights_of before r.vid)) r ≡ true →
     (f : Finding) × (found_at (length before) found ≡ (length before, f) ∷ [])
 
 -- and where the findings given are the workers' own, they make the notices of the first n tuples
 abbrev pub SettleLaw : Type 0
 SettleLaw =
-    (day : List Tuple) (limits : Limits) → Fit day limits → (tariffs : Tariffs) (width : ℕ) → 1 ≤ width → (n : ℕ) → n ≤ length day →
-    (back out : ℕ → List LaneEvent) → AreBack day width n back out → (found : List (ℕ × Finding)) → AreGiven tariffs width back found →
-    (number : ℕ) (kept : ℕ → ℕ → ℕ → ℕ) → merged (take n day) found number kept ≡ notices (take n day) tariffs number kept
+    (day : List Tuple) (limits : Limits) → Fit day limits → (tariffs : Tariffs) (width : ℕ) → 1 ≤ width → (n : ℕ) →
+    n ≤ length day →
+    (back out : ℕ → List LaneEvent) → AreBack day width n back out → (found : List (ℕ × Finding)) →
+    AreGiven tariffs width back found →
+    (number : ℕ) (kept : ℕ → ℕ → ℕ → ℕ) →
+    merged (take n day) found number kept ≡ notices (take n day) tariffs number kept
 
--- and they make the charges of the rules over the whole day between any positions up to n, and with them the accounts at n
+-- and they make the charges of the rules over the whole day between any positions up to n, and with them the accounts
+-- at n
 abbrev pub AccountLaw : Type 0
 AccountLaw =
-    (day : List Tuple) (limits : Limits) → Fit day limits → (tariffs : Tariffs) (width : ℕ) → 1 ≤ width → (n : ℕ) → n ≤ length day →
-    (back out : ℕ → List LaneEvent) → AreBack day width n back out → (found : List (ℕ × Finding)) → AreGiven tariffs width back found →
+    (day : List Tuple) (limits : Limits) → Fit day limits → (tariffs : Tariffs) (width : ℕ) → 1 ≤ width → (n : ℕ) →
+    n ≤ length day →
+    (back out : ℕ → List LaneEvent) → AreBack day width n back out → (found : List (ℕ × Finding)) →
+    AreGiven tariffs width back found →
     ((a b : ℕ) → b ≤ n → charges_between (given found) day a b ≡ charges_between (rules day tariffs) day a b)
     × ((vid : ℕ) → balance_by (given found) vid (take n day) ≡ balance day tariffs vid (take n day))
     × (total_by (given found) (take n day) ≡ total day tariffs (take n day))

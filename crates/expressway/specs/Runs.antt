@@ -12,7 +12,8 @@ NoneAfter second es = AllByRecursion (λ e. time_told e ≤ second) es
 -- an event may come after others: none of them is of a later second, and a vehicle leaves only where it stands
 abbrev pub MayFollow : List LaneEvent → LaneEvent → Type 0
 MayFollow before (Seen position r begins stopped) = NoneAfter r.time before
-MayFollow before (Leave position time vid place) = NoneAfter time before × (is_standing (entries before) vid place ≡ true)
+MayFollow before (Leave position time vid place) = NoneAfter time before
+    × (is_standing (entries before) vid place ≡ true)
 
 -- events may come after others, one by one
 abbrev pub MayRun : List LaneEvent → List LaneEvent → Type 0

@@ -12,7 +12,8 @@ use Rattle.expressway.specs.Kept.{Kept}
 abbrev pub last_second : List LaneEvent → ℕ
 last_second es = fold (λ before e. time_told e) 0 es
 
--- what is kept is that of the events, brought up to a second: the averages are of the reports that were seen, and who stands is who stands after the stops and leaves
+-- what is kept is that of the events, brought up to a second: the averages are of the reports that were seen, and who
+-- stands is who stands after the stops and leaves
 pub record IsAt (c : Kept) (time : ℕ) (es : List LaneEvent) : Type 0 where
   pub averages : AveragesStandFor c.speeds (notes_of (seen es))
   pub standing : StopsStandFor c.stops (entries es)

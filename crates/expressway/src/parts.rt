@@ -5,7 +5,7 @@ ghost use Rattle.std.specs.List.{cons_option};
 ghost use Rattle.std.specs.Option.{option_map};
 ghost use Rattle.road_time.specs.Clock.{minute_of};
 ghost use Rattle.road_time.specs.Notes.{Note, note_of};
-ghost use Rattle.road_time.specs.Tuples.{place_of, stretch_of as defined_stretch_of};
+ghost use Rattle.road_time.specs.Tuples.{stretch_of as defined_stretch_of};
 ghost use Rattle.road_time.specs.Entries.{Entry, standing_at};
 ghost use Rattle.road_time.specs.Tolls.{notes_of, finding_by};
 ghost use Rattle.speed_stats.specs.Stands.{StandsFor as AveragesStandFor, CanNote};
@@ -25,14 +25,11 @@ use crate::finding::Finding;
 use crate::known::{Known, keep, know_nothing, place as place_known};
 use crate::lane_event::LaneEvent;
 use accidents::Stops;
-use road_time::{NoMemory, Place, Report, Stretch, Tariffs};
+use road_time::{EXIT_LANE, NoMemory, Place, Report, Stretch, Tariffs, minute};
 use speed_stats::Speeds;
 use std::alloc::Global;
 use std::marker::Model;
 use toll_rule::{toll, whole_lav};
-
-/// The lane in which a vehicle leaves an expressway.
-const EXIT_LANE: u8 = 4;
 
 /// The sliding averages, who stands where, and the tariffs; and what is known of stretches, which is found once a
 /// minute.
@@ -57,37 +54,6 @@ impl Model for Parts {
         c.known.items };
 }
 
-/// The minute of a second, also of one past the day.
-fn minute_at(second: u32) -> u32
-    ensures { result ≡ minute_of second }
-{
-    second / 60 + 1
-}
-
-/// The stretch of a report.
-fn stretch_of(report: &Report) -> Stretch
-    ensures { result ≡ defined_stretch_of report.now }
-{
-    Stretch {
-        xway: report.xway,
-        dir: report.dir,
-        seg: report.seg,
-    }
-}
-
-/// The place of a report.
-fn place(report: &Report) -> Place
-    ensures { result ≡ place_of report.now }
-{
-    Place {
-        xway: report.xway,
-        dir: report.dir,
-        lane: report.lane,
-        seg: report.seg,
-        pos: report.pos,
-    }
-}
-
 /// Notes a report of the current minute.
 fn note(speeds: &mut Speeds, report: &Report) -> Result<(), NoMemory>
     requires slow { report.now.spd ≤ 100 }
@@ -99,7 +65,7 @@ fn note(speeds: &mut Speeds, report: &Report) -> Result<(), NoMemory>
     ensures past { (k : StretchValue) (m : ℕ) → m < speeds.old.minute → speeds.old.minute < m + 6
         → flow_in speeds.new.rings k m ≡ flow_in speeds.old.rings k m }
 {
-    speeds.note(stretch_of(report), report.vid, report.spd)
+    speeds.note(report.stretch(), report.vid, report.spd)
 }
 
 /// The vehicle of a report of the current second stands at its place, if it is stopped.
@@ -111,7 +77,7 @@ fn stop_if(stops: &mut Stops, stopped: bool, report: &Report) -> Result<(), NoMe
     ensures last { (k : StretchValue) → stood_in stops.new k ≡ stood_in stops.old k }
 {
     if stopped {
-        stops.stop(place(report), report.vid)?;
+        stops.stop(report.place(), report.vid)?;
     }
     Ok(())
 }
@@ -139,7 +105,7 @@ impl Parts {
         ensures tariffs { self.new.tariffs ≡ self.old.tariffs }
         ensures at { (before : List Event) (last : ℕ) → IsAt self.old last before → IsAt self.new second before }
     {
-        self.speeds.roll(minute_at(second));
+        self.speeds.roll(minute(second));
         self.stops.advance(second);
     }
 
@@ -154,7 +120,7 @@ impl Parts {
             ) }
         ensures kept { shown result ≡ (position, found_in self.now (defined_stretch_of report.now)) }
     {
-        let stretch = stretch_of(report);
+        let stretch = report.stretch();
         let tariff = self.tariffs.of(report.xway);
         let cars = self.speeds.cars(stretch);
         let lav = self.speeds.lav(stretch);
@@ -173,7 +139,7 @@ impl Parts {
         ensures { IfSome result (λ q. known_as q ≡ found_in self.now stretch) }
     {
         let known = (*self.known.get(place_known(stretch))?)?;
-        if known.stretch == stretch && known.minute == minute_at(self.stops.second()) {
+        if known.stretch == stretch && known.minute == minute(self.stops.second()) {
             Some(known)
         } else {
             None
@@ -186,11 +152,11 @@ impl Parts {
         requires { (shown finding).1 ≡ found_in self.old (defined_stretch_of report.now) }
         ensures { self.new ≡ self.old }
     {
-        let stretch = stretch_of(report);
+        let stretch = report.stretch();
         let one = Known {
             toll: finding.toll,
             stretch,
-            minute: minute_at(self.stops.second()),
+            minute: minute(self.stops.second()),
             lav: finding.lav,
             alert: finding.alert,
         };
@@ -208,7 +174,7 @@ impl Parts {
             ) }
         ensures kept { shown result ≡ (position, found_in self.now (defined_stretch_of report.now)) }
     {
-        match self.known_of(stretch_of(report)) {
+        match self.known_of(report.stretch()) {
             Some(known) => Finding {
                 position,
                 lav: known.lav,

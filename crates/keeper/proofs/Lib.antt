@@ -6,3 +6,4 @@ pub mod SoundLaws
 pub mod StoredLaws
 pub mod TariffLaws
 pub mod WorkedLaws
+pub mod ListFacts

@@ -39,5 +39,6 @@ too_early = refl
 three_fields : (past_reads (10 ∷ codes "7,69,0") 100 limits).refused ≡ Some (2, OfLine (Fields 3))
 three_fields = refl
 
-too_many : (past_reads (10 ∷ codes "7,69,0,1") 100 (record { lines = 1; vehicles = 1; backlog = 1; past = 1 })).refused ≡ Some (2, OfLine (Many 1))
+too_many : (past_reads (10 ∷ codes "7,69,0,1") 100 (record { lines = 1; vehicles = 1; backlog = 1; past = 1 })).refused
+    ≡ Some (2, OfLine (Many 1))
 too_many = refl

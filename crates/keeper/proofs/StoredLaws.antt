@@ -25,7 +25,8 @@ module _ (finding : Sight → Finding) (number : ℕ) (kept : ℕ → ℕ → �
   -- what is told to a sight is two notices at most
   told_few : (o : Option Sight) → length (notices_of finding o) ≤ 2
   told_few None = omega arith
-  told_few (Some s) = let one = alert_few s.1 (finding s).alert in omega (arith, one, length-append (alert_of s.1 (finding s).alert) (toll_of_sight s))
+  told_few (Some s) = let one = alert_few s.1 (finding s).alert in
+      omega (arith, one, length-append (alert_of s.1 (finding s).alert) (toll_of_sight s))
     where
       toll_of_sight : Sight → List Notice
       toll_of_sight s = TollNotice s.1.vid s.1.time (finding s).lav (finding s).toll ∷ []
@@ -45,7 +46,13 @@ module _ (finding : Sight → Finding) (number : ℕ) (kept : ℕ → ℕ → �
   notices_few (m ∷ ms) =
       let one = moment_few m in
       let rest = notices_few ms in
-      omega (arith, one, rest, length-append (told_by finding m ++ answer_by finding number kept m) (notices_by finding number kept ms))
+      omega (
+        arith,
+        one,
+        rest,
+        length-append (told_by finding m ++ answer_by finding number kept m)
+            (notices_by finding number kept ms),
+      )
 
 pub stored_law : StoredLaw
 stored_law number bytes day o fit small =

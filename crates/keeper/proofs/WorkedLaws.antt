@@ -8,7 +8,8 @@ use Rattle.keeper.specs.declared.kept.OldRecord.{OldRecord}
 use Rattle.keeper.specs.declared.kept.PastRecord.{PastRecord}
 use Rattle.keeper.specs.Office.{row_cmp, RowsRise, IsSound}
 use Rattle.keeper.specs.Kept.{IsPastPut, old_office}
-use Rattle.keeper.proofs.SoundLaws.{rise_one, rise_none, no_tariffs, some_apart}
+use Rattle.keeper.proofs.SoundLaws.{no_tariffs}
+use Rattle.keeper.proofs.ListFacts.{rise_one, rise_none, some_apart}
 
 -- an amount of vehicle 7
 abbrev pub amount : ℕ → ℕ → SpentRow
@@ -20,7 +21,9 @@ unfolding IsStrictlySortedBy
 two_rise = ((refl, tt), (tt, tt))
 
 -- the history of vehicle 7
-pub history_fits : (p : PastRecord) (a b : SpentRow) (d : Digest) → p ≡ record { base = 100; digest = d; bytes = 18; rows = 2 } → a ≡ amount 31 28 → b ≡ amount 99 5 → IsPastPut p (a ∷ b ∷ [])
+pub history_fits : (p : PastRecord) (a b : SpentRow) (d : Digest) →
+    p ≡ record { base = 100; digest = d; bytes = 18; rows = 2 } → a ≡ amount 31 28 → b ≡ amount 99 5 →
+    IsPastPut p (a ∷ b ∷ [])
 history_fits p a b d e f g =
     rw (e, f, g) (record {
       based = omega arith;
@@ -35,7 +38,9 @@ history_fits p a b d e f g =
     })
 
 -- day 100 without a tuple
-pub old_day_sound : (r : OldRecord) (d : Digest) → r ≡ record { day = 100; digest = d; bytes = 0; tuples = 0; notices = 0; notices_digest = d; total = 0 } → IsSound (old_office (r ∷ []) [] None)
+pub old_day_sound : (r : OldRecord) (d : Digest) →
+    r ≡ record { day = 100; digest = d; bytes = 0; tuples = 0; notices = 0; notices_digest = d; total = 0 } →
+    IsSound (old_office (r ∷ []) [] None)
 old_day_sound r d e =
     rw e (record {
       days_rise = rise_one nat_cmp 100;

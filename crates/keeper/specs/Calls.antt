@@ -1,4 +1,5 @@
-use Rattle.std.specs.Prelude.{◌≡◌, ◌⊎◌, ℕ, ◌+◌, ◌≤◌, Bool, true, false, is_err, Option, Some, None, Result, Ok, Err, IfOk, IsOkUnless}
+use Rattle.std.specs.Prelude.{◌≡◌, ◌⊎◌, ℕ, ◌+◌, ◌≤◌, Bool, true, false, is_err, Option, Some, None, Result, Ok, Err}
+use Rattle.std.specs.Prelude.{IfOk, IsOkUnless}
 use Rattle.road_io.specs.Faults.{Rose}
 use Rattle.keeper.specs.declared.kept.KeepFault.{KeepFault}
 use Rattle.keeper.specs.declared.kept.KeepFault.TheVariants.{Failed, NoMemory}
@@ -20,13 +21,15 @@ abbrev pub IfTold : Option Office → (Office → Type 0) → Type 0
 IfTold None P = Unit {0}
 IfTold (Some o) P = P o
 
--- a call that reads leaves all as it is, and answers what the office has; a keeper that does not tell it does not tell it afterwards
+-- a call that reads leaves all as it is, and answers what the office has; a keeper that does not tell it does not tell
+-- it afterwards
 abbrev pub Reads : {T : Type 0} → Option Office → Option Office → Result T KeepFault → (Office → T → Type 0) → Type 0
 Reads None after r P = after ≡ None
 Reads (Some o) None r P = ⊥
 Reads (Some o) (Some p) r P = (p ≡ o) × IfOk r (λ x. P o x)
 
--- what a keeper does at a put that it refuses: it puts nothing; or a put that fails is done whole before, and one that finds no memory is not done; or the one or the other, all or nothing
+-- what a keeper does at a put that it refuses: it puts nothing; or a put that fails is done whole before, and one that
+-- finds no memory is not done; or the one or the other, all or nothing
 pub data WhenRefused : Type 0 where
   PutsNothing : WhenRefused
   FailsLate : WhenRefused
@@ -46,7 +49,8 @@ Puts w (Some o) None r next = ⊥
 Puts w (Some o) (Some p) (Ok u) next = p ≡ next o
 Puts w (Some o) (Some p) (Err e) next = Leaves w e p o (next o)
 
--- a call fails exactly where it is planned, and the calls after it stay planned as they were; a plan tells which of the calls to come fail, the next being 0
+-- a call fails exactly where it is planned, and the calls after it stay planned as they were; a plan tells which of
+-- the calls to come fail, the next being 0
 abbrev pub GoesAsPlanned : {T : Type 0} → Option (ℕ → Bool) → Option (ℕ → Bool) → Result T KeepFault → Type 0
 GoesAsPlanned None after r = Unit {0}
 GoesAsPlanned (Some p) None r = ⊥
@@ -56,7 +60,8 @@ GoesAsPlanned (Some p) (Some q) r = (has_failed r ≡ p 0) × ((n : ℕ) → q n
 abbrev pub IsRefusedAsPlanned : {T : Type 0} → Option (ℕ → Bool) → Option (ℕ → Bool) → Result T KeepFault → Type 0
 IsRefusedAsPlanned None after r = Unit {0}
 IsRefusedAsPlanned (Some p) None r = ⊥
-IsRefusedAsPlanned (Some p) (Some q) r = (has_failed r ≡ true → p 0 ≡ true) × (p 0 ≡ true → is_err r ≡ true) × ((n : ℕ) → q n ≡ p (n + 1))
+IsRefusedAsPlanned (Some p) (Some q) r = (has_failed r ≡ true → p 0 ≡ true) × (p 0 ≡ true → is_err r ≡ true)
+    × ((n : ℕ) → q n ≡ p (n + 1))
 
 -- a put goes as planned; where a put fails late, it may find no memory before
 abbrev pub PutsAsPlanned : WhenRefused → Option (ℕ → Bool) → Option (ℕ → Bool) → Result (Unit {0}) KeepFault → Type 0

@@ -23,7 +23,17 @@ seal_of tariffs = digest_of (tariffs_text tariffs)
 -- an old record under the tariffs that a seal stands for
 abbrev pub sealed : Digest → OldRecord → DayRecord
 sealed tariffs r =
-    record { day = r.day; digest = r.digest; bytes = r.bytes; tuples = r.tuples; notices = r.notices; notices_digest = r.notices_digest; tariffs = tariffs; total = r.total }
+    record {
+      day = r.day;
+      digest = r.digest;
+      bytes = r.bytes;
+      tuples = r.tuples;
+      notices = r.notices;
+      notices_digest =
+          r.notices_digest;
+      tariffs = tariffs;
+      total = r.total;
+    }
 
 -- an office that kept its days before tariffs were
 abbrev pub old_office : List OldRecord → List SpentRow → Option PastRecord → Office
@@ -39,7 +49,8 @@ with_past kept rows o = record { days = o.days; rows = o.rows ++ rows; past = So
 
 -- with a tariff for an expressway
 abbrev pub with_tariff_of : ℕ → Tariff → Office → Office
-with_tariff_of xway tariff o = record { days = o.days; rows = o.rows; past = o.past; tariffs = with_tariff o.tariffs xway tariff }
+with_tariff_of xway tariff o =
+    record { days = o.days; rows = o.rows; past = o.past; tariffs = with_tariff o.tariffs xway tariff }
 
 -- a day may be kept: numbers below 2^63, amounts of the day, above zero, in rising order, and as much as its total
 pub record IsDayPut (kept : DayRecord) (rows : List SpentRow) : Type 0 where
@@ -52,7 +63,8 @@ pub record IsDayPut (kept : DayRecord) (rows : List SpentRow) : Type 0 where
   pub rise : RowsRise rows
   pub sum : sum_of_rows rows ≡ kept.total
 
--- a history may be kept: a base from 70, numbers below 2^63, amounts of the 69 days before the base, above zero, in rising order, and as many as it says
+-- a history may be kept: a base from 70, numbers below 2^63, amounts of the 69 days before the base, above zero, in
+-- rising order, and as many as it says
 pub record IsPastPut (kept : PastRecord) (rows : List SpentRow) : Type 0 where
   pub based : 70 ≤ kept.base
   pub bytes : kept.bytes < 2 ^ 63
@@ -77,7 +89,18 @@ pub record HasNoDays (o : Office) : Type 0 where
 abbrev pub kept_record : ℕ → List ℕ → List Tuple → Office → DayRecord
 kept_record number bytes day o =
     let told = notices day o.tariffs number (paid o.rows) in
-    record { day = number; digest = digest_of bytes; bytes = length bytes; tuples = length day; notices = length told; notices_digest = digest_of (out told); tariffs = seal_of o.tariffs; total = total day o.tariffs day }
+    record {
+      day = number;
+      digest = digest_of bytes;
+      bytes = length bytes;
+      tuples = length day;
+      notices =
+          length told;
+      notices_digest = digest_of (out told);
+      tariffs = seal_of o.tariffs;
+      total =
+          total day o.tariffs day;
+    }
 
 -- the office after a day was imported
 abbrev pub next_office : ℕ → List ℕ → List Tuple → Office → Office

@@ -11,7 +11,8 @@ use Rattle.keeper.specs.Office.{Office, RowsRise, rows_between}
 -- what the amounts of some days tell of a day among them is what all amounts tell
 abbrev pub HistoryLaw : Type 0
 HistoryLaw =
-    (o : Office) (from to day vid xway : ℕ) → from ≤ day → day ≤ to → paid (rows_between o from to) day vid xway ≡ paid o.rows day vid xway
+    (o : Office) (from to day vid xway : ℕ) → from ≤ day → day ≤ to →
+    paid (rows_between o from to) day vid xway ≡ paid o.rows day vid xway
 
 -- rows in rising order have no key twice
 abbrev pub KeysLaw : Type 0
@@ -24,4 +25,5 @@ DayRowsLaw = (rows : List SpentRow) (day : ℕ) → AllByRecursion (λ r. r.day 
 -- what a day stores may be put: its record and its rows fit together
 abbrev pub StoredLaw : Type 0
 StoredLaw =
-    (number : ℕ) (bytes : List ℕ) (day : List Tuple) (o : Office) → IsDay day → length bytes < 2 ^ 63 → IsDayPut (kept_record number bytes day o) (rows_of day o.tariffs number)
+    (number : ℕ) (bytes : List ℕ) (day : List Tuple) (o : Office) → IsDay day → length bytes < 2 ^ 63 →
+    IsDayPut (kept_record number bytes day o) (rows_of day o.tariffs number)

@@ -1,4 +1,5 @@
-use Rattle.std.specs.Prelude.{◌≡◌, ℕ, ◌+◌, ◌-◌, ◌<◌, ◌≤◌, ◌==◌, ◌&&◌, nat_le, not, max, Bool, List, [], ◌∷◌, map, length, Option, Some, None}
+use Rattle.std.specs.Prelude.{◌≡◌, ℕ, ◌+◌, ◌-◌, ◌<◌, ◌≤◌, ◌==◌, ◌&&◌, nat_le, not, max, Bool, List, [], ◌∷◌, map}
+use Rattle.std.specs.Prelude.{length, Option, Some, None}
 use Rattle.std.specs.List.{filter, find, fold, list_any, sum_by, AllByRecursion}
 use Rattle.std.specs.List.Sorted.{IsStrictlySortedBy}
 use Rattle.std.specs.declared.cmp.Ordering.{Ordering}
@@ -9,7 +10,8 @@ use Rattle.road_time.specs.Tariffs.{IsTariffs}
 use Rattle.keeper.specs.declared.kept.DayRecord.{DayRecord}
 use Rattle.keeper.specs.declared.kept.PastRecord.{PastRecord}
 
--- what an office keeps: the records of days in the order of days, amounts in the order of day, vehicle and expressway, a history, and tariffs by expressway
+-- what an office keeps: the records of days in the order of days, amounts in the order of day, vehicle and expressway,
+-- a history, and tariffs by expressway
 pub record Office : Type 0 where
   pub days : List DayRecord
   pub rows : List SpentRow
@@ -78,7 +80,8 @@ rows_between o from to = filter (λ r. nat_le from r.day && nat_le r.day to) o.r
 abbrev pub vehicle_rows_between : Office → ℕ → ℕ → ℕ → List SpentRow
 vehicle_rows_between o vid from to = filter (λ r. r.vid == vid && (nat_le from r.day && nat_le r.day to)) o.rows
 
--- a history fits what is kept: the amounts of days that are not kept are its own, of the 69 days before its base, and no kept day is before its base
+-- a history fits what is kept: the amounts of days that are not kept are its own, of the 69 days before its base, and
+-- no kept day is before its base
 pub record IsPast (past : PastRecord) (days : List DayRecord) (rows : List SpentRow) : Type 0 where
   pub based : 70 ≤ past.base
   pub from : AllByRecursion (λ r. past.base ≤ r.day + 69) (rows_off days rows)

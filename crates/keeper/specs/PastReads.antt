@@ -1,4 +1,5 @@
-use Rattle.std.specs.Prelude.{ℕ, ◌-◌, ◌+◌, ◌==◌, nat_lt, nat_le, List, [], ◌∷◌, ◌++◌, length, Option, Some, None, Result, Ok, Err, ℤ, pos, if◌then◌else◌}
+use Rattle.std.specs.Prelude.{ℕ, ◌-◌, ◌+◌, ◌==◌, nat_lt, nat_le, List, [], ◌∷◌, ◌++◌, length, Option, Some, None}
+use Rattle.std.specs.Prelude.{Result, Ok, Err, ℤ, pos, if◌then◌else◌}
 use Rattle.std.specs.List.{filter, filter_map, fold, list_any}
 use Rattle.std.specs.Ordering.{match_ordering}
 use Rattle.road_time.specs.declared.day.Limits.{Limits}
@@ -23,7 +24,8 @@ past_uses = name ∷ From 1 69 ∷ From 0 255 ∷ From 0 9999999999 ∷ []
 
 -- the amount of a line's numbers, where the days are counted back from a base
 abbrev pub past_row : ℕ → List ℤ → Option SpentRow
-past_row base (pos vid ∷ pos day ∷ pos xway ∷ pos tolls ∷ []) = Some (record { day = base - day; vid = vid; xway = xway; tolls = tolls })
+past_row base (pos vid ∷ pos day ∷ pos xway ∷ pos tolls ∷ []) =
+    Some (record { day = base - day; vid = vid; xway = xway; tolls = tolls })
 past_row base _ = None
 
 -- the amount of four numbers, unless one is out of its range
@@ -34,14 +36,16 @@ past_in_ranges base zs None = Ok (past_row base zs)
 -- the amount of four fields, or the first that is no number
 abbrev pub past_of_fields : ℕ → List (List ℕ) → Option ℕ → Result (Option SpentRow) PastFault
 past_of_fields base fields (Some n) = Err (OfLine (Number n))
-past_of_fields base fields None = (let zs = filter_map (number_of 10) fields in past_in_ranges base zs (first_out 1 past_uses zs))
+past_of_fields base fields None =
+    (let zs = filter_map (number_of 10) fields in past_in_ranges base zs (first_out 1 past_uses zs))
 
 -- the amount of a text, none for the empty text, or why there is none
 abbrev pub past_form : ℕ → List ℕ → Result (Option SpentRow) PastFault
 past_form base [] = Ok None
 past_form base (b ∷ bs) =
     let fields = fields_of_text (b ∷ bs)
-    in if length fields == 4 then past_of_fields base fields (first_odd fields) else Err (OfLine (Fields (length fields)))
+    in if length fields == 4 then past_of_fields base fields (first_odd fields) else Err
+    (OfLine (Fields (length fields)))
 
 -- the amount that a line has, if it has one
 abbrev pub past_formed : Result (Option SpentRow) PastFault → Option SpentRow
@@ -65,7 +69,8 @@ past_fault base limits before line =
     else if nat_le limits.past (length before) then Some (OfLine (Many limits.past))
     else fault_of_past (past_rows base before) (past_form base (without_cr line))
 
--- the amounts that were read, zeros too, and the number and fault of the line at which the reading ended, if one was refused
+-- the amounts that were read, zeros too, and the number and fault of the line at which the reading ended, if one was
+-- refused
 pub record PastReading : Type 0 where
   pub rows : List SpentRow
   pub refused : Option (ℕ × PastFault)
@@ -78,7 +83,8 @@ past_at base before (Some f) rest = record { rows = past_rows base before; refus
 -- the amounts of the lines up to the first that is refused
 abbrev pub past_after : ℕ → Limits → List (List ℕ) → List (List ℕ) → PastReading
 past_after base limits before [] = record { rows = past_rows base before; refused = None }
-past_after base limits before (l ∷ ls) = past_at base before (past_fault base limits before l) (past_after base limits (before ++ l ∷ []) ls)
+past_after base limits before (l ∷ ls) =
+    past_at base before (past_fault base limits before l) (past_after base limits (before ++ l ∷ []) ls)
 
 -- the history that bytes are, its days counted back from a base
 abbrev pub past_reads : List ℕ → ℕ → Limits → PastReading
@@ -95,7 +101,8 @@ past_kept rows = fold with_row [] (filter (λ r. nat_lt 0 r.tolls) rows)
 
 -- what is kept of a history with these bytes and amounts
 abbrev pub past_record : ℕ → List ℕ → List SpentRow → PastRecord
-past_record base bytes rows = record { base = base; digest = digest_of bytes; bytes = length bytes; rows = length (past_kept rows) }
+past_record base bytes rows =
+    record { base = base; digest = digest_of bytes; bytes = length bytes; rows = length (past_kept rows) }
 
 -- the office after a history was kept
 abbrev pub next_past : ℕ → List ℕ → List SpentRow → Office → Office

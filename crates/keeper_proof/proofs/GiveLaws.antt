@@ -1,5 +1,6 @@
 -- What follows of answers that give.
-use Rattle.std.proofs.Common.{◌≡◌, ◌<◌, ◌≤◌, get_or, ◌^◌, ◌==◌, ℕ, pos, max, true, inl, inr, List, [], ◌∷◌, length, find, Option, Some, None, IfSome, arith, Result, Ok, Err, IsErrAnd, refl, sym, subst}
+use Rattle.std.proofs.Common.{◌≡◌, ◌<◌, ◌≤◌, get_or, ◌^◌, ◌==◌, ℕ, pos, max, true, inl, inr, List, [], ◌∷◌, length}
+use Rattle.std.proofs.Common.{find, Option, Some, None, IfSome, arith, Result, Ok, Err, IsErrAnd, refl, sym, subst}
 use Rattle.std.specs.List.{AllByRecursion}
 use Rattle.std.proofs.lemmas.Bool.{cases_Bool}
 use Rattle.std.proofs.lemmas.Bool.Decides.{nat_tests}
@@ -16,17 +17,20 @@ use Rattle.kept_tables.specs.Amounts.{HasAmount}
 use Rattle.keeper_proof.specs.Gives.{GivesUnless, Gives, FitsBased}
 
 -- an error that is no failure is none of another call
-pub err_gives : {T X U Y : Type 0} (see : T → X) (look : U → Y) (e : KeepFault) (x : X) (y : Y) → Gives {T = T} see (Err e) x → Gives {T = U} look (Err e) y
+pub err_gives : {T X U Y : Type 0} (see : T → X) (look : U → Y) (e : KeepFault) (x : X) (y : Y) →
+    Gives {T = T} see (Err e) x → Gives {T = U} look (Err e) y
 err_gives see look NoMemory x y h = tt
 err_gives see look Failed x y h = absurd h
 
 -- so is one that is handed on
-pub err_as : {T X U Y : Type 0} (see : T → X) (look : U → Y) (r : Result U KeepFault) (e : KeepFault) (x : X) (y : Y) → IsErrAnd r (λ f. f ≡ e) → Gives {T = T} see (Err e) x → Gives look r y
+pub err_as : {T X U Y : Type 0} (see : T → X) (look : U → Y) (r : Result U KeepFault) (e : KeepFault) (x : X) (y : Y) →
+    IsErrAnd r (λ f. f ≡ e) → Gives {T = T} see (Err e) x → Gives look r y
 err_as see look (Ok u) e x y same h = absurd same
 err_as see look (Err f) e x y same h = subst (λ k. Gives look (Err k) y) (sym same) (err_gives see look e x y h)
 
 -- the greatest of days that fit fits
-pub last_low : (before : ℕ) (ds : List DayRecord) → before < 2 ^ 32 → AllByRecursion FitsDay ds → greatest_day before ds < 2 ^ 32
+pub last_low : (before : ℕ) (ds : List DayRecord) → before < 2 ^ 32 → AllByRecursion FitsDay ds →
+    greatest_day before ds < 2 ^ 32
 last_low before [] low all = low
 last_low before (d ∷ ds) low all = last_low (max before d.day) ds (omega (arith, low, all.0.day)) all.1
 
@@ -36,13 +40,15 @@ is_there [] n is = absurd (cc)
 is_there (v ∷ r) n is = omega arith
 
 -- what is given without a failure is given
-pub gives_so : {T X : Type 0} (R : Type 0) (see : T → X) (r : Result T KeepFault) (x : X) → Gives see r x → GivesUnless R see r x
+pub gives_so : {T X : Type 0} (R : Type 0) (see : T → X) (r : Result T KeepFault) (x : X) → Gives see r x →
+    GivesUnless R see r x
 gives_so R see (Ok t) x h = h
 gives_so R see (Err NoMemory) x h = tt
 gives_so R see (Err Failed) x h = absurd h
 
 -- an error that is handed on is a failure for a cause
-pub refused_so : {U Y : Type 0} (R : Type 0) (look : U → Y) (r : Result U KeepFault) (e : KeepFault) (y : Y) → IsErrAnd r (λ f. f ≡ e) → (e ≡ Failed → R) → GivesUnless R look r y
+pub refused_so : {U Y : Type 0} (R : Type 0) (look : U → Y) (r : Result U KeepFault) (e : KeepFault) (y : Y) →
+    IsErrAnd r (λ f. f ≡ e) → (e ≡ Failed → R) → GivesUnless R look r y
 refused_so R look (Ok u) e y same h = absurd same
 refused_so R look (Err f) e y same h = subst (λ k. GivesUnless R look (Err k) y) (sym same) (go e h)
   where
@@ -51,7 +57,8 @@ refused_so R look (Err f) e y same h = subst (λ k. GivesUnless R look (Err k) y
     go Failed h = h refl
 
 -- the record of a day fits, and is of the day
-pub record_fits : (day : ℕ) (ds : List DayRecord) → AllByRecursion FitsDay ds → IfSome (find (λ r. r.day == day) ds) (λ r. FitsDay r × (r.day ≡ day))
+pub record_fits : (day : ℕ) (ds : List DayRecord) → AllByRecursion FitsDay ds →
+    IfSome (find (λ r. r.day == day) ds) (λ r. FitsDay r × (r.day ≡ day))
 record_fits day [] all = tt
 record_fits day (d ∷ ds) all = elim (cases_Bool (d.day == day)) [
   | inl is ↦ rw is (all.0, same d.day day is)
@@ -62,12 +69,14 @@ record_fits day (d ∷ ds) all = elim (cases_Bool (d.day == day)) [
     same m n is = grind (arith, nat_tests, is)
 
 -- the amount of an answer of one row
-pub amount_alone : (found : List Row) (tolls : ℕ) (d : Row) → 1 ≤ length found → length found < 2 → HasAmount found tolls → column (get_or found 0 d) 0 ≡ Int (pos tolls)
+pub amount_alone : (found : List Row) (tolls : ℕ) (d : Row) → 1 ≤ length found → length found < 2 →
+    HasAmount found tolls → column (get_or found 0 d) 0 ≡ Int (pos tolls)
 amount_alone [] tolls d some few has = absurd (omega (arith, some))
 amount_alone (r ∷ []) tolls d some few has = has
 amount_alone (r ∷ s ∷ rs) tolls d some few has = absurd has
 
 -- a sound history that fits has a base of 70 or more
-pub past_based : (past : Option PastRecord) (days : List DayRecord) (rows : List SpentRow) → IfSome past FitsPast → ((p : PastRecord) → past ≡ Some p → IsPast p days rows) → IfSome past FitsBased
+pub past_based : (past : Option PastRecord) (days : List DayRecord) (rows : List SpentRow) → IfSome past FitsPast →
+    ((p : PastRecord) → past ≡ Some p → IsPast p days rows) → IfSome past FitsBased
 past_based None days rows fits sound = tt
 past_based (Some p) days rows fits sound = (fits, (sound p refl).based)

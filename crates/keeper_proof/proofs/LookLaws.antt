@@ -7,7 +7,8 @@ use Rattle.sqlite.specs.Effect.{Database}
 use Rattle.sqlite.specs.Held.{Held, state}
 use Rattle.keeper.specs.Office.{Office, record_of, rows_between, vehicle_rows_between}
 use Rattle.keeper.specs.History.{paid}
-use Rattle.kept_tables.specs.Texts.{find_spent, find_tariffs, list_spent, list_vehicle, find_last, find_day, find_seal, find_past}
+use Rattle.kept_tables.specs.Texts.{find_spent, find_tariffs, list_spent, list_vehicle, find_last, find_day, find_seal}
+use Rattle.kept_tables.specs.Texts.{find_past}
 use Rattle.kept_tables.specs.Codec.{spent_row, past_values}
 use Rattle.kept_tables.specs.Shown.{tariff_columns, day_columns, seal_columns, rows_of, last_rows}
 use Rattle.kept_tables.specs.Stands.{HasOffice}
@@ -17,9 +18,11 @@ use Rattle.kept_tables.proofs.DayReadLaws.{day_shown, seal_shown, past_shown, la
 use Rattle.kept_tables.proofs.ReadLaws.{rows_shown, vehicle_rows_shown, tariffs_shown}
 use Rattle.keeper_proof.specs.Looks.{ShowsCommitted}
 
-module _ {S : Type 0} (g : Ghosts S) (old new : Held S) (o : Office) (has : HasOffice (state g old).committed o) (found : List Row) where
+module _ {S : Type 0} (g : Ghosts S) (old new : Held S) (o : Office) (has : HasOffice (state g old).committed o)
+    (found : List Row) where
   -- what the query sees stands for the office too
-  seen : (sql : List ℕ) (params : Row) (s : ShowsCommitted g sql params old new found) → HasOffice (state g s.before).now o
+  seen : (sql : List ℕ) (params : Row) (s : ShowsCommitted g sql params old new found) →
+      HasOffice (state g s.before).now o
   seen sql params s = subst (λ (db : Database). HasOffice db o) (sym s.now) has
 
   pub last_looks : ShowsCommitted g find_last [] old new found → found ≡ last_rows o.days
@@ -31,17 +34,30 @@ module _ {S : Type 0} (g : Ghosts S) (old new : Held S) (o : Office) (has : HasO
   pub tariffs_look : ShowsCommitted g find_tariffs [] old new found → found ≡ map tariff_columns o.tariffs
   tariffs_look s = tariffs_shown o (state g s.before) (state g new) found (seen find_tariffs [] s) s.shown
 
-  pub day_looks : (day : ℕ) → ShowsCommitted g find_day (Int (pos day) ∷ []) old new found → found ≡ rows_of day_columns (record_of o day)
-  day_looks day s = day_shown day o (state g s.before) (state g new) found (seen find_day (Int (pos day) ∷ []) s) s.shown
+  pub day_looks : (day : ℕ) → ShowsCommitted g find_day (Int (pos day) ∷ []) old new found →
+      found ≡ rows_of day_columns (record_of o day)
+  day_looks day s =
+      day_shown day o (state g s.before) (state g new) found (seen find_day (Int (pos day) ∷ []) s) s.shown
 
-  pub seal_looks : (day : ℕ) → ShowsCommitted g find_seal (Int (pos day) ∷ []) old new found → found ≡ rows_of seal_columns (record_of o day)
-  seal_looks day s = seal_shown day o (state g s.before) (state g new) found (seen find_seal (Int (pos day) ∷ []) s) s.shown
+  pub seal_looks : (day : ℕ) → ShowsCommitted g find_seal (Int (pos day) ∷ []) old new found →
+      found ≡ rows_of seal_columns (record_of o day)
+  seal_looks day s =
+      seal_shown day o (state g s.before) (state g new) found (seen find_seal (Int (pos day) ∷ []) s) s.shown
 
-  pub spent_looks : (day vid xway : ℕ) → ShowsCommitted g find_spent (asked day vid xway) old new found → HasAmount found (paid o.rows day vid xway)
-  spent_looks day vid xway s = amount_read day vid xway o (state g s.before) (state g new) found (seen find_spent (asked day vid xway) s) s.shown
+  pub spent_looks : (day vid xway : ℕ) → ShowsCommitted g find_spent (asked day vid xway) old new found →
+      HasAmount found (paid o.rows day vid xway)
+  spent_looks day vid xway s =
+      amount_read day vid xway o (state g s.before) (state g new) found (seen find_spent (asked day vid xway) s) s.shown
 
-  pub rows_look : (from to : ℕ) → ShowsCommitted g list_spent (Int (pos from) ∷ Int (pos to) ∷ []) old new found → found ≡ map spent_row (rows_between o from to)
-  rows_look from to s = rows_shown from to o (state g s.before) (state g new) found (seen list_spent (Int (pos from) ∷ Int (pos to) ∷ []) s) s.shown
+  pub rows_look : (from to : ℕ) → ShowsCommitted g list_spent (Int (pos from) ∷ Int (pos to) ∷ []) old new found →
+      found ≡ map spent_row (rows_between o from to)
+  rows_look from to s =
+      rows_shown from to o (state g s.before) (state g new) found
+      (seen list_spent (Int (pos from) ∷ Int (pos to) ∷ []) s) s.shown
 
-  pub vehicle_rows_look : (vid from to : ℕ) → ShowsCommitted g list_vehicle (Int (pos vid) ∷ Int (pos from) ∷ Int (pos to) ∷ []) old new found → found ≡ map spent_row (vehicle_rows_between o vid from to)
-  vehicle_rows_look vid from to s = vehicle_rows_shown vid from to o (state g s.before) (state g new) found (seen list_vehicle (Int (pos vid) ∷ Int (pos from) ∷ Int (pos to) ∷ []) s) s.shown
+  pub vehicle_rows_look : (vid from to : ℕ) →
+      ShowsCommitted g list_vehicle (Int (pos vid) ∷ Int (pos from) ∷ Int (pos to) ∷ []) old new found →
+      found ≡ map spent_row (vehicle_rows_between o vid from to)
+  vehicle_rows_look vid from to s =
+      vehicle_rows_shown vid from to o (state g s.before) (state g new) found
+      (seen list_vehicle (Int (pos vid) ∷ Int (pos from) ∷ Int (pos to) ∷ []) s) s.shown

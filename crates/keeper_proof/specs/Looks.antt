@@ -11,7 +11,8 @@ use Rattle.kept_tables.specs.Stands.{StandsForOffice}
 use Rattle.kept_tables.specs.Steps.{IsTreesOf}
 
 -- rows are what a query shows of what was committed before it
-pub record ShowsCommitted {S : Type 0} (g : Ghosts S) (sql : List ℕ) (params : Row) (old new : Held S) (rows : List Row) : Type 0 where
+pub record ShowsCommitted {S : Type 0} (g : Ghosts S) (sql : List ℕ) (params : Row) (old new : Held S)
+    (rows : List Row) : Type 0 where
   pub before : Held S
   pub now : (state g before).now ≡ (state g old).committed
   pub is_open : IsTrue (state g new).is_open

@@ -7,7 +7,8 @@ use Rattle.sqlite.specs.declared.error.Error.TheVariants.{SqliteFailure}
 use Rattle.sqlite.specs.declared.error.ErrorCode.TheVariants.{OutOfMemory}
 
 -- what a keeper calls a failure was no want of memory
-pub not_memory : {T : Type 0} (r : KeepFault) (e : Error) → ((r ≡ NoMemory) ↔ (e ≡ SqliteFailure OutOfMemory)) → ◌≡◌ {A = Result T KeepFault} (Err r) (Err Failed) → e ≢ SqliteFailure OutOfMemory
+pub not_memory : {T : Type 0} (r : KeepFault) (e : Error) → ((r ≡ NoMemory) ↔ (e ≡ SqliteFailure OutOfMemory)) →
+    ◌≡◌ {A = Result T KeepFault} (Err r) (Err Failed) → e ≢ SqliteFailure OutOfMemory
 not_memory r e both failed memory =
     let none : r ≡ NoMemory = both.1 memory in
     let other : r ≡ Failed = cc in

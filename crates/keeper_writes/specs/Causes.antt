@@ -14,7 +14,9 @@ use Rattle.kept_tables.specs.Stands.{HasOffice}
 -- a statement, a query or a commit was refused with this error
 abbrev pub Refuses : List ℕ → Row → State → State → Error → Type 0
 Refuses sql params before after e =
-    Executes sql params before after (Err e) ⊎ (ExecutesInside 0 sql params before after (Err e) ⊎ (FailsToQuery sql params before after e ⊎ FailsToCommit before after e))
+    Executes sql params before after (Err e)
+    ⊎ (ExecutesInside 0 sql params before after (Err e)
+    ⊎ (FailsToQuery sql params before after e ⊎ FailsToCommit before after e))
 
 -- the database refused something with this error
 pub record Refused {S : Type 0} (g : Ghosts S) (error : Error) : Type 0 where

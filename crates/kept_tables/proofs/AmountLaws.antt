@@ -1,5 +1,6 @@
 -- The amount of a vehicle on an expressway on a day, as it is found.
-use Rattle.std.proofs.Common.{◌≡◌, ◌⊎◌, inl, inr, ℕ, pos, ◌==◌, ◌&&◌, Bool, true, false, List, [], ◌∷◌, map, filter, drop, find, slice_get, Some, None, refl, sym, ap, ap₂, subst, ◌∙◌, arith, IsPermutation}
+use Rattle.std.proofs.Common.{◌≡◌, ◌⊎◌, inl, inr, ℕ, pos, ◌==◌, ◌&&◌, Bool, true, false, List, [], ◌∷◌, map, filter}
+use Rattle.std.proofs.Common.{drop, find, slice_get, Some, None, refl, sym, ap, ap₂, subst, ◌∙◌, arith, IsPermutation}
 use Rattle.std.proofs.lemmas.List.Sorted.{IsPermutation-map, IsPermutation-trans, length_permutation}
 use Rattle.std.proofs.lemmas.Bool.Decides.{nat_tests}
 use Rattle.std.proofs.lemmas.Bool.{cases_Bool, and_parts}
@@ -10,7 +11,8 @@ use Rattle.sqlite_sql.specs.Ops.{binary, is_true}
 use Rattle.sqlite_sql.specs.declared.ops.BinaryOp.TheVariants.{Compare}
 use Rattle.sqlite_sql.specs.declared.ops.CompareOp.TheVariants.{Eq}
 use Rattle.sqlite_typed.proofs.TestLemmas.{at_ints, int_test}
-use Rattle.sqlite_keyed.proofs.ListLemmas.{map-map, filter-map, filter_same, map_same, filter_none, slice_get-filter, IsPermutation-filter, all_weaker}
+use Rattle.sqlite_keyed.proofs.ListLemmas.{map-map, filter-map, filter_same, map_same, filter_none, slice_get-filter}
+use Rattle.sqlite_keyed.proofs.ListLemmas.{IsPermutation-filter, all_weaker}
 use Rattle.sqlite.specs.State.{State, Shown}
 use Rattle.sqlite.specs.Effect.{Reads}
 use Rattle.sqlite.proofs.Callers.{reads_as, one_permutation}
@@ -61,7 +63,9 @@ module _ (day vid xway : ℕ) where
   -- the tests pass the rows with the key
   tested_row : (r : SpentRow) → tested (spent_row r) ≡ is_row day vid xway r
   tested_row r =
-      ap₂ ◌&&◌ (same_numbers r.day day) (ap₂ ◌&&◌ (same_numbers r.vid vid) (ap (λ b. b && true) (same_numbers r.xway xway) ∙ last_true (r.xway == xway)))
+      ap₂ ◌&&◌ (same_numbers r.day day)
+      (ap₂ ◌&&◌ (same_numbers r.vid vid)
+      (ap (λ b. b && true) (same_numbers r.xway xway) ∙ last_true (r.xway == xway)))
 
   -- a row passes by its columns
   blind : (r : Row) → passes spent_query.filter (asked day vid xway) r ≡ tested (drop 1 r)
@@ -75,18 +79,27 @@ module _ (day vid xway : ℕ) where
 
   -- the rows of an answer are the amounts of the rows with the key, in some order
   answer_rows : (rows : List SpentRow) (kept found : List Row) → AreKept rows kept
-      → IsPermutation (map (shown spent_query.project (asked day vid xway)) (filter (passes spent_query.filter (asked day vid xway)) kept)) found
+      → IsPermutation
+      (map (shown spent_query.project (asked day vid xway))
+      (filter (passes spent_query.filter (asked day vid xway)) kept)) found
       → IsPermutation (map (λ (r : SpentRow). Int (pos r.tolls) ∷ []) (filter (is_row day vid xway) rows)) found
   answer_rows rows kept found are answer =
-      let columns : map (shown spent_query.project (asked day vid xway)) (filter (passes spent_query.filter (asked day vid xway)) kept) ≡ map tolls (filter tested (map (drop 1) kept)) =
-      map_same _ _ shown_tolls _ ∙ sym (map-map tolls (drop 1) _) ∙ ap (map tolls) (ap (map (drop 1)) (filter_same _ _ blind kept) ∙ sym (filter-map tested (drop 1) kept)) in
-      let records : map tolls (filter tested (map spent_row rows)) ≡ map (λ (r : SpentRow). Int (pos r.tolls) ∷ []) (filter (is_row day vid xway) rows) =
-      ap (map tolls) (filter-map tested spent_row rows) ∙ map-map tolls spent_row _ ∙ ap (map (λ (r : SpentRow). Int (pos r.tolls) ∷ [])) (filter_same _ _ tested_row rows) in
+      let columns : map (shown spent_query.project (asked day vid xway))
+      (filter (passes spent_query.filter (asked day vid xway)) kept) ≡ map tolls
+      (filter tested (map (drop 1) kept)) =
+      map_same _ _ shown_tolls _ ∙ sym (map-map tolls (drop 1) _)
+      ∙ ap (map tolls) (ap (map (drop 1)) (filter_same _ _ blind kept) ∙ sym (filter-map tested (drop 1) kept)) in
+      let records : map tolls (filter tested (map spent_row rows)) ≡ map (λ (r : SpentRow). Int (pos r.tolls) ∷ [])
+      (filter (is_row day vid xway) rows) =
+      ap (map tolls) (filter-map tested spent_row rows) ∙ map-map tolls spent_row _
+      ∙ ap (map (λ (r : SpentRow). Int (pos r.tolls) ∷ [])) (filter_same _ _ tested_row rows) in
       subst (λ l. IsPermutation l found) records
-      (IsPermutation-trans _ _ _ (IsPermutation-map tolls _ _ (IsPermutation-filter tested _ _ are)) (subst (λ l. IsPermutation l found) columns answer))
+      (IsPermutation-trans _ _ _ (IsPermutation-map tolls _ _ (IsPermutation-filter tested _ _ are))
+      (subst (λ l. IsPermutation l found) columns answer))
 
   -- a row with another key than one that passes does not pass
-  apart : (r s : SpentRow) → is_row day vid xway r ≡ true → is_row r.day r.vid r.xway s ≡ false → is_row day vid xway s ≡ false
+  apart : (r s : SpentRow) → is_row day vid xway r ≡ true → is_row r.day r.vid r.xway s ≡ false →
+      is_row day vid xway s ≡ false
   apart r s is other =
       let one = and_parts (r.day == day) (r.vid == vid && r.xway == xway) is in
       let two = and_parts (r.vid == vid) (r.xway == xway) one.1 in
@@ -96,34 +109,51 @@ module _ (day vid xway : ℕ) where
       rw (d, v, x) at other
 
   -- one row at most has the key
-  one_at_most : (rows : List SpentRow) → KeysDiffer rows → (filter (is_row day vid xway) rows ≡ []) ⊎ ((r : SpentRow) × (filter (is_row day vid xway) rows ≡ r ∷ []))
+  one_at_most : (rows : List SpentRow) → KeysDiffer rows → (filter (is_row day vid xway) rows ≡ [])
+      ⊎ ((r : SpentRow) × (filter (is_row day vid xway) rows ≡ r ∷ []))
   one_at_most [] differ = inl refl
   one_at_most (r ∷ rows) differ =
       elim (cases_Bool (is_row day vid xway r)) [
-        | inl is ↦ inr (r, rw is (ap (λ l. r ∷ l) (filter_none (is_row day vid xway) rows (all_weaker _ (λ s. is_row day vid xway s ≡ false) (λ s other. apart r s is other) rows differ.0))))
+        | inl is ↦ inr (
+          r,
+          rw is
+              (ap (λ l. r ∷ l)
+              (filter_none (is_row day vid xway) rows
+              (all_weaker _ (λ s. is_row day vid xway s ≡ false) (λ s other. apart r s is other) rows differ.0))),
+        )
         | inr other ↦ rw other (one_at_most rows differ.1)
       ]
 
   pub amount_found : (o : Office) (kept found : List Row) → KeysDiffer o.rows → AreKept o.rows kept
-      → IsPermutation (map (shown spent_query.project (asked day vid xway)) (filter (passes spent_query.filter (asked day vid xway)) kept)) found → HasAmount found (paid o.rows day vid xway)
+      → IsPermutation
+      (map (shown spent_query.project (asked day vid xway))
+      (filter (passes spent_query.filter (asked day vid xway)) kept)) found →
+      HasAmount found (paid o.rows day vid xway)
   amount_found o kept found differ are answer =
       let same = answer_rows o.rows kept found are answer in
       let first = slice_get-filter (is_row day vid xway) o.rows in
       elim (one_at_most o.rows differ) [
         | inl none ↦
             let nothing : find (is_row day vid xway) o.rows ≡ None = sym first ∙ ap (λ l. slice_get l 0) none in
-            let empty = none_left found (subst (λ l. IsPermutation (map (λ (r : SpentRow). Int (pos r.tolls) ∷ []) l) found) none same) in
+            let empty =
+            none_left found
+            (subst (λ l. IsPermutation (map (λ (r : SpentRow). Int (pos r.tolls) ∷ []) l) found) none same) in
             rw (nothing, empty) refl
         | inr one ↦
             let it : find (is_row day vid xway) o.rows ≡ Some one.0 = sym first ∙ ap (λ l. slice_get l 0) one.1 in
-            let alone = one_permutation (Int (pos one.0.tolls) ∷ []) found (subst (λ l. IsPermutation (map (λ (r : SpentRow). Int (pos r.tolls) ∷ []) l) found) one.1 same) in
+            let alone =
+            one_permutation (Int (pos one.0.tolls) ∷ []) found
+            (subst (λ l. IsPermutation (map (λ (r : SpentRow). Int (pos r.tolls) ∷ []) l) found) one.1 same) in
             rw (it, alone) refl
       ]
 
   -- a database that stands for an office gives its amount
-  pub amount_read : (o : Office) (old new : State) (found : List Row) → HasOffice old.now o → Shown find_spent (asked day vid xway) old new found → HasAmount found (paid o.rows day vid xway)
+  pub amount_read : (o : Office) (old new : State) (found : List Row) → HasOffice old.now o →
+      Shown find_spent (asked day vid xway) old new found → HasAmount found (paid o.rows day vid xway)
   amount_read o old new found has shown =
-      let read : Reads spent_command old.now (asked day vid xway) found = reads_as find_spent (asked day vid xway) old new all_tables has.tables.schema spent_command find_spent_is find_spent_plain.0 find_spent_plain.1 found shown in
+      let read : Reads spent_command old.now (asked day vid xway) found =
+      reads_as find_spent (asked day vid xway) old new all_tables has.tables.schema spent_command find_spent_is
+      find_spent_plain.0 find_spent_plain.1 found shown in
       amount_found o (old.now.trees 1) found (keys_law o.rows has.sound.rows_rise) has.tables.rows_are
       (table_answer 1 spent_query.filter spent_query.project [] _ (asked day vid xway) found read.answer)
 

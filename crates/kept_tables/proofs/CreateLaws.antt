@@ -24,21 +24,28 @@ pub record MakesIn (schema : Schema) (text : List ℕ) (table : Table) : Type 0 
   pub uncounted : lacks_sequence (created schema table) ≡ false
 
 -- the table is there and empty, and the rows of the others are as they were
-pub makes : (schema : Schema) (text : List ℕ) (table : Table) (old new : State) (count : ℕ) → MakesIn schema text table → old.now.schema ≡ schema → Executes text [] old new (Ok count)
-    → (new.now.schema ≡ created schema table) × (new.now.trees (next_tree schema) ≡ []) × KeepsRows schema.tables old.now.trees new.now.trees
+pub makes : (schema : Schema) (text : List ℕ) (table : Table) (old new : State) (count : ℕ) → MakesIn schema text table
+    → old.now.schema ≡ schema → Executes text [] old new (Ok count)
+    → (new.now.schema ≡ created schema table) × (new.now.trees (next_tree schema) ≡ [])
+    × KeepsRows schema.tables old.now.trees new.now.trees
 makes schema text table old new count it has ran =
-    let w = subst (λ t. Writes old new None CreateTable t [] count) it.whole (runs_as text [] old new schema has CreateTable it.command it.plain count ran) in
+    let w = subst (λ t. Writes old new None CreateTable t [] count) it.whole
+    (runs_as text [] old new schema has CreateTable it.command it.plain count ran) in
     let all = went w.changed in
     let first = went all.1 in
     let made = first.1 in
     let both : Ok made.table ≡ Ok table = sym made.defined ∙ it.defined in
     let same : made.table ≡ table = cc in
-    let after : first.0.schema ≡ created schema table = made.is ∙ ap (λ s. created s made.table) has ∙ ap (created schema) same in
+    let after : first.0.schema ≡ created schema table = made.is ∙ ap (λ s. created s made.table) has
+    ∙ ap (created schema) same in
     let plain : lacks_sequence first.0.schema ≡ false = ap lacks_sequence after ∙ it.uncounted in
-    let now : new.now ≡ first.0 = ap (λ (p : Tally × Database). p.1) (same_value all.2) ∙ same_value (rw plain at first.2) in (
+    let now : new.now ≡ first.0 = ap (λ (p : Tally × Database). p.1) (same_value all.2)
+    ∙ same_value (rw plain at first.2) in (
       ap (λ (d : Database). d.schema) now ∙ after,
-      ap (λ (d : Database). d.trees (next_tree schema)) now ∙ subst (λ s. first.0.trees (next_tree s) ≡ []) has made.empty,
-      subst (λ (d : Database). KeepsRows schema.tables old.now.trees d.trees) (sym now) (subst (λ (s : Schema). KeepsRows s.tables old.now.trees first.0.trees) has made.others),
+      ap (λ (d : Database). d.trees (next_tree schema)) now
+          ∙ subst (λ s. first.0.trees (next_tree s) ≡ []) has made.empty,
+      subst (λ (d : Database). KeepsRows schema.tables old.now.trees d.trees) (sym now)
+          (subst (λ (s : Schema). KeepsRows s.tables old.now.trees first.0.trees) has made.others),
     )
 
 -- each table in its turn

@@ -1,5 +1,6 @@
 -- What an edit of one table makes of what the tables hold.
-use Rattle.std.proofs.Common.{◌≡◌, ◌⊎◌, inl, inr, ℕ, pos, Bool, true, false, cond, List, map, drop, Ok, Err, Result, Option, refl, sym, subst, ◌∙◌, arith, IsPermutation}
+use Rattle.std.proofs.Common.{◌≡◌, ◌⊎◌, inl, inr, ℕ, pos, Bool, true, false, cond, List, map, drop, Ok, Err, Result}
+use Rattle.std.proofs.Common.{Option, refl, sym, subst, ◌∙◌, arith, IsPermutation}
 use Rattle.sqlite_sql.specs.Ops.{unary}
 use Rattle.sqlite_rules.specs.Cast.{cast}
 use Rattle.sqlite_schema.specs.declared.schema.Kind.TheVariants.{Integer}
@@ -44,7 +45,8 @@ module _ (version : List Row) (db next : Database) (c : Contents) where
   same_rows has same = subst (λ l. IsPermutation (map spent_row c.rows) (map (drop 1) l)) (sym same) has.rows_are
 
   -- other tariffs, and all else as it was
-  pub other_tariffs : (ts : Tariffs) → HoldsAs version db c → Changes 5 (map tariff_row ts) db next → HoldsAs version next (record c { tariffs = ts })
+  pub other_tariffs : (ts : Tariffs) → HoldsAs version db c → Changes 5 (map tariff_row ts) db next →
+      HoldsAs version next (record c { tariffs = ts })
   other_tariffs ts has to = record {
     schema = to.schema;
     days_are = to.others 0 (λ e. omega (arith, e)) (λ e. omega (arith, e)) ∙ has.days_are;
@@ -56,7 +58,8 @@ module _ (version : List Row) (db next : Database) (c : Contents) where
   }
 
   -- other records of days
-  pub other_days : (ds : List DayRecord) → HoldsAs version db c → Changes 0 (map day_row ds) db next → HoldsAs version next (record c { days = ds })
+  pub other_days : (ds : List DayRecord) → HoldsAs version db c → Changes 0 (map day_row ds) db next →
+      HoldsAs version next (record c { days = ds })
   other_days ds has to = record {
     schema = to.schema;
     days_are = to.rows;
@@ -68,7 +71,8 @@ module _ (version : List Row) (db next : Database) (c : Contents) where
   }
 
   -- other days that have a seal
-  pub other_seals : (ds : List DayRecord) → HoldsAs version db c → Changes 4 (map seal_row ds) db next → HoldsAs version next (record c { sealed = ds })
+  pub other_seals : (ds : List DayRecord) → HoldsAs version db c → Changes 4 (map seal_row ds) db next →
+      HoldsAs version next (record c { sealed = ds })
   other_seals ds has to = record {
     schema = to.schema;
     days_are = to.others 0 (λ e. omega (arith, e)) (λ e. omega (arith, e)) ∙ has.days_are;
@@ -80,7 +84,8 @@ module _ (version : List Row) (db next : Database) (c : Contents) where
   }
 
   -- another history
-  pub other_past : (p : Option PastRecord) → HoldsAs version db c → Changes 3 (past_rows p) db next → HoldsAs version next (record c { past = p })
+  pub other_past : (p : Option PastRecord) → HoldsAs version db c → Changes 3 (past_rows p) db next →
+      HoldsAs version next (record c { past = p })
   other_past p has to = record {
     schema = to.schema;
     days_are = to.others 0 (λ e. omega (arith, e)) (λ e. omega (arith, e)) ∙ has.days_are;
@@ -93,7 +98,8 @@ module _ (version : List Row) (db next : Database) (c : Contents) where
 
   -- other amounts
   pub other_rows : (rows : List SpentRow) → HoldsAs version db c → next.schema ≡ db.schema → AreKept rows (next.trees 1)
-      → ((t : ℕ) → (t ≡ 1 → ⊥) → (2 ≡ t → ⊥) → next.trees t ≡ db.trees t) → HoldsAs version next (record c { rows = rows })
+      → ((t : ℕ) → (t ≡ 1 → ⊥) → (2 ≡ t → ⊥) → next.trees t ≡ db.trees t) →
+      HoldsAs version next (record c { rows = rows })
   other_rows rows has schema are others = record {
     schema = schema ∙ has.schema;
     days_are = others 0 (λ e. omega (arith, e)) (λ e. omega (arith, e)) ∙ has.days_are;
@@ -105,7 +111,8 @@ module _ (version : List Row) (db next : Database) (c : Contents) where
   }
 
 -- another version
-pub other_version : (before after : List Row) (db next : Database) (c : Contents) → HoldsAs before db c → Changes 6 after db next → HoldsAs after next c
+pub other_version : (before after : List Row) (db next : Database) (c : Contents) → HoldsAs before db c →
+    Changes 6 after db next → HoldsAs after next c
 other_version before after db next c has to = record {
   schema = to.schema;
   days_are = to.others 0 (λ e. omega (arith, e)) (λ e. omega (arith, e)) ∙ has.days_are;

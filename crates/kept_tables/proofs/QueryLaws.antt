@@ -6,8 +6,12 @@ use Rattle.sqlite.proofs.Callers.{IsPlain, command_of}
 use Rattle.std.proofs.Common.{codes, [], ◌∷◌, Err}
 use Rattle.sqlite_resolve.specs.declared.error.CompileError.TheVariants.{NoSuchTable}
 use Rattle.kept_tables.specs.Layout.{no_tables, old_tables, all_tables}
-use Rattle.kept_tables.specs.Texts.{find_spent, find_tariffs, list_spent, list_vehicle, find_last, find_day, find_seal, find_past, list_days, find_version, drop_tariff, put_tariff, put_day, put_seal, put_past, put_version}
-use Rattle.kept_tables.specs.Select.{spent_command, rows_command, tariffs_command, drop_command, put_command, asks_by, vehicle_query, last_query, day_query, seal_query, past_query, days_query, version_query, day_command, seal_command, past_command, version_command}
+use Rattle.kept_tables.specs.Texts.{find_spent, find_tariffs, list_spent, list_vehicle, find_last, find_day, find_seal}
+use Rattle.kept_tables.specs.Texts.{find_past, list_days, find_version, drop_tariff, put_tariff, put_day, put_seal}
+use Rattle.kept_tables.specs.Texts.{put_past, put_version}
+use Rattle.kept_tables.specs.Select.{spent_command, rows_command, tariffs_command, drop_command, put_command, asks_by}
+use Rattle.kept_tables.specs.Select.{vehicle_query, last_query, day_query, seal_query, past_query, days_query}
+use Rattle.kept_tables.specs.Select.{version_query, day_command, seal_command, past_command, version_command}
 
 -- the query for an amount is understood so
 pub find_spent_is : command_of (understood all_tables find_spent) ≡ spent_command
@@ -60,7 +64,8 @@ unfolding understood everything
 put_tariff_plain = (refl, refl)
 
 -- the query for the amounts of a vehicle is understood so
-pub list_vehicle_is : command_of (understood all_tables list_vehicle) ≡ asks_by vehicle_query (codes "day" ∷ codes "vid" ∷ codes "xway" ∷ codes "tolls" ∷ [])
+pub list_vehicle_is : command_of (understood all_tables list_vehicle) ≡ asks_by vehicle_query
+    (codes "day" ∷ codes "vid" ∷ codes "xway" ∷ codes "tolls" ∷ [])
 unfolding understood everything
 list_vehicle_is = refl
 
@@ -80,7 +85,8 @@ unfolding understood everything
 find_last_plain = ((refl, refl), refl)
 
 -- the query for a day is understood so
-pub find_day_is : command_of (understood all_tables find_day) ≡ asks_by day_query (codes "digest" ∷ codes "bytes" ∷ codes "tuples" ∷ codes "notices" ∷ codes "notices_digest" ∷ codes "total" ∷ [])
+pub find_day_is : command_of (understood all_tables find_day) ≡ asks_by day_query
+    (codes "digest" ∷ codes "bytes" ∷ codes "tuples" ∷ codes "notices" ∷ codes "notices_digest" ∷ codes "total" ∷ [])
 unfolding understood everything
 find_day_is = refl
 
@@ -100,7 +106,8 @@ unfolding understood everything
 find_seal_plain = ((refl, refl), refl)
 
 -- the query for the history is understood so
-pub find_past_is : command_of (understood all_tables find_past) ≡ asks_by past_query (codes "base" ∷ codes "digest" ∷ codes "bytes" ∷ codes "rows_kept" ∷ [])
+pub find_past_is : command_of (understood all_tables find_past) ≡ asks_by past_query
+    (codes "base" ∷ codes "digest" ∷ codes "bytes" ∷ codes "rows_kept" ∷ [])
 unfolding understood everything
 find_past_is = refl
 

@@ -30,7 +30,8 @@ code_same (gnum m) (gnum n) h = ap gnum (number_same m n h)
 code_same (gnum m) (gcons a b) h = absurd (cc)
 code_same (gcons a b) gnil h = absurd (cc)
 code_same (gcons a b) (gnum n) h = absurd (cc)
-code_same (gcons a b) (gcons c d) h = let p = and_parts (same_code a c) (same_code b d) h in ap₂ gcons (code_same a c p.0) (code_same b d p.1)
+code_same (gcons a b) (gcons c d) h = let p = and_parts (same_code a c) (same_code b d) h in
+    ap₂ gcons (code_same a c p.0) (code_same b d p.1)
 
 -- a value passes with itself
 pub same_itself : {X : Type 0} (coded : Coded X) (x : X) → same coded x x ≡ true

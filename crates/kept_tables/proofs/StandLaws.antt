@@ -1,5 +1,6 @@
 -- What is told of a database is what it stands for.
-use Rattle.std.proofs.Common.{◌≡◌, inl, inr, Bool, true, false, cond, [], map, drop, length, Option, Some, None, Result, Ok, Err, IfOk, OnOk, OnErr, refl, sym, ap, subst, ◌∙◌, arith}
+use Rattle.std.proofs.Common.{◌≡◌, inl, inr, Bool, true, false, cond, [], map, drop, length, Option, Some, None, Result}
+use Rattle.std.proofs.Common.{Ok, Err, IfOk, OnOk, OnErr, refl, sym, ap, subst, ◌∙◌, arith}
 use Rattle.std.specs.Coded.{coded_list}
 use Rattle.std.proofs.lemmas.Bool.{cases_Bool, and_parts}
 use Rattle.sqlite_value.specs.contracts.row.Row as row
@@ -51,13 +52,18 @@ old_passes db o has =
     let days = ap (map old_from) has.tables.days_are ∙ map_back old_row old_from (λ _. refl) has.records in
     let rows = rows_back has.rows (db.trees 1) up has.tables.rows_are in
     let history = ap past_in has.tables.past_is ∙ past_back has.history in
-    let read : old_in db ≡ old_office has.records has.rows has.history = λ i. old_office (days i) (rows i) (history i) in
+    let read : old_in db ≡ old_office has.records has.rows has.history =
+    λ i. old_office (days i) (rows i) (history i) in
     let it : old_in db ≡ o = read ∙ sym has.office in
     let code = coded_list row.the_row.coded in (
-      both (same_if code (db.trees 0) (map old_row (map old_from (db.trees 0))) (has.tables.days_are ∙ ap (map old_row) (sym days)))
-          (both (same_if code (map (drop 1) (db.trees 1)) (map spent_row (map spent_from (db.trees 1))) (stored_so has.rows (db.trees 1) has.tables.rows_are))
-          (both (same_if code (db.trees 3) (past_rows (past_in (db.trees 3))) (has.tables.past_is ∙ ap past_rows (sym history)))
-          (both (subst (λ (p : Office). fits_fields p ≡ true) (sym it) (fields_if o has.fits)) (subst (λ (p : Office). is_sound p ≡ true) (sym it) (sound_if o has.sound))))),
+      both (same_if code (db.trees 0) (map old_row (map old_from (db.trees 0)))
+          (has.tables.days_are ∙ ap (map old_row) (sym days)))
+          (both (same_if code (map (drop 1) (db.trees 1)) (map spent_row (map spent_from (db.trees 1)))
+          (stored_so has.rows (db.trees 1) has.tables.rows_are))
+          (both (same_if code (db.trees 3) (past_rows (past_in (db.trees 3)))
+          (has.tables.past_is ∙ ap past_rows (sym history)))
+          (both (subst (λ (p : Office). fits_fields p ≡ true) (sym it) (fields_if o has.fits))
+          (subst (λ (p : Office). is_sound p ≡ true) (sym it) (sound_if o has.sound))))),
       it,
     )
 
@@ -85,36 +91,46 @@ pub stands_if_told : (db : Database) (o : Office) → office_in db ≡ Some o �
 unfolding office_in
 stands_if_told db o told = first (same schema.the_row.coded db.schema no_tables) refl told
   where
-    third : db.schema ≡ old_tables → (b : Bool) → holds_old db ≡ b → cond b (Some (old_in db)) None ≡ Some o → StandsForOffice db o
+    third : db.schema ≡ old_tables → (b : Bool) → holds_old db ≡ b → cond b (Some (old_in db)) None ≡ Some o →
+        StandsForOffice db o
     third tables true is e = let it : old_in db ≡ o = cc in inr (inl (subst (HasOld db) it (old_held db tables is)))
     third tables false is e = absurd (cc)
 
-    second : (b : Bool) → same schema.the_row.coded db.schema old_tables ≡ b → cond b (cond (holds_old db) (Some (old_in db)) None) (whole_in db) ≡ Some o → StandsForOffice db o
+    second : (b : Bool) → same schema.the_row.coded db.schema old_tables ≡ b →
+        cond b (cond (holds_old db) (Some (old_in db)) None) (whole_in db) ≡ Some o → StandsForOffice db o
     second true is e = third (same_is schema.the_row.coded db.schema old_tables is) (holds_old db) refl e
     second false is e = inr (inr (held_if_told db o e))
 
     first : (b : Bool) → same schema.the_row.coded db.schema no_tables ≡ b
-        → cond b (Some nothing_kept) (cond (same schema.the_row.coded db.schema old_tables) (cond (holds_old db) (Some (old_in db)) None) (whole_in db)) ≡ Some o → StandsForOffice db o
-    first true is e = let it : nothing_kept ≡ o = cc in inl (same_is schema.the_row.coded db.schema no_tables is, sym it)
+        → cond b (Some nothing_kept)
+        (cond (same schema.the_row.coded db.schema old_tables) (cond (holds_old db) (Some (old_in db)) None)
+        (whole_in db)) ≡ Some o → StandsForOffice db o
+    first true is e = let it : nothing_kept ≡ o = cc in
+        inl (same_is schema.the_row.coded db.schema no_tables is, sym it)
     first false is e = second (same schema.the_row.coded db.schema old_tables) refl e
 
 -- what it stands for is told of it
 pub told_if_stands : (db : Database) (o : Office) → StandsForOffice db o → office_in db ≡ Some o
 unfolding office_in
-told_if_stands db o (inl nothing) = rw (same_if schema.the_row.coded db.schema no_tables nothing.0) (ap Some (sym nothing.1))
+told_if_stands db o (inl nothing) =
+    rw (same_if schema.the_row.coded db.schema no_tables nothing.0) (ap Some (sym nothing.1))
 told_if_stands db o (inr (inl old)) =
-    let none = subst (λ s. same schema.the_row.coded s no_tables ≡ false) (sym old.tables.schema) (apart old_tables no_tables three_and_none) in
+    let none = subst (λ s. same schema.the_row.coded s no_tables ≡ false) (sym old.tables.schema)
+    (apart old_tables no_tables three_and_none) in
     let passes = old_passes db o old in
     rw (none, same_if schema.the_row.coded db.schema old_tables old.tables.schema, passes.0) (ap Some passes.1)
 told_if_stands db o (inr (inr has)) =
-    let none = subst (λ s. same schema.the_row.coded s no_tables ≡ false) (sym has.tables.schema) (apart all_tables no_tables six_and_none) in
-    let three = subst (λ s. same schema.the_row.coded s old_tables ≡ false) (sym has.tables.schema) (apart all_tables old_tables six_and_three) in
+    let none = subst (λ s. same schema.the_row.coded s no_tables ≡ false) (sym has.tables.schema)
+    (apart all_tables no_tables six_and_none) in
+    let three = subst (λ s. same schema.the_row.coded s old_tables ≡ false) (sym has.tables.schema)
+    (apart all_tables old_tables six_and_three) in
     rw (none, three) (told_if_held db o has)
 
 -- a database stands for one office at most
 pub stands_for_one : (db : Database) (o p : Office) → StandsForOffice db o → StandsForOffice db p → o ≡ p
 stands_for_one db o p first second =
-    let both : ◌≡◌ {A = Option Office} (Some o) (Some p) = sym (told_if_stands db o first) ∙ told_if_stands db p second in cc
+    let both : ◌≡◌ {A = Option Office} (Some o) (Some p) = sym (told_if_stands db o first)
+    ∙ told_if_stands db p second in cc
 
 -- which is sound
 pub stands_sound : (db : Database) (o : Office) → StandsForOffice db o → IsSound o
@@ -144,22 +160,27 @@ told_sound true db = go (office_in db) refl
     go (Some o) is = stands_sound db o (stands_if_told db o is)
 
 -- a call that keeps what a steady store stands for reads
-pub reads_told : {T : Type 0} (steady : Bool) (old new : Database) (r : Result T KeepFault) (P : Office → T → Type 0) → (steady ≡ true → StandsForNone old → StandsForNone new)
-    → (steady ≡ true → (o : Office) → StandsForOffice old o → StandsForOffice new o × IfOk r (P o)) → Reads (told_in steady old) (told_in steady new) r P
+pub reads_told : {T : Type 0} (steady : Bool) (old new : Database) (r : Result T KeepFault) (P : Office → T → Type 0) →
+    (steady ≡ true → StandsForNone old → StandsForNone new)
+    → (steady ≡ true → (o : Office) → StandsForOffice old o → StandsForOffice new o × IfOk r (P o)) →
+    Reads (told_in steady old) (told_in steady new) r P
 reads_told false old new r P none answers = refl
 reads_told {T} true old new r P none answers = go (office_in old) refl
   where
     go : (told : Option Office) → office_in old ≡ told → Reads told (office_in new) r P
     go None is = untold_if_none new (none refl (none_if_untold old is))
-    go (Some o) is = let both = answers refl o (stands_if_told old o is) in rw (told_if_stands new o both.0) (refl, both.1)
+    go (Some o) is = let both = answers refl o (stands_if_told old o is) in
+        rw (told_if_stands new o both.0) (refl, both.1)
 
 -- a put of a steady store puts all or nothing
 pub puts_told : (steady : Bool) (old new : Database) (r : Result (Unit {0}) KeepFault) (next : Office → Office)
-    → (steady ≡ true → (o : Office) → StandsForOffice old o → OnOk r (StandsForOffice new (next o)) × OnErr r (StandsForOffice new o)) → Puts AllOrNothing (told_in steady old) (told_in steady new) r next
+    → (steady ≡ true → (o : Office) → StandsForOffice old o → OnOk r (StandsForOffice new (next o))
+    × OnErr r (StandsForOffice new o)) → Puts AllOrNothing (told_in steady old) (told_in steady new) r next
 puts_told false old new r next put = tt
 puts_told true old new r next put = go (office_in old) refl
   where
-    at_end : (o : Office) (s : Result (Unit {0}) KeepFault) → OnOk s (StandsForOffice new (next o)) × OnErr s (StandsForOffice new o) → Puts AllOrNothing (Some o) (office_in new) s next
+    at_end : (o : Office) (s : Result (Unit {0}) KeepFault) → OnOk s (StandsForOffice new (next o))
+        × OnErr s (StandsForOffice new o) → Puts AllOrNothing (Some o) (office_in new) s next
     at_end o (Ok u) h = rw (told_if_stands new (next o) h.0) refl
     at_end o (Err e) h = rw (told_if_stands new o h.1) (inl refl)
 

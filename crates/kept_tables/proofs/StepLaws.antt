@@ -9,7 +9,8 @@ use Rattle.sqlite_tied.specs.Compute.{everything}
 use Rattle.std.proofs.lemmas.Bool.{cases_Bool}
 use Rattle.sqlite.specs.declared.error.Error.{Error}
 use Rattle.sqlite.specs.Listing.{understood}
-use Rattle.sqlite.specs.State.{State, KeepsCommit, IsUnchanged, IsRolledBack, Fails, RunsCommand, Executes, ExecutesIn, FailsToQuery, FailsToShow, IsNotRun, CommitsBy, shows_rows}
+use Rattle.sqlite.specs.State.{State, KeepsCommit, IsUnchanged, IsRolledBack, Fails, RunsCommand, Executes, ExecutesIn}
+use Rattle.sqlite.specs.State.{FailsToQuery, FailsToShow, IsNotRun, CommitsBy, shows_rows}
 use Rattle.sqlite.proofs.Callers.{IsPlain, command_of, runs_as}
 use Rattle.kept_tables.specs.Texts.{undo}
 
@@ -25,7 +26,8 @@ module _ (old new : State) where
   kept_failed U e h = kept_undone h.3
 
   -- so does a command that is refused
-  kept_refused : (sql : List ℕ) (c : Compiled) (params : Row) (e : Error) → RunsCommand old new sql c params (Err e) → KeepsCommit old new
+  kept_refused : (sql : List ℕ) (c : Compiled) (params : Row) (e : Error) → RunsCommand old new sql c params (Err e) →
+      KeepsCommit old new
   kept_refused sql c params e (inl h) = kept_same h.1
   kept_refused sql c params e (inr h) = kept_failed _ e h
 
@@ -36,7 +38,8 @@ module _ (old new : State) where
   kept_unrun sql params e (inr h) = kept_failed _ e h
 
   -- a statement that is refused commits nothing
-  pub kept_if_refused : (sql : List ℕ) (params : Row) (e : Error) → Executes sql params old new (Err e) → KeepsCommit old new
+  pub kept_if_refused : (sql : List ℕ) (params : Row) (e : Error) → Executes sql params old new (Err e) →
+      KeepsCommit old new
   unfolding ExecutesIn
   kept_if_refused sql params e (inl h) = kept_unrun sql params e h
   kept_if_refused sql params e (inr h) = elim (cases_Bool (shows_rows false h.0)) [
@@ -45,12 +48,14 @@ module _ (old new : State) where
   ]
 
   -- and rows that are not shown
-  kept_unshown : (sql : List ℕ) (c : Compiled) (params : Row) (e : Error) (what : _) → FailsToShow old new sql c params e what → KeepsCommit old new
+  kept_unshown : (sql : List ℕ) (c : Compiled) (params : Row) (e : Error) (what : _) →
+      FailsToShow old new sql c params e what → KeepsCommit old new
   kept_unshown sql c params e None h = kept_same h.3
   kept_unshown sql c params e (Some what) h = kept_refused sql c params e h
 
   -- a query that is refused commits nothing
-  pub kept_if_unread : (sql : List ℕ) (params : Row) (e : Error) → FailsToQuery sql params old new e → KeepsCommit old new
+  pub kept_if_unread : (sql : List ℕ) (params : Row) (e : Error) → FailsToQuery sql params old new e →
+      KeepsCommit old new
   unfolding FailsToQuery
   kept_if_unread sql params e (inl h) = kept_unrun sql params e h
   kept_if_unread sql params e (inr h) = kept_unshown sql h.0 _ e h.0.returning h.2
@@ -67,7 +72,9 @@ undo_plain schema = (refl, refl)
 
 -- what is under way is undone
 pub undone : (old new : State) (count : ℕ) → Executes undo [] old new (Ok count) → IsRolledBack old new
-undone old new count h = (runs_as undo [] old new old.now.schema refl Rollback (undo_is old.now.schema) (undo_plain old.now.schema) count h).1
+undone old new count h =
+    (runs_as undo [] old new old.now.schema refl Rollback (undo_is old.now.schema) (undo_plain old.now.schema) count
+    h).1
 
 -- and nothing is committed by that
 pub undo_commits_nothing : (old : State) (db : Trees) → ¬ CommitsBy undo [] old db
@@ -83,4 +90,5 @@ undo_commits_nothing old db h =
 
 -- steps that keep the last commit, one after another
 pub kept_then : (a b c : State) → KeepsCommit a b → KeepsCommit b c → KeepsCommit a c
-kept_then a b c p q = record { was_open = λ h. p.was_open (q.was_open h); committed = λ h. q.committed h ∙ p.committed (q.was_open h) }
+kept_then a b c p q =
+    record { was_open = λ h. p.was_open (q.was_open h); committed = λ h. q.committed h ∙ p.committed (q.was_open h) }

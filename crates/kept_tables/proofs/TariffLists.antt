@@ -1,5 +1,6 @@
 -- Tariffs as lists, and as the rows of their table.
-use Rattle.std.proofs.Common.{◌≡◌, inl, inr, ℕ, pos, ◌==◌, not, true, false, cond, [], ◌∷◌, map, filter, None, refl, sym, ap, subst, ◌∙◌, arith}
+use Rattle.std.proofs.Common.{◌≡◌, inl, inr, ℕ, pos, ◌==◌, not, true, false, cond, [], ◌∷◌, map, filter, None, refl}
+use Rattle.std.proofs.Common.{sym, ap, subst, ◌∙◌, arith}
 use Rattle.std.specs.List.{AllByRecursion}
 use Rattle.std.specs.List.Sorted.{IsStrictlySortedBy}
 use Rattle.std.specs.declared.cmp.Ordering.{Ordering}
@@ -41,21 +42,28 @@ none_equal xway [] above = refl
 none_equal xway (e ∷ ts) above = rw (less_apart xway e.0 above.0) (ap (λ l. e ∷ l) (none_equal xway ts above.1))
 
 -- what is below a key is below those above it
-above_all : (k m : ℕ) (ts : Tariffs) → nat_cmp k m ≡ Less → AllByRecursion (λ n. nat_cmp m n ≡ Less) (keys_of ts) → AllByRecursion (λ n. nat_cmp k n ≡ Less) (keys_of ts)
-above_all k m ts less = all_weaker (λ n. nat_cmp m n ≡ Less) (λ n. nat_cmp k n ≡ Less) (λ n. nat_cmp_total.trans k m n less) (keys_of ts)
+above_all : (k m : ℕ) (ts : Tariffs) → nat_cmp k m ≡ Less → AllByRecursion (λ n. nat_cmp m n ≡ Less) (keys_of ts) →
+    AllByRecursion (λ n. nat_cmp k n ≡ Less) (keys_of ts)
+above_all k m ts less =
+    all_weaker (λ n. nat_cmp m n ≡ Less) (λ n. nat_cmp k n ≡ Less) (λ n. nat_cmp_total.trans k m n less) (keys_of ts)
 
 -- what is left without a key
-pub taken_is : (xway : ℕ) (ts : Tariffs) → IsStrictlySortedBy nat_cmp (keys_of ts) → remove_entry (is_at (nat_cmp xway)) ts ≡ others xway ts
+pub taken_is : (xway : ℕ) (ts : Tariffs) → IsStrictlySortedBy nat_cmp (keys_of ts) →
+    remove_entry (is_at (nat_cmp xway)) ts ≡ others xway ts
 unfolding IsStrictlySortedBy
 taken_is xway [] up = refl
 taken_is xway (e ∷ ts) up = go (nat_cmp xway e.0) refl (taken_is xway ts up.1)
   where
-    go : (o : Ordering) → nat_cmp xway e.0 ≡ o → remove_entry (is_at (nat_cmp xway)) ts ≡ others xway ts → cond (is_eq (nat_cmp xway e.0)) ts (e ∷ remove_entry (is_at (nat_cmp xway)) ts) ≡ cond (not (e.0 == xway)) (e ∷ others xway ts) (others xway ts)
+    go : (o : Ordering) → nat_cmp xway e.0 ≡ o → remove_entry (is_at (nat_cmp xway)) ts ≡ others xway ts →
+        cond (is_eq (nat_cmp xway e.0)) ts (e ∷ remove_entry (is_at (nat_cmp xway)) ts) ≡ cond (not (e.0 == xway))
+        (e ∷ others xway ts) (others xway ts)
     go Less is more = rw (less_apart xway e.0 is, is) (ap (λ l. e ∷ l) more)
     go Equal is more =
         let same = equal_key xway e.0 is in
         let hit : (e.0 == xway) ≡ true = sym (same_key xway e.0) ∙ ap is_eq is in
-        rw (hit, is) (sym (none_equal xway ts (subst (λ k. AllByRecursion (λ n. nat_cmp k n ≡ Less) (keys_of ts)) (sym same) up.0)))
+        rw (hit, is)
+        (sym (none_equal xway ts
+        (subst (λ k. AllByRecursion (λ n. nat_cmp k n ≡ Less) (keys_of ts)) (sym same) up.0)))
     go Greater is more =
         let miss : (e.0 == xway) ≡ false = sym (same_key xway e.0) ∙ ap is_eq is in
         rw (miss, is) (ap (λ l. e ∷ l) more)
@@ -69,23 +77,29 @@ lookup_others xway (e ∷ ts) = elim (cases_Bool (e.0 == xway)) [
 ]
 
 -- a key below all others is put in front
-in_front : (xway : ℕ) (t : Tariff) (ts : Tariffs) → AllByRecursion (λ k. nat_cmp xway k ≡ Less) (keys_of ts) → insert_entry nat_cmp ts xway t ≡ (xway, t) ∷ ts
+in_front : (xway : ℕ) (t : Tariff) (ts : Tariffs) → AllByRecursion (λ k. nat_cmp xway k ≡ Less) (keys_of ts) →
+    insert_entry nat_cmp ts xway t ≡ (xway, t) ∷ ts
 in_front xway t [] above = refl
 in_front xway t (e ∷ ts) above = rw above.0 refl
 
 -- a key is set as well after it was taken away
-pub set_others : (xway : ℕ) (t : Tariff) (ts : Tariffs) → IsStrictlySortedBy nat_cmp (keys_of ts) → insert_entry nat_cmp (others xway ts) xway t ≡ insert_entry nat_cmp ts xway t
+pub set_others : (xway : ℕ) (t : Tariff) (ts : Tariffs) → IsStrictlySortedBy nat_cmp (keys_of ts) →
+    insert_entry nat_cmp (others xway ts) xway t ≡ insert_entry nat_cmp ts xway t
 unfolding IsStrictlySortedBy
 set_others xway t [] up = refl
 set_others xway t (e ∷ ts) up = go (nat_cmp xway e.0) refl (set_others xway t ts up.1)
   where
-    go : (o : Ordering) → nat_cmp xway e.0 ≡ o → insert_entry nat_cmp (others xway ts) xway t ≡ insert_entry nat_cmp ts xway t → insert_entry nat_cmp (others xway (e ∷ ts)) xway t ≡ insert_entry nat_cmp (e ∷ ts) xway t
-    go Less is more = ap (λ l. insert_entry nat_cmp l xway t) (none_equal xway (e ∷ ts) (is, above_all xway e.0 ts is up.0))
+    go : (o : Ordering) → nat_cmp xway e.0 ≡ o →
+        insert_entry nat_cmp (others xway ts) xway t ≡ insert_entry nat_cmp ts xway t →
+        insert_entry nat_cmp (others xway (e ∷ ts)) xway t ≡ insert_entry nat_cmp (e ∷ ts) xway t
+    go Less is more =
+        ap (λ l. insert_entry nat_cmp l xway t) (none_equal xway (e ∷ ts) (is, above_all xway e.0 ts is up.0))
     go Equal is more =
         let same = equal_key xway e.0 is in
         let hit : not (e.0 == xway) ≡ false = ap not (sym (same_key xway e.0) ∙ ap is_eq is) in
         let above = subst (λ k. AllByRecursion (λ n. nat_cmp k n ≡ Less) (keys_of ts)) (sym same) up.0 in
-        let first : insert_entry nat_cmp (others xway (e ∷ ts)) xway t ≡ (xway, t) ∷ ts = rw hit (ap (λ l. insert_entry nat_cmp l xway t) (none_equal xway ts above) ∙ in_front xway t ts above) in
+        let first : insert_entry nat_cmp (others xway (e ∷ ts)) xway t ≡ (xway, t) ∷ ts =
+        rw hit (ap (λ l. insert_entry nat_cmp l xway t) (none_equal xway ts above) ∙ in_front xway t ts above) in
         let second : insert_entry nat_cmp (e ∷ ts) xway t ≡ (e.0, t) ∷ ts = rw is refl in
         first ∙ ap (λ k. (k, t) ∷ ts) same ∙ sym second
     go Greater is more =
@@ -97,20 +111,26 @@ numbered_row : (xway : ℕ) (e : ℕ × Tariff) → has_rowid (pos xway) (tariff
 numbered_row xway e = ap is_eq (value_cmp-Int (pos e.0) (pos xway)) ∙ grind (arith, nat_tests)
 
 -- without the row of an expressway, the others are left
-pub row_taken : (xway : ℕ) (ts : Tariffs) → without_rowid (pos xway) (map tariff_row ts) ≡ map tariff_row (others xway ts)
-row_taken xway ts = filter-map (λ r. not (has_rowid (pos xway) r)) tariff_row ts ∙ ap (map tariff_row) (filter_same _ _ (λ e. ap not (numbered_row xway e)) ts)
+pub row_taken : (xway : ℕ) (ts : Tariffs) →
+    without_rowid (pos xway) (map tariff_row ts) ≡ map tariff_row (others xway ts)
+row_taken xway ts = filter-map (λ r. not (has_rowid (pos xway) r)) tariff_row ts
+    ∙ ap (map tariff_row) (filter_same _ _ (λ e. ap not (numbered_row xway e)) ts)
 
 -- the order of whole numbers, turned round
 turned : (m n : ℕ) → int_cmp (pos n) (pos m) ≡ ordering_reverse (nat_cmp m n)
 turned m n = grind (arith, nat_tests)
 
 -- the row of a tariff is put in its place
-pub row_put : (xway : ℕ) (t : Tariff) (ts : Tariffs) → put_row (tariff_row (xway, t)) (map tariff_row ts) ≡ map tariff_row (insert_entry nat_cmp ts xway t)
+pub row_put : (xway : ℕ) (t : Tariff) (ts : Tariffs) →
+    put_row (tariff_row (xway, t)) (map tariff_row ts) ≡ map tariff_row (insert_entry nat_cmp ts xway t)
 row_put xway t [] = refl
-row_put xway t (e ∷ ts) = rw (value_cmp-Int (pos e.0) (pos xway), turned xway e.0) (go (nat_cmp xway e.0) refl (row_put xway t ts))
+row_put xway t (e ∷ ts) =
+    rw (value_cmp-Int (pos e.0) (pos xway), turned xway e.0) (go (nat_cmp xway e.0) refl (row_put xway t ts))
   where
-    go : (o : Ordering) → nat_cmp xway e.0 ≡ o → put_row (tariff_row (xway, t)) (map tariff_row ts) ≡ map tariff_row (insert_entry nat_cmp ts xway t)
-        → match_ordering (ordering_reverse o) (tariff_row e ∷ put_row (tariff_row (xway, t)) (map tariff_row ts)) (tariff_row (xway, t) ∷ map tariff_row ts) (tariff_row (xway, t) ∷ tariff_row e ∷ map tariff_row ts)
+    go : (o : Ordering) → nat_cmp xway e.0 ≡ o →
+        put_row (tariff_row (xway, t)) (map tariff_row ts) ≡ map tariff_row (insert_entry nat_cmp ts xway t)
+        → match_ordering (ordering_reverse o) (tariff_row e ∷ put_row (tariff_row (xway, t)) (map tariff_row ts))
+        (tariff_row (xway, t) ∷ map tariff_row ts) (tariff_row (xway, t) ∷ tariff_row e ∷ map tariff_row ts)
         ≡ map tariff_row (match_ordering o ((xway, t) ∷ e ∷ ts) ((e.0, t) ∷ ts) (e ∷ insert_entry nat_cmp ts xway t))
     go Less is more = refl
     go Equal is more = ap (λ k. tariff_row (k, t) ∷ map tariff_row ts) (equal_key xway e.0 is)
@@ -133,7 +153,9 @@ others_twice xway (e ∷ ts) = elim (cases_Bool (e.0 == xway)) [
 ]
 
 -- the numbers of the rows that have the key
-pub hits_are : (xway : ℕ) (ts : Tariffs) → AllByRecursion (λ (r : Row). r ≡ Int (pos xway) ∷ []) (map (λ (e : ℕ × Tariff). Int (pos e.0) ∷ []) (filter (λ e. e.0 == xway) ts))
+pub hits_are : (xway : ℕ) (ts : Tariffs) →
+    AllByRecursion (λ (r : Row). r ≡ Int (pos xway) ∷ [])
+    (map (λ (e : ℕ × Tariff). Int (pos e.0) ∷ []) (filter (λ e. e.0 == xway) ts))
 hits_are xway [] = tt
 hits_are xway (e ∷ ts) = elim (cases_Bool (e.0 == xway)) [
   | inl hit ↦ rw hit (ap (λ k. Int (pos k) ∷ []) (numbers hit), hits_are xway ts)

@@ -1,5 +1,6 @@
 -- What six tables are told to hold is what they hold.
-use Rattle.std.proofs.Common.{◌≡◌, ◌+◌, Bool, true, false, cond, List, [], ◌∷◌, map, drop, get_or, Option, Some, None, refl, sym, ap, ap₂, subst, ◌∙◌, arith, IsPermutation, IsSorted}
+use Rattle.std.proofs.Common.{◌≡◌, ◌+◌, Bool, true, false, cond, List, [], ◌∷◌, map, drop, get_or, Option, Some, None}
+use Rattle.std.proofs.Common.{refl, sym, ap, ap₂, subst, ◌∙◌, arith, IsPermutation, IsSorted}
 use Rattle.std.specs.Coded.{coded_list}
 use Rattle.std.specs.List.{IsDistinct, AllByRecursion}
 use Rattle.std.specs.declared.cmp.Ordering.{Ordering}
@@ -35,7 +36,8 @@ use Rattle.kept_tables.proofs.TestLaws.{fields_are, fields_if, sound_is, sound_i
 pub rows_held : (kept : List Row) → are_amounts kept ≡ true → AreKept (amounts_in kept) kept
 rows_held kept are =
     let stored = same_is (coded_list row.the_row.coded) (map (drop 1) kept) (map spent_row (map spent_from kept)) are in
-    subst (IsPermutation (map spent_row (amounts_in kept))) (sym stored) (IsPermutation-map spent_row _ _ (IsPermutation-sort_by row_cmp row_total (map spent_from kept)))
+    subst (IsPermutation (map spent_row (amounts_in kept))) (sym stored)
+    (IsPermutation-map spent_row _ _ (IsPermutation-sort_by row_cmp row_total (map spent_from kept)))
 
 -- tables that pass the tests hold an office
 held : (db : Database) → db.schema ≡ all_tables → holds_all db ≡ true → HasOffice db (all_in db)
@@ -66,11 +68,13 @@ pub held_if_told : (db : Database) (o : Office) → whole_in db ≡ Some o → H
 unfolding whole_in
 held_if_told db o told = first (same schema.the_row.coded db.schema all_tables) refl told
   where
-    second : db.schema ≡ all_tables → (b : Bool) → holds_all db ≡ b → cond b (Some (all_in db)) None ≡ Some o → HasOffice db o
+    second : db.schema ≡ all_tables → (b : Bool) → holds_all db ≡ b → cond b (Some (all_in db)) None ≡ Some o →
+        HasOffice db o
     second tables true is e = let it : all_in db ≡ o = cc in subst (HasOffice db) it (held db tables is)
     second tables false is e = absurd (cc)
 
-    first : (b : Bool) → same schema.the_row.coded db.schema all_tables ≡ b → cond b (cond (holds_all db) (Some (all_in db)) None) None ≡ Some o → HasOffice db o
+    first : (b : Bool) → same schema.the_row.coded db.schema all_tables ≡ b →
+        cond b (cond (holds_all db) (Some (all_in db)) None) None ≡ Some o → HasOffice db o
     first true is e = second (same_is schema.the_row.coded db.schema all_tables is) (holds_all db) refl e
     first false is e = absurd (cc)
 
@@ -112,9 +116,14 @@ rows_back rows kept up are =
     let blind : (r : Row) → back (drop 1 r) ≡ spent_from r = λ r. cut r in
     let found : IsPermutation rows (map spent_from kept) =
     subst (λ l. IsPermutation l (map spent_from kept)) (map_back spent_row back (λ _. refl) rows)
-    (subst (IsPermutation (map back (map spent_row rows))) (map-map back (drop 1) kept ∙ map_same _ _ blind kept) (IsPermutation-map back _ _ are)) in
-    let differ = apart (map spent_from kept) (IsDistinct-IsPermutation (eq_by_cmp row_cmp) flips rows (map spent_from kept) found (IsDistinct-from_sorted row_cmp rows up)) in
-    sym (sorted_is-sort_by row_cmp row_total (map spent_from kept) rows differ (IsPermutation-sym _ _ found) (in_order rows up))
+    (subst (IsPermutation (map back (map spent_row rows))) (map-map back (drop 1) kept ∙ map_same _ _ blind kept)
+    (IsPermutation-map back _ _ are)) in
+    let differ =
+    apart (map spent_from kept)
+    (IsDistinct-IsPermutation (eq_by_cmp row_cmp) flips rows (map spent_from kept) found
+    (IsDistinct-from_sorted row_cmp rows up)) in
+    sym (sorted_is-sort_by row_cmp row_total (map spent_from kept) rows differ (IsPermutation-sym _ _ found)
+    (in_order rows up))
   where
     cut : (r : Row) → spent_from (Null ∷ drop 1 r) ≡ spent_from r
     cut [] = refl
@@ -135,14 +144,19 @@ each_columns [] = tt
 each_columns (r ∷ rows) = (refl, each_columns rows)
 
 -- rows with such columns are stored as what is read of them
-all_columns : (kept : List Row) → AllByRecursion IsColumns (map (drop 1) kept) → map (drop 1) kept ≡ map spent_row (map spent_from kept)
+all_columns : (kept : List Row) → AllByRecursion IsColumns (map (drop 1) kept) →
+    map (drop 1) kept ≡ map spent_row (map spent_from kept)
 all_columns [] all = refl
 all_columns (r ∷ kept) all = ap₂ (λ x xs. x ∷ xs) (all.0 ∙ ap spent_row (blind r)) (all_columns kept all.1)
 
 -- so are the rows that keep amounts
-pub stored_so : (rows : List SpentRow) (kept : List Row) → AreKept rows kept → map (drop 1) kept ≡ map spent_row (map spent_from kept)
+pub stored_so : (rows : List SpentRow) (kept : List Row) → AreKept rows kept →
+    map (drop 1) kept ≡ map spent_row (map spent_from kept)
 stored_so rows kept are =
-    all_columns kept (recursion_from_All IsColumns (map (drop 1) kept) (All-permutation IsColumns (map spent_row rows) (map (drop 1) kept) are (All-from_recursion IsColumns (map spent_row rows) (each_columns rows))))
+    all_columns kept
+    (recursion_from_All IsColumns (map (drop 1) kept)
+    (All-permutation IsColumns (map spent_row rows) (map (drop 1) kept) are
+    (All-from_recursion IsColumns (map spent_row rows) (each_columns rows))))
 
 -- the office that tables hold is told of them
 pub told_if_held : (db : Database) (o : Office) → HasOffice db o → whole_in db ≡ Some o
@@ -156,10 +170,14 @@ told_if_held db o has =
     let code = coded_list row.the_row.coded in
     let holds : holds_all db ≡ true =
     both (same_if code (db.trees 0) (map day_row (all_in db).days) (has.tables.days_are ∙ ap (map day_row) (sym days)))
-    (both (same_if code (map (drop 1) (db.trees 1)) (map spent_row (map spent_from (db.trees 1))) (stored_so o.rows (db.trees 1) has.tables.rows_are))
+    (both (same_if code (map (drop 1) (db.trees 1)) (map spent_row (map spent_from (db.trees 1)))
+    (stored_so o.rows (db.trees 1) has.tables.rows_are))
     (both (same_if code (db.trees 3) (past_rows (all_in db).past) (has.tables.past_is ∙ ap past_rows (sym history)))
-    (both (same_if code (db.trees 4) (map seal_row (all_in db).days) (has.tables.seals_are ∙ ap (map seal_row) (sym days)))
-    (both (same_if code (db.trees 5) (map tariff_row (all_in db).tariffs) (has.tables.tariffs_are ∙ ap (map tariff_row) (sym rates)))
+    (both (same_if code (db.trees 4) (map seal_row (all_in db).days)
+    (has.tables.seals_are ∙ ap (map seal_row) (sym days)))
+    (both (same_if code (db.trees 5) (map tariff_row (all_in db).tariffs)
+    (has.tables.tariffs_are ∙ ap (map tariff_row) (sym rates)))
     (both (same_if code (db.trees 6) (version_row ∷ []) has.tables.version)
-    (both (subst (λ (p : Office). fits_fields p ≡ true) (sym it) (fields_if o has.fits)) (subst (λ (p : Office). is_sound p ≡ true) (sym it) (sound_if o has.sound)))))))) in
+    (both (subst (λ (p : Office). fits_fields p ≡ true) (sym it) (fields_if o has.fits))
+    (subst (λ (p : Office). is_sound p ≡ true) (sym it) (sound_if o has.sound)))))))) in
     rw (same_if schema.the_row.coded db.schema all_tables has.tables.schema, holds, it) refl

@@ -93,7 +93,8 @@ rows_command =
 -- the query for the tariffs
 abbrev pub tariffs_command : Command
 tariffs_command =
-    Select (record { lets = []; body = tariffs_query }) (codes "xway" ∷ codes "crowd" ∷ codes "speed" ∷ codes "factor" ∷ [])
+    Select (record { lets = []; body = tariffs_query })
+    (codes "xway" ∷ codes "crowd" ∷ codes "speed" ∷ codes "factor" ∷ [])
 
 -- a tariff is taken away
 abbrev pub drop_command : Command

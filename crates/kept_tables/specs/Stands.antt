@@ -1,4 +1,5 @@
-use Rattle.std.specs.Prelude.{◌≡◌, ◌⊎◌, ◌<◌, ◌^◌, ℕ, List, [], ◌∷◌, ◌++◌, map, drop, length, Option, Some, None, IfSome, IsPermutation}
+use Rattle.std.specs.Prelude.{◌≡◌, ◌⊎◌, ◌<◌, ◌^◌, ℕ, List, [], ◌∷◌, ◌++◌, map, drop, length, Option, Some, None, IfSome}
+use Rattle.std.specs.Prelude.{IsPermutation}
 use Rattle.std.specs.List.{AllByRecursion}
 use Rattle.std.specs.Ordering.{nat_cmp}
 use Rattle.std.specs.Map.{lookup}
@@ -13,7 +14,8 @@ use Rattle.keeper.specs.declared.kept.OldRecord.{OldRecord}
 use Rattle.keeper.specs.declared.kept.PastRecord.{PastRecord}
 use Rattle.keeper.specs.Office.{Office, IsSound, nothing_kept}
 use Rattle.keeper.specs.Kept.{old_office, sealed, seal_of}
-use Rattle.kept_tables.specs.Layout.{no_tables, old_tables, all_tables, days, spent, spent_key, past, day_tariffs, tariffs, form}
+use Rattle.kept_tables.specs.Layout.{no_tables, old_tables, all_tables, days, spent, spent_key, past, day_tariffs}
+use Rattle.kept_tables.specs.Layout.{tariffs, form}
 use Rattle.kept_tables.specs.Codec.{day_row, seal_row, old_row, spent_row, past_row, tariff_row, version_row}
 
 -- a digest has 32 bytes
@@ -56,7 +58,8 @@ abbrev pub AreKept : List SpentRow → List Row → Type 0
 AreKept rows kept = IsPermutation (map spent_row rows) (map (drop 1) kept)
 
 -- the three tables of version 1 alone are there, and hold these
-pub record HoldsOld (db : Database) (records : List OldRecord) (rows : List SpentRow) (history : Option PastRecord) : Type 0 where
+pub record HoldsOld (db : Database) (records : List OldRecord) (rows : List SpentRow) (history : Option PastRecord) :
+    Type 0 where
   pub schema : db.schema ≡ old_tables
   pub days_are : db.trees days.tree ≡ map old_row records
   pub rows_are : AreKept rows (db.trees spent.tree)

@@ -32,5 +32,6 @@ FitsAny o = Unit {0}
 -- tables with more amounts, all else as it was
 pub record Adds (old new : Database) (more : List SpentRow) : Type 0 where
   pub schema : new.schema ≡ all_tables
-  pub rows : (kept : List SpentRow) → AreKept kept (old.trees spent.tree) → AreKept (kept ++ more) (new.trees spent.tree)
+  pub rows : (kept : List SpentRow) → AreKept kept (old.trees spent.tree) →
+      AreKept (kept ++ more) (new.trees spent.tree)
   pub others : (tree : ℕ) → (tree ≡ spent.tree → ⊥) → (spent_key.tree ≡ tree → ⊥) → new.trees tree ≡ old.trees tree

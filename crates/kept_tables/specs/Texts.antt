@@ -2,15 +2,18 @@ use Rattle.std.specs.Prelude.{ℕ, List, codes}
 
 -- how each table is made
 abbrev pub make_days : List ℕ
-make_days = codes "CREATE TABLE days (day INTEGER PRIMARY KEY, digest BLOB NOT NULL, bytes INTEGER NOT NULL,\n  tuples INTEGER NOT NULL, notices INTEGER NOT NULL, notices_digest BLOB NOT NULL,\n  total INTEGER NOT NULL) STRICT"
+make_days =
+    codes "CREATE TABLE days (day INTEGER PRIMARY KEY, digest BLOB NOT NULL, bytes INTEGER NOT NULL,\n  tuples INTEGER NOT NULL, notices INTEGER NOT NULL, notices_digest BLOB NOT NULL,\n  total INTEGER NOT NULL) STRICT"
 
 -- the amounts
 abbrev pub make_spent : List ℕ
-make_spent = codes "CREATE TABLE spent (day INTEGER NOT NULL, vid INTEGER NOT NULL, xway INTEGER NOT NULL,\n  tolls INTEGER NOT NULL, PRIMARY KEY (day, vid, xway)) STRICT"
+make_spent =
+    codes "CREATE TABLE spent (day INTEGER NOT NULL, vid INTEGER NOT NULL, xway INTEGER NOT NULL,\n  tolls INTEGER NOT NULL, PRIMARY KEY (day, vid, xway)) STRICT"
 
 -- the history
 abbrev pub make_past : List ℕ
-make_past = codes "CREATE TABLE past (one INTEGER PRIMARY KEY CHECK (one = 1), base INTEGER NOT NULL,\n  digest BLOB NOT NULL, bytes INTEGER NOT NULL, rows_kept INTEGER NOT NULL) STRICT"
+make_past =
+    codes "CREATE TABLE past (one INTEGER PRIMARY KEY CHECK (one = 1), base INTEGER NOT NULL,\n  digest BLOB NOT NULL, bytes INTEGER NOT NULL, rows_kept INTEGER NOT NULL) STRICT"
 
 -- the seals
 abbrev pub make_day_tariffs : List ℕ
@@ -18,7 +21,8 @@ make_day_tariffs = codes "CREATE TABLE day_tariffs (day INTEGER PRIMARY KEY, dig
 
 -- the tariffs
 abbrev pub make_tariffs : List ℕ
-make_tariffs = codes "CREATE TABLE tariffs (xway INTEGER PRIMARY KEY, crowd INTEGER NOT NULL,\n  speed INTEGER NOT NULL, factor INTEGER NOT NULL) STRICT"
+make_tariffs =
+    codes "CREATE TABLE tariffs (xway INTEGER PRIMARY KEY, crowd INTEGER NOT NULL,\n  speed INTEGER NOT NULL, factor INTEGER NOT NULL) STRICT"
 
 -- the version
 abbrev pub make_form : List ℕ
@@ -38,7 +42,8 @@ list_spent = codes "SELECT day, vid, xway, tolls FROM spent WHERE day >= ?1 AND 
 
 -- those of a vehicle
 abbrev pub list_vehicle : List ℕ
-list_vehicle = codes "SELECT day, vid, xway, tolls FROM spent WHERE vid = ?1 AND day >= ?2 AND day <= ?3 ORDER BY day, vid, xway"
+list_vehicle =
+    codes "SELECT day, vid, xway, tolls FROM spent WHERE vid = ?1 AND day >= ?2 AND day <= ?3 ORDER BY day, vid, xway"
 
 -- the last day
 abbrev pub find_last : List ℕ

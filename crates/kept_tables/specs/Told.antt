@@ -12,7 +12,8 @@ use Rattle.keeper.specs.Office.{Office, row_cmp, nothing_kept}
 use Rattle.keeper.specs.Kept.{sealed, old_office}
 use Rattle.kept_tables.specs.Layout.{no_tables, old_tables, all_tables, days, spent, past, day_tariffs, tariffs, form}
 use Rattle.kept_tables.specs.Same.{same}
-use Rattle.kept_tables.specs.Codec.{day_row, seal_row, old_row, spent_row, tariff_row, version_row, old_from, spent_from, past_from, tariff_from, digest_at}
+use Rattle.kept_tables.specs.Codec.{day_row, seal_row, old_row, spent_row, tariff_row, version_row, old_from}
+use Rattle.kept_tables.specs.Codec.{spent_from, past_from, tariff_from, digest_at}
 use Rattle.kept_tables.specs.Stands.{past_rows}
 use Rattle.kept_tables.specs.Tests.{is_sound, fits_fields}
 

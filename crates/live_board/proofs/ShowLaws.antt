@@ -1,5 +1,6 @@
 -- totals show a board as changes are applied to both
-use Rattle.std.proofs.Common.{◌≡◌, ℕ, ◌+◌, ◌%◌, ◌^◌, ◌<◌, ◌≤◌, ◌==◌, Bool, true, false, cond, not, List, [], ◌∷◌, ◌++◌, map, Option, Some, None, refl, sym, ap, ◌∙◌, arith, le_refl, subst, if◌then◌else◌}
+use Rattle.std.proofs.Common.{◌≡◌, ℕ, ◌+◌, ◌%◌, ◌^◌, ◌<◌, ◌≤◌, ◌==◌, Bool, true, false, cond, not, List, [], ◌∷◌, ◌++◌}
+use Rattle.std.proofs.Common.{map, Option, Some, None, refl, sym, ap, ◌∙◌, arith, le_refl, subst, if◌then◌else◌}
 use Rattle.std.specs.Option.{unwrap_or}
 use Rattle.std.specs.List.{fold}
 use Rattle.std.specs.Ordering.{nat_cmp}
@@ -40,50 +41,63 @@ one_to true c = let one = sum_by-cons (λ (x : Charge). x.toll) c [] in omega (a
 one_to false c = refl
 
 -- an account with one charge more
-account_more : (vid : ℕ) (cs : List Charge) (c : Charge) → sum_of (charges_to vid (cs ++ c ∷ [])) ≡ sum_of (charges_to vid cs) + cond (c.vid == vid) c.toll 0
+account_more : (vid : ℕ) (cs : List Charge) (c : Charge) →
+    sum_of (charges_to vid (cs ++ c ∷ [])) ≡ sum_of (charges_to vid cs) + cond (c.vid == vid) c.toll 0
 account_more vid cs c =
     ap sum_of (filter-append (λ (x : Charge). x.vid == vid) cs (c ∷ []))
-    ∙ (sum_by-append (λ (x : Charge). x.toll) (charges_to vid cs) (charges_to vid (c ∷ [])) ∙ ap (λ n. sum_of (charges_to vid cs) + n) (one_to (c.vid == vid) c))
+    ∙ (sum_by-append (λ (x : Charge). x.toll) (charges_to vid cs) (charges_to vid (c ∷ []))
+    ∙ ap (λ n. sum_of (charges_to vid cs) + n) (one_to (c.vid == vid) c))
 
 -- a number with a toll more, in 64 bits
 added_is : (n s toll : ℕ) → n ≡ s % 2 ^ 64 → added n toll ≡ (s + toll) % 2 ^ 64
 added_is n s toll e = ap (λ k. (k + toll) % 2 ^ 64) e ∙ mod-add-mod s (2 ^ 64) toll
 
 -- each sum stays its account, in 64 bits, with one charge more
-each_step : (sums : FinMap nat_cmp ℕ) (bs : List Charge) (c : Charged) → ((v : ℕ) → sum_in sums v ≡ sum_of (charges_to v bs) % 2 ^ 64) →
+each_step : (sums : FinMap nat_cmp ℕ) (bs : List Charge) (c : Charged) →
+    ((v : ℕ) → sum_in sums v ≡ sum_of (charges_to v bs) % 2 ^ 64) →
     (v : ℕ) → sum_in (with_charged sums c) v ≡ sum_of (charges_to v (bs ++ charge_of c ∷ [])) % 2 ^ 64
 each_step sums bs c h v =
     let n : ℕ = added (sum_in sums c.vid) c.toll in
     ap (λ o. unwrap_or o 0) (get-insert nat_cmp_total sums c.vid n v)
-    ∙ (ap (λ b. unwrap_or (cond b (Some n) (get sums v)) 0) (unsigned_tied v c.vid ∙ nat_eq_equiv.symm v c.vid) ∙ (pick (c.vid == v) refl ∙ ap (λ k. k % 2 ^ 64) (sym (account_more v bs (charge_of c)))))
+    ∙ (ap (λ b. unwrap_or (cond b (Some n) (get sums v)) 0) (unsigned_tied v c.vid ∙ nat_eq_equiv.symm v c.vid)
+    ∙ (pick (c.vid == v) refl ∙ ap (λ k. k % 2 ^ 64) (sym (account_more v bs (charge_of c)))))
   where
-    pick : (b : Bool) → c.vid == v ≡ b → unwrap_or (cond b (Some (added (sum_in sums c.vid) c.toll)) (get sums v)) 0 ≡ (sum_of (charges_to v bs) + cond b c.toll 0) % 2 ^ 64
-    pick true e = added_is (sum_in sums c.vid) (sum_of (charges_to v bs)) c.toll (ap (sum_in sums) (eqb-true c.vid v e) ∙ h v)
+    pick : (b : Bool) → c.vid == v ≡ b → unwrap_or (cond b (Some (added (sum_in sums c.vid) c.toll)) (get sums v)) 0
+        ≡ (sum_of (charges_to v bs) + cond b c.toll 0) % 2 ^ 64
+    pick true e =
+        added_is (sum_in sums c.vid) (sum_of (charges_to v bs)) c.toll (ap (sum_in sums) (eqb-true c.vid v e) ∙ h v)
     pick false e = h v ∙ ap (λ k. k % 2 ^ 64) (add-zero (sum_of (charges_to v bs)))
       where
         add-zero : (k : ℕ) → k ≡ k + 0
         add-zero k = omega arith
 
 -- and with some charges more
-each_with : (cs : List Charged) (sums : FinMap nat_cmp ℕ) (bs : List Charge) → ((v : ℕ) → sum_in sums v ≡ sum_of (charges_to v bs) % 2 ^ 64) →
+each_with : (cs : List Charged) (sums : FinMap nat_cmp ℕ) (bs : List Charge) →
+    ((v : ℕ) → sum_in sums v ≡ sum_of (charges_to v bs) % 2 ^ 64) →
     (v : ℕ) → sum_in (with_charges sums cs) v ≡ sum_of (charges_to v (bs ++ map charge_of cs)) % 2 ^ 64
 each_with [] sums bs h v = h v ∙ ap (λ xs. sum_of (charges_to v xs) % 2 ^ 64) (sym (append-nil bs))
 each_with (c ∷ cs) sums bs h v =
-    each_with cs (with_charged sums c) (bs ++ charge_of c ∷ []) (each_step sums bs c h) v ∙ ap (λ xs. sum_of (charges_to v xs) % 2 ^ 64) (append_assoc bs (charge_of c ∷ []) (map charge_of cs))
+    each_with cs (with_charged sums c) (bs ++ charge_of c ∷ []) (each_step sums bs c h) v
+    ∙ ap (λ xs. sum_of (charges_to v xs) % 2 ^ 64) (append_assoc bs (charge_of c ∷ []) (map charge_of cs))
 
 -- so does the sum of all
-whole_is : (cs : List Charged) (n : ℕ) (bs : List Charge) → n ≡ sum_of bs % 2 ^ 64 → whole_with n cs ≡ sum_of (bs ++ map charge_of cs) % 2 ^ 64
+whole_is : (cs : List Charged) (n : ℕ) (bs : List Charge) → n ≡ sum_of bs % 2 ^ 64 →
+    whole_with n cs ≡ sum_of (bs ++ map charge_of cs) % 2 ^ 64
 whole_is [] n bs h = h ∙ ap (λ xs. sum_of xs % 2 ^ 64) (sym (append-nil bs))
 whole_is (c ∷ cs) n bs h =
-    whole_is cs (added n c.toll) (bs ++ charge_of c ∷ []) (added_is n (sum_of bs) c.toll h ∙ ap (λ k. k % 2 ^ 64) (sym (sum_more bs (charge_of c))))
+    whole_is cs (added n c.toll) (bs ++ charge_of c ∷ [])
+    (added_is n (sum_of bs) c.toll h ∙ ap (λ k. k % 2 ^ 64) (sym (sum_more bs (charge_of c))))
     ∙ ap (λ xs. sum_of xs % 2 ^ 64) (append_assoc bs (charge_of c ∷ []) (map charge_of cs))
 
 -- a change keeps what the totals show
-pub shows_with : (t : Totals) (s : Option Board) (o : Change) → Shows t s → Shows (totals_with t o) (shown_with s (operation_of o))
+pub shows_with : (t : Totals) (s : Option Board) (o : Change) → Shows t s →
+    Shows (totals_with t o) (shown_with s (operation_of o))
 shows_with t s (Begins day) h = record { begun = refl; number = refl; mark = refl; each = sum_none; whole = refl }
-shows_with t None (Charges cs mark) h = subst (λ (begun : Bool). Shows (if begun then totals_at t cs.items mark else t) None) (sym h.begun) h
+shows_with t None (Charges cs mark) h =
+    subst (λ (begun : Bool). Shows (if begun then totals_at t cs.items mark else t) None) (sym h.begun) h
 shows_with t (Some b) (Charges cs mark) h =
-    subst (λ (begun : Bool). Shows (if begun then totals_at t cs.items mark else t) (Some (board_with b (operation_of (Charges cs mark))))) (sym h.begun)
+    subst (λ (begun : Bool). Shows (if begun then totals_at t cs.items mark else t)
+    (Some (board_with b (operation_of (Charges cs mark))))) (sym h.begun)
     (record {
       begun = h.begun;
       number = h.number;
@@ -93,9 +107,11 @@ shows_with t (Some b) (Charges cs mark) h =
     })
 
 -- so do posts
-pub shows_posts : (ps : List Post) (p : Page) (s : Option Board) → Shows p.shown s → Shows (fold page_with p ps).shown (fold shown_with s (operations_of ps))
+pub shows_posts : (ps : List Post) (p : Page) (s : Option Board) → Shows p.shown s →
+    Shows (fold page_with p ps).shown (fold shown_with s (operations_of ps))
 shows_posts [] p s h = h
-shows_posts (Changed c ∷ ps) p s h = shows_posts ps (page_with p (Changed c)) (shown_with s (operation_of c)) (shows_with p.shown s c h)
+shows_posts (Changed c ∷ ps) p s h =
+    shows_posts ps (page_with p (Changed c)) (shown_with s (operation_of c)) (shows_with p.shown s c h)
 shows_posts (Reached f ∷ ps) p s h = shows_posts ps (page_with p (Reached f)) s h
 
 -- totals of nothing show that nothing was published
@@ -105,7 +121,8 @@ shows_nothing = record { begun = refl; number = refl; mark = refl; each = sum_no
 -- an account is a part of what all vehicles owe
 account_few : (b : Board) (vid : ℕ) → account b vid ≤ all_accounts b
 account_few b vid =
-    let both = sum_by-filter_both (λ (c : Charge). c.vid == vid) (λ (c : Charge). not (c.vid == vid)) (λ _. refl) (λ (c : Charge). c.toll) b.charged in
+    let both = sum_by-filter_both (λ (c : Charge). c.vid == vid) (λ (c : Charge). not (c.vid == vid)) (λ _. refl)
+    (λ (c : Charge). c.toll) b.charged in
     omega (arith, both)
 
 -- a number below 2^63 is itself in 64 bits
@@ -113,21 +130,28 @@ small : (n m : ℕ) → n ≤ m → m < 2 ^ 63 → n % 2 ^ 64 ≡ n
 small n m few fits = omega (arith, few, fits)
 
 -- where all that is owed is below 2^63, the totals have each account
-pub account_is : (t : Totals) (s : Option Board) (vid : ℕ) → Shows t s → all_accounts (board_on s) < 2 ^ 63 → sum_in t.sums vid ≡ account (board_on s) vid
-account_is t s vid h fits = h.each vid ∙ small (account (board_on s) vid) (all_accounts (board_on s)) (account_few (board_on s) vid) fits
+pub account_is : (t : Totals) (s : Option Board) (vid : ℕ) → Shows t s → all_accounts (board_on s) < 2 ^ 63 →
+    sum_in t.sums vid ≡ account (board_on s) vid
+account_is t s vid h fits =
+    h.each vid ∙ small (account (board_on s) vid) (all_accounts (board_on s)) (account_few (board_on s) vid) fits
 
 -- and what all vehicles owe
-pub all_is : (t : Totals) (s : Option Board) → Shows t s → all_accounts (board_on s) < 2 ^ 63 → t.whole ≡ all_accounts (board_on s)
-all_is t s h fits = h.whole ∙ small (all_accounts (board_on s)) (all_accounts (board_on s)) (le_refl (all_accounts (board_on s))) fits
+pub all_is : (t : Totals) (s : Option Board) → Shows t s → all_accounts (board_on s) < 2 ^ 63 →
+    t.whole ≡ all_accounts (board_on s)
+all_is t s h fits =
+    h.whole ∙ small (all_accounts (board_on s)) (all_accounts (board_on s)) (le_refl (all_accounts (board_on s))) fits
 
 -- two answers with the same parts
-live_made : {a a' b b' n n' : ℕ} → a ≡ a' → b ≡ b' → n ≡ n' → ◌≡◌ {A = Live} (record { day = a; as_of = b; amount = n }) (record { day = a'; as_of = b'; amount = n' })
+live_made : {a a' b b' n n' : ℕ} → a ≡ a' → b ≡ b' → n ≡ n' →
+    ◌≡◌ {A = Live} (record { day = a; as_of = b; amount = n }) (record { day = a'; as_of = b'; amount = n' })
 live_made p q r = cc
 
 -- the totals answer what the board has
-pub balance_is : (t : Totals) (s : Option Board) (vid : ℕ) → Shows t s → all_accounts (board_on s) < 2 ^ 63 → ◌≡◌ {A = Live} (record { day = t.number; as_of = t.mark; amount = sum_in t.sums vid }) (balance_on (board_on s) vid)
+pub balance_is : (t : Totals) (s : Option Board) (vid : ℕ) → Shows t s → all_accounts (board_on s) < 2 ^ 63 →
+    ◌≡◌ {A = Live} (record { day = t.number; as_of = t.mark; amount = sum_in t.sums vid }) (balance_on (board_on s) vid)
 balance_is t s vid h fits = live_made h.number h.mark (account_is t s vid h fits)
 
 -- and what all vehicles owe on it
-pub total_is : (t : Totals) (s : Option Board) → Shows t s → all_accounts (board_on s) < 2 ^ 63 → ◌≡◌ {A = Live} (record { day = t.number; as_of = t.mark; amount = t.whole }) (total_on (board_on s))
+pub total_is : (t : Totals) (s : Option Board) → Shows t s → all_accounts (board_on s) < 2 ^ 63 →
+    ◌≡◌ {A = Live} (record { day = t.number; as_of = t.mark; amount = t.whole }) (total_on (board_on s))
 total_is t s h fits = live_made h.number h.mark (all_is t s h fits)

@@ -16,7 +16,15 @@ operation_of (Charges cs mark) = Step (map charge_of cs.items) mark
 
 -- totals with charges up to a mark more
 abbrev pub totals_at : Totals → List Charged → ℕ → Totals
-totals_at t cs mark = record { begun = t.begun; number = t.number; mark = mark; sums = with_charges t.sums cs; whole = whole_with t.whole cs }
+totals_at t cs mark =
+    record {
+      begun = t.begun;
+      number = t.number;
+      mark = mark;
+      sums = with_charges t.sums cs;
+      whole =
+          whole_with t.whole cs;
+    }
 
 -- totals with one change more: charges before a day began count for nothing
 abbrev pub totals_with : Totals → Change → Totals

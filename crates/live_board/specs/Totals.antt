@@ -9,7 +9,8 @@ use Rattle.accounts.specs.declared.publisher.Charged.{Charged}
 use Rattle.accounts.specs.Boards.{Board, account, all_accounts}
 use Rattle.accounts.specs.Shown.{board_on}
 
--- what is kept of a board: whether a day began, the day, the mark, the sum of each vehicle's charges, and the sum of all
+-- what is kept of a board: whether a day began, the day, the mark, the sum of each vehicle's charges, and the sum of
+-- all
 pub record Totals : Type 0 where
   pub begun : Bool
   pub number : ℕ
@@ -20,7 +21,9 @@ pub record Totals : Type 0 where
 -- it is stored as its parts
 abbrev pub totals_code : Coded Totals
 totals_code =
-    code_by (Bool × (ℕ × (ℕ × (FinMap nat_cmp ℕ × ℕ)))) (coded× coded_bool (coded× coded_ℕ (coded× coded_ℕ (coded× (code coded_ℕ coded_ℕ) coded_ℕ)))) (λ t. (t.begun, (t.number, (t.mark, (t.sums, t.whole)))))
+    code_by (Bool × (ℕ × (ℕ × (FinMap nat_cmp ℕ × ℕ))))
+    (coded× coded_bool (coded× coded_ℕ (coded× coded_ℕ (coded× (code coded_ℕ coded_ℕ) coded_ℕ))))
+    (λ t. (t.begun, (t.number, (t.mark, (t.sums, t.whole)))))
     (λ p. record { begun = p.0; number = p.1.0; mark = p.1.1.0; sums = p.1.1.1.0; whole = p.1.1.1.1 }) (λ _. refl)
 
 -- nothing was charged

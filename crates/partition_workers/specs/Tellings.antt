@@ -13,7 +13,8 @@ is_unlisted_at test (Some (Some entry)) = test entry
 -- what a crew tells by its jobs and its places, with that test of what lies in them
 abbrev pub told : {X : Type 0} → (X → Bool) → Option (List Started) → Bool → List (Option X) → Option Told
 told test None lists places = None
-told test (Some jobs) lists places = Some (record { listed = jobs; lists = lists; unlisted = λ n. is_unlisted_at test (slice_get places n) })
+told test (Some jobs) lists places =
+    Some (record { listed = jobs; lists = lists; unlisted = λ n. is_unlisted_at test (slice_get places n) })
 
 -- what a crew tells by its list and its places
 abbrev pub told_by : {X : Type 0} → (X → Bool) → JobList → List (Option X) → Option Told

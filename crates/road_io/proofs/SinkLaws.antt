@@ -8,11 +8,13 @@ pub appends_none : (a : Option (List ℕ)) → Appends a a []
 appends_none None = tt
 appends_none (Some x) = sym (append-nil x)
 
-pub appends_on : (a b c : Option (List ℕ)) (xs ys zs : List ℕ) → Appends a b xs → Appends b c ys → zs ≡ xs ++ ys → Appends a c zs
+pub appends_on : (a b c : Option (List ℕ)) (xs ys zs : List ℕ) → Appends a b xs → Appends b c ys → zs ≡ xs ++ ys →
+    Appends a c zs
 appends_on None b c xs ys zs h k e = tt
 appends_on (Some x) None c xs ys zs h k e = absurd h
 appends_on (Some x) (Some y) None xs ys zs h k e = absurd k
-appends_on (Some x) (Some y) (Some z) xs ys zs h k e = k ∙ ap (λ l. l ++ ys) h ∙ append_assoc x xs ys ∙ ap (λ l. x ++ l) (sym e)
+appends_on (Some x) (Some y) (Some z) xs ys zs h k e = k ∙ ap (λ l. l ++ ys) h ∙ append_assoc x xs ys
+    ∙ ap (λ l. x ++ l) (sym e)
 
 pub appends_kept : (a b c : Option (List ℕ)) (xs : List ℕ) → Appends a b xs → Keeps b c → Appends a c xs
 appends_kept None b c xs h k = tt

@@ -1,4 +1,5 @@
-use Rattle.std.specs.Prelude.{ℕ, ◌≡◌, ◌+◌, ◌<◌, ◌≤◌, Bool, true, false, List, [], ◌∷◌, ◌++◌, length, take, drop, Option, Some, None, Result, Ok, Err}
+use Rattle.std.specs.Prelude.{ℕ, ◌≡◌, ◌+◌, ◌<◌, ◌≤◌, Bool, true, false, List, [], ◌∷◌, ◌++◌, length, take, drop, Option}
+use Rattle.std.specs.Prelude.{Some, None, Result, Ok, Err}
 use Rattle.std.specs.List.{slice_range}
 use Rattle.std.specs.Io.KnownBytes.{prepend_known}
 use Rattle.road_time.specs.Lines.{lines_of}
@@ -35,7 +36,8 @@ abbrev pub FirstHas : ℕ → List (List ℕ) → Type 0
 FirstHas n [] = ⊥
 FirstHas n (line ∷ lines) = n ≤ length line
 
--- an answer of `advance`: the first line of the bytes ahead is the current one, or nothing is there, or the first line is long; a fault takes nothing
+-- an answer of `advance`: the first line of the bytes ahead is the current one, or nothing is there, or the first line
+-- is long; a fault takes nothing
 abbrev pub Cuts : Result Bool LineFault → Option (List ℕ) → Option (List ℕ) → List ℕ → Type 0
 Cuts r None after line = Unit {0}
 Cuts (Ok true) (Some before) None line = ⊥
@@ -46,13 +48,16 @@ Cuts (Err ReadFault) (Some before) after line = after ≡ Some before
 
 -- what stands first in held bytes
 abbrev pub IsCut : Cut → List ℕ → Type 0
-IsCut (Line k) bytes = (k ≤ 200) × (k < length bytes) × ((more : List ℕ) → lines_of (bytes ++ more) ≡ take k bytes ∷ lines_of (drop (k + 1) bytes ++ more))
+IsCut (Line k) bytes =
+    (k ≤ 200) × (k < length bytes)
+    × ((more : List ℕ) → lines_of (bytes ++ more) ≡ take k bytes ∷ lines_of (drop (k + 1) bytes ++ more))
 IsCut Long bytes = (more : List ℕ) → FirstHas 201 (lines_of (bytes ++ more))
 IsCut More bytes = (length bytes ≤ 200) × (0 < length bytes → lines_of bytes ≡ bytes ∷ [])
 
 -- what an answer of `advance` leaves, where n lines were cut before: the line's bytes with its end are at most 201
 abbrev pub Stands : Result Bool LineFault → ℕ → LineCutter → Type 0
-Stands (Ok true) n c = (number_of c ≡ n + 1) × (length (line_of c) ≤ 200) × (fault_of c ≡ None) × (length (rest_of c) ≤ 201)
+Stands (Ok true) n c = (number_of c ≡ n + 1) × (length (line_of c) ≤ 200) × (fault_of c ≡ None)
+    × (length (rest_of c) ≤ 201)
 Stands (Ok false) n c = (number_of c ≡ n) × (line_of c ≡ []) × (rest_of c ≡ []) × (fault_of c ≡ None)
 Stands (Err (LongLine k)) n c = (k ≡ n + 1) × (number_of c ≡ n) × (rest_of c ≡ []) × (fault_of c ≡ Some (LongLine k))
 Stands (Err ReadFault) n c = (number_of c ≡ n) × (rest_of c ≡ []) × (fault_of c ≡ Some ReadFault)

@@ -1,3 +1,4 @@
+pub mod Blame
 pub mod Faults
 pub mod Plans
 pub mod Portions

@@ -1,5 +1,6 @@
 -- From the law to what the words mean.
-use Rattle.std.proofs.Common.{◌≡◌, ◌∙◌, inl, inr, refl, sym, ap, subst, List, [], ◌∷◌, map, Option, Some, None, Err, option_map, option_and_then}
+use Rattle.std.proofs.Common.{◌≡◌, ◌∙◌, inl, inr, refl, sym, ap, subst, List, [], ◌∷◌, map, Option, Some, None, Err}
+use Rattle.std.proofs.Common.{option_map, option_and_then}
 use Rattle.clap.specs.Walk.{Row, first_of, rows_of}
 use Rattle.clap.specs.Words.{kind_of, first_value, found_of}
 use Rattle.clap.specs.Simple.{HasMatchesOf, matches_of}
@@ -29,17 +30,20 @@ of_found rows = meaning (λ n. first_of n rows)
 meant : (words : List Text) → AllText words → means words ≡ option_and_then of_found (found_in words)
 meant words text = go (said_by_words words) ∙ ap (option_and_then of_found) (sym (law words text))
   where
-    go : (o : Option Said) → option_and_then (λ said. meaning (value_of said)) o ≡ option_and_then of_found (option_map (map row_said) o)
+    go : (o : Option Said) → option_and_then (λ said. meaning (value_of said)) o ≡ option_and_then of_found
+        (option_map (map row_said) o)
     go None = refl
     go (Some said) =
         let same : value_of said ≡ (λ n. first_of n (map row_said said)) = λ i n. sym (value_is said n) i in
         ap meaning same
 
 -- where clap refuses the words, they mean nothing
-refused : (words : List Text) → AllText words → (k : ErrorKind) → IsAmong k (fault_of server_app words) → means words ≡ None
+refused : (words : List Text) → AllText words → (k : ErrorKind) → IsAmong k (fault_of server_app words) →
+    means words ≡ None
 refused words text k among = meant words text ∙ go (fault_of server_app words) among
   where
-    go : (kinds : Kinds) → IsAmong k kinds → option_and_then of_found (unless kinds (Some (matches_of server_app words))) ≡ None
+    go : (kinds : Kinds) → IsAmong k kinds →
+        option_and_then of_found (unless kinds (Some (matches_of server_app words))) ≡ None
     go [] h = absurd h
     go (x ∷ xs) h = refl
 
@@ -51,12 +55,15 @@ on_error words text e NoMemory has apart = go (means words)
     go None = tt
     go (Some s) = refl
 on_error words text e Words (inl out) apart = absurd (apart refl out)
-on_error words text e Words (inr among) apart = subst (λ o. Reads o (Err Words)) (sym (refused words text (kind_of e) among)) tt
+on_error words text e Words (inr among) apart =
+    subst (λ o. Reads o (Err Words)) (sym (refused words text (kind_of e) among)) tt
 
 -- what the words mean, from the matches
-pub on_matches : (words : List Text) → AllText words → (m : ArgMatches) → fault_of server_app words ≡ [] → HasMatchesOf server_app words m
+pub on_matches : (words : List Text) → AllText words → (m : ArgMatches) → fault_of server_app words ≡ [] →
+    HasMatchesOf server_app words m
     → means words ≡ meaning (first_value (found_of m))
 on_matches words text m none has =
-    let same : (λ (n : Text). first_of n (rows_of (found_of m))) ≡ first_value (found_of m) = λ i n. sym (first_value-rows (found_of m) n) i in
+    let same : (λ (n : Text). first_of n (rows_of (found_of m))) ≡ first_value (found_of m) =
+    λ i n. sym (first_value-rows (found_of m) n) i in
     meant words text ∙ ap (λ k. option_and_then of_found (unless k (Some (matches_of server_app words)))) none
     ∙ ap of_found (sym (has refl).0) ∙ ap meaning same

@@ -1,5 +1,6 @@
 -- What the words of the server mean.
-use Rattle.std.specs.Prelude.{◌≡◌, ◌≤◌, ◌^◌, ◌-◌, List, [], ◌∷◌, Option, Some, None, Result, Ok, Err, codes, option_and_then}
+use Rattle.std.specs.Prelude.{◌≡◌, ◌≤◌, ◌^◌, ◌-◌, List, [], ◌∷◌, Option, Some, None, Result, Ok, Err, codes}
+use Rattle.std.specs.Prelude.{option_and_then}
 use Rattle.office_words.specs.Grammar.{Form, Text, Said, says}
 use Rattle.office_words.specs.Table.{form}
 use Rattle.office_words.specs.Meaning.{Values, needed, optional, value_of, with}

@@ -1,8 +1,10 @@
 -- Calls of a keeper, one after another.
-use Rattle.std.proofs.Common.{◌≡◌, ℕ, ◌+◌, ◌-◌, ◌<◌, ◌≤◌, true, false, List, [], ◌∷◌, ◌++◌, Some, None, Result, sym, ap, subst, ◌∙◌, refl, ⊎_elim, arith}
+use Rattle.std.proofs.Common.{◌≡◌, ℕ, ◌+◌, ◌-◌, ◌<◌, ◌≤◌, true, false, List, [], ◌∷◌, ◌++◌, Some, None, Result, sym, ap}
+use Rattle.std.proofs.Common.{subst, ◌∙◌, refl, ⊎_elim, arith}
 use Rattle.std.proofs.lemmas.Bool.{cases_lt}
 use Rattle.road_time.specs.declared.road.Tuple.{Tuple}
-use Rattle.road_time.specs.declared.road.Tuple.TheVariants.{Report as ReportTuple, Balance as BalanceTuple, Spent as SpentTuple, Travel}
+use Rattle.road_time.specs.declared.road.Tuple.TheVariants.{Report as ReportTuple, Balance as BalanceTuple}
+use Rattle.road_time.specs.declared.road.Tuple.TheVariants.{Spent as SpentTuple, Travel}
 use Rattle.road_time.specs.Sights.{Sight}
 use Rattle.road_time.specs.Tolls.{Finding}
 use Rattle.keeper.specs.declared.kept.KeepFault.{KeepFault}
@@ -16,13 +18,16 @@ passes_none None = tt
 passes_none (Some p) = (λ i h. (let no : ⊥ = omega (arith, h) in absurd no), λ i. ap p (omega arith))
 
 -- a call that did not fail
-pub passes_one : {T : Type 0} (p q : Plan) (r : Result T KeepFault) → GoesAsPlanned p q r → has_failed r ≡ false → Passes 1 p q
+pub passes_one : {T : Type 0} (p q : Plan) (r : Result T KeepFault) → GoesAsPlanned p q r → has_failed r ≡ false →
+    Passes 1 p q
 passes_one None q r h e = tt
 passes_one (Some p) None r h e = absurd h
-passes_one (Some p) (Some q) r h e = (λ i le. subst (λ n. p n ≡ false) (let z : 0 ≡ i = omega (arith, le) in z) (sym h.0 ∙ e), h.1)
+passes_one (Some p) (Some q) r h e =
+    (λ i le. subst (λ n. p n ≡ false) (let z : 0 ≡ i = omega (arith, le) in z) (sym h.0 ∙ e), h.1)
 
 -- a call that failed
-pub fails_now : {T : Type 0} (p q : Plan) (r : Result T KeepFault) → GoesAsPlanned p q r → has_failed r ≡ true → FailsAfter 0 p q
+pub fails_now : {T : Type 0} (p q : Plan) (r : Result T KeepFault) → GoesAsPlanned p q r → has_failed r ≡ true →
+    FailsAfter 0 p q
 fails_now None q r h e = tt
 fails_now (Some p) None r h e = absurd h
 fails_now (Some p) (Some q) r h e = (λ i le. (let no : ⊥ = omega (arith, le) in absurd no), sym h.0 ∙ e, h.1)
@@ -35,7 +40,8 @@ passes_on (Some p) (Some q) None m n h k = absurd k
 passes_on (Some p) (Some q) (Some r) m n h k = (
   λ i le.
       ⊎_elim (λ (low : i < m). h.0 i low)
-      (λ (high : m ≤ i). (let at : (i - m) + m ≡ i = omega (arith, high) in subst (λ j. p j ≡ false) at (sym (h.1 (i - m)) ∙ k.0 (i - m) (omega (arith, le, high)))))
+      (λ (high : m ≤ i). (let at : (i - m) + m ≡ i = omega (arith, high) in
+      subst (λ j. p j ≡ false) at (sym (h.1 (i - m)) ∙ k.0 (i - m) (omega (arith, le, high)))))
       (cases_lt i m),
   λ i. k.1 i ∙ (h.1 (i + n) ∙ ap p (omega arith)),
 )
@@ -48,7 +54,8 @@ fails_on (Some p) (Some q) None m n h k = absurd k
 fails_on (Some p) (Some q) (Some r) m n h k = (
   λ i le.
       ⊎_elim (λ (low : i < m). h.0 i low)
-      (λ (high : m ≤ i). (let at : (i - m) + m ≡ i = omega (arith, high) in subst (λ j. p j ≡ false) at (sym (h.1 (i - m)) ∙ k.0 (i - m) (omega (arith, le, high)))))
+      (λ (high : m ≤ i). (let at : (i - m) + m ≡ i = omega (arith, high) in
+      subst (λ j. p j ≡ false) at (sym (h.1 (i - m)) ∙ k.0 (i - m) (omega (arith, le, high)))))
       (cases_lt i m),
   ap p (omega arith) ∙ (sym (h.1 n) ∙ k.1),
   λ i. k.2 i ∙ (h.1 (i + (n + 1)) ∙ ap p (omega arith)),
@@ -76,7 +83,8 @@ pub asked_more : (xs : List Tuple) (x : Tuple) → asked (xs ++ x ∷ []) ≡ as
 asked_more xs x = let both = asked_both xs (x ∷ []) in omega arith
 
 -- a slot asks as its tuple does
-pub asked_slot : (finding : Sight → Finding) (before : List Tuple) (x : Tuple) → asked_for (slot_of finding (before, x)).due ≡ asked_by x
+pub asked_slot : (finding : Sight → Finding) (before : List Tuple) (x : Tuple) →
+    asked_for (slot_of finding (before, x)).due ≡ asked_by x
 asked_slot finding before (ReportTuple r) = refl
 asked_slot finding before (BalanceTuple time vid qid) = refl
 asked_slot finding before (SpentTuple time vid xway qid day) = refl

@@ -9,7 +9,8 @@ rose_on : (a b c : ℕ) → a ≤ b → Rose b c → Rose a c
 rose_on a b c h k = omega arith
 
 -- a sink that did not fail, and then a further call
-pub sink_then : {S T : Type 0} (x : S) (a b c : ℕ) (p q r : Room) (result : Result T SettleFault) → SinkFaults {T = S} a b p q (Ok x) → SinkFaults b c q r result → SinkFaults a c p r result
+pub sink_then : {S T : Type 0} (x : S) (a b c : ℕ) (p q r : Room) (result : Result T SettleFault) →
+    SinkFaults {T = S} a b p q (Ok x) → SinkFaults b c q r result → SinkFaults a c p r result
 sink_then x a b c p q r result h k = record {
   later = let first = h.later in let second = k.later in omega arith;
   cause = λ e. rose_on a b c h.later (k.cause e);
@@ -17,7 +18,8 @@ sink_then x a b c p q r result h k = record {
 }
 
 -- the same of a keeper
-pub keeper_then : {S T : Type 0} (x : S) (a b c : ℕ) (p q r : Option (ℕ → Bool)) (result : Result T SettleFault) → KeeperFaults {T = S} a b p q (Ok x) → KeeperFaults b c q r result → KeeperFaults a c p r result
+pub keeper_then : {S T : Type 0} (x : S) (a b c : ℕ) (p q r : Option (ℕ → Bool)) (result : Result T SettleFault) →
+    KeeperFaults {T = S} a b p q (Ok x) → KeeperFaults b c q r result → KeeperFaults a c p r result
 keeper_then x a b c p q r result h k = record {
   later = let first = h.later in let second = k.later in omega arith;
   cause = λ e. rose_on a b c h.later (k.cause e);
@@ -25,7 +27,8 @@ keeper_then x a b c p q r result h k = record {
 }
 
 -- a keeper that is not called
-pub keeper_idle : {T : Type 0} (a : ℕ) (p : Option (ℕ → Bool)) (result : Result T SettleFault) → keeper_failed result ≡ false → KeeperFaults a a p p result
+pub keeper_idle : {T : Type 0} (a : ℕ) (p : Option (ℕ → Bool)) (result : Result T SettleFault) →
+    keeper_failed result ≡ false → KeeperFaults a a p p result
 keeper_idle a p result e = record {
   later = omega arith;
   cause = λ bad. let no : ⊥ = cc in absurd no;
@@ -33,7 +36,8 @@ keeper_idle a p result e = record {
 }
 
 -- a sink that is not called
-pub sink_idle : {T : Type 0} (a : ℕ) (p : Room) (result : Result T SettleFault) → write_failed result ≡ false → SinkFaults a a p p result
+pub sink_idle : {T : Type 0} (a : ℕ) (p : Room) (result : Result T SettleFault) → write_failed result ≡ false →
+    SinkFaults a a p p result
 sink_idle a p result e = record {
   later = omega arith;
   cause = λ bad. let no : ⊥ = cc in absurd no;

@@ -1,5 +1,6 @@
 -- What a sink takes of a text.
-use Rattle.std.proofs.Common.{◌≡◌, ℕ, ◌+◌, ◌≤◌, List, [], ◌++◌, length, take, sym, ap, subst, ◌∙◌, arith, append-nil, length-append}
+use Rattle.std.proofs.Common.{◌≡◌, ℕ, ◌+◌, ◌≤◌, List, [], ◌++◌, length, take, sym, ap, subst, ◌∙◌, arith, append-nil}
+use Rattle.std.proofs.Common.{length-append}
 use Rattle.std.proofs.lemmas.List.{take-append-le}
 use Rattle.std.proofs.Math.Seq.{take-append-add, take-append_seam}
 use Rattle.std.specs.Io.KnownBytes.{Appends}
@@ -39,8 +40,11 @@ adds_none a = (appends_none a.0, takes_none a.1)
 -- bytes, and then further ones
 pub adds_on : (a b c : Level) (xs ys zs : List ℕ) → Adds a b xs → Adds b c ys → zs ≡ xs ++ ys → Adds a c zs
 adds_on a b c xs ys zs h k e =
-    let size : length zs ≡ length xs + length ys = ap length e ∙ length-append xs ys in
-    (appends_on a.0 b.0 c.0 xs ys zs h.0 k.0 e, takes_on a.1 b.1 c.1 (length xs) (length ys) (length zs) h.1 k.1 (sym size))
+    let size : length zs ≡ length xs + length ys = ap length e ∙ length-append xs ys in (
+      appends_on a.0 b.0 c.0 xs ys zs h.0 k.0 e,
+      takes_on a.1 b.1 c.1 (length xs) (length ys) (length zs) h.1 k.1
+          (sym size),
+    )
 
 -- bytes, and then a text of which the room was filled
 pub fills_after : (a b c : Level) (xs ys zs : List ℕ) → Adds a b xs → FillsUp ys b c → zs ≡ xs ++ ys → FillsUp zs a c
@@ -48,8 +52,13 @@ fills_after a b c xs ys zs h k e =
     let n = length xs + k.0 in
     let front : take n zs ≡ xs ++ take k.0 ys = ap (take n) e ∙ take-append-add xs ys k.0 in
     let size : length zs ≡ length xs + length ys = ap length e ∙ length-append xs ys in
-    let few = k.1 in
-    (n, omega arith, appends_on a.0 b.0 c.0 xs (take k.0 ys) (take n zs) h.0 k.2 front, fills_more a.1 b.1 c.1 (length xs) k.0 h.1 k.3)
+    let few = k.1 in (
+      n,
+      omega arith,
+      appends_on a.0 b.0 c.0 xs (take k.0 ys) (take n zs) h.0 k.2 front,
+      fills_more a.1 b.1 c.1
+          (length xs) k.0 h.1 k.3,
+    )
 
 -- bytes that were taken are the front of any longer text
 pub front_of : (a b : Level) (xs more : List ℕ) → Adds a b xs → AddsFront (xs ++ more) a b
@@ -77,7 +86,8 @@ fills_longer a b text more h =
     (h.0, omega arith, subst (Appends a.0 b.0) (sym (take-append-le h.0 text more le)) h.2, h.3)
 
 -- what was taken of a text where a printer was stopped is so of a longer one
-pub some_longer : (fault : SettleFault) (a b : Level) (text more : List ℕ) → AddsSome fault text a b → AddsSome fault (text ++ more) a b
+pub some_longer : (fault : SettleFault) (a b : Level) (text more : List ℕ) → AddsSome fault text a b →
+    AddsSome fault (text ++ more) a b
 some_longer KeeperFault a b text more h = absurd h
 some_longer WriteFault a b text more h = fills_longer a b text more h
 some_longer NoMemory a b text more h = front_longer a b text more h

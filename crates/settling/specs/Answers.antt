@@ -1,9 +1,11 @@
 -- What is told and answered at moments, where a keeper may tell or not what it keeps.
 use Rattle.std.specs.Prelude.{ℕ, ◌≡◌, ◌-◌, ◌++◌, Bool, true, false, List, [], ◌∷◌, Option, Some, None}
 use Rattle.std.specs.Option.{option_map}
-use Rattle.road_time.specs.declared.road.Tuple.TheVariants.{Report as ReportTuple, Balance as BalanceTuple, Spent as SpentTuple, Travel}
+use Rattle.road_time.specs.declared.road.Tuple.TheVariants.{Report as ReportTuple, Balance as BalanceTuple}
+use Rattle.road_time.specs.declared.road.Tuple.TheVariants.{Spent as SpentTuple, Travel}
 use Rattle.road_time.specs.declared.road.Notice.{Notice}
-use Rattle.road_time.specs.declared.road.Notice.TheVariants.{Toll as TollNotice, Alert as AlertNotice, Balance as BalanceNotice, Spent as SpentNotice}
+use Rattle.road_time.specs.declared.road.Notice.TheVariants.{Toll as TollNotice, Alert as AlertNotice}
+use Rattle.road_time.specs.declared.road.Notice.TheVariants.{Balance as BalanceNotice, Spent as SpentNotice}
 use Rattle.road_time.specs.Sights.{Moment, Sight}
 use Rattle.road_time.specs.Tolls.{Finding}
 use Rattle.road_time.specs.Day.{told_by, balance_by}
@@ -31,14 +33,17 @@ IsPaid (Some kept) day vid xway amount = amount ≡ kept day vid xway
 -- the notices of a moment, by findings and after a history
 abbrev pub AreNoticesAt : (Sight → Finding) → ℕ → History → Moment → List Notice → Type 0
 AreNoticesAt finding number history (before, ReportTuple r) ns = ns ≡ told_by finding (before, ReportTuple r)
-AreNoticesAt finding number history (before, BalanceTuple time vid qid) ns = ns ≡ BalanceNotice time qid (balance_by finding vid before) ∷ []
-AreNoticesAt finding number history (before, SpentTuple time vid xway qid day) ns = (amount : ℕ) × IsPaid history (number - day) vid xway amount × (ns ≡ SpentNotice time qid amount ∷ [])
+AreNoticesAt finding number history (before, BalanceTuple time vid qid) ns =
+    ns ≡ BalanceNotice time qid (balance_by finding vid before) ∷ []
+AreNoticesAt finding number history (before, SpentTuple time vid xway qid day) ns =
+    (amount : ℕ) × IsPaid history (number - day) vid xway amount × (ns ≡ SpentNotice time qid amount ∷ [])
 AreNoticesAt finding number history (before, Travel time) ns = ns ≡ []
 
 -- the notices of some moments, one after another
 abbrev pub AreNotices : (Sight → Finding) → ℕ → History → List Moment → List Notice → Type 0
 AreNotices finding number history [] ns = ns ≡ []
-AreNotices finding number history (m ∷ ms) ns = (first : List Notice) × (later : List Notice) × (ns ≡ first ++ later) × AreNoticesAt finding number history m first × AreNotices finding number history ms later
+AreNotices finding number history (m ∷ ms) ns = (first : List Notice) × (later : List Notice) × (ns ≡ first ++ later)
+    × AreNoticesAt finding number history m first × AreNotices finding number history ms later
 
 -- What a slot says:
 
@@ -57,4 +62,5 @@ abbrev pub IsSaid : History → ℕ → Due → Found → Accounts → List Noti
 IsSaid history number Nothing found b ns = ns ≡ []
 IsSaid history number (Report time vid charge told) found b ns = ns ≡ told_notices told time vid found
 IsSaid history number (Balance time vid qid) found b ns = ns ≡ BalanceNotice time qid (account_in b.spent vid) ∷ []
-IsSaid history number (Spent time vid qid xway day) found b ns = (amount : ℕ) × IsPaid history (number - day) vid xway amount × (ns ≡ SpentNotice time qid amount ∷ [])
+IsSaid history number (Spent time vid qid xway day) found b ns =
+    (amount : ℕ) × IsPaid history (number - day) vid xway amount × (ns ≡ SpentNotice time qid amount ∷ [])

@@ -1,7 +1,9 @@
 -- How often a keeper is asked, and which of its calls pass.
-use Rattle.std.specs.Prelude.{ℕ, ◌≡◌, ◌+◌, ◌<◌, ◌≤◌, Bool, true, false, List, [], ◌∷◌, Option, Some, None, Result, Ok, Err}
+use Rattle.std.specs.Prelude.{ℕ, ◌≡◌, ◌+◌, ◌<◌, ◌≤◌, Bool, true, false, List, [], ◌∷◌, Option, Some, None, Result, Ok}
+use Rattle.std.specs.Prelude.{Err}
 use Rattle.road_time.specs.declared.road.Tuple.{Tuple}
-use Rattle.road_time.specs.declared.road.Tuple.TheVariants.{Report as ReportTuple, Balance as BalanceTuple, Spent as SpentTuple, Travel}
+use Rattle.road_time.specs.declared.road.Tuple.TheVariants.{Report as ReportTuple, Balance as BalanceTuple}
+use Rattle.road_time.specs.declared.road.Tuple.TheVariants.{Spent as SpentTuple, Travel}
 use Rattle.settling.specs.declared.fault.SettleFault.{SettleFault}
 use Rattle.settling.specs.declared.fault.SettleFault.TheVariants.{KeeperFault, WriteFault, NoMemory}
 use Rattle.settling.specs.declared.slot.Due.{Due}

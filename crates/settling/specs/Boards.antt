@@ -17,6 +17,7 @@ posted_if zero charges mark before = before
 posted_if (suc n) charges mark before = option_map (posted_with (Step charges mark)) before
 
 -- one step is published if something was settled, and none otherwise; where settling was stopped none is published
-abbrev pub Publishes : {T : Type 0} → Result T SettleFault → ℕ → List Charge → ℕ → Option Posted → Option Posted → Type 0
+abbrev pub Publishes : {T : Type 0} → Result T SettleFault → ℕ → List Charge → ℕ → Option Posted → Option Posted →
+    Type 0
 Publishes (Ok x) count charges mark before now = now ≡ posted_if count charges mark before
 Publishes (Err fault) count charges mark before now = IsRefused (Step charges mark) before now

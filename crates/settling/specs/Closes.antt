@@ -12,7 +12,8 @@ use Rattle.settling.specs.declared.settler.closing.Closed.{Closed}
 use Rattle.settling.specs.Answers.{History, AreNotices}
 
 -- the rows and the total of the tuples' charges, the number of their notices, and the digest of the notices' text
-pub record IsClosed (closed : Closed) (day : ℕ) (finding : Sight → Finding) (number : ℕ) (history : History) (before : List Tuple) : Type 0 where
+pub record IsClosed (closed : Closed) (day : ℕ) (finding : Sight → Finding) (number : ℕ) (history : History)
+    (before : List Tuple) : Type 0 where
   pub rows : closed.rows ≡ rows_from day (charges_by finding (moments before))
   pub total : closed.total ≡ total_by finding before
   pub told : List Notice

@@ -35,7 +35,8 @@ pub record SinkFaults {T : Type 0} (before now : ℕ) (room left : Room) (result
   pub sure : room ≡ Endless → (write_failed result ≡ false) × (left ≡ Endless)
 
 -- the same of a keeper, and one that plans no failing call does not fail
-pub record KeeperFaults {T : Type 0} (before now : ℕ) (plan left : Option (ℕ → Bool)) (result : Result T SettleFault) : Type 0 where
+pub record KeeperFaults {T : Type 0} (before now : ℕ) (plan left : Option (ℕ → Bool)) (result : Result T SettleFault) :
+    Type 0 where
   pub later : before ≤ now
   pub cause : keeper_failed result ≡ true → Rose before now
   pub sure : NeverFails plan → (keeper_failed result ≡ false) × NeverFails left

@@ -1,5 +1,6 @@
 -- Laws of what is settled.
-use Rattle.std.specs.Prelude.{ℕ, ◌≡◌, ◌+◌, ◌≤◌, ◌<◌, ◌^◌, ◌==◌, List, [], ◌∷◌, ◌++◌, length, take, drop, Option, Some, None, slice_get, slice_set}
+use Rattle.std.specs.Prelude.{ℕ, ◌≡◌, ◌+◌, ◌≤◌, ◌<◌, ◌^◌, ◌==◌, List, [], ◌∷◌, ◌++◌, length, take, drop, Option, Some}
+use Rattle.std.specs.Prelude.{None, slice_get, slice_set}
 use Rattle.std.specs.Map.{lookup}
 use Rattle.std.specs.List.{filter_map, AllByRecursion}
 use Rattle.road_time.specs.declared.road.Tuple.{Tuple}
@@ -32,15 +33,18 @@ FedLaw =
     (take a fed ++ take count (drop a fed) ≡ take (a + count) fed)
     × (drop count (drop a fed) ≡ drop (a + count) fed)
     × (moments_after (take a fed) (take count (drop a fed)) ≡ drop a (take (a + count) (moments fed)))
-    × ((finding : Sight → Finding) → charges_by finding (moments_after (take a fed) (take count (drop a fed))) ≡ charges_between finding fed a (a + count))
+    × ((finding : Sight → Finding) → charges_by finding (moments_after (take a fed) (take count (drop a fed)))
+    ≡ charges_between finding fed a (a + count))
 
 -- a slot more waits when a tuple more is fed
 abbrev pub FeedLaw : Type 0
 FeedLaw =
-    (slots : List Slot) (finding : Sight → Finding) (before rest : List Tuple) (x : Tuple) → Waits slots finding before rest → length before + length rest + 1 ≤ 16000000 →
+    (slots : List Slot) (finding : Sight → Finding) (before rest : List Tuple) (x : Tuple) →
+    Waits slots finding before rest → length before + length rest + 1 ≤ 16000000 →
     Waits (slots ++ slot_of finding (before ++ rest, x) ∷ []) finding before (rest ++ x ∷ [])
 
--- a settler stands for its tuples also by findings that are the same where they are told, as further ones given back for later positions
+-- a settler stands for its tuples also by findings that are the same where they are told, as further ones given back
+-- for later positions
 abbrev pub FindingLaw : Type 0
 FindingLaw =
     (s : Settler) (finding other : Sight → Finding) (number : ℕ) (history : History) (before : List Tuple) →
@@ -49,7 +53,8 @@ FindingLaw =
 
 -- with few tolls, what the tuples of a day owe is below 2^63
 abbrev pub TotalLaw : Type 0
-TotalLaw = (finding : Sight → Finding) (before : List Tuple) → HasFewTolls finding → length before ≤ 16000000 → total_by finding before < 2 ^ 63
+TotalLaw = (finding : Sight → Finding) (before : List Tuple) → HasFewTolls finding → length before ≤ 16000000 →
+    total_by finding before < 2 ^ 63
 
 -- so it does when further findings are given back, all of them for positions that are not settled
 abbrev pub LaterLaw : Type 0
@@ -62,18 +67,26 @@ LaterLaw =
 abbrev pub FillLaw : Type 0
 FillLaw =
     (found : List (ℕ × Finding)) (finding : Finding) (before rest : List Tuple) (at : ℕ) (r : Report) (slot : Slot) →
-    slice_get rest at ≡ Some (ReportTuple r) → lookup (λ q. q == length before + at) found ≡ None → slice_get (slots_of (given found) before rest) at ≡ Some slot →
-    slots_of (given (found ++ (length before + at, finding) ∷ [])) before rest ≡ slice_set (slots_of (given found) before rest) at (record { due = slot.due; found = found_of finding })
+    slice_get rest at ≡ Some (ReportTuple r) → lookup (λ q. q == length before + at) found ≡ None →
+    slice_get (slots_of (given found) before rest) at ≡ Some slot →
+    slots_of (given (found ++ (length before + at, finding) ∷ [])) before rest ≡ slice_set
+    (slots_of (given found) before rest) at (record { due = slot.due; found = found_of finding })
 
--- after a history that is told, what a settler took in all is the merged output of its tuples, and its count that of the merged notices
+-- after a history that is told, what a settler took in all is the merged output of its tuples, and its count that of
+-- the merged notices
 abbrev pub MergedLaw : Type 0
 MergedLaw =
-    (s : Settler) (found : List (ℕ × Finding)) (number : ℕ) (kept : ℕ → ℕ → ℕ → ℕ) (before : List Tuple) → StandsFor s (given found) number (Some kept) before →
-    Took s.printer.digester (out (merged before found number kept)) × (s.printer.notices ≡ length (merged before found number kept))
+    (s : Settler) (found : List (ℕ × Finding)) (number : ℕ) (kept : ℕ → ℕ → ℕ → ℕ) (before : List Tuple) →
+    StandsFor s (given found) number (Some kept) before →
+    Took s.printer.digester (out (merged before found number kept))
+    × (s.printer.notices ≡ length (merged before found number kept))
 
--- and what a run wrote is the text of its moments' notices, which goes on where the merged output of the tuples before ends
+-- and what a run wrote is the text of its moments' notices, which goes on where the merged output of the tuples before
+-- ends
 abbrev pub WroteLaw : Type 0
 WroteLaw =
     (found : List (ℕ × Finding)) (number : ℕ) (kept : ℕ → ℕ → ℕ → ℕ) (before run : List Tuple) →
-    ((old now : Option (List ℕ)) → WritesRun (given found) number (Some kept) before run old now → Appends old now (out (notices_by (given found) number kept (moments_after before run))))
-    × (out (merged (before ++ run) found number kept) ≡ out (merged before found number kept) ++ out (notices_by (given found) number kept (moments_after before run)))
+    ((old now : Option (List ℕ)) → WritesRun (given found) number (Some kept) before run old now →
+    Appends old now (out (notices_by (given found) number kept (moments_after before run))))
+    × (out (merged (before ++ run) found number kept) ≡ out (merged before found number kept)
+    ++ out (notices_by (given found) number kept (moments_after before run)))

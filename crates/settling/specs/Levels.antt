@@ -18,7 +18,8 @@ AddsFront text old now = (k : ℕ) × (k ≤ length text) × Appends old.0 now.0
 -- all first bytes of a text were taken but fewer than a piece has, and none where the text is shorter than a piece
 abbrev pub AddsPieces : List ℕ → Level → Level → Type 0
 AddsPieces text old now =
-    (k : ℕ) × (k ≤ length text) × (length text < k + 65536) × (length text < 65536 → k ≡ 0) × Appends old.0 now.0 (take k text) × Takes old.1 now.1 k
+    (k : ℕ) × (k ≤ length text) × (length text < k + 65536) × (length text < 65536 → k ≡ 0)
+    × Appends old.0 now.0 (take k text) × Takes old.1 now.1 k
 
 -- so many bytes filled a room, where it is told
 abbrev pub Fills : Room → Room → ℕ → Type 0

@@ -50,12 +50,18 @@ AddsSome NoMemory text old now = AddsFront text old now
 
 -- a printer took these notices, or was stopped at them
 abbrev pub Says : {T : Type 0} → Result T SettleFault → Printer → Printer → Level → Level → List Notice → Type 0
-Says (Ok x) p q before now ns = (q.notices ≡ p.notices + length ns) × ((earlier run : List ℕ) (old : Level) → Holds p earlier run old before → Holds q earlier (run ++ out ns) old now)
-Says (Err fault) p q before now ns = (earlier run : List ℕ) (old : Level) → Holds p earlier run old before → AddsSome fault (run ++ out ns) old now
+Says (Ok x) p q before now ns =
+    (q.notices ≡ p.notices + length ns)
+    × ((earlier run : List ℕ) (old : Level) → Holds p earlier run old before → Holds q earlier (run ++ out ns) old now)
+Says (Err fault) p q before now ns = (earlier run : List ℕ) (old : Level) → Holds p earlier run old before →
+    AddsSome fault (run ++ out ns) old now
 
 -- a printer handed on all that it held, or the sink failed
 abbrev pub HandsOn : {T : Type 0} → Result T SettleFault → Printer → Printer → Level → Level → Type 0
-HandsOn (Ok x) p q before now = (q.notices ≡ p.notices) × ((earlier run : List ℕ) (old : Level) → Prints p earlier run old before → IsPrinted q earlier run old now)
+HandsOn (Ok x) p q before now =
+    (q.notices ≡ p.notices)
+    × ((earlier run : List ℕ) (old : Level) → Prints p earlier run old before → IsPrinted q earlier run old now)
 HandsOn (Err KeeperFault) p q before now = ⊥
-HandsOn (Err WriteFault) p q before now = (earlier run : List ℕ) (old : Level) → Prints p earlier run old before → FillsUp run old now
+HandsOn (Err WriteFault) p q before now = (earlier run : List ℕ) (old : Level) → Prints p earlier run old before →
+    FillsUp run old now
 HandsOn (Err NoMemory) p q before now = ⊥

@@ -23,7 +23,8 @@ use Rattle.settling.specs.Asking.{Plan, Passes, PassesUpTo, FailsAfter, asked_by
 use Rattle.settling.specs.Printing.{Holds, WritesSome, Says}
 
 -- a settler between two runs: its book is that of the tuples that are settled, and it took the text of their notices
-pub record StandsFor (s : Settler) (finding : Sight → Finding) (number : ℕ) (history : History) (before : List Tuple) : Type 0 where
+pub record StandsFor (s : Settler) (finding : Sight → Finding) (number : ℕ) (history : History)
+    (before : List Tuple) : Type 0 where
   pub settled : s.settled ≡ length before
   pub book : IsBook s.book finding before
   pub told : List Notice
@@ -33,8 +34,10 @@ pub record StandsFor (s : Settler) (finding : Sight → Finding) (number : ℕ) 
   pub none_held : s.printer.piece.items ≡ []
   pub none_charged : s.charges.items ≡ []
 
--- a settler in the midst of a run over some tuples more, of whose text the sink took a part, and for whose requests the keeper was asked
-pub record InRun (s : Settler) (finding : Sight → Finding) (number : ℕ) (history : History) (before run : List Tuple) (old now : Level) (plan left : Plan) : Type 0 where
+-- a settler in the midst of a run over some tuples more, of whose text the sink took a part, and for whose requests
+-- the keeper was asked
+pub record InRun (s : Settler) (finding : Sight → Finding) (number : ℕ) (history : History) (before run : List Tuple)
+    (old now : Level) (plan left : Plan) : Type 0 where
   pub settled : s.settled ≡ length (before ++ run)
   pub book : IsBook s.book finding (before ++ run)
   pub earlier : List Notice
@@ -47,7 +50,8 @@ pub record InRun (s : Settler) (finding : Sight → Finding) (number : ℕ) (his
   pub passed : Passes (asked run) plan left
 
 -- a settler after a run, whose text was taken whole
-pub record HasRun (s : Settler) (finding : Sight → Finding) (number : ℕ) (history : History) (before run : List Tuple) (old now : Level) (plan left : Plan) : Type 0 where
+pub record HasRun (s : Settler) (finding : Sight → Finding) (number : ℕ) (history : History) (before run : List Tuple)
+    (old now : Level) (plan left : Plan) : Type 0 where
   pub settled : s.settled ≡ length (before ++ run)
   pub book : IsBook s.book finding (before ++ run)
   pub earlier : List Notice
@@ -68,27 +72,41 @@ pub record Waits (slots : List Slot) (finding : Sight → Finding) (before rest 
   pub few : length before + length rest ≤ 16000000
 
 -- the text of the notices of a run was written
-abbrev pub WritesRun : (Sight → Finding) → ℕ → History → List Tuple → List Tuple → Option (List ℕ) → Option (List ℕ) → Type 0
-WritesRun finding number history before run old now = (told : List Notice) × AreNotices finding number history (moments_after before run) told × Appends old now (out told)
+abbrev pub WritesRun : (Sight → Finding) → ℕ → History → List Tuple → List Tuple → Option (List ℕ) → Option (List ℕ) →
+    Type 0
+WritesRun finding number history before run old now =
+    (told : List Notice) × AreNotices finding number history (moments_after before run) told
+    × Appends old now (out told)
 
 -- some first bytes of it were written
-abbrev pub WritesSomeOfRun : SettleFault → (Sight → Finding) → ℕ → History → List Tuple → List Tuple → Option (List ℕ) → Option (List ℕ) → Type 0
-WritesSomeOfRun fault finding number history before run old now = (told : List Notice) × AreNotices finding number history (moments_after before run) told × WritesSome fault (out told) old now
+abbrev pub WritesSomeOfRun : SettleFault → (Sight → Finding) → ℕ → History → List Tuple → List Tuple → Option (List ℕ) →
+    Option (List ℕ) → Type 0
+WritesSomeOfRun fault finding number history before run old now =
+    (told : List Notice) × AreNotices finding number history (moments_after before run) told
+    × WritesSome fault (out told) old now
 
 -- a slot was settled, with these notices, or settling was stopped at it: by the keeper before anything was said
-abbrev pub SettlesSlot : {T : Type 0} → Result T SettleFault → Due → Printer → Printer → Level → Level → Plan → Plan → List Notice → Type 0
+abbrev pub SettlesSlot : {T : Type 0} → Result T SettleFault → Due → Printer → Printer → Level → Level → Plan → Plan →
+    List Notice → Type 0
 SettlesSlot (Ok x) due p q before now plan left ns = Says (Ok x) p q before now ns × Passes (asked_for due) plan left
-SettlesSlot (Err KeeperFault) due p q before now plan left ns = (asked_for due ≡ 1) × (now ≡ before) × FailsAfter 0 plan left
-SettlesSlot (Err WriteFault) due p q before now plan left ns = Says {T = Unit {0}} (Err WriteFault) p q before now ns × PassesUpTo (asked_for due) plan left
-SettlesSlot (Err NoMemory) due p q before now plan left ns = Says {T = Unit {0}} (Err NoMemory) p q before now ns × PassesUpTo (asked_for due) plan left
+SettlesSlot (Err KeeperFault) due p q before now plan left ns = (asked_for due ≡ 1) × (now ≡ before)
+    × FailsAfter 0 plan left
+SettlesSlot (Err WriteFault) due p q before now plan left ns = Says {T = Unit {0}} (Err WriteFault) p q before now ns
+    × PassesUpTo (asked_for due) plan left
+SettlesSlot (Err NoMemory) due p q before now plan left ns = Says {T = Unit {0}} (Err NoMemory) p q before now ns
+    × PassesUpTo (asked_for due) plan left
 
--- the sink took the text of the notices of a run, and the keeper was asked for each request, and planned none of these calls to fail
+-- the sink took the text of the notices of a run, and the keeper was asked for each request, and planned none of these
+-- calls to fail
 abbrev pub TakesRun : (Sight → Finding) → ℕ → History → List Tuple → List Tuple → Level → Level → Plan → Plan → Type 0
 TakesRun finding number history before run old now plan left =
-    (told : List Notice) × AreNotices finding number history (moments_after before run) told × Adds old now (out told) × Passes (asked run) plan left
+    (told : List Notice) × AreNotices finding number history (moments_after before run) told × Adds old now (out told)
+    × Passes (asked run) plan left
 
--- the keeper failed at a request of a run, as it was planned, and at none before; of the text up to there all is written but what a piece holds
-pub record FailsInRun (finding : Sight → Finding) (number : ℕ) (history : History) (before run : List Tuple) (old now : Level) (plan left : Plan) : Type 0 where
+-- the keeper failed at a request of a run, as it was planned, and at none before; of the text up to there all is
+-- written but what a piece holds
+pub record FailsInRun (finding : Sight → Finding) (number : ℕ) (history : History) (before run : List Tuple)
+    (old now : Level) (plan left : Plan) : Type 0 where
   pub done : List Tuple
   pub request : Tuple
   pub later : List Tuple
@@ -99,10 +117,15 @@ pub record FailsInRun (finding : Sight → Finding) (number : ℕ) (history : Hi
   pub wrote : AddsPieces (out told) old now
   pub failed : FailsAfter (asked done) plan left
 
--- where a run was stopped: by the keeper at the call that was planned to fail; by the sink where its room was full; or for want of memory
-abbrev pub StopsRun : SettleFault → (Sight → Finding) → ℕ → History → List Tuple → List Tuple → Level → Level → Plan → Plan → Type 0
-StopsRun KeeperFault finding number history before run old now plan left = FailsInRun finding number history before run old now plan left
+-- where a run was stopped: by the keeper at the call that was planned to fail; by the sink where its room was full; or
+-- for want of memory
+abbrev pub StopsRun : SettleFault → (Sight → Finding) → ℕ → History → List Tuple → List Tuple → Level → Level → Plan →
+    Plan → Type 0
+StopsRun KeeperFault finding number history before run old now plan left =
+    FailsInRun finding number history before run old now plan left
 StopsRun WriteFault finding number history before run old now plan left =
-    (told : List Notice) × AreNotices finding number history (moments_after before run) told × FillsUp (out told) old now × PassesUpTo (asked run) plan left
+    (told : List Notice) × AreNotices finding number history (moments_after before run) told
+    × FillsUp (out told) old now × PassesUpTo (asked run) plan left
 StopsRun NoMemory finding number history before run old now plan left =
-    (told : List Notice) × AreNotices finding number history (moments_after before run) told × AddsFront (out told) old now × PassesUpTo (asked run) plan left
+    (told : List Notice) × AreNotices finding number history (moments_after before run) told
+    × AddsFront (out told) old now × PassesUpTo (asked run) plan left

@@ -1,7 +1,8 @@
 -- What is kept of a tuple that waits to be settled.
 use Rattle.std.specs.Prelude.{List, map, length}
 use Rattle.road_time.specs.declared.road.Tuple.{Tuple}
-use Rattle.road_time.specs.declared.road.Tuple.TheVariants.{Report as ReportTuple, Balance as BalanceTuple, Spent as SpentTuple, Travel}
+use Rattle.road_time.specs.declared.road.Tuple.TheVariants.{Report as ReportTuple, Balance as BalanceTuple}
+use Rattle.road_time.specs.declared.road.Tuple.TheVariants.{Spent as SpentTuple, Travel}
 use Rattle.road_time.specs.Sights.{Moment, moments_after, Sight, sights_of, previous}
 use Rattle.road_time.specs.Stays.{is_told}
 use Rattle.road_time.specs.Tolls.{Finding}
@@ -18,7 +19,9 @@ found_of f = record { lav = f.lav; toll = f.toll; alert = f.alert }
 
 -- what a moment calls for, as far as it is known when its tuple comes
 abbrev pub due_of : Moment → Due
-due_of (before, ReportTuple r) = Report r.time r.vid (charge_by (previous (sights_of before r.vid)) r) (is_told (previous (sights_of before r.vid)) r)
+due_of (before, ReportTuple r) =
+    Report r.time r.vid (charge_by (previous (sights_of before r.vid)) r)
+    (is_told (previous (sights_of before r.vid)) r)
 due_of (before, BalanceTuple time vid qid) = Balance time vid qid
 due_of (before, SpentTuple time vid xway qid day) = Spent time vid qid xway day
 due_of (before, Travel time) = Nothing

@@ -14,11 +14,8 @@ ghost use Rattle.settling.specs.declared.slot.Due.TheVariants.{Report as ReportD
 ghost use Rattle.settling.specs.declared.slot.Slot.{Slot as SlotValue};
 
 use crossings::{Charge, Tracked};
-use road_time::{Report, Tuple};
+use road_time::{EXIT_LANE, Report, Tuple};
 use std::collections::VecDeque;
-
-/// The lane in which a vehicle leaves an expressway.
-const EXIT_LANE: u8 = 4;
 
 /// What was found for a position: the toll, the average in whole miles per hour, -1 for none, and the segment of the
 /// nearest accident ahead. Fields lie in memory as they are declared, so the large one is the first.

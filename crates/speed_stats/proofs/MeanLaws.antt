@@ -1,5 +1,6 @@
 -- the numbers of the mean of five averages stay small
-use Rattle.std.proofs.Common.{◌≡◌, ℕ, zero, suc, ◌-◌, ◌+◌, ◌*◌, ◌^◌, ◌<◌, ◌≤◌, List, [], ◌∷◌, ◌++◌, length, take, get_or, map, refl, arith}
+use Rattle.std.proofs.Common.{◌≡◌, ℕ, zero, suc, ◌-◌, ◌+◌, ◌*◌, ◌^◌, ◌<◌, ◌≤◌, List, [], ◌∷◌, ◌++◌, length, take}
+use Rattle.std.proofs.Common.{get_or, map, refl, arith}
 use Rattle.std.specs.List.{filter, fold}
 use Rattle.std.proofs.lemmas.List.{map_more, append-nil, length_push}
 use Rattle.std.proofs.lemmas.List.Elements.{filter-append}
@@ -26,7 +27,8 @@ same : (n : ℕ) → n ≤ n
 same n = omega arith
 
 -- one average of at most 1200 twelfths more
-pub num_step : (num s den c i : ℕ) → num ≤ 1200 * i * den → s ≤ 1200 * c → num * c + s * den ≤ 1200 * (i + 1) * (den * c)
+pub num_step : (num s den c i : ℕ) → num ≤ 1200 * i * den → s ≤ 1200 * c →
+    num * c + s * den ≤ 1200 * (i + 1) * (den * c)
 num_step num s den c i hn hs =
     let a : num * c ≤ 1200 * i * den * c = mul-le-mul hn (same c) in
     let b : s * den ≤ 1200 * c * den = mul-le-mul hs (same den) in
@@ -53,7 +55,8 @@ den_fits den c i h hd hc =
     omega arith
 
 -- five numerators fit 128 bits
-pub num_fits : (num s den c busy i : ℕ) → i < 5 → busy ≤ i → num ≤ 1200 * busy * den → s ≤ 1200 * c → den ≤ 500000 ^ i → c ≤ 500000 → num * c + s * den < 2 ^ 128
+pub num_fits : (num s den c busy i : ℕ) → i < 5 → busy ≤ i → num ≤ 1200 * busy * den → s ≤ 1200 * c → den ≤ 500000 ^ i →
+    c ≤ 500000 → num * c + s * den < 2 ^ 128
 num_fits num s den c busy i h hb hn hs hd hc =
     let p : 500000 ^ i ≤ 62500000000000000000000 = pow_few i 4 (omega arith) in
     let u : den ≤ 62500000000000000000000 = omega arith in
@@ -91,16 +94,21 @@ mean_slow num den busy h =
 
 -- one more flow
 pub flows_more : (flows : List CodeFlow) (i : ℕ) (d : CodeFlow) → i < length flows →
-    filter has_cars (map shown (take (i + 1) flows)) ≡ filter has_cars (map shown (take i flows)) ++ filter has_cars (shown (get_or flows i d) ∷ [])
-flows_more flows i d h = rw (map_more shown flows i d h) (filter-append has_cars (map shown (take i flows)) (shown (get_or flows i d) ∷ []))
+    filter has_cars (map shown (take (i + 1) flows)) ≡ filter has_cars (map shown (take i flows)) ++ filter has_cars
+    (shown (get_or flows i d) ∷ [])
+flows_more flows i d h =
+    rw (map_more shown flows i d h) (filter-append has_cars (map shown (take i flows)) (shown (get_or flows i d) ∷ []))
 
 -- the sum of one more flow
-pub sum_more : (done : List Flow) (f : Flow) (num den : ℕ) → fold plus_average (record { num = 0; den = 1 }) done ≡ record { num = num; den = den } →
-    fold plus_average (record { num = 0; den = 1 }) (done ++ f ∷ []) ≡ record { num = num * f.cars + f.speeds12 * den; den = den * f.cars }
+pub sum_more : (done : List Flow) (f : Flow) (num den : ℕ) →
+    fold plus_average (record { num = 0; den = 1 }) done ≡ record { num = num; den = den } →
+    fold plus_average (record { num = 0; den = 1 }) (done ++ f ∷ [])
+    ≡ record { num = num * f.cars + f.speeds12 * den; den = den * f.cars }
 sum_more done f num den h = rw (fold_push plus_average (record { num = 0; den = 1 }) done f, h) refl
 
 module _ (flows : List CodeFlow) (i : ℕ) (d : CodeFlow) (num den busy : ℕ) (within : i < length flows)
-    (sum : fold plus_average (record { num = 0; den = 1 }) (filter has_cars (map shown (take i flows))) ≡ record { num = num; den = den })
+    (sum : fold plus_average (record { num = 0; den = 1 }) (filter has_cars (map shown (take i flows)))
+    ≡ record { num = num; den = den })
     (count : length (filter has_cars (map shown (take i flows))) ≡ busy) where
   -- a flow with cars counts
   yes : 0 < (get_or flows i d).cars → filter has_cars (shown (get_or flows i d) ∷ []) ≡ shown (get_or flows i d) ∷ []
@@ -111,15 +119,25 @@ module _ (flows : List CodeFlow) (i : ℕ) (d : CodeFlow) (num den busy : ℕ) (
   no h = cond-false (has_cars (shown (get_or flows i d))) _ _ (le-ltb 0 (get_or flows i d).cars h)
 
   -- the sum with a flow that has cars
-  pub sum_yes : 0 < (get_or flows i d).cars → fold plus_average (record { num = 0; den = 1 }) (filter has_cars (map shown (take (i + 1) flows))) ≡ record { num = num * (get_or flows i d).cars + (get_or flows i d).speeds12 * den; den = den * (get_or flows i d).cars }
-  sum_yes h = rw (flows_more flows i d within, yes h) (sum_more (filter has_cars (map shown (take i flows))) (shown (get_or flows i d)) num den sum)
+  pub sum_yes : 0 < (get_or flows i d).cars →
+      fold plus_average (record { num = 0; den = 1 }) (filter has_cars (map shown (take (i + 1) flows)))
+      ≡ record {
+        num = num * (get_or flows i d).cars + (get_or flows i d).speeds12 * den;
+        den =
+            den * (get_or flows i d).cars;
+      }
+  sum_yes h =
+      rw (flows_more flows i d within, yes h)
+      (sum_more (filter has_cars (map shown (take i flows))) (shown (get_or flows i d)) num den sum)
 
   -- and the number of flows
   pub count_yes : 0 < (get_or flows i d).cars → length (filter has_cars (map shown (take (i + 1) flows))) ≡ busy + 1
   count_yes h = rw (flows_more flows i d within, yes h, length_push, count) refl
 
   -- the sum with a flow that has none
-  pub sum_no : (get_or flows i d).cars ≤ 0 → fold plus_average (record { num = 0; den = 1 }) (filter has_cars (map shown (take (i + 1) flows))) ≡ record { num = num; den = den }
+  pub sum_no : (get_or flows i d).cars ≤ 0 →
+      fold plus_average (record { num = 0; den = 1 }) (filter has_cars (map shown (take (i + 1) flows)))
+      ≡ record { num = num; den = den }
   sum_no h = rw (flows_more flows i d within, no h, append-nil) sum
 
   -- and the number of flows
@@ -127,7 +145,8 @@ module _ (flows : List CodeFlow) (i : ℕ) (d : CodeFlow) (num den busy : ℕ) (
   count_no h = rw (flows_more flows i d within, no h, append-nil) count
 
 -- what holds of five holds of their list
-pub all_five : (P : CodeFlow → Type 0) (a b c d e : CodeFlow) → P a → P b → P c → P d → P e → (i : ℕ) (z : CodeFlow) → i < 5 → P (get_or (a ∷ b ∷ c ∷ d ∷ e ∷ []) i z)
+pub all_five : (P : CodeFlow → Type 0) (a b c d e : CodeFlow) → P a → P b → P c → P d → P e → (i : ℕ) (z : CodeFlow) →
+    i < 5 → P (get_or (a ∷ b ∷ c ∷ d ∷ e ∷ []) i z)
 all_five P a b c d e p q r s t zero z h = p
 all_five P a b c d e p q r s t (suc zero) z h = q
 all_five P a b c d e p q r s t (suc (suc zero)) z h = r

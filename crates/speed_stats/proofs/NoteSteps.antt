@@ -1,16 +1,19 @@
 -- one note more, and what is noted stays small
-use Rattle.std.proofs.Common.{◌≡◌, ℕ, suc, ◌+◌, ◌-◌, ◌*◌, ◌≤◌, ◌<◌, ◌==◌, ◌&&◌, not, ⊎_elim, Bool, true, false, cond, List, [], ◌∷◌, ◌++◌, length, map, refl, sym, ap, subst, ◌∙◌, arith, Option, Some, unwrap_or, nat_lt}
-use Rattle.std.specs.List.{filter, sum_by, All, AllByRecursion}
+use Rattle.std.proofs.Common.{◌≡◌, ℕ, ◌+◌, ◌-◌, ◌*◌, ◌≤◌, ◌<◌, ◌==◌, ◌&&◌, not, ⊎_elim, Bool, true, false, cond, []}
+use Rattle.std.proofs.Common.{List, ◌∷◌, ◌++◌, length, map, refl, sym, ap, subst, ◌∙◌, arith, Some}
+use Rattle.std.proofs.Common.{nat_lt}
+use Rattle.std.specs.List.{filter, sum_by}
 use Rattle.std.specs.Map.{lookup}
-use Rattle.std.proofs.lemmas.List.{append-nil, length_push, length-map}
-use Rattle.std.proofs.lemmas.List.Elements.{filter-append, recursion_from_All, All-push}
-use Rattle.std.proofs.lemmas.List.Sums.{sum_by-cons, sum_by_push}
-use Rattle.std.proofs.lemmas.Bool.{cases_Bool, cond_both, cond-true, cond-false, and_left, and_parts, eqb-true, ne_eqb, eq-eqb}
+use Rattle.std.proofs.lemmas.List.{length_push, length-map}
+use Rattle.std.proofs.lemmas.List.Elements.{recursion_from_All, All-push}
+use Rattle.std.proofs.lemmas.Bool.{cases_Bool, and_left, and_parts, eqb-true}
+use Rattle.std.proofs.lemmas.Bool.{eq-eqb}
 use Rattle.std.proofs.lemmas.Bool.Decides.{nat_tests}
 use Rattle.road_time.specs.declared.road.Stretch.{Stretch}
 use Rattle.road_time.specs.Tuples.{same_stretch}
-use Rattle.road_time.specs.Notes.{Note, has, cars, speeds12, speed12, is_noted, is_noted_at, notes_at, notes_of_vehicle, vehicles_of}
-use Rattle.road_time.specs.Lav.{Flow, flow_at}
+use Rattle.road_time.specs.Notes.{Note, cars, speeds12, speed12, is_noted, is_noted_at, notes_at, notes_of_vehicle}
+use Rattle.road_time.specs.Notes.{vehicles_of}
+use Rattle.road_time.specs.Lav.{flow_at}
 use Rattle.road_time.proofs.NoteLaws.{has-distinct, filter-le, distinct-le}
 use Rattle.road_time.proofs.PushLaws.{cars_yes, cars_no, speeds12_yes, speeds12_no}
 use Rattle.road_time.proofs.EachLaws.{kept}
@@ -18,109 +21,12 @@ use Rattle.road_time.proofs.FitLaws.{cars-le_vehicles}
 use Rattle.road_time.proofs.LavLaws.{speeds_slow}
 use Rattle.speed_stats.specs.Kept.{Kept}
 use Rattle.speed_stats.specs.declared.this_minute.Car.{Car}
-use Rattle.speed_stats.specs.declared.this_minute.Sum.{Sum}
-use Rattle.speed_stats.specs.declared.window.Flow.{Flow as CodeFlow}
 use Rattle.speed_stats.specs.declared.window.Ring.{Ring}
-use Rattle.speed_stats.specs.Parts.{shown, no_flow, no_sum, more, mean12, grown, sum_for, ring_flow, flow_of, same_car, sum_in, flow_in, IsSmall, AreSmall}
+use Rattle.speed_stats.specs.Parts.{shown, no_flow, more, mean12, grown, sum_for, ring_flow, flow_of, same_car}
+use Rattle.speed_stats.specs.Parts.{sum_in, flow_in, IsSmall}
 use Rattle.speed_stats.specs.Stands.{StandsFor, CanNote}
-
--- stretches
-
--- two stretches by their parts
-same_parts : {a b c x y z : ℕ} → a ≡ x → b ≡ y → c ≡ z → ◌≡◌ {A = Stretch} (record { xway = a; dir = b; seg = c }) (record { xway = x; dir = y; seg = z })
-same_parts p q r = cc
-
--- stretches that are the same
-pub same_is : (k j : Stretch) → same_stretch k j ≡ true → k ≡ j
-same_is k j h =
-    let one = and_parts (k.xway == j.xway) (k.dir == j.dir && k.seg == j.seg) h in
-    let two = and_parts (k.dir == j.dir) (k.seg == j.seg) one.1 in
-    same_parts (eqb-true k.xway j.xway one.0) (eqb-true k.dir j.dir two.0) (eqb-true k.seg j.seg two.1)
-
--- no note is of a later minute
-
--- no note of a minute above all
-none_by : (ns : List Note) (low m : ℕ) (k : Stretch) → low < m → AllByRecursion (λ n. n.minute ≤ low) ns → notes_at ns m k ≡ []
-none_by [] low m k h l = refl
-none_by (n ∷ ns) low m k h l =
-    cond-false (is_noted_at m k n) _ _ (and_left (n.minute == m) (same_stretch n.stretch k) (ne_eqb n.minute m (λ e. absurd (omega (arith, l.0))))) ∙ none_by ns low m k h l.1
-
--- no note is of a minute after the current one
-pub none_later : (ns : List Note) (low m : ℕ) (k : Stretch) → low < m → All (λ n. n.minute ≤ low) ns → notes_at ns m k ≡ []
-none_later ns low m k h l = none_by ns low m k h (recursion_from_All (λ n. n.minute ≤ low) ns l)
-
--- the vehicle's notes of the minute
-
--- one note more, counted or not
-within : (r : Note → Bool) (x : Note) (xs : List Note) (n : ℕ) → n ≤ length (filter r xs) → n ≤ length (filter r (x ∷ xs))
-within r x xs n h = cond_both (r x) (x ∷ filter r xs) (filter r xs) (λ zs. n ≤ length zs) (λ _. omega (arith, h)) (λ _. h)
-
--- a filter of a filter keeps no more
-narrow : (p q r : Note → Bool) → ((x : Note) → q x ≡ true → p x ≡ true → r x ≡ true) → (xs : List Note) → length (filter p (filter q xs)) ≤ length (filter r xs)
-narrow p q r h [] = omega arith
-narrow p q r h (x ∷ xs) =
-    let rest = narrow p q r h xs in
-    cond_both (q x) (x ∷ filter q xs) (filter q xs) (λ zs. length (filter p zs) ≤ length (filter r (x ∷ xs)))
-    (λ e. cond_both (p x) (x ∷ filter p (filter q xs)) (filter p (filter q xs)) (λ zs. length zs ≤ length (filter r (x ∷ xs)))
-    (λ f. rw (cond-true (r x) (x ∷ filter r xs) (filter r xs) (h x e f)) (omega (arith, rest))) (λ _. within r x xs _ rest))
-    (λ _. within r x xs _ rest)
-
--- two tests that pass
-of_both : (a b c : Bool) → (a && b) ≡ true → c ≡ true → (a && c) ≡ true
-of_both true b c h e = e
-of_both false b c h e = h
-
--- speeds of at most 100 sum up to at most that for each
-slow_sum : (ns : List Note) → AllByRecursion (λ n. n.spd ≤ 100) ns → sum_by (λ n. n.spd) ns ≤ 100 * length ns
-slow_sum [] h = omega arith
-slow_sum (n ∷ ns) h = let rest = slow_sum ns h.1 in omega (arith, h.0, rest, sum_by-cons (λ x. x.spd) n ns)
-
--- two sums by their parts
-sum_made : {a b c d : ℕ} → a ≡ c → b ≡ d → ◌≡◌ {A = Sum} (record { total = a; count = b }) (record { total = c; count = d })
-sum_made p q = cc
-
--- two flows by their parts
-flow_made : {a b c d : ℕ} → a ≡ c → b ≡ d → ◌≡◌ {A = Flow} (record { cars = a; speeds12 = b }) (record { cars = c; speeds12 = d })
-flow_made p q = cc
-
--- a flow of nothing is no flow
-nothing : (f : CodeFlow) → shown f ≡ record { cars = 0; speeds12 = 0 } → f ≡ no_flow
-nothing f e = none f.cars f.speeds12 (ap (λ g. g.cars) e) (ap (λ g. g.speeds12) e)
-  where
-    none : (a b : ℕ) → a ≡ 0 → b ≡ 0 → ◌≡◌ {A = CodeFlow} (record { cars = a; speeds12 = b }) (record { cars = 0; speeds12 = 0 })
-    none a b p q = cc
-
--- the speeds of one more
-more_sum : (ns : List Note) (n : Note) → sum_for (ns ++ n ∷ []) ≡ more (sum_for ns) n.spd
-more_sum ns n = sum_made (sum_by_push (λ x. x.spd) ns n) (length_push ns n)
-
--- a number above others is not 0
-not_zero : (i : ℕ) → (suc i == 0) ≡ false
-not_zero i = ne_eqb (suc i) 0 (λ e. absurd (omega (arith, e)))
-
--- whether a vehicle is noted, by the number of its notes
-noted_count : (here : List Note) (v : ℕ) → (length (notes_of_vehicle here v) == 0) ≡ not (has (map (λ n. n.vid) here) v)
-noted_count [] v = refl
-noted_count (x ∷ xs) v =
-    ⊎_elim (λ e. rw e (not_zero (length (notes_of_vehicle xs v)))) (λ e. rw e (noted_count xs v)) (cases_Bool (x.vid == v))
-
--- a filter of one note or none
-tail_of : (q : Note → Bool) (n : Note) (a : Bool) → filter q (cond a (n ∷ []) []) ≡ cond (a && q n) (n ∷ []) []
-tail_of q n true = refl
-tail_of q n false = refl
-
--- a vehicle's notes here, after one more note
-own_push : (ns : List Note) (n : Note) (j : Stretch) (w : ℕ) → notes_of_vehicle (notes_at (ns ++ n ∷ []) n.minute j) w ≡ notes_of_vehicle (notes_at ns n.minute j) w ++ cond (same_stretch n.stretch j && n.vid == w) (n ∷ []) []
-own_push ns n j w =
-    ap (λ zs. notes_of_vehicle zs w) (filter-append (is_noted_at n.minute j) ns (n ∷ []))
-    ∙ filter-append (λ x. x.vid == w) (notes_at ns n.minute j) (cond (is_noted_at n.minute j n) (n ∷ []) [])
-    ∙ ap (λ zs. notes_of_vehicle (notes_at ns n.minute j) w ++ zs)
-    (tail_of (λ x. x.vid == w) n (is_noted_at n.minute j n) ∙ ap (λ b. cond ((b && same_stretch n.stretch j) && n.vid == w) (n ∷ []) []) (eq-eqb n.minute n.minute refl))
-
--- the speeds with one more or not
-pick : (b : Bool) (own : List Note) (n : Note) → sum_for (own ++ cond b (n ∷ []) []) ≡ cond b (more (sum_for own) n.spd) (sum_for own)
-pick true own n = more_sum own n
-pick false own n = ap sum_for (append-nil own)
+use Rattle.speed_stats.proofs.NoteParts.{same_is, none_later, narrow, of_both, slow_sum, flow_made, nothing, more_sum}
+use Rattle.speed_stats.proofs.NoteParts.{noted_count, own_push, pick}
 
 module _ (s : Kept) (notes : List Note) (st : StandsFor s notes) (k : Stretch) (v spd : ℕ) where
   -- the note
@@ -152,7 +58,8 @@ module _ (s : Kept) (notes : List Note) (st : StandsFor s notes) (k : Stretch) (
   pub count_few : CanNote notes n → (sum_in s.seen car).count ≤ 3
   count_few can =
       let part : length own ≤ length (filter (λ o. o.minute == s.minute && o.vid == v) notes) =
-      narrow (λ o. o.vid == v) (is_noted_at s.minute k) (λ o. o.minute == s.minute && o.vid == v) (λ x e f. of_both (x.minute == s.minute) (same_stretch x.stretch k) (x.vid == v) e f) notes in
+      narrow (λ o. o.vid == v) (is_noted_at s.minute k) (λ o. o.minute == s.minute && o.vid == v)
+      (λ x e f. of_both (x.minute == s.minute) (same_stretch x.stretch k) (x.vid == v) e f) notes in
       let same : (sum_in s.seen car).count ≡ length own = ap (λ x. x.count) (st.sums k v) in
       let three : length (filter (λ o. o.minute == s.minute && o.vid == v) notes) ≤ 3 = can.three in
       omega (arith, part, same, three)
@@ -163,7 +70,11 @@ module _ (s : Kept) (notes : List Note) (st : StandsFor s notes) (k : Stretch) (
       let few = count_few can in
       let count : (sum_in s.seen car).count ≡ length own = ap (λ x. x.count) (st.sums k v) in
       let total : (sum_in s.seen car).total ≡ sum_by (λ x. x.spd) own = ap (λ x. x.total) (st.sums k v) in
-      let slow = slow_sum own (kept (λ x. x.spd ≤ 100) (λ x. x.vid == v) (notes_at notes s.minute k) (kept (λ x. x.spd ≤ 100) (is_noted_at s.minute k) notes (recursion_from_All (λ x. x.spd ≤ 100) notes st.slow))) in
+      let slow =
+      slow_sum own
+      (kept (λ x. x.spd ≤ 100) (λ x. x.vid == v) (notes_at notes s.minute k)
+      (kept (λ x. x.spd ≤ 100) (is_noted_at s.minute k) notes
+      (recursion_from_All (λ x. x.spd ≤ 100) notes st.slow))) in
       omega (arith, few, count, total, slow)
 
   -- a minute of the window has at most 500,000 cars
@@ -189,16 +100,20 @@ module _ (s : Kept) (notes : List Note) (st : StandsFor s notes) (k : Stretch) (
   -- one mean for another
 
   -- one mean takes the place of another
-  step : speeds12 (notes ++ n ∷ []) s.minute k + mean12 (sum_in s.seen car) ≡ (flow_in s.rings k s.minute).speeds12 + mean12 (more (sum_in s.seen car) spd)
+  step : speeds12 (notes ++ n ∷ []) s.minute k + mean12 (sum_in s.seen car) ≡ (flow_in s.rings k s.minute).speeds12
+      + mean12 (more (sum_in s.seen car) spd)
   step =
       let law = speeds12_yes notes n s.minute k here_yes in
       let was : mean12 (sum_in s.seen car) ≡ speed12 own = ap mean12 (st.sums k v) in
-      let is : mean12 (more (sum_in s.seen car) spd) ≡ speed12 (own ++ n ∷ []) = ap (λ x. mean12 (more x spd)) (st.sums k v) ∙ ap mean12 (sym (more_sum own n)) in
-      let old : (flow_in s.rings k s.minute).speeds12 ≡ speeds12 notes s.minute k = ap (λ f. f.speeds12) (st.flows k s.minute now) in
+      let is : mean12 (more (sum_in s.seen car) spd) ≡ speed12 (own ++ n ∷ []) =
+      ap (λ x. mean12 (more x spd)) (st.sums k v) ∙ ap mean12 (sym (more_sum own n)) in
+      let old : (flow_in s.rings k s.minute).speeds12 ≡ speeds12 notes s.minute k =
+      ap (λ f. f.speeds12) (st.flows k s.minute now) in
       rw (was, is, old) law
 
   -- the mean that goes is not more than what there is
-  pub part_few : mean12 (sum_in s.seen car) ≤ (flow_in s.rings k s.minute).speeds12 + mean12 (more (sum_in s.seen car) spd)
+  pub part_few : mean12 (sum_in s.seen car) ≤ (flow_in s.rings k s.minute).speeds12 + mean12
+      (more (sum_in s.seen car) spd)
   part_few = let e = step in omega (arith, e)
 
   -- the flow with the note is that of the notes with it
@@ -210,15 +125,19 @@ module _ (s : Kept) (notes : List Note) (st : StandsFor s notes) (k : Stretch) (
       up false a c e = omega (arith, e)
 
       empty : ((sum_in s.seen car).count == 0) ≡ not (is_noted notes s.minute k v)
-      empty = ap (λ x. x.count == 0) (st.sums k v) ∙ noted_count (notes_at notes s.minute k) v ∙ ap not (sym (has-distinct (map (λ x. x.vid) (notes_at notes s.minute k)) v))
+      empty = ap (λ x. x.count == 0) (st.sums k v) ∙ noted_count (notes_at notes s.minute k) v
+          ∙ ap not (sym (has-distinct (map (λ x. x.vid) (notes_at notes s.minute k)) v))
 
-      number : cond ((sum_in s.seen car).count == 0) ((flow_in s.rings k s.minute).cars + 1) (flow_in s.rings k s.minute).cars ≡ cars (notes ++ n ∷ []) s.minute k
+      number : cond ((sum_in s.seen car).count == 0) ((flow_in s.rings k s.minute).cars + 1)
+          (flow_in s.rings k s.minute).cars ≡ cars (notes ++ n ∷ []) s.minute k
       number =
           ap (λ b. cond b ((flow_in s.rings k s.minute).cars + 1) (flow_in s.rings k s.minute).cars) empty
-          ∙ up (is_noted notes s.minute k v) (flow_in s.rings k s.minute).cars (cars notes s.minute k) (ap (λ f. f.cars) (st.flows k s.minute now))
+          ∙ up (is_noted notes s.minute k v) (flow_in s.rings k s.minute).cars (cars notes s.minute k)
+          (ap (λ f. f.cars) (st.flows k s.minute now))
           ∙ sym (cars_yes notes n s.minute k here_yes)
 
-      speeds : (flow_in s.rings k s.minute).speeds12 + mean12 (more (sum_in s.seen car) spd) - mean12 (sum_in s.seen car) ≡ speeds12 (notes ++ n ∷ []) s.minute k
+      speeds : (flow_in s.rings k s.minute).speeds12 + mean12 (more (sum_in s.seen car) spd) - mean12
+          (sum_in s.seen car) ≡ speeds12 (notes ++ n ∷ []) s.minute k
       speeds = let e = step in omega (arith, e)
 
   -- the flow with one more note is that of a day
@@ -226,9 +145,13 @@ module _ (s : Kept) (notes : List Note) (st : StandsFor s notes) (k : Stretch) (
   grown_small slow can =
       let all = cars-le_vehicles (notes ++ n ∷ []) s.minute k in
       let few = can.few in
-      let by = speeds_slow (notes ++ n ∷ []) s.minute k (recursion_from_All (λ x. x.spd ≤ 100) (notes ++ n ∷ []) (All-push (λ x. x.spd ≤ 100) notes n st.slow slow)) in
-      let cars_are : (shown (grown (flow_in s.rings k s.minute) (sum_in s.seen car) spd)).cars ≡ cars (notes ++ n ∷ []) s.minute k = ap (λ f. f.cars) grown_is in
-      let speeds_are : (shown (grown (flow_in s.rings k s.minute) (sum_in s.seen car) spd)).speeds12 ≡ speeds12 (notes ++ n ∷ []) s.minute k = ap (λ f. f.speeds12) grown_is in
+      let by = speeds_slow (notes ++ n ∷ []) s.minute k
+      (recursion_from_All (λ x. x.spd ≤ 100) (notes ++ n ∷ [])
+      (All-push (λ x. x.spd ≤ 100) notes n st.slow slow)) in
+      let cars_are : (shown (grown (flow_in s.rings k s.minute) (sum_in s.seen car) spd)).cars
+      ≡ cars (notes ++ n ∷ []) s.minute k = ap (λ f. f.cars) grown_is in
+      let speeds_are : (shown (grown (flow_in s.rings k s.minute) (sum_in s.seen car) spd)).speeds12 ≡ speeds12
+      (notes ++ n ∷ []) s.minute k = ap (λ f. f.speeds12) grown_is in
       record {
         few = omega (arith, all, few, cars_are);
         slow = omega (arith, by, cars_are, speeds_are);
@@ -240,7 +163,12 @@ module _ (s : Kept) (notes : List Note) (st : StandsFor s notes) (k : Stretch) (
 
   -- no flow is of a later minute
   none_yet : (j : Stretch) (m : ℕ) → s.minute < m → flow_at notes j m ≡ record { cars = 0; speeds12 = 0 }
-  none_yet j m h = ap (λ zs. record { cars = length (vehicles_of zs); speeds12 = sum_by (λ w. speed12 (notes_of_vehicle zs w)) (vehicles_of zs) }) (none_later notes s.minute m j h st.none_after)
+  none_yet j m h =
+      ap (λ zs. record {
+        cars = length (vehicles_of zs);
+        speeds12 =
+            sum_by (λ w. speed12 (notes_of_vehicle zs w)) (vehicles_of zs);
+      }) (none_later notes s.minute m j h st.none_after)
 
   module _ (ring ring' : Ring) (was : (m : ℕ) → ring_flow ring m ≡ flow_in s.rings k m)
       (here : ring_flow ring' s.minute ≡ grown (flow_in s.rings k s.minute) (sum_in s.seen car) spd)
@@ -249,7 +177,8 @@ module _ (s : Kept) (notes : List Note) (st : StandsFor s notes) (k : Stretch) (
     at_here : (m : ℕ) → s.minute < m + 6 → shown (ring_flow ring' m) ≡ flow_at (notes ++ n ∷ []) k m
     at_here m h =
         ⊎_elim
-        (λ e. subst (λ (x : ℕ). shown (ring_flow ring' x) ≡ flow_at (notes ++ n ∷ []) k x) (eqb-true s.minute m e) (ap shown here ∙ grown_is))
+        (λ e. subst (λ (x : ℕ). shown (ring_flow ring' x) ≡ flow_at (notes ++ n ∷ []) k x) (eqb-true s.minute m e)
+        (ap shown here ∙ grown_is))
         (λ e. other e)
         (cases_Bool (s.minute == m))
       where
@@ -261,7 +190,8 @@ module _ (s : Kept) (notes : List Note) (st : StandsFor s notes) (k : Stretch) (
             ⊎_elim
             (λ b. ap shown (window m h (less b) ∙ was m) ∙ st.flows k m h ∙ sym (gone e))
             (λ b. let up = over e b in
-            ap shown (later m up (nothing (ring_flow ring m) (ap shown (was m) ∙ st.flows k m h ∙ none_yet k m up))) ∙ sym (none_yet k m up) ∙ sym (gone e))
+            ap shown (later m up (nothing (ring_flow ring m) (ap shown (was m) ∙ st.flows k m h ∙ none_yet k m up)))
+            ∙ sym (none_yet k m up) ∙ sym (gone e))
             (cases_Bool (nat_lt m s.minute))
           where
             less : nat_lt m s.minute ≡ true → m < s.minute
@@ -270,11 +200,15 @@ module _ (s : Kept) (notes : List Note) (st : StandsFor s notes) (k : Stretch) (
             over : (s.minute == m) ≡ false → nat_lt m s.minute ≡ false → s.minute < m
             over e b = grind (arith, nat_tests)
 
-    flows_after : (j : Stretch) (m : ℕ) → s.minute < m + 6 → shown (flow_of (cond (same_stretch k j) (Some ring') (lookup (same_stretch j) s.rings)) m) ≡ flow_at (notes ++ n ∷ []) j m
+    flows_after : (j : Stretch) (m : ℕ) → s.minute < m + 6 →
+        shown (flow_of (cond (same_stretch k j) (Some ring') (lookup (same_stretch j) s.rings)) m) ≡ flow_at
+        (notes ++ n ∷ []) j m
     flows_after j m h =
         ⊎_elim
-        (λ e. ap (λ b. shown (flow_of (cond b (Some ring') (lookup (same_stretch j) s.rings)) m)) e ∙ at_here m h ∙ ap (λ x. flow_at (notes ++ n ∷ []) x m) (same_is k j e))
-        (λ e. ap (λ b. shown (flow_of (cond b (Some ring') (lookup (same_stretch j) s.rings)) m)) e ∙ st.flows j m h ∙ sym (flow_no j m (no_here e)))
+        (λ e. ap (λ b. shown (flow_of (cond b (Some ring') (lookup (same_stretch j) s.rings)) m)) e ∙ at_here m h
+        ∙ ap (λ x. flow_at (notes ++ n ∷ []) x m) (same_is k j e))
+        (λ e. ap (λ b. shown (flow_of (cond b (Some ring') (lookup (same_stretch j) s.rings)) m)) e ∙ st.flows j m h
+        ∙ sym (flow_no j m (no_here e)))
         (cases_Bool (same_stretch k j))
       where
         no_here : same_stretch k j ≡ false → is_noted_at m j n ≡ false
@@ -287,7 +221,9 @@ module _ (s : Kept) (notes : List Note) (st : StandsFor s notes) (k : Stretch) (
     -- what stands for the notes, with one more
     pub noted : (t : Kept) → t.minute ≡ s.minute → spd ≤ 100 → CanNote notes n →
         ((c : Car) → sum_in t.seen c ≡ cond (same_car car c) (more (sum_in s.seen car) spd) (sum_in s.seen c)) →
-        ((j : Stretch) → lookup (same_stretch j) t.rings ≡ cond (same_stretch k j) (Some ring') (lookup (same_stretch j) s.rings)) → StandsFor t (notes ++ n ∷ [])
+        ((j : Stretch) →
+        lookup (same_stretch j) t.rings ≡ cond (same_stretch k j) (Some ring') (lookup (same_stretch j) s.rings)) →
+        StandsFor t (notes ++ n ∷ [])
     noted t e slow can sums rings =
         record {
           first = rw e st.first;
@@ -298,7 +234,10 @@ module _ (s : Kept) (notes : List Note) (st : StandsFor s notes) (k : Stretch) (
           flows = λ j m h. ap (λ o. shown (flow_of o m)) (rings j) ∙ flows_after j m (rw e at h);
         }
       where
-        after : (j : Stretch) (w : ℕ) → cond (same_stretch k j && v == w) (more (sum_in s.seen car) spd) (sum_in s.seen (record { stretch = j; vid = w })) ≡ sum_for (notes_of_vehicle (notes_at (notes ++ n ∷ []) s.minute j) w)
+        after : (j : Stretch) (w : ℕ) →
+            cond (same_stretch k j && v == w) (more (sum_in s.seen car) spd)
+            (sum_in s.seen (record { stretch = j; vid = w })) ≡ sum_for
+            (notes_of_vehicle (notes_at (notes ++ n ∷ []) s.minute j) w)
         after j w =
             ⊎_elim
             (λ b. let both = and_parts (same_stretch k j) (v == w) b in
@@ -307,50 +246,37 @@ module _ (s : Kept) (notes : List Note) (st : StandsFor s notes) (k : Stretch) (
             ap (λ x. cond x (more (sum_in s.seen car) spd) (sum_in s.seen (record { stretch = j; vid = w }))) b
             ∙ ap (λ x. more x spd) (st.sums k v)
             ∙ ap (λ x. more x spd) (rw (place, who) refl)
-            ∙ sym (ap sum_for (own_push notes n j w) ∙ pick (same_stretch k j && v == w) (notes_of_vehicle (notes_at notes s.minute j) w) n ∙ ap (λ x. cond x (more (sum_for (notes_of_vehicle (notes_at notes s.minute j) w)) spd) (sum_for (notes_of_vehicle (notes_at notes s.minute j) w))) b))
+            ∙ sym (ap sum_for (own_push notes n j w)
+            ∙ pick (same_stretch k j && v == w) (notes_of_vehicle (notes_at notes s.minute j) w) n
+            ∙ ap (λ x. cond x (more (sum_for (notes_of_vehicle (notes_at notes s.minute j) w)) spd)
+            (sum_for (notes_of_vehicle (notes_at notes s.minute j) w))) b))
             (λ b. ap (λ x. cond x (more (sum_in s.seen car) spd) (sum_in s.seen (record { stretch = j; vid = w }))) b
             ∙ st.sums j w
-            ∙ sym (ap sum_for (own_push notes n j w) ∙ pick (same_stretch k j && v == w) (notes_of_vehicle (notes_at notes s.minute j) w) n ∙ ap (λ x. cond x (more (sum_for (notes_of_vehicle (notes_at notes s.minute j) w)) spd) (sum_for (notes_of_vehicle (notes_at notes s.minute j) w))) b))
+            ∙ sym (ap sum_for (own_push notes n j w)
+            ∙ pick (same_stretch k j && v == w) (notes_of_vehicle (notes_at notes s.minute j) w) n
+            ∙ ap (λ x. cond x (more (sum_for (notes_of_vehicle (notes_at notes s.minute j) w)) spd)
+            (sum_for (notes_of_vehicle (notes_at notes s.minute j) w))) b))
             (cases_Bool (same_stretch k j && v == w))
 
--- notes up to a minute are up to a later one
-pub all_later : (ns : List Note) (low m : ℕ) → low < m → All (λ n. n.minute ≤ low) ns → All (λ n. n.minute ≤ m) ns
-all_later ns low m h l = λ i d e. omega (arith, h, l i d e)
-
--- the speeds that a look-up gives after one was put in
-pub put_sum : (b : Bool) (after before : Option Sum) (x : Sum) → after ≡ cond b (Some x) before → unwrap_or after no_sum ≡ cond b x (unwrap_or before no_sum)
-put_sum true after before x e = ap (λ o. unwrap_or o no_sum) e
-put_sum false after before x e = ap (λ o. unwrap_or o no_sum) e
-
--- a ring that is kept has small flows
-pub ring_small : (rings : List (Stretch × Ring)) → AreSmall rings → (k : Stretch) (ring : Ring) → Some ring ≡ lookup (same_stretch k) rings → (f : CodeFlow) (m : ℕ) → f ≡ ring_flow ring m → IsSmall f
-ring_small rings small k ring there f m e = subst IsSmall (sym (e ∙ ap (λ o. flow_of o m) there)) (small k m)
-
--- small flows stay so where one ring is put among them
-pub small_after : (rings : List (Stretch × Ring)) → AreSmall rings → (k : Stretch) (ring' : Ring) → ((m : ℕ) → IsSmall (ring_flow ring' m)) → (after : List (Stretch × Ring)) →
-    ((j : Stretch) → lookup (same_stretch j) after ≡ cond (same_stretch k j) (Some ring') (lookup (same_stretch j) rings)) → AreSmall after
-small_after rings small k ring' each after h = λ j m.
-    subst (λ o. IsSmall (flow_of o m)) (sym (h j)) (cond_both (same_stretch k j) (Some ring') (lookup (same_stretch j) rings) (λ o. IsSmall (flow_of o m)) (λ _. each m) (λ _. small j m))
-
--- what a ring that is there says
-pub ring_is : (s : Kept) (notes : List Note) (st : StandsFor s notes) (k : Stretch) (ring : Ring) → Some ring ≡ lookup (same_stretch k) s.rings → (f : CodeFlow) (m : ℕ) → f ≡ ring_flow ring m → (j : ℕ) → m ≡ j → s.minute < m + 6 → shown f ≡ flow_at notes k j
-ring_is s notes st k ring there f m e j same h = ap shown (e ∙ ap (λ o. flow_of o m) there) ∙ st.flows k m h ∙ ap (flow_at notes k) same
-
--- what is kept, by its parts
-pub kept_made : {m m' : ℕ} {a a' : List (Car × Sum)} {b b' : List (Stretch × Ring)} → m ≡ m' → a ≡ a' → b ≡ b' → ◌≡◌ {A = Kept} (record { minute = m; seen = a; rings = b }) (record { minute = m'; seen = a'; rings = b' })
-kept_made p q r = cc
-
--- one more note, of what is seen so
-pub noted_as : (s held : Kept) → s ≡ held → (notes : List Note) → StandsFor held notes → (k : Stretch) (v spd : ℕ) (ring ring' : Ring) → ((m : ℕ) → ring_flow ring m ≡ flow_in s.rings k m) →
-    ring_flow ring' s.minute ≡ grown (flow_in s.rings k s.minute) (sum_in s.seen (record { stretch = k; vid = v })) spd →
+pub noted_as : (s held : Kept) → s ≡ held → (notes : List Note) → StandsFor held notes →
+    (k : Stretch) (v spd : ℕ) (ring ring' : Ring) → ((m : ℕ) → ring_flow ring m ≡ flow_in s.rings k m) →
+    ring_flow ring' s.minute ≡ grown (flow_in s.rings k s.minute) (sum_in s.seen (record { stretch = k; vid = v })) spd
+    →
     ((m : ℕ) → s.minute < m + 6 → m < s.minute → ring_flow ring' m ≡ ring_flow ring m) →
     ((m : ℕ) → s.minute < m → ring_flow ring m ≡ no_flow → ring_flow ring' m ≡ no_flow) →
-    (t : Kept) → t.minute ≡ s.minute → spd ≤ 100 → CanNote notes (record { minute = held.minute; stretch = k; vid = v; spd = spd }) →
-    ((c : Car) → sum_in t.seen c ≡ cond (same_car (record { stretch = k; vid = v }) c) (more (sum_in s.seen (record { stretch = k; vid = v })) spd) (sum_in s.seen c)) →
-    ((j : Stretch) → lookup (same_stretch j) t.rings ≡ cond (same_stretch k j) (Some ring') (lookup (same_stretch j) s.rings)) → StandsFor t (notes ++ record { minute = held.minute; stretch = k; vid = v; spd = spd } ∷ [])
+    (t : Kept) → t.minute ≡ s.minute → spd ≤ 100 →
+    CanNote notes (record { minute = held.minute; stretch = k; vid = v; spd = spd }) →
+    ((c : Car) →
+    sum_in t.seen c ≡ cond (same_car (record { stretch = k; vid = v }) c)
+    (more (sum_in s.seen (record { stretch = k; vid = v })) spd) (sum_in s.seen c)) →
+    ((j : Stretch) →
+    lookup (same_stretch j) t.rings ≡ cond (same_stretch k j) (Some ring') (lookup (same_stretch j) s.rings)) →
+    StandsFor t (notes ++ record { minute = held.minute; stretch = k; vid = v; spd = spd } ∷ [])
 noted_as s held e notes st k v spd ring ring' was here window later t same slow can sums rings =
     subst (λ (x : Kept). StandsFor t (notes ++ record { minute = x.minute; stretch = k; vid = v; spd = spd } ∷ [])) e
-    (noted s notes (subst (λ (x : Kept). StandsFor x notes) (sym e) st) k v spd ring ring' was here window later t same slow (subst (λ (x : Kept). CanNote notes (record { minute = x.minute; stretch = k; vid = v; spd = spd })) (sym e) can) sums rings)
+    (noted s notes (subst (λ (x : Kept). StandsFor x notes) (sym e) st) k v spd ring ring' was here window later t same
+    slow (subst (λ (x : Kept). CanNote notes (record { minute = x.minute; stretch = k; vid = v; spd = spd }))
+    (sym e) can) sums rings)
 
 -- three notes leave room for one more
 pub short_can : (notes : List Note) (n : Note) → length notes ≤ 3 → CanNote notes n

@@ -1,4 +1,5 @@
-use Rattle.std.specs.Prelude.{ℕ, ◌≤◌, ◌+◌, ◌-◌, ◌*◌, ◌/◌, ◌%◌, ◌==◌, ◌&&◌, Bool, List, length, sum_by, Option, Some, None, unwrap_or, slice_index_or, if◌then◌else◌}
+use Rattle.std.specs.Prelude.{ℕ, ◌≤◌, ◌+◌, ◌-◌, ◌*◌, ◌/◌, ◌%◌, ◌==◌, ◌&&◌, Bool, List, length, sum_by, Option, Some}
+use Rattle.std.specs.Prelude.{None, unwrap_or, slice_index_or, if◌then◌else◌}
 use Rattle.std.specs.Map.{lookup}
 use Rattle.road_time.specs.declared.road.Stretch.{Stretch}
 use Rattle.road_time.specs.Tuples.{same_stretch}
@@ -32,7 +33,12 @@ mean12 s = (12 * s.total) / s.count
 
 -- a flow with one more note of a vehicle, of which these speeds were noted before
 abbrev pub grown : CodeFlow → Sum → ℕ → CodeFlow
-grown f before spd = record { cars = if before.count == 0 then f.cars + 1 else f.cars; speeds12 = f.speeds12 + mean12 (more before spd) - mean12 before }
+grown f before spd =
+    record {
+      cars = if before.count == 0 then f.cars + 1 else f.cars;
+      speeds12 =
+          f.speeds12 + mean12 (more before spd) - mean12 before;
+    }
 
 -- the speeds of notes
 abbrev pub sum_for : List Note → Sum

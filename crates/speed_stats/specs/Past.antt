@@ -12,4 +12,5 @@ cars_in s k = (flow_in s.rings k (s.minute - 1)).cars
 -- the average over the five minutes before, by what is kept
 abbrev pub lav_in : Kept → Stretch → Option Frac
 lav_in s k =
-    lav_of (map (λ m. shown (flow_in s.rings k m)) ((s.minute - 5) ∷ (s.minute - 4) ∷ (s.minute - 3) ∷ (s.minute - 2) ∷ (s.minute - 1) ∷ []))
+    lav_of (map (λ m. shown (flow_in s.rings k m))
+    ((s.minute - 5) ∷ (s.minute - 4) ∷ (s.minute - 3) ∷ (s.minute - 2) ∷ (s.minute - 1) ∷ []))

@@ -1,5 +1,6 @@
 -- The rule holds of new cells.
-use Rattle.std.proofs.Common.{◌≡◌, ℕ, zero, suc, ◌+◌, ◌<◌, ◌≤◌, List, [], ◌∷◌, map, length, get_or, replicate, refl, sym, ap, ◌∙◌, subst, arith, Option, Some, None}
+use Rattle.std.proofs.Common.{◌≡◌, ℕ, zero, suc, ◌+◌, ◌<◌, ◌≤◌, List, [], ◌∷◌, map, length, get_or, replicate, refl}
+use Rattle.std.proofs.Common.{sym, ap, ◌∙◌, subst, arith, Option, Some, None}
 use mathlib.Core.Option.{some, some-injective, some-ne-none}
 use lib.ListN.{get_elem?}
 use Rattle.atomic_table.specs.Table.{opening}
@@ -36,7 +37,8 @@ only : (v u : View) (seat : ℕ) → get_elem? (v ∷ []) seat ≡ some u → v 
 only v u zero e = some-injective v u e
 only v u (suc seat) e = absurd (some-ne-none u (sym e))
 
-free_at_first : (count k : ℕ) → k < count → CellIs 0 (get_elem? (map some (replicate {A = Option Parcel} count None)) k) (input_of (new_crew count) k) (new_crew count ∷ []) k
+free_at_first : (count k : ℕ) → k < count → CellIs 0 (get_elem? (map some (replicate {A = Option Parcel} count None)) k)
+    (input_of (new_crew count) k) (new_crew count ∷ []) k
 free_at_first count k below = record {
   known = omega arith;
   free = λ _. (all_same {A = Option Job} count k None, all_home {A = Option Parcel} count k None below);
@@ -44,27 +46,37 @@ free_at_first count k below = record {
   taken = λ e. absurd (omega arith);
   done = λ e. absurd (omega arith);
   opened = λ e. absurd (omega arith);
-  untaken = λ _ seat u job is has. (let off : None ≡ u.taken = ap (λ (w : View). w.taken) (only (new_crew count) u seat is) in absurd (cc (off, has)));
+  untaken =
+      λ _ seat u job is has. (let off : None ≡ u.taken = ap (λ (w : View). w.taken) (only (new_crew count) u seat is) in
+      absurd (cc (off, has)));
 }
 
 pub opens_kept : (count : ℕ) → CellRule (opening (replicate (count + 4) 0) (replicate count None) (new_crew count))
 opens_kept count =
-    let homes : length (map some (replicate {A = Option Parcel} count None)) ≡ count = long_map {A = Option Parcel} count None in
+    let homes : length (map some (replicate {A = Option Parcel} count None)) ≡ count =
+    long_map {A = Option Parcel} count None in
     let zeros : (k : ℕ) → get_or (replicate (count + 4) 0) k 0 ≡ 0 = λ k. all_same (count + 4) k 0 in
     record {
       crew = new_crew count;
       leads = refl;
       inputs = long {A = Option Job} count None ∙ sym homes;
       words = long (count + 4) 0 ∙ ap (λ (n : ℕ). n + 4) (sym homes);
-      cells = λ k below. subst (λ (z : ℕ). CellIs z (get_elem? (map some (replicate {A = Option Parcel} count None)) k) (input_of (new_crew count) k) (new_crew count ∷ []) k) (sym (zeros k))
+      cells = λ k below. subst
+          (λ (z : ℕ). CellIs z (get_elem? (map some (replicate {A = Option Parcel} count None)) k)
+          (input_of (new_crew count) k) (new_crew count ∷ []) k) (sym (zeros k))
           (free_at_first count k (subst (λ (n : ℕ). k < n) homes below));
-      stop = subst (λ (z : ℕ). z ≤ 1) (sym (zeros (length (map some (replicate {A = Option Parcel} count None))))) (omega arith);
-      stopped = λ seat u is on. (let off = ap (λ (w : View). w.stopped) (only (new_crew count) u seat is) in absurd (cc (off, on)));
+      stop = subst (λ (z : ℕ). z ≤ 1) (sym (zeros (length (map some (replicate {A = Option Parcel} count None)))))
+          (omega arith);
+      stopped =
+          λ seat u is on. (let off = ap (λ (w : View). w.stopped) (only (new_crew count) u seat is) in
+          absurd (cc (off, on)));
     }
 
 -- the same, for words and slots as they are at hand
-pub opens_kept_at : (count : ℕ) (words : List ℕ) → words ≡ replicate (count + 4) 0 → CellRule (opening words (replicate count None) (new_crew count))
-opens_kept_at count words is = subst (λ (ws : List ℕ). CellRule (opening ws (replicate count None) (new_crew count))) (sym is) (opens_kept count)
+pub opens_kept_at : (count : ℕ) (words : List ℕ) → words ≡ replicate (count + 4) 0 →
+    CellRule (opening words (replicate count None) (new_crew count))
+opens_kept_at count words is = subst (λ (ws : List ℕ). CellRule (opening ws (replicate count None) (new_crew count)))
+    (sym is) (opens_kept count)
 
 read : {A : Type 0} (xs : List A) (n : ℕ) (d x : A) → slice_get xs n ≡ Some x → get_or xs n d ≡ x
 read [] n d x e = absurd (none-some x e)
@@ -72,11 +84,13 @@ read (y ∷ ys) zero d x e = same_Some y x e
 read (y ∷ ys) (suc n) d x e = read ys n d x e
 
 -- a new crew has no job out
-pub new_free : (places : List (Option Place)) (count : ℕ) (me : Sat) → me ≡ (new_crew count, []) → ((i : ℕ) → i < length places → get_or places i None ≡ None) → AreFree places me.0 count
+pub new_free : (places : List (Option Place)) (count : ℕ) (me : Sat) → me ≡ (new_crew count, []) →
+    ((i : ℕ) → i < length places → get_or places i None ≡ None) → AreFree places me.0 count
 new_free places count me is empty = record {
   free = λ n _. ap (λ (s : Sat). input_of s.0 n) is ∙ all_same {A = Option Job} count n None;
   cell = λ n at. (let none : get_or places n None ≡ None = empty n (slice_get_within places n (Some Cell) at) in
-      let some_cell : get_or places n None ≡ Some Cell = read places n None (Some Cell) at in absurd (cc (none, some_cell)));
+      let some_cell : get_or places n None ≡ Some Cell = read places n None (Some Cell) at in
+      absurd (cc (none, some_cell)));
 }
 
 pub new_wide : (count : ℕ) (me : Sat) → me ≡ (new_crew count, []) → length me.0.given ≡ count

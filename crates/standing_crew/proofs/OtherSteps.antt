@@ -1,5 +1,7 @@
 -- The steps on the stop word and the bell, and those that part and join seats, keep the rule.
-use Rattle.std.proofs.Common.{◌≡◌, ◌≢◌, ℕ, ◌+◌, ◌-◌, ◌%◌, ◌^◌, ◌<◌, ◌≤◌, true, List, [], ◌∷◌, ◌++◌, length, set, get_or, refl, sym, ap, ◌∙◌, subst, ⊎_elim, arith, Option, None, length-set, get_or-set_other, get_or-set_same}
+use Rattle.std.proofs.Common.{◌≡◌, ◌≢◌, ℕ, ◌+◌, ◌-◌, ◌%◌, ◌^◌, ◌<◌, ◌≤◌, true, List, [], ◌∷◌, ◌++◌, length, set, get_or}
+use Rattle.std.proofs.Common.{refl, sym, ap, ◌∙◌, subst, ⊎_elim, arith, Option, None, length-set, get_or-set_other}
+use Rattle.std.proofs.Common.{get_or-set_same}
 use mathlib.Core.Logic.{dite}
 use mathlib.Core.Option.{none, some}
 use native.Mathlib.Decide.{ℕ_discrete}
@@ -16,9 +18,11 @@ use Rattle.standing_crew.proofs.Takers.{SameTakers, same_set, same_snoc}
 use Rattle.standing_crew.proofs.Keeps.{kept_after, unmoved, crew_stays}
 
 -- a word behind the cells changes, and a view in what it knows of the stop
-behind : (s : St) (kept : CellRule s) (i n id : ℕ) (v w : View) → length s.homes ≤ i → get_elem? s.views id ≡ some v → w.given ≡ v.given → w.taken ≡ v.taken
+behind : (s : St) (kept : CellRule s) (i n id : ℕ) (v w : View) → length s.homes ≤ i → get_elem? s.views id ≡ some v →
+    w.given ≡ v.given → w.taken ≡ v.taken
     → get_or (set s.words i n) (length s.homes) 0 ≤ 1
-    → ((seat : ℕ) (u : View) → get_elem? (set s.views id w) seat ≡ some u → u.stopped ≡ true → get_or (set s.words i n) (length s.homes) 0 ≡ 1)
+    → ((seat : ℕ) (u : View) → get_elem? (set s.views id w) seat ≡ some u → u.stopped ≡ true →
+    get_or (set s.words i n) (length s.homes) 0 ≡ 1)
     → CellRule record { words = set s.words i n; homes = s.homes; views = set s.views id w }
 behind s kept i n id v w out at given taken stop stopped =
     let c = crew_stays s.views id v w kept.crew at kept.leads given in
@@ -40,7 +44,9 @@ behind s kept i n id v w out at given taken stop stopped =
 pub stop_allowed : (slots id : ℕ) (v : View) (held : List (ℕ × Option Parcel))
     → Allows CellRule slots id (v, held) slots (λ _. 1) (λ _. stops (step slots slots 1 0 none) (v, held) 1)
 stop_allowed slots id v held s kept count at small =
-    let is : get_or (set s.words slots 1) (length s.homes) 0 ≡ 1 = (let l = kept.words in ap (λ (k : ℕ). get_or (set s.words slots 1) k 0) count ∙ get_or-set_same s.words slots 1 0 (omega arith)) in (
+    let is : get_or (set s.words slots 1) (length s.homes) 0 ≡ 1 =
+    (let l = kept.words in ap (λ (k : ℕ). get_or (set s.words slots 1) k 0) count
+    ∙ get_or-set_same s.words slots 1 0 (omega arith)) in (
       with_stop v,
       keeps,
       tt,
@@ -53,7 +59,9 @@ pub look_allowed : (slots id : ℕ) (v : View) (held : List (ℕ × Option Parce
     → Allows CellRule slots id (v, held) slots (λ n. n) (looks (step slots slots 0 0 none) (v, held))
 look_allowed slots id v held s kept count at small =
     let x : ℕ = get_or s.words slots 0 in
-    let word : get_or (set s.words slots x) (length s.homes) 0 ≡ x = (let l = kept.words in ap (λ (k : ℕ). get_or (set s.words slots x) k 0) count ∙ get_or-set_same s.words slots x 0 (omega arith)) in
+    let word : get_or (set s.words slots x) (length s.homes) 0 ≡ x =
+    (let l = kept.words in ap (λ (k : ℕ). get_or (set s.words slots x) k 0) count
+    ∙ get_or-set_same s.words slots x 0 (omega arith)) in
     let old : get_or s.words (length s.homes) 0 ≡ x = ap (λ (k : ℕ). get_or s.words k 0) count in
     dite (ℕ_discrete x 1)
     (λ hit. (
@@ -76,34 +84,49 @@ pub behind_stop : (slots id i : ℕ) (f : ℕ → ℕ) (v : View) (held : List (
     → Allows CellRule slots id (v, held) i f (λ _ n. n ≡ (v, held))
 behind_stop slots id i f v held past s kept count at small =
     let x : ℕ = f (get_or s.words i 0) in
-    let word : get_or (set s.words i x) (length s.homes) 0 ≡ get_or s.words (length s.homes) 0 = get_or-set_other s.words i (length s.homes) x 0 (λ e. omega arith) in
+    let word : get_or (set s.words i x) (length s.homes) 0 ≡ get_or s.words (length s.homes) 0 =
+    get_or-set_other s.words i (length s.homes) x 0 (λ e. omega arith) in
     let same : set s.views id v ≡ s.views = set_again s.views id v at in (
       v,
       keeps,
       tt,
       behind s kept i x id v v (omega arith) at refl refl (subst (λ (z : ℕ). z ≤ 1) (sym word) kept.stop)
-          (λ seat u is on. word ∙ kept.stopped seat u (subst (λ (vs : List View). get_elem? vs seat ≡ some u) same is) on),
+          (λ seat u is on. word
+          ∙ kept.stopped seat u (subst (λ (vs : List View). get_elem? vs seat ≡ some u) same is) on),
       refl,
     )
 
 -- the same, with the number of cells as the caller has it
-pub stop_at : (count slots id : ℕ) (me : Sat) → count ≡ slots → Allows CellRule slots id me count (λ _. 1) (λ _. stops (step slots count 1 0 none) me 1)
-stop_at count slots id me is = subst (λ (z : ℕ). Allows CellRule slots id me z (λ _. 1) (λ _. stops (step slots z 1 0 none) me 1)) (sym is) (stop_allowed slots id me.0 me.1)
+pub stop_at : (count slots id : ℕ) (me : Sat) → count ≡ slots →
+    Allows CellRule slots id me count (λ _. 1) (λ _. stops (step slots count 1 0 none) me 1)
+stop_at count slots id me is =
+    subst (λ (z : ℕ). Allows CellRule slots id me z (λ _. 1) (λ _. stops (step slots z 1 0 none) me 1)) (sym is)
+    (stop_allowed slots id me.0 me.1)
 
-pub look_at : (count slots id : ℕ) (me : Sat) → count ≡ slots → Allows CellRule slots id me count (λ n. n) (looks (step slots count 0 0 none) me)
-look_at count slots id me is = subst (λ (z : ℕ). Allows CellRule slots id me z (λ n. n) (looks (step slots z 0 0 none) me)) (sym is) (look_allowed slots id me.0 me.1)
+pub look_at : (count slots id : ℕ) (me : Sat) → count ≡ slots →
+    Allows CellRule slots id me count (λ n. n) (looks (step slots count 0 0 none) me)
+look_at count slots id me is =
+    subst (λ (z : ℕ). Allows CellRule slots id me z (λ n. n) (looks (step slots z 0 0 none) me)) (sym is)
+    (look_allowed slots id me.0 me.1)
 
-pub add_at : (count slots id more k : ℕ) (me : Sat) → count ≡ slots → 0 < more → Allows CellRule slots id me (count + more) (λ n. (n + k) % 2 ^ 64) (rings (step slots (count + more) k 0 none) me)
-add_at count slots id more k me is past = behind_stop slots id (count + more) (λ n. (n + k) % 2 ^ 64) me.0 me.1 (omega arith)
+pub add_at : (count slots id more k : ℕ) (me : Sat) → count ≡ slots → 0 < more →
+    Allows CellRule slots id me (count + more) (λ n. (n + k) % 2 ^ 64) (rings (step slots (count + more) k 0 none) me)
+add_at count slots id more k me is past =
+    behind_stop slots id (count + more) (λ n. (n + k) % 2 ^ 64) me.0 me.1 (omega arith)
 
-pub sub_at : (count slots id more k : ℕ) (me : Sat) → count ≡ slots → 0 < more → Allows CellRule slots id me (count + more) (λ n. (n + (2 ^ 64 - k)) % 2 ^ 64) (rings (step slots (count + more) k 0 none) me)
-sub_at count slots id more k me is past = behind_stop slots id (count + more) (λ n. (n + (2 ^ 64 - k)) % 2 ^ 64) me.0 me.1 (omega arith)
+pub sub_at : (count slots id more k : ℕ) (me : Sat) → count ≡ slots → 0 < more →
+    Allows CellRule slots id me (count + more) (λ n. (n + (2 ^ 64 - k)) % 2 ^ 64)
+    (rings (step slots (count + more) k 0 none) me)
+sub_at count slots id more k me is past =
+    behind_stop slots id (count + more) (λ n. (n + (2 ^ 64 - k)) % 2 ^ 64) me.0 me.1 (omega arith)
 
-pub set_at_more : (count slots id more k : ℕ) (me : Sat) → count ≡ slots → 0 < more → Allows CellRule slots id me (count + more) (λ _. k) (λ _. rings (step slots (count + more) k 0 none) me k)
+pub set_at_more : (count slots id more k : ℕ) (me : Sat) → count ≡ slots → 0 < more →
+    Allows CellRule slots id me (count + more) (λ _. k) (λ _. rings (step slots (count + more) k 0 none) me k)
 set_at_more count slots id more k me is past = behind_stop slots id (count + more) (λ _. k) me.0 me.1 (omega arith)
 
 -- views change, and in none of them what the crew has announced or who has taken a cell
-views_step : (s : St) (kept : CellRule s) (views : List View) → get_elem? views 0 ≡ some kept.crew → ((cell : ℕ) → SameTakers s.views views cell)
+views_step : (s : St) (kept : CellRule s) (views : List View) → get_elem? views 0 ≡ some kept.crew →
+    ((cell : ℕ) → SameTakers s.views views cell)
     → ((seat : ℕ) (u : View) → get_elem? views seat ≡ some u → u.stopped ≡ true → get_or s.words (length s.homes) 0 ≡ 1)
     → CellRule record { words = s.words; homes = s.homes; views = views }
 views_step s kept views leads takers stopped = kept_after s _ (length s.homes) kept record {
@@ -124,22 +147,29 @@ views_step s kept views leads takers stopped = kept_after s _ (length s.homes) k
 pub split_allowed : (id : ℕ) (v : View) → Splits CellRule id v v new_helper
 split_allowed id v s kept at =
     let same : set s.views id v ≡ s.views = set_again s.views id v at in
-    subst (λ (vs : List View). CellRule record { words = s.words; homes = s.homes; views = vs ++ new_helper ∷ [] }) (sym same)
-    (views_step s kept (s.views ++ new_helper ∷ []) (at_longer s.views (new_helper ∷ []) 0 kept.crew kept.leads) (λ cell. same_snoc s.views new_helper cell refl)
+    subst (λ (vs : List View). CellRule record { words = s.words; homes = s.homes; views = vs ++ new_helper ∷ [] })
+    (sym same)
+    (views_step s kept (s.views ++ new_helper ∷ []) (at_longer s.views (new_helper ∷ []) 0 kept.crew kept.leads)
+    (λ cell. same_snoc s.views new_helper cell refl)
     (λ seat u is on. ⊎_elim
     (λ (t : get_elem? s.views seat ≡ some u). kept.stopped seat u t on)
-    (λ (t : new_helper ≡ u). (let off : new_helper.stopped ≡ true = ap (λ (z : View). z.stopped) t ∙ on in absurd (cc off)))
+    (λ (t : new_helper ≡ u). (let off : new_helper.stopped ≡ true = ap (λ (z : View). z.stopped) t ∙ on in
+    absurd (cc off)))
     (at_snoc s.views new_helper u seat is)))
 
 -- the crew's seat is the first, and the other has taken nothing
 pub join_allowed : (v : View) (other : ℕ) (w : View) → w.taken ≡ None → Joins CellRule 0 v other w v new_helper
 join_allowed v other w idle s kept at apart there_too =
     let same : set s.views 0 v ≡ s.views = set_again s.views 0 v at in
-    let its : get_elem? s.views other ≡ some w = subst (λ (vs : List View). get_elem? vs other ≡ some w) same there_too in
-    subst (λ (vs : List View). CellRule record { words = s.words; homes = s.homes; views = set vs other new_helper }) (sym same)
-    (views_step s kept (set s.views other new_helper) (set_else s.views other 0 new_helper (λ e. apart (sym e)) ∙ kept.leads)
+    let its : get_elem? s.views other ≡ some w =
+    subst (λ (vs : List View). get_elem? vs other ≡ some w) same there_too in
+    subst (λ (vs : List View). CellRule record { words = s.words; homes = s.homes; views = set vs other new_helper })
+    (sym same)
+    (views_step s kept (set s.views other new_helper) (set_else s.views other 0 new_helper (λ e. apart (sym e))
+    ∙ kept.leads)
     (λ cell. same_set s.views other w new_helper cell its (λ job e. absurd (cc (idle, e))) (λ job e. absurd (cc e)))
     (λ seat u is on. ⊎_elim
-    (λ (t : (seat ≡ other) × (new_helper ≡ u)). (let off : new_helper.stopped ≡ true = ap (λ (z : View). z.stopped) t.1 ∙ on in absurd (cc off)))
+    (λ (t : (seat ≡ other) × (new_helper ≡ u)). (let off : new_helper.stopped ≡ true = ap (λ (z : View). z.stopped) t.1
+    ∙ on in absurd (cc off)))
     (λ (t : (seat ≢ other) × (get_elem? s.views seat ≡ some u)). kept.stopped seat u t.1 on)
     (at_set s.views other seat new_helper u is)))

@@ -43,7 +43,8 @@ collected st m done = (with_input m.0 st.word None, (st.word, Some (Finished don
 -- where the cell is done the crew has its turn, and what lies there is the result of its input
 abbrev pub collects : Step S → Sat → ℕ → Sat → Type 0
 collects st m found n =
-    (found ≡ 3 → (done : Done) × IsOfInput (input_of m.0 st.word) done × (n ≡ collected st m done)) × (found ≢ 3 → n ≡ m)
+    (found ≡ 3 → (done : Done) × IsOfInput (input_of m.0 st.word) done × (n ≡ collected st m done))
+    × (found ≢ 3 → n ≡ m)
 
 -- the crew gives the turn back, and the cell is free
 abbrev pub shuts : Step S → Sat → ℕ → Sat → Type 0

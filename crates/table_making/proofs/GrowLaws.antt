@@ -1,5 +1,7 @@
 -- What the making of tables leaves.
-use Rattle.std.proofs.Common.{◌≡◌, ◌⊎◌, IfErr, ◌<◌, ℕ, pos, zero, suc, inl, inr, Bool, true, false, List, [], ◌∷◌, length, get_or, take, map, None, Result, Ok, Err, OnOk, OnErr, IfOk, IsErr, IsTrue, refl, sym, ap, subst, ◌∙◌, arith}
+use Rattle.std.proofs.Common.{◌≡◌, ◌⊎◌, IfErr, ◌<◌, ℕ, pos, zero, suc, inl, inr, Bool, true, false, List, [], ◌∷◌}
+use Rattle.std.proofs.Common.{length, get_or, take, map, None, Result, Ok, Err, OnOk, OnErr, IfOk, IsErr, IsTrue, refl}
+use Rattle.std.proofs.Common.{sym, ap, subst, ◌∙◌, arith}
 use Rattle.std.specs.List.{AllByRecursion}
 use Rattle.std.specs.List.Sorted.{IsStrictlySortedBy}
 use Rattle.std.specs.Ordering.{nat_cmp}
@@ -21,7 +23,8 @@ use Rattle.sqlite.specs.Held.{Held, state}
 use Rattle.sqlite.specs.Listing.{understood}
 use Rattle.sqlite.specs.Steps.{Outlines}
 use Rattle.sqlite.specs.Outline.{Outline}
-use Rattle.sqlite.specs.State.{State, HasCleanDisk, Survives, KeepsCommit, IsUnchanged, IsNotRun, IsTooLate, FailsToQuery, Shown, store_error}
+use Rattle.sqlite.specs.State.{State, HasCleanDisk, Survives, KeepsCommit, IsUnchanged, IsNotRun, IsTooLate}
+use Rattle.sqlite.specs.State.{FailsToQuery, Shown, store_error}
 use Rattle.sqlite.proofs.Callers.{IsPlain, survives_begin}
 use Rattle.sqlite.proofs.StateLemmas.{survives_then}
 use Rattle.keeper.specs.declared.kept.DayRecord.{DayRecord}
@@ -29,7 +32,8 @@ use Rattle.keeper.specs.declared.kept.OldRecord.{OldRecord}
 use Rattle.keeper.specs.Kept.{seal_of, sealed}
 use Rattle.keeper.specs.Office.{Office, IsSound}
 use Rattle.keeper.proofs.SoundLaws.{nothing_sound, no_tariffs}
-use Rattle.kept_tables.specs.Texts.{find_version, list_days, make_days, make_spent, make_past, make_day_tariffs, make_tariffs, make_form}
+use Rattle.kept_tables.specs.Texts.{find_version, list_days, make_days, make_spent, make_past, make_day_tariffs}
+use Rattle.kept_tables.specs.Texts.{make_tariffs, make_form}
 use Rattle.kept_tables.specs.Shown.{number_columns}
 use Rattle.kept_tables.specs.Stands.{HoldsAs, HasOld, HasNothing, HasOffice, FitsFields, StandsForOffice, contents_of}
 use Rattle.kept_tables.specs.Steps.{StaysInside}
@@ -37,7 +41,8 @@ use Rattle.kept_tables.proofs.AskLaws.{asked_changes_nothing, list_days_asks}
 use Rattle.kept_tables.proofs.StepLaws.{kept_same, kept_undone, kept_if_unread}
 use Rattle.kept_tables.proofs.MigrationLaws.{first_made, second_made}
 use Rattle.kept_tables.proofs.QueryLaws.{find_version_plain, no_days, old_days_plain, no_version, no_old_version}
-use Rattle.table_making.specs.Growth.{Ran, IsUnsealed, Stood, IsUnderstood, SaysIf, LacksVersion, CommitsGrown, CommitsHere, CommitsOpen, CommitsSame}
+use Rattle.table_making.specs.Growth.{Ran, IsUnsealed, Stood, IsUnderstood, SaysIf, LacksVersion, CommitsGrown}
+use Rattle.table_making.specs.Growth.{CommitsHere, CommitsOpen, CommitsSame}
 
 -- what follows of what holds where a call went well
 pub on_ok : {T E : Type 0} (r : Result T E) (P Q : Type 0) → OnOk r P → (P → Q) → OnOk r Q
@@ -45,7 +50,8 @@ on_ok (Ok x) P Q p f = f p
 on_ok (Err e) P Q p f = tt
 
 -- nothing is kept in tables of version 1 that are new
-pub old_from_nothing : (s0 s1 s2 s3 : State) (o : Office) → HasNothing s0.now o → Ran make_days s0 s1 → Ran make_spent s1 s2 → Ran make_past s2 s3 → HasOld s3.now o
+pub old_from_nothing : (s0 s1 s2 s3 : State) (o : Office) → HasNothing s0.now o → Ran make_days s0 s1 →
+    Ran make_spent s1 s2 → Ran make_past s2 s3 → HasOld s3.now o
 old_from_nothing s0 s1 s2 s3 o none r1 r2 r3 = record {
   records = [];
   rows = [];
@@ -57,27 +63,36 @@ old_from_nothing s0 s1 s2 s3 o none r1 r2 r3 = record {
 }
 
 -- old records have the seal of no tariffs
-all_sealed : (records : List OldRecord) → AllByRecursion (λ (d : DayRecord). d.tariffs ≡ seal_of []) (map (sealed (seal_of [])) records)
+all_sealed : (records : List OldRecord) →
+    AllByRecursion (λ (d : DayRecord). d.tariffs ≡ seal_of []) (map (sealed (seal_of [])) records)
 all_sealed [] = tt
 all_sealed (r ∷ records) = (refl, all_sealed records)
 
 -- tables of version 1 and the new ones hold the office, but for its seals
-pub unsealed_from_old : (s0 s1 s2 s3 : State) (o : Office) → HasOld s0.now o → Ran make_day_tariffs s0 s1 → Ran make_tariffs s1 s2 → Ran make_form s2 s3 → IsUnsealed s3.now o
+pub unsealed_from_old : (s0 s1 s2 s3 : State) (o : Office) → HasOld s0.now o → Ran make_day_tariffs s0 s1 →
+    Ran make_tariffs s1 s2 → Ran make_form s2 s3 → IsUnsealed s3.now o
 unsealed_from_old s0 s1 s2 s3 o has r1 r2 r3 = record {
-  tables = subst (λ (p : Office). HoldsAs [] s3.now (record (contents_of p) { sealed = [] })) (sym has.office) (second_made s0 s1 s2 s3 r1.0 r2.0 r3.0 has.records has.rows has.history has.tables r1.1 r2.1 r3.1);
-  seals = subst (λ (p : Office). AllByRecursion (λ (d : DayRecord). d.tariffs ≡ seal_of []) p.days) (sym has.office) (all_sealed has.records);
+  tables = subst (λ (p : Office). HoldsAs [] s3.now (record (contents_of p) { sealed = [] })) (sym has.office)
+      (second_made s0 s1 s2 s3 r1.0 r2.0 r3.0 has.records has.rows has.history has.tables r1.1 r2.1 r3.1);
+  seals = subst (λ (p : Office). AllByRecursion (λ (d : DayRecord). d.tariffs ≡ seal_of []) p.days) (sym has.office)
+      (all_sealed has.records);
   fits = has.fits;
   sound = has.sound;
 }
 
 -- the days before a place are before the day there
-pub days_under : (ds : List DayRecord) (i : ℕ) (d : DayRecord) → IsStrictlySortedBy nat_cmp (map (λ (r : DayRecord). r.day) ds) → i < length ds → AllByRecursion (λ r. r.day < (get_or ds i d).day) (take i ds)
+pub days_under : (ds : List DayRecord) (i : ℕ) (d : DayRecord) →
+    IsStrictlySortedBy nat_cmp (map (λ (r : DayRecord). r.day) ds) → i < length ds →
+    AllByRecursion (λ r. r.day < (get_or ds i d).day) (take i ds)
 unfolding IsStrictlySortedBy
 days_under [] i d up less = absurd (omega (arith, less))
 days_under (x ∷ ds) zero d up less = tt
-days_under (x ∷ ds) (suc i) d up less = (under (get_or ds i d).day (above ds i d up.0 (omega (arith, less))), days_under ds i d up.1 (omega (arith, less)))
+days_under (x ∷ ds) (suc i) d up less =
+    (under (get_or ds i d).day (above ds i d up.0 (omega (arith, less))), days_under ds i d up.1 (omega (arith, less)))
   where
-    above : (es : List DayRecord) (j : ℕ) (e : DayRecord) → AllByRecursion (λ k. nat_cmp x.day k ≡ Less) (map (λ (r : DayRecord). r.day) es) → j < length es → nat_cmp x.day (get_or es j e).day ≡ Less
+    above : (es : List DayRecord) (j : ℕ) (e : DayRecord) →
+        AllByRecursion (λ k. nat_cmp x.day k ≡ Less) (map (λ (r : DayRecord). r.day) es) → j < length es →
+        nat_cmp x.day (get_or es j e).day ≡ Less
     above [] j e all low = absurd (omega (arith, low))
     above (y ∷ es) zero e all low = all.0
     above (y ∷ es) (suc j) e all low = above es j e all.1 (omega (arith, low))
@@ -86,13 +101,16 @@ days_under (x ∷ ds) (suc i) d up less = (under (get_or ds i d).day (above ds i
     under n less = grind (arith, nat_tests, less)
 
 -- the row at a place has the number of the day there
-pub row_of_day : (ds : List DayRecord) (i : ℕ) (r : Row) (d : DayRecord) → i < length (map number_columns ds) → (i < length ds) × (get_or (map number_columns ds) i r ≡ Int (pos (get_or ds i d).day) ∷ [])
+pub row_of_day : (ds : List DayRecord) (i : ℕ) (r : Row) (d : DayRecord) → i < length (map number_columns ds) →
+    (i < length ds) × (get_or (map number_columns ds) i r ≡ Int (pos (get_or ds i d).day) ∷ [])
 row_of_day [] i r d less = absurd (omega (arith, less))
 row_of_day (x ∷ ds) zero r d less = (omega arith, refl)
-row_of_day (x ∷ ds) (suc i) r d less = let more = row_of_day ds i r d (omega (arith, less)) in (omega (arith, more.0), more.1)
+row_of_day (x ∷ ds) (suc i) r d less = let more = row_of_day ds i r d (omega (arith, less)) in
+    (omega (arith, more.0), more.1)
 
 -- what holds of all holds at a place
-pub seal_at : (ds : List DayRecord) (i : ℕ) (d : DayRecord) → AllByRecursion (λ (r : DayRecord). r.tariffs ≡ seal_of []) ds → i < length ds → (get_or ds i d).tariffs ≡ seal_of []
+pub seal_at : (ds : List DayRecord) (i : ℕ) (d : DayRecord) →
+    AllByRecursion (λ (r : DayRecord). r.tariffs ≡ seal_of []) ds → i < length ds → (get_or ds i d).tariffs ≡ seal_of []
 seal_at [] i d all less = absurd (omega (arith, less))
 seal_at (x ∷ ds) zero d all less = all.0
 seal_at (x ∷ ds) (suc i) d all less = seal_at ds i d all.1 (omega (arith, less))
@@ -112,12 +130,16 @@ never_store Broken fault e = cc
 never_store Unstorable fault e = cc
 
 -- a text that is refused as such is not understood, and changes nothing
-pub missed : (old new : State) (sql : List ℕ) (params : Row) (e : Error) (fault : CompileError) → e ≡ SqlInputError fault → IsNotRun old new sql params e → (¬ IsUnderstood (understood old.now.schema sql)) × IsUnchanged old new
+pub missed : (old new : State) (sql : List ℕ) (params : Row) (e : Error) (fault : CompileError) →
+    e ≡ SqlInputError fault → IsNotRun old new sql params e → (¬ IsUnderstood (understood old.now.schema sql))
+    × IsUnchanged old new
 unfolding IsNotRun
 missed old new sql params e fault is (inl (inl wrong, same)) = (λ said. subst IsUnderstood wrong.1 said, same)
 missed old new sql params e fault is (inl (inr (c, known, inl many), same)) = absurd (let bad = sym is ∙ many.1 in cc)
-missed old new sql params e fault is (inl (inr (c, known, inr (inl count)), same)) = absurd (let bad = sym is ∙ count.1 in cc)
-missed old new sql params e fault is (inl (inr (c, known, inr (inr clock)), same)) = absurd (let bad = sym is ∙ clock.1 in cc)
+missed old new sql params e fault is (inl (inr (c, known, inr (inl count)), same)) =
+    absurd (let bad = sym is ∙ count.1 in cc)
+missed old new sql params e fault is (inl (inr (c, known, inr (inr clock)), same)) =
+    absurd (let bad = sym is ∙ clock.1 in cc)
 missed old new sql params e fault is (inr fails) = absurd (never_store fails.0 fault (sym is ∙ fails.1))
 
 -- a plain text is understood
@@ -126,48 +148,72 @@ plain_understood (Ok c) plain = tt
 plain_understood (Err e) plain = plain
 
 -- what a database without six tables stands for, by whether the table of days is there
-pub stood_by : (is_old : Bool) (db : Database) (o : Office) → StandsForOffice db o → LacksVersion db → SaysIf is_old (IsUnderstood (understood db.schema list_days)) → Stood is_old db o
-stood_by true db o (inl none) lacks says = absurd (subst IsUnderstood (ap (λ (s : Schema). understood s list_days) none.0 ∙ no_days) says)
+pub stood_by : (is_old : Bool) (db : Database) (o : Office) → StandsForOffice db o → LacksVersion db →
+    SaysIf is_old (IsUnderstood (understood db.schema list_days)) → Stood is_old db o
+stood_by true db o (inl none) lacks says =
+    absurd (subst IsUnderstood (ap (λ (s : Schema). understood s list_days) none.0 ∙ no_days) says)
 stood_by false db o (inl none) lacks says = none
 stood_by true db o (inr (inl old)) lacks says = old
-stood_by false db o (inr (inl old)) lacks says = absurd (says (subst (λ (s : Schema). IsUnderstood (understood s list_days)) (sym old.tables.schema) (plain_understood _ old_days_plain)))
-stood_by is_old db o (inr (inr has)) lacks says = absurd (lacks (subst (λ (s : Schema). IsUnderstood (understood s find_version)) (sym has.tables.schema) (plain_understood _ find_version_plain.0)))
+stood_by false db o (inr (inl old)) lacks says =
+    absurd (says
+    (subst (λ (s : Schema). IsUnderstood (understood s list_days)) (sym old.tables.schema)
+    (plain_understood _ old_days_plain)))
+stood_by is_old db o (inr (inr has)) lacks says =
+    absurd (lacks
+    (subst (λ (s : Schema). IsUnderstood (understood s find_version)) (sym has.tables.schema)
+    (plain_understood _ find_version_plain.0)))
 
 -- with a version, what a database stands for is in six tables
-pub six_there : (db : Database) (o : Office) → StandsForOffice db o → IsUnderstood (understood db.schema find_version) → HasOffice db o
-six_there db o (inl none) said = absurd (subst IsUnderstood (ap (λ (s : Schema). understood s find_version) none.0 ∙ no_version) said)
-six_there db o (inr (inl old)) said = absurd (subst IsUnderstood (ap (λ (s : Schema). understood s find_version) old.tables.schema ∙ no_old_version) said)
+pub six_there : (db : Database) (o : Office) → StandsForOffice db o → IsUnderstood (understood db.schema find_version) →
+    HasOffice db o
+six_there db o (inl none) said =
+    absurd (subst IsUnderstood (ap (λ (s : Schema). understood s find_version) none.0 ∙ no_version) said)
+six_there db o (inr (inl old)) said =
+    absurd (subst IsUnderstood (ap (λ (s : Schema). understood s find_version) old.tables.schema ∙ no_old_version) said)
 six_there db o (inr (inr has)) said = has
 
 -- a transaction that wrote the tables and then committed
-pub grown_survives : {S : Type 0} (g : Ghosts S) (old : Held S) (last end : State) (is_old : Bool) → Survives (state g (record old { in_transaction = true })) last (λ _. ⊥) → Survives last end (λ db. db ≡ last.now.trees)
-    → (HasCleanDisk last → StaysInside (state g (record old { in_transaction = true })) last (Ok tt)) → (HasCleanDisk last → (o : Office) → Stood is_old (state g old).now o → HasOffice last.now o)
+pub grown_survives : {S : Type 0} (g : Ghosts S) (old : Held S) (last end : State) (is_old : Bool) →
+    Survives (state g (record old { in_transaction = true })) last (λ _. ⊥) →
+    Survives last end (λ db. db ≡ last.now.trees)
+    → (HasCleanDisk last → StaysInside (state g (record old { in_transaction = true })) last (Ok tt)) →
+    (HasCleanDisk last → (o : Office) → Stood is_old (state g old).now o → HasOffice last.now o)
     → Survives (state g old) end (CommitsGrown is_old (state g old))
 grown_survives g old last end is_old written committed inside wrote =
-    survives_then (state g old) last end (λ _. ⊥) (λ db. db ≡ last.now.trees) (CommitsGrown is_old (state g old)) (λ _ db none. absurd none)
+    survives_then (state g old) last end (λ _. ⊥) (λ db. db ≡ last.now.trees) (CommitsGrown is_old (state g old))
+    (λ _ db none. absurd none)
     (λ clean db is.
     let late : HasCleanDisk last = omega (arith, committed.clean) in
     ((inside late).was_open, λ o stood. (last.now, wrote late o stood, is)))
     (survives_begin g old last _ written) committed
 
 -- after it was seen which tables are there
-pub here_survives : (old mid new : State) (is_old : Bool) → (HasCleanDisk mid → IsUnchanged old mid) → (HasCleanDisk mid → SaysIf is_old (IsUnderstood (understood old.now.schema list_days))) → Survives old mid (λ _. ⊥)
+pub here_survives : (old mid new : State) (is_old : Bool) → (HasCleanDisk mid → IsUnchanged old mid) →
+    (HasCleanDisk mid → SaysIf is_old (IsUnderstood (understood old.now.schema list_days))) → Survives old mid (λ _. ⊥)
     → Survives mid new (CommitsGrown is_old mid) → Survives old new (CommitsHere old)
 here_survives old mid new is_old same says first last =
     survives_then old mid new (λ _. ⊥) (CommitsGrown is_old mid) (CommitsHere old) (λ _ db none. absurd none)
     (λ clean db made.
     let early : HasCleanDisk mid = omega (arith, last.clean) in
-    let kept = (same early).0 in
-    (kept.was_open, λ lacks o stands. made.1 o (subst (λ (d : Database). Stood is_old d o) (sym kept.now_is) (stood_by is_old old.now o stands lacks (says early))))) first last
+    let kept = (same early).0 in (
+      kept.was_open,
+      λ lacks o stands. made.1 o
+          (subst (λ (d : Database). Stood is_old d o) (sym kept.now_is)
+          (stood_by is_old old.now o stands lacks (says early))),
+    )) first last
 
 -- the query for all days changes nothing
-pub asked_same : {X : Type 0} (rows_in : X → List Row) (old new : State) (r : Result X Error) → IfOk r (λ x. Shown list_days [] old new (rows_in x)) → OnOk r (IsUnchanged old new)
+pub asked_same : {X : Type 0} (rows_in : X → List Row) (old new : State) (r : Result X Error) →
+    IfOk r (λ x. Shown list_days [] old new (rows_in x)) → OnOk r (IsUnchanged old new)
 asked_same rows_in old new (Ok x) shown = asked_changes_nothing list_days [] old new (rows_in x) list_days_asks shown
 asked_same rows_in old new (Err e) shown = tt
 
 -- in a transaction too, what is committed stays
-pub asked_inside : {X : Type 0} (rows_in : X → List Row) (old new : State) (r : Result X Error) → IfOk r (λ x. Shown list_days [] old new (rows_in x)) → IfErr r (λ e. FailsToQuery list_days [] old new e ⊎ IsTooLate list_days [] old new e) → KeepsCommit old new
-asked_inside rows_in old new (Ok x) shown fails = kept_same old new (asked_changes_nothing list_days [] old new (rows_in x) list_days_asks shown)
+pub asked_inside : {X : Type 0} (rows_in : X → List Row) (old new : State) (r : Result X Error) →
+    IfOk r (λ x. Shown list_days [] old new (rows_in x)) →
+    IfErr r (λ e. FailsToQuery list_days [] old new e ⊎ IsTooLate list_days [] old new e) → KeepsCommit old new
+asked_inside rows_in old new (Ok x) shown fails =
+    kept_same old new (asked_changes_nothing list_days [] old new (rows_in x) list_days_asks shown)
 asked_inside rows_in old new (Err e) shown (inl fails) = kept_if_unread old new list_days [] e fails
 asked_inside rows_in old new (Err e) shown (inr late) = kept_same old new late.5
 
@@ -194,29 +240,40 @@ on_err (Ok x) P Q p f = tt
 on_err (Err e) P Q p f = f p
 
 -- what is said of a text that was refused as such
-pub missed_says : (old new : State) (sql : List ℕ) (e : Error) (r : Result Bool Error) → IfOk r (λ is. (is ≡ false) × ((fault : CompileError) × (e ≡ SqlInputError fault))) → ((params : Row) → IsNotRun old new sql params e)
+pub missed_says : (old new : State) (sql : List ℕ) (e : Error) (r : Result Bool Error) →
+    IfOk r (λ is. (is ≡ false) × ((fault : CompileError) × (e ≡ SqlInputError fault))) →
+    ((params : Row) → IsNotRun old new sql params e)
     → IfOk r (λ is. SaysIf is (IsUnderstood (understood old.now.schema sql))) × OnOk r (IsUnchanged old new)
 missed_says old new sql e (Ok is) h refused =
-    let m = missed old new sql [] e h.1.0 h.1.1 (refused []) in (subst (λ (b : Bool). SaysIf b (IsUnderstood (understood old.now.schema sql))) (sym h.0) m.0, m.1)
+    let m = missed old new sql [] e h.1.0 h.1.1 (refused []) in
+    (subst (λ (b : Bool). SaysIf b (IsUnderstood (understood old.now.schema sql))) (sym h.0) m.0, m.1)
 missed_says old new sql e (Err f) h refused = (tt, tt)
 
 -- a text that is not run commits nothing
-pub not_run_keeps : (old new : State) (sql : List ℕ) (params : Row) (e : Error) → IsNotRun old new sql params e → KeepsCommit old new
+pub not_run_keeps : (old new : State) (sql : List ℕ) (params : Row) (e : Error) → IsNotRun old new sql params e →
+    KeepsCommit old new
 unfolding IsNotRun
 not_run_keeps old new sql params e (inl h) = kept_same old new h.1
 not_run_keeps old new sql params e (inr h) = kept_undone old new h.3
 
 -- after it was seen that there are not all six tables
-pub open_survives : (old mid new : State) → (HasCleanDisk mid → IsUnchanged old mid) → (HasCleanDisk mid → LacksVersion old.now) → Survives old mid (λ _. ⊥) → Survives mid new (CommitsHere mid) → Survives old new (CommitsOpen old)
+pub open_survives : (old mid new : State) → (HasCleanDisk mid → IsUnchanged old mid) →
+    (HasCleanDisk mid → LacksVersion old.now) → Survives old mid (λ _. ⊥) → Survives mid new (CommitsHere mid) →
+    Survives old new (CommitsOpen old)
 open_survives old mid new same lacks first last =
     survives_then old mid new (λ _. ⊥) (CommitsHere mid) (CommitsOpen old) (λ _ db none. absurd none)
     (λ clean db made.
     let early : HasCleanDisk mid = omega (arith, last.clean) in
-    let kept = (same early).0 in
-    (kept.was_open, λ o stands. made.1 (subst LacksVersion (sym kept.now_is) (lacks early)) o (subst (λ (d : Database). StandsForOffice d o) (sym kept.now_is) stands))) first last
+    let kept = (same early).0 in (
+      kept.was_open,
+      λ o stands. made.1 (subst LacksVersion (sym kept.now_is) (lacks early)) o
+          (subst (λ (d : Database). StandsForOffice d o) (sym kept.now_is) stands),
+    )) first last
 
 -- after what was under way was undone
-pub same_survives : (old mid new : State) → (HasCleanDisk mid → IsTrue mid.is_open → mid.now ≡ mid.committed) → (HasCleanDisk mid → KeepsCommit old mid) → Survives old mid (λ _. ⊥) → Survives mid new (CommitsOpen mid) → Survives old new (CommitsSame old.committed)
+pub same_survives : (old mid new : State) → (HasCleanDisk mid → IsTrue mid.is_open → mid.now ≡ mid.committed) →
+    (HasCleanDisk mid → KeepsCommit old mid) → Survives old mid (λ _. ⊥) → Survives mid new (CommitsOpen mid) →
+    Survives old new (CommitsSame old.committed)
 same_survives old mid new settled kept first last =
     survives_then old mid new (λ _. ⊥) (CommitsOpen mid) (CommitsSame old.committed) (λ _ db none. absurd none)
     (λ clean db made o stands.
@@ -225,10 +282,14 @@ same_survives old mid new settled kept first last =
     made.1 o (subst (λ (d : Database). StandsForOffice d o) (sym now) stands)) first last
 
 -- a call that keeps what is committed keeps what that stands for
-pub still_stands : (old new : State) (o : Office) → IsTrue new.is_open → StandsForOffice old.committed o → KeepsCommit old new → StandsForOffice new.committed o
-still_stands old new o here stands kept = subst (λ (db : Database). StandsForOffice db o) (sym (kept.committed here)) stands
+pub still_stands : (old new : State) (o : Office) → IsTrue new.is_open → StandsForOffice old.committed o →
+    KeepsCommit old new → StandsForOffice new.committed o
+still_stands old new o here stands kept =
+    subst (λ (db : Database). StandsForOffice db o) (sym (kept.committed here)) stands
 
 -- what is refused before it began stands for what it did
-pub err_stands : {T E : Type 0} (old new : State) (r : Result T E) (P : Type 0) (o : Office) → IsErr r → IsTrue new.is_open → StandsForOffice old.committed o → KeepsCommit old new → OnOk r P × OnErr r (StandsForOffice new.committed o)
+pub err_stands : {T E : Type 0} (old new : State) (r : Result T E) (P : Type 0) (o : Office) → IsErr r →
+    IsTrue new.is_open → StandsForOffice old.committed o → KeepsCommit old new → OnOk r P
+    × OnErr r (StandsForOffice new.committed o)
 err_stands old new (Ok x) P o err here stands kept = absurd (cc)
 err_stands old new (Err e) P o err here stands kept = (tt, still_stands old new o here stands kept)

@@ -49,7 +49,8 @@ CommitsGrown is_old s trees = IsTrue s.is_open × ((o : Office) → Stood is_old
 
 -- what is committed stands for the office that a database without six tables stood for
 abbrev pub CommitsHere : State → Trees → Type 0
-CommitsHere s trees = IsTrue s.is_open × (LacksVersion s.now → (o : Office) → StandsForOffice s.now o → IsTreesOf o trees)
+CommitsHere s trees = IsTrue s.is_open
+    × (LacksVersion s.now → (o : Office) → StandsForOffice s.now o → IsTreesOf o trees)
 
 -- what is committed stands for the office that the database of an open connection stood for
 abbrev pub CommitsOpen : State → Trees → Type 0

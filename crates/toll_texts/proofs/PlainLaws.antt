@@ -1,5 +1,7 @@
 -- Laws of text that needs no escape.
-use Rattle.std.proofs.Common.{◌≡◌, ℕ, suc, codes, decimal, ◌^◌, ◌+◌, ◌-◌, ◌/◌, ◌%◌, ◌<◌, ◌≤◌, ◌==◌, ◌&&◌, ◌||◌, nat_lt, Bool, true, false, not, cond, List, [], ◌∷◌, ◌++◌, length, get_or, leb-true, refl, sym, ap, ◌∙◌, arith, append_assoc}
+use Rattle.std.proofs.Common.{◌≡◌, ℕ, suc, codes, decimal, ◌^◌, ◌+◌, ◌-◌, ◌/◌, ◌%◌, ◌<◌, ◌≤◌, ◌==◌, ◌&&◌, ◌||◌, nat_lt}
+use Rattle.std.proofs.Common.{Bool, true, false, not, cond, List, [], ◌∷◌, ◌++◌, length, get_or, leb-true, refl, sym}
+use Rattle.std.proofs.Common.{ap, ◌∙◌, arith, append_assoc}
 use Rattle.std.specs.List.{list_all}
 use Rattle.std.proofs.lemmas.Bool.{cond-false, cond-true, and_parts, and_from, not-true, le-leb, ne_eqb}
 use Rattle.std.specs.Str.Parse.{AllDigits}
@@ -42,7 +44,9 @@ quoted_then s rest e =
 
 -- a digit of hexadecimal text
 hex_digit : (n : ℕ) → n < 16 → is_plain_byte (get_or lower_digits n 0) ≡ true
-hex_digit n less = (true_or (is_plain_byte (get_or lower_digits n 0)) (λ bad. absurd (clash (list_all_at is_plain_byte lower_digits n 0 less bad))))
+hex_digit n less =
+    (true_or (is_plain_byte (get_or lower_digits n 0))
+    (λ bad. absurd (clash (list_all_at is_plain_byte lower_digits n 0 less bad))))
   where
     clash : is_plain lower_digits ≡ false → ⊥
     clash e = cc e
@@ -57,14 +61,18 @@ unfolding encode_with
 hex_plain [] small = refl
 hex_plain (b ∷ bytes) small =
     let less : b < 256 = small 0 in
-    and_from _ _ (hex_digit (b / 16) (omega arith)) (and_from _ _ (hex_digit (b % 16) (omega arith)) (hex_plain bytes (λ i. small (suc i))))
+    and_from _ _ (hex_digit (b / 16) (omega arith))
+    (and_from _ _ (hex_digit (b % 16) (omega arith)) (hex_plain bytes (λ i. small (suc i))))
 
 -- digits need no escape
 digits_plain : (ds : List ℕ) → AllDigits 10 ds → is_plain ds ≡ true
 digits_plain [] e = refl
 digits_plain (b ∷ ds) e =
     let digit = digit_from_value b e.0 in
-    and_from _ _ (and_from _ _ (le-leb 32 b (omega (arith, digit))) (and_from _ _ (ap not (ne_eqb b 34 (λ is. omega (arith, digit)))) (ap not (ne_eqb b 92 (λ is. omega (arith, digit)))))) (digits_plain ds e.1)
+    and_from _ _
+    (and_from _ _ (le-leb 32 b (omega (arith, digit)))
+    (and_from _ _ (ap not (ne_eqb b 34 (λ is. omega (arith, digit))))
+    (ap not (ne_eqb b 92 (λ is. omega (arith, digit)))))) (digits_plain ds e.1)
 
 pub decimal_plain : (n : ℕ) → n < 2 ^ 64 → is_plain (decimal n) ≡ true
 decimal_plain n h = digits_plain (decimal n) (decimal_is_IsNumeral n h).0.1
@@ -74,7 +82,8 @@ pub word_plain : (w : List ℕ) (n : ℕ) → is_plain w ≡ true → n < 2 ^ 64
 word_plain w n e h = list_all-append is_plain_byte w (decimal n) ∙ and_from _ _ e (decimal_plain n h)
 
 -- a word and two numbers
-pub words_plain : (w : List ℕ) (m n : ℕ) → is_plain w ≡ true → m < 2 ^ 64 → n < 2 ^ 64 → is_plain (w ++ decimal m ++ codes " " ++ decimal n) ≡ true
+pub words_plain : (w : List ℕ) (m n : ℕ) → is_plain w ≡ true → m < 2 ^ 64 → n < 2 ^ 64 →
+    is_plain (w ++ decimal m ++ codes " " ++ decimal n) ≡ true
 words_plain w m n e h k =
     let front = list_all-append is_plain_byte (w ++ decimal m) (codes " ") ∙ and_from _ _ (word_plain w m e h) refl in
     word_plain (w ++ decimal m ++ codes " ") n front k

@@ -1,5 +1,6 @@
 -- Laws of the notice that a line may be: where the line is a notice's text, it is that notice.
-use Rattle.std.proofs.Common.{◌≡◌, ℕ, ◌^◌, ◌<◌, ◌≤◌, ◌&&◌, true, false, List, [], ◌∷◌, length, map, Option, Some, None, FitsSigned, w16, ℤ, pos, negsuc, nat_le, arith, refl, sym, ap, ◌∙◌}
+use Rattle.std.proofs.Common.{◌≡◌, ℕ, ◌^◌, ◌<◌, ◌≤◌, ◌&&◌, true, false, List, [], ◌∷◌, length, map, Option, Some, None}
+use Rattle.std.proofs.Common.{FitsSigned, w16, ℤ, pos, negsuc, nat_le, arith, refl, sym, ap, ◌∙◌}
 use Rattle.std.specs.Str.{bytes_eq}
 use Rattle.std.specs.Int.Signed.{mag}
 use Rattle.std.specs.Fmt.{decimal, signed_decimal}
@@ -7,9 +8,11 @@ use Rattle.std.proofs.lemmas.List.{length-map}
 use Rattle.std.proofs.lemmas.Bool.{and_parts, leb-true, ltb-true, eqb-true, cond-true, false≢true}
 use Rattle.std.proofs.lemmas.Slice.Eq.{bytes_eq-Decides}
 use Rattle.road_time.specs.declared.road.Notice.{Notice}
-use Rattle.road_time.specs.declared.road.Notice.TheVariants.{Toll as TollNotice, Alert as AlertNotice, Balance as BalanceNotice, Spent as SpentNotice}
+use Rattle.road_time.specs.declared.road.Notice.TheVariants.{Toll as TollNotice, Alert as AlertNotice}
+use Rattle.road_time.specs.declared.road.Notice.TheVariants.{Balance as BalanceNotice, Spent as SpentNotice}
 use Rattle.road_time.specs.Numbers.{fields_of_text}
-use Rattle.road_time.specs.Text.{is_lav, is_name, is_time, is_amount, is_notice, notice_numbers, notice_text, read_notice}
+use Rattle.road_time.specs.Text.{is_lav, is_name, is_time, is_amount, is_notice, notice_numbers, notice_text}
+use Rattle.road_time.specs.Text.{read_notice}
 use Rattle.road_time.proofs.NumberLaws.{fields_all}
 use Rattle.road_time.proofs.NoticeTextLaws.{notice_written, notice_read}
 use Rattle.road_time.proofs.EachLaws.{some_is}
@@ -23,13 +26,15 @@ some_numbers (BalanceNotice time qid amount) = (omega arith, omega arith)
 some_numbers (SpentNotice time qid amount) = (omega arith, omega arith)
 
 -- the fields of a notice's text are its numbers
-pub notice_fields : (line : List ℕ) (n : Notice) → is_notice n ≡ true → notice_text n ≡ line → fields_of_text line ≡ map signed_decimal (notice_numbers n)
+pub notice_fields : (line : List ℕ) (n : Notice) → is_notice n ≡ true → notice_text n ≡ line →
+    fields_of_text line ≡ map signed_decimal (notice_numbers n)
 notice_fields line n e is =
     let some = some_numbers n in
     ap fields_of_text (sym is) ∙ fields_all 20 (notice_numbers n) (omega (arith, some.0)) (notice_written n e)
 
 -- so it has four fields or five
-pub notice_count : (line : List ℕ) (n : Notice) → is_notice n ≡ true → notice_text n ≡ line → (4 ≤ length (fields_of_text line)) × (length (fields_of_text line) ≤ 5)
+pub notice_count : (line : List ℕ) (n : Notice) → is_notice n ≡ true → notice_text n ≡ line →
+    (4 ≤ length (fields_of_text line)) × (length (fields_of_text line) ≤ 5)
 notice_count line n e is =
     let some = some_numbers n in
     let count = ap length (notice_fields line n e is) ∙ length-map (notice_numbers n) signed_decimal in
@@ -52,9 +57,12 @@ first_is : {X : Type 0} (x y : X) (xs ys : List X) → x ∷ xs ≡ y ∷ ys →
 first_is x y xs ys e = (cc, cc)
 
 -- a line of four fields that is a notice's text is that notice's
-pub short_is : (n : Notice) (k a b c : List ℕ) (kind first second third : ℕ) → is_notice n ≡ true → map signed_decimal (notice_numbers n) ≡ k ∷ a ∷ b ∷ c ∷ [] →
-    IsNatural 32 k kind → IsNatural 32 a first → IsNatural 32 b second → IsNatural 64 c third → short_candidate kind first second third ≡ Some n
-short_is (TollNotice vid time lav toll) k a b c kind first second third e is hk ha hb hc = absurd (omega (arith, ap length is))
+pub short_is : (n : Notice) (k a b c : List ℕ) (kind first second third : ℕ) → is_notice n ≡ true →
+    map signed_decimal (notice_numbers n) ≡ k ∷ a ∷ b ∷ c ∷ [] →
+    IsNatural 32 k kind → IsNatural 32 a first → IsNatural 32 b second → IsNatural 64 c third →
+    short_candidate kind first second third ≡ Some n
+short_is (TollNotice vid time lav toll) k a b c kind first second third e is hk ha hb hc =
+    absurd (omega (arith, ap length is))
 short_is (AlertNotice time vid seg) k a b c kind first second third e is hk ha hb hc =
     let p = and_parts (is_time time) (is_name vid && nat_le seg 99) e in
     let q = and_parts (is_name vid) (nat_le seg 99) p.1 in
@@ -63,7 +71,13 @@ short_is (AlertNotice time vid seg) k a b c kind first second third e is hk ha h
     let j = first_is (decimal time) a _ _ i.1 in
     let l = first_is (decimal vid) b _ _ j.1 in
     let m = first_is (decimal seg) c _ _ l.1 in
-    rw (hk 1 (kind_small 1 (omega arith)) (sym i.0), ha time (time_small time p.0) (sym j.0), hb vid (name_small vid q.0) (sym l.0), hc seg (omega (arith, s)) (sym m.0)) (cond-true (nat_le seg 99) _ _ q.1)
+    rw (
+      hk 1 (kind_small 1 (omega arith)) (sym i.0),
+      ha time (time_small time p.0) (sym j.0),
+      hb vid
+          (name_small vid q.0) (sym l.0),
+      hc seg (omega (arith, s)) (sym m.0),
+    ) (cond-true (nat_le seg 99) _ _ q.1)
 short_is (BalanceNotice time qid amount) k a b c kind first second third e is hk ha hb hc =
     let p = and_parts (is_time time) (is_name qid && is_amount amount) e in
     let q = and_parts (is_name qid) (is_amount amount) p.1 in
@@ -71,7 +85,13 @@ short_is (BalanceNotice time qid amount) k a b c kind first second third e is hk
     let j = first_is (decimal time) a _ _ i.1 in
     let l = first_is (decimal qid) b _ _ j.1 in
     let m = first_is (decimal amount) c _ _ l.1 in
-    rw (hk 2 (kind_small 2 (omega arith)) (sym i.0), ha time (time_small time p.0) (sym j.0), hb qid (name_small qid q.0) (sym l.0), hc amount (ltb-true amount (2 ^ 64) q.1) (sym m.0)) refl
+    rw (
+      hk 2 (kind_small 2 (omega arith)) (sym i.0),
+      ha time (time_small time p.0) (sym j.0),
+      hb qid
+          (name_small qid q.0) (sym l.0),
+      hc amount (ltb-true amount (2 ^ 64) q.1) (sym m.0),
+    ) refl
 short_is (SpentNotice time qid amount) k a b c kind first second third e is hk ha hb hc =
     let p = and_parts (is_time time) (is_name qid && is_amount amount) e in
     let q = and_parts (is_name qid) (is_amount amount) p.1 in
@@ -79,14 +99,25 @@ short_is (SpentNotice time qid amount) k a b c kind first second third e is hk h
     let j = first_is (decimal time) a _ _ i.1 in
     let l = first_is (decimal qid) b _ _ j.1 in
     let m = first_is (decimal amount) c _ _ l.1 in
-    rw (hk 3 (kind_small 3 (omega arith)) (sym i.0), ha time (time_small time p.0) (sym j.0), hb qid (name_small qid q.0) (sym l.0), hc amount (ltb-true amount (2 ^ 64) q.1) (sym m.0)) refl
+    rw (
+      hk 3 (kind_small 3 (omega arith)) (sym i.0),
+      ha time (time_small time p.0) (sym j.0),
+      hb qid
+          (name_small qid q.0) (sym l.0),
+      hc amount (ltb-true amount (2 ^ 64) q.1) (sym m.0),
+    ) refl
 
 -- and a line of five fields
-pub toll_is : (n : Notice) (k a b c d : List ℕ) (ds : List (List ℕ)) (first second fourth : ℕ) (third : ℤ) → is_notice n ≡ true → map signed_decimal (notice_numbers n) ≡ k ∷ a ∷ b ∷ c ∷ d ∷ ds →
-    IsNatural 32 a first → IsNatural 32 b second → IsLav c third → IsNatural 64 d fourth → TollNotice first second third fourth ≡ n
-toll_is (AlertNotice time vid seg) k a b c d ds first second fourth third e is ha hb hc hd = absurd (omega (arith, ap length is))
-toll_is (BalanceNotice time qid amount) k a b c d ds first second fourth third e is ha hb hc hd = absurd (omega (arith, ap length is))
-toll_is (SpentNotice time qid amount) k a b c d ds first second fourth third e is ha hb hc hd = absurd (omega (arith, ap length is))
+pub toll_is : (n : Notice) (k a b c d : List ℕ) (ds : List (List ℕ)) (first second fourth : ℕ) (third : ℤ) →
+    is_notice n ≡ true → map signed_decimal (notice_numbers n) ≡ k ∷ a ∷ b ∷ c ∷ d ∷ ds →
+    IsNatural 32 a first → IsNatural 32 b second → IsLav c third → IsNatural 64 d fourth →
+    TollNotice first second third fourth ≡ n
+toll_is (AlertNotice time vid seg) k a b c d ds first second fourth third e is ha hb hc hd =
+    absurd (omega (arith, ap length is))
+toll_is (BalanceNotice time qid amount) k a b c d ds first second fourth third e is ha hb hc hd =
+    absurd (omega (arith, ap length is))
+toll_is (SpentNotice time qid amount) k a b c d ds first second fourth third e is ha hb hc hd =
+    absurd (omega (arith, ap length is))
 toll_is (TollNotice vid time lav toll) k a b c d ds first second fourth third e is ha hb hc hd =
     let p = and_parts (is_name vid) (is_time time && (is_lav lav && is_amount toll)) e in
     let q = and_parts (is_time time) (is_lav lav && is_amount toll) p.1 in
@@ -96,7 +127,13 @@ toll_is (TollNotice vid time lav toll) k a b c d ds first second fourth third e 
     let l = first_is (decimal time) b _ _ j.1 in
     let m = first_is (signed_decimal lav) c _ _ l.1 in
     let o = first_is (decimal toll) d _ _ m.1 in
-    rw (ha vid (name_small vid p.0) (sym j.0), hb time (time_small time q.0) (sym l.0), hc lav r.0 (sym m.0), hd toll (ltb-true toll (2 ^ 64) r.1) (sym o.0)) refl
+    rw (
+      ha vid (name_small vid p.0) (sym j.0),
+      hb time (time_small time q.0) (sym l.0),
+      hc lav r.0 (sym m.0),
+      hd toll
+          (ltb-true toll (2 ^ 64) r.1) (sym o.0),
+    ) refl
 
 -- an average is a small number
 pub lav_small : (z : ℤ) → is_lav z ≡ true → mag z < 2 ^ 63
@@ -109,7 +146,8 @@ lav_fits (pos n) e = let h = leb-true n 100 e in omega (arith, h)
 lav_fits (negsuc n) e = let h = eqb-true n 0 e in omega (arith, h)
 
 -- where no valid notice has the line as its text, none is read
-pub none_from : (line : List ℕ) → ((n : Notice) → is_notice n ≡ true → notice_text n ≡ line → ⊥) → None ≡ read_notice line
+pub none_from : (line : List ℕ) → ((n : Notice) → is_notice n ≡ true → notice_text n ≡ line → ⊥) →
+    None ≡ read_notice line
 none_from line out = from_option (read_notice line) (λ n e. let h = notice_read line n e in out n h.0 h.1)
   where
     from_option : (o : Option Notice) → ((n : Notice) → o ≡ Some n → ⊥) → None ≡ o
@@ -121,5 +159,7 @@ pub not_valid : (n m : Notice) → is_notice n ≡ false → Some n ≡ Some m �
 not_valid n m test same is = false≢true (sym test ∙ ap is_notice (some_is n m same) ∙ is)
 
 -- nor is one whose text the line is not
-pub not_text : (line : List ℕ) (n m : Notice) → bytes_eq (notice_text n) line ≡ false → Some n ≡ Some m → notice_text m ≡ line → ⊥
-not_text line n m test same is = false≢true (sym test ∙ (bytes_eq-Decides (notice_text n) line).1 (ap notice_text (some_is n m same) ∙ is))
+pub not_text : (line : List ℕ) (n m : Notice) → bytes_eq (notice_text n) line ≡ false → Some n ≡ Some m →
+    notice_text m ≡ line → ⊥
+not_text line n m test same is =
+    false≢true (sym test ∙ (bytes_eq-Decides (notice_text n) line).1 (ap notice_text (some_is n m same) ∙ is))

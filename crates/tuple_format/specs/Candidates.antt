@@ -13,4 +13,5 @@ IsLav field value = (z : ℤ) → is_lav z ≡ true → field ≡ signed_decimal
 
 -- the notice of a kind and three numbers; a segment has at most two digits
 abbrev pub short_candidate : ℕ → ℕ → ℕ → ℕ → Option Notice
-short_candidate kind a b c = if kind == 1 then (if nat_le c 99 then short_notice 1 a b c else None) else short_notice kind a b c
+short_candidate kind a b c =
+    if kind == 1 then (if nat_le c 99 then short_notice 1 a b c else None) else short_notice kind a b c

@@ -1,4 +1,5 @@
-use Rattle.std.specs.Prelude.{ℕ, ◌≡◌, ◌+◌, ◌≤◌, nat_eq, nat_le, is_some, List, length, Option, Some, None, Result, Ok, Err, if◌then◌else◌}
+use Rattle.std.specs.Prelude.{ℕ, ◌≡◌, ◌+◌, ◌≤◌, nat_eq, nat_le, is_some, List, length, Option, Some, None, Result, Ok}
+use Rattle.std.specs.Prelude.{Err, if◌then◌else◌}
 use Rattle.std.specs.Map.{lookup}
 use Rattle.std.specs.Option.{option_map}
 use Rattle.road_time.specs.declared.road.Tuple.{Tuple}
@@ -14,7 +15,8 @@ use Rattle.tuple_format.specs.declared.gatekeeper.AdmitFault.TheVariants.{Refuse
 use Rattle.tuple_format.specs.Causes.{cause_of}
 use Rattle.tuple_format.specs.Recents.{count_in, first_in, noted}
 
--- what a gatekeeper keeps: the limit of vehicles, the lateness, the greatest Time, and of each vehicle that reported the reports of its last minutes
+-- what a gatekeeper keeps: the limit of vehicles, the lateness, the greatest Time, and of each vehicle that reported
+-- the reports of its last minutes
 pub record Gate : Type 0 where
   pub vehicle_limit : ℕ
   pub lateness : ℕ
@@ -30,7 +32,8 @@ abbrev pub count_of : Option Recent → ℕ → ℕ
 count_of None minute = 0
 count_of (Some r) minute = count_in r minute
 
--- a gatekeeper stands for tuples that were accepted, in the order of their lines: their greatest Time, their vehicles, and each one's reports in the minute of the greatest Time and in the two minutes before
+-- a gatekeeper stands for tuples that were accepted, in the order of their lines: their greatest Time, their vehicles,
+-- and each one's reports in the minute of the greatest Time and in the two minutes before
 pub record StandsFor (gate : Gate) (limits : Limits) (late : ℕ) (before : List Tuple) : Type 0 where
   pub vehicle_limit : gate.vehicle_limit ≡ limits.vehicles
   pub lateness : gate.lateness ≡ late
@@ -39,9 +42,11 @@ pub record StandsFor (gate : Gate) (limits : Limits) (late : ℕ) (before : List
   pub vehicles : (vid : ℕ) → is_some (kept_of gate.seen vid) ≡ has (vehicles_seen before) vid
   pub number : length gate.seen ≡ length (vehicles_seen before)
   pub newest : (vid : ℕ) (r : Recent) → kept_of gate.seen vid ≡ Some r → r.minute ≤ minute_of (greatest_time before)
-  pub counts : (vid minute : ℕ) → minute_of (greatest_time before) ≤ minute + 2 → count_of (kept_of gate.seen vid) minute ≡ reports_in_minute before vid minute
+  pub counts : (vid minute : ℕ) → minute_of (greatest_time before) ≤ minute + 2 →
+      count_of (kept_of gate.seen vid) minute ≡ reports_in_minute before vid minute
 
--- an answer is that of the definition: Ok where no fault is found, else its cause; want of memory alone is free, and hides no fault
+-- an answer is that of the definition: Ok where no fault is found, else its cause; want of memory alone is free, and
+-- hides no fault
 abbrev pub Judges : Result (Unit {0}) AdmitFault → Option Fault → Type 0
 Judges (Ok u) fault = fault ≡ None
 Judges (Err (Refused cause)) fault = option_map cause_of fault ≡ Some cause

@@ -27,7 +27,25 @@ moved r minute = record {
 abbrev pub noted : Recent → ℕ → Recent
 noted r minute =
     if nat_lt r.minute minute then moved r minute
-    else if r.minute == minute then record { minute = r.minute; newest = r.newest + 1; before = r.before; earlier = r.earlier }
-    else if r.minute == minute + 1 then record { minute = r.minute; newest = r.newest; before = r.before + 1; earlier = r.earlier }
-    else if r.minute == minute + 2 then record { minute = r.minute; newest = r.newest; before = r.before; earlier = r.earlier + 1 }
+    else if r.minute == minute then record {
+      minute = r.minute;
+      newest = r.newest + 1;
+      before = r.before;
+      earlier =
+          r.earlier;
+    }
+    else if r.minute == minute + 1 then record {
+      minute = r.minute;
+      newest = r.newest;
+      before = r.before + 1;
+      earlier =
+          r.earlier;
+    }
+    else if r.minute == minute + 2 then record {
+      minute = r.minute;
+      newest = r.newest;
+      before = r.before;
+      earlier =
+          r.earlier + 1;
+    }
     else r

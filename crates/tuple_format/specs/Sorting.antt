@@ -10,7 +10,8 @@ pub record Sorting : Type 0 where
   pub greatest : ℕ
   pub waiting : List Tuple
 
--- a sorter stands for the tuples that were put, of which so many of the order of Time were taken; while the end has not come, what was taken stays in its place
+-- a sorter stands for the tuples that were put, of which so many of the order of Time were taken; while the end has
+-- not come, what was taken stays in its place
 pub record IsSorting (s : Sorting) (late : ℕ) (put : List Tuple) (taken : ℕ) (ended : Bool) : Type 0 where
   pub lateness : s.lateness ≡ late
   pub greatest : s.greatest ≡ greatest_time put

@@ -7,10 +7,9 @@ ghost use Rattle.road_time.specs.Reads.{admit_fault};
 ghost use Rattle.tuple_format.specs.Gates.{StandsFor, Judges, kept_of, kept_fault, noted_of};
 
 use crate::cause::Cause;
-use crate::clock::{minute_of, time_of};
 use crate::recent::Recent;
 use indexmap::IndexMap;
-use road_time::{Limits, Tuple};
+use road_time::{Limits, Tuple, minute};
 use std::alloc::Global;
 use std::marker::Model;
 use thiserror::Error;
@@ -118,7 +117,7 @@ impl Gatekeeper {
             → StandsFor self.old limits late before → StandsFor self.new limits late (before ++ tuple.now ∷ [])) }
         ensures kept { OnErr result (self.new ≡ self.old) }
     {
-        let time = time_of(tuple);
+        let time = tuple.time();
         if u64::from(time) + u64::from(self.lateness) < u64::from(self.greatest) {
             return Err(AdmitFault::Refused(Cause::Late(self.greatest, time)));
         }
@@ -127,7 +126,7 @@ impl Gatekeeper {
                 &mut self.seen,
                 &mut self.order,
                 report.vid,
-                minute_of(time),
+                minute(time),
                 self.vehicle_limit,
             )?;
         }

@@ -2,7 +2,6 @@
 #![tactic(auto)]
 
 mod cause;
-mod clock;
 mod ends;
 mod fields;
 mod gatekeeper;

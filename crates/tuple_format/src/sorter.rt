@@ -6,7 +6,6 @@ ghost use Rattle.road_time.specs.Tuples.{time_of as defined_time_of};
 ghost use Rattle.road_time.specs.Order.{by_time, greatest_time};
 ghost use Rattle.tuple_format.specs.Sorting.{IsSorting};
 
-use crate::clock::time_of;
 use crate::waiting::Waiting;
 use road_time::{NoMemory, Tuple};
 use std::alloc::Global;
@@ -50,7 +49,7 @@ impl Sorter {
         ensures kept { OnErr result (self.new ≡ self.old) }
     {
         self.waiting.put(tuple)?;
-        self.greatest = self.greatest.max(time_of(tuple));
+        self.greatest = self.greatest.max(tuple.time());
         Ok(())
     }
 
@@ -66,7 +65,7 @@ impl Sorter {
         ensures kept { IfNone result (self.new ≡ self.old) }
     {
         let first = self.waiting.first()?;
-        if u64::from(time_of(first)) + u64::from(self.lateness) > u64::from(self.greatest) {
+        if u64::from(first.time()) + u64::from(self.lateness) > u64::from(self.greatest) {
             return None;
         }
         let tuple = self.waiting.take()?;

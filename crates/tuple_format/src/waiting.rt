@@ -4,7 +4,6 @@ ghost use Rattle.std.specs.Map.{values_of};
 ghost use Rattle.road_time.specs.Order.{placed};
 ghost use Rattle.tuple_format.specs.Turns.{Keyed};
 
-use crate::clock::time_of;
 use road_time::{NoMemory, Tuple};
 use std::alloc::Global;
 use std::collections::BTreeMap;
@@ -48,7 +47,7 @@ fn place(turns: &mut BTreeMap<Turn, Tuple>, count: &mut u64, tuple: &Tuple) -> R
         return Err(NoMemory);
     };
     let turn = Turn {
-        time: time_of(tuple),
+        time: tuple.time(),
         number: *count,
     };
     turns.insert(turn, *tuple)?;

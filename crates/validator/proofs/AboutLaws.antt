@@ -1,5 +1,6 @@
 -- an accident in a stretch and a minute, by the halts about them
-use Rattle.std.proofs.Common.{◌≡◌, ℕ, ◌+◌, ◌≤◌, ◌<◌, ◌==◌, ◌&&◌, nat_le, nat_lt, true, List, refl, sym, ap, ◌∙◌, arith, Option, Some, None}
+use Rattle.std.proofs.Common.{◌≡◌, ℕ, ◌+◌, ◌≤◌, ◌<◌, ◌==◌, ◌&&◌, nat_le, nat_lt, true, List, refl, sym, ap, ◌∙◌, arith}
+use Rattle.std.proofs.Common.{Option, Some, None}
 use Rattle.std.specs.List.{filter}
 use Rattle.std.proofs.lemmas.Bool.{and_parts, and_from, leb-true, ltb-true, lt-ltb}
 use Rattle.road_time.specs.declared.road.Stretch.{Stretch}
@@ -18,7 +19,8 @@ before_start start t None h e = refl
 before_start start t (Some n) h e = lt-ltb start n (omega (arith, h, ltb-true t n e))
 
 -- a halt of the stretch that covers a second of the minute is about them
-about : (start t : ℕ) (k : Stretch) (v : ℕ) (p : Place) (h : Halt) → start ≤ t → t < start + 60 → same_stretch (stretch_around p) k ≡ true →
+about : (start t : ℕ) (k : Stretch) (v : ℕ) (p : Place) (h : Halt) → start ≤ t → t < start + 60 →
+    same_stretch (stretch_around p) k ≡ true →
     (covers t h && (h.vid == v && same_place h.place p)) ≡ true → is_about start k h ≡ true
 about start t k v p h low high e f =
     let one = and_parts (covers t h) (h.vid == v && same_place h.place p) f in
@@ -26,16 +28,22 @@ about start t k v p h low high e f =
     let three = and_parts (h.vid == v) (same_place h.place p) one.1 in
     and_from (same_stretch (stretch_around h.place) k) (nat_lt h.from (start + 60) && is_before start h.to)
     (ap (λ q. same_stretch (stretch_around q) k) (place_is h.place p three.1) ∙ e)
-    (and_from (nat_lt h.from (start + 60)) (is_before start h.to) (lt-ltb h.from (start + 60) (omega (arith, leb-true h.from t two.0, high))) (before_start start t h.to low two.1))
+    (and_from (nat_lt h.from (start + 60)) (is_before start h.to)
+    (lt-ltb h.from (start + 60) (omega (arith, leb-true h.from t two.0, high)))
+    (before_start start t h.to low two.1))
 
 module _ (hs : List Halt) (start t : ℕ) (k : Stretch) (low : start ≤ t) (high : t < start + 60) where
-  halts_same : (v : ℕ) (p : Place) → same_stretch (stretch_around p) k ≡ true → halts_at (filter (is_about start k) hs) t v p ≡ halts_at hs t v p
+  halts_same : (v : ℕ) (p : Place) → same_stretch (stretch_around p) k ≡ true →
+      halts_at (filter (is_about start k) hs) t v p ≡ halts_at hs t v p
   halts_same v p e =
       any_filter (λ h. covers t h && (h.vid == v && same_place h.place p)) (is_about start k) hs
-      ∙ any_alike (λ h. is_about start k h && (covers t h && (h.vid == v && same_place h.place p))) (λ h. covers t h && (h.vid == v && same_place h.place p))
-      (λ h. both (is_about start k h && (covers t h && (h.vid == v && same_place h.place p))) (covers t h && (h.vid == v && same_place h.place p))
+      ∙ any_alike (λ h. is_about start k h && (covers t h && (h.vid == v && same_place h.place p)))
+      (λ h. covers t h && (h.vid == v && same_place h.place p))
+      (λ h. both (is_about start k h && (covers t h && (h.vid == v && same_place h.place p)))
+      (covers t h && (h.vid == v && same_place h.place p))
       (λ g. (and_parts (is_about start k h) (covers t h && (h.vid == v && same_place h.place p)) g).1)
-      (λ g. and_from (is_about start k h) (covers t h && (h.vid == v && same_place h.place p)) (about start t k v p h low high e g) g)) hs
+      (λ g. and_from (is_about start k h) (covers t h && (h.vid == v && same_place h.place p))
+      (about start t k v p h low high e g) g)) hs
 
   -- those halts decide
   pub accident_about : has_accident (halting (filter (is_about start k) hs) t) k ≡ has_accident (halting hs t) k

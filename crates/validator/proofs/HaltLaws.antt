@@ -1,5 +1,6 @@
 -- who stands at the end of a second, by when each vehicle stands where
-use Rattle.std.proofs.Common.{◌≡◌, ℕ, ◌≤◌, ◌==◌, ◌&&◌, ◌||◌, nat_le, nat_lt, Bool, true, false, cond, List, [], ◌∷◌, ◌++◌, map, reverse, refl, sym, ap, ◌∙◌, arith, Option, Some}
+use Rattle.std.proofs.Common.{◌≡◌, ℕ, ◌≤◌, ◌==◌, ◌&&◌, ◌||◌, nat_le, nat_lt, Bool, true, false, cond, List, [], ◌∷◌}
+use Rattle.std.proofs.Common.{◌++◌, map, reverse, refl, sym, ap, ◌∙◌, arith, Option, Some}
 use Rattle.std.specs.List.{filter, list_any, AllByRecursion}
 use Rattle.std.proofs.lemmas.List.{reverse-append, append-nil}
 use Rattle.std.proofs.lemmas.List.Elements.{filter-append}
@@ -21,14 +22,16 @@ use Rattle.road_time.proofs.StandLaws.{near_in, same_stop, is_among, stops_among
 use Rattle.road_time.proofs.EachLaws.{turned, joined, weakened}
 use Rattle.validator.specs.declared.halts.Mark.{Mark}
 use Rattle.validator.specs.declared.halts.Halt.{Halt}
-use Rattle.validator.specs.Halts.{of_vehicle, mark_of, marks_of, next_time, halt_if, halts_after, halts_of, is_before, covers, halting, Fall}
+use Rattle.validator.specs.Halts.{of_vehicle, mark_of, marks_of, next_time, halt_if, halts_after, halts_of, is_before}
+use Rattle.validator.specs.Halts.{covers, halting, Fall}
 
 -- reversed lists
 
 pub filter_turned : {X : Type 0} (p : X → Bool) (xs : List X) → filter p (reverse xs) ≡ reverse (filter p xs)
 filter_turned p [] = refl
 filter_turned p (x ∷ xs) =
-    ap (filter p) (reverse-append (x ∷ []) xs) ∙ filter-append p (reverse xs) (x ∷ []) ∙ ap (λ ys. ys ++ filter p (x ∷ [])) (filter_turned p xs) ∙ step (p x)
+    ap (filter p) (reverse-append (x ∷ []) xs) ∙ filter-append p (reverse xs) (x ∷ [])
+    ∙ ap (λ ys. ys ++ filter p (x ∷ [])) (filter_turned p xs) ∙ step (p x)
   where
     step : (b : Bool) → reverse (filter p xs) ++ cond b (x ∷ []) [] ≡ reverse (cond b (x ∷ filter p xs) (filter p xs))
     step true = sym (reverse-append (x ∷ []) (filter p xs))
@@ -50,7 +53,8 @@ pub fall_turned : (day : List Tuple) → InOrder day → Fall (reverse (reports 
 fall_turned [] h = tt
 fall_turned (ReportTuple r ∷ xs) h =
     let e : reverse (r ∷ reports xs) ≡ reverse (reports xs) ++ r ∷ [] = reverse-append (r ∷ []) (reports xs) in
-    rw e (fall_more (reverse (reports xs)) r (fall_turned xs h.1) (turned (λ y. r.time ≤ y.time) (reports xs) (none_before r.time xs h.0)))
+    rw e (fall_more (reverse (reports xs)) r (fall_turned xs h.1)
+    (turned (λ y. r.time ≤ y.time) (reports xs) (none_before r.time xs h.0)))
 fall_turned (Balance time vid qid ∷ xs) h = fall_turned xs h.1
 fall_turned (Spent time vid xway qid day ∷ xs) h = fall_turned xs h.1
 fall_turned (Travel time ∷ xs) h = fall_turned xs h.1
@@ -59,12 +63,14 @@ fall_turned (Travel time ∷ xs) h = fall_turned xs h.1
 abbrev pub halts_at : List Halt → ℕ → ℕ → Place → Bool
 halts_at hs t v p = list_any (λ h. covers t h && (h.vid == v && same_place h.place p)) hs
 
-pub any_map : {X Y : Type 0} (r : Y → Bool) (f : X → Y) (xs : List X) → list_any r (map f xs) ≡ list_any (λ x. r (f x)) xs
+pub any_map : {X Y : Type 0} (r : Y → Bool) (f : X → Y) (xs : List X) →
+    list_any r (map f xs) ≡ list_any (λ x. r (f x)) xs
 any_map r f [] = refl
 any_map r f (x ∷ xs) = ap (λ z. r (f x) || z) (any_map r f xs)
 
 pub halting_among : (hs : List Halt) (t : ℕ) (s : Stop) → is_among (halting hs t) s ≡ halts_at hs t s.0 s.1
-halting_among hs t s = any_map (λ x. same_stop x s) (λ h. (h.vid, h.place)) (filter (covers t) hs) ∙ any_filter (λ h. h.vid == s.0 && same_place h.place s.1) (covers t) hs
+halting_among hs t s = any_map (λ x. same_stop x s) (λ h. (h.vid, h.place)) (filter (covers t) hs)
+    ∙ any_filter (λ h. h.vid == s.0 && same_place h.place s.1) (covers t) hs
 
 module _ (t v : ℕ) (p : Place) where
   abbrev here : ℕ → Report → Option ℕ → Bool
@@ -79,10 +85,14 @@ module _ (t v : ℕ) (p : Place) where
 
   split : (later : List Mark) (r : Report) (older : List Report) →
       halts_at (halts_after later (marks_of (r ∷ older))) t v p
-      ≡ (((mark_of r older).stands && here t r (next_time later r.vid)) || halts_at (halts_after (mark_of r older ∷ later) (marks_of older)) t v p)
+      ≡ (((mark_of r older).stands && here t r (next_time later r.vid)) || halts_at
+      (halts_after (mark_of r older ∷ later) (marks_of older)) t v p)
   split later r older =
-      list_any-append (λ h. covers t h && (h.vid == v && same_place h.place p)) (halt_if (mark_of r older).stands r (next_time later r.vid)) (halts_after (mark_of r older ∷ later) (marks_of older))
-      ∙ ap (λ b. b || halts_at (halts_after (mark_of r older ∷ later) (marks_of older)) t v p) (one (mark_of r older).stands r (next_time later r.vid))
+      list_any-append (λ h. covers t h && (h.vid == v && same_place h.place p))
+      (halt_if (mark_of r older).stands r (next_time later r.vid))
+      (halts_after (mark_of r older ∷ later) (marks_of older))
+      ∙ ap (λ b. b || halts_at (halts_after (mark_of r older ∷ later) (marks_of older)) t v p)
+      (one (mark_of r older).stands r (next_time later r.vid))
 
   other_here : (b : Bool) (r : Report) (to : Option ℕ) → (r.vid == v) ≡ false → (b && here t r to) ≡ false
   other_here b r to e = rw e (off b (nat_le r.time t && is_before t to))
@@ -106,13 +116,17 @@ module _ (t v : ℕ) (p : Place) where
   not_before n h = grind (arith, nat_tests)
 
   -- no stand of a vehicle that was reported again by then
-  never : (later : List Mark) (nf : List Report) → AllByRecursion (λ x. x.time ≤ t) nf → is_before t (next_time later v) ≡ false → halts_at (halts_after later (marks_of nf)) t v p ≡ false
+  never : (later : List Mark) (nf : List Report) → AllByRecursion (λ x. x.time ≤ t) nf →
+      is_before t (next_time later v) ≡ false → halts_at (halts_after later (marks_of nf)) t v p ≡ false
   never later [] h e = refl
   never later (r ∷ older) h e =
-      split later r older ∙ or_from _ _ (first (r.vid == v) refl) (never (mark_of r older ∷ later) older h.1 (next (r.vid == v)))
+      split later r older
+      ∙ or_from _ _ (first (r.vid == v) refl) (never (mark_of r older ∷ later) older h.1 (next (r.vid == v)))
     where
       first : (b : Bool) → (r.vid == v) ≡ b → ((mark_of r older).stands && here t r (next_time later r.vid)) ≡ false
-      first true same = past_here (mark_of r older).stands r (next_time later r.vid) (ap (λ w. is_before t (next_time later w)) (eqb-true r.vid v same) ∙ e)
+      first true same =
+          past_here (mark_of r older).stands r (next_time later r.vid)
+          (ap (λ w. is_before t (next_time later w)) (eqb-true r.vid v same) ∙ e)
       first false other = other_here (mark_of r older).stands r (next_time later r.vid) other
 
       next : (b : Bool) → is_before t (cond b (Some r.time) (next_time later v)) ≡ false
@@ -126,7 +140,8 @@ module _ (t v : ℕ) (p : Place) where
   all_past [] h = refl
   all_past (x ∷ xs) h = cond-true (nat_le x.time t) _ _ (le-leb x.time t h.0) ∙ ap (λ ys. x ∷ ys) (all_past xs h.1)
 
-  stand_at : (r : Report) (own : List Report) → (stands (r ∷ own) (place_of r) && same_place (place_of r) p) ≡ stands (r ∷ own) p
+  stand_at : (r : Report) (own : List Report) →
+      (stands (r ∷ own) (place_of r) && same_place (place_of r) p) ≡ stands (r ∷ own) p
   stand_at r own = step (same_place (place_of r) p) refl
     where
       on : (b : Bool) → (b && true) ≡ b
@@ -135,12 +150,16 @@ module _ (t v : ℕ) (p : Place) where
       off : (b : Bool) → (b && false) ≡ false
       off b = grind arith
 
-      step : (b : Bool) → same_place (place_of r) p ≡ b → (stands (r ∷ own) (place_of r) && same_place (place_of r) p) ≡ stands (r ∷ own) p
-      step true e = ap (λ b. stands (r ∷ own) (place_of r) && b) e ∙ on (stands (r ∷ own) (place_of r)) ∙ ap (stands (r ∷ own)) (place_is (place_of r) p e)
-      step false e = ap (λ b. stands (r ∷ own) (place_of r) && b) e ∙ off (stands (r ∷ own) (place_of r)) ∙ sym (stands_elsewhere r own p e)
+      step : (b : Bool) → same_place (place_of r) p ≡ b →
+          (stands (r ∷ own) (place_of r) && same_place (place_of r) p) ≡ stands (r ∷ own) p
+      step true e = ap (λ b. stands (r ∷ own) (place_of r) && b) e ∙ on (stands (r ∷ own) (place_of r))
+          ∙ ap (stands (r ∷ own)) (place_is (place_of r) p e)
+      step false e = ap (λ b. stands (r ∷ own) (place_of r) && b) e ∙ off (stands (r ∷ own) (place_of r))
+          ∙ sym (stands_elsewhere r own p e)
 
   -- the stands that are kept are those of the reports
-  standing : (later : List Mark) (nf : List Report) → Fall nf → is_before t (next_time later v) ≡ true → halts_at (halts_after later (marks_of nf)) t v p ≡ stands (of_vehicle v (past nf)) p
+  standing : (later : List Mark) (nf : List Report) → Fall nf → is_before t (next_time later v) ≡ true →
+      halts_at (halts_after later (marks_of nf)) t v p ≡ stands (of_vehicle v (past nf)) p
   standing later [] h e = refl
   standing later (r ∷ older) h e =
       split later r older ∙ step (r.vid == v) refl (nat_le r.time t) refl (standing (mark_of r older ∷ later) older h.1)
@@ -157,45 +176,67 @@ module _ (t v : ℕ) (p : Place) where
           only : (a : Bool) → (a || false) ≡ a
           only a = grind arith
 
-      drop_other : (b : Bool) → (r.vid == v) ≡ false → of_vehicle v (cond b (r ∷ past older) (past older)) ≡ of_vehicle v (past older)
+      drop_other : (b : Bool) → (r.vid == v) ≡ false →
+          of_vehicle v (cond b (r ∷ past older) (past older)) ≡ of_vehicle v (past older)
       drop_other true g = cond-false (r.vid == v) _ _ g
       drop_other false g = refl
 
-      here_now : (r.vid == v) ≡ true → nat_le r.time t ≡ true → (stands (r ∷ of_vehicle r.vid older) (place_of r) && here t r (next_time later r.vid)) ≡ stands (of_vehicle v (r ∷ past older)) p
+      here_now : (r.vid == v) ≡ true → nat_le r.time t ≡ true →
+          (stands (r ∷ of_vehicle r.vid older) (place_of r) && here t r (next_time later r.vid)) ≡ stands
+          (of_vehicle v (r ∷ past older)) p
       here_now same le =
           let is : r.vid ≡ v = eqb-true r.vid v same in
           let first : is_before t (next_time later r.vid) ≡ true = ap (λ w. is_before t (next_time later w)) is ∙ e in
-          let all : past older ≡ older = all_past older (weakened (λ x. x.time ≤ r.time) (λ x. x.time ≤ t) (λ x g. omega (arith, g, leb-true r.time t le)) older h.0) in
-          rw (le, first, same) (lone (stands (r ∷ of_vehicle r.vid older) (place_of r)) (same_place (place_of r) p)) ∙ stand_at r (of_vehicle r.vid older)
-          ∙ ap (λ w. stands (r ∷ of_vehicle w older) p) is ∙ sym (ap (λ rs. stands rs p) (cond-true (r.vid == v) _ _ same ∙ ap (λ xs. r ∷ of_vehicle v xs) all))
+          let all : past older ≡ older =
+          all_past older
+          (weakened (λ x. x.time ≤ r.time) (λ x. x.time ≤ t) (λ x g. omega (arith, g, leb-true r.time t le)) older
+          h.0) in
+          rw (le, first, same) (lone (stands (r ∷ of_vehicle r.vid older) (place_of r)) (same_place (place_of r) p))
+          ∙ stand_at r (of_vehicle r.vid older)
+          ∙ ap (λ w. stands (r ∷ of_vehicle w older) p) is
+          ∙ sym (ap (λ rs. stands rs p) (cond-true (r.vid == v) _ _ same ∙ ap (λ xs. r ∷ of_vehicle v xs) all))
         where
           lone : (a b : Bool) → (a && ((true && true) && (true && b))) ≡ (a && b)
           lone a b = refl
 
-      step : (b : Bool) → (r.vid == v) ≡ b → (c : Bool) → nat_le r.time t ≡ c → (is_before t (cond (r.vid == v) (Some r.time) (next_time later v)) ≡ true → rest ≡ stands (of_vehicle v (past older)) p) →
-          (((mark_of r older).stands && here t r (next_time later r.vid)) || rest) ≡ stands (of_vehicle v (cond (nat_le r.time t) (r ∷ past older) (past older))) p
+      step : (b : Bool) → (r.vid == v) ≡ b → (c : Bool) → nat_le r.time t ≡ c →
+          (is_before t (cond (r.vid == v) (Some r.time) (next_time later v)) ≡ true →
+          rest ≡ stands (of_vehicle v (past older)) p) →
+          (((mark_of r older).stands && here t r (next_time later r.vid)) || rest) ≡ stands
+          (of_vehicle v (cond (nat_le r.time t) (r ∷ past older) (past older))) p
       step false other c f ih =
-          nothing ((mark_of r older).stands && here t r (next_time later r.vid)) rest (other_here (mark_of r older).stands r (next_time later r.vid) other)
-          ∙ ih (ap (λ b. is_before t (cond b (Some r.time) (next_time later v))) other ∙ e) ∙ sym (ap (λ xs. stands xs p) (drop_other (nat_le r.time t) other))
+          nothing ((mark_of r older).stands && here t r (next_time later r.vid)) rest
+          (other_here (mark_of r older).stands r (next_time later r.vid) other)
+          ∙ ih (ap (λ b. is_before t (cond b (Some r.time) (next_time later v))) other ∙ e)
+          ∙ sym (ap (λ xs. stands xs p) (drop_other (nat_le r.time t) other))
       step true same false f ih =
-          nothing ((mark_of r older).stands && here t r (next_time later r.vid)) rest (early_here (mark_of r older).stands r (next_time later r.vid) f)
-          ∙ ih (ap (λ b. is_before t (cond b (Some r.time) (next_time later v))) same ∙ later_than r.time f) ∙ sym (ap (λ b. stands (of_vehicle v (cond b (r ∷ past older) (past older))) p) f)
+          nothing ((mark_of r older).stands && here t r (next_time later r.vid)) rest
+          (early_here (mark_of r older).stands r (next_time later r.vid) f)
+          ∙ ih (ap (λ b. is_before t (cond b (Some r.time) (next_time later v))) same ∙ later_than r.time f)
+          ∙ sym (ap (λ b. stands (of_vehicle v (cond b (r ∷ past older) (past older))) p) f)
         where
           later_than : (n : ℕ) → nat_le n t ≡ false → nat_lt t n ≡ true
           later_than n g = grind (arith, nat_tests)
       step true same true f ih =
           keep ((mark_of r older).stands && here t r (next_time later r.vid)) rest
-          (never (mark_of r older ∷ later) older (weakened (λ x. x.time ≤ r.time) (λ x. x.time ≤ t) (λ x g. omega (arith, g, leb-true r.time t f)) older h.0)
-          (ap (λ b. is_before t (cond b (Some r.time) (next_time later v))) same ∙ not_before r.time (leb-true r.time t f)))
+          (never (mark_of r older ∷ later) older
+          (weakened (λ x. x.time ≤ r.time) (λ x. x.time ≤ t) (λ x g. omega (arith, g, leb-true r.time t f)) older
+          h.0)
+          (ap (λ b. is_before t (cond b (Some r.time) (next_time later v))) same
+          ∙ not_before r.time (leb-true r.time t f)))
           ∙ here_now same f ∙ sym (ap (λ b. stands (of_vehicle v (cond b (r ∷ past older) (past older))) p) f)
 
 -- who stands, by the halts, is who is stopped
-pub halts_among : (day : List Tuple) → InOrder day → (t : ℕ) (s : Stop) → is_among (halting (halts_of (reports day)) t) s ≡ is_among (stops_at (reports day) t) s
+pub halts_among : (day : List Tuple) → InOrder day → (t : ℕ) (s : Stop) →
+    is_among (halting (halts_of (reports day)) t) s ≡ is_among (stops_at (reports day) t) s
 halts_among day order t s =
-    halting_among (halts_of (reports day)) t s ∙ standing t s.0 s.1 [] (reverse (reports day)) (fall_turned day order) refl
+    halting_among (halts_of (reports day)) t s
+    ∙ standing t s.0 s.1 [] (reverse (reports day)) (fall_turned day order) refl
     ∙ ap (λ rs. stands (of_vehicle s.0 rs) s.1) (filter_turned (λ x. nat_le x.time t) (reports day))
     ∙ sym (stops_among (up_to t (reports day)) s)
 
 -- and so are the accidents
-pub near_halts : (day : List Tuple) → InOrder day → (m : ℕ) (k : Stretch) → near (halting (halts_of (reports day))) m k ≡ near_at (reports day) m k
-near_halts day order m k = near_in (halting (halts_of (reports day))) (stops_at (reports day)) m k (λ t s e. halts_among day order t s)
+pub near_halts : (day : List Tuple) → InOrder day → (m : ℕ) (k : Stretch) →
+    near (halting (halts_of (reports day))) m k ≡ near_at (reports day) m k
+near_halts day order m k =
+    near_in (halting (halts_of (reports day))) (stops_at (reports day)) m k (λ t s e. halts_among day order t s)

@@ -1,6 +1,5 @@
 pub mod SeenLaws
 pub mod MeanLaws
-pub mod NearLaws
 pub mod OwedLaws
 pub mod OutputLaws
 pub mod SpotLaws

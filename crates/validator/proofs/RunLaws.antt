@@ -1,45 +1,43 @@
 -- in how many reports in a row a vehicle was at a place
-use Rattle.std.proofs.Common.{◌≡◌, ℕ, ◌+◌, ◌==◌, nat_le, min, true, List, [], ◌∷◌, refl, sym, ap, ◌∙◌, arith, Option, Some}
-use Rattle.std.specs.List.{prefix_len}
+use Rattle.std.proofs.Common.{◌≡◌, ℕ, ◌+◌, ◌==◌, nat_le, min, true, List, [], ◌∷◌, refl, sym, ap, ◌∙◌, arith, Option}
+use Rattle.std.proofs.Common.{Some}
 use Rattle.std.proofs.lemmas.Bool.{cond-true}
 use Rattle.std.proofs.lemmas.Bool.Decides.{nat_tests}
 use Rattle.road_time.specs.declared.road.Report.{Report}
 use Rattle.road_time.specs.declared.road.Place.{Place}
 use Rattle.road_time.specs.Tuples.{place_of, same_place}
-use Rattle.road_time.specs.Stops.{stands}
+use Rattle.road_time.specs.Stops.{run_at, stands}
 use Rattle.road_time.proofs.SameLaws.{place_is, place_same}
+use Rattle.road_time.proofs.RunLaws.{run_more, min_four}
 use Rattle.road_time.proofs.EachLaws.{some_is, no_some}
 use Rattle.validator.specs.declared.halts.Seen.{Seen}
 use Rattle.validator.specs.Halts.{kept}
 
--- how many of the newest reports are at a place
-abbrev pub run_at : List Report → Place → ℕ
-run_at own p = prefix_len (λ s. same_place (place_of s) p) own
-
-seen_made : {p q : Place} {m n : ℕ} → p ≡ q → m ≡ n → ◌≡◌ {A = Option Seen} (Some (record { place = p; run = m })) (Some (record { place = q; run = n }))
+seen_made : {p q : Place} {m n : ℕ} → p ≡ q → m ≡ n →
+    ◌≡◌ {A = Option Seen} (Some (record { place = p; run = m })) (Some (record { place = q; run = n }))
 seen_made e f = rw (e, f) refl
 
-min_more : (n : ℕ) → min 4 (1 + n) ≡ min 4 (1 + min 4 n)
-min_more n = omega arith
-
-min_four : (n : ℕ) → (min 4 n == 4) ≡ nat_le 4 n
-min_four n = grind (arith, nat_tests)
-
 -- what is kept is the newest place, and the run there
-pub kept_is : (own : List Report) (r : Report) (now : Seen) → kept (r ∷ own) ≡ Some now → (now.place ≡ place_of r) × (now.run ≡ min 4 (run_at (r ∷ own) (place_of r)))
-kept_is own r now h = (ap (λ s. s.place) (sym (some_is (record { place = place_of r; run = min 4 (run_at (r ∷ own) (place_of r)) }) now h)), ap (λ s. s.run) (sym (some_is (record { place = place_of r; run = min 4 (run_at (r ∷ own) (place_of r)) }) now h)))
+pub kept_is : (own : List Report) (r : Report) (now : Seen) → kept (r ∷ own) ≡ Some now → (now.place ≡ place_of r)
+    × (now.run ≡ min 4 (run_at (r ∷ own) (place_of r)))
+kept_is own r now h = (
+  ap (λ s. s.place)
+      (sym (some_is (record { place = place_of r; run = min 4 (run_at (r ∷ own) (place_of r)) }) now h)),
+  ap (λ s. s.run)
+      (sym (some_is (record { place = place_of r; run = min 4 (run_at (r ∷ own) (place_of r)) }) now h)),
+)
 
 -- one more of a run
-pub kept_more : (own : List Report) (r : Report) (here : Place) (last : Seen) (n : ℕ) → kept own ≡ Some last → place_of r ≡ here → same_place last.place here ≡ true → min 4 (1 + last.run) ≡ n →
+pub kept_more : (own : List Report) (r : Report) (here : Place) (last : Seen) (n : ℕ) → kept own ≡ Some last →
+    place_of r ≡ here → same_place last.place here ≡ true → min 4 (1 + last.run) ≡ n →
     kept (r ∷ own) ≡ Some (record { place = here; run = n })
 kept_more [] r here last n k e h f = absurd (no_some last k)
 kept_more (prev ∷ older) r here last n k e h f =
     let was = kept_is older prev last k in
-    let same : place_of prev ≡ here = sym was.0 ∙ place_is last.place here h in
     seen_made e
-    (ap (min 4) (cond-true (same_place (place_of r) (place_of r)) (1 + run_at (prev ∷ older) (place_of r)) 0 (place_same (place_of r)) ∙ ap (λ p. 1 + run_at (prev ∷ older) p) (e ∙ sym same))
-    ∙ min_more (run_at (prev ∷ older) (place_of prev)) ∙ ap (λ m. min 4 (1 + m)) (sym was.1) ∙ f)
+    (run_more prev r older here e (sym was.0 ∙ place_is last.place here h) ∙ ap (λ m. min 4 (1 + m)) (sym was.1) ∙ f)
 
 -- a run of four is a stand
-pub run_stands : (own : List Report) (r : Report) (now : Seen) → kept (r ∷ own) ≡ Some now → (now.run == 4) ≡ stands (r ∷ own) (place_of r)
+pub run_stands : (own : List Report) (r : Report) (now : Seen) → kept (r ∷ own) ≡ Some now →
+    (now.run == 4) ≡ stands (r ∷ own) (place_of r)
 run_stands own r now h = ap (λ n. n == 4) (kept_is own r now h).1 ∙ min_four (run_at (r ∷ own) (place_of r))

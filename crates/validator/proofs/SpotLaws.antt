@@ -12,7 +12,8 @@ use Rattle.validator.specs.declared.found.Found.{Found}
 use Rattle.validator.specs.Gathered.{same_spot}
 use Rattle.validator.specs.Findings.{finding_on, shown_found}
 
-spot_made : {m m' : ℕ} {k k' : Stretch} → m ≡ m' → k ≡ k' → ◌≡◌ {A = Spot} (record { minute = m; stretch = k }) (record { minute = m'; stretch = k' })
+spot_made : {m m' : ℕ} {k k' : Stretch} → m ≡ m' → k ≡ k' →
+    ◌≡◌ {A = Spot} (record { minute = m; stretch = k }) (record { minute = m'; stretch = k' })
 spot_made p q = rw (p, q) refl
 
 -- spots that test as the same are equal
@@ -24,10 +25,13 @@ spot_is a b h =
 -- one spot more
 pub known_more : (rs : List Report) (tariffs : Tariffs) (before after : Spot → Option Found) (s : Spot) (f : Found) →
     ((t : Spot) (g : Found) → before t ≡ Some g → shown_found g ≡ finding_on rs tariffs t.minute t.stretch) →
-    ((t : Spot) → after t ≡ cond (same_spot s t) (Some f) (before t)) → shown_found f ≡ finding_on rs tariffs s.minute s.stretch →
+    ((t : Spot) → after t ≡ cond (same_spot s t) (Some f) (before t)) →
+    shown_found f ≡ finding_on rs tariffs s.minute s.stretch →
     (t : Spot) (g : Found) → after t ≡ Some g → shown_found g ≡ finding_on rs tariffs t.minute t.stretch
 known_more rs tariffs before after s f known now exact t g e = step (same_spot s t) refl (sym (now t) ∙ e)
   where
-    step : (b : Bool) → same_spot s t ≡ b → cond b (Some f) (before t) ≡ Some g → shown_found g ≡ finding_on rs tariffs t.minute t.stretch
-    step true same h = ap shown_found (sym (some_is f g h)) ∙ exact ∙ ap (λ x. finding_on rs tariffs x.minute x.stretch) (spot_is s t same)
+    step : (b : Bool) → same_spot s t ≡ b → cond b (Some f) (before t) ≡ Some g →
+        shown_found g ≡ finding_on rs tariffs t.minute t.stretch
+    step true same h = ap shown_found (sym (some_is f g h)) ∙ exact
+        ∙ ap (λ x. finding_on rs tariffs x.minute x.stretch) (spot_is s t same)
     step false same h = known t g h

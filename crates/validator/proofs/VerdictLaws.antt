@@ -11,7 +11,8 @@ take_get (suc i) [] = refl
 take_get (suc i) (x ∷ xs) = ap (λ ys. x ∷ ys) (take_get i xs)
 
 -- they agree one element further
-pub agree_more : {X : Type 0} (i : ℕ) (xs ys : List X) → take i xs ≡ take i ys → slice_get xs i ≡ slice_get ys i → take (i + 1) xs ≡ take (i + 1) ys
+pub agree_more : {X : Type 0} (i : ℕ) (xs ys : List X) → take i xs ≡ take i ys → slice_get xs i ≡ slice_get ys i →
+    take (i + 1) xs ≡ take (i + 1) ys
 agree_more i xs ys e f =
     let more : i + 1 ≡ suc i = omega arith in
     rw (more, take_get i xs, take_get i ys, e, f) refl

@@ -46,7 +46,8 @@ shown_charge c = record { vid = c.vid; xway = c.xway; toll = c.toll }
 -- what one more report charges
 abbrev pub charge_after : Option Account → Report → List Charge
 charge_after None r = []
-charge_after (Some a) r = if is_charged (Some a.newest) r then record { vid = r.vid; xway = a.newest.xway; toll = a.toll } ∷ [] else []
+charge_after (Some a) r =
+    if is_charged (Some a.newest) r then record { vid = r.vid; xway = a.newest.xway; toll = a.toll } ∷ [] else []
 
 -- the toll told at a report, if it is told, else the one before
 abbrev pub toll_if : Bool → Finding → ℕ → ℕ

@@ -23,11 +23,12 @@ shown_found f = record { lav = f.lav; toll = f.toll; alert = f.alert }
 
 -- what was found of spots is what the rules find there
 abbrev pub Known : {S : Type 0} → List Report → Tariffs → HashMap Spot Found S → Type 0
-Known reports tariffs found = (s : Spot) (f : Found) → get same_spot found s ≡ Some f → shown_found f ≡ finding_on reports tariffs s.minute s.stretch
+Known reports tariffs found = (s : Spot) (f : Found) → get same_spot found s ≡ Some f →
+    shown_found f ≡ finding_on reports tariffs s.minute s.stretch
 
--- an average of at most 100
-abbrev pub IsSmall : Option Frac → Type 0
-IsSmall average = (f : Frac) → average ≡ Some f → (1 ≤ f.den) × (f.num ≤ 100 * f.den)
+-- an average of speeds: at most 100
+abbrev pub IsMeanSpeed : Option Frac → Type 0
+IsMeanSpeed average = (f : Frac) → average ≡ Some f → (1 ≤ f.den) × (f.num ≤ 100 * f.den)
 
 -- what the code tells, as the definitions have it
 abbrev pub shown_told : Option Found → Option Finding

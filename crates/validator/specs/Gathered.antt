@@ -35,4 +35,5 @@ listed (Some there) = there.items
 -- what is put together of a day is of its tuples
 pub record IsGathered (gathered : Gathered) : Type 0 where
   pub by_spot : (s : Spot) → listed (get same_spot gathered.by_spot s) ≡ filter (is_of s) gathered.tuples.now
-  pub halts : (k : Stretch) → listed (get same_stretch gathered.halts k) ≡ filter (is_in k) (halts_of (reports gathered.tuples.now))
+  pub halts : (k : Stretch) →
+      listed (get same_stretch gathered.halts k) ≡ filter (is_in k) (halts_of (reports gathered.tuples.now))

@@ -1,10 +1,11 @@
-use Rattle.std.specs.Prelude.{ℕ, ◌≤◌, ◌+◌, ◌==◌, ◌&&◌, nat_le, nat_lt, min, Bool, true, false, List, [], ◌∷◌, ◌++◌, map, reverse, Option, Some, None, if◌then◌else◌}
-use Rattle.std.specs.List.{filter, prefix_len, AllByRecursion}
+use Rattle.std.specs.Prelude.{ℕ, ◌≤◌, ◌+◌, ◌==◌, ◌&&◌, nat_le, nat_lt, min, Bool, true, false, List, [], ◌∷◌, ◌++◌, map}
+use Rattle.std.specs.Prelude.{reverse, Option, Some, None, if◌then◌else◌}
+use Rattle.std.specs.List.{filter, AllByRecursion}
 use Rattle.road_time.specs.declared.road.Report.{Report}
 use Rattle.road_time.specs.declared.road.Place.{Place}
 use Rattle.road_time.specs.declared.road.Stretch.{Stretch}
 use Rattle.road_time.specs.Tuples.{place_of, same_place, stretch_around, same_stretch}
-use Rattle.road_time.specs.Stops.{stands, Stop}
+use Rattle.road_time.specs.Stops.{run_at, stands, Stop}
 use Rattle.validator.specs.declared.halts.Seen.{Seen}
 use Rattle.validator.specs.declared.halts.Mark.{Mark}
 use Rattle.validator.specs.declared.halts.Halt.{Halt}
@@ -12,7 +13,7 @@ use Rattle.validator.specs.declared.halts.Halt.{Halt}
 -- of a vehicle's reports, the newest first: the place of the newest, and how many of the newest are there, up to four
 abbrev pub kept : List Report → Option Seen
 kept [] = None
-kept (r ∷ older) = Some (record { place = place_of r; run = min 4 (prefix_len (λ s. same_place (place_of s) (place_of r)) (r ∷ older)) })
+kept (r ∷ older) = Some (record { place = place_of r; run = min 4 (run_at (r ∷ older) (place_of r)) })
 
 -- the reports of a vehicle
 abbrev pub of_vehicle : ℕ → List Report → List Report
@@ -40,7 +41,8 @@ halt_if true r to = record { vid = r.vid; place = place_of r; from = r.time; to 
 -- when vehicles stand after their reports, the newest first, where later ones followed
 abbrev pub halts_after : List Mark → List Mark → List Halt
 halts_after later [] = []
-halts_after later (m ∷ older) = halt_if m.stands m.report (next_time later m.report.vid) ++ halts_after (m ∷ later) older
+halts_after later (m ∷ older) =
+    halt_if m.stands m.report (next_time later m.report.vid) ++ halts_after (m ∷ later) older
 
 -- when each vehicle stands where, by the reports of a day
 abbrev pub halts_of : List Report → List Halt
@@ -66,7 +68,8 @@ Fall (r ∷ older) = AllByRecursion (λ x. x.time ≤ r.time) older × Fall olde
 
 -- the halt is in the stretch, and touches the minute that begins at a second
 abbrev pub is_about : ℕ → Stretch → Halt → Bool
-is_about start stretch h = same_stretch (stretch_around h.place) stretch && (nat_lt h.from (start + 60) && is_before start h.to)
+is_about start stretch h =
+    same_stretch (stretch_around h.place) stretch && (nat_lt h.from (start + 60) && is_before start h.to)
 
 -- the halt is in the stretch
 abbrev pub is_in : Stretch → Halt → Bool

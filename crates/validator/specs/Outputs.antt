@@ -10,7 +10,8 @@ use Rattle.validator.specs.Findings.{Known}
 use Rattle.validator.specs.Accounts.{AreAccounts, shown_charge}
 
 -- what is kept and made after some tuples of a day
-pub record IsOutput (day : List Tuple) (tariffs : Tariffs) (number : ℕ) (kept : ℕ → ℕ → ℕ → ℕ) (o : Output) (before : List Tuple) : Type 0 where
+pub record IsOutput (day : List Tuple) (tariffs : Tariffs) (number : ℕ) (kept : ℕ → ℕ → ℕ → ℕ) (o : Output)
+    (before : List Tuple) : Type 0 where
   pub known : Known (reports day) tariffs o.found
   pub accounts : AreAccounts (rules day tariffs) (get nat_eq o.accounts) before
   pub charges : map shown_charge o.charges.items ≡ charges_by (rules day tariffs) (moments before)
@@ -18,4 +19,5 @@ pub record IsOutput (day : List Tuple) (tariffs : Tariffs) (number : ℕ) (kept 
 
 -- it is what it is after some tuples, fewer than a day may have
 abbrev pub Stands : List Tuple → Tariffs → ℕ → (ℕ → ℕ → ℕ → ℕ) → Output → Type 0
-Stands day tariffs number kept o = (before : List Tuple) × (length before ≤ 16000000) × IsOutput day tariffs number kept o before
+Stands day tariffs number kept o = (before : List Tuple) × (length before ≤ 16000000)
+    × IsOutput day tariffs number kept o before

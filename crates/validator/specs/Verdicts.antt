@@ -7,4 +7,5 @@ use Rattle.validator.specs.declared.verdict.Verdict.TheVariants.{Agree, Differs}
 abbrev pub IsVerdict : List Notice → List Notice → Verdict → Type 0
 IsVerdict wanted found Agree = wanted ≡ found
 IsVerdict wanted found (Differs line here there) =
-    (1 ≤ line) × (take (line - 1) wanted ≡ take (line - 1) found) × (here ≡ slice_get wanted (line - 1)) × (there ≡ slice_get found (line - 1)) × (here ≡ there → ⊥)
+    (1 ≤ line) × (take (line - 1) wanted ≡ take (line - 1) found) × (here ≡ slice_get wanted (line - 1))
+    × (there ≡ slice_get found (line - 1)) × (here ≡ there → ⊥)

@@ -8,7 +8,6 @@ ghost use Rattle.validator.specs.Gathered.{IsGathered};
 
 use crate::halts::{Halt, covers};
 use crate::near::has_accident;
-use crate::places::stretch_around;
 use crate::spots::Gathered;
 use road_time::{NoMemory, Place, Stretch, downstream};
 use std::alloc::Global;
@@ -18,7 +17,7 @@ fn is_about(start: u32, stretch: Stretch, halt: &Halt) -> bool
     requires { start ≤ 86400 }
     ensures { result ≡ defined_is_about start stretch halt.now }
 {
-    stretch_around(halt.place) == stretch
+    halt.place.stretch() == stretch
         && halt.from < start + 60
         && match halt.to {
             None => true,

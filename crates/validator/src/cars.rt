@@ -7,7 +7,6 @@ ghost use Rattle.road_time.specs.Tolls.{notes_of};
 ghost use Rattle.road_time.specs.Tuples.{reports};
 ghost use Rattle.validator.specs.Seen.{noted_vehicle, noted_speed, with_vehicle};
 
-use crate::places::stretch_of;
 use road_time::{NoMemory, Stretch, Tuple};
 use std::alloc::Global;
 
@@ -17,7 +16,7 @@ fn vehicle_at(tuple: &Tuple, in_minute: u32, stretch: Stretch) -> Option<u32>
 {
     match tuple {
         Tuple::Report(r) => {
-            if r.time / 60 + 1 == in_minute && stretch_of(r) == stretch {
+            if r.time / 60 + 1 == in_minute && r.stretch() == stretch {
                 Some(r.vid)
             } else {
                 None
@@ -78,7 +77,7 @@ fn speed_at(tuple: &Tuple, in_minute: u32, stretch: Stretch, vid: u32) -> Option
 {
     match tuple {
         Tuple::Report(r) => {
-            if r.time / 60 + 1 == in_minute && stretch_of(r) == stretch && r.vid == vid {
+            if r.time / 60 + 1 == in_minute && r.stretch() == stretch && r.vid == vid {
                 Some(r.spd)
             } else {
                 None

@@ -5,7 +5,7 @@ ghost use Rattle.road_time.specs.Fits.{IsDay, IsReport};
 ghost use Rattle.road_time.specs.Tolls.{finding_at};
 ghost use Rattle.road_time.specs.Rates.{whole_of};
 ghost use Rattle.validator.specs.Gathered.{IsGathered};
-ghost use Rattle.validator.specs.Findings.{finding_on, shown_found, Known, IsSmall};
+ghost use Rattle.validator.specs.Findings.{finding_on, shown_found, Known, IsMeanSpeed};
 
 use crate::average::average_on;
 use crate::blocked::near_by;
@@ -25,7 +25,7 @@ pub struct Found {
 
 /// The average rounded down, and -1 for none.
 fn whole(average: Option<Frac>) -> i16
-    requires small { IsSmall average }
+    requires small { IsMeanSpeed average }
     ensures { result ≡ whole_of average }
 {
     match average {

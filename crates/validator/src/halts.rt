@@ -3,10 +3,10 @@ ghost use Rattle.std.specs.Prelude.{◌≡◌, ◌∷◌, ◌++◌, ◌==◌, �
 ghost use Rattle.std.specs.HashMap.{get};
 ghost use Rattle.road_time.specs.declared.road.Report.{Report as ReportValue};
 ghost use Rattle.road_time.specs.Tuples.{reports, place_of as defined_place_of};
-ghost use Rattle.road_time.specs.Stops.{stands, trail};
+ghost use Rattle.road_time.specs.Stops.{stands};
 ghost use Rattle.validator.specs.Halts.{kept, marks_of, halt_if, halts_of, covers as defined_covers};
 
-use crate::places::{place_of, report_of};
+use crate::places::report_of;
 use road_time::{NoMemory, Place, Report, Tuple};
 use std::alloc::Global;
 use std::collections::HashMap;
@@ -73,7 +73,7 @@ fn see(seen: &mut HashMap<u32, Seen>, r: &Report) -> Result<bool, NoMemory>
         → kept (r.now ∷ own) ≡ get nat_eq seen.new r.now.vid) }
     ensures others { OnOk result ((v : ℕ) → (r.now.vid == v) ≡ false → get nat_eq seen.new v ≡ get nat_eq seen.old v) }
 {
-    let now = next(seen.get(&r.vid).copied(), place_of(r));
+    let now = next(seen.get(&r.vid).copied(), r.place());
     seen.insert(r.vid, now)?;
     Ok(now.run == 4)
 }
@@ -100,7 +100,7 @@ fn add_halt(halts: &mut Vec<Halt>, mark: &Mark, to: Option<u32>) -> Result<(), N
     if mark.stands {
         halts.push(Halt {
             vid: mark.report.vid,
-            place: place_of(&mark.report),
+            place: mark.report.place(),
             from: mark.report.time,
             to,
         })?;

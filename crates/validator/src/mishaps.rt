@@ -6,15 +6,15 @@ ghost use Rattle.std.specs.BTreeSet.{insert_key};
 ghost use Rattle.road_time.specs.Fits.{IsDay};
 ghost use Rattle.road_time.specs.Order.{greatest_time};
 ghost use Rattle.road_time.specs.Tuples.{reports};
-ghost use Rattle.road_time.specs.Log.{places_of, place_cmp, stands_first, stands_for, ends_at as defined_ends_at};
-ghost use Rattle.road_time.specs.Log.{mishap_if, log_of};
+ghost use Rattle.road_time.specs.Log.{places_of, stands_first, stands_for, ends_at as defined_ends_at};
+ghost use Rattle.road_time.specs.Log.{log_of};
 ghost use Rattle.validator.specs.Halts.{is_at as defined_is_at, halts_of};
 ghost use Rattle.validator.specs.Groups.{stands_with as defined_stands_with, has_other as defined_has_other};
 ghost use Rattle.validator.specs.Groups.{shown_group};
 ghost use Rattle.validator.specs.Groups.{groups_of, mishap_in};
 
 use crate::halts::{Halt, covers, halts};
-use crate::places::{place_of, report_of};
+use crate::places::report_of;
 use road_time::{Mishap, NoMemory, Place, Tuple};
 use std::alloc::Global;
 use std::collections::BTreeSet;
@@ -145,7 +145,7 @@ fn places(alloc: Global, tuples: &[Tuple]) -> Result<Vec<Place>, NoMemory>
     let mut places = BTreeSet::new(alloc);
     for tuple in tuples {
         if let Some(r) = report_of(tuple) {
-            places.insert(place_of(&r))?;
+            places.insert(r.place())?;
         }
     }
     Ok(places.iter().copied().collect(alloc)?)

@@ -9,7 +9,7 @@ ghost use Rattle.road_time.specs.Stops.{has_accident as defined_has_accident, st
 ghost use Rattle.road_time.specs.Tolls.{stops_at, near_at};
 ghost use Rattle.road_time.specs.Ways.{downstream_of};
 
-use crate::places::{place_of, report_of, stretch_around};
+use crate::places::report_of;
 use road_time::{NoMemory, Place, Report, Stretch, Tuple};
 use std::alloc::Global;
 
@@ -45,7 +45,7 @@ fn run_at(trail: &[Report], place: Place) -> usize
     ensures { result ≡ prefix_len (λ r. same_place (defined_place_of r) place) trail.now }
 {
     for (i, r) in trail.iter().enumerate() {
-        if place_of(r) != place {
+        if r.place() != place {
             return i;
         }
     }
@@ -66,7 +66,7 @@ fn stops(alloc: Global, reports: &[Report]) -> Result<Vec<(u32, Place)>, NoMemor
 {
     let mut stopped = Vec::new(alloc);
     for r in reports {
-        let place = place_of(r);
+        let place = r.place();
         if is_stopped(alloc, reports, r.vid, place)? {
             stopped.push((r.vid, place))?;
         }
@@ -85,7 +85,7 @@ fn has_partner(stops: &[(u32, Place)], vid: u32, place: Place) -> bool
 pub fn has_accident(stops: &[(u32, Place)], stretch: Stretch) -> bool
     ensures { result ≡ defined_has_accident stops.now stretch }
 {
-    stops.iter().any(|a| stretch_around(a.1) == stretch && has_partner(stops, a.0, a.1))
+    stops.iter().any(|a| a.1.stretch() == stretch && has_partner(stops, a.0, a.1))
 }
 
 /// An accident stands in the stretch at the end of the second.

@@ -15,8 +15,8 @@ ghost use Rattle.road_time.specs.Fits.{IsDay};
 use crate::cars::plain_cars;
 use crate::flows::plain_lav;
 use crate::near::plain_near;
-use crate::places::{report_of, stretch_of};
-use road_time::{Frac, NoMemory, Report, Stretch, Tariff, Tariffs, Tuple, minute};
+use crate::places::report_of;
+use road_time::{EXIT_LANE, Frac, NoMemory, Report, Stretch, Tariff, Tariffs, Tuple, minute};
 use std::alloc::Global;
 
 /// The newest of a vehicle's reports.
@@ -35,7 +35,8 @@ pub fn begins(prev: Option<Report>, r: &Report) -> bool
 {
     match prev {
         None => true,
-        Some(prev) => stretch_of(&prev) != stretch_of(r) || prev.lane == 4 && r.lane != 4,
+        Some(prev) => prev.stretch() != r.stretch()
+            || prev.lane == EXIT_LANE && r.lane != EXIT_LANE,
     }
 }
 
@@ -168,7 +169,7 @@ pub fn plain_owed(
         tuples,
         tariffs,
         minute(start.1.time),
-        stretch_of(&start.1),
+        start.1.stretch(),
     )?;
     Ok(toll)
 }

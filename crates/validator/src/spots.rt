@@ -10,7 +10,6 @@ ghost use Rattle.validator.specs.Halts.{is_in};
 ghost use Rattle.validator.specs.Gathered.{same_spot, spot_of as defined_spot_of, is_of, listed, IsGathered};
 
 use crate::halts::{Halt, halts};
-use crate::places::{stretch_around, stretch_of};
 use road_time::{NoMemory, Report, Stretch, Tuple};
 use std::alloc::Global;
 use std::collections::HashMap;
@@ -36,7 +35,7 @@ pub fn spot_of(r: &Report) -> Spot
 {
     Spot {
         minute: r.time / 60 + 1,
-        stretch: stretch_of(r),
+        stretch: r.stretch(),
     }
 }
 
@@ -105,7 +104,7 @@ fn halts_by_stretch(alloc: Global, halts: &[Halt]) -> Result<HashMap<Stretch, Ve
 {
     let mut by_stretch = HashMap::new(alloc);
     for halt in halts {
-        add_halt_to(alloc, &mut by_stretch, stretch_around(halt.place), halt)?;
+        add_halt_to(alloc, &mut by_stretch, halt.place.stretch(), halt)?;
     }
     Ok(by_stretch)
 }

@@ -18,13 +18,16 @@ three false b c = refl
 
 -- with the amount of a row put in, they have those with the row in front
 pub pays_more : (es fs : List ((ℕ × ℕ × ℕ) × ℕ)) (r : SpentRow) (rows : List SpentRow) →
-    ((q : ℕ × ℕ × ℕ) → lookup (same_key q) fs ≡ cond (same_key (r.day, r.vid, r.xway) q) (Some r.tolls) (lookup (same_key q) es)) →
+    ((q : ℕ × ℕ × ℕ) → lookup (same_key q) fs ≡ cond (same_key (r.day, r.vid, r.xway) q) (Some r.tolls)
+    (lookup (same_key q) es)) →
     Pays es rows → Pays fs (r ∷ rows)
 pays_more es fs r rows more had day vid xway =
     ap (λ o. unwrap_or o 0) (more (day, vid, xway))
-    ∙ (ap (λ b. unwrap_or (cond b (Some r.tolls) (lookup (same_key (day, vid, xway)) es)) 0) (three (r.day == day) (r.vid == vid) (r.xway == xway))
+    ∙ (ap (λ b. unwrap_or (cond b (Some r.tolls) (lookup (same_key (day, vid, xway)) es)) 0)
+    (three (r.day == day) (r.vid == vid) (r.xway == xway))
     ∙ pick (is_row day vid xway r))
   where
-    pick : (b : Bool) → unwrap_or (cond b (Some r.tolls) (lookup (same_key (day, vid, xway)) es)) 0 ≡ tolls_of (cond b (Some r) (find (is_row day vid xway) rows))
+    pick : (b : Bool) → unwrap_or (cond b (Some r.tolls) (lookup (same_key (day, vid, xway)) es)) 0 ≡ tolls_of
+        (cond b (Some r) (find (is_row day vid xway) rows))
     pick true = refl
     pick false = had day vid xway

@@ -7,4 +7,5 @@ use Rattle.settling.specs.Slots.{found_of}
 
 -- each place has what the findings give for its position
 abbrev pub IsPlaced : List Found → List (ℕ × Finding) → Type 0
-IsPlaced places found = (at : ℕ) (d : Found) (r : Report) → at < length places → slice_index_or places at d ≡ found_of (given found (at, r))
+IsPlaced places found = (at : ℕ) (d : Found) (r : Report) → at < length places →
+    slice_index_or places at d ≡ found_of (given found (at, r))

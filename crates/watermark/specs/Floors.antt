@@ -37,7 +37,8 @@ pub record Setting : Type 0 where
   pub number : ℕ
   pub history : History
 
--- a floor stands for a state, in a setting: its inboxes for the tuples fed, its slots for those that wait with what was found for them, its homes for the shares, and its
+-- a floor stands for a state, in a setting: its inboxes for the tuples fed, its slots for those that wait with what
+-- was found for them, its homes for the shares, and its
 -- settler for the tuples that are settled
 pub record StandsFor (g : Setting) (f : Floor) (s : State) : Type 0 where
   pub terms : AreTerms (width_of f) (limits_of f)
@@ -58,16 +59,24 @@ pub record Serves (f : Floor) : Type 0 where
 
 -- the text of the notices of the positions from those settled up to n was written
 abbrev pub Writes : Setting → State → ℕ → Option (List ℕ) → Option (List ℕ) → Type 0
-Writes g s n old now = WritesRun (given s.found) g.number g.history (take s.settled s.fed) (take (n - s.settled) (drop s.settled s.fed)) old now
+Writes g s n old now =
+    WritesRun (given s.found) g.number g.history (take s.settled s.fed) (take (n - s.settled) (drop s.settled s.fed))
+    old now
 
 -- or some first bytes of it
 abbrev pub WritesSome : SettleFault → Setting → State → ℕ → Option (List ℕ) → Option (List ℕ) → Type 0
-WritesSome fault g s n old now = WritesSomeOfRun fault (given s.found) g.number g.history (take s.settled s.fed) (take (n - s.settled) (drop s.settled s.fed)) old now
+WritesSome fault g s n old now = WritesSomeOfRun fault (given s.found) g.number g.history (take s.settled s.fed)
+    (take (n - s.settled) (drop s.settled s.fed)) old now
 
 -- the sink took all of it, and the keeper was asked for each request, and planned none of these calls to fail
 abbrev pub Takes : Setting → State → ℕ → Level → Level → Plan → Plan → Type 0
-Takes g s n old now plan left = TakesRun (given s.found) g.number g.history (take s.settled s.fed) (take (n - s.settled) (drop s.settled s.fed)) old now plan left
+Takes g s n old now plan left =
+    TakesRun (given s.found) g.number g.history (take s.settled s.fed) (take (n - s.settled) (drop s.settled s.fed)) old
+    now plan left
 
--- where it was stopped: by the keeper at the call that was planned to fail; by the sink where its room was full; or for want of memory
+-- where it was stopped: by the keeper at the call that was planned to fail; by the sink where its room was full; or
+-- for want of memory
 abbrev pub Stops : SettleFault → Setting → State → ℕ → Level → Level → Plan → Plan → Type 0
-Stops fault g s n old now plan left = StopsRun fault (given s.found) g.number g.history (take s.settled s.fed) (take (n - s.settled) (drop s.settled s.fed)) old now plan left
+Stops fault g s n old now plan left =
+    StopsRun fault (given s.found) g.number g.history (take s.settled s.fed)
+    (take (n - s.settled) (drop s.settled s.fed)) old now plan left

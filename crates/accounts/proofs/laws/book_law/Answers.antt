@@ -4,5 +4,15 @@ use Rattle.accounts.proofs.SumLaws.{account_by, total_by, amount_by}
 use Rattle.accounts.proofs.laws.book_law.Goals as goal
 
 pub returns : goal.returns
-returns c = λ cs.
-    (account_by cs, total_by cs, λ number rows are. only_rows cs number rows (record { in_order = are.in_order; of_day = are.of_day; none_zero = are.none_zero; exact = λ v x. are.exact v x ∙ amount_by cs v x }))
+returns c = λ cs. (
+  account_by cs,
+  total_by cs,
+  λ number rows are. only_rows cs number rows
+      (record {
+        in_order = are.in_order;
+        of_day = are.of_day;
+        none_zero = are.none_zero;
+        exact = λ v x. are.exact v x
+            ∙ amount_by cs v x;
+      }),
+)

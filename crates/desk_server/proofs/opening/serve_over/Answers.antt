@@ -9,7 +9,8 @@ use Rattle.desk_server.proofs.opening.serve_over.Goals as goal
 pub serve-end-requires-clause-fresh : goal.serve-end-requires-clause-fresh
 serve-end-requires-clause-fresh g c κs within =
     fresh_in g.N.Listener.accepted g.N.Listener.faults c.seat-lanes.result
-    (subst (All (λ ear. (g.N.Listener.accepted ear ≡ 0) × (g.N.Listener.faults ear ≡ 0))) (sym c.seat-lanes.ensures) c.requires.fresh)
+    (subst (All (λ ear. (g.N.Listener.accepted ear ≡ 0) × (g.N.Listener.faults ear ≡ 0))) (sym c.seat-lanes.ensures)
+    c.requires.fresh)
 
 pub rise-requires-clause-room : goal.rise-requires-clause-room
 rise-requires-clause-room g c =

@@ -8,5 +8,6 @@ abbrev pub invariant-loop-tuple : goal.invariant-loop-tuple
 invariant-loop-tuple l = record {
   width : width_of l.floor ≡ width_of l.fn.floor;
   limits : limits_of l.floor ≡ limits_of l.fn.floor;
-  fed : (g : Setting) → StandsFor g l.fn.floor start → StandsFor g l.floor (after_fed (width_of l.fn.floor) start (take l.tuple-index l.tuples));
+  fed : (g : Setting) → StandsFor g l.fn.floor start →
+      StandsFor g l.floor (after_fed (width_of l.fn.floor) start (take l.tuple-index l.tuples));
 }

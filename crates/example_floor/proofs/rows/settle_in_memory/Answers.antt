@@ -20,7 +20,9 @@ returns-clause-fits c =
     on_ok c.settle_day.result (λ took. (let all = (took kept refl).0.1 in omega (arith, all))) c.settle_day.ensures.took
 
 pub returns-clause-passed : goal.returns-clause-passed
-returns-clause-passed c = on_ok c.settle_day.result (λ took. (took (paid (kept_by c.args.keeper.now).rows) refl).1.0) c.settle_day.ensures.took
+returns-clause-passed c =
+    on_ok c.settle_day.result (λ took. (took (paid (kept_by c.args.keeper.now).rows) refl).1.0)
+    c.settle_day.ensures.took
 
 pub returns-clause-full : goal.returns-clause-full
 returns-clause-full c = λ is.
@@ -28,7 +30,8 @@ returns-clause-full c = λ is.
     let kept = paid (kept_by a.keeper.now).rows in
     let text = out (notices a.tuples.now [] 100 kept) in
     let at = subst (λ r. IfErr r (λ fault. (k : ℕ → ℕ → ℕ → ℕ) → history_of (Some (kept_by a.keeper.now)) ≡ Some k →
-    StopsDay fault a.tuples.now [] 100 k (Some (bytes_of a.sink.now), Bound (room_of a.sink.now)) (Some (bytes_of c.settle_day.new.sink), Bound (room_of c.settle_day.new.sink))
+    StopsDay fault a.tuples.now [] 100 k (Some (bytes_of a.sink.now), Bound (room_of a.sink.now))
+    (Some (bytes_of c.settle_day.new.sink), Bound (room_of c.settle_day.new.sink))
     (Some (plan_of a.keeper.now)) (Some (plan_of c.settle_day.new.keeper)))) is c.settle_day.ensures.stopped in
     let filled = (at kept refl).0 in
     filled.2 ∙ ap (λ n. bytes_of a.sink.now ++ take n text) (sym filled.3.0)
@@ -38,7 +41,8 @@ returns-clause-failed c = λ is.
     let a = c.args in
     let kept = paid (kept_by a.keeper.now).rows in
     let at = subst (λ r. IfErr r (λ fault. (k : ℕ → ℕ → ℕ → ℕ) → history_of (Some (kept_by a.keeper.now)) ≡ Some k →
-    StopsDay fault a.tuples.now [] 100 k (Some (bytes_of a.sink.now), Bound (room_of a.sink.now)) (Some (bytes_of c.settle_day.new.sink), Bound (room_of c.settle_day.new.sink))
+    StopsDay fault a.tuples.now [] 100 k (Some (bytes_of a.sink.now), Bound (room_of a.sink.now))
+    (Some (bytes_of c.settle_day.new.sink), Bound (room_of c.settle_day.new.sink))
     (Some (plan_of a.keeper.now)) (Some (plan_of c.settle_day.new.keeper)))) is c.settle_day.ensures.stopped in
     let d = at kept refl in
     let calls = ap asked d.day_is ∙ asked_both d.done (d.request ∷ d.later) in

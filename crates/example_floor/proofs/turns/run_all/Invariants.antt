@@ -11,7 +11,9 @@ invariant-loop-worker l = record {
   width : l.floor.inboxes.width ≡ l.fn.floor.inboxes.width;
   limits : l.floor.limits ≡ l.fn.floor.limits;
   some : Serves l.floor;
-  charged : (g : Setting) (s : State) → StandsFor g l.fn.floor s → settled_charges (after_runs g.tariffs s l.worker) ≡ settled_charges s;
-  right : (g : Setting) (s : State) → StandsFor g l.fn.floor s → IsTrue g.tariffs l.fn.floor.inboxes.width s → IsTrue g.tariffs l.fn.floor.inboxes.width (after_runs g.tariffs s l.worker);
+  charged : (g : Setting) (s : State) → StandsFor g l.fn.floor s →
+      settled_charges (after_runs g.tariffs s l.worker) ≡ settled_charges s;
+  right : (g : Setting) (s : State) → StandsFor g l.fn.floor s → IsTrue g.tariffs l.fn.floor.inboxes.width s →
+      IsTrue g.tariffs l.fn.floor.inboxes.width (after_runs g.tariffs s l.worker);
   ran : (g : Setting) (s : State) → StandsFor g l.fn.floor s → StandsFor g l.floor (after_runs g.tariffs s l.worker);
 }

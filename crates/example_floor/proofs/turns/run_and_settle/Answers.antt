@@ -23,7 +23,8 @@ settle-requires g c =
       ok_is c.run_all.result ok c.run_all.ensures.ran e s st,
       c.requires.serves.3,
       c.requires.serves.4,
-      subst (λ cs. IsAbreast (g.P.Publisher.posted c.args.publisher.now) (sum_of cs)) (sym (ok_is c.run_all.result ok c.run_all.ensures.charged e s st)) c.requires.serves.5,
+      subst (λ cs. IsAbreast (g.P.Publisher.posted c.args.publisher.now) (sum_of cs))
+          (sym (ok_is c.run_all.result ok c.run_all.ensures.charged e s st)) c.requires.serves.5,
     )
 
 pub returns-clause-settled : goal.returns-clause-settled
@@ -46,16 +47,20 @@ returns-clause-wrote g c =
     let t = after_runs e.tariffs s c.args.width in
     let mid = ok_is c.run_all.result ok c.run_all.ensures.ran e s st in
     let answered = ok_is c.run_all.result ok c.run_all.ensures.answered e s st home are in
-    let to : n ≡ mark c.args.width t = (settled e t mid number history).0 ∙ ap (λ w. mark w t) (c.run_all.ensures.width ∙ sym c.requires.width) in
+    let to : n ≡ mark c.args.width t =
+    (settled e t mid number history).0 ∙ ap (λ w. mark w t) (c.run_all.ensures.width ∙ sym c.requires.width) in
     let all =
-    all_written e s t c.args.width n kept (g.O.Sink.written c.args.sink.now) (g.O.Sink.written c.settle.new.sink) answered (runs_settled e.tariffs s c.args.width ∙ none) to known
+    all_written e s t c.args.width n kept (g.O.Sink.written c.args.sink.now) (g.O.Sink.written c.settle.new.sink)
+    answered (runs_settled e.tariffs s c.args.width ∙ none) to known
     (wrote e t mid number history) in
-    subst (λ d. Appends (g.O.Sink.written c.args.sink.now) (g.O.Sink.written c.settle.new.sink) (out (notices s.fed e.tariffs d kept))) number all.1)
+    subst (λ d. Appends (g.O.Sink.written c.args.sink.now) (g.O.Sink.written c.settle.new.sink)
+    (out (notices s.fed e.tariffs d kept))) number all.1)
     c.settle.ensures.settled c.settle.ensures.wrote
 
 pub returns-then-is_err-clause-stopped : goal.returns-then-is_err-clause-stopped
 returns-then-is_err-clause-stopped g c = λ e s kept st number history known home are none.
-    not_begun s.fed e.tariffs c.args.day kept (g.O.Sink.written c.args.sink.now, g.O.Sink.room c.args.sink.now) (g.K.Keeper.plan c.args.keeper.now)
+    not_begun s.fed e.tariffs c.args.day kept (g.O.Sink.written c.args.sink.now, g.O.Sink.room c.args.sink.now)
+    (g.K.Keeper.plan c.args.keeper.now)
 
 pub returns-clause-took : goal.returns-clause-took
 returns-clause-took g c =
@@ -69,9 +74,11 @@ returns-clause-took g c =
     let t = after_runs e.tariffs s c.args.width in
     let mid = ok_is c.run_all.result ok c.run_all.ensures.ran e s st in
     let answered = ok_is c.run_all.result ok c.run_all.ensures.answered e s st home are in
-    let to : n ≡ mark c.args.width t = (settled e t mid number history).0 ∙ ap (λ w. mark w t) (c.run_all.ensures.width ∙ sym c.requires.width) in
+    let to : n ≡ mark c.args.width t =
+    (settled e t mid number history).0 ∙ ap (λ w. mark w t) (c.run_all.ensures.width ∙ sym c.requires.width) in
     subst (λ d. TakesDay s.fed e.tariffs d kept old new plan left) number
-    (day_took e s t c.args.width n kept answered (runs_settled e.tariffs s c.args.width ∙ none) to known old new plan left (took e t mid number history)))
+    (day_took e s t c.args.width n kept answered (runs_settled e.tariffs s c.args.width ∙ none) to known old new plan
+    left (took e t mid number history)))
     c.settle.ensures.settled c.settle.ensures.took
 
 pub returns-clause-stopped : goal.returns-clause-stopped
@@ -87,7 +94,9 @@ returns-clause-stopped g c =
     let mid = ok_is c.run_all.result ok c.run_all.ensures.ran e s st in
     let answered = ok_is c.run_all.result ok c.run_all.ensures.answered e s st home are in
     let at : Stops fault e t (mark c.args.width t) old new plan left =
-    subst (λ w. Stops fault e t (mark w t) old new plan left) (c.run_all.ensures.width ∙ sym c.requires.width) (stops e t mid number history) in
+    subst (λ w. Stops fault e t (mark w t) old new plan left) (c.run_all.ensures.width ∙ sym c.requires.width)
+    (stops e t mid number history) in
     subst (λ d. StopsDay fault s.fed e.tariffs d kept old new plan left) number
-    (day_stopped e s t c.args.width (mark c.args.width t) kept answered (runs_settled e.tariffs s c.args.width ∙ none) refl known fault old new plan left at))
+    (day_stopped e s t c.args.width (mark c.args.width t) kept answered (runs_settled e.tariffs s c.args.width ∙ none)
+    refl known fault old new plan left at))
     c.settle.ensures.where_stopped

@@ -15,13 +15,21 @@ returns-in_default-clause-ran c = λ g s st.
 pub give-requires-2-clause-serves : goal.give-requires-2-clause-serves
 give-requires-2-clause-serves c =
     let sv = c.requires.serves in
-    record { setting = sv.setting; state = after_give sv.state c.args.worker; stands = (c.in-Some.ensures.some sv.setting sv.state sv.stands).1 }
+    record {
+      setting = sv.setting;
+      state = after_give sv.state c.args.worker;
+      stands =
+          (c.in-Some.ensures.some sv.setting sv.state sv.stands).1;
+    }
 
 pub run-done-requires : goal.run-done-requires
 run-done-requires c =
     let sv = c.requires.serves in
-    let next = c.in-Some.ensures.some sv.setting sv.state sv.stands in
-    ((sv.state.share c.args.worker).back, ready sv.setting c.args.floor.now c.give.new.self sv.state c.args.worker c.in-Some.job sv.stands next.0 c.requires.within)
+    let next = c.in-Some.ensures.some sv.setting sv.state sv.stands in (
+      (sv.state.share c.args.worker).back,
+      ready sv.setting c.args.floor.now c.give.new.self sv.state c.args.worker
+          c.in-Some.job sv.stands next.0 c.requires.within,
+    )
 
 pub back-requires : goal.back-requires
 back-requires c =
@@ -32,7 +40,9 @@ back-requires c =
       sv.setting,
       after_give sv.state c.args.worker,
       given,
-      may_come sv.setting c.args.floor.now c.give-2.new.self sv.state c.args.worker c.in-Some.job sv.stands next.0 c.requires.within given (c.in-None.ensures.width ∙ c.in-Some.ensures.width) c.run-done.result ok c.run-done.ensures,
+      may_come sv.setting c.args.floor.now c.give-2.new.self sv.state c.args.worker c.in-Some.job sv.stands next.0
+          c.requires.within given (c.in-None.ensures.width ∙ c.in-Some.ensures.width) c.run-done.result ok
+          c.run-done.ensures,
     )
 
 pub returns-clause-ran : goal.returns-clause-ran
@@ -43,9 +53,11 @@ returns-clause-ran c =
     let next = c.in-Some.ensures.some g s st in
     let given = (c.in-None.ensures.none g (after_give s c.args.worker) next.1).1 in
     let width = c.in-None.ensures.width ∙ c.in-Some.ensures.width in
-    let may = may_come g c.args.floor.now c.give-2.new.self s c.args.worker c.in-Some.job st next.0 c.requires.within given width c.run-done.result ok c.run-done.ensures in
+    let may = may_come g c.args.floor.now c.give-2.new.self s c.args.worker c.in-Some.job st next.0 c.requires.within
+    given width c.run-done.result ok c.run-done.ensures in
     subst (StandsFor g c.back.new.self)
-    (run_is g c.args.floor.now c.give-2.new.self s c.args.worker c.in-Some.job st next.0 c.requires.within given width c.run-done.result ok c.run-done.ensures)
+    (run_is g c.args.floor.now c.give-2.new.self s c.args.worker c.in-Some.job st next.0 c.requires.within given width
+    c.run-done.result ok c.run-done.ensures)
     (back g (after_give s c.args.worker) given may))
     c.back.ensures.back
 
@@ -59,12 +71,16 @@ returns-clause-right c =
     when_ok c.back.result
     (λ back g s st are.
     let next = c.in-Some.ensures.some g s st in
-    let sound = subst (λ n. IsSound n c.give.new.self.limits (after_give s c.args.worker)) c.in-Some.ensures.width next.1.sound in
-    run_true g.tariffs c.args.floor.now.inboxes.width c.give.new.self.limits s c.args.worker c.requires.within next.0.may sound are)
+    let sound =
+    subst (λ n. IsSound n c.give.new.self.limits (after_give s c.args.worker)) c.in-Some.ensures.width
+    next.1.sound in
+    run_true g.tariffs c.args.floor.now.inboxes.width c.give.new.self.limits s c.args.worker c.requires.within
+    next.0.may sound are)
     c.back.ensures.back
 
 pub returns-in_default-clause-charged : goal.returns-in_default-clause-charged
-returns-in_default-clause-charged c = λ g s st. ap settled_charges (none_run g.tariffs s c.args.worker (c.in_default.ensures.none g s st).0)
+returns-in_default-clause-charged c =
+    λ g s st. ap settled_charges (none_run g.tariffs s c.args.worker (c.in_default.ensures.none g s st).0)
 
 pub returns-clause-charged : goal.returns-clause-charged
 returns-clause-charged c =
@@ -74,5 +90,6 @@ returns-clause-charged c =
     let next = c.in-Some.ensures.some g s st in
     let given = (c.in-None.ensures.none g (after_give s c.args.worker) next.1).1 in
     let width = c.in-None.ensures.width ∙ c.in-Some.ensures.width in
-    charged_is g c.args.floor.now c.give-2.new.self s c.args.worker c.in-Some.job st next.0 c.requires.within given width c.run-done.result ok c.run-done.ensures)
+    charged_is g c.args.floor.now c.give-2.new.self s c.args.worker c.in-Some.job st next.0 c.requires.within given
+    width c.run-done.result ok c.run-done.ensures)
     c.back.ensures.back

@@ -13,14 +13,28 @@ returns c =
     let ran = c.run_each-result in
     let tariffs = job.carriage.tariffs in
     let fs = ran.new.found.items in
-    subst (λ gs. IsResultOf job (record { worker = job.worker; number = job.number; carriage = ran.new.carriage; findings = gs; result = ran.result })) (sym c.from_vec.ensures)
+    subst (λ gs. IsResultOf job
+    (record {
+      worker = job.worker;
+      number = job.number;
+      carriage = ran.new.carriage;
+      findings = gs;
+      result =
+          ran.result;
+    })) (sym c.from_vec.ensures)
     (record {
       back = record {
         worker = refl;
         number = refl;
         tariffs = ran.ensures.tariffs;
-        carried = subst (λ es. OnOk ran.result ((before : List Event) → IsReady job.carriage before es → StandsFor ran.new.carriage (before ++ es))) c.items.ensures ran.ensures.carried;
+        carried =
+            subst (λ es. OnOk ran.result ((before : List Event) → IsReady job.carriage before es →
+            StandsFor ran.new.carriage (before ++ es))) c.items.ensures ran.ensures.carried;
       };
-      found = subst (λ es. OnOk ran.result ((before : List Event) → IsReady job.carriage before es → map shown fs ≡ findings before es tariffs)) c.items.ensures ran.ensures.found;
-      first = subst (λ es. OnErr ran.result ((before : List Event) → IsReady job.carriage before es → AreFirst (map shown fs) (findings before es tariffs))) c.items.ensures ran.ensures.first;
+      found = subst
+          (λ es. OnOk ran.result ((before : List Event) → IsReady job.carriage before es →
+          map shown fs ≡ findings before es tariffs)) c.items.ensures ran.ensures.found;
+      first = subst
+          (λ es. OnErr ran.result ((before : List Event) → IsReady job.carriage before es →
+          AreFirst (map shown fs) (findings before es tariffs))) c.items.ensures ran.ensures.first;
     })

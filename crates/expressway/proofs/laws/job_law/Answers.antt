@@ -18,7 +18,12 @@ pub returns-clause-fit : goal.returns-clause-fit
 returns-clause-fit c = λ day limits fit worker width. carried day limits fit worker width
 
 pub returns-clause-ready : goal.returns-clause-ready
-returns-clause-ready c = λ day fit worker width. record { order = may_run worker width day fit.in_order; day = carried day DAY fit worker width }
+returns-clause-ready c =
+    λ day fit worker width. record {
+      order = may_run worker width day fit.in_order;
+      day =
+          carried day DAY fit worker width;
+    }
 
 pub returns-clause-parts : goal.returns-clause-parts
 returns-clause-parts c = λ before es later can. can_parts before es later can

@@ -7,4 +7,5 @@ use Rattle.keeper_proof.proofs.answers.all_amounts.Given as goal
 
 -- the amounts so far are the first ones
 abbrev pub invariant-found : goal.invariant-found
-invariant-found l = (rows : List SpentRow) → AllByRecursion FitsSpent rows → l.found ≡ map spent_row rows → l.rows.items ≡ take l.row-index rows
+invariant-found l = (rows : List SpentRow) → AllByRecursion FitsSpent rows → l.found ≡ map spent_row rows →
+    l.rows.items ≡ take l.row-index rows

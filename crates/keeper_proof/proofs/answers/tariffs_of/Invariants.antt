@@ -8,4 +8,5 @@ use Rattle.keeper_proof.proofs.answers.tariffs_of.Given as goal
 
 -- what was set, with what is left, makes the whole
 abbrev pub invariant-found : goal.invariant-found
-invariant-found l = (ts : Tariffs) → IsTariffs ts → AllByRecursion (λ e. e.0 < 2 ^ 8) ts → l.found ≡ map tariff_columns ts → fold with_entry l.tariffs (drop l.row-index ts) ≡ ts
+invariant-found l = (ts : Tariffs) → IsTariffs ts → AllByRecursion (λ e. e.0 < 2 ^ 8) ts →
+    l.found ≡ map tariff_columns ts → fold with_entry l.tariffs (drop l.row-index ts) ≡ ts

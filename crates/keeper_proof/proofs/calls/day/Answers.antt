@@ -13,20 +13,25 @@ use Rattle.keeper_proof.proofs.calls.day.Goals as goal
 
 pub returns-in_err-ready-clause-gives : goal.returns-in_err-ready-clause-gives
 returns-in_err-ready-clause-gives g c clean o stands =
-    refused_so (WasRefused g.S.Store) (λ (x : Option DayRecord). x) c.from_residual.result c.in_err-ready.field-0.0 (record_of o c.args.day) c.from_residual.ensures.1 (λ is. c.in_err-ready.ensures.because clean o stands (ap Err is))
+    refused_so (WasRefused g.S.Store) (λ (x : Option DayRecord). x) c.from_residual.result c.in_err-ready.field-0.0
+    (record_of o c.args.day) c.from_residual.ensures.1
+    (λ is. c.in_err-ready.ensures.because clean o stands (ap Err is))
 
 pub returns-clause-kept : goal.returns-clause-kept
 returns-clause-kept g c clean =
     let mid = state g.S.Store c.ready.new.conn in
     let early : HasCleanDisk mid = omega (arith, c.day.ensures.survives.clean) in
-    kept_then (state g.S.Store c.args.conn.now) mid (state g.S.Store c.day.new.conn) (c.ready.ensures.kept early) (c.day.ensures.kept clean)
+    kept_then (state g.S.Store c.args.conn.now) mid (state g.S.Store c.day.new.conn) (c.ready.ensures.kept early)
+    (c.day.ensures.kept clean)
 
 pub returns-clause-gives : goal.returns-clause-gives
 returns-clause-gives g c clean o stands =
     let early : HasCleanDisk (state g.S.Store c.ready.new.conn) = omega (arith, c.day.ensures.survives.clean) in
     let there = c.in_ok-ready.ensures.stands early o stands in
-    c.day.ensures.gives clean o (subst (λ (db : Database). HasOffice db o) (sym ((c.ready.ensures.kept early).committed there.0)) there.1)
+    c.day.ensures.gives clean o
+    (subst (λ (db : Database). HasOffice db o) (sym ((c.ready.ensures.kept early).committed there.0)) there.1)
 
 pub returns-clause-survives : goal.returns-clause-survives
 returns-clause-survives g c =
-    survives_both (state g.S.Store c.args.conn.now) (state g.S.Store c.ready.new.conn) (state g.S.Store c.day.new.conn) c.ready.ensures.survives c.day.ensures.survives
+    survives_both (state g.S.Store c.args.conn.now) (state g.S.Store c.ready.new.conn) (state g.S.Store c.day.new.conn)
+    c.ready.ensures.survives c.day.ensures.survives

@@ -11,11 +11,13 @@ use Rattle.keeper_proof.proofs.calls.put_tariff.Goals as goal
 
 pub returns-in_err-ready-clause-put : goal.returns-in_err-ready-clause-put
 returns-in_err-ready-clause-put g c clean here o stands =
-    err_stands (state g.S.Store c.args.conn.now) (state g.S.Store c.ready.new.conn) c.from_residual.result _ o c.from_residual.ensures.0 here stands (c.in_err-ready.ensures.kept clean)
+    err_stands (state g.S.Store c.args.conn.now) (state g.S.Store c.ready.new.conn) c.from_residual.result _ o
+    c.from_residual.ensures.0 here stands (c.in_err-ready.ensures.kept clean)
 
 pub returns-in_err-ready-clause-because : goal.returns-in_err-ready-clause-because
 returns-in_err-ready-clause-because g c clean o stands failed =
-    c.in_err-ready.ensures.because clean o stands (not_failed c.from_residual.result c.in_err-ready.field-0.0 c.from_residual.ensures.1 failed)
+    c.in_err-ready.ensures.because clean o stands
+    (not_failed c.from_residual.result c.in_err-ready.field-0.0 c.from_residual.ensures.1 failed)
 
 pub returns-clause-put : goal.returns-clause-put
 returns-clause-put g c clean here o stands =
@@ -23,13 +25,17 @@ returns-clause-put g c clean here o stands =
     let early : HasCleanDisk mid = omega (arith, c.put_tariff.ensures.crash.clean) in
     let there = c.in_ok-ready.ensures.stands early o stands in
     let kept = (c.ready.ensures.kept early).committed there.0 in
-    put_stands (state g.S.Store c.args.conn.now) mid (state g.S.Store c.put_tariff.new.conn) c.put_tariff.result _ o here kept stands
-    (c.put_tariff.ensures.put clean here o (subst (λ (db : Database). HasOffice db o) (sym kept) there.1)) (c.put_tariff.ensures.refused clean)
+    put_stands (state g.S.Store c.args.conn.now) mid (state g.S.Store c.put_tariff.new.conn) c.put_tariff.result _ o
+    here kept stands
+    (c.put_tariff.ensures.put clean here o (subst (λ (db : Database). HasOffice db o) (sym kept) there.1))
+    (c.put_tariff.ensures.refused clean)
 
 pub returns-clause-because : goal.returns-clause-because
 returns-clause-because g c clean o stands failed = c.put_tariff.ensures.because clean failed
 
 pub returns-clause-crash : goal.returns-clause-crash
 returns-clause-crash g c =
-    put_lasts (state g.S.Store c.args.conn.now) (state g.S.Store c.ready.new.conn) (state g.S.Store c.put_tariff.new.conn) FitsAny (with_tariff_of c.args.xway c.args.tariff.now)
-    (λ early o stands. c.in_ok-ready.ensures.stands early o stands) c.ready.ensures.kept c.ready.ensures.survives c.put_tariff.ensures.crash
+    put_lasts (state g.S.Store c.args.conn.now) (state g.S.Store c.ready.new.conn)
+    (state g.S.Store c.put_tariff.new.conn) FitsAny (with_tariff_of c.args.xway c.args.tariff.now)
+    (λ early o stands. c.in_ok-ready.ensures.stands early o stands) c.ready.ensures.kept c.ready.ensures.survives
+    c.put_tariff.ensures.crash

@@ -14,7 +14,15 @@ pub returns-in-Err-clause-because : goal.returns-in-Err-clause-because
 returns-in-Err-clause-because g c clean failed = record {
   error = c.in-Err.error;
   cause = not_memory c.refusal.result c.in-Err.error c.refusal.ensures failed;
-  refused = record { sql = undo; params = []; before = c.args.conn.now; after = c.settle.new.conn; refused = inl (c.in-Err.ensures.refused clean) };
+  refused =
+      record {
+        sql = undo;
+        params = [];
+        before = c.args.conn.now;
+        after = c.settle.new.conn;
+        refused =
+            inl (c.in-Err.ensures.refused clean);
+      };
 }
 
 pub returns-in-Ok-clause-kept : goal.returns-in-Ok-clause-kept
@@ -23,7 +31,8 @@ returns-in-Ok-clause-kept g c clean =
     let new = state g.S.Store c.query_all.new.self in
     let early : HasCleanDisk mid = omega (arith, c.query_all.ensures.survives.clean) in
     kept_then (state g.S.Store c.args.conn.now) mid new (c.settle.ensures.kept early)
-    (asked_keeps (λ rows. rows.items) c.args.sql.now (bound c.args.params.now) mid new c.query_all.result c.requires (c.query_all.ensures.ok clean) (c.query_all.ensures.err clean))
+    (asked_keeps (λ rows. rows.items) c.args.sql.now (bound c.args.params.now) mid new c.query_all.result c.requires
+    (c.query_all.ensures.ok clean) (c.query_all.ensures.err clean))
 
 pub returns-in-Ok-clause-shown : goal.returns-in-Ok-clause-shown
 returns-in-Ok-clause-shown g c clean =
@@ -31,7 +40,9 @@ returns-in-Ok-clause-shown g c clean =
     let new = state g.S.Store c.query_all.new.self in
     let early : HasCleanDisk mid = omega (arith, c.query_all.ensures.survives.clean) in
     let shown = c.in-Ok.ensures.ok clean in
-    let still = (asked_changes_nothing c.args.sql.now (bound c.args.params.now) mid new c.in-Ok.rows.items c.requires shown).0 in
+    let still =
+    (asked_changes_nothing c.args.sql.now (bound c.args.params.now) mid new c.in-Ok.rows.items c.requires
+    shown).0 in
     record {
       before = c.settle.new.conn;
       now = c.in_default.ensures.settled early still.was_open ∙ (c.settle.ensures.kept early).committed still.was_open;
@@ -44,7 +55,9 @@ returns-in-Ok-clause-survives g c =
     let mid = state g.S.Store c.settle.new.conn in
     let new = state g.S.Store c.query_all.new.self in
     survives_both (state g.S.Store c.args.conn.now) mid new c.settle.ensures.survives
-    (survives_weaker mid new _ (λ _. ⊥) (λ _ db. asked_commits_nothing c.args.sql.now (bound c.args.params.now) mid db c.requires) c.query_all.ensures.survives)
+    (survives_weaker mid new _ (λ _. ⊥)
+    (λ _ db. asked_commits_nothing c.args.sql.now (bound c.args.params.now) mid db c.requires)
+    c.query_all.ensures.survives)
 
 pub returns-in-Err-query_all-clause-kept : goal.returns-in-Err-query_all-clause-kept
 returns-in-Err-query_all-clause-kept g c clean =
@@ -52,13 +65,23 @@ returns-in-Err-query_all-clause-kept g c clean =
     let new = state g.S.Store c.query_all.new.self in
     let early : HasCleanDisk mid = omega (arith, c.query_all.ensures.survives.clean) in
     kept_then (state g.S.Store c.args.conn.now) mid new (c.settle.ensures.kept early)
-    (asked_keeps (λ rows. rows.items) c.args.sql.now (bound c.args.params.now) mid new c.query_all.result c.requires (c.query_all.ensures.ok clean) (c.query_all.ensures.err clean))
+    (asked_keeps (λ rows. rows.items) c.args.sql.now (bound c.args.params.now) mid new c.query_all.result c.requires
+    (c.query_all.ensures.ok clean) (c.query_all.ensures.err clean))
 
 pub returns-in-Err-query_all-clause-because : goal.returns-in-Err-query_all-clause-because
 returns-in-Err-query_all-clause-because g c clean failed = record {
   error = c.in-Err-query_all.error;
-  cause = not_memory c.refusal-in-Err-query_all.result c.in-Err-query_all.error c.refusal-in-Err-query_all.ensures failed;
-  refused = record { sql = c.args.sql.now; params = bound c.args.params.now; before = c.settle.new.conn; after = c.query_all.new.self; refused = inr (inr (inl (c.in-Err-query_all.ensures.err clean))) };
+  cause = not_memory c.refusal-in-Err-query_all.result c.in-Err-query_all.error c.refusal-in-Err-query_all.ensures
+      failed;
+  refused =
+      record {
+        sql = c.args.sql.now;
+        params = bound c.args.params.now;
+        before = c.settle.new.conn;
+        after =
+            c.query_all.new.self;
+        refused = inr (inr (inl (c.in-Err-query_all.ensures.err clean)));
+      };
 }
 
 pub returns-in-Err-query_all-clause-survives : goal.returns-in-Err-query_all-clause-survives
@@ -66,4 +89,6 @@ returns-in-Err-query_all-clause-survives g c =
     let mid = state g.S.Store c.settle.new.conn in
     let new = state g.S.Store c.query_all.new.self in
     survives_both (state g.S.Store c.args.conn.now) mid new c.settle.ensures.survives
-    (survives_weaker mid new _ (λ _. ⊥) (λ _ db. asked_commits_nothing c.args.sql.now (bound c.args.params.now) mid db c.requires) c.query_all.ensures.survives)
+    (survives_weaker mid new _ (λ _. ⊥)
+    (λ _ db. asked_commits_nothing c.args.sql.now (bound c.args.params.now) mid db c.requires)
+    c.query_all.ensures.survives)

@@ -7,4 +7,7 @@ use Rattle.keeper_proof.proofs.RiseLaws.{rise_answer}
 use Rattle.keeper_proof.proofs.order.rise.Goals as goal
 
 pub returns : goal.returns
-returns c = rise_answer row_total _ _ (c.is_sorted_by.ensures.cases (λ x y. is_lt (row_cmp x y)) (always_returns_same _ _ _ (λ a r g called. search rules)))
+returns c =
+    rise_answer row_total _ _
+    (c.is_sorted_by.ensures.cases (λ x y. is_lt (row_cmp x y))
+    (always_returns_same _ _ _ (λ a r g called. search rules)))

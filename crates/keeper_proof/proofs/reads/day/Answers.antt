@@ -21,27 +21,33 @@ look-requires-2 g c = find_seal_asks
 
 pub returns-in_err-found-clause-gives : goal.returns-in_err-found-clause-gives
 returns-in_err-found-clause-gives g c clean o has =
-    refused_so (WasRefused g.S.Store) (λ (x : Option DayRecord). x) c.from_residual.result c.in_err-found.field-0.0 (record_of o c.args.day) c.from_residual.ensures.1 (λ is. c.in_err-found.ensures.because clean (ap Err is))
+    refused_so (WasRefused g.S.Store) (λ (x : Option DayRecord). x) c.from_residual.result c.in_err-found.field-0.0
+    (record_of o c.args.day) c.from_residual.ensures.1 (λ is. c.in_err-found.ensures.because clean (ap Err is))
 
 pub returns-in_err-seals-clause-gives : goal.returns-in_err-seals-clause-gives
 returns-in_err-seals-clause-gives g c clean o has =
-    refused_so (WasRefused g.S.Store) (λ (x : Option DayRecord). x) c.from_residual-in_err-seals.result c.in_err-seals.field-0.0 (record_of o c.args.day) c.from_residual-in_err-seals.ensures.1 (λ is. c.in_err-seals.ensures.because clean (ap Err is))
+    refused_so (WasRefused g.S.Store) (λ (x : Option DayRecord). x) c.from_residual-in_err-seals.result
+    c.in_err-seals.field-0.0 (record_of o c.args.day) c.from_residual-in_err-seals.ensures.1
+    (λ is. c.in_err-seals.ensures.because clean (ap Err is))
 
 pub returns-in_err-seals-clause-kept : goal.returns-in_err-seals-clause-kept
 returns-in_err-seals-clause-kept g c clean =
     let mid = state g.S.Store c.look.new.conn in
     let early : HasCleanDisk mid = omega (arith, c.look-2.ensures.survives.clean) in
-    kept_then (state g.S.Store c.args.conn.now) mid (state g.S.Store c.look-2.new.conn) (c.look.ensures.kept early) (c.look-2.ensures.kept clean)
+    kept_then (state g.S.Store c.args.conn.now) mid (state g.S.Store c.look-2.new.conn) (c.look.ensures.kept early)
+    (c.look-2.ensures.kept clean)
 
 pub returns-in_err-seals-clause-survives : goal.returns-in_err-seals-clause-survives
 returns-in_err-seals-clause-survives g c =
-    survives_both (state g.S.Store c.args.conn.now) (state g.S.Store c.look.new.conn) (state g.S.Store c.look-2.new.conn) c.look.ensures.survives c.look-2.ensures.survives
+    survives_both (state g.S.Store c.args.conn.now) (state g.S.Store c.look.new.conn)
+    (state g.S.Store c.look-2.new.conn) c.look.ensures.survives c.look-2.ensures.survives
 
 pub returns-clause-kept : goal.returns-clause-kept
 returns-clause-kept g c clean =
     let mid = state g.S.Store c.look.new.conn in
     let early : HasCleanDisk mid = omega (arith, c.look-2.ensures.survives.clean) in
-    kept_then (state g.S.Store c.args.conn.now) mid (state g.S.Store c.look-2.new.conn) (c.look.ensures.kept early) (c.look-2.ensures.kept clean)
+    kept_then (state g.S.Store c.args.conn.now) mid (state g.S.Store c.look-2.new.conn) (c.look.ensures.kept early)
+    (c.look-2.ensures.kept clean)
 
 pub returns-clause-gives : goal.returns-clause-gives
 returns-clause-gives g c clean o has =
@@ -49,11 +55,16 @@ returns-clause-gives g c clean o has =
     let early : HasCleanDisk mid = omega (arith, c.look-2.ensures.survives.clean) in
     let one = rw (c.params-to_sql.ensures) at (c.in_ok-found.ensures.shown early) in
     let two = rw (c.params-to_sql-2.ensures) at (c.in_ok-seals.ensures.shown clean) in
-    let still = subst (λ (db : Database). HasOffice db o) (sym ((c.look.ensures.kept early).committed one.is_open)) has in
-    let first = c.deref.ensures.value ∙ day_looks g.S.Store c.args.conn.now c.look.new.conn o has c.in_ok-found.found.items c.args.day one in
-    let second = c.deref-2.ensures.value ∙ seal_looks g.S.Store c.look.new.conn c.look-2.new.conn o still c.in_ok-seals.seals.items c.args.day two in
-    gives_so (WasRefused g.S.Store) (λ (x : Option DayRecord). x) c.day_of.result (record_of o c.args.day) (c.day_of.ensures (record_of o c.args.day) (record_fits c.args.day o.days has.fits.days) first second)
+    let still =
+    subst (λ (db : Database). HasOffice db o) (sym ((c.look.ensures.kept early).committed one.is_open)) has in
+    let first = c.deref.ensures.value
+    ∙ day_looks g.S.Store c.args.conn.now c.look.new.conn o has c.in_ok-found.found.items c.args.day one in
+    let second = c.deref-2.ensures.value
+    ∙ seal_looks g.S.Store c.look.new.conn c.look-2.new.conn o still c.in_ok-seals.seals.items c.args.day two in
+    gives_so (WasRefused g.S.Store) (λ (x : Option DayRecord). x) c.day_of.result (record_of o c.args.day)
+    (c.day_of.ensures (record_of o c.args.day) (record_fits c.args.day o.days has.fits.days) first second)
 
 pub returns-clause-survives : goal.returns-clause-survives
 returns-clause-survives g c =
-    survives_both (state g.S.Store c.args.conn.now) (state g.S.Store c.look.new.conn) (state g.S.Store c.look-2.new.conn) c.look.ensures.survives c.look-2.ensures.survives
+    survives_both (state g.S.Store c.args.conn.now) (state g.S.Store c.look.new.conn)
+    (state g.S.Store c.look-2.new.conn) c.look.ensures.survives c.look-2.ensures.survives

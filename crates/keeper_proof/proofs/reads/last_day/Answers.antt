@@ -20,27 +20,32 @@ look-requires-2 g c = find_past_asks
 
 pub returns-in_err-days-clause-gives : goal.returns-in_err-days-clause-gives
 returns-in_err-days-clause-gives g c clean o has =
-    refused_so (WasRefused g.S.Store) (λ (x : ℕ). x) c.from_residual.result c.in_err-days.field-0.0 (last_day o) c.from_residual.ensures.1 (λ is. c.in_err-days.ensures.because clean (ap Err is))
+    refused_so (WasRefused g.S.Store) (λ (x : ℕ). x) c.from_residual.result c.in_err-days.field-0.0
+    (last_day o) c.from_residual.ensures.1 (λ is. c.in_err-days.ensures.because clean (ap Err is))
 
 pub returns-in_err-found-clause-gives : goal.returns-in_err-found-clause-gives
 returns-in_err-found-clause-gives g c clean o has =
-    refused_so (WasRefused g.S.Store) (λ (x : ℕ). x) c.from_residual-in_err-found.result c.in_err-found.field-0.0 (last_day o) c.from_residual-in_err-found.ensures.1 (λ is. c.in_err-found.ensures.because clean (ap Err is))
+    refused_so (WasRefused g.S.Store) (λ (x : ℕ). x) c.from_residual-in_err-found.result c.in_err-found.field-0.0
+    (last_day o) c.from_residual-in_err-found.ensures.1 (λ is. c.in_err-found.ensures.because clean (ap Err is))
 
 pub returns-in_err-found-clause-kept : goal.returns-in_err-found-clause-kept
 returns-in_err-found-clause-kept g c clean =
     let mid = state g.S.Store c.look.new.conn in
     let early : HasCleanDisk mid = omega (arith, c.look-2.ensures.survives.clean) in
-    kept_then (state g.S.Store c.args.conn.now) mid (state g.S.Store c.look-2.new.conn) (c.look.ensures.kept early) (c.look-2.ensures.kept clean)
+    kept_then (state g.S.Store c.args.conn.now) mid (state g.S.Store c.look-2.new.conn) (c.look.ensures.kept early)
+    (c.look-2.ensures.kept clean)
 
 pub returns-in_err-found-clause-survives : goal.returns-in_err-found-clause-survives
 returns-in_err-found-clause-survives g c =
-    survives_both (state g.S.Store c.args.conn.now) (state g.S.Store c.look.new.conn) (state g.S.Store c.look-2.new.conn) c.look.ensures.survives c.look-2.ensures.survives
+    survives_both (state g.S.Store c.args.conn.now) (state g.S.Store c.look.new.conn)
+    (state g.S.Store c.look-2.new.conn) c.look.ensures.survives c.look-2.ensures.survives
 
 pub returns-clause-kept : goal.returns-clause-kept
 returns-clause-kept g c clean =
     let mid = state g.S.Store c.look.new.conn in
     let early : HasCleanDisk mid = omega (arith, c.look-2.ensures.survives.clean) in
-    kept_then (state g.S.Store c.args.conn.now) mid (state g.S.Store c.look-2.new.conn) (c.look.ensures.kept early) (c.look-2.ensures.kept clean)
+    kept_then (state g.S.Store c.args.conn.now) mid (state g.S.Store c.look-2.new.conn) (c.look.ensures.kept early)
+    (c.look-2.ensures.kept clean)
 
 pub returns-clause-gives : goal.returns-clause-gives
 returns-clause-gives g c clean o has =
@@ -48,11 +53,17 @@ returns-clause-gives g c clean o has =
     let early : HasCleanDisk mid = omega (arith, c.look-2.ensures.survives.clean) in
     let one = c.in_ok-days.ensures.shown early in
     let two = c.in_ok-found.ensures.shown clean in
-    let still = subst (λ (db : Database). HasOffice db o) (sym ((c.look.ensures.kept early).committed one.is_open)) has in
-    let first = c.deref.ensures.value ∙ last_looks g.S.Store c.args.conn.now c.look.new.conn o has c.in_ok-days.days.items one in
-    let second = c.deref-2.ensures.value ∙ past_looks g.S.Store c.look.new.conn c.look-2.new.conn o still c.in_ok-found.found.items two in
-    gives_so (WasRefused g.S.Store) (λ (x : ℕ). x) c.last_of.result (last_day o) (c.last_of.ensures o.days o.past has.fits.days (past_based o.past o.days o.rows has.fits.past has.sound.past) first second)
+    let still =
+    subst (λ (db : Database). HasOffice db o) (sym ((c.look.ensures.kept early).committed one.is_open)) has in
+    let first = c.deref.ensures.value
+    ∙ last_looks g.S.Store c.args.conn.now c.look.new.conn o has c.in_ok-days.days.items one in
+    let second = c.deref-2.ensures.value
+    ∙ past_looks g.S.Store c.look.new.conn c.look-2.new.conn o still c.in_ok-found.found.items two in
+    gives_so (WasRefused g.S.Store) (λ (x : ℕ). x) c.last_of.result (last_day o)
+    (c.last_of.ensures o.days o.past has.fits.days (past_based o.past o.days o.rows has.fits.past has.sound.past)
+    first second)
 
 pub returns-clause-survives : goal.returns-clause-survives
 returns-clause-survives g c =
-    survives_both (state g.S.Store c.args.conn.now) (state g.S.Store c.look.new.conn) (state g.S.Store c.look-2.new.conn) c.look.ensures.survives c.look-2.ensures.survives
+    survives_both (state g.S.Store c.args.conn.now) (state g.S.Store c.look.new.conn)
+    (state g.S.Store c.look-2.new.conn) c.look.ensures.survives c.look-2.ensures.survives

@@ -13,8 +13,17 @@ look-requires g c = find_spent_asks
 
 pub returns-in_err-found-clause-gives : goal.returns-in_err-found-clause-gives
 returns-in_err-found-clause-gives g c clean o has =
-    refused_so (WasRefused g.S.Store) (λ (x : ℕ). x) c.from_residual.result c.in_err-found.field-0.0 (paid o.rows c.args.day c.args.vid c.args.xway) c.from_residual.ensures.1 (λ is. c.in_err-found.ensures.because clean (ap Err is))
+    refused_so (WasRefused g.S.Store) (λ (x : ℕ). x) c.from_residual.result c.in_err-found.field-0.0
+    (paid o.rows c.args.day c.args.vid c.args.xway) c.from_residual.ensures.1
+    (λ is. c.in_err-found.ensures.because clean (ap Err is))
 
 pub returns-clause-gives : goal.returns-clause-gives
 returns-clause-gives g c clean o has =
-    gives_so (WasRefused g.S.Store) (λ (x : ℕ). x) c.amount_in.result (paid o.rows c.args.day c.args.vid c.args.xway) (c.amount_in.ensures (paid o.rows c.args.day c.args.vid c.args.xway) (subst (λ (l : List Row). HasAmount l (paid o.rows c.args.day c.args.vid c.args.xway)) (sym c.deref.ensures.value) (spent_looks g.S.Store c.args.conn.now c.look.new.conn o has c.in_ok-found.found.items c.args.day c.args.vid c.args.xway (rw (c.params-to_sql.ensures, c.params-to_sql-2.ensures, c.params-to_sql-3.ensures, c.from.ensures) at (c.in_ok-found.ensures.shown clean)))))
+    gives_so (WasRefused g.S.Store) (λ (x : ℕ). x) c.amount_in.result (paid o.rows c.args.day c.args.vid c.args.xway)
+    (c.amount_in.ensures (paid o.rows c.args.day c.args.vid c.args.xway)
+    (subst (λ (l : List Row). HasAmount l (paid o.rows c.args.day c.args.vid c.args.xway))
+    (sym c.deref.ensures.value)
+    (spent_looks g.S.Store c.args.conn.now c.look.new.conn o has c.in_ok-found.found.items c.args.day c.args.vid
+    c.args.xway
+    (rw (c.params-to_sql.ensures, c.params-to_sql-2.ensures, c.params-to_sql-3.ensures, c.from.ensures) at
+    (c.in_ok-found.ensures.shown clean)))))

@@ -15,8 +15,21 @@ look-requires g c = list_vehicle_asks
 
 pub returns-in_err-found-clause-gives : goal.returns-in_err-found-clause-gives
 returns-in_err-found-clause-gives g c clean o has =
-    refused_so (WasRefused g.S.Store) (λ (v : Vec SpentRow Global). v.items) c.from_residual.result c.in_err-found.field-0.0 (vehicle_rows_between o c.args.vid c.args.from c.args.to) c.from_residual.ensures.1 (λ is. c.in_err-found.ensures.because clean (ap Err is))
+    refused_so (WasRefused g.S.Store) (λ (v : Vec SpentRow Global). v.items) c.from_residual.result
+    c.in_err-found.field-0.0 (vehicle_rows_between o c.args.vid c.args.from c.args.to) c.from_residual.ensures.1
+    (λ is. c.in_err-found.ensures.because clean (ap Err is))
 
 pub returns-clause-gives : goal.returns-clause-gives
 returns-clause-gives g c clean o has =
-    gives_so (WasRefused g.S.Store) (λ (v : Vec SpentRow Global). v.items) c.amounts_of.result (vehicle_rows_between o c.args.vid c.args.from c.args.to) (c.amounts_of.ensures.gives (vehicle_rows_between o c.args.vid c.args.from c.args.to) (all-filter FitsSpent (λ r. r.vid == c.args.vid && (nat_le c.args.from r.day && nat_le r.day c.args.to)) o.rows has.fits.rows) (IsStrictlySortedBy-filter row_cmp (λ r. r.vid == c.args.vid && (nat_le c.args.from r.day && nat_le r.day c.args.to)) o.rows has.sound.rows_rise) (c.deref.ensures.value ∙ vehicle_rows_look g.S.Store c.args.conn.now c.look.new.conn o has c.in_ok-found.found.items c.args.vid c.args.from c.args.to (rw (c.params-to_sql.ensures, c.params-to_sql-2.ensures, c.params-to_sql-3.ensures) at (c.in_ok-found.ensures.shown clean))))
+    gives_so (WasRefused g.S.Store) (λ (v : Vec SpentRow Global). v.items) c.amounts_of.result
+    (vehicle_rows_between o c.args.vid c.args.from c.args.to)
+    (c.amounts_of.ensures.gives (vehicle_rows_between o c.args.vid c.args.from c.args.to)
+    (all-filter FitsSpent (λ r. r.vid == c.args.vid && (nat_le c.args.from r.day && nat_le r.day c.args.to)) o.rows
+    has.fits.rows)
+    (IsStrictlySortedBy-filter row_cmp
+    (λ r. r.vid == c.args.vid && (nat_le c.args.from r.day && nat_le r.day c.args.to)) o.rows has.sound.rows_rise)
+    (c.deref.ensures.value
+    ∙ vehicle_rows_look g.S.Store c.args.conn.now c.look.new.conn o has c.in_ok-found.found.items c.args.vid
+    c.args.from c.args.to
+    (rw (c.params-to_sql.ensures, c.params-to_sql-2.ensures, c.params-to_sql-3.ensures) at
+    (c.in_ok-found.ensures.shown clean))))

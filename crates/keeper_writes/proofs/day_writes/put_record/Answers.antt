@@ -37,16 +37,27 @@ returns-in-Ok-clause-puts g c clean inside contents holds later =
 
 pub returns-in-Err-clause-refused : goal.returns-in-Err-clause-refused
 returns-in-Err-clause-refused g c clean inside =
-    record { sql = put_day; params = _; before = c.args.tx.now.conn.now; after = c.execute.new.self.conn.now; refused = inr (inl (c.in-Err.ensures.runs clean inside)) }
+    record {
+      sql = put_day;
+      params = _;
+      before = c.args.tx.now.conn.now;
+      after = c.execute.new.self.conn.now;
+      refused =
+          inr (inl (c.in-Err.ensures.runs clean inside));
+    }
 
 pub returns-in-Ok-clause-digest : goal.returns-in-Ok-clause-digest
-returns-in-Ok-clause-digest g c = whole_by c.args.kept.now.digest c.bytes_of-digest.ensures.long c.bytes_of-digest.ensures.each
+returns-in-Ok-clause-digest g c =
+    whole_by c.args.kept.now.digest c.bytes_of-digest.ensures.long c.bytes_of-digest.ensures.each
 
 pub returns-in-Ok-clause-told : goal.returns-in-Ok-clause-told
-returns-in-Ok-clause-told g c = whole_by c.args.kept.now.notices_digest c.bytes_of-told.ensures.long c.bytes_of-told.ensures.each
+returns-in-Ok-clause-told g c =
+    whole_by c.args.kept.now.notices_digest c.bytes_of-told.ensures.long c.bytes_of-told.ensures.each
 
 pub returns-in-Err-clause-digest : goal.returns-in-Err-clause-digest
-returns-in-Err-clause-digest g c = whole_by c.args.kept.now.digest c.bytes_of-digest.ensures.long c.bytes_of-digest.ensures.each
+returns-in-Err-clause-digest g c =
+    whole_by c.args.kept.now.digest c.bytes_of-digest.ensures.long c.bytes_of-digest.ensures.each
 
 pub returns-in-Err-clause-told : goal.returns-in-Err-clause-told
-returns-in-Err-clause-told g c = whole_by c.args.kept.now.notices_digest c.bytes_of-told.ensures.long c.bytes_of-told.ensures.each
+returns-in-Err-clause-told g c =
+    whole_by c.args.kept.now.notices_digest c.bytes_of-told.ensures.long c.bytes_of-told.ensures.each

@@ -12,13 +12,23 @@ pub returns-in-Ok-clause-puts : goal.returns-in-Ok-clause-puts
 returns-in-Ok-clause-puts g c clean inside version contents holds r day seal later =
     let old = state g.S.Store c.args.tx.now.conn.now in
     let new = state g.S.Store c.execute.new.self.conn.now in
-    let ran = (rw (c.params-to_sql.ensures, c.params-to_sql-2.ensures, c.bytes_of-bytes.ensures.same) at (c.in-Ok.ensures.runs clean inside)).0 in
+    let ran =
+    (rw (c.params-to_sql.ensures, c.params-to_sql-2.ensures, c.bytes_of-bytes.ensures.same) at
+    (c.in-Ok.ensures.runs clean inside)).0 in
     seal_puts version old new contents r c.in-Ok.field-0 holds later
-    (subst₂ (λ (n : ℕ) (d : Digest). Executes put_seal (Int (pos n) ∷ Blob d.bytes ∷ []) old new (Ok c.in-Ok.field-0)) (sym day) (sym seal) ran)
+    (subst₂ (λ (n : ℕ) (d : Digest). Executes put_seal (Int (pos n) ∷ Blob d.bytes ∷ []) old new (Ok c.in-Ok.field-0))
+    (sym day) (sym seal) ran)
 
 pub returns-in-Err-clause-refused : goal.returns-in-Err-clause-refused
 returns-in-Err-clause-refused g c clean inside =
-    record { sql = put_seal; params = _; before = c.args.tx.now.conn.now; after = c.execute.new.self.conn.now; refused = inr (inl (c.in-Err.ensures.runs clean inside)) }
+    record {
+      sql = put_seal;
+      params = _;
+      before = c.args.tx.now.conn.now;
+      after = c.execute.new.self.conn.now;
+      refused =
+          inr (inl (c.in-Err.ensures.runs clean inside));
+    }
 
 pub returns-in-Ok-clause-fits : goal.returns-in-Ok-clause-fits
 returns-in-Ok-clause-fits g c = whole_by c.args.seal.now c.bytes_of-bytes.ensures.long c.bytes_of-bytes.ensures.each

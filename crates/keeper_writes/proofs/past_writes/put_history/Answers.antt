@@ -11,18 +11,46 @@ returns-in-Ok-clause-puts g c clean inside contents holds none =
     let new = state g.S.Store c.execute.new.self.conn.now in
     let bytes : to_z w64 (of_z w64 c.column-bytes.result) ≡ c.column-bytes.result = search rules in
     let count : to_z w64 (of_z w64 c.column-count.result) ≡ c.column-count.result = search rules in
-    let ran = (rw (c.params-to_sql.ensures, c.params-to_sql-2.ensures, c.params-to_sql-3.ensures, c.params-to_sql-4.ensures, c.bytes_of-digest.ensures.same, bytes, count, c.column-bytes.ensures, c.column-count.ensures)
+    let ran =
+    (rw (
+      c.params-to_sql.ensures,
+      c.params-to_sql-2.ensures,
+      c.params-to_sql-3.ensures,
+      c.params-to_sql-4.ensures,
+      c.bytes_of-digest.ensures.same,
+      bytes,
+      count,
+      c.column-bytes.ensures,
+      c.column-count.ensures,
+    )
     at (c.in-Ok.ensures.runs clean inside)).0 in
     past_puts old new contents c.args.kept.now c.in-Ok.field-0 holds none ran
 
 pub returns-in-Err-clause-refused : goal.returns-in-Err-clause-refused
 returns-in-Err-clause-refused g c clean inside =
-    record { sql = put_past; params = _; before = c.args.tx.now.conn.now; after = c.execute.new.self.conn.now; refused = inr (inl (c.in-Err.ensures.runs clean inside)) }
+    record {
+      sql = put_past;
+      params = _;
+      before = c.args.tx.now.conn.now;
+      after = c.execute.new.self.conn.now;
+      refused =
+          inr (inl (c.in-Err.ensures.runs clean inside));
+    }
 
 pub returns-in-Ok-clause-fits : goal.returns-in-Ok-clause-fits
-returns-in-Ok-clause-fits g c =
-    (search rules, c.requires.bytes, c.requires.rows, whole_by c.args.kept.now.digest c.bytes_of-digest.ensures.long c.bytes_of-digest.ensures.each)
+returns-in-Ok-clause-fits g c = (
+  search rules,
+  c.requires.bytes,
+  c.requires.rows,
+  whole_by c.args.kept.now.digest c.bytes_of-digest.ensures.long
+      c.bytes_of-digest.ensures.each,
+)
 
 pub returns-in-Err-clause-fits : goal.returns-in-Err-clause-fits
-returns-in-Err-clause-fits g c =
-    (search rules, c.requires.bytes, c.requires.rows, whole_by c.args.kept.now.digest c.bytes_of-digest.ensures.long c.bytes_of-digest.ensures.each)
+returns-in-Err-clause-fits g c = (
+  search rules,
+  c.requires.bytes,
+  c.requires.rows,
+  whole_by c.args.kept.now.digest c.bytes_of-digest.ensures.long
+      c.bytes_of-digest.ensures.each,
+)

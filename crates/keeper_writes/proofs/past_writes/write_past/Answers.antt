@@ -12,10 +12,13 @@ returns-clause-wrote g c clean inside o has none =
     let new = state g.S.Store c.put_amounts.new.tx.conn.now in
     let early : HasCleanDisk first = omega (arith, c.put_amounts.ensures.survives.clean) in
     let two = with_history c.args.kept.now (contents_of o) in
-    let recorded : Holds first.now two = c.in_ok-put_history.ensures.puts early inside (contents_of o) has.tables none.past in
+    let recorded : Holds first.now two =
+    c.in_ok-put_history.ensures.puts early inside (contents_of o) has.tables none.past in
     let in_first : IsTrue first.in_transaction = (c.in_ok-put_history.ensures.inside early inside).mode ∙ inside in
-    ok_both c.put_amounts.result _ _ _ (c.put_amounts.ensures.adds clean in_first recorded.schema) c.put_amounts.ensures.fits
-    (λ adds small. past_stands old.now new.now o c.args.kept.now c.args.rows.now has c.requires none c.put_history.ensures.fits small (adds_holds first.now new.now two c.args.rows.now recorded adds))
+    ok_both c.put_amounts.result _ _ _ (c.put_amounts.ensures.adds clean in_first recorded.schema)
+    c.put_amounts.ensures.fits
+    (λ adds small. past_stands old.now new.now o c.args.kept.now c.args.rows.now has c.requires none
+    c.put_history.ensures.fits small (adds_holds first.now new.now two c.args.rows.now recorded adds))
 
 pub put_amounts-requires : goal.put_amounts-requires
 put_amounts-requires g c = c.requires.small
@@ -27,7 +30,8 @@ returns-clause-inside g c clean inside =
     let new = state g.S.Store c.put_amounts.new.tx.conn.now in
     let early : HasCleanDisk first = omega (arith, c.put_amounts.ensures.survives.clean) in
     let one = c.in_ok-put_history.ensures.inside early inside in
-    stays_then old first new c.put_amounts.result one (c.put_amounts.ensures.inside clean one.is_open (one.mode ∙ inside))
+    stays_then old first new c.put_amounts.result one
+    (c.put_amounts.ensures.inside clean one.is_open (one.mode ∙ inside))
 
 pub returns-clause-refused : goal.returns-clause-refused
 returns-clause-refused g c clean inside =
@@ -38,4 +42,5 @@ returns-clause-refused g c clean inside =
 
 pub returns-clause-survives : goal.returns-clause-survives
 returns-clause-survives g c =
-    survives_both (state g.S.Store c.args.tx.now.conn.now) (state g.S.Store c.put_history.new.tx.conn.now) (state g.S.Store c.put_amounts.new.tx.conn.now) c.put_history.ensures.survives c.put_amounts.ensures.survives
+    survives_both (state g.S.Store c.args.tx.now.conn.now) (state g.S.Store c.put_history.new.tx.conn.now)
+    (state g.S.Store c.put_amounts.new.tx.conn.now) c.put_history.ensures.survives c.put_amounts.ensures.survives

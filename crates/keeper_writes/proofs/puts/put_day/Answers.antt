@@ -14,7 +14,15 @@ pub returns-in-Err-clause-because : goal.returns-in-Err-clause-because
 returns-in-Err-clause-because g c clean failed = record {
   error = c.in-Err.error;
   cause = not_memory c.refusal.result c.in-Err.error c.refusal.ensures failed;
-  refused = record { sql = undo; params = []; before = c.args.conn.now; after = c.settle.new.conn; refused = inl (c.in-Err.ensures.refused clean) };
+  refused =
+      record {
+        sql = undo;
+        params = [];
+        before = c.args.conn.now;
+        after = c.settle.new.conn;
+        refused =
+            inl (c.in-Err.ensures.refused clean);
+      };
 }
 
 pub returns-in-Ok-clause-put : goal.returns-in-Ok-clause-put
@@ -27,17 +35,23 @@ returns-in-Ok-clause-put g c clean still o has fit =
 
 pub returns-in-Ok-clause-crash : goal.returns-in-Ok-clause-crash
 returns-in-Ok-clause-crash g c =
-    put_survives (state g.S.Store c.args.conn.now) (state g.S.Store c.settle.new.conn) (state g.S.Store c.keep_day.new.conn) (IsLater c.args.kept.now.day) (with_day c.args.kept.now c.args.rows.now)
-    (λ clean here. c.in_default.ensures.settled clean here) c.settle.ensures.kept c.settle.ensures.survives c.keep_day.ensures.crash
+    put_survives (state g.S.Store c.args.conn.now) (state g.S.Store c.settle.new.conn)
+    (state g.S.Store c.keep_day.new.conn) (IsLater c.args.kept.now.day) (with_day c.args.kept.now c.args.rows.now)
+    (λ clean here. c.in_default.ensures.settled clean here) c.settle.ensures.kept c.settle.ensures.survives
+    c.keep_day.ensures.crash
 
 pub returns-in-Err-keep_day-clause-crash : goal.returns-in-Err-keep_day-clause-crash
 returns-in-Err-keep_day-clause-crash g c =
-    put_survives (state g.S.Store c.args.conn.now) (state g.S.Store c.settle.new.conn) (state g.S.Store c.keep_day.new.conn) (IsLater c.args.kept.now.day) (with_day c.args.kept.now c.args.rows.now)
-    (λ clean here. c.in_default.ensures.settled clean here) c.settle.ensures.kept c.settle.ensures.survives c.keep_day.ensures.crash
+    put_survives (state g.S.Store c.args.conn.now) (state g.S.Store c.settle.new.conn)
+    (state g.S.Store c.keep_day.new.conn) (IsLater c.args.kept.now.day) (with_day c.args.kept.now c.args.rows.now)
+    (λ clean here. c.in_default.ensures.settled clean here) c.settle.ensures.kept c.settle.ensures.survives
+    c.keep_day.ensures.crash
 
 pub returns-in-Err-keep_day-clause-refused : goal.returns-in-Err-keep_day-clause-refused
 returns-in-Err-keep_day-clause-refused g c clean =
-    kept_then (state g.S.Store c.args.conn.now) (state g.S.Store c.settle.new.conn) (state g.S.Store c.keep_day.new.conn) (c.settle.ensures.kept (omega (arith, c.keep_day.ensures.crash.clean))) (c.in-Err-keep_day.ensures.refused clean)
+    kept_then (state g.S.Store c.args.conn.now) (state g.S.Store c.settle.new.conn)
+    (state g.S.Store c.keep_day.new.conn) (c.settle.ensures.kept (omega (arith, c.keep_day.ensures.crash.clean)))
+    (c.in-Err-keep_day.ensures.refused clean)
 
 pub returns-in-Err-keep_day-clause-because : goal.returns-in-Err-keep_day-clause-because
 returns-in-Err-keep_day-clause-because g c clean failed =
@@ -46,5 +60,11 @@ returns-in-Err-keep_day-clause-because g c clean failed =
     let calm = c.in_default.ensures.calm early in
     elim (c.in-Err-keep_day.ensures.because clean) [
       | inl inside ↦ absurd (let e = sym calm ∙ inside in cc)
-      | inr refused ↦ record { error = c.in-Err-keep_day.error; cause = not_memory c.refusal-in-Err-keep_day.result c.in-Err-keep_day.error c.refusal-in-Err-keep_day.ensures failed; refused = refused }
+      | inr refused ↦ record {
+        error = c.in-Err-keep_day.error;
+        cause =
+            not_memory c.refusal-in-Err-keep_day.result c.in-Err-keep_day.error c.refusal-in-Err-keep_day.ensures
+            failed;
+        refused = refused;
+      }
     ]

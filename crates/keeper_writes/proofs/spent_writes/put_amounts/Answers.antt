@@ -17,15 +17,27 @@ rows-preserved g c =
     let mid = state g.S.Store c.rows.tx.conn.now in
     let new = state g.S.Store c.put_amount.new.tx.conn.now in
     let kept = c.rows.invariant in
-    let one : AllByRecursion FitsSpent (get_or c.args.rows.now c.rows.row-index (record { day = 0; vid = 0; xway = 0; tolls = 0 }) ∷ []) = (c.put_amount.ensures.fits, tt) in
-    let before = λ (clean : HasCleanDisk new). let h : HasCleanDisk mid = omega (arith, c.put_amount.ensures.survives.clean) in h in
-    let more = take_more c.args.rows.now c.rows.row-index (record { day = 0; vid = 0; xway = 0; tolls = 0 }) c.rows-test.true in (
+    let one : AllByRecursion FitsSpent
+    (get_or c.args.rows.now c.rows.row-index (record { day = 0; vid = 0; xway = 0; tolls = 0 }) ∷ []) =
+    (c.put_amount.ensures.fits, tt) in
+    let before = λ (clean : HasCleanDisk new). let h : HasCleanDisk mid =
+    omega (arith, c.put_amount.ensures.survives.clean) in h in
+    let more =
+    take_more c.args.rows.now c.rows.row-index (record { day = 0; vid = 0; xway = 0; tolls = 0 })
+    c.rows-test.true in (
       c.put_amount.ensures.same_reference ∙ kept.0,
-      survives_then old mid new (λ _. ⊥) (λ _. ⊥) (λ _. ⊥) (λ _ db none. none) (λ _ db none. none) kept.1 c.put_amount.ensures.survives,
-      λ clean inside. (c.in_ok-put_amount.ensures.inside clean (kept.2 (before clean) inside)).mode ∙ kept.2 (before clean) inside,
-      λ clean here inside. shows_then old mid new (kept.3 (before clean) here inside) (c.in_ok-put_amount.ensures.inside clean (kept.2 (before clean) inside)),
+      survives_then old mid new (λ _. ⊥) (λ _. ⊥) (λ _. ⊥) (λ _ db none. none) (λ _ db none. none) kept.1
+          c.put_amount.ensures.survives,
+      λ clean inside. (c.in_ok-put_amount.ensures.inside clean (kept.2 (before clean) inside)).mode
+          ∙ kept.2 (before clean) inside,
+      λ clean here inside. shows_then old mid new (kept.3 (before clean) here inside)
+          (c.in_ok-put_amount.ensures.inside clean (kept.2 (before clean) inside)),
       λ clean inside schema.
           let so_far = kept.4 (before clean) inside schema in
-          subst (Adds old.now new.now) (sym more) (adds_then old.now mid.now new.now _ _ so_far (c.in_ok-put_amount.ensures.adds clean (kept.2 (before clean) inside) so_far.schema)),
-      subst (AllByRecursion FitsSpent) (sym more) (all-append FitsSpent (take c.rows.row-index c.args.rows.now) (get_or c.args.rows.now c.rows.row-index (record { day = 0; vid = 0; xway = 0; tolls = 0 }) ∷ []) kept.5 one),
+          subst (Adds old.now new.now) (sym more)
+          (adds_then old.now mid.now new.now _ _ so_far
+          (c.in_ok-put_amount.ensures.adds clean (kept.2 (before clean) inside) so_far.schema)),
+      subst (AllByRecursion FitsSpent) (sym more)
+          (all-append FitsSpent (take c.rows.row-index c.args.rows.now)
+          (get_or c.args.rows.now c.rows.row-index (record { day = 0; vid = 0; xway = 0; tolls = 0 }) ∷ []) kept.5 one),
     )

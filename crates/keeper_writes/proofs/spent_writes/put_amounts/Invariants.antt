@@ -13,6 +13,8 @@ invariant-rows g l =
     let now = state g.S.Store l.tx.conn.now in
     (l.tx.conn.ghost_name ≡ l.fn.tx.conn.ghost_name) × Survives old now (λ _. ⊥)
     × (HasCleanDisk now → IsTrue old.in_transaction → IsTrue now.in_transaction)
-    × (HasCleanDisk now → IsTrue old.is_open → IsTrue old.in_transaction → Shows old now now.now old.committed old.in_transaction)
-    × (HasCleanDisk now → IsTrue old.in_transaction → old.now.schema ≡ all_tables → Adds old.now now.now (take l.row-index l.rows))
+    × (HasCleanDisk now → IsTrue old.is_open → IsTrue old.in_transaction →
+    Shows old now now.now old.committed old.in_transaction)
+    × (HasCleanDisk now → IsTrue old.in_transaction → old.now.schema ≡ all_tables →
+    Adds old.now now.now (take l.row-index l.rows))
     × AllByRecursion FitsSpent (take l.row-index l.rows)

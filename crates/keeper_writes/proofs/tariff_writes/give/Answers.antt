@@ -6,9 +6,25 @@ use Rattle.keeper_writes.proofs.tariff_writes.give.Goals as goal
 
 pub returns-in-Ok-clause-gave : goal.returns-in-Ok-clause-gave
 returns-in-Ok-clause-gave g c clean inside o has own =
-    put_writes (state g.S.Store c.args.tx.now.conn.now) (state g.S.Store c.execute.new.self.conn.now) c.args.xway c.in-Ok.field-0 c.args.tariff.now o c.ranges.xway.fits c.requires own has
-    (rw (c.params-to_sql.ensures, c.params-to_sql-2.ensures, c.params-to_sql-3.ensures, c.params-to_sql-4.ensures, c.from.ensures, c.from-2.ensures, c.from-3.ensures) at (c.in-Ok.ensures.runs clean inside)).0
+    put_writes (state g.S.Store c.args.tx.now.conn.now) (state g.S.Store c.execute.new.self.conn.now) c.args.xway
+    c.in-Ok.field-0 c.args.tariff.now o c.ranges.xway.fits c.requires own has
+    (rw (
+      c.params-to_sql.ensures,
+      c.params-to_sql-2.ensures,
+      c.params-to_sql-3.ensures,
+      c.params-to_sql-4.ensures,
+      c.from.ensures,
+      c.from-2.ensures,
+      c.from-3.ensures,
+    ) at (c.in-Ok.ensures.runs clean inside)).0
 
 pub returns-in-Err-clause-refused : goal.returns-in-Err-clause-refused
 returns-in-Err-clause-refused g c clean inside =
-    record { sql = put_tariff; params = _; before = c.args.tx.now.conn.now; after = c.execute.new.self.conn.now; refused = inr (inl (c.in-Err.ensures.runs clean inside)) }
+    record {
+      sql = put_tariff;
+      params = _;
+      before = c.args.tx.now.conn.now;
+      after =
+          c.execute.new.self.conn.now;
+      refused = inr (inl (c.in-Err.ensures.runs clean inside));
+    }

@@ -18,4 +18,5 @@ returns-clause-wrote g c clean inside o has =
     let still : IsTrue mid.in_transaction = (c.in_ok-take.ensures.inside early inside).mode ∙ inside in
     let own : same_tariff c.args.tariff.now benchmark ≡ false = sym c.eq.ensures ∙ c.if-eq.false in
     let gave = c.give.ensures.gave clean still between took own in
-    subst (λ (p : Office). OnOk c.give.result (HasOffice new.now p)) (set_after_taken c.args.xway c.args.tariff.now o has.sound.tariffs own) gave
+    subst (λ (p : Office). OnOk c.give.result (HasOffice new.now p))
+    (set_after_taken c.args.xway c.args.tariff.now o has.sound.tariffs own) gave

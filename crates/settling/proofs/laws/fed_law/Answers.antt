@@ -4,4 +4,11 @@ use Rattle.settling.proofs.StayLaws.{up_to_run, run_between, behind_run}
 use Rattle.settling.proofs.laws.fed_law.Goals as goal
 
 pub returns : goal.returns
-returns c = λ fed a count h. (up_to_run fed a count h, behind_run a count fed, run_between fed a count h, λ finding. ap (charges_by finding) (run_between fed a count h))
+returns c =
+    λ fed a count h. (
+      up_to_run fed a count h,
+      behind_run a count fed,
+      run_between fed a count h,
+      λ finding. ap (charges_by finding)
+          (run_between fed a count h),
+    )

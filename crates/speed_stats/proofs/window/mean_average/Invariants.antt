@@ -6,7 +6,8 @@ use Rattle.speed_stats.proofs.window.mean_average.Given as goal
 
 abbrev pub invariant-loop-flow : goal.invariant-loop-flow
 invariant-loop-flow l = record {
-  sum : fold plus_average (record { num = 0; den = 1 }) (filter has_cars (map shown (take l.flow-index l.flows))) ≡ record { num = l.num; den = l.den };
+  sum : fold plus_average (record { num = 0; den = 1 }) (filter has_cars (map shown (take l.flow-index l.flows)))
+      ≡ record { num = l.num; den = l.den };
   busy : length (filter has_cars (map shown (take l.flow-index l.flows))) ≡ l.busy;
   few : l.busy ≤ l.flow-index;
   den_some : 1 ≤ l.den;

@@ -3,4 +3,9 @@ use Rattle.standing_crew.proofs.OtherSteps.{add_at}
 use Rattle.standing_crew.proofs.moves.lie_down.Goals as goal
 
 pub fetch_add-requires : goal.fetch_add-requires
-fetch_add-requires c = (search rules, (let w = c.requires.seat.1 in omega arith), add_at c.args.count _ _ 2 1 c.args.seat.now.me c.requires.count.0 (omega arith))
+fetch_add-requires c = (
+  search rules,
+  (let w = c.requires.seat.1 in omega arith),
+  add_at c.args.count _ _ 2 1 c.args.seat.now.me
+      c.requires.count.0 (omega arith),
+)

@@ -14,7 +14,8 @@ taken-requires g c =
 pub unreachable-requires : goal.unreachable-requires
 unreachable-requires g c =
     let (e, is) = taken_at c.args.number c.args.items.now c.requires.out in
-    let none : slice_get c.args.items.now c.args.number ≡ Some None = subst (λ n. slice_get c.args.items.now n ≡ Some None) c.from.ensures (c.in-None.ensures).value in
+    let none : slice_get c.args.items.now c.args.number ≡ Some None =
+    subst (λ n. slice_get c.args.items.now n ≡ Some None) c.from.ensures (c.in-None.ensures).value in
     none-some e (same_Some _ _ (sym none ∙ is))
 
 pub returns : goal.returns

@@ -12,7 +12,9 @@ returns-clause-grown g c clean lacks o stands =
     let old = state g.S.Store c.args.conn.now in
     let early : HasCleanDisk (state g.S.Store c.is_there.new.conn) = omega (arith, c.grow.ensures.crash.clean) in
     let is_old = c.in_ok-is_old.is_old in
-    c.grow.ensures.grown clean o (subst (λ (d : Database). Stood is_old d o) (sym (c.in_ok-is_old.ensures.same early).0.now_is) (stood_by is_old old.now o stands lacks (c.in_ok-is_old.ensures.says early)))
+    c.grow.ensures.grown clean o
+    (subst (λ (d : Database). Stood is_old d o) (sym (c.in_ok-is_old.ensures.same early).0.now_is)
+    (stood_by is_old old.now o stands lacks (c.in_ok-is_old.ensures.says early)))
 
 pub returns-clause-open : goal.returns-clause-open
 returns-clause-open g c clean here =
@@ -24,9 +26,11 @@ returns-clause-refused g c clean =
     let old = state g.S.Store c.args.conn.now in
     let mid = state g.S.Store c.is_there.new.conn in
     let early : HasCleanDisk mid = omega (arith, c.grow.ensures.crash.clean) in
-    on_err c.grow.result _ _ (c.grow.ensures.refused clean) (kept_then old mid (state g.S.Store c.grow.new.conn) (c.is_there.ensures.kept early))
+    on_err c.grow.result _ _ (c.grow.ensures.refused clean)
+    (kept_then old mid (state g.S.Store c.grow.new.conn) (c.is_there.ensures.kept early))
 
 pub returns-clause-crash : goal.returns-clause-crash
 returns-clause-crash g c =
-    here_survives (state g.S.Store c.args.conn.now) (state g.S.Store c.is_there.new.conn) (state g.S.Store c.grow.new.conn) c.in_ok-is_old.is_old
+    here_survives (state g.S.Store c.args.conn.now) (state g.S.Store c.is_there.new.conn)
+    (state g.S.Store c.grow.new.conn) c.in_ok-is_old.is_old
     c.in_ok-is_old.ensures.same c.in_ok-is_old.ensures.says c.is_there.ensures.survives c.grow.ensures.crash

@@ -4,10 +4,16 @@ use Rattle.table_making.proofs.GrowLaws.{missed_says, not_run_keeps}
 use Rattle.table_making.proofs.makings.is_there.Goals as goal
 
 pub returns-clause-says : goal.returns-clause-says
-returns-clause-says g c clean = (missed_says (state g.S.Store c.args.conn.now) (state g.S.Store c.prepare.new.self) c.args.sql.now c.in-Err.error c.misses.result c.misses.ensures (c.in-Err.ensures.err clean)).0
+returns-clause-says g c clean =
+    (missed_says (state g.S.Store c.args.conn.now) (state g.S.Store c.prepare.new.self) c.args.sql.now c.in-Err.error
+    c.misses.result c.misses.ensures (c.in-Err.ensures.err clean)).0
 
 pub returns-clause-same : goal.returns-clause-same
-returns-clause-same g c clean = (missed_says (state g.S.Store c.args.conn.now) (state g.S.Store c.prepare.new.self) c.args.sql.now c.in-Err.error c.misses.result c.misses.ensures (c.in-Err.ensures.err clean)).1
+returns-clause-same g c clean =
+    (missed_says (state g.S.Store c.args.conn.now) (state g.S.Store c.prepare.new.self) c.args.sql.now c.in-Err.error
+    c.misses.result c.misses.ensures (c.in-Err.ensures.err clean)).1
 
 pub returns-clause-kept : goal.returns-clause-kept
-returns-clause-kept g c clean = not_run_keeps (state g.S.Store c.args.conn.now) (state g.S.Store c.prepare.new.self) c.args.sql.now [] c.in-Err.error (c.in-Err.ensures.err clean [])
+returns-clause-kept g c clean =
+    not_run_keeps (state g.S.Store c.args.conn.now) (state g.S.Store c.prepare.new.self) c.args.sql.now []
+    c.in-Err.error (c.in-Err.ensures.err clean [])

@@ -8,7 +8,8 @@ use Rattle.table_making.proofs.makings.make.Goals as goal
 
 pub returns-in_err-settle-clause-stands : goal.returns-in_err-settle-clause-stands
 returns-in_err-settle-clause-stands g c clean here o stands =
-    err_stands (state g.S.Store c.args.conn.now) (state g.S.Store c.settle.new.conn) c.from_residual.result _ o c.from_residual.ensures.0 here stands (c.settle.ensures.kept clean)
+    err_stands (state g.S.Store c.args.conn.now) (state g.S.Store c.settle.new.conn) c.from_residual.result _ o
+    c.from_residual.ensures.0 here stands (c.settle.ensures.kept clean)
 
 pub returns-clause-stands : goal.returns-clause-stands
 returns-clause-stands g c clean here o stands =
@@ -18,10 +19,13 @@ returns-clause-stands g c clean here o stands =
     let now = c.in_ok-settle.ensures.settled early before in
     let kept = (c.settle.ensures.kept early).committed before in (
       c.make_here.ensures.made clean now o (subst (λ (d : Database). StandsForOffice d o) (sym (now ∙ kept)) stands),
-      on_err c.make_here.result _ _ (c.make_here.ensures.refused clean) (λ same. subst (λ (d : Database). StandsForOffice d o) (sym (same.committed here ∙ kept)) stands),
+      on_err c.make_here.result _ _ (c.make_here.ensures.refused clean)
+          (λ same. subst (λ (d : Database). StandsForOffice d o) (sym (same.committed here ∙ kept)) stands),
     )
 
 pub returns-clause-crash : goal.returns-clause-crash
 returns-clause-crash g c =
-    same_survives (state g.S.Store c.args.conn.now) (state g.S.Store c.settle.new.conn) (state g.S.Store c.make_here.new.conn)
-    (λ early here. c.in_ok-settle.ensures.settled early here) c.settle.ensures.kept c.settle.ensures.survives c.make_here.ensures.crash
+    same_survives (state g.S.Store c.args.conn.now) (state g.S.Store c.settle.new.conn)
+    (state g.S.Store c.make_here.new.conn)
+    (λ early here. c.in_ok-settle.ensures.settled early here) c.settle.ensures.kept c.settle.ensures.survives
+    c.make_here.ensures.crash

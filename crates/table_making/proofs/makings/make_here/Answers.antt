@@ -12,19 +12,25 @@ use Rattle.table_making.proofs.makings.make_here.Goals as goal
 pub returns-then-branch-clause-made : goal.returns-then-branch-clause-made
 returns-then-branch-clause-made g c clean same o stands =
     let old = state g.S.Store c.args.conn.now in
-    let said = subst (λ (b : Bool). SaysIf b (IsUnderstood (understood old.now.schema find_version))) c.if-branch.true (c.in_ok-is_there.ensures.says clean) in
-    subst (λ (d : Database). HasOffice d o) (sym ((c.in_ok-is_there.ensures.same clean).0.committed_is ∙ sym same)) (six_there old.now o stands said)
+    let said = subst (λ (b : Bool). SaysIf b (IsUnderstood (understood old.now.schema find_version))) c.if-branch.true
+    (c.in_ok-is_there.ensures.says clean) in
+    subst (λ (d : Database). HasOffice d o) (sym ((c.in_ok-is_there.ensures.same clean).0.committed_is ∙ sym same))
+    (six_there old.now o stands said)
 
 pub returns-clause-made : goal.returns-clause-made
 returns-clause-made g c clean same o stands =
     let old = state g.S.Store c.args.conn.now in
     let early : HasCleanDisk (state g.S.Store c.is_there.new.conn) = omega (arith, c.grow_by.ensures.crash.clean) in
-    let lacks = subst (λ (b : Bool). SaysIf b (IsUnderstood (understood old.now.schema find_version))) c.if-branch.false (c.in_ok-is_there.ensures.says early) in
+    let lacks = subst (λ (b : Bool). SaysIf b (IsUnderstood (understood old.now.schema find_version))) c.if-branch.false
+    (c.in_ok-is_there.ensures.says early) in
     let now = (c.in_ok-is_there.ensures.same early).0.now_is in
-    c.grow_by.ensures.grown clean (subst LacksVersion (sym now) lacks) o (subst (λ (d : Database). StandsForOffice d o) (sym now) stands)
+    c.grow_by.ensures.grown clean (subst LacksVersion (sym now) lacks) o
+    (subst (λ (d : Database). StandsForOffice d o) (sym now) stands)
 
 pub returns-clause-crash : goal.returns-clause-crash
 returns-clause-crash g c =
     let old = state g.S.Store c.args.conn.now in
-    open_survives old (state g.S.Store c.is_there.new.conn) (state g.S.Store c.grow_by.new.conn) c.in_ok-is_there.ensures.same
-    (λ early. subst (λ (b : Bool). SaysIf b (IsUnderstood (understood old.now.schema find_version))) c.if-branch.false (c.in_ok-is_there.ensures.says early)) c.is_there.ensures.survives c.grow_by.ensures.crash
+    open_survives old (state g.S.Store c.is_there.new.conn) (state g.S.Store c.grow_by.new.conn)
+    c.in_ok-is_there.ensures.same
+    (λ early. subst (λ (b : Bool). SaysIf b (IsUnderstood (understood old.now.schema find_version))) c.if-branch.false
+    (c.in_ok-is_there.ensures.says early)) c.is_there.ensures.survives c.grow_by.ensures.crash

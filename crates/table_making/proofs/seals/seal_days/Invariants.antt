@@ -15,6 +15,8 @@ invariant-days g l =
     let now = state g.S.Store l.tx.conn.now in
     (l.tx.conn.ghost_name ≡ l.fn.tx.conn.ghost_name) × Survives old now (λ _. ⊥)
     × (HasCleanDisk now → IsTrue old.in_transaction → IsTrue now.in_transaction)
-    × (HasCleanDisk now → IsTrue old.is_open → IsTrue old.in_transaction → Shows old now now.now old.committed old.in_transaction)
-    × (HasCleanDisk now → IsTrue old.in_transaction → (o : Office) → IsUnsealed old.now o → l.seal ≡ seal_of [] → l.days ≡ map number_columns o.days
+    × (HasCleanDisk now → IsTrue old.is_open → IsTrue old.in_transaction →
+    Shows old now now.now old.committed old.in_transaction)
+    × (HasCleanDisk now → IsTrue old.in_transaction → (o : Office) → IsUnsealed old.now o → l.seal ≡ seal_of [] →
+    l.days ≡ map number_columns o.days
     → HoldsAs [] now.now (record (contents_of o) { sealed = take l.row-index o.days }))

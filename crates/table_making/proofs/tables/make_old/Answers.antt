@@ -14,4 +14,6 @@ returns-clause-made g c clean inside o none =
     let early : HasCleanDisk s1 = omega (arith, late, c.run-2.ensures.survives.clean) in
     let first : IsTrue s1.in_transaction = (c.in_ok-run.ensures.inside early inside).mode ∙ inside in
     let second : IsTrue s2.in_transaction = (c.in_ok-run-2.ensures.inside late first).mode ∙ first in
-    on_ok c.run-3.result _ _ (c.run-3.ensures.ran clean second) (old_from_nothing s0 s1 s2 s3 o none (c.in_ok-run.ensures.ran early inside) (c.in_ok-run-2.ensures.ran late first))
+    on_ok c.run-3.result _ _ (c.run-3.ensures.ran clean second)
+    (old_from_nothing s0 s1 s2 s3 o none (c.in_ok-run.ensures.ran early inside)
+    (c.in_ok-run-2.ensures.ran late first))

@@ -5,4 +5,6 @@ use Rattle.table_making.proofs.tables.put_version.Goals as goal
 
 pub returns-clause-puts : goal.returns-clause-puts
 returns-clause-puts g c clean inside contents holds =
-    on_ok c.run.result _ _ (c.run.ensures.ran clean inside) (λ ran. version_puts (state g.S.Store c.args.tx.now.conn.now) (state g.S.Store c.run.new.tx.conn.now) contents ran.0 holds ran.1)
+    on_ok c.run.result _ _ (c.run.ensures.ran clean inside)
+    (λ ran. version_puts (state g.S.Store c.args.tx.now.conn.now) (state g.S.Store c.run.new.tx.conn.now) contents
+    ran.0 holds ran.1)

@@ -6,4 +6,5 @@ use Rattle.toll_texts.proofs.bodies.live_body.Goals as goal
 pub returns : goal.returns
 returns c =
     let is = c.in_ok-value.ensures in
-    c.in_ok-to_string.ensures.text (ap has_float is) ∙ ap compact_text is ∙ live_shape c.args.as_of c.args.balance c.args.day
+    c.in_ok-to_string.ensures.text (ap has_float is) ∙ ap compact_text is
+    ∙ live_shape c.args.as_of c.args.balance c.args.day

@@ -9,6 +9,11 @@ pub returns : goal.returns
 returns c =
     let w = string_bytes c.in_ok-cause.cause in
     let n = c.args.line in
-    let is : view c.in_ok-value.value ≡ object (member (codes "cause") (string w) (member (codes "error") (string (codes "refused")) (member (codes "line") (number (unsigned n)) no_members))) = search rules in
-    c.in_ok-to_string.ensures.text (ap has_float is) ∙ ap compact_text is ∙ refused_shape w n c.in_ok-cause.ensures.plain
-    ∙ ap (λ l. codes "{\"cause\":\"" ++ (l ++ (codes "\",\"error\":\"refused\",\"line\":" ++ (decimal n ++ codes "}")))) c.in_ok-cause.ensures.text
+    let is : view c.in_ok-value.value ≡ object
+    (member (codes "cause") (string w)
+    (member (codes "error") (string (codes "refused")) (member (codes "line") (number (unsigned n)) no_members))) =
+    search rules in
+    c.in_ok-to_string.ensures.text (ap has_float is) ∙ ap compact_text is
+    ∙ refused_shape w n c.in_ok-cause.ensures.plain
+    ∙ ap (λ l. codes "{\"cause\":\"" ++ (l ++ (codes "\",\"error\":\"refused\",\"line\":" ++ (decimal n ++ codes "}"))))
+    c.in_ok-cause.ensures.text

@@ -6,7 +6,9 @@ pub write_digits-at-requires : goal.write_digits-at-requires
 write_digits-at-requires c = let few = few_digits c.args.n (search rules) in (omega arith, c.requires.inside)
 
 pub put_byte-requires-clause-some : goal.put_byte-requires-clause-some
-put_byte-requires-clause-some c = let few = few_digits c.args.n (search rules) in omega (arith, c.write_digits-at.ensures.start)
+put_byte-requires-clause-some c = let few = few_digits c.args.n (search rules) in
+    omega (arith, c.write_digits-at.ensures.start)
 
 pub returns-clause-low : goal.returns-clause-low
-returns-clause-low c = let few = few_digits c.args.n (search rules) in omega (arith, c.write_digits-at.ensures.start, c.put_byte.ensures.start)
+returns-clause-low c = let few = few_digits c.args.n (search rules) in
+    omega (arith, c.write_digits-at.ensures.start, c.put_byte.ensures.start)

@@ -15,7 +15,8 @@ pub returns-then-b-eq44 : goal.returns-then-b-eq44
 returns-then-b-eq44 c =
     let xs = c.args.text.now in
     let i = c.loop-at.at in
-    fields_cut xs i c.loop-at-test.true c.loop-at.invariant c.if-b-eq44.true ∙ ap (λ ys. take i xs ∷ fields_of_text ys) (sym (take_rest xs (i + 1)))
+    fields_cut xs i c.loop-at-test.true c.loop-at.invariant c.if-b-eq44.true
+    ∙ ap (λ ys. take i xs ∷ fields_of_text ys) (sym (take_rest xs (i + 1)))
 
 pub loop-at-preserved : goal.loop-at-preserved
 loop-at-preserved c =

@@ -7,7 +7,13 @@ use Rattle.std.proofs.lemmas.Fmt.{IsAscii-decimal, parse-decimal}
 use Rattle.tuple_format.proofs.notice_reader.word.Goals as goal
 
 pub returns-in_default : goal.returns-in_default
-returns-in_default c = λ n h e. absurd (c.in_default.ensures.cases.0 (subst IsUtf8 (sym e) (IsUtf8-from_ascii (decimal n) (IsAscii-decimal n (omega (arith, h))))))
+returns-in_default c =
+    λ n h e. absurd
+    (c.in_default.ensures.cases.0
+    (subst IsUtf8 (sym e) (IsUtf8-from_ascii (decimal n) (IsAscii-decimal n (omega (arith, h))))))
 
 pub returns : goal.returns
-returns c = λ n h e. c.unwrap_or.ensures ∙ ap (λ r. result_unwrap_or r 0) (parse-decimal 32 n c.in-Ok.text.now c.parse.result h (omega (arith, h)) (c.in-Ok.ensures.cases.0 ∙ e) c.parse.ensures.value.0)
+returns c = λ n h e. c.unwrap_or.ensures
+    ∙ ap (λ r. result_unwrap_or r 0)
+    (parse-decimal 32 n c.in-Ok.text.now c.parse.result h (omega (arith, h)) (c.in-Ok.ensures.cases.0 ∙ e)
+    c.parse.ensures.value.0)

@@ -8,6 +8,11 @@ returns-clause-written c =
     let one = field_before _ (pos c.args.toll) _ _ [] c.put_field-at.ensures.written refl none in
     let whole : to_z w16 (of_z w16 c.args.lav) ≡ c.args.lav = search rules in
     let two = field_before _ c.args.lav _ _ (pos c.args.toll ∷ []) c.put_signed-at.ensures.written whole one in
-    let three = field_before _ (pos c.args.time) _ _ (c.args.lav ∷ pos c.args.toll ∷ []) c.put_field-at-2.ensures.written (ap pos c.from.ensures) two in
-    let four = field_before _ (pos c.args.vid) _ _ (pos c.args.time ∷ c.args.lav ∷ pos c.args.toll ∷ []) c.put_field-at-3.ensures.written (ap pos c.from-2.ensures) three in
-    kind_before _ 0 _ _ (pos c.args.vid ∷ pos c.args.time ∷ c.args.lav ∷ pos c.args.toll ∷ []) c.put_byte.ensures.written refl (lit< tt) four
+    let three =
+    field_before _ (pos c.args.time) _ _ (c.args.lav ∷ pos c.args.toll ∷ []) c.put_field-at-2.ensures.written
+    (ap pos c.from.ensures) two in
+    let four =
+    field_before _ (pos c.args.vid) _ _ (pos c.args.time ∷ c.args.lav ∷ pos c.args.toll ∷ [])
+    c.put_field-at-3.ensures.written (ap pos c.from-2.ensures) three in
+    kind_before _ 0 _ _ (pos c.args.vid ∷ pos c.args.time ∷ c.args.lav ∷ pos c.args.toll ∷ [])
+    c.put_byte.ensures.written refl (lit< tt) four

@@ -11,13 +11,18 @@ returns-then-b-lt48 c =
     let i = c.loop-i.i in
     let heads : c.in_ok-head.head.now ≡ take 11 xs = c.in_ok-head.ensures.cases.0 in
     let same = ap (take i) heads ∙ take-take i 11 xs (omega arith) in
-    let byte = sym (get_or-take 11 xs i 0 c.loop-i-test.true) ∙ ap (λ l. get_or l i 0) (sym heads) ∙ c.if-b-ne44.false in
+    let byte = sym (get_or-take 11 xs i 0 c.loop-i-test.true) ∙ ap (λ l. get_or l i 0) (sym heads)
+    ∙ c.if-b-ne44.false in
     rw (take_rest xs (i + 1))
-    (field_at xs i c.loop-i.value (omega arith) (omega arith) (omega (arith, c.in_ok-head.ensures.cases.2)) (subst (AllDigits 10) same c.loop-i.invariant.digits) byte (c.loop-i.invariant.value ∙ ap (digits_value 10) same))
+    (field_at xs i c.loop-i.value (omega arith) (omega arith) (omega (arith, c.in_ok-head.ensures.cases.2))
+    (subst (AllDigits 10) same c.loop-i.invariant.digits) byte
+    (c.loop-i.invariant.value ∙ ap (digits_value 10) same))
 
 pub loop-i-preserved : goal.loop-i-preserved
 loop-i-preserved c =
-    let more = digit_more c.in_ok-head.head.now c.loop-i.i _ c.loop-i.value (omega arith) refl (omega (arith, c.if-b-lt48.false)) (omega (arith, c.if-b-gt57.false)) c.loop-i.invariant.value c.loop-i.invariant.digits c.loop-i.invariant.small in
+    let more = digit_more c.in_ok-head.head.now c.loop-i.i _ c.loop-i.value (omega arith) refl
+    (omega (arith, c.if-b-lt48.false)) (omega (arith, c.if-b-gt57.false)) c.loop-i.invariant.value
+    c.loop-i.invariant.digits c.loop-i.invariant.small in
     record {
       value = omega (arith, more.0, c.from.ensures);
       digits = more.1;

@@ -10,18 +10,24 @@ pub returns-then-count-ne15 : goal.returns-then-count-ne15
 returns-then-count-ne15 c =
     let bs = c.args.text.now in
     let some : 0 < length bs = omega (arith, eqb-false (length bs) 0 (sym c.is_empty.ensures ∙ c.if-is_empty.false)) in
-    sym (ap answered (form_of_count bs c.count_fields-count.result some (sym c.count_fields-count.ensures.count) c.if-count-ne15.true))
+    sym (ap answered
+    (form_of_count bs c.count_fields-count.result some (sym c.count_fields-count.ensures.count)
+    c.if-count-ne15.true))
 
 pub returns-in-Err : goal.returns-in-Err
 returns-in-Err c =
     let bs = c.args.text.now in
     let fields = fields_of_text bs in
     let count : length fields ≡ 15 = omega (arith, c.count_fields-count.ensures.count) in
-    sym (ap answered (form_of_fields bs count) ∙ numbered_err fields (first_odd fields) c.in-Err.cause (sym c.numbers.ensures ∙ c.in-Err.is))
+    sym (ap answered (form_of_fields bs count)
+    ∙ numbered_err fields (first_odd fields) c.in-Err.cause (sym c.numbers.ensures ∙ c.in-Err.is))
 
 pub returns-in-Ok : goal.returns-in-Ok
 returns-in-Ok c =
     let bs = c.args.text.now in
     let fields = fields_of_text bs in
     let count : length fields ≡ 15 = omega (arith, c.count_fields-count.ensures.count) in
-    c.tuple.ensures ∙ ap answered (sym (form_of_fields bs count ∙ numbered_ok fields (first_odd fields) c.in-Ok.numbers (sym c.numbers.ensures ∙ c.in-Ok.is)))
+    c.tuple.ensures
+    ∙ ap answered
+    (sym (form_of_fields bs count
+    ∙ numbered_ok fields (first_odd fields) c.in-Ok.numbers (sym c.numbers.ensures ∙ c.in-Ok.is)))

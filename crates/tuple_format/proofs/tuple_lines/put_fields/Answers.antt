@@ -11,7 +11,8 @@ loop-left-init c =
       few = omega arith;
       room = omega (arith, c.put_byte-at.ensures.start);
       inside = omega (arith, c.put_byte-at.ensures.start, c.told-line);
-      written = end_at 320 _ c.args.line.now c.put_byte-at.ensures.written c.told-line ∙ ap line_end (sym (drop_all 14 (map number_at fs) (omega (arith, length-map fs number_at, c.told-fields))));
+      written = end_at 320 _ c.args.line.now c.put_byte-at.ensures.written c.told-line
+          ∙ ap line_end (sym (drop_all 14 (map number_at fs) (omega (arith, length-map fs number_at, c.told-fields))));
     }
 
 pub loop-left-preserved : goal.loop-left-preserved
@@ -22,7 +23,8 @@ loop-left-preserved c =
     let put = c.put_number-at.ensures in
     let size : length zs ≡ 14 = length-map fs number_at ∙ c.told-fields in
     let next : c.loop-left.left ≡ k + 1 = omega (arith, c.loop-left-test.true) in
-    let same = sym (get_or-map number_at fs k None (negsuc 0) (omega (arith, c.told-fields, c.loop-left.invariant.few))) in
+    let same =
+    sym (get_or-map number_at fs k None (negsuc 0) (omega (arith, c.told-fields, c.loop-left.invariant.few))) in
     let tail = c.loop-left.invariant.written ∙ ap (λ n. line_end (drop n zs)) next in
     record {
       few = omega (arith, c.loop-left.invariant.few);
@@ -36,4 +38,5 @@ pub returns-clause-written : goal.returns-clause-written
 returns-clause-written c =
     let zs = map number_at c.args.fields.now in
     let none : c.loop-left.left ≡ 0 = omega (arith, c.loop-left-test.false) in
-    kind_before _ c.args.kind _ _ zs c.put_byte.ensures.written refl c.requires (c.loop-left.invariant.written ∙ ap (λ n. line_end (drop n zs)) none)
+    kind_before _ c.args.kind _ _ zs c.put_byte.ensures.written refl c.requires
+    (c.loop-left.invariant.written ∙ ap (λ n. line_end (drop n zs)) none)

@@ -9,9 +9,11 @@ returns-in-None c =
     let ns = c.args.n.now in
     let us = uses_of BalanceLine in
     let e : first_out 2 us (drop 1 ns) ≡ None = sym c.first_out.ensures ∙ c.in-None.is in
-    let below = λ (k low high : ℕ) (h : k < 14) (is : get_or us k Unused ≡ From low high). field_below us ns k low high e refl c.told-n h is in
+    let below = λ (k low high : ℕ) (h : k < 14) (is : get_or us k Unused ≡ From low high). field_below us ns k low high
+    e refl c.told-n h is in
     let time = c.natural.ensures (omega (arith, below 0 0 86399 (lit< tt) refl)) in
     let vid = c.natural-in-None.ensures (omega (arith, below 1 0 2147483647 (lit< tt) refl)) in
     let qid = c.natural-in-None-2.ensures (omega (arith, below 8 0 2147483647 (lit< tt) refl)) in
-    let found = ap (λ o. answered (in_ranges BalanceLine (drop 1 ns) o)) e ∙ ap (λ xs. answered (Ok (tuple_of BalanceLine (drop 1 xs)))) (all_fifteen ns c.told-n) in
+    let found = ap (λ o. answered (in_ranges BalanceLine (drop 1 ns) o)) e
+    ∙ ap (λ xs. answered (Ok (tuple_of BalanceLine (drop 1 xs)))) (all_fifteen ns c.told-n) in
     cc

@@ -28,4 +28,5 @@ returns-then-not-allows c =
 
 pub returns : goal.returns
 returns c =
-    sym (c.loop-i.invariant ∙ first_none (map use_of c.args.uses.now) (drop 1 c.args.numbers.now) c.loop-i.i (omega (arith, c.told-uses, length-map c.args.uses.now use_of)))
+    sym (c.loop-i.invariant ∙ first_none (map use_of c.args.uses.now) (drop 1 c.args.numbers.now) c.loop-i.i
+    (omega (arith, c.told-uses, length-map c.args.uses.now use_of)))

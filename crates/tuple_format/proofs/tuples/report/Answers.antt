@@ -9,7 +9,8 @@ returns-in-None c =
     let ns = c.args.n.now in
     let us = uses_of ReportLine in
     let e : first_out 2 us (drop 1 ns) ≡ None = sym c.first_out.ensures ∙ c.in-None.is in
-    let below = λ (k low high : ℕ) (h : k < 14) (is : get_or us k Unused ≡ From low high). field_below us ns k low high e refl c.told-n h is in
+    let below = λ (k low high : ℕ) (h : k < 14) (is : get_or us k Unused ≡ From low high). field_below us ns k low high
+    e refl c.told-n h is in
     let time = c.natural.ensures (omega (arith, below 0 0 86399 (lit< tt) refl)) in
     let vid = c.natural-in-None.ensures (omega (arith, below 1 0 2147483647 (lit< tt) refl)) in
     let spd = c.small.ensures (omega (arith, below 2 0 100 (lit< tt) refl)) in
@@ -18,5 +19,6 @@ returns-in-None c =
     let dir = c.small-in-None-3.ensures (omega (arith, below 5 0 1 (lit< tt) refl)) in
     let seg = c.small-in-None-4.ensures (omega (arith, below 6 0 99 (lit< tt) refl)) in
     let at = c.natural-in-None-2.ensures (omega (arith, below 7 0 527999 (lit< tt) refl)) in
-    let found = ap (λ o. answered (in_ranges ReportLine (drop 1 ns) o)) e ∙ ap (λ xs. answered (Ok (tuple_of ReportLine (drop 1 xs)))) (all_fifteen ns c.told-n) in
+    let found = ap (λ o. answered (in_ranges ReportLine (drop 1 ns) o)) e
+    ∙ ap (λ xs. answered (Ok (tuple_of ReportLine (drop 1 xs)))) (all_fifteen ns c.told-n) in
     cc

@@ -27,5 +27,6 @@ pub returns-in-Some-clause-flow : goal.returns-in-Some-clause-flow
 returns-in-Some-clause-flow c =
     let s : Spot = record { minute = c.args.in_minute; stretch = c.args.stretch } in
     let kept : c.as_slice.result.now ≡ listed (get same_spot c.args.gathered.now.by_spot s) = search rules in
-    let same = ap (λ xs. defined_flow (notes_of (reports xs)) c.args.stretch c.args.in_minute) (kept ∙ c.requires.right.by_spot s) ∙ flow_there s c.args.gathered.now.tuples.now in
+    let same = ap (λ xs. defined_flow (notes_of (reports xs)) c.args.stretch c.args.in_minute)
+    (kept ∙ c.requires.right.by_spot s) ∙ flow_there s c.args.gathered.now.tuples.now in
     subst (λ (flow : Flow). IfOk c.flow_at.result (λ f. shown f ≡ flow)) same c.flow_at.ensures.flow

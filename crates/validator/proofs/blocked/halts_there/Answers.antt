@@ -12,11 +12,13 @@ pub returns-in-None : goal.returns-in-None
 returns-in-None c =
     let k = c.args.stretch in
     let none : get same_stretch c.args.gathered.now.halts k ≡ None = search rules in
-    c.new.ensures.items ∙ ap (filter (is_about c.args.start k)) (sym (sym (c.requires.right.halts k) ∙ ap listed none)) ∙ about_in c.args.start k (halts_of (reports c.args.gathered.now.tuples.now))
+    c.new.ensures.items ∙ ap (filter (is_about c.args.start k)) (sym (sym (c.requires.right.halts k) ∙ ap listed none))
+    ∙ about_in c.args.start k (halts_of (reports c.args.gathered.now.tuples.now))
 
 pub returns-in-Some : goal.returns-in-Some
 returns-in-Some c =
     let k = c.args.stretch in
     let kept : c.as_slice.result.now ≡ listed (get same_stretch c.args.gathered.now.halts k) = search rules in
-    let same = ap (filter (is_about c.args.start k)) (kept ∙ c.requires.right.halts k) ∙ about_in c.args.start k (halts_of (reports c.args.gathered.now.tuples.now)) in
+    let same = ap (filter (is_about c.args.start k)) (kept ∙ c.requires.right.halts k)
+    ∙ about_in c.args.start k (halts_of (reports c.args.gathered.now.tuples.now)) in
     subst (λ (hs : List Halt). IfOk c.halts_about.result (λ some. some.items ≡ hs)) same c.halts_about.ensures

@@ -8,4 +8,6 @@ use Rattle.validator.proofs.blocked.near_by.Given as goal
 
 abbrev pub invariant-loop-i : goal.invariant-loop-i
 invariant-loop-i l =
-    find (λ s. stood (halting (halts_of (reports l.gathered.tuples.now))) (l.in_minute - 1) (record l.stretch { seg = s })) (filter_map (downstream_of l.stretch.seg l.stretch.dir) (take l.i (0 ∷ 1 ∷ 2 ∷ 3 ∷ 4 ∷ []))) ≡ None
+    find (λ s. stood (halting (halts_of (reports l.gathered.tuples.now))) (l.in_minute - 1)
+    (record l.stretch { seg = s }))
+    (filter_map (downstream_of l.stretch.seg l.stretch.dir) (take l.i (0 ∷ 1 ∷ 2 ∷ 3 ∷ 4 ∷ []))) ≡ None

@@ -10,9 +10,12 @@ loop-mark-preserved c =
     let older = c.in-Some.older.now in
     let inv = c.loop-mark.invariant in
     let parts : c.loop-mark.rest.now ≡ older ++ m ∷ [] = search rules in
-    let to : c.copied.result ≡ next_time inv.0 m.report.vid = let got : c.copied.result ≡ get nat_eq c.loop-mark.nexts m.report.vid = search rules in got ∙ inv.1 m.report.vid in (
+    let to : c.copied.result ≡ next_time inv.0 m.report.vid =
+    let got : c.copied.result ≡ get nat_eq c.loop-mark.nexts m.report.vid = search rules in
+    got ∙ inv.1 m.report.vid in (
       m ∷ inv.0,
       λ v. c.in_ok-insert.ensures.updates.0 v ∙ ap (cond (nat_eq m.report.vid v) (Some m.report.time)) (inv.1 v),
-      ap (λ hs. hs ++ halts_after (m ∷ inv.0) (reverse older)) c.in_ok-add_halt.ensures ∙ halts_step c.loop-mark.halts.items inv.0 m older c.copied.result to
+      ap (λ hs. hs ++ halts_after (m ∷ inv.0) (reverse older)) c.in_ok-add_halt.ensures
+          ∙ halts_step c.loop-mark.halts.items inv.0 m older c.copied.result to
           ∙ ap (λ xs. c.loop-mark.halts.items ++ halts_after inv.0 (reverse xs)) (sym parts) ∙ inv.2,
     )

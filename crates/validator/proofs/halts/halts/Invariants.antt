@@ -6,7 +6,8 @@ use Rattle.validator.specs.Halts.{next_time, halts_after, halts_of}
 use Rattle.validator.proofs.halts.halts.Given as goal
 
 abbrev pub invariant-loop-mark : goal.invariant-loop-mark
-invariant-loop-mark l = (later : List Mark) × ((v : ℕ) → get nat_eq l.nexts v ≡ next_time later v) × (l.halts.items ++ halts_after later (reverse l.rest) ≡ halts_of (reports l.tuples))
+invariant-loop-mark l = (later : List Mark) × ((v : ℕ) → get nat_eq l.nexts v ≡ next_time later v)
+    × (l.halts.items ++ halts_after later (reverse l.rest) ≡ halts_of (reports l.tuples))
 
 abbrev pub decreases-loop-mark : goal.decreases-loop-mark
 decreases-loop-mark l = length l.rest

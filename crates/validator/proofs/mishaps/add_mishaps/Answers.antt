@@ -13,12 +13,16 @@ loop-group-preserved c =
     let f = mishap_in c.args.last c.args.from in
     let done = filter_map f (map shown_group (take i gs)) in
     let more : filter_map f (map shown_group (take (i + 1) gs)) ≡ done ++ cons_option c.mishap_at.result [] =
-    mishaps_more f gs i c.group-item.result c.mishap_at.result c.loop-group-test.true (c.mishap_at.ensures ∙ ap (λ g. f (shown_group g)) c.group-item.is) in
+    mishaps_more f gs i c.group-item.result c.mishap_at.result c.loop-group-test.true
+    (c.mishap_at.ensures ∙ ap (λ g. f (shown_group g)) c.group-item.is) in
     elim c.match-mishap_at.branch [
       | in-Some+in_ok-push w ↦
           let items : w.push.new.self.items ≡ c.loop-group.log.items ++ w.in-Some.mishap ∷ [] = search rules in
-          ap (λ v. v.items) w.log-is ∙ items ∙ ap (λ xs. xs ++ w.in-Some.mishap ∷ []) c.loop-group.invariant ∙ append_assoc c.args.log.now.items done (w.in-Some.mishap ∷ [])
+          ap (λ v. v.items) w.log-is ∙ items ∙ ap (λ xs. xs ++ w.in-Some.mishap ∷ []) c.loop-group.invariant
+          ∙ append_assoc c.args.log.now.items done (w.in-Some.mishap ∷ [])
           ∙ ap (λ xs. c.args.log.now.items ++ xs) (sym (more ∙ ap (λ o. done ++ cons_option o []) w.in-Some.is))
       | in_default w ↦
-          ap (λ v. v.items) w.log-is ∙ c.loop-group.invariant ∙ ap (λ xs. c.args.log.now.items ++ xs) (sym (more ∙ ap (λ o. done ++ cons_option o []) w.in_default.is ∙ append-nil done))
+          ap (λ v. v.items) w.log-is ∙ c.loop-group.invariant
+          ∙ ap (λ xs. c.args.log.now.items ++ xs)
+          (sym (more ∙ ap (λ o. done ++ cons_option o []) w.in_default.is ∙ append-nil done))
     ]

@@ -15,4 +15,5 @@ loop-place-preserved c =
     let hs = c.args.halts.now in
     let here = get_or ps i none in
     let more : take (i + 1) ps ≡ take i ps ++ here ∷ [] = take_more ps i none c.loop-place-test.true in
-    c.in_ok-add_group.ensures ∙ ap (λ gs. gs ++ groups_of hs (here ∷ [])) c.loop-place.invariant ∙ sym (groups_push hs (take i ps) here) ∙ sym (ap (groups_of hs) more)
+    c.in_ok-add_group.ensures ∙ ap (λ gs. gs ++ groups_of hs (here ∷ [])) c.loop-place.invariant
+    ∙ sym (groups_push hs (take i ps) here) ∙ sym (ap (groups_of hs) more)

@@ -13,14 +13,21 @@ returns c =
     let last = c.last_second-last.result in
     let end : c.loop-from.from ≡ last + 1 = omega arith in
     c.loop-from.invariant
-    ∙ ap (λ n. flat_map (λ (s : ℕ). filter_map (mishap_in last s) (map shown_group c.in_ok-groups.groups.items)) (range_with_len 0 n)) end
-    ∙ ap (λ gs. flat_map (λ (s : ℕ). filter_map (mishap_in last s) gs) (range_with_len 0 (last + 1))) c.in_ok-groups.ensures
-    ∙ ap (λ z. flat_map (λ (s : ℕ). filter_map (mishap_in z s) (groups_of (halts_of (reports day)) (places_of (reports day)))) (range_with_len 0 (z + 1))) c.last_second-last.ensures.exact
+    ∙ ap (λ n. flat_map (λ (s : ℕ). filter_map (mishap_in last s) (map shown_group c.in_ok-groups.groups.items))
+    (range_with_len 0 n)) end
+    ∙ ap (λ gs. flat_map (λ (s : ℕ). filter_map (mishap_in last s) gs) (range_with_len 0 (last + 1)))
+    c.in_ok-groups.ensures
+    ∙ ap (λ z. flat_map
+    (λ (s : ℕ). filter_map (mishap_in z s) (groups_of (halts_of (reports day)) (places_of (reports day))))
+    (range_with_len 0 (z + 1))) c.last_second-last.ensures.exact
     ∙ sym (log_is day c.requires.in_order)
 
 pub loop-from-preserved : goal.loop-from-preserved
 loop-from-preserved c =
-    let begun = λ (s : ℕ). filter_map (mishap_in c.last_second-last.result s) (map shown_group c.in_ok-groups.groups.items) in
+    let begun =
+    λ (s : ℕ). filter_map (mishap_in c.last_second-last.result s) (map shown_group c.in_ok-groups.groups.items) in
     let same : c.as_slice.result.now ≡ c.in_ok-groups.groups.items = search rules in
-    c.in_ok-add_mishaps.ensures ∙ ap (λ gs. c.loop-from.log.items ++ filter_map (mishap_in c.last_second-last.result c.loop-from.from) (map shown_group gs)) same
+    c.in_ok-add_mishaps.ensures
+    ∙ ap (λ gs. c.loop-from.log.items ++ filter_map (mishap_in c.last_second-last.result c.loop-from.from)
+    (map shown_group gs)) same
     ∙ ap (λ xs. xs ++ begun c.loop-from.from) c.loop-from.invariant ∙ sym (flat_more begun c.loop-from.from)

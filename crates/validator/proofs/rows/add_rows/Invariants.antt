@@ -5,4 +5,6 @@ use Rattle.validator.specs.RowParts.{row_on, has_tolls}
 use Rattle.validator.proofs.rows.add_rows.Given as goal
 
 abbrev pub invariant-loop-xway : goal.invariant-loop-xway
-invariant-loop-xway l = l.rows.items ≡ l.initial.rows.items ++ filter has_tolls (map (row_on l.day l.vid (map shown_charge l.own)) (take l.xway-index l.xways))
+invariant-loop-xway l =
+    l.rows.items ≡ l.initial.rows.items ++ filter has_tolls
+    (map (row_on l.day l.vid (map shown_charge l.own)) (take l.xway-index l.xways))

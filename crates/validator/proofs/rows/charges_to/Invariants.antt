@@ -4,4 +4,5 @@ use Rattle.validator.specs.Accounts.{shown_charge}
 use Rattle.validator.proofs.rows.charges_to.Given as goal
 
 abbrev pub invariant-loop-charge : goal.invariant-loop-charge
-invariant-loop-charge l = map shown_charge l.own.items ≡ charges_to l.vid (map shown_charge (take l.charge-index l.charges))
+invariant-loop-charge l =
+    map shown_charge l.own.items ≡ charges_to l.vid (map shown_charge (take l.charge-index l.charges))

@@ -13,4 +13,5 @@ loop-charge-preserved c =
     let i = c.loop-charge.charge-index in
     let here = get_or c.args.charges.now i none in
     let keys : c.insert.new.self.keys ≡ insert_key nat_cmp c.loop-charge.xways.keys here.xway = search rules in
-    keys ∙ ap (λ ks. insert_key nat_cmp ks here.xway) c.loop-charge.invariant ∙ sym (order_more (λ x. x.xway) c.args.charges.now i none c.loop-charge-test.true)
+    keys ∙ ap (λ ks. insert_key nat_cmp ks here.xway) c.loop-charge.invariant
+    ∙ sym (order_more (λ x. x.xway) c.args.charges.now i none c.loop-charge-test.true)

@@ -7,4 +7,6 @@ use Rattle.validator.specs.RowParts.{has_tolls}
 use Rattle.validator.proofs.rows.rows_for.Given as goal
 
 abbrev pub invariant-loop-vid : goal.invariant-loop-vid
-invariant-loop-vid l = l.rows.items ≡ filter has_tolls (flat_map (λ (v : ℕ). rows_to l.day v (charges_to v (map shown_charge l.charges))) (take l.vid-index l.vids))
+invariant-loop-vid l =
+    l.rows.items ≡ filter has_tolls
+    (flat_map (λ (v : ℕ). rows_to l.day v (charges_to v (map shown_charge l.charges))) (take l.vid-index l.vids))

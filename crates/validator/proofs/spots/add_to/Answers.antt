@@ -9,6 +9,8 @@ pub returns-in_ok-insert-in-None : goal.returns-in_ok-insert-in-None
 returns-in_ok-insert-in-None c =
     let none : get same_spot c.args.by_spot.now c.args.spot ≡ None = search rules in
     let items : c.push-in-None.new.self.items ≡ c.args.tuple.now ∷ [] = search rules in
-    first_kept same_spot spot_is (get same_spot c.args.by_spot.now) (get same_spot c.insert.new.self) c.args.spot c.push-in-None.new.self c.args.tuple.now none items
+    first_kept same_spot spot_is (get same_spot c.args.by_spot.now) (get same_spot c.insert.new.self) c.args.spot
+    c.push-in-None.new.self c.args.tuple.now none items
     (λ s. c.in_ok-insert-in-None.ensures.updates.0 s
-    ∙ ap (λ m. cond (same_spot c.args.spot s) (Some c.push-in-None.new.self) (get same_spot m s)) c.get_mut.follows.holds-at-none)
+    ∙ ap (λ m. cond (same_spot c.args.spot s) (Some c.push-in-None.new.self) (get same_spot m s))
+    c.get_mut.follows.holds-at-none)

@@ -16,4 +16,11 @@ returns c =
 pub returns-then-not-are_same : goal.returns-then-not-are_same
 returns-then-not-are_same c =
     let less : c.loop-i.i + 1 - 1 ≡ c.loop-i.i = omega arith in
-    rw less (omega arith, c.loop-i.invariant, c.at-here.ensures, c.at-there.ensures, λ e. absurd (false≢true (sym c.if-not-are_same.true ∙ c.are_same.ensures.no e)))
+    rw less (
+      omega arith,
+      c.loop-i.invariant,
+      c.at-here.ensures,
+      c.at-there.ensures,
+      λ e. absurd
+          (false≢true (sym c.if-not-are_same.true ∙ c.are_same.ensures.no e)),
+    )

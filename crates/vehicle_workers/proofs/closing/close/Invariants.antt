@@ -8,4 +8,5 @@ use Rattle.vehicle_workers.proofs.ClosingLaws.{AreClosed}
 use Rattle.vehicle_workers.proofs.closing.close.Given as goal
 
 abbrev pub invariant-loop-at : goal.invariant-loop-at
-invariant-loop-at l = (found : List (ℕ × Finding)) → IsPlaced l.places found → HasFewTolls (given found) → AreClosed found l.number (amounts_of l.payments.amounts.entries) (take l.at l.tuples) l.book l.notices.items
+invariant-loop-at l = (found : List (ℕ × Finding)) → IsPlaced l.places found → HasFewTolls (given found) →
+    AreClosed found l.number (amounts_of l.payments.amounts.entries) (take l.at l.tuples) l.book l.notices.items

@@ -11,8 +11,11 @@ abbrev pub invariant-loop-ticket : goal.invariant-loop-ticket
 invariant-loop-ticket g l =
     let k = g.C.Crew in
     record {
-      runs : (told : Option Told) (tariffs : Tariffs) (todo : List Job) → Running k.out k.number k.holds k.gave k.jobs told l.initial.crew tariffs l.initial.tickets.items [] todo false →
-          Finishing k.out k.number k.holds k.gave k.jobs k.exact k.answers (k.answers l.initial.crew) told tariffs todo l.crew l.tickets.items l.whole l.found.items;
+      runs : (told : Option Told) (tariffs : Tariffs) (todo : List Job) →
+          Running k.out k.number k.holds k.gave k.jobs told l.initial.crew tariffs l.initial.tickets.items [] todo false
+          →
+          Finishing k.out k.number k.holds k.gave k.jobs k.exact k.answers (k.answers l.initial.crew) told tariffs todo
+          l.crew l.tickets.items l.whole l.found.items;
       which : k.which l.crew ≡ k.which l.initial.crew;
     }
 

@@ -6,7 +6,8 @@ abbrev pub invariant-loop-worker : goal.invariant-loop-worker
 invariant-loop-worker g l =
     let k = g.C.Crew in
     record {
-      runs : HasStarted k.out k.number k.holds k.gave k.jobs (k.jobs l.fn.crew) l.crew l.tariffs l.tickets.items l.tuples l.width l.worker;
+      runs : HasStarted k.out k.number k.holds k.gave k.jobs (k.jobs l.fn.crew) l.crew l.tariffs l.tickets.items
+          l.tuples l.width l.worker;
       which : k.which l.crew ≡ k.which l.fn.crew;
       answers : k.answers l.crew ≡ k.answers l.fn.crew;
     }

@@ -11,8 +11,11 @@ close-requires-clause-len c = ap length c.requires.tracked ∙ tracked_long [] c
 
 pub close-requires-clause-found : goal.close-requires-clause-found
 close-requires-clause-found c =
-    let fs = map shown c.args.found.items in
-    (fs, subst (λ ps. IsPlaced ps fs) (sym c.as_slice.ensures.value) c.in_ok-places.ensures.placed, few_tolls c.args.found.items c.requires.possible)
+    let fs = map shown c.args.found.items in (
+      fs,
+      subst (λ ps. IsPlaced ps fs) (sym c.as_slice.ensures.value) c.in_ok-places.ensures.placed,
+      few_tolls c.args.found.items c.requires.possible,
+    )
 
 pub returns : goal.returns
 returns c =
@@ -20,4 +23,5 @@ returns c =
     let placed = subst (λ ps. IsPlaced ps fs) (sym c.as_slice.ensures.value) c.in_ok-places.ensures.placed in
     c.from_vec.ensures
     ∙ (c.in_ok-notices.ensures fs placed (few_tolls c.args.found.items c.requires.possible)
-    ∙ ap (λ kept. notices_by (given fs) c.args.day kept (moments c.args.tuples.now)) (λ i day vid xway. c.in_ok-payments.ensures day vid xway i))
+    ∙ ap (λ kept. notices_by (given fs) c.args.day kept (moments c.args.tuples.now))
+    (λ i day vid xway. c.in_ok-payments.ensures day vid xway i))

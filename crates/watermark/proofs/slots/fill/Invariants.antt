@@ -12,6 +12,9 @@ use Rattle.watermark.proofs.slots.fill.Given as goal
 abbrev pub invariant-loop-finding : goal.invariant-loop-finding
 invariant-loop-finding l = record {
   len : deque_len l.slots ≡ deque_len l.fn.slots;
-  filled : (found : List (ℕ × Finding)) (before rest : List Tuple) → l.fn.slots.items ≡ slots_of (given found) before rest → length before ≡ l.settled → AreFresh found (map shown l.findings) →
-      AllByRecursion (λ f. ReportAt (before ++ rest) f.0) (map shown l.findings) → l.slots.items ≡ slots_of (given (found ++ map shown (take l.finding-index l.findings))) before rest;
+  filled : (found : List (ℕ × Finding)) (before rest : List Tuple) →
+      l.fn.slots.items ≡ slots_of (given found) before rest → length before ≡ l.settled →
+      AreFresh found (map shown l.findings) →
+      AllByRecursion (λ f. ReportAt (before ++ rest) f.0) (map shown l.findings) →
+      l.slots.items ≡ slots_of (given (found ++ map shown (take l.finding-index l.findings))) before rest;
 }

@@ -6,6 +6,15 @@ use Rattle.accidents.proofs.stops.Stops.advance.Goals as goal
 
 pub returns-clause-kept : goal.returns-clause-kept
 returns-clause-kept c = λ es.
-    let f : Kept = record { second = c.self.inside.second; standing = c.self.inside.standing.keys; counts = c.self.inside.counts.entries; spells = c.self.inside.spells.entries } in
-    subst (λ (x : Kept). x.second ≤ c.args.second → StandsFor x es → Stand c.args.second (has_stopped f.standing) (count_of f.counts) (spell_of f.spells) es) c.self.view_is
-    (λ le st. stand_later f.second (has_stopped f.standing) (count_of f.counts) (spell_of f.spells) es st c.args.second le) c.requires
+    let f : Kept =
+    record {
+      second = c.self.inside.second;
+      standing = c.self.inside.standing.keys;
+      counts =
+          c.self.inside.counts.entries;
+      spells = c.self.inside.spells.entries;
+    } in
+    subst (λ (x : Kept). x.second ≤ c.args.second → StandsFor x es →
+    Stand c.args.second (has_stopped f.standing) (count_of f.counts) (spell_of f.spells) es) c.self.view_is
+    (λ le st. stand_later f.second (has_stopped f.standing) (count_of f.counts) (spell_of f.spells) es st c.args.second
+    le) c.requires

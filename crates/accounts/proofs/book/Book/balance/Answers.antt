@@ -6,5 +6,7 @@ use Rattle.accounts.proofs.book.Book.balance.Goals as goal
 pub returns-in-Some-clause-few : goal.returns-in-Some-clause-few
 returns-in-Some-clause-few c =
     let made : c.self.inside.made ≡ c.args.self.now.made = ap (λ (s : Accounts). s.made) c.self.view_is in
-    let few = sum_few c.self.inside.vehicles.entries c.self.inside.further.entries c.self.inside.total c.self.inside.made c.self.invariant c.args.vid c.in-Some.vehicle.now c.in-Some.ensures.value in
+    let few =
+    sum_few c.self.inside.vehicles.entries c.self.inside.further.entries c.self.inside.total c.self.inside.made
+    c.self.invariant c.args.vid c.in-Some.vehicle.now c.in-Some.ensures.value in
     omega (arith, made, few)

@@ -10,15 +10,18 @@ use Rattle.std.proofs.lemmas.Result.{err_from_is_err_and}
 use Rattle.accounts.specs.declared.vehicle.Vehicle.{Vehicle}
 use Rattle.accounts.specs.Sums.{with_charge}
 use Rattle.accounts.specs.Books.{Accounts, told_of, spent_of}
-use Rattle.accounts.proofs.BookLaws.{book_made, get_told, told_kept, further_fits, first_fits, sum_fits, spent_charged, sound_charged}
+use Rattle.accounts.proofs.BookLaws.{book_made, get_told, told_kept, further_fits, first_fits, sum_fits, spent_charged}
+use Rattle.accounts.proofs.BookLaws.{sound_charged}
 use Rattle.accounts.proofs.book.Book.charge.Goals as goal
 
 pub unreachable-requires : goal.unreachable-requires
 unreachable-requires c =
     let vehicles = c.self.inside.vehicles.entries in
-    let none : lookup (nat_eq c.args.vid) vehicles ≡ None = sym c.get_mut.ensures.value ∙ ap option_copied_mut c.in_default.is in
+    let none : lookup (nat_eq c.args.vid) vehicles ≡ None = sym c.get_mut.ensures.value
+    ∙ ap option_copied_mut c.in_default.is in
     let told : get c.args.self.now.told c.args.vid ≡ None =
-    sym (ap (λ (s : Accounts). get s.told c.args.vid) c.self.view_is) ∙ (get_told vehicles c.args.vid ∙ ap (option_map (λ x. x.told)) none) in
+    sym (ap (λ (s : Accounts). get s.told c.args.vid) c.self.view_is)
+    ∙ (get_told vehicles c.args.vid ∙ ap (option_map (λ x. x.told)) none) in
     let asked = subst IsSome told c.requires.told in
     cc asked
 
@@ -26,62 +29,91 @@ pub add_further-requires : goal.add_further-requires
 add_further-requires c =
     let made : c.self.inside.made ≡ c.args.self.now.made = ap (λ (s : Accounts). s.made) c.self.view_is in
     let few : c.self.inside.made < 16000000 = omega (arith, made, c.requires.few) in
-    further_fits c.self.inside.vehicles.entries c.self.inside.further.entries c.self.inside.total c.self.inside.made c.self.invariant c.args.vid c.in-Some.vehicle.now c.in-Some.ensures.value few c.args.xway
+    further_fits c.self.inside.vehicles.entries c.self.inside.further.entries c.self.inside.total c.self.inside.made
+    c.self.invariant c.args.vid c.in-Some.vehicle.now c.in-Some.ensures.value few c.args.xway
 
 pub first_after-requires : goal.first_after-requires
 first_after-requires c =
     let made : c.self.inside.made ≡ c.args.self.now.made = ap (λ (s : Accounts). s.made) c.self.view_is in
     let few : c.self.inside.made < 16000000 = omega (arith, made, c.requires.few) in
-    first_fits c.self.inside.vehicles.entries c.self.inside.further.entries c.self.inside.total c.self.inside.made c.self.invariant c.args.vid c.in-Some.vehicle.now c.in-Some.ensures.value few c.args.xway
+    first_fits c.self.inside.vehicles.entries c.self.inside.further.entries c.self.inside.total c.self.inside.made
+    c.self.invariant c.args.vid c.in-Some.vehicle.now c.in-Some.ensures.value few c.args.xway
 
 pub overflow_add-vehicle : goal.overflow_add-vehicle
 overflow_add-vehicle c =
     let made : c.self.inside.made ≡ c.args.self.now.made = ap (λ (s : Accounts). s.made) c.self.view_is in
     let few : c.self.inside.made < 16000000 = omega (arith, made, c.requires.few) in
-    Fits-of_lt (sum_fits c.self.inside.vehicles.entries c.self.inside.further.entries c.self.inside.total c.self.inside.made c.self.invariant c.args.vid c.in-Some.vehicle.now c.in-Some.ensures.value few)
+    Fits-of_lt
+    (sum_fits c.self.inside.vehicles.entries c.self.inside.further.entries c.self.inside.total c.self.inside.made
+    c.self.invariant c.args.vid c.in-Some.vehicle.now c.in-Some.ensures.value few)
 
 pub invariant_of-self : goal.invariant_of-self
 invariant_of-self c =
     let vehicles = c.self.inside.vehicles.entries in
-    let same = (c.get_mut.follows.holds c.in-Some.vehicle.now).0 ∙ set_value_same (nat_eq c.args.vid) vehicles c.in-Some.vehicle.now (sym c.in-Some.ensures.value) in
+    let same = (c.get_mut.follows.holds c.in-Some.vehicle.now).0
+    ∙ set_value_same (nat_eq c.args.vid) vehicles c.in-Some.vehicle.now (sym c.in-Some.ensures.value) in
     rw (same, c.in_err-add_further.ensures.refused) c.self.invariant
 
 pub returns-in_err-add_further-clause-refused : goal.returns-in_err-add_further-clause-refused
 returns-in_err-add_further-clause-refused c =
     let p = err_from_is_err_and c.from_residual.result c.from_residual.ensures.1 in
     let vehicles = c.self.inside.vehicles.entries in
-    let same = (c.get_mut.follows.holds c.in-Some.vehicle.now).0 ∙ set_value_same (nat_eq c.args.vid) vehicles c.in-Some.vehicle.now (sym c.in-Some.ensures.value) in
-    rw p.1 (book_made (ap told_of same) (ap (λ vs. spent_of vs c.add_further.new.sums.entries) same ∙ ap (spent_of vehicles) c.in_err-add_further.ensures.refused) refl ∙ c.self.view_is)
+    let same = (c.get_mut.follows.holds c.in-Some.vehicle.now).0
+    ∙ set_value_same (nat_eq c.args.vid) vehicles c.in-Some.vehicle.now (sym c.in-Some.ensures.value) in
+    rw p.1 (book_made (ap told_of same) (ap (λ vs. spent_of vs c.add_further.new.sums.entries) same
+    ∙ ap (spent_of vehicles) c.in_err-add_further.ensures.refused) refl ∙ c.self.view_is)
 
 pub invariant_of-self-2 : goal.invariant_of-self-2
 invariant_of-self-2 c =
     let made : c.self.inside.made ≡ c.args.self.now.made = ap (λ (s : Accounts). s.made) c.self.view_is in
     let few : c.self.inside.made < 16000000 = omega (arith, made, c.requires.few) in
     let vehicles = c.self.inside.vehicles.entries in
-    let is : Vehicle = record { told = c.in-Some.vehicle.now.told; sum = c.in-Some.vehicle.now.sum + c.in-Some.vehicle.now.told; first = Some c.first_after.result } in
-    sound_charged vehicles c.self.inside.further.entries c.self.inside.total c.self.inside.made c.self.invariant c.args.vid c.in-Some.vehicle.now c.in-Some.ensures.value few c.args.xway
+    let is : Vehicle =
+    record {
+      told = c.in-Some.vehicle.now.told;
+      sum =
+          c.in-Some.vehicle.now.sum + c.in-Some.vehicle.now.told;
+      first = Some c.first_after.result;
+    } in
+    sound_charged vehicles c.self.inside.further.entries c.self.inside.total c.self.inside.made c.self.invariant
+    c.args.vid c.in-Some.vehicle.now c.in-Some.ensures.value few c.args.xway
     (c.get_mut.follows.lender is).entries c.add_further.new.sums.entries is refl refl (ap Some c.first_after.ensures)
-    (subst (IsDistinct nat_eq) (sym (ap keys_of (c.get_mut.follows.holds is).0 ∙ keys-set_value (nat_eq c.args.vid) vehicles is)) c.self.invariant.unique)
+    (subst (IsDistinct nat_eq)
+    (sym (ap keys_of (c.get_mut.follows.holds is).0 ∙ keys-set_value (nat_eq c.args.vid) vehicles is))
+    c.self.invariant.unique)
     (λ v. ((c.get_mut.follows.holds is).3 (search rules)).0 v)
     c.in_ok-add_further.ensures.added
 
 pub returns-clause-toll : goal.returns-clause-toll
 returns-clause-toll c =
-    ap (option_map (λ x. x.told)) c.in-Some.ensures.value ∙ (sym (get_told c.self.inside.vehicles.entries c.args.vid) ∙ ap (λ (s : Accounts). get s.told c.args.vid) c.self.view_is)
+    ap (option_map (λ x. x.told)) c.in-Some.ensures.value
+    ∙ (sym (get_told c.self.inside.vehicles.entries c.args.vid)
+    ∙ ap (λ (s : Accounts). get s.told c.args.vid) c.self.view_is)
 
 pub returns-clause-booked : goal.returns-clause-booked
 returns-clause-booked c =
     let made : c.self.inside.made ≡ c.args.self.now.made = ap (λ (s : Accounts). s.made) c.self.view_is in
     let few : c.self.inside.made < 16000000 = omega (arith, made, c.requires.few) in
     let vehicles = c.self.inside.vehicles.entries in
-    let is : Vehicle = record { told = c.in-Some.vehicle.now.told; sum = c.in-Some.vehicle.now.sum + c.in-Some.vehicle.now.told; first = Some c.first_after.result } in
+    let is : Vehicle =
+    record {
+      told = c.in-Some.vehicle.now.told;
+      sum =
+          c.in-Some.vehicle.now.sum + c.in-Some.vehicle.now.told;
+      first = Some c.first_after.result;
+    } in
     book_made
-    (told_kept vehicles (c.get_mut.follows.lender is).entries c.args.vid c.in-Some.vehicle.now is c.in-Some.ensures.value refl (λ v. ((c.get_mut.follows.holds is).3 (search rules)).0 v)
+    (told_kept vehicles (c.get_mut.follows.lender is).entries c.args.vid c.in-Some.vehicle.now is
+    c.in-Some.ensures.value refl (λ v. ((c.get_mut.follows.holds is).3 (search rules)).0 v)
     ∙ ap (λ (s : Accounts). s.told) c.self.view_is)
-    (spent_charged vehicles c.self.inside.further.entries c.self.inside.total c.self.inside.made c.self.invariant c.args.vid c.in-Some.vehicle.now c.in-Some.ensures.value few c.args.xway
+    (spent_charged vehicles c.self.inside.further.entries c.self.inside.total c.self.inside.made c.self.invariant
+    c.args.vid c.in-Some.vehicle.now c.in-Some.ensures.value few c.args.xway
     (c.get_mut.follows.lender is).entries c.add_further.new.sums.entries is refl refl (ap Some c.first_after.ensures)
-    (subst (IsDistinct nat_eq) (sym (ap keys_of (c.get_mut.follows.holds is).0 ∙ keys-set_value (nat_eq c.args.vid) vehicles is)) c.self.invariant.unique)
+    (subst (IsDistinct nat_eq)
+    (sym (ap keys_of (c.get_mut.follows.holds is).0 ∙ keys-set_value (nat_eq c.args.vid) vehicles is))
+    c.self.invariant.unique)
     (λ v. ((c.get_mut.follows.holds is).3 (search rules)).0 v)
     c.in_ok-add_further.ensures.added
-    ∙ ap (λ (s : Accounts). with_charge s.spent (record { vid = c.args.vid; xway = c.args.xway; toll = c.in-Some.vehicle.now.told })) c.self.view_is)
+    ∙ ap (λ (s : Accounts). with_charge s.spent
+    (record { vid = c.args.vid; xway = c.args.xway; toll = c.in-Some.vehicle.now.told })) c.self.view_is)
     (ap (λ (s : Accounts). s.made + 1) c.self.view_is)

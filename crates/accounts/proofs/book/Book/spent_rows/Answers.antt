@@ -14,7 +14,11 @@ returns c =
     let rows = c.sort_rows.new.rows.items in
     let all : c.list_further.new.rows.items ≡ listed c.args.day (all_sums vehicles further) =
     c.in_ok-list_further.ensures.rows
-    ∙ (ap (λ rs. rs ++ listed c.args.day further) (c.in_ok-list_firsts.ensures ∙ ap (λ rs. rs ++ listed c.args.day (firsts vehicles)) c.new-rows.ensures.items) ∙ sym (listed_both c.args.day (firsts vehicles) further)) in
+    ∙ (ap (λ rs. rs ++ listed c.args.day further)
+    (c.in_ok-list_firsts.ensures ∙ ap (λ rs. rs ++ listed c.args.day (firsts vehicles)) c.new-rows.ensures.items)
+    ∙ sym (listed_both c.args.day (firsts vehicles) further)) in
     subst (λ m. AreRowsOf m c.args.day rows) (ap (λ (s : Accounts). s.spent) c.self.view_is)
-    (are_rows c.args.day (all_sums vehicles further) rows (sums_apart vehicles further c.self.inside.total c.self.inside.made c.self.invariant c.in_ok-list_further.ensures.apart)
+    (are_rows c.args.day (all_sums vehicles further) rows
+    (sums_apart vehicles further c.self.inside.total c.self.inside.made c.self.invariant
+    c.in_ok-list_further.ensures.apart)
     (subst (λ xs. IsPermutation xs rows) all c.sort_rows.ensures.moved) c.sort_rows.ensures.sorted)

@@ -12,7 +12,8 @@ returns-in-Some-clause-seen c = λ reports st.
     let here = both_at r.vid _ _ _ _ c.in-Some.ensures.found.1 c.pair_mut-seen.ensures.value in
     let inside = subst (λ k. StandsFor k reports) (sym c.self.view_is) st in
     let was = sym (inside.seen r.vid) ∙ kept_at c.self.inside.seen c.in-Some.at r.vid _ unique here in
-    seen_more c.self.inside.seen.entries _ reports r c.next-now.result inside (c.next-now.ensures (trail reports r.vid) r was (sym c.place-here.ensures))
+    seen_more c.self.inside.seen.entries _ reports r c.next-now.result inside
+    (c.next-now.ensures (trail reports r.vid) r was (sym c.place-here.ensures))
     (written_at c.self.inside.seen c.in-Some.at r.vid _ unique here c.next-now.result)
 
 pub returns-in-Some-clause-told : goal.returns-in-Some-clause-told

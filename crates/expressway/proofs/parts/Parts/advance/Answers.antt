@@ -13,13 +13,17 @@ returns-clause-at c = λ before last at.
     record {
       averages = c.roll.ensures.kept (notes_of (seen before)) was.averages;
       standing = c.advance.ensures.kept (entries before) was.standing;
-      minute = c.roll.ensures.minute ∙ c.minute_at.ensures;
+      minute = c.roll.ensures.minute ∙ c.minute.ensures;
       second = ap (λ (s : Standing). s.second) c.advance.ensures.second;
     }
 
 pub invariant_of-self : goal.invariant_of-self
 invariant_of-self c =
-    let was : c.self.inside.speeds.minute ≡ c.args.self.now.speeds.minute = ap (λ (k : Kept). k.speeds.minute) c.self.view_is in
-    let up : c.self.inside.speeds.minute ≤ c.minute_at.result = omega (arith, was, c.requires.minute, c.minute_at.ensures) in
-    moved_step (record { speeds = c.self.inside.speeds; stops = c.self.inside.stops; tariffs = c.self.inside.tariffs }) c.self.inside.known.items c.self.invariant
-    c.roll.new.self c.minute_at.result c.roll.ensures.minute up c.roll.ensures.same c.advance.new.self c.args.second c.minute_at.ensures c.advance.ensures.second
+    let was : c.self.inside.speeds.minute ≡ c.args.self.now.speeds.minute =
+    ap (λ (k : Kept). k.speeds.minute) c.self.view_is in
+    let up : c.self.inside.speeds.minute ≤ c.minute.result =
+    omega (arith, was, c.requires.minute, c.minute.ensures) in
+    moved_step (record { speeds = c.self.inside.speeds; stops = c.self.inside.stops; tariffs = c.self.inside.tariffs })
+    c.self.inside.known.items c.self.invariant
+    c.roll.new.self c.minute.result c.roll.ensures.minute up c.roll.ensures.same c.advance.new.self c.args.second
+    c.minute.ensures c.advance.ensures.second

@@ -10,4 +10,5 @@ returns-in-Some-clause-exact c = λ before at.
     let q = c.in-Some.known in
     let kept : known_as q ≡ found_in c.args.self.now (stretch_of c.args.report.now) = search rules in
     let same : to_z w16 (of_z w16 q.lav) ≡ q.lav = search rules in
-    ap (λ z. found_as c.args.position z q.toll q.alert) same ∙ ap (λ f. (c.args.position, f)) (kept ∙ found_in_is c.args.self.now c.args.report.now before at)
+    ap (λ z. found_as c.args.position z q.toll q.alert) same
+    ∙ ap (λ f. (c.args.position, f)) (kept ∙ found_in_is c.args.self.now c.args.report.now before at)

@@ -8,12 +8,20 @@ use Rattle.expressway.proofs.parts.Parts.know.Goals as goal
 
 pub invariant_of-self : goal.invariant_of-self
 invariant_of-self c =
-    let now : Kept = record { speeds = c.self.inside.speeds; stops = c.self.inside.stops; tariffs = c.self.inside.tariffs } in
-    let minute : c.minute_at.result ≡ c.self.inside.speeds.minute = c.minute_at.ensures ∙ ap minute_of c.second.ensures ∙ sym c.self.invariant.minute in
+    let now : Kept =
+    record { speeds = c.self.inside.speeds; stops = c.self.inside.stops; tariffs = c.self.inside.tariffs } in
+    let minute : c.minute.result ≡ c.self.inside.speeds.minute = c.minute.ensures ∙ ap minute_of c.second.ensures
+    ∙ sym c.self.invariant.minute in
     let same : to_z w16 (of_z w16 c.args.finding.lav) ≡ c.args.finding.lav = search rules in
     record {
       minute = c.self.invariant.minute;
-      known_ones = subst (All (IsTrueIn now)) (sym c.keep.ensures) (All-set (IsTrueIn now) c.self.inside.known.items c.place.result (Some _)
-          (omega (arith, minute), λ e. ap (λ z. (found_as 0 z c.args.finding.toll c.args.finding.alert).1) same ∙ c.requires ∙ ap (found_in c.args.self.now) (sym c.stretch_of-stretch.ensures) ∙ sym (ap (λ (k : Kept). found_in k c.stretch_of-stretch.result) c.self.view_is))
+      known_ones =
+          subst (All (IsTrueIn now)) (sym c.keep.ensures)
+          (All-set (IsTrueIn now) c.self.inside.known.items c.place.result (Some _) (
+            omega (arith, minute),
+            λ e. ap (λ z. (found_as 0 z c.args.finding.toll c.args.finding.alert).1) same
+                ∙ c.requires ∙ ap (found_in c.args.self.now) (sym c.stretch-stretch.ensures)
+                ∙ sym (ap (λ (k : Kept). found_in k c.stretch-stretch.result) c.self.view_is),
+          )
           c.self.invariant.known_ones);
     }

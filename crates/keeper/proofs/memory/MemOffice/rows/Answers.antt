@@ -5,4 +5,6 @@ use Rattle.keeper.proofs.memory.MemOffice.rows.Goals as goal
 
 pub returns-clause-rise : goal.returns-clause-rise
 returns-clause-rise c =
-    rw (c.in_ok-rows.ensures, c.deref.ensures.value) (IsStrictlySortedBy-filter row_cmp (λ r. nat_le c.args.from r.day && nat_le r.day c.args.to) c.args.self.now.rows.items c.args.self.now.sound.rows_rise)
+    rw (c.in_ok-rows.ensures, c.deref.ensures.value)
+    (IsStrictlySortedBy-filter row_cmp (λ r. nat_le c.args.from r.day && nat_le r.day c.args.to)
+    c.args.self.now.rows.items c.args.self.now.sound.rows_rise)

@@ -7,11 +7,17 @@ use Rattle.keeper.proofs.memory.MemOffice.spent.Goals as goal
 
 pub returns-in-Ok : goal.returns-in-Ok
 returns-in-Ok c =
-    let at = c.in-Ok.ensures.position (key_cmp c.args.day c.args.vid c.args.xway) (always_returns_same _ _ _ (λ a r f' k. search rules)) in
-    ap (λ (r : SpentRow). r.tolls) c.index.ensures ∙ sym (found_paid c.args.day c.args.vid c.args.xway c.args.self.now.rows.items c.in-Ok.at c.index.result.now c.args.self.now.sound.rows_rise (omega (arith, c.in-Ok.ensures.bound, ap length c.deref.ensures.value)) (rw (sym c.deref.ensures.value) (at c.index.result.now)))
+    let at = c.in-Ok.ensures.position (key_cmp c.args.day c.args.vid c.args.xway)
+    (always_returns_same _ _ _ (λ a r f' k. search rules)) in
+    ap (λ (r : SpentRow). r.tolls) c.index.ensures
+    ∙ sym (found_paid c.args.day c.args.vid c.args.xway c.args.self.now.rows.items c.in-Ok.at c.index.result.now
+    c.args.self.now.sound.rows_rise (omega (arith, c.in-Ok.ensures.bound, ap length c.deref.ensures.value))
+    (rw (sym c.deref.ensures.value) (at c.index.result.now)))
 
 pub returns-in-Err : goal.returns-in-Err
 returns-in-Err c =
-    let at = c.in-Err.ensures.position (key_cmp c.args.day c.args.vid c.args.xway) (always_returns_same _ _ _ (λ a r f' k. search rules)) in
+    let at = c.in-Err.ensures.position (key_cmp c.args.day c.args.vid c.args.xway)
+    (always_returns_same _ _ _ (λ a r f' k. search rules)) in
     let rise = key_rises c.args.day c.args.vid c.args.xway c.args.self.now.rows.items c.args.self.now.sound.rows_rise in
-    sym (missed_paid c.args.day c.args.vid c.args.xway c.args.self.now.rows.items c.in-Err.field-0 (rw (sym c.deref.ensures.value) (at (rw c.deref.ensures.value rise))))
+    sym (missed_paid c.args.day c.args.vid c.args.xway c.args.self.now.rows.items c.in-Err.field-0
+    (rw (sym c.deref.ensures.value) (at (rw c.deref.ensures.value rise))))

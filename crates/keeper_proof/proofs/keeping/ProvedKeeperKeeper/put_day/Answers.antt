@@ -11,15 +11,23 @@ pub returns-clause-state : goal.returns-clause-state
 returns-clause-state g c =
     let old = state g.S.Store c.args.self.now.conn in
     let new = state g.S.Store c.put_day-answer.new.conn in
-    let opens = λ (is : g.S.Steady.is_steady ≡ true). let h : IsTrue new.is_open = g.met.S.Steady.open is c.put_day-answer.new.conn.store in h in
-    let clean = λ (is : g.S.Steady.is_steady ≡ true). let h : HasCleanDisk new = clean_if_open (g.S.Store.view c.put_day-answer.new.conn.store) (g.met.S.Store.shut_if_dirty c.put_day-answer.new.conn.store) (opens is) in h in
-    rw c.count.ensures.same (puts_tell g.S.Steady.is_steady old new c.put_day-answer.result (IsLater c.args.kept.now.day) (with_day c.args.kept.now c.args.rows.now) opens clean c.requires.later (λ clean here o stands fit. c.put_day-answer.ensures.put clean here o stands fit))
+    let opens = λ (is : g.S.Steady.is_steady ≡ true). let h : IsTrue new.is_open =
+    g.met.S.Steady.open is c.put_day-answer.new.conn.store in h in
+    let clean = λ (is : g.S.Steady.is_steady ≡ true). let h : HasCleanDisk new =
+    clean_if_open (g.S.Store.view c.put_day-answer.new.conn.store)
+    (g.met.S.Store.shut_if_dirty c.put_day-answer.new.conn.store) (opens is) in h in
+    rw c.count.ensures.same
+    (puts_tell g.S.Steady.is_steady old new c.put_day-answer.result (IsLater c.args.kept.now.day)
+    (with_day c.args.kept.now c.args.rows.now) opens clean c.requires.later
+    (λ clean here o stands fit. c.put_day-answer.ensures.put clean here o stands fit))
 
 pub returns-clause-sound : goal.returns-clause-sound
 returns-clause-sound g c = told_sound _ _
 
 pub returns-clause-put : goal.returns-clause-put
-returns-clause-put g c clean here o stands fit = rw c.count.ensures.same (c.put_day-answer.ensures.put clean here o stands fit)
+returns-clause-put g c clean here o stands fit =
+    rw c.count.ensures.same (c.put_day-answer.ensures.put clean here o stands fit)
 
 pub returns-clause-because : goal.returns-clause-because
-returns-clause-because g c clean o stands failed = c.put_day-answer.ensures.because clean o stands (sym c.count.ensures.same ∙ failed)
+returns-clause-because g c clean o stands failed =
+    c.put_day-answer.ensures.because clean o stands (sym c.count.ensures.same ∙ failed)

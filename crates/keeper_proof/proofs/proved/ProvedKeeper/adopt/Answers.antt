@@ -8,15 +8,22 @@ use Rattle.keeper_proof.proofs.TellLaws.{either_stands, made_has}
 use Rattle.keeper_proof.proofs.proved.ProvedKeeper.adopt.Goals as goal
 
 pub returns-clause-stands : goal.returns-clause-stands
-returns-clause-stands g c clean here o stands = either_stands c.make-made.result (state g.S.Store c.make-made.new.conn).committed o (c.make-made.ensures.stands clean here o stands)
+returns-clause-stands g c clean here o stands =
+    either_stands c.make-made.result (state g.S.Store c.make-made.new.conn).committed o
+    (c.make-made.ensures.stands clean here o stands)
 
 pub returns-clause-tells : goal.returns-clause-tells
 returns-clause-tells g c is o stands =
     let new = state g.S.Store c.make-made.new.conn in
     let here : IsTrue new.is_open = g.met.S.Steady.open is c.make-made.new.conn.store in
-    let clean : HasCleanDisk new = clean_if_open (g.S.Store.view c.make-made.new.conn.store) (g.met.S.Store.shut_if_dirty c.make-made.new.conn.store) here in
-    let told = told_if_stands new.committed o (either_stands c.make-made.result new.committed o (c.make-made.ensures.stands clean here o stands)) in
+    let clean : HasCleanDisk new =
+    clean_if_open (g.S.Store.view c.make-made.new.conn.store)
+    (g.met.S.Store.shut_if_dirty c.make-made.new.conn.store) here in
+    let told =
+    told_if_stands new.committed o
+    (either_stands c.make-made.result new.committed o (c.make-made.ensures.stands clean here o stands)) in
     subst (λ (b : Bool). told_in b new.committed ≡ Some o) (sym is) told
 
 pub returns-clause-made : goal.returns-clause-made
-returns-clause-made g c clean here none o stands = made_has c.make-made.result _ _ (c.why_unmade.ensures.none none) (c.make-made.ensures.stands clean here o stands)
+returns-clause-made g c clean here none o stands =
+    made_has c.make-made.result _ _ (c.why_unmade.ensures.none none) (c.make-made.ensures.stands clean here o stands)

@@ -9,7 +9,8 @@ pub returns-clause-out : goal.returns-clause-out
 returns-clause-out c = take_less _ _ _ _ c.take-entry.ensures
 
 pub returns-clause-shape : goal.returns-clause-shape
-returns-clause-shape c j held = shaped j _ (c.answer_of.ensures.run j (taken_fits IsOf _ _ _ _ j c.take-entry.ensures held))
+returns-clause-shape c j held =
+    shaped j _ (c.answer_of.ensures.run j (taken_fits IsOf _ _ _ _ j c.take-entry.ensures held))
 
 pub returns-clause-others : goal.returns-clause-others
 returns-clause-others c n j apart held = take_keeps IsOf _ n _ _ _ j c.take-entry.ensures apart held

@@ -20,7 +20,8 @@ pub returns-clause-tickets : goal.returns-clause-tickets
 returns-clause-tickets c t apart gave = put_keeps_each HasRun _ _ _ _ _ c.put.ensures apart gave
 
 pub returns-clause-jobs : goal.returns-clause-jobs
-returns-clause-jobs c = start_tells is_unlisted _ _ _ _ _ _ _ _ c.list-listed.ensures c.put.ensures c.run_now-entry.ensures.listed
+returns-clause-jobs c =
+    start_tells is_unlisted _ _ _ _ _ _ _ _ c.list-listed.ensures c.put.ensures c.run_now-entry.ensures.listed
 
 pub returns-clause-unlisted : goal.returns-clause-unlisted
 returns-clause-unlisted c n = told_are_out is_unlisted _ _ n

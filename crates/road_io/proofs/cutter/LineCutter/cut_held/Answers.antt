@@ -17,4 +17,5 @@ returns-in-Line-clause-taken c = λ _ left.
     let next = s.start + c.in-Line.count + 1 in
     let inside = c.in-Line.ensures.1 in
     let end : next ≤ s.end = omega (arith, length-take (s.end - s.start) (drop s.start c.deref.result.now)) in
-    taken_of (held s) (slice_range s.buf.items s.start next) (slice_range s.buf.items next s.end) left (range_split s.buf.items s.start next s.end (omega arith) end)
+    taken_of (held s) (slice_range s.buf.items s.start next) (slice_range s.buf.items next s.end) left
+    (range_split s.buf.items s.start next s.end (omega arith) end)

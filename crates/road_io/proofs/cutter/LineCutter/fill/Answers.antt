@@ -14,6 +14,9 @@ returns-clause-ahead g c =
     let t = take n (drop kept buf) in
     let long : length buf ≡ vec_len s.buf = c.read_behind-answer.ensures.len ∙ c.as_mut_slice.ensures.len in
     let size : kept + n - 0 ≡ kept + n = omega arith in
-    let now = ap (take (kept + n - 0)) (with_items_is s.buf buf long) ∙ ap (λ m. take m buf) size ∙ take_sum buf kept n (omega arith)
-    ∙ ap (λ ys. ys ++ t) (c.read_behind-answer.ensures.kept ∙ ap (λ b. slice_range b s.start s.end) c.as_mut_slice.ensures.value) in
-    keeps_more (held s) t _ (g.S.Source.left c.args.source.now) (g.S.Source.left c.read_behind-answer.new.source) c.in_ok-count.ensures.bytes.0 now
+    let now = ap (take (kept + n - 0)) (with_items_is s.buf buf long) ∙ ap (λ m. take m buf) size
+    ∙ take_sum buf kept n (omega arith)
+    ∙ ap (λ ys. ys ++ t)
+    (c.read_behind-answer.ensures.kept ∙ ap (λ b. slice_range b s.start s.end) c.as_mut_slice.ensures.value) in
+    keeps_more (held s) t _ (g.S.Source.left c.args.source.now) (g.S.Source.left c.read_behind-answer.new.source)
+    c.in_ok-count.ensures.bytes.0 now

@@ -11,8 +11,12 @@ returns-in-Some c =
     found_cut c.args.bytes.now w at c.window.ensures found.0.high found.0.before (eqb-true (get_or w at 0) 10 found.1)
 
 pub returns-then-bytes-gt200 : goal.returns-then-bytes-gt200
-returns-then-bytes-gt200 c = absent_long c.args.bytes.now c.window.result.now c.window.ensures c.in-None.ensures c.if-bytes-gt200.true
+returns-then-bytes-gt200 c =
+    absent_long c.args.bytes.now c.window.result.now c.window.ensures c.in-None.ensures c.if-bytes-gt200.true
 
 pub returns-else-bytes-gt200 : goal.returns-else-bytes-gt200
-returns-else-bytes-gt200 c =
-    (c.if-bytes-gt200.false, absent_short c.args.bytes.now c.window.result.now c.window.ensures c.in-None.ensures c.if-bytes-gt200.false)
+returns-else-bytes-gt200 c = (
+  c.if-bytes-gt200.false,
+  absent_short c.args.bytes.now c.window.result.now c.window.ensures c.in-None.ensures
+      c.if-bytes-gt200.false,
+)

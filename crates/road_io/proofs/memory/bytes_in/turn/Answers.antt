@@ -3,4 +3,5 @@ use Rattle.road_io.proofs.PlanLaws.{plan_next}
 use Rattle.road_io.proofs.memory.bytes_in.turn.Goals as goal
 
 pub returns-clause-next : goal.returns-clause-next
-returns-clause-next c = λ n. plan_next c.args.fails.now c.args.call _ n (λ i. omega (arith, c.type_inv.fails i)) (omega (arith, c.saturating_add.ensures))
+returns-clause-next c = λ n. plan_next c.args.fails.now c.args.call _ n (λ i. omega (arith, c.type_inv.fails i))
+    (omega (arith, c.saturating_add.ensures))

@@ -12,7 +12,8 @@ returns-in-Ok-clause-hands g c =
     let mid : Level = (g.O.Sink.written c.args.sink.now, g.O.Sink.room c.args.sink.now) in
     let new : Level = (g.O.Sink.written c.hand_on.new.sink, g.O.Sink.room c.hand_on.new.sink) in (
       refl,
-      λ earlier run old s. whole_piece p q earlier run old mid new s (subst (Adds mid new) c.as_slice.ensures.value c.in-Ok.ensures.whole) c.clear.ensures.items
+      λ earlier run old s. whole_piece p q earlier run old mid new s
+          (subst (Adds mid new) c.as_slice.ensures.value c.in-Ok.ensures.whole) c.clear.ensures.items
           (λ text took. subst (λ xs. Took c.add.new.self (text ++ xs)) c.deref.ensures.value (c.add.ensures text took)),
     )
 
@@ -20,4 +21,5 @@ pub returns-in-Err-clause-hands : goal.returns-in-Err-clause-hands
 returns-in-Err-clause-hands g c = λ earlier run old s.
     let mid : Level = (g.O.Sink.written c.args.sink.now, g.O.Sink.room c.args.sink.now) in
     let new : Level = (g.O.Sink.written c.hand_on.new.sink, g.O.Sink.room c.hand_on.new.sink) in
-    failed_piece c.args.self.now earlier run old mid new s (subst (λ xs. FillsUp xs mid new) c.as_slice.ensures.value c.in-Err.ensures.full)
+    failed_piece c.args.self.now earlier run old mid new s
+    (subst (λ xs. FillsUp xs mid new) c.as_slice.ensures.value c.in-Err.ensures.full)

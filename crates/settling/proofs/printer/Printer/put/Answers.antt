@@ -7,7 +7,9 @@ use Rattle.settling.proofs.PrintLaws.{says_no_memory, says_short, says_piece}
 use Rattle.settling.proofs.printer.Printer.put.Goals as goal
 
 pub returns-then-is_err-clause-says : goal.returns-then-is_err-clause-says
-returns-then-is_err-clause-says g c = says_no_memory c.args.self.now c.args.self.now (g.O.Sink.written c.args.sink.now, g.O.Sink.room c.args.sink.now) (c.args.notice.now ∷ [])
+returns-then-is_err-clause-says g c =
+    says_no_memory c.args.self.now c.args.self.now (g.O.Sink.written c.args.sink.now, g.O.Sink.room c.args.sink.now)
+    (c.args.notice.now ∷ [])
 
 pub returns-then-len-lt-PIECE-clause-says : goal.returns-then-len-lt-PIECE-clause-says
 returns-then-len-lt-PIECE-clause-says g c =
@@ -28,4 +30,5 @@ returns-clause-says g c =
     let z : Level = (g.O.Sink.written c.flush.new.sink, g.O.Sink.room c.flush.new.sink) in
     let held : q.piece.items ≡ p.piece.items ++ (notice_text n ++ 10 ∷ []) = search rules in
     let size : vec_len q.piece ≡ length q.piece.items = search rules in
-    says_piece p q n held refl c.flush.result c.flush.new.self w z refl (omega (arith, size, c.len.ensures, c.if-len-lt-PIECE.false)) c.flush.ensures.hands
+    says_piece p q n held refl c.flush.result c.flush.new.self w z refl
+    (omega (arith, size, c.len.ensures, c.if-len-lt-PIECE.false)) c.flush.ensures.hands

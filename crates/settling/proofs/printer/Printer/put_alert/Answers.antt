@@ -10,4 +10,5 @@ returns-in-None-clause-says g c =
     let a = c.args in
     let p = a.self.now in
     let w : Level = (g.O.Sink.written a.sink.now, g.O.Sink.room a.sink.now) in
-    subst (λ alert. Says {T = Unit {0}} (Ok tt) p p w w (alert_to a.time a.vid alert)) (sym c.in-None.is) (says_none p w)
+    subst (λ alert. Says {T = Unit {0}} (Ok tt) p p w w (alert_to a.time a.vid alert)) (sym c.in-None.is)
+    (says_none p w)

@@ -9,7 +9,9 @@ use Rattle.settling.proofs.printer.Printer.put_told.Goals as goal
 pub returns-in-Err-clause-says : goal.returns-in-Err-clause-says
 returns-in-Err-clause-says g c =
     let a = c.args in
-    says_longer c.in-Err.fault a.self.now c.put_alert.new.self (g.O.Sink.written a.sink.now, g.O.Sink.room a.sink.now) (g.O.Sink.written c.put_alert.new.sink, g.O.Sink.room c.put_alert.new.sink) (alert_to a.time a.vid a.found.alert) (Toll a.vid a.time a.found.lav a.found.toll ∷ []) c.in-Err.ensures.says
+    says_longer c.in-Err.fault a.self.now c.put_alert.new.self (g.O.Sink.written a.sink.now, g.O.Sink.room a.sink.now)
+    (g.O.Sink.written c.put_alert.new.sink, g.O.Sink.room c.put_alert.new.sink)
+    (alert_to a.time a.vid a.found.alert) (Toll a.vid a.time a.found.lav a.found.toll ∷ []) c.in-Err.ensures.says
 
 pub returns-clause-says : goal.returns-clause-says
 returns-clause-says g c =
@@ -19,5 +21,7 @@ returns-clause-says g c =
     let z : Level = (g.O.Sink.written c.put.new.sink, g.O.Sink.room c.put.new.sink) in
     let lav = a.found.lav in
     let whole : to_z w16 (of_z w16 lav) ≡ lav = search rules in
-    says_then c.put.result a.self.now c.put_alert.new.self c.put.new.self w v z (alert_to a.time a.vid a.found.alert) (Toll a.vid a.time lav a.found.toll ∷ []) c.in_default.ensures.says
-    (subst (λ n. Says c.put.result c.put_alert.new.self c.put.new.self v z (Toll a.vid a.time n a.found.toll ∷ [])) whole c.put.ensures.says)
+    says_then c.put.result a.self.now c.put_alert.new.self c.put.new.self w v z (alert_to a.time a.vid a.found.alert)
+    (Toll a.vid a.time lav a.found.toll ∷ []) c.in_default.ensures.says
+    (subst (λ n. Says c.put.result c.put_alert.new.self c.put.new.self v z (Toll a.vid a.time n a.found.toll ∷ []))
+    whole c.put.ensures.says)

@@ -13,7 +13,15 @@ returns c = λ finding number history before h.
     let cs = charges_by finding (moments before) in
     let are = subst (λ m. AreRowsOf m c.args.day c.in_ok-rows.rows.items) h.book.spent c.in_ok-rows.ensures in
     record {
-      rows = c.from_vec.ensures ∙ only_rows cs c.args.day c.in_ok-rows.rows.items (record { in_order = are.in_order; of_day = are.of_day; none_zero = are.none_zero; exact = λ v x. are.exact v x ∙ amount_by cs v x });
+      rows = c.from_vec.ensures
+          ∙ only_rows cs c.args.day c.in_ok-rows.rows.items
+          (record {
+            in_order = are.in_order;
+            of_day = are.of_day;
+            none_zero = are.none_zero;
+            exact =
+                λ v x. are.exact v x ∙ amount_by cs v x;
+          });
       total = c.total-total.ensures.total ∙ total_is finding c.args.self.book before h.book;
       told = h.told;
       told_are = h.told_are;

@@ -20,7 +20,8 @@ returns-in-Nothing-clause-says g c =
     let h = history_of (g.K.Keeper.told a.keeper.now) in (
       [],
       subst (λ due. IsSaid h a.number due a.slot.found a.self.now.book []) (sym c.in-Nothing.is) refl,
-      subst (λ due. SettlesSlot {T = Unit {0}} (Ok tt) due p p w w plan plan []) (sym c.in-Nothing.is) (says_none p w, passes_none plan),
+      subst (λ due. SettlesSlot {T = Unit {0}} (Ok tt) due p p w w plan plan []) (sym c.in-Nothing.is)
+          (says_none p w, passes_none plan),
     )
 
 pub returns-in-Report-clause-says : goal.returns-in-Report-clause-says
@@ -38,7 +39,8 @@ returns-in-Report-clause-says g c =
     let done = c.settle_report.ensures in (
       ns,
       subst (λ d. IsSaid h a.number d a.slot.found a.self.now.book ns) (sym s.is) refl,
-      subst (λ d. SettlesSlot c.settle_report.result d p q w v plan plan ns) (sym s.is) (slot_said c.settle_report.result due p q w v plan plan ns done.other (passes_none plan) done.says),
+      subst (λ d. SettlesSlot c.settle_report.result d p q w v plan plan ns) (sym s.is)
+          (slot_said c.settle_report.result due p q w v plan plan ns done.other (passes_none plan) done.says),
     )
 
 pub returns-in-Balance-clause-says : goal.returns-in-Balance-clause-says
@@ -54,8 +56,10 @@ returns-in-Balance-clause-says g c =
     let ns = BalanceNotice s.time s.qid c.balance-amount.result ∷ [] in
     let due : Due = Balance s.time s.vid s.qid in (
       ns,
-      subst (λ d. IsSaid h a.number d a.slot.found a.self.now.book ns) (sym s.is) (ap (λ n. BalanceNotice s.time s.qid n ∷ []) c.balance-amount.ensures.account),
-      subst (λ d. SettlesSlot c.put.result d p q w v plan plan ns) (sym s.is) (slot_said c.put.result due p q w v plan plan ns c.put.ensures.other (passes_none plan) c.put.ensures.says),
+      subst (λ d. IsSaid h a.number d a.slot.found a.self.now.book ns) (sym s.is)
+          (ap (λ n. BalanceNotice s.time s.qid n ∷ []) c.balance-amount.ensures.account),
+      subst (λ d. SettlesSlot c.put.result d p q w v plan plan ns) (sym s.is)
+          (slot_said c.put.result due p q w v plan plan ns c.put.ensures.other (passes_none plan) c.put.ensures.says),
     )
 
 pub returns-in-Ok-clause-says : goal.returns-in-Ok-clause-says
@@ -77,7 +81,8 @@ returns-in-Ok-clause-says g c =
     let put = c.put-in-Ok in (
       ns,
       subst (λ d. IsSaid h a.number d a.slot.found a.self.now.book ns) (sym s.is) (amount, paid, refl),
-      subst (λ d. SettlesSlot put.result d p q w v plan left ns) (sym s.is) (slot_said put.result due p q w v plan left ns put.ensures.other c.in-Ok.ensures.once put.ensures.says),
+      subst (λ d. SettlesSlot put.result d p q w v plan left ns) (sym s.is)
+          (slot_said put.result due p q w v plan left ns put.ensures.other c.in-Ok.ensures.once put.ensures.says),
     )
 
 pub returns-in-Err-clause-says : goal.returns-in-Err-clause-says

@@ -11,9 +11,11 @@ returns-then-not-told-clause-says g c =
     let p = a.self.now.printer in
     let w : Level = (g.O.Sink.written a.sink.now, g.O.Sink.room a.sink.now) in
     let off : a.told ≡ false = search rules in
-    subst (λ told. Says {T = Unit {0}} (Ok tt) p p w w (told_notices told a.time a.vid a.found)) (sym off) (says_none p w)
+    subst (λ told. Says {T = Unit {0}} (Ok tt) p p w w (told_notices told a.time a.vid a.found)) (sym off)
+    (says_none p w)
 
 pub returns-then-is_err-clause-says : goal.returns-then-is_err-clause-says
 returns-then-is_err-clause-says g c =
     let a = c.args in
-    says_no_memory a.self.now.printer a.self.now.printer (g.O.Sink.written a.sink.now, g.O.Sink.room a.sink.now) (told_notices a.told a.time a.vid a.found)
+    says_no_memory a.self.now.printer a.self.now.printer (g.O.Sink.written a.sink.now, g.O.Sink.room a.sink.now)
+    (told_notices a.told a.time a.vid a.found)

@@ -19,8 +19,11 @@ returns-clause-ok g c =
     let history = history_of (g.K.Keeper.told c.settle_run.new.keeper) in
     on_flush c.flush.result s.printer c.flush.new.self mid new _ c.flush.ensures.hands
     (λ hands finding before rest h waits few.
-    let run = c.in_default.ensures.ok finding before rest h waits few in
-    (run_flushed finding c.args.number history s s' before (take c.args.count rest) old mid new plan left run.0 refl refl refl hands, run.1))
+    let run = c.in_default.ensures.ok finding before rest h waits few in (
+      run_flushed finding c.args.number history s s' before (take c.args.count rest) old mid new plan left run.0 refl
+          refl refl hands,
+      run.1,
+    ))
 
 pub returns-clause-err : goal.returns-clause-err
 returns-clause-err g c =
@@ -34,5 +37,7 @@ returns-clause-err g c =
     if_unflushed c.flush.result s.printer c.flush.new.self mid new _ c.flush.ensures.hands
     (λ fault hands finding before rest h waits few.
     let run = c.in_default.ensures.ok finding before rest h waits few in
-    subst (λ k. StopsRun fault finding c.args.number (history_of k) before (take c.args.count rest) old new plan left) c.in_default.ensures.same
-    (run_unflushed finding c.args.number history fault s c.flush.new.self before (take c.args.count rest) old mid new plan left run.0 hands))
+    subst (λ k. StopsRun fault finding c.args.number (history_of k) before (take c.args.count rest) old new plan left)
+    c.in_default.ensures.same
+    (run_unflushed finding c.args.number history fault s c.flush.new.self before (take c.args.count rest) old mid new
+    plan left run.0 hands))

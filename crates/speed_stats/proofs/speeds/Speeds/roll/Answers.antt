@@ -3,7 +3,7 @@ use Rattle.std.specs.Map.{lookup}
 use Rattle.road_time.specs.Notes.{notes_of_vehicle}
 use Rattle.speed_stats.specs.Kept.{Kept}
 use Rattle.speed_stats.specs.Parts.{sum_for, same_car, no_sum, shown, flow_in}
-use Rattle.speed_stats.proofs.NoteSteps.{none_later, all_later}
+use Rattle.speed_stats.proofs.NoteParts.{none_later, all_later}
 use Rattle.speed_stats.proofs.speeds.Speeds.roll.Goals as goal
 
 pub returns-clause-kept : goal.returns-clause-kept
@@ -17,6 +17,10 @@ returns-clause-kept c = λ notes st.
       none_after = all_later notes c.args.self.now.minute c.args.minute later st.none_after;
       slow = st.slow;
       few = st.few;
-      sums = λ k v. ap (λ es. unwrap_or (lookup (same_car (record { stretch = k; vid = v })) es) no_sum) c.forget.ensures ∙ sym (ap (λ zs. sum_for (notes_of_vehicle zs v)) (none_later notes c.args.self.now.minute c.args.minute k later st.none_after));
-      flows = λ k m h. ap (λ (s : Kept). shown (flow_in s.rings k m)) c.self.view_is ∙ st.flows k m (omega (arith, later, h));
+      sums = λ k v. ap (λ es. unwrap_or (lookup (same_car (record { stretch = k; vid = v })) es) no_sum)
+          c.forget.ensures
+          ∙ sym (ap (λ zs. sum_for (notes_of_vehicle zs v))
+          (none_later notes c.args.self.now.minute c.args.minute k later st.none_after));
+      flows = λ k m h. ap (λ (s : Kept). shown (flow_in s.rings k m)) c.self.view_is
+          ∙ st.flows k m (omega (arith, later, h));
     }

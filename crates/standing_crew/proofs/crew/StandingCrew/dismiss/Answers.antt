@@ -14,5 +14,6 @@ join_seat-requires g c =
       helper.at.0 ∙ (c.requires ∙ sym c.cells.ensures),
       helper.hands,
       subst (λ (z : TableId). 0 < z.words) (sym c.cells.ensures) (let w = crew.at.1 in omega arith),
-      subst (λ (z : ℕ). Joins CellRule z crew.seat.me.0 helper.seat.id helper.seat.me.0 crew.seat.me.0 new_helper) (sym crew.first) (join_allowed crew.seat.me.0 helper.seat.id helper.seat.me.0 helper.idle),
+      subst (λ (z : ℕ). Joins CellRule z crew.seat.me.0 helper.seat.id helper.seat.me.0 crew.seat.me.0 new_helper)
+          (sym crew.first) (join_allowed crew.seat.me.0 helper.seat.id helper.seat.me.0 helper.idle),
     )

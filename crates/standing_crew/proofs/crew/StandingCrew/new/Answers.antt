@@ -15,13 +15,19 @@ invariant_of-result g c = let long = c.from_fn.ensures.items.long in record {
   hands = ap (λ (m : Sat). m.1) c.requires.new;
   wide = new_wide c.args.board.count c.args.seat.me c.requires.new;
   all = long;
-  free = new_free c.from_fn.result c.args.board.count c.args.seat.me c.requires.new (λ i lt. (let within : i < 64 = omega arith in let h = c.from_fn.ensures.items.at i None within in search rules));
+  free = new_free c.from_fn.result c.args.board.count c.args.seat.me c.requires.new
+      (λ i lt. (let within : i < 64 = omega arith in let h = c.from_fn.ensures.items.at i None within in search rules));
 }
 
 pub returns-clause-out : goal.returns-clause-out
-returns-clause-out g c = let long = c.from_fn.ensures.items.long in free_all 0 c.from_fn.result (λ i lt. (let within : i < 64 = omega arith in let h = c.from_fn.ensures.items.at i None within in search rules))
+returns-clause-out g c = let long = c.from_fn.ensures.items.long in
+    free_all 0 c.from_fn.result
+    (λ i lt. (let within : i < 64 = omega arith in let h = c.from_fn.ensures.items.at i None within in search rules))
 
 pub returns-clause-jobs : goal.returns-clause-jobs
 returns-clause-jobs g c =
     let long = c.from_fn.ensures.items.long in
-    new_tells is_unlisted _ _ _ c.new.ensures (free_all 0 c.from_fn.result (λ i lt. (let within : i < 64 = omega arith in let h = c.from_fn.ensures.items.at i None within in search rules)))
+    new_tells is_unlisted _ _ _ c.new.ensures
+    (free_all 0 c.from_fn.result
+    (λ i lt. (let within : i < 64 = omega arith in let h = c.from_fn.ensures.items.at i None within in
+    search rules)))

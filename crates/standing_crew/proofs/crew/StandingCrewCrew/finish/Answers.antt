@@ -28,7 +28,8 @@ pub returns-clause-out : goal.returns-clause-out
 returns-clause-out g c = let t = c.finish_at.ensures.finished in take_less _ _ _ _ t.taken
 
 pub returns-clause-others : goal.returns-clause-others
-returns-clause-others g c n j apart held = let t = c.finish_at.ensures.finished in answered_others _ n j _ _ _ _ _ t.taken t.answered apart held
+returns-clause-others g c n j apart held = let t = c.finish_at.ensures.finished in
+    answered_others _ n j _ _ _ _ _ t.taken t.answered apart held
 
 pub returns-clause-shape : goal.returns-clause-shape
 returns-clause-shape g c j held = shaped j _ (c.finish_at.ensures.run j held)

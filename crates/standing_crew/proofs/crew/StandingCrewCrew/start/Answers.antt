@@ -27,13 +27,16 @@ pub returns-clause-out : goal.returns-clause-out
 returns-clause-out g c = let t = c.start_at.ensures.started in put_more _ _ _ _ t.put
 
 pub returns-clause-held : goal.returns-clause-held
-returns-clause-held g c = let t = c.start_at.ensures.started in begun_held _ _ _ _ _ _ _ _ c.args.self.now.wide t.put t.begun
+returns-clause-held g c = let t = c.start_at.ensures.started in
+    begun_held _ _ _ _ _ _ _ _ c.args.self.now.wide t.put t.begun
 
 pub returns-clause-others : goal.returns-clause-others
-returns-clause-others g c n j apart held = let t = c.start_at.ensures.started in begun_others _ _ n _ j _ _ _ _ _ t.put t.begun apart held
+returns-clause-others g c n j apart held = let t = c.start_at.ensures.started in
+    begun_others _ _ n _ j _ _ _ _ _ t.put t.begun apart held
 
 pub returns-clause-jobs : goal.returns-clause-jobs
-returns-clause-jobs g c = let t = c.start_at.ensures.started in start_tells is_unlisted _ _ _ _ _ _ _ _ c.list-listed.ensures t.put t.says
+returns-clause-jobs g c = let t = c.start_at.ensures.started in
+    start_tells is_unlisted _ _ _ _ _ _ _ _ c.list-listed.ensures t.put t.says
 
 pub returns-clause-unlisted : goal.returns-clause-unlisted
 returns-clause-unlisted g c n = told_are_out is_unlisted _ _ n

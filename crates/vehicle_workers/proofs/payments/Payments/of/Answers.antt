@@ -10,5 +10,6 @@ loop-row-preserved c =
     let cut : c.loop-row.left.now ≡ c.in-Some.earlier.now ++ row ∷ [] = search rules in (
       row ∷ done,
       sym (append_assoc c.in-Some.earlier.now (row ∷ []) done) ∙ (ap (λ rows. rows ++ done) (sym cut) ∙ whole),
-      pays_more c.loop-row.amounts.entries c.insert.new.self.entries row done (λ q. c.in_ok-insert.ensures.updates.0 q) pays,
+      pays_more c.loop-row.amounts.entries c.insert.new.self.entries row done (λ q. c.in_ok-insert.ensures.updates.0 q)
+          pays,
     )

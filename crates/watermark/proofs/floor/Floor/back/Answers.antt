@@ -1,4 +1,5 @@
-use Rattle.std.proofs.Common.{◌≡◌, ℕ, ◌+◌, ◌≤◌, ◌<◌, ◌++◌, List, Option, length, map, take, drop, rules, sym, ◌∙◌, subst}
+use Rattle.std.proofs.Common.{◌≡◌, ℕ, ◌+◌, ◌≤◌, ◌<◌, ◌++◌, List, Option, length, map, take, drop, rules, sym, ◌∙◌}
+use Rattle.std.proofs.Common.{subst}
 use Rattle.std.specs.List.{All, AllByRecursion}
 use Rattle.std.specs.VecDeque.{deque_len}
 use Rattle.std.proofs.lemmas.List.{length-take-le}
@@ -32,7 +33,8 @@ fill-requires c =
     subst (λ xs. All P xs) (sym items)
     (All-from_recursion P c.args.done.findings
     (awaited_within s f.settled (deque_len f.slots) c.args.done.findings st.settled (count c.requires.0 f s st held)
-    (awaited f.inboxes.width f.limits s st.sound c.args.done.worker c.args.done.number (map shown c.args.done.findings) can)))
+    (awaited f.inboxes.width f.limits s st.sound c.args.done.worker c.args.done.number (map shown c.args.done.findings)
+    can)))
 
 pub returns-clause-back : goal.returns-clause-back
 returns-clause-back c = λ g s st may.
@@ -43,20 +45,31 @@ returns-clause-back c = λ g s st may.
     let items : c.items.result.now ≡ c.args.done.findings = search rules in
     let waits = awaited f.inboxes.width f.limits s st.sound worker c.args.done.number fs may.can in
     let fresh = fresh_back f.inboxes.width f.limits s worker c.args.done.number fs st.sound may.can in
-    let long : length (take s.settled s.fed) ≡ f.settled = length-take-le s.settled s.fed st.sound.settled ∙ sym st.settled in
+    let long : length (take s.settled s.fed) ≡ f.settled = length-take-le s.settled s.fed st.sound.settled
+    ∙ sym st.settled in
     let back : List (Option Kept) = c.bring_home.new.homes.items in
     record {
       terms = subst (λ n. AreTerms n f.limits) (sym width) st.terms;
-      sound = subst (λ n. IsSound n f.limits (after_back s worker fs)) (sym width) (sound_back f.inboxes.width f.limits s worker c.args.done.number fs st.sound may.can);
+      sound = subst (λ n. IsSound n f.limits (after_back s worker fs)) (sym width)
+          (sound_back f.inboxes.width f.limits s worker c.args.done.number fs st.sound may.can);
       inboxes = c.back.ensures.back s.fed s.share st.inboxes;
-      slots = subst (λ (xs : List Finding). c.fill.new.slots.items ≡ slots_of (given (s.found ++ map shown xs)) (take s.settled s.fed) (drop s.settled s.fed)) items
+      slots = subst
+          (λ (xs : List Finding). c.fill.new.slots.items ≡ slots_of (given (s.found ++ map shown xs))
+          (take s.settled s.fed) (drop s.settled s.fed)) items
           (c.fill.ensures.filled s.found (take s.settled s.fed) (drop s.settled s.fed) st.slots long
           (subst (λ (xs : List Finding). AreFresh s.found (map shown xs)) (sym items) fresh)
-          (subst (λ (xs : List Finding). AllByRecursion (λ g. ReportAt (take s.settled s.fed ++ drop s.settled s.fed) g.0) (map shown xs)) (sym items) (awaited_reports s fs waits)));
+          (subst (λ (xs : List Finding). AllByRecursion
+          (λ g. ReportAt (take s.settled s.fed ++ drop s.settled s.fed) g.0) (map shown xs)) (sym items)
+          (awaited_reports s fs waits)));
       homes_width = c.bring_home.ensures.len ∙ st.homes_width ∙ sym width;
-      homes = subst (λ xs. (w : ℕ) → HomeAt g.tariffs xs w ((after_back s worker fs).share w)) (sym c.bring_home.ensures.brought) (homes_back g.tariffs f.homes.items worker c.args.done.carriage s.share (search rules) st.homes may.stands may.tariffs_are);
+      homes = subst (λ xs. (w : ℕ) → HomeAt g.tariffs xs w ((after_back s worker fs).share w))
+          (sym c.bring_home.ensures.brought)
+          (homes_back g.tariffs f.homes.items worker c.args.done.carriage s.share (search rules) st.homes may.stands
+          may.tariffs_are);
       settler = stands_by f.settler (given s.found) (given (s.found ++ fs)) g.number g.history (take s.settled s.fed)
-          (same_told s.found fs s.settled (not_settled f.inboxes.width f.limits s worker c.args.done.number fs st.sound may.can) (take s.settled s.fed) (long_first f.inboxes.width f.limits s st.sound)) st.settler;
+          (same_told s.found fs s.settled
+          (not_settled f.inboxes.width f.limits s worker c.args.done.number fs st.sound may.can)
+          (take s.settled s.fed) (long_first f.inboxes.width f.limits s st.sound)) st.settler;
       settled = st.settled;
       given_is = st.given_is;
     }

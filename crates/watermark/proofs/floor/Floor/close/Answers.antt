@@ -9,6 +9,7 @@ pub returns : goal.returns
 returns c =
     if_ok c.close.result
     (λ closed is g s st all.
-    subst (IsClosed closed c.args.day (given s.found) g.number g.history) (ap (λ n. take n s.fed) all ∙ take-length s.fed)
+    subst (IsClosed closed c.args.day (given s.found) g.number g.history)
+    (ap (λ n. take n s.fed) all ∙ take-length s.fed)
     (is (given s.found) g.number g.history (take s.settled s.fed) st.settler))
     c.close.ensures

@@ -16,8 +16,21 @@ use Rattle.watermark.proofs.Homed.{home_fed}
 use Rattle.watermark.proofs.floor.Floor.feed.Goals as goal
 
 -- only the room of the slots has changed
-roomier : (f n : Floor) (g : Setting) (s : State) → n.slots.items ≡ f.slots.items → StandsFor g f s → StandsFor g (record f { slots = n.slots }) s
-roomier f n g s items st = record { terms = st.terms; sound = st.sound; inboxes = st.inboxes; slots = items ∙ st.slots; homes_width = st.homes_width; homes = st.homes; settler = st.settler; settled = st.settled; given_is = st.given_is }
+roomier : (f n : Floor) (g : Setting) (s : State) → n.slots.items ≡ f.slots.items → StandsFor g f s →
+    StandsFor g (record f { slots = n.slots }) s
+roomier f n g s items st =
+    record {
+      terms = st.terms;
+      sound = st.sound;
+      inboxes = st.inboxes;
+      slots = items ∙ st.slots;
+      homes_width =
+          st.homes_width;
+      homes = st.homes;
+      settler = st.settler;
+      settled = st.settled;
+      given_is = st.given_is;
+    }
 
 pub feed-requires : goal.feed-requires
 feed-requires c = record {
@@ -26,7 +39,10 @@ feed-requires c = record {
   limits = c.args.self.now.limits;
   stand = c.requires.2.inboxes;
   fit = c.requires.3.fit;
-  position_is = sym (c.fed-position.ensures c.requires.0 c.requires.1 (roomier c.args.self.now (record c.args.self.now { slots = c.reserve.new.self }) c.requires.0 c.requires.1 c.reserve.ensures.items c.requires.2));
+  position_is =
+      sym (c.fed-position.ensures c.requires.0 c.requires.1
+      (roomier c.args.self.now (record c.args.self.now { slots = c.reserve.new.self }) c.requires.0 c.requires.1
+      c.reserve.ensures.items c.requires.2));
 }
 
 pub returns-in_err-due-clause-refused : goal.returns-in_err-due-clause-refused
@@ -53,17 +69,22 @@ returns-else-is_err-clause-fed c = λ g s st can.
     let x = c.args.tuple in
     let width = c.in_ok-due.ensures.width in
     let at : length s.fed ≡ c.fed-position.result =
-    sym (c.fed-position.ensures g s (roomier f (record f { slots = c.reserve.new.self }) g s c.reserve.ensures.items st)) in
+    sym (c.fed-position.ensures g s
+    (roomier f (record f { slots = c.reserve.new.self }) g s c.reserve.ensures.items st)) in
     let new : Slot = record { due = c.in_ok-due.due; found = c.none_yet.result } in
     let items : c.push_back.new.self.items ≡ f.slots.items ++ new ∷ [] = search rules in
     record {
       terms = subst (λ n. AreTerms n f.limits) (sym width) st.terms;
-      sound = subst (λ n. IsSound n f.limits (after_feed f.inboxes.width s x)) (sym width) (sound_feed f.inboxes.width f.limits s x st.sound can);
+      sound = subst (λ n. IsSound n f.limits (after_feed f.inboxes.width s x)) (sym width)
+          (sound_feed f.inboxes.width f.limits s x st.sound can);
       inboxes = c.in_ok-due.ensures.fed s.fed s.share st.inboxes at;
-      slots = items ∙ slots_fed f.inboxes.width f.limits s x f.slots.items new st.sound st.slots (c.in_ok-due.ensures.due s.fed s.share st.inboxes) c.none_yet.ensures;
+      slots = items ∙ slots_fed f.inboxes.width f.limits s x f.slots.items new st.sound st.slots
+          (c.in_ok-due.ensures.due s.fed s.share st.inboxes) c.none_yet.ensures;
       homes_width = st.homes_width ∙ sym width;
       homes = λ w home is. home_fed g.tariffs home w f.inboxes.width s.fed x (s.share w) (st.homes w home is);
-      settler = subst (SettlerStandsFor f.settler (given s.found) g.number g.history) (sym (first_stay s.settled s.fed x st.sound.settled)) st.settler;
+      settler =
+          subst (SettlerStandsFor f.settler (given s.found) g.number g.history)
+          (sym (first_stay s.settled s.fed x st.sound.settled)) st.settler;
       settled = st.settled;
       given_is = st.given_is;
     }
