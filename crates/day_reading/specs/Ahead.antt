@@ -30,7 +30,8 @@ has_more d = is_waiting d.following
 abbrev pub IsAhead : DayAhead → Limits → ℕ → Option (List ℕ) → List ℕ → List Tuple → Type 0
 IsAhead d limits late left bytes given = Gives (answer_of d.following) d.reader limits late left bytes given
 
--- what was given, with the tuple that waits, is a day that the limits allow, also over a source that does not tell its bytes
+-- what was given, with the tuple that waits, is a day that the limits allow, also over a source that does not tell its
+-- bytes
 abbrev pub IsGatheringAhead : DayAhead → Limits → ℕ → List Tuple → Type 0
 IsGatheringAhead d limits late given = GathersOn (answer_of d.following) d.reader limits late given
 
@@ -43,7 +44,8 @@ abbrev pub HasFailedAhead : DayAhead → Type 0
 HasFailedAhead d = HasFailed d.reader
 
 -- an answer of `next`: one tuple more, or none where the whole day was given; a fault is free
-abbrev pub GivesAhead : Result (Option Tuple) ReadStop → DayAhead → Limits → ℕ → Option (List ℕ) → List ℕ → List Tuple → Type 0
+abbrev pub GivesAhead : Result (Option Tuple) ReadStop → DayAhead → Limits → ℕ → Option (List ℕ) → List ℕ → List Tuple →
+    Type 0
 GivesAhead (Ok (Some x)) d limits late left bytes given = IsAhead d limits late left bytes (given ++ x ∷ [])
 GivesAhead (Ok None) d limits late left bytes given = IsAhead d limits late left bytes given
 GivesAhead (Err stop) d limits late left bytes given = Unit {0}

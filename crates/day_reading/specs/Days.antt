@@ -11,7 +11,8 @@ use Rattle.day_reading.specs.declared.whole_day.DayEnd.TheVariants.{Whole, Refus
 -- how the reading of these bytes ended: at their end, or at the first line that is refused
 abbrev pub EndsReading : DayEnd → List ℕ → Option (ℕ × Fault) → Type 0
 EndsReading (Whole n digest) bytes refused = (refused ≡ None) × (n ≡ length bytes) × (digest ≡ digest_of bytes)
-EndsReading (Refused line cause) bytes refused = (fault : Fault) × (refused ≡ Some (line, fault)) × (cause_of fault ≡ cause)
+EndsReading (Refused line cause) bytes refused = (fault : Fault) × (refused ≡ Some (line, fault))
+    × (cause_of fault ≡ cause)
 
 -- a day of fewer than 2^63 bytes
 abbrev pub IsShort : DayEnd → Type 0
@@ -20,7 +21,8 @@ IsShort (Refused line cause) = Unit {0}
 
 -- of the bytes that a source had, at most the first so many were read
 abbrev pub ReadsWithin : ℕ → Option (List ℕ) → Option (List ℕ) → Type 0
-ReadsWithin most before after = (bytes : List ℕ) → before ≡ Some bytes → (count : ℕ) × (count ≤ most) × (after ≡ Some (drop count bytes))
+ReadsWithin most before after = (bytes : List ℕ) → before ≡ Some bytes → (count : ℕ) × (count ≤ most)
+    × (after ≡ Some (drop count bytes))
 
 -- the most that a day is read: a line more than it may have, each of 200 bytes and its end, and one buffer
 abbrev pub most_read : Limits → ℕ
@@ -28,9 +30,11 @@ most_read limits = 201 * (limits.lines + 1) + 65536
 
 -- so many bytes of a source were read, and but for one buffer they are no more than its first so many lines
 abbrev pub StopsSoon : ℕ → List ℕ → Option (List ℕ) → Type 0
-StopsSoon line bytes left = (count : ℕ) × (left ≡ Some (drop count bytes)) × (length (lines_of (take (count - 65536) bytes)) ≤ line)
+StopsSoon line bytes left = (count : ℕ) × (left ≡ Some (drop count bytes))
+    × (length (lines_of (take (count - 65536) bytes)) ≤ line)
 
--- what the reading of a day leaves of the source: nothing of a whole day, and no less than all but one buffer behind a refused line
+-- what the reading of a day leaves of the source: nothing of a whole day, and no less than all but one buffer behind a
+-- refused line
 abbrev pub LeavesBehind : DayEnd → List ℕ → Option (List ℕ) → Type 0
 LeavesBehind (Whole n digest) bytes left = left ≡ Some []
 LeavesBehind (Refused line cause) bytes left = StopsSoon line bytes left

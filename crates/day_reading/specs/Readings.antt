@@ -1,5 +1,6 @@
 -- A reader in the midst of a day.
-use Rattle.std.specs.Prelude.{ℕ, ◌≡◌, ◌≤◌, ◌++◌, ◌∷◌, [], Bool, false, List, length, take, Option, Some, None, Result, Ok, Err}
+use Rattle.std.specs.Prelude.{ℕ, ◌≡◌, ◌≤◌, ◌++◌, ◌∷◌, [], Bool, false, List, length, take, Option, Some, None, Result}
+use Rattle.std.specs.Prelude.{Ok, Err}
 use Rattle.road_time.specs.declared.road.Tuple.{Tuple}
 use Rattle.road_time.specs.declared.day.Limits.{Limits}
 use Rattle.road_time.specs.Lines.{lines_of}
@@ -29,7 +30,8 @@ abbrev pub HasTaken : Consumed → List ℕ → Type 0
 HasTaken c bytes = TookBeside c.digester bytes × (c.bytes ≡ length bytes)
 
 -- lines are read on: those before were all let in, and the rest lies ahead
-pub record ReadsOn (front : Option (List ℕ)) (number : ℕ) (consumed : Consumed) (gate : Gate) (sorter : Sorting) (limits : Limits) (late : ℕ) (bytes : List ℕ) (given : List Tuple) : Type 0 where
+pub record ReadsOn (front : Option (List ℕ)) (number : ℕ) (consumed : Consumed) (gate : Gate) (sorter : Sorting)
+    (limits : Limits) (late : ℕ) (bytes : List ℕ) (given : List Tuple) : Type 0 where
   pub before : List (List ℕ)
   pub taken : List ℕ
   pub now : List ℕ
@@ -44,7 +46,8 @@ pub record ReadsOn (front : Option (List ℕ)) (number : ℕ) (consumed : Consum
 
 -- no line is read on: what was accepted waits to be given
 abbrev pub GivesOut : Sorting → Limits → ℕ → List ℕ → List Tuple → Type 0
-GivesOut sorter limits late bytes given = (ended : Bool) × IsSorting sorter late (accepts bytes limits late).tuples (length given) ended
+GivesOut sorter limits late bytes given =
+    (ended : Bool) × IsSorting sorter late (accepts bytes limits late).tuples (length given) ended
 
 -- all lines were read
 abbrev pub EndsWhole : ℕ → Consumed → Limits → ℕ → List ℕ → Type 0
@@ -57,8 +60,10 @@ EndsRefused line cause limits late bytes =
     (fault : Fault) × ((accepts bytes limits late).refused ≡ Some (line, fault)) × (cause_of fault ≡ cause)
 
 -- where the reading of lines stands
-abbrev pub StandsAt : Option Ending → Option (List ℕ) → ℕ → Consumed → Gate → Sorting → Limits → ℕ → List ℕ → List Tuple → Type 0
-StandsAt None front number consumed gate sorter limits late bytes given = ReadsOn front number consumed gate sorter limits late bytes given
+abbrev pub StandsAt : Option Ending → Option (List ℕ) → ℕ → Consumed → Gate → Sorting → Limits → ℕ → List ℕ → List Tuple
+    → Type 0
+StandsAt None front number consumed gate sorter limits late bytes given =
+    ReadsOn front number consumed gate sorter limits late bytes given
 StandsAt (Some Whole) front number consumed gate sorter limits late bytes given =
     GivesOut sorter limits late bytes given × EndsWhole number consumed limits late bytes
 StandsAt (Some (Stopped (Refused line cause))) front number consumed gate sorter limits late bytes given =
@@ -73,12 +78,15 @@ IsGivingOut (Stopped (Refused line cause)) = Unit {0}
 IsGivingOut (Stopped ReadFault) = ⊥
 IsGivingOut (Stopped NoMemory) = ⊥
 
--- a reader reads the day that the bytes are, under limits and at a lateness, where so much of the source is left and so much was given
-pub record IsReading (r : DayReader) (limits : Limits) (late : ℕ) (left : Option (List ℕ)) (bytes : List ℕ) (given : List Tuple) : Type 0 where
+-- a reader reads the day that the bytes are, under limits and at a lateness, where so much of the source is left and
+-- so much was given
+pub record IsReading (r : DayReader) (limits : Limits) (late : ℕ) (left : Option (List ℕ)) (bytes : List ℕ)
+    (given : List Tuple) : Type 0 where
   pub line_limit : r.intake.line_limit ≡ limits.lines
   pub count : r.given ≡ length given
   pub front : IsFrontOf given (reads bytes limits late).tuples
-  pub stands : StandsAt r.end (ahead r.cutter left) (number_of r.cutter) r.consumed r.intake.gate r.intake.sorter limits late bytes given
+  pub stands : StandsAt r.end (ahead r.cutter left) (number_of r.cutter) r.consumed r.intake.gate r.intake.sorter limits
+      late bytes given
 
 -- the first of the bytes that a source had were taken, and counted; the rest lies ahead
 pub record HasRead (front : Option (List ℕ)) (consumed : Consumed) (bytes : List ℕ) : Type 0 where
@@ -90,24 +98,30 @@ pub record HasRead (front : Option (List ℕ)) (consumed : Consumed) (bytes : Li
 
 -- the same, and what was taken is so many lines at most
 abbrev pub HasReadLines : Option (List ℕ) → ℕ → Consumed → List ℕ → Type 0
-HasReadLines front number consumed bytes = (read : HasRead front consumed bytes) × (length (lines_of read.taken) ≤ number)
+HasReadLines front number consumed bytes = (read : HasRead front consumed bytes)
+    × (length (lines_of read.taken) ≤ number)
 
--- what a reader under a line limit took and holds of a source's bytes, and what is left of them, is all that the source had
+-- what a reader under a line limit took and holds of a source's bytes, and what is left of them, is all that the
+-- source had
 abbrev pub HasReadOf : DayReader → ℕ → Option (List ℕ) → List ℕ → Type 0
-HasReadOf r lines left bytes = (r.intake.line_limit ≡ lines) × HasReadLines (ahead r.cutter left) (number_of r.cutter) r.consumed bytes
+HasReadOf r lines left bytes =
+    (r.intake.line_limit ≡ lines) × HasReadLines (ahead r.cutter left) (number_of r.cutter) r.consumed bytes
 
 -- the source failed before
 abbrev pub HasFailed : DayReader → Type 0
 HasFailed r = r.end ≡ Some (Stopped ReadFault)
 
 -- an answer of `next`: the next tuple, the end of a whole day, or the first refused line behind all that was accepted
-abbrev pub Gives : Result (Option Tuple) ReadEnd → DayReader → Limits → ℕ → Option (List ℕ) → List ℕ → List Tuple → Type 0
+abbrev pub Gives : Result (Option Tuple) ReadEnd → DayReader → Limits → ℕ → Option (List ℕ) → List ℕ → List Tuple →
+    Type 0
 Gives (Ok (Some x)) r limits late left bytes given = IsReading r limits late left bytes (given ++ x ∷ [])
 Gives (Ok None) r limits late left bytes given =
-    IsReading r limits late left bytes given × (given ≡ (reads bytes limits late).tuples) × ((reads bytes limits late).refused ≡ None)
+    IsReading r limits late left bytes given × (given ≡ (reads bytes limits late).tuples)
+    × ((reads bytes limits late).refused ≡ None)
     × HasTaken r.consumed bytes × (number_of r.cutter ≡ length (lines_of bytes))
 Gives (Err (Refused line cause)) r limits late left bytes given =
-    (given ≡ (reads bytes limits late).tuples) × EndsRefused line cause limits late bytes × IsReading r limits late left bytes given
+    (given ≡ (reads bytes limits late).tuples) × EndsRefused line cause limits late bytes
+    × IsReading r limits late left bytes given
 Gives (Err ReadFault) r limits late left bytes given = Unit {0}
 Gives (Err NoMemory) r limits late left bytes given = Unit {0}
 
@@ -115,14 +129,16 @@ Gives (Err NoMemory) r limits late left bytes given = Unit {0}
 abbrev pub RefusesAfter : Result (Option Tuple) ReadEnd → ℕ → Type 0
 RefusesAfter r n = (line : ℕ) (cause : Cause) → r ≡ Err (Refused line cause) → n ≤ line
 
--- What is known of a reader also over a source that does not tell its bytes: what was given is a day that the limits allow.
+-- What is known of a reader also over a source that does not tell its bytes: what was given is a day that the limits
+-- allow.
 
 -- so much of the order of Time was given of what was put
 abbrev pub GaveOf : Sorting → ℕ → List Tuple → List Tuple → Bool → Type 0
 GaveOf sorter late put given ended = IsSorting sorter late put (length given) ended × IsFrontOf given (by_time put)
 
 -- lines are read on after some that were all let in
-pub record Gathers (number : ℕ) (gate : Gate) (sorter : Sorting) (limits : Limits) (late : ℕ) (given : List Tuple) : Type 0 where
+pub record Gathers (number : ℕ) (gate : Gate) (sorter : Sorting) (limits : Limits) (late : ℕ)
+    (given : List Tuple) : Type 0 where
   pub before : List (List ℕ)
   pub allowed : Allowed (tuples_of before) limits
   pub number_is : number ≡ length before

@@ -1,7 +1,8 @@
 // The first bytes of a source, taken piece by piece for a digest.
-ghost use Rattle.std.specs.Prelude.{◌≡◌, ◌≢◌, ◌≤◌, ◌<◌, ◌+◌, ◌++◌, List, ℕ, Some, Err, IfOk, IsOk, OnErr, length};
+ghost use Rattle.std.specs.Prelude.{◌≡◌, ◌≤◌, ◌<◌, ◌+◌, ◌++◌, List, ℕ, Some, Err, IfOk, IsOk, OnErr, length};
 ghost use Rattle.std.specs.Prelude.{take, drop};
-ghost use Rattle.road_io.specs.Faults.{Rose, HasCause};
+ghost use Rattle.road_io.specs.Blame.{FaultsByPlan};
+ghost use Rattle.road_io.specs.Faults.{HasCause};
 ghost use Rattle.road_io.specs.Plans.{NeverFails};
 ghost use Rattle.keeper.specs.Digests.{Took};
 ghost use Rattle.keeper.specs.Kept.{found_digest};
@@ -111,9 +112,9 @@ pub fn find_digest<S: Source>(alloc: Global, bytes: u64, source: &mut S) -> Resu
         → IfOk result
         (λ digest. (digest ≡ found_digest all bytes) × (S.left source.new ≡ Some (drop (bytes + 1) all))) }
     ensures same { S.name source.new ≡ S.name source.old }
-    ensures sure { NeverFails (S.plan source.old) → (result ≢ Err ReadFault) × NeverFails (S.plan source.new) }
-    ensures later { S.faults source.old ≤ S.faults source.new }
-    ensures cause { result ≡ Err ReadFault → Rose (S.faults source.old) (S.faults source.new) }
+    ensures source { FaultsByPlan (S.faults source.old) (S.faults source.new) (S.plan source.old)
+        (result ≡ Err ReadFault) }
+    ensures still { NeverFails (S.plan source.old) → NeverFails (S.plan source.new) }
 {
     let Ok(mut buffer) = piece_buffer(alloc) else {
         return Err(ReadStop::NoMemory);

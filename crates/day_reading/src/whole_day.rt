@@ -1,8 +1,8 @@
 // A day, read whole.
-ghost use Rattle.std.specs.Prelude.{◌≡◌, ◌≢◌, ◌≤◌, List, ℕ, Option, Some, None, Err, IfOk};
+ghost use Rattle.std.specs.Prelude.{◌≡◌, ◌≤◌, List, ℕ, Option, Some, None, Err, IfOk};
 ghost use Rattle.road_time.specs.Fits.{Fit, IsLimits};
 ghost use Rattle.road_time.specs.Reads.{reads};
-ghost use Rattle.road_io.specs.Faults.{Rose};
+ghost use Rattle.road_io.specs.Blame.{FaultsByPlan};
 ghost use Rattle.road_io.specs.Plans.{NeverFails};
 ghost use Rattle.road_io.specs.Cutter.{ahead};
 ghost use Rattle.day_reading.specs.Days.{EndsReading, IsShort, ReadsWithin, LeavesBehind, most_read};
@@ -74,10 +74,10 @@ pub fn read_day<S: Source, R: Threads>(
     ensures left { (bytes : List ℕ) → S.left source.old ≡ Some bytes
         → IfOk result (λ d. LeavesBehind d.end bytes (S.left source.new)) }
     ensures bounded { ReadsWithin (most_read limits.now) (S.left source.old) (S.left source.new) }
-    ensures cause { result ≡ Err ReadFault → Rose (S.faults source.old) (S.faults source.new) }
-    ensures sure { NeverFails (S.plan source.old) → (result ≢ Err ReadFault) × NeverFails (S.plan source.new) }
     ensures same { S.name source.new ≡ S.name source.old }
-    ensures later { S.faults source.old ≤ S.faults source.new }
+    ensures source { FaultsByPlan (S.faults source.old) (S.faults source.new) (S.plan source.old)
+        (result ≡ Err ReadFault) }
+    ensures still { NeverFails (S.plan source.old) → NeverFails (S.plan source.new) }
 {
     let Ok(mut reader) = DayReader::new(alloc, limits, late) else {
         return Err(ReadStop::NoMemory);

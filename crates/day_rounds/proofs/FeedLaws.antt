@@ -1,5 +1,6 @@
 -- some tuples are fed, one after another
-use Rattle.std.proofs.Common.{◌≡◌, ℕ, ◌+◌, ◌<◌, ◌≤◌, Bool, List, [], ◌∷◌, ◌++◌, length, take, drop, map, refl, sym, ap, ◌∙◌, arith, subst, append_assoc, append-nil, length-append}
+use Rattle.std.proofs.Common.{◌≡◌, ℕ, ◌+◌, ◌<◌, ◌≤◌, Bool, List, [], ◌∷◌, ◌++◌, length, take, drop, map, refl, sym, ap}
+use Rattle.std.proofs.Common.{◌∙◌, arith, subst, append_assoc, append-nil, length-append}
 use Rattle.std.specs.Prelude.{Option, slice_index_or}
 use Rattle.std.proofs.lemmas.List.{take_more, take-append-drop, take-append-le, length-take-le}
 use Rattle.road_time.specs.declared.day.Limits.{Limits}
@@ -28,7 +29,8 @@ no_tuple = ReportTuple (record { time = 0; vid = 0; spd = 0; xway = 0; lane = 0;
 
 module _ (width : ℕ) where
   -- one tuple more, after some
-  pub fed_push : (s : State) (xs : List Tuple) (x : Tuple) → fed_all width s (xs ++ x ∷ []) ≡ after_feed width (fed_all width s xs) x
+  pub fed_push : (s : State) (xs : List Tuple) (x : Tuple) →
+      fed_all width s (xs ++ x ∷ []) ≡ after_feed width (fed_all width s xs) x
   fed_push s [] x = refl
   fed_push s (y ∷ xs) x = fed_push (after_feed width s y) xs x
 
@@ -51,43 +53,61 @@ module _ (width : ℕ) where
   fed_out s (x ∷ xs) w = fed_out (after_feed width s x) xs w
 
   -- the tuples that are settled stay
-  pub fed_first : (s : State) (xs : List Tuple) → s.settled ≤ length s.fed → take (fed_all width s xs).settled (fed_all width s xs).fed ≡ take s.settled s.fed
-  fed_first s xs h = ap (λ n. take n (fed_all width s xs).fed) (fed_settled s xs) ∙ (ap (take s.settled) (fed_are s xs) ∙ take-append-le s.settled s.fed xs h)
+  pub fed_first : (s : State) (xs : List Tuple) → s.settled ≤ length s.fed →
+      take (fed_all width s xs).settled (fed_all width s xs).fed ≡ take s.settled s.fed
+  fed_first s xs h = ap (λ n. take n (fed_all width s xs).fed) (fed_settled s xs)
+      ∙ (ap (take s.settled) (fed_are s xs) ∙ take-append-le s.settled s.fed xs h)
 
-  open_fed : (tariffs : Tariffs) (of : ℕ) (s : State) (xs : List Tuple) (jobs : List Job) → AreOpen tariffs of s jobs → AreOpen tariffs of (fed_all width s xs) jobs
+  open_fed : (tariffs : Tariffs) (of : ℕ) (s : State) (xs : List Tuple) (jobs : List Job) → AreOpen tariffs of s jobs →
+      AreOpen tariffs of (fed_all width s xs) jobs
   open_fed tariffs of s [] jobs h = h
-  open_fed tariffs of s (x ∷ xs) jobs h = open_fed tariffs of (after_feed width s x) xs jobs (open_feed tariffs of width s x jobs h)
+  open_fed tariffs of s (x ∷ xs) jobs h =
+      open_fed tariffs of (after_feed width s x) xs jobs (open_feed tariffs of width s x jobs h)
 
-  starts_fed : (of backlog : ℕ) (s : State) (xs : List Tuple) (starts : List Start) → HaveStarted of backlog s starts → HaveStarted of backlog (fed_all width s xs) starts
+  starts_fed : (of backlog : ℕ) (s : State) (xs : List Tuple) (starts : List Start) → HaveStarted of backlog s starts →
+      HaveStarted of backlog (fed_all width s xs) starts
   starts_fed of backlog s [] starts h = h
-  starts_fed of backlog s (x ∷ xs) starts h = starts_fed of backlog (after_feed width s x) xs starts (record { count = h.count; numbered = h.numbered; each = h.each; whole = h.whole })
+  starts_fed of backlog s (x ∷ xs) starts h =
+      starts_fed of backlog (after_feed width s x) xs starts
+      (record { count = h.count; numbered = h.numbered; each = h.each; whole = h.whole })
 
-  true_fed : (tariffs : Tariffs) (of : ℕ) (s : State) (xs : List Tuple) → IsTrue tariffs of s → IsTrue tariffs of (fed_all width s xs)
+  true_fed : (tariffs : Tariffs) (of : ℕ) (s : State) (xs : List Tuple) → IsTrue tariffs of s →
+      IsTrue tariffs of (fed_all width s xs)
   true_fed tariffs of s [] h = h
   true_fed tariffs of s (x ∷ xs) h = true_fed tariffs of (after_feed width s x) xs h
 
   -- the next one may be fed after the first ones
-  pub can_next : (limits : Limits) (s : State) (xs : List Tuple) (i : ℕ) (d : Tuple) → CanFeedAll limits s xs → i < length xs → CanFeed limits (fed_all width s (take i xs)) (slice_index_or xs i d)
+  pub can_next : (limits : Limits) (s : State) (xs : List Tuple) (i : ℕ) (d : Tuple) → CanFeedAll limits s xs →
+      i < length xs → CanFeed limits (fed_all width s (take i xs)) (slice_index_or xs i d)
   can_next limits s xs i d can h =
       let x = slice_index_or xs i d in
       let first = take i xs in
       let whole : s.fed ++ xs ≡ ((fed_all width s first).fed ++ x ∷ []) ++ drop (i + 1) xs =
-      ap (λ ys. s.fed ++ ys) (sym (take-append-drop (i + 1) xs) ∙ ap (λ ys. ys ++ drop (i + 1) xs) (take_more xs i d h)) ∙
-      (sym (append_assoc s.fed (first ++ x ∷ []) (drop (i + 1) xs)) ∙ ap (λ ys. ys ++ drop (i + 1) xs) (sym (append_assoc s.fed first (x ∷ [])) ∙ ap (λ ys. ys ++ x ∷ []) (sym (fed_are s first)))) in
+      ap (λ ys. s.fed ++ ys) (sym (take-append-drop (i + 1) xs) ∙ ap (λ ys. ys ++ drop (i + 1) xs) (take_more xs i d h))
+      ∙
+      (sym (append_assoc s.fed (first ++ x ∷ []) (drop (i + 1) xs))
+      ∙ ap (λ ys. ys ++ drop (i + 1) xs)
+      (sym (append_assoc s.fed first (x ∷ [])) ∙ ap (λ ys. ys ++ x ∷ []) (sym (fed_are s first)))) in
       let room = can.room in
-      let long : length (fed_all width s first).fed ≡ length s.fed + length first = ap length (fed_are s first) ∙ length-append s.fed first in
+      let long : length (fed_all width s first).fed ≡ length s.fed + length first = ap length (fed_are s first)
+      ∙ length-append s.fed first in
       let few : length first ≡ i = length-take-le i xs (omega (arith, h)) in
       let same = fed_settled s first in
       record {
-        fit = fit_left ((fed_all width s first).fed ++ x ∷ []) (drop (i + 1) xs) limits (subst (λ d. Fit d limits) whole can.fit);
+        fit = fit_left ((fed_all width s first).fed ++ x ∷ []) (drop (i + 1) xs) limits
+            (subst (λ d. Fit d limits) whole can.fit);
         room = omega (arith, h, room, long, few, same);
       }
 
-module _ {S T : Type 0} (out : S → List ℕ) (number : T → ℕ) (holds : S → ℕ → Job → Type 0) (gave : S → T → Type 0) (exact : Bool) (jobs : S → Option Told) (answers : S → Option (List Finding))
-    (e : Setting) (told : Option Told) (answered : Option (List Finding)) (run : Import T) (crew : S) (s : State) (h : Runs out number holds gave exact jobs answers e told answered run crew s) where
+module _ {S T : Type 0} (out : S → List ℕ) (number : T → ℕ) (holds : S → ℕ → Job → Type 0) (gave : S → T → Type 0)
+    (exact : Bool) (jobs : S → Option Told) (answers : S → Option (List Finding))
+    (e : Setting) (told : Option Told) (answered : Option (List Finding)) (run : Import T) (crew : S) (s : State)
+    (h : Runs out number holds gave exact jobs answers e told answered run crew s) where
   -- the import goes on
-  pub fed_runs : (now : Import T) (xs : List Tuple) → now.tickets.items ≡ run.tickets.items → now.floor.inboxes.width ≡ run.floor.inboxes.width → now.floor.limits ≡ run.floor.limits →
-      StandsFor e now.floor (fed_all run.floor.inboxes.width s xs) → Runs out number holds gave exact jobs answers e told answered now crew (fed_all run.floor.inboxes.width s xs)
+  pub fed_runs : (now : Import T) (xs : List Tuple) → now.tickets.items ≡ run.tickets.items →
+      now.floor.inboxes.width ≡ run.floor.inboxes.width → now.floor.limits ≡ run.floor.limits →
+      StandsFor e now.floor (fed_all run.floor.inboxes.width s xs) →
+      Runs out number holds gave exact jobs answers e told answered now crew (fed_all run.floor.inboxes.width s xs)
   fed_runs now xs items width limits st =
       let w = run.floor.inboxes.width in
       let t = fed_all w s xs in
@@ -96,11 +116,13 @@ module _ {S T : Type 0} (out : S → List ℕ) (number : T → ℕ) (holds : S �
         tasks = h.tasks;
         tickets = h.tickets ∙ sym items;
         held = h.held;
-        open' = subst (λ n. AreOpen e.tariffs n t (map (λ t. t.1) h.tasks)) (sym width) (open_fed w e.tariffs w s xs (map (λ t. t.1) h.tasks) h.open');
+        open' = subst (λ n. AreOpen e.tariffs n t (map (λ t. t.1) h.tasks)) (sym width)
+            (open_fed w e.tariffs w s xs (map (λ t. t.1) h.tasks) h.open');
         right = λ x. subst (λ n. IsTrue e.tariffs n t) (sym width) (true_fed w e.tariffs w s xs (h.right x));
         since = h.since;
         starts = subst (λ n. HaveStarted n now.floor.limits.backlog t (map start_of h.since)) (sym width)
-            (subst (λ l. HaveStarted w l.backlog t (map start_of h.since)) (sym limits) (starts_fed w w run.floor.limits.backlog s xs (map start_of h.since) h.starts));
+            (subst (λ l. HaveStarted w l.backlog t (map start_of h.since)) (sym limits)
+            (starts_fed w w run.floor.limits.backlog s xs (map start_of h.since) h.starts));
         listing = h.listing;
         answers_are = subst (λ fs. HasAnswered answered fs (answers crew)) (sym (fed_found w s xs)) h.answers_are;
       }

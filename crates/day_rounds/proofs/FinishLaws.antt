@@ -1,5 +1,7 @@
 -- a job that is out is finished
-use Rattle.std.proofs.Common.{◌≡◌, ℕ, zero, suc, ◌<◌, ◌⊎◌, inl, inr, ⊎_elim, Bool, true, false, ◌||◌, List, [], ◌∷◌, ◌++◌, length, map, is_err, IsOk, Result, Ok, Err, refl, sym, ap, ◌∙◌, arith, subst, append_assoc, slice_index_or}
+use Rattle.std.proofs.Common.{◌≡◌, ℕ, zero, suc, ◌<◌, ◌⊎◌, inl, inr, ⊎_elim, Bool, true, false, ◌||◌, List, [], ◌∷◌}
+use Rattle.std.proofs.Common.{◌++◌, length, map, is_err, IsOk, Result, Ok, Err, refl, sym, ap, ◌∙◌, arith, subst}
+use Rattle.std.proofs.Common.{append_assoc, slice_index_or}
 use Rattle.std.specs.Prelude.{Option, Some, None, Contains}
 use Rattle.std.specs.List.{remove}
 use Rattle.std.specs.Result.{OnOk, OnErr}
@@ -30,15 +32,19 @@ use Rattle.day_rounds.specs.declared.begun.Import.{Import}
 use Rattle.day_rounds.proofs.OpenLaws.{at_middle, open_back}
 
 -- a ticket among those that are out, with its job, those before it and those after it
-split_at : {T : Type 0} (tasks : List (T × Job)) (place : ℕ) (ticket : T) → place < length (map (λ t. t.0) tasks) → ticket ≡ slice_index_or (map (λ t. t.0) tasks) place ticket →
-    (before : List (T × Job)) × (job : Job) × (after : List (T × Job)) × (tasks ≡ before ++ (ticket, job) ∷ after) × (map (λ t. t.0) (before ++ after) ≡ remove (map (λ t. t.0) tasks) place)
+split_at : {T : Type 0} (tasks : List (T × Job)) (place : ℕ) (ticket : T) → place < length (map (λ t. t.0) tasks) →
+    ticket ≡ slice_index_or (map (λ t. t.0) tasks) place ticket →
+    (before : List (T × Job)) × (job : Job) × (after : List (T × Job)) × (tasks ≡ before ++ (ticket, job) ∷ after)
+    × (map (λ t. t.0) (before ++ after) ≡ remove (map (λ t. t.0) tasks) place)
 split_at [] place ticket h e = absurd (omega (arith, h))
 split_at ((t, job) ∷ tasks) zero ticket h e = ([], job, tasks, ap (λ u. (u, job) ∷ tasks) (sym e), refl)
 split_at ((t, job) ∷ tasks) (suc n) ticket h e =
-    let (b, j, a, is, rest) = split_at tasks n ticket (omega (arith, h)) e in ((t, job) ∷ b, j, a, ap (λ ts. (t, job) ∷ ts) is, ap (λ ts. t ∷ ts) rest)
+    let (b, j, a, is, rest) = split_at tasks n ticket (omega (arith, h)) e in
+    ((t, job) ∷ b, j, a, ap (λ ts. (t, job) ∷ ts) is, ap (λ ts. t ∷ ts) rest)
 
 -- what is listed is so too where an answer was refused
-pub listing_weaker : (told : Option Told) (js : List Job) (out : List ℕ) (r : Bool) (now : Option Told) → IsListingWhereTold told js out r now → IsListingWhereTold told js out true now
+pub listing_weaker : (told : Option Told) (js : List Job) (out : List ℕ) (r : Bool) (now : Option Told) →
+    IsListingWhereTold told js out r now → IsListingWhereTold told js out true now
 listing_weaker None js out r None h = tt
 listing_weaker None js out r (Some now) h = absurd h
 listing_weaker (Some was) js out r None h = absurd h
@@ -48,7 +54,10 @@ listing_weaker (Some was) js out r (Some now) h = record {
   is = h.is;
   split = h.split;
   whole = h.whole;
-  lost = ⊎_elim (λ (a : h.left ≡ []). inl a) (λ (b : (r ≡ true) ⊎ ((n : ℕ) × Contains out n × (now.unlisted n ≡ true))). ⊎_elim (λ (x : r ≡ true). inr (inl refl)) (λ (y : (n : ℕ) × Contains out n × (now.unlisted n ≡ true)). inr (inr y)) b) h.lost;
+  lost = ⊎_elim (λ (a : h.left ≡ []). inl a)
+      (λ (b : (r ≡ true) ⊎ ((n : ℕ) × Contains out n × (now.unlisted n ≡ true))). ⊎_elim
+      (λ (x : r ≡ true). inr (inl refl)) (λ (y : (n : ℕ) × Contains out n × (now.unlisted n ≡ true)). inr (inr y)) b)
+      h.lost;
 }
 
 -- what was not refused
@@ -65,7 +74,8 @@ well (Ok x) e = refl
 well (Err x) e = cc
 
 -- findings that are answered come behind those that were
-answered_more : (was : Option (List Finding)) (found : List (ℕ × RoadFinding)) (old now : Option (List Finding)) (done : Done) → IsOk done.result → HasAnswered was found old → WhereTold (Answers done) old now →
+answered_more : (was : Option (List Finding)) (found : List (ℕ × RoadFinding)) (old now : Option (List Finding))
+    (done : Done) → IsOk done.result → HasAnswered was found old → WhereTold (Answers done) old now →
     HasAnswered was (found ++ map shown done.findings) now
 answered_more None found None None done ok h more = tt
 answered_more None found None (Some now) done ok h more = absurd more
@@ -78,11 +88,17 @@ answered_more (Some was) found (Some old) (Some now) done ok h more = (
   map-append shown h.0 done.findings ∙ ap (λ fs. fs ++ map shown done.findings) h.2,
 )
 
-module _ {S T : Type 0} (out : S → List ℕ) (number : T → ℕ) (holds : S → ℕ → Job → Type 0) (gave : S → T → Type 0) (exact : Bool) (jobs : S → Option Told) (answers : S → Option (List Finding))
-    (e : Setting) (told : Option Told) (answered : Option (List Finding)) (run : Import T) (crew : S) (s : State) (h : Runs out number holds gave exact jobs answers e told answered run crew s)
-    (place : ℕ) (ticket : T) (within : place < length run.tickets.items) (value : ticket ≡ slice_index_or run.tickets.items place ticket) where
-  parts : (before : List (T × Job)) × (job : Job) × (after : List (T × Job)) × (h.tasks ≡ before ++ (ticket, job) ∷ after) × (map (λ t. t.0) (before ++ after) ≡ remove (map (λ t. t.0) h.tasks) place)
-  parts = split_at h.tasks place ticket (subst (λ ts. place < length ts) (sym h.tickets) within) (subst (λ ts. ticket ≡ slice_index_or ts place ticket) (sym h.tickets) value)
+module _ {S T : Type 0} (out : S → List ℕ) (number : T → ℕ) (holds : S → ℕ → Job → Type 0) (gave : S → T → Type 0)
+    (exact : Bool) (jobs : S → Option Told) (answers : S → Option (List Finding))
+    (e : Setting) (told : Option Told) (answered : Option (List Finding)) (run : Import T) (crew : S) (s : State)
+    (h : Runs out number holds gave exact jobs answers e told answered run crew s)
+    (place : ℕ) (ticket : T) (within : place < length run.tickets.items)
+    (value : ticket ≡ slice_index_or run.tickets.items place ticket) where
+  parts : (before : List (T × Job)) × (job : Job) × (after : List (T × Job))
+      × (h.tasks ≡ before ++ (ticket, job) ∷ after)
+      × (map (λ t. t.0) (before ++ after) ≡ remove (map (λ t. t.0) h.tasks) place)
+  parts = split_at h.tasks place ticket (subst (λ ts. place < length ts) (sym h.tickets) within)
+      (subst (λ ts. ticket ≡ slice_index_or ts place ticket) (sym h.tickets) value)
 
   abbrev before : List (T × Job)
   before = parts.0
@@ -100,7 +116,8 @@ module _ {S T : Type 0} (out : S → List ℕ) (number : T → ℕ) (holds : S �
   held = subst (HasOut out number holds gave crew) parts.3 h.held
 
   -- the ticket is among those that are out
-  pub finish_ready : (b : List (T × Job)) × (j : Job) × (a : List (T × Job)) × HasOut out number holds gave crew (b ++ (ticket, j) ∷ a)
+  pub finish_ready : (b : List (T × Job)) × (j : Job) × (a : List (T × Job))
+      × HasOut out number holds gave crew (b ++ (ticket, j) ∷ a)
   finish_ready = (before, job, after, held)
 
   jobs_are : map (λ t. t.1) h.tasks ≡ map (λ t. t.1) before ++ job ∷ map (λ t. t.1) after
@@ -110,16 +127,23 @@ module _ {S T : Type 0} (out : S → List ℕ) (number : T → ℕ) (holds : S �
   opened = subst (AreOpen e.tariffs run.floor.inboxes.width s) jobs_are h.open'
 
   mine : IsOpen e.tariffs run.floor.inboxes.width s job
-  mine = at_middle (IsOpen e.tariffs run.floor.inboxes.width s) (map (λ t. t.1) before) job (map (λ t. t.1) after) opened.each
+  mine = at_middle (IsOpen e.tariffs run.floor.inboxes.width s) (map (λ t. t.1) before) job
+      (map (λ t. t.1) after) opened.each
 
-  module _ (crewed : S) (done : Done) (kept : (b : List (T × Job)) (j : Job) (a : List (T × Job)) → HasOut out number holds gave crew (b ++ (ticket, j) ∷ a) → HasOut out number holds gave crewed (b ++ a))
-      (shape : (b : List (T × Job)) (j : Job) (a : List (T × Job)) → HasOut out number holds gave crew (b ++ (ticket, j) ∷ a) → IsResultShaped j done)
-      (forgets : WhereTold (ForgetsJob (number ticket) done) (jobs crew) (jobs crewed)) (more : IsOneMore (number ticket) (out crewed) (out crew)) where
+  module _ (crewed : S) (done : Done) (kept : (b : List (T × Job)) (j : Job) (a : List (T × Job)) →
+      HasOut out number holds gave crew (b ++ (ticket, j) ∷ a) → HasOut out number holds gave crewed (b ++ a))
+      (shape : (b : List (T × Job)) (j : Job) (a : List (T × Job)) →
+      HasOut out number holds gave crew (b ++ (ticket, j) ∷ a) → IsResultShaped j done)
+      (forgets : WhereTold (ForgetsJob (number ticket) done) (jobs crew) (jobs crewed))
+      (more : IsOneMore (number ticket) (out crewed) (out crew)) where
     listed : IsListingWhereTold told h.since (out crewed) (false || is_err done.result) (jobs crewed)
-    listed = where_finished told h.since (out crew) (out crewed) false (jobs crew) (jobs crewed) (number ticket) done h.listing forgets more
+    listed = where_finished told h.since (out crew) (out crewed) false (jobs crew) (jobs crewed)
+        (number ticket) done h.listing forgets more
 
     -- what is left after a refusal
-    pub finish_stopped : (now : Import T) → now.tickets.items ≡ remove run.tickets.items place → (day : List Tuple) → AreFirst s.fed day → Stopped out number holds gave jobs told run.floor.inboxes.width run.floor.limits day now crewed
+    pub finish_stopped : (now : Import T) → now.tickets.items ≡ remove run.tickets.items place → (day : List Tuple) →
+        AreFirst s.fed day →
+        Stopped out number holds gave jobs told run.floor.inboxes.width run.floor.limits day now crewed
     finish_stopped now items day first = record {
       state = s;
       sound = h.stands.sound;
@@ -135,17 +159,30 @@ module _ {S T : Type 0} (out : S → List ℕ) (number : T → ℕ) (holds : S �
     module _ (ok : IsOk done.result) where
       -- what was done may come back
       pub finish_may : MayComeBack e.tariffs run.floor.inboxes.width s done
-      finish_may = comes_back e.tariffs run.floor.inboxes.width run.floor.limits s job.worker job h.stands.terms h.stands.sound mine.within mine.some mine.out done ok (shape before job after held)
+      finish_may =
+          comes_back e.tariffs run.floor.inboxes.width run.floor.limits s job.worker job h.stands.terms h.stands.sound
+          mine.within mine.some mine.out done ok (shape before job after held)
 
       pub finish_came : CameBack run.floor.inboxes.width s (after_back s done.worker (map shown done.findings))
-      finish_came = record { worker = done.worker; job = done.number; found = map shown done.findings; can = finish_may.can; is = refl }
+      finish_came =
+          record {
+            worker = done.worker;
+            job = done.number;
+            found = map shown done.findings;
+            can = finish_may.can;
+            is =
+                refl;
+          }
 
       -- and the import goes on
-      pub finish_runs : (now : Import T) → now.tickets.items ≡ remove run.tickets.items place → now.floor.inboxes.width ≡ run.floor.inboxes.width → now.floor.limits ≡ run.floor.limits →
+      pub finish_runs : (now : Import T) → now.tickets.items ≡ remove run.tickets.items place →
+          now.floor.inboxes.width ≡ run.floor.inboxes.width → now.floor.limits ≡ run.floor.limits →
           StandsFor e now.floor (after_back s done.worker (map shown done.findings)) →
-          (exact ≡ true → (b : List (T × Job)) (j : Job) (a : List (T × Job)) → HasOut out number holds gave crew (b ++ (ticket, j) ∷ a) → IsResultOf j done) →
+          (exact ≡ true → (b : List (T × Job)) (j : Job) (a : List (T × Job)) →
+          HasOut out number holds gave crew (b ++ (ticket, j) ∷ a) → IsResultOf j done) →
           WhereTold (Answers done) (answers crew) (answers crewed) →
-          Runs out number holds gave exact jobs answers e told answered now crewed (after_back s done.worker (map shown done.findings))
+          Runs out number holds gave exact jobs answers e told answered now crewed
+          (after_back s done.worker (map shown done.findings))
       finish_runs now items width limits st ran says =
           let fs = map shown done.findings in
           let s' = after_back s done.worker fs in
@@ -156,17 +193,24 @@ module _ {S T : Type 0} (out : S → List ℕ) (number : T → ℕ) (holds : S �
             tickets = left ∙ sym items;
             held = kept before job after held;
             open' = subst (λ n. AreOpen e.tariffs n s' (map (λ t. t.1) (before ++ after))) (sym width)
-                (subst (AreOpen e.tariffs run.floor.inboxes.width s') (sym (map-append (λ (t : T × Job). t.1) before after))
-                (open_back e.tariffs run.floor.inboxes.width s done.worker finish_may.can.within fs (map (λ t. t.1) before) job (map (λ t. t.1) after) (sym shaped.back.worker) opened));
+                (subst (AreOpen e.tariffs run.floor.inboxes.width s')
+                (sym (map-append (λ (t : T × Job). t.1) before after))
+                (open_back e.tariffs run.floor.inboxes.width s done.worker finish_may.can.within fs
+                (map (λ t. t.1) before) job (map (λ t. t.1) after) (sym shaped.back.worker) opened));
             right = λ x. subst (λ n. IsTrue e.tariffs n s') (sym width)
                 (subst (λ gs. IsTrue e.tariffs run.floor.inboxes.width (after_back s done.worker gs))
-                (sym (true_result e.tariffs run.floor.inboxes.width run.floor.limits s job.worker job h.stands.terms h.stands.sound mine.within mine.some mine.out done ok (ran x before job after held)))
-                (true_back e.tariffs run.floor.inboxes.width run.floor.limits s done.worker h.stands.sound finish_may.can.within (h.right x)));
+                (sym (true_result e.tariffs run.floor.inboxes.width run.floor.limits s job.worker job h.stands.terms
+                h.stands.sound mine.within mine.some mine.out done ok (ran x before job after held)))
+                (true_back e.tariffs run.floor.inboxes.width run.floor.limits s done.worker h.stands.sound
+                finish_may.can.within (h.right x)));
             since = h.since;
             starts = subst (λ n. HaveStarted n now.floor.limits.backlog s' (map start_of h.since)) (sym width)
                 (subst (λ l. HaveStarted run.floor.inboxes.width l.backlog s' (map start_of h.since)) (sym limits)
-                (starts_back run.floor.inboxes.width run.floor.limits s (map start_of h.since) h.stands.sound h.starts done.worker fs));
-            listing = subst (λ r. IsListingWhereTold told h.since (out crewed) r (jobs crewed)) (no_err done.result ok) listed;
+                (starts_back run.floor.inboxes.width run.floor.limits s (map start_of h.since) h.stands.sound h.starts
+                done.worker fs));
+            listing =
+                subst (λ r. IsListingWhereTold told h.since (out crewed) r (jobs crewed))
+                (no_err done.result ok) listed;
             answers_are = answered_more answered s.found (answers crew) (answers crewed) done ok h.answers_are says;
           }
 

@@ -1,5 +1,6 @@
 -- a round of an import
-use Rattle.std.proofs.Common.{◌≡◌, ℕ, zero, suc, ◌<◌, ◌≤◌, ⊎_elim, Bool, true, false, cond, List, [], ◌∷◌, ◌++◌, length, take, map, refl, sym, ap, ◌∙◌, arith, subst}
+use Rattle.std.proofs.Common.{◌≡◌, ℕ, zero, suc, ◌<◌, ◌≤◌, ⊎_elim, Bool, true, false, cond, List, [], ◌∷◌, ◌++◌, length}
+use Rattle.std.proofs.Common.{take, map, refl, sym, ap, ◌∙◌, arith, subst}
 use Rattle.std.specs.Prelude.{Option}
 use Rattle.std.proofs.lemmas.Bool.{cases_eq}
 use Rattle.road_time.specs.declared.road.Tuple.{Tuple}
@@ -30,7 +31,16 @@ use Rattle.day_rounds.proofs.FinishLaws.{listing_weaker}
 
 -- a state is no earlier than itself, nor than one before one before it
 pub later_same : (s : State) → IsLater s s
-later_same s = record { fed = refl; settled = refl; waiting = λ w. refl; text = λ d k. refl; charges = refl; between = λ a b. refl }
+later_same s =
+    record {
+      fed = refl;
+      settled = refl;
+      waiting = λ w. refl;
+      text = λ d k. refl;
+      charges = refl;
+      between =
+          λ a b. refl;
+    }
 
 pub later_then : (s mid now : State) → IsLater s mid → IsLater mid now → IsLater s now
 later_then s mid now a b = record {
@@ -43,7 +53,8 @@ later_then s mid now a b = record {
 }
 
 -- one that came back
-pub came_later : (width : ℕ) (limits : Limits) (s now : State) → IsSound width limits s → CameBack width s now → IsLater s now
+pub came_later : (width : ℕ) (limits : Limits) (s now : State) → IsSound width limits s → CameBack width s now →
+    IsLater s now
 came_later width limits s now sound came =
     let low = not_settled width limits s came.worker came.job came.found sound came.can in
     let first = take s.settled s.fed in
@@ -51,10 +62,15 @@ came_later width limits s now sound came =
     subst (IsLater s) (sym came.is) (record {
       fed = refl;
       settled = refl;
-      waiting = λ w. for_worker (λ sh. sh.waiting ≡ (s.share w).waiting) came.worker w taken_back s.share (λ e. refl) refl;
+      waiting = λ w. for_worker (λ sh. sh.waiting ≡ (s.share w).waiting) came.worker w taken_back s.share
+          (λ e. refl) refl;
       text = λ d k. ap text_out (merged_same s.found came.found s.settled low first long d k);
       charges = charged_same s.found came.found s.settled low first long;
-      between = λ a b. sym (charges_same_between (given s.found) (given (s.found ++ came.found)) first (told_agree (given s.found) (given (s.found ++ came.found)) first (same_told s.found came.found s.settled low first long)) a b);
+      between =
+          λ a b. sym
+          (charges_same_between (given s.found) (given (s.found ++ came.found)) first
+          (told_agree (given s.found) (given (s.found ++ came.found)) first
+          (same_told s.found came.found s.settled low first long)) a b);
     })
 
 -- a job is given where it may be
@@ -62,14 +78,20 @@ abbrev pub given_by : Bool → State → ℕ → State
 given_by b s worker = cond b (after_give s worker) s
 
 -- the text and the charges of what is settled are those of the same tuples and findings
-pub text_same : (s now : State) → take now.settled now.fed ≡ take s.settled s.fed → now.found ≡ s.found → (d : ℕ) (k : ℕ → ℕ → ℕ → ℕ) → settled_text d k now ≡ settled_text d k s
-text_same s now a b d k = ap (λ ts. text_out (merged ts now.found d k)) a ∙ ap (λ fs. text_out (merged (take s.settled s.fed) fs d k)) b
+pub text_same : (s now : State) → take now.settled now.fed ≡ take s.settled s.fed → now.found ≡ s.found →
+    (d : ℕ) (k : ℕ → ℕ → ℕ → ℕ) → settled_text d k now ≡ settled_text d k s
+text_same s now a b d k = ap (λ ts. text_out (merged ts now.found d k)) a
+    ∙ ap (λ fs. text_out (merged (take s.settled s.fed) fs d k)) b
 
-pub charges_same : (s now : State) → take now.settled now.fed ≡ take s.settled s.fed → now.found ≡ s.found → settled_charges now ≡ settled_charges s
-charges_same s now a b = ap (λ ts. charges_by (given now.found) (moments ts)) a ∙ ap (λ fs. charges_by (given fs) (moments (take s.settled s.fed))) b
+pub charges_same : (s now : State) → take now.settled now.fed ≡ take s.settled s.fed → now.found ≡ s.found →
+    settled_charges now ≡ settled_charges s
+charges_same s now a b = ap (λ ts. charges_by (given now.found) (moments ts)) a
+    ∙ ap (λ fs. charges_by (given fs) (moments (take s.settled s.fed))) b
 
-pub between_same : (s now : State) → take now.settled now.fed ≡ take s.settled s.fed → now.found ≡ s.found → (a b : ℕ) → settled_between now a b ≡ settled_between s a b
-between_same s now first found a b = ap (λ ts. charges_between (given now.found) ts a b) first ∙ ap (λ fs. charges_between (given fs) (take s.settled s.fed) a b) found
+pub between_same : (s now : State) → take now.settled now.fed ≡ take s.settled s.fed → now.found ≡ s.found → (a b : ℕ) →
+    settled_between now a b ≡ settled_between s a b
+between_same s now first found a b = ap (λ ts. charges_between (given now.found) ts a b) first
+    ∙ ap (λ fs. charges_between (given fs) (take s.settled s.fed) a b) found
 
 -- giving feeds, settles and finds nothing
 by_fed : (b : Bool) (s : State) (w : ℕ) → (given_by b s w).fed ≡ s.fed
@@ -88,11 +110,13 @@ pub by_other : (b : Bool) (s : State) (w v : ℕ) → (v ≡ w → ⊥) → (giv
 by_other true s w v ne = at_other w v (given_out s.given) s.share ne
 by_other false s w v ne = refl
 
-pub by_own : (b : Bool) (s : State) (w : ℕ) → can_give (s.share w) ≡ b → (s.share w).out ≡ [] → ((given_by b s w).share w).waiting ≡ []
+pub by_own : (b : Bool) (s : State) (w : ℕ) → can_give (s.share w) ≡ b → (s.share w).out ≡ [] →
+    ((given_by b s w).share w).waiting ≡ []
 by_own true s w can none = ap (λ sh. sh.waiting) (at_own w (given_out s.given) s.share)
 by_own false s w can none = nothing (s.share w).out (s.share w).waiting none can
   where
-    nothing : (xs ys : List LaneEvent) → xs ≡ [] → can_give (record { back = []; out = xs; waiting = ys; number = 0 }) ≡ false → ys ≡ []
+    nothing : (xs ys : List LaneEvent) → xs ≡ [] → can_give (record { back = []; out = xs; waiting = ys; number = 0 })
+        ≡ false → ys ≡ []
     nothing [] [] h q = refl
     nothing [] (y ∷ ys) h q = cc
     nothing (x ∷ xs) ys h q = cc
@@ -112,16 +136,22 @@ given_found s (suc n) = by_found (can_give ((given_all s n).share n)) (given_all
 -- later workers' shares stay
 given_later : (s : State) (n v : ℕ) → n ≤ v → (given_all s n).share v ≡ s.share v
 given_later s zero v h = refl
-given_later s (suc n) v h = by_other (can_give ((given_all s n).share n)) (given_all s n) n v (λ e. absurd (omega (arith, h, e))) ∙ given_later s n v (omega (arith, h))
+given_later s (suc n) v h =
+    by_other (can_give ((given_all s n).share n)) (given_all s n) n v (λ e. absurd (omega (arith, h, e)))
+    ∙ given_later s n v (omega (arith, h))
 
 -- and where none was out, no event waits then
-pub given_waits : (s : State) (n : ℕ) → ((v : ℕ) → v < n → (s.share v).out ≡ []) → (v : ℕ) → v < n → ((given_all s n).share v).waiting ≡ []
+pub given_waits : (s : State) (n : ℕ) → ((v : ℕ) → v < n → (s.share v).out ≡ []) → (v : ℕ) → v < n →
+    ((given_all s n).share v).waiting ≡ []
 given_waits s zero home v h = absurd (omega (arith, h))
 given_waits s (suc n) home v h =
     let t = given_all s n in
     ⊎_elim
-    (λ (e : v ≡ n). subst (λ w. ((given_all s (suc n)).share w).waiting ≡ []) (sym e) (by_own (can_give (t.share n)) t n refl (ap (λ sh. sh.out) (given_later s n n (omega arith)) ∙ home n (omega arith))))
-    (λ ne. ap (λ sh. sh.waiting) (by_other (can_give (t.share n)) t n v ne) ∙ given_waits s n (λ u k. home u (omega (arith, k))) v (less v n h ne))
+    (λ (e : v ≡ n). subst (λ w. ((given_all s (suc n)).share w).waiting ≡ []) (sym e)
+    (by_own (can_give (t.share n)) t n refl
+    (ap (λ sh. sh.out) (given_later s n n (omega arith)) ∙ home n (omega arith))))
+    (λ ne. ap (λ sh. sh.waiting) (by_other (can_give (t.share n)) t n v ne)
+    ∙ given_waits s n (λ u k. home u (omega (arith, k))) v (less v n h ne))
     (cases_eq v n)
   where
     less : (v n : ℕ) → v < suc n → (v ≡ n → ⊥) → v < n
@@ -132,16 +162,20 @@ none_mapped : {A B : Type 0} (f : A → B) (xs : List A) → map f xs ≡ [] →
 none_mapped f [] h = refl
 none_mapped f (x ∷ xs) h = cc
 
-module _ {S T : Type 0} (out : S → List ℕ) (number : T → ℕ) (holds : S → ℕ → Job → Type 0) (gave : S → T → Type 0) (exact : Bool) (jobs : S → Option Told) (answers : S → Option (List Finding))
-    (e : Setting) (told : Option Told) (answered : Option (List Finding)) (run : Import T) (crew : S) (s : State) (h : Runs out number holds gave exact jobs answers e told answered run crew s) where
+module _ {S T : Type 0} (out : S → List ℕ) (number : T → ℕ) (holds : S → ℕ → Job → Type 0) (gave : S → T → Type 0)
+    (exact : Bool) (jobs : S → Option Told) (answers : S → Option (List Finding))
+    (e : Setting) (told : Option Told) (answered : Option (List Finding)) (run : Import T) (crew : S) (s : State)
+    (h : Runs out number holds gave exact jobs answers e told answered run crew s) where
   -- without tickets no job is out
   pub all_home : run.tickets.items ≡ [] → (v : ℕ) → v < run.floor.inboxes.width → (s.share v).out ≡ []
   all_home none v k =
       let no : h.tasks ≡ [] = none_mapped (λ (t : T × Job). t.0) h.tasks (h.tickets ∙ none) in
-      out_none s.share run.floor.inboxes.width (sym h.open'.count ∙ ap (λ ts. length (map (λ (t : T × Job). t.1) ts)) no) v k
+      out_none s.share run.floor.inboxes.width
+      (sym h.open'.count ∙ ap (λ ts. length (map (λ (t : T × Job). t.1) ts)) no) v k
 
   -- after a refusal
-  pub stopped_by : (now : Import T) → now.tickets.items ≡ run.tickets.items → (day : List Tuple) → AreFirst s.fed day → Stopped out number holds gave jobs told run.floor.inboxes.width run.floor.limits day now crew
+  pub stopped_by : (now : Import T) → now.tickets.items ≡ run.tickets.items → (day : List Tuple) → AreFirst s.fed day →
+      Stopped out number holds gave jobs told run.floor.inboxes.width run.floor.limits day now crew
   stopped_by now items day first = record {
     state = s;
     sound = h.stands.sound;
@@ -162,10 +196,12 @@ module _ {S T : Type 0} (out : S → List ℕ) (number : T → ℕ) (holds : S �
     fed = fed_all w s xs
 
     -- all that was fed is done, where all jobs that were given are back
-    pub round_done : (now : State) → IsLater (given_all fed w) now → ((v : ℕ) → v < w → (now.share v).out ≡ []) → IsDone w s xs now
+    pub round_done : (now : State) → IsLater (given_all fed w) now → ((v : ℕ) → v < w → (now.share v).out ≡ []) →
+        IsDone w s xs now
     round_done now later none =
         let t = given_all fed w in
-        let first : take t.settled t.fed ≡ take s.settled s.fed = ap (λ n. take n t.fed) (given_settled fed w) ∙ (ap (take fed.settled) (given_fed fed w) ∙ fed_first w s xs h.stands.sound.settled) in
+        let first : take t.settled t.fed ≡ take s.settled s.fed = ap (λ n. take n t.fed) (given_settled fed w)
+        ∙ (ap (take fed.settled) (given_fed fed w) ∙ fed_first w s xs h.stands.sound.settled) in
         let found : t.found ≡ s.found = given_found fed w ∙ fed_found w s xs in
         record {
           fed = later.fed ∙ (given_fed fed w ∙ fed_are w s xs);
@@ -174,5 +210,6 @@ module _ {S T : Type 0} (out : S → List ℕ) (number : T → ℕ) (holds : S �
           charges = later.charges ∙ charges_same s t first found;
           between = λ a b. later.between a b ∙ between_same s t first found a b;
           done = all_back w now (λ v k.
-              ap (λ es. es ++ (now.share v).waiting) (none v k) ∙ (later.waiting v ∙ given_waits fed w (λ u m. fed_out w s xs u ∙ home u m) v k));
+              ap (λ es. es ++ (now.share v).waiting) (none v k)
+              ∙ (later.waiting v ∙ given_waits fed w (λ u m. fed_out w s xs u ∙ home u m) v k));
         }

@@ -10,7 +10,8 @@ use Rattle.day_rounds.specs.Published.{HasStepped}
 use Rattle.day_rounds.specs.Readers.{HasGiven}
 
 -- what a reader gave since the day began was fed; the text of what is settled was written, and its steps were published
-pub record IsOn (limits : Limits) (late : ℕ) (e : Setting) (ahead reader : DayAhead) (was left old new : Option (List ℕ)) (before posted : Option Posted) (now : State) : Type 0 where
+pub record IsOn (limits : Limits) (late : ℕ) (e : Setting) (ahead reader : DayAhead)
+    (was left old new : Option (List ℕ)) (before posted : Option Posted) (now : State) : Type 0 where
   pub given : HasGiven limits late now.fed ahead reader was left
   pub text : HasText e now old new
   pub steps : HasStepped limits.backlog now before posted

@@ -25,7 +25,8 @@ of_reading reading.ReadFault = ReadFault
 of_reading reading.NoMemory = NoMemory
 
 -- a count of faults never falls; it rose where this fault is the answer; and over an object that never fails it is not
-pub record IsCounted {T : Type 0} (fault : DayFault) (before now : ℕ) (fine left : Type 0) (result : Result T DayFault) : Type 0 where
+pub record IsCounted {T : Type 0} (fault : DayFault) (before now : ℕ) (fine left : Type 0)
+    (result : Result T DayFault) : Type 0 where
   pub later : before ≤ now
   pub cause : result ≡ Err fault → Rose before now
   pub sure : fine → (result ≢ Err fault) × left
@@ -39,4 +40,5 @@ WritesUpTo NoMemory text old new = WritesFront text old new
 
 -- some first bytes of a day's output were written
 abbrev pub HasDayFront : DayFault → Setting → List Tuple → Option (List ℕ) → Option (List ℕ) → Type 0
-HasDayFront fault e day first now = (kept : ℕ → ℕ → ℕ → ℕ) → e.history ≡ Some kept → WritesUpTo fault (out (notices day e.tariffs e.number kept)) first now
+HasDayFront fault e day first now = (kept : ℕ → ℕ → ℕ → ℕ) → e.history ≡ Some kept →
+    WritesUpTo fault (out (notices day e.tariffs e.number kept)) first now

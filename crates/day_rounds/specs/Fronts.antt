@@ -12,8 +12,10 @@ use Rattle.watermark.specs.Floors.{Setting}
 
 -- the text of what is settled was written from a beginning
 abbrev pub HasText : Setting → State → Option (List ℕ) → Option (List ℕ) → Type 0
-HasText e s first now = (kept : ℕ → ℕ → ℕ → ℕ) → e.history ≡ Some kept → Appends first now (settled_text e.number kept s)
+HasText e s first now = (kept : ℕ → ℕ → ℕ → ℕ) → e.history ≡ Some kept →
+    Appends first now (settled_text e.number kept s)
 
 -- some first bytes of the output of a day were written from a beginning, and after a write fault not all
 abbrev pub HasFront : SettleFault → Setting → List Tuple → Option (List ℕ) → Option (List ℕ) → Type 0
-HasFront fault e day first now = (kept : ℕ → ℕ → ℕ → ℕ) → e.history ≡ Some kept → WritesSome fault (out (notices day e.tariffs e.number kept)) first now
+HasFront fault e day first now = (kept : ℕ → ℕ → ℕ → ℕ) → e.history ≡ Some kept →
+    WritesSome fault (out (notices day e.tariffs e.number kept)) first now

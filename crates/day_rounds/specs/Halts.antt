@@ -19,21 +19,28 @@ use Rattle.day_rounds.specs.Fronts.{HasText}
 use Rattle.day_rounds.specs.Published.{HasStepped, HasSteps}
 use Rattle.day_rounds.specs.Runs.{Stopped}
 
--- a day was stopped after a state, and after some tuples were given: these tuples of it were read, the first of the day that the bytes are; the jobs that were started are theirs; and with an exact crew
+-- a day was stopped after a state, and after some tuples were given: these tuples of it were read, the first of the
+-- day that the bytes are; the jobs that were started are theirs; and with an exact crew
 -- the text goes on to some first bytes of their output, and the steps are theirs by the rules
-pub record IsHalted {S T : Type 0} (out : S → List ℕ) (number : T → ℕ) (holds : S → ℕ → Job → Type 0) (gave : S → T → Type 0) (exact : Bool) (jobs : S → Option Told)
-    (fault : DayFault) (e : Setting) (told : Option Told) (width : ℕ) (limits : Limits) (late : ℕ) (s : State) (given : List Tuple) (ahead : DayAhead) (left : Option (List ℕ))
+pub record IsHalted {S T : Type 0} (out : S → List ℕ) (number : T → ℕ) (holds : S → ℕ → Job → Type 0)
+    (gave : S → T → Type 0) (exact : Bool) (jobs : S → Option Told)
+    (fault : DayFault) (e : Setting) (told : Option Told) (width : ℕ) (limits : Limits) (late : ℕ) (s : State)
+    (given : List Tuple) (ahead : DayAhead) (left : Option (List ℕ))
     (old new : Option (List ℕ)) (was posted : Option Posted) (run : Import T) (crew : S) : Type 0 where
   pub fed : List Tuple
   pub fit : Fit fed limits
-  pub read : (bytes : List ℕ) → IsAhead ahead limits late left bytes given → AreFirst fed (reads bytes limits late).tuples
+  pub read : (bytes : List ℕ) → IsAhead ahead limits late left bytes given →
+      AreFirst fed (reads bytes limits late).tuples
   pub stopped : Stopped out number holds gave jobs told width limits fed run crew
   pub front : exact ≡ true → (first : Option (List ℕ)) → HasText e s first old → HasDayFront fault e fed first new
-  pub steps : exact ≡ true → (before : Option Posted) → HasStepped limits.backlog s before was → HasSteps e.tariffs fed limits.backlog before posted
+  pub steps : exact ≡ true → (before : Option Posted) → HasStepped limits.backlog s before was →
+      HasSteps e.tariffs fed limits.backlog before posted
 
 -- the same of a day from its start
-pub record IsCut {S T : Type 0} (out : S → List ℕ) (number : T → ℕ) (holds : S → ℕ → Job → Type 0) (gave : S → T → Type 0) (exact : Bool) (jobs : S → Option Told)
-    (fault : DayFault) (e : Setting) (told : Option Told) (width : ℕ) (limits : Limits) (late : ℕ) (ahead : DayAhead) (left : Option (List ℕ))
+pub record IsCut {S T : Type 0} (out : S → List ℕ) (number : T → ℕ) (holds : S → ℕ → Job → Type 0)
+    (gave : S → T → Type 0) (exact : Bool) (jobs : S → Option Told)
+    (fault : DayFault) (e : Setting) (told : Option Told) (width : ℕ) (limits : Limits) (late : ℕ) (ahead : DayAhead)
+    (left : Option (List ℕ))
     (old new : Option (List ℕ)) (was posted : Option Posted) (run : Import T) (crew : S) : Type 0 where
   pub fed : List Tuple
   pub fit : Fit fed limits

@@ -12,11 +12,13 @@ use Rattle.expressway.specs.Results.{AreFirst}
 use Rattle.watermark.specs.Starts.{started_for, AreNumbered, IsStart}
 use Rattle.day_rounds.specs.Runs.{start_of}
 
--- the jobs that were started, joined, are the first of each worker's events; they are numbered from 0, none is empty, and the positions in one differ by less than the backlog
+-- the jobs that were started, joined, are the first of each worker's events; they are numbered from 0, none is empty,
+-- and the positions in one differ by less than the backlog
 pub record HaveFirstStarted (width backlog : ℕ) (day : List Tuple) (jobs : List Job) : Type 0 where
   pub numbered : AreNumbered 0 (map start_of jobs)
   pub each : AllByRecursion (IsStart backlog) (map start_of jobs)
-  pub first : (worker : ℕ) → worker < width → AreFirst (started_for worker (map start_of jobs)) (events_for day worker width)
+  pub first : (worker : ℕ) → worker < width →
+      AreFirst (started_for worker (map start_of jobs)) (events_for day worker width)
 
 -- and where all were, they are all of each worker's events
 pub record HaveAllStarted (width backlog : ℕ) (day : List Tuple) (jobs : List Job) : Type 0 where

@@ -9,12 +9,14 @@ use Rattle.road_time.specs.Day.{Charge, given, rules, charges_between}
 use Rattle.accounts.specs.Operations.{Operation, Begin, Step, Posted}
 use Rattle.watermark.specs.Shares.{State}
 
--- steps of a day by findings, from a mark on to a last one: each goes on to a later mark, at most so many positions on, and has the charges between them
+-- steps of a day by findings, from a mark on to a last one: each goes on to a later mark, at most so many positions
+-- on, and has the charges between them
 abbrev pub AreStepsBy : (Sight → Finding) → List Tuple → ℕ → ℕ → ℕ → List Operation → Type 0
 AreStepsBy finding day backlog mark last [] = mark ≡ last
 AreStepsBy finding day backlog mark last (Begin number ∷ ops) = ⊥
 AreStepsBy finding day backlog mark last (Step charges next ∷ ops) =
-    (mark < next) × (next ≤ mark + backlog) × (charges ≡ charges_between finding day mark next) × AreStepsBy finding day backlog next last ops
+    (mark < next) × (next ≤ mark + backlog) × (charges ≡ charges_between finding day mark next)
+    × AreStepsBy finding day backlog next last ops
 
 -- what was charged between two positions of those that are settled
 abbrev pub settled_between : State → ℕ → ℕ → List Charge

@@ -7,12 +7,16 @@ use Rattle.day_reading.specs.declared.whole_day.ReadStop.{ReadStop}
 use Rattle.day_reading.specs.Ahead.{has_more, IsAhead, IsGatheringAhead, HasFailedAhead}
 
 -- a reader gave some tuples more, of a day under these limits and at this lateness
-pub record HasGiven (limits : Limits) (late : ℕ) (xs : List Tuple) (old new : DayAhead) (was left : Option (List ℕ)) : Type 0 where
-  pub gathers : (given : List Tuple) → IsGatheringAhead old limits late given → IsGatheringAhead new limits late (given ++ xs)
-  pub reads : (bytes : List ℕ) (given : List Tuple) → IsAhead old limits late was bytes given → IsAhead new limits late left bytes (given ++ xs)
+pub record HasGiven (limits : Limits) (late : ℕ) (xs : List Tuple) (old new : DayAhead) (was left : Option (List ℕ)) :
+    Type 0 where
+  pub gathers : (given : List Tuple) → IsGatheringAhead old limits late given →
+      IsGatheringAhead new limits late (given ++ xs)
+  pub reads : (bytes : List ℕ) (given : List Tuple) → IsAhead old limits late was bytes given →
+      IsAhead new limits late left bytes (given ++ xs)
 
 -- where nothing stopped the reader it gave at most so many tuples more, and none where no tuple is left
-pub record HasReadOn (stop : Option ReadStop) (count : ℕ) (xs : List Tuple) (old new : DayAhead) (was left : Option (List ℕ)) : Type 0 where
+pub record HasReadOn (stop : Option ReadStop) (count : ℕ) (xs : List Tuple) (old new : DayAhead)
+    (was left : Option (List ℕ)) : Type 0 where
   pub given : stop ≡ None → (limits : Limits) (late : ℕ) → HasGiven limits late xs old new was left
   pub few : stop ≡ None → length xs ≤ count
   pub ended : stop ≡ None → 1 ≤ count → xs ≡ [] → has_more new ≡ false

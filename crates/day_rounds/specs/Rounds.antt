@@ -7,8 +7,10 @@ use Rattle.watermark.specs.Floors.{Setting}
 use Rattle.day_rounds.specs.Published.{HasStepped}
 use Rattle.day_rounds.specs.Fronts.{HasText}
 
--- some tuples were fed and all that was fed is settled; the text and the steps go on from what was written and published
-pub record IsSettled (backlog : ℕ) (e : Setting) (s : State) (xs : List Tuple) (old new : Option (List ℕ)) (was posted : Option Posted) (now : State) : Type 0 where
+-- some tuples were fed and all that was fed is settled; the text and the steps go on from what was written and
+-- published
+pub record IsSettled (backlog : ℕ) (e : Setting) (s : State) (xs : List Tuple) (old new : Option (List ℕ))
+    (was posted : Option Posted) (now : State) : Type 0 where
   pub fed : now.fed ≡ s.fed ++ xs
   pub settled : now.settled ≡ length now.fed
   pub text : (first : Option (List ℕ)) → HasText e s first old → HasText e now first new

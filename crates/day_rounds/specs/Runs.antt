@@ -1,5 +1,6 @@
 -- What holds of an import between two steps.
-use Rattle.std.specs.Prelude.{◌≡◌, ℕ, zero, suc, ◌+◌, ◌≤◌, Bool, true, false, List, [], ◌∷◌, ◌++◌, length, map, Option, Some, None, if◌then◌else◌}
+use Rattle.std.specs.Prelude.{◌≡◌, ℕ, zero, suc, ◌+◌, ◌≤◌, Bool, true, false, List, [], ◌∷◌, ◌++◌, length, map, Option}
+use Rattle.std.specs.Prelude.{Some, None, if◌then◌else◌}
 use Rattle.road_time.specs.Tolls.{Finding as RoadFinding}
 use Rattle.road_time.specs.declared.road.Tuple.{Tuple}
 use Rattle.expressway.specs.declared.job.Job.{Job}
@@ -31,10 +32,13 @@ HasAnswered None found (Some now) = ⊥
 HasAnswered (Some was) found None = ⊥
 HasAnswered (Some was) found (Some now) = (since : List Finding) × (now ≡ was ++ since) × (map shown since ≡ found)
 
--- an import on a crew, between two steps: its floor stands for a state; its tickets are those of the jobs that are out; with an exact crew the findings are true;
+-- an import on a crew, between two steps: its floor stands for a state; its tickets are those of the jobs that are
+-- out; with an exact crew the findings are true;
 -- and of the jobs started since it began, and the findings answered, the crew tells what was told to it and by it
-pub record Runs {S T : Type 0} (out : S → List ℕ) (number : T → ℕ) (holds : S → ℕ → Job → Type 0) (gave : S → T → Type 0) (exact : Bool) (jobs : S → Option Told) (answers : S → Option (List Finding))
-    (e : Setting) (told : Option Told) (answered : Option (List Finding)) (run : Import T) (crew : S) (s : State) : Type 0 where
+pub record Runs {S T : Type 0} (out : S → List ℕ) (number : T → ℕ) (holds : S → ℕ → Job → Type 0)
+    (gave : S → T → Type 0) (exact : Bool) (jobs : S → Option Told) (answers : S → Option (List Finding))
+    (e : Setting) (told : Option Told) (answered : Option (List Finding)) (run : Import T) (crew : S)
+    (s : State) : Type 0 where
   pub stands : StandsFor e run.floor s
   pub tasks : List (T × Job)
   pub tickets : map (λ t. t.0) tasks ≡ run.tickets.items
@@ -46,8 +50,10 @@ pub record Runs {S T : Type 0} (out : S → List ℕ) (number : T → ℕ) (hold
   pub listing : IsListingWhereTold told since (out crew) false (jobs crew)
   pub answers_are : HasAnswered answered s.found (answers crew)
 
--- and after a refusal, in the import of a day: the jobs that are left to be finished, and those that were started, which are the first of each worker's
-pub record Stopped {S T : Type 0} (out : S → List ℕ) (number : T → ℕ) (holds : S → ℕ → Job → Type 0) (gave : S → T → Type 0) (jobs : S → Option Told)
+-- and after a refusal, in the import of a day: the jobs that are left to be finished, and those that were started,
+-- which are the first of each worker's
+pub record Stopped {S T : Type 0} (out : S → List ℕ) (number : T → ℕ) (holds : S → ℕ → Job → Type 0)
+    (gave : S → T → Type 0) (jobs : S → Option Told)
     (told : Option Told) (width : ℕ) (limits : Limits) (day : List Tuple) (run : Import T) (crew : S) : Type 0 where
   pub state : State
   pub sound : IsSound width limits state

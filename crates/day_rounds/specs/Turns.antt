@@ -9,7 +9,8 @@ use Rattle.day_rounds.specs.Tasks.{out_at}
 use Rattle.day_rounds.specs.Published.{settled_between, HasStepped}
 use Rattle.day_rounds.specs.Fronts.{HasText}
 
--- so many jobs were given or came back: giving counts two for the number and one less for the job that is out, coming back one for the job that is out no more
+-- so many jobs were given or came back: giving counts two for the number and one less for the job that is out, coming
+-- back one for the job that is out no more
 abbrev pub HasWorked : ℕ → ℕ → State → State → Type 0
 HasWorked width k s now = 2 * s.given + (out_at now.share width + k) ≡ 2 * now.given + out_at s.share width
 
@@ -30,9 +31,11 @@ pub record IsMoved (width k : ℕ) (s now : State) : Type 0 where
   pub between : (a b : ℕ) → settled_between now a b ≡ settled_between s a b
   pub worked : HasWorked width k s now
 
--- a turn: some tuples were fed, so many jobs were given or came back, and what could be was settled; the text and the steps go on from what was written and published;
+-- a turn: some tuples were fed, so many jobs were given or came back, and what could be was settled; the text and the
+-- steps go on from what was written and published;
 -- where no job was given or came back, and no tuple fed, all was done before
-pub record IsTurned (width backlog k : ℕ) (e : Setting) (s : State) (xs : List Tuple) (old new : Option (List ℕ)) (was posted : Option Posted) (now : State) : Type 0 where
+pub record IsTurned (width backlog k : ℕ) (e : Setting) (s : State) (xs : List Tuple) (old new : Option (List ℕ))
+    (was posted : Option Posted) (now : State) : Type 0 where
   pub fed : now.fed ≡ s.fed ++ xs
   pub marked : now.settled ≡ mark width now
   pub text : (first : Option (List ℕ)) → HasText e s first old → HasText e now first new

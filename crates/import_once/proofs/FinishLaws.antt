@@ -1,5 +1,6 @@
 -- What an import did, from what its stages did.
-use Rattle.std.proofs.Common.{◌≡◌, ◌<◌, nat_le, inl, inr, ℕ, List, length, Option, Some, None, refl, sym, ap, subst, ◌∙◌}
+use Rattle.std.proofs.Common.{◌≡◌, ◌<◌, nat_le, inl, inr, ℕ, List, length, Option, Some, None, refl, sym, ap, subst}
+use Rattle.std.proofs.Common.{◌∙◌}
 use Rattle.std.proofs.Math.Seq.{take-length}
 use Rattle.std.proofs.lemmas.Bool.{cond-false, lt-leb}
 use Rattle.std.specs.Io.KnownBytes.{Appends}
@@ -22,19 +23,24 @@ use Rattle.day_reading.specs.declared.whole_day.DayEnd.{DayEnd}
 use Rattle.day_reading.specs.declared.whole_day.DayEnd.TheVariants.{Whole, Refused as RefusedAt}
 use Rattle.day_reading.specs.Days.{EndsReading, LeavesBehind}
 use Rattle.import_once.specs.declared.outcomes.Outcome.{Outcome}
-use Rattle.import_once.specs.declared.outcomes.Outcome.TheVariants.{Stored, Already, Answered, Refused, Differs, ReadFault, WriteFault, KeeperFault, NoMemory}
+use Rattle.import_once.specs.declared.outcomes.Outcome.TheVariants.{Stored, Already, Answered, Refused, Differs}
+use Rattle.import_once.specs.declared.outcomes.Outcome.TheVariants.{ReadFault, WriteFault, KeeperFault, NoMemory}
 use Rattle.day_rounds.specs.declared.day_run.WorkedDay.{WorkedDay}
 use Rattle.day_rounds.specs.declared.fault.DayFault.{DayFault}
 use Rattle.day_rounds.specs.declared.fault.DayFault.TheVariants as stop
-use Rattle.import_once.specs.Imports.{DayAnswer, Work, work_by, worked_record, worked_office, import_worked, answers_worked, unless_passed, Does, Merges, KeepsAll, LeavesAlone, LeavesRead, IsOfNewDay, IsOfKeptDay}
+use Rattle.import_once.specs.Imports.{DayAnswer, Work, work_by, worked_record, worked_office, import_worked}
+use Rattle.import_once.specs.Imports.{answers_worked, unless_passed, Does, Merges, KeepsAll, LeavesAlone, LeavesRead}
+use Rattle.import_once.specs.Imports.{IsOfNewDay, IsOfKeptDay}
 use Rattle.import_once.specs.Stages.{run_record, Stores, Finishes, Tells, IsAnswered, IsWhole, IsOfEnd}
 use Rattle.day_rounds.specs.Faults.{WritesUpTo}
-use Rattle.import_once.specs.Runs.{stopping, WhereWorked}
+use Rattle.import_once.specs.Runs.{stopped_outcome, WhereWorked}
 use Rattle.import_once.proofs.WorkLaws.{record_is, rows_are}
 
-module _ (w : WhenRefused) (work : Work) (number : ℕ) (bytes : List ℕ) (day : List Tuple) (o : Office) (old new : Option (List ℕ)) (now : Option Office) (wrote : Appends old new (out work.told)) where
+module _ (w : WhenRefused) (work : Work) (number : ℕ) (bytes : List ℕ) (day : List Tuple) (o : Office)
+    (old new : Option (List ℕ)) (now : Option Office) (wrote : Appends old new (out work.told)) where
   -- a day whose output was written and which was put, or refused
-  stores_does : (kept : DayRecord) (rows : List SpentRow) (outcome : Outcome) → kept ≡ worked_record work number bytes day o → rows ≡ rows_from number work.charged
+  stores_does : (kept : DayRecord) (rows : List SpentRow) (outcome : Outcome) →
+      kept ≡ worked_record work number bytes day o → rows ≡ rows_from number work.charged
       → Stores w kept rows o now outcome → Does w (import_worked work number bytes day None o) o old new now outcome
   stores_does kept rows (Stored r) e f h =
       let next : with_day kept rows o ≡ worked_office work number bytes day o = cc in
@@ -48,7 +54,8 @@ module _ (w : WhenRefused) (work : Work) (number : ℕ) (bytes : List ℕ) (day 
   stores_does kept rows _ e f h = absurd h
 
 -- what is done is done also where nothing is said of what was written before a fault
-pub does_merges : (w : WhenRefused) (a : DayAnswer) (was : Office) (old new : Option (List ℕ)) (now : Option Office) (outcome : Outcome) → Does w a was old new now outcome → Merges w a was old new now outcome
+pub does_merges : (w : WhenRefused) (a : DayAnswer) (was : Office) (old new : Option (List ℕ)) (now : Option Office)
+    (outcome : Outcome) → Does w a was old new now outcome → Merges w a was old new now outcome
 does_merges w a was old new now ReadFault h = h.1
 does_merges w a was old new now WriteFault h = h.1
 does_merges w a was old new now KeeperFault (inl h) = inl h.1
@@ -57,64 +64,99 @@ does_merges w a was old new now NoMemory (inl h) = inl h.1
 does_merges w a was old new now NoMemory (inr h) = inr h
 does_merges w a was old new now _ h = h
 
-module _ (w : WhenRefused) (number : ℕ) (found : List (ℕ × Finding)) (bytes : List ℕ) (day : List Tuple) (o : Office) (old new : Option (List ℕ)) (now : Option Office) (run : WorkedDay) (tariffs : Tariffs)
-    (wrote : Appends old new (out (work_by found number day o).told)) (count : run.tuples ≡ length day) (closed : IsClosed run.closed number (given found) number (Some (paid o.rows)) day) (under : tariffs ≡ o.tariffs) where
+module _ (w : WhenRefused) (number : ℕ) (found : List (ℕ × Finding)) (bytes : List ℕ) (day : List Tuple) (o : Office)
+    (old new : Option (List ℕ)) (now : Option Office) (run : WorkedDay) (tariffs : Tariffs)
+    (wrote : Appends old new (out (work_by found number day o).told)) (count : run.tuples ≡ length day)
+    (closed : IsClosed run.closed number (given found) number (Some (paid o.rows)) day)
+    (under : tariffs ≡ o.tariffs) where
   -- a day that was worked and finished
-  pub finishes_does : (end : DayEnd) (refused : Option (ℕ × Fault)) (outcome : Outcome) → EndsReading end bytes refused → Finishes w number end run tariffs o now outcome
+  pub finishes_does : (end : DayEnd) (refused : Option (ℕ × Fault)) (outcome : Outcome) → EndsReading end bytes refused
+      → Finishes w number end run tariffs o now outcome
       → Does w (import_worked (work_by found number day o) number bytes day refused o) o old new now outcome
   finishes_does (Whole n digest) refused outcome e h =
-      subst (λ (r : Option (ℕ × Fault)). Does w (import_worked (work_by found number day o) number bytes day r o) o old new now outcome) (sym e.0)
-      (stores_does w (work_by found number day o) number bytes day o old new now wrote (run_record number n digest run tariffs) run.closed.rows outcome (record_is number found day o run closed bytes n digest tariffs count e.1 e.2 under) (rows_are number found day o run closed) h)
+      subst (λ (r : Option (ℕ × Fault)). Does w (import_worked (work_by found number day o) number bytes day r o) o old
+      new now outcome) (sym e.0)
+      (stores_does w (work_by found number day o) number bytes day o old new now wrote
+      (run_record number n digest run tariffs) run.closed.rows outcome
+      (record_is number found day o run closed bytes n digest tariffs count e.1 e.2 under)
+      (rows_are number found day o run closed) h)
   finishes_does (RefusedAt line cause) refused outcome e h =
       let fault = e.0 in
-      subst (λ (r : Option (ℕ × Fault)). Does w (import_worked (work_by found number day o) number bytes day r o) o old new now outcome) (sym e.1)
-      (subst (Does w (import_worked (work_by found number day o) number bytes day (Some (line, fault)) o) o old new now) (sym h.0)
+      subst (λ (r : Option (ℕ × Fault)). Does w (import_worked (work_by found number day o) number bytes day r o) o old
+      new now outcome) (sym e.1)
+      (subst (Does w (import_worked (work_by found number day o) number bytes day (Some (line, fault)) o) o old new now)
+      (sym h.0)
       (record { outcome_is = ap (Refused line) (sym e.2); wrote = wrote; kept = h.1 }))
 
-module _ (w : WhenRefused) (number : ℕ) (found : List (ℕ × Finding)) (bytes : List ℕ) (day : List Tuple) (o : Office) (old new : Option (List ℕ)) (now : Option Office) (run : WorkedDay) (tariffs : Tariffs)
-    (wrote : Appends old new (out (work_by found number day o).told)) (count : run.tuples ≡ length day) (closed : IsClosed run.closed number (given found) number (Some (paid o.rows)) day) (under : tariffs ≡ o.tariffs) (same : now ≡ Some o) where
+module _ (w : WhenRefused) (number : ℕ) (found : List (ℕ × Finding)) (bytes : List ℕ) (day : List Tuple) (o : Office)
+    (old new : Option (List ℕ)) (now : Option Office) (run : WorkedDay) (tariffs : Tariffs)
+    (wrote : Appends old new (out (work_by found number day o).told)) (count : run.tuples ≡ length day)
+    (closed : IsClosed run.closed number (given found) number (Some (paid o.rows)) day)
+    (under : tariffs ≡ o.tariffs) (same : now ≡ Some o) where
   -- a day that was worked and answered
-  tells_whole : (kept : DayRecord) (outcome : Outcome) → kept ≡ worked_record (work_by found number day o) number bytes day o → IsAnswered kept outcome
+  tells_whole : (kept : DayRecord) (outcome : Outcome) →
+      kept ≡ worked_record (work_by found number day o) number bytes day o → IsAnswered kept outcome
       → Does w (answers_worked (work_by found number day o) number bytes day None o) o old new now outcome
   tells_whole kept (Answered r) e h = record { outcome_is = ap Answered (h ∙ e); wrote = wrote; kept = same }
-  tells_whole kept NoMemory e h = inl ((length (out (work_by found number day o).told), subst (Appends old new) (sym (take-length (out (work_by found number day o).told))) wrote), same)
+  tells_whole kept NoMemory e h =
+      inl (
+        (
+          length (out (work_by found number day o).told),
+          subst (Appends old new)
+              (sym (take-length (out (work_by found number day o).told))) wrote,
+        ),
+        same,
+      )
   tells_whole kept _ e h = absurd h
 
-  pub tells_does : (end : DayEnd) (refused : Option (ℕ × Fault)) (outcome : Outcome) → EndsReading end bytes refused → Tells number end run tariffs outcome
+  -- a day that is answered, or whose refused line is named
+  pub tells_does : (end : DayEnd) (refused : Option (ℕ × Fault)) (outcome : Outcome) → EndsReading end bytes refused →
+      Tells number end run tariffs outcome
       → Does w (answers_worked (work_by found number day o) number bytes day refused o) o old new now outcome
   tells_does (Whole n digest) refused outcome e h =
-      subst (λ (r : Option (ℕ × Fault)). Does w (answers_worked (work_by found number day o) number bytes day r o) o old new now outcome) (sym e.0)
-      (tells_whole (run_record number n digest run tariffs) outcome (record_is number found day o run closed bytes n digest tariffs count e.1 e.2 under) h)
+      subst (λ (r : Option (ℕ × Fault)). Does w (answers_worked (work_by found number day o) number bytes day r o) o old
+      new now outcome) (sym e.0)
+      (tells_whole (run_record number n digest run tariffs) outcome
+      (record_is number found day o run closed bytes n digest tariffs count e.1 e.2 under) h)
   tells_does (RefusedAt line cause) refused outcome e h =
       let fault = e.0 in
-      subst (λ (r : Option (ℕ × Fault)). Does w (answers_worked (work_by found number day o) number bytes day r o) o old new now outcome) (sym e.1)
-      (subst (Does w (answers_worked (work_by found number day o) number bytes day (Some (line, fault)) o) o old new now) (sym h)
+      subst (λ (r : Option (ℕ × Fault)). Does w (answers_worked (work_by found number day o) number bytes day r o) o old
+      new now outcome) (sym e.1)
+      (subst (Does w (answers_worked (work_by found number day o) number bytes day (Some (line, fault)) o) o old new
+      now) (sym h)
       (record { outcome_is = ap (Refused line) (sym e.2); wrote = wrote; kept = same }))
 
 -- the work of a day was stopped
-pub stops_does : (w : WhenRefused) (a : DayAnswer) (o : Office) (old new : Option (List ℕ)) (now : Option Office) (s : DayFault) → WritesUpTo s a.text old new → now ≡ Some o → Does w a o old new now (stopping s)
+pub stops_does : (w : WhenRefused) (a : DayAnswer) (o : Office) (old new : Option (List ℕ)) (now : Option Office)
+    (s : DayFault) → WritesUpTo s a.text old new → now ≡ Some o → Does w a o old new now (stopped_outcome s)
 stops_does w a o old new now stop.ReadFault h same = (h, same)
 stops_does w a o old new now stop.WriteFault h same = (h, same)
 stops_does w a o old new now stop.KeeperFault h same = inl (h, same)
 stops_does w a o old new now stop.NoMemory h same = inl (h, same)
 
-pub stops_merges : (w : WhenRefused) (a : DayAnswer) (o : Office) (old new : Option (List ℕ)) (now : Option Office) (s : DayFault) → now ≡ Some o → Merges w a o old new now (stopping s)
+-- the same over any crew
+pub stops_merges : (w : WhenRefused) (a : DayAnswer) (o : Office) (old new : Option (List ℕ)) (now : Option Office)
+    (s : DayFault) → now ≡ Some o → Merges w a o old new now (stopped_outcome s)
 stops_merges w a o old new now stop.ReadFault same = same
 stops_merges w a o old new now stop.WriteFault same = same
 stops_merges w a o old new now stop.KeeperFault same = inl same
 stops_merges w a o old new now stop.NoMemory same = inl same
 
 -- the text of importing a day that was read is that of its notices, refused or not
-pub text_worked : (work : Work) (number : ℕ) (bytes : List ℕ) (day : List Tuple) (refused : Option (ℕ × Fault)) (o : Office) → (import_worked work number bytes day refused o).text ≡ out work.told
+pub text_worked : (work : Work) (number : ℕ) (bytes : List ℕ) (day : List Tuple) (refused : Option (ℕ × Fault))
+    (o : Office) → (import_worked work number bytes day refused o).text ≡ out work.told
 text_worked work number bytes day None o = refl
 text_worked work number bytes day (Some (line, fault)) o = refl
 
-pub text_answered : (work : Work) (number : ℕ) (bytes : List ℕ) (day : List Tuple) (refused : Option (ℕ × Fault)) (o : Office) → (answers_worked work number bytes day refused o).text ≡ out work.told
+-- and so that of answering it
+pub text_answered : (work : Work) (number : ℕ) (bytes : List ℕ) (day : List Tuple) (refused : Option (ℕ × Fault))
+    (o : Office) → (answers_worked work number bytes day refused o).text ≡ out work.told
 text_answered work number bytes day None o = refl
 text_answered work number bytes day (Some (line, fault)) o = refl
 
 -- a day after all that is kept is read
-pub new_is_read : (read : DayAnswer) (number : ℕ) (o : Office) → last_day o < number → unless_passed read number o ≡ read
+pub new_is_read : (read : DayAnswer) (number : ℕ) (o : Office) → last_day o < number →
+    unless_passed read number o ≡ read
 new_is_read read number o h = cond-false (nat_le number (last_day o)) _ _ (lt-leb number (last_day o) h)
 
 -- what holds holds where a day was worked
@@ -125,13 +167,14 @@ where_worked (Refused line cause) P p = p
 where_worked _ P p = tt
 
 -- where the work of a day was stopped, what is kept is as it was
-pub stops_keeps : (s : DayFault) (P : Type 0) → P → KeepsAll (stopping s) P
+pub stops_keeps : (s : DayFault) (P : Type 0) → P → KeepsAll (stopped_outcome s) P
 stops_keeps stop.ReadFault P p = p
 stops_keeps stop.WriteFault P p = p
 stops_keeps _ P p = tt
 
 -- of a day that is kept the others are left alone
-pub kept_alone : (outcome : Outcome) (source others : Type 0) → IsOfKeptDay outcome → others → LeavesAlone outcome source others
+pub kept_alone : (outcome : Outcome) (source others : Type 0) → IsOfKeptDay outcome → others →
+    LeavesAlone outcome source others
 kept_alone (Already kept) source others h o = o
 kept_alone (Differs kept found) source others h o = o
 kept_alone ReadFault source others h o = tt
@@ -139,21 +182,27 @@ kept_alone NoMemory source others h o = tt
 kept_alone _ source others h o = absurd h
 
 -- of a day that was read to its end no line was refused
-pub whole_unrefused : (end : DayEnd) (bytes : List ℕ) (refused : Option (ℕ × Fault)) → EndsReading end bytes refused → IsWhole end → refused ≡ None
+pub whole_unrefused : (end : DayEnd) (bytes : List ℕ) (refused : Option (ℕ × Fault)) → EndsReading end bytes refused →
+    IsWhole end → refused ≡ None
 whole_unrefused (Whole n digest) bytes refused e h = e.0
 whole_unrefused (RefusedAt line cause) bytes refused e h = absurd h
 
 -- what is left of the source of a day that was answered, or whose refused line was named
-pub tells_leaves : (number : ℕ) (run' : WorkedDay) (tariffs : Tariffs) (end : DayEnd) (refused : Option (ℕ × Fault)) (bytes : List ℕ) (left : Option (List ℕ)) (outcome : Outcome)
-    → EndsReading end bytes refused → LeavesBehind end bytes left → Tells number end run' tariffs outcome → LeavesRead outcome refused bytes left
+pub tells_leaves : (number : ℕ) (run' : WorkedDay) (tariffs : Tariffs) (end : DayEnd) (refused : Option (ℕ × Fault))
+    (bytes : List ℕ) (left : Option (List ℕ)) (outcome : Outcome)
+    → EndsReading end bytes refused → LeavesBehind end bytes left → Tells number end run' tariffs outcome →
+    LeavesRead outcome refused bytes left
 tells_leaves number run' tariffs (Whole n digest) refused bytes left (Answered kept) e l h = (e.0, l)
 tells_leaves number run' tariffs (Whole n digest) refused bytes left NoMemory e l h = tt
 tells_leaves number run' tariffs (Whole n digest) refused bytes left _ e l h = absurd h
-tells_leaves number run' tariffs (RefusedAt line cause) refused bytes left outcome e l h = subst (λ (o : Outcome). LeavesRead o refused bytes left) (sym h) (e, l)
+tells_leaves number run' tariffs (RefusedAt line cause) refused bytes left outcome e l h =
+    subst (λ (o : Outcome). LeavesRead o refused bytes left) (sym h) (e, l)
 
 -- what is left of that of a day that was stored, or whose refused line was named
-pub ends_leaves : (end : DayEnd) (refused : Option (ℕ × Fault)) (bytes : List ℕ) (left : Option (List ℕ)) (outcome : Outcome)
-    → EndsReading end bytes refused → LeavesBehind end bytes left → IsOfNewDay outcome → IsOfEnd end outcome → LeavesRead outcome refused bytes left
+pub ends_leaves : (end : DayEnd) (refused : Option (ℕ × Fault)) (bytes : List ℕ) (left : Option (List ℕ))
+    (outcome : Outcome)
+    → EndsReading end bytes refused → LeavesBehind end bytes left → IsOfNewDay outcome → IsOfEnd end outcome →
+    LeavesRead outcome refused bytes left
 ends_leaves (Whole n digest) refused bytes left (Stored kept) e l new h = (e.0, l)
 ends_leaves (RefusedAt line cause) refused bytes left (Stored kept) e l new h = absurd h
 ends_leaves end refused bytes left (Refused line cause) e l new h =
@@ -162,12 +211,14 @@ ends_leaves end refused bytes left (Answered kept) e l new h = absurd new
 ends_leaves end refused bytes left _ e l new h = tt
 
 -- of a day whose work was stopped nothing is said
-pub stops_leaves : (s : DayFault) (refused : Option (ℕ × Fault)) (bytes : List ℕ) (left : Option (List ℕ)) → LeavesRead (stopping s) refused bytes left
+pub stops_leaves : (s : DayFault) (refused : Option (ℕ × Fault)) (bytes : List ℕ) (left : Option (List ℕ)) →
+    LeavesRead (stopped_outcome s) refused bytes left
 stops_leaves stop.ReadFault refused bytes left = tt
 stops_leaves _ refused bytes left = tt
 
 -- nor of one that is kept
-pub kept_leaves : (outcome : Outcome) (refused : Option (ℕ × Fault)) (bytes : List ℕ) (left : Option (List ℕ)) → IsOfKeptDay outcome → LeavesRead outcome refused bytes left
+pub kept_leaves : (outcome : Outcome) (refused : Option (ℕ × Fault)) (bytes : List ℕ) (left : Option (List ℕ)) →
+    IsOfKeptDay outcome → LeavesRead outcome refused bytes left
 kept_leaves (Stored kept) refused bytes left h = absurd h
 kept_leaves (Answered kept) refused bytes left h = absurd h
 kept_leaves (Refused line cause) refused bytes left h = absurd h

@@ -32,8 +32,10 @@ use Rattle.import_once.specs.Imports.{work_of, work_by, worked_record}
 use Rattle.import_once.specs.Stages.{run_record, CanPut}
 
 -- a day that was worked may be put, whatever was found for it
-pub run_fits : (number : ℕ) (limits : Limits) (found : List (ℕ × Finding)) (history : History) (day : List Tuple) (run : WorkedDay) → IsLimits limits → Fit day limits → IsShort run.end → run.tuples ≡ length day
-    → IsClosed run.closed number (given found) number history day → ((s : Sight) → (given found s).toll ≤ 500000000000) → CanPut number run
+pub run_fits : (number : ℕ) (limits : Limits) (found : List (ℕ × Finding)) (history : History) (day : List Tuple)
+    (run : WorkedDay) → IsLimits limits → Fit day limits → IsShort run.end → run.tuples ≡ length day
+    → IsClosed run.closed number (given found) number history day → ((s : Sight) → (given found s).toll ≤ 500000000000)
+    → CanPut number run
 run_fits number limits found history day run within fit short count closed few =
     let cs : List Charge = charges_by (given found) (moments day) in
     let rows = are_rows cs number in
@@ -48,13 +50,15 @@ run_fits number limits found history day run within fit short count closed few =
       notices = omega (arith, closed.count, told_few, n, lines, all);
       total = omega (arith, closed.total, most, lines, all);
       of_day = subst (λ (rs : List SpentRow). AllByRecursion (λ r. r.day ≡ number) rs) (sym closed.rows) rows.of_day;
-      above_zero = subst (λ (rs : List SpentRow). AllByRecursion (λ r. 0 < r.tolls) rs) (sym closed.rows) rows.none_zero;
+      above_zero =
+          subst (λ (rs : List SpentRow). AllByRecursion (λ r. 0 < r.tolls) rs) (sym closed.rows) rows.none_zero;
       rise = subst RowsRise (sym closed.rows) (day_rows_law _ number rows.of_day rows.in_order);
       sum = ap (λ (rs : List SpentRow). sum_of_rows rs) closed.rows ∙ (rows_add_up number cs ∙ sym closed.total);
     }
 
 -- what may be put may be put under its record
-pub record_fits : (number bytes : ℕ) (digest : Digest) (run : WorkedDay) (tariffs : Tariffs) → bytes < 2 ^ 63 → CanPut number run → IsDayPut (run_record number bytes digest run tariffs) run.closed.rows
+pub record_fits : (number bytes : ℕ) (digest : Digest) (run : WorkedDay) (tariffs : Tariffs) → bytes < 2 ^ 63 →
+    CanPut number run → IsDayPut (run_record number bytes digest run tariffs) run.closed.rows
 record_fits number bytes digest run tariffs small can = record {
   bytes = small;
   tuples = can.tuples;
@@ -66,26 +70,31 @@ record_fits number bytes digest run tariffs small can = record {
   sum = can.sum;
 }
 
-module _ (number : ℕ) (found : List (ℕ × Finding)) (day : List Tuple) (o : Office) (run : WorkedDay) (closed : IsClosed run.closed number (given found) number (Some (paid o.rows)) day) where
+module _ (number : ℕ) (found : List (ℕ × Finding)) (day : List Tuple) (o : Office) (run : WorkedDay)
+    (closed : IsClosed run.closed number (given found) number (Some (paid o.rows)) day) where
   -- the notices of a day that was worked
   told_is : closed.told ≡ (work_by found number day o).told
   told_is = notices_exact (given found) number (paid o.rows) (moments day) closed.told closed.told_are
 
   -- the record of a day that was worked is that of its work
-  pub record_is : (bytes : List ℕ) (n : ℕ) (digest : Digest) (tariffs : Tariffs) → run.tuples ≡ length day → n ≡ length bytes → digest ≡ digest_of bytes → tariffs ≡ o.tariffs
+  pub record_is : (bytes : List ℕ) (n : ℕ) (digest : Digest) (tariffs : Tariffs) → run.tuples ≡ length day →
+      n ≡ length bytes → digest ≡ digest_of bytes → tariffs ≡ o.tariffs
       → run_record number n digest run tariffs ≡ worked_record (work_by found number day o) number bytes day o
   record_is bytes n digest tariffs count size hash under =
       let ns : List Notice = (work_by found number day o).told in
       let many : run.closed.notices ≡ length ns = closed.count ∙ ap length told_is in
-      let text : run.closed.notices_digest ≡ digest_of (out ns) = closed.digest ∙ ap (λ ms. digest_of (out ms)) told_is in
+      let text : run.closed.notices_digest ≡ digest_of (out ns) = closed.digest
+      ∙ ap (λ ms. digest_of (out ms)) told_is in
       let sum : run.closed.total ≡ sum_of (work_by found number day o).charged = closed.total in
       cc
 
+  -- the amounts are those of the charges
   pub rows_are : run.closed.rows ≡ rows_from number (work_by found number day o).charged
   rows_are = closed.rows
 
 -- the work by findings that are right for a day is its work by the rules
-pub right_work : (number : ℕ) (found : List (ℕ × Finding)) (day : List Tuple) (o : Office) → AreRightFor found day o.tariffs number → work_by found number day o ≡ work_of number day o
+pub right_work : (number : ℕ) (found : List (ℕ × Finding)) (day : List Tuple) (o : Office) →
+    AreRightFor found day o.tariffs number → work_by found number day o ≡ work_of number day o
 right_work number found day o right =
     let told = right.notices_are (paid o.rows) in
     let charged = right.charges_are in

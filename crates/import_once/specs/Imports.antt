@@ -55,7 +55,18 @@ work_by found number day o =
 -- what is kept of a day with this work
 abbrev pub worked_record : Work → ℕ → List ℕ → List Tuple → Office → DayRecord
 worked_record work number bytes day o =
-    record { day = number; digest = digest_of bytes; bytes = length bytes; tuples = length day; notices = length work.told; notices_digest = digest_of (out work.told); tariffs = seal_of o.tariffs; total = sum_of work.charged }
+    record {
+      day = number;
+      digest = digest_of bytes;
+      bytes = length bytes;
+      tuples = length day;
+      notices =
+          length work.told;
+      notices_digest = digest_of (out work.told);
+      tariffs = seal_of o.tariffs;
+      total =
+          sum_of work.charged;
+    }
 
 -- the office with that day
 abbrev pub worked_office : Work → ℕ → List ℕ → List Tuple → Office → Office
@@ -65,7 +76,12 @@ worked_office work number bytes day o =
 -- the output of all tuples, and the day is kept; or that of the tuples before the first refused line, and nothing is
 abbrev pub import_worked : Work → ℕ → List ℕ → List Tuple → Option (ℕ × Fault) → Office → DayAnswer
 import_worked work number bytes day None o =
-    record { outcome = Stored (worked_record work number bytes day o); text = out work.told; office = worked_office work number bytes day o }
+    record {
+      outcome = Stored (worked_record work number bytes day o);
+      text = out work.told;
+      office =
+          worked_office work number bytes day o;
+    }
 import_worked work number bytes day (Some (line, fault)) o =
     record { outcome = Refused line (cause_of fault); text = out work.told; office = o }
 
@@ -99,10 +115,11 @@ unless_kept read number bytes o = unless_recorded (record_of o number) read numb
 
 -- By the rules:
 
--- importing and answering a day that was read
+-- importing a day that was read
 abbrev pub import_read : ℕ → List ℕ → List Tuple → Option (ℕ × Fault) → Office → DayAnswer
 import_read number bytes day refused o = import_worked (work_of number day o) number bytes day refused o
 
+-- and answering it
 abbrev pub answers_read : ℕ → List ℕ → List Tuple → Option (ℕ × Fault) → Office → DayAnswer
 answers_read number bytes day refused o = answers_worked (work_of number day o) number bytes day refused o
 
@@ -111,20 +128,22 @@ abbrev pub new_import : ℕ → ℕ → Limits → List ℕ → Office → DayAn
 new_import number late limits bytes o =
     import_read number bytes (reads bytes limits late).tuples (reads bytes limits late).refused o
 
--- importing and answering a day of these bytes
+-- importing a day of these bytes
 abbrev pub import_answer : ℕ → ℕ → Limits → List ℕ → Office → DayAnswer
 import_answer number late limits bytes o = unless_kept (new_import number late limits bytes o) number bytes o
 
+-- and answering one
 abbrev pub answers_answer : ℕ → ℕ → Limits → List ℕ → Office → DayAnswer
 answers_answer number late limits bytes o =
     answers_read number bytes (reads bytes limits late).tuples (reads bytes limits late).refused o
 
 -- By what was found:
 
--- importing and answering a day that was read
+-- importing a day that was read
 abbrev pub import_merged : List (ℕ × Finding) → ℕ → List ℕ → List Tuple → Option (ℕ × Fault) → Office → DayAnswer
 import_merged found number bytes day refused o = import_worked (work_by found number day o) number bytes day refused o
 
+-- and answering it
 abbrev pub answers_merged : List (ℕ × Finding) → ℕ → List ℕ → List Tuple → Option (ℕ × Fault) → Office → DayAnswer
 answers_merged found number bytes day refused o = answers_worked (work_by found number day o) number bytes day refused o
 
@@ -133,11 +152,12 @@ abbrev pub new_import_found : List (ℕ × Finding) → ℕ → ℕ → Limits �
 new_import_found found number late limits bytes o =
     import_merged found number bytes (reads bytes limits late).tuples (reads bytes limits late).refused o
 
--- importing and answering a day of these bytes
+-- importing a day of these bytes
 abbrev pub import_found : List (ℕ × Finding) → ℕ → ℕ → Limits → List ℕ → Office → DayAnswer
 import_found found number late limits bytes o =
     unless_kept (new_import_found found number late limits bytes o) number bytes o
 
+-- and answering one
 abbrev pub answers_found : List (ℕ × Finding) → ℕ → ℕ → Limits → List ℕ → Office → DayAnswer
 answers_found found number late limits bytes o =
     answers_merged found number bytes (reads bytes limits late).tuples (reads bytes limits late).refused o
@@ -162,7 +182,8 @@ abbrev pub Halts : WhenRefused → KeepFault → DayAnswer → Office → Option
 Halts w fault a was old new now = (WritesFront a.text old new × (now ≡ Some was)) ⊎ IsUnput w fault a was old new now
 
 -- what was done, by how the call ended
-abbrev pub Does : WhenRefused → DayAnswer → Office → Option (List ℕ) → Option (List ℕ) → Option Office → Outcome → Type 0
+abbrev pub Does : WhenRefused → DayAnswer → Office → Option (List ℕ) → Option (List ℕ) → Option Office → Outcome →
+    Type 0
 Does w a was old new now ReadFault = WritesFront a.text old new × (now ≡ Some was)
 Does w a was old new now WriteFault = WritesLess a.text old new × (now ≡ Some was)
 Does w a was old new now KeeperFault = Halts w keeping.Failed a was old new now
@@ -170,7 +191,8 @@ Does w a was old new now NoMemory = Halts w keeping.NoMemory a was old new now
 Does w a was old new now outcome = DoesAll a outcome old new now
 
 -- the same, where nothing is said of what was written before a fault
-abbrev pub Merges : WhenRefused → DayAnswer → Office → Option (List ℕ) → Option (List ℕ) → Option Office → Outcome → Type 0
+abbrev pub Merges : WhenRefused → DayAnswer → Office → Option (List ℕ) → Option (List ℕ) → Option Office → Outcome →
+    Type 0
 Merges w a was old new now ReadFault = now ≡ Some was
 Merges w a was old new now WriteFault = now ≡ Some was
 Merges w a was old new now KeeperFault = (now ≡ Some was) ⊎ IsUnput w keeping.Failed a was old new now

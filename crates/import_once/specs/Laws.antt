@@ -35,6 +35,7 @@ RepeatLaw =
 -- what an import does is such an import
 abbrev pub OnceLaw : Type 0
 OnceLaw =
-    (w : WhenRefused) (number late : ℕ) (limits : Limits) (bytes : List ℕ) (was now : Office) (old new : Option (List ℕ)) (outcome : Outcome)
+    (w : WhenRefused) (number late : ℕ) (limits : Limits) (bytes : List ℕ) (was now : Office)
+    (old new : Option (List ℕ)) (outcome : Outcome)
     → Does w (import_answer number late limits bytes was) was old new (Some now) outcome
     → KeepsOnce number bytes (reads bytes limits late).tuples was now

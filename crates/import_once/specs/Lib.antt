@@ -1,4 +1,3 @@
-pub mod Faults
 pub mod Imports
 pub mod Runs
 pub mod Stages

@@ -10,6 +10,8 @@ use Rattle.expressway.specs.declared.job.Job.{Job}
 use Rattle.accounts.specs.Operations.{Operation, Begin, Posted}
 use Rattle.partition_workers.specs.Told.{Told, WhereTold}
 use Rattle.partition_workers.specs.Callers.{ListsAll, ListsFirst}
+use Rattle.keeper.specs.declared.kept.KeepFault.{KeepFault}
+use Rattle.keeper.specs.declared.kept.KeepFault.TheVariants as keeping
 use Rattle.keeper.specs.Calls.{WhenRefused}
 use Rattle.keeper.specs.Office.{Office}
 use Rattle.day_rounds.specs.declared.fault.DayFault.{DayFault}
@@ -22,11 +24,16 @@ use Rattle.import_once.specs.declared.outcomes.Outcome.TheVariants as outcome
 use Rattle.import_once.specs.Imports.{DayAnswer, Merges}
 
 -- the outcome of a day whose work was stopped
-abbrev pub stopping : DayFault → Outcome
-stopping ReadFault = outcome.ReadFault
-stopping WriteFault = outcome.WriteFault
-stopping KeeperFault = outcome.KeeperFault
-stopping NoMemory = outcome.NoMemory
+abbrev pub stopped_outcome : DayFault → Outcome
+stopped_outcome ReadFault = outcome.ReadFault
+stopped_outcome WriteFault = outcome.WriteFault
+stopped_outcome KeeperFault = outcome.KeeperFault
+stopped_outcome NoMemory = outcome.NoMemory
+
+-- the outcome of a day whose keeper refused
+abbrev pub refused_outcome : KeepFault → Outcome
+refused_outcome keeping.Failed = outcome.KeeperFault
+refused_outcome keeping.NoMemory = outcome.NoMemory
 
 -- what holds where a day was worked to its end or to its first refused line
 abbrev pub WhereWorked : Outcome → Type 0 → Type 0
@@ -36,20 +43,24 @@ WhereWorked (outcome.Refused line cause) P = P
 WhereWorked _ P = Unit {0}
 
 -- what was done over any crew: the work of the day is that by the findings that the crew answered, where it was worked
-pub record DoesByCrew (w : WhenRefused) (answer : List (ℕ × RoadFinding) → DayAnswer) (was : Office) (answered now_answered : Option (List Finding)) (old new : Option (List ℕ)) (now : Option Office) (outcome : Outcome) : Type 0 where
+pub record DoesByCrew (w : WhenRefused) (answer : List (ℕ × RoadFinding) → DayAnswer) (was : Office)
+    (answered now_answered : Option (List Finding)) (old new : Option (List ℕ)) (now : Option Office)
+    (outcome : Outcome) : Type 0 where
   pub found : List (ℕ × RoadFinding)
   pub answers_are : WhereWorked outcome (HasAnswered answered found now_answered)
   pub merges : Merges w (answer found) was old new now outcome
 
 -- the jobs of a day: the crew tells the first of each worker's, and where the day was worked all
-pub record HasStarted (width backlog : ℕ) (day : List Tuple) (told now_told : Option Told) (outcome : Outcome) : Type 0 where
+pub record HasStarted (width backlog : ℕ) (day : List Tuple) (told now_told : Option Told) (outcome : Outcome) : Type
+    0 where
   pub since : List Job
   pub started : HaveFirstStarted width backlog day since
   pub listed : WhereTold (ListsFirst since) told now_told
   pub all : WhereWorked outcome (HaveAllStarted width backlog day since × WhereTold (ListsAll since) told now_told)
 
 -- since an earlier time steps of a day by the rules are published, up to some mark, and to its end where it was worked
-pub record HasStepped (tariffs : Tariffs) (day : List Tuple) (backlog : ℕ) (old now : Option Posted) (outcome : Outcome) : Type 0 where
+pub record HasStepped (tariffs : Tariffs) (day : List Tuple) (backlog : ℕ) (old now : Option Posted)
+    (outcome : Outcome) : Type 0 where
   pub steps : List Operation
   pub mark : ℕ
   pub within : mark ≤ length day
@@ -59,7 +70,8 @@ pub record HasStepped (tariffs : Tariffs) (day : List Tuple) (backlog : ℕ) (ol
 
 -- what was queued is published, and then that the day begins, and its steps by the rules up to some mark; where it was
 -- worked, up to its end
-pub record HasPublished (tariffs : Tariffs) (day : List Tuple) (number backlog : ℕ) (was : Posted) (now : Option Posted) (outcome : Outcome) : Type 0 where
+pub record HasPublished (tariffs : Tariffs) (day : List Tuple) (number backlog : ℕ) (was : Posted) (now : Option Posted)
+    (outcome : Outcome) : Type 0 where
   pub steps : List Operation
   pub mark : ℕ
   pub within : mark ≤ length day

@@ -21,7 +21,18 @@ use Rattle.import_once.specs.Imports.{again}
 -- the record of a day that was worked
 abbrev pub run_record : ℕ → ℕ → Digest → WorkedDay → Tariffs → DayRecord
 run_record number bytes digest run tariffs =
-    record { day = number; digest = digest; bytes = bytes; tuples = run.tuples; notices = run.closed.notices; notices_digest = run.closed.notices_digest; tariffs = seal_of tariffs; total = run.closed.total }
+    record {
+      day = number;
+      digest = digest;
+      bytes = bytes;
+      tuples = run.tuples;
+      notices =
+          run.closed.notices;
+      notices_digest = run.closed.notices_digest;
+      tariffs = seal_of tariffs;
+      total =
+          run.closed.total;
+    }
 
 -- a day that was worked may be put
 pub record CanPut (number : ℕ) (run : WorkedDay) : Type 0 where

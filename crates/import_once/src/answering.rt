@@ -1,20 +1,20 @@
 // Answering a day: its output is written, and nothing is kept.
-ghost use Rattle.std.specs.Prelude.{◌≡◌, ◌≤◌, List, ℕ, Option, Some, [], true};
+ghost use Rattle.std.specs.Prelude.{◌≡◌, ◌≤◌, List, ℕ, Some, [], true};
 ghost use Rattle.road_time.specs.Reads.{reads};
 ghost use Rattle.keeper.specs.Office.{Office};
 ghost use Rattle.road_time.specs.Fits.{IsLimits};
 ghost use Rattle.day_reading.specs.Days.{ReadsWithin, most_read};
-ghost use Rattle.import_once.specs.Faults.{FaultsByPlan, FaultsByRoom};
+ghost use Rattle.road_io.specs.Blame.{FaultsByPlan, FaultsByRoom};
 ghost use Rattle.import_once.specs.Imports.{answers_answer, answers_found, Does, LeavesRead, IsOfAnswers};
 ghost use Rattle.import_once.specs.Runs.{DoesByCrew, HasStarted};
 ghost use Rattle.import_once.specs.declared.outcomes.Outcome.TheVariants.{ReadFault, WriteFault, KeeperFault};
 
 use crate::keeping::finish_answers;
-use crate::outcomes::{Outcome, stopped};
+use crate::outcomes::{Outcome, refused, stopped};
 use accounts::NoPublisher;
 use day_rounds::run_day;
 use import_plan::Plan;
-use keeper::{KeepFault, Keeper};
+use keeper::Keeper;
 use partition_workers::Crew;
 use road_io::{Sink, Source};
 use road_time::{Limits, Tariffs};
@@ -136,7 +136,6 @@ pub fn answers<S: Source, O: Sink, K: Keeper, C: Crew, R: Threads>(
         Ok(tariffs) => answer_under(
             rt, alloc, day, plan, late, limits, &tariffs, source, sink, keeper, crew,
         ),
-        Err(KeepFault::Failed) => Outcome::KeeperFault,
-        Err(KeepFault::NoMemory) => Outcome::NoMemory,
+        Err(fault) => refused(fault),
     }
 }

@@ -8,7 +8,7 @@ ghost use Rattle.keeper.specs.Calls.{IfTold};
 ghost use Rattle.settling.specs.Boards.{IsAbreast};
 ghost use Rattle.road_time.specs.Fits.{IsLimits};
 ghost use Rattle.day_reading.specs.Days.{ReadsWithin, most_read};
-ghost use Rattle.import_once.specs.Faults.{FaultsByPlan, FaultsByRoom};
+ghost use Rattle.road_io.specs.Blame.{FaultsByPlan, FaultsByRoom};
 ghost use Rattle.import_once.specs.Imports.{new_import, new_import_found};
 ghost use Rattle.import_once.specs.Imports.{Does, LeavesRead, PutsOnce};
 ghost use Rattle.import_once.specs.Imports.{KeepsAll, IsOfNewDay};

@@ -5,7 +5,7 @@ ghost use Rattle.keeper.specs.declared.kept.DayRecord.{DayRecord};
 ghost use Rattle.keeper.specs.Office.{Office, record_of, last_day};
 ghost use Rattle.road_time.specs.Fits.{IsLimits};
 ghost use Rattle.day_reading.specs.Days.{ReadsWithin, most_read};
-ghost use Rattle.import_once.specs.Faults.{FaultsByPlan, FaultsByRoom};
+ghost use Rattle.road_io.specs.Blame.{FaultsByPlan, FaultsByRoom};
 ghost use Rattle.import_once.specs.Imports.{import_answer, import_found};
 ghost use Rattle.import_once.specs.Imports.{most_imported, Does, LeavesRest, LeavesAlone, LeavesRead, PutsOnce};
 ghost use Rattle.import_once.specs.Imports.{KeepsAll, IsUncompared};
@@ -15,10 +15,10 @@ ghost use Rattle.import_once.specs.declared.outcomes.Outcome.TheVariants.{Stored
 
 use crate::kept_day::compare;
 use crate::new_day::import_new;
-use crate::outcomes::Outcome;
+use crate::outcomes::{Outcome, refused};
 use accounts::Publisher;
 use import_plan::Plan;
-use keeper::{KeepFault, Keeper};
+use keeper::Keeper;
 use partition_workers::Crew;
 use road_io::{Sink, Source};
 use road_time::Limits;
@@ -93,7 +93,6 @@ pub fn import<S: Source, O: Sink, K: Keeper, C: Crew, P: Publisher, R: Threads>(
         Ok(None) => import_new(
             rt, alloc, day, plan, late, limits, source, sink, keeper, crew, publisher,
         ),
-        Err(KeepFault::Failed) => Outcome::KeeperFault,
-        Err(KeepFault::NoMemory) => Outcome::NoMemory,
+        Err(fault) => refused(fault),
     }
 }

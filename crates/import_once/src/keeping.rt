@@ -6,15 +6,15 @@ ghost use Rattle.keeper.specs.Calls.{IfTold};
 ghost use Rattle.keeper.specs.declared.kept.DayRecord.{DayRecord as DayRecordValue};
 ghost use Rattle.keeper.specs.declared.digest.Digest.{Digest as DigestValue};
 ghost use Rattle.day_reading.specs.declared.whole_day.DayEnd.TheVariants.{Whole};
-ghost use Rattle.import_once.specs.Faults.{FaultsByPlan};
+ghost use Rattle.road_io.specs.Blame.{FaultsByPlan};
 ghost use Rattle.import_once.specs.Imports.{IsOfNewDay, IsOfAnswers, PutsOnce, KeepsAll};
 ghost use Rattle.import_once.specs.Stages.{run_record, CanPut, Stores, Finishes, Tells, IsWhole, IsOfEnd};
 ghost use Rattle.import_once.specs.declared.outcomes.Outcome.TheVariants.{Stored, ReadFault, WriteFault, KeeperFault};
 
-use crate::outcomes::Outcome;
+use crate::outcomes::{Outcome, refused};
 use day_reading::DayEnd;
 use day_rounds::WorkedDay;
-use keeper::{DayRecord, Digest, KeepFault, Keeper, seal};
+use keeper::{DayRecord, Digest, Keeper, seal};
 use road_time::{NoMemory, SpentRow, Tariffs};
 use std::alloc::Global;
 
@@ -59,8 +59,7 @@ fn store<K: Keeper>(kept: &DayRecord, rows: &[SpentRow], keeper: &mut K) -> Outc
 {
     match keeper.put_day(kept, rows) {
         Ok(()) => Outcome::Stored(*kept),
-        Err(KeepFault::Failed) => Outcome::KeeperFault,
-        Err(KeepFault::NoMemory) => Outcome::NoMemory,
+        Err(fault) => refused(fault),
     }
 }
 

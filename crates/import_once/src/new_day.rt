@@ -7,7 +7,7 @@ ghost use Rattle.keeper.specs.Kept.{IsLater};
 ghost use Rattle.keeper.specs.Calls.{IfTold};
 ghost use Rattle.road_time.specs.Fits.{IsLimits};
 ghost use Rattle.day_reading.specs.Days.{ReadsWithin, most_read};
-ghost use Rattle.import_once.specs.Faults.{FaultsByPlan, FaultsByRoom};
+ghost use Rattle.road_io.specs.Blame.{FaultsByPlan, FaultsByRoom};
 ghost use Rattle.import_once.specs.Imports.{new_import, new_import_found, unless_passed};
 ghost use Rattle.import_once.specs.Imports.{Does, LeavesAlone, LeavesRead, PutsOnce};
 ghost use Rattle.import_once.specs.Imports.{KeepsAll, IsOfNewDay};
@@ -16,10 +16,10 @@ ghost use Rattle.accounts.specs.Operations.{Posted};
 ghost use Rattle.import_once.specs.declared.outcomes.Outcome.TheVariants.{Stored, ReadFault, WriteFault, KeeperFault};
 
 use crate::beginning::import_begun;
-use crate::outcomes::Outcome;
+use crate::outcomes::{Outcome, refused};
 use accounts::Publisher;
 use import_plan::Plan;
-use keeper::{KeepFault, Keeper};
+use keeper::Keeper;
 use partition_workers::Crew;
 use road_io::{Sink, Source};
 use road_time::Limits;
@@ -85,8 +85,7 @@ fn import_later<S: Source, O: Sink, K: Keeper, C: Crew, P: Publisher, R: Threads
         Ok(tariffs) => import_begun(
             rt, alloc, number, plan, late, limits, &tariffs, source, sink, keeper, crew, publisher,
         ),
-        Err(KeepFault::Failed) => Outcome::KeeperFault,
-        Err(KeepFault::NoMemory) => Outcome::NoMemory,
+        Err(fault) => refused(fault),
     }
 }
 
@@ -157,7 +156,6 @@ pub(crate) fn import_new<S: Source, O: Sink, K: Keeper, C: Crew, P: Publisher, R
                 )
             }
         }
-        Err(KeepFault::Failed) => Outcome::KeeperFault,
-        Err(KeepFault::NoMemory) => Outcome::NoMemory,
+        Err(fault) => refused(fault),
     }
 }

@@ -1,12 +1,12 @@
 // How a day's import ends.
 ghost use Rattle.std.specs.Prelude.{◌≡◌, ◌≢◌};
-ghost use Rattle.import_once.specs.Runs.{stopping};
+ghost use Rattle.import_once.specs.Runs.{stopped_outcome, refused_outcome};
 ghost use Rattle.keeper.specs.declared.kept.DayRecord.{DayRecord as DayRecordValue};
 ghost use Rattle.import_once.specs.Imports.{IsOfNewDay, IsOfAnswers};
 ghost use Rattle.import_once.specs.declared.outcomes.Outcome.TheVariants.{Stored};
 
 use day_rounds::DayFault;
-use keeper::{DayRecord, Digest};
+use keeper::{DayRecord, Digest, KeepFault};
 use tuple_format::Cause;
 
 /// How the import of a day, or its answering, ends.
@@ -36,7 +36,7 @@ pub enum Outcome {
 
 /// The outcome of a day whose work was stopped.
 pub fn stopped(fault: DayFault) -> Outcome
-    ensures is { result ≡ stopping fault }
+    ensures is { result ≡ stopped_outcome fault }
     ensures new_day { IsOfNewDay result }
     ensures answers { IsOfAnswers result }
     ensures unstored { (kept : DayRecordValue) → result ≢ Stored kept }
@@ -46,5 +46,15 @@ pub fn stopped(fault: DayFault) -> Outcome
         DayFault::WriteFault => Outcome::WriteFault,
         DayFault::KeeperFault => Outcome::KeeperFault,
         DayFault::NoMemory => Outcome::NoMemory,
+    }
+}
+
+/// The outcome of a day whose keeper refused.
+pub fn refused(fault: KeepFault) -> Outcome
+    ensures { result ≡ refused_outcome fault }
+{
+    match fault {
+        KeepFault::Failed => Outcome::KeeperFault,
+        KeepFault::NoMemory => Outcome::NoMemory,
     }
 }

@@ -1,5 +1,6 @@
 -- How much of an aside was read.
-use Rattle.std.proofs.Common.{◌≡◌, ℕ, ◌+◌, ◌*◌, ◌≤◌, true, false, List, [], ◌++◌, length, drop, Option, Some, Ok, Err, sym, ap, ◌∙◌, append_assoc, arith}
+use Rattle.std.proofs.Common.{◌≡◌, ℕ, ◌+◌, ◌*◌, ◌≤◌, true, false, List, [], ◌++◌, length, drop, Option, Some, Ok, Err}
+use Rattle.std.proofs.Common.{sym, ap, ◌∙◌, append_assoc, arith}
 use Rattle.std.specs.Io.KnownBytes.{Consumes}
 use Rattle.std.proofs.lemmas.List.{length-append}
 use Rattle.road_io.specs.Cutter.{Cuts, ahead}
@@ -10,7 +11,8 @@ use Rattle.day_reading.proofs.BoundLaws.{nothing_there, nothing_taken, front_wit
 use Rattle.office_commands.specs.Entries.{HasReadLines}
 
 -- a line more was taken
-pub line_read : (before after : Option (List ℕ)) (line rest bytes : List ℕ) (lines : ℕ) → HasReadLines before lines bytes → Cuts (Ok true) before after line → Consumes before after rest
+pub line_read : (before after : Option (List ℕ)) (line rest bytes : List ℕ) (lines : ℕ) →
+    HasReadLines before lines bytes → Cuts (Ok true) before after line → Consumes before after rest
     → length rest ≤ 201 → HasReadLines after (lines + 1) bytes
 line_read before after line rest bytes lines s cuts takes few =
     let cut = cuts_ok before after line s.now cuts s.ahead_is in
@@ -24,7 +26,8 @@ line_read before after line rest bytes lines s cuts takes few =
     }
 
 -- the end was reached
-pub end_read : (before after : Option (List ℕ)) (line bytes : List ℕ) (lines : ℕ) → HasReadLines before lines bytes → Cuts (Ok false) before after line → HasReadLines after (lines + 1) bytes
+pub end_read : (before after : Option (List ℕ)) (line bytes : List ℕ) (lines : ℕ) → HasReadLines before lines bytes →
+    Cuts (Ok false) before after line → HasReadLines after (lines + 1) bytes
 end_read before after line bytes lines s cuts =
     let none = nothing_there before after line s.now cuts s.ahead_is in
     record {
@@ -36,7 +39,8 @@ end_read before after line bytes lines s cuts =
     }
 
 -- a fault took nothing
-pub fault_read : (f : LineFault) (before after : Option (List ℕ)) (line bytes : List ℕ) (lines : ℕ) → HasReadLines before lines bytes → Cuts (Err f) before after line → HasReadLines after (lines + 1) bytes
+pub fault_read : (f : LineFault) (before after : Option (List ℕ)) (line bytes : List ℕ) (lines : ℕ) →
+    HasReadLines before lines bytes → Cuts (Err f) before after line → HasReadLines after (lines + 1) bytes
 fault_read f before after line bytes lines s cuts = record {
   taken = s.taken;
   now = s.now;
@@ -46,5 +50,8 @@ fault_read f before after line bytes lines s cuts = record {
 }
 
 -- lines and one buffer are within the bound of as many notices
-pub lines_within : (c : LineCutter) (left : Option (List ℕ)) (bytes : List ℕ) (lines most : ℕ) → HasReadLines (ahead c left) lines bytes → 201 * lines + 65536 ≤ most → (count : ℕ) × (count ≤ most) × (left ≡ Some (drop count bytes))
-lines_within c left bytes lines most s enough = front_within c left s.taken s.now bytes most s.ahead_is s.bytes_are (omega (arith, s.few, enough))
+pub lines_within : (c : LineCutter) (left : Option (List ℕ)) (bytes : List ℕ) (lines most : ℕ) →
+    HasReadLines (ahead c left) lines bytes → 201 * lines + 65536 ≤ most → (count : ℕ) × (count ≤ most)
+    × (left ≡ Some (drop count bytes))
+lines_within c left bytes lines most s enough =
+    front_within c left s.taken s.now bytes most s.ahead_is s.bytes_are (omega (arith, s.few, enough))

@@ -12,9 +12,11 @@ use Rattle.office_words.specs.declared.command.Recomputing.TheVariants.{Plainly,
 use Rattle.office_commands.specs.Days.{most_lines, recomputed, refusal_of, refused_at}
 
 -- the line at which a reading ended is the refused one
-pub refused_same : (end : DayEnd) (bytes : List ℕ) (refused : Option (ℕ × Fault)) → EndsReading end bytes refused → refused_at end ≡ refusal_of refused
+pub refused_same : (end : DayEnd) (bytes : List ℕ) (refused : Option (ℕ × Fault)) → EndsReading end bytes refused →
+    refused_at end ≡ refusal_of refused
 refused_same (Whole n digest) bytes refused h = sym (ap refusal_of h.0)
-refused_same (Refused line cause) bytes refused h = ap (λ (k : Cause). Some (line, k)) (sym h.2) ∙ sym (ap refusal_of h.1)
+refused_same (Refused line cause) bytes refused h = ap (λ (k : Cause). Some (line, k)) (sym h.2)
+    ∙ sym (ap refusal_of h.1)
 
 -- lesser limits are within the greatest
 pub recomputed_within : (how : Recomputing) (limits : Limits) → IsLimits limits → IsLimits (recomputed how limits)

@@ -1,4 +1,7 @@
+pub mod ClosingLaws
 pub mod EndingLaws
+pub mod KeepingLaws
+pub mod WordLaws
 pub mod OutcomeLaws
 pub mod ReportLaws
 pub mod TariffLaws
@@ -11,4 +14,6 @@ pub mod TrafficLaws
 pub mod PutLaws
 pub mod ConcludeLaws
 pub mod RestLaws
+pub mod StatusLaws
 pub mod ShownLaws
+pub mod PerformLaws

@@ -1,34 +1,43 @@
 -- What a command wrote and kept, from what importing or answering its day did.
-use Rattle.std.proofs.Common.{◌≡◌, ◌≢◌, ◌≤◌, ◌⊎◌, ◌∙◌, inl, inr, ℕ, List, take, length-take, Option, Some, Result, Ok, Err, IsOk, OnErr, refl, sym, ap, subst, arith}
+use Rattle.std.proofs.Common.{◌≡◌, ◌≢◌, ◌⊎◌, ◌∙◌, inl, inr, ℕ, List, take, length-take, Option, Some, Result, Ok, Err}
+use Rattle.std.proofs.Common.{OnErr, refl, sym, ap, subst, arith, IsErr}
 use Rattle.std.specs.Io.KnownBytes.{Appends}
-use Rattle.road_io.specs.Faults.{Rose, HasCause}
 use Rattle.road_io.specs.declared.source.Failed.{Failed}
 use Rattle.keeper.specs.declared.kept.KeepFault.{KeepFault}
-use Rattle.keeper.specs.declared.kept.KeepFault.TheVariants as keeping
 use Rattle.keeper.specs.Calls.{WhenRefused}
 use Rattle.keeper.specs.Office.{Office}
-use Rattle.import_once.specs.Imports as day
 use Rattle.import_once.specs.Imports.{Does, KeepsAll}
 use Rattle.import_once.specs.declared.outcomes.Outcome.{Outcome}
-use Rattle.import_once.specs.declared.outcomes.Outcome.TheVariants.{Stored, Already, Answered, Refused, DayPassed, Differs, ReadFault, WriteFault, KeeperFault, NoMemory}
+use Rattle.import_once.specs.declared.outcomes.Outcome.TheVariants.{Stored, Already, Answered, Refused, DayPassed}
+use Rattle.import_once.specs.declared.outcomes.Outcome.TheVariants.{Differs, ReadFault, WriteFault, KeeperFault}
+use Rattle.import_once.specs.declared.outcomes.Outcome.TheVariants.{NoMemory}
 use Rattle.office_commands.specs.declared.closing.Closing.{Closing}
 use Rattle.office_commands.specs.Commands.{closing_by, row_by}
 use Rattle.office_commands.specs.Closings.{status_of}
 use Rattle.office_commands.specs.Endings.{Wrote, Keeps, Ends, Halted, Did, Holds, code_of}
-use Rattle.office_commands.proofs.EndingLaws.{whole_front}
+use Rattle.office_commands.proofs.ClosingLaws.{whole_front}
+use Rattle.road_io.specs.Blame.{FaultsByRoom}
+use Rattle.road_io.specs.Rooms.{Room}
+use Rattle.keeper.specs.declared.kept.KeepFault.TheVariants as keeping
+use Rattle.import_once.specs.Imports as day
 
-module _ (w : WhenRefused) (number : ℕ) (a : day.DayAnswer) (was : Office) (old new : Option (List ℕ)) (now : Option Office) where
+module _ (w : WhenRefused) (number : ℕ) (a : day.DayAnswer) (was : Office) (old new : Option (List ℕ))
+    (now : Option Office) where
+  -- what the call did
   abbrev DoesIt : Outcome → Type 0
   DoesIt done = Does w a was old new now done
 
+  -- what the command wrote
   abbrev WroteIt : Result (Option Closing) Failed → Type 0
   WroteIt r = Wrote (row_by number a) r old new
 
+  -- and what it keeps
   abbrev KeepsIt : Result (Option Closing) Failed → Type 0
   KeepsIt r = Keeps w (row_by number a) was now r
 
   -- the text of a call that stored, answered, or said why not, and of one that was stopped
-  pub wrote : (done : Outcome) (r : Result (Option Closing) Failed) → Ends (closing_by number done) r → DoesIt done → WroteIt r
+  pub wrote : (done : Outcome) (r : Result (Option Closing) Failed) → Ends (closing_by number done) r → DoesIt done →
+      WroteIt r
   wrote ReadFault (Ok c) e h = subst (λ x. WroteIt (Ok x)) (sym e) (take h.0.0 a.text, (h.0.0, refl), h.0.1)
   wrote KeeperFault (Ok c) e (inl h) = subst (λ x. WroteIt (Ok x)) (sym e) (take h.0.0 a.text, (h.0.0, refl), h.0.1)
   wrote KeeperFault (Ok c) e (inr h) = subst (λ x. WroteIt (Ok x)) (sym e) (a.text, whole_front a.text a.text refl, h.0)
@@ -37,10 +46,12 @@ module _ (w : WhenRefused) (number : ℕ) (a : day.DayAnswer) (was : Office) (ol
   wrote WriteFault (Ok c) e h = absurd e
   wrote WriteFault (Err x) e h = (take h.0.0 a.text, (h.0.0, refl), h.0.2)
   wrote _ (Err x) e h = absurd e
-  wrote _ (Ok c) e h = subst (λ x. WroteIt (Ok x)) (sym e) (a.text, (ap (closing_by number) h.outcome_is, refl), h.wrote)
+  wrote _ (Ok c) e h =
+      subst (λ x. WroteIt (Ok x)) (sym e) (a.text, (ap (closing_by number) h.outcome_is, refl), h.wrote)
 
   -- and what is kept after it
-  pub keeps : (done : Outcome) (r : Result (Option Closing) Failed) → Ends (closing_by number done) r → DoesIt done → KeepsIt r
+  pub keeps : (done : Outcome) (r : Result (Option Closing) Failed) → Ends (closing_by number done) r → DoesIt done →
+      KeepsIt r
   keeps (Stored kept) (Ok c) e h = subst (λ x. KeepsIt (Ok x)) (sym e) h.kept
   keeps (Already kept) (Ok c) e h = subst (λ x. KeepsIt (Ok x)) (sym e) h.kept
   keeps (Answered kept) (Ok c) e h = subst (λ x. KeepsIt (Ok x)) (sym e) h.kept
@@ -57,24 +68,45 @@ module _ (w : WhenRefused) (number : ℕ) (a : day.DayAnswer) (was : Office) (ol
   keeps _ (Err x) e h = absurd e
 
 -- what stands behind a call that was stopped
-module _ (w : WhenRefused) (number : ℕ) (a : day.DayAnswer) (was : Office) (old new : Option (List ℕ)) (now : Option Office) where
-  stopped_did : (fault : KeepFault) → day.Halts w fault a was old new now → (text : List ℕ) × Halted w fault (row_by number a) was text now × Appends old new text
+module _ (w : WhenRefused) (number : ℕ) (a : day.DayAnswer) (was : Office) (old new : Option (List ℕ))
+    (now : Option Office) where
+  -- it is what a fault leaves behind some first bytes
+  stopped_did : (fault : KeepFault) → day.Halts w fault a was old new now → (text : List ℕ)
+      × Halted w fault (row_by number a) was text now × Appends old new text
   stopped_did fault (inl h) = (take h.0.0 a.text, inl ((h.0.0, refl), h.1), h.0.1)
   stopped_did fault (inr h) = (a.text, inr (refl, h.1), h.0)
 
   -- what a command wrote and what is kept then
-  pub did : (done : Outcome) (r : Result (Option Closing) Failed) → Ends (closing_by number done) r → Does w a was old new now done → Did w (row_by number a) was old new now r
-  did (Stored kept) (Ok c) e h = subst (λ x. Did w (row_by number a) was old new now (Ok x)) (sym e) (a.text, (ap (closing_by number) h.outcome_is, refl, h.kept), h.wrote)
-  did (Already kept) (Ok c) e h = subst (λ x. Did w (row_by number a) was old new now (Ok x)) (sym e) (a.text, (ap (closing_by number) h.outcome_is, refl, h.kept), h.wrote)
-  did (Answered kept) (Ok c) e h = subst (λ x. Did w (row_by number a) was old new now (Ok x)) (sym e) (a.text, (ap (closing_by number) h.outcome_is, refl, h.kept), h.wrote)
-  did (Refused line cause) (Ok c) e h = subst (λ x. Did w (row_by number a) was old new now (Ok x)) (sym e) (a.text, (ap (closing_by number) h.outcome_is, refl, h.kept), h.wrote)
-  did (DayPassed last) (Ok c) e h = subst (λ x. Did w (row_by number a) was old new now (Ok x)) (sym e) (a.text, (ap (closing_by number) h.outcome_is, refl, h.kept), h.wrote)
-  did (Differs kept found) (Ok c) e h = subst (λ x. Did w (row_by number a) was old new now (Ok x)) (sym e) (a.text, (ap (closing_by number) h.outcome_is, refl, h.kept), h.wrote)
-  did ReadFault (Ok c) e h = subst (λ x. Did w (row_by number a) was old new now (Ok x)) (sym e) (take h.0.0 a.text, ((h.0.0, refl), h.1), h.0.1)
-  did KeeperFault (Ok c) e h = subst (λ x. Did w (row_by number a) was old new now (Ok x)) (sym e) (stopped_did keeping.Failed h)
-  did NoMemory (Ok c) e h = subst (λ x. Did w (row_by number a) was old new now (Ok x)) (sym e) (stopped_did keeping.NoMemory h)
+  pub did : (done : Outcome) (r : Result (Option Closing) Failed) → Ends (closing_by number done) r →
+      Does w a was old new now done → Did w (row_by number a) was old new now r
+  did (Stored kept) (Ok c) e h =
+      subst (λ x. Did w (row_by number a) was old new now (Ok x)) (sym e)
+      (a.text, (ap (closing_by number) h.outcome_is, refl, h.kept), h.wrote)
+  did (Already kept) (Ok c) e h =
+      subst (λ x. Did w (row_by number a) was old new now (Ok x)) (sym e)
+      (a.text, (ap (closing_by number) h.outcome_is, refl, h.kept), h.wrote)
+  did (Answered kept) (Ok c) e h =
+      subst (λ x. Did w (row_by number a) was old new now (Ok x)) (sym e)
+      (a.text, (ap (closing_by number) h.outcome_is, refl, h.kept), h.wrote)
+  did (Refused line cause) (Ok c) e h =
+      subst (λ x. Did w (row_by number a) was old new now (Ok x)) (sym e)
+      (a.text, (ap (closing_by number) h.outcome_is, refl, h.kept), h.wrote)
+  did (DayPassed last) (Ok c) e h =
+      subst (λ x. Did w (row_by number a) was old new now (Ok x)) (sym e)
+      (a.text, (ap (closing_by number) h.outcome_is, refl, h.kept), h.wrote)
+  did (Differs kept found) (Ok c) e h =
+      subst (λ x. Did w (row_by number a) was old new now (Ok x)) (sym e)
+      (a.text, (ap (closing_by number) h.outcome_is, refl, h.kept), h.wrote)
+  did ReadFault (Ok c) e h =
+      subst (λ x. Did w (row_by number a) was old new now (Ok x)) (sym e)
+      (take h.0.0 a.text, ((h.0.0, refl), h.1), h.0.1)
+  did KeeperFault (Ok c) e h =
+      subst (λ x. Did w (row_by number a) was old new now (Ok x)) (sym e) (stopped_did keeping.Failed h)
+  did NoMemory (Ok c) e h =
+      subst (λ x. Did w (row_by number a) was old new now (Ok x)) (sym e) (stopped_did keeping.NoMemory h)
   did WriteFault (Ok c) e h = absurd e
-  did WriteFault (Err x) e h = (take h.0.0 a.text, (h.0.0, refl), h.0.2, h.1, λ other. omega (arith, h.0.1, length-take h.0.0 a.text))
+  did WriteFault (Err x) e h =
+      (take h.0.0 a.text, (h.0.0, refl), h.0.2, h.1, λ other. omega (arith, h.0.1, length-take h.0.0 a.text))
   did _ (Err x) e h = absurd e
 
 -- the status of a run whose closing line is known
@@ -87,7 +119,8 @@ neither code k e named failed (inl s) = named (sym e ∙ s)
 neither code k e named failed (inr s) = failed (sym e ∙ s)
 
 -- what is kept is as it was, unless a day was stored, the keeper failed or memory ran out
-pub held : (number : ℕ) (P : Type 0) (done : Outcome) (r : Result (Option Closing) Failed) → Ends (closing_by number done) r → KeepsAll done P → Holds (code_of r) P
+pub held : (number : ℕ) (P : Type 0) (done : Outcome) (r : Result (Option Closing) Failed) →
+    Ends (closing_by number done) r → KeepsAll done P → Holds (code_of r) P
 held number P (Stored kept) (Ok c) e h = λ well failed room. absurd (well (code_is c _ e))
 held number P KeeperFault (Ok c) e h = λ well failed room. absurd (failed (code_is c _ e))
 held number P NoMemory (Ok c) e h = λ well failed room. absurd (room (code_is c _ e))
@@ -97,11 +130,16 @@ held number P _ (Err x) e h = absurd e
 held number P _ (Ok c) e h = λ well failed room. h
 
 -- a command fails only where its sink failed
-pub caused : (P : Type 0) (r : Result (Option Closing) Failed) (before now : ℕ) → OnErr r P → before ≤ now → (P → Rose before now) → HasCause before now r
-caused P (Ok c) before now f later rose = record { later = later; failed = tt }
-caused P (Err e) before now f later rose = record { later = later; failed = rose f }
+failed_there : (P : Type 0) (r : Result (Option Closing) Failed) → OnErr r P → IsErr r → P
+failed_there P (Ok c) f e = absurd (cc e)
+failed_there P (Err x) f e = f
 
--- a command whose sink did not fail ends well
-pub well : (P : Type 0) (r : Result (Option Closing) Failed) → OnErr r P → (P → ⊥) → IsOk r
-well P (Ok c) f not = refl
-well P (Err e) f not = absurd (not f)
+-- so its sink's faults are to blame
+pub by_sink : (P : Type 0) (r : Result (Option Closing) Failed) (before now : ℕ) (room left : Room) → OnErr r P →
+    FaultsByRoom before now room left P → FaultsByRoom before now room left (IsErr r)
+by_sink P r before now room left f s =
+    record {
+      later = s.later;
+      cause = λ e. s.cause (failed_there P r f e);
+      sure = λ endless. (let sure = s.sure endless in ((λ e. sure.0 (failed_there P r f e)), sure.1));
+    }

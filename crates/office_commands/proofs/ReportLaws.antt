@@ -17,28 +17,38 @@ report_office number (Some text) o = refl
 
 module _ (number : ℕ) (o : Office) (old new : Option (List ℕ)) where
   -- a report of a day, which may have none
-  pub reported : (text : Option (List ℕ)) (done : Result (Unit {0}) ReportFault) (r : Result (Option Closing) Failed) → EndsReport number done r → Reported done old new text → Wrote (report_row number text o) r old new
+  pub reported : (text : Option (List ℕ)) (done : Result (Unit {0}) ReportFault) (r : Result (Option Closing) Failed) →
+      EndsReport number done r → Reported done old new text → Wrote (report_row number text o) r old new
   reported None (Ok u) r e h = absurd h
   reported (Some t) (Ok u) (Ok c) e h = subst (λ x. Wrote (told t o) (Ok x) old new) (sym e) (refl, h)
-  reported None (Err reports.NoDay) (Ok c) e h = subst (λ x. Wrote (report_row number None o) (Ok x) old new) (sym e) ([], (refl, refl), h)
+  reported None (Err reports.NoDay) (Ok c) e h =
+      subst (λ x. Wrote (report_row number None o) (Ok x) old new) (sym e) ([], (refl, refl), h)
   reported (Some t) (Err reports.NoDay) r e h = absurd h
-  reported None (Err reports.KeeperFault) (Ok c) e h = subst (λ x. Wrote (report_row number None o) (Ok x) old new) (sym e) ([], (0, refl), h)
-  reported (Some t) (Err reports.KeeperFault) (Ok c) e h = subst (λ x. Wrote (told t o) (Ok x) old new) (sym e) (take h.0 t, (h.0, refl), h.1)
+  reported None (Err reports.KeeperFault) (Ok c) e h =
+      subst (λ x. Wrote (report_row number None o) (Ok x) old new) (sym e) ([], (0, refl), h)
+  reported (Some t) (Err reports.KeeperFault) (Ok c) e h =
+      subst (λ x. Wrote (told t o) (Ok x) old new) (sym e) (take h.0 t, (h.0, refl), h.1)
   reported None (Err reports.WriteFault) (Ok c) e h = absurd e
   reported (Some t) (Err reports.WriteFault) (Ok c) e h = absurd e
   reported None (Err reports.WriteFault) (Err x) e h = ([], (0, refl), h)
   reported (Some t) (Err reports.WriteFault) (Err x) e h = (take h.0 t, (h.0, refl), h.1)
-  reported None (Err reports.NoMemory) (Ok c) e h = subst (λ x. Wrote (report_row number None o) (Ok x) old new) (sym e) ([], (0, refl), h)
-  reported (Some t) (Err reports.NoMemory) (Ok c) e h = subst (λ x. Wrote (told t o) (Ok x) old new) (sym e) (take h.0 t, (h.0, refl), h.1)
+  reported None (Err reports.NoMemory) (Ok c) e h =
+      subst (λ x. Wrote (report_row number None o) (Ok x) old new) (sym e) ([], (0, refl), h)
+  reported (Some t) (Err reports.NoMemory) (Ok c) e h =
+      subst (λ x. Wrote (told t o) (Ok x) old new) (sym e) (take h.0 t, (h.0, refl), h.1)
   reported (Some t) _ (Err x) e h = absurd e
   reported None _ (Err x) e h = absurd e
 
   -- a report that there always is
-  pub stated : (text : List ℕ) (done : Result (Unit {0}) ReportFault) (r : Result (Option Closing) Failed) → EndsReport number done r → done ≢ Err reports.NoDay → report.Wrote done old new text → Wrote (told text o) r old new
+  pub stated : (text : List ℕ) (done : Result (Unit {0}) ReportFault) (r : Result (Option Closing) Failed) →
+      EndsReport number done r → done ≢ Err reports.NoDay → report.WroteText done old new text →
+      Wrote (told text o) r old new
   stated t (Ok u) (Ok c) e own h = subst (λ x. Wrote (told t o) (Ok x) old new) (sym e) (refl, h)
   stated t (Err reports.NoDay) r e own h = absurd (own refl)
-  stated t (Err reports.KeeperFault) (Ok c) e own h = subst (λ x. Wrote (told t o) (Ok x) old new) (sym e) (take h.0 t, (h.0, refl), h.1)
+  stated t (Err reports.KeeperFault) (Ok c) e own h =
+      subst (λ x. Wrote (told t o) (Ok x) old new) (sym e) (take h.0 t, (h.0, refl), h.1)
   stated t (Err reports.WriteFault) (Ok c) e own h = absurd e
   stated t (Err reports.WriteFault) (Err x) e own h = (take h.0 t, (h.0, refl), h.1)
-  stated t (Err reports.NoMemory) (Ok c) e own h = subst (λ x. Wrote (told t o) (Ok x) old new) (sym e) (take h.0 t, (h.0, refl), h.1)
+  stated t (Err reports.NoMemory) (Ok c) e own h =
+      subst (λ x. Wrote (told t o) (Ok x) old new) (sym e) (take h.0 t, (h.0, refl), h.1)
   stated t _ (Err x) e own h = absurd e

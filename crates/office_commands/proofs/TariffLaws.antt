@@ -10,7 +10,8 @@ PutBy w o next after (Ok u) = after ≡ Some (next o)
 PutBy w o next after (Err e) = (p : Office) × (after ≡ Some p) × Leaves w e p o (next o)
 
 -- so it is where the office was told
-pub put_by : (w : WhenRefused) (o : Office) (next : Office → Office) (after : Option Office) (r : Result (Unit {0}) KeepFault) → Puts w (Some o) after r next → PutBy w o next after r
+pub put_by : (w : WhenRefused) (o : Office) (next : Office → Office) (after : Option Office)
+    (r : Result (Unit {0}) KeepFault) → Puts w (Some o) after r next → PutBy w o next after r
 put_by w o next None r h = absurd h
 put_by w o next (Some p) (Ok u) h = ap (λ x. Some x) h
 put_by w o next (Some p) (Err e) h = (p, refl, h)

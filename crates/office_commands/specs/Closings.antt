@@ -23,17 +23,29 @@ entry_text (Read notice) = notice_text notice
 -- the line of a day that is kept from now on, with its counts and what it charges in all
 unfoldable pub stored_line : ℕ → ℕ → ℕ → ℕ → List ℕ
 stored_line day tuples notices total =
-    codes "# stored day " ++ (decimal day ++ (codes " tuples " ++ (decimal tuples ++ (codes " notices " ++ (decimal notices ++ (codes " total " ++ (decimal total ++ codes "\n")))))))
+    codes "# stored day "
+    ++ (decimal day
+    ++ (codes " tuples "
+    ++ (decimal tuples
+    ++ (codes " notices " ++ (decimal notices ++ (codes " total " ++ (decimal total ++ codes "\n")))))))
 
 -- the line of a day that was kept before, of the same bytes
 unfoldable pub already_line : ℕ → ℕ → ℕ → ℕ → List ℕ
 already_line day tuples notices total =
-    codes "# already day " ++ (decimal day ++ (codes " tuples " ++ (decimal tuples ++ (codes " notices " ++ (decimal notices ++ (codes " total " ++ (decimal total ++ codes "\n")))))))
+    codes "# already day "
+    ++ (decimal day
+    ++ (codes " tuples "
+    ++ (decimal tuples
+    ++ (codes " notices " ++ (decimal notices ++ (codes " total " ++ (decimal total ++ codes "\n")))))))
 
 -- the line of a tariff that an expressway has from now on
 unfoldable pub tariff_line : ℕ → ℕ → ℕ → ℕ → List ℕ
 tariff_line xway crowd speed factor =
-    codes "# tariff xway " ++ (decimal xway ++ (codes " crowd " ++ (decimal crowd ++ (codes " speed " ++ (decimal speed ++ (codes " factor " ++ (decimal factor ++ codes "\n")))))))
+    codes "# tariff xway "
+    ++ (decimal xway
+    ++ (codes " crowd "
+    ++ (decimal crowd
+    ++ (codes " speed " ++ (decimal speed ++ (codes " factor " ++ (decimal factor ++ codes "\n")))))))
 
 -- the line of a day that is kept of other bytes, with the texts of the digests
 unfoldable pub differs_line : ℕ → List ℕ → List ℕ → List ℕ
@@ -85,9 +97,14 @@ closing_line (PastKept base) = codes "# past kept base " ++ (decimal base ++ cod
 closing_line (DiffersPast base kept found) = differs_past_line base (encode_lower kept.bytes) (encode_lower found.bytes)
 closing_line ReadFault = codes "# read fault\n"
 closing_line KeeperFault = codes "# keeper fault\n"
-closing_line (DiffersLine line wanted found) = codes "# differs line " ++ (decimal line ++ (codes " wanted " ++ (entry_text wanted ++ (codes " found " ++ (entry_text found ++ codes "\n")))))
+closing_line (DiffersLine line wanted found) =
+    codes "# differs line "
+    ++ (decimal line
+    ++ (codes " wanted " ++ (entry_text wanted ++ (codes " found " ++ (entry_text found ++ codes "\n")))))
 closing_line NoMemory = codes "# no memory\n"
-closing_line (Rehearsed bytes digest tuples notices notices_digest total) = rehearsed_line bytes (encode_lower digest.bytes) tuples (rehearsed_end notices (encode_lower notices_digest.bytes) total)
+closing_line (Rehearsed bytes digest tuples notices notices_digest total) =
+    rehearsed_line bytes (encode_lower digest.bytes) tuples
+    (rehearsed_end notices (encode_lower notices_digest.bytes) total)
 
 -- the status that a closing line goes with
 abbrev pub status_of : Closing → ℕ

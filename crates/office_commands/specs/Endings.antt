@@ -130,7 +130,8 @@ WroteFault a c old new = (text : List ℕ) × IsFront text a.text × Appends old
 abbrev pub WroteSome : Answer → Option (List ℕ) → Option (List ℕ) → Type 0
 WroteSome a old new =
     ((text : List ℕ) × IsFront text a.text × Appends old new text)
-    ⊎ ((c : Closing) × (text : List ℕ) × (k : ℕ) × StandsBefore a c text × (k < length (closing_line c)) × Appends old new (text ++ take k (closing_line c)))
+    ⊎ ((c : Closing) × (text : List ℕ) × (k : ℕ) × StandsBefore a c text × (k < length (closing_line c))
+    × Appends old new (text ++ take k (closing_line c)))
 
 -- what was written, by the status that a run ended with
 pub record Writes (a : Answer) (status : ℕ) (old new : Option (List ℕ)) : Type 0 where

@@ -1,14 +1,6 @@
 -- Who is to blame for a fault, by how a command ended.
-use Rattle.std.specs.Prelude.{ℕ, ◌≡◌, ◌≤◌, ◌⊎◌, Result, IsOk}
-use Rattle.road_io.specs.declared.source.Failed.{Failed}
-use Rattle.road_io.specs.Faults.{Rose, HasCause}
-use Rattle.road_io.specs.Rooms.{Room, Endless}
-
--- a sink's count of faults never falls, it rose where the sink failed, and one with endless room does not fail and
--- keeps it
-pub record SinkFaults {T : Type 0} (before now : ℕ) (room left : Room) (result : Result T Failed) : Type 0 where
-  pub caused : HasCause before now result
-  pub sure : room ≡ Endless → IsOk result × (left ≡ Endless)
+use Rattle.std.specs.Prelude.{ℕ, ◌≤◌, ◌⊎◌}
+use Rattle.road_io.specs.Faults.{Rose}
 
 -- the counts of faults of a source and of an aside never fall, one of them rose where reading failed, and it does not
 -- fail where neither does

@@ -35,7 +35,8 @@ SaysBy None status = status ≢ 2
 SaysBy (Some named) status = status ≡ 2
 
 -- what the status says of the reading of these bytes: it came to their end, or ended at the first refused line
-pub record HasReadTo (refused : Option (ℕ × Fault)) (status : ℕ) (bytes : List ℕ) (left : Option (List ℕ)) : Type 0 where
+pub record HasReadTo (refused : Option (ℕ × Fault)) (status : ℕ) (bytes : List ℕ) (left : Option (List ℕ)) : Type
+    0 where
   pub answered : status ≡ 0 → HasEnded refused left
   pub compared : status ≡ 7 → HasEnded refused left
   pub refused_there : status ≡ 2 → HasStopped refused bytes left
@@ -84,7 +85,8 @@ HasStoppedPast refused bytes left =
     (line : ℕ) × (fault : PastFault) × (refused ≡ Some (line, fault)) × StopsSoon line bytes left
 
 -- what the status says of the reading of a history
-pub record HasReadPast (limits : Limits) (base status : ℕ) (kept : Option PastRecord) (bytes : List ℕ) (left : Option (List ℕ)) : Type 0 where
+pub record HasReadPast (limits : Limits) (base status : ℕ) (kept : Option PastRecord) (bytes : List ℕ)
+    (left : Option (List ℕ)) : Type 0 where
   pub ended : status ≡ 0 → LeavesOfPast kept bytes left
   pub refused_there : status ≡ 2 → HasStoppedPast (past_reads bytes base limits).refused bytes left
 

@@ -91,7 +91,8 @@ abbrev pub KeeperTells : Option Command → Option Office → Office → Type 0
 KeeperTells meant kept o = uses_keeper meant ≡ true → kept ≡ Some o
 
 -- what is used is told, and the crew is right
-pub record IsTold (meant : Option Command) (exact : Bool) (source aside : Option (List ℕ)) (kept : Option Office) (bytes lines : List ℕ) (o : Office) : Type 0 where
+pub record IsTold (meant : Option Command) (exact : Bool) (source aside : Option (List ℕ)) (kept : Option Office)
+    (bytes lines : List ℕ) (o : Office) : Type 0 where
   pub right : IsRight meant exact
   pub source_is : SourceTells meant source bytes
   pub aside_is : AsideTells meant aside lines

@@ -1,5 +1,5 @@
 // The command `answers DAY`: the output of a day.
-ghost use Rattle.std.specs.Prelude.{◌≡◌, ◌≢◌, ℕ, List, [], Some, Ok, true};
+ghost use Rattle.std.specs.Prelude.{◌≡◌, ◌≢◌, ℕ, List, [], Some, Ok, true, IsErr};
 ghost use Rattle.keeper.specs.Office.{Office};
 ghost use Rattle.road_time.specs.Fits.{IsLimits};
 ghost use Rattle.day_reading.specs.Days.{ReadsWithin, most_read};
@@ -8,8 +8,7 @@ ghost use Rattle.office_commands.specs.Commands.{answers_row};
 ghost use Rattle.office_commands.specs.Endings.{Wrote, Keeps, Did, code_of};
 ghost use Rattle.office_commands.specs.Rests.{HasReadDay};
 ghost use Rattle.office_commands.specs.declared.closing.Closing.TheVariants.{ReadFault, KeeperFault, Words};
-ghost use Rattle.office_commands.specs.Faults.{SinkFaults};
-ghost use Rattle.import_once.specs.Faults.{FaultsByPlan};
+ghost use Rattle.road_io.specs.Blame.{FaultsByPlan, FaultsByRoom};
 
 use crate::closing::Closing;
 use crate::outcome::ended;
@@ -53,7 +52,8 @@ pub fn answers<S: Source, O: Sink, K: Keeper, C: Crew, R: Threads>(
     ensures bounded { ReadsWithin (most_read limits.now) (S.left source.old) (S.left source.new) }
     ensures source { FaultsByPlan (S.faults source.old) (S.faults source.new) (S.plan source.old)
         (result ≡ Ok (Some ReadFault)) }
-    ensures sink { SinkFaults (O.faults sink.old) (O.faults sink.new) (O.room sink.old) (O.room sink.new) result }
+    ensures sink { FaultsByRoom (O.faults sink.old) (O.faults sink.new) (O.room sink.old) (O.room sink.new)
+        (IsErr result) }
     ensures keeper { FaultsByPlan (K.faults keeper.old) (K.faults keeper.new) (K.plan keeper.old)
         (result ≡ Ok (Some KeeperFault)) }
 {

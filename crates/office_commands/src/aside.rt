@@ -3,7 +3,6 @@ ghost use Rattle.std.specs.Prelude.{◌≡◌, ◌≢◌, ◌≤◌, ◌<◌, �
 ghost use Rattle.std.specs.Str.{bytes_eq};
 ghost use Rattle.road_time.specs.Lines.{lines_of, without_cr};
 ghost use Rattle.road_time.specs.Text.{notice_text, read_notice as defined_read_notice};
-ghost use Rattle.road_io.specs.Faults.{Rose};
 ghost use Rattle.road_io.specs.Plans.{NeverFails};
 ghost use Rattle.road_io.specs.Cutter.{ahead, line_of, number_of, fault_of};
 ghost use Rattle.day_reading.specs.Days.{ReadsWithin};
@@ -13,7 +12,7 @@ ghost use Rattle.office_commands.specs.Entries.{HasReadLines, most_compared};
 ghost use Rattle.office_commands.specs.declared.closing.Closing.{Closing as ClosingValue};
 ghost use Rattle.office_commands.specs.declared.closing.Closing.TheVariants.{DiffersLine};
 ghost use Rattle.day_reading.specs.declared.whole_day.ReadStop.TheVariants.{ReadFault, NoMemory as NoRoom};
-ghost use Rattle.import_once.specs.Faults.{FaultsByPlan};
+ghost use Rattle.road_io.specs.Blame.{FaultsByPlan};
 
 use crate::closing::Closing;
 use crate::entry_text::EntryText;
@@ -53,10 +52,9 @@ fn next_entry<A: Source>(cutter: &mut LineCutter, aside: &mut A) -> Result<Entry
         (fault_of cutter.new ≡ None) × (length (line_of cutter.new) ≤ 200)) }
     ensures read { (lines : ℕ) (bytes : List ℕ) → HasReadLines (ahead cutter.old (A.left aside.old)) lines bytes
         → HasReadLines (ahead cutter.new (A.left aside.new)) (lines + 1) bytes }
-    ensures cause { result ≡ Err ReadFault → Rose (A.faults aside.old) (A.faults aside.new) }
     ensures memory { result ≢ Err NoRoom }
-    ensures sure { NeverFails (A.plan aside.old) → (result ≢ Err ReadFault) × NeverFails (A.plan aside.new) }
-    ensures later { A.faults aside.old ≤ A.faults aside.new }
+    ensures aside { FaultsByPlan (A.faults aside.old) (A.faults aside.new) (A.plan aside.old) (result ≡ Err ReadFault) }
+    ensures still { NeverFails (A.plan aside.old) → NeverFails (A.plan aside.new) }
 {
     match cutter.advance(aside) {
         Ok(true) => {
@@ -122,9 +120,8 @@ fn compare_one<A: Source>(
     ensures next { result ≡ Ok None → (number_of cutter.new ≡ number_of cutter.old + 1) × (fault_of cutter.new ≡ None) }
     ensures read { (lines : ℕ) (bytes : List ℕ) → HasReadLines (ahead cutter.old (A.left aside.old)) lines bytes
         → HasReadLines (ahead cutter.new (A.left aside.new)) (lines + 1) bytes }
-    ensures cause { result ≡ Err ReadFault → Rose (A.faults aside.old) (A.faults aside.new) }
-    ensures sure { NeverFails (A.plan aside.old) → (result ≢ Err ReadFault) × NeverFails (A.plan aside.new) }
-    ensures later { A.faults aside.old ≤ A.faults aside.new }
+    ensures aside { FaultsByPlan (A.faults aside.old) (A.faults aside.new) (A.plan aside.old) (result ≡ Err ReadFault) }
+    ensures still { NeverFails (A.plan aside.old) → NeverFails (A.plan aside.new) }
 {
     match next_entry(cutter, aside) {
         Ok(Entry::Line) => match is_text_of(notice, cutter.line(), room) {

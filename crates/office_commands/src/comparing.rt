@@ -21,7 +21,7 @@ ghost use Rattle.office_commands.specs.Rests.{HasReadDay, SaysBy};
 ghost use Rattle.office_commands.specs.declared.closing.Closing.TheVariants.{ReadFault, KeeperFault, Words};
 ghost use Rattle.office_commands.specs.Uses.{most_noticed};
 ghost use Rattle.office_commands.specs.Faults.{ReadFaults};
-ghost use Rattle.import_once.specs.Faults.{FaultsByPlan};
+ghost use Rattle.road_io.specs.Blame.{FaultsByPlan};
 
 use crate::aside::compare;
 use crate::closing::Closing;

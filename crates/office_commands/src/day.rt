@@ -7,7 +7,7 @@ ghost use Rattle.day_reading.specs.declared.whole_day.ReadStop.TheVariants.{Read
 ghost use Rattle.office_commands.specs.Days.{most_lines, recomputed, refusal_of, refused_at};
 ghost use Rattle.office_commands.specs.Endings.{stopping};
 ghost use Rattle.office_commands.specs.Rests.{EndsAt};
-ghost use Rattle.import_once.specs.Faults.{FaultsByPlan};
+ghost use Rattle.road_io.specs.Blame.{FaultsByPlan};
 
 use crate::closing::Closing;
 use day_reading::{DayEnd, ReadStop};

@@ -1,5 +1,5 @@
 // The top call: words in, a command's text and its closing line out, and a status.
-ghost use Rattle.std.specs.Prelude.{◌≡◌, ◌≢◌, ◌⊎◌, ◌↔◌, ℕ, List, [], Some, None, Ok, IsOk, false, true};
+ghost use Rattle.std.specs.Prelude.{◌≡◌, ◌≢◌, ◌⊎◌, ◌↔◌, ℕ, List, [], Some, None, Ok, IsOk, false, true, IsErr};
 ghost use Rattle.road_io.specs.Plans.{NeverFails};
 ghost use Rattle.keeper.specs.Office.{Office};
 ghost use Rattle.keeper.specs.declared.kept.KeepFault.TheVariants as keep_fault;
@@ -14,8 +14,8 @@ ghost use Rattle.office_commands.specs.declared.closing.Closing.TheVariants.{Rea
 ghost use Rattle.office_commands.specs.Uses.{asked, IsTold, IsRight, IsRightAside, SourceTells, KeeperTells, uses_crew};
 ghost use Rattle.office_commands.specs.Uses.{uses_source, uses_aside, uses_keeper, changes_kept, AsksPassed, PutsAsked};
 ghost use Rattle.office_commands.specs.Uses.{most_of, most_aside_of};
-ghost use Rattle.office_commands.specs.Faults.{SinkFaults, ReadFaults};
-ghost use Rattle.import_once.specs.Faults.{FaultsByPlan, FaultsByRoom};
+ghost use Rattle.office_commands.specs.Faults.{ReadFaults};
+ghost use Rattle.road_io.specs.Blame.{FaultsByPlan, FaultsByRoom};
 
 use crate::closing::Closing;
 use crate::performing::perform;
@@ -112,7 +112,8 @@ fn run<S: Source, A: Source, O: Sink, K: Keeper, C: Crew, R: Threads + Sync>(
     ensures read { ReadFaults (S.faults source.old) (S.faults source.new) (A.faults aside.old) (A.faults aside.new)
         (uses_source (asked words.now) ≡ true → NeverFails (S.plan source.old))
         (uses_aside (asked words.now) ≡ true → NeverFails (A.plan aside.old)) (result ≡ Ok (Some ReadFault)) }
-    ensures sink { SinkFaults (O.faults sink.old) (O.faults sink.new) (O.room sink.old) (O.room sink.new) result }
+    ensures sink { FaultsByRoom (O.faults sink.old) (O.faults sink.new) (O.room sink.old) (O.room sink.new)
+        (IsErr result) }
     ensures keeper { FaultsByPlan (K.faults keeper.old) (K.faults keeper.new) (K.plan keeper.old)
         (result ≡ Ok (Some KeeperFault)) }
 {

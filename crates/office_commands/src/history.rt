@@ -9,7 +9,7 @@ ghost use Rattle.office_commands.specs.Endings.{StandsBefore, Holds, sort_of, Ke
 ghost use Rattle.office_commands.specs.Closings.{status_of};
 ghost use Rattle.office_commands.specs.Rests.{HasReadPast, ReadsUncompared};
 ghost use Rattle.office_commands.specs.declared.closing.Closing.TheVariants.{ReadFault, KeeperFault, Words};
-ghost use Rattle.import_once.specs.Faults.{FaultsByPlan};
+ghost use Rattle.road_io.specs.Blame.{FaultsByPlan};
 
 use crate::closing::Closing;
 use keeper::Keeper;

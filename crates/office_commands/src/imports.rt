@@ -1,5 +1,5 @@
 // The command `import DAY`: the output of a day, which is kept from then on.
-ghost use Rattle.std.specs.Prelude.{◌≡◌, ◌≢◌, ℕ, List, [], Some, Ok, true};
+ghost use Rattle.std.specs.Prelude.{◌≡◌, ◌≢◌, ℕ, List, [], Some, Ok, true, IsErr};
 ghost use Rattle.keeper.specs.Office.{Office, record_of};
 ghost use Rattle.road_time.specs.Fits.{IsLimits};
 ghost use Rattle.day_reading.specs.Days.{ReadsWithin, most_read};
@@ -10,8 +10,7 @@ ghost use Rattle.office_commands.specs.Endings.{Wrote, Keeps, Did, Holds, code_o
 ghost use Rattle.office_commands.specs.Rests.{StopsThere, ReadsUncompared, LeavesOfDay};
 ghost use Rattle.office_commands.specs.declared.closing.Closing.TheVariants.{ReadFault, KeeperFault, Words};
 ghost use Rattle.office_commands.specs.Uses.{IsPassed};
-ghost use Rattle.office_commands.specs.Faults.{SinkFaults};
-ghost use Rattle.import_once.specs.Faults.{FaultsByPlan};
+ghost use Rattle.road_io.specs.Blame.{FaultsByPlan, FaultsByRoom};
 
 use crate::closing::Closing;
 use crate::outcome::ended;
@@ -63,7 +62,8 @@ pub fn import<S: Source, O: Sink, K: Keeper, C: Crew, R: Threads>(
         → ReadsWithin (most_imported (record_of o run.day) limits.now) (S.left source.old) (S.left source.new) }
     ensures source { FaultsByPlan (S.faults source.old) (S.faults source.new) (S.plan source.old)
         (result ≡ Ok (Some ReadFault)) }
-    ensures sink { SinkFaults (O.faults sink.old) (O.faults sink.new) (O.room sink.old) (O.room sink.new) result }
+    ensures sink { FaultsByRoom (O.faults sink.old) (O.faults sink.new) (O.room sink.old) (O.room sink.new)
+        (IsErr result) }
     ensures keeper { FaultsByPlan (K.faults keeper.old) (K.faults keeper.new) (K.plan keeper.old)
         (result ≡ Ok (Some KeeperFault)) }
 {

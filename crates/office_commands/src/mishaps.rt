@@ -1,5 +1,5 @@
 // The command `accidents`: the accident log of a day.
-ghost use Rattle.std.specs.Prelude.{◌≡◌, ◌≢◌, ◌≤◌, ℕ, List, Some, Ok};
+ghost use Rattle.std.specs.Prelude.{◌≡◌, ◌≢◌, ◌≤◌, ℕ, List, Some, Ok, IsErr};
 ghost use Rattle.road_time.specs.Fits.{IsDay, IsLimits};
 ghost use Rattle.keeper.specs.Office.{Office};
 ghost use Rattle.day_reading.specs.Days.{ReadsWithin, most_read};
@@ -9,8 +9,7 @@ ghost use Rattle.office_commands.specs.Commands.{accidents_row, accidents_of, un
 ghost use Rattle.office_commands.specs.Endings.{Wrote, code_of};
 ghost use Rattle.office_commands.specs.Rests.{HasReadDay, SaysBy};
 ghost use Rattle.office_commands.specs.declared.closing.Closing.TheVariants.{ReadFault, KeeperFault, Words};
-ghost use Rattle.office_commands.specs.Faults.{SinkFaults};
-ghost use Rattle.import_once.specs.Faults.{FaultsByPlan};
+ghost use Rattle.road_io.specs.Blame.{FaultsByPlan, FaultsByRoom};
 
 use crate::closing::Closing;
 use crate::day::{Day, read_day, stopped};
@@ -35,7 +34,8 @@ fn write_accidents<O: Sink>(
     ensures unasked { result ≢ Ok (Some KeeperFault) }
     ensures said { result ≢ Ok (Some Words) }
     ensures says { SaysBy day.now.refused (code_of result) }
-    ensures sink { SinkFaults (O.faults sink.old) (O.faults sink.new) (O.room sink.old) (O.room sink.new) result }
+    ensures sink { FaultsByRoom (O.faults sink.old) (O.faults sink.new) (O.room sink.old) (O.room sink.new)
+        (IsErr result) }
 {
     if let Some((line, cause)) = day.refused {
         return Ok(Some(Closing::Refused { line, cause }));
@@ -67,7 +67,8 @@ pub fn accidents<S: Source, O: Sink, R: Threads>(
     ensures bounded { ReadsWithin (most_read (recomputed Plainly limits.now)) (S.left source.old) (S.left source.new) }
     ensures source { FaultsByPlan (S.faults source.old) (S.faults source.new) (S.plan source.old)
         (result ≡ Ok (Some ReadFault)) }
-    ensures sink { SinkFaults (O.faults sink.old) (O.faults sink.new) (O.room sink.old) (O.room sink.new) result }
+    ensures sink { FaultsByRoom (O.faults sink.old) (O.faults sink.new) (O.room sink.old) (O.room sink.new)
+        (IsErr result) }
 {
     match read_day(rt, alloc, limits, Recomputing::Plainly, late, source) {
         Ok(day) => write_accidents(alloc, &day, sink),

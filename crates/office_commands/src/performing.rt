@@ -1,5 +1,5 @@
 // A command is done, but for the closing line.
-ghost use Rattle.std.specs.Prelude.{◌≡◌, ◌≢◌, ℕ, List, [], Some, Ok, false, true};
+ghost use Rattle.std.specs.Prelude.{◌≡◌, ◌≢◌, ℕ, List, [], Some, Ok, false, true, IsErr};
 ghost use Rattle.road_io.specs.Plans.{NeverFails};
 ghost use Rattle.keeper.specs.Office.{Office};
 ghost use Rattle.road_time.specs.Fits.{IsLimits};
@@ -12,8 +12,8 @@ ghost use Rattle.office_commands.specs.Uses.{IsTold, IsRight, IsRightAside, Sour
 ghost use Rattle.office_commands.specs.Uses.{uses_source, uses_aside, uses_keeper, changes_kept, AsksPassed, PutsAsked};
 ghost use Rattle.office_commands.specs.Uses.{most_of, most_aside_of};
 ghost use Rattle.office_commands.specs.Commands.{office_answer};
-ghost use Rattle.office_commands.specs.Faults.{SinkFaults, ReadFaults};
-ghost use Rattle.import_once.specs.Faults.{FaultsByPlan};
+ghost use Rattle.office_commands.specs.Faults.{ReadFaults};
+ghost use Rattle.road_io.specs.Blame.{FaultsByPlan, FaultsByRoom};
 
 use crate::answers::answers;
 use crate::closing::Closing;
@@ -89,7 +89,8 @@ pub(crate) fn perform<S: Source, A: Source, O: Sink, K: Keeper, C: Crew, R: Thre
     ensures read { ReadFaults (S.faults source.old) (S.faults source.new) (A.faults aside.old) (A.faults aside.new)
         (uses_source (Some command) ≡ true → NeverFails (S.plan source.old))
         (uses_aside (Some command) ≡ true → NeverFails (A.plan aside.old)) (result ≡ Ok (Some ReadFault)) }
-    ensures sink { SinkFaults (O.faults sink.old) (O.faults sink.new) (O.room sink.old) (O.room sink.new) result }
+    ensures sink { FaultsByRoom (O.faults sink.old) (O.faults sink.new) (O.room sink.old) (O.room sink.new)
+        (IsErr result) }
     ensures keeper { FaultsByPlan (K.faults keeper.old) (K.faults keeper.new) (K.plan keeper.old)
         (result ≡ Ok (Some KeeperFault)) }
 {

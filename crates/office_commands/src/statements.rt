@@ -1,12 +1,11 @@
 // The commands `day DAY`, `vehicle VID FROM TO` and `export DAY`: what is kept, as texts.
-ghost use Rattle.std.specs.Prelude.{◌≡◌, ◌≢◌, Some, Ok, Err, OnErr};
+ghost use Rattle.std.specs.Prelude.{◌≡◌, ◌≢◌, Some, Ok, Err, OnErr, IsErr};
 ghost use Rattle.keeper.specs.Office.{Office};
 ghost use Rattle.reports.specs.declared.report_fault.ReportFault.TheVariants as report_fault;
 ghost use Rattle.office_commands.specs.Commands.{day_row, vehicle_row, export_row};
 ghost use Rattle.office_commands.specs.Endings.{Wrote, Keeps, EndsReport};
 ghost use Rattle.office_commands.specs.declared.closing.Closing.TheVariants.{ReadFault, KeeperFault, Words};
-ghost use Rattle.office_commands.specs.Faults.{SinkFaults};
-ghost use Rattle.import_once.specs.Faults.{FaultsByPlan};
+ghost use Rattle.road_io.specs.Blame.{FaultsByPlan, FaultsByRoom};
 
 use crate::closing::Closing;
 use keeper::Keeper;
@@ -42,9 +41,11 @@ pub fn day<O: Sink, K: Keeper>(
         → Wrote (day_row day o) result (O.written sink.old) (O.written sink.new) }
     ensures keeps { (o : Office) → K.told keeper.old ≡ Some o
         → Keeps K.refuses (day_row day o) o (K.told keeper.new) result }
+    ensures kept { K.told keeper.new ≡ K.told keeper.old }
     ensures said { result ≢ Ok (Some Words) }
     ensures unread { result ≢ Ok (Some ReadFault) }
-    ensures sink { SinkFaults (O.faults sink.old) (O.faults sink.new) (O.room sink.old) (O.room sink.new) result }
+    ensures sink { FaultsByRoom (O.faults sink.old) (O.faults sink.new) (O.room sink.old) (O.room sink.new)
+        (IsErr result) }
     ensures keeper { FaultsByPlan (K.faults keeper.old) (K.faults keeper.new) (K.plan keeper.old)
         (result ≡ Ok (Some KeeperFault)) }
 {
@@ -65,9 +66,11 @@ pub fn vehicle<O: Sink, K: Keeper>(
         → Wrote (vehicle_row vid from to o) result (O.written sink.old) (O.written sink.new) }
     ensures keeps { (o : Office) → K.told keeper.old ≡ Some o
         → Keeps K.refuses (vehicle_row vid from to o) o (K.told keeper.new) result }
+    ensures kept { K.told keeper.new ≡ K.told keeper.old }
     ensures said { result ≢ Ok (Some Words) }
     ensures unread { result ≢ Ok (Some ReadFault) }
-    ensures sink { SinkFaults (O.faults sink.old) (O.faults sink.new) (O.room sink.old) (O.room sink.new) result }
+    ensures sink { FaultsByRoom (O.faults sink.old) (O.faults sink.new) (O.room sink.old) (O.room sink.new)
+        (IsErr result) }
     ensures keeper { FaultsByPlan (K.faults keeper.old) (K.faults keeper.new) (K.plan keeper.old)
         (result ≡ Ok (Some KeeperFault)) }
 {
@@ -86,9 +89,11 @@ pub fn export<O: Sink, K: Keeper>(
         → Wrote (export_row day o) result (O.written sink.old) (O.written sink.new) }
     ensures keeps { (o : Office) → K.told keeper.old ≡ Some o
         → Keeps K.refuses (export_row day o) o (K.told keeper.new) result }
+    ensures kept { K.told keeper.new ≡ K.told keeper.old }
     ensures said { result ≢ Ok (Some Words) }
     ensures unread { result ≢ Ok (Some ReadFault) }
-    ensures sink { SinkFaults (O.faults sink.old) (O.faults sink.new) (O.room sink.old) (O.room sink.new) result }
+    ensures sink { FaultsByRoom (O.faults sink.old) (O.faults sink.new) (O.room sink.old) (O.room sink.new)
+        (IsErr result) }
     ensures keeper { FaultsByPlan (K.faults keeper.old) (K.faults keeper.new) (K.plan keeper.old)
         (result ≡ Ok (Some KeeperFault)) }
 {

@@ -1,11 +1,10 @@
 // The commands `tariff XWAY CROWD SPEED FACTOR` and `tariffs`.
-ghost use Rattle.std.specs.Prelude.{◌≡◌, ◌≢◌, ◌≤◌, [], Some, Ok};
+ghost use Rattle.std.specs.Prelude.{◌≡◌, ◌≢◌, ◌≤◌, [], Some, Ok, IsErr};
 ghost use Rattle.keeper.specs.Office.{Office};
 ghost use Rattle.office_commands.specs.Commands.{tariff_row, tariffs_row};
 ghost use Rattle.office_commands.specs.Endings.{StandsBefore, Wrote, sort_of, KeepsBy, Keeps};
 ghost use Rattle.office_commands.specs.declared.closing.Closing.TheVariants.{ReadFault, KeeperFault, Words};
-ghost use Rattle.office_commands.specs.Faults.{SinkFaults};
-ghost use Rattle.import_once.specs.Faults.{FaultsByPlan};
+ghost use Rattle.road_io.specs.Blame.{FaultsByPlan, FaultsByRoom};
 
 use crate::closing::Closing;
 use crate::refusal::refused;
@@ -54,9 +53,11 @@ pub fn tariffs<O: Sink, K: Keeper>(
         → Wrote (tariffs_row o) result (O.written sink.old) (O.written sink.new) }
     ensures keeps { (o : Office) → K.told keeper.old ≡ Some o
         → Keeps K.refuses (tariffs_row o) o (K.told keeper.new) result }
+    ensures kept { K.told keeper.new ≡ K.told keeper.old }
     ensures said { result ≢ Ok (Some Words) }
     ensures unread { result ≢ Ok (Some ReadFault) }
-    ensures sink { SinkFaults (O.faults sink.old) (O.faults sink.new) (O.room sink.old) (O.room sink.new) result }
+    ensures sink { FaultsByRoom (O.faults sink.old) (O.faults sink.new) (O.room sink.old) (O.room sink.new)
+        (IsErr result) }
     ensures keeper { FaultsByPlan (K.faults keeper.old) (K.faults keeper.new) (K.plan keeper.old)
         (result ≡ Ok (Some KeeperFault)) }
 {

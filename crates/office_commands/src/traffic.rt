@@ -1,5 +1,5 @@
 // The commands `generate SEED` and `rehearse SEED`: the traffic that a seed makes.
-ghost use Rattle.std.specs.Prelude.{◌≡◌, ◌≢◌, [], ℕ, true, Some, None, Ok, Err, IfOk, OnErr};
+ghost use Rattle.std.specs.Prelude.{◌≡◌, ◌≢◌, [], ℕ, true, Some, None, Ok, Err, IfOk, OnErr, IsErr};
 ghost use Rattle.road_time.specs.declared.day.TheConstants.Limits.{DAY};
 ghost use Rattle.road_time.specs.Reads.{reads};
 ghost use Rattle.road_io.specs.Fakes.{bytes_of};
@@ -13,7 +13,7 @@ ghost use Rattle.office_commands.specs.Commands.{generate_row, rehearse_row};
 ghost use Rattle.office_commands.specs.Endings.{StandsBefore, Wrote};
 ghost use Rattle.office_commands.specs.Traffic.{plan_of, rehearsed_record, rehearsed, EndsTraffic};
 ghost use Rattle.office_commands.specs.declared.closing.Closing.TheVariants.{ReadFault, KeeperFault, Words};
-ghost use Rattle.office_commands.specs.Faults.{SinkFaults};
+ghost use Rattle.road_io.specs.Blame.{FaultsByRoom};
 
 use crate::closing::Closing;
 use accounts::NoPublisher;
@@ -71,7 +71,8 @@ pub fn generate<O: Sink>(
     ensures said { result ≢ Ok (Some Words) }
     ensures unread { result ≢ Ok (Some ReadFault) }
     ensures unasked { result ≢ Ok (Some KeeperFault) }
-    ensures sink { SinkFaults (O.faults sink.old) (O.faults sink.new) (O.room sink.old) (O.room sink.new) result }
+    ensures sink { FaultsByRoom (O.faults sink.old) (O.faults sink.new) (O.room sink.old) (O.room sink.new)
+        (IsErr result) }
 {
     let plan = plan_for(seed, size);
     let done = traffic_gen::generate(alloc, &plan, sink);

@@ -1,8 +1,11 @@
 pub mod Leaf
+pub mod Looks
+pub mod WalkEnds
 pub mod Turns
+pub mod Values
 pub mod Law
 pub mod Meant
-pub mod Looks
 pub mod Spelling
+pub mod SpelledBack
 pub mod SpelledForms
 pub mod Steps

@@ -1,12 +1,14 @@
 -- The forms of the office: words are read by them as they are spelled.
-use Rattle.std.proofs.Common.{◌≡◌, ◌∙◌, ◌+◌, Bool, true, false, refl, sym, ap, subst, List, [], ◌∷◌, ◌++◌, Option, Some, None, bytes_eq, codes, find, ◌↔◌}
+use Rattle.std.proofs.Common.{◌≡◌, ◌∙◌, ◌+◌, Bool, true, false, refl, sym, ap, subst, List, [], ◌∷◌, ◌++◌, Option, Some}
+use Rattle.std.proofs.Common.{None, bytes_eq, codes, find, ◌↔◌}
 use Rattle.std.specs.Option.{unwrap_or}
 use Rattle.std.proofs.lemmas.Option.{none-some}
 use Rattle.office_words.specs.Grammar.{Form, Text, Said, look, says, spoken}
 use Rattle.office_words.specs.Table.{forms, audits, runs, sizes}
 use Rattle.office_words.specs.Spelling.{Spells, IsSpelled}
 use Rattle.office_words.proofs.Looks.{AllPlainly}
-use Rattle.office_words.proofs.Spelling.{Open, read_back, spelled_back}
+use Rattle.office_words.proofs.Spelling.{Open, read_back}
+use Rattle.office_words.proofs.SpelledBack.{spelled_back}
 
 -- a form's options are read as they are written, and its places and options have names of their own
 abbrev Sound : Form → Type 0
@@ -16,7 +18,8 @@ abbrev AllSound : List Form → Type 0
 AllSound [] = Unit {0}
 AllSound (f ∷ fs) = Sound f × AllSound fs
 
-sound_found : (fs : List Form) (word : Text) (f : Form) → AllSound fs → find (λ g. bytes_eq g.name word) fs ≡ Some f → Sound f
+sound_found : (fs : List Form) (word : Text) (f : Form) → AllSound fs → find (λ g. bytes_eq g.name word) fs ≡ Some f →
+    Sound f
 sound_found [] word f all e = absurd (none-some f e)
 sound_found (g ∷ fs) word f all e = go (bytes_eq g.name word) refl (sound_found fs word f all.1)
   where
@@ -67,7 +70,16 @@ all_sound = (
                 (
                   (tt, (refl, refl, refl, refl, tt)),
                   (
-                    (tt, (refl, refl, refl, refl, (refl, refl, refl, refl, (refl, refl, refl, refl, (refl, refl, refl, refl, tt))))),
+                    (
+                      tt,
+                      (
+                        refl,
+                        refl,
+                        refl,
+                        refl,
+                        (refl, refl, refl, refl, (refl, refl, refl, refl, (refl, refl, refl, refl, tt))),
+                      ),
+                    ),
                     (
                       (tt, tt),
                       (
@@ -89,7 +101,8 @@ all_sound = (
   ),
 )
 
-pub is_spelled : (words : List Text) (name : Text) (said : Said) → spoken forms words ≡ Some (name, said) ↔ IsSpelled forms words name said
+pub is_spelled : (words : List Text) (name : Text) (said : Said) →
+    spoken forms words ≡ Some (name, said) ↔ IsSpelled forms words name said
 is_spelled words name said = (to words, from)
   where
     to : (ws : List Text) → spoken forms ws ≡ Some (name, said) → IsSpelled forms ws name said
@@ -112,7 +125,8 @@ is_spelled words name said = (to words, from)
                   words_are = refl;
                   named = i;
                   name_is = sym (ap (λ p. p.0) pair_is);
-                  spells = subst (Spells f rest) (ap (λ p. p.1) pair_is) (spelled_back f (sound_found forms word f all_sound i).0 rest s (sound_found forms word f all_sound i).1 j);
+                  spells = subst (Spells f rest) (ap (λ p. p.1) pair_is)
+                      (spelled_back f rest s (sound_found forms word f all_sound i).1 j);
                 }
 
     from : IsSpelled forms words name said → spoken forms words ≡ Some (name, said)

@@ -28,4 +28,5 @@ AllText (word ∷ words) = IsUtf8 word × AllText words
 
 -- what clap finds is what is said
 abbrev pub FindsWhatIsSpoken : List Text → Type 0
-FindsWhatIsSpoken words = AllText words → found_in (app_of_forms forms) words ≡ option_map rows_said (spoken forms words)
+FindsWhatIsSpoken words = AllText words →
+    found_in (app_of_forms forms) words ≡ option_map rows_said (spoken forms words)

@@ -17,17 +17,21 @@ use Rattle.past_file.specs.Rows.{amount_of, IsPastRow, HasRows}
 above_zero : (xs : List SpentRow) → AllByRecursion (λ r. 0 < r.tolls) (filter (λ r. nat_lt 0 r.tolls) xs)
 above_zero [] = tt
 above_zero (x ∷ xs) =
-    cond_both (nat_lt 0 x.tolls) (x ∷ filter (λ r. nat_lt 0 r.tolls) xs) (filter (λ r. nat_lt 0 r.tolls) xs) (AllByRecursion (λ r. 0 < r.tolls))
+    cond_both (nat_lt 0 x.tolls) (x ∷ filter (λ r. nat_lt 0 r.tolls) xs) (filter (λ r. nat_lt 0 r.tolls) xs)
+    (AllByRecursion (λ r. 0 < r.tolls))
     (λ e. (ltb-true 0 x.tolls e, above_zero xs)) (λ _. above_zero xs)
 
 -- the record that is made is that of the bytes and the amounts
-pub record_is : (base n m : ℕ) (digest : Digest) (bytes : List ℕ) (rows : List SpentRow) → n ≡ length bytes → digest ≡ digest_of bytes → m ≡ length (past_kept rows)
+pub record_is : (base n m : ℕ) (digest : Digest) (bytes : List ℕ) (rows : List SpentRow) → n ≡ length bytes →
+    digest ≡ digest_of bytes → m ≡ length (past_kept rows)
     → ◌≡◌ {A = PastRecord} (record { base = base; digest = digest; bytes = n; rows = m }) (past_record base bytes rows)
 record_is base n m digest bytes rows size hash count = cc
 
 -- amounts that were taken may be put
-pub may_be_put : (a : Amounts) (base : ℕ) (rows kept : List SpentRow) (past : PastRecord) → HasRows a base rows → kept ≡ filter (λ r. nat_lt 0 r.tolls) (map amount_of a.by_key.entries)
-    → RowsRise kept → length kept < 2 ^ 63 → 70 ≤ past.base → past.base ≡ base → past.bytes < 2 ^ 63 → past.rows ≡ length kept → IsPastPut past kept
+pub may_be_put : (a : Amounts) (base : ℕ) (rows kept : List SpentRow) (past : PastRecord) → HasRows a base rows →
+    kept ≡ filter (λ r. nat_lt 0 r.tolls) (map amount_of a.by_key.entries)
+    → RowsRise kept → length kept < 2 ^ 63 → 70 ≤ past.base → past.base ≡ base → past.bytes < 2 ^ 63 →
+    past.rows ≡ length kept → IsPastPut past kept
 may_be_put a base rows kept past h e rise few low same short count =
     let all = each.kept (IsPastRow base) (λ r. nat_lt 0 r.tolls) (map amount_of a.by_key.entries) h.valid in
     let valid : AllByRecursion (IsPastRow base) kept = subst (AllByRecursion (IsPastRow base)) (sym e) all in

@@ -27,6 +27,11 @@ pub record PastAnswer : Type 0 where
 abbrev pub unchanged : PastOutcome → Office → PastAnswer
 unchanged outcome o = record { outcome = outcome; office = o }
 
+-- the outcome of a history whose keeper refused
+abbrev pub past_refused : KeepFault → PastOutcome
+past_refused keeping.Failed = KeeperFault
+past_refused keeping.NoMemory = NoMemory
+
 -- the amounts of all lines are kept; or a line was refused, and nothing is
 abbrev pub past_read : ℕ → List ℕ → List SpentRow → Option (ℕ × PastFault) → Office → PastAnswer
 past_read base bytes rows None o =
@@ -34,13 +39,13 @@ past_read base bytes rows None o =
 past_read base bytes rows (Some (line, fault)) o = unchanged (Row line (past_cause_of fault)) o
 
 -- a history is kept of this base: whether what was found is what is kept
-abbrev pub again : PastRecord → Digest → PastOutcome
-again kept found = if bytes_eq found.bytes kept.digest.bytes then Already kept else Differs kept.digest found
+abbrev pub past_compared : PastRecord → Digest → PastOutcome
+past_compared kept found = if bytes_eq found.bytes kept.digest.bytes then Already kept else Differs kept.digest found
 
 -- a history is kept: one of another base is not compared
 abbrev pub past_again : PastRecord → ℕ → List ℕ → PastOutcome
 past_again kept base bytes =
-    if kept.base == base then again kept (found_digest bytes kept.bytes) else OtherBase kept.base
+    if kept.base == base then past_compared kept (found_digest bytes kept.bytes) else OtherBase kept.base
 
 -- no history is kept: where a day is, it is too late for one
 abbrev pub past_new : List DayRecord → ℕ → Limits → List ℕ → Office → PastAnswer
@@ -49,39 +54,39 @@ past_new [] base limits bytes o =
 past_new (d ∷ ds) base limits bytes o = unchanged (PastLate (last_day o)) o
 
 -- by the history that is kept, if one is
-abbrev pub past_by : Option PastRecord → ℕ → Limits → List ℕ → Office → PastAnswer
-past_by (Some kept) base limits bytes o = unchanged (past_again kept base bytes) o
-past_by None base limits bytes o = past_new o.days base limits bytes o
+abbrev pub past_by_kept : Option PastRecord → ℕ → Limits → List ℕ → Office → PastAnswer
+past_by_kept (Some kept) base limits bytes o = unchanged (past_again kept base bytes) o
+past_by_kept None base limits bytes o = past_new o.days base limits bytes o
 
 -- keeping a history of these bytes, its days counted back from a base
 abbrev pub past_answer : ℕ → Limits → List ℕ → Office → PastAnswer
-past_answer base limits bytes o = past_by o.past base limits bytes o
+past_answer base limits bytes o = past_by_kept o.past base limits bytes o
 
 -- Against what should be answered:
 
 -- all was done
-pub record DoesAll (a : PastAnswer) (outcome : PastOutcome) (now : Option Office) : Type 0 where
+pub record DoesAllPast (a : PastAnswer) (outcome : PastOutcome) (now : Option Office) : Type 0 where
   pub outcome_is : outcome ≡ a.outcome
   pub kept : now ≡ Some a.office
 
 -- a fault or want of memory: the office is as it was, or the put was refused, which leaves what its keeper leaves
-abbrev pub Halts : WhenRefused → KeepFault → PastAnswer → Office → Option Office → Type 0
-Halts w fault a was now = (now ≡ Some was) ⊎ ((o : Office) × (now ≡ Some o) × Leaves w fault o was a.office)
+abbrev pub HaltsPast : WhenRefused → KeepFault → PastAnswer → Office → Option Office → Type 0
+HaltsPast w fault a was now = (now ≡ Some was) ⊎ ((o : Office) × (now ≡ Some o) × Leaves w fault o was a.office)
 
 -- what was done, by how the call ended
-abbrev pub Does : WhenRefused → PastAnswer → Office → Option Office → PastOutcome → Type 0
-Does w a was now ReadFault = now ≡ Some was
-Does w a was now KeeperFault = Halts w keeping.Failed a was now
-Does w a was now NoMemory = Halts w keeping.NoMemory a was now
-Does w a was now outcome = DoesAll a outcome now
+abbrev pub DoesPast : WhenRefused → PastAnswer → Office → Option Office → PastOutcome → Type 0
+DoesPast w a was now ReadFault = now ≡ Some was
+DoesPast w a was now KeeperFault = HaltsPast w keeping.Failed a was now
+DoesPast w a was now NoMemory = HaltsPast w keeping.NoMemory a was now
+DoesPast w a was now outcome = DoesAllPast a outcome now
 
 -- what is left of the source: nothing where a history was read whole, and all behind one byte more than a kept history
 -- had
-abbrev pub LeavesRest : PastOutcome → Option PastRecord → List ℕ → Option (List ℕ) → Type 0
-LeavesRest (Stored r) kept bytes left = left ≡ Some []
-LeavesRest (Already r) (Some kept) bytes left = left ≡ Some (drop (kept.bytes + 1) bytes)
-LeavesRest (Differs k found) (Some kept) bytes left = left ≡ Some (drop (kept.bytes + 1) bytes)
-LeavesRest _ kept bytes left = Unit {0}
+abbrev pub LeavesPast : PastOutcome → Option PastRecord → List ℕ → Option (List ℕ) → Type 0
+LeavesPast (Stored r) kept bytes left = left ≡ Some []
+LeavesPast (Already r) (Some kept) bytes left = left ≡ Some (drop (kept.bytes + 1) bytes)
+LeavesPast (Differs k found) (Some kept) bytes left = left ≡ Some (drop (kept.bytes + 1) bytes)
+LeavesPast _ kept bytes left = Unit {0}
 
 -- the most that a history is read: a line more than it may have, each of 200 bytes and its end, and one buffer
 abbrev pub most_past : Limits → ℕ
@@ -109,12 +114,12 @@ RefusesSoon (Row line cause) bytes left = StopsSoon line bytes left
 RefusesSoon _ bytes left = Unit {0}
 
 -- an end that no comparison with a kept history has
-abbrev pub IsUncompared : PastOutcome → Type 0
-IsUncompared (Already kept) = ⊥
-IsUncompared (Differs kept found) = ⊥
-IsUncompared ReadFault = ⊥
-IsUncompared NoMemory = ⊥
-IsUncompared _ = Unit {0}
+abbrev pub IsPastUncompared : PastOutcome → Type 0
+IsPastUncompared (Already kept) = ⊥
+IsPastUncompared (Differs kept found) = ⊥
+IsPastUncompared ReadFault = ⊥
+IsPastUncompared NoMemory = ⊥
+IsPastUncompared _ = Unit {0}
 
 -- a history of this base was put with its amounts
 abbrev pub IsPastOf : ℕ → Office → Office → Type 0
@@ -127,8 +132,8 @@ abbrev pub PutsPast : ℕ → Office → Option Office → Type 0
 PutsPast base was now = (o : Office) × (now ≡ Some o) × ((o ≡ was) ⊎ IsPastOf base was o)
 
 -- what is kept is as it was, but where a history was put, or its put refused
-abbrev pub KeepsAll : PastOutcome → Type 0 → Type 0
-KeepsAll (Stored kept) same = Unit {0}
-KeepsAll KeeperFault same = Unit {0}
-KeepsAll NoMemory same = Unit {0}
-KeepsAll _ same = same
+abbrev pub KeepsAllPast : PastOutcome → Type 0 → Type 0
+KeepsAllPast (Stored kept) same = Unit {0}
+KeepsAllPast KeeperFault same = Unit {0}
+KeepsAllPast NoMemory same = Unit {0}
+KeepsAllPast _ same = same

@@ -22,8 +22,8 @@ use Rattle.past_file.specs.declared.past_reader.PastReader.{PastReader}
 use Rattle.past_file.specs.declared.history.History.{History}
 
 -- some amounts were taken
-abbrev pub Gathers : Amounts → ℕ → Type 0
-Gathers a base = (rows : List SpentRow) × HasRows a base rows
+abbrev pub GathersRows : Amounts → ℕ → Type 0
+GathersRows a base = (rows : List SpentRow) × HasRows a base rows
 
 -- an amount was taken, or one of its vehicle, day and expressway was taken before
 abbrev pub TakesRow : Option PastStop → ℕ → List SpentRow → SpentRow → Amounts → Type 0
@@ -40,17 +40,19 @@ StopsTwice number (Some ReadFault) = ⊥
 StopsTwice number (Some NoMemory) = Unit {0}
 
 -- a line was judged behind those before it
-abbrev pub Judges : Option PastStop → ℕ → Limits → ℕ → List ℕ → Amounts → Amounts → Type 0
-Judges None base limits number line old new =
+abbrev pub JudgesRow : Option PastStop → ℕ → Limits → ℕ → List ℕ → Amounts → Amounts → Type 0
+JudgesRow None base limits number line old new =
     (before : List (List ℕ)) → length before + 1 ≡ number → HasRows old base (past_rows base before)
     → (past_fault base limits before line ≡ None) × HasRows new base (past_rows base (before ++ line ∷ []))
-Judges (Some (Row n cause)) base limits number line old new = (n ≡ number)
-    × ((before : List (List ℕ)) → length before + 1 ≡ number → HasRows old base (past_rows base before) → (fault : PastFault) × (past_fault base limits before line ≡ Some fault) × IsCause fault cause)
-Judges (Some ReadFault) base limits number line old new = ⊥
-Judges (Some NoMemory) base limits number line old new = Unit {0}
+JudgesRow (Some (Row n cause)) base limits number line old new = (n ≡ number)
+    × ((before : List (List ℕ)) → length before + 1 ≡ number → HasRows old base (past_rows base before) →
+    (fault : PastFault) × (past_fault base limits before line ≡ Some fault) × IsCause fault cause)
+JudgesRow (Some ReadFault) base limits number line old new = ⊥
+JudgesRow (Some NoMemory) base limits number line old new = Unit {0}
 
 -- lines are read on: those before were all let in, and the rest lies ahead
-pub record ReadsOn (front : Option (List ℕ)) (number : ℕ) (consumed : Consumed) (amounts : Amounts) (base : ℕ) (limits : Limits) (bytes : List ℕ) : Type 0 where
+pub record ReadsPastOn (front : Option (List ℕ)) (number : ℕ) (consumed : Consumed) (amounts : Amounts) (base : ℕ)
+    (limits : Limits) (bytes : List ℕ) : Type 0 where
   pub before : List (List ℕ)
   pub taken : List ℕ
   pub now : List ℕ
@@ -62,41 +64,42 @@ pub record ReadsOn (front : Option (List ℕ)) (number : ℕ) (consumed : Consum
   pub rows_are : HasRows amounts base (past_rows base before)
 
 -- a reader reads the history that the bytes are, where so much of the source is left
-abbrev pub IsReading : PastReader → ℕ → Limits → Option (List ℕ) → List ℕ → Type 0
-IsReading r base limits left bytes =
-    ReadsOn (ahead r.cutter left) (number_of r.cutter) r.consumed r.amounts base limits bytes
+abbrev pub IsReadingPast : PastReader → ℕ → Limits → Option (List ℕ) → List ℕ → Type 0
+IsReadingPast r base limits left bytes =
+    ReadsPastOn (ahead r.cutter left) (number_of r.cutter) r.consumed r.amounts base limits bytes
 
 -- what a reader took and holds of a source's bytes, and what is left of them, is all that the source had; and it took
 -- no more lines than it cut
-abbrev pub HasReadOf : PastReader → Option (List ℕ) → List ℕ → Type 0
-HasReadOf r left bytes = HasReadLines (ahead r.cutter left) (number_of r.cutter) r.consumed bytes
+abbrev pub HasReadPastOf : PastReader → Option (List ℕ) → List ℕ → Type 0
+HasReadPastOf r left bytes = HasReadLines (ahead r.cutter left) (number_of r.cutter) r.consumed bytes
 
 -- all lines were read, and no byte is left
-pub record EndsWhole (consumed : Consumed) (amounts : Amounts) (base : ℕ) (limits : Limits) (left : Option (List ℕ)) (bytes : List ℕ) : Type 0 where
+pub record EndsPast (consumed : Consumed) (amounts : Amounts) (base : ℕ) (limits : Limits) (left : Option (List ℕ))
+    (bytes : List ℕ) : Type 0 where
   pub unrefused : (past_reads bytes base limits).refused ≡ None
   pub has_taken : HasTaken consumed bytes
   pub rows_are : HasRows amounts base (past_reads bytes base limits).rows
   pub none_left : left ≡ Some []
 
 -- a line was refused
-abbrev pub EndsRefused : ℕ → PastCause → ℕ → Limits → List ℕ → Type 0
-EndsRefused line cause base limits bytes =
+abbrev pub RefusesPast : ℕ → PastCause → ℕ → Limits → List ℕ → Type 0
+RefusesPast line cause base limits bytes =
     (fault : PastFault) × ((past_reads bytes base limits).refused ≡ Some (line, fault)) × IsCause fault cause
 
 -- a line more was read, or all were, or one was refused
 abbrev pub Steps : Result Bool PastStop → PastReader → ℕ → Limits → Option (List ℕ) → List ℕ → Type 0
-Steps (Ok true) r base limits left bytes = IsReading r base limits left bytes
-Steps (Ok false) r base limits left bytes = EndsWhole r.consumed r.amounts base limits left bytes
-Steps (Err (Row line cause)) r base limits left bytes = EndsRefused line cause base limits bytes
+Steps (Ok true) r base limits left bytes = IsReadingPast r base limits left bytes
+Steps (Ok false) r base limits left bytes = EndsPast r.consumed r.amounts base limits left bytes
+Steps (Err (Row line cause)) r base limits left bytes = RefusesPast line cause base limits bytes
 Steps (Err ReadFault) r base limits left bytes = Unit {0}
 Steps (Err NoMemory) r base limits left bytes = Unit {0}
 
 -- all lines were read, or one was refused
-abbrev pub Ends : Option PastStop → PastReader → ℕ → Limits → Option (List ℕ) → List ℕ → Type 0
-Ends None r base limits left bytes = EndsWhole r.consumed r.amounts base limits left bytes
-Ends (Some (Row line cause)) r base limits left bytes = EndsRefused line cause base limits bytes
-Ends (Some ReadFault) r base limits left bytes = Unit {0}
-Ends (Some NoMemory) r base limits left bytes = Unit {0}
+abbrev pub EndsReadingPast : Option PastStop → PastReader → ℕ → Limits → Option (List ℕ) → List ℕ → Type 0
+EndsReadingPast None r base limits left bytes = EndsPast r.consumed r.amounts base limits left bytes
+EndsReadingPast (Some (Row line cause)) r base limits left bytes = RefusesPast line cause base limits bytes
+EndsReadingPast (Some ReadFault) r base limits left bytes = Unit {0}
+EndsReadingPast (Some NoMemory) r base limits left bytes = Unit {0}
 
 -- a history that was read whole is the one that the bytes are, or the first refused line is
 abbrev pub ReadsPast : Result History PastStop → ℕ → Limits → Option (List ℕ) → List ℕ → Type 0
@@ -104,15 +107,15 @@ ReadsPast (Ok h) base limits left bytes =
     ((past_reads bytes base limits).refused ≡ None)
     × (h.past ≡ past_record base bytes (past_reads bytes base limits).rows)
     × (h.rows.items ≡ past_kept (past_reads bytes base limits).rows) × (left ≡ Some [])
-ReadsPast (Err (Row line cause)) base limits left bytes = EndsRefused line cause base limits bytes
+ReadsPast (Err (Row line cause)) base limits left bytes = RefusesPast line cause base limits bytes
 ReadsPast (Err ReadFault) base limits left bytes = Unit {0}
 ReadsPast (Err NoMemory) base limits left bytes = Unit {0}
 
 -- a refused line that stops the reading is the last of so many that were cut, or the one behind them
-abbrev pub StopsAfter : PastStop → ℕ → Type 0
-StopsAfter (Row line cause) n = n ≤ line
-StopsAfter ReadFault n = Unit {0}
-StopsAfter NoMemory n = Unit {0}
+abbrev pub StopsPastAfter : PastStop → ℕ → Type 0
+StopsPastAfter (Row line cause) n = n ≤ line
+StopsPastAfter ReadFault n = Unit {0}
+StopsPastAfter NoMemory n = Unit {0}
 
 -- where a refused line stopped the reading, no more than one buffer behind it was read
 abbrev pub StopsSoonAt : PastStop → List ℕ → Option (List ℕ) → Type 0

@@ -24,11 +24,12 @@ amount_of e = record { day = e.0.day; vid = e.0.vid; xway = e.0.xway; tolls = e.
 -- the amounts of these lines were taken, no two of a vehicle, day and expressway
 pub record HasRows (a : Amounts) (base : ℕ) (rows : List SpentRow) : Type 0 where
   pub entries : map amount_of a.by_key.entries ≡ fold with_row [] rows
-  pub same : (day vid xway : ℕ) → list_any (is_row day vid xway) (map amount_of a.by_key.entries) ≡ list_any (is_row day vid xway) rows
+  pub same : (day vid xway : ℕ) → list_any (is_row day vid xway) (map amount_of a.by_key.entries) ≡ list_any
+      (is_row day vid xway) rows
   pub kept : filter (λ r. nat_lt 0 r.tolls) (map amount_of a.by_key.entries) ≡ past_kept rows
   pub valid : AllByRecursion (IsPastRow base) (map amount_of a.by_key.entries)
 
 -- an amount was taken, or one of its vehicle, day and expressway was taken before
-abbrev pub Takes : Bool → Amounts → ℕ → List SpentRow → SpentRow → Type 0
-Takes true a base rows r = (list_any (is_row r.day r.vid r.xway) rows ≡ false) × HasRows a base (rows ++ r ∷ [])
-Takes false a base rows r = list_any (is_row r.day r.vid r.xway) rows ≡ true
+abbrev pub TakesAmount : Bool → Amounts → ℕ → List SpentRow → SpentRow → Type 0
+TakesAmount true a base rows r = (list_any (is_row r.day r.vid r.xway) rows ≡ false) × HasRows a base (rows ++ r ∷ [])
+TakesAmount false a base rows r = list_any (is_row r.day r.vid r.xway) rows ≡ true

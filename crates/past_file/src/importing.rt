@@ -1,25 +1,25 @@
 // Keeping a history, once.
 ghost use Rattle.std.specs.Prelude.{◌≡◌, ◌≢◌, ◌≤◌, ◌+◌, [], List, ℕ, Option, Some, None};
 ghost use Rattle.road_time.specs.declared.day.SpentRow.{SpentRow as SpentRowValue};
-ghost use Rattle.road_io.specs.Faults.{Rose};
-ghost use Rattle.road_io.specs.Plans.{NeverFails};
+ghost use Rattle.road_io.specs.Blame.{FaultsByPlan};
 ghost use Rattle.keeper.specs.declared.kept.PastRecord.{PastRecord as PastRecordValue};
 ghost use Rattle.keeper.specs.Office.{Office};
 ghost use Rattle.keeper.specs.Kept.{IsPastPut, HasNoDays};
 ghost use Rattle.keeper.specs.PastReads.{past_reads, past_record, past_kept};
 ghost use Rattle.keeper.specs.Calls.{WhenRefused, IfTold};
 ghost use Rattle.day_reading.specs.Days.{ReadsWithin};
-ghost use Rattle.past_file.specs.Imports.{again, unchanged, past_again, past_read, past_new, past_answer, Does};
-ghost use Rattle.past_file.specs.Imports.{LeavesRest, NeedsNone, IsUnread, IsUncompared, RefusesSoon, PutsPast};
-ghost use Rattle.past_file.specs.Imports.{KeepsAll, most_past, most_kept};
+ghost use Rattle.past_file.specs.Imports.{past_compared, unchanged, past_again, past_read, past_new, past_answer};
+ghost use Rattle.past_file.specs.Imports.{DoesPast};
+ghost use Rattle.past_file.specs.Imports.{LeavesPast, NeedsNone, IsUnread, IsPastUncompared, RefusesSoon, PutsPast};
+ghost use Rattle.past_file.specs.Imports.{KeepsAllPast, most_past, most_kept};
 ghost use Rattle.past_file.specs.declared.outcomes.PastOutcome.TheVariants.{ReadFault, KeeperFault};
 
 use crate::history::History;
 use crate::judging::PastStop;
-use crate::outcomes::PastOutcome;
+use crate::outcomes::{PastOutcome, refused};
 use crate::whole_past::read_past;
 use day_reading::{ReadStop, find_digest};
-use keeper::{Digest, KeepFault, Keeper, PastRecord};
+use keeper::{Digest, Keeper, PastRecord};
 use road_io::Source;
 use road_time::Limits;
 use std::alloc::Global;
@@ -27,9 +27,9 @@ use std::thread::Threads;
 
 /// Whether what was found is what is kept.
 fn same_or_not(kept: &PastRecord, found: Digest) -> PastOutcome
-    ensures is { result ≡ again kept.now found }
+    ensures is { result ≡ past_compared kept.now found }
     ensures soon { (bytes : List ℕ) (left : Option (List ℕ)) → RefusesSoon result bytes left }
-    ensures compared { IsUncompared result → ⊥ }
+    ensures compared { IsPastUncompared result → ⊥ }
 {
     if found.bytes == kept.digest.bytes {
         PastOutcome::Already(*kept)
@@ -44,19 +44,17 @@ fn same_or_not(kept: &PastRecord, found: Digest) -> PastOutcome
 /// Compares the source with a history that is kept. One of another base is not compared.
 fn compare<S: Source>(alloc: Global, kept: &PastRecord, base: u32, source: &mut S) -> PastOutcome
     ensures does { (w : WhenRefused) (bytes : List ℕ) (o : Office) → S.left source.old ≡ Some bytes
-        → Does w (unchanged (past_again kept.now base bytes) o) o (Some o) result }
+        → DoesPast w (unchanged (past_again kept.now base bytes) o) o (Some o) result }
     ensures rest { (bytes : List ℕ) → S.left source.old ≡ Some bytes
-        → LeavesRest result (Some kept.now) bytes (S.left source.new) }
+        → LeavesPast result (Some kept.now) bytes (S.left source.new) }
     ensures unread { kept.now.base ≢ base → source.new ≡ source.old }
     ensures untouched { IsUnread result → source.new ≡ source.old }
     ensures soon { (bytes : List ℕ) (left : Option (List ℕ)) → RefusesSoon result bytes left }
-    ensures uncompared { IsUncompared result → source.new ≡ source.old }
+    ensures uncompared { IsPastUncompared result → source.new ≡ source.old }
     ensures bounded { ReadsWithin (kept.now.bytes + 1) (S.left source.old) (S.left source.new) }
     ensures unasked { result ≢ KeeperFault }
-    ensures cause { result ≡ ReadFault → Rose (S.faults source.old) (S.faults source.new) }
     ensures same { S.name source.new ≡ S.name source.old }
-    ensures later { S.faults source.old ≤ S.faults source.new }
-    ensures sure { NeverFails (S.plan source.old) → result ≢ ReadFault }
+    ensures source { FaultsByPlan (S.faults source.old) (S.faults source.new) (S.plan source.old) (result ≡ ReadFault) }
 {
     if kept.base != base {
         return PastOutcome::OtherBase { kept: kept.base };
@@ -74,21 +72,19 @@ fn store<K: Keeper>(history: &History, keeper: &mut K) -> PastOutcome
     requires first { IfTold (K.told keeper.old) HasNoDays }
     ensures does { (base : ℕ) (bytes : List ℕ) (rows : List SpentRowValue) (o : Office) → K.told keeper.old ≡ Some o
         → history.now.past ≡ past_record base bytes rows → history.now.rows.items ≡ past_kept rows
-        → Does K.refuses (past_read base bytes rows None o) o (K.told keeper.new) result }
-    ensures rest { (kept : Option PastRecordValue) (bytes : List ℕ) → LeavesRest result kept bytes (Some []) }
+        → DoesPast K.refuses (past_read base bytes rows None o) o (K.told keeper.new) result }
+    ensures rest { (kept : Option PastRecordValue) (bytes : List ℕ) → LeavesPast result kept bytes (Some []) }
     ensures puts { (o : Office) → K.told keeper.old ≡ Some o → PutsPast history.now.past.base o (K.told keeper.new) }
-    ensures keeps { KeepsAll result (K.told keeper.new ≡ K.told keeper.old) }
+    ensures keeps { KeepsAllPast result (K.told keeper.new ≡ K.told keeper.old) }
     ensures soon { (bytes : List ℕ) (left : Option (List ℕ)) → RefusesSoon result bytes left }
     ensures touched { IsUnread result → ⊥ }
     ensures unread { result ≢ ReadFault }
-    ensures cause { result ≡ KeeperFault → Rose (K.faults keeper.old) (K.faults keeper.new) }
-    ensures later { K.faults keeper.old ≤ K.faults keeper.new }
-    ensures sure { NeverFails (K.plan keeper.old) → result ≢ KeeperFault }
+    ensures keeper { FaultsByPlan (K.faults keeper.old) (K.faults keeper.new) (K.plan keeper.old)
+        (result ≡ KeeperFault) }
 {
     match keeper.put_past(&history.past, history.rows.as_slice()) {
         Ok(()) => PastOutcome::Stored(history.past),
-        Err(KeepFault::Failed) => PastOutcome::KeeperFault,
-        Err(KeepFault::NoMemory) => PastOutcome::NoMemory,
+        Err(fault) => refused(fault),
     }
 }
 
@@ -104,22 +100,19 @@ fn import_first<S: Source, K: Keeper, R: Threads>(
     requires based { 70 ≤ base }
     requires first { IfTold (K.told keeper.old) HasNoDays }
     ensures does { (bytes : List ℕ) (o : Office) → S.left source.old ≡ Some bytes → K.told keeper.old ≡ Some o
-        → Does K.refuses (past_read base bytes (past_reads bytes base limits.now).rows
+        → DoesPast K.refuses (past_read base bytes (past_reads bytes base limits.now).rows
         (past_reads bytes base limits.now).refused o) o (K.told keeper.new) result }
     ensures rest { (bytes : List ℕ) (kept : Option PastRecordValue) → S.left source.old ≡ Some bytes
-        → LeavesRest result kept bytes (S.left source.new) }
+        → LeavesPast result kept bytes (S.left source.new) }
     ensures puts { (o : Office) → K.told keeper.old ≡ Some o → PutsPast base o (K.told keeper.new) }
-    ensures keeps { KeepsAll result (K.told keeper.new ≡ K.told keeper.old) }
+    ensures keeps { KeepsAllPast result (K.told keeper.new ≡ K.told keeper.old) }
     ensures soon { (bytes : List ℕ) → S.left source.old ≡ Some bytes → RefusesSoon result bytes (S.left source.new) }
     ensures touched { IsUnread result → ⊥ }
     ensures bounded { ReadsWithin (most_past limits.now) (S.left source.old) (S.left source.new) }
-    ensures read_cause { result ≡ ReadFault → Rose (S.faults source.old) (S.faults source.new) }
     ensures read_same { S.name source.new ≡ S.name source.old }
-    ensures read_later { S.faults source.old ≤ S.faults source.new }
-    ensures read_sure { NeverFails (S.plan source.old) → result ≢ ReadFault }
-    ensures keeper_cause { result ≡ KeeperFault → Rose (K.faults keeper.old) (K.faults keeper.new) }
-    ensures keeper_later { K.faults keeper.old ≤ K.faults keeper.new }
-    ensures keeper_sure { NeverFails (K.plan keeper.old) → result ≢ KeeperFault }
+    ensures source { FaultsByPlan (S.faults source.old) (S.faults source.new) (S.plan source.old) (result ≡ ReadFault) }
+    ensures keeper { FaultsByPlan (K.faults keeper.old) (K.faults keeper.new) (K.plan keeper.old)
+        (result ≡ KeeperFault) }
 {
     match read_past(rt, alloc, base, limits, source) {
         Ok(history) => store(&history, keeper),
@@ -141,22 +134,19 @@ fn import_new<S: Source, K: Keeper, R: Threads>(
     requires based { 70 ≤ base }
     requires none { IfTold (K.told keeper.old) (λ o. o.past ≡ None) }
     ensures does { (bytes : List ℕ) (o : Office) → S.left source.old ≡ Some bytes → K.told keeper.old ≡ Some o
-        → Does K.refuses (past_new o.days base limits.now bytes o) o (K.told keeper.new) result }
+        → DoesPast K.refuses (past_new o.days base limits.now bytes o) o (K.told keeper.new) result }
     ensures rest { (bytes : List ℕ) (kept : Option PastRecordValue) → S.left source.old ≡ Some bytes
-        → LeavesRest result kept bytes (S.left source.new) }
+        → LeavesPast result kept bytes (S.left source.new) }
     ensures puts { (o : Office) → K.told keeper.old ≡ Some o → PutsPast base o (K.told keeper.new) }
-    ensures keeps { KeepsAll result (K.told keeper.new ≡ K.told keeper.old) }
+    ensures keeps { KeepsAllPast result (K.told keeper.new ≡ K.told keeper.old) }
     ensures soon { (bytes : List ℕ) → S.left source.old ≡ Some bytes → RefusesSoon result bytes (S.left source.new) }
     ensures unread { (o : Office) → K.told keeper.old ≡ Some o → o.days ≢ [] → source.new ≡ source.old }
     ensures untouched { IsUnread result → source.new ≡ source.old }
     ensures bounded { ReadsWithin (most_past limits.now) (S.left source.old) (S.left source.new) }
-    ensures read_cause { result ≡ ReadFault → Rose (S.faults source.old) (S.faults source.new) }
     ensures read_same { S.name source.new ≡ S.name source.old }
-    ensures read_later { S.faults source.old ≤ S.faults source.new }
-    ensures read_sure { NeverFails (S.plan source.old) → result ≢ ReadFault }
-    ensures keeper_cause { result ≡ KeeperFault → Rose (K.faults keeper.old) (K.faults keeper.new) }
-    ensures keeper_later { K.faults keeper.old ≤ K.faults keeper.new }
-    ensures keeper_sure { NeverFails (K.plan keeper.old) → result ≢ KeeperFault }
+    ensures source { FaultsByPlan (S.faults source.old) (S.faults source.new) (S.plan source.old) (result ≡ ReadFault) }
+    ensures keeper { FaultsByPlan (K.faults keeper.old) (K.faults keeper.new) (K.plan keeper.old)
+        (result ≡ KeeperFault) }
 {
     match keeper.last_day() {
         Ok(last) => {
@@ -166,8 +156,7 @@ fn import_new<S: Source, K: Keeper, R: Threads>(
                 import_first(rt, alloc, base, limits, source, keeper)
             }
         }
-        Err(KeepFault::Failed) => PastOutcome::KeeperFault,
-        Err(KeepFault::NoMemory) => PastOutcome::NoMemory,
+        Err(fault) => refused(fault),
     }
 }
 
@@ -183,30 +172,26 @@ pub fn import_past<S: Source, K: Keeper, R: Threads>(
 ) -> PastOutcome
     requires based { 70 ≤ base }
     ensures does { (bytes : List ℕ) (o : Office) → S.left source.old ≡ Some bytes → K.told keeper.old ≡ Some o
-        → Does K.refuses (past_answer base limits.now bytes o) o (K.told keeper.new) result }
+        → DoesPast K.refuses (past_answer base limits.now bytes o) o (K.told keeper.new) result }
     ensures rest { (bytes : List ℕ) (o : Office) → S.left source.old ≡ Some bytes → K.told keeper.old ≡ Some o
-        → LeavesRest result o.past bytes (S.left source.new) }
+        → LeavesPast result o.past bytes (S.left source.new) }
     ensures puts { (o : Office) → K.told keeper.old ≡ Some o → PutsPast base o (K.told keeper.new) }
-    ensures keeps { KeepsAll result (K.told keeper.new ≡ K.told keeper.old) }
+    ensures keeps { KeepsAllPast result (K.told keeper.new ≡ K.told keeper.old) }
     ensures soon { (bytes : List ℕ) → S.left source.old ≡ Some bytes → RefusesSoon result bytes (S.left source.new) }
     ensures unread { (o : Office) → K.told keeper.old ≡ Some o → NeedsNone o.past base o → source.new ≡ source.old }
     ensures untouched { IsUnread result → source.new ≡ source.old }
-    ensures uncompared { IsUncompared result
+    ensures uncompared { IsPastUncompared result
         → ReadsWithin (most_past limits.now) (S.left source.old) (S.left source.new) }
     ensures bounded { (o : Office) → K.told keeper.old ≡ Some o
         → ReadsWithin (most_kept o.past limits.now) (S.left source.old) (S.left source.new) }
-    ensures read_cause { result ≡ ReadFault → Rose (S.faults source.old) (S.faults source.new) }
     ensures read_same { S.name source.new ≡ S.name source.old }
-    ensures read_later { S.faults source.old ≤ S.faults source.new }
-    ensures read_sure { NeverFails (S.plan source.old) → result ≢ ReadFault }
-    ensures keeper_cause { result ≡ KeeperFault → Rose (K.faults keeper.old) (K.faults keeper.new) }
-    ensures keeper_later { K.faults keeper.old ≤ K.faults keeper.new }
-    ensures keeper_sure { NeverFails (K.plan keeper.old) → result ≢ KeeperFault }
+    ensures source { FaultsByPlan (S.faults source.old) (S.faults source.new) (S.plan source.old) (result ≡ ReadFault) }
+    ensures keeper { FaultsByPlan (K.faults keeper.old) (K.faults keeper.new) (K.plan keeper.old)
+        (result ≡ KeeperFault) }
 {
     match keeper.past() {
         Ok(Some(kept)) => compare(alloc, &kept, base, source),
         Ok(None) => import_new(rt, alloc, base, limits, source, keeper),
-        Err(KeepFault::Failed) => PastOutcome::KeeperFault,
-        Err(KeepFault::NoMemory) => PastOutcome::NoMemory,
+        Err(fault) => refused(fault),
     }
 }

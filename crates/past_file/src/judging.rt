@@ -3,7 +3,7 @@ ghost use Rattle.std.specs.Prelude.{◌≡◌, ◌≢◌, ◌≤◌, ℕ, List, 
 ghost use Rattle.road_time.specs.declared.day.Limits.{Limits as LimitsValue};
 ghost use Rattle.road_time.specs.declared.day.SpentRow.{SpentRow as SpentRowValue};
 ghost use Rattle.past_file.specs.Rows.{HasRows, IsPastRow};
-ghost use Rattle.past_file.specs.Readings.{Judges, Gathers, TakesRow, StopsTwice};
+ghost use Rattle.past_file.specs.Readings.{JudgesRow, GathersRows, TakesRow, StopsTwice};
 ghost use Rattle.past_file.specs.declared.judging.PastStop.TheVariants.{Row, ReadFault};
 
 use crate::amounts::Amounts;
@@ -53,8 +53,8 @@ pub fn judge(
     requires few { length text.now ≤ 200 }
     requires based { 70 ≤ base }
     ensures judges { (limits : LimitsValue) → limits.past ≡ limit
-        → Judges result base limits line text.now amounts.old amounts.new }
-    ensures gathers { IfNone result (Gathers amounts.old base → Gathers amounts.new base) }
+        → JudgesRow result base limits line text.now amounts.old amounts.new }
+    ensures gathers { IfNone result (GathersRows amounts.old base → GathersRows amounts.new base) }
     ensures unread { result ≢ Some ReadFault }
     ensures within { IfNone result (line ≤ limit) }
 {

@@ -1,8 +1,9 @@
 // How keeping a history ends, and why a line of one is refused.
-ghost use Rattle.std.specs.Prelude.{Some};
+ghost use Rattle.std.specs.Prelude.{◌≡◌, Some};
 ghost use Rattle.past_file.specs.Causes.{past_cause_text};
+ghost use Rattle.past_file.specs.Imports.{past_refused};
 
-use keeper::{Digest, PastRecord};
+use keeper::{Digest, KeepFault, PastRecord};
 use std::fmt;
 
 /// Why a line of a history is refused, and with it the whole history.
@@ -58,4 +59,14 @@ pub enum PastOutcome {
     KeeperFault,
     /// Memory ran out.
     NoMemory,
+}
+
+/// The outcome of a history whose keeper refused.
+pub fn refused(fault: KeepFault) -> PastOutcome
+    ensures { result ≡ past_refused fault }
+{
+    match fault {
+        KeepFault::Failed => PastOutcome::KeeperFault,
+        KeepFault::NoMemory => PastOutcome::NoMemory,
+    }
 }

@@ -1,7 +1,6 @@
 // A history, read whole.
-ghost use Rattle.std.specs.Prelude.{◌≡◌, ◌≢◌, ◌≤◌, ℕ, List, Some, Err, IfOk, IfErr};
-ghost use Rattle.road_io.specs.Faults.{Rose};
-ghost use Rattle.road_io.specs.Plans.{NeverFails};
+ghost use Rattle.std.specs.Prelude.{◌≡◌, ℕ, List, Some, Err, IfOk, IfErr, ◌≤◌};
+ghost use Rattle.road_io.specs.Blame.{FaultsByPlan};
 ghost use Rattle.keeper.specs.Kept.{IsPastPut};
 ghost use Rattle.day_reading.specs.Days.{ReadsWithin};
 ghost use Rattle.past_file.specs.Readings.{ReadsPast, StopsSoonAt};
@@ -32,10 +31,9 @@ pub fn read_past<S: Source, R: Threads>(
     ensures fits { IfOk result (λ h. IsPastPut h.past h.rows.items) }
     ensures based { IfOk result (λ h. h.past.base ≡ base) }
     ensures bounded { ReadsWithin (most_past limits.now) (S.left source.old) (S.left source.new) }
-    ensures cause { result ≡ Err ReadFault → Rose (S.faults source.old) (S.faults source.new) }
     ensures same { S.name source.new ≡ S.name source.old }
-    ensures later { S.faults source.old ≤ S.faults source.new }
-    ensures sure { NeverFails (S.plan source.old) → result ≢ Err ReadFault }
+    ensures source { FaultsByPlan (S.faults source.old) (S.faults source.new) (S.plan source.old)
+        (result ≡ Err ReadFault) }
 {
     let Ok(mut reader) = PastReader::new(alloc) else {
         return Err(PastStop::NoMemory);

@@ -5,10 +5,11 @@ use Rattle.keeper.specs.declared.digest.Digest.{Digest}
 use Rattle.keeper.specs.declared.kept.DayRecord.{DayRecord}
 use Rattle.keeper.specs.Office.{row_cmp}
 use Rattle.keeper.specs.Kept.{IsDayPut}
-use Rattle.keeper.proofs.SoundLaws.{rise_one}
+use Rattle.keeper.proofs.ListFacts.{rise_one}
 
 -- the day on which vehicle 100 was charged 2
-pub charged_fits : (r : DayRecord) (a : SpentRow) (d : Digest) → r ≡ record { day = 100; digest = d; bytes = 0; tuples = 0; notices = 0; notices_digest = d; tariffs = d; total = 2 }
+pub charged_fits : (r : DayRecord) (a : SpentRow) (d : Digest) →
+    r ≡ record { day = 100; digest = d; bytes = 0; tuples = 0; notices = 0; notices_digest = d; tariffs = d; total = 2 }
     → a ≡ record { day = 100; vid = 100; xway = 0; tolls = 2 } → IsDayPut r (a ∷ [])
 charged_fits r a d e f =
     rw (e, f) (record {

@@ -11,7 +11,8 @@ last_number (Some second) = pos second
 
 -- the fields of an accident's line: its first second, its last, and its place
 abbrev pub mishap_numbers : Mishap → List ℤ
-mishap_numbers m = pos m.from ∷ last_number m.to ∷ pos m.place.xway ∷ pos m.place.dir ∷ pos m.place.lane ∷ pos m.place.seg ∷ pos m.place.pos ∷ []
+mishap_numbers m = pos m.from ∷ last_number m.to ∷ pos m.place.xway ∷ pos m.place.dir ∷ pos m.place.lane
+    ∷ pos m.place.seg ∷ pos m.place.pos ∷ []
 
 -- the text of an accident, without LF
 abbrev pub mishap_text : Mishap → List ℕ

@@ -7,11 +7,12 @@ use Rattle.reports.specs.declared.report_fault.ReportFault.{ReportFault}
 use Rattle.reports.specs.declared.report_fault.ReportFault.TheVariants.{NoDay, KeeperFault, WriteFault, NoMemory}
 
 -- the whole text was written, or after a fault some first bytes of it
-abbrev pub Wrote : Result (Unit {0}) ReportFault → Option (List ℕ) → Option (List ℕ) → List ℕ → Type 0
-Wrote (Ok u) old new text = Appends old new text
-Wrote (Err fault) old new text = (k : ℕ) × Appends old new (take k text)
+abbrev pub WroteText : Result (Unit {0}) ReportFault → Option (List ℕ) → Option (List ℕ) → List ℕ → Type 0
+WroteText (Ok u) old new text = Appends old new text
+WroteText (Err fault) old new text = (k : ℕ) × Appends old new (take k text)
 
--- a report that has a text wrote it and never says that the day is not kept; one that has none says that, unless a fault comes first
+-- a report that has a text wrote it and never says that the day is not kept; one that has none says that, unless a
+-- fault comes first
 abbrev pub Reported : Result (Unit {0}) ReportFault → Option (List ℕ) → Option (List ℕ) → Option (List ℕ) → Type 0
 Reported (Ok u) old new None = ⊥
 Reported (Ok u) old new (Some text) = Appends old new text

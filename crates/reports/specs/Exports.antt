@@ -8,7 +8,10 @@ use Rattle.keeper.specs.Office.{Office, record_of, rows_between}
 
 -- the line of an amount: its vehicle, day, expressway and tolls
 abbrev pub export_line : SpentRow → List ℕ
-export_line r = decimal r.vid ++ (codes "," ++ (decimal r.day ++ (codes "," ++ (decimal r.xway ++ (codes "," ++ (decimal r.tolls ++ codes "\n"))))))
+export_line r =
+    decimal r.vid
+    ++ (codes ","
+    ++ (decimal r.day ++ (codes "," ++ (decimal r.xway ++ (codes "," ++ (decimal r.tolls ++ codes "\n"))))))
 
 -- the export of amounts: a line that names the columns, and a line each
 abbrev pub export_text : List SpentRow → List ℕ

@@ -14,21 +14,27 @@ right places n = padded_integral (format_spec 32 3 0 places (2 ^ 64 - 1)) false 
 
 -- the first lines of a day's statement: its number, and the digest and length of its bytes
 unfoldable pub input_lines : ℕ → List ℕ → ℕ → List ℕ
-input_lines day digest bytes = codes "day " ++ (decimal day ++ (codes "\ndigest " ++ (digest ++ (codes "\nbytes " ++ (decimal bytes ++ codes "\n")))))
+input_lines day digest bytes =
+    codes "day "
+    ++ (decimal day ++ (codes "\ndigest " ++ (digest ++ (codes "\nbytes " ++ (decimal bytes ++ codes "\n")))))
 
 -- the next lines: how many tuples it has, and how many notices
 unfoldable pub count_lines : ℕ → ℕ → List ℕ
-count_lines tuples notices = codes "tuples " ++ (decimal tuples ++ (codes "\nnotices " ++ (decimal notices ++ codes "\n")))
+count_lines tuples notices =
+    codes "tuples " ++ (decimal tuples ++ (codes "\nnotices " ++ (decimal notices ++ codes "\n")))
 
 -- the next lines: the digests of its notices and of its tariffs, and its total
 unfoldable pub charge_lines : List ℕ → List ℕ → ℕ → List ℕ
-charge_lines notices_digest tariffs total = codes "notices-digest " ++ (notices_digest ++ (codes "\ntariffs " ++ (tariffs ++ (codes "\ntotal " ++ (decimal total ++ codes "\n")))))
+charge_lines notices_digest tariffs total =
+    codes "notices-digest "
+    ++ (notices_digest ++ (codes "\ntariffs " ++ (tariffs ++ (codes "\ntotal " ++ (decimal total ++ codes "\n")))))
 
 -- the lines of a record, an item a line, the digests in lower-case hexadecimal digits
 abbrev pub record_text : DayRecord → List ℕ
 record_text r =
     input_lines r.day (encode_lower r.digest.bytes) r.bytes
-    ++ (count_lines r.tuples r.notices ++ charge_lines (encode_lower r.notices_digest.bytes) (encode_lower r.tariffs.bytes) r.total)
+    ++ (count_lines r.tuples r.notices ++ charge_lines (encode_lower r.notices_digest.bytes)
+    (encode_lower r.tariffs.bytes) r.total)
 
 -- what rows come to on an expressway
 abbrev pub sum_on : List SpentRow → ℕ → ℕ
@@ -57,7 +63,9 @@ day_report day o = option_map (λ r. day_text r (rows_between o day day)) (recor
 
 -- the first line of a vehicle's statement
 abbrev pub vehicle_line : ℕ → ℕ → ℕ → List ℕ
-vehicle_line vid from to = codes "vehicle " ++ (decimal vid ++ (codes " days " ++ (decimal from ++ (codes " to " ++ (decimal to ++ codes "\n")))))
+vehicle_line vid from to =
+    codes "vehicle "
+    ++ (decimal vid ++ (codes " days " ++ (decimal from ++ (codes " to " ++ (decimal to ++ codes "\n")))))
 
 -- the line of an amount
 abbrev pub amount_line : SpentRow → List ℕ

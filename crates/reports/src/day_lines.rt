@@ -1,5 +1,5 @@
 // The lines of a day's statement.
-ghost use Rattle.std.specs.Prelude.{◌≡◌, ◌++◌, IfOk, get_or};
+ghost use Rattle.std.specs.Prelude.{◌≡◌, IfOk, get_or};
 ghost use Rattle.std.specs.String.{string_bytes};
 ghost use Rattle.reports.specs.Statements.{input_lines, count_lines, charge_lines, record_text, way_line, way_text};
 ghost use Rattle.reports.specs.Statements.{ways_text, day_text};

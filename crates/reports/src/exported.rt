@@ -1,8 +1,6 @@
 // The export of a kept day.
-ghost use Rattle.std.specs.Prelude.{◌≡◌, ◌≢◌, ◌≤◌, Some, Err};
-ghost use Rattle.road_io.specs.Faults.{Rose};
-ghost use Rattle.road_io.specs.Plans.{NeverFails};
-ghost use Rattle.road_io.specs.Rooms.{Endless};
+ghost use Rattle.std.specs.Prelude.{◌≡◌, Some, Err};
+ghost use Rattle.road_io.specs.Blame.{FaultsByPlan, FaultsByRoom};
 ghost use Rattle.keeper.specs.Office.{Office};
 ghost use Rattle.reports.specs.Endings.{Reported};
 ghost use Rattle.reports.specs.Exports.{export_report};
@@ -29,12 +27,10 @@ pub fn export_csv<K: Keeper, O: Sink>(
         → Reported result (O.written sink.old) (O.written sink.new) (export_report day o) }
     ensures kept { K.told keeper.new ≡ K.told keeper.old }
     ensures nothing { result ≡ Err NoDay → sink.new ≡ sink.old }
-    ensures keeper_cause { result ≡ Err KeeperFault → Rose (K.faults keeper.old) (K.faults keeper.new) }
-    ensures keeper_later { K.faults keeper.old ≤ K.faults keeper.new }
-    ensures keeper_sure { NeverFails (K.plan keeper.old) → result ≢ Err KeeperFault }
-    ensures write_cause { result ≡ Err WriteFault → Rose (O.faults sink.old) (O.faults sink.new) }
-    ensures write_later { O.faults sink.old ≤ O.faults sink.new }
-    ensures write_sure { O.room sink.old ≡ Endless → (result ≢ Err WriteFault) × (O.room sink.new ≡ Endless) }
+    ensures keeper { FaultsByPlan (K.faults keeper.old) (K.faults keeper.new) (K.plan keeper.old)
+        (result ≡ Err KeeperFault) }
+    ensures sink { FaultsByRoom (O.faults sink.old) (O.faults sink.new) (O.room sink.old) (O.room sink.new)
+        (result ≡ Err WriteFault) }
 {
     let found = match find_day(day, keeper) {
         Ok(found) => found,

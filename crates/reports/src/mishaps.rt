@@ -1,12 +1,11 @@
 // The accident log of a day: a line for each accident.
-ghost use Rattle.std.specs.Prelude.{◌≡◌, ◌≢◌, ◌≤◌, ◌∷◌, [], ◌++◌, Err, IfOk};
+ghost use Rattle.std.specs.Prelude.{◌≡◌, ◌≢◌, ◌∷◌, [], ◌++◌, Err, IfOk};
 ghost use Rattle.std.specs.String.{string_bytes};
 ghost use Rattle.road_time.specs.Fits.{IsDay};
 ghost use Rattle.road_time.specs.Log.{log_of};
-ghost use Rattle.road_io.specs.Faults.{Rose};
-ghost use Rattle.road_io.specs.Rooms.{Endless};
+ghost use Rattle.road_io.specs.Blame.{FaultsByRoom};
 ghost use Rattle.reports.specs.AccidentLog.{last_number, mishap_text, log_text};
-ghost use Rattle.reports.specs.Endings.{Wrote};
+ghost use Rattle.reports.specs.Endings.{WroteText};
 ghost use Rattle.reports.specs.declared.report_fault.ReportFault.TheVariants.{NoDay, KeeperFault, WriteFault};
 
 use crate::putting::put_text;
@@ -69,11 +68,10 @@ pub fn accident_log<O: Sink>(
     sink: &mut O,
 ) -> Result<(), ReportFault>
     requires { IsDay tuples.now }
-    ensures wrote { Wrote result (O.written sink.old) (O.written sink.new) (log_text (log_of tuples.now)) }
+    ensures wrote { WroteText result (O.written sink.old) (O.written sink.new) (log_text (log_of tuples.now)) }
     ensures own { (result ≢ Err NoDay) × (result ≢ Err KeeperFault) }
-    ensures cause { result ≡ Err WriteFault → Rose (O.faults sink.old) (O.faults sink.new) }
-    ensures later { O.faults sink.old ≤ O.faults sink.new }
-    ensures sure { O.room sink.old ≡ Endless → (result ≢ Err WriteFault) × (O.room sink.new ≡ Endless) }
+    ensures sink { FaultsByRoom (O.faults sink.old) (O.faults sink.new) (O.room sink.old) (O.room sink.new)
+        (result ≡ Err WriteFault) }
 {
     let text = match text_for(alloc, tuples) {
         Ok(text) => text,

@@ -1,8 +1,7 @@
 // Writing a report's text.
-ghost use Rattle.std.specs.Prelude.{◌≡◌, ◌≢◌, ◌≤◌, Err};
-ghost use Rattle.road_io.specs.Faults.{Rose};
-ghost use Rattle.road_io.specs.Rooms.{Endless};
-ghost use Rattle.reports.specs.Endings.{Wrote};
+ghost use Rattle.std.specs.Prelude.{◌≡◌, ◌≢◌, Err};
+ghost use Rattle.road_io.specs.Blame.{FaultsByRoom};
+ghost use Rattle.reports.specs.Endings.{WroteText};
 ghost use Rattle.reports.specs.declared.report_fault.ReportFault.TheVariants.{WriteFault, NoDay, KeeperFault, NoMemory};
 
 use crate::report_fault::ReportFault;
@@ -10,11 +9,10 @@ use road_io::{Failed, Sink, put_all};
 
 /// Writes a text.
 pub(crate) fn put_text<O: Sink>(text: &[u8], sink: &mut O) -> Result<(), ReportFault>
-    ensures wrote { Wrote result (O.written sink.old) (O.written sink.new) text.now }
+    ensures wrote { WroteText result (O.written sink.old) (O.written sink.new) text.now }
     ensures own { (result ≢ Err NoDay) × (result ≢ Err KeeperFault) × (result ≢ Err NoMemory) }
-    ensures cause { result ≡ Err WriteFault → Rose (O.faults sink.old) (O.faults sink.new) }
-    ensures later { O.faults sink.old ≤ O.faults sink.new }
-    ensures sure { O.room sink.old ≡ Endless → (result ≢ Err WriteFault) × (O.room sink.new ≡ Endless) }
+    ensures sink { FaultsByRoom (O.faults sink.old) (O.faults sink.new) (O.room sink.old) (O.room sink.new)
+        (result ≡ Err WriteFault) }
 {
     match put_all(sink, text) {
         Ok(()) => Ok(()),

@@ -1,16 +1,13 @@
 // The statement of a vehicle.
-ghost use Rattle.std.specs.Prelude.{◌≡◌, ◌≢◌, ◌≤◌, Some, Err};
-ghost use Rattle.road_io.specs.Faults.{Rose};
-ghost use Rattle.road_io.specs.Plans.{NeverFails};
-ghost use Rattle.road_io.specs.Rooms.{Endless};
+ghost use Rattle.std.specs.Prelude.{◌≡◌, ◌≢◌, Some, Err};
+ghost use Rattle.road_io.specs.Blame.{FaultsByPlan, FaultsByRoom};
 ghost use Rattle.keeper.specs.Office.{Office};
-ghost use Rattle.reports.specs.Endings.{Wrote};
+ghost use Rattle.reports.specs.Endings.{WroteText};
 ghost use Rattle.reports.specs.Statements.{vehicle_report};
 ghost use Rattle.reports.specs.declared.report_fault.ReportFault.TheVariants.{NoDay, KeeperFault, WriteFault};
 
 use crate::putting::put_text;
-use crate::report_fault::ReportFault;
-use crate::stated_day::refused;
+use crate::report_fault::{ReportFault, refused};
 use crate::vehicle_lines::vehicle_text;
 use keeper::Keeper;
 use road_io::Sink;
@@ -28,15 +25,13 @@ pub fn vehicle_statement<K: Keeper, O: Sink>(
     sink: &mut O,
 ) -> Result<(), ReportFault>
     ensures wrote { (o : Office) → K.told keeper.old ≡ Some o
-        → Wrote result (O.written sink.old) (O.written sink.new) (vehicle_report vid from to o) }
+        → WroteText result (O.written sink.old) (O.written sink.new) (vehicle_report vid from to o) }
     ensures own { result ≢ Err NoDay }
     ensures kept { K.told keeper.new ≡ K.told keeper.old }
-    ensures keeper_cause { result ≡ Err KeeperFault → Rose (K.faults keeper.old) (K.faults keeper.new) }
-    ensures keeper_later { K.faults keeper.old ≤ K.faults keeper.new }
-    ensures keeper_sure { NeverFails (K.plan keeper.old) → result ≢ Err KeeperFault }
-    ensures write_cause { result ≡ Err WriteFault → Rose (O.faults sink.old) (O.faults sink.new) }
-    ensures write_later { O.faults sink.old ≤ O.faults sink.new }
-    ensures write_sure { O.room sink.old ≡ Endless → (result ≢ Err WriteFault) × (O.room sink.new ≡ Endless) }
+    ensures keeper { FaultsByPlan (K.faults keeper.old) (K.faults keeper.new) (K.plan keeper.old)
+        (result ≡ Err KeeperFault) }
+    ensures sink { FaultsByRoom (O.faults sink.old) (O.faults sink.new) (O.room sink.old) (O.room sink.new)
+        (result ≡ Err WriteFault) }
 {
     let rows = match keeper.vehicle_rows(vid, from, to) {
         Ok(rows) => rows,

@@ -1,7 +1,9 @@
 -- Laws of a day that is imported from a body.
 use Rattle.std.proofs.Common.{◌≡◌, ℕ, ◌≤◌, List, [], ◌∷◌, length, take, zero, suc, refl, ap, arith}
 use Rattle.import_once.specs.declared.outcomes.Outcome.{Outcome}
-use Rattle.import_once.specs.declared.outcomes.Outcome.TheVariants.{Stored, Already, Answered, Refused, DayPassed, Differs, ReadFault, WriteFault, KeeperFault, NoMemory}
+use Rattle.import_once.specs.declared.outcomes.Outcome.TheVariants.{Stored, Already, Answered, Refused, DayPassed}
+use Rattle.import_once.specs.declared.outcomes.Outcome.TheVariants.{Differs, ReadFault, WriteFault, KeeperFault}
+use Rattle.import_once.specs.declared.outcomes.Outcome.TheVariants.{NoMemory}
 use Rattle.import_once.specs.Imports.{LeavesAlone}
 use Rattle.toll_requests.specs.Bodies.{filled}
 
@@ -12,7 +14,8 @@ filled_whole (suc n) [] h = absurd (omega arith)
 filled_whole (suc n) (x ∷ xs) h = ap (λ l. x ∷ l) (filled_whole n xs (omega arith))
 
 -- what is left alone is so in other words
-pub alone_as : {S T A B : Type 0} (outcome : Outcome) → (S → T) → (A → B) → LeavesAlone outcome S A → LeavesAlone outcome T B
+pub alone_as : {S T A B : Type 0} (outcome : Outcome) → (S → T) → (A → B) → LeavesAlone outcome S A →
+    LeavesAlone outcome T B
 alone_as (Stored kept) f g h = tt
 alone_as (Already kept) f g h = g h
 alone_as (Answered kept) f g h = h

@@ -6,7 +6,9 @@ use Rattle.keeper.specs.declared.kept.DayRecord.{DayRecord}
 use Rattle.keeper.specs.History.{paid}
 use Rattle.keeper.specs.Office.{Office}
 use Rattle.import_once.specs.declared.outcomes.Outcome.{Outcome}
-use Rattle.import_once.specs.declared.outcomes.Outcome.TheVariants.{Stored, Already, Answered, Refused, DayPassed, Differs, ReadFault, WriteFault, KeeperFault, NoMemory}
+use Rattle.import_once.specs.declared.outcomes.Outcome.TheVariants.{Stored, Already, Answered, Refused, DayPassed}
+use Rattle.import_once.specs.declared.outcomes.Outcome.TheVariants.{Differs, ReadFault, WriteFault, KeeperFault}
+use Rattle.import_once.specs.declared.outcomes.Outcome.TheVariants.{NoMemory}
 use Rattle.toll_texts.specs.Bodies.{day_body, imported_body, refused_body, passed_body, differs_body, spent_body}
 use Rattle.toll_texts.specs.Replies.{Reply, error_reply, no_memory_reply}
 use Rattle.toll_requests.specs.Sends.{Replies, HasRoomFor}

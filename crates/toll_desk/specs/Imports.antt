@@ -30,7 +30,8 @@ state_of told faults posted = record { told = told; faults = faults; posted = po
 
 -- the import of a day from these bytes: over an exact crew by the rules, what is kept and what is published; over any
 -- crew one whole put at most, and nothing published of a day that is kept or passed
-pub record Imports (w : WhenRefused) (exact : Bool) (day : ℕ) (limits : Limits) (bytes : List ℕ) (o : Office) (now : Option Office) (was : Posted) (posted : Option Posted) (outcome : Outcome) : Type 0 where
+pub record Imports (w : WhenRefused) (exact : Bool) (day : ℕ) (limits : Limits) (bytes : List ℕ) (o : Office)
+    (now : Option Office) (was : Posted) (posted : Option Posted) (outcome : Outcome) : Type 0 where
   pub does : exact ≡ true → Does w (import_answer day 0 limits bytes o) o None None now outcome
   pub publishes : exact ≡ true → Publishes o.tariffs (reads bytes limits 0).tuples day limits.backlog was posted outcome
   pub puts : PutsOnce day o now
@@ -56,9 +57,11 @@ AnswersBody count all outcome old new end =
     × Answers (outcome_reply outcome) old.room old.written new.written end
 
 -- a day is imported from a body of so many bytes; one that is cut or failed in counts as one that goes on with zeros
-abbrev pub ImportsDay : WhenRefused → Bool → ℕ → Limits → ℕ → List ℕ → Office → State → State → Wire → Wire → SessionEnd → Type 0
+abbrev pub ImportsDay : WhenRefused → Bool → ℕ → Limits → ℕ → List ℕ → Office → State → State → Wire → Wire → SessionEnd
+    → Type 0
 ImportsDay w exact day limits count all o was now old new end =
     (outcome : Outcome) × (outcome ≡ KeeperFault → Rose was.faults now.faults)
-    × ((AnswersBody count all outcome old new end × Imports w exact day limits (take count all) o now.told was.posted (Some now.posted) outcome)
+    × ((AnswersBody count all outcome old new end × Imports w exact day limits (take count all) o now.told was.posted
+    (Some now.posted) outcome)
     ⊎ ((IsCutShort count all outcome old new end ⊎ FailsInBody old new end)
     × Imports w exact day limits (filled count all) o now.told was.posted (Some now.posted) outcome))

@@ -24,7 +24,8 @@ Asks bytes asked old mid =
     × (NeverFails old.plan → NeverFails mid.plan)
 
 -- a request of what is kept is answered, and the reader knows then all that is published
-abbrev pub ServesKept : WhenRefused → Bool → List ℕ → Limits → Office → State → State → Pass → Wire → Wire → SessionEnd → Type 0
+abbrev pub ServesKept : WhenRefused → Bool → List ℕ → Limits → Office → State → State → Pass → Wire → Wire → SessionEnd
+    → Type 0
 ServesKept w exact bytes limits o was now q old new end =
     (asked : Asked) × (mid : Wire) × Asks bytes asked old mid × IsOfKept asked
     × AnswersKept w exact asked limits o was now mid new end × StartsWith q.seen now.posted.published
@@ -37,7 +38,8 @@ ServesLive bytes p q old new end =
 
 -- a session over a link with these bytes, a desk that keeps this office and a reader of its board: it ends at once; or
 -- what is asked is answered of what is kept; or of the live board
-abbrev pub Serves : WhenRefused → Bool → List ℕ → Limits → Office → State → State → Pass → Pass → Wire → Wire → SessionEnd → Type 0
+abbrev pub Serves : WhenRefused → Bool → List ℕ → Limits → Office → State → State → Pass → Pass → Wire → Wire →
+    SessionEnd → Type 0
 Serves w exact bytes limits o was now p q old new end =
     (EndsAtOnce bytes old new end × (now ≡ was) × (q ≡ p))
     ⊎ (ServesKept w exact bytes limits o was now q old new end

@@ -2,7 +2,9 @@
 ghost use Rattle.std.specs.Prelude.{◌≡◌, ◌≢◌, ◌≤◌, ℕ, List, Some, IfOk, string_bytes};
 ghost use Rattle.road_io.specs.Faults.{Rose};
 ghost use Rattle.road_io.specs.Rooms.{Endless};
+ghost use Rattle.keeper.specs.declared.kept.KeepFault.TheVariants.{Failed};
 ghost use Rattle.keeper.specs.Office.{Office, record_of};
+ghost use Rattle.toll_texts.specs.Replies.{Reply as ReplyValue};
 ghost use Rattle.toll_requests.specs.declared.session_end.SessionEnd.TheVariants.{Answered, LinkFault};
 ghost use Rattle.toll_desk.specs.Answers.{Answers, AnswersUnlessFailed, day_reply, spent_reply, keeper_reply};
 
@@ -47,6 +49,22 @@ pub fn send_keeper_fault<L: Link>(alloc: Global, link: &mut L) -> SessionEnd
     send_error(alloc, link, StatusCode::SERVICE_UNAVAILABLE, "keeper")
 }
 
+/// Answers that the keeper failed, or that it found no memory.
+fn send_refusal<L: Link>(alloc: Global, fault: KeepFault, link: &mut L) -> SessionEnd
+    ensures sent { (reply : ReplyValue) (before now : ℕ) → (fault ≡ Failed → Rose before now)
+        → AnswersUnlessFailed reply before now (L.room link.old) (L.written link.old) (L.written link.new) result }
+    ensures unavailable { result ≡ Answered 503 → fault ≡ Failed }
+    ensures unread { L.left link.new ≡ L.left link.old }
+    ensures sure { L.room link.old ≡ Endless → result ≢ LinkFault }
+    ensures cause { result ≡ LinkFault → Rose (L.faults link.old) (L.faults link.new) }
+    ensures later { L.faults link.old ≤ L.faults link.new }
+{
+    match fault {
+        KeepFault::Failed => send_keeper_fault(alloc, link),
+        KeepFault::NoMemory => send_no_memory(link),
+    }
+}
+
 /// Answers a day, if it is kept.
 fn send_day<L: Link>(alloc: Global, kept: Option<DayRecord>, link: &mut L) -> SessionEnd
     ensures sent { Answers (day_reply kept) (L.room link.old) (L.written link.old) (L.written link.new) result }
@@ -81,8 +99,7 @@ pub fn answer_day<L: Link, K: Keeper>(
 {
     match keeper.day(day) {
         Ok(kept) => send_day(alloc, kept, link),
-        Err(KeepFault::Failed) => send_keeper_fault(alloc, link),
-        Err(KeepFault::NoMemory) => send_no_memory(link),
+        Err(fault) => send_refusal(alloc, fault, link),
     }
 }
 
@@ -107,7 +124,6 @@ pub fn answer_spent<L: Link, K: Keeper>(
 {
     match keeper.spent(day, vid, xway) {
         Ok(amount) => send_made(alloc, link, StatusCode::OK, spent_body(alloc, amount)),
-        Err(KeepFault::Failed) => send_keeper_fault(alloc, link),
-        Err(KeepFault::NoMemory) => send_no_memory(link),
+        Err(fault) => send_refusal(alloc, fault, link),
     }
 }

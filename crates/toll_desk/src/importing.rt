@@ -1,8 +1,7 @@
 // Importing a day from the body of a request.
 ghost use Rattle.std.specs.Prelude.{◌≡◌, ◌≢◌, ◌≤◌, ℕ, List, [], Some, length};
 ghost use Rattle.std.specs.Io.KnownBytes.{prepend_known};
-ghost use Rattle.road_io.specs.Faults.{Rose};
-ghost use Rattle.road_io.specs.Plans.{NeverFails};
+ghost use Rattle.road_io.specs.Blame.{FaultsByPlan};
 ghost use Rattle.road_time.specs.Fits.{IsLimits};
 ghost use Rattle.accounts.specs.Operations.{Posted};
 ghost use Rattle.keeper.specs.Office.{Office};
@@ -64,9 +63,8 @@ fn import_from<L: Link, K: Keeper, C: Crew, P: Publisher, R: Threads, N: Start>(
     ensures link_cause { HasEndCause N.plan N.faults (L.faults link.new) result.1 }
     ensures link_later { N.faults ≤ L.faults link.new }
     ensures unfailed { result.0 ≢ WriteFault }
-    ensures keeper_cause { result.0 ≡ KeeperFault → Rose (K.faults keeper.old) (K.faults keeper.new) }
-    ensures keeper_later { K.faults keeper.old ≤ K.faults keeper.new }
-    ensures keeper_sure { NeverFails (K.plan keeper.old) → result.0 ≢ KeeperFault }
+    ensures keeper { FaultsByPlan (K.faults keeper.old) (K.faults keeper.new) (K.plan keeper.old)
+        (result.0 ≡ KeeperFault) }
 {
     let mut body: Body<'_, '_, L, N> = Body {
         link,
@@ -129,9 +127,8 @@ pub fn import_body<L: Link, K: Keeper, C: Crew, P: Publisher, R: Threads>(
     ensures link_cause { HasEndCause (L.plan link.old) (L.faults link.old) (L.faults link.new) result.1 }
     ensures link_later { L.faults link.old ≤ L.faults link.new }
     ensures unfailed { result.0 ≢ WriteFault }
-    ensures keeper_cause { result.0 ≡ KeeperFault → Rose (K.faults keeper.old) (K.faults keeper.new) }
-    ensures keeper_later { K.faults keeper.old ≤ K.faults keeper.new }
-    ensures keeper_sure { NeverFails (K.plan keeper.old) → result.0 ≢ KeeperFault }
+    ensures keeper { FaultsByPlan (K.faults keeper.old) (K.faults keeper.new) (K.plan keeper.old)
+        (result.0 ≡ KeeperFault) }
 {
     import_from::<L, K, C, P, R, Brand>(
         rt, alloc, day, plan, limits, early, count, link, keeper, crew, publisher,

@@ -4,6 +4,7 @@ use Rattle.std.proofs.lemmas.Bool.{cases_lt}
 use Rattle.httparse.proofs.GrammarLemmas.{request_unique}
 use Rattle.toll_heads.specs.Laws.{IsOneHead, IsOpen, AreApart}
 
+-- what stands first is one head at most, and then it is neither bad nor cut
 pub one_head : IsOneHead
 one_head bytes h rest has = (
   λ k more at. request_unique bytes k h more rest at.0 has.0,
@@ -11,6 +12,7 @@ one_head bytes h rest has = (
   λ cut. cut.0 h rest has,
 )
 
+-- what is bad is not cut, unless it stays open
 pub apart : AreApart
 apart bytes (none, inl long) cut = absurd (omega (arith, long, cut.1))
 apart bytes (none, inr never) (still, short, inr target) = inl target

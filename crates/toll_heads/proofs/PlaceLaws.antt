@@ -1,144 +1,99 @@
--- A path that names a place of the desk finds its route, and is ASCII.
-use Rattle.std.proofs.Common.{◌≡◌, ℕ, nat_le, not, suc, ◌<◌, ◌==◌, ◌&&◌, Bool, true, false, cond, List, [], ◌∷◌, ◌++◌, codes, length, drop, Option, Some, None, refl, sym, ap, subst, ◌∙◌, arith}
-use Rattle.std.specs.List.{onto_first, list_all}
-use Rattle.std.specs.Str.{all_ascii_digits, bytes_eq, IsAscii, IsUtf8}
-use Rattle.std.specs.Str.Parse.{digits_value}
-use Rattle.std.proofs.lemmas.Bool.{cond-false, and_parts, leb-true, ne_eqb, eqb-true}
-use Rattle.std.proofs.lemmas.List.{take-append-drop}
-use Rattle.std.proofs.lemmas.Str.{IsUtf8-from_ascii}
-use Rattle.std.proofs.lemmas.Str.Ascii.{IsAscii-nil, IsAscii-cons}
-use Rattle.road_time.specs.Numbers.{are_digits}
-use Rattle.matchit.specs.Seek.{first, has_slash}
-use Rattle.matchit.specs.Level.{IsText}
-use Rattle.toll_heads.specs.Numbers.{in_range, number_in}
-use Rattle.toll_heads.specs.Paths.{parts_at, parts_of, begins_with, place_of, day_place, live_place, spent_place, spent_of}
+-- A path that names a place of the desk finds its route, and the other way round.
+use Rattle.std.proofs.Common.{◌≡◌, ℕ, not, ◌&&◌, Bool, true, false, cond, List, ◌∷◌, ◌++◌, codes, drop, Option, Some}
+use Rattle.std.proofs.Common.{None, refl, sym, ap, ◌∙◌, []}
+use Rattle.std.specs.Str.{bytes_eq}
+use Rattle.matchit.specs.Seek.{first}
+use Rattle.toll_heads.specs.Numbers.{number_in}
+use Rattle.toll_heads.specs.Paths.{parts_of, begins_with, place_of, day_place, live_place, spent_place, spent_of}
 use Rattle.toll_heads.specs.declared.place.Place.{Place}
 use Rattle.toll_heads.specs.declared.place.Place.TheVariants.{TotalPlace}
-use Rattle.toll_heads.proofs.PathLaws.{parts_some}
 use Rattle.toll_heads.specs.declared.route.Route.{Route}
 use Rattle.toll_heads.specs.declared.route.Route.TheVariants.{OfDay, OfLive, OfTotal, OfSpent}
-use Rattle.toll_heads.specs.Rows.{desk_rows, key_of, IsPart}
-use Rattle.toll_heads.specs.Places.{route_of, place_by, PlacesHaveRoutes, RoutesHavePlaces, PlacesAreAscii}
+use Rattle.toll_heads.specs.Rows.{desk_rows, key_of}
+use Rattle.toll_heads.specs.Places.{route_of, place_by, PlacesHaveRoutes, RoutesHavePlaces}
 use Rattle.toll_heads.proofs.RouteLaws.{find_routes}
+use Rattle.toll_heads.proofs.PartLaws.{IsNumber, number_part, glued, glue_parts, bytes_same, front_is}
 
--- digits are bytes, and none is a slash
-digits_plain : (ds : List ℕ) → all_ascii_digits ds ≡ true → IsText ds × (has_slash ds ≡ false)
-digits_plain [] e = (tt, refl)
-digits_plain (d ∷ ds) e =
-    let p = and_parts _ _ e in
-    let q = and_parts _ _ p.0 in
-    let low = leb-true 48 d q.0 in
-    let high = leb-true d 57 q.1 in
-    let rest = digits_plain ds p.1 in
-    ((omega (arith, high), rest.0), cond-false (d == 47) _ _ (ne_eqb d 47 (λ is. omega (arith, is, low))) ∙ rest.1)
-
-digits_ascii : (ds : List ℕ) → all_ascii_digits ds ≡ true → IsAscii ds
-digits_ascii [] e = IsAscii-nil
-digits_ascii (d ∷ ds) e =
-    let p = and_parts _ _ e in
-    let high = leb-true d 57 (and_parts _ _ p.0).1 in
-    IsAscii-cons d ds (omega (arith, high)) (digits_ascii ds p.1)
-
--- a part of a path that is a number
-abbrev IsNumber : List ℕ → Type 0
-IsNumber part = IsPart part × IsAscii part
-
-digits_part : (ds : List ℕ) → are_digits 10 ds ≡ true → IsNumber ds
-digits_part ds e =
-    let p = and_parts _ _ e in
-    let q = and_parts _ _ p.1 in
-    let plain = digits_plain ds q.1 in
-    (record { some = leb-true 1 (length ds) p.0; text = plain.0; whole = plain.1 }, digits_ascii ds q.1)
-
-number_part : (low high : ℕ) (ds : List ℕ) (n : ℕ) → number_in low high ds ≡ Some n → IsNumber ds
-number_part low high ds n is = by (are_digits 10 ds) refl is
-  where
-    by : (v : Bool) → are_digits 10 ds ≡ v → in_range low high (cond v (Some (digits_value 10 ds)) None) ≡ Some n → IsNumber ds
-    by true e h = digits_part ds e
-    by false e h = absurd (cc h)
-
--- parts with a slash between two
-abbrev glue : List ℕ → List (List ℕ) → List ℕ
-glue p [] = p
-glue p (q ∷ r) = p ++ 47 ∷ glue q r
-
-abbrev glued : List (List ℕ) → List ℕ
-glued [] = []
-glued (p ∷ r) = glue p r
-
-glue_onto : (x : ℕ) (p : List ℕ) (r : List (List ℕ)) → glue (x ∷ p) r ≡ x ∷ glue p r
-glue_onto x p [] = refl
-glue_onto x p (q ∷ r) = refl
-
-glue_parts : (text : List ℕ) → glued (parts_at 47 text) ≡ text
-glue_parts [] = refl
-glue_parts (x ∷ xs) = by (x == 47) refl (parts_at 47 xs) (parts_some 47 xs) (glue_parts xs)
-  where
-    by : (v : Bool) → (x == 47) ≡ v → (ls : List (List ℕ)) → 0 < length ls → glued ls ≡ xs → glued (cond v ([] ∷ ls) (onto_first x ls)) ≡ x ∷ xs
-    by true e [] h g = absurd (omega (arith, h))
-    by true e (q ∷ r) h g = ap (λ l. 47 ∷ l) g ∙ ap (λ y. y ∷ xs) (sym (eqb-true x 47 e))
-    by false e [] h g = absurd (omega (arith, h))
-    by false e (q ∷ r) h g = glue_onto x q r ∙ ap (λ l. x ∷ l) g
-
-bytes_same : (xs ys : List ℕ) → bytes_eq xs ys ≡ true → xs ≡ ys
-bytes_same [] [] e = refl
-bytes_same [] (y ∷ ys) e = absurd (cc e)
-bytes_same (x ∷ xs) [] e = absurd (cc e)
-bytes_same (x ∷ xs) (y ∷ ys) e =
-    let p = and_parts _ _ e in
-    ap (λ z. z ∷ xs) (eqb-true x y p.0) ∙ ap (λ l. y ∷ l) (bytes_same xs ys p.1)
-
--- a text that begins with a front
-front_is : (path front : List ℕ) → begins_with path front ≡ true → path ≡ front ++ drop (length front) path
-front_is path front e = sym (take-append-drop (length front) path) ∙ ap (λ l. l ++ drop (length front) path) (bytes_same _ _ e)
-
+-- a place that is there is one
 place_inj : (p q : Place) → Some p ≡ Some q → p ≡ q
 place_inj p q e = cc e
 
+-- and so a number
 some_inj : (m n : ℕ) → Some m ≡ Some n → m ≡ n
 some_inj m n e = cc e
 
 -- three parts that name a charge
-spent_parts : (ls : List (List ℕ)) (p : Place) → spent_of ls ≡ Some p
-    → (a : List ℕ) × (b : List ℕ) × (c : List ℕ) × (ls ≡ a ∷ b ∷ c ∷ []) × IsNumber a × IsNumber b × IsNumber c × (route_of p ≡ OfSpent)
+pub spent_parts : (ls : List (List ℕ)) (p : Place) → spent_of ls ≡ Some p
+    → (a : List ℕ) × (b : List ℕ) × (c : List ℕ) × (ls ≡ a ∷ b ∷ c ∷ []) × IsNumber a × IsNumber b × IsNumber c
+    × (route_of p ≡ OfSpent)
 spent_parts [] p e = absurd (cc e)
 spent_parts (a ∷ []) p e = absurd (cc e)
 spent_parts (a ∷ b ∷ []) p e = absurd (cc e)
 spent_parts (a ∷ b ∷ c ∷ d ∷ ls) p e = absurd (cc e)
-spent_parts (a ∷ b ∷ c ∷ []) p e = by (number_in 1 1000000 a) (number_in 0 255 b) (number_in 0 2147483647 c) refl refl refl e
+spent_parts (a ∷ b ∷ c ∷ []) p e =
+    by (number_in 1 1000000 a) (number_in 0 255 b) (number_in 0 2147483647 c) refl refl refl e
   where
-    by : (x y z : Option ℕ) → number_in 1 1000000 a ≡ x → number_in 0 255 b ≡ y → number_in 0 2147483647 c ≡ z → spent_place x y z ≡ Some p
-        → (a' : List ℕ) × (b' : List ℕ) × (c' : List ℕ) × (a ∷ b ∷ c ∷ [] ≡ a' ∷ b' ∷ c' ∷ []) × IsNumber a' × IsNumber b' × IsNumber c' × (route_of p ≡ OfSpent)
+    by : (x y z : Option ℕ) → number_in 1 1000000 a ≡ x → number_in 0 255 b ≡ y → number_in 0 2147483647 c ≡ z →
+        spent_place x y z ≡ Some p
+        → (a' : List ℕ) × (b' : List ℕ) × (c' : List ℕ) × (a ∷ b ∷ c ∷ [] ≡ a' ∷ b' ∷ c' ∷ []) × IsNumber a'
+        × IsNumber b' × IsNumber c' × (route_of p ≡ OfSpent)
     by None y z f g h e = absurd (cc e)
     by (Some d) None z f g h e = absurd (cc e)
     by (Some d) (Some x) None f g h e = absurd (cc e)
-    by (Some d) (Some x) (Some v) f g h e =
-        (a, b, c, refl, number_part 1 1000000 a d f, number_part 0 255 b x g, number_part 0 2147483647 c v h, ap route_of (sym (place_inj _ _ e)))
+    by (Some d) (Some x) (Some v) f g h e = (
+      a,
+      b,
+      c,
+      refl,
+      number_part 1 1000000 a d f,
+      number_part 0 255 b x g,
+      number_part 0 2147483647 c v h,
+      ap route_of (sym (place_inj _ _ e)),
+    )
 
-spent_found : (text : List ℕ) (p : Place) → spent_of (parts_of text) ≡ Some p → first desk_rows (codes "/spent/" ++ text) ≡ Some (key_of (route_of p))
+-- a path of a charge finds the route of charges
+spent_found : (text : List ℕ) (p : Place) → spent_of (parts_of text) ≡ Some p →
+    first desk_rows (codes "/spent/" ++ text) ≡ Some (key_of (route_of p))
 spent_found text p e =
     let s = spent_parts (parts_of text) p e in
     let joined : text ≡ s.0 ++ 47 ∷ (s.1 ++ 47 ∷ s.2) = sym (glue_parts text) ∙ ap glued s.3 in
-    ap (λ l. first desk_rows (codes "/spent/" ++ l)) joined ∙ find_routes.3 s.0 s.1 s.2 s.4.0 s.5.0 s.6.0 ∙ ap (λ r. Some (key_of r)) (sym s.7)
+    ap (λ l. first desk_rows (codes "/spent/" ++ l)) joined ∙ find_routes.3 s.0 s.1 s.2 s.4.0 s.5.0 s.6.0
+    ∙ ap (λ r. Some (key_of r)) (sym s.7)
 
-day_found : (text : List ℕ) (p : Place) (n : Option ℕ) → number_in 70 1000000 text ≡ n → day_place n ≡ Some p → first desk_rows (codes "/days/" ++ text) ≡ Some (key_of (route_of p))
+-- one of a day that of days
+day_found : (text : List ℕ) (p : Place) (n : Option ℕ) → number_in 70 1000000 text ≡ n → day_place n ≡ Some p →
+    first desk_rows (codes "/days/" ++ text) ≡ Some (key_of (route_of p))
 day_found text p None is e = absurd (cc e)
-day_found text p (Some n) is e = find_routes.1 text (number_part 70 1000000 text n is).0 ∙ ap (λ q. Some (key_of (route_of q))) (place_inj _ _ e)
+day_found text p (Some n) is e = find_routes.1 text (number_part 70 1000000 text n is).0
+    ∙ ap (λ q. Some (key_of (route_of q))) (place_inj _ _ e)
 
-live_found : (text : List ℕ) (p : Place) (n : Option ℕ) → number_in 0 2147483647 text ≡ n → live_place n ≡ Some p → first desk_rows (codes "/live/" ++ text) ≡ Some (key_of (route_of p))
+-- and one of a vehicle's account that of accounts
+live_found : (text : List ℕ) (p : Place) (n : Option ℕ) → number_in 0 2147483647 text ≡ n → live_place n ≡ Some p →
+    first desk_rows (codes "/live/" ++ text) ≡ Some (key_of (route_of p))
 live_found text p None is e = absurd (cc e)
-live_found text p (Some n) is e = find_routes.2 text (number_part 0 2147483647 text n is).0 ∙ ap (λ q. Some (key_of (route_of q))) (place_inj _ _ e)
+live_found text p (Some n) is e = find_routes.2 text (number_part 0 2147483647 text n is).0
+    ∙ ap (λ q. Some (key_of (route_of q))) (place_inj _ _ e)
 
+-- a path that names a place finds the route of that place
 pub places_have_routes : PlacesHaveRoutes
-places_have_routes path p is = by (bytes_eq path (codes "/live")) refl (begins_with path (codes "/days/")) refl (begins_with path (codes "/live/")) refl (begins_with path (codes "/spent/")) refl is
+places_have_routes path p is = by (bytes_eq path (codes "/live")) refl (begins_with path (codes "/days/")) refl
+    (begins_with path (codes "/live/")) refl (begins_with path (codes "/spent/")) refl is
   where
-    by : (u : Bool) → bytes_eq path (codes "/live") ≡ u → (v : Bool) → begins_with path (codes "/days/") ≡ v → (w : Bool) → begins_with path (codes "/live/") ≡ w → (x : Bool) → begins_with path (codes "/spent/") ≡ x
-        → cond u (Some TotalPlace) (cond v (day_place (number_in 70 1000000 (drop 6 path))) (cond w (live_place (number_in 0 2147483647 (drop 6 path))) (cond x (spent_of (parts_of (drop 7 path))) None))) ≡ Some p
+    by : (u : Bool) → bytes_eq path (codes "/live") ≡ u → (v : Bool) → begins_with path (codes "/days/") ≡ v →
+        (w : Bool) → begins_with path (codes "/live/") ≡ w → (x : Bool) → begins_with path (codes "/spent/") ≡ x
+        → cond u (Some TotalPlace)
+        (cond v (day_place (number_in 70 1000000 (drop 6 path)))
+        (cond w (live_place (number_in 0 2147483647 (drop 6 path)))
+        (cond x (spent_of (parts_of (drop 7 path))) None))) ≡ Some p
         → first desk_rows path ≡ Some (key_of (route_of p))
-    by true a v b w c x d e = ap (first desk_rows) (bytes_same path (codes "/live") a) ∙ find_routes.0 ∙ ap (λ q. Some (key_of (route_of q))) (place_inj _ _ e)
-    by false a true b w c x d e = ap (first desk_rows) (front_is path (codes "/days/") b) ∙ day_found (drop 6 path) p _ refl e
-    by false a false b true c x d e = ap (first desk_rows) (front_is path (codes "/live/") c) ∙ live_found (drop 6 path) p _ refl e
-    by false a false b false c true d e = ap (first desk_rows) (front_is path (codes "/spent/") d) ∙ spent_found (drop 7 path) p e
+    by true a v b w c x d e = ap (first desk_rows) (bytes_same path (codes "/live") a) ∙ find_routes.0
+        ∙ ap (λ q. Some (key_of (route_of q))) (place_inj _ _ e)
+    by false a true b w c x d e = ap (first desk_rows) (front_is path (codes "/days/") b)
+        ∙ day_found (drop 6 path) p _ refl e
+    by false a false b true c x d e = ap (first desk_rows) (front_is path (codes "/live/") c)
+        ∙ live_found (drop 6 path) p _ refl e
+    by false a false b false c true d e = ap (first desk_rows) (front_is path (codes "/spent/") d)
+        ∙ spent_found (drop 7 path) p e
     by false a false b false c false d e = absurd (cc e)
 
 -- a path that finds no route names no place
@@ -161,17 +116,21 @@ day_route : (p : Place) (n : Option ℕ) → day_place n ≡ Some p → route_of
 day_route p None e = absurd (cc e)
 day_route p (Some n) e = ap route_of (sym (place_inj _ _ e))
 
+-- of an account
 live_route : (p : Place) (n : Option ℕ) → live_place n ≡ Some p → route_of p ≡ OfLive
 live_route p None e = absurd (cc e)
 live_route p (Some n) e = ap route_of (sym (place_inj _ _ e))
 
+-- of a charge
 spent_route : (p : Place) (ls : List (List ℕ)) → spent_of ls ≡ Some p → route_of p ≡ OfSpent
 spent_route p ls e = (spent_parts ls p e).7
 
 -- the place that a path names, by what it is and what it begins with
-abbrev place_cases : List ℕ → Bool → Bool → Bool → Bool → Option Place
+abbrev pub place_cases : List ℕ → Bool → Bool → Bool → Bool → Option Place
 place_cases path u v w x =
-    cond u (Some TotalPlace) (cond v (day_place (number_in 70 1000000 (drop 6 path))) (cond w (live_place (number_in 0 2147483647 (drop 6 path))) (cond x (spent_of (parts_of (drop 7 path))) None)))
+    cond u (Some TotalPlace)
+    (cond v (day_place (number_in 70 1000000 (drop 6 path)))
+    (cond w (live_place (number_in 0 2147483647 (drop 6 path))) (cond x (spent_of (parts_of (drop 7 path))) None)))
 
 -- the place by a route, by the same
 abbrev route_cases : Route → List ℕ → Bool → Bool → Bool → Bool → Option Place
@@ -187,25 +146,36 @@ one_of false true w x = not w && not x
 one_of false false true x = not x
 one_of false false false x = true
 
+-- and this path is
 abbrev is_one : List ℕ → Bool
-is_one path = one_of (bytes_eq path (codes "/live")) (begins_with path (codes "/days/")) (begins_with path (codes "/live/")) (begins_with path (codes "/spent/"))
+is_one path =
+    one_of (bytes_eq path (codes "/live")) (begins_with path (codes "/days/")) (begins_with path (codes "/live/"))
+    (begins_with path (codes "/spent/"))
 
+-- no path is two of them
 fronts_differ : (path : List ℕ) → is_one path ≡ true
-fronts_differ path = by (bytes_eq path (codes "/live")) refl (begins_with path (codes "/days/")) refl (begins_with path (codes "/live/")) refl (begins_with path (codes "/spent/")) refl
+fronts_differ path = by (bytes_eq path (codes "/live")) refl (begins_with path (codes "/days/")) refl
+    (begins_with path (codes "/live/")) refl (begins_with path (codes "/spent/")) refl
   where
-    by : (u : Bool) → bytes_eq path (codes "/live") ≡ u → (v : Bool) → begins_with path (codes "/days/") ≡ v → (w : Bool) → begins_with path (codes "/live/") ≡ w
+    by : (u : Bool) → bytes_eq path (codes "/live") ≡ u → (v : Bool) → begins_with path (codes "/days/") ≡ v →
+        (w : Bool) → begins_with path (codes "/live/") ≡ w
         → (x : Bool) → begins_with path (codes "/spent/") ≡ x → is_one path ≡ true
     by true a v b w c x d = ap is_one (bytes_same path (codes "/live") a)
     by false a true b w c x d = ap is_one (front_is path (codes "/days/") b)
     by false a false b true c x d = ap is_one (front_is path (codes "/live/") c)
-    by false a false b false c x d = ap (λ z. one_of z (begins_with path (codes "/days/")) (begins_with path (codes "/live/")) (begins_with path (codes "/spent/"))) a
+    by false a false b false c x d =
+        ap (λ z. one_of z (begins_with path (codes "/days/")) (begins_with path (codes "/live/"))
+        (begins_with path (codes "/spent/"))) a
         ∙ ap (λ z. one_of false z (begins_with path (codes "/live/")) (begins_with path (codes "/spent/"))) b
         ∙ ap (λ z. one_of false false z (begins_with path (codes "/spent/"))) c
 
+-- what a path names by the route that it finds is what it names
 pub routes_have_places : RoutesHavePlaces
 routes_have_places path r found = by r _ _ _ _ (fronts_differ path) found refl ∙ sym (shown r)
   where
-    shown : (q : Route) → place_by q path ≡ route_cases q path (bytes_eq path (codes "/live")) (begins_with path (codes "/days/")) (begins_with path (codes "/live/")) (begins_with path (codes "/spent/"))
+    shown : (q : Route) →
+        place_by q path ≡ route_cases q path (bytes_eq path (codes "/live")) (begins_with path (codes "/days/"))
+        (begins_with path (codes "/live/")) (begins_with path (codes "/spent/"))
     shown OfDay = refl
     shown OfLive = refl
     shown OfTotal = refl
@@ -214,25 +184,29 @@ routes_have_places path r found = by r _ _ _ _ (fronts_differ path) found refl �
     at_total : (p : Place) → Some TotalPlace ≡ Some p → route_of p ≡ OfTotal
     at_total p e = ap route_of (sym (place_inj _ _ e))
 
-    total : (q : Route) → first desk_rows path ≡ Some (key_of q) → place_of path ≡ Some TotalPlace → Some TotalPlace ≡ route_cases q path true false false false
+    total : (q : Route) → first desk_rows path ≡ Some (key_of q) → place_of path ≡ Some TotalPlace →
+        Some TotalPlace ≡ route_cases q path true false false false
     total OfDay f is = other path OfDay OfTotal _ is f at_total (λ e. cc e)
     total OfLive f is = other path OfLive OfTotal _ is f at_total (λ e. cc e)
     total OfTotal f is = refl
     total OfSpent f is = other path OfSpent OfTotal _ is f at_total (λ e. cc e)
 
-    day : (q : Route) (o : Option ℕ) → first desk_rows path ≡ Some (key_of q) → place_of path ≡ day_place o → number_in 70 1000000 (drop 6 path) ≡ o → day_place o ≡ route_cases q path false true false false
+    day : (q : Route) (o : Option ℕ) → first desk_rows path ≡ Some (key_of q) → place_of path ≡ day_place o →
+        number_in 70 1000000 (drop 6 path) ≡ o → day_place o ≡ route_cases q path false true false false
     day OfDay o f is at = ap day_place (sym at)
     day OfLive o f is at = other path OfLive OfDay _ is f (λ p. day_route p o) (λ e. cc e)
     day OfTotal o f is at = other path OfTotal OfDay _ is f (λ p. day_route p o) (λ e. cc e)
     day OfSpent o f is at = other path OfSpent OfDay _ is f (λ p. day_route p o) (λ e. cc e)
 
-    live : (q : Route) (o : Option ℕ) → first desk_rows path ≡ Some (key_of q) → place_of path ≡ live_place o → number_in 0 2147483647 (drop 6 path) ≡ o → live_place o ≡ route_cases q path false false true false
+    live : (q : Route) (o : Option ℕ) → first desk_rows path ≡ Some (key_of q) → place_of path ≡ live_place o →
+        number_in 0 2147483647 (drop 6 path) ≡ o → live_place o ≡ route_cases q path false false true false
     live OfDay o f is at = other path OfDay OfLive _ is f (λ p. live_route p o) (λ e. cc e)
     live OfLive o f is at = ap live_place (sym at)
     live OfTotal o f is at = other path OfTotal OfLive _ is f (λ p. live_route p o) (λ e. cc e)
     live OfSpent o f is at = other path OfSpent OfLive _ is f (λ p. live_route p o) (λ e. cc e)
 
-    spent : (q : Route) (ls : List (List ℕ)) → first desk_rows path ≡ Some (key_of q) → place_of path ≡ spent_of ls → parts_of (drop 7 path) ≡ ls → spent_of ls ≡ route_cases q path false false false true
+    spent : (q : Route) (ls : List (List ℕ)) → first desk_rows path ≡ Some (key_of q) → place_of path ≡ spent_of ls →
+        parts_of (drop 7 path) ≡ ls → spent_of ls ≡ route_cases q path false false false true
     spent OfDay ls f is at = other path OfDay OfSpent _ is f (λ p. spent_route p ls) (λ e. cc e)
     spent OfLive ls f is at = other path OfLive OfSpent _ is f (λ p. spent_route p ls) (λ e. cc e)
     spent OfTotal ls f is at = other path OfTotal OfSpent _ is f (λ p. spent_route p ls) (λ e. cc e)
@@ -244,7 +218,8 @@ routes_have_places path r found = by r _ _ _ _ (fronts_differ path) found refl �
     none OfTotal = refl
     none OfSpent = refl
 
-    by : (q : Route) (u v w x : Bool) → one_of u v w x ≡ true → first desk_rows path ≡ Some (key_of q) → place_of path ≡ place_cases path u v w x
+    by : (q : Route) (u v w x : Bool) → one_of u v w x ≡ true → first desk_rows path ≡ Some (key_of q) →
+        place_of path ≡ place_cases path u v w x
         → place_cases path u v w x ≡ route_cases q path u v w x
     by q true true w x e f is = absurd (cc e)
     by q true false true x e f is = absurd (cc e)
@@ -257,55 +232,6 @@ routes_have_places path r found = by r _ _ _ _ (fronts_differ path) found refl �
     by q false false true false e f is = live q _ f is refl
     by q false false false true e f is = spent q _ f is refl
     by q false false false false e f is = none q
-
--- text in two parts
-ascii_append : (xs ys : List ℕ) → IsAscii xs → IsAscii ys → IsAscii (xs ++ ys)
-ascii_append [] ys a b = b
-ascii_append (x ∷ xs) ys a b = IsAscii-cons x (xs ++ ys) (a 0) (ascii_append xs ys (λ i. a (suc i)) b)
-
-ascii_bytes : (bs : List ℕ) → list_all (λ b. nat_le b 127) bs ≡ true → IsAscii bs
-ascii_bytes [] e = IsAscii-nil
-ascii_bytes (b ∷ bs) e =
-    let p = and_parts _ _ e in
-    let low = leb-true b 127 p.0 in
-    IsAscii-cons b bs (omega (arith, low)) (ascii_bytes bs p.1)
-
-day_ascii : (text : List ℕ) (p : Place) (n : Option ℕ) → number_in 70 1000000 text ≡ n → day_place n ≡ Some p → IsAscii text
-day_ascii text p None is e = absurd (cc e)
-day_ascii text p (Some n) is e = (number_part 70 1000000 text n is).1
-
-live_ascii : (text : List ℕ) (p : Place) (n : Option ℕ) → number_in 0 2147483647 text ≡ n → live_place n ≡ Some p → IsAscii text
-live_ascii text p None is e = absurd (cc e)
-live_ascii text p (Some n) is e = (number_part 0 2147483647 text n is).1
-
-spent_ascii : (text : List ℕ) (p : Place) → spent_of (parts_of text) ≡ Some p → IsAscii text
-spent_ascii text p e =
-    let s = spent_parts (parts_of text) p e in
-    let joined : text ≡ s.0 ++ 47 ∷ (s.1 ++ 47 ∷ s.2) = sym (glue_parts text) ∙ ap glued s.3 in
-    let last = IsAscii-cons 47 s.2 (omega arith) s.6.1 in
-    subst IsAscii (sym joined) (ascii_append s.0 _ s.4.1 (IsAscii-cons 47 _ (omega arith) (ascii_append s.1 _ s.5.1 last)))
-
-pub places_are_ascii : PlacesAreAscii
-places_are_ascii path p is = by (bytes_eq path (codes "/live")) refl (begins_with path (codes "/days/")) refl (begins_with path (codes "/live/")) refl (begins_with path (codes "/spent/")) refl is
-  where
-    behind : (front : List ℕ) → begins_with path front ≡ true → list_all (λ b. nat_le b 127) front ≡ true → IsAscii (drop (length front) path) → IsAscii path
-    behind front b e rest = subst IsAscii (sym (front_is path front b)) (ascii_append front _ (ascii_bytes front e) rest)
-
-    by : (u : Bool) → bytes_eq path (codes "/live") ≡ u → (v : Bool) → begins_with path (codes "/days/") ≡ v → (w : Bool) → begins_with path (codes "/live/") ≡ w → (x : Bool) → begins_with path (codes "/spent/") ≡ x
-        → place_cases path u v w x ≡ Some p → IsAscii path
-    by true a v b w c x d e = subst IsAscii (sym (bytes_same path (codes "/live") a)) (ascii_bytes (codes "/live") refl)
-    by false a true b w c x d e = behind (codes "/days/") b refl (day_ascii (drop 6 path) p _ refl e)
-    by false a false b true c x d e = behind (codes "/live/") c refl (live_ascii (drop 6 path) p _ refl e)
-    by false a false b false c true d e = behind (codes "/spent/") d refl (spent_ascii (drop 7 path) p e)
-    by false a false b false c false d e = absurd (cc e)
-
--- bytes that are no text name no place
-pub no_text : (path : List ℕ) → (IsUtf8 path → ⊥) → None ≡ place_of path
-no_text path bad = by (place_of path) refl
-  where
-    by : (o : Option Place) → place_of path ≡ o → None ≡ o
-    by None e = refl
-    by (Some p) e = absurd (bad (IsUtf8-from_ascii path (places_are_ascii path p e)))
 
 -- a path that finds a route names what it names by that route
 pub by_route : (path : List ℕ) (r : Route) → Some (key_of r) ≡ first desk_rows path → place_by r path ≡ place_of path

@@ -12,7 +12,8 @@ IsOneHead = (bytes : List ℕ) (h : RequestHead) (rest : List ℕ) → HasHead b
 -- what is not looked at: bytes that end in a target, and heads of more than 64 fields
 abbrev pub IsOpen : List ℕ → Type 0
 IsOpen bytes =
-    EndsInTarget bytes ⊎ ((more : List ℕ) × (h : RequestHead) × ReadsRequest (bytes ++ more) h [] × (64 < length h.fields))
+    EndsInTarget bytes
+    ⊎ ((more : List ℕ) × (h : RequestHead) × ReadsRequest (bytes ++ more) h [] × (64 < length h.fields))
 
 -- bad and cut heads differ, but for what is not looked at
 abbrev pub AreApart : Type 0

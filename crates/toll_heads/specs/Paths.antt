@@ -1,5 +1,6 @@
 -- Which place of the desk a path names.
-use Rattle.std.specs.Prelude.{ℕ, ◌≡◌, ◌==◌, ◌≤◌, List, [], ◌∷◌, length, take, drop, Option, Some, None, if◌then◌else◌, codes, Bool}
+use Rattle.std.specs.Prelude.{ℕ, ◌≡◌, ◌==◌, ◌≤◌, List, [], ◌∷◌, length, take, drop, Option, Some, None, if◌then◌else◌}
+use Rattle.std.specs.Prelude.{codes, Bool}
 use Rattle.std.specs.List.{slice_split}
 use Rattle.std.specs.Str.{bytes_eq}
 use Rattle.toll_heads.specs.Numbers.{number_in}
@@ -10,6 +11,7 @@ use Rattle.toll_heads.specs.declared.place.Place.TheVariants.{DayPlace, SpentPla
 abbrev pub parts_at : ℕ → List ℕ → List (List ℕ)
 parts_at byte text = slice_split (λ b. b == byte) text
 
+-- the first of the parts
 abbrev pub first_part : List (List ℕ) → List ℕ
 first_part [] = []
 first_part (part ∷ parts) = part
@@ -27,14 +29,17 @@ abbrev pub CutsAt : ℕ → List ℕ → List ℕ → Option (List ℕ) → Type
 CutsAt byte text part None = parts_at byte text ≡ part ∷ []
 CutsAt byte text part (Some rest) = parts_at byte text ≡ part ∷ parts_at byte rest
 
+-- the place of a day, if its number is one
 abbrev pub day_place : Option ℕ → Option Place
 day_place None = None
 day_place (Some day) = Some (DayPlace day)
 
+-- of a vehicle's account
 abbrev pub live_place : Option ℕ → Option Place
 live_place None = None
 live_place (Some vid) = Some (LivePlace vid)
 
+-- and of a charge
 abbrev pub spent_place : Option ℕ → Option ℕ → Option ℕ → Option Place
 spent_place (Some day) (Some xway) (Some vid) = Some (SpentPlace day xway vid)
 spent_place None xway vid = None
@@ -46,7 +51,8 @@ abbrev pub spent_of : List (List ℕ) → Option Place
 spent_of [] = None
 spent_of (day ∷ []) = None
 spent_of (day ∷ xway ∷ []) = None
-spent_of (day ∷ xway ∷ vid ∷ []) = spent_place (number_in 1 1000000 day) (number_in 0 255 xway) (number_in 0 2147483647 vid)
+spent_of (day ∷ xway ∷ vid ∷ []) =
+    spent_place (number_in 1 1000000 day) (number_in 0 255 xway) (number_in 0 2147483647 vid)
 spent_of (day ∷ xway ∷ vid ∷ more ∷ rest) = None
 
 -- the numbers of a place are in their ranges

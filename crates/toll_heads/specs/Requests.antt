@@ -1,5 +1,6 @@
 -- What a request's head asks for, or why it is refused at once.
-use Rattle.std.specs.Prelude.{ℕ, Bool, true, false, nat_le, List, [], ◌∷◌, map, Option, Some, None, Result, Ok, Err, if◌then◌else◌, codes}
+use Rattle.std.specs.Prelude.{ℕ, Bool, true, false, nat_le, List, [], ◌∷◌, map, Option, Some, None, Result, Ok, Err}
+use Rattle.std.specs.Prelude.{if◌then◌else◌, codes}
 use Rattle.std.specs.Str.{bytes_eq, str_eq_ignore_ascii_case}
 use Rattle.httparse.specs.Grammar.{RequestHead}
 use Rattle.httparse.specs.Spans.{name_and_value}
@@ -36,8 +37,10 @@ length_of (one ∷ two ∷ rest) codings = Err BadLength
 
 -- the length of a body, by the fields of its head
 abbrev pub body_length : List (List ℕ × List ℕ) → Result ℕ Refusal
-body_length fields = length_of (values_of (codes "Content-Length") fields) (values_of (codes "Transfer-Encoding") fields)
+body_length fields =
+    length_of (values_of (codes "Content-Length") fields) (values_of (codes "Transfer-Encoding") fields)
 
+-- a day that is to be imported, where the length of its body is stated well
 abbrev pub import_of : ℕ → Result ℕ Refusal → Result Wanted Refusal
 import_of day (Ok n) = Ok (Import day n)
 import_of day (Err e) = Err e

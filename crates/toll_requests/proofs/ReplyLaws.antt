@@ -1,5 +1,6 @@
 -- Laws of reading a request and answering it.
-use Rattle.std.proofs.Common.{◌≡◌, ℕ, ◌≤◌, inl, inr, List, [], ◌∷◌, ◌++◌, length, take, drop, zero, suc, Option, Some, None, Err, refl, ap, subst, arith}
+use Rattle.std.proofs.Common.{◌≡◌, ℕ, ◌≤◌, inl, inr, List, [], ◌∷◌, ◌++◌, length, take, drop, zero, suc, Option, Some}
+use Rattle.std.proofs.Common.{None, Err, refl, ap, subst, arith}
 use Rattle.std.specs.Fmt.{digits}
 use Rattle.std.specs.Io.KnownBytes.{prepend_known}
 use Rattle.std.proofs.lemmas.List.{length-append}
@@ -12,7 +13,8 @@ use Rattle.toll_heads.specs.declared.wanted.Wanted.{Wanted}
 use Rattle.toll_heads.specs.declared.wanted.Wanted.TheVariants as wanted
 use Rattle.road_io.specs.Rooms.{Room, Untold, Bound, Endless, Refuses}
 use Rattle.toll_heads.specs.declared.wanted.Refusal.{Refusal}
-use Rattle.toll_heads.specs.declared.wanted.Refusal.TheVariants.{BadHead, NoPath, BadMethod, BadLength, LengthNeeded, TooLong}
+use Rattle.toll_heads.specs.declared.wanted.Refusal.TheVariants.{BadHead, NoPath, BadMethod, BadLength, LengthNeeded}
+use Rattle.toll_heads.specs.declared.wanted.Refusal.TheVariants.{TooLong}
 use Rattle.toll_texts.specs.Replies.{Reply, reply_bytes, no_memory_reply}
 use Rattle.toll_requests.specs.Sends.{Replies, HasRoom, HasRoomFor, refusal_reply, refusal_room}
 use Rattle.toll_requests.specs.Requests.{asked_for, wanted_in, Heads, HasBody, IsRefused, ReadsAsked}
@@ -24,14 +26,23 @@ abbrev pub reply_of : ℕ → List ℕ → Reply
 reply_of status body = record { status = status; body = body }
 
 -- a head that was read stands first in all the bytes
-pub heads_on : (buf bytes : List ℕ) (headers : List HeaderSpan) (spans : RequestSpans) (h : RequestHead) (left : Option (List ℕ)) → IsRequestAt buf headers spans h → length h.fields ≤ 64 → length buf ≤ 8192 → prepend_known buf left ≡ Some bytes
+pub heads_on : (buf bytes : List ℕ) (headers : List HeaderSpan) (spans : RequestSpans) (h : RequestHead)
+    (left : Option (List ℕ)) → IsRequestAt buf headers spans h → length h.fields ≤ 64 → length buf ≤ 8192 →
+    prepend_known buf left ≡ Some bytes
     → (more : List ℕ) × (left ≡ Some more) × Heads bytes h (drop spans.len buf ++ more)
 heads_on buf bytes headers spans h None at few short known = absurd (cc known)
 heads_on buf bytes headers spans h (Some more) at few short known =
     let is : buf ++ more ≡ bytes = cc known in
     let reads = ReadsRequest-append buf h (drop spans.len buf) more at.reads in
-    let long = length-append (print_request h) (drop spans.len buf) in
-    (more, refl, ((subst (λ l. ReadsRequest l h (drop spans.len buf ++ more)) is reads, few), omega (arith, short, long, ap length at.reads.1)))
+    let long = length-append (print_request h) (drop spans.len buf) in (
+      more,
+      refl,
+      (
+        (subst (λ l. ReadsRequest l h (drop spans.len buf ++ more)) is reads, few),
+        omega
+            (arith, short, long, ap length at.reads.1),
+      ),
+    )
 
 -- what is asked for is what was wanted
 pub wanted_same : (w : Wanted) (rest : List ℕ) → wanted_in (asked_for w rest) ≡ w
@@ -55,7 +66,8 @@ has_body (wanted.Live vid) rest more = tt
 has_body wanted.LiveTotal rest more = tt
 
 -- a refusal that was answered
-pub refused : (bytes : List ℕ) (left old new : Option (List ℕ)) (r : Refusal) (end : SessionEnd) → IsRefused bytes r → Replies (refusal_reply r) old new end → ReadsAsked bytes left old new (Err end)
+pub refused : (bytes : List ℕ) (left old new : Option (List ℕ)) (r : Refusal) (end : SessionEnd) → IsRefused bytes r →
+    Replies (refusal_reply r) old new end → ReadsAsked bytes left old new (Err end)
 refused bytes left old new r (Answered s) is (inl sent) = inl (r, is, sent)
 refused bytes left old new r (Answered s) is (inr sent) = inr sent
 refused bytes left old new r Cut is (inl sent) = absurd sent
@@ -92,7 +104,9 @@ refusal_short TooLong = omega arith
 
 -- a link with room for any refusal has room for this one
 pub room_for : (room : Room) (r : Refusal) → HasRoom room refusal_room → HasRoomFor room (refusal_reply r)
-room_for room r has = (room_less room refusal_room _ (refusal_short r) has, room_less room refusal_room _ memory_short has)
+room_for room r has =
+    (room_less room refusal_room _ (refusal_short r) has, room_less room refusal_room _ memory_short has)
 
 pub room_for_memory : (room : Room) → HasRoom room refusal_room → HasRoomFor room no_memory_reply
-room_for_memory room has = (room_less room refusal_room _ memory_short has, room_less room refusal_room _ memory_short has)
+room_for_memory room has =
+    (room_less room refusal_room _ memory_short has, room_less room refusal_room _ memory_short has)

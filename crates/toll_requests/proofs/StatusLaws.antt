@@ -1,7 +1,8 @@
 -- Laws of the status that is answered.
 use Rattle.std.proofs.Common.{◌≡◌, ◌≢◌, ◌<◌, ℕ, inl, inr, List, Option, sym, subst, arith}
 use Rattle.toll_heads.specs.declared.wanted.Refusal.{Refusal}
-use Rattle.toll_heads.specs.declared.wanted.Refusal.TheVariants.{BadHead, NoPath, BadMethod, BadLength, LengthNeeded, TooLong}
+use Rattle.toll_heads.specs.declared.wanted.Refusal.TheVariants.{BadHead, NoPath, BadMethod, BadLength, LengthNeeded}
+use Rattle.toll_heads.specs.declared.wanted.Refusal.TheVariants.{TooLong}
 use Rattle.toll_texts.specs.Replies.{Reply, no_memory_reply}
 use Rattle.toll_requests.specs.Sends.{SendsReply, Replies, refusal_reply}
 use Rattle.toll_requests.specs.declared.session_end.SessionEnd.{SessionEnd}
@@ -12,11 +13,13 @@ at_503 r old new (inl sent) other = other (sym sent.0)
 at_503 r old new (inr sent) other = (let is : 503 ≡ 500 = sent.0 in omega (arith, is))
 
 -- a reply of another status, or want of memory, is not answered as unavailable
-pub not_unavailable : (r : Reply) (old new : Option (List ℕ)) (end : SessionEnd) → Replies r old new end → r.status ≢ 503 → end ≡ Answered 503 → ⊥
+pub not_unavailable : (r : Reply) (old new : Option (List ℕ)) (end : SessionEnd) → Replies r old new end →
+    r.status ≢ 503 → end ≡ Answered 503 → ⊥
 not_unavailable r old new end sent other is = at_503 r old new (subst (λ e. Replies r old new e) is sent) other
 
 -- nor is want of memory
-pub memory_is_available : (old new : Option (List ℕ)) (end : SessionEnd) → SendsReply no_memory_reply old new end → end ≡ Answered 503 → ⊥
+pub memory_is_available : (old new : Option (List ℕ)) (end : SessionEnd) → SendsReply no_memory_reply old new end →
+    end ≡ Answered 503 → ⊥
 memory_is_available old new end sent is =
     not_unavailable no_memory_reply old new end (inr sent) (λ e. (let same : 500 ≡ 503 = e in omega (arith, same))) is
 
@@ -29,6 +32,7 @@ refusal_low LengthNeeded = omega arith
 refusal_low TooLong = omega arith
 
 -- nor is a refusal
-pub refusal_is_available : (r : Refusal) (old new : Option (List ℕ)) (end : SessionEnd) → Replies (refusal_reply r) old new end → end ≡ Answered 503 → ⊥
+pub refusal_is_available : (r : Refusal) (old new : Option (List ℕ)) (end : SessionEnd) →
+    Replies (refusal_reply r) old new end → end ≡ Answered 503 → ⊥
 refusal_is_available r old new end sent is =
     not_unavailable (refusal_reply r) old new end sent (λ e. omega (arith, refusal_low r, e)) is

@@ -1,5 +1,6 @@
 -- The body of a request, as a source.
-use Rattle.std.specs.Prelude.{◌≡◌, ℕ, ◌<◌, ◌≤◌, Bool, true, false, List, [], ◌∷◌, ◌++◌, length, drop, zero, suc, Option, Some, None}
+use Rattle.std.specs.Prelude.{◌≡◌, ℕ, ◌<◌, ◌≤◌, Bool, true, false, List, [], ◌∷◌, ◌++◌, length, drop, zero, suc, Option}
+use Rattle.std.specs.Prelude.{Some, None}
 use Rattle.std.specs.Option.{option_map}
 use Rattle.std.specs.Io.KnownBytes.{prepend_known}
 use Rattle.toll_requests.specs.declared.body_end.BodyEnd.{BodyEnd}
@@ -44,7 +45,8 @@ Ends left faults cut Whole = (left ≡ 0) × (faults ≡ 0) × (cut ≡ false)
 Ends left faults cut Cut = cut ≡ true
 Ends left faults cut LinkFault = (0 < faults) × (cut ≡ false)
 
--- what is left of a link after a body of so many of its bytes: the body was there, and no more was read; or the bytes end
+-- what is left of a link after a body of so many of its bytes: the body was there, and no more was read; or the bytes
+-- end
 -- before the body; or the link failed
 abbrev pub LeavesBody : ℕ → List ℕ → Option (List ℕ) → BodyEnd → Type 0
 LeavesBody count all left Whole = (count ≤ length all) × (left ≡ Some (drop count all))

@@ -57,7 +57,8 @@ IsRefused bytes r =
     ((r ≡ BadHead) × IsBadHead (front_of bytes))
     ⊎ ((h : RequestHead) × (after : List ℕ) × Heads bytes h after × (wanted_of h ≡ Err r))
 
--- an answer of the reading: what is asked; or the request was refused, with its answer, or for want of memory; or the bytes
+-- an answer of the reading: what is asked; or the request was refused, with its answer, or for want of memory; or the
+-- bytes
 -- end before the head; or the link failed
 abbrev pub ReadsAsked : List ℕ → Option (List ℕ) → Option (List ℕ) → Option (List ℕ) → Result Asked SessionEnd → Type 0
 ReadsAsked bytes left old new (Ok asked) =

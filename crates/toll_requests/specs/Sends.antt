@@ -3,7 +3,8 @@ use Rattle.std.specs.Prelude.{◌≡◌, ◌⊎◌, ℕ, ◌<◌, ◌≤◌, Lis
 use Rattle.std.specs.Io.KnownBytes.{Appends}
 use Rattle.road_io.specs.Rooms.{Room, Untold, Bound, Endless}
 use Rattle.toll_heads.specs.declared.wanted.Refusal.{Refusal}
-use Rattle.toll_heads.specs.declared.wanted.Refusal.TheVariants.{BadHead, NoPath, BadMethod, BadLength, LengthNeeded, TooLong}
+use Rattle.toll_heads.specs.declared.wanted.Refusal.TheVariants.{BadHead, NoPath, BadMethod, BadLength, LengthNeeded}
+use Rattle.toll_heads.specs.declared.wanted.Refusal.TheVariants.{TooLong}
 use Rattle.toll_texts.specs.Replies.{Reply, reply_bytes, error_reply, no_memory_reply}
 use Rattle.toll_requests.specs.declared.session_end.SessionEnd.{SessionEnd}
 use Rattle.toll_requests.specs.declared.session_end.SessionEnd.TheVariants.{Answered, Cut, LinkFault}

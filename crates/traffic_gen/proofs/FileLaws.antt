@@ -1,5 +1,6 @@
 -- the whole traffic is a day that is accepted, in the order of lines
-use Rattle.std.proofs.Common.{◌≡◌, ℕ, zero, suc, ◌+◌, ◌*◌, ◌≤◌, List, [], ◌∷◌, length, map, Option, Some, None, refl, arith, sym, subst}
+use Rattle.std.proofs.Common.{◌≡◌, ℕ, zero, suc, ◌+◌, ◌*◌, ◌≤◌, List, [], ◌∷◌, length, map, Option, Some, None, refl}
+use Rattle.std.proofs.Common.{arith, sym, subst}
 use Rattle.std.specs.List.{cons_option}
 use Rattle.std.proofs.lemmas.List.{length-map}
 use Rattle.std.proofs.lemmas.List.Elements.{All-from_recursion, recursion_from_All}
@@ -12,13 +13,14 @@ use Rattle.road_time.specs.Reads.{reads}
 use Rattle.road_time.proofs.NoteLaws.{distinct-le}
 use Rattle.road_time.proofs.AllowedLaws.{fit_by_time}
 use Rattle.road_time.proofs.OrderLaws.{by_time_length}
-use Rattle.road_time.proofs.TextLaws.{reads_back}
+use Rattle.road_time.proofs.FitLines.{reads_back}
 use Rattle.traffic_gen.specs.declared.plan.GenPlan.{GenPlan}
 use Rattle.traffic_gen.specs.Plans.{InRange, end_of}
 use Rattle.traffic_gen.specs.Crashes.{IsCrash, crash_vehicle, crash_tuples}
 use Rattle.traffic_gen.specs.Trips.{IsTrip, trip_tuples}
 use Rattle.traffic_gen.specs.Turns.{InLineOrder}
-use Rattle.traffic_gen.specs.Traffic.{before_crash, before_trip, crash_of, trip_of, vid_of_trip, trips, crash_traffic, trip_traffic, traffic, generated, file_of}
+use Rattle.traffic_gen.specs.Traffic.{before_crash, before_trip, crash_of, trip_of, vid_of_trip, trips, crash_traffic}
+use Rattle.traffic_gen.specs.Traffic.{trip_traffic, traffic, generated, file_of}
 use Rattle.traffic_gen.proofs.StepLaws.{no_crash, no_trip, crashes_more, trips_more}
 use Rattle.traffic_gen.proofs.RangeLaws.{crash_drawn, trip_drawn}
 use Rattle.traffic_gen.proofs.TurnLaws.{line_order}
@@ -51,16 +53,23 @@ module _ (plan : GenPlan) (r : InRange plan) where
       let c = crash_of plan n in
       let end = end_of plan in
       let is = crash_is plan r n in
-      let first = crash_fleet end (2 * n + 1) (2 * n + 2) c.start c is day (omega (arith, h, r.few_crashes)) (omega arith) in
-      let second = crash_fleet end (2 * n + 2) (2 * suc n + 1) (c.start + 1) c is day (omega (arith, h, r.few_crashes)) (omega arith) in
-      let pair = fleets (2 * n + 1) (2 * n + 2) (2 * suc n + 1) (crash_vehicle end c (2 * n + 1) c.start) (crash_vehicle end c (2 * n + 2) (c.start + 1)) first second in
-      let all = fleets 1 (2 * n + 1) (2 * suc n + 1) (crash_traffic plan n) (crash_tuples end n c) (crashes_so_far n (omega (arith, h))) pair in
+      let first = crash_fleet end (2 * n + 1) (2 * n + 2) c.start c is day (omega (arith, h, r.few_crashes))
+      (omega arith) in
+      let second = crash_fleet end (2 * n + 2) (2 * suc n + 1) (c.start + 1) c is day (omega (arith, h, r.few_crashes))
+      (omega arith) in
+      let pair = fleets (2 * n + 1) (2 * n + 2) (2 * suc n + 1) (crash_vehicle end c (2 * n + 1) c.start)
+      (crash_vehicle end c (2 * n + 2) (c.start + 1)) first second in
+      let all = fleets 1 (2 * n + 1) (2 * suc n + 1) (crash_traffic plan n) (crash_tuples end n c)
+      (crashes_so_far n (omega (arith, h))) pair in
       let next : n + 1 ≡ suc n = omega arith in
-      subst (λ m. Fleet 1 (2 * suc n + 1) (crash_traffic plan m)) next (subst (Fleet 1 (2 * suc n + 1)) (sym (crashes_more plan n)) all)
+      subst (λ m. Fleet 1 (2 * suc n + 1) (crash_traffic plan m)) next
+      (subst (Fleet 1 (2 * suc n + 1)) (sym (crashes_more plan n)) all)
 
   -- the first trips
-  trips_so_far : (n : ℕ) → n ≤ trips plan → Fleet (2 * plan.crashes + 1) (2 * plan.crashes + 1 + n) (trip_traffic plan n)
-  trips_so_far zero h = rw (no_trip plan) (subst (λ m. Fleet (2 * plan.crashes + 1) m []) nothing (no_fleet (2 * plan.crashes + 1)))
+  trips_so_far : (n : ℕ) → n ≤ trips plan →
+      Fleet (2 * plan.crashes + 1) (2 * plan.crashes + 1 + n) (trip_traffic plan n)
+  trips_so_far zero h =
+      rw (no_trip plan) (subst (λ m. Fleet (2 * plan.crashes + 1) m []) nothing (no_fleet (2 * plan.crashes + 1)))
     where
       nothing : 2 * plan.crashes + 1 ≡ 2 * plan.crashes + 1 + zero
       nothing = omega arith
@@ -70,16 +79,22 @@ module _ (plan : GenPlan) (r : InRange plan) where
       let t = trip_of plan n in
       let is = trip_is plan r n (omega (arith, h, r.few_vehicles)) in
       let vid : t.vid ≡ low + n = trip_vid plan n in
-      let last = subst (λ v. Fleet v (low + suc n) (trip_tuples end t)) vid (trip_fleet end (low + suc n) t is day (omega (arith, vid))) in
-      let all = fleets low (low + n) (low + suc n) (trip_traffic plan n) (trip_tuples end t) (trips_so_far n (omega (arith, h))) last in
+      let last =
+      subst (λ v. Fleet v (low + suc n) (trip_tuples end t)) vid
+      (trip_fleet end (low + suc n) t is day (omega (arith, vid))) in
+      let all = fleets low (low + n) (low + suc n) (trip_traffic plan n) (trip_tuples end t)
+      (trips_so_far n (omega (arith, h))) last in
       let next : n + 1 ≡ suc n = omega arith in
-      subst (λ m. Fleet low (low + suc n) (trip_traffic plan m)) next (subst (Fleet low (low + suc n)) (sym (trips_more plan n)) all)
+      subst (λ m. Fleet low (low + suc n) (trip_traffic plan m)) next
+      (subst (Fleet low (low + suc n)) (sym (trips_more plan n)) all)
 
   -- the whole traffic
   pub traffic_fleet : Fleet 1 (2 * plan.crashes + 1 + trips plan) (traffic plan)
   unfolding traffic
   traffic_fleet =
-      fleets 1 (2 * plan.crashes + 1) (2 * plan.crashes + 1 + trips plan) (crash_traffic plan plan.crashes) (trip_traffic plan (trips plan)) (crashes_so_far plan.crashes (omega arith)) (trips_so_far (trips plan) (omega arith))
+      fleets 1 (2 * plan.crashes + 1) (2 * plan.crashes + 1 + trips plan) (crash_traffic plan plan.crashes)
+      (trip_traffic plan (trips plan)) (crashes_so_far plan.crashes (omega arith))
+      (trips_so_far (trips plan) (omega arith))
 
 -- no more reports than tuples
 fewer_reports : (xs : List Tuple) → length (reports xs) ≤ length xs
@@ -92,7 +107,14 @@ fewer_reports (x ∷ xs) = step (report_of x) (fewer_reports xs)
 
 -- no more vehicles than tuples
 few_seen : (xs : List Tuple) → length (vehicles_seen xs) ≤ length xs
-few_seen xs = omega (arith, distinct-le (map (λ (r : Report). r.vid) (reports xs)), length-map (reports xs) (λ (r : Report). r.vid), fewer_reports xs)
+few_seen xs =
+    omega (
+      arith,
+      distinct-le (map (λ (r : Report). r.vid) (reports xs)),
+      length-map (reports xs)
+          (λ (r : Report). r.vid),
+      fewer_reports xs,
+    )
 
 -- few vehicles are a day that the limits allow
 fleet_allowed : (high : ℕ) (xs : List Tuple) → high ≤ 5001 → Fleet 1 high xs → Allowed xs DAY
@@ -110,10 +132,13 @@ last_vehicle plan r = omega (arith, r.few_vehicles, r.pairs)
 -- it is a day that the office takes
 pub is_day : (plan : GenPlan) → InRange plan → IsDay (generated plan)
 unfolding generated
-is_day plan r = fit_by_time (traffic plan) DAY (fleet_allowed (2 * plan.crashes + 1 + trips plan) (traffic plan) (last_vehicle plan r) (traffic_fleet plan r))
+is_day plan r =
+    fit_by_time (traffic plan) DAY
+    (fleet_allowed (2 * plan.crashes + 1 + trips plan) (traffic plan) (last_vehicle plan r) (traffic_fleet plan r))
 
 -- and its file reads back as it
-pub accepted : (plan : GenPlan) → InRange plan → (late : ℕ) → reads (file_of plan) DAY late ≡ record { tuples = generated plan; refused = None }
+pub accepted : (plan : GenPlan) → InRange plan → (late : ℕ) →
+    reads (file_of plan) DAY late ≡ record { tuples = generated plan; refused = None }
 unfolding file_of
 accepted plan r late = reads_back (generated plan) DAY late (is_day plan r)
 
@@ -125,7 +150,8 @@ in_line_order plan r = line_order (traffic plan) (traffic_fleet plan r).in_turn
 -- of at most so many lines
 pub few_lines : (plan : GenPlan) → InRange plan → length (generated plan) ≤ 190000
 unfolding generated
-few_lines plan r = let f = traffic_fleet plan r in let last = last_vehicle plan r in omega (arith, f.few, last, by_time_length (traffic plan))
+few_lines plan r = let f = traffic_fleet plan r in let last = last_vehicle plan r in
+    omega (arith, f.few, last, by_time_length (traffic plan))
 
 -- and so many bytes
 pub few_bytes : (plan : GenPlan) → InRange plan → length (file_of plan) ≤ 40000000

@@ -14,10 +14,70 @@ small n h = (omega arith, omega arith)
 
 -- its numbers have at most ten digits each
 written : (x : Tuple) → IsValid x → AllByRecursion (Written 10) (tuple_numbers x)
-written (ReportTuple r) v = (small 0 (omega arith), (small r.time (omega (arith, v.0)), (small r.vid v.1, (small r.spd (omega (arith, v.2)), (small r.xway (omega (arith, v.3)), (small r.lane (omega (arith, v.4)), (small r.dir (omega (arith, v.5)), (small r.seg (omega (arith, v.6)), (small r.pos (omega (arith, v.7)), (refl, (refl, (refl, (refl, (refl, (refl, tt)))))))))))))))
-written (Balance time vid qid) v = (small 2 (omega arith), (small time (omega (arith, v.0)), (small vid v.1, (refl, (refl, (refl, (refl, (refl, (refl, (small qid v.2, (refl, (refl, (refl, (refl, (refl, tt)))))))))))))))
-written (Spent time vid xway qid day) v = (small 3 (omega arith), (small time (omega (arith, v.0)), (small vid v.1, (refl, (small xway (omega (arith, v.2)), (refl, (refl, (refl, (refl, (small qid v.3, (refl, (refl, (refl, (refl, (small day (omega (arith, v.5)), tt)))))))))))))))
-written (Travel time) v = (small 4 (omega arith), (small time (omega (arith, v)), (refl, (refl, (refl, (refl, (refl, (refl, (refl, (refl, (refl, (refl, (refl, (refl, (refl, tt)))))))))))))))
+written (ReportTuple r) v = (
+  small 0 (omega arith),
+  (
+    small r.time (omega (arith, v.0)),
+    (
+      small r.vid v.1,
+      (
+        small r.spd (omega (arith, v.2)),
+        (
+          small r.xway (omega (arith, v.3)),
+          (
+            small r.lane (omega (arith, v.4)),
+            (
+              small r.dir (omega (arith, v.5)),
+              (
+                small r.seg (omega (arith, v.6)),
+                (small r.pos (omega (arith, v.7)), (refl, (refl, (refl, (refl, (refl, (refl, tt))))))),
+              ),
+            ),
+          ),
+        ),
+      ),
+    ),
+  ),
+)
+written (Balance time vid qid) v = (
+  small 2 (omega arith),
+  (
+    small time (omega (arith, v.0)),
+    (
+      small vid v.1,
+      (refl, (refl, (refl, (refl, (refl, (refl, (small qid v.2, (refl, (refl, (refl, (refl, (refl, tt)))))))))))),
+    ),
+  ),
+)
+written (Spent time vid xway qid day) v = (
+  small 3 (omega arith),
+  (
+    small time (omega (arith, v.0)),
+    (
+      small vid v.1,
+      (
+        refl,
+        (
+          small xway (omega (arith, v.2)),
+          (
+            refl,
+            (
+              refl,
+              (refl, (refl, (small qid v.3, (refl, (refl, (refl, (refl, (small day (omega (arith, v.5)), tt)))))))),
+            ),
+          ),
+        ),
+      ),
+    ),
+  ),
+)
+written (Travel time) v = (
+  small 4 (omega arith),
+  (
+    small time (omega (arith, v)),
+    (refl, (refl, (refl, (refl, (refl, (refl, (refl, (refl, (refl, (refl, (refl, (refl, (refl, tt))))))))))))),
+  ),
+)
 
 -- it has fifteen fields
 fifteen : (x : Tuple) → length (tuple_numbers x) ≡ 15
@@ -32,4 +92,11 @@ lines_length [] h = omega arith
 lines_length (x ∷ xs) h =
     let one = text_length (tuple_numbers x) (written x h.0) in
     let rest = lines_length xs h.1 in
-    omega (arith, length-append (tuple_text x ++ 10 ∷ []) (lines_text xs), length-append (tuple_text x) (10 ∷ []), one, rest, fifteen x)
+    omega (
+      arith,
+      length-append (tuple_text x ++ 10 ∷ []) (lines_text xs),
+      length-append (tuple_text x) (10 ∷ []),
+      one,
+      rest,
+      fifteen x,
+    )

@@ -1,5 +1,6 @@
 -- what a plan in its ranges draws is in its ranges
-use Rattle.std.proofs.Common.{◌≡◌, ℕ, ◌+◌, ◌-◌, ◌*◌, ◌/◌, ◌%◌, ◌==◌, ◌≤◌, ◌<◌, ◌&&◌, not, nat_le, nat_lt, Bool, true, false, cond, Option, Some, None, IfSome, refl, arith}
+use Rattle.std.proofs.Common.{◌≡◌, ℕ, ◌+◌, ◌-◌, ◌*◌, ◌/◌, ◌%◌, ◌==◌, ◌≤◌, ◌<◌, ◌&&◌, not, nat_le, nat_lt, Bool, true}
+use Rattle.std.proofs.Common.{false, cond, Option, Some, None, IfSome, refl, arith}
 use Rattle.std.proofs.lemmas.Bool.{and_parts, not-false, leb-true, cond_both}
 use Rattle.std.proofs.lemmas.Nat.{mod_below, mul-le}
 use Rattle.rand_pcg.specs.Lcg.{Lcg}
@@ -23,7 +24,8 @@ none_if false n o e = (refl, e)
 
 -- a test of two bounds that does not fail
 both : (a b c d : ℕ) → not (nat_le a b && nat_le c d) ≡ false → (a ≤ b) × (c ≤ d)
-both a b c d e = let parts = and_parts (nat_le a b) (nat_le c d) (not-false _ e) in (leb-true a b parts.0, leb-true c d parts.1)
+both a b c d e = let parts = and_parts (nat_le a b) (nat_le c d) (not-false _ e) in
+    (leb-true a b parts.0, leb-true c d parts.1)
 
 -- where no field is out of its range all are in theirs
 pub in_range : (plan : GenPlan) → first_out plan ≡ None → InRange plan
@@ -82,7 +84,9 @@ crash_drawn plan r g =
 past_drawn : (vid : ℕ) (g : Lcg) → IfSome (drawn_past vid g).0 (λ day. (1 ≤ day) × (day ≤ 69))
 past_drawn vid g =
     let d = drawn_below 69 g (omega arith) in
-    cond_both (vid % 50 == 0) (Some (1 + (drawn 69 g).0), (drawn 69 g).1) (None, g) (λ (p : Option ℕ × Lcg). IfSome p.0 (λ day. (1 ≤ day) × (day ≤ 69))) (λ _. (omega arith, omega (arith, d))) (λ _. tt)
+    cond_both (vid % 50 == 0) (Some (1 + (drawn 69 g).0), (drawn 69 g).1) (None, g)
+    (λ (p : Option ℕ × Lcg). IfSome p.0 (λ day. (1 ≤ day) × (day ≤ 69))) (λ _. (omega arith, omega (arith, d)))
+    (λ _. tt)
 
 -- a trip that is drawn
 pub trip_drawn : (plan : GenPlan) → InRange plan → (vid : ℕ) → vid ≤ 5000 → (g : Lcg) → IsTrip (drawn_trip plan vid g).0
@@ -111,7 +115,8 @@ trip_drawn plan r vid v g =
     }
 
 -- a report in its ranges
-report_fine : (time vid spd xway lane dir at : ℕ) → time ≤ 86399 → vid ≤ 5000 → spd ≤ 100 → xway ≤ 255 → lane ≤ 4 → dir ≤ 1 → at ≤ 527999 → IsReport (report_at time vid spd xway lane dir at)
+report_fine : (time vid spd xway lane dir at : ℕ) → time ≤ 86399 → vid ≤ 5000 → spd ≤ 100 → xway ≤ 255 → lane ≤ 4 →
+    dir ≤ 1 → at ≤ 527999 → IsReport (report_at time vid spd xway lane dir at)
 report_fine time vid spd xway lane dir at t v s x l d p = (t, omega (arith, v), s, x, l, d, mile at p, p)
   where
     mile : (n : ℕ) → n ≤ 527999 → n / 5280 ≤ 99
@@ -119,22 +124,28 @@ report_fine time vid spd xway lane dir at t v s x l d p = (t, omega (arith, v), 
 
 -- a vehicle stays on the road
 on_road : (dir from feet : ℕ) → from + feet ≤ 527999 → moved dir from feet ≤ 527999
-on_road dir from feet h = cond_both (dir == 0) (from + feet) (from - feet) (λ n. n ≤ 527999) (λ _. h) (λ _. omega (arith, h))
+on_road dir from feet h =
+    cond_both (dir == 0) (from + feet) (from - feet) (λ n. n ≤ 527999) (λ _. h) (λ _. omega (arith, h))
 
 module _ (c : Crash) (vid start k : ℕ) where
   -- when a crash's vehicle reports
   pub crash_time : (crash_report c vid start k).time ≡ time_at start k
-  crash_time = cond_both (nat_lt k c.stops) (report_at (time_at start k) vid 0 c.xway 2 c.dir (spot_of c)) _ (λ (r : Report). r.time ≡ time_at start k) (λ _. refl) (λ _. refl)
+  crash_time = cond_both (nat_lt k c.stops) (report_at (time_at start k) vid 0 c.xway 2 c.dir (spot_of c)) _
+      (λ (r : Report). r.time ≡ time_at start k) (λ _. refl) (λ _. refl)
 
   pub crash_vid : (crash_report c vid start k).vid ≡ vid
-  crash_vid = cond_both (nat_lt k c.stops) (report_at (time_at start k) vid 0 c.xway 2 c.dir (spot_of c)) _ (λ (r : Report). r.vid ≡ vid) (λ _. refl) (λ _. refl)
+  crash_vid = cond_both (nat_lt k c.stops) (report_at (time_at start k) vid 0 c.xway 2 c.dir (spot_of c)) _
+      (λ (r : Report). r.vid ≡ vid) (λ _. refl) (λ _. refl)
 
   -- its report is in its ranges, before midnight
-  pub crash_fine : IsCrash c → vid ≤ 5000 → k < c.stops + 4 → time_at start k ≤ 86399 → IsReport (crash_report c vid start k)
+  pub crash_fine : IsCrash c → vid ≤ 5000 → k < c.stops + 4 → time_at start k ≤ 86399 →
+      IsReport (crash_report c vid start k)
   crash_fine is v few t =
       cond_both (nat_lt k c.stops) (report_at (time_at start k) vid 0 c.xway 2 c.dir (spot_of c)) _ IsReport
-      (λ _. report_fine (time_at start k) vid 0 c.xway 2 c.dir (spot_of c) t v (omega arith) is.xway (omega arith) is.dir (omega (arith, is.east)))
-      (λ _. report_fine (time_at start k) vid 30 c.xway (cond (nat_lt (k - c.stops + 1) 4) 2 4) c.dir (moved c.dir (spot_of c) (1320 * (k - c.stops + 1))) t v (omega arith) is.xway
+      (λ _. report_fine (time_at start k) vid 0 c.xway 2 c.dir (spot_of c) t v (omega arith) is.xway
+      (omega arith) is.dir (omega (arith, is.east)))
+      (λ _. report_fine (time_at start k) vid 30 c.xway (cond (nat_lt (k - c.stops + 1) 4) 2 4) c.dir
+      (moved c.dir (spot_of c) (1320 * (k - c.stops + 1))) t v (omega arith) is.xway
       (cond_both (nat_lt (k - c.stops + 1) 4) 2 4 (λ l. l ≤ 4) (λ _. omega arith) (λ _. omega arith)) is.dir
       (on_road c.dir (spot_of c) (1320 * (k - c.stops + 1)) (omega (arith, is.east, few))))
 
@@ -155,5 +166,7 @@ far speed k s h = mul-le (44 * speed) k 2200 35 (omega (arith, s)) h
 pub trip_fine : (t : Trip) (k : ℕ) → IsTrip t → k < t.reports → time_at t.start k ≤ 86399 → IsReport (trip_report t k)
 trip_fine t k is few time =
     let feet = far t.speed k is.slow (omega (arith, few, is.few_reports)) in
-    report_fine (time_at t.start k) t.vid t.speed t.xway (lane_at t k) t.dir (moved t.dir (5280 * t.seg + 100) (44 * t.speed * k)) time is.vid (omega (arith, is.slow)) is.xway (lane_fine t k) is.dir
+    report_fine (time_at t.start k) t.vid t.speed t.xway (lane_at t k) t.dir
+    (moved t.dir (5280 * t.seg + 100) (44 * t.speed * k)) time is.vid (omega (arith, is.slow)) is.xway
+    (lane_fine t k) is.dir
     (on_road t.dir (5280 * t.seg + 100) (44 * t.speed * k) (omega (arith, feet, is.east)))

@@ -15,8 +15,10 @@ drawn_crash plan g =
     let way = drawn 4 xway.1 in
     let start = drawn (30 * plan.minutes) way.1 in
     let seg = drawn 4 start.1 in
-    let stops = drawn 8 seg.1 in
-    (record { xway = xway.0; dir = direction_of way.0; start = start.0; seg = 44 + seg.0; stops = 8 + stops.0 }, stops.1)
+    let stops = drawn 8 seg.1 in (
+      record { xway = xway.0; dir = direction_of way.0; start = start.0; seg = 44 + seg.0; stops = 8 + stops.0 },
+      stops.1,
+    )
 
 -- what the draws of a crash come to
 pub record IsCrash (c : Crash) : Type 0 where
@@ -38,7 +40,8 @@ crash_report c vid start k =
     if nat_lt k c.stops then report_at (time_at start k) vid 0 c.xway 2 c.dir (spot_of c)
     else (
     let j = k - c.stops + 1
-    in report_at (time_at start k) vid 30 c.xway (if nat_lt j 4 then 2 else 4) c.dir (moved c.dir (spot_of c) (1320 * j))
+    in report_at (time_at start k) vid 30 c.xway (if nat_lt j 4 then 2 else 4) c.dir
+    (moved c.dir (spot_of c) (1320 * j))
     )
 
 -- the reports of one of the vehicles of a crash
@@ -47,4 +50,5 @@ crash_vehicle end c vid start = reports_before end (crash_report c vid start) (c
 
 -- the reports of both vehicles of the crash with this number from 0: the second comes a second later
 abbrev pub crash_tuples : ℕ → ℕ → Crash → List Tuple
-crash_tuples end number c = crash_vehicle end c (2 * number + 1) c.start ++ crash_vehicle end c (2 * number + 2) (c.start + 1)
+crash_tuples end number c = crash_vehicle end c (2 * number + 1) c.start ++ crash_vehicle end c (2 * number + 2)
+    (c.start + 1)

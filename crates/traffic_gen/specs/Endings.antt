@@ -6,8 +6,9 @@ use Rattle.traffic_gen.specs.declared.plan.GenFault.TheVariants.{Size, WriteFaul
 use Rattle.traffic_gen.specs.Traffic.{generated, file_of}
 
 -- what was written as the generation ended: the file, whose lines are counted, or fewer of its first bytes, or nothing
-abbrev pub Wrote : Result ℕ GenFault → GenPlan → Option (List ℕ) → Option (List ℕ) → Type 0
-Wrote (Ok lines) plan old new = (lines ≡ length (generated plan)) × Appends old new (file_of plan)
-Wrote (Err (Size field)) plan old new = old ≡ new
-Wrote (Err WriteFault) plan old new = (k : ℕ) × (k < length (file_of plan)) × Appends old new (take k (file_of plan))
-Wrote (Err NoMemory) plan old new = old ≡ new
+abbrev pub WroteFile : Result ℕ GenFault → GenPlan → Option (List ℕ) → Option (List ℕ) → Type 0
+WroteFile (Ok lines) plan old new = (lines ≡ length (generated plan)) × Appends old new (file_of plan)
+WroteFile (Err (Size field)) plan old new = old ≡ new
+WroteFile (Err WriteFault) plan old new = (k : ℕ) × (k < length (file_of plan))
+    × Appends old new (take k (file_of plan))
+WroteFile (Err NoMemory) plan old new = old ≡ new

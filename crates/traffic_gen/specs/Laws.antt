@@ -20,4 +20,5 @@ LineOrderLaw = (plan : GenPlan) → first_out plan ≡ None → InLineOrder (gen
 
 -- and it is of bounded size
 abbrev pub SizeLaw : Type 0
-SizeLaw = (plan : GenPlan) → first_out plan ≡ None → (length (generated plan) ≤ 200000) × (length (file_of plan) ≤ 40000000)
+SizeLaw = (plan : GenPlan) → first_out plan ≡ None → (length (generated plan) ≤ 200000)
+    × (length (file_of plan) ≤ 40000000)

@@ -15,8 +15,10 @@ moved dir from feet = if dir == 0 then from + feet else from - feet
 
 -- a report: its segment is the mile in which its position lies
 abbrev pub report_at : ℕ → ℕ → ℕ → ℕ → ℕ → ℕ → ℕ → Report
-report_at time vid spd xway lane dir at = record { time = time; vid = vid; spd = spd; xway = xway; lane = lane; dir = dir; seg = at / 5280; pos = at }
+report_at time vid spd xway lane dir at =
+    record { time = time; vid = vid; spd = spd; xway = xway; lane = lane; dir = dir; seg = at / 5280; pos = at }
 
 -- the first n reports of a vehicle, those left out that are not before the end
 abbrev pub reports_before : ℕ → (ℕ → Report) → ℕ → List Tuple
-reports_before end report n = filter (λ x. nat_lt (time_of x) end) (map (λ k. ReportTuple (report k)) (range_with_len 0 n))
+reports_before end report n =
+    filter (λ x. nat_lt (time_of x) end) (map (λ k. ReportTuple (report k)) (range_with_len 0 n))

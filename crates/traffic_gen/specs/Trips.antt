@@ -1,4 +1,5 @@
-use Rattle.std.specs.Prelude.{ℕ, ◌+◌, ◌*◌, ◌%◌, ◌==◌, ◌≤◌, ◌<◌, ◌&&◌, nat_lt, Bool, List, [], ◌∷◌, ◌++◌, Option, Some, None, IfSome, if◌then◌else◌}
+use Rattle.std.specs.Prelude.{ℕ, ◌+◌, ◌*◌, ◌%◌, ◌==◌, ◌≤◌, ◌<◌, ◌&&◌, nat_lt, Bool, List, [], ◌∷◌, ◌++◌, Option, Some}
+use Rattle.std.specs.Prelude.{None, IfSome, if◌then◌else◌}
 use Rattle.rand_pcg.specs.Lcg.{Lcg}
 use Rattle.road_time.specs.declared.road.Tuple.{Tuple}
 use Rattle.road_time.specs.declared.road.Tuple.TheVariants.{Balance, Spent}
@@ -23,8 +24,20 @@ drawn_trip plan vid g =
     let seg = drawn 4 start.1 in
     let reports = drawn 33 seg.1 in
     let speed = drawn 41 reports.1 in
-    let past = drawn_past vid speed.1 in
-    (record { vid = vid; xway = xway.0; dir = direction_of way.0; start = start.0; seg = 40 + seg.0; reports = 4 + reports.0; speed = 10 + speed.0; past = past.0 }, past.1)
+    let past = drawn_past vid speed.1 in (
+      record {
+        vid = vid;
+        xway = xway.0;
+        dir = direction_of way.0;
+        start = start.0;
+        seg = 40 + seg.0;
+        reports =
+            4 + reports.0;
+        speed = 10 + speed.0;
+        past = past.0;
+      },
+      past.1,
+    )
 
 -- what the draws of a trip come to
 pub record IsTrip (t : Trip) : Type 0 where
@@ -47,7 +60,9 @@ lane_at t k =
 
 -- report k of a trip: at one mile per hour a vehicle moves 44 feet in 30 seconds
 abbrev pub trip_report : Trip → ℕ → Report
-trip_report t k = report_at (time_at t.start k) t.vid t.speed t.xway (lane_at t k) t.dir (moved t.dir (5280 * t.seg + 100) (44 * t.speed * k))
+trip_report t k =
+    report_at (time_at t.start k) t.vid t.speed t.xway (lane_at t k) t.dir
+    (moved t.dir (5280 * t.seg + 100) (44 * t.speed * k))
 
 -- requests come a second after report 5
 abbrev pub asking_time : Trip → ℕ

@@ -1,14 +1,13 @@
 // The file of a plan.
-ghost use Rattle.std.specs.Prelude.{◌≡◌, ◌≢◌, ◌≤◌, ◌↔◌, ℕ, Some, Err, IfOk, OnOk, length};
+ghost use Rattle.std.specs.Prelude.{◌≡◌, ◌↔◌, ℕ, Some, Err, IfOk, OnOk, length};
 ghost use Rattle.road_time.specs.Order.{IsByTime};
 ghost use Rattle.road_time.specs.Text.{lines_text};
-ghost use Rattle.road_time.specs.Tuples.{time_of};
-ghost use Rattle.road_io.specs.Faults.{Rose};
-ghost use Rattle.road_io.specs.Rooms.{Endless, Takes, Refuses};
+ghost use Rattle.road_io.specs.Blame.{FaultsByRoom};
+ghost use Rattle.road_io.specs.Rooms.{Takes, Refuses};
 ghost use Rattle.traffic_gen.specs.declared.plan.GenFault.TheVariants.{Size, WriteFault};
 ghost use Rattle.traffic_gen.specs.Plans.{first_out, InRange};
 ghost use Rattle.traffic_gen.specs.Traffic.{generated, file_of};
-ghost use Rattle.traffic_gen.specs.Endings.{Wrote};
+ghost use Rattle.traffic_gen.specs.Endings.{WroteFile};
 
 use crate::plan::{GenFault, GenPlan};
 use crate::traffic::tuples_of;
@@ -17,23 +16,11 @@ use road_time::{NoMemory, Tuple};
 use std::alloc::Global;
 use tuple_format::put_tuple;
 
-/// The Time of a tuple.
-fn time(tuple: &Tuple) -> u32
-    ensures { result ≡ time_of tuple.now }
-{
-    match *tuple {
-        Tuple::Report(report) => report.time,
-        Tuple::Balance { time, .. } => time,
-        Tuple::Spent { time, .. } => time,
-        Tuple::Travel { time } => time,
-    }
-}
-
 /// Puts tuples in the order of Time; those of a second stay in their order.
 fn sort(tuples: &mut Vec<Tuple>) -> Result<(), NoMemory>
     ensures { OnOk result (IsByTime tuples.old.items tuples.new.items) }
 {
-    tuples.sort_by_key(|tuple| time(tuple))?;
+    tuples.sort_by_key(|tuple| tuple.time())?;
     Ok(())
 }
 
@@ -72,13 +59,12 @@ fn make_file(alloc: Global, plan: &GenPlan) -> Result<FileText, NoMemory>
 
 /// Writes the file of a plan, and answers its number of lines.
 pub fn generate<O: Sink>(alloc: Global, plan: &GenPlan, sink: &mut O) -> Result<u64, GenFault>
-    ensures wrote { Wrote result plan.now (O.written sink.old) (O.written sink.new) }
+    ensures wrote { WroteFile result plan.now (O.written sink.old) (O.written sink.new) }
     ensures size { (field : ℕ) → (result ≡ Err (Size field)) ↔ (first_out plan.now ≡ Some field) }
     ensures took { OnOk result (Takes (O.room sink.old) (O.room sink.new) (length (file_of plan.now))) }
     ensures full { result ≡ Err WriteFault → Refuses (O.room sink.old) (O.room sink.new) (length (file_of plan.now)) }
-    ensures cause { result ≡ Err WriteFault → Rose (O.faults sink.old) (O.faults sink.new) }
-    ensures later { O.faults sink.old ≤ O.faults sink.new }
-    ensures sure { O.room sink.old ≡ Endless → (result ≢ Err WriteFault) × (O.room sink.new ≡ Endless) }
+    ensures sink { FaultsByRoom (O.faults sink.old) (O.faults sink.new) (O.room sink.old) (O.room sink.new)
+        (result ≡ Err WriteFault) }
 {
     if let Some(field) = plan.out_of_range() {
         return Err(GenFault::Size(field));

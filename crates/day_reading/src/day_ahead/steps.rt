@@ -1,11 +1,11 @@
 // Reading a day one tuple ahead, so that it is known whether another one follows.
-ghost use Rattle.std.specs.Prelude.{◌≡◌, ◌≢◌, ◌≤◌, ◌<◌, ◌∷◌, [], ℕ, List, Option, Some, None, Ok, Err, IfOk, IfSome};
+ghost use Rattle.std.specs.Prelude.{◌≡◌, ◌≢◌, ◌≤◌, ◌<◌, [], ℕ, List, Option, Some, None, Ok, Err, IfOk};
 ghost use Rattle.std.specs.Prelude.{is_some, length, true, false};
 ghost use Rattle.road_time.specs.declared.road.Tuple.{Tuple as TupleValue};
 ghost use Rattle.road_time.specs.declared.day.Limits.{Limits as LimitsValue};
 ghost use Rattle.road_time.specs.declared.day.TheConstants.Limits.{DAY};
 ghost use Rattle.road_time.specs.Reads.{reads};
-ghost use Rattle.road_io.specs.Faults.{Rose};
+ghost use Rattle.road_io.specs.Blame.{FaultsByPlan};
 ghost use Rattle.road_io.specs.Plans.{NeverFails};
 ghost use Rattle.road_io.specs.Cutter.{number_of};
 ghost use Rattle.day_reading.specs.Lines.{FollowsAfter};
@@ -41,12 +41,10 @@ fn look<S: Source, R: Threads>(
         → HasReadOf reader.new lines (S.left source.new) bytes }
     ensures after { IfOk result (λ f. FollowsAfter f (number_of reader.new.cutter)) }
     ensures same { S.name source.new ≡ S.name source.old }
-    ensures later { S.faults source.old ≤ S.faults source.new }
-    ensures cause { (HasFailed reader.old → ⊥) → result ≡ Err ReadFault
-        → Rose (S.faults source.old) (S.faults source.new) }
+    ensures source { FaultsByPlan (S.faults source.old) (S.faults source.new) (S.plan source.old)
+        ((HasFailed reader.old → ⊥) × (result ≡ Err ReadFault)) }
+    ensures still { (HasFailed reader.old → ⊥) → NeverFails (S.plan source.old) → NeverFails (S.plan source.new) }
     ensures unfailed { (HasFailed reader.old → ⊥) → result ≢ Err ReadFault → HasFailed reader.new → ⊥ }
-    ensures sure { (HasFailed reader.old → ⊥) → NeverFails (S.plan source.old)
-        → (result ≢ Err ReadFault) × NeverFails (S.plan source.new) }
 {
     match reader.next(rt, source) {
         Ok(Some(tuple)) => Ok(Following::Waits(tuple)),
@@ -75,9 +73,9 @@ impl DayAhead {
         ensures bounded { ReadsWithin (most_read limits.now) (S.left source.old) (S.left source.new) }
         ensures unfailed { IfOk result (λ d. HasFailedAhead d → ⊥) }
         ensures same { S.name source.new ≡ S.name source.old }
-        ensures later { S.faults source.old ≤ S.faults source.new }
-        ensures cause { result ≡ Err ReadFault → Rose (S.faults source.old) (S.faults source.new) }
-        ensures sure { NeverFails (S.plan source.old) → (result ≢ Err ReadFault) × NeverFails (S.plan source.new) }
+        ensures source { FaultsByPlan (S.faults source.old) (S.faults source.new) (S.plan source.old)
+            (result ≡ Err ReadFault) }
+        ensures still { NeverFails (S.plan source.old) → NeverFails (S.plan source.new) }
     {
         let Ok(mut reader) = DayReader::new(alloc, limits, late) else {
             return Err(ReadStop::NoMemory);
@@ -122,11 +120,10 @@ impl DayAhead {
             → HasReadAhead self.new lines (S.left source.new) bytes }
         ensures unfailed { (HasFailedAhead self.old → ⊥) → result ≢ Err ReadFault → HasFailedAhead self.new → ⊥ }
         ensures same { S.name source.new ≡ S.name source.old }
-        ensures later { S.faults source.old ≤ S.faults source.new }
-        ensures cause { (HasFailedAhead self.old → ⊥) → result ≡ Err ReadFault
-            → Rose (S.faults source.old) (S.faults source.new) }
-        ensures sure { (HasFailedAhead self.old → ⊥) → NeverFails (S.plan source.old)
-            → (result ≢ Err ReadFault) × NeverFails (S.plan source.new) }
+        ensures source { FaultsByPlan (S.faults source.old) (S.faults source.new) (S.plan source.old)
+            ((HasFailedAhead self.old → ⊥) × (result ≡ Err ReadFault)) }
+        ensures still { (HasFailedAhead self.old → ⊥)
+            → NeverFails (S.plan source.old) → NeverFails (S.plan source.new) }
     {
         let Following::Waits(tuple) = self.following else {
             return Ok(None);

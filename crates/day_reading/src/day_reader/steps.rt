@@ -1,9 +1,9 @@
 // Reading a day, tuple by tuple.
 ghost use Rattle.std.specs.Prelude.{◌≡◌, ◌≢◌, ◌↔◌, ◌≤◌, ◌+◌, ◌*◌, ◌++◌, ◌∷◌, [], ℕ, List, Option, Some, None, Ok, Err};
-ghost use Rattle.std.specs.Prelude.{IfOk, IsOk, IfNone, IfSome, length, slice_get};
+ghost use Rattle.std.specs.Prelude.{IfOk, IfNone, IfSome, length};
 ghost use Rattle.road_time.specs.declared.road.Tuple.{Tuple as TupleValue};
 ghost use Rattle.road_time.specs.declared.day.Limits.{Limits as LimitsValue};
-ghost use Rattle.road_io.specs.Faults.{Rose};
+ghost use Rattle.road_io.specs.Blame.{FaultsByPlan};
 ghost use Rattle.road_io.specs.Plans.{NeverFails};
 ghost use Rattle.road_io.specs.Cutter.{number_of};
 ghost use Rattle.keeper.specs.Digests.{digest_of};
@@ -92,10 +92,9 @@ impl DayReader {
         ensures read { (lines : ℕ) (bytes : List ℕ) → HasReadOf self.old lines (S.left source.old) bytes
             → HasReadOf self.new lines (S.left source.new) bytes }
         ensures same { S.name source.new ≡ S.name source.old }
-        ensures later { S.faults source.old ≤ S.faults source.new }
-        ensures cause { result ≡ Some (Stopped ReadFault) → Rose (S.faults source.old) (S.faults source.new) }
-        ensures sure { NeverFails (S.plan source.old)
-            → (result ≢ Some (Stopped ReadFault)) × NeverFails (S.plan source.new) }
+        ensures source { FaultsByPlan (S.faults source.old) (S.faults source.new) (S.plan source.old)
+            (result ≡ Some (Stopped ReadFault)) }
+        ensures still { NeverFails (S.plan source.old) → NeverFails (S.plan source.new) }
     {
         let _limit = self.intake.line_limit;
         match self.cutter.advance(source) {
@@ -238,12 +237,10 @@ impl DayReader {
             → HasReadOf self.new lines (S.left source.new) bytes }
         ensures after { RefusesAfter result (number_of self.new.cutter) }
         ensures same { S.name source.new ≡ S.name source.old }
-        ensures later { S.faults source.old ≤ S.faults source.new }
-        ensures cause { (HasFailed self.old → ⊥) → result ≡ Err ReadFault
-            → Rose (S.faults source.old) (S.faults source.new) }
+        ensures source { FaultsByPlan (S.faults source.old) (S.faults source.new) (S.plan source.old)
+            ((HasFailed self.old → ⊥) × (result ≡ Err ReadFault)) }
+        ensures still { (HasFailed self.old → ⊥) → NeverFails (S.plan source.old) → NeverFails (S.plan source.new) }
         ensures unfailed { (HasFailed self.old → ⊥) → result ≢ Err ReadFault → HasFailed self.new → ⊥ }
-        ensures sure { (HasFailed self.old → ⊥) → NeverFails (S.plan source.old)
-            → (result ≢ Err ReadFault) × NeverFails (S.plan source.new) }
     {
         if let Some(end) = self.end {
             return self.drain(end);

@@ -3,7 +3,7 @@ ghost use Rattle.std.specs.Prelude.{◌≡◌, ◌<◌, ◌^◌, [], ℕ, List, 
 ghost use Rattle.std.specs.List.{filter};
 ghost use Rattle.road_time.specs.declared.day.SpentRow.{SpentRow as SpentRowValue};
 ghost use Rattle.keeper.specs.Office.{RowsRise};
-ghost use Rattle.past_file.specs.Rows.{HasRows, IsPastRow, Takes, amount_of};
+ghost use Rattle.past_file.specs.Rows.{HasRows, IsPastRow, TakesAmount, amount_of};
 
 use super::{Amounts, Key};
 use road_time::{NoMemory, SpentRow};
@@ -25,7 +25,7 @@ impl Amounts {
     /// amounts after that.
     pub fn take(&mut self, row: &SpentRow) -> Result<bool, NoMemory>
         ensures { IfOk result (λ new. (base : ℕ) (rows : List SpentRowValue) → IsPastRow base row.now
-            → HasRows self.old base rows → Takes new self.new base rows row.now) }
+            → HasRows self.old base rows → TakesAmount new self.new base rows row.now) }
     {
         let key = Key {
             day: row.day,

@@ -1,13 +1,14 @@
 // Reading a history, line by line.
-ghost use Rattle.std.specs.Prelude.{◌≡◌, ◌≢◌, ◌≤◌, ◌<◌, ◌+◌, ◌^◌, ℕ, List, Option, Some, None, Ok, Err, IfOk, IfErr};
+ghost use Rattle.std.specs.Prelude.{◌≡◌, ◌≤◌, ◌<◌, ◌+◌, ◌^◌, ℕ, List, Option, Some, None, Ok, Err, IfOk, IfErr};
 ghost use Rattle.std.specs.Prelude.{IfSome, IfNone, true};
 ghost use Rattle.road_time.specs.declared.day.Limits.{Limits as LimitsValue};
-ghost use Rattle.road_io.specs.Faults.{Rose};
+ghost use Rattle.road_io.specs.Blame.{FaultsByPlan};
 ghost use Rattle.road_io.specs.Plans.{NeverFails};
 ghost use Rattle.road_io.specs.Cutter.{number_of, fault_of};
 ghost use Rattle.keeper.specs.Kept.{IsPastPut};
 ghost use Rattle.keeper.specs.PastReads.{past_reads, past_kept, past_record};
-ghost use Rattle.past_file.specs.Readings.{Gathers, IsReading, HasReadOf, EndsWhole, Steps, Ends, StopsAfter};
+ghost use Rattle.past_file.specs.Readings.{GathersRows, IsReadingPast, HasReadPastOf, EndsPast, Steps};
+ghost use Rattle.past_file.specs.Readings.{EndsReadingPast, StopsPastAfter};
 ghost use Rattle.past_file.specs.declared.judging.PastStop.TheVariants.{ReadFault, NoMemory as OutOfMemory};
 
 use super::PastReader;
@@ -26,9 +27,9 @@ impl PastReader {
     /// A reader before the first line.
     pub fn new(alloc: Global) -> Result<PastReader, NoMemory>
         ensures reading { IfOk result (λ r. (base : ℕ) (limits : LimitsValue) (bytes : List ℕ)
-            → IsReading r base limits (Some bytes) bytes) }
-        ensures gathers { IfOk result (λ r. (base : ℕ) → Gathers r.amounts base) }
-        ensures read { IfOk result (λ r. (bytes : List ℕ) → HasReadOf r (Some bytes) bytes) }
+            → IsReadingPast r base limits (Some bytes) bytes) }
+        ensures gathers { IfOk result (λ r. (base : ℕ) → GathersRows r.amounts base) }
+        ensures read { IfOk result (λ r. (bytes : List ℕ) → HasReadPastOf r (Some bytes) bytes) }
         ensures none { IfOk result (λ r. number_of r.cutter ≡ 0) }
         ensures unbroken { IfOk result (λ r. fault_of r.cutter ≡ None) }
     {
@@ -52,20 +53,20 @@ impl PastReader {
         requires few { number_of self.old.cutter ≤ limit }
         requires unbroken { fault_of self.old.cutter ≡ None }
         ensures steps { (limits : LimitsValue) (bytes : List ℕ) → limits.past ≡ limit
-            → IsReading self.old base limits (S.left source.old) bytes
+            → IsReadingPast self.old base limits (S.left source.old) bytes
             → Steps result self.new base limits (S.left source.new) bytes }
-        ensures gathers { Gathers self.old.amounts base → IfOk result (λ more. Gathers self.new.amounts base) }
-        ensures read { (bytes : List ℕ) → HasReadOf self.old (S.left source.old) bytes
-            → HasReadOf self.new (S.left source.new) bytes }
+        ensures gathers { GathersRows self.old.amounts base → IfOk result (λ more. GathersRows self.new.amounts base) }
+        ensures read { (bytes : List ℕ) → HasReadPastOf self.old (S.left source.old) bytes
+            → HasReadPastOf self.new (S.left source.new) bytes }
         ensures bounded { number_of self.new.cutter ≤ limit + 1 }
-        ensures after { IfErr result (λ stop. StopsAfter stop (number_of self.new.cutter)) }
+        ensures after { IfErr result (λ stop. StopsPastAfter stop (number_of self.new.cutter)) }
         ensures next { result ≡ Ok true → number_of self.new.cutter ≡ number_of self.old.cutter + 1 }
         ensures few { IfOk result (λ more. number_of self.new.cutter ≤ limit) }
         ensures unbroken { IfOk result (λ more. fault_of self.new.cutter ≡ None) }
-        ensures cause { result ≡ Err ReadFault → Rose (S.faults source.old) (S.faults source.new) }
         ensures same { S.name source.new ≡ S.name source.old }
-        ensures later { S.faults source.old ≤ S.faults source.new }
-        ensures sure { NeverFails (S.plan source.old) → (result ≢ Err ReadFault) × NeverFails (S.plan source.new) }
+        ensures source { FaultsByPlan (S.faults source.old) (S.faults source.new) (S.plan source.old)
+            (result ≡ Err ReadFault) }
+        ensures still { NeverFails (S.plan source.old) → NeverFails (S.plan source.new) }
     {
         match self.cutter.advance(source) {
             Ok(true) => {
@@ -94,18 +95,17 @@ impl PastReader {
         requires few { number_of self.old.cutter ≤ limit }
         requires unbroken { fault_of self.old.cutter ≡ None }
         ensures ends { (limits : LimitsValue) (bytes : List ℕ) → limits.past ≡ limit
-            → IsReading self.old base limits (S.left source.old) bytes
-            → Ends result self.new base limits (S.left source.new) bytes }
-        ensures gathers { Gathers self.old.amounts base → IfNone result (Gathers self.new.amounts base) }
-        ensures read { (bytes : List ℕ) → HasReadOf self.old (S.left source.old) bytes
-            → HasReadOf self.new (S.left source.new) bytes }
+            → IsReadingPast self.old base limits (S.left source.old) bytes
+            → EndsReadingPast result self.new base limits (S.left source.new) bytes }
+        ensures gathers { GathersRows self.old.amounts base → IfNone result (GathersRows self.new.amounts base) }
+        ensures read { (bytes : List ℕ) → HasReadPastOf self.old (S.left source.old) bytes
+            → HasReadPastOf self.new (S.left source.new) bytes }
         ensures bounded { number_of self.new.cutter ≤ limit + 1 }
-        ensures after { IfSome result (λ stop. StopsAfter stop (number_of self.new.cutter)) }
+        ensures after { IfSome result (λ stop. StopsPastAfter stop (number_of self.new.cutter)) }
         ensures few { IfNone result (number_of self.new.cutter ≤ limit) }
-        ensures cause { result ≡ Some ReadFault → Rose (S.faults source.old) (S.faults source.new) }
         ensures same { S.name source.new ≡ S.name source.old }
-        ensures later { S.faults source.old ≤ S.faults source.new }
-        ensures sure { NeverFails (S.plan source.old) → result ≢ Some ReadFault }
+        ensures source { FaultsByPlan (S.faults source.old) (S.faults source.new) (S.plan source.old)
+            (result ≡ Some ReadFault) }
     {
         'reading: loop {
             match self.read_one(rt, base, limit, source) {
@@ -121,10 +121,10 @@ impl PastReader {
         requires based { 70 ≤ base }
         requires few { number_of self.cutter < 2 ^ 32 }
         ensures exact { (limits : LimitsValue) (left : Option (List ℕ)) (bytes : List ℕ)
-            → EndsWhole self.consumed self.amounts base limits left bytes
+            → EndsPast self.consumed self.amounts base limits left bytes
             → IfOk result (λ h. (h.past ≡ past_record base bytes (past_reads bytes base limits).rows)
             × (h.rows.items ≡ past_kept (past_reads bytes base limits).rows)) }
-        ensures fits { Gathers self.amounts base → IfOk result (λ h. IsPastPut h.past h.rows.items) }
+        ensures fits { GathersRows self.amounts base → IfOk result (λ h. IsPastPut h.past h.rows.items) }
         ensures based { IfOk result (λ h. h.past.base ≡ base) }
         ensures stops { IfErr result (λ stop. stop ≡ OutOfMemory) }
     {

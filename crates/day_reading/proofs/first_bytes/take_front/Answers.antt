@@ -9,7 +9,8 @@ returns-then-count-eq0-clause-took g c = λ bytes before told took.
     let most = c.args.most in
     let a = most - c.loop-rest.rest in
     let inv = c.loop-rest.invariant.took bytes before told took in
-    front_ended a c.in-Ok.count most bytes before c.read_some.new.digester (g.S.Source.left c.read_some.new.source) (omega arith) c.if-count-eq0.true (c.in-Ok.ensures.took (drop a bytes) (before ++ take a bytes) inv.1 inv.0)
+    front_ended a c.in-Ok.count most bytes before c.read_some.new.digester (g.S.Source.left c.read_some.new.source)
+    (omega arith) c.if-count-eq0.true (c.in-Ok.ensures.took (drop a bytes) (before ++ take a bytes) inv.1 inv.0)
 
 pub loop-rest-preserved : goal.loop-rest-preserved
 loop-rest-preserved g c =
@@ -19,12 +20,27 @@ loop-rest-preserved g c =
     let size = length-take c.min-size.result c.loop-rest.buffer in
     record {
       least = omega (arith, c.loop-rest.invariant.least);
-      len = omega (arith, length-append c.read_some.new.buffer (drop c.min-size.result c.loop-rest.buffer), length-drop c.min-size.result c.loop-rest.buffer, size, c.min-size.ensures, c.read_some.auto.buffer, c.loop-rest.invariant.len);
+      len = omega (
+        arith,
+        length-append c.read_some.new.buffer (drop c.min-size.result c.loop-rest.buffer),
+        length-drop c.min-size.result c.loop-rest.buffer,
+        size,
+        c.min-size.ensures,
+        c.read_some.auto.buffer,
+        c.loop-rest.invariant.len,
+      );
       took = λ bytes before told took. (
           let inv = c.loop-rest.invariant.took bytes before told took in
-          let on = front_on a c.in-Ok.count bytes before c.read_some.new.digester (g.S.Source.left c.read_some.new.source) (c.in-Ok.ensures.took (drop a bytes) (before ++ take a bytes) inv.1 inv.0) in
-          front_at (a + c.in-Ok.count) (most - (c.loop-rest.rest - c.in-Ok.count)) bytes before c.read_some.new.digester (g.S.Source.left c.read_some.new.source) (omega (arith, bound, size, c.min-size.ensures, c.loop-rest.invariant.least)) on);
-      left = λ bytes told. left_at (most - c.loop-rest.rest) c.in-Ok.count (most - (c.loop-rest.rest - c.in-Ok.count)) bytes (g.S.Source.left c.read_some.new.source) (omega (arith, bound, size, c.min-size.ensures, c.loop-rest.invariant.least)) (c.in-Ok.ensures.left (drop (most - c.loop-rest.rest) bytes) (c.loop-rest.invariant.left bytes told));
+          let on = front_on a c.in-Ok.count bytes before c.read_some.new.digester
+          (g.S.Source.left c.read_some.new.source)
+          (c.in-Ok.ensures.took (drop a bytes) (before ++ take a bytes) inv.1 inv.0) in
+          front_at (a + c.in-Ok.count) (most - (c.loop-rest.rest - c.in-Ok.count)) bytes before c.read_some.new.digester
+          (g.S.Source.left c.read_some.new.source)
+          (omega (arith, bound, size, c.min-size.ensures, c.loop-rest.invariant.least)) on);
+      left = λ bytes told. left_at (most - c.loop-rest.rest) c.in-Ok.count (most - (c.loop-rest.rest - c.in-Ok.count))
+          bytes (g.S.Source.left c.read_some.new.source)
+          (omega (arith, bound, size, c.min-size.ensures, c.loop-rest.invariant.least))
+          (c.in-Ok.ensures.left (drop (most - c.loop-rest.rest) bytes) (c.loop-rest.invariant.left bytes told));
       sure = λ never. (c.read_some.ensures.sure (c.loop-rest.invariant.sure never)).1;
       same = c.read_some.ensures.same ∙ c.loop-rest.invariant.same;
       later = omega (arith, c.read_some.ensures.cause.later, c.loop-rest.invariant.later);
@@ -34,7 +50,8 @@ pub returns-clause-took : goal.returns-clause-took
 returns-clause-took g c = λ bytes before told took.
     let most = c.args.most in
     let none = c.loop-rest-test.false in
-    front_at (most - c.loop-rest.rest) most bytes before c.loop-rest.digester (g.S.Source.left c.loop-rest.source) (omega arith) (c.loop-rest.invariant.took bytes before told took)
+    front_at (most - c.loop-rest.rest) most bytes before c.loop-rest.digester (g.S.Source.left c.loop-rest.source)
+    (omega arith) (c.loop-rest.invariant.took bytes before told took)
 
 pub returns-in-Err-clause-bounded : goal.returns-in-Err-clause-bounded
 returns-in-Err-clause-bounded g c = λ bytes told.
@@ -43,8 +60,13 @@ returns-in-Err-clause-bounded g c = λ bytes told.
 
 pub returns-then-count-eq0-clause-bounded : goal.returns-then-count-eq0-clause-bounded
 returns-then-count-eq0-clause-bounded g c = λ bytes told.
-    let a = c.args.most - c.loop-rest.rest in
-    (a, omega arith, c.in-Ok.ensures.left (drop a bytes) (c.loop-rest.invariant.left bytes told) ∙ ap (λ n. Some (drop n (drop a bytes))) c.if-count-eq0.true)
+    let a = c.args.most - c.loop-rest.rest in (
+      a,
+      omega arith,
+      c.in-Ok.ensures.left (drop a bytes) (c.loop-rest.invariant.left bytes told)
+          ∙ ap (λ n. Some (drop n (drop a bytes))) c.if-count-eq0.true,
+    )
 
 pub returns-clause-bounded : goal.returns-clause-bounded
-returns-clause-bounded g c = λ bytes told. (c.args.most - c.loop-rest.rest, omega arith, c.loop-rest.invariant.left bytes told)
+returns-clause-bounded g c =
+    λ bytes told. (c.args.most - c.loop-rest.rest, omega arith, c.loop-rest.invariant.left bytes told)

@@ -8,8 +8,10 @@ invariant-loop-rest g l = record {
   least : l.rest ≤ l.most;
   len : length l.buffer ≡ length l.initial.buffer;
   took : (bytes before : List ℕ) → g.S.Source.left l.initial.source ≡ Some bytes → Took l.initial.digester before
-      → Took l.digester (before ++ take (l.most - l.rest) bytes) × (g.S.Source.left l.source ≡ Some (drop (l.most - l.rest) bytes));
-  left : (bytes : List ℕ) → g.S.Source.left l.initial.source ≡ Some bytes → g.S.Source.left l.source ≡ Some (drop (l.most - l.rest) bytes);
+      → Took l.digester (before ++ take (l.most - l.rest) bytes)
+      × (g.S.Source.left l.source ≡ Some (drop (l.most - l.rest) bytes));
+  left : (bytes : List ℕ) → g.S.Source.left l.initial.source ≡ Some bytes →
+      g.S.Source.left l.source ≡ Some (drop (l.most - l.rest) bytes);
   sure : NeverFails (g.S.Source.plan l.initial.source) → NeverFails (g.S.Source.plan l.source);
   same : g.S.Source.name l.source ≡ g.S.Source.name l.initial.source;
   later : g.S.Source.faults l.initial.source ≤ g.S.Source.faults l.source;

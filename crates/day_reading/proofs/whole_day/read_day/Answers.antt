@@ -20,12 +20,13 @@ reading-init g c =
     let none = sym c.new-tuples.ensures.items in
     record {
       gathering = subst (λ xs. IsGathering r limits late xs) none c.in-Ok.ensures.gathering;
-      reading = λ bytes told. subst (λ xs. IsReading r limits late (g.S.Source.left c.args.source.now) bytes xs) none (subst (λ o. IsReading r limits late o bytes []) (sym told) (c.in-Ok.ensures.reading bytes));
+      reading = λ bytes told. subst (λ xs. IsReading r limits late (g.S.Source.left c.args.source.now) bytes xs) none
+          (subst (λ o. IsReading r limits late o bytes []) (sym told) (c.in-Ok.ensures.reading bytes));
       read = λ bytes told. subst (λ o. HasReadOf r limits.lines o bytes) (sym told) (c.in-Ok.ensures.read bytes);
       unfailed = c.in-Ok.ensures.unfailed;
       same = refl;
       later = omega arith;
-      sure = λ never. never;
+      still = λ never. never;
     }
 
 pub reading-preserved : goal.reading-preserved
@@ -37,16 +38,22 @@ reading-preserved g c =
     let x = c.in-Ok-Some.tuple in
     let inv = c.reading.invariant in
     let some : c.next.result ≡ Ok (Some x) = cc in
-    let pushed : c.push.new.self.items ≡ before ++ x ∷ [] = c.push.ensures.items ∙ cond-true _ _ _ c.if-is_err.ensures.negation in
+    let pushed : c.push.new.self.items ≡ before ++ x ∷ [] = c.push.ensures.items
+    ∙ cond-true _ _ _ c.if-is_err.ensures.negation in
     record {
-      gathering = subst (λ xs. IsGathering new limits late xs) (sym pushed) (subst (λ r. GathersOn r new limits late before) some (c.next.ensures.gathers limits late before inv.gathering));
-      reading = λ bytes told. subst (λ xs. IsReading new limits late (g.S.Source.left c.next.new.source) bytes xs) (sym pushed)
-          (subst (λ r. Gives r new limits late (g.S.Source.left c.next.new.source) bytes before) some (c.next.ensures.gives limits late bytes before (inv.reading bytes told)));
+      gathering =
+          subst (λ xs. IsGathering new limits late xs) (sym pushed)
+          (subst (λ r. GathersOn r new limits late before) some
+          (c.next.ensures.gathers limits late before inv.gathering));
+      reading = λ bytes told. subst (λ xs. IsReading new limits late (g.S.Source.left c.next.new.source) bytes xs)
+          (sym pushed)
+          (subst (λ r. Gives r new limits late (g.S.Source.left c.next.new.source) bytes before) some
+          (c.next.ensures.gives limits late bytes before (inv.reading bytes told)));
       read = λ bytes told. c.next.ensures.read limits.lines bytes (inv.read bytes told);
       unfailed = c.next.ensures.unfailed inv.unfailed (given_no_fault c.next.result x some);
       same = c.next.ensures.same ∙ inv.same;
-      later = omega (arith, c.next.ensures.later, inv.later);
-      sure = λ never. (c.next.ensures.sure inv.unfailed (inv.sure never)).1;
+      later = omega (arith, c.next.ensures.source.later, inv.later);
+      still = λ never. c.next.ensures.still inv.unfailed (inv.still never);
     }
 
 pub returns-in-Err-Refused-clause-end : goal.returns-in-Err-Refused-clause-end
@@ -56,7 +63,8 @@ returns-in-Err-Refused-clause-end g c = λ bytes told.
     let new = c.next.new.self in
     let before = c.reading.tuples.items in
     let res : c.next.result ≡ Err (Refused c.in-Err-Refused.line c.in-Err-Refused.cause) = cc in
-    (subst (λ r. Gives r new limits late (g.S.Source.left c.next.new.source) bytes before) res (c.next.ensures.gives limits late bytes before (c.reading.invariant.reading bytes told))).1
+    (subst (λ r. Gives r new limits late (g.S.Source.left c.next.new.source) bytes before) res
+    (c.next.ensures.gives limits late bytes before (c.reading.invariant.reading bytes told))).1
 
 pub returns-then-is_err-clause-bounded : goal.returns-then-is_err-clause-bounded
 returns-then-is_err-clause-bounded g c = λ bytes told.
@@ -94,7 +102,9 @@ returns-in-Ok-None-clause-left g c = λ bytes told.
     let new = c.next.new.self in
     let left = g.S.Source.left c.next.new.source in
     let res : c.next.result ≡ Ok None = cc in
-    let gives = subst (λ r. Gives r new limits c.args.late left bytes c.reading.tuples.items) res (c.next.ensures.gives limits c.args.late bytes c.reading.tuples.items (c.reading.invariant.reading bytes told)) in
+    let gives = subst (λ r. Gives r new limits c.args.late left bytes c.reading.tuples.items) res
+    (c.next.ensures.gives limits c.args.late bytes c.reading.tuples.items
+    (c.reading.invariant.reading bytes told)) in
     let read = c.next.ensures.read limits.lines bytes (c.reading.invariant.read bytes told) in
     c.whole-end.ensures.left left bytes gives.3 read.1.0
 
@@ -105,4 +115,5 @@ returns-in-Err-Refused-clause-left g c = λ bytes told.
     let res : c.next.result ≡ Err (Refused line c.in-Err-Refused.cause) = cc in
     let after = c.next.ensures.after line c.in-Err-Refused.cause res in
     let read = c.next.ensures.read c.args.limits.now.lines bytes (c.reading.invariant.read bytes told) in
-    stops_soon new.cutter (g.S.Source.left c.next.new.source) new.consumed bytes (number_of new.cutter) line read.1 after
+    stops_soon new.cutter (g.S.Source.left c.next.new.source) new.consumed bytes (number_of new.cutter) line read.1
+    after

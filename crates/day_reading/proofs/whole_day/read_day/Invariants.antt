@@ -6,12 +6,14 @@ use Rattle.day_reading.proofs.whole_day.read_day.Given as goal
 abbrev pub invariant-reading : goal.invariant-reading
 invariant-reading g l = record {
   gathering : IsGathering l.reader l.limits l.late l.tuples.items;
-  reading : (bytes : List ℕ) → g.S.Source.left l.initial.source ≡ Some bytes → IsReading l.reader l.limits l.late (g.S.Source.left l.source) bytes l.tuples.items;
-  read : (bytes : List ℕ) → g.S.Source.left l.initial.source ≡ Some bytes → HasReadOf l.reader l.limits.lines (g.S.Source.left l.source) bytes;
+  reading : (bytes : List ℕ) → g.S.Source.left l.initial.source ≡ Some bytes →
+      IsReading l.reader l.limits l.late (g.S.Source.left l.source) bytes l.tuples.items;
+  read : (bytes : List ℕ) → g.S.Source.left l.initial.source ≡ Some bytes →
+      HasReadOf l.reader l.limits.lines (g.S.Source.left l.source) bytes;
   unfailed : HasFailed l.reader → ⊥;
   same : g.S.Source.name l.source ≡ g.S.Source.name l.initial.source;
   later : g.S.Source.faults l.initial.source ≤ g.S.Source.faults l.source;
-  sure : NeverFails (g.S.Source.plan l.initial.source) → NeverFails (g.S.Source.plan l.source);
+  still : NeverFails (g.S.Source.plan l.initial.source) → NeverFails (g.S.Source.plan l.source);
 }
 
 abbrev pub decreases-reading : goal.decreases-reading

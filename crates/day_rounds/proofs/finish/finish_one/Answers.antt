@@ -9,14 +9,17 @@ pub finish_among-done-requires : goal.finish_among-done-requires
 finish_among-done-requires g c =
     let k = g.C.Crew in
     let (e, told, answered, s, h) = c.requires.runs in
-    finish_ready k.out k.number k.holds k.gave k.exact k.jobs k.answers e told answered c.args.run.now c.args.crew.now s h c.args.place c.in-Some.ticket c.requires.within c.in-Some.ensures.value
+    finish_ready k.out k.number k.holds k.gave k.exact k.jobs k.answers e told answered c.args.run.now c.args.crew.now s
+    h c.args.place c.in-Some.ticket c.requires.within c.in-Some.ensures.value
 
 pub returns-then-is_err-clause-stopped : goal.returns-then-is_err-clause-stopped
 returns-then-is_err-clause-stopped g c e told answered s h day first =
     let k = g.C.Crew in
     let v = c.finish_among-done.ensures in
-    finish_stopped k.out k.number k.holds k.gave k.exact k.jobs k.answers e told answered c.args.run.now c.args.crew.now s h c.args.place c.in-Some.ticket c.requires.within c.in-Some.ensures.value
-    c.finish_among-done.new.crew c.finish_among-done.result v.out v.shape v.jobs v.numbers (record { floor = c.args.run.now.floor; tickets = c.remove.new.self }) c.in-Some.ensures.items day first
+    finish_stopped k.out k.number k.holds k.gave k.exact k.jobs k.answers e told answered c.args.run.now c.args.crew.now
+    s h c.args.place c.in-Some.ticket c.requires.within c.in-Some.ensures.value
+    c.finish_among-done.new.crew c.finish_among-done.result v.out v.shape v.jobs v.numbers
+    (record { floor = c.args.run.now.floor; tickets = c.remove.new.self }) c.in-Some.ensures.items day first
 
 pub back-requires : goal.back-requires
 back-requires g c =
@@ -27,7 +30,8 @@ back-requires g c =
       e,
       s,
       h.stands,
-      finish_may k.out k.number k.holds k.gave k.exact k.jobs k.answers e told answered c.args.run.now c.args.crew.now s h c.args.place c.in-Some.ticket c.requires.within c.in-Some.ensures.value
+      finish_may k.out k.number k.holds k.gave k.exact k.jobs k.answers e told answered c.args.run.now c.args.crew.now s
+          h c.args.place c.in-Some.ticket c.requires.within c.in-Some.ensures.value
           c.finish_among-done.new.crew c.finish_among-done.result v.out v.shape v.jobs v.numbers ok,
     )
 
@@ -39,14 +43,19 @@ returns-clause-came g c =
     let ok = well d.result (search rules) in
     when_ok c.back.result
     (λ back e told answered s h.
-    let may = finish_may k.out k.number k.holds k.gave k.exact k.jobs k.answers e told answered c.args.run.now c.args.crew.now s h c.args.place c.in-Some.ticket c.requires.within c.in-Some.ensures.value
+    let may =
+    finish_may k.out k.number k.holds k.gave k.exact k.jobs k.answers e told answered c.args.run.now c.args.crew.now
+    s h c.args.place c.in-Some.ticket c.requires.within c.in-Some.ensures.value
     c.finish_among-done.new.crew d v.out v.shape v.jobs v.numbers ok in (
       after_back s d.worker (map shown d.findings),
-      finish_came k.out k.number k.holds k.gave k.exact k.jobs k.answers e told answered c.args.run.now c.args.crew.now s h c.args.place c.in-Some.ticket c.requires.within c.in-Some.ensures.value
+      finish_came k.out k.number k.holds k.gave k.exact k.jobs k.answers e told answered c.args.run.now c.args.crew.now
+          s h c.args.place c.in-Some.ticket c.requires.within c.in-Some.ensures.value
           c.finish_among-done.new.crew d v.out v.shape v.jobs v.numbers ok,
-      finish_runs k.out k.number k.holds k.gave k.exact k.jobs k.answers e told answered c.args.run.now c.args.crew.now s h c.args.place c.in-Some.ticket c.requires.within c.in-Some.ensures.value
+      finish_runs k.out k.number k.holds k.gave k.exact k.jobs k.answers e told answered c.args.run.now c.args.crew.now
+          s h c.args.place c.in-Some.ticket c.requires.within c.in-Some.ensures.value
           c.finish_among-done.new.crew d v.out v.shape v.jobs v.numbers ok
-          (record { floor = c.back.new.self; tickets = c.remove.new.self }) c.in-Some.ensures.items c.back.ensures.width c.back.ensures.limits (back e s h.stands may) v.run v.answers,
+          (record { floor = c.back.new.self; tickets = c.remove.new.self }) c.in-Some.ensures.items c.back.ensures.width
+          c.back.ensures.limits (back e s h.stands may) v.run v.answers,
     ))
     c.back.ensures.back
 
@@ -56,5 +65,7 @@ returns-clause-stopped g c =
     let v = c.finish_among-done.ensures in
     when_err c.back.result
     (λ e told answered s h day first.
-    finish_stopped k.out k.number k.holds k.gave k.exact k.jobs k.answers e told answered c.args.run.now c.args.crew.now s h c.args.place c.in-Some.ticket c.requires.within c.in-Some.ensures.value
-    c.finish_among-done.new.crew c.finish_among-done.result v.out v.shape v.jobs v.numbers (record { floor = c.back.new.self; tickets = c.remove.new.self }) c.in-Some.ensures.items day first)
+    finish_stopped k.out k.number k.holds k.gave k.exact k.jobs k.answers e told answered c.args.run.now c.args.crew.now
+    s h c.args.place c.in-Some.ticket c.requires.within c.in-Some.ensures.value
+    c.finish_among-done.new.crew c.finish_among-done.result v.out v.shape v.jobs v.numbers
+    (record { floor = c.back.new.self; tickets = c.remove.new.self }) c.in-Some.ensures.items day first)

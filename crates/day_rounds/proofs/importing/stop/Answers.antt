@@ -7,5 +7,9 @@ pub finish_all-whole-requires : goal.finish_all-whole-requires
 finish_all-whole-requires g c = let (told, width, limits, day, h) = c.requires in (h.tasks, h.tickets, h.held)
 
 pub returns-clause-jobs : goal.returns-clause-jobs
-returns-clause-jobs g c told width limits day h =
-    (h.since, first_started width limits h.state day h.since h.sound h.first h.starts, where_first told h.since _ _ _ (c.finish_all-whole.ensures.told told h.since true h.listing))
+returns-clause-jobs g c told width limits day h = (
+  h.since,
+  first_started width limits h.state day h.since h.sound h.first h.starts,
+  where_first told h.since _ _ _
+      (c.finish_all-whole.ensures.told told h.since true h.listing),
+)

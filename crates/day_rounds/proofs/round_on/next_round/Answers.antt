@@ -29,7 +29,9 @@ pub returns-in-None-clause-ended : goal.returns-in-None-clause-ended
 returns-in-None-clause-ended g c =
     let (e, told, answered, s, h, can, number, history, abreast, all) = c.requires.runs in
     let none : c.in-Ok.round.stop ≡ None = cc in
-    c.in-Ok.ensures.read_on.ended none (some_room s s.fed c.room-room.result c.args.run.now.floor.limits.backlog refl all (c.room-room.ensures e s h.stands) h.stands.terms.some_backlog)
+    c.in-Ok.ensures.read_on.ended none
+    (some_room s s.fed c.room-room.result c.args.run.now.floor.limits.backlog refl all
+    (c.room-room.ensures e s h.stands) h.stands.terms.some_backlog)
 
 pub returns-in-Some-clause-halted : goal.returns-in-Some-clause-halted
 returns-in-Some-clause-halted g c e told answered late s h can number history =
@@ -45,15 +47,25 @@ returns-in-Some-clause-halted g c e told answered late s h can number history =
     record {
       fed = fed;
       fit = can.fit;
-      read = λ bytes ahead. given_first f.limits late c.args.ahead.now (g.S.Source.left c.args.source.now) bytes fed ahead;
-      stopped = subst (λ m. Stopped k.out k.number k.holds k.gave k.jobs told m f.limits fed run c.round.new.crew) v.width
-          (subst (λ l. Stopped k.out k.number k.holds k.gave k.jobs told n.inboxes.width l fed run c.round.new.crew) v.limits
-          (stopped_by k.out k.number k.holds k.gave k.exact k.jobs k.answers e told answered run c.round.new.crew now runs run refl fed first));
-      front = λ exact begin had. subst (λ x. HasDayFront x e fed begin (g.O.Sink.written c.round.new.sink)) (sym c.reading_stopped.ensures)
-          (front_of_reading c.in-Some.stop e fed begin _ (front_before n.inboxes.width n.limits e now runs.stands.terms.some runs.stands.sound (runs.right exact) fed first fit begin _ (settled.text begin had)));
-      steps = λ exact before have. subst (λ l. HasSteps e.tariffs fed l.backlog before (g.P.Publisher.posted c.round.new.publisher)) v.limits
-          (stepped_rules n.inboxes.width n.limits e now runs.stands.terms.some runs.stands.sound (runs.right exact) fed first fit before _ _
-          (subst (λ l. HasStepped l.backlog now before (g.P.Publisher.posted c.round.new.publisher)) (sym v.limits) (settled.steps before have)) refl);
+      read = λ bytes ahead. given_first f.limits late c.args.ahead.now (g.S.Source.left c.args.source.now) bytes fed
+          ahead;
+      stopped =
+          subst (λ m. Stopped k.out k.number k.holds k.gave k.jobs told m f.limits fed run c.round.new.crew) v.width
+          (subst (λ l. Stopped k.out k.number k.holds k.gave k.jobs told n.inboxes.width l fed run c.round.new.crew)
+          v.limits
+          (stopped_by k.out k.number k.holds k.gave k.exact k.jobs k.answers e told answered run c.round.new.crew now
+          runs run refl fed first));
+      front = λ exact begin had. subst (λ x. HasDayFront x e fed begin (g.O.Sink.written c.round.new.sink))
+          (sym c.reading_stopped.ensures)
+          (front_of_reading c.in-Some.stop e fed begin _
+          (front_before n.inboxes.width n.limits e now runs.stands.terms.some runs.stands.sound
+          (runs.right exact) fed first fit begin _ (settled.text begin had)));
+      steps = λ exact before have. subst
+          (λ l. HasSteps e.tariffs fed l.backlog before (g.P.Publisher.posted c.round.new.publisher)) v.limits
+          (stepped_rules n.inboxes.width n.limits e now runs.stands.terms.some runs.stands.sound
+          (runs.right exact) fed first fit before _ _
+          (subst (λ l. HasStepped l.backlog now before (g.P.Publisher.posted c.round.new.publisher)) (sym v.limits)
+          (settled.steps before have)) refl);
     }
 
 pub returns-in-Err-clause-halted : goal.returns-in-Err-clause-halted
@@ -65,9 +77,13 @@ returns-in-Err-clause-halted g c e told answered late s h can number history =
     record {
       fed = fed;
       fit = can.fit;
-      read = λ bytes ahead. given_first f.limits late c.args.ahead.now (g.S.Source.left c.args.source.now) bytes fed ahead;
+      read = λ bytes ahead. given_first f.limits late c.args.ahead.now (g.S.Source.left c.args.source.now) bytes fed
+          ahead;
       stopped = v.stopped e told answered s h can fed ([], sym (append-nil fed));
-      front = λ exact begin had. subst (λ x. HasDayFront x e fed begin (g.O.Sink.written c.round.new.sink)) (sym c.settling_stopped.ensures)
-          (front_of_settling c.in-Err.fault e fed begin _ (v.front e told answered s h can number history exact begin had));
-      steps = λ exact before have. stepped_rules f.inboxes.width f.limits e s h.stands.terms.some h.stands.sound (h.right exact) fed (xs, refl) can.fit before _ _ have v.published;
+      front = λ exact begin had. subst (λ x. HasDayFront x e fed begin (g.O.Sink.written c.round.new.sink))
+          (sym c.settling_stopped.ensures)
+          (front_of_settling c.in-Err.fault e fed begin _
+          (v.front e told answered s h can number history exact begin had));
+      steps = λ exact before have. stepped_rules f.inboxes.width f.limits e s h.stands.terms.some h.stands.sound
+          (h.right exact) fed (xs, refl) can.fit before _ _ have v.published;
     }

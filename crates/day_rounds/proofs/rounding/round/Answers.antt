@@ -17,13 +17,21 @@ pub returns-in_default-clause-front : goal.returns-in_default-clause-front
 returns-in_default-clause-front g c e told answered s h can number history exact first had =
     let f = c.args.run.now.floor in
     let these = c.args.these.now.items in
-    front_before f.inboxes.width f.limits e s h.stands.terms.some h.stands.sound (h.right exact) (s.fed ++ these) (these, refl) can.fit first _ had
+    front_before f.inboxes.width f.limits e s h.stands.terms.some h.stands.sound (h.right exact) (s.fed ++ these)
+    (these, refl) can.fit first _ had
 
 pub settle_done-requires : goal.settle_done-requires
 settle_done-requires g c =
     let (e, told, answered, s, h, can, number, history, abreast) = c.requires.runs in
-    let (mid, done, runs) = c.in-Ok.ensures.done e told answered s h can in
-    (e, mid, runs.stands, number, history, subst (λ cs. IsAbreast (g.P.Publisher.posted c.args.publisher.now) (sum_of cs)) (sym done.charges) abreast)
+    let (mid, done, runs) = c.in-Ok.ensures.done e told answered s h can in (
+      e,
+      mid,
+      runs.stands,
+      number,
+      history,
+      subst
+          (λ cs. IsAbreast (g.P.Publisher.posted c.args.publisher.now) (sum_of cs)) (sym done.charges) abreast,
+    )
 
 pub returns-in-Ok-settle_done-clause-done : goal.returns-in-Ok-settle_done-clause-done
 returns-in-Ok-settle_done-clause-done g c e told answered s h can number history =
@@ -36,9 +44,13 @@ returns-in-Ok-settle_done-clause-done g c e told answered s h can number history
     let (mid, done, runs) = v.done e told answered s h can in
     let (is, stands, text, steps, abreast) = c.in-Ok-settle_done.ensures.settled e mid runs.stands number history in (
       after_settle mid n,
-      round_settled f.inboxes.width f.limits.backlog e s mid c.args.these.now.items n _ _ _ _ done (is ∙ ap (λ m. mark m mid) v.width) text (steps_under run.floor.limits f.limits v.limits mid (after_settle mid n) _ _ steps),
+      round_settled f.inboxes.width f.limits.backlog e s mid c.args.these.now.items n _ _ _ _ done
+          (is ∙ ap (λ m. mark m mid) v.width) text
+          (steps_under run.floor.limits f.limits v.limits mid (after_settle mid n) _ _ steps),
       refl,
-      settled_runs k.out k.number k.holds k.gave k.exact k.jobs k.answers e told answered run crew mid runs (record { floor = c.settle_done.new.floor; tickets = run.tickets }) n refl c.settle_done.ensures.width c.settle_done.ensures.limits stands,
+      settled_runs k.out k.number k.holds k.gave k.exact k.jobs k.answers e told answered run crew mid runs
+          (record { floor = c.settle_done.new.floor; tickets = run.tickets }) n refl c.settle_done.ensures.width
+          c.settle_done.ensures.limits stands,
       abreast,
     )
 
@@ -49,9 +61,12 @@ returns-in-Err-clause-stopped g c e told answered s h can whole first =
     let run = c.work_round.new.run in
     let crew = c.work_round.new.crew in
     let (mid, done, runs) = v.done e told answered s h can in
-    subst (λ m. Stopped k.out k.number k.holds k.gave k.jobs told m c.args.run.now.floor.limits whole (record { floor = c.settle_done.new.floor; tickets = run.tickets }) crew) v.width
-    (subst (λ l. Stopped k.out k.number k.holds k.gave k.jobs told run.floor.inboxes.width l whole (record { floor = c.settle_done.new.floor; tickets = run.tickets }) crew) v.limits
-    (stopped_by k.out k.number k.holds k.gave k.exact k.jobs k.answers e told answered run crew mid runs (record { floor = c.settle_done.new.floor; tickets = run.tickets }) refl whole
+    subst (λ m. Stopped k.out k.number k.holds k.gave k.jobs told m c.args.run.now.floor.limits whole
+    (record { floor = c.settle_done.new.floor; tickets = run.tickets }) crew) v.width
+    (subst (λ l. Stopped k.out k.number k.holds k.gave k.jobs told run.floor.inboxes.width l whole
+    (record { floor = c.settle_done.new.floor; tickets = run.tickets }) crew) v.limits
+    (stopped_by k.out k.number k.holds k.gave k.exact k.jobs k.answers e told answered run crew mid runs
+    (record { floor = c.settle_done.new.floor; tickets = run.tickets }) refl whole
     (subst (λ ts. AreFirst ts whole) (sym done.fed) first)))
 
 pub returns-in-Err-clause-front : goal.returns-in-Err-clause-front
@@ -60,4 +75,6 @@ returns-in-Err-clause-front g c e told answered s h can number history exact fir
     let f = c.work_round.new.run.floor in
     let (mid, done, runs) = v.done e told answered s h can in
     let later = s.fed ++ c.args.these.now.items in
-    c.in-Err.ensures.stopped e mid runs.stands number history (runs.right exact) later ([], sym done.fed ∙ sym (append-nil mid.fed)) (subst (Fit later) (sym v.limits) can.fit) first (text_kept e s mid done.text first _ had)
+    c.in-Err.ensures.stopped e mid runs.stands number history (runs.right exact) later
+    ([], sym done.fed ∙ sym (append-nil mid.fed)) (subst (Fit later) (sym v.limits) can.fit) first
+    (text_kept e s mid done.text first _ had)

@@ -12,8 +12,15 @@ feed-requires g c =
     let inv = c.loop-tuple.invariant in
     let (e, s, st, can) = c.requires in
     let w = c.args.run.now.floor.inboxes.width in
-    let i = c.loop-tuple.tuple-index in
-    (e, fed_all w s (take i c.args.these.now), inv.fed e s st can, subst (λ l. CanFeed l (fed_all w s (take i c.args.these.now)) (slice_index_or c.args.these.now i no_tuple)) (sym inv.limits) (can_next w c.args.run.now.floor.limits s c.args.these.now i no_tuple can c.loop-tuple-test.true))
+    let i = c.loop-tuple.tuple-index in (
+      e,
+      fed_all w s (take i c.args.these.now),
+      inv.fed e s st can,
+      subst
+          (λ l. CanFeed l (fed_all w s (take i c.args.these.now)) (slice_index_or c.args.these.now i no_tuple))
+          (sym inv.limits)
+          (can_next w c.args.run.now.floor.limits s c.args.these.now i no_tuple can c.loop-tuple-test.true),
+    )
 
 pub loop-tuple-preserved : goal.loop-tuple-preserved
 loop-tuple-preserved g c =
@@ -26,13 +33,18 @@ loop-tuple-preserved g c =
       limits = c.feed.ensures.limits ∙ inv.limits;
       tickets = inv.tickets;
       fed = λ e s st can.
-          subst (StandsFor e c.feed.new.self) (sym (ap (fed_all w s) (take_more these i no_tuple c.loop-tuple-test.true) ∙ fed_push w s (take i these) (slice_index_or these i no_tuple)))
-          (subst (λ n. StandsFor e c.feed.new.self (after_feed n (fed_all w s (take i these)) (slice_index_or these i no_tuple))) inv.width
+          subst (StandsFor e c.feed.new.self)
+          (sym (ap (fed_all w s) (take_more these i no_tuple c.loop-tuple-test.true)
+          ∙ fed_push w s (take i these) (slice_index_or these i no_tuple)))
+          (subst (λ n. StandsFor e c.feed.new.self
+          (after_feed n (fed_all w s (take i these)) (slice_index_or these i no_tuple))) inv.width
           (c.in_ok-feed.ensures.fed e (fed_all w s (take i these)) (inv.fed e s st can)
-          (subst (λ l. CanFeed l (fed_all w s (take i these)) (slice_index_or these i no_tuple)) (sym inv.limits) (can_next w c.args.run.now.floor.limits s these i no_tuple can c.loop-tuple-test.true))));
+          (subst (λ l. CanFeed l (fed_all w s (take i these)) (slice_index_or these i no_tuple)) (sym inv.limits)
+          (can_next w c.args.run.now.floor.limits s these i no_tuple can c.loop-tuple-test.true))));
     }
 
 pub returns-clause-fed : goal.returns-clause-fed
 returns-clause-fed g c e s st can =
-    subst (λ xs. StandsFor e c.loop-tuple.run.floor (fed_all c.args.run.now.floor.inboxes.width s xs)) (take_all c.loop-tuple.tuple-index c.args.these.now (omega (arith, c.loop-tuple-test.false)))
+    subst (λ xs. StandsFor e c.loop-tuple.run.floor (fed_all c.args.run.now.floor.inboxes.width s xs))
+    (take_all c.loop-tuple.tuple-index c.args.these.now (omega (arith, c.loop-tuple-test.false)))
     (c.loop-tuple.invariant.fed e s st can)

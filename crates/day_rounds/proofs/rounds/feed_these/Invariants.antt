@@ -9,5 +9,6 @@ invariant-loop-tuple g l = record {
   width : l.run.floor.inboxes.width ≡ l.fn.run.floor.inboxes.width;
   limits : l.run.floor.limits ≡ l.fn.run.floor.limits;
   tickets : l.run.tickets.items ≡ l.fn.run.tickets.items;
-  fed : (e : Setting) (s : State) → StandsFor e l.fn.run.floor s → CanFeedAll l.fn.run.floor.limits s l.these → StandsFor e l.run.floor (fed_all l.fn.run.floor.inboxes.width s (take l.tuple-index l.these));
+  fed : (e : Setting) (s : State) → StandsFor e l.fn.run.floor s → CanFeedAll l.fn.run.floor.limits s l.these →
+      StandsFor e l.run.floor (fed_all l.fn.run.floor.inboxes.width s (take l.tuple-index l.these));
 }

@@ -12,7 +12,8 @@ finish_one-requires-clause-runs g c =
     (e, told, answered, mid, runs)
 
 pub loop-run-init : goal.loop-run-init
-loop-run-init g c = record { width = refl; limits = refl; which = refl; came = λ e told answered s h. (s, later_same s, h) }
+loop-run-init g c =
+    record { width = refl; limits = refl; which = refl; came = λ e told answered s h. (s, later_same s, h) }
 
 pub loop-run-preserved : goal.loop-run-preserved
 loop-run-preserved g c =
@@ -24,8 +25,13 @@ loop-run-preserved g c =
       which = v.which ∙ inv.which;
       came = λ e told answered s h.
           let (mid, later, runs) = inv.came e told answered s h in
-          let (now, came, all) = v.came e told answered mid runs in
-          (now, later_then s mid now later (came_later c.loop-run.run.floor.inboxes.width c.loop-run.run.floor.limits mid now runs.stands.sound came), all);
+          let (now, came, all) = v.came e told answered mid runs in (
+            now,
+            later_then s mid now later
+                (came_later c.loop-run.run.floor.inboxes.width c.loop-run.run.floor.limits mid now runs.stands.sound
+                came),
+            all,
+          );
     }
 
 pub returns-in_err-finish_one-clause-stopped : goal.returns-in_err-finish_one-clause-stopped
@@ -35,6 +41,9 @@ returns-in_err-finish_one-clause-stopped g c =
     when_err c.from_residual.result
     (λ e told answered s h day first.
     let (mid, later, runs) = inv.came e told answered s h in
-    subst (λ n. Stopped k.out k.number k.holds k.gave k.jobs told n c.args.run.now.floor.limits day c.finish_one.new.run c.finish_one.new.crew) inv.width
-    (subst (λ l. Stopped k.out k.number k.holds k.gave k.jobs told c.loop-run.run.floor.inboxes.width l day c.finish_one.new.run c.finish_one.new.crew) inv.limits
-    (c.in_err-finish_one.ensures.stopped e told answered mid runs day (subst (λ ts. AreFirst ts day) (sym later.fed) first))))
+    subst (λ n. Stopped k.out k.number k.holds k.gave k.jobs told n c.args.run.now.floor.limits day c.finish_one.new.run
+    c.finish_one.new.crew) inv.width
+    (subst (λ l. Stopped k.out k.number k.holds k.gave k.jobs told c.loop-run.run.floor.inboxes.width l day
+    c.finish_one.new.run c.finish_one.new.crew) inv.limits
+    (c.in_err-finish_one.ensures.stopped e told answered mid runs day
+    (subst (λ ts. AreFirst ts day) (sym later.fed) first))))

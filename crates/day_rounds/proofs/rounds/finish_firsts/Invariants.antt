@@ -14,7 +14,10 @@ invariant-loop-run g l =
       width : l.run.floor.inboxes.width ≡ l.fn.run.floor.inboxes.width;
       limits : l.run.floor.limits ≡ l.fn.run.floor.limits;
       which : k.which l.crew ≡ k.which l.fn.crew;
-      came : (e : Setting) (told : Option Told) (answered : Option (List Finding)) (s : State) → Runs k.out k.number k.holds k.gave k.exact k.jobs k.answers e told answered l.fn.run l.fn.crew s → (now : State) × IsLater s now × Runs k.out k.number k.holds k.gave k.exact k.jobs k.answers e told answered l.run l.crew now;
+      came : (e : Setting) (told : Option Told) (answered : Option (List Finding)) (s : State) →
+          Runs k.out k.number k.holds k.gave k.exact k.jobs k.answers e told answered l.fn.run l.fn.crew s →
+          (now : State) × IsLater s now
+          × Runs k.out k.number k.holds k.gave k.exact k.jobs k.answers e told answered l.run l.crew now;
     }
 
 abbrev pub decreases-loop-run : goal.decreases-loop-run

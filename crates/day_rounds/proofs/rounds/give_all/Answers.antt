@@ -11,7 +11,11 @@ give_one-requires-clause-runs g c =
 pub returns-in_err-give_one-clause-refused : goal.returns-in_err-give_one-clause-refused
 returns-in_err-give_one-clause-refused g c =
     when_err c.from_residual.result
-    (λ e told answered s h. (c.loop-worker.worker, c.in_err-give_one.ensures.refused e told answered (given_all s c.loop-worker.worker) (c.loop-worker.invariant.given e told answered s h)))
+    (λ e told answered s h. (
+      c.loop-worker.worker,
+      c.in_err-give_one.ensures.refused e told answered (given_all s c.loop-worker.worker)
+          (c.loop-worker.invariant.given e told answered s h),
+    ))
 
 pub loop-worker-preserved : goal.loop-worker-preserved
 loop-worker-preserved g c =
@@ -24,12 +28,15 @@ loop-worker-preserved g c =
       limits = c.in_ok-give_one.ensures.limits ∙ inv.limits;
       which = c.in_ok-give_one.ensures.which ∙ inv.which;
       given = λ e told answered s h.
-          subst (λ n. Runs k.out k.number k.holds k.gave k.exact k.jobs k.answers e told answered c.give_one.new.run c.give_one.new.crew (given_all s n)) one
+          subst (λ n. Runs k.out k.number k.holds k.gave k.exact k.jobs k.answers e told answered c.give_one.new.run
+          c.give_one.new.crew (given_all s n)) one
           (c.in_ok-give_one.ensures.given e told answered (given_all s w) (inv.given e told answered s h));
     }
 
 pub returns-clause-given : goal.returns-clause-given
 returns-clause-given g c e told answered s h =
     let k = g.C.Crew in
-    let all : c.loop-worker.worker ≡ c.args.width = omega (arith, c.loop-worker.auto.worker-end, c.loop-worker-test.false) in
-    subst (λ n. Runs k.out k.number k.holds k.gave k.exact k.jobs k.answers e told answered c.loop-worker.run c.loop-worker.crew (given_all s n)) all (c.loop-worker.invariant.given e told answered s h)
+    let all : c.loop-worker.worker ≡ c.args.width =
+    omega (arith, c.loop-worker.auto.worker-end, c.loop-worker-test.false) in
+    subst (λ n. Runs k.out k.number k.holds k.gave k.exact k.jobs k.answers e told answered c.loop-worker.run
+    c.loop-worker.crew (given_all s n)) all (c.loop-worker.invariant.given e told answered s h)

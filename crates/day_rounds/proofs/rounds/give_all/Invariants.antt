@@ -14,5 +14,8 @@ invariant-loop-worker g l =
       width : l.run.floor.inboxes.width ≡ l.fn.run.floor.inboxes.width;
       limits : l.run.floor.limits ≡ l.fn.run.floor.limits;
       which : k.which l.crew ≡ k.which l.fn.crew;
-      given : (e : Setting) (told : Option Told) (answered : Option (List Finding)) (s : State) → Runs k.out k.number k.holds k.gave k.exact k.jobs k.answers e told answered l.fn.run l.fn.crew s → Runs k.out k.number k.holds k.gave k.exact k.jobs k.answers e told answered l.run l.crew (given_all s l.worker);
+      given : (e : Setting) (told : Option Told) (answered : Option (List Finding)) (s : State) →
+          Runs k.out k.number k.holds k.gave k.exact k.jobs k.answers e told answered l.fn.run l.fn.crew s →
+          Runs k.out k.number k.holds k.gave k.exact k.jobs k.answers e told answered l.run l.crew
+          (given_all s l.worker);
     }

@@ -1,4 +1,5 @@
-use Rattle.std.proofs.Common.{◌≡◌, ◌-◌, ◌<◌, ◌≤◌, ◌++◌, ◌∙◌, [], None, length, refl, sym, ap, subst, arith, length-append, rules}
+use Rattle.std.proofs.Common.{◌≡◌, ◌-◌, ◌<◌, ◌≤◌, ◌++◌, ◌∙◌, [], None, length, refl, sym, ap, subst, arith}
+use Rattle.std.proofs.Common.{length-append, rules}
 use Rattle.std.proofs.lemmas.List.{append-nil}
 use Rattle.settling.specs.Answers.{history_of}
 use Rattle.watermark.specs.Shares.{start}
@@ -17,15 +18,24 @@ pub returns-in-Some-clause-halted : goal.returns-in-Some-clause-halted
 returns-in-Some-clause-halted g c e told answered late h gathers number history =
     let k = g.C.Crew in
     let f = c.args.run.now.floor in
-    let on = on_start f.limits late e c.args.ahead.now (g.S.Source.left c.args.source.now) (g.O.Sink.written c.args.sink.now) (g.P.Publisher.posted c.args.publisher.now) in
+    let on = on_start f.limits late e c.args.ahead.now (g.S.Source.left c.args.source.now)
+    (g.O.Sink.written c.args.sink.now) (g.P.Publisher.posted c.args.publisher.now) in
     record {
       fed = [];
       fit = h.stands.sound.fit;
-      read = λ bytes ahead. given_first f.limits late c.args.ahead.now (g.S.Source.left c.args.source.now) bytes [] ahead;
-      stopped = stopped_by k.out k.number k.holds k.gave k.exact k.jobs k.answers e told answered c.args.run.now c.args.crew.now start h c.args.run.now refl [] ([], refl);
-      front = λ exact. subst (λ x. HasDayFront x e [] (g.O.Sink.written c.args.sink.now) (g.O.Sink.written c.args.sink.now)) (sym c.reading_stopped.ensures)
-          (front_of_reading c.in-Some.stop e [] _ _ (front_before f.inboxes.width f.limits e start h.stands.terms.some h.stands.sound (h.right exact) [] ([], refl) h.stands.sound.fit _ _ on.text));
-      steps = λ exact. stepped_rules f.inboxes.width f.limits e start h.stands.terms.some h.stands.sound (h.right exact) [] ([], refl) h.stands.sound.fit _ _ _ on.steps refl;
+      read = λ bytes ahead. given_first f.limits late c.args.ahead.now (g.S.Source.left c.args.source.now) bytes []
+          ahead;
+      stopped =
+          stopped_by k.out k.number k.holds k.gave k.exact k.jobs k.answers e told answered c.args.run.now
+          c.args.crew.now start h c.args.run.now refl [] ([], refl);
+      front = λ exact. subst
+          (λ x. HasDayFront x e [] (g.O.Sink.written c.args.sink.now) (g.O.Sink.written c.args.sink.now))
+          (sym c.reading_stopped.ensures)
+          (front_of_reading c.in-Some.stop e [] _ _
+          (front_before f.inboxes.width f.limits e start h.stands.terms.some h.stands.sound (h.right exact) []
+          ([], refl) h.stands.sound.fit _ _ on.text));
+      steps = λ exact. stepped_rules f.inboxes.width f.limits e start h.stands.terms.some h.stands.sound
+          (h.right exact) [] ([], refl) h.stands.sound.fit _ _ _ on.steps refl;
     }
 
 pub day-init : goal.day-init
@@ -53,9 +63,11 @@ day-init g c =
       keeper_later = omega arith;
       keeper_sure = λ e. e;
       few = omega (arith, room, few);
-      ended = r.read_on.ended none (some_room start [] c.room-room.result f.limits.backlog refl refl room h.stands.terms.some_backlog);
+      ended = r.read_on.ended none
+          (some_room start [] c.room-room.result f.limits.backlog refl refl room h.stands.terms.some_backlog);
       at = λ e told answered late h gathers number history.
-          let on = on_start f.limits late e c.args.ahead.now (g.S.Source.left c.args.source.now) (g.O.Sink.written c.args.sink.now) (g.P.Publisher.posted c.args.publisher.now) in
+          let on = on_start f.limits late e c.args.ahead.now (g.S.Source.left c.args.source.now)
+          (g.O.Sink.written c.args.sink.now) (g.P.Publisher.posted c.args.publisher.now) in
           (start, r.read_on.given none f.limits late, on.text, on.steps, refl, refl, h, c.requires.runs.8);
     }
 
@@ -64,7 +76,9 @@ next_round-requires-clause-runs g c =
     let inv = c.day.invariant in
     let (e, told, answered, late, h, gathers, number, history, abreast) = c.requires.runs in
     let (s, given, text, steps, all, is, runs, even) = inv.at e told answered late h gathers number history in
-    let can = next_can c.args.run.now.floor.limits c.day.run.floor.limits inv.limits late s c.day.these.items c.args.ahead.now c.day.ahead _ _ given gathers all inv.few in
+    let can =
+    next_can c.args.run.now.floor.limits c.day.run.floor.limits inv.limits late s c.day.these.items c.args.ahead.now
+    c.day.ahead _ _ given gathers all inv.few in
     (e, told, answered, s, runs, can, number, history ∙ ap history_of (sym inv.same), even, all)
 
 pub returns-in-Err-clause-halted : goal.returns-in-Err-clause-halted
@@ -74,8 +88,11 @@ returns-in-Err-clause-halted g c e told answered late h gathers number history =
     let f = c.args.run.now.floor in
     let d = c.day.run.floor in
     let (s, given, text, steps, all, is, runs, even) = inv.at e told answered late h gathers number history in
-    let can = next_can f.limits d.limits inv.limits late s c.day.these.items c.args.ahead.now c.day.ahead _ _ given gathers all inv.few in
-    cut_at k.out k.number k.holds k.gave k.exact k.jobs c.in-Err.fault e told d.inboxes.width f.inboxes.width d.limits f.limits inv.width inv.limits late s (s.fed ++ c.day.these.items) c.args.ahead.now c.day.ahead _ _ _ _ _ _ _ _ c.next_round.new.run c.next_round.new.crew given text steps
+    let can = next_can f.limits d.limits inv.limits late s c.day.these.items c.args.ahead.now c.day.ahead _ _ given
+    gathers all inv.few in
+    cut_at k.out k.number k.holds k.gave k.exact k.jobs c.in-Err.fault e told d.inboxes.width f.inboxes.width d.limits
+    f.limits inv.width inv.limits late s (s.fed ++ c.day.these.items) c.args.ahead.now c.day.ahead _ _ _ _ _ _ _ _
+    c.next_round.new.run c.next_round.new.crew given text steps
     (c.in-Err.ensures.halted e told answered late s runs can number (history ∙ ap history_of (sym inv.same)))
 
 pub day-preserved : goal.day-preserved
@@ -105,11 +122,16 @@ day-preserved g c =
       ended = v.ended;
       at = λ e told answered late h gathers number history.
           let (s, given, text, steps, all, is, runs, even) = inv.at e told answered late h gathers number history in
-          let can = next_can f.limits d.limits inv.limits late s c.day.these.items c.args.ahead.now c.day.ahead _ _ given gathers all inv.few in
-          let (now, settled, count, last, still) = v.done e told answered s runs can number (history ∙ ap history_of (sym inv.same)) in (
+          let can =
+          next_can f.limits d.limits inv.limits late s c.day.these.items c.args.ahead.now c.day.ahead _ _ given
+          gathers all inv.few in
+          let (now, settled, count, last, still) =
+          v.done e told answered s runs can number (history ∙ ap history_of (sym inv.same)) in (
             now,
-            subst (λ ts. HasGiven f.limits late (ts ++ next) c.args.ahead.now c.next_round.new.ahead (g.S.Source.left c.args.source.now) (g.S.Source.left c.next_round.new.source)) (sym settled.fed)
-                (given_more f.limits late (s.fed ++ c.day.these.items) next c.args.ahead.now c.day.ahead c.next_round.new.ahead _ _ _ given (v.given f.limits late)),
+            subst (λ ts. HasGiven f.limits late (ts ++ next) c.args.ahead.now c.next_round.new.ahead
+                (g.S.Source.left c.args.source.now) (g.S.Source.left c.next_round.new.source)) (sym settled.fed)
+                (given_more f.limits late (s.fed ++ c.day.these.items) next c.args.ahead.now c.day.ahead
+                c.next_round.new.ahead _ _ _ given (v.given f.limits late)),
             settled.text _ text,
             steps_under d.limits f.limits inv.limits s now _ _ settled.steps _ steps,
             settled.settled,
@@ -128,14 +150,18 @@ day-smaller g c =
     let xs = c.day.these.items in
     let (e, told, answered, late, h, gathers, number, history, abreast) = c.requires.runs in
     let (s, given, text, steps, all, is, runs, even) = inv.at e told answered late h gathers number history in
-    let can = next_can f.limits d.limits inv.limits late s xs c.args.ahead.now c.day.ahead _ _ given gathers all inv.few in
-    let (now, settled, count, last, still) = v.done e told answered s runs can number (history ∙ ap history_of (sym inv.same)) in
+    let can =
+    next_can f.limits d.limits inv.limits late s xs c.args.ahead.now c.day.ahead _ _ given gathers all inv.few in
+    let (now, settled, count, last, still) =
+    v.done e told answered s runs can number (history ∙ ap history_of (sym inv.same)) in
     let long = ap length settled.fed ∙ length-append s.fed xs in
     let full = settled.settled in
     let more : 1 ≤ length xs = search rules in
-    let few : length now.fed ≤ d.limits.lines = subst (λ l. length now.fed ≤ l.lines) v.limits last.stands.sound.fit.lines in
+    let few : length now.fed ≤ d.limits.lines =
+    subst (λ l. length now.fed ≤ l.lines) v.limits last.stands.sound.fit.lines in
     subst (λ l. l.lines - c.in-Ok.count < d.limits.lines - c.day.settled) (sym v.limits)
-    (fewer_left d.limits.lines c.day.settled c.in-Ok.count (length xs) (omega (arith, long, full, count, all, is)) more (omega (arith, few, full, count)))
+    (fewer_left d.limits.lines c.day.settled c.in-Ok.count (length xs) (omega (arith, long, full, count, all, is)) more
+    (omega (arith, few, full, count)))
 
 pub returns-clause-ended : goal.returns-clause-ended
 returns-clause-ended g c =
@@ -144,10 +170,23 @@ returns-clause-ended g c =
 
 pub returns-clause-done : goal.returns-clause-done
 returns-clause-done g c e told answered late h gathers number history =
-    let (s, given, text, steps, all, is, runs, even) = c.day.invariant.at e told answered late h gathers number history in
+    let (s, given, text, steps, all, is, runs, even) =
+    c.day.invariant.at e told answered late h gathers number history in
     let empty : length c.day.these.items ≡ 0 = search rules in
-    let none = ap (λ xs. s.fed ++ xs) (no_more c.day.these.items empty) ∙ append-nil s.fed in
-    (s, record { given = subst (λ xs. HasGiven c.args.run.now.floor.limits late xs c.args.ahead.now c.day.ahead (g.S.Source.left c.args.source.now) (g.S.Source.left c.day.source)) none given; text = text; steps = steps }, all, is, runs)
+    let none = ap (λ xs. s.fed ++ xs) (no_more c.day.these.items empty) ∙ append-nil s.fed in (
+      s,
+      record {
+        given =
+            subst (λ xs. HasGiven c.args.run.now.floor.limits late xs c.args.ahead.now c.day.ahead
+            (g.S.Source.left c.args.source.now) (g.S.Source.left c.day.source)) none given;
+        text = text;
+        steps =
+            steps;
+      },
+      all,
+      is,
+      runs,
+    )
 
 pub returns-in-Err-clause-read : goal.returns-in-Err-clause-read
 returns-in-Err-clause-read g c lines bytes h = c.in-Err.ensures.read lines bytes (c.day.invariant.read lines bytes h)

@@ -27,7 +27,8 @@ invariant-day g l =
       crew : k.which l.crew ≡ k.which l.fn.crew;
       unfailed : HasFailedAhead l.ahead → ⊥;
       source_same : g.S.Source.name l.source ≡ g.S.Source.name l.fn.source;
-      read : (lines : ℕ) (bytes : List ℕ) → HasReadAhead l.fn.ahead lines (g.S.Source.left l.fn.source) bytes → HasReadAhead l.ahead lines (g.S.Source.left l.source) bytes;
+      read : (lines : ℕ) (bytes : List ℕ) → HasReadAhead l.fn.ahead lines (g.S.Source.left l.fn.source) bytes →
+          HasReadAhead l.ahead lines (g.S.Source.left l.source) bytes;
       publisher : g.P.Publisher.which l.publisher ≡ g.P.Publisher.which l.fn.publisher;
       same : g.K.Keeper.told l.keeper ≡ g.K.Keeper.told l.fn.keeper;
       source_later : g.S.Source.faults l.fn.source ≤ g.S.Source.faults l.source;
@@ -38,11 +39,18 @@ invariant-day g l =
       keeper_sure : NeverFails (g.K.Keeper.plan l.fn.keeper) → NeverFails (g.K.Keeper.plan l.keeper);
       few : length l.these.items ≤ l.fn.run.floor.limits.backlog;
       ended : l.these.items ≡ [] → has_more l.ahead ≡ false;
-      at : (e : Setting) (told : Option Told) (answered : Option (List Finding)) (late : ℕ) → Runs k.out k.number k.holds k.gave k.exact k.jobs k.answers e told answered l.fn.run l.fn.crew start → IsGatheringAhead l.fn.ahead l.fn.run.floor.limits late [] →
+      at : (e : Setting) (told : Option Told) (answered : Option (List Finding)) (late : ℕ) →
+          Runs k.out k.number k.holds k.gave k.exact k.jobs k.answers e told answered l.fn.run l.fn.crew start →
+          IsGatheringAhead l.fn.ahead l.fn.run.floor.limits late [] →
           e.number ≡ l.day → e.history ≡ history_of (g.K.Keeper.told l.fn.keeper) →
-          (now : State) × HasGiven l.fn.run.floor.limits late (now.fed ++ l.these.items) l.fn.ahead l.ahead (g.S.Source.left l.fn.source) (g.S.Source.left l.source)
-          × HasText e now (g.O.Sink.written l.fn.sink) (g.O.Sink.written l.sink) × HasStepped l.fn.run.floor.limits.backlog now (g.P.Publisher.posted l.fn.publisher) (g.P.Publisher.posted l.publisher)
-          × (now.settled ≡ length now.fed) × (l.settled ≡ now.settled) × Runs k.out k.number k.holds k.gave k.exact k.jobs k.answers e told answered l.run l.crew now × IsAbreast (g.P.Publisher.posted l.publisher) (sum_of (settled_charges now));
+          (now : State) × HasGiven l.fn.run.floor.limits late (now.fed ++ l.these.items) l.fn.ahead l.ahead
+          (g.S.Source.left l.fn.source) (g.S.Source.left l.source)
+          × HasText e now (g.O.Sink.written l.fn.sink) (g.O.Sink.written l.sink)
+          × HasStepped l.fn.run.floor.limits.backlog now (g.P.Publisher.posted l.fn.publisher)
+          (g.P.Publisher.posted l.publisher)
+          × (now.settled ≡ length now.fed) × (l.settled ≡ now.settled)
+          × Runs k.out k.number k.holds k.gave k.exact k.jobs k.answers e told answered l.run l.crew now
+          × IsAbreast (g.P.Publisher.posted l.publisher) (sum_of (settled_charges now));
     }
 
 abbrev pub decreases-day : goal.decreases-day

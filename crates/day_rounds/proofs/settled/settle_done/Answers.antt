@@ -24,11 +24,17 @@ returns-clause-settled g c =
       is,
       stands,
       λ first had. text_more e s n low within first _ _ (wrote e s st number history) had,
-      λ before have. stepped_settled f.limits.backlog s n before _ _ _ low within st.sound.pending abreast0 (posted (e, s, st, number, history) ∙ ap (λ m. posted_if (m - s.settled) (charged_to s m) m (g.P.Publisher.posted c.args.publisher.now)) (sym is)) have,
+      λ before have. stepped_settled f.limits.backlog s n before _ _ _ low within st.sound.pending abreast0
+          (posted (e, s, st, number, history)
+          ∙ ap (λ m. posted_if (m - s.settled) (charged_to s m) m (g.P.Publisher.posted c.args.publisher.now))
+          (sym is)) have,
       abreast e s st number history,
     ))
     c.settle.ensures.settled c.settle.ensures.wrote c.settle.ensures.abreast
-    (posted_ok c.settle.result (λ (i : (e : Setting) × (s : State) × StandsFor e f s × (e.number ≡ c.args.day) × (e.history ≡ history_of told)). mark w i.1 - i.1.settled) (λ i. mark w i.1) (λ i. charged_to i.1 (mark w i.1)) _ _
+    (posted_ok c.settle.result
+    (λ (i : (e : Setting) × (s : State) × StandsFor e f s × (e.number ≡ c.args.day)
+    × (e.history ≡ history_of told)). mark w i.1 - i.1.settled) (λ i. mark w i.1) (λ i. charged_to i.1 (mark w i.1))
+    _ _
     (λ i. c.settle.ensures.published i.0 i.1 i.2 i.3 i.4))
 
 pub returns-clause-stopped : goal.returns-clause-stopped
@@ -36,11 +42,13 @@ returns-clause-stopped g c =
     let f = c.args.floor.now in
     if_fault c.settle.result
     (λ fault some e s st number history are later goes fit first had.
-    front_settled f.inboxes.width f.limits e s st.terms.some st.sound are later goes fit fault first _ _ had (some e s st number history))
+    front_settled f.inboxes.width f.limits e s st.terms.some st.sound are later goes fit fault first _ _ had
+    (some e s st number history))
     c.settle.ensures.stopped
 
 pub returns-clause-published : goal.returns-clause-published
 returns-clause-published g c =
     let f = c.args.floor.now in
     let (e, s, st, number, history, abreast) = c.requires in
-    posted_err c.settle.result (mark f.inboxes.width s - s.settled) (mark f.inboxes.width s) (charged_to s (mark f.inboxes.width s)) _ _ (c.settle.ensures.published e s st number history)
+    posted_err c.settle.result (mark f.inboxes.width s - s.settled) (mark f.inboxes.width s)
+    (charged_to s (mark f.inboxes.width s)) _ _ (c.settle.ensures.published e s st number history)

@@ -9,14 +9,17 @@ pub gathering-init : goal.gathering-init
 gathering-init g c =
     let none : c.clear.new.self.items ≡ [] = search rules in
     record {
-      given = λ limits late. subst (λ xs. HasGiven limits late xs c.args.ahead.now c.args.ahead.now (g.S.Source.left c.args.source.now) (g.S.Source.left c.args.source.now)) (sym none) (given_none limits late c.args.ahead.now (g.S.Source.left c.args.source.now));
+      given = λ limits late. subst
+          (λ xs. HasGiven limits late xs c.args.ahead.now c.args.ahead.now (g.S.Source.left c.args.source.now)
+          (g.S.Source.left c.args.source.now)) (sym none)
+          (given_none limits late c.args.ahead.now (g.S.Source.left c.args.source.now));
       few = (let l = ap length none in omega (arith, l));
       same = λ e. refl;
       read = λ lines bytes h. h;
       source_same = refl;
       unfailed = c.requires.unfailed;
       later = omega arith;
-      sure = λ never. never;
+      still = λ never. never;
     }
 
 pub gathering-preserved : goal.gathering-preserved
@@ -26,35 +29,50 @@ gathering-preserved g c =
     let x = c.in-Ok-Some.tuple in
     let inv = c.gathering.invariant in
     let some : c.next.result ≡ Ok (Some x) = cc in
-    let pushed : c.push.new.self.items ≡ before ++ x ∷ [] = c.push.ensures.items ∙ cond-true _ _ _ c.if-is_err.ensures.negation in
+    let pushed : c.push.new.self.items ≡ before ++ x ∷ [] = c.push.ensures.items
+    ∙ cond-true _ _ _ c.if-is_err.ensures.negation in
     let longer = ap length pushed ∙ length_push before x in
     record {
-      given = λ limits late. subst (λ xs. HasGiven limits late xs c.args.ahead.now new (g.S.Source.left c.args.source.now) (g.S.Source.left c.next.new.source)) (sym pushed)
-          (given_more limits late before (x ∷ []) c.args.ahead.now c.gathering.ahead new (g.S.Source.left c.args.source.now) (g.S.Source.left c.gathering.source) (g.S.Source.left c.next.new.source) (inv.given limits late)
-          (given_one limits late c.next.result (Some x) c.gathering.ahead new (g.S.Source.left c.gathering.source) (g.S.Source.left c.next.new.source) some (c.next.ensures.gathers limits late) (c.next.ensures.gives limits late)));
+      given = λ limits late. subst
+          (λ xs. HasGiven limits late xs c.args.ahead.now new (g.S.Source.left c.args.source.now)
+          (g.S.Source.left c.next.new.source)) (sym pushed)
+          (given_more limits late before (x ∷ []) c.args.ahead.now c.gathering.ahead new
+          (g.S.Source.left c.args.source.now) (g.S.Source.left c.gathering.source)
+          (g.S.Source.left c.next.new.source) (inv.given limits late)
+          (given_one limits late c.next.result (Some x) c.gathering.ahead new (g.S.Source.left c.gathering.source)
+          (g.S.Source.left c.next.new.source) some (c.next.ensures.gathers limits late)
+          (c.next.ensures.gives limits late)));
       few = (let t = c.gathering-test.true in omega (arith, longer, t));
       same = λ e. absurd (omega (arith, longer, e));
       read = λ lines bytes h. c.next.ensures.read lines bytes (inv.read lines bytes h);
       source_same = c.next.ensures.same ∙ inv.source_same;
       unfailed = c.next.ensures.unfailed inv.unfailed (λ e. let no : ⊥ = cc in no);
-      later = (let a = c.next.ensures.later in let b = inv.later in omega (arith, a, b));
-      sure = λ never. (c.next.ensures.sure inv.unfailed (inv.sure never)).1;
+      later = omega (arith, c.next.ensures.source.later, inv.later);
+      still = λ never. c.next.ensures.still inv.unfailed (inv.still never);
     }
 
 pub returns-then-is_err-clause-read : goal.returns-then-is_err-clause-read
-returns-then-is_err-clause-read g c lines bytes h = c.next.ensures.read lines bytes (c.gathering.invariant.read lines bytes h)
+returns-then-is_err-clause-read g c lines bytes h =
+    c.next.ensures.read lines bytes (c.gathering.invariant.read lines bytes h)
 
 pub returns-in-Ok-None-clause-read : goal.returns-in-Ok-None-clause-read
-returns-in-Ok-None-clause-read g c lines bytes h = c.next.ensures.read lines bytes (c.gathering.invariant.read lines bytes h)
+returns-in-Ok-None-clause-read g c lines bytes h =
+    c.next.ensures.read lines bytes (c.gathering.invariant.read lines bytes h)
 
 pub returns-in-Err-clause-read : goal.returns-in-Err-clause-read
-returns-in-Err-clause-read g c lines bytes h = c.next.ensures.read lines bytes (c.gathering.invariant.read lines bytes h)
+returns-in-Err-clause-read g c lines bytes h =
+    c.next.ensures.read lines bytes (c.gathering.invariant.read lines bytes h)
 
 pub returns-in-Ok-None-clause-given : goal.returns-in-Ok-None-clause-given
 returns-in-Ok-None-clause-given g c limits late =
     let new = c.next.new.self in
     let these = c.gathering.these.items in
     let none : c.next.result ≡ Ok None = cc in
-    subst (λ xs. HasGiven limits late xs c.args.ahead.now new (g.S.Source.left c.args.source.now) (g.S.Source.left c.next.new.source)) (append-nil these)
-    (given_more limits late these [] c.args.ahead.now c.gathering.ahead new (g.S.Source.left c.args.source.now) (g.S.Source.left c.gathering.source) (g.S.Source.left c.next.new.source) (c.gathering.invariant.given limits late)
-    (given_one limits late c.next.result None c.gathering.ahead new (g.S.Source.left c.gathering.source) (g.S.Source.left c.next.new.source) none (c.next.ensures.gathers limits late) (c.next.ensures.gives limits late)))
+    subst (λ xs. HasGiven limits late xs c.args.ahead.now new (g.S.Source.left c.args.source.now)
+    (g.S.Source.left c.next.new.source)) (append-nil these)
+    (given_more limits late these [] c.args.ahead.now c.gathering.ahead new (g.S.Source.left c.args.source.now)
+    (g.S.Source.left c.gathering.source) (g.S.Source.left c.next.new.source)
+    (c.gathering.invariant.given limits late)
+    (given_one limits late c.next.result None c.gathering.ahead new (g.S.Source.left c.gathering.source)
+    (g.S.Source.left c.next.new.source) none (c.next.ensures.gathers limits late)
+    (c.next.ensures.gives limits late)))

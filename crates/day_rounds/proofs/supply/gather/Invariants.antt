@@ -7,14 +7,16 @@ use Rattle.day_rounds.proofs.supply.gather.Given as goal
 
 abbrev pub invariant-gathering : goal.invariant-gathering
 invariant-gathering g l = record {
-  given : (limits : Limits) (late : ℕ) → HasGiven limits late l.these.items l.fn.ahead l.ahead (g.S.Source.left l.fn.source) (g.S.Source.left l.source);
+  given : (limits : Limits) (late : ℕ) →
+      HasGiven limits late l.these.items l.fn.ahead l.ahead (g.S.Source.left l.fn.source) (g.S.Source.left l.source);
   few : length l.these.items ≤ l.count;
   same : length l.these.items ≡ 0 → has_more l.ahead ≡ has_more l.fn.ahead;
   source_same : g.S.Source.name l.source ≡ g.S.Source.name l.fn.source;
-  read : (lines : ℕ) (bytes : List ℕ) → HasReadAhead l.fn.ahead lines (g.S.Source.left l.fn.source) bytes → HasReadAhead l.ahead lines (g.S.Source.left l.source) bytes;
+  read : (lines : ℕ) (bytes : List ℕ) → HasReadAhead l.fn.ahead lines (g.S.Source.left l.fn.source) bytes →
+      HasReadAhead l.ahead lines (g.S.Source.left l.source) bytes;
   unfailed : HasFailedAhead l.ahead → ⊥;
   later : g.S.Source.faults l.fn.source ≤ g.S.Source.faults l.source;
-  sure : NeverFails (g.S.Source.plan l.fn.source) → NeverFails (g.S.Source.plan l.source);
+  still : NeverFails (g.S.Source.plan l.fn.source) → NeverFails (g.S.Source.plan l.source);
 }
 
 abbrev pub decreases-gathering : goal.decreases-gathering

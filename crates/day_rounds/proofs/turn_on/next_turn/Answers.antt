@@ -15,10 +15,25 @@ turn-requires-clause-runs g c =
     let f = c.args.run.now.floor in
     let xs = c.as_slice.result.now in
     let (e, told, answered, late, s, h, gathers, number, history, abreast) = c.requires.runs in
-    let given : HasGiven f.limits late xs c.args.ahead.now c.gather.new.ahead (g.S.Source.left c.args.source.now) (g.S.Source.left c.gather.new.source) =
-    subst (λ ys. HasGiven f.limits late ys c.args.ahead.now c.gather.new.ahead (g.S.Source.left c.args.source.now) (g.S.Source.left c.gather.new.source)) (sym c.as_slice.ensures.value) (c.in-Ok.ensures.given f.limits late) in
-    let few : length xs ≤ c.room-room.result = (let low = subst (λ ys. length ys ≤ c.some_of-count.result) (sym c.as_slice.ensures.value) c.in-Ok.ensures.few in let top = c.some_of-count.ensures.few in omega (arith, low, top)) in
-    (e, told, answered, s, h, given_can f.limits late s xs c.args.ahead.now c.gather.new.ahead _ _ c.room-room.result given gathers (c.room-room.ensures e s h.stands) few, number, history, abreast)
+    let given : HasGiven f.limits late xs c.args.ahead.now c.gather.new.ahead (g.S.Source.left c.args.source.now)
+    (g.S.Source.left c.gather.new.source) =
+    subst (λ ys. HasGiven f.limits late ys c.args.ahead.now c.gather.new.ahead (g.S.Source.left c.args.source.now)
+    (g.S.Source.left c.gather.new.source)) (sym c.as_slice.ensures.value) (c.in-Ok.ensures.given f.limits late) in
+    let few : length xs ≤ c.room-room.result =
+    (let low =
+    subst (λ ys. length ys ≤ c.some_of-count.result) (sym c.as_slice.ensures.value) c.in-Ok.ensures.few in let top =
+    c.some_of-count.ensures.few in omega (arith, low, top)) in (
+      e,
+      told,
+      answered,
+      s,
+      h,
+      given_can f.limits late s xs c.args.ahead.now c.gather.new.ahead _ _ c.room-room.result
+          given gathers (c.room-room.ensures e s h.stands) few,
+      number,
+      history,
+      abreast,
+    )
 
 pub returns-in-Err-clause-halted : goal.returns-in-Err-clause-halted
 returns-in-Err-clause-halted g c e told answered late s h gathers number history =
@@ -28,22 +43,35 @@ returns-in-Err-clause-halted g c e told answered late s h gathers number history
     record {
       fed = s.fed;
       fit = h.stands.sound.fit;
-      read = λ bytes ahead. given_first f.limits late c.args.ahead.now (g.S.Source.left c.args.source.now) bytes s.fed ahead;
-      stopped = stopped_by k.out k.number k.holds k.gave k.exact k.jobs k.answers e told answered c.args.run.now c.args.crew.now s h c.args.run.now refl s.fed first;
-      front = λ exact begin had. subst (λ x. HasDayFront x e s.fed begin (g.O.Sink.written c.args.sink.now)) (sym c.reading_stopped.ensures)
-          (front_of_reading c.in-Err.stop e s.fed begin _ (front_before f.inboxes.width f.limits e s h.stands.terms.some h.stands.sound (h.right exact) s.fed first h.stands.sound.fit begin _ had));
-      steps = λ exact before have. stepped_rules f.inboxes.width f.limits e s h.stands.terms.some h.stands.sound (h.right exact) s.fed first h.stands.sound.fit before _ _ have refl;
+      read = λ bytes ahead. given_first f.limits late c.args.ahead.now (g.S.Source.left c.args.source.now) bytes s.fed
+          ahead;
+      stopped =
+          stopped_by k.out k.number k.holds k.gave k.exact k.jobs k.answers e told answered c.args.run.now
+          c.args.crew.now s h c.args.run.now refl s.fed first;
+      front = λ exact begin had. subst (λ x. HasDayFront x e s.fed begin (g.O.Sink.written c.args.sink.now))
+          (sym c.reading_stopped.ensures)
+          (front_of_reading c.in-Err.stop e s.fed begin _
+          (front_before f.inboxes.width f.limits e s h.stands.terms.some h.stands.sound (h.right exact) s.fed first
+          h.stands.sound.fit begin _ had));
+      steps = λ exact before have. stepped_rules f.inboxes.width f.limits e s h.stands.terms.some h.stands.sound
+          (h.right exact) s.fed first h.stands.sound.fit before _ _ have refl;
     }
 
 pub returns-in-Ok-turn-clause-done : goal.returns-in-Ok-turn-clause-done
 returns-in-Ok-turn-clause-done g c e told answered late s h gathers number history =
     let f = c.args.run.now.floor in
     let xs = c.as_slice.result.now in
-    let given : HasGiven f.limits late xs c.args.ahead.now c.gather.new.ahead (g.S.Source.left c.args.source.now) (g.S.Source.left c.gather.new.source) =
-    subst (λ ys. HasGiven f.limits late ys c.args.ahead.now c.gather.new.ahead (g.S.Source.left c.args.source.now) (g.S.Source.left c.gather.new.source)) (sym c.as_slice.ensures.value) (c.in-Ok.ensures.given f.limits late) in
-    let few : length xs ≤ c.room-room.result = (let low = subst (λ ys. length ys ≤ c.some_of-count.result) (sym c.as_slice.ensures.value) c.in-Ok.ensures.few in let top = c.some_of-count.ensures.few in omega (arith, low, top)) in
+    let given : HasGiven f.limits late xs c.args.ahead.now c.gather.new.ahead (g.S.Source.left c.args.source.now)
+    (g.S.Source.left c.gather.new.source) =
+    subst (λ ys. HasGiven f.limits late ys c.args.ahead.now c.gather.new.ahead (g.S.Source.left c.args.source.now)
+    (g.S.Source.left c.gather.new.source)) (sym c.as_slice.ensures.value) (c.in-Ok.ensures.given f.limits late) in
+    let few : length xs ≤ c.room-room.result =
+    (let low =
+    subst (λ ys. length ys ≤ c.some_of-count.result) (sym c.as_slice.ensures.value) c.in-Ok.ensures.few in let top =
+    c.some_of-count.ensures.few in omega (arith, low, top)) in
     let has = c.room-room.ensures e s h.stands in
-    let can = given_can f.limits late s xs c.args.ahead.now c.gather.new.ahead _ _ c.room-room.result given gathers has few in
+    let can = given_can f.limits late s xs c.args.ahead.now c.gather.new.ahead _ _ c.room-room.result given gathers has
+    few in
     let (now, j, turned, is, runs, abreast) = c.in-Ok-turn.ensures.done e told answered s h can number history in (
       xs,
       now,
@@ -54,25 +82,38 @@ returns-in-Ok-turn-clause-done g c e told answered late s h gathers number histo
       runs,
       abreast,
       λ all more. subst (λ ys. 1 ≤ length ys) (sym c.as_slice.ensures.value)
-          (c.in-Ok.ensures.some more (c.some_of-count.ensures.some (some_room s s.fed c.room-room.result f.limits.backlog refl all has h.stands.terms.some_backlog) (c.more.ensures.exact ∙ more))),
+          (c.in-Ok.ensures.some more
+          (c.some_of-count.ensures.some
+          (some_room s s.fed c.room-room.result f.limits.backlog refl all has h.stands.terms.some_backlog)
+          (c.more.ensures.exact ∙ more))),
     )
 
 pub returns-in-Err-turn-clause-halted : goal.returns-in-Err-turn-clause-halted
 returns-in-Err-turn-clause-halted g c e told answered late s h gathers number history =
     let f = c.args.run.now.floor in
     let xs = c.as_slice.result.now in
-    let given : HasGiven f.limits late xs c.args.ahead.now c.gather.new.ahead (g.S.Source.left c.args.source.now) (g.S.Source.left c.gather.new.source) =
-    subst (λ ys. HasGiven f.limits late ys c.args.ahead.now c.gather.new.ahead (g.S.Source.left c.args.source.now) (g.S.Source.left c.gather.new.source)) (sym c.as_slice.ensures.value) (c.in-Ok.ensures.given f.limits late) in
-    let few : length xs ≤ c.room-room.result = (let low = subst (λ ys. length ys ≤ c.some_of-count.result) (sym c.as_slice.ensures.value) c.in-Ok.ensures.few in let top = c.some_of-count.ensures.few in omega (arith, low, top)) in
-    let can = given_can f.limits late s xs c.args.ahead.now c.gather.new.ahead _ _ c.room-room.result given gathers (c.room-room.ensures e s h.stands) few in
+    let given : HasGiven f.limits late xs c.args.ahead.now c.gather.new.ahead (g.S.Source.left c.args.source.now)
+    (g.S.Source.left c.gather.new.source) =
+    subst (λ ys. HasGiven f.limits late ys c.args.ahead.now c.gather.new.ahead (g.S.Source.left c.args.source.now)
+    (g.S.Source.left c.gather.new.source)) (sym c.as_slice.ensures.value) (c.in-Ok.ensures.given f.limits late) in
+    let few : length xs ≤ c.room-room.result =
+    (let low =
+    subst (λ ys. length ys ≤ c.some_of-count.result) (sym c.as_slice.ensures.value) c.in-Ok.ensures.few in let top =
+    c.some_of-count.ensures.few in omega (arith, low, top)) in
+    let can = given_can f.limits late s xs c.args.ahead.now c.gather.new.ahead _ _ c.room-room.result given gathers
+    (c.room-room.ensures e s h.stands) few in
     let fed = s.fed ++ xs in
     let v = c.in-Err-turn.ensures in
     record {
       fed = fed;
       fit = can.fit;
-      read = λ bytes ahead. given_first f.limits late c.gather.new.ahead (g.S.Source.left c.gather.new.source) bytes fed (given.reads bytes s.fed ahead);
+      read = λ bytes ahead. given_first f.limits late c.gather.new.ahead (g.S.Source.left c.gather.new.source) bytes fed
+          (given.reads bytes s.fed ahead);
       stopped = v.stopped e told answered s h can fed ([], sym (append-nil fed));
-      front = λ exact begin had. subst (λ x. HasDayFront x e fed begin (g.O.Sink.written c.turn.new.sink)) (sym c.settling_stopped.ensures)
-          (front_of_settling c.in-Err-turn.fault e fed begin _ (v.front e told answered s h can number history exact begin had));
-      steps = λ exact before have. stepped_rules f.inboxes.width f.limits e s h.stands.terms.some h.stands.sound (h.right exact) fed (xs, refl) can.fit before _ _ have v.published;
+      front = λ exact begin had. subst (λ x. HasDayFront x e fed begin (g.O.Sink.written c.turn.new.sink))
+          (sym c.settling_stopped.ensures)
+          (front_of_settling c.in-Err-turn.fault e fed begin _
+          (v.front e told answered s h can number history exact begin had));
+      steps = λ exact before have. stepped_rules f.inboxes.width f.limits e s h.stands.terms.some h.stands.sound
+          (h.right exact) fed (xs, refl) can.fit before _ _ have v.published;
     }

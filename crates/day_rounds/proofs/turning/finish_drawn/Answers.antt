@@ -25,9 +25,12 @@ loop-rng-init g c =
       below = subst (λ m. m < c.len-held.result) v.drawn.0 v.below;
       left = (let b = v.below in let e = v.drawn.0 in omega (arith, b, e));
       low = (let b = v.below in omega (arith, b, held));
-      drawn = v.drawn.1 ∙ (ap (λ r. (drawn c.len-held.result r).1) (sym (none_drawn c.args.rng.now)) ∙ (one_drawn c.len-held.result 0 c.args.rng.now ∙ ap (λ m. after_draws m c.args.rng.now) (sym one)));
+      drawn = v.drawn.1
+          ∙ (ap (λ r. (drawn c.len-held.result r).1) (sym (none_drawn c.args.rng.now))
+          ∙ (one_drawn c.len-held.result 0 c.args.rng.now ∙ ap (λ m. after_draws m c.args.rng.now) (sym one)));
       fewer = omega arith;
-      came = λ e told answered s h. (s, 0, moved_same c.args.run.now.floor.inboxes.width s, none_more (length c.args.run.now.tickets.items), h);
+      came = λ e told answered s h.
+          (s, 0, moved_same c.args.run.now.floor.inboxes.width s, none_more (length c.args.run.now.tickets.items), h);
     }
 
 pub finish_one-requires-clause-runs : goal.finish_one-requires-clause-runs
@@ -44,8 +47,10 @@ loop-rng-preserved g c =
     let one = v.fewer in
     let few = inv.fewer in
     let all = inv.held in
-    let going : (c.len-held.result - 1 - c.draw_place-more.result) < length c.loop-rng.run.tickets.items = search rules in
-    let further : suc (1 + (c.len-held.result - length c.loop-rng.run.tickets.items)) ≡ 1 + (c.len-held.result - length c.finish_one.new.run.tickets.items) = omega (arith, one, few, all) in
+    let going : (c.len-held.result - 1 - c.draw_place-more.result) < length c.loop-rng.run.tickets.items =
+    search rules in
+    let further : suc (1 + (c.len-held.result - length c.loop-rng.run.tickets.items))
+    ≡ 1 + (c.len-held.result - length c.finish_one.new.run.tickets.items) = omega (arith, one, few, all) in
     record {
       width = v.width ∙ inv.width;
       limits = v.limits ∙ inv.limits;
@@ -55,14 +60,18 @@ loop-rng-preserved g c =
       left = inv.left;
       low = (let t = going in omega (arith, one, t));
       drawn = c.draw_place-place.ensures.drawn.1 ∙ (ap (λ r. (drawn c.len-in-loop-rng.result r).1) inv.drawn
-          ∙ (one_drawn c.len-in-loop-rng.result (1 + (c.len-held.result - length c.loop-rng.run.tickets.items)) c.args.rng.now ∙ ap (λ m. after_draws m c.args.rng.now) further));
+          ∙ (one_drawn c.len-in-loop-rng.result (1 + (c.len-held.result - length c.loop-rng.run.tickets.items))
+          c.args.rng.now ∙ ap (λ m. after_draws m c.args.rng.now) further));
       fewer = omega (arith, one, few);
       came = λ e told answered s h.
           let (mid, n, moved, count, runs) = inv.came e told answered s h in
           let (now, came, all) = v.came e told answered mid runs in (
             now,
             n + 1,
-            moved_then w n 1 s mid now moved (subst (λ k. IsMoved k 1 mid now) inv.width (came_moved c.loop-rng.run.floor.inboxes.width c.loop-rng.run.floor.limits mid now runs.stands.sound came)),
+            moved_then w n 1 s mid now moved
+                (subst (λ k. IsMoved k 1 mid now) inv.width
+                (came_moved c.loop-rng.run.floor.inboxes.width c.loop-rng.run.floor.limits mid now runs.stands.sound
+                came)),
             omega (arith, one, count),
             all,
           );
@@ -75,16 +84,23 @@ returns-in_err-finish_one-clause-stopped g c =
     when_err c.from_residual.result
     (λ e told answered s h day first.
     let (mid, n, moved, count, runs) = inv.came e told answered s h in
-    subst (λ n. Stopped k.out k.number k.holds k.gave k.jobs told n c.args.run.now.floor.limits day c.finish_one.new.run c.finish_one.new.crew) inv.width
-    (subst (λ l. Stopped k.out k.number k.holds k.gave k.jobs told c.loop-rng.run.floor.inboxes.width l day c.finish_one.new.run c.finish_one.new.crew) inv.limits
-    (c.in_err-finish_one.ensures.stopped e told answered mid runs day (subst (λ ts. AreFirst ts day) (sym moved.fed) first))))
+    subst (λ n. Stopped k.out k.number k.holds k.gave k.jobs told n c.args.run.now.floor.limits day c.finish_one.new.run
+    c.finish_one.new.crew) inv.width
+    (subst (λ l. Stopped k.out k.number k.holds k.gave k.jobs told c.loop-rng.run.floor.inboxes.width l day
+    c.finish_one.new.run c.finish_one.new.crew) inv.limits
+    (c.in_err-finish_one.ensures.stopped e told answered mid runs day
+    (subst (λ ts. AreFirst ts day) (sym moved.fed) first))))
 
 pub returns-clause-drawn : goal.returns-clause-drawn
 returns-clause-drawn g c some =
     let inv = c.loop-rng.invariant in
     let n = length c.args.run.now.tickets.items in
-    let done : length c.loop-rng.run.tickets.items ≤ (c.len-held.result - 1 - c.draw_place-more.result) = search rules in
+    let done : length c.loop-rng.run.tickets.items ≤ (c.len-held.result - 1 - c.draw_place-more.result) =
+    search rules in
     let low = inv.low in
-    let left : (c.len-held.result - 1 - c.draw_place-more.result) + (1 + (drawn n c.args.rng.now).0) ≡ n = subst (λ m. (c.len-held.result - 1 - c.draw_place-more.result) + (1 + (drawn m c.args.rng.now).0) ≡ m) inv.held inv.left in
-    let count : 1 + (c.len-held.result - length c.loop-rng.run.tickets.items) ≡ 2 + (drawn n c.args.rng.now).0 = (let h = inv.held in omega (arith, done, low, left, h)) in
+    let left : (c.len-held.result - 1 - c.draw_place-more.result) + (1 + (drawn n c.args.rng.now).0) ≡ n =
+    subst (λ m. (c.len-held.result - 1 - c.draw_place-more.result) + (1 + (drawn m c.args.rng.now).0) ≡ m) inv.held
+    inv.left in
+    let count : 1 + (c.len-held.result - length c.loop-rng.run.tickets.items) ≡ 2 + (drawn n c.args.rng.now).0 =
+    (let h = inv.held in omega (arith, done, low, left, h)) in
     (omega (arith, done, low, left), inv.drawn ∙ ap (λ m. after_draws m c.args.rng.now) count)

@@ -22,7 +22,11 @@ invariant-loop-rng g l =
       low : l.left ≤ length l.run.tickets.items;
       drawn : l.rng ≡ after_draws (1 + (l.held - length l.run.tickets.items)) l.fn.rng;
       fewer : length l.run.tickets.items ≤ length l.fn.run.tickets.items;
-      came : (e : Setting) (told : Option Told) (answered : Option (List Finding)) (s : State) → Runs k.out k.number k.holds k.gave k.exact k.jobs k.answers e told answered l.fn.run l.fn.crew s → (now : State) × (n : ℕ) × IsMoved l.fn.run.floor.inboxes.width n s now × (length l.run.tickets.items + n ≡ length l.fn.run.tickets.items) × Runs k.out k.number k.holds k.gave k.exact k.jobs k.answers e told answered l.run l.crew now;
+      came : (e : Setting) (told : Option Told) (answered : Option (List Finding)) (s : State) →
+          Runs k.out k.number k.holds k.gave k.exact k.jobs k.answers e told answered l.fn.run l.fn.crew s →
+          (now : State) × (n : ℕ) × IsMoved l.fn.run.floor.inboxes.width n s now
+          × (length l.run.tickets.items + n ≡ length l.fn.run.tickets.items)
+          × Runs k.out k.number k.holds k.gave k.exact k.jobs k.answers e told answered l.run l.crew now;
     }
 
 abbrev pub decreases-loop-rng : goal.decreases-loop-rng

@@ -9,10 +9,20 @@ next : (n : ℕ) → suc n ≡ n + 1
 next n = omega arith
 
 pub loop-count-init : goal.loop-count-init
-loop-count-init g c = record { width = refl; limits = refl; which = refl; drawn = sym (none_drawn c.args.rng.now); given = λ e told answered s h. (s, 0, given_same c.args.run.now.floor.inboxes.width s, h) }
+loop-count-init g c =
+    record {
+      width = refl;
+      limits = refl;
+      which = refl;
+      drawn = sym (none_drawn c.args.rng.now);
+      given =
+          λ e told answered s h. (s, 0, given_same c.args.run.now.floor.inboxes.width s, h);
+    }
 
 pub give_one-requires-clause-within : goal.give_one-requires-clause-within
-give_one-requires-clause-within g c = subst (λ n. c.pick-worker.result < n) (c.requires.width ∙ sym c.loop-count.invariant.width) c.pick-worker.ensures.below
+give_one-requires-clause-within g c =
+    subst (λ n. c.pick-worker.result < n) (c.requires.width ∙ sym c.loop-count.invariant.width)
+    c.pick-worker.ensures.below
 
 pub give_one-requires-clause-runs : goal.give_one-requires-clause-runs
 give_one-requires-clause-runs g c =
@@ -34,14 +44,25 @@ loop-count-preserved g c =
       width = v.width ∙ inv.width;
       limits = v.limits ∙ inv.limits;
       which = v.which ∙ inv.which;
-      drawn = c.pick-worker.ensures.drawn.1 ∙ (ap (λ r. (drawn c.args.width r).1) inv.drawn ∙ (one_drawn c.args.width c.loop-count._count c.args.rng.now ∙ ap (λ n. after_draws n c.args.rng.now) (next c.loop-count._count)));
+      drawn = c.pick-worker.ensures.drawn.1
+          ∙ (ap (λ r. (drawn c.args.width r).1) inv.drawn
+          ∙ (one_drawn c.args.width c.loop-count._count c.args.rng.now
+          ∙ ap (λ n. after_draws n c.args.rng.now) (next c.loop-count._count)));
       given = λ e told answered s h.
           let (mid, n, given, runs) = inv.given e told answered s h in
-          let (m, one) = given_one w mid c.pick-worker.result (subst (λ k. c.pick-worker.result < k) c.requires.width c.pick-worker.ensures.below) in
-          (given_if mid c.pick-worker.result, n + m, given_then w n m s mid (given_if mid c.pick-worker.result) given one, v.given e told answered mid runs);
+          let (m, one) =
+          given_one w mid c.pick-worker.result
+          (subst (λ k. c.pick-worker.result < k) c.requires.width c.pick-worker.ensures.below) in (
+            given_if mid c.pick-worker.result,
+            n + m,
+            given_then w n m s mid (given_if mid c.pick-worker.result) given
+                one,
+            v.given e told answered mid runs,
+          );
     }
 
 pub returns-clause-drawn : goal.returns-clause-drawn
 returns-clause-drawn g c =
-    let all : c.loop-count._count ≡ c.args.width = omega (arith, c.loop-count.auto._count-end, c.loop-count-test.false) in
+    let all : c.loop-count._count ≡ c.args.width =
+    omega (arith, c.loop-count.auto._count-end, c.loop-count-test.false) in
     c.loop-count.invariant.drawn ∙ ap (λ n. after_draws n c.args.rng.now) all

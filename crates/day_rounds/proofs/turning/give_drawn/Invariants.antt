@@ -17,5 +17,8 @@ invariant-loop-count g l =
       limits : l.run.floor.limits ≡ l.fn.run.floor.limits;
       which : k.which l.crew ≡ k.which l.fn.crew;
       drawn : l.rng ≡ after_draws l._count l.fn.rng;
-      given : (e : Setting) (told : Option Told) (answered : Option (List Finding)) (s : State) → Runs k.out k.number k.holds k.gave k.exact k.jobs k.answers e told answered l.fn.run l.fn.crew s → (now : State) × (n : ℕ) × IsGiven l.fn.run.floor.inboxes.width n s now × Runs k.out k.number k.holds k.gave k.exact k.jobs k.answers e told answered l.run l.crew now;
+      given : (e : Setting) (told : Option Told) (answered : Option (List Finding)) (s : State) →
+          Runs k.out k.number k.holds k.gave k.exact k.jobs k.answers e told answered l.fn.run l.fn.crew s →
+          (now : State) × (n : ℕ) × IsGiven l.fn.run.floor.inboxes.width n s now
+          × Runs k.out k.number k.holds k.gave k.exact k.jobs k.answers e told answered l.run l.crew now;
     }

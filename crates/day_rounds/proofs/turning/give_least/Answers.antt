@@ -5,7 +5,15 @@ use Rattle.day_rounds.proofs.TurnLaws.{given_same, given_then}
 use Rattle.day_rounds.proofs.turning.give_least.Goals as goal
 
 pub loop-worker-init : goal.loop-worker-init
-loop-worker-init g c = record { width = refl; limits = refl; which = refl; given = λ e told answered s h. (s, 0, given_same c.args.run.now.floor.inboxes.width s, h, λ none v k. absurd (omega (arith, k))) }
+loop-worker-init g c =
+    record {
+      width = refl;
+      limits = refl;
+      which = refl;
+      given =
+          λ e told answered s h.
+          (s, 0, given_same c.args.run.now.floor.inboxes.width s, h, λ none v k. absurd (omega (arith, k)));
+    }
 
 pub give_if_none-requires-clause-runs : goal.give_if_none-requires-clause-runs
 give_if_none-requires-clause-runs g c =
@@ -31,12 +39,18 @@ loop-worker-preserved g c =
       which = v.which ∙ inv.which;
       given = λ e told answered s h.
           let (mid, n, given, runs, waits) = inv.given e told answered s h in
-          let (now, m, more, all, least) = v.given e told answered mid runs in
-          (now, n + m, given_then w n m s mid now given (subst (λ k. IsGiven k m mid now) inv.width more), all, least waits);
+          let (now, m, more, all, least) = v.given e told answered mid runs in (
+            now,
+            n + m,
+            given_then w n m s mid now given (subst (λ k. IsGiven k m mid now) inv.width more),
+            all,
+            least waits,
+          );
     }
 
 pub returns-clause-given : goal.returns-clause-given
 returns-clause-given g c e told answered s h =
-    let all : c.loop-worker.worker ≡ c.args.width = omega (arith, c.loop-worker.auto.worker-end, c.loop-worker-test.false) in
+    let all : c.loop-worker.worker ≡ c.args.width =
+    omega (arith, c.loop-worker.auto.worker-end, c.loop-worker-test.false) in
     let (now, n, given, runs, waits) = c.loop-worker.invariant.given e told answered s h in
     (now, n, given, runs, λ none v k. waits none v (subst (λ m. v < m) (sym all) k))

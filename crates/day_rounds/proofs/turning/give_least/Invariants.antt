@@ -15,5 +15,9 @@ invariant-loop-worker g l =
       width : l.run.floor.inboxes.width ≡ l.fn.run.floor.inboxes.width;
       limits : l.run.floor.limits ≡ l.fn.run.floor.limits;
       which : k.which l.crew ≡ k.which l.fn.crew;
-      given : (e : Setting) (told : Option Told) (answered : Option (List Finding)) (s : State) → Runs k.out k.number k.holds k.gave k.exact k.jobs k.answers e told answered l.fn.run l.fn.crew s → (now : State) × (n : ℕ) × IsGiven l.fn.run.floor.inboxes.width n s now × Runs k.out k.number k.holds k.gave k.exact k.jobs k.answers e told answered l.run l.crew now × (l.run.tickets.items ≡ [] → (v : ℕ) → v < l.worker → (now.share v).waiting ≡ []);
+      given : (e : Setting) (told : Option Told) (answered : Option (List Finding)) (s : State) →
+          Runs k.out k.number k.holds k.gave k.exact k.jobs k.answers e told answered l.fn.run l.fn.crew s →
+          (now : State) × (n : ℕ) × IsGiven l.fn.run.floor.inboxes.width n s now
+          × Runs k.out k.number k.holds k.gave k.exact k.jobs k.answers e told answered l.run l.crew now
+          × (l.run.tickets.items ≡ [] → (v : ℕ) → v < l.worker → (now.share v).waiting ≡ []);
     }

@@ -31,9 +31,13 @@ returns-in_err-give_drawn-clause-stopped g c =
     when_err c.from_residual.result
     (λ e told answered s h day first.
     let (now, n, given, runs) = c.give_drawn.ensures.given e told answered s h in
-    subst (λ m. Stopped k.out k.number k.holds k.gave k.jobs told m c.args.run.now.floor.limits day c.give_drawn.new.run c.give_drawn.new.crew) (c.give_drawn.ensures.width)
-    (subst (λ l. Stopped k.out k.number k.holds k.gave k.jobs told c.give_drawn.new.run.floor.inboxes.width l day c.give_drawn.new.run c.give_drawn.new.crew) (c.give_drawn.ensures.limits)
-    (stopped_by k.out k.number k.holds k.gave k.exact k.jobs k.answers e told answered c.give_drawn.new.run c.give_drawn.new.crew now runs c.give_drawn.new.run refl day (subst (λ ts. AreFirst ts day) (sym (given.fed)) first))))
+    subst (λ m. Stopped k.out k.number k.holds k.gave k.jobs told m c.args.run.now.floor.limits day c.give_drawn.new.run
+    c.give_drawn.new.crew) (c.give_drawn.ensures.width)
+    (subst (λ l. Stopped k.out k.number k.holds k.gave k.jobs told c.give_drawn.new.run.floor.inboxes.width l day
+    c.give_drawn.new.run c.give_drawn.new.crew) (c.give_drawn.ensures.limits)
+    (stopped_by k.out k.number k.holds k.gave k.exact k.jobs k.answers e told answered c.give_drawn.new.run
+    c.give_drawn.new.crew now runs c.give_drawn.new.run refl day
+    (subst (λ ts. AreFirst ts day) (sym (given.fed)) first))))
 
 pub returns-in_err-give_least-clause-stopped : goal.returns-in_err-give_least-clause-stopped
 returns-in_err-give_least-clause-stopped g c =
@@ -42,9 +46,13 @@ returns-in_err-give_least-clause-stopped g c =
     (λ e told answered s h day first.
     let (mid, n, given, runs) = c.give_drawn.ensures.given e told answered s h in
     let (now, m, more, all) = c.in_err-give_least.ensures.refused e told answered mid runs in
-    subst (λ m. Stopped k.out k.number k.holds k.gave k.jobs told m c.args.run.now.floor.limits day c.give_least.new.run c.give_least.new.crew) (c.give_least.ensures.width ∙ c.give_drawn.ensures.width)
-    (subst (λ l. Stopped k.out k.number k.holds k.gave k.jobs told c.give_least.new.run.floor.inboxes.width l day c.give_least.new.run c.give_least.new.crew) (c.give_least.ensures.limits ∙ c.give_drawn.ensures.limits)
-    (stopped_by k.out k.number k.holds k.gave k.exact k.jobs k.answers e told answered c.give_least.new.run c.give_least.new.crew now all c.give_least.new.run refl day (subst (λ ts. AreFirst ts day) (sym (more.fed ∙ given.fed)) first))))
+    subst (λ m. Stopped k.out k.number k.holds k.gave k.jobs told m c.args.run.now.floor.limits day c.give_least.new.run
+    c.give_least.new.crew) (c.give_least.ensures.width ∙ c.give_drawn.ensures.width)
+    (subst (λ l. Stopped k.out k.number k.holds k.gave k.jobs told c.give_least.new.run.floor.inboxes.width l day
+    c.give_least.new.run c.give_least.new.crew) (c.give_least.ensures.limits ∙ c.give_drawn.ensures.limits)
+    (stopped_by k.out k.number k.holds k.gave k.exact k.jobs k.answers e told answered c.give_least.new.run
+    c.give_least.new.crew now all c.give_least.new.run refl day
+    (subst (λ ts. AreFirst ts day) (sym (more.fed ∙ given.fed)) first))))
 
 pub returns-clause-worked : goal.returns-clause-worked
 returns-clause-worked g c =
@@ -63,9 +71,13 @@ returns-clause-worked g c =
       moved_then w (a + b) d s mid now (moved_given w (a + b) s mid both) (subst (λ n. IsMoved n d mid now) two moved),
       last,
       λ none.
-          let empty = no_items c.give_least.new.run.tickets.items (no_steps a b d (length c.give_least.new.run.tickets.items) (length c.finish_drawn.new.run.tickets.items) none count some) in
+          let empty =
+          no_items c.give_least.new.run.tickets.items
+          (no_steps a b d (length c.give_least.new.run.tickets.items) (length c.finish_drawn.new.run.tickets.items)
+          none count some) in
           none_ahead w (a + b) s mid both
-          (λ v m. all_home k.out k.number k.holds k.gave k.exact k.jobs k.answers e told answered c.give_least.new.run c.give_least.new.crew mid all empty v (subst (λ n. v < n) (sym two) m))
+          (λ v m. all_home k.out k.number k.holds k.gave k.exact k.jobs k.answers e told answered c.give_least.new.run
+          c.give_least.new.crew mid all empty v (subst (λ n. v < n) (sym two) m))
           (λ v m. waits empty v (subst (λ n. v < n) (sym c.requires.width) m)),
     ))
     c.finish_drawn.ensures.came c.finish_drawn.ensures.some
@@ -77,7 +89,9 @@ returns-clause-stopped g c =
     (λ stopped e told answered s h day first.
     let (mid, a, given, runs) = c.give_drawn.ensures.given e told answered s h in
     let (now, b, more, all, waits) = c.in_ok-give_least.ensures.given e told answered mid runs in
-    subst (λ m. Stopped k.out k.number k.holds k.gave k.jobs told m c.args.run.now.floor.limits day c.finish_drawn.new.run c.finish_drawn.new.crew) (c.give_least.ensures.width ∙ c.give_drawn.ensures.width)
-    (subst (λ l. Stopped k.out k.number k.holds k.gave k.jobs told c.give_least.new.run.floor.inboxes.width l day c.finish_drawn.new.run c.finish_drawn.new.crew) (c.give_least.ensures.limits ∙ c.give_drawn.ensures.limits)
+    subst (λ m. Stopped k.out k.number k.holds k.gave k.jobs told m c.args.run.now.floor.limits day
+    c.finish_drawn.new.run c.finish_drawn.new.crew) (c.give_least.ensures.width ∙ c.give_drawn.ensures.width)
+    (subst (λ l. Stopped k.out k.number k.holds k.gave k.jobs told c.give_least.new.run.floor.inboxes.width l day
+    c.finish_drawn.new.run c.finish_drawn.new.crew) (c.give_least.ensures.limits ∙ c.give_drawn.ensures.limits)
     (stopped e told answered now all day (subst (λ ts. AreFirst ts day) (sym (more.fed ∙ given.fed)) first))))
     c.finish_drawn.ensures.stopped

@@ -19,15 +19,24 @@ use Rattle.day_rounds.proofs.turns.turn.Goals as goal
 pub returns-in_default-clause-front : goal.returns-in_default-clause-front
 returns-in_default-clause-front g c e told answered s h can number history exact first had =
     let f = c.args.run.now.floor in
-    front_before f.inboxes.width f.limits e s h.stands.terms.some h.stands.sound (h.right exact) (s.fed ++ c.args.these.now) (c.args.these.now, refl) can.fit first _ had
+    front_before f.inboxes.width f.limits e s h.stands.terms.some h.stands.sound (h.right exact)
+    (s.fed ++ c.args.these.now) (c.args.these.now, refl) can.fit first _ had
 
 pub settle_done-requires : goal.settle_done-requires
 settle_done-requires g c =
     let w = c.args.run.now.floor.inboxes.width in
     let these = c.args.these.now in
     let (e, told, answered, s, h, can, number, history, abreast) = c.requires.runs in
-    let (mid, n, moved, runs, idle) = c.in-Ok.ensures.worked e told answered s h can in
-    (e, mid, runs.stands, number, history, subst (λ cs. IsAbreast (g.P.Publisher.posted c.args.publisher.now) (sum_of cs)) (sym (turn_charges w n s mid these h.stands.sound.settled moved)) abreast)
+    let (mid, n, moved, runs, idle) = c.in-Ok.ensures.worked e told answered s h can in (
+      e,
+      mid,
+      runs.stands,
+      number,
+      history,
+      subst
+          (λ cs. IsAbreast (g.P.Publisher.posted c.args.publisher.now) (sum_of cs))
+          (sym (turn_charges w n s mid these h.stands.sound.settled moved)) abreast,
+    )
 
 pub returns-clause-done : goal.returns-clause-done
 returns-clause-done g c =
@@ -42,10 +51,13 @@ returns-clause-done g c =
     let (is, stands, text, steps, abreast) = settled e mid runs.stands number history in (
       after_settle mid n,
       j,
-      turn_is f.inboxes.width f.limits.backlog e s mid c.args.these.now n j _ _ _ _ h.stands.sound.settled moved idle (is ∙ ap (λ m. mark m mid) v.width) text
+      turn_is f.inboxes.width f.limits.backlog e s mid c.args.these.now n j _ _ _ _ h.stands.sound.settled moved idle
+          (is ∙ ap (λ m. mark m mid) v.width) text
           (steps_under run.floor.limits f.limits v.limits mid (after_settle mid n) _ _ steps),
       refl,
-      settled_runs k.out k.number k.holds k.gave k.exact k.jobs k.answers e told answered run crew mid runs (record { floor = c.settle_done.new.floor; tickets = run.tickets }) n refl c.settle_done.ensures.width c.settle_done.ensures.limits stands,
+      settled_runs k.out k.number k.holds k.gave k.exact k.jobs k.answers e told answered run crew mid runs
+          (record { floor = c.settle_done.new.floor; tickets = run.tickets }) n refl c.settle_done.ensures.width
+          c.settle_done.ensures.limits stands,
       abreast,
     ))
     c.settle_done.ensures.settled
@@ -60,9 +72,12 @@ returns-clause-stopped g c =
     when_err c.settle_done.result
     (λ e told answered s h can whole first.
     let (mid, j, moved, runs, idle) = v.worked e told answered s h can in
-    subst (λ m. Stopped k.out k.number k.holds k.gave k.jobs told m c.args.run.now.floor.limits whole (record { floor = c.settle_done.new.floor; tickets = run.tickets }) crew) v.width
-    (subst (λ l. Stopped k.out k.number k.holds k.gave k.jobs told run.floor.inboxes.width l whole (record { floor = c.settle_done.new.floor; tickets = run.tickets }) crew) v.limits
-    (stopped_by k.out k.number k.holds k.gave k.exact k.jobs k.answers e told answered run crew mid runs (record { floor = c.settle_done.new.floor; tickets = run.tickets }) refl whole
+    subst (λ m. Stopped k.out k.number k.holds k.gave k.jobs told m c.args.run.now.floor.limits whole
+    (record { floor = c.settle_done.new.floor; tickets = run.tickets }) crew) v.width
+    (subst (λ l. Stopped k.out k.number k.holds k.gave k.jobs told run.floor.inboxes.width l whole
+    (record { floor = c.settle_done.new.floor; tickets = run.tickets }) crew) v.limits
+    (stopped_by k.out k.number k.holds k.gave k.exact k.jobs k.answers e told answered run crew mid runs
+    (record { floor = c.settle_done.new.floor; tickets = run.tickets }) refl whole
     (subst (λ ts. AreFirst ts whole) (sym (moved.fed ∙ fed_are w s c.args.these.now)) first))))
 
 pub returns-clause-front : goal.returns-clause-front
@@ -73,6 +88,8 @@ returns-clause-front g c =
     if_fault c.settle_done.result
     (λ fault some e told answered s h can number history exact first had.
     let (mid, j, moved, runs, idle) = v.worked e told answered s h can in
-    some e mid runs.stands number history (runs.right exact) (s.fed ++ these) ([], sym (moved.fed ∙ fed_are w s these) ∙ sym (append-nil mid.fed)) (subst (Fit (s.fed ++ these)) (sym v.limits) can.fit) first
+    some e mid runs.stands number history (runs.right exact) (s.fed ++ these)
+    ([], sym (moved.fed ∙ fed_are w s these) ∙ sym (append-nil mid.fed))
+    (subst (Fit (s.fed ++ these)) (sym v.limits) can.fit) first
     (text_kept e s mid (turn_text w j s mid these h.stands.sound.settled moved) first _ had))
     c.settle_done.ensures.stopped

@@ -3,7 +3,8 @@ use Rattle.settling.specs.Answers.{history_of}
 use Rattle.watermark.specs.Shares.{start, mark}
 use Rattle.day_rounds.specs.Tasks.{out_at}
 use Rattle.day_rounds.proofs.DayLaws.{on_start, on_next, on_gathers, cut_at}
-use Rattle.day_rounds.proofs.TurnedLaws.{some_done, less_left, less_by, tickets_are, given_few, no_ticket, start_mark, must_more}
+use Rattle.day_rounds.proofs.TurnedLaws.{some_done, less_left, less_by, tickets_are, given_few, no_ticket, start_mark}
+use Rattle.day_rounds.proofs.TurnedLaws.{must_more}
 use Rattle.day_rounds.proofs.turns_of_day.run_turns.Goals as goal
 
 pub day-init : goal.day-init
@@ -25,7 +26,8 @@ day-init g c =
       keeper_sure = λ e. e;
       at = λ e told answered late h gathers number history. (
         start,
-        on_start c.args.run.now.floor.limits late e c.args.ahead.now (g.S.Source.left c.args.source.now) (g.O.Sink.written c.args.sink.now) (g.P.Publisher.posted c.args.publisher.now),
+        on_start c.args.run.now.floor.limits late e c.args.ahead.now (g.S.Source.left c.args.source.now)
+            (g.O.Sink.written c.args.sink.now) (g.P.Publisher.posted c.args.publisher.now),
         start_mark c.args.run.now.floor.inboxes.width,
         refl,
         h,
@@ -38,8 +40,19 @@ pub next_turn-requires-clause-runs : goal.next_turn-requires-clause-runs
 next_turn-requires-clause-runs g c =
     let inv = c.day.invariant in
     let (e, told, answered, late, h, gathers, number, history, abreast) = c.requires.runs in
-    let (s, on, marked, is, runs, even, waits) = inv.at e told answered late h gathers number history in
-    (e, told, answered, late, s, runs, on_gathers c.args.run.now.floor.limits c.day.run.floor.limits inv.limits late e c.args.ahead.now c.day.ahead _ _ _ _ _ _ s on gathers, number, history ∙ ap history_of (sym inv.same), even)
+    let (s, on, marked, is, runs, even, waits) = inv.at e told answered late h gathers number history in (
+      e,
+      told,
+      answered,
+      late,
+      s,
+      runs,
+      on_gathers c.args.run.now.floor.limits c.day.run.floor.limits inv.limits late e
+          c.args.ahead.now c.day.ahead _ _ _ _ _ _ s on gathers,
+      number,
+      history ∙ ap history_of (sym inv.same),
+      even,
+    )
 
 pub returns-in-Err-clause-halted : goal.returns-in-Err-clause-halted
 returns-in-Err-clause-halted g c e told answered late h gathers number history =
@@ -48,8 +61,12 @@ returns-in-Err-clause-halted g c e told answered late h gathers number history =
     let f = c.args.run.now.floor in
     let d = c.day.run.floor in
     let (s, on, marked, is, runs, even, waits) = inv.at e told answered late h gathers number history in
-    cut_at k.out k.number k.holds k.gave k.exact k.jobs c.in-Err.fault e told d.inboxes.width f.inboxes.width d.limits f.limits inv.width inv.limits late s s.fed c.args.ahead.now c.day.ahead _ _ _ _ _ _ _ _ c.next_turn.new.run c.next_turn.new.crew on.given on.text on.steps
-    (c.in-Err.ensures.halted e told answered late s runs (on_gathers f.limits d.limits inv.limits late e c.args.ahead.now c.day.ahead _ _ _ _ _ _ s on gathers) number (history ∙ ap history_of (sym inv.same)))
+    cut_at k.out k.number k.holds k.gave k.exact k.jobs c.in-Err.fault e told d.inboxes.width f.inboxes.width d.limits
+    f.limits inv.width inv.limits late s s.fed c.args.ahead.now c.day.ahead _ _ _ _ _ _ _ _ c.next_turn.new.run
+    c.next_turn.new.crew on.given on.text on.steps
+    (c.in-Err.ensures.halted e told answered late s runs
+    (on_gathers f.limits d.limits inv.limits late e c.args.ahead.now c.day.ahead _ _ _ _ _ _ s on gathers) number
+    (history ∙ ap history_of (sym inv.same)))
 
 pub pending-pending-requires : goal.pending-pending-requires
 pending-pending-requires g c =
@@ -59,7 +76,9 @@ pending-pending-requires g c =
     let (e, told, answered, late, h, gathers, number, history, abreast) = c.requires.runs in
     let (s, on, marked, is, runs, even, waits) = inv.at e told answered late h gathers number history in
     let (xs, now, j, given, turned, count, last, still, some) =
-    c.in-Ok.ensures.done e told answered late s runs (on_gathers f.limits d.limits inv.limits late e c.args.ahead.now c.day.ahead _ _ _ _ _ _ s on gathers) number (history ∙ ap history_of (sym inv.same)) in
+    c.in-Ok.ensures.done e told answered late s runs
+    (on_gathers f.limits d.limits inv.limits late e c.args.ahead.now c.day.ahead _ _ _ _ _ _ s on gathers) number
+    (history ∙ ap history_of (sym inv.same)) in
     record { setting = e; state = now; stands = last.stands }
 
 pub day-preserved : goal.day-preserved
@@ -86,9 +105,12 @@ day-preserved g c =
       at = λ e told answered late h gathers number history.
           let (s, on, marked, is, runs, even, waits) = inv.at e told answered late h gathers number history in
           let (xs, now, j, given, turned, count, last, still, some) =
-          v.done e told answered late s runs (on_gathers f.limits d.limits inv.limits late e c.args.ahead.now c.day.ahead _ _ _ _ _ _ s on gathers) number (history ∙ ap history_of (sym inv.same)) in (
+          v.done e told answered late s runs
+          (on_gathers f.limits d.limits inv.limits late e c.args.ahead.now c.day.ahead _ _ _ _ _ _ s on gathers)
+          number (history ∙ ap history_of (sym inv.same)) in (
             now,
-            on_next f.limits d.limits inv.limits late e c.args.ahead.now c.day.ahead c.next_turn.new.ahead _ _ _ _ _ _ _ _ _ s now xs on given turned.fed turned.text turned.steps,
+            on_next f.limits d.limits inv.limits late e c.args.ahead.now c.day.ahead c.next_turn.new.ahead _ _ _ _ _ _ _
+                _ _ s now xs on given turned.fed turned.text turned.steps,
             turned.marked ∙ ap (λ n. mark n now) inv.width,
             count,
             last,
@@ -109,30 +131,43 @@ day-smaller g c =
     let (e, told, answered, late, h, gathers, number, history, abreast) = c.requires.runs in
     let (s, on, marked, is, runs, even, waits) = inv.at e told answered late h gathers number history in
     let (xs, now, j, given, turned, count, last, still, some) =
-    v.done e told answered late s runs (on_gathers f.limits d.limits inv.limits late e c.args.ahead.now c.day.ahead _ _ _ _ _ _ s on gathers) number (history ∙ ap history_of (sym inv.same)) in
+    v.done e told answered late s runs
+    (on_gathers f.limits d.limits inv.limits late e c.args.ahead.now c.day.ahead _ _ _ _ _ _ s on gathers) number
+    (history ∙ ap history_of (sym inv.same)) in
     let lines = d.limits.lines in
     let before = c.day.settled + c.day.pending in
     let pending = c.pending-pending.ensures e now last.stands in
     let long = ap length turned.fed ∙ length-append s.fed xs in
-    let total : c.in-Ok.count + c.pending-pending.result ≡ before + length xs = omega (arith, pending, count, long, waits, is) in
+    let total : c.in-Ok.count + c.pending-pending.result ≡ before + length xs =
+    omega (arith, pending, count, long, waits, is) in
     let here : s.settled ≡ mark d.inboxes.width s = marked ∙ ap (λ n. mark n s) (sym inv.width) in
     let go = c.goes_on.ensures.some c.day-test.true in
     let done : 1 ≤ length xs + j =
     some_done (mark d.inboxes.width s ≡ length s.fed) (length xs) j xs refl turned.idle
-    (λ p. some (here ∙ p) (sym c.more.ensures.exact ∙ must_more c.more.result c.day.pending s.settled (length s.fed) go (here ∙ p) waits)) in
+    (λ p. some (here ∙ p)
+    (sym c.more.ensures.exact ∙ must_more c.more.result c.day.pending s.settled (length s.fed) go
+    (here ∙ p) waits)) in
     let small : length s.fed ≤ lines = runs.stands.sound.fit.lines in
     let large : length now.fed ≤ lines = subst (λ l. length now.fed ≤ l.lines) v.limits last.stands.sound.fit.lines in
     let within : before + length xs ≤ lines = omega (arith, large, long, waits, is) in
     let o = tickets_are k.out k.number k.holds k.gave k.exact k.jobs k.answers e told answered run c.day.crew s runs in
-    let p = tickets_are k.out k.number k.holds k.gave k.exact k.jobs k.answers e told answered after c.next_turn.new.crew now last in
+    let p = tickets_are k.out k.number k.holds k.gave k.exact k.jobs k.answers e told answered after
+    c.next_turn.new.crew now last in
     let p' : length after.tickets.items ≡ out_at now.share d.inboxes.width = p ∙ ap (out_at now.share) v.width in
-    subst (λ l. (l.lines - (c.in-Ok.count + c.pending-pending.result)) + (2 * (2 * l.lines - after.floor.given) + length after.tickets.items) < (lines - before) + (2 * (2 * lines - run.floor.given) + length run.tickets.items)) (sym v.limits)
-    (subst (λ m. (lines - m) + (2 * (2 * lines - after.floor.given) + length after.tickets.items) < (lines - before) + (2 * (2 * lines - run.floor.given) + length run.tickets.items)) (sym total)
-    (less_by lines before (length xs) s.given now.given run.floor.given after.floor.given (out_at s.share d.inboxes.width) (out_at now.share d.inboxes.width) (length run.tickets.items) (length after.tickets.items) j
+    subst (λ l. (l.lines - (c.in-Ok.count + c.pending-pending.result)) +
+    (2 * (2 * l.lines - after.floor.given) + length after.tickets.items) < (lines - before) +
+    (2 * (2 * lines - run.floor.given) + length run.tickets.items)) (sym v.limits)
+    (subst (λ m. (lines - m) + (2 * (2 * lines - after.floor.given) + length after.tickets.items) < (lines - before) +
+    (2 * (2 * lines - run.floor.given) + length run.tickets.items)) (sym total)
+    (less_by lines before (length xs) s.given now.given run.floor.given after.floor.given
+    (out_at s.share d.inboxes.width) (out_at now.share d.inboxes.width) (length run.tickets.items)
+    (length after.tickets.items) j
     runs.stands.given_is last.stands.given_is o p'
-    (less_left lines before (length xs) s.given now.given (out_at s.share d.inboxes.width) (out_at now.share d.inboxes.width) j within
+    (less_left lines before (length xs) s.given now.given (out_at s.share d.inboxes.width)
+    (out_at now.share d.inboxes.width) j within
     (given_few k.out k.number k.holds k.gave k.exact k.jobs k.answers e told answered run c.day.crew s runs lines small)
-    (given_few k.out k.number k.holds k.gave k.exact k.jobs k.answers e told answered after c.next_turn.new.crew now last lines large) turned.worked done)))
+    (given_few k.out k.number k.holds k.gave k.exact k.jobs k.answers e told answered after c.next_turn.new.crew now
+    last lines large) turned.worked done)))
 
 pub returns-clause-none : goal.returns-clause-none
 returns-clause-none g c =
@@ -140,7 +175,8 @@ returns-clause-none g c =
     let (e, told, answered, late, h, gathers, number, history, abreast) = c.requires.runs in
     let (s, on, marked, is, runs, even, waits) = c.day.invariant.at e told answered late h gathers number history in
     let (left, rest) = c.goes_on.ensures.none c.day-test.false in
-    no_ticket k.out k.number k.holds k.gave k.exact k.jobs k.answers e told answered c.day.run c.day.crew s runs (omega (arith, waits, rest))
+    no_ticket k.out k.number k.holds k.gave k.exact k.jobs k.answers e told answered c.day.run c.day.crew s runs
+    (omega (arith, waits, rest))
 
 pub returns-clause-ended : goal.returns-clause-ended
 returns-clause-ended g c = sym c.more.ensures.exact ∙ (c.goes_on.ensures.none c.day-test.false).0

@@ -24,7 +24,8 @@ invariant-day g l =
       crew : k.which l.crew ≡ k.which l.fn.crew;
       unfailed : HasFailedAhead l.ahead → ⊥;
       source_same : g.S.Source.name l.source ≡ g.S.Source.name l.fn.source;
-      read : (lines : ℕ) (bytes : List ℕ) → HasReadAhead l.fn.ahead lines (g.S.Source.left l.fn.source) bytes → HasReadAhead l.ahead lines (g.S.Source.left l.source) bytes;
+      read : (lines : ℕ) (bytes : List ℕ) → HasReadAhead l.fn.ahead lines (g.S.Source.left l.fn.source) bytes →
+          HasReadAhead l.ahead lines (g.S.Source.left l.source) bytes;
       publisher : g.P.Publisher.which l.publisher ≡ g.P.Publisher.which l.fn.publisher;
       same : g.K.Keeper.told l.keeper ≡ g.K.Keeper.told l.fn.keeper;
       source_later : g.S.Source.faults l.fn.source ≤ g.S.Source.faults l.source;
@@ -33,11 +34,20 @@ invariant-day g l =
       sink_sure : g.O.Sink.room l.fn.sink ≡ Endless → g.O.Sink.room l.sink ≡ Endless;
       keeper_later : g.K.Keeper.faults l.fn.keeper ≤ g.K.Keeper.faults l.keeper;
       keeper_sure : NeverFails (g.K.Keeper.plan l.fn.keeper) → NeverFails (g.K.Keeper.plan l.keeper);
-      at : (e : Setting) (told : Option Told) (answered : Option (List Finding)) (late : ℕ) → Runs k.out k.number k.holds k.gave k.exact k.jobs k.answers e told answered l.fn.run l.fn.crew start → IsGatheringAhead l.fn.ahead l.fn.run.floor.limits late [] →
+      at : (e : Setting) (told : Option Told) (answered : Option (List Finding)) (late : ℕ) →
+          Runs k.out k.number k.holds k.gave k.exact k.jobs k.answers e told answered l.fn.run l.fn.crew start →
+          IsGatheringAhead l.fn.ahead l.fn.run.floor.limits late [] →
           e.number ≡ l.day → e.history ≡ history_of (g.K.Keeper.told l.fn.keeper) →
-          (now : State) × IsOn l.fn.run.floor.limits late e l.fn.ahead l.ahead (g.S.Source.left l.fn.source) (g.S.Source.left l.source) (g.O.Sink.written l.fn.sink) (g.O.Sink.written l.sink) (g.P.Publisher.posted l.fn.publisher) (g.P.Publisher.posted l.publisher) now
-          × (now.settled ≡ mark l.fn.run.floor.inboxes.width now) × (l.settled ≡ now.settled) × Runs k.out k.number k.holds k.gave k.exact k.jobs k.answers e told answered l.run l.crew now × IsAbreast (g.P.Publisher.posted l.publisher) (sum_of (settled_charges now)) × (now.settled + l.pending ≡ length now.fed);
+          (now : State) × IsOn l.fn.run.floor.limits late e l.fn.ahead l.ahead (g.S.Source.left l.fn.source)
+          (g.S.Source.left l.source) (g.O.Sink.written l.fn.sink) (g.O.Sink.written l.sink)
+          (g.P.Publisher.posted l.fn.publisher) (g.P.Publisher.posted l.publisher) now
+          × (now.settled ≡ mark l.fn.run.floor.inboxes.width now) × (l.settled ≡ now.settled)
+          × Runs k.out k.number k.holds k.gave k.exact k.jobs k.answers e told answered l.run l.crew now
+          × IsAbreast (g.P.Publisher.posted l.publisher) (sum_of (settled_charges now))
+          × (now.settled + l.pending ≡ length now.fed);
     }
 
 abbrev pub decreases-day : goal.decreases-day
-decreases-day g l = (l.run.floor.limits.lines - (l.settled + l.pending)) + (2 * (2 * l.run.floor.limits.lines - l.run.floor.given) + length l.run.tickets.items)
+decreases-day g l =
+    (l.run.floor.limits.lines - (l.settled + l.pending)) +
+    (2 * (2 * l.run.floor.limits.lines - l.run.floor.given) + length l.run.tickets.items)

@@ -12,7 +12,8 @@ use Rattle.import_once.specs.declared.outcomes.Outcome.{Outcome}
 use Rattle.import_once.specs.Imports.{Work, work_of, work_by, answers_worked, answers_read, Does, LeavesRead}
 use Rattle.day_rounds.specs.Faults.{WritesUpTo}
 use Rattle.import_once.proofs.WorkLaws.{right_work}
-use Rattle.import_once.proofs.FinishLaws.{tells_does, does_merges, stops_does, text_answered, where_worked, tells_leaves, stops_leaves}
+use Rattle.import_once.proofs.FinishLaws.{tells_does, does_merges, stops_does, text_answered, where_worked}
+use Rattle.import_once.proofs.FinishLaws.{tells_leaves, stops_leaves}
 use Rattle.import_once.specs.Runs.{HasStarted}
 use Rattle.import_once.proofs.JobLaws.{started_all, started_first}
 use Rattle.import_once.proofs.answering.answer_under.Goals as goal
@@ -28,11 +29,16 @@ returns-in-Ok-clause-does g c = λ exact bytes o left told under.
     let now = g.K.Keeper.told c.run_day.new.keeper in
     let result = c.finish_answers.result in
     let known : history_of (g.K.Keeper.told c.args.keeper.now) ≡ Some (paid o.rows) = ap history_of told in
-    let closed = subst (λ (h : History). IsClosed c.in-Ok.run'.closed number (given ran.found) number h ran.day) known ran.closed in
+    let closed = subst (λ (h : History). IsClosed c.in-Ok.run'.closed number (given ran.found) number h ran.day) known
+    ran.closed in
     let read = ran.read bytes left in
-    let done = tells_does w number ran.found bytes ran.day o old new now c.in-Ok.run' c.args.tariffs.now (ran.wrote (paid o.rows) known) ran.count closed under (c.run_day.ensures.same ∙ told) c.in-Ok.run'.end refused result read.1 (c.finish_answers.ensures.tells) in
+    let done = tells_does w number ran.found bytes ran.day o old new now c.in-Ok.run' c.args.tariffs.now
+    (ran.wrote (paid o.rows) known) ran.count closed under (c.run_day.ensures.same ∙ told) c.in-Ok.run'.end refused
+    result read.1 (c.finish_answers.ensures.tells) in
     let right = subst (λ (t : Tariffs). AreRightFor ran.found ran.day t number) under (ran.right exact) in
-    let by_rules = subst (λ (work : Work). Does w (answers_worked work number bytes ran.day refused o) o old new now result) (right_work number ran.found ran.day o right) done in
+    let by_rules =
+    subst (λ (work : Work). Does w (answers_worked work number bytes ran.day refused o) o old new now result)
+    (right_work number ran.found ran.day o right) done in
     subst (λ (day : List Tuple). Does w (answers_read number bytes day refused o) o old new now result) read.0 by_rules
 
 pub returns-in-Ok-clause-merged : goal.returns-in-Ok-clause-merged
@@ -46,11 +52,21 @@ returns-in-Ok-clause-merged g c = λ bytes o left told under.
     let now = g.K.Keeper.told c.run_day.new.keeper in
     let result = c.finish_answers.result in
     let known : history_of (g.K.Keeper.told c.args.keeper.now) ≡ Some (paid o.rows) = ap history_of told in
-    let closed = subst (λ (h : History). IsClosed c.in-Ok.run'.closed number (given ran.found) number h ran.day) known ran.closed in
+    let closed = subst (λ (h : History). IsClosed c.in-Ok.run'.closed number (given ran.found) number h ran.day) known
+    ran.closed in
     let read = ran.read bytes left in
-    let done = tells_does w number ran.found bytes ran.day o old new now c.in-Ok.run' c.args.tariffs.now (ran.wrote (paid o.rows) known) ran.count closed under (c.run_day.ensures.same ∙ told) c.in-Ok.run'.end refused result read.1 (c.finish_answers.ensures.tells) in
-    let there = subst (λ (day : List Tuple). Does w (answers_worked (work_by ran.found number day o) number bytes day refused o) o old new now result) read.0 done in
-    record { found = ran.found; answers_are = where_worked result _ ran.found_are; merges = does_merges w _ o old new now result there }
+    let done = tells_does w number ran.found bytes ran.day o old new now c.in-Ok.run' c.args.tariffs.now
+    (ran.wrote (paid o.rows) known) ran.count closed under (c.run_day.ensures.same ∙ told) c.in-Ok.run'.end refused
+    result read.1 (c.finish_answers.ensures.tells) in
+    let there =
+    subst (λ (day : List Tuple). Does w (answers_worked (work_by ran.found number day o) number bytes day refused o)
+    o old new now result) read.0 done in
+    record {
+      found = ran.found;
+      answers_are = where_worked result _ ran.found_are;
+      merges =
+          does_merges w _ o old new now result there;
+    }
 
 pub returns-in-Err-clause-does : goal.returns-in-Err-clause-does
 returns-in-Err-clause-does g c = λ exact bytes o left told under.
@@ -63,9 +79,14 @@ returns-in-Err-clause-does g c = λ exact bytes o left told under.
     let now = g.K.Keeper.told c.run_day.new.keeper in
     let halted = c.in-Err.ensures.stopped in
     let some = halted.front exact bytes left (paid o.rows) (ap history_of told) in
-    let ours = subst (λ (t : Tariffs). WritesUpTo c.in-Err.fault (out (notices day t number (paid o.rows))) old new) under some in
-    let text = subst (λ (all : List ℕ). WritesUpTo c.in-Err.fault all old new) (sym (text_answered (work_of number day o) number bytes day refused o)) ours in
-    subst (λ (r : Outcome). Does w (answers_read number bytes day refused o) o old new now r) (sym c.stopped.ensures.is) (stops_does w (answers_read number bytes day refused o) o old new now c.in-Err.fault text (c.run_day.ensures.same ∙ told))
+    let ours = subst (λ (t : Tariffs). WritesUpTo c.in-Err.fault (out (notices day t number (paid o.rows))) old new)
+    under some in
+    let text =
+    subst (λ (all : List ℕ). WritesUpTo c.in-Err.fault all old new)
+    (sym (text_answered (work_of number day o) number bytes day refused o)) ours in
+    subst (λ (r : Outcome). Does w (answers_read number bytes day refused o) o old new now r) (sym c.stopped.ensures.is)
+    (stops_does w (answers_read number bytes day refused o) o old new now c.in-Err.fault text
+    (c.run_day.ensures.same ∙ told))
 
 pub returns-in-Ok-clause-jobs : goal.returns-in-Ok-clause-jobs
 returns-in-Ok-clause-jobs g c = λ bytes left.
@@ -74,8 +95,10 @@ returns-in-Ok-clause-jobs g c = λ bytes left.
     let backlog = c.args.limits.now.backlog in
     let told = g.C.Crew.jobs c.args.crew.now in
     let now = g.C.Crew.jobs c.run_day.new.crew in
-    let all = started_all width backlog ran.day told now c.finish_answers.result ran.started.0 ran.started.1 ran.started.2 in
-    subst (λ (day : List Tuple). HasStarted width backlog day told now c.finish_answers.result) (ran.read bytes left).0 all
+    let all =
+    started_all width backlog ran.day told now c.finish_answers.result ran.started.0 ran.started.1 ran.started.2 in
+    subst (λ (day : List Tuple). HasStarted width backlog day told now c.finish_answers.result)
+    (ran.read bytes left).0 all
 
 pub returns-in-Err-clause-jobs : goal.returns-in-Err-clause-jobs
 returns-in-Err-clause-jobs g c = λ bytes left.
@@ -85,16 +108,20 @@ returns-in-Err-clause-jobs g c = λ bytes left.
     let width = c.args.plan.now.width in
     let backlog = c.args.limits.now.backlog in
     let day = (reads bytes c.args.limits.now c.args.late).tuples in
-    subst (HasStarted width backlog day told now) (sym c.stopped.ensures.is) (started_first width backlog day told now c.in-Err.fault some.0 some.1 some.2)
+    subst (HasStarted width backlog day told now) (sym c.stopped.ensures.is)
+    (started_first width backlog day told now c.in-Err.fault some.0 some.1 some.2)
 
 pub returns-in-Ok-clause-leaves : goal.returns-in-Ok-clause-leaves
 returns-in-Ok-clause-leaves g c = λ bytes left.
     let refused = (reads bytes c.args.limits.now c.args.late).refused in
     let ends = (c.in-Ok.ensures.ran.read bytes left).1 in
-    tells_leaves c.args.number c.in-Ok.run' c.args.tariffs.now c.in-Ok.run'.end refused bytes (g.S.Source.left c.run_day.new.source) c.finish_answers.result ends (c.in-Ok.ensures.leaves bytes left) (c.finish_answers.ensures.tells)
+    tells_leaves c.args.number c.in-Ok.run' c.args.tariffs.now c.in-Ok.run'.end refused bytes
+    (g.S.Source.left c.run_day.new.source) c.finish_answers.result ends (c.in-Ok.ensures.leaves bytes left)
+    (c.finish_answers.ensures.tells)
 
 pub returns-in-Err-clause-leaves : goal.returns-in-Err-clause-leaves
 returns-in-Err-clause-leaves g c = λ bytes left.
     let refused = (reads bytes c.args.limits.now c.args.late).refused in
     let rest = g.S.Source.left c.run_day.new.source in
-    subst (λ (r : Outcome). LeavesRead r refused bytes rest) (sym c.stopped.ensures.is) (stops_leaves c.in-Err.fault refused bytes rest)
+    subst (λ (r : Outcome). LeavesRead r refused bytes rest) (sym c.stopped.ensures.is)
+    (stops_leaves c.in-Err.fault refused bytes rest)

@@ -12,7 +12,8 @@ use Rattle.import_once.specs.declared.outcomes.Outcome.{Outcome}
 use Rattle.import_once.specs.Imports.{Work, work_of, work_by, import_worked, import_read, Does, KeepsAll, LeavesRead}
 use Rattle.day_rounds.specs.Faults.{WritesUpTo}
 use Rattle.import_once.proofs.WorkLaws.{run_fits, right_work}
-use Rattle.import_once.proofs.FinishLaws.{finishes_does, does_merges, stops_does, text_worked, where_worked, stops_keeps, whole_unrefused, ends_leaves, stops_leaves}
+use Rattle.import_once.proofs.FinishLaws.{finishes_does, does_merges, stops_does, text_worked, where_worked}
+use Rattle.import_once.proofs.FinishLaws.{stops_keeps, whole_unrefused, ends_leaves, stops_leaves}
 use Rattle.import_once.specs.Runs.{HasStarted, HasStepped}
 use Rattle.import_once.proofs.JobLaws.{started_all, started_first, stepped_all, stepped_some}
 use Rattle.import_once.proofs.beginning.import_under.Goals as goal
@@ -20,7 +21,8 @@ use Rattle.import_once.proofs.beginning.import_under.Goals as goal
 pub finish_import-requires-clause-can : goal.finish_import-requires-clause-can
 finish_import-requires-clause-can g c =
     let ran = c.in-Ok.ensures.ran in
-    run_fits c.args.number c.args.limits.now ran.found (history_of (g.K.Keeper.told c.args.keeper.now)) ran.day c.in-Ok.run' c.requires.within ran.fit ran.short ran.count ran.closed ran.few
+    run_fits c.args.number c.args.limits.now ran.found (history_of (g.K.Keeper.told c.args.keeper.now)) ran.day
+    c.in-Ok.run' c.requires.within ran.fit ran.short ran.count ran.closed ran.few
 
 pub returns-in-Ok-clause-does : goal.returns-in-Ok-clause-does
 returns-in-Ok-clause-does g c = λ exact bytes o left told under.
@@ -33,11 +35,16 @@ returns-in-Ok-clause-does g c = λ exact bytes o left told under.
     let now = g.K.Keeper.told c.finish_import.new.keeper in
     let result = c.finish_import.result in
     let known : history_of (g.K.Keeper.told c.args.keeper.now) ≡ Some (paid o.rows) = ap history_of told in
-    let closed = subst (λ (h : History). IsClosed c.in-Ok.run'.closed number (given ran.found) number h ran.day) known ran.closed in
+    let closed = subst (λ (h : History). IsClosed c.in-Ok.run'.closed number (given ran.found) number h ran.day) known
+    ran.closed in
     let read = ran.read bytes left in
-    let done = finishes_does w number ran.found bytes ran.day o old new now c.in-Ok.run' c.args.tariffs.now (ran.wrote (paid o.rows) known) ran.count closed under c.in-Ok.run'.end refused result read.1 (c.finish_import.ensures.finishes o (c.run_day.ensures.same ∙ told)) in
+    let done = finishes_does w number ran.found bytes ran.day o old new now c.in-Ok.run' c.args.tariffs.now
+    (ran.wrote (paid o.rows) known) ran.count closed under c.in-Ok.run'.end refused result read.1
+    (c.finish_import.ensures.finishes o (c.run_day.ensures.same ∙ told)) in
     let right = subst (λ (t : Tariffs). AreRightFor ran.found ran.day t number) under (ran.right exact) in
-    let by_rules = subst (λ (work : Work). Does w (import_worked work number bytes ran.day refused o) o old new now result) (right_work number ran.found ran.day o right) done in
+    let by_rules =
+    subst (λ (work : Work). Does w (import_worked work number bytes ran.day refused o) o old new now result)
+    (right_work number ran.found ran.day o right) done in
     subst (λ (day : List Tuple). Does w (import_read number bytes day refused o) o old new now result) read.0 by_rules
 
 pub returns-in-Ok-clause-merged : goal.returns-in-Ok-clause-merged
@@ -51,11 +58,21 @@ returns-in-Ok-clause-merged g c = λ bytes o left told under.
     let now = g.K.Keeper.told c.finish_import.new.keeper in
     let result = c.finish_import.result in
     let known : history_of (g.K.Keeper.told c.args.keeper.now) ≡ Some (paid o.rows) = ap history_of told in
-    let closed = subst (λ (h : History). IsClosed c.in-Ok.run'.closed number (given ran.found) number h ran.day) known ran.closed in
+    let closed = subst (λ (h : History). IsClosed c.in-Ok.run'.closed number (given ran.found) number h ran.day) known
+    ran.closed in
     let read = ran.read bytes left in
-    let done = finishes_does w number ran.found bytes ran.day o old new now c.in-Ok.run' c.args.tariffs.now (ran.wrote (paid o.rows) known) ran.count closed under c.in-Ok.run'.end refused result read.1 (c.finish_import.ensures.finishes o (c.run_day.ensures.same ∙ told)) in
-    let there = subst (λ (day : List Tuple). Does w (import_worked (work_by ran.found number day o) number bytes day refused o) o old new now result) read.0 done in
-    record { found = ran.found; answers_are = where_worked result _ ran.found_are; merges = does_merges w _ o old new now result there }
+    let done = finishes_does w number ran.found bytes ran.day o old new now c.in-Ok.run' c.args.tariffs.now
+    (ran.wrote (paid o.rows) known) ran.count closed under c.in-Ok.run'.end refused result read.1
+    (c.finish_import.ensures.finishes o (c.run_day.ensures.same ∙ told)) in
+    let there =
+    subst (λ (day : List Tuple). Does w (import_worked (work_by ran.found number day o) number bytes day refused o)
+    o old new now result) read.0 done in
+    record {
+      found = ran.found;
+      answers_are = where_worked result _ ran.found_are;
+      merges =
+          does_merges w _ o old new now result there;
+    }
 
 pub returns-in-Err-clause-does : goal.returns-in-Err-clause-does
 returns-in-Err-clause-does g c = λ exact bytes o left told under.
@@ -68,12 +85,19 @@ returns-in-Err-clause-does g c = λ exact bytes o left told under.
     let now = g.K.Keeper.told c.run_day.new.keeper in
     let halted = c.in-Err.ensures.stopped in
     let some = halted.front exact bytes left (paid o.rows) (ap history_of told) in
-    let ours = subst (λ (t : Tariffs). WritesUpTo c.in-Err.fault (out (notices day t number (paid o.rows))) old new) under some in
-    let text = subst (λ (all : List ℕ). WritesUpTo c.in-Err.fault all old new) (sym (text_worked (work_of number day o) number bytes day refused o)) ours in
-    subst (λ (r : Outcome). Does w (import_read number bytes day refused o) o old new now r) (sym c.stopped.ensures.is) (stops_does w (import_read number bytes day refused o) o old new now c.in-Err.fault text (c.run_day.ensures.same ∙ told))
+    let ours = subst (λ (t : Tariffs). WritesUpTo c.in-Err.fault (out (notices day t number (paid o.rows))) old new)
+    under some in
+    let text =
+    subst (λ (all : List ℕ). WritesUpTo c.in-Err.fault all old new)
+    (sym (text_worked (work_of number day o) number bytes day refused o)) ours in
+    subst (λ (r : Outcome). Does w (import_read number bytes day refused o) o old new now r) (sym c.stopped.ensures.is)
+    (stops_does w (import_read number bytes day refused o) o old new now c.in-Err.fault text
+    (c.run_day.ensures.same ∙ told))
 
 pub returns-in-Err-clause-keeps : goal.returns-in-Err-clause-keeps
-returns-in-Err-clause-keeps g c = subst (λ (r : Outcome). KeepsAll r (g.K.Keeper.told c.run_day.new.keeper ≡ g.K.Keeper.told c.args.keeper.now)) (sym c.stopped.ensures.is) (stops_keeps c.in-Err.fault _ c.run_day.ensures.same)
+returns-in-Err-clause-keeps g c =
+    subst (λ (r : Outcome). KeepsAll r (g.K.Keeper.told c.run_day.new.keeper ≡ g.K.Keeper.told c.args.keeper.now))
+    (sym c.stopped.ensures.is) (stops_keeps c.in-Err.fault _ c.run_day.ensures.same)
 
 pub returns-in-Ok-clause-jobs : goal.returns-in-Ok-clause-jobs
 returns-in-Ok-clause-jobs g c = λ bytes left.
@@ -82,8 +106,10 @@ returns-in-Ok-clause-jobs g c = λ bytes left.
     let backlog = c.args.limits.now.backlog in
     let told = g.C.Crew.jobs c.args.crew.now in
     let now = g.C.Crew.jobs c.run_day.new.crew in
-    let all = started_all width backlog ran.day told now c.finish_import.result ran.started.0 ran.started.1 ran.started.2 in
-    subst (λ (day : List Tuple). HasStarted width backlog day told now c.finish_import.result) (ran.read bytes left).0 all
+    let all =
+    started_all width backlog ran.day told now c.finish_import.result ran.started.0 ran.started.1 ran.started.2 in
+    subst (λ (day : List Tuple). HasStarted width backlog day told now c.finish_import.result)
+    (ran.read bytes left).0 all
 
 pub returns-in-Err-clause-jobs : goal.returns-in-Err-clause-jobs
 returns-in-Err-clause-jobs g c = λ bytes left.
@@ -93,7 +119,8 @@ returns-in-Err-clause-jobs g c = λ bytes left.
     let width = c.args.plan.now.width in
     let backlog = c.args.limits.now.backlog in
     let day = (reads bytes c.args.limits.now c.args.late).tuples in
-    subst (HasStarted width backlog day told now) (sym c.stopped.ensures.is) (started_first width backlog day told now c.in-Err.fault some.0 some.1 some.2)
+    subst (HasStarted width backlog day told now) (sym c.stopped.ensures.is)
+    (started_first width backlog day told now c.in-Err.fault some.0 some.1 some.2)
 
 pub returns-in-Ok-clause-stepped : goal.returns-in-Ok-clause-stepped
 returns-in-Ok-clause-stepped g c = λ exact bytes left.
@@ -102,7 +129,8 @@ returns-in-Ok-clause-stepped g c = λ exact bytes left.
     let old = g.P.Publisher.posted c.args.publisher.now in
     let now = g.P.Publisher.posted c.run_day.new.publisher in
     let all = stepped_all _ ran.day old now c.finish_import.result (ran.stepped_right exact) in
-    subst (λ (day : List Tuple). HasStepped tariffs day c.args.limits.now.backlog old now c.finish_import.result) (ran.read bytes left).0 all
+    subst (λ (day : List Tuple). HasStepped tariffs day c.args.limits.now.backlog old now c.finish_import.result)
+    (ran.read bytes left).0 all
 
 pub returns-in-Err-clause-stepped : goal.returns-in-Err-clause-stepped
 returns-in-Err-clause-stepped g c = λ exact bytes left.
@@ -110,21 +138,26 @@ returns-in-Err-clause-stepped g c = λ exact bytes left.
     let day = (reads bytes c.args.limits.now c.args.late).tuples in
     let old = g.P.Publisher.posted c.args.publisher.now in
     let now = g.P.Publisher.posted c.run_day.new.publisher in
-    subst (HasStepped tariffs day c.args.limits.now.backlog old now) (sym c.stopped.ensures.is) (stepped_some tariffs day c.args.limits.now.backlog old now c.in-Err.fault (c.in-Err.ensures.stopped.steps exact bytes left))
+    subst (HasStepped tariffs day c.args.limits.now.backlog old now) (sym c.stopped.ensures.is)
+    (stepped_some tariffs day c.args.limits.now.backlog old now c.in-Err.fault
+    (c.in-Err.ensures.stopped.steps exact bytes left))
 
 pub returns-in-Ok-clause-whole : goal.returns-in-Ok-clause-whole
 returns-in-Ok-clause-whole g c = λ bytes kept left stored.
     let ends = (c.in-Ok.ensures.ran.read bytes left).1 in
-    c.in-Ok.ensures.rest bytes left (whole_unrefused c.in-Ok.run'.end bytes _ ends (c.finish_import.ensures.whole kept stored))
+    c.in-Ok.ensures.rest bytes left
+    (whole_unrefused c.in-Ok.run'.end bytes _ ends (c.finish_import.ensures.whole kept stored))
 
 pub returns-in-Ok-clause-leaves : goal.returns-in-Ok-clause-leaves
 returns-in-Ok-clause-leaves g c = λ bytes left.
     let refused = (reads bytes c.args.limits.now c.args.late).refused in
     let ends = (c.in-Ok.ensures.ran.read bytes left).1 in
-    ends_leaves c.in-Ok.run'.end refused bytes (g.S.Source.left c.run_day.new.source) c.finish_import.result ends (c.in-Ok.ensures.leaves bytes left) c.finish_import.ensures.new_day c.finish_import.ensures.of_end
+    ends_leaves c.in-Ok.run'.end refused bytes (g.S.Source.left c.run_day.new.source) c.finish_import.result ends
+    (c.in-Ok.ensures.leaves bytes left) c.finish_import.ensures.new_day c.finish_import.ensures.of_end
 
 pub returns-in-Err-clause-leaves : goal.returns-in-Err-clause-leaves
 returns-in-Err-clause-leaves g c = λ bytes left.
     let refused = (reads bytes c.args.limits.now c.args.late).refused in
     let rest = g.S.Source.left c.run_day.new.source in
-    subst (λ (r : Outcome). LeavesRead r refused bytes rest) (sym c.stopped.ensures.is) (stops_leaves c.in-Err.fault refused bytes rest)
+    subst (λ (r : Outcome). LeavesRead r refused bytes rest) (sym c.stopped.ensures.is)
+    (stops_leaves c.in-Err.fault refused bytes rest)

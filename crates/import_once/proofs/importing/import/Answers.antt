@@ -5,7 +5,7 @@ use Rattle.keeper.specs.Office.{record_of}
 use Rattle.import_once.specs.Imports.{import_read, import_merged, unless_recorded, Does, Merges}
 use Rattle.import_once.proofs.FinishLaws.{kept_alone, kept_leaves}
 use Rattle.keeper.proofs.CallLaws.{reads_same, reads_ok}
-use Rattle.import_once.proofs.JobLaws.{none_started, kept_unworked}
+use Rattle.import_once.proofs.JobLaws.{refused_started, none_started, kept_unworked}
 use Rattle.import_once.proofs.importing.import.Goals as goal
 
 pub returns-in-Ok-Some-clause-alone : goal.returns-in-Ok-Some-clause-alone
@@ -15,38 +15,51 @@ pub returns-in-Ok-None-clause-does : goal.returns-in-Ok-None-clause-does
 returns-in-Ok-None-clause-does g c = λ exact bytes o left told.
     let before = g.K.Keeper.told c.args.keeper.now in
     let after = g.K.Keeper.told c.day.new.self in
-    let kept : after ≡ Some o = reads_same before after c.day.result (λ p kept. kept ≡ record_of p c.args.day) c.day.ensures.state ∙ told in
+    let kept : after ≡ Some o =
+    reads_same before after c.day.result (λ p kept. kept ≡ record_of p c.args.day) c.day.ensures.state ∙ told in
     let ok : c.day.result ≡ Ok None = cc in
-    let none : None ≡ record_of o c.args.day = reads_ok before after c.day.result (λ p kept. kept ≡ record_of p c.args.day) o None c.day.ensures.state told ok in
+    let none : None ≡ record_of o c.args.day =
+    reads_ok before after c.day.result (λ p kept. kept ≡ record_of p c.args.day) o None c.day.ensures.state told
+    ok in
     let read = reads bytes c.args.limits.now c.args.late in
-    subst (λ (r : Option DayRecord). Does g.K.Keeper.refuses (unless_recorded r (import_read c.args.day bytes read.tuples read.refused o) c.args.day bytes o) o (g.O.Sink.written c.args.sink.now) (g.O.Sink.written c.import_new.new.sink) (g.K.Keeper.told c.import_new.new.keeper) c.import_new.result)
+    subst (λ (r : Option DayRecord). Does g.K.Keeper.refuses
+    (unless_recorded r (import_read c.args.day bytes read.tuples read.refused o) c.args.day bytes o) o
+    (g.O.Sink.written c.args.sink.now) (g.O.Sink.written c.import_new.new.sink)
+    (g.K.Keeper.told c.import_new.new.keeper) c.import_new.result)
     none (c.import_new.ensures.does exact bytes o left kept)
 
 pub returns-in-Ok-None-clause-merged : goal.returns-in-Ok-None-clause-merged
 returns-in-Ok-None-clause-merged g c = λ bytes o left told.
     let before = g.K.Keeper.told c.args.keeper.now in
     let after = g.K.Keeper.told c.day.new.self in
-    let kept : after ≡ Some o = reads_same before after c.day.result (λ p kept. kept ≡ record_of p c.args.day) c.day.ensures.state ∙ told in
+    let kept : after ≡ Some o =
+    reads_same before after c.day.result (λ p kept. kept ≡ record_of p c.args.day) c.day.ensures.state ∙ told in
     let ok : c.day.result ≡ Ok None = cc in
-    let none : None ≡ record_of o c.args.day = reads_ok before after c.day.result (λ p kept. kept ≡ record_of p c.args.day) o None c.day.ensures.state told ok in
+    let none : None ≡ record_of o c.args.day =
+    reads_ok before after c.day.result (λ p kept. kept ≡ record_of p c.args.day) o None c.day.ensures.state told
+    ok in
     let read = reads bytes c.args.limits.now c.args.late in
     let done = c.import_new.ensures.merged bytes o left kept in
     record {
       found = done.found;
       answers_are = done.answers_are;
-      merges = subst (λ (r : Option DayRecord). Merges g.K.Keeper.refuses (unless_recorded r (import_merged done.found c.args.day bytes read.tuples read.refused o) c.args.day bytes o) o (g.O.Sink.written c.args.sink.now) (g.O.Sink.written c.import_new.new.sink) (g.K.Keeper.told c.import_new.new.keeper) c.import_new.result)
+      merges = subst
+          (λ (r : Option DayRecord). Merges g.K.Keeper.refuses
+          (unless_recorded r (import_merged done.found c.args.day bytes read.tuples read.refused o) c.args.day bytes o)
+          o (g.O.Sink.written c.args.sink.now) (g.O.Sink.written c.import_new.new.sink)
+          (g.K.Keeper.told c.import_new.new.keeper) c.import_new.result)
           none done.merges;
     }
 
 pub returns-in-Ok-Some-clause-jobs : goal.returns-in-Ok-Some-clause-jobs
-returns-in-Ok-Some-clause-jobs g c = λ bytes left. none_started _ _ _ _ c.compare.result (kept_unworked c.compare.result _ c.compare.ensures.kept_day)
+returns-in-Ok-Some-clause-jobs g c =
+    λ bytes left. none_started _ _ _ _ c.compare.result (kept_unworked c.compare.result _ c.compare.ensures.kept_day)
 
-pub returns-in-Err-Failed-clause-jobs : goal.returns-in-Err-Failed-clause-jobs
-returns-in-Err-Failed-clause-jobs g c = λ bytes left. none_started _ _ _ _ _ tt
-
-pub returns-in-Err-NoMemory-clause-jobs : goal.returns-in-Err-NoMemory-clause-jobs
-returns-in-Err-NoMemory-clause-jobs g c = λ bytes left. none_started _ _ _ _ _ tt
+pub returns-in-Err-clause-jobs : goal.returns-in-Err-clause-jobs
+returns-in-Err-clause-jobs g c =
+    λ bytes left. refused_started _ _ _ _ c.in-Err.fault c.refused.result c.refused.ensures
 
 pub returns-in-Ok-Some-clause-leaves : goal.returns-in-Ok-Some-clause-leaves
 returns-in-Ok-Some-clause-leaves g c = λ bytes left.
-    kept_leaves c.compare.result (reads bytes c.args.limits.now c.args.late).refused bytes (g.S.Source.left c.compare.new.source) c.compare.ensures.kept_day
+    kept_leaves c.compare.result (reads bytes c.args.limits.now c.args.late).refused bytes
+    (g.S.Source.left c.compare.new.source) c.compare.ensures.kept_day

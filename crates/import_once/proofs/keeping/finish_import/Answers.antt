@@ -7,4 +7,5 @@ use Rattle.import_once.proofs.keeping.finish_import.Goals as goal
 pub returns-in-Ok-clause-of_end : goal.returns-in-Ok-clause-of_end
 returns-in-Ok-clause-of_end g c =
     let is : c.args.run.now.end ≡ Whole c.in-Whole.bytes c.in-Whole.digest = cc in
-    subst (λ (e : DayEnd). IsOfEnd e c.store.result) (sym is) (c.store.ensures.of_end c.in-Whole.bytes c.in-Whole.digest)
+    subst (λ (e : DayEnd). IsOfEnd e c.store.result) (sym is)
+    (c.store.ensures.of_end c.in-Whole.bytes c.in-Whole.digest)

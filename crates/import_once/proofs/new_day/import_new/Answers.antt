@@ -4,35 +4,46 @@ use Rattle.keeper.specs.Office.{last_day}
 use Rattle.import_once.specs.Imports.{DayAnswer, import_read, import_merged, Does, Merges}
 use Rattle.import_once.proofs.FinishLaws.{new_is_read}
 use Rattle.keeper.proofs.CallLaws.{reads_same, reads_ok}
-use Rattle.import_once.proofs.JobLaws.{none_started}
+use Rattle.import_once.proofs.JobLaws.{refused_started, none_started}
 use Rattle.import_once.proofs.new_day.import_new.Goals as goal
 
 pub returns-else-last-number-clause-does : goal.returns-else-last-number-clause-does
 returns-else-last-number-clause-does g c = λ exact bytes o left told.
     let before = g.K.Keeper.told c.args.keeper.now in
     let after = g.K.Keeper.told c.last_day.new.self in
-    let kept : after ≡ Some o = reads_same before after c.last_day.result (λ p last. last ≡ last_day p) c.last_day.ensures.state ∙ told in
+    let kept : after ≡ Some o =
+    reads_same before after c.last_day.result (λ p last. last ≡ last_day p) c.last_day.ensures.state ∙ told in
     let ok : c.last_day.result ≡ Ok c.in-Ok.last = cc in
-    let last : c.in-Ok.last ≡ last_day o = reads_ok before after c.last_day.result (λ p last. last ≡ last_day p) o c.in-Ok.last c.last_day.ensures.state told ok in
+    let last : c.in-Ok.last ≡ last_day o =
+    reads_ok before after c.last_day.result (λ p last. last ≡ last_day p) o c.in-Ok.last c.last_day.ensures.state
+    told ok in
     let read = reads bytes c.args.limits.now c.args.late in
     let done = c.import_later.ensures.does exact bytes o left kept in
-    subst (λ (a : DayAnswer). Does g.K.Keeper.refuses a o (g.O.Sink.written c.args.sink.now) (g.O.Sink.written c.import_later.new.sink) (g.K.Keeper.told c.import_later.new.keeper) c.import_later.result)
-    (sym (new_is_read (import_read c.args.number bytes read.tuples read.refused o) c.args.number o (omega (arith, c.if-last-number.false, last)))) done
+    subst (λ (a : DayAnswer). Does g.K.Keeper.refuses a o (g.O.Sink.written c.args.sink.now)
+    (g.O.Sink.written c.import_later.new.sink) (g.K.Keeper.told c.import_later.new.keeper) c.import_later.result)
+    (sym (new_is_read (import_read c.args.number bytes read.tuples read.refused o) c.args.number o
+    (omega (arith, c.if-last-number.false, last)))) done
 
 pub returns-else-last-number-clause-merged : goal.returns-else-last-number-clause-merged
 returns-else-last-number-clause-merged g c = λ bytes o left told.
     let before = g.K.Keeper.told c.args.keeper.now in
     let after = g.K.Keeper.told c.last_day.new.self in
-    let kept : after ≡ Some o = reads_same before after c.last_day.result (λ p last. last ≡ last_day p) c.last_day.ensures.state ∙ told in
+    let kept : after ≡ Some o =
+    reads_same before after c.last_day.result (λ p last. last ≡ last_day p) c.last_day.ensures.state ∙ told in
     let ok : c.last_day.result ≡ Ok c.in-Ok.last = cc in
-    let last : c.in-Ok.last ≡ last_day o = reads_ok before after c.last_day.result (λ p last. last ≡ last_day p) o c.in-Ok.last c.last_day.ensures.state told ok in
+    let last : c.in-Ok.last ≡ last_day o =
+    reads_ok before after c.last_day.result (λ p last. last ≡ last_day p) o c.in-Ok.last c.last_day.ensures.state
+    told ok in
     let read = reads bytes c.args.limits.now c.args.late in
     let done = c.import_later.ensures.merged bytes o left kept in
     record {
       found = done.found;
       answers_are = done.answers_are;
-      merges = subst (λ (a : DayAnswer). Merges g.K.Keeper.refuses a o (g.O.Sink.written c.args.sink.now) (g.O.Sink.written c.import_later.new.sink) (g.K.Keeper.told c.import_later.new.keeper) c.import_later.result)
-          (sym (new_is_read (import_merged done.found c.args.number bytes read.tuples read.refused o) c.args.number o (omega (arith, c.if-last-number.false, last)))) done.merges;
+      merges = subst
+          (λ (a : DayAnswer). Merges g.K.Keeper.refuses a o (g.O.Sink.written c.args.sink.now)
+          (g.O.Sink.written c.import_later.new.sink) (g.K.Keeper.told c.import_later.new.keeper) c.import_later.result)
+          (sym (new_is_read (import_merged done.found c.args.number bytes read.tuples read.refused o) c.args.number o
+          (omega (arith, c.if-last-number.false, last)))) done.merges;
     }
 
 pub returns-else-last-number-clause-unread : goal.returns-else-last-number-clause-unread
@@ -40,14 +51,14 @@ returns-else-last-number-clause-unread g c = λ o told few.
     let before = g.K.Keeper.told c.args.keeper.now in
     let after = g.K.Keeper.told c.last_day.new.self in
     let ok : c.last_day.result ≡ Ok c.in-Ok.last = cc in
-    let last : c.in-Ok.last ≡ last_day o = reads_ok before after c.last_day.result (λ p last. last ≡ last_day p) o c.in-Ok.last c.last_day.ensures.state told ok in
+    let last : c.in-Ok.last ≡ last_day o =
+    reads_ok before after c.last_day.result (λ p last. last ≡ last_day p) o c.in-Ok.last c.last_day.ensures.state
+    told ok in
     absurd (omega (arith, c.if-last-number.false, last, few))
 
 pub returns-then-last-number-clause-jobs : goal.returns-then-last-number-clause-jobs
 returns-then-last-number-clause-jobs g c = λ bytes left. none_started _ _ _ _ _ tt
 
-pub returns-in-Err-Failed-clause-jobs : goal.returns-in-Err-Failed-clause-jobs
-returns-in-Err-Failed-clause-jobs g c = λ bytes left. none_started _ _ _ _ _ tt
-
-pub returns-in-Err-NoMemory-clause-jobs : goal.returns-in-Err-NoMemory-clause-jobs
-returns-in-Err-NoMemory-clause-jobs g c = λ bytes left. none_started _ _ _ _ _ tt
+pub returns-in-Err-clause-jobs : goal.returns-in-Err-clause-jobs
+returns-in-Err-clause-jobs g c =
+    λ bytes left. refused_started _ _ _ _ c.in-Err.fault c.refused.result c.refused.ensures

@@ -1,7 +1,7 @@
 use Rattle.std.proofs.Common.{◌≡◌}
 use Rattle.import_once.specs.declared.outcomes.Outcome.TheVariants.{WriteFault}
 use Rattle.import_once.specs.Imports.{answers_answer}
-use Rattle.office_commands.proofs.OutcomeLaws.{wrote, keeps, caused, well}
+use Rattle.office_commands.proofs.OutcomeLaws.{wrote, keeps, by_sink}
 use Rattle.road_time.specs.Reads.{reads}
 use Rattle.office_commands.proofs.OutcomeLaws.{did}
 use Rattle.office_commands.proofs.RestLaws.{answered_to}
@@ -10,27 +10,33 @@ use Rattle.office_commands.proofs.answers.answers.Goals as goal
 pub returns-clause-wrote : goal.returns-clause-wrote
 returns-clause-wrote g c = λ right bytes o left told.
     let a = answers_answer c.args.run.day c.args.run.late c.args.limits.now bytes o in
-    wrote g.K.Keeper.refuses c.args.run.day a o (g.O.Sink.written c.args.sink.now) (g.O.Sink.written c.answers-done.new.sink) (g.K.Keeper.told c.answers-done.new.keeper) c.answers-done.result c.ended.result c.ended.ensures.ends (c.answers-done.ensures.does right bytes o left told)
+    wrote g.K.Keeper.refuses c.args.run.day a o (g.O.Sink.written c.args.sink.now)
+    (g.O.Sink.written c.answers-done.new.sink) (g.K.Keeper.told c.answers-done.new.keeper) c.answers-done.result
+    c.ended.result c.ended.ensures.ends (c.answers-done.ensures.does right bytes o left told)
 
 pub returns-clause-keeps : goal.returns-clause-keeps
 returns-clause-keeps g c = λ right bytes o left told.
     let a = answers_answer c.args.run.day c.args.run.late c.args.limits.now bytes o in
-    keeps g.K.Keeper.refuses c.args.run.day a o (g.O.Sink.written c.args.sink.now) (g.O.Sink.written c.answers-done.new.sink) (g.K.Keeper.told c.answers-done.new.keeper) c.answers-done.result c.ended.result c.ended.ensures.ends (c.answers-done.ensures.does right bytes o left told)
+    keeps g.K.Keeper.refuses c.args.run.day a o (g.O.Sink.written c.args.sink.now)
+    (g.O.Sink.written c.answers-done.new.sink) (g.K.Keeper.told c.answers-done.new.keeper) c.answers-done.result
+    c.ended.result c.ended.ensures.ends (c.answers-done.ensures.does right bytes o left told)
 
 pub returns-clause-sink : goal.returns-clause-sink
-returns-clause-sink g c = record {
-  caused = caused (c.answers-done.result ≡ WriteFault) c.ended.result _ _ c.ended.ensures.failed c.answers-done.ensures.sink.later c.answers-done.ensures.sink.cause;
-  sure = λ endless. (let sure = c.answers-done.ensures.sink.sure endless in (well (c.answers-done.result ≡ WriteFault) c.ended.result c.ended.ensures.failed sure.0, sure.1));
-}
+returns-clause-sink g c =
+    by_sink (c.answers-done.result ≡ WriteFault) c.ended.result _ _ _ _ c.ended.ensures.failed
+    c.answers-done.ensures.sink
 
 pub returns-clause-does : goal.returns-clause-does
 returns-clause-does g c = λ right bytes o left told.
     let a = answers_answer c.args.run.day c.args.run.late c.args.limits.now bytes o in
-    did g.K.Keeper.refuses c.args.run.day a o (g.O.Sink.written c.args.sink.now) (g.O.Sink.written c.answers-done.new.sink) (g.K.Keeper.told c.answers-done.new.keeper) c.answers-done.result c.ended.result c.ended.ensures.ends (c.answers-done.ensures.does right bytes o left told)
+    did g.K.Keeper.refuses c.args.run.day a o (g.O.Sink.written c.args.sink.now)
+    (g.O.Sink.written c.answers-done.new.sink) (g.K.Keeper.told c.answers-done.new.keeper) c.answers-done.result
+    c.ended.result c.ended.ensures.ends (c.answers-done.ensures.does right bytes o left told)
 
 pub returns-clause-reads : goal.returns-clause-reads
 returns-clause-reads g c = record {
   within = c.answers-done.ensures.bounded;
-  to = λ bytes left. answered_to (reads bytes c.args.limits.now c.args.run.late).refused bytes (g.S.Source.left c.answers-done.new.source) c.args.run.day c.answers-done.result c.ended.result
+  to = λ bytes left. answered_to (reads bytes c.args.limits.now c.args.run.late).refused bytes
+      (g.S.Source.left c.answers-done.new.source) c.args.run.day c.answers-done.result c.ended.result
       c.ended.ensures.ends c.answers-done.ensures.own (c.answers-done.ensures.leaves bytes left);
 }

@@ -25,7 +25,7 @@ loop-notice-init g c =
         few = omega arith;
       };
       later = omega arith;
-      sure = λ never. never;
+      still = λ never. never;
     }
 
 pub loop-notice-preserved : goal.loop-notice-preserved
@@ -37,17 +37,20 @@ loop-notice-preserved g c =
       line = omega (arith, inv.line);
       number = next.0 ∙ ap (λ n. n + 1) inv.number;
       none = next.1;
-      told = λ bytes told. goes_on c.args.wanted.now bytes c.loop-notice.notice-index c.loop-notice.line _ inv.line (search rules) _ _ (inv.told bytes told) (c.compare_one.ensures.same none);
+      told = λ bytes told. goes_on c.args.wanted.now bytes c.loop-notice.notice-index c.loop-notice.line _ inv.line
+          (search rules) _ _ (inv.told bytes told) (c.compare_one.ensures.same none);
       read = λ bytes told. c.compare_one.ensures.read c.loop-notice.notice-index bytes (inv.read bytes told);
-      later = omega (arith, inv.later, c.compare_one.ensures.later);
-      sure = λ never. (c.compare_one.ensures.sure (inv.sure never)).1;
+      later = omega (arith, inv.later, c.compare_one.ensures.aside.later);
+      still = λ never. c.compare_one.ensures.still (inv.still never);
     }
 
 pub returns-in-Ok-Some-clause-exact : goal.returns-in-Ok-Some-clause-exact
 returns-in-Ok-Some-clause-exact g c = λ bytes told.
     let inv = c.loop-notice.invariant in
     let some : c.compare_one.result ≡ Ok (Some c.in-Ok-Some.closing) = cc in
-    parts_at c.args.wanted.now bytes c.loop-notice.notice-index c.loop-notice.line _ inv.line (search rules) _ c.in-Ok-Some.closing (inv.told bytes told) (c.compare_one.ensures.other c.in-Ok-Some.closing some)
+    parts_at c.args.wanted.now bytes c.loop-notice.notice-index c.loop-notice.line _ inv.line
+    (search rules) _ c.in-Ok-Some.closing (inv.told bytes told)
+    (c.compare_one.ensures.other c.in-Ok-Some.closing some)
 
 pub returns-clause-exact : goal.returns-clause-exact
 returns-clause-exact g c = λ bytes told.
@@ -56,7 +59,8 @@ returns-clause-exact g c = λ bytes told.
     let inv = c.loop-notice.invariant in
     let at = inv.told bytes told in
     let whole : compared_from c.loop-notice.line [] (entered at.0) ≡ compared_from 1 wanted (entered bytes) =
-    ap (λ n. compared_from n [] (entered at.0)) inv.line ∙ sym (at.2 ∙ ap (λ ws. compared_from (i + 1) ws (entered at.0)) (drop_all i wanted (search rules))) in
+    ap (λ n. compared_from n [] (entered at.0)) inv.line
+    ∙ sym (at.2 ∙ ap (λ ws. compared_from (i + 1) ws (entered at.0)) (drop_all i wanted (search rules))) in
     IfOk-weaker c.compare_end.result _ _ (λ k h. h ∙ whole) (c.compare_end.ensures.exact at.0 at.1)
 
 -- what was read of an aside where the comparison ends at a notice
@@ -65,14 +69,16 @@ returns-in-Ok-Some-clause-bounded g c = λ bytes told.
     let i = c.loop-notice.notice-index in
     let read = c.compare_one.ensures.read i bytes (c.loop-notice.invariant.read bytes told) in
     let within : i < length c.args.wanted.now = search rules in
-    lines_within c.compare_one.new.cutter (g.A.Source.left c.compare_one.new.aside) bytes (i + 1) (most_compared (length c.args.wanted.now)) read (omega (arith, within))
+    lines_within c.compare_one.new.cutter (g.A.Source.left c.compare_one.new.aside) bytes (i + 1)
+    (most_compared (length c.args.wanted.now)) read (omega (arith, within))
 
 pub returns-in-Err-clause-bounded : goal.returns-in-Err-clause-bounded
 returns-in-Err-clause-bounded g c = λ bytes told.
     let i = c.loop-notice.notice-index in
     let read = c.compare_one.ensures.read i bytes (c.loop-notice.invariant.read bytes told) in
     let within : i < length c.args.wanted.now = search rules in
-    lines_within c.compare_one.new.cutter (g.A.Source.left c.compare_one.new.aside) bytes (i + 1) (most_compared (length c.args.wanted.now)) read (omega (arith, within))
+    lines_within c.compare_one.new.cutter (g.A.Source.left c.compare_one.new.aside) bytes (i + 1)
+    (most_compared (length c.args.wanted.now)) read (omega (arith, within))
 
 pub returns-clause-bounded : goal.returns-clause-bounded
 returns-clause-bounded g c = λ bytes told.

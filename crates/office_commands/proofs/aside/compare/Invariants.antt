@@ -10,8 +10,10 @@ invariant-loop-notice g l = record {
   line : l.line ≡ l.notice-index + 1;
   number : number_of l.cutter ≡ l.notice-index;
   none : fault_of l.cutter ≡ None;
-  told : (bytes : List ℕ) → g.A.Source.left l.initial.aside ≡ Some bytes → LeftBy l.notice-index l.wanted bytes (ahead l.cutter (g.A.Source.left l.aside));
-  read : (bytes : List ℕ) → g.A.Source.left l.initial.aside ≡ Some bytes → HasReadLines (ahead l.cutter (g.A.Source.left l.aside)) l.notice-index bytes;
+  told : (bytes : List ℕ) → g.A.Source.left l.initial.aside ≡ Some bytes →
+      LeftBy l.notice-index l.wanted bytes (ahead l.cutter (g.A.Source.left l.aside));
+  read : (bytes : List ℕ) → g.A.Source.left l.initial.aside ≡ Some bytes →
+      HasReadLines (ahead l.cutter (g.A.Source.left l.aside)) l.notice-index bytes;
   later : g.A.Source.faults l.initial.aside ≤ g.A.Source.faults l.aside;
-  sure : NeverFails (g.A.Source.plan l.initial.aside) → NeverFails (g.A.Source.plan l.aside);
+  still : NeverFails (g.A.Source.plan l.initial.aside) → NeverFails (g.A.Source.plan l.aside);
 }

@@ -24,7 +24,8 @@ returns-then-is_marked-clause-read g c = λ lines bytes s.
     let res : c.advance.result ≡ Ok true = cc in
     let cuts = subst (λ r. Cuts r before after (line_of new)) res (c.advance.ensures.cuts c.requires.whole) in
     let stands = subst (λ r. Stands r (number_of old) new) res (c.advance.ensures.stands c.requires.whole) in
-    line_read before after (line_of new) (rest_of new) bytes lines s cuts (c.advance.ensures.taken c.requires.whole res) stands.3
+    line_read before after (line_of new) (rest_of new) bytes lines s cuts (c.advance.ensures.taken c.requires.whole res)
+    stands.3
 
 pub returns-else-is_marked-clause-read : goal.returns-else-is_marked-clause-read
 returns-else-is_marked-clause-read g c = λ lines bytes s.
@@ -35,4 +36,5 @@ returns-else-is_marked-clause-read g c = λ lines bytes s.
     let res : c.advance.result ≡ Ok true = cc in
     let cuts = subst (λ r. Cuts r before after (line_of new)) res (c.advance.ensures.cuts c.requires.whole) in
     let stands = subst (λ r. Stands r (number_of old) new) res (c.advance.ensures.stands c.requires.whole) in
-    line_read before after (line_of new) (rest_of new) bytes lines s cuts (c.advance.ensures.taken c.requires.whole res) stands.3
+    line_read before after (line_of new) (rest_of new) bytes lines s cuts (c.advance.ensures.taken c.requires.whole res)
+    stands.3

@@ -10,7 +10,7 @@ use Rattle.office_commands.specs.Commands.{notices_of_day, comparison_of, unless
 use Rattle.office_commands.specs.Endings.{StandsBefore}
 use Rattle.office_commands.specs.Entries.{most_compared}
 use Rattle.office_commands.specs.Rests.{SaysBy}
-use Rattle.office_commands.proofs.EndingLaws.{refuses_empty}
+use Rattle.office_commands.proofs.ClosingLaws.{refuses_empty}
 use Rattle.office_commands.proofs.RestLaws.{refused_says}
 use Rattle.office_commands.proofs.comparing.compare_day.Goals as goal
 
@@ -25,7 +25,8 @@ returns-in-Ok-clause-exact g c = λ right lines o told kept rates.
     ∙ c.in-Ok.ensures.exact right o kept rates
     ∙ ap (λ ts. notices_of_day number ts o) c.as_slice.ensures.value in
     subst (λ (r : Option (ℕ × Cause)). StandsBefore (unless_refused r row) c.compare_notices.result []) (sym refused)
-    (subst (λ (ns : List Notice). StandsBefore (closed (compared ns (lines_of lines)) o) c.compare_notices.result []) known
+    (subst (λ (ns : List Notice). StandsBefore (closed (compared ns (lines_of lines)) o) c.compare_notices.result [])
+    known
     (c.compare_notices.ensures.exact lines o told))
 
 pub returns-in-Err-clause-exact : goal.returns-in-Err-clause-exact

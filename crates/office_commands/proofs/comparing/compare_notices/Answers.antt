@@ -4,7 +4,7 @@ use Rattle.office_commands.specs.declared.closing.Closing.{Closing}
 use Rattle.office_commands.specs.Asides.{compared}
 use Rattle.office_commands.specs.Commands.{closed}
 use Rattle.office_commands.specs.Endings.{StandsBefore}
-use Rattle.office_commands.proofs.EndingLaws.{stands_alone, stops_empty}
+use Rattle.office_commands.proofs.ClosingLaws.{stands_alone, stops_empty}
 use Rattle.std.proofs.Common.{◌∙◌}
 use Rattle.office_commands.specs.Closings.{status_of}
 use Rattle.office_commands.proofs.RestLaws.{compared_says, stopped_says}
@@ -12,7 +12,8 @@ use Rattle.office_commands.proofs.comparing.compare_notices.Goals as goal
 
 pub returns-in-Ok-clause-exact : goal.returns-in-Ok-clause-exact
 returns-in-Ok-clause-exact g c = λ lines o told.
-    stands_alone (closed (compared c.args.wanted.now (lines_of lines)) o) c.in-Ok.closing (ap Some (c.in-Ok.ensures.exact lines told)) refl
+    stands_alone (closed (compared c.args.wanted.now (lines_of lines)) o) c.in-Ok.closing
+    (ap Some (c.in-Ok.ensures.exact lines told)) refl
 
 pub returns-in-Err-clause-exact : goal.returns-in-Err-clause-exact
 returns-in-Err-clause-exact g c = λ lines o told.

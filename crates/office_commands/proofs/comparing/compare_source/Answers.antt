@@ -8,7 +8,7 @@ use Rattle.office_commands.specs.declared.closing.Closing.{Closing}
 use Rattle.office_commands.specs.Days.{recomputed}
 use Rattle.office_commands.specs.Commands.{compare_row, comparison_of, unless_refused}
 use Rattle.office_commands.specs.Endings.{StandsBefore}
-use Rattle.office_commands.proofs.EndingLaws.{refuses_empty, stops_empty}
+use Rattle.office_commands.proofs.ClosingLaws.{refuses_empty, stops_empty}
 use Rattle.day_reading.specs.Days.{ReadsWithin}
 use Rattle.office_commands.specs.Closings.{status_of}
 use Rattle.office_commands.specs.Rests.{HasReadTo}
@@ -32,28 +32,42 @@ pub returns-in-Ok-read_day-clause-exact : goal.returns-in-Ok-read_day-clause-exa
 returns-in-Ok-read_day-clause-exact g c = λ right bytes lines o told lying kept.
     let before = g.K.Keeper.told c.args.keeper.now in
     let after = g.K.Keeper.told c.tariffs.new.self in
-    let still : after ≡ Some o = reads_same before after c.tariffs.result (λ p kept. kept ≡ p.tariffs) c.tariffs.ensures.state ∙ kept in
+    let still : after ≡ Some o =
+    reads_same before after c.tariffs.result (λ p kept. kept ≡ p.tariffs) c.tariffs.ensures.state ∙ kept in
     let ok : c.tariffs.result ≡ Ok c.in-Ok.tariffs = cc in
-    let rates : c.in-Ok.tariffs ≡ o.tariffs = reads_ok before after c.tariffs.result (λ p kept. kept ≡ p.tariffs) o c.in-Ok.tariffs c.tariffs.ensures.state kept ok in
+    let rates : c.in-Ok.tariffs ≡ o.tariffs =
+    reads_ok before after c.tariffs.result (λ p kept. kept ≡ p.tariffs) o c.in-Ok.tariffs c.tariffs.ensures.state
+    kept ok in
     let read = reads bytes (recomputed c.args.asked.how c.args.limits.now) c.args.asked.late in
-    subst (λ (r : Option (ℕ × Cause)). StandsBefore (unless_refused r (comparison_of c.args.asked.day read.tuples (lines_of lines) o)) c.compare_day.result []) (c.in-Ok-read_day.ensures.refused bytes told)
-    (subst (λ (ts : List Tuple). StandsBefore (unless_refused c.in-Ok-read_day.read.refused (comparison_of c.args.asked.day ts (lines_of lines) o)) c.compare_day.result []) (c.in-Ok-read_day.ensures.tuples bytes told) (c.compare_day.ensures.exact right lines o lying still rates))
+    subst (λ (r : Option (ℕ × Cause)). StandsBefore
+    (unless_refused r (comparison_of c.args.asked.day read.tuples (lines_of lines) o)) c.compare_day.result [])
+    (c.in-Ok-read_day.ensures.refused bytes told)
+    (subst (λ (ts : List Tuple). StandsBefore
+    (unless_refused c.in-Ok-read_day.read.refused (comparison_of c.args.asked.day ts (lines_of lines) o))
+    c.compare_day.result []) (c.in-Ok-read_day.ensures.tuples bytes told)
+    (c.compare_day.ensures.exact right lines o lying still rates))
 
 pub returns-in-Ok-read_day-clause-aside_bounded : goal.returns-in-Ok-read_day-clause-aside_bounded
 returns-in-Ok-read_day-clause-aside_bounded g c = λ right bytes o told kept.
     let before = g.K.Keeper.told c.args.keeper.now in
     let after = g.K.Keeper.told c.tariffs.new.self in
-    let still : after ≡ Some o = reads_same before after c.tariffs.result (λ p kept. kept ≡ p.tariffs) c.tariffs.ensures.state ∙ kept in
+    let still : after ≡ Some o =
+    reads_same before after c.tariffs.result (λ p kept. kept ≡ p.tariffs) c.tariffs.ensures.state ∙ kept in
     let ok : c.tariffs.result ≡ Ok c.in-Ok.tariffs = cc in
-    let rates : c.in-Ok.tariffs ≡ o.tariffs = reads_ok before after c.tariffs.result (λ p kept. kept ≡ p.tariffs) o c.in-Ok.tariffs c.tariffs.ensures.state kept ok in
-    subst (λ (ts : List Tuple). ReadsWithin (most_noticed c.args.asked.day ts o) (g.A.Source.left c.args.aside.now) (g.A.Source.left c.compare_day.new.aside)) (c.in-Ok-read_day.ensures.tuples bytes told) (c.compare_day.ensures.bounded right o still rates)
+    let rates : c.in-Ok.tariffs ≡ o.tariffs =
+    reads_ok before after c.tariffs.result (λ p kept. kept ≡ p.tariffs) o c.in-Ok.tariffs c.tariffs.ensures.state
+    kept ok in
+    subst (λ (ts : List Tuple). ReadsWithin (most_noticed c.args.asked.day ts o) (g.A.Source.left c.args.aside.now)
+    (g.A.Source.left c.compare_day.new.aside)) (c.in-Ok-read_day.ensures.tuples bytes told)
+    (c.compare_day.ensures.bounded right o still rates)
 
 pub returns-in-Err-clause-reads : goal.returns-in-Err-clause-reads
 returns-in-Err-clause-reads g c = record {
   within = nothing_read (most_read (recomputed c.args.asked.how c.args.limits.now)) (g.S.Source.left c.args.source.now);
   to = λ bytes left.
       let refused = (reads bytes (recomputed c.args.asked.how c.args.limits.now) c.args.asked.late).refused in
-      subst (λ (k : Closing). HasReadTo refused (status_of k) bytes (g.S.Source.left c.args.source.now)) (sym c.refused.ensures) (to_refused refused bytes _ c.in-Err.fault);
+      subst (λ (k : Closing). HasReadTo refused (status_of k) bytes (g.S.Source.left c.args.source.now))
+      (sym c.refused.ensures) (to_refused refused bytes _ c.in-Err.fault);
 }
 
 pub returns-clause-reads : goal.returns-clause-reads
@@ -61,7 +75,8 @@ returns-clause-reads g c = record {
   within = c.read_day.ensures.bounded;
   to = λ bytes left.
       let refused = (reads bytes (recomputed c.args.asked.how c.args.limits.now) c.args.asked.late).refused in
-      subst (λ (k : Closing). HasReadTo refused (status_of k) bytes (g.S.Source.left c.read_day.new.source)) (sym c.stopped.ensures) (to_stopped refused bytes _ c.in-Err-read_day.stop);
+      subst (λ (k : Closing). HasReadTo refused (status_of k) bytes (g.S.Source.left c.read_day.new.source))
+      (sym c.stopped.ensures) (to_stopped refused bytes _ c.in-Err-read_day.stop);
 }
 
 pub returns-in-Ok-read_day-clause-reads : goal.returns-in-Ok-read_day-clause-reads
@@ -69,7 +84,8 @@ returns-in-Ok-read_day-clause-reads g c = record {
   within = c.read_day.ensures.bounded;
   to = λ bytes left.
       let refused = (reads bytes (recomputed c.args.asked.how c.args.limits.now) c.args.asked.late).refused in
-      to_by refused bytes (g.S.Source.left c.read_day.new.source) c.in-Ok-read_day.read.refused (status_of c.compare_day.result) (c.in-Ok-read_day.ensures.ends bytes left) c.compare_day.ensures.says;
+      to_by refused bytes (g.S.Source.left c.read_day.new.source) c.in-Ok-read_day.read.refused
+      (status_of c.compare_day.result) (c.in-Ok-read_day.ensures.ends bytes left) c.compare_day.ensures.says;
 }
 
 pub returns-in-Err-clause-refused_first : goal.returns-in-Err-clause-refused_first
@@ -79,9 +95,13 @@ pub returns-clause-refused_first : goal.returns-clause-refused_first
 returns-clause-refused_first g c = λ s. refl
 
 pub returns-in-Ok-read_day-clause-refused_first : goal.returns-in-Ok-read_day-clause-refused_first
-returns-in-Ok-read_day-clause-refused_first g c = λ s. c.compare_day.ensures.source_first (says_refused c.in-Ok-read_day.read.refused (status_of c.compare_day.result) c.compare_day.ensures.says s)
+returns-in-Ok-read_day-clause-refused_first g c =
+    λ s. c.compare_day.ensures.source_first
+    (says_refused c.in-Ok-read_day.read.refused (status_of c.compare_day.result) c.compare_day.ensures.says s)
 
 pub returns-in-Ok-read_day-clause-source_first : goal.returns-in-Ok-read_day-clause-source_first
 returns-in-Ok-read_day-clause-source_first g c = λ bytes left more.
     let refused = (reads bytes (recomputed c.args.asked.how c.args.limits.now) c.args.asked.late).refused in
-    c.compare_day.ensures.source_first (ends_there refused bytes (g.S.Source.left c.read_day.new.source) c.in-Ok-read_day.read.refused (c.in-Ok-read_day.ensures.ends bytes left) more)
+    c.compare_day.ensures.source_first
+    (ends_there refused bytes (g.S.Source.left c.read_day.new.source) c.in-Ok-read_day.read.refused
+    (c.in-Ok-read_day.ensures.ends bytes left) more)

@@ -6,9 +6,12 @@ use Rattle.office_commands.specs.Commands.{office_answer}
 use Rattle.office_commands.specs.Uses.{asked, changes_kept}
 use Rattle.office_commands.specs.Endings.{Wrote, Keeps, Did, Holds, code_of}
 use Rattle.office_commands.specs.Rests.{ReadsAsked, LeavesAsKept}
-use Rattle.office_commands.proofs.EndingLaws.{is_unread, is_unkept, exact, all_written, read_fault, keeper_fault, no_memory, write_fault, kept_whole, kept_exact, kept_refused}
+use Rattle.office_commands.proofs.EndingLaws.{exact, all_written, read_fault, keeper_fault}
+use Rattle.office_commands.proofs.ClosingLaws.{is_unread, is_unkept}
+use Rattle.office_commands.proofs.EndingLaws.{no_memory, write_fault}
+use Rattle.office_commands.proofs.KeepingLaws.{kept_whole, kept_exact, kept_refused}
 use Rattle.office_commands.proofs.ConcludeLaws.{concluded, concluded_alone, concluded_less}
-use Rattle.office_commands.proofs.RestLaws.{read_status, rest_status, holds_status, unread_same}
+use Rattle.office_commands.proofs.StatusLaws.{read_status, rest_status, holds_status, unread_same}
 use Rattle.office_commands.proofs.entry.office.Goals as goal
 
 pub returns-in-Ok-Some-clause-written : goal.returns-in-Ok-Some-clause-written
@@ -17,11 +20,14 @@ returns-in-Ok-Some-clause-written g c = λ bytes lines o told.
     let old = g.O.Sink.written c.args.sink.now in
     let mid = g.O.Sink.written c.run.new.sink in
     let res : c.run.result ≡ Ok (Some c.in-Ok-Some.closing) = cc in
-    let wrote = subst (λ (r : Result (Option Closing) Failed). Wrote a r old mid) res (c.run.ensures.wrote bytes lines o told) in
+    let wrote =
+    subst (λ (r : Result (Option Closing) Failed). Wrote a r old mid) res
+    (c.run.ensures.wrote bytes lines o told) in
     let closing = c.in-Ok-Some.closing in
     let closes = c.close.ensures.closes in
     record {
-      exact = λ no_read no_write no_keeper no_room. exact a old mid _ _ closing wrote closes no_read no_write no_keeper no_room;
+      exact = λ no_read no_write no_keeper no_room. exact a old mid _ _ closing wrote closes no_read no_write no_keeper
+          no_room;
       read_fault = λ is. read_fault a old mid _ _ closing wrote closes is;
       write_fault = λ is. write_fault a old mid _ _ closing wrote closes is;
       keeper_fault = λ is. keeper_fault a old mid _ _ closing wrote closes is;
@@ -34,7 +40,9 @@ returns-in-Ok-None-clause-written g c = λ bytes lines o told.
     let old = g.O.Sink.written c.args.sink.now in
     let mid = g.O.Sink.written c.run.new.sink in
     let res : c.run.result ≡ Ok None = cc in
-    let wrote = subst (λ (r : Result (Option Closing) Failed). Wrote a r old mid) res (c.run.ensures.wrote bytes lines o told) in
+    let wrote =
+    subst (λ (r : Result (Option Closing) Failed). Wrote a r old mid) res
+    (c.run.ensures.wrote bytes lines o told) in
     record {
       exact = λ no_read no_write no_keeper no_room. all_written a old mid wrote.0 wrote.1;
       read_fault = λ is. absurd (omega (arith, is));
@@ -49,7 +57,9 @@ returns-in-Err-clause-written g c = λ bytes lines o told.
     let old = g.O.Sink.written c.args.sink.now in
     let mid = g.O.Sink.written c.run.new.sink in
     let res = c.in-Err.is in
-    let wrote = subst (λ (r : Result (Option Closing) Failed). Wrote a r old mid) res (c.run.ensures.wrote bytes lines o told) in
+    let wrote =
+    subst (λ (r : Result (Option Closing) Failed). Wrote a r old mid) res
+    (c.run.ensures.wrote bytes lines o told) in
     record {
       exact = λ no_read no_write no_keeper no_room. absurd (no_write refl);
       read_fault = λ is. absurd (omega (arith, is));
@@ -69,7 +79,8 @@ returns-in-Ok-Some-clause-keeps g c = λ bytes lines o right told kept.
     let closing = c.in-Ok-Some.closing in
     let closes = c.close.ensures.closes in
     record {
-      exact = λ no_read no_write no_keeper no_room. kept_exact w a o now (g.O.Sink.written c.run.new.sink) _ _ closing named closes no_read no_write no_keeper no_room;
+      exact = λ no_read no_write no_keeper no_room. kept_exact w a o now (g.O.Sink.written c.run.new.sink) _ _ closing
+          named closes no_read no_write no_keeper no_room;
       refused = λ is. kept_refused w a o now (g.O.Sink.written c.run.new.sink) _ _ closing named closes is;
       whole = kept_whole w a o now c.run.result keeps;
     }
@@ -82,7 +93,8 @@ returns-in-Ok-None-clause-keeps g c = λ bytes lines o right told kept.
     let keeps = c.run.ensures.keeps bytes lines o right told kept in
     let res : c.run.result ≡ Ok None = cc in
     record {
-      exact = λ no_read no_write no_keeper no_room. subst (λ (r : Result (Option Closing) Failed). Keeps w a o now r) res keeps;
+      exact = λ no_read no_write no_keeper no_room. subst (λ (r : Result (Option Closing) Failed). Keeps w a o now r)
+          res keeps;
       refused = λ is. absurd (omega (arith, is));
       whole = kept_whole w a o now c.run.result keeps;
     }
@@ -103,7 +115,8 @@ pub returns-in-Ok-Some-clause-keeps_unread : goal.returns-in-Ok-Some-clause-keep
 returns-in-Ok-Some-clause-keeps_unread g c = λ o kept is.
     let res : c.run.result ≡ Ok (Some c.in-Ok-Some.closing) = cc in
     let status = c.close.ensures.status (λ e. omega (arith, is, e)) (λ e. omega (arith, is, e)) in
-    unread_same (changes_kept (asked c.args.words.now)) (code_of c.run.result) (g.K.Keeper.told c.run.new.keeper ≡ Some o) (c.run.ensures.held o kept)
+    unread_same (changes_kept (asked c.args.words.now)) (code_of c.run.result)
+    (g.K.Keeper.told c.run.new.keeper ≡ Some o) (c.run.ensures.held o kept)
     (c.run.ensures.unchanged o kept) (ap code_of res ∙ sym status ∙ is)
 
 pub returns-in-Ok-Some-clause-concludes : goal.returns-in-Ok-Some-clause-concludes
@@ -114,7 +127,9 @@ returns-in-Ok-Some-clause-concludes g c = λ bytes lines o told kept.
     let mid = g.O.Sink.written c.run.new.sink in
     let now = g.K.Keeper.told c.run.new.keeper in
     let res : c.run.result ≡ Ok (Some c.in-Ok-Some.closing) = cc in
-    let done = subst (λ (r : Result (Option Closing) Failed). Did w a o old mid now r) res (c.run.ensures.does bytes lines o told kept) in
+    let done =
+    subst (λ (r : Result (Option Closing) Failed). Did w a o old mid now r) res
+    (c.run.ensures.does bytes lines o told kept) in
     concluded w a o old mid now _ _ c.in-Ok-Some.closing done c.close.ensures.closes
 
 pub returns-in-Ok-None-clause-concludes : goal.returns-in-Ok-None-clause-concludes
@@ -125,7 +140,9 @@ returns-in-Ok-None-clause-concludes g c = λ bytes lines o told kept.
     let mid = g.O.Sink.written c.run.new.sink in
     let now = g.K.Keeper.told c.run.new.keeper in
     let res : c.run.result ≡ Ok None = cc in
-    let done = subst (λ (r : Result (Option Closing) Failed). Did w a o old mid now r) res (c.run.ensures.does bytes lines o told kept) in
+    let done =
+    subst (λ (r : Result (Option Closing) Failed). Did w a o old mid now r) res
+    (c.run.ensures.does bytes lines o told kept) in
     concluded_alone w a o old mid now done
 
 pub returns-in-Err-clause-concludes : goal.returns-in-Err-clause-concludes
@@ -136,48 +153,62 @@ returns-in-Err-clause-concludes g c = λ bytes lines o told kept.
     let mid = g.O.Sink.written c.run.new.sink in
     let now = g.K.Keeper.told c.run.new.keeper in
     let res = c.in-Err.is in
-    let done = subst (λ (r : Result (Option Closing) Failed). Did w a o old mid now r) res (c.run.ensures.does bytes lines o told kept) in
+    let done =
+    subst (λ (r : Result (Option Closing) Failed). Did w a o old mid now r) res
+    (c.run.ensures.does bytes lines o told kept) in
     concluded_less w a o old mid now _ done
 
 pub returns-in-Ok-Some-clause-reads : goal.returns-in-Ok-Some-clause-reads
 returns-in-Ok-Some-clause-reads g c = λ used.
     let res : c.run.result ≡ Ok (Some c.in-Ok-Some.closing) = cc in
-    read_status c.args.limits.now (asked c.args.words.now) c.close.result (code_of c.run.result) (g.S.Source.left c.args.source.now) (g.S.Source.left c.run.new.source) (λ unbroken room. c.close.ensures.status unbroken room ∙ sym (ap code_of res)) (c.run.ensures.reads used)
+    read_status c.args.limits.now (asked c.args.words.now) c.close.result (code_of c.run.result)
+    (g.S.Source.left c.args.source.now) (g.S.Source.left c.run.new.source)
+    (λ unbroken room. c.close.ensures.status unbroken room ∙ sym (ap code_of res)) (c.run.ensures.reads used)
 
 pub returns-in-Ok-None-clause-reads : goal.returns-in-Ok-None-clause-reads
 returns-in-Ok-None-clause-reads g c = λ used.
     let res : c.run.result ≡ Ok None = cc in
-    subst (λ (code : ℕ). ReadsAsked c.args.limits.now (asked c.args.words.now) code (g.S.Source.left c.args.source.now) (g.S.Source.left c.run.new.source)) (ap code_of res) (c.run.ensures.reads used)
+    subst (λ (code : ℕ). ReadsAsked c.args.limits.now (asked c.args.words.now) code (g.S.Source.left c.args.source.now)
+    (g.S.Source.left c.run.new.source)) (ap code_of res) (c.run.ensures.reads used)
 
 pub returns-in-Err-clause-reads : goal.returns-in-Err-clause-reads
 returns-in-Err-clause-reads g c = λ used.
     let res = c.in-Err.is in
-    subst (λ (code : ℕ). ReadsAsked c.args.limits.now (asked c.args.words.now) code (g.S.Source.left c.args.source.now) (g.S.Source.left c.run.new.source)) (ap code_of res) (c.run.ensures.reads used)
+    subst (λ (code : ℕ). ReadsAsked c.args.limits.now (asked c.args.words.now) code (g.S.Source.left c.args.source.now)
+    (g.S.Source.left c.run.new.source)) (ap code_of res) (c.run.ensures.reads used)
 
 pub returns-in-Ok-Some-clause-rest : goal.returns-in-Ok-Some-clause-rest
 returns-in-Ok-Some-clause-rest g c = λ bytes o changes told kept.
     let res : c.run.result ≡ Ok (Some c.in-Ok-Some.closing) = cc in
-    rest_status c.args.limits.now (asked c.args.words.now) c.close.result (code_of c.run.result) o bytes (g.S.Source.left c.run.new.source) (λ unbroken room. c.close.ensures.status unbroken room ∙ sym (ap code_of res)) (c.run.ensures.rest bytes o changes told kept)
+    rest_status c.args.limits.now (asked c.args.words.now) c.close.result (code_of c.run.result) o bytes
+    (g.S.Source.left c.run.new.source)
+    (λ unbroken room. c.close.ensures.status unbroken room ∙ sym (ap code_of res))
+    (c.run.ensures.rest bytes o changes told kept)
 
 pub returns-in-Ok-None-clause-rest : goal.returns-in-Ok-None-clause-rest
 returns-in-Ok-None-clause-rest g c = λ bytes o changes told kept.
     let res : c.run.result ≡ Ok None = cc in
-    subst (λ (code : ℕ). LeavesAsKept c.args.limits.now (asked c.args.words.now) code o bytes (g.S.Source.left c.run.new.source)) (ap code_of res) (c.run.ensures.rest bytes o changes told kept)
+    subst (λ (code : ℕ). LeavesAsKept c.args.limits.now (asked c.args.words.now) code o bytes
+    (g.S.Source.left c.run.new.source)) (ap code_of res) (c.run.ensures.rest bytes o changes told kept)
 
 pub returns-in-Err-clause-rest : goal.returns-in-Err-clause-rest
 returns-in-Err-clause-rest g c = λ bytes o changes told kept.
     let res = c.in-Err.is in
-    subst (λ (code : ℕ). LeavesAsKept c.args.limits.now (asked c.args.words.now) code o bytes (g.S.Source.left c.run.new.source)) (ap code_of res) (c.run.ensures.rest bytes o changes told kept)
+    subst (λ (code : ℕ). LeavesAsKept c.args.limits.now (asked c.args.words.now) code o bytes
+    (g.S.Source.left c.run.new.source)) (ap code_of res) (c.run.ensures.rest bytes o changes told kept)
 
 pub returns-in-Ok-Some-clause-held : goal.returns-in-Ok-Some-clause-held
 returns-in-Ok-Some-clause-held g c = λ o kept changes unbroken.
     let res : c.run.result ≡ Ok (Some c.in-Ok-Some.closing) = cc in
-    holds_status c.close.result (code_of c.run.result) (g.K.Keeper.told c.run.new.keeper ≡ Some o) (λ unbroken room. c.close.ensures.status unbroken room ∙ sym (ap code_of res)) unbroken (c.run.ensures.held o kept changes)
+    holds_status c.close.result (code_of c.run.result) (g.K.Keeper.told c.run.new.keeper ≡ Some o)
+    (λ unbroken room. c.close.ensures.status unbroken room ∙ sym (ap code_of res)) unbroken
+    (c.run.ensures.held o kept changes)
 
 pub returns-in-Ok-None-clause-held : goal.returns-in-Ok-None-clause-held
 returns-in-Ok-None-clause-held g c = λ o kept changes unbroken.
     let res : c.run.result ≡ Ok None = cc in
-    subst (λ (code : ℕ). Holds code (g.K.Keeper.told c.run.new.keeper ≡ Some o)) (ap code_of res) (c.run.ensures.held o kept changes)
+    subst (λ (code : ℕ). Holds code (g.K.Keeper.told c.run.new.keeper ≡ Some o)) (ap code_of res)
+    (c.run.ensures.held o kept changes)
 
 pub returns-in-Err-clause-held : goal.returns-in-Err-clause-held
 returns-in-Err-clause-held g c = λ o kept changes unbroken. absurd (unbroken refl)
@@ -185,7 +216,8 @@ returns-in-Err-clause-held g c = λ o kept changes unbroken. absurd (unbroken re
 pub returns-in-Ok-Some-clause-refused_first : goal.returns-in-Ok-Some-clause-refused_first
 returns-in-Ok-Some-clause-refused_first g c = λ s.
     let res : c.run.result ≡ Ok (Some c.in-Ok-Some.closing) = cc in
-    c.run.ensures.refused_first (ap code_of res ∙ sym (c.close.ensures.status (λ e. omega (arith, s, e)) (λ e. omega (arith, s, e))) ∙ s)
+    c.run.ensures.refused_first
+    (ap code_of res ∙ sym (c.close.ensures.status (λ e. omega (arith, s, e)) (λ e. omega (arith, s, e))) ∙ s)
 
 pub returns-in-Ok-Some-clause-read : goal.returns-in-Ok-Some-clause-read
 returns-in-Ok-Some-clause-read g c =

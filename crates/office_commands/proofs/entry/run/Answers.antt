@@ -5,30 +5,42 @@ use Rattle.day_reading.specs.Days.{ReadsWithin}
 use Rattle.office_words.specs.declared.command.Command.{Command}
 use Rattle.office_words.specs.declared.command.WordFault.TheVariants as faults
 use Rattle.office_commands.specs.Commands.{office_answer}
-use Rattle.office_commands.specs.Uses.{asked, IsTold, uses_source, uses_aside, uses_keeper, uses_crew, changes_kept, AsksPassed, PutsAsked, most_of, most_aside_of}
+use Rattle.office_commands.specs.Uses.{asked, IsTold, uses_source, uses_aside, uses_keeper, uses_crew, changes_kept}
+use Rattle.office_commands.specs.Uses.{AsksPassed, PutsAsked, most_of, most_aside_of}
 use Rattle.office_commands.specs.Endings.{Wrote, Keeps, Did, code_of}
 use Rattle.office_commands.specs.Rests.{ReadsAsked, LeavesAsKept}
-use Rattle.office_commands.proofs.EndingLaws.{meant, meant_none}
+use Rattle.office_commands.proofs.WordLaws.{meant, meant_none}
 use Rattle.office_commands.proofs.PutLaws.{puts_same}
-use Rattle.office_commands.proofs.RestLaws.{read_other, rest_other}
+use Rattle.office_commands.proofs.StatusLaws.{read_other, rest_other}
 use Rattle.office_commands.proofs.entry.run.Goals as goal
 
 pub returns-in-Ok-clause-wrote : goal.returns-in-Ok-clause-wrote
 returns-in-Ok-clause-wrote g c = λ bytes lines o told.
     let is = meant _ c.in-Ok.command c.read_words.result c.read_words.ensures.reads c.in-Ok.is in
-    let t = subst (λ (m : Option Command). IsTold m g.C.Crew.exact (g.S.Source.left c.args.source.now) (g.A.Source.left c.args.aside.now) (g.K.Keeper.told c.args.keeper.now) bytes lines o) is told in
-    subst (λ (m : Option Command). Wrote (office_answer c.args.limits.now bytes lines o m) c.perform.result (g.O.Sink.written c.args.sink.now) (g.O.Sink.written c.perform.new.sink)) (sym is) (c.perform.ensures.wrote bytes lines o t)
+    let t = subst
+    (λ (m : Option Command). IsTold m g.C.Crew.exact (g.S.Source.left c.args.source.now)
+    (g.A.Source.left c.args.aside.now) (g.K.Keeper.told c.args.keeper.now) bytes lines o) is told in
+    subst (λ (m : Option Command). Wrote (office_answer c.args.limits.now bytes lines o m) c.perform.result
+    (g.O.Sink.written c.args.sink.now) (g.O.Sink.written c.perform.new.sink)) (sym is)
+    (c.perform.ensures.wrote bytes lines o t)
 
 pub returns-in-Ok-clause-keeps : goal.returns-in-Ok-clause-keeps
 returns-in-Ok-clause-keeps g c = λ bytes lines o right told kept.
     let is = meant _ c.in-Ok.command c.read_words.result c.read_words.ensures.reads c.in-Ok.is in
-    subst (λ (m : Option Command). Keeps g.K.Keeper.refuses (office_answer c.args.limits.now bytes lines o m) o (g.K.Keeper.told c.perform.new.keeper) c.perform.result) (sym is) (c.perform.ensures.keeps bytes lines o (λ used. right (ap uses_crew is ∙ used)) (λ used. told (ap uses_source is ∙ used)) kept)
+    subst (λ (m : Option Command). Keeps g.K.Keeper.refuses (office_answer c.args.limits.now bytes lines o m) o
+    (g.K.Keeper.told c.perform.new.keeper) c.perform.result) (sym is)
+    (c.perform.ensures.keeps bytes lines o (λ used. right (ap uses_crew is ∙ used))
+    (λ used. told (ap uses_source is ∙ used)) kept)
 
 pub returns-in-Ok-clause-does : goal.returns-in-Ok-clause-does
 returns-in-Ok-clause-does g c = λ bytes lines o told kept.
     let is = meant _ c.in-Ok.command c.read_words.result c.read_words.ensures.reads c.in-Ok.is in
-    let t = subst (λ (m : Option Command). IsTold m g.C.Crew.exact (g.S.Source.left c.args.source.now) (g.A.Source.left c.args.aside.now) (g.K.Keeper.told c.args.keeper.now) bytes lines o) is told in
-    subst (λ (m : Option Command). Did g.K.Keeper.refuses (office_answer c.args.limits.now bytes lines o m) o (g.O.Sink.written c.args.sink.now) (g.O.Sink.written c.perform.new.sink) (g.K.Keeper.told c.perform.new.keeper) c.perform.result) (sym is) (c.perform.ensures.does bytes lines o t kept)
+    let t = subst
+    (λ (m : Option Command). IsTold m g.C.Crew.exact (g.S.Source.left c.args.source.now)
+    (g.A.Source.left c.args.aside.now) (g.K.Keeper.told c.args.keeper.now) bytes lines o) is told in
+    subst (λ (m : Option Command). Did g.K.Keeper.refuses (office_answer c.args.limits.now bytes lines o m) o
+    (g.O.Sink.written c.args.sink.now) (g.O.Sink.written c.perform.new.sink) (g.K.Keeper.told c.perform.new.keeper)
+    c.perform.result) (sym is) (c.perform.ensures.does bytes lines o t kept)
 
 pub returns-in-Ok-clause-words : goal.returns-in-Ok-clause-words
 returns-in-Ok-clause-words g c = λ ok some.
@@ -63,7 +75,8 @@ returns-in-Ok-clause-passed g c = λ o kept passed.
 pub returns-in-Ok-clause-puts : goal.returns-in-Ok-clause-puts
 returns-in-Ok-clause-puts g c = λ o kept.
     let is = meant _ c.in-Ok.command c.read_words.result c.read_words.ensures.reads c.in-Ok.is in
-    subst (λ (m : Option Command). PutsAsked m o (g.K.Keeper.told c.perform.new.keeper)) (sym is) (c.perform.ensures.puts o kept)
+    subst (λ (m : Option Command). PutsAsked m o (g.K.Keeper.told c.perform.new.keeper)) (sym is)
+    (c.perform.ensures.puts o kept)
 
 pub returns-in-Ok-clause-unchanged : goal.returns-in-Ok-clause-unchanged
 returns-in-Ok-clause-unchanged g c = λ o kept still.
@@ -78,23 +91,33 @@ returns-in-Ok-clause-held g c = λ o kept changes.
 pub returns-in-Ok-clause-reads : goal.returns-in-Ok-clause-reads
 returns-in-Ok-clause-reads g c = λ used.
     let is = meant _ c.in-Ok.command c.read_words.result c.read_words.ensures.reads c.in-Ok.is in
-    subst (λ (m : Option Command). ReadsAsked c.args.limits.now m (code_of c.perform.result) (g.S.Source.left c.args.source.now) (g.S.Source.left c.perform.new.source)) (sym is) (c.perform.ensures.reads (sym (ap uses_source is) ∙ used))
+    subst (λ (m : Option Command). ReadsAsked c.args.limits.now m (code_of c.perform.result)
+    (g.S.Source.left c.args.source.now) (g.S.Source.left c.perform.new.source)) (sym is)
+    (c.perform.ensures.reads (sym (ap uses_source is) ∙ used))
 
 pub returns-in-Ok-clause-rest : goal.returns-in-Ok-clause-rest
 returns-in-Ok-clause-rest g c = λ bytes o changes told kept.
     let is = meant _ c.in-Ok.command c.read_words.result c.read_words.ensures.reads c.in-Ok.is in
-    subst (λ (m : Option Command). LeavesAsKept c.args.limits.now m (code_of c.perform.result) o bytes (g.S.Source.left c.perform.new.source)) (sym is) (c.perform.ensures.rest bytes o (sym (ap changes_kept is) ∙ changes) (λ used. told (ap uses_source is ∙ used)) kept)
+    subst (λ (m : Option Command). LeavesAsKept c.args.limits.now m (code_of c.perform.result) o bytes
+    (g.S.Source.left c.perform.new.source)) (sym is)
+    (c.perform.ensures.rest bytes o (sym (ap changes_kept is) ∙ changes) (λ used. told (ap uses_source is ∙ used))
+    kept)
 
 pub returns-in-Ok-clause-bounded : goal.returns-in-Ok-clause-bounded
 returns-in-Ok-clause-bounded g c = λ o kept.
     let is = meant _ c.in-Ok.command c.read_words.result c.read_words.ensures.reads c.in-Ok.is in
-    subst (λ (m : Option Command). ReadsWithin (most_of c.args.limits.now o m) (g.S.Source.left c.args.source.now) (g.S.Source.left c.perform.new.source)) (sym is) (c.perform.ensures.bounded o (λ used. kept (ap uses_keeper is ∙ used)))
+    subst (λ (m : Option Command). ReadsWithin (most_of c.args.limits.now o m) (g.S.Source.left c.args.source.now)
+    (g.S.Source.left c.perform.new.source)) (sym is)
+    (c.perform.ensures.bounded o (λ used. kept (ap uses_keeper is ∙ used)))
 
 pub returns-in-Ok-clause-aside_bounded : goal.returns-in-Ok-clause-aside_bounded
 returns-in-Ok-clause-aside_bounded g c = λ bytes o right told kept.
     let is = meant _ c.in-Ok.command c.read_words.result c.read_words.ensures.reads c.in-Ok.is in
-    subst (λ (m : Option Command). ReadsWithin (most_aside_of c.args.limits.now bytes o m) (g.A.Source.left c.args.aside.now) (g.A.Source.left c.perform.new.aside)) (sym is)
-    (c.perform.ensures.aside_bounded bytes o (λ compared used. right (ap uses_aside is ∙ compared) (ap uses_crew is ∙ used)) (λ used. told (ap uses_source is ∙ used)) (λ used. kept (ap uses_keeper is ∙ used)))
+    subst (λ (m : Option Command). ReadsWithin (most_aside_of c.args.limits.now bytes o m)
+    (g.A.Source.left c.args.aside.now) (g.A.Source.left c.perform.new.aside)) (sym is)
+    (c.perform.ensures.aside_bounded bytes o
+    (λ compared used. right (ap uses_aside is ∙ compared) (ap uses_crew is ∙ used))
+    (λ used. told (ap uses_source is ∙ used)) (λ used. kept (ap uses_keeper is ∙ used)))
 
 pub returns-in-Ok-clause-read : goal.returns-in-Ok-clause-read
 returns-in-Ok-clause-read g c =
@@ -104,14 +127,22 @@ returns-in-Ok-clause-read g c =
       later = f.later;
       aside_later = f.aside_later;
       cause = f.cause;
-      sure = λ source aside. f.sure (λ used. source (ap uses_source is ∙ used)) (λ used. aside (ap uses_aside is ∙ used));
+      sure = λ source aside. f.sure (λ used. source (ap uses_source is ∙ used))
+          (λ used. aside (ap uses_aside is ∙ used));
     }
 
 pub returns-in-Err-Words-clause-wrote : goal.returns-in-Err-Words-clause-wrote
 returns-in-Err-Words-clause-wrote g c = λ bytes lines o told.
     let said : c.read_words.result ≡ Err faults.Words = cc in
-    let none = meant_none _ c.read_words.result c.read_words.ensures.reads said in
-    ([], (sym (ap (λ m. (office_answer c.args.limits.now bytes lines o m).closing) none), sym (ap (λ m. (office_answer c.args.limits.now bytes lines o m).text) none)), appends_none _)
+    let none = meant_none _ c.read_words.result c.read_words.ensures.reads said in (
+      [],
+      (
+        sym (ap (λ m. (office_answer c.args.limits.now bytes lines o m).closing) none),
+        sym
+            (ap (λ m. (office_answer c.args.limits.now bytes lines o m).text) none),
+      ),
+      appends_none _,
+    )
 
 pub returns-in-Err-Words-clause-keeps : goal.returns-in-Err-Words-clause-keeps
 returns-in-Err-Words-clause-keeps g c = λ bytes lines o right told kept.
@@ -122,8 +153,17 @@ returns-in-Err-Words-clause-keeps g c = λ bytes lines o right told kept.
 pub returns-in-Err-Words-clause-does : goal.returns-in-Err-Words-clause-does
 returns-in-Err-Words-clause-does g c = λ bytes lines o told kept.
     let said : c.read_words.result ≡ Err faults.Words = cc in
-    let none = meant_none _ c.read_words.result c.read_words.ensures.reads said in
-    ([], (sym (ap (λ m. (office_answer c.args.limits.now bytes lines o m).closing) none), sym (ap (λ m. (office_answer c.args.limits.now bytes lines o m).text) none), kept ∙ sym (ap (λ m. Some (office_answer c.args.limits.now bytes lines o m).office) none)), appends_none _)
+    let none = meant_none _ c.read_words.result c.read_words.ensures.reads said in (
+      [],
+      (
+        sym (ap (λ m. (office_answer c.args.limits.now bytes lines o m).closing) none),
+        sym
+            (ap (λ m. (office_answer c.args.limits.now bytes lines o m).text) none),
+        kept
+            ∙ sym (ap (λ m. Some (office_answer c.args.limits.now bytes lines o m).office) none),
+      ),
+      appends_none _,
+    )
 
 pub returns-in-Err-Words-clause-words : goal.returns-in-Err-Words-clause-words
 returns-in-Err-Words-clause-words g c = λ ok some.
@@ -141,11 +181,13 @@ returns-in-Err-Words-clause-puts g c = λ o kept.
 
 pub returns-in-Err-Words-clause-reads : goal.returns-in-Err-Words-clause-reads
 returns-in-Err-Words-clause-reads g c = λ used.
-    read_other c.args.limits.now (asked c.args.words.now) 1 (g.S.Source.left c.args.source.now) (λ s. omega (arith, s)) (λ s. omega (arith, s)) (λ s. omega (arith, s))
+    read_other c.args.limits.now (asked c.args.words.now) 1 (g.S.Source.left c.args.source.now) (λ s. omega (arith, s))
+    (λ s. omega (arith, s)) (λ s. omega (arith, s))
 
 pub returns-in-Err-Words-clause-rest : goal.returns-in-Err-Words-clause-rest
 returns-in-Err-Words-clause-rest g c = λ bytes o changes told kept.
-    rest_other c.args.limits.now (asked c.args.words.now) 1 o bytes (g.S.Source.left c.args.source.now) (λ s. omega (arith, s)) (λ s. omega (arith, s))
+    rest_other c.args.limits.now (asked c.args.words.now) 1 o bytes (g.S.Source.left c.args.source.now)
+    (λ s. omega (arith, s)) (λ s. omega (arith, s))
 
 pub returns-in-Err-NoMemory-clause-puts : goal.returns-in-Err-NoMemory-clause-puts
 returns-in-Err-NoMemory-clause-puts g c = λ o kept.
@@ -153,8 +195,10 @@ returns-in-Err-NoMemory-clause-puts g c = λ o kept.
 
 pub returns-in-Err-NoMemory-clause-reads : goal.returns-in-Err-NoMemory-clause-reads
 returns-in-Err-NoMemory-clause-reads g c = λ used.
-    read_other c.args.limits.now (asked c.args.words.now) 8 (g.S.Source.left c.args.source.now) (λ s. omega (arith, s)) (λ s. omega (arith, s)) (λ s. omega (arith, s))
+    read_other c.args.limits.now (asked c.args.words.now) 8 (g.S.Source.left c.args.source.now) (λ s. omega (arith, s))
+    (λ s. omega (arith, s)) (λ s. omega (arith, s))
 
 pub returns-in-Err-NoMemory-clause-rest : goal.returns-in-Err-NoMemory-clause-rest
 returns-in-Err-NoMemory-clause-rest g c = λ bytes o changes told kept.
-    rest_other c.args.limits.now (asked c.args.words.now) 8 o bytes (g.S.Source.left c.args.source.now) (λ s. omega (arith, s)) (λ s. omega (arith, s))
+    rest_other c.args.limits.now (asked c.args.words.now) 8 o bytes (g.S.Source.left c.args.source.now)
+    (λ s. omega (arith, s)) (λ s. omega (arith, s))

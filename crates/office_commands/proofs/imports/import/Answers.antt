@@ -1,7 +1,7 @@
 use Rattle.std.proofs.Common.{◌≡◌}
 use Rattle.import_once.specs.declared.outcomes.Outcome.TheVariants.{WriteFault}
 use Rattle.import_once.specs.Imports.{import_answer}
-use Rattle.office_commands.proofs.OutcomeLaws.{wrote, keeps, caused, well}
+use Rattle.office_commands.proofs.OutcomeLaws.{wrote, keeps, by_sink}
 use Rattle.road_time.specs.Reads.{reads}
 use Rattle.day_reading.specs.Days.{ReadsWithin, most_read}
 use Rattle.keeper.specs.Office.{record_of}
@@ -13,27 +13,32 @@ use Rattle.office_commands.proofs.imports.import.Goals as goal
 pub returns-clause-wrote : goal.returns-clause-wrote
 returns-clause-wrote g c = λ right bytes o left told.
     let a = import_answer c.args.run.day c.args.run.late c.args.limits.now bytes o in
-    wrote g.K.Keeper.refuses c.args.run.day a o (g.O.Sink.written c.args.sink.now) (g.O.Sink.written c.import-done.new.sink) (g.K.Keeper.told c.import-done.new.keeper) c.import-done.result c.ended.result c.ended.ensures.ends (c.import-done.ensures.does right bytes o left told)
+    wrote g.K.Keeper.refuses c.args.run.day a o (g.O.Sink.written c.args.sink.now)
+    (g.O.Sink.written c.import-done.new.sink) (g.K.Keeper.told c.import-done.new.keeper) c.import-done.result
+    c.ended.result c.ended.ensures.ends (c.import-done.ensures.does right bytes o left told)
 
 pub returns-clause-keeps : goal.returns-clause-keeps
 returns-clause-keeps g c = λ right bytes o left told.
     let a = import_answer c.args.run.day c.args.run.late c.args.limits.now bytes o in
-    keeps g.K.Keeper.refuses c.args.run.day a o (g.O.Sink.written c.args.sink.now) (g.O.Sink.written c.import-done.new.sink) (g.K.Keeper.told c.import-done.new.keeper) c.import-done.result c.ended.result c.ended.ensures.ends (c.import-done.ensures.does right bytes o left told)
+    keeps g.K.Keeper.refuses c.args.run.day a o (g.O.Sink.written c.args.sink.now)
+    (g.O.Sink.written c.import-done.new.sink) (g.K.Keeper.told c.import-done.new.keeper) c.import-done.result
+    c.ended.result c.ended.ensures.ends (c.import-done.ensures.does right bytes o left told)
 
 pub returns-clause-sink : goal.returns-clause-sink
-returns-clause-sink g c = record {
-  caused = caused (c.import-done.result ≡ WriteFault) c.ended.result _ _ c.ended.ensures.failed c.import-done.ensures.sink.later c.import-done.ensures.sink.cause;
-  sure = λ endless. (let sure = c.import-done.ensures.sink.sure endless in (well (c.import-done.result ≡ WriteFault) c.ended.result c.ended.ensures.failed sure.0, sure.1));
-}
+returns-clause-sink g c =
+    by_sink (c.import-done.result ≡ WriteFault) c.ended.result _ _ _ _ c.ended.ensures.failed c.import-done.ensures.sink
 
 pub returns-clause-does : goal.returns-clause-does
 returns-clause-does g c = λ right bytes o left told.
     let a = import_answer c.args.run.day c.args.run.late c.args.limits.now bytes o in
-    did g.K.Keeper.refuses c.args.run.day a o (g.O.Sink.written c.args.sink.now) (g.O.Sink.written c.import-done.new.sink) (g.K.Keeper.told c.import-done.new.keeper) c.import-done.result c.ended.result c.ended.ensures.ends (c.import-done.ensures.does right bytes o left told)
+    did g.K.Keeper.refuses c.args.run.day a o (g.O.Sink.written c.args.sink.now)
+    (g.O.Sink.written c.import-done.new.sink) (g.K.Keeper.told c.import-done.new.keeper) c.import-done.result
+    c.ended.result c.ended.ensures.ends (c.import-done.ensures.does right bytes o left told)
 
 pub returns-clause-stops : goal.returns-clause-stops
 returns-clause-stops g c = λ bytes left.
-    imported_to (reads bytes c.args.limits.now c.args.run.late).refused bytes (g.S.Source.left c.import-done.new.source) c.args.run.day c.import-done.result c.ended.result
+    imported_to (reads bytes c.args.limits.now c.args.run.late).refused bytes (g.S.Source.left c.import-done.new.source)
+    c.args.run.day c.import-done.result c.ended.result
     c.ended.ensures.ends (c.import-done.ensures.leaves bytes left)
 
 pub returns-clause-rest : goal.returns-clause-rest
@@ -41,12 +46,18 @@ returns-clause-rest g c = λ bytes o left told.
     let read = reads bytes c.args.limits.now c.args.run.late in
     let merged = c.import-done.ensures.merged bytes o left told in
     let number = c.args.run.day in
-    rests g.K.Keeper.refuses (work_by merged.found number read.tuples o) number bytes read.tuples read.refused o (record_of o number)
-    (g.O.Sink.written c.args.sink.now) (g.O.Sink.written c.import-done.new.sink) (g.K.Keeper.told c.import-done.new.keeper) (g.S.Source.left c.import-done.new.source) c.import-done.result c.ended.result
-    merged.merges (λ kept stored. c.import-done.ensures.whole bytes kept left stored) (c.import-done.ensures.rest bytes o left told) c.ended.ensures.ends
+    rests g.K.Keeper.refuses (work_by merged.found number read.tuples o) number bytes read.tuples read.refused o
+    (record_of o number)
+    (g.O.Sink.written c.args.sink.now) (g.O.Sink.written c.import-done.new.sink)
+    (g.K.Keeper.told c.import-done.new.keeper) (g.S.Source.left c.import-done.new.source) c.import-done.result
+    c.ended.result
+    merged.merges (λ kept stored. c.import-done.ensures.whole bytes kept left stored)
+    (c.import-done.ensures.rest bytes o left told) c.ended.ensures.ends
 
 pub returns-clause-held : goal.returns-clause-held
-returns-clause-held g c = held c.args.run.day (g.K.Keeper.told c.import-done.new.keeper ≡ g.K.Keeper.told c.args.keeper.now) c.import-done.result c.ended.result c.ended.ensures.ends c.import-done.ensures.keeps
+returns-clause-held g c =
+    held c.args.run.day (g.K.Keeper.told c.import-done.new.keeper ≡ g.K.Keeper.told c.args.keeper.now)
+    c.import-done.result c.ended.result c.ended.ensures.ends c.import-done.ensures.keeps
 
 pub returns-clause-uncompared : goal.returns-clause-uncompared
 returns-clause-uncompared g c =

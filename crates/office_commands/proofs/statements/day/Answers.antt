@@ -2,21 +2,24 @@ use Rattle.std.proofs.Common.{◌≡◌, ◌∙◌, Err}
 use Rattle.reports.specs.Statements.{day_report}
 use Rattle.reports.specs.declared.report_fault.ReportFault.TheVariants.{WriteFault}
 use Rattle.office_commands.specs.Commands.{day_row}
-use Rattle.office_commands.proofs.EndingLaws.{kept_same}
-use Rattle.office_commands.proofs.OutcomeLaws.{caused, well}
+use Rattle.office_commands.proofs.KeepingLaws.{kept_same}
+use Rattle.office_commands.proofs.OutcomeLaws.{by_sink}
 use Rattle.office_commands.proofs.ReportLaws.{reported, report_office}
 use Rattle.office_commands.proofs.statements.day.Goals as goal
 
 pub returns-clause-wrote : goal.returns-clause-wrote
 returns-clause-wrote g c = λ o told.
-    reported c.args.day o (g.O.Sink.written c.args.sink.now) (g.O.Sink.written c.day_statement-done.new.sink) (day_report c.args.day o) c.day_statement-done.result c.reported.result c.reported.ensures.ends (c.day_statement-done.ensures.wrote o told)
+    reported c.args.day o (g.O.Sink.written c.args.sink.now) (g.O.Sink.written c.day_statement-done.new.sink)
+    (day_report c.args.day o) c.day_statement-done.result c.reported.result c.reported.ensures.ends
+    (c.day_statement-done.ensures.wrote o told)
 
 pub returns-clause-keeps : goal.returns-clause-keeps
 returns-clause-keeps g c = λ o told.
-    kept_same g.K.Keeper.refuses (day_row c.args.day o) o (g.K.Keeper.told c.day_statement-done.new.keeper) c.reported.result (report_office c.args.day (day_report c.args.day o) o) (c.day_statement-done.ensures.kept ∙ told)
+    kept_same g.K.Keeper.refuses (day_row c.args.day o) o (g.K.Keeper.told c.day_statement-done.new.keeper)
+    c.reported.result (report_office c.args.day (day_report c.args.day o) o)
+    (c.day_statement-done.ensures.kept ∙ told)
 
 pub returns-clause-sink : goal.returns-clause-sink
-returns-clause-sink g c = record {
-  caused = caused (c.day_statement-done.result ≡ Err WriteFault) c.reported.result _ _ c.reported.ensures.failed c.day_statement-done.ensures.write_later c.day_statement-done.ensures.write_cause;
-  sure = λ endless. (let sure = c.day_statement-done.ensures.write_sure endless in (well (c.day_statement-done.result ≡ Err WriteFault) c.reported.result c.reported.ensures.failed sure.0, sure.1));
-}
+returns-clause-sink g c =
+    by_sink (c.day_statement-done.result ≡ Err WriteFault) c.reported.result _ _ _ _ c.reported.ensures.failed
+    c.day_statement-done.ensures.sink

@@ -5,7 +5,10 @@ use Rattle.traffic_gen.proofs.RangeLaws.{in_range}
 use Rattle.office_commands.proofs.traffic.file_in_memory.Goals as goal
 
 pub unreachable-requires : goal.unreachable-requires
-unreachable-requires c = none-some c.in-Err-Size.field-0-0 (sym c.requires ∙ (c.generate.ensures.size c.in-Err-Size.field-0-0).0 (c.in-Err-Size.is ∙ ap (λ x. Err x) c.in-Err-Size.field-0-is))
+unreachable-requires c =
+    none-some c.in-Err-Size.field-0-0
+    (sym c.requires
+    ∙ (c.generate.ensures.size c.in-Err-Size.field-0-0).0 (c.in-Err-Size.is ∙ ap (λ x. Err x) c.in-Err-Size.field-0-is))
 
 pub unreachable-requires-in-Err-WriteFault : goal.unreachable-requires-in-Err-WriteFault
 unreachable-requires-in-Err-WriteFault c =

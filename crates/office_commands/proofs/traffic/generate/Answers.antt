@@ -5,22 +5,23 @@ use Rattle.traffic_gen.specs.declared.plan.GenFault.TheVariants.{WriteFault}
 use Rattle.traffic_gen.specs.Traffic.{file_of}
 use Rattle.office_commands.specs.Commands.{told}
 use Rattle.office_commands.specs.Endings.{Wrote}
-use Rattle.office_commands.proofs.OutcomeLaws.{caused, well}
+use Rattle.office_commands.proofs.OutcomeLaws.{by_sink}
 use Rattle.office_commands.proofs.TrafficLaws.{wrote_traffic}
 use Rattle.office_commands.proofs.traffic.generate.Goals as goal
 
 pub generated-requires : goal.generated-requires
-generated-requires g c = λ field e. none-some field (sym c.plan_for-plan.ensures.range ∙ (c.generate-done.ensures.size field).0 e)
+generated-requires g c =
+    λ field e. none-some field (sym c.plan_for-plan.ensures.range ∙ (c.generate-done.ensures.size field).0 e)
 
 pub returns-clause-wrote : goal.returns-clause-wrote
 returns-clause-wrote g c = λ o.
     let old = g.O.Sink.written c.args.sink.now in
     let new = g.O.Sink.written c.generate-done.new.sink in
     subst (λ (p : GenPlan). Wrote (told (file_of p) o) c.generated.result old new) c.plan_for-plan.ensures.plan
-    (wrote_traffic c.plan_for-plan.result o old new c.generate-done.result c.generated.result c.generated.ensures.ends c.generate-done.ensures.wrote)
+    (wrote_traffic c.plan_for-plan.result o old new c.generate-done.result c.generated.result c.generated.ensures.ends
+    c.generate-done.ensures.wrote)
 
 pub returns-clause-sink : goal.returns-clause-sink
-returns-clause-sink g c = record {
-  caused = caused (c.generate-done.result ≡ Err WriteFault) c.generated.result _ _ c.generated.ensures.failed c.generate-done.ensures.later c.generate-done.ensures.cause;
-  sure = λ endless. (let sure = c.generate-done.ensures.sure endless in (well (c.generate-done.result ≡ Err WriteFault) c.generated.result c.generated.ensures.failed sure.0, sure.1));
-}
+returns-clause-sink g c =
+    by_sink (c.generate-done.result ≡ Err WriteFault) c.generated.result _ _ _ _ c.generated.ensures.failed
+    c.generate-done.ensures.sink

@@ -7,5 +7,9 @@ use Rattle.office_commands.proofs.traffic.rehearse.Goals as goal
 
 pub returns-in-Ok-clause-exact : goal.returns-in-Ok-clause-exact
 returns-in-Ok-clause-exact g c = λ right o.
-    subst (λ (k : Closing). StandsBefore (rehearse_row c.args.seed c.args.size c.args.run o) k []) (sym c.closing_of.ensures)
-    (ap (λ r. Some (rehearsed r)) (c.in-Ok.ensures.kept right ∙ ap (rehearsed_record c.args.run.day) c.plan_for-plan.ensures.plan), refl)
+    subst (λ (k : Closing). StandsBefore (rehearse_row c.args.seed c.args.size c.args.run o) k [])
+    (sym c.closing_of.ensures) (
+      ap (λ r. Some (rehearsed r))
+          (c.in-Ok.ensures.kept right ∙ ap (rehearsed_record c.args.run.day) c.plan_for-plan.ensures.plan),
+      refl,
+    )

@@ -12,4 +12,6 @@ kept_alone-requires-clause-whole g c =
 pub returns-clause-kept : goal.returns-clause-kept
 returns-clause-kept g c = λ right.
     let same : c.bytes.result.now ≡ file_of c.args.plan.now = c.bytes.ensures ∙ c.in_ok-file.ensures in
-    IfOk-weaker c.kept_alone.result _ _ (λ r h. h ∙ alone_is c.args.plan.now c.args.run.late c.bytes.result.now c.requires.plan same c.args.run.day) (c.kept_alone.ensures.kept right)
+    IfOk-weaker c.kept_alone.result _ _
+    (λ r h. h ∙ alone_is c.args.plan.now c.args.run.late c.bytes.result.now c.requires.plan same c.args.run.day)
+    (c.kept_alone.ensures.kept right)

@@ -4,4 +4,8 @@ use Rattle.office_words.proofs.Steps.{adds}
 use Rattle.office_words.proofs.table.with_reports.Goals as goal
 
 pub returns : goal.returns
-returns c = IfOk-weaker c.with-4.result _ _ (λ x h. h ∙ ap (adds 8) (c.in_ok-top-3.ensures ∙ ap (adds 7) (c.in_ok-top-2.ensures ∙ ap (adds 6) c.in_ok-top.ensures))) c.with-4.ensures
+returns c =
+    IfOk-weaker c.with-4.result _ _
+    (λ x h. h
+    ∙ ap (adds 8) (c.in_ok-top-3.ensures ∙ ap (adds 7) (c.in_ok-top-2.ensures ∙ ap (adds 6) c.in_ok-top.ensures)))
+    c.with-4.ensures

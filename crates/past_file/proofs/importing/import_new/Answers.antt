@@ -2,7 +2,7 @@ use Rattle.std.proofs.Common.{◌≡◌, ◌∙◌, Option, Some, None, Ok, sym,
 use Rattle.keeper.specs.Office.{Office, last_day}
 use Rattle.keeper.specs.Kept.{HasNoDays}
 use Rattle.keeper.specs.Calls.{IfTold}
-use Rattle.past_file.specs.Imports.{PastAnswer, Does}
+use Rattle.past_file.specs.Imports.{PastAnswer, DoesPast}
 use Rattle.keeper.proofs.CallLaws.{reads_same}
 use Rattle.past_file.proofs.KeepLaws.{told_no_days, told_last, first_new}
 use Rattle.past_file.proofs.importing.import_new.Goals as goal
@@ -14,26 +14,38 @@ import_first-requires-clause-first g c =
     let same = reads_same before after c.last_day.result (λ p last. last ≡ last_day p) c.last_day.ensures.state in
     let ok : c.last_day.result ≡ Ok c.in-Ok.last = cc in
     let none = subst (λ (t : Option Office). IfTold t (λ o. o.past ≡ None)) (sym same) c.requires.none in
-    told_no_days after c.last_day.ensures.sound none (told_last before after c.last_day.result c.in-Ok.last c.last_day.ensures.state ok (omega (arith, c.if-last-gt0.false)))
+    told_no_days after c.last_day.ensures.sound none
+    (told_last before after c.last_day.result c.in-Ok.last c.last_day.ensures.state ok
+    (omega (arith, c.if-last-gt0.false)))
 
 pub returns-else-last-gt0-clause-does : goal.returns-else-last-gt0-clause-does
 returns-else-last-gt0-clause-does g c = λ bytes o left told.
     let before = g.K.Keeper.told c.args.keeper.now in
     let after = g.K.Keeper.told c.last_day.new.self in
-    let kept : after ≡ Some o = reads_same before after c.last_day.result (λ p last. last ≡ last_day p) c.last_day.ensures.state ∙ told in
+    let kept : after ≡ Some o =
+    reads_same before after c.last_day.result (λ p last. last ≡ last_day p) c.last_day.ensures.state ∙ told in
     let ok : c.last_day.result ≡ Ok c.in-Ok.last = cc in
     let none = subst (λ (t : Option Office). IfTold t (λ p. p.past ≡ None)) (told ∙ sym kept) c.requires.none in
-    let bare = told_no_days after c.last_day.ensures.sound none (told_last before after c.last_day.result c.in-Ok.last c.last_day.ensures.state ok (omega (arith, c.if-last-gt0.false))) in
+    let bare =
+    told_no_days after c.last_day.ensures.sound none
+    (told_last before after c.last_day.result c.in-Ok.last c.last_day.ensures.state ok
+    (omega (arith, c.if-last-gt0.false))) in
     let no_days : HasNoDays o = subst (λ (t : Option Office). IfTold t HasNoDays) kept bare in
-    subst (λ (a : PastAnswer). Does g.K.Keeper.refuses a o (g.K.Keeper.told c.import_first.new.keeper) c.import_first.result) (sym (first_new c.args.base c.args.limits.now bytes o no_days.days)) (c.import_first.ensures.does bytes o left kept)
+    subst (λ (a : PastAnswer). DoesPast g.K.Keeper.refuses a o (g.K.Keeper.told c.import_first.new.keeper)
+    c.import_first.result) (sym (first_new c.args.base c.args.limits.now bytes o no_days.days))
+    (c.import_first.ensures.does bytes o left kept)
 
 pub returns-else-last-gt0-clause-unread : goal.returns-else-last-gt0-clause-unread
 returns-else-last-gt0-clause-unread g c = λ o told some.
     let before = g.K.Keeper.told c.args.keeper.now in
     let after = g.K.Keeper.told c.last_day.new.self in
-    let kept : after ≡ Some o = reads_same before after c.last_day.result (λ p last. last ≡ last_day p) c.last_day.ensures.state ∙ told in
+    let kept : after ≡ Some o =
+    reads_same before after c.last_day.result (λ p last. last ≡ last_day p) c.last_day.ensures.state ∙ told in
     let ok : c.last_day.result ≡ Ok c.in-Ok.last = cc in
     let none = subst (λ (t : Option Office). IfTold t (λ p. p.past ≡ None)) (told ∙ sym kept) c.requires.none in
-    let bare = told_no_days after c.last_day.ensures.sound none (told_last before after c.last_day.result c.in-Ok.last c.last_day.ensures.state ok (omega (arith, c.if-last-gt0.false))) in
+    let bare =
+    told_no_days after c.last_day.ensures.sound none
+    (told_last before after c.last_day.result c.in-Ok.last c.last_day.ensures.state ok
+    (omega (arith, c.if-last-gt0.false))) in
     let no_days : HasNoDays o = subst (λ (t : Option Office). IfTold t HasNoDays) kept bare in
     absurd (some no_days.days)

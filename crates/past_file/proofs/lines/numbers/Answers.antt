@@ -1,5 +1,6 @@
 use Rattle.std.specs.Prelude.{is_none}
-use Rattle.std.proofs.Common.{◌≡◌, ◌+◌, ◌∷◌, ◌++◌, None, [], Some, cond, length, take, append_assoc, arith, sym, ap, refl, ◌∙◌, option_copied, to_z, of_z, w64, rules}
+use Rattle.std.proofs.Common.{◌≡◌, ◌+◌, ◌∷◌, ◌++◌, None, [], Some, cond, length, take, append_assoc, arith, sym, ap}
+use Rattle.std.proofs.Common.{refl, ◌∙◌, option_copied, to_z, of_z, w64, rules}
 use Rattle.std.specs.List.{cons_option, filter_map}
 use Rattle.std.proofs.lemmas.List.{length-set, take_more_set, nil_from_length, take_all, append-nil}
 use Rattle.road_time.specs.Numbers.{number_of, fields_of_text}
@@ -28,7 +29,8 @@ loop-i-preserved c =
     record {
       room = length-set ns i _ ∙ c.loop-i.invariant.room;
       left = omega (arith, ap length cut);
-      odd = c.loop-i.invariant.odd ∙ ap (odd_from (i + 1)) cut ∙ ap (λ o. cond (is_none o) (Some (i + 1)) (odd_from (i + 1 + 1) fs)) is;
+      odd = c.loop-i.invariant.odd ∙ ap (odd_from (i + 1)) cut
+          ∙ ap (λ o. cond (is_none o) (Some (i + 1)) (odd_from (i + 1 + 1) fs)) is;
       read = c.loop-i.invariant.read ∙ ap (λ xs. take i ns ++ filter_map (number_of 10) xs) cut
           ∙ ap (λ o. take i ns ++ cons_option o rest) is ∙ sym (append_assoc (take i ns) (z ∷ []) rest)
           ∙ ap (λ x. (take i ns ++ x ∷ []) ++ rest) (sym whole)
@@ -42,7 +44,9 @@ returns-in_default-number c =
     let all = filter_map (number_of 10) (fields_of_text c.args.text.now) in
     let cut = ap (λ o. fields_after (option_copied o)) c.in-Some.is ∙ c.split_field.ensures in
     let is : number_of 10 c.split_field.result.0.now ≡ None = sym c.number.ensures ∙ c.in_default-number.is in
-    sym (ap (λ o. four_numbers o all) (c.loop-i.invariant.odd ∙ ap (odd_from (i + 1)) cut ∙ ap (λ o. cond (is_none o) (Some (i + 1)) (odd_from (i + 1 + 1) fs)) is))
+    sym (ap (λ o. four_numbers o all)
+    (c.loop-i.invariant.odd ∙ ap (odd_from (i + 1)) cut
+    ∙ ap (λ o. cond (is_none o) (Some (i + 1)) (odd_from (i + 1 + 1) fs)) is))
 
 pub returns : goal.returns
 returns c =
@@ -51,4 +55,5 @@ returns c =
     let all = filter_map (number_of 10) (fields_of_text c.args.text.now) in
     let none = nil_from_length (fields_after (option_copied c.loop-i.rest)) (omega arith) in
     sym (ap (λ o. four_numbers o all) (c.loop-i.invariant.odd ∙ ap (odd_from (i + 1)) none)
-    ∙ ap (four_numbers None) (c.loop-i.invariant.read ∙ ap (λ xs. take i ns ++ filter_map (number_of 10) xs) none ∙ append-nil (take i ns) ∙ take_all i ns (omega arith)))
+    ∙ ap (four_numbers None) (c.loop-i.invariant.read ∙ ap (λ xs. take i ns ++ filter_map (number_of 10) xs) none
+    ∙ append-nil (take i ns) ∙ take_all i ns (omega arith)))

@@ -9,5 +9,6 @@ invariant-loop-i l = record {
   room : length l.numbers ≡ 4;
   left : length (fields_after (option_copied l.rest)) + l.i ≡ 4;
   odd : odd_from 1 (fields_of_text l.fn.text) ≡ odd_from (l.i + 1) (fields_after (option_copied l.rest));
-  read : filter_map (number_of 10) (fields_of_text l.fn.text) ≡ take l.i l.numbers ++ filter_map (number_of 10) (fields_after (option_copied l.rest));
+  read : filter_map (number_of 10) (fields_of_text l.fn.text) ≡ take l.i l.numbers ++ filter_map (number_of 10)
+      (fields_after (option_copied l.rest));
 }

@@ -17,8 +17,22 @@ returns-clause-reads c =
     let wb : to_z w64 (of_z w64 b) ≡ b = search rules in
     let wd : to_z w64 (of_z w64 d) ≡ d = search rules in
     let we : to_z w64 (of_z w64 e) ≡ e = search rules in
-    let one = subst (λ (z : ℤ). ReadsRow (past_in_ranges base (z ∷ to_z w64 (of_z w64 b) ∷ to_z w64 (of_z w64 d) ∷ to_z w64 (of_z w64 e) ∷ []) (first_out 1 past_uses (z ∷ to_z w64 (of_z w64 b) ∷ to_z w64 (of_z w64 d) ∷ to_z w64 (of_z w64 e) ∷ []))) c.row.result) wa c.row.ensures.reads in
-    let two = subst (λ (z : ℤ). ReadsRow (past_in_ranges base (a ∷ z ∷ to_z w64 (of_z w64 d) ∷ to_z w64 (of_z w64 e) ∷ []) (first_out 1 past_uses (a ∷ z ∷ to_z w64 (of_z w64 d) ∷ to_z w64 (of_z w64 e) ∷ []))) c.row.result) wb one in
-    let three = subst (λ (z : ℤ). ReadsRow (past_in_ranges base (a ∷ b ∷ z ∷ to_z w64 (of_z w64 e) ∷ []) (first_out 1 past_uses (a ∷ b ∷ z ∷ to_z w64 (of_z w64 e) ∷ []))) c.row.result) wd two in
-    let four = subst (λ (z : ℤ). ReadsRow (past_in_ranges base (a ∷ b ∷ d ∷ z ∷ []) (first_out 1 past_uses (a ∷ b ∷ d ∷ z ∷ []))) c.row.result) we three in
-    subst (λ (zs : List ℤ). ReadsRow (past_in_ranges base zs (first_out 1 past_uses zs)) c.row.result) (sym (all_four ns c.told-n)) four
+    let one =
+    subst (λ (z : ℤ). ReadsRow
+    (past_in_ranges base (z ∷ to_z w64 (of_z w64 b) ∷ to_z w64 (of_z w64 d) ∷ to_z w64 (of_z w64 e) ∷ [])
+    (first_out 1 past_uses (z ∷ to_z w64 (of_z w64 b) ∷ to_z w64 (of_z w64 d) ∷ to_z w64 (of_z w64 e) ∷ [])))
+    c.row.result) wa c.row.ensures.reads in
+    let two =
+    subst (λ (z : ℤ). ReadsRow
+    (past_in_ranges base (a ∷ z ∷ to_z w64 (of_z w64 d) ∷ to_z w64 (of_z w64 e) ∷ [])
+    (first_out 1 past_uses (a ∷ z ∷ to_z w64 (of_z w64 d) ∷ to_z w64 (of_z w64 e) ∷ []))) c.row.result) wb one in
+    let three =
+    subst (λ (z : ℤ). ReadsRow
+    (past_in_ranges base (a ∷ b ∷ z ∷ to_z w64 (of_z w64 e) ∷ [])
+    (first_out 1 past_uses (a ∷ b ∷ z ∷ to_z w64 (of_z w64 e) ∷ []))) c.row.result) wd two in
+    let four =
+    subst (λ (z : ℤ). ReadsRow
+    (past_in_ranges base (a ∷ b ∷ d ∷ z ∷ []) (first_out 1 past_uses (a ∷ b ∷ d ∷ z ∷ []))) c.row.result) we
+    three in
+    subst (λ (zs : List ℤ). ReadsRow (past_in_ranges base zs (first_out 1 past_uses zs)) c.row.result)
+    (sym (all_four ns c.told-n)) four

@@ -1,6 +1,6 @@
 use Rattle.std.proofs.Common.{◌≡◌, List, ℕ, Option, Some, None, refl, sym, subst}
 use Rattle.past_file.specs.declared.judging.PastStop.{PastStop}
-use Rattle.past_file.specs.Readings.{IsReading, HasReadOf, Ends}
+use Rattle.past_file.specs.Readings.{IsReadingPast, HasReadPastOf, EndsReadingPast}
 use Rattle.past_file.proofs.ReadLaws.{reads_stopped, reads_kept, past_within, past_soon}
 use Rattle.past_file.proofs.whole_past.read_past.Goals as goal
 
@@ -10,8 +10,10 @@ returns-in-Some-clause-reads g c = λ bytes told.
     let left = g.S.Source.left c.read_all.new.source in
     let reader = c.in-Ok.reader in
     let some : c.read_all.result ≡ Some c.in-Some.stop = cc in
-    let reading = subst (λ (o : Option (List ℕ)). IsReading reader c.args.base limits o bytes) (sym told) (c.in-Ok.ensures.reading c.args.base limits bytes) in
-    let ends = subst (λ (r : Option PastStop). Ends r c.read_all.new.self c.args.base limits left bytes) some (c.read_all.ensures.ends limits bytes refl reading) in
+    let reading = subst (λ (o : Option (List ℕ)). IsReadingPast reader c.args.base limits o bytes) (sym told)
+    (c.in-Ok.ensures.reading c.args.base limits bytes) in
+    let ends = subst (λ (r : Option PastStop). EndsReadingPast r c.read_all.new.self c.args.base limits left bytes) some
+    (c.read_all.ensures.ends limits bytes refl reading) in
     reads_stopped c.in-Some.stop c.read_all.new.self c.args.base limits left bytes ends
 
 pub returns-clause-reads : goal.returns-clause-reads
@@ -20,24 +22,33 @@ returns-clause-reads g c = λ bytes told.
     let left = g.S.Source.left c.read_all.new.source in
     let reader = c.in-Ok.reader in
     let none : c.read_all.result ≡ None = cc in
-    let reading = subst (λ (o : Option (List ℕ)). IsReading reader c.args.base limits o bytes) (sym told) (c.in-Ok.ensures.reading c.args.base limits bytes) in
-    let ends = subst (λ (r : Option PastStop). Ends r c.read_all.new.self c.args.base limits left bytes) none (c.read_all.ensures.ends limits bytes refl reading) in
-    reads_kept c.kept.result c.read_all.new.self c.args.base limits left bytes ends (c.kept.ensures.exact limits left bytes ends) c.kept.ensures.stops
+    let reading = subst (λ (o : Option (List ℕ)). IsReadingPast reader c.args.base limits o bytes) (sym told)
+    (c.in-Ok.ensures.reading c.args.base limits bytes) in
+    let ends = subst (λ (r : Option PastStop). EndsReadingPast r c.read_all.new.self c.args.base limits left bytes) none
+    (c.read_all.ensures.ends limits bytes refl reading) in
+    reads_kept c.kept.result c.read_all.new.self c.args.base limits left bytes ends
+    (c.kept.ensures.exact limits left bytes ends) c.kept.ensures.stops
 
 pub returns-in-Some-clause-bounded : goal.returns-in-Some-clause-bounded
 returns-in-Some-clause-bounded g c = λ bytes told.
     let left = g.S.Source.left c.read_all.new.source in
-    let start = subst (λ (o : Option (List ℕ)). HasReadOf c.in-Ok.reader o bytes) (sym told) (c.in-Ok.ensures.read bytes) in
-    past_within c.read_all.new.self c.args.limits.now left bytes (c.read_all.ensures.read bytes start) c.read_all.ensures.bounded
+    let start = subst (λ (o : Option (List ℕ)). HasReadPastOf c.in-Ok.reader o bytes) (sym told)
+    (c.in-Ok.ensures.read bytes) in
+    past_within c.read_all.new.self c.args.limits.now left bytes (c.read_all.ensures.read bytes start)
+    c.read_all.ensures.bounded
 
 pub returns-clause-bounded : goal.returns-clause-bounded
 returns-clause-bounded g c = λ bytes told.
     let left = g.S.Source.left c.read_all.new.source in
-    let start = subst (λ (o : Option (List ℕ)). HasReadOf c.in-Ok.reader o bytes) (sym told) (c.in-Ok.ensures.read bytes) in
-    past_within c.read_all.new.self c.args.limits.now left bytes (c.read_all.ensures.read bytes start) c.read_all.ensures.bounded
+    let start = subst (λ (o : Option (List ℕ)). HasReadPastOf c.in-Ok.reader o bytes) (sym told)
+    (c.in-Ok.ensures.read bytes) in
+    past_within c.read_all.new.self c.args.limits.now left bytes (c.read_all.ensures.read bytes start)
+    c.read_all.ensures.bounded
 
 pub returns-in-Some-clause-soon : goal.returns-in-Some-clause-soon
 returns-in-Some-clause-soon g c = λ bytes told.
     let left = g.S.Source.left c.read_all.new.source in
-    let start = subst (λ (o : Option (List ℕ)). HasReadOf c.in-Ok.reader o bytes) (sym told) (c.in-Ok.ensures.read bytes) in
-    past_soon c.in-Some.stop c.read_all.new.self left bytes (c.read_all.ensures.read bytes start) c.in-Some.ensures.after
+    let start = subst (λ (o : Option (List ℕ)). HasReadPastOf c.in-Ok.reader o bytes) (sym told)
+    (c.in-Ok.ensures.read bytes) in
+    past_soon c.in-Some.stop c.read_all.new.self left bytes (c.read_all.ensures.read bytes start)
+    c.in-Some.ensures.after

@@ -5,5 +5,7 @@ use Rattle.reports.proofs.day_lines.day_text.Goals as goal
 
 pub returns : goal.returns
 returns c =
-    let ways = c.as_slice.ensures.value ∙ c.in_ok-ways.ensures ∙ ways_same (λ x. get_or c.way_sums.result x 0) (sum_on c.args.rows.now) 256 c.way_sums.ensures in
-    c.in_ok-extend_from_slice.ensures.items ∙ ap (λ t. t ++ c.as_slice.result.now) c.in_ok-text.ensures ∙ ap (λ w. record_text c.args.kept.now ++ w) ways
+    let ways = c.as_slice.ensures.value ∙ c.in_ok-ways.ensures
+    ∙ ways_same (λ x. get_or c.way_sums.result x 0) (sum_on c.args.rows.now) 256 c.way_sums.ensures in
+    c.in_ok-extend_from_slice.ensures.items ∙ ap (λ t. t ++ c.as_slice.result.now) c.in_ok-text.ensures
+    ∙ ap (λ w. record_text c.args.kept.now ++ w) ways

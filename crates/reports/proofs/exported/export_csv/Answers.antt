@@ -14,7 +14,11 @@ returns-in-Ok-export_text-clause-wrote g c = λ o told.
     let old = g.O.Sink.written c.args.sink.now in
     let new = g.O.Sink.written c.put_text.new.sink in
     let text : c.as_slice-in-Ok-export_text.result.now ≡ export_text (rows_between o day day) =
-    c.as_slice-in-Ok-export_text.ensures.value ∙ c.in-Ok-export_text.ensures ∙ ap export_text (c.as_slice.ensures.value ∙ found.1) in
-    let report : Some (export_text (rows_between o day day)) ≡ export_report day o = sym (ap (λ (r : Option DayRecord). option_map (λ _. export_text (rows_between o day day)) r) found.0) in
+    c.as_slice-in-Ok-export_text.ensures.value ∙ c.in-Ok-export_text.ensures
+    ∙ ap export_text (c.as_slice.ensures.value ∙ found.1) in
+    let report : Some (export_text (rows_between o day day)) ≡ export_report day o =
+    sym (ap (λ (r : Option DayRecord). option_map (λ _. export_text (rows_between o day day)) r) found.0) in
     subst (λ t. Reported c.put_text.result old new t) report
-    (subst (λ t. Reported c.put_text.result old new (Some t)) text (reported c.put_text.result old new c.as_slice-in-Ok-export_text.result.now c.put_text.ensures.wrote c.put_text.ensures.own.0))
+    (subst (λ t. Reported c.put_text.result old new (Some t)) text
+    (reported c.put_text.result old new c.as_slice-in-Ok-export_text.result.now c.put_text.ensures.wrote
+    c.put_text.ensures.own.0))

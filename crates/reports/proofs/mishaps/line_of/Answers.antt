@@ -8,5 +8,12 @@ returns c =
     let m = c.args.mishap.now in
     let whole : to_z w64 (of_z w64 c.last_second-to.result) ≡ c.last_second-to.result = search rules in
     c.in_ok-line.ensures.ok
-    ∙ seven_joined (decimal m.from) (signed_decimal (to_z w64 (of_z w64 c.last_second-to.result))) (decimal m.place.xway) (decimal m.place.dir) (decimal m.place.lane) (decimal m.place.seg) (decimal m.place.pos)
-    ∙ ap (λ z. (decimal m.from ++ 44 ∷ (signed_decimal z ++ 44 ∷ (decimal m.place.xway ++ 44 ∷ (decimal m.place.dir ++ 44 ∷ (decimal m.place.lane ++ 44 ∷ (decimal m.place.seg ++ 44 ∷ decimal m.place.pos)))))) ++ 10 ∷ []) (whole ∙ c.last_second-to.ensures)
+    ∙ seven_joined (decimal m.from) (signed_decimal (to_z w64 (of_z w64 c.last_second-to.result)))
+    (decimal m.place.xway) (decimal m.place.dir) (decimal m.place.lane) (decimal m.place.seg) (decimal m.place.pos)
+    ∙ ap (λ z.
+    (decimal m.from ++ 44
+    ∷ (signed_decimal z ++ 44
+    ∷ (decimal m.place.xway ++ 44
+    ∷ (decimal m.place.dir ++ 44
+    ∷ (decimal m.place.lane ++ 44 ∷ (decimal m.place.seg ++ 44 ∷ decimal m.place.pos)))))) ++ 10
+    ∷ []) (whole ∙ c.last_second-to.ensures)

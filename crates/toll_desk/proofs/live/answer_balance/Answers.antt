@@ -12,7 +12,9 @@ pub returns-in-Some-clause-answers : goal.returns-in-Some-clause-answers
 returns-in-Some-clause-answers g c =
     inl (
       c.in-Some.ensures.sees,
-      subst (λ s. Answers (live_reply (Some c.args.vid) s) (g.L.Link.room c.args.link.now) (g.L.Link.written c.args.link.now) (g.L.Link.written c.send_balance.new.link) c.send_balance.result) c.in-Some.ensures.live (c.send_balance.ensures.sent c.args.vid),
+      subst (λ s. Answers (live_reply (Some c.args.vid) s) (g.L.Link.room c.args.link.now)
+          (g.L.Link.written c.args.link.now) (g.L.Link.written c.send_balance.new.link) c.send_balance.result)
+          c.in-Some.ensures.live (c.send_balance.ensures.sent c.args.vid),
     )
 
 pub returns-in-Some-clause-board : goal.returns-in-Some-clause-board
@@ -22,7 +24,8 @@ pub returns-in-Some-clause-had : goal.returns-in-Some-clause-had
 returns-in-Some-clause-had g c = c.in-Some.ensures.sees.later
 
 pub returns-in-None-clause-answers : goal.returns-in-None-clause-answers
-returns-in-None-clause-answers g c = inr (c.in-None.ensures.none, (inl c.send_no_memory.ensures.sent, c.send_no_memory.ensures.sure))
+returns-in-None-clause-answers g c =
+    inr (c.in-None.ensures.none, (inl c.send_no_memory.ensures.sent, c.send_no_memory.ensures.sure))
 
 pub returns-in-None-clause-board : goal.returns-in-None-clause-board
 returns-in-None-clause-board g c = same_board _ _ c.in-None.ensures.none

@@ -7,12 +7,18 @@ pub returns-in-Live-clause-answers : goal.returns-in-Live-clause-answers
 returns-in-Live-clause-answers g c =
     let l = c.args.link.now in
     let a = c.answer_balance in
-    subst (λ asked. AnswersLive (asked_of asked) c.args.reader.now a.new.reader (wire_of (g.L.Link.left l) (g.L.Link.plan l) (g.L.Link.written l) (g.L.Link.room l)) (wire_of (g.L.Link.left a.new.link) (g.L.Link.plan a.new.link) (g.L.Link.written a.new.link) (g.L.Link.room a.new.link)) a.result)
+    subst (λ asked. AnswersLive (asked_of asked) c.args.reader.now a.new.reader
+    (wire_of (g.L.Link.left l) (g.L.Link.plan l) (g.L.Link.written l) (g.L.Link.room l))
+    (wire_of (g.L.Link.left a.new.link) (g.L.Link.plan a.new.link) (g.L.Link.written a.new.link)
+    (g.L.Link.room a.new.link)) a.result)
     (sym c.in-Live.is) a.ensures.answers
 
 pub returns-in-LiveTotal-clause-answers : goal.returns-in-LiveTotal-clause-answers
 returns-in-LiveTotal-clause-answers g c =
     let l = c.args.link.now in
     let a = c.answer_total in
-    subst (λ asked. AnswersLive (asked_of asked) c.args.reader.now a.new.reader (wire_of (g.L.Link.left l) (g.L.Link.plan l) (g.L.Link.written l) (g.L.Link.room l)) (wire_of (g.L.Link.left a.new.link) (g.L.Link.plan a.new.link) (g.L.Link.written a.new.link) (g.L.Link.room a.new.link)) a.result)
+    subst (λ asked. AnswersLive (asked_of asked) c.args.reader.now a.new.reader
+    (wire_of (g.L.Link.left l) (g.L.Link.plan l) (g.L.Link.written l) (g.L.Link.room l))
+    (wire_of (g.L.Link.left a.new.link) (g.L.Link.plan a.new.link) (g.L.Link.written a.new.link)
+    (g.L.Link.room a.new.link)) a.result)
     (sym c.in-LiveTotal.is) a.ensures.answers

@@ -7,7 +7,8 @@ use Rattle.toll_heads.proofs.fields.find_field.Goals as goal
 pub loop-field-preserved : goal.loop-field-preserved
 loop-field-preserved c = record {
   found = subst (λ vs. Finds vs (option_map (span_bytes c.args.buf.now) c.look_at.result.0) c.look_at.result.1)
-      (sym (values_on c.args.name.now (header_bytes c.args.buf.now) c.args.fields.now c.loop-field.field-index _ c.loop-field-test.true))
+      (sym (values_on c.args.name.now (header_bytes c.args.buf.now) c.args.fields.now c.loop-field.field-index _
+      c.loop-field-test.true))
       (c.look_at.ensures.found _ c.loop-field.invariant.found);
   within = c.look_at.ensures.within;
 }

@@ -6,6 +6,7 @@ use Rattle.toll_heads.proofs.fields.find_field.Given as goal
 
 abbrev pub invariant-loop-field : goal.invariant-loop-field
 invariant-loop-field l = record {
-  found : Finds (values_of l.name (map (header_bytes l.buf) (take l.field-index l.fields))) (option_map (span_bytes l.buf) l.first) l.several;
+  found : Finds (values_of l.name (map (header_bytes l.buf) (take l.field-index l.fields)))
+      (option_map (span_bytes l.buf) l.first) l.several;
   within : IfSome l.first (IsWithin (length l.buf));
 }

@@ -1,4 +1,5 @@
-use Rattle.toll_heads.proofs.PlaceLaws.{places_have_routes, routes_have_places, places_are_ascii}
+use Rattle.toll_heads.proofs.PlaceLaws.{places_have_routes, routes_have_places}
+use Rattle.toll_heads.proofs.AsciiLaws.{places_are_ascii}
 use Rattle.toll_heads.proofs.laws.places_law.Goals as goal
 
 pub returns-clause-found : goal.returns-clause-found

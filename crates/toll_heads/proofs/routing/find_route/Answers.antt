@@ -8,9 +8,11 @@ use Rattle.toll_heads.proofs.routing.find_route.Goals as goal
 pub returns-in-Ok : goal.returns-in-Ok
 returns-in-Ok c =
     let path = c.args.path.now in
-    sym (ap (λ rs. first rs path) (sym c.requires) ∙ first-rename key_at c.args.router.now path ∙ ap (map_key key_at) c.in-Ok.ensures.found)
+    sym (ap (λ rs. first rs path) (sym c.requires) ∙ first-rename key_at c.args.router.now path
+    ∙ ap (map_key key_at) c.in-Ok.ensures.found)
 
 pub returns-in-Err : goal.returns-in-Err
 returns-in-Err c =
     let path = c.args.path.now in
-    sym (ap (λ rs. first rs path) (sym c.requires) ∙ first-rename key_at c.args.router.now path ∙ ap (map_key key_at) c.in-Err.ensures.missing)
+    sym (ap (λ rs. first rs path) (sym c.requires) ∙ first-rename key_at c.args.router.now path
+    ∙ ap (map_key key_at) c.in-Err.ensures.missing)

@@ -1,7 +1,8 @@
 use Rattle.std.proofs.Common.{ap, ◌∙◌}
 use Rattle.matchit.specs.Seek.{first}
 use Rattle.toll_heads.specs.Rows.{desk_rows}
-use Rattle.toll_heads.proofs.PlaceLaws.{no_text, no_route, by_route}
+use Rattle.toll_heads.proofs.PlaceLaws.{no_route, by_route}
+use Rattle.toll_heads.proofs.AsciiLaws.{no_text}
 use Rattle.toll_heads.proofs.routing.place_in.Goals as goal
 
 pub returns-in_default-clause-place : goal.returns-in_default-clause-place
@@ -9,7 +10,9 @@ returns-in_default-clause-place c = no_text c.args.path.now c.in_default.ensures
 
 pub returns-in-Some-clause-place : goal.returns-in-Some-clause-place
 returns-in-Some-clause-place c =
-    c.place_by.ensures.place ∙ by_route c.args.path.now c.in-Some.route (c.in-Some.ensures ∙ ap (first desk_rows) c.in-Ok.ensures.cases.0)
+    c.place_by.ensures.place
+    ∙ by_route c.args.path.now c.in-Some.route (c.in-Some.ensures ∙ ap (first desk_rows) c.in-Ok.ensures.cases.0)
 
 pub returns-in-None-clause-place : goal.returns-in-None-clause-place
-returns-in-None-clause-place c = no_route c.args.path.now (c.in-None.ensures ∙ ap (first desk_rows) c.in-Ok.ensures.cases.0)
+returns-in-None-clause-place c =
+    no_route c.args.path.now (c.in-None.ensures ∙ ap (first desk_rows) c.in-Ok.ensures.cases.0)

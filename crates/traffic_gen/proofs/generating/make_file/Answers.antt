@@ -10,11 +10,16 @@ unfolding generated
 returns-clause-lines c =
     let sorted = c.sort.new.tuples.items in
     let count : c.len.result ≡ length sorted = search rules in
-    count ∙ ap length (by_time_only (traffic c.args.plan.now) sorted (subst (λ ts. IsByTime ts sorted) c.in_ok-tuples.ensures c.in_ok-sort.ensures))
+    count ∙ ap length
+    (by_time_only (traffic c.args.plan.now) sorted
+    (subst (λ ts. IsByTime ts sorted) c.in_ok-tuples.ensures c.in_ok-sort.ensures))
 
 pub returns-clause-text : goal.returns-clause-text
 unfolding file_of generated
 returns-clause-text c =
     let sorted = c.sort.new.tuples.items in
     c.in_ok-text.ensures
-    ∙ ap lines_text (c.as_slice.ensures.value ∙ by_time_only (traffic c.args.plan.now) sorted (subst (λ ts. IsByTime ts sorted) c.in_ok-tuples.ensures c.in_ok-sort.ensures))
+    ∙ ap lines_text
+    (c.as_slice.ensures.value
+    ∙ by_time_only (traffic c.args.plan.now) sorted
+    (subst (λ ts. IsByTime ts sorted) c.in_ok-tuples.ensures c.in_ok-sort.ensures))

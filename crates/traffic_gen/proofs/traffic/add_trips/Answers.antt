@@ -9,7 +9,8 @@ use Rattle.traffic_gen.proofs.traffic.add_trips.Goals as goal
 
 pub loop-number-init : goal.loop-number-init
 loop-number-init c = record {
-  tuples = none_added c.args.tuples.now.items ∙ ap (λ ts. c.args.tuples.now.items ++ ts) (sym (no_trip c.args.plan.now));
+  tuples = none_added c.args.tuples.now.items
+      ∙ ap (λ ts. c.args.tuples.now.items ++ ts) (sym (no_trip c.args.plan.now));
   drawn = c.requires.first;
 }
 
@@ -21,6 +22,7 @@ loop-number-preserved c =
     let next = ap (drawn_trip plan (vid_of_trip plan n)) c.loop-number.invariant.drawn ∙ trip_next plan n in
     let trip : c.draw-trip.result ≡ trip_of plan n = c.draw-trip.ensures.drawn.0 ∙ ap (λ (p : Trip × Lcg). p.0) next in
     record {
-      tuples = added now c.args.tuples.now.items _ _ _ c.loop-number.invariant.tuples (trips_more plan n) _ (c.in_ok-add.ensures ∙ ap (λ (r : Trip). now ++ trip_tuples (end_of plan) r) trip);
+      tuples = added now c.args.tuples.now.items _ _ _ c.loop-number.invariant.tuples (trips_more plan n) _
+          (c.in_ok-add.ensures ∙ ap (λ (r : Trip). now ++ trip_tuples (end_of plan) r) trip);
       drawn = c.draw-trip.ensures.drawn.1 ∙ ap (λ (p : Trip × Lcg). p.1) next;
     }

@@ -14,4 +14,6 @@ unfolding traffic
 returns c =
     let plan = c.args.plan.now in
     c.in_ok-add_trips.ensures
-    ∙ ap (λ ts. ts ++ trip_traffic plan (trips plan)) (c.in_ok-add_crashes.ensures.tuples ∙ ap (λ ts. ts ++ crash_traffic plan plan.crashes) c.new-tuples.ensures.items)
+    ∙ ap (λ ts. ts ++ trip_traffic plan (trips plan))
+    (c.in_ok-add_crashes.ensures.tuples
+    ∙ ap (λ ts. ts ++ crash_traffic plan plan.crashes) c.new-tuples.ensures.items)

@@ -14,7 +14,9 @@ returns-in-None-clause-gives c = λ limits late left bytes given s.
     let self = c.args.self.now in
     let is = c.requires ∙ ap (λ e. Some (Stopped e)) c.in-Refused.is in
     let t = c.in-None.ensures.none _ is tt limits late left bytes given s in
-    let st = subst (λ o. StandsAt o (ahead self.cutter left) (number_of self.cutter) self.consumed self.intake.gate self.intake.sorter limits late bytes given) is s.stands in
+    let st = subst
+    (λ o. StandsAt o (ahead self.cutter left) (number_of self.cutter) self.consumed self.intake.gate
+    self.intake.sorter limits late bytes given) is s.stands in
     (t.1, st.1, t.0)
 
 pub returns-in-Some-clause-gathers : goal.returns-in-Some-clause-gathers

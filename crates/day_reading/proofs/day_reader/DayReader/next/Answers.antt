@@ -10,19 +10,25 @@ loop-tuple-preserved g c =
       limit = search (rules, c.read_one.ensures.limit, inv.limit, c.in_default-next_on.ensures.none);
       reading = search (rules, c.read_one.ensures.reading, inv.reading, c.in_default-next_on.ensures.none);
       gathering = search (rules, c.read_one.ensures.gathering, inv.gathering, c.in_default-next_on.ensures.none);
-      read = λ lines bytes s. c.read_one.ensures.read lines bytes (c.in_default-next_on.ensures.read lines left bytes (inv.read lines bytes s));
+      read = λ lines bytes s. c.read_one.ensures.read lines bytes
+          (c.in_default-next_on.ensures.read lines left bytes (inv.read lines bytes s));
       same = c.read_one.ensures.same ∙ inv.same;
-      later = omega (arith, c.read_one.ensures.later, inv.later);
-      sure = λ never. (c.read_one.ensures.sure (inv.sure never)).1;
+      later = omega (arith, c.read_one.ensures.source.later, inv.later);
+      still = λ never. c.read_one.ensures.still (inv.still never);
     }
 
 pub returns-in-Some-clause-read : goal.returns-in-Some-clause-read
-returns-in-Some-clause-read g c = λ lines bytes s. c.drain.ensures.read lines (g.S.Source.left c.args.source.now) bytes s
+returns-in-Some-clause-read g c =
+    λ lines bytes s. c.drain.ensures.read lines (g.S.Source.left c.args.source.now) bytes s
 
 pub returns-in-Some-next_on-clause-read : goal.returns-in-Some-next_on-clause-read
-returns-in-Some-next_on-clause-read g c = λ lines bytes s. c.in-Some-next_on.ensures.read lines (g.S.Source.left c.loop-tuple.source) bytes (c.loop-tuple.invariant.read lines bytes s)
+returns-in-Some-next_on-clause-read g c =
+    λ lines bytes s. c.in-Some-next_on.ensures.read lines (g.S.Source.left c.loop-tuple.source) bytes
+    (c.loop-tuple.invariant.read lines bytes s)
 
 pub returns-in-Some-read_one-clause-read : goal.returns-in-Some-read_one-clause-read
 returns-in-Some-read_one-clause-read g c = λ lines bytes s.
-    let on = c.in_default-next_on.ensures.read lines (g.S.Source.left c.loop-tuple.source) bytes (c.loop-tuple.invariant.read lines bytes s) in
-    c.drain-in-Some-read_one.ensures.read lines (g.S.Source.left c.read_one.new.source) bytes (c.read_one.ensures.read lines bytes on)
+    let on = c.in_default-next_on.ensures.read lines (g.S.Source.left c.loop-tuple.source) bytes
+    (c.loop-tuple.invariant.read lines bytes s) in
+    c.drain-in-Some-read_one.ensures.read lines (g.S.Source.left c.read_one.new.source) bytes
+    (c.read_one.ensures.read lines bytes on)

@@ -10,12 +10,16 @@ abbrev pub invariant-loop-tuple : goal.invariant-loop-tuple
 invariant-loop-tuple g l = record {
   open_is : l.self.end ≡ None;
   limit : l.self.intake.line_limit ≡ l.initial.self.intake.line_limit;
-  reading : (limits : Limits) (late : ℕ) (bytes : List ℕ) (given : List Tuple) → IsReading l.initial.self limits late (g.S.Source.left l.initial.source) bytes given → IsReading l.self limits late (g.S.Source.left l.source) bytes given;
-  gathering : (limits : Limits) (late : ℕ) (given : List Tuple) → IsGathering l.initial.self limits late given → IsGathering l.self limits late given;
-  read : (lines : ℕ) (bytes : List ℕ) → HasReadOf l.initial.self lines (g.S.Source.left l.initial.source) bytes → HasReadOf l.self lines (g.S.Source.left l.source) bytes;
+  reading : (limits : Limits) (late : ℕ) (bytes : List ℕ) (given : List Tuple) →
+      IsReading l.initial.self limits late (g.S.Source.left l.initial.source) bytes given →
+      IsReading l.self limits late (g.S.Source.left l.source) bytes given;
+  gathering : (limits : Limits) (late : ℕ) (given : List Tuple) → IsGathering l.initial.self limits late given →
+      IsGathering l.self limits late given;
+  read : (lines : ℕ) (bytes : List ℕ) → HasReadOf l.initial.self lines (g.S.Source.left l.initial.source) bytes →
+      HasReadOf l.self lines (g.S.Source.left l.source) bytes;
   same : g.S.Source.name l.source ≡ g.S.Source.name l.initial.source;
   later : g.S.Source.faults l.initial.source ≤ g.S.Source.faults l.source;
-  sure : NeverFails (g.S.Source.plan l.initial.source) → NeverFails (g.S.Source.plan l.source);
+  still : NeverFails (g.S.Source.plan l.initial.source) → NeverFails (g.S.Source.plan l.source);
 }
 
 abbrev pub decreases-loop-tuple : goal.decreases-loop-tuple

@@ -15,5 +15,7 @@ pub returns-clause-rise : goal.returns-clause-rise
 returns-clause-rise c =
     let es = c.args.self.now.by_key.entries in
     let value : c.loop-key.rows.items ≡ filter (λ r. nat_lt 0 r.tolls) (map amount_of es) = search rules in
-    let rise = some_rise (λ r. nat_lt 0 r.tolls) (map amount_of es) (rows_rise key_order.cmp-value.it same es c.into_iter-key-iterator.ensures.into_iter_gives.5) in
+    let rise =
+    some_rise (λ r. nat_lt 0 r.tolls) (map amount_of es)
+    (rows_rise key_order.cmp-value.it same es c.into_iter-key-iterator.ensures.into_iter_gives.5) in
     subst RowsRise (sym value) rise

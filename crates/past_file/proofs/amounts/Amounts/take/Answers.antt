@@ -16,7 +16,8 @@ pub returns-in-Ok-Some : goal.returns-in-Ok-Some
 returns-in-Ok-Some c = λ base rows valid h.
     let r = c.args.row.now in
     let k : Key = record { day = r.day; vid = r.vid; xway = r.xway } in
-    let was : lookup (is_at (key_order.cmp-value.it k)) c.args.self.now.by_key.entries ≡ Some c.in-Ok-Some.field-0-0 = sym c.in-Ok-Some.ensures.old ∙ c.in-Ok-Some.field-0-is in
+    let was : lookup (is_at (key_order.cmp-value.it k)) c.args.self.now.by_key.entries ≡ Some c.in-Ok-Some.field-0-0 =
+    sym c.in-Ok-Some.ensures.old ∙ c.in-Ok-Some.field-0-is in
     taken_before key_order.cmp-value.it same c.args.self.now.by_key.entries k c.in-Ok-Some.field-0-0 rows was h.same
 
 pub returns-in-Ok-None : goal.returns-in-Ok-None
@@ -24,6 +25,9 @@ returns-in-Ok-None c = λ base rows valid h.
     let r = c.args.row.now in
     let k : Key = record { day = r.day; vid = r.vid; xway = r.xway } in
     let old = c.args.self.now in
-    let off : lookup (is_at (key_order.cmp-value.it k)) old.by_key.entries ≡ None = sym c.in-Ok-None.ensures.old ∙ c.in-Ok-None.field-0-is in
-    let e : c.insert.new.self.entries ≡ insert_entry key_order.cmp-value.it old.by_key.entries k r.tolls = c.in-Ok-None.ensures.entries in
-    taken_new key_order.cmp-value.it same old (record { alloc = old.alloc; by_key = c.insert.new.self }) base rows k r.tolls off e c.insert.ensures.was_ordered valid h
+    let off : lookup (is_at (key_order.cmp-value.it k)) old.by_key.entries ≡ None = sym c.in-Ok-None.ensures.old
+    ∙ c.in-Ok-None.field-0-is in
+    let e : c.insert.new.self.entries ≡ insert_entry key_order.cmp-value.it old.by_key.entries k r.tolls =
+    c.in-Ok-None.ensures.entries in
+    taken_new key_order.cmp-value.it same old (record { alloc = old.alloc; by_key = c.insert.new.self }) base rows k
+    r.tolls off e c.insert.ensures.was_ordered valid h

@@ -9,12 +9,16 @@ returns-clause-exact g c = λ limits left bytes e.
     let rows = (past_reads bytes base limits).rows in
     let kept : c.in-Ok.rows.items ≡ past_kept rows = c.in-Ok.ensures.value ∙ e.rows_are.kept in
     let size : c.len.result ≡ length c.in-Ok.rows.items = cc (c.len.ensures, c.in-Ok.rows.ok.0) in
-    let count : c.len.result ≡ length (past_kept rows) = size ∙ ap length kept in
-    (record_is base c.args.self.consumed.bytes c.len.result c.digest.result bytes rows e.has_taken.1 (c.digest.ensures bytes e.has_taken) count, kept)
+    let count : c.len.result ≡ length (past_kept rows) = size ∙ ap length kept in (
+      record_is base c.args.self.consumed.bytes c.len.result c.digest.result bytes rows e.has_taken.1
+          (c.digest.ensures bytes e.has_taken) count,
+      kept,
+    )
 
 pub returns-clause-fits : goal.returns-clause-fits
 returns-clause-fits g c = λ gathers.
     let self = c.args.self in
     let size : c.len.result ≡ length c.in-Ok.rows.items = cc (c.len.ensures, c.in-Ok.rows.ok.0) in
-    may_be_put self.amounts c.args.base gathers.0 c.in-Ok.rows.items _ gathers.1 c.in-Ok.ensures.value c.in-Ok.ensures.rise c.in-Ok.ensures.few c.requires.based refl
+    may_be_put self.amounts c.args.base gathers.0 c.in-Ok.rows.items _ gathers.1 c.in-Ok.ensures.value
+    c.in-Ok.ensures.rise c.in-Ok.ensures.few c.requires.based refl
     (omega (arith, self.few_bytes, c.requires.few)) size

@@ -1,7 +1,7 @@
 use Rattle.std.proofs.Common.{◌≡◌, ◌∙◌, Ok, true, false, subst, arith}
 use Rattle.std.specs.Prelude.{IfOk, ◌≤◌, None}
 use Rattle.road_io.specs.Cutter.{number_of, fault_of}
-use Rattle.past_file.specs.Readings.{Gathers, Steps}
+use Rattle.past_file.specs.Readings.{GathersRows, Steps}
 use Rattle.past_file.proofs.ReadLaws.{ends_whole}
 use Rattle.past_file.proofs.past_reader.PastReader.read_all.Goals as goal
 
@@ -15,19 +15,24 @@ reading-preserved g c =
     record {
       few = subst (λ r. IfOk r (λ more. number_of new.cutter ≤ c.args.limit)) res c.read_one.ensures.few;
       unbroken = subst (λ r. IfOk r (λ more. fault_of new.cutter ≡ None)) res c.read_one.ensures.unbroken;
-      reading = λ limits bytes same s. subst (λ r. Steps r new base limits left bytes) res (c.read_one.ensures.steps limits bytes same (inv.reading limits bytes same s));
-      gathers = λ h. subst (λ r. IfOk r (λ more. Gathers new.amounts base)) res (c.read_one.ensures.gathers (inv.gathers h));
+      reading =
+          λ limits bytes same s. subst (λ r. Steps r new base limits left bytes) res
+          (c.read_one.ensures.steps limits bytes same (inv.reading limits bytes same s));
+      gathers =
+          λ h. subst (λ r. IfOk r (λ more. GathersRows new.amounts base)) res
+          (c.read_one.ensures.gathers (inv.gathers h));
       read = λ bytes s. c.read_one.ensures.read bytes (inv.read bytes s);
       same = c.read_one.ensures.same ∙ inv.same;
-      later = omega (arith, c.read_one.ensures.later, inv.later);
-      sure = λ never. (c.read_one.ensures.sure (inv.sure never)).1;
+      later = omega (arith, c.read_one.ensures.source.later, inv.later);
+      still = λ never. c.read_one.ensures.still (inv.still never);
     }
 
 pub returns-in-Ok-false-clause-ends : goal.returns-in-Ok-false-clause-ends
 returns-in-Ok-false-clause-ends g c = λ limits bytes same s.
     let res : c.read_one.result ≡ Ok false = cc in
     let before = c.reading.invariant.reading limits bytes same s in
-    ends_whole c.read_one.result c.read_one.new.self c.args.base limits (g.S.Source.left c.read_one.new.source) bytes res (c.read_one.ensures.steps limits bytes same before)
+    ends_whole c.read_one.result c.read_one.new.self c.args.base limits (g.S.Source.left c.read_one.new.source) bytes
+    res (c.read_one.ensures.steps limits bytes same before)
 
 pub returns-in-Ok-false-clause-read : goal.returns-in-Ok-false-clause-read
 returns-in-Ok-false-clause-read g c = λ bytes s. c.read_one.ensures.read bytes (c.reading.invariant.read bytes s)

@@ -2,19 +2,22 @@ use Rattle.std.proofs.Common.{◌≡◌, ◌+◌, ◌-◌, ◌≤◌, None, List
 use Rattle.road_time.specs.declared.day.Limits.{Limits}
 use Rattle.road_io.specs.Plans.{NeverFails}
 use Rattle.road_io.specs.Cutter.{number_of, fault_of}
-use Rattle.past_file.specs.Readings.{Gathers, IsReading, HasReadOf}
+use Rattle.past_file.specs.Readings.{GathersRows, IsReadingPast, HasReadPastOf}
 use Rattle.past_file.proofs.past_reader.PastReader.read_all.Given as goal
 
 abbrev pub invariant-reading : goal.invariant-reading
 invariant-reading g l = record {
   few : number_of l.self.cutter ≤ l.limit;
   unbroken : fault_of l.self.cutter ≡ None;
-  reading : (limits : Limits) (bytes : List ℕ) → limits.past ≡ l.limit → IsReading l.initial.self l.base limits (g.S.Source.left l.initial.source) bytes → IsReading l.self l.base limits (g.S.Source.left l.source) bytes;
-  gathers : Gathers l.initial.self.amounts l.base → Gathers l.self.amounts l.base;
-  read : (bytes : List ℕ) → HasReadOf l.initial.self (g.S.Source.left l.initial.source) bytes → HasReadOf l.self (g.S.Source.left l.source) bytes;
+  reading : (limits : Limits) (bytes : List ℕ) → limits.past ≡ l.limit →
+      IsReadingPast l.initial.self l.base limits (g.S.Source.left l.initial.source) bytes →
+      IsReadingPast l.self l.base limits (g.S.Source.left l.source) bytes;
+  gathers : GathersRows l.initial.self.amounts l.base → GathersRows l.self.amounts l.base;
+  read : (bytes : List ℕ) → HasReadPastOf l.initial.self (g.S.Source.left l.initial.source) bytes →
+      HasReadPastOf l.self (g.S.Source.left l.source) bytes;
   same : g.S.Source.name l.source ≡ g.S.Source.name l.initial.source;
   later : g.S.Source.faults l.initial.source ≤ g.S.Source.faults l.source;
-  sure : NeverFails (g.S.Source.plan l.initial.source) → NeverFails (g.S.Source.plan l.source);
+  still : NeverFails (g.S.Source.plan l.initial.source) → NeverFails (g.S.Source.plan l.source);
 }
 
 abbrev pub decreases-reading : goal.decreases-reading

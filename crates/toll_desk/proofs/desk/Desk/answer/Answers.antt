@@ -10,7 +10,12 @@ returns-in-Day-clause-answers g c = λ o told.
     let s = c.args.self.now in
     let l = c.args.link.now in
     let a = c.answer_day in
-    subst (λ asked. AnswersKept g.K.Keeper.refuses g.C.Crew.exact asked s.limits o (state_of (g.K.Keeper.told s.keeper) (g.K.Keeper.faults s.keeper) s.writer.posted) (state_of (g.K.Keeper.told a.new.keeper) (g.K.Keeper.faults a.new.keeper) s.writer.posted) (wire_of (g.L.Link.left l) (g.L.Link.plan l) (g.L.Link.written l) (g.L.Link.room l)) (wire_of (g.L.Link.left a.new.link) (g.L.Link.plan a.new.link) (g.L.Link.written a.new.link) (g.L.Link.room a.new.link)) a.result)
+    subst (λ asked. AnswersKept g.K.Keeper.refuses g.C.Crew.exact asked s.limits o
+    (state_of (g.K.Keeper.told s.keeper) (g.K.Keeper.faults s.keeper) s.writer.posted)
+    (state_of (g.K.Keeper.told a.new.keeper) (g.K.Keeper.faults a.new.keeper) s.writer.posted)
+    (wire_of (g.L.Link.left l) (g.L.Link.plan l) (g.L.Link.written l) (g.L.Link.room l))
+    (wire_of (g.L.Link.left a.new.link) (g.L.Link.plan a.new.link) (g.L.Link.written a.new.link)
+    (g.L.Link.room a.new.link)) a.result)
     (sym c.in-Day.is) ((a.ensures.told o told, refl, a.ensures.unread), a.ensures.sent o told)
 
 pub returns-in-Spent-clause-answers : goal.returns-in-Spent-clause-answers
@@ -18,7 +23,12 @@ returns-in-Spent-clause-answers g c = λ o told.
     let s = c.args.self.now in
     let l = c.args.link.now in
     let a = c.answer_spent in
-    subst (λ asked. AnswersKept g.K.Keeper.refuses g.C.Crew.exact asked s.limits o (state_of (g.K.Keeper.told s.keeper) (g.K.Keeper.faults s.keeper) s.writer.posted) (state_of (g.K.Keeper.told a.new.keeper) (g.K.Keeper.faults a.new.keeper) s.writer.posted) (wire_of (g.L.Link.left l) (g.L.Link.plan l) (g.L.Link.written l) (g.L.Link.room l)) (wire_of (g.L.Link.left a.new.link) (g.L.Link.plan a.new.link) (g.L.Link.written a.new.link) (g.L.Link.room a.new.link)) a.result)
+    subst (λ asked. AnswersKept g.K.Keeper.refuses g.C.Crew.exact asked s.limits o
+    (state_of (g.K.Keeper.told s.keeper) (g.K.Keeper.faults s.keeper) s.writer.posted)
+    (state_of (g.K.Keeper.told a.new.keeper) (g.K.Keeper.faults a.new.keeper) s.writer.posted)
+    (wire_of (g.L.Link.left l) (g.L.Link.plan l) (g.L.Link.written l) (g.L.Link.room l))
+    (wire_of (g.L.Link.left a.new.link) (g.L.Link.plan a.new.link) (g.L.Link.written a.new.link)
+    (g.L.Link.room a.new.link)) a.result)
     (sym c.in-Spent.is) ((a.ensures.told o told, refl, a.ensures.unread), a.ensures.sent o told)
 
 pub returns-in-Import-clause-answers : goal.returns-in-Import-clause-answers
@@ -26,5 +36,12 @@ returns-in-Import-clause-answers g c = λ o told.
     let s = c.args.self.now in
     let l = c.args.link.now in
     let a = c.answer_import in
-    subst (λ asked. AnswersKept g.K.Keeper.refuses g.C.Crew.exact asked s.limits o (state_of (g.K.Keeper.told s.keeper) (g.K.Keeper.faults s.keeper) s.writer.posted) (state_of (g.K.Keeper.told a.new.keeper) (g.K.Keeper.faults a.new.keeper) a.new.writer.posted) (wire_of (g.L.Link.left l) (g.L.Link.plan l) (g.L.Link.written l) (g.L.Link.room l)) (wire_of (g.L.Link.left a.new.link) (g.L.Link.plan a.new.link) (g.L.Link.written a.new.link) (g.L.Link.room a.new.link)) a.result)
-    (sym c.in-Import.is) (λ all known. a.ensures.imports all o (ap (λ e. prepend_known e (g.L.Link.left l)) c.items.ensures ∙ known) told)
+    subst (λ asked. AnswersKept g.K.Keeper.refuses g.C.Crew.exact asked s.limits o
+    (state_of (g.K.Keeper.told s.keeper) (g.K.Keeper.faults s.keeper) s.writer.posted)
+    (state_of (g.K.Keeper.told a.new.keeper) (g.K.Keeper.faults a.new.keeper) a.new.writer.posted)
+    (wire_of (g.L.Link.left l) (g.L.Link.plan l) (g.L.Link.written l) (g.L.Link.room l))
+    (wire_of (g.L.Link.left a.new.link) (g.L.Link.plan a.new.link) (g.L.Link.written a.new.link)
+    (g.L.Link.room a.new.link)) a.result)
+    (sym c.in-Import.is)
+    (λ all known. a.ensures.imports all o (ap (λ e. prepend_known e (g.L.Link.left l)) c.items.ensures ∙ known)
+    told)

@@ -1,0 +1,79 @@
+-- What a command does, from what the call does that carries it out.
+use Rattle.std.proofs.Common.{◌≡◌, inl, ℕ, Bool, true, List, [], Option, Some, Ok, arith}
+use Rattle.road_io.specs.Blame.{FaultsByPlan}
+use Rattle.road_io.specs.Plans.{NeverFails}
+use Rattle.road_io.proofs.SinkLaws.{appends_none}
+use Rattle.office_words.specs.declared.command.Command.{Command}
+use Rattle.office_commands.specs.declared.closing.Closing.{Closing}
+use Rattle.office_commands.specs.Commands.{Answer, compare_row}
+use Rattle.office_commands.specs.Endings.{StandsBefore, Wrote, KeepsBy, sort_of, Did}
+use Rattle.office_commands.specs.Faults.{ReadFaults}
+use Rattle.office_commands.specs.Uses.{uses_source, uses_aside, uses_keeper, uses_crew}
+use Rattle.keeper.specs.Calls.{WhenRefused}
+use Rattle.road_time.specs.declared.day.Limits.{Limits}
+use Rattle.office_words.specs.declared.command.Comparison.{Comparison}
+use Rattle.keeper.specs.Office.{Office}
+use Rattle.office_commands.proofs.KeepingLaws.{closing_same}
+use Rattle.office_commands.proofs.ComparingLaws.{same_row, no_row_text}
+use Rattle.office_commands.proofs.ConcludeLaws.{did_silent}
+
+-- whether a command has a use for the source
+abbrev pub source_of : Command → Bool
+source_of d = uses_source (Some d)
+
+-- for the aside
+abbrev pub aside_of : Command → Bool
+aside_of d = uses_aside (Some d)
+
+-- for the keeper
+abbrev pub keeper_of : Command → Bool
+keeper_of d = uses_keeper (Some d)
+
+-- and for the crew
+abbrev pub crew_of : Command → Bool
+crew_of d = uses_crew (Some d)
+
+-- a command that names a closing line alone wrote nothing before it
+pub wrote_silent : (a : Answer) (c : Closing) (old : Option (List ℕ)) → StandsBefore a c [] →
+    Wrote a (Ok (Some c)) old old
+wrote_silent a c old stands = ([], stands, appends_none old)
+
+-- a read fault of a command that reads the source alone is the source's
+pub by_source : (before now aside : ℕ) (plan : Option (ℕ → Bool)) (uses : Bool) (aside_fine failed named : Type 0) →
+    uses ≡ true → (named → failed) → FaultsByPlan before now plan failed →
+    ReadFaults before now aside aside (uses ≡ true → NeverFails plan) aside_fine named
+by_source before now aside plan uses aside_fine failed named used same f =
+    record {
+      later = f.later;
+      aside_later = omega arith;
+      cause = λ bad. inl (f.cause (same bad));
+      sure = λ fine other bad. f.sure (fine used) (same bad);
+    }
+
+-- and of one that reads an aside too, of one of the two
+pub by_both : (before now aside_before aside_now : ℕ) (plan aside_plan : Option (ℕ → Bool)) (uses asks : Bool)
+    (failed named : Type 0) → uses ≡ true → asks ≡ true → (named → failed) →
+    ReadFaults before now aside_before aside_now (NeverFails plan) (NeverFails aside_plan) failed →
+    ReadFaults before now aside_before aside_now (uses ≡ true → NeverFails plan) (asks ≡ true →
+    NeverFails aside_plan) named
+by_both before now aside_before aside_now plan aside_plan uses asks failed named used aside_used same f =
+    record {
+      later = f.later;
+      aside_later = f.aside_later;
+      cause = λ bad. f.cause (same bad);
+      sure = λ fine aside_fine bad. f.sure (fine used) (aside_fine aside_used) (same bad);
+    }
+
+module _ (w : WhenRefused) (limits : Limits) (asked : Comparison) (bytes lines : List ℕ) (o : Office)
+    (now : Option Office) (c : Closing) where
+  -- a comparison keeps what was kept
+  pub compare_keeps : now ≡ Some o → KeepsBy (sort_of c) w (compare_row limits asked bytes lines o) o now
+  compare_keeps kept =
+      closing_same w (compare_row limits asked bytes lines o) o now c (same_row limits asked bytes lines o) kept
+
+  -- and names its line alone
+  pub compare_did : (old : Option (List ℕ)) → StandsBefore (compare_row limits asked bytes lines o) c [] → now ≡ Some o
+      → Did w (compare_row limits asked bytes lines o) o old old now (Ok (Some c))
+  compare_did old stands kept =
+      did_silent w (compare_row limits asked bytes lines o) o old old now c (no_row_text limits asked bytes lines o)
+      stands (compare_keeps kept) (appends_none old)

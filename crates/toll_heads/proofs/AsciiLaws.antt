@@ -1,0 +1,75 @@
+-- A path that names a place of the desk is ASCII.
+use Rattle.std.proofs.Common.{◌≡◌, ℕ, nat_le, suc, Bool, true, false, List, ◌∷◌, ◌++◌, codes, length, drop, Option}
+use Rattle.std.proofs.Common.{Some, None, refl, sym, ap, subst, ◌∙◌, arith, []}
+use Rattle.std.specs.List.{list_all}
+use Rattle.std.specs.Str.{bytes_eq, IsAscii, IsUtf8}
+use Rattle.std.proofs.lemmas.Bool.{and_parts, leb-true}
+use Rattle.std.proofs.lemmas.Str.{IsUtf8-from_ascii}
+use Rattle.std.proofs.lemmas.Str.Ascii.{IsAscii-nil, IsAscii-cons}
+use Rattle.toll_heads.specs.Numbers.{number_in}
+use Rattle.toll_heads.specs.Paths.{parts_of, begins_with, place_of, day_place, live_place, spent_of}
+use Rattle.toll_heads.specs.declared.place.Place.{Place}
+use Rattle.toll_heads.specs.Places.{PlacesAreAscii}
+use Rattle.toll_heads.proofs.PlaceLaws.{spent_parts, place_cases}
+use Rattle.toll_heads.proofs.PartLaws.{number_part, glued, glue_parts, bytes_same, front_is}
+
+-- text in two parts
+ascii_append : (xs ys : List ℕ) → IsAscii xs → IsAscii ys → IsAscii (xs ++ ys)
+ascii_append [] ys a b = b
+ascii_append (x ∷ xs) ys a b = IsAscii-cons x (xs ++ ys) (a 0) (ascii_append xs ys (λ i. a (suc i)) b)
+
+-- bytes up to 127
+ascii_bytes : (bs : List ℕ) → list_all (λ b. nat_le b 127) bs ≡ true → IsAscii bs
+ascii_bytes [] e = IsAscii-nil
+ascii_bytes (b ∷ bs) e =
+    let p = and_parts _ _ e in
+    let low = leb-true b 127 p.0 in
+    IsAscii-cons b bs (omega (arith, low)) (ascii_bytes bs p.1)
+
+-- a day
+day_ascii : (text : List ℕ) (p : Place) (n : Option ℕ) → number_in 70 1000000 text ≡ n → day_place n ≡ Some p →
+    IsAscii text
+day_ascii text p None is e = absurd (cc e)
+day_ascii text p (Some n) is e = (number_part 70 1000000 text n is).1
+
+-- a vehicle
+live_ascii : (text : List ℕ) (p : Place) (n : Option ℕ) → number_in 0 2147483647 text ≡ n → live_place n ≡ Some p →
+    IsAscii text
+live_ascii text p None is e = absurd (cc e)
+live_ascii text p (Some n) is e = (number_part 0 2147483647 text n is).1
+
+-- a charge: three numbers with slashes between them
+spent_ascii : (text : List ℕ) (p : Place) → spent_of (parts_of text) ≡ Some p → IsAscii text
+spent_ascii text p e =
+    let s = spent_parts (parts_of text) p e in
+    let joined : text ≡ s.0 ++ 47 ∷ (s.1 ++ 47 ∷ s.2) = sym (glue_parts text) ∙ ap glued s.3 in
+    let last = IsAscii-cons 47 s.2 (omega arith) s.6.1 in
+    subst IsAscii (sym joined)
+    (ascii_append s.0 _ s.4.1 (IsAscii-cons 47 _ (omega arith) (ascii_append s.1 _ s.5.1 last)))
+
+-- a path that names a place is ASCII
+pub places_are_ascii : PlacesAreAscii
+places_are_ascii path p is = by (bytes_eq path (codes "/live")) refl (begins_with path (codes "/days/")) refl
+    (begins_with path (codes "/live/")) refl (begins_with path (codes "/spent/")) refl is
+  where
+    behind : (front : List ℕ) → begins_with path front ≡ true → list_all (λ b. nat_le b 127) front ≡ true →
+        IsAscii (drop (length front) path) → IsAscii path
+    behind front b e rest =
+        subst IsAscii (sym (front_is path front b)) (ascii_append front _ (ascii_bytes front e) rest)
+
+    by : (u : Bool) → bytes_eq path (codes "/live") ≡ u → (v : Bool) → begins_with path (codes "/days/") ≡ v →
+        (w : Bool) → begins_with path (codes "/live/") ≡ w → (x : Bool) → begins_with path (codes "/spent/") ≡ x
+        → place_cases path u v w x ≡ Some p → IsAscii path
+    by true a v b w c x d e = subst IsAscii (sym (bytes_same path (codes "/live") a)) (ascii_bytes (codes "/live") refl)
+    by false a true b w c x d e = behind (codes "/days/") b refl (day_ascii (drop 6 path) p _ refl e)
+    by false a false b true c x d e = behind (codes "/live/") c refl (live_ascii (drop 6 path) p _ refl e)
+    by false a false b false c true d e = behind (codes "/spent/") d refl (spent_ascii (drop 7 path) p e)
+    by false a false b false c false d e = absurd (cc e)
+
+-- bytes that are no text name no place
+pub no_text : (path : List ℕ) → (IsUtf8 path → ⊥) → None ≡ place_of path
+no_text path bad = by (place_of path) refl
+  where
+    by : (o : Option Place) → place_of path ≡ o → None ≡ o
+    by None e = refl
+    by (Some p) e = absurd (bad (IsUtf8-from_ascii path (places_are_ascii path p e)))
