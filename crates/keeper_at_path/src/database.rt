@@ -3,6 +3,7 @@ ghost use Rattle.std.specs.Prelude.{◌≢◌, Some, IfOk};
 ghost use Rattle.keeper.specs.declared.kept.KeepFault.TheVariants.{NoMemory};
 
 use crate::at_path::AtPath;
+use crate::call::Call;
 use keeper::KeepFault;
 use keeper_proof::ProvedKeeper;
 use sqlite::Connection;
@@ -39,6 +40,25 @@ impl<S: AtPath> Database<S> {
         }
     }
 
+    /// Makes a call.
+    pub(crate) fn ask<C: Call + Drop>(&mut self, call: C) -> Result<C::Answer, KeepFault>
+        requires { C.fits call }
+        ensures { IfOk result C.answers }
+    {
+        call.ask(self.ready()?)
+    }
+
+    /// The keeper on the connection, which is made at the first call, and anew at the next where that was refused.
+    fn ready(&mut self) -> Result<&mut ProvedKeeper<S>, KeepFault> {
+        if self.kept.is_none() {
+            self.kept = Some(self.opened()?);
+        }
+        match &mut self.kept {
+            Some(kept) => Ok(kept),
+            None => Err(KeepFault::Failed),
+        }
+    }
+
     /// A keeper on a new connection. Where there was no memory to make its tables, the connection is let go.
     fn opened(&self) -> Result<ProvedKeeper<S>, KeepFault>
         ensures { IfOk result (λ kept. kept.unmade ≢ Some NoMemory) }
@@ -48,17 +68,6 @@ impl<S: AtPath> Database<S> {
         match kept.unmade() {
             Some(KeepFault::NoMemory) => Err(KeepFault::NoMemory),
             _ => Ok(kept),
-        }
-    }
-
-    /// The keeper on the connection, which is made at the first call, and anew at the next where that was refused.
-    pub(crate) fn ready(&mut self) -> Result<&mut ProvedKeeper<S>, KeepFault> {
-        if self.kept.is_none() {
-            self.kept = Some(self.opened()?);
-        }
-        match &mut self.kept {
-            Some(kept) => Ok(kept),
-            None => Err(KeepFault::Failed),
         }
     }
 }

@@ -3,6 +3,8 @@ ghost use Rattle.std.specs.Prelude.{None};
 
 use crate::at_path::AtPath;
 use crate::keeper_in::KeeperIn;
+use crate::puts::{PutDay, PutPast, PutTariff};
+use crate::reads::{Day, KeptTariffs, LastDay, Past, Rows, Spent, VehicleRows};
 use keeper::{DayRecord, KeepFault, Keeper, PastRecord};
 use road_time::{SpentRow, Tariff, Tariffs};
 
@@ -21,52 +23,42 @@ impl<S: AtPath> Keeper for KeeperIn<S> {
     ghost needs_memory = { true };
 
     fn last_day(&mut self) -> Result<u32, KeepFault> {
-        let answer = self.database.last_day();
-        self.hand_on(answer)
+        self.ask(LastDay)
     }
 
     fn day(&mut self, day: u32) -> Result<Option<DayRecord>, KeepFault> {
-        let answer = self.database.day(day);
-        self.hand_on(answer)
+        self.ask(Day { day })
     }
 
     fn past(&mut self) -> Result<Option<PastRecord>, KeepFault> {
-        let answer = self.database.past();
-        self.hand_on(answer)
+        self.ask(Past)
     }
 
     fn spent(&mut self, day: u32, vid: u32, xway: u8) -> Result<u64, KeepFault> {
-        let answer = self.database.spent(day, vid, xway);
-        self.hand_on(answer)
+        self.ask(Spent { day, vid, xway })
     }
 
     fn rows(&mut self, from: u32, to: u32) -> Result<Vec<SpentRow>, KeepFault> {
-        let answer = self.database.rows(from, to);
-        self.hand_on(answer)
+        self.ask(Rows { from, to })
     }
 
     fn vehicle_rows(&mut self, vid: u32, from: u32, to: u32) -> Result<Vec<SpentRow>, KeepFault> {
-        let answer = self.database.vehicle_rows(vid, from, to);
-        self.hand_on(answer)
+        self.ask(VehicleRows { vid, from, to })
     }
 
     fn tariffs(&mut self) -> Result<Tariffs, KeepFault> {
-        let answer = self.database.tariffs();
-        self.hand_on(answer)
+        self.ask(KeptTariffs)
     }
 
     fn put_day(&mut self, kept: &DayRecord, rows: &[SpentRow]) -> Result<(), KeepFault> {
-        let answer = self.database.put_day(kept, rows);
-        self.hand_on(answer)
+        self.ask(PutDay { kept, rows })
     }
 
     fn put_past(&mut self, kept: &PastRecord, rows: &[SpentRow]) -> Result<(), KeepFault> {
-        let answer = self.database.put_past(kept, rows);
-        self.hand_on(answer)
+        self.ask(PutPast { kept, rows })
     }
 
     fn put_tariff(&mut self, xway: u8, tariff: &Tariff) -> Result<(), KeepFault> {
-        let answer = self.database.put_tariff(xway, tariff);
-        self.hand_on(answer)
+        self.ask(PutTariff { xway, tariff })
     }
 }

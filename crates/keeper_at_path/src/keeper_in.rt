@@ -4,6 +4,7 @@ ghost use Rattle.keeper.specs.Calls.{CountsFaults};
 ghost use Rattle.keeper.specs.declared.kept.KeepFault.TheVariants.{Failed};
 
 use crate::at_path::AtPath;
+use crate::call::Call;
 use crate::database::Database;
 use keeper::KeepFault;
 use keeper_writes::refusals::count;
@@ -15,8 +16,8 @@ use std::rt::HostRuntime;
 /// A database that counts the calls that failed.
 #[derive(Drop)]
 pub struct KeeperIn<S: AtPath> {
-    pub(crate) database: Database<S>,
-    pub(crate) faults: u64,
+    database: Database<S>,
+    faults: u64,
 }
 
 impl<S: AtPath> KeeperIn<S> {
@@ -40,8 +41,18 @@ impl<S: AtPath> KeeperIn<S> {
         database.give_up()
     }
 
+    /// Makes a call, and counts it where it failed.
+    pub fn ask<C: Call + Drop>(&mut self, call: C) -> Result<C::Answer, KeepFault>
+        requires { C.fits call }
+        ensures answers { IfOk result C.answers }
+        ensures cause { CountsFaults self.old.faults self.new.faults result }
+    {
+        let answer = self.database.ask(call);
+        self.hand_on(answer)
+    }
+
     /// Hands an answer on. A failure is counted, and lets the connection go, so that the next call opens the file anew.
-    pub(crate) fn hand_on<T>(&mut self, answer: Result<T, KeepFault>) -> Result<T, KeepFault>
+    fn hand_on<T>(&mut self, answer: Result<T, KeepFault>) -> Result<T, KeepFault>
         ensures same { result ≡ answer }
         ensures cause { CountsFaults self.old.faults self.new.faults answer }
         ensures anew { answer ≡ Err Failed → self.new.database.kept ≡ None }

@@ -5,9 +5,6 @@ use sqlite_disk::{Disk, Fuse, Memory};
 use sqlite_pager::Options;
 use std::alloc::Global;
 
-/// A disk that stops after some calls.
-pub type Fused = Fuse<Memory>;
-
 /// A connection to the database on disks, or the disks where it cannot be opened.
 pub fn open<D: Disk + Drop>(
     alloc: Global,
@@ -33,11 +30,30 @@ pub fn shut<D: Disk + Drop>(conn: Connection<FileStore<D>>) -> (bool, Files<D>) 
     }
 }
 
-/// Disks that hold nothing.
-pub fn empty_disks(alloc: Global) -> Files<Memory> {
+/// A disk in memory that stops after some calls.
+pub trait Stopping: Disk + Drop {
+    /// A disk that holds what another does.
+    fn over(disk: Memory, calls: u64) -> Self;
+
+    /// What it holds.
+    fn held(&self) -> &Memory;
+}
+
+impl Stopping for Fuse<Memory> {
+    fn over(disk: Memory, calls: u64) -> Fuse<Memory> {
+        Fuse::new(disk, calls)
+    }
+
+    fn held(&self) -> &Memory {
+        self.inner()
+    }
+}
+
+/// Disks that hold nothing, and do not stop.
+pub fn empty_disks<D: Stopping>(alloc: Global) -> Files<D> {
     Files {
-        log: Memory::new(alloc),
-        db: Memory::new(alloc),
+        log: D::over(Memory::new(alloc), u64::MAX),
+        db: D::over(Memory::new(alloc), u64::MAX),
     }
 }
 
@@ -53,9 +69,17 @@ fn copy(alloc: Global, from: &Memory) -> Result<Memory, KeepFault> {
     Ok(disk)
 }
 
-/// What disks hold that stopped, on disks that do not.
-pub fn found(alloc: Global, stopped: &Files<Fused>) -> Result<Files<Memory>, KeepFault> {
-    let log = copy(alloc, stopped.log.inner())?;
-    let db = copy(alloc, stopped.db.inner())?;
-    Ok(Files { log, db })
+/// What disks hold, on disks that stop after so many calls, the one for the log and the other for the file.
+pub fn copied<D: Stopping>(
+    alloc: Global,
+    disks: &Files<D>,
+    of_log: u64,
+    of_file: u64,
+) -> Result<Files<D>, KeepFault> {
+    let log = copy(alloc, disks.log.held())?;
+    let db = copy(alloc, disks.db.held())?;
+    Ok(Files {
+        log: D::over(log, of_log),
+        db: D::over(db, of_file),
+    })
 }

@@ -13,18 +13,43 @@ mod same;
 mod stops;
 mod tables;
 
+use keeper::KeepFault;
+use keeper_proof::Steady;
+use sqlite::{Connection, MemStore};
+use sqlite_disk::{Fuse, Memory};
+use std::alloc::Global;
 use std::io;
 use std::rt::HostRuntime;
-use stops::{Stopped, stops};
+
+/// A new database in memory, without tables.
+fn new_memory(alloc: Global) -> Result<Connection<MemStore>, KeepFault> {
+    match Connection::open_in_memory(alloc) {
+        Ok(conn) => Ok(conn),
+        Err(_) => Err(KeepFault::NoMemory),
+    }
+}
+
+/// The rows over two databases without tables.
+fn over_tables<S: Steady>(
+    rt: HostRuntime,
+    new: Connection<S>,
+    other: Connection<S>,
+) -> io::Result<()> {
+    let steps = tables::steps(rt.alloc(), new);
+    println!(rt; "in memory, and the same: {steps:?}")?;
+    let old = old::taken_over(rt.alloc(), other);
+    println!(rt; "version 1: {old:?}")
+}
+
+/// The same over databases in memory; a line tells where there is no memory for them.
+fn over_memory(rt: HostRuntime) -> io::Result<()> {
+    let (Ok(new), Ok(other)) = (new_memory(rt.alloc()), new_memory(rt.alloc())) else {
+        return println!(rt; "no memory");
+    };
+    over_tables(rt, new, other)
+}
 
 fn main(rt: HostRuntime) -> io::Result<()> {
-    let alloc = rt.alloc();
-    let steps = tables::steps(alloc);
-    println!(rt; "in memory, and the same: {steps:?}")?;
-    let old = old::taken_over(alloc);
-    println!(rt; "version 1: {old:?}")?;
-    let log = stops(alloc, Stopped::Log);
-    println!(rt; "the log stops: {log:?}")?;
-    let file = stops(alloc, Stopped::File);
-    println!(rt; "the file stops: {file:?}")
+    over_memory(rt)?;
+    stops::both_stop::<Fuse<Memory>>(rt)
 }

@@ -1,10 +1,9 @@
 // Tables of version 1 in memory.
 use crate::days::{history, row};
-use crate::tables::new_memory;
 use keeper::{DayRecord, Digester, KeepFault, Keeper};
 use keeper_proof::{ProvedKeeper, Steady};
 use road_time::Tariff;
-use sqlite::{Connection, MemStore};
+use sqlite::Connection;
 use std::alloc::Global;
 
 /// The tables of version 1 with day 100 without a tuple, and the history of vehicle 7 before it.
@@ -21,9 +20,9 @@ INSERT INTO days VALUES (100, x'e3b0c44298fc1c149afbf4c8996fb92427ae41e4649b934c
 INSERT INTO spent VALUES (99, 7, 0, 5), (31, 7, 0, 28);
 INSERT INTO past VALUES (1, 100, x'e3b0c44298fc1c149afbf4c8996fb92427ae41e4649b934ca495991b7852b855', 18, 2)";
 
-/// A connection to those tables.
-fn old_tables(alloc: Global) -> Result<Connection<MemStore>, KeepFault> {
-    let mut conn = new_memory(alloc)?;
+/// A connection to a database without tables, once it has those.
+fn with_old<S: Steady>(conn: Connection<S>) -> Result<Connection<S>, KeepFault> {
+    let mut conn = conn;
     match conn.execute_batch(OLD) {
         Ok(()) => Ok(conn),
         Err(_) => Err(KeepFault::Failed),
@@ -54,16 +53,11 @@ fn has_history<K: Keeper>(keeper: &mut K) -> Result<bool, KeepFault> {
     Ok(past && rows && keeper.tariffs()?.of(0) == Tariff::BENCHMARK)
 }
 
-/// Whether a database has its day and its history, also when it is adopted once more.
-fn taken_on<S: Steady>(alloc: Global, conn: Connection<S>) -> Result<[bool; 4], KeepFault> {
-    let mut keeper = ProvedKeeper::adopt(alloc, conn);
+/// Whether a database with those tables has its day and its history, also when it is adopted once more.
+pub fn taken_over<S: Steady>(alloc: Global, conn: Connection<S>) -> Result<[bool; 4], KeepFault> {
+    let mut keeper = ProvedKeeper::adopt(alloc, with_old(conn)?);
     let day = has_day(&mut keeper)?;
     let history = has_history(&mut keeper)?;
     let mut anew = ProvedKeeper::adopt(alloc, keeper.give_up());
     Ok([day, history, has_day(&mut anew)?, has_history(&mut anew)?])
-}
-
-/// The same of tables of version 1 in memory.
-pub fn taken_over(alloc: Global) -> Result<[bool; 4], KeepFault> {
-    taken_on(alloc, old_tables(alloc)?)
 }

@@ -1,15 +1,16 @@
 // A day that is put over disks that stop.
 use crate::days::{day, put_day, row};
-use crate::disks::{Fused, empty_disks, found, open, shut};
+use crate::disks::{Stopping, copied, empty_disks, open, shut};
 use keeper::{Digester, KeepFault, Keeper};
 use keeper_proof::{ProvedKeeper, Steady};
 use sqlite::{Connection, Files};
-use sqlite_disk::{Fuse, Memory};
 use std::alloc::Global;
+use std::io;
+use std::rt::HostRuntime;
 
 /// Which of the two disks stops.
 #[derive(Clone, Copy, Debug, PartialEq, Eq)]
-pub enum Stopped {
+enum Stopped {
     Log,
     File,
 }
@@ -51,7 +52,7 @@ fn kept_in<S: Steady>(alloc: Global, conn: Connection<S>) -> Result<Kept, KeepFa
 }
 
 /// Disks whose database has its tables, and is closed.
-fn new_disks(alloc: Global) -> Result<Files<Memory>, KeepFault> {
+fn new_disks<D: Stopping>(alloc: Global) -> Result<Files<D>, KeepFault> {
     let Ok(conn) = open(alloc, empty_disks(alloc)) else {
         return Err(KeepFault::Failed);
     };
@@ -62,7 +63,7 @@ fn new_disks(alloc: Global) -> Result<Files<Memory>, KeepFault> {
 }
 
 /// Puts the day over disks and closes them; how far that went, and the disks then.
-fn put_over(alloc: Global, disks: Files<Fused>) -> (Went, Files<Fused>) {
+fn put_over<D: Stopping>(alloc: Global, disks: Files<D>) -> (Went, Files<D>) {
     let conn = match open(alloc, disks) {
         Ok(conn) => conn,
         Err(left) => return (Went::NotPut, left),
@@ -73,7 +74,7 @@ fn put_over(alloc: Global, disks: Files<Fused>) -> (Went, Files<Fused>) {
 }
 
 /// How much of the day disks hold.
-fn kept_on(alloc: Global, disks: Files<Memory>) -> Result<Kept, KeepFault> {
+fn kept_on<D: Stopping>(alloc: Global, disks: Files<D>) -> Result<Kept, KeepFault> {
     let Ok(conn) = open(alloc, disks) else {
         return Ok(Kept::Part);
     };
@@ -107,23 +108,28 @@ fn kept_by<K: Keeper>(keeper: &mut K) -> Result<Kept, KeepFault> {
     }
 }
 
-/// Disks of which one stops after some calls.
-fn fused(disks: Files<Memory>, stopped: Stopped, calls: u64) -> Files<Fused> {
-    let (of_log, of_file) = match stopped {
-        Stopped::Log => (calls, u64::MAX),
-        Stopped::File => (u64::MAX, calls),
-    };
-    Files {
-        log: Fuse::new(disks.log, of_log),
-        db: Fuse::new(disks.db, of_file),
+/// The disks, of which one stops after some calls.
+fn stopping<D: Stopping>(
+    alloc: Global,
+    disks: &Files<D>,
+    stopped: Stopped,
+    calls: u64,
+) -> Result<Files<D>, KeepFault> {
+    match stopped {
+        Stopped::Log => copied(alloc, disks, calls, u64::MAX),
+        Stopped::File => copied(alloc, disks, u64::MAX, calls),
     }
 }
 
 /// How far a run goes where a disk stops after some calls, and how much of the day is kept then.
-fn run(alloc: Global, stopped: Stopped, calls: u64) -> Result<(Went, Kept), KeepFault> {
-    let disks = new_disks(alloc)?;
-    let (went, left) = put_over(alloc, fused(disks, stopped, calls));
-    let kept = kept_on(alloc, found(alloc, &left)?)?;
+fn run<D: Stopping>(
+    alloc: Global,
+    stopped: Stopped,
+    calls: u64,
+) -> Result<(Went, Kept), KeepFault> {
+    let disks = new_disks::<D>(alloc)?;
+    let (went, left) = put_over(alloc, stopping(alloc, &disks, stopped, calls)?);
+    let kept = kept_on(alloc, copied(alloc, &left, u64::MAX, u64::MAX)?)?;
     Ok((went, kept))
 }
 
@@ -138,10 +144,10 @@ fn is_whole(went: Went, kept: Kept) -> bool {
 
 /// How many runs stopped, after how many of them the day is kept, and whether each left what it may, also the one that
 /// did not stop.
-pub fn stops(alloc: Global, stopped: Stopped) -> Result<(u64, u64, bool), KeepFault> {
+fn stops<D: Stopping>(alloc: Global, stopped: Stopped) -> Result<(u64, u64, bool), KeepFault> {
     let mut days = 0u64;
     for calls in 0..10_000u64 {
-        let (went, kept) = run(alloc, stopped, calls)?;
+        let (went, kept) = run::<D>(alloc, stopped, calls)?;
         if !is_whole(went, kept) {
             return Ok((calls, days, false));
         }
@@ -153,4 +159,12 @@ pub fn stops(alloc: Global, stopped: Stopped) -> Result<(u64, u64, bool), KeepFa
         }
     }
     Err(KeepFault::Failed)
+}
+
+/// The same where the disk of the log stops, and where that of the file does.
+pub fn both_stop<D: Stopping>(rt: HostRuntime) -> io::Result<()> {
+    let log = stops::<D>(rt.alloc(), Stopped::Log);
+    println!(rt; "the log stops: {log:?}")?;
+    let file = stops::<D>(rt.alloc(), Stopped::File);
+    println!(rt; "the file stops: {file:?}")
 }

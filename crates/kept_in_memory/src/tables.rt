@@ -3,16 +3,8 @@ use crate::days::{put_day, put_history, put_tariff, take_tariff};
 use crate::same::agree;
 use keeper::{KeepFault, Keeper, MemKeeper};
 use keeper_proof::{ProvedKeeper, Steady};
-use sqlite::{Connection, MemStore};
+use sqlite::Connection;
 use std::alloc::Global;
-
-/// A new database in memory, without tables.
-pub fn new_memory(alloc: Global) -> Result<Connection<MemStore>, KeepFault> {
-    match Connection::open_in_memory(alloc) {
-        Ok(conn) => Ok(conn),
-        Err(_) => Err(KeepFault::NoMemory),
-    }
-}
 
 /// What both say at first, after the history, the day and the tariff, and after it is taken away.
 fn steps_over<K: Keeper, L: Keeper>(
@@ -33,7 +25,7 @@ fn steps_over<K: Keeper, L: Keeper>(
 }
 
 /// What both say at each step, and once the database is adopted anew.
-fn steps_on<S: Steady>(
+pub fn steps<S: Steady>(
     alloc: Global,
     conn: Connection<S>,
 ) -> Result<([(u32, bool); 5], (u32, bool)), KeepFault> {
@@ -42,9 +34,4 @@ fn steps_on<S: Steady>(
     let steps = steps_over(&mut tables, &mut plain)?;
     let mut anew = ProvedKeeper::adopt(alloc, tables.give_up());
     Ok((steps, agree(&mut anew, &mut plain)?))
-}
-
-/// The same of a new database in memory.
-pub fn steps(alloc: Global) -> Result<([(u32, bool); 5], (u32, bool)), KeepFault> {
-    steps_on(alloc, new_memory(alloc)?)
 }

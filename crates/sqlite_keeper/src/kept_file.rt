@@ -1,8 +1,12 @@
 // A keeper in a SQLite file.
-ghost use Rattle.std.specs.Prelude.{◌≡◌, IfOk, None};
+ghost use Rattle.std.specs.Prelude.{◌≡◌, None, IfOk};
+ghost use Rattle.keeper.specs.Calls.{CountsFaults};
 
 use keeper::{DayRecord, KeepFault, Keeper, PastRecord};
-use keeper_at_path::{KeeperIn, KeptStore};
+use keeper_at_path::{
+    Call, Day, KeeperIn, KeptStore, KeptTariffs, LastDay, Past, PutDay, PutPast, PutTariff, Rows,
+    Spent, VehicleRows,
+};
 use keeper_writes::refusals::refusal;
 use road_time::{NoMemory, SpentRow, Tariff, Tariffs};
 use sqlite::Connection;
@@ -38,6 +42,15 @@ impl SqliteKeeper {
             None => Ok(()),
         }
     }
+
+    /// Makes a call. It alone hands one on to the store of files, which a check takes longest at.
+    fn ask<C: Call + Drop>(&mut self, call: C) -> Result<C::Answer, KeepFault>
+        requires { C.fits call }
+        ensures answers { IfOk result C.answers }
+        ensures cause { CountsFaults self.old.in_file.faults self.new.in_file.faults result }
+    {
+        self.in_file.ask(call)
+    }
 }
 
 /// Closes the file of a connection.
@@ -63,42 +76,42 @@ impl Keeper for SqliteKeeper {
     ghost needs_memory = { true };
 
     fn last_day(&mut self) -> Result<u32, KeepFault> {
-        self.in_file.last_day()
+        self.ask(LastDay)
     }
 
     fn day(&mut self, day: u32) -> Result<Option<DayRecord>, KeepFault> {
-        self.in_file.day(day)
+        self.ask(Day { day })
     }
 
     fn past(&mut self) -> Result<Option<PastRecord>, KeepFault> {
-        self.in_file.past()
+        self.ask(Past)
     }
 
     fn spent(&mut self, day: u32, vid: u32, xway: u8) -> Result<u64, KeepFault> {
-        self.in_file.spent(day, vid, xway)
+        self.ask(Spent { day, vid, xway })
     }
 
     fn rows(&mut self, from: u32, to: u32) -> Result<Vec<SpentRow>, KeepFault> {
-        self.in_file.rows(from, to)
+        self.ask(Rows { from, to })
     }
 
     fn vehicle_rows(&mut self, vid: u32, from: u32, to: u32) -> Result<Vec<SpentRow>, KeepFault> {
-        self.in_file.vehicle_rows(vid, from, to)
+        self.ask(VehicleRows { vid, from, to })
     }
 
     fn tariffs(&mut self) -> Result<Tariffs, KeepFault> {
-        self.in_file.tariffs()
+        self.ask(KeptTariffs)
     }
 
     fn put_day(&mut self, kept: &DayRecord, rows: &[SpentRow]) -> Result<(), KeepFault> {
-        self.in_file.put_day(kept, rows)
+        self.ask(PutDay { kept, rows })
     }
 
     fn put_past(&mut self, kept: &PastRecord, rows: &[SpentRow]) -> Result<(), KeepFault> {
-        self.in_file.put_past(kept, rows)
+        self.ask(PutPast { kept, rows })
     }
 
     fn put_tariff(&mut self, xway: u8, tariff: &Tariff) -> Result<(), KeepFault> {
-        self.in_file.put_tariff(xway, tariff)
+        self.ask(PutTariff { xway, tariff })
     }
 }

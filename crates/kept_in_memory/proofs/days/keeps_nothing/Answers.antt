@@ -13,6 +13,8 @@ returns g c e =
     let none : c.past.result ≡ Ok None = cc in
     let last : c.last_day.result ≡ Ok c.in_ok-last.last = cc in
     let read = told_now before after c.last_day.result c.in_ok-last.last last_day c.last_day.ensures.state last in
-    nothing_told before after (reads_same before after c.last_day.result (λ o n. n ≡ last_day o) c.last_day.ensures.state) c.last_day.ensures.sound
+    nothing_told before after
+    (reads_same before after c.last_day.result (λ o n. n ≡ last_day o) c.last_day.ensures.state)
+    c.last_day.ensures.sound
     (told_now first before c.past.result None (λ o. o.past) c.past.ensures.state none)
     (subst (λ (n : ℕ). IfTold after (λ o. last_day o ≡ n)) (zero_if c.in_ok-last.last e) read)

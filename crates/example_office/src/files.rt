@@ -1,43 +1,34 @@
-//! What a keeper in a file keeps: the answers of the keeper in memory, a file of version 1, files that are spoiled, and
-//! calls that are refused.
-//!
-//! It makes its files where it runs, but for `theirs.db`, which lies there: sqlite3 3.40.1 made it from `theirs.sql`.
-//! It prints a line for each row.
-#![tactic(auto)]
-
-mod old;
-mod refused;
-mod sequence;
-mod spoiled;
-mod worked;
-
-use keeper_at_path::{AtPath, KeptStore};
-use spoiled::{Spoiled, answered, is_made};
-use std::io;
+// What a keeper in a file keeps: the answers of the keeper in memory, a file of version 1, files that are spoiled, and
+// calls that are refused. It prints a line for each row.
+use crate::spoiled::{Spoiled, answered, is_made};
+use crate::{old, refused, sequence};
+use keeper_at_path::AtPath;
 use std::rt::HostRuntime;
 
 /// The last day of a file when it is new, after a history and after a day, each with what both keepers say then.
-fn last_days<S: AtPath>(rt: HostRuntime) -> io::Result<()> {
+fn last_days<S: AtPath>(rt: HostRuntime) -> anyhow::Result<()> {
     let new = sequence::at_first::<S>(rt);
     println!(rt; "new, and the same: {new:?}")?;
     let history = sequence::after_history::<S>(rt);
     println!(rt; "after a history, and the same: {history:?}")?;
     let day = sequence::after_day::<S>(rt);
-    println!(rt; "after a day, and the same: {day:?}")
+    println!(rt; "after a day, and the same: {day:?}")?;
+    Ok(())
 }
 
 /// The same steps over both keepers, and steps that change no day.
-fn further_steps<S: AtPath>(rt: HostRuntime) -> io::Result<()> {
+fn further_steps<S: AtPath>(rt: HostRuntime) -> anyhow::Result<()> {
     let tariff = sequence::with_tariff::<S>(rt, 5);
     println!(rt; "with a tariff, and the same: {tariff:?}")?;
     let refusal = sequence::after_refusal::<S>(rt);
     println!(rt; "after a refusal, and the same: {refusal:?}")?;
     let benchmark = sequence::with_tariff::<S>(rt, 2);
-    println!(rt; "with the benchmark's tariff, and the same: {benchmark:?}")
+    println!(rt; "with the benchmark's tariff, and the same: {benchmark:?}")?;
+    Ok(())
 }
 
 /// The files that are spoiled, each in its way.
-fn spoiled_files<S: AtPath>(rt: HostRuntime) -> io::Result<()> {
+fn spoiled_files<S: AtPath>(rt: HostRuntime) -> anyhow::Result<()> {
     for spoiled in [
         Spoiled::ShortDigest,
         Spoiled::NegativeNumber,
@@ -59,35 +50,38 @@ fn spoiled_files<S: AtPath>(rt: HostRuntime) -> io::Result<()> {
 }
 
 /// The files that are none.
-fn odd_files<S: AtPath>(rt: HostRuntime) -> io::Result<()> {
+fn odd_files<S: AtPath>(rt: HostRuntime) -> anyhow::Result<()> {
     std::fs::write(&rt, "text.db", "kept days")?;
     let text = refused::is_fault::<S>(rt, "text.db");
     let left = std::fs::read_to_string(&rt, "text.db")?;
     println!(rt; "a text is a fault: {text:?}, and stays: {left}")?;
     let missing = refused::is_fault::<S>(rt, "missing/kept.db");
-    println!(rt; "a missing folder is a fault: {missing:?}")
+    println!(rt; "a missing folder is a fault: {missing:?}")?;
+    Ok(())
 }
 
 /// The calls that are refused, and what they leave.
-fn refusals<S: AtPath>(rt: HostRuntime) -> io::Result<()> {
+fn refusals<S: AtPath>(rt: HostRuntime) -> anyhow::Result<()> {
     let whole = refused::at_the_last_amount::<S>(rt, "refused.db");
     println!(rt; "refused at the last amount: {whole:?}")?;
     let open = refused::while_open::<S>(rt, "open.db");
     println!(rt; "refused while open: {open:?}")?;
     let after = refused::after_a_fault::<S>(rt, "mended.db");
-    println!(rt; "mended after a fault: {after:?}")
+    println!(rt; "mended after a fault: {after:?}")?;
+    Ok(())
 }
 
 /// A file that was closed, copied without the log that stood beside it.
-fn closed_file<S: AtPath>(rt: HostRuntime) -> io::Result<()> {
+fn closed_file<S: AtPath>(rt: HostRuntime) -> anyhow::Result<()> {
     let closed = refused::closed::<S>(rt, "closed.db");
     std::fs::copy(&rt, "closed.db", "copied.db")?;
     let day = refused::has_day::<S>(rt, "copied.db");
-    println!(rt; "closed: {closed:?}, and a copy has the day: {day:?}")
+    println!(rt; "closed: {closed:?}, and a copy has the day: {day:?}")?;
+    Ok(())
 }
 
-/// All rows, over the keeper in a store.
-fn rows<S: AtPath>(rt: HostRuntime) -> io::Result<()> {
+/// All rows.
+pub fn rows<S: AtPath>(rt: HostRuntime) -> anyhow::Result<()> {
     last_days::<S>(rt)?;
     further_steps::<S>(rt)?;
     let theirs = sequence::of_another::<S>(rt, "theirs.db");
@@ -98,10 +92,6 @@ fn rows<S: AtPath>(rt: HostRuntime) -> io::Result<()> {
     odd_files::<S>(rt)?;
     refusals::<S>(rt)?;
     let alone = old::with_one_table::<S>(rt);
-    println!(rt; "one of the tables alone is a fault: {alone:?}")
-}
-
-fn main(rt: HostRuntime) -> io::Result<()> {
-    rows::<KeptStore>(rt)?;
-    closed_file::<KeptStore>(rt)
+    println!(rt; "one of the tables alone is a fault: {alone:?}")?;
+    closed_file::<S>(rt)
 }

@@ -5,7 +5,7 @@ use keeper_at_path::{AtPath, KeeperIn};
 use road_time::Tariff;
 use std::rt::HostRuntime;
 
-const FILE: &str = "old.db";
+const FILE: &str = "version_1.db";
 
 /// The tables of version 1 with day 100 without a tuple, and the history of vehicle 7 before it.
 const OLD: &str =

@@ -18,7 +18,18 @@ unfolding IsStrictlySortedBy
 two_rise = ((refl, tt), (tt, tt))
 
 -- day 100, which charges 5
-pub day_fits : (k : DayRecord) (a b : SpentRow) (d : Digest) → k ≡ record { day = 100; digest = d; bytes = 40; tuples = 2; notices = 1; notices_digest = d; tariffs = d; total = 5 } → a ≡ amount 100 3 → b ≡ other_amount → IsDayPut k (a ∷ b ∷ [])
+pub day_fits : (k : DayRecord) (a b : SpentRow) (d : Digest) →
+    k ≡ record {
+      day = 100;
+      digest = d;
+      bytes = 40;
+      tuples = 2;
+      notices = 1;
+      notices_digest = d;
+      tariffs = d;
+      total =
+          5;
+    } → a ≡ amount 100 3 → b ≡ other_amount → IsDayPut k (a ∷ b ∷ [])
 day_fits k a b d e f g =
     rw (e, f, g) (record {
       bytes = omega arith;
