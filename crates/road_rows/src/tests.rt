@@ -4,6 +4,7 @@ mod books;
 mod bytes;
 mod carriages;
 mod days;
+mod gates;
 mod lines;
 mod roads;
 mod rules;

@@ -8,11 +8,21 @@ use Rattle.keeper.specs.declared.kept.DayRecord.{DayRecord}
 use Rattle.keeper.specs.declared.kept.PastRecord.{PastRecord}
 use Rattle.keeper.specs.Office.{row_cmp}
 use Rattle.keeper.specs.Kept.{IsDayPut, IsPastPut}
-use Rattle.keeper.proofs.SoundLaws.{rise_none}
+use Rattle.keeper.proofs.ListFacts.{rise_none}
 
 -- day 100 without a tuple may be put
 pub day_fits : (r : DayRecord) (d : Digest)
-    → r ≡ record { day = 100; digest = d; bytes = 0; tuples = 0; notices = 0; notices_digest = d; tariffs = d; total = 0 }
+    → r ≡ record {
+      day = 100;
+      digest = d;
+      bytes = 0;
+      tuples = 0;
+      notices = 0;
+      notices_digest = d;
+      tariffs = d;
+      total =
+          0;
+    }
     → IsDayPut r []
 day_fits r d e =
     rw e (record {

@@ -17,8 +17,8 @@ fn three_accounts_are_answered(rt: HostRuntime) -> Result<(), NoMemory> {
         mut writer,
         readers,
     } = board(rt, rt.alloc(), 1)?;
-    let mut readers = readers.into_vec();
-    let answers = match readers.pop() {
+    let reader = readers.into_vec().pop();
+    let answers = match reader {
         Some(mut reader) => three_accounts(&mut writer, &mut reader),
         None => Err(NoMemory),
     };
@@ -31,8 +31,7 @@ fn three_accounts_are_answered(rt: HostRuntime) -> Result<(), NoMemory> {
 }
 
 /// A day after another begins with nothing, and the total is that of all vehicles. A reader that was made before, and
-/// is told
-/// nothing, is answered the same.
+/// is told nothing, is answered the same.
 #[test]
 fn a_new_day_begins_with_nothing(rt: HostRuntime) -> Result<(), NoMemory> {
     let Board {
@@ -61,8 +60,8 @@ fn a_refused_charge_is_not_shown(rt: HostRuntime) -> Result<(), NoMemory> {
         mut writer,
         readers,
     } = board(rt, rt.alloc(), 1)?;
-    let mut readers = readers.into_vec();
-    let answers = match readers.pop() {
+    let reader = readers.into_vec().pop();
+    let answers = match reader {
         Some(mut reader) => a_charge_that_may_be_refused(&mut writer, &mut reader),
         None => Err(NoMemory),
     };

@@ -2,6 +2,7 @@
 ghost use Rattle.std.specs.Prelude.{◌≡◌, IfOk};
 
 mod beside;
+mod faults;
 mod held;
 mod rows;
 mod sharing;
@@ -111,25 +112,6 @@ fn first_wrong<K: Keeper, C: Crew, R: Wait + Threads + Drop>(
     Ok(at)
 }
 
-/// The worked rows of requests, in whatever pieces their bytes come.
-#[test]
-fn each_request_has_its_answer(rt: HostRuntime) -> Result<(), NoMemory> {
-    let alloc = rt.alloc();
-    for piece in [1, 7, 1000] {
-        let keeper = MemKeeper::new(alloc, &[])?;
-        let Board { writer, readers } = board(rt, alloc, 1)?;
-        let mut readers = readers.into_vec();
-        let mut desk = desk_of(rt, alloc, keeper, writer);
-        let wrong = match readers.pop() {
-            Some(mut reader) => first_wrong(alloc, &mut desk, &mut reader, &ROWS, piece),
-            None => Err(NoMemory),
-        };
-        desk.end();
-        assert_eq!(rt; wrong?, ROWS.len());
-    }
-    Ok(())
-}
-
 /// What is asked after the day of a charge.
 const AFTER_A_CHARGE: [Row; 3] = [
     Row {
@@ -168,23 +150,6 @@ fn post_and_ask<R: Wait + Threads + Drop>(
     first_wrong(alloc, desk, reader, &AFTER_A_CHARGE, 100)
 }
 
-/// A day that is posted is seen at once by the reader of its session: an account, the total, and an amount.
-#[test]
-fn a_posted_day_is_seen_at_once(rt: HostRuntime) -> Result<(), NoMemory> {
-    let alloc = rt.alloc();
-    let keeper = MemKeeper::new(alloc, &[])?;
-    let Board { writer, readers } = board(rt, alloc, 1)?;
-    let mut readers = readers.into_vec();
-    let mut desk = desk_of(rt, alloc, keeper, writer);
-    let wrong = match readers.pop() {
-        Some(mut reader) => post_and_ask(alloc, &mut desk, &mut reader),
-        None => Err(NoMemory),
-    };
-    desk.end();
-    assert_eq!(rt; wrong?, AFTER_A_CHARGE.len());
-    Ok(())
-}
-
 /// How the first of two posts of the day of a charge ends, and which row of those after them is wrong, their count
 /// where the second post is answered and none is.
 fn post_twice<R: Wait + Threads + Drop>(
@@ -200,107 +165,76 @@ fn post_twice<R: Wait + Threads + Drop>(
     Ok((end, wrong))
 }
 
-/// A day that is posted while an allocation fails is answered as ever, or by 500; posted again it is kept and seen.
-/// `rt try --test --fail-alloc 1..` has each allocation fail in turn: then a run may end for want of memory too.
-#[test]
-fn a_post_without_memory_is_answered(rt: HostRuntime) -> Result<(), NoMemory> {
-    let alloc = rt.alloc();
+/// What is asked of a new desk: the worked rows in pieces of a size, or what follows a day of a charge that is posted
+/// once or twice.
+#[derive(Clone, Copy)]
+enum Asking {
+    Rows(usize),
+    Charge,
+    ChargeTwice,
+}
+
+/// How a first post ends, where there is one, and which row is wrong then, their count where none is.
+fn asked<R: Wait + Threads + Drop>(
+    alloc: Global,
+    desk: &mut Desk<MemKeeper, InlineCrew, R>,
+    reader: &mut BoardReader,
+    asking: Asking,
+) -> Result<(SessionEnd, usize), NoMemory>
+    requires board { reader.old.board ≡ desk.old.writer.board }
+{
+    let end = SessionEnd::Answered(200);
+    match asking {
+        Asking::Rows(piece) => Ok((end, first_wrong(alloc, desk, reader, &ROWS, piece)?)),
+        Asking::Charge => Ok((end, post_and_ask(alloc, desk, reader)?)),
+        Asking::ChargeTwice => post_twice(alloc, desk, reader),
+    }
+}
+
+/// The same of a new desk.
+fn asked_of_a_new_desk<R: Wait + Threads + Drop + Copy>(
+    rt: R,
+    alloc: Global,
+    asking: Asking,
+) -> Result<(SessionEnd, usize), NoMemory> {
     let keeper = MemKeeper::new(alloc, &[])?;
     let Board { writer, readers } = board(rt, alloc, 1)?;
     let mut readers = readers.into_vec();
     let mut desk = desk_of(rt, alloc, keeper, writer);
     let came = match readers.pop() {
-        Some(mut reader) => post_twice(alloc, &mut desk, &mut reader),
-        None => Err(NoMemory),
-    };
-    desk.end();
-    let (end, wrong) = came?;
-    assert!(rt; end == SessionEnd::Answered(200) || end == SessionEnd::Answered(500));
-    assert_eq!(rt; wrong, AFTER_A_CHARGE.len());
-    Ok(())
-}
-
-const EMPTY_DAY: &[u8] = b"POST /days/100 HTTP/1.1\r\nContent-Length: 0\r\n\r\n";
-
-const FOUR_LINES: &[u8] = b"POST /days/100 HTTP/1.1\r\nContent-Length: 4\r\n\r\n\n\n\n\n";
-
-/// How a session over a link ends, whether nothing was written, and how a POST of an empty day ends after it.
-fn then_an_empty_day<R: Wait + Threads + Drop>(
-    alloc: Global,
-    desk: &mut Desk<MemKeeper, InlineCrew, R>,
-    reader: &mut BoardReader,
-    link: &mut MemLink,
-) -> Result<(SessionEnd, bool, SessionEnd), NoMemory>
-    requires board { reader.old.board ≡ desk.old.writer.board }
-{
-    let end = session(alloc, link, reader, desk);
-    let silent = link.bytes().is_empty();
-    let (next, _) = ask(alloc, desk, reader, EMPTY_DAY, 100)?;
-    Ok((end, silent, next))
-}
-
-/// The same, of a new desk whose keeper fails at these calls.
-fn over_a_new_desk<R: Wait + Threads + Drop + Copy>(
-    rt: R,
-    alloc: Global,
-    fails: &[u32],
-    link: &mut MemLink,
-) -> Result<(SessionEnd, bool, SessionEnd), NoMemory> {
-    let keeper = MemKeeper::new(alloc, fails)?;
-    let Board { writer, readers } = board(rt, alloc, 1)?;
-    let mut readers = readers.into_vec();
-    let mut desk = desk_of(rt, alloc, keeper, writer);
-    let came = match readers.pop() {
-        Some(mut reader) => then_an_empty_day(alloc, &mut desk, &mut reader, link),
+        Some(mut reader) => asked(alloc, &mut desk, &mut reader, asking),
         None => Err(NoMemory),
     };
     desk.end();
     came
 }
 
-/// A POST that is cut at any byte is cut, answers nothing and stores nothing.
+/// The worked rows of requests, in whatever pieces their bytes come.
 #[test]
-fn a_cut_post_stores_nothing(rt: HostRuntime) -> Result<(), NoMemory> {
-    let alloc = rt.alloc();
-    for at in 0..FOUR_LINES.len() {
-        let mut link = MemLink::new(alloc, &FOUR_LINES[..at], 100, 1000, &[])?;
-        let came = over_a_new_desk(rt, alloc, &[], &mut link)?;
-        assert_eq!(rt;
-            came,
-            (SessionEnd::Cut, true, SessionEnd::Answered(200)),
-            "{at}"
-        );
+fn each_request_has_its_answer(rt: HostRuntime) -> Result<(), NoMemory> {
+    for piece in [1, 7, 1000] {
+        let (_, wrong) = asked_of_a_new_desk(rt, rt.alloc(), Asking::Rows(piece))?;
+        assert_eq!(rt; wrong, ROWS.len());
     }
     Ok(())
 }
 
-/// A POST whose link fails at a read, then at a write, and whose keeper fails at a call: the next POST is answered.
+/// A day that is posted is seen at once by the reader of its session: an account, the total, and an amount.
 #[test]
-fn a_fault_is_told(rt: HostRuntime) -> Result<(), NoMemory> {
-    let alloc = rt.alloc();
-    for call in 0..3u32 {
-        let mut link = MemLink::new(alloc, FOUR_LINES, 23, 1000, &[call])?;
-        let came = over_a_new_desk(rt, alloc, &[], &mut link)?;
-        assert_eq!(rt;
-            came,
-            (SessionEnd::LinkFault, true, SessionEnd::Answered(200)),
-            "{call}"
-        );
-    }
-    let mut narrow = MemLink::new(alloc, EMPTY_DAY, 100, 300, &[])?;
-    let came = over_a_new_desk(rt, alloc, &[], &mut narrow)?;
-    assert_eq!(rt;
-        came,
-        (SessionEnd::LinkFault, false, SessionEnd::Answered(200))
-    );
-    for call in 0..3u32 {
-        let mut link = MemLink::new(alloc, EMPTY_DAY, 100, 1000, &[])?;
-        let came = over_a_new_desk(rt, alloc, &[call], &mut link)?;
-        assert_eq!(rt;
-            came,
-            (SessionEnd::Answered(503), false, SessionEnd::Answered(200)),
-            "{call}"
-        );
-    }
+fn a_posted_day_is_seen_at_once(rt: HostRuntime) -> Result<(), NoMemory> {
+    let (_, wrong) = asked_of_a_new_desk(rt, rt.alloc(), Asking::Charge)?;
+    assert_eq!(rt; wrong, AFTER_A_CHARGE.len());
     Ok(())
 }
+
+/// A day that is posted while an allocation fails is answered as ever, or by 500; posted again it is kept and seen.
+/// `rt try --test --fail-alloc 1..` has each allocation fail in turn: then a run may end for want of memory too.
+#[test]
+fn a_post_without_memory_is_answered(rt: HostRuntime) -> Result<(), NoMemory> {
+    let (end, wrong) = asked_of_a_new_desk(rt, rt.alloc(), Asking::ChargeTwice)?;
+    assert!(rt; end == SessionEnd::Answered(200) || end == SessionEnd::Answered(500));
+    assert_eq!(rt; wrong, AFTER_A_CHARGE.len());
+    Ok(())
+}
+
+const EMPTY_DAY: &[u8] = b"POST /days/100 HTTP/1.1\r\nContent-Length: 0\r\n\r\n";

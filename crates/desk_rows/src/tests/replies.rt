@@ -29,63 +29,82 @@ const EMPTY: DayRecord = DayRecord {
     total: 0,
 };
 
+/// The body of the import of that day.
+const IMPORTED: &str = "{\"bytes\":0,\"day\":100,\
+    \"digest\":\"e3b0c44298fc1c149afbf4c8996fb92427ae41e4649b934ca495991b7852b855\",\"notices\":0,\
+    \"notices_digest\":\"e3b0c44298fc1c149afbf4c8996fb92427ae41e4649b934ca495991b7852b855\",\
+    \"outcome\":\"stored\",\
+    \"tariffs\":\"e3b0c44298fc1c149afbf4c8996fb92427ae41e4649b934ca495991b7852b855\",\"total\":0,\
+    \"tuples\":0}";
+
+/// How its answer begins.
+const FRONT: &str =
+    "HTTP/1.1 200 OK\r\nContent-Length: 310\r\nContent-Type: application/json\r\nConnection: close\r\n\r\n\
+    {\"bytes\":0,";
+
+/// A day with more in it, and its body.
+const BUSY: DayRecord = DayRecord {
+    bytes: 1999,
+    tuples: 56,
+    notices: 57,
+    total: u64::MAX,
+    ..EMPTY
+};
+
+/// The body of that day.
+const OF_A_BUSY_DAY: &str = "{\"bytes\":1999,\"day\":100,\
+    \"digest\":\"e3b0c44298fc1c149afbf4c8996fb92427ae41e4649b934ca495991b7852b855\",\"notices\":57,\
+    \"notices_digest\":\"e3b0c44298fc1c149afbf4c8996fb92427ae41e4649b934ca495991b7852b855\",\
+    \"tariffs\":\"e3b0c44298fc1c149afbf4c8996fb92427ae41e4649b934ca495991b7852b855\",\
+    \"total\":18446744073709551615,\"tuples\":56}";
+
+/// The body where a day differs from the one that is kept.
+const OF_OTHERS: &str =
+    "{\"error\":\"differs\",\"found\":\"0a0a0a0a0a0a0a0a0a0a0a0a0a0a0a0a0a0a0a0a0a0a0a0a0a0a0a0a0a0a0a0a\",\
+    \"kept\":\"e3b0c44298fc1c149afbf4c8996fb92427ae41e4649b934ca495991b7852b855\"}";
+
+/// Whether a text is this one.
+fn is(text: String, wanted: &str) -> bool {
+    text.as_str() == wanted
+}
+
+/// The texts of bodies that have a digest.
+#[test]
+fn bodies_with_digests(rt: HostRuntime) -> Result<(), NoMemory> {
+    let other = Digest { bytes: [0x0a; 32] };
+    assert!(rt; is(imported_body(rt.alloc(), &EMPTY, "stored")?, IMPORTED));
+    assert!(rt; is(day_body(rt.alloc(), &BUSY)?, OF_A_BUSY_DAY));
+    assert!(rt; is(differs_body(rt.alloc(), &NOTHING, &other)?, OF_OTHERS));
+    Ok(())
+}
+
 #[test]
 fn answers(rt: HostRuntime) -> Result<(), NoMemory> {
-    let alloc = rt.alloc();
-    let imported = imported_body(alloc, &EMPTY, "stored")?;
+    let reply = reply_text(rt.alloc(), StatusCode::OK, IMPORTED)?;
+    assert!(rt; reply.as_str().starts_with(FRONT));
+    let text = "{\"error\":\"memory\"}";
+    let memory = reply_text(rt.alloc(), StatusCode::INTERNAL_SERVER_ERROR, text)?;
+    assert!(rt; memory.as_bytes() == no_memory_text());
+    Ok(())
+}
+
+#[test]
+fn bodies(rt: HostRuntime) -> Result<(), NoMemory> {
+    let late = Cause::Late(10, 9);
+    let refused = "{\"cause\":\"late 10 9\",\"error\":\"refused\",\"line\":3}";
+    let live = "{\"as_of\":56,\"balance\":2,\"day\":100}";
+    let total = "{\"as_of\":56,\"day\":100,\"total\":2}";
+    assert!(rt; is(error_body(rt.alloc(), "no day")?, "{\"error\":\"no day\"}"));
+    assert!(rt; is(error_body(rt.alloc(), "memory")?, "{\"error\":\"memory\"}"));
     assert!(rt;
-        imported.as_str()
-            == "{\"bytes\":0,\"day\":100,\
-                \"digest\":\"e3b0c44298fc1c149afbf4c8996fb92427ae41e4649b934ca495991b7852b855\",\"notices\":0,\
-                \"notices_digest\":\"e3b0c44298fc1c149afbf4c8996fb92427ae41e4649b934ca495991b7852b855\",\
-                \"outcome\":\"stored\",\
-                \"tariffs\":\"e3b0c44298fc1c149afbf4c8996fb92427ae41e4649b934ca495991b7852b855\",\"total\":0,\
-                \"tuples\":0}"
-    );
-    let reply = reply_text(alloc, StatusCode::OK, imported.as_str())?;
-    assert!(rt;
-        reply.as_str().starts_with(
-            "HTTP/1.1 200 OK\r\nContent-Length: 310\r\nContent-Type: application/json\r\nConnection: close\r\n\r\n\
-                {\"bytes\":0,"
+        is(
+            passed_body(rt.alloc(), 100)?,
+            "{\"error\":\"passed\",\"last\":100}"
         )
     );
-    let busy = DayRecord {
-        bytes: 1999,
-        tuples: 56,
-        notices: 57,
-        total: u64::MAX,
-        ..EMPTY
-    };
-    assert!(rt;
-        day_body(alloc, &busy)?.as_str()
-            == "{\"bytes\":1999,\"day\":100,\
-                \"digest\":\"e3b0c44298fc1c149afbf4c8996fb92427ae41e4649b934ca495991b7852b855\",\"notices\":57,\
-                \"notices_digest\":\"e3b0c44298fc1c149afbf4c8996fb92427ae41e4649b934ca495991b7852b855\",\
-                \"tariffs\":\"e3b0c44298fc1c149afbf4c8996fb92427ae41e4649b934ca495991b7852b855\",\
-                \"total\":18446744073709551615,\"tuples\":56}"
-    );
-    let other = Digest { bytes: [0x0a; 32] };
-    let differs = differs_body(alloc, &NOTHING, &other)?;
-    assert!(rt;
-        differs.as_str()
-            == "{\"error\":\"differs\",\"found\":\"0a0a0a0a0a0a0a0a0a0a0a0a0a0a0a0a0a0a0a0a0a0a0a0a0a0a0a0a0a0a0a0a\",\
-                \"kept\":\"e3b0c44298fc1c149afbf4c8996fb92427ae41e4649b934ca495991b7852b855\"}"
-    );
-    assert!(rt; error_body(alloc, "no day")?.as_str() == "{\"error\":\"no day\"}");
-    assert!(rt; passed_body(alloc, 100)?.as_str() == "{\"error\":\"passed\",\"last\":100}");
-    assert!(rt;
-        refused_body(alloc, 3, &Cause::Late(10, 9))?.as_str()
-            == "{\"cause\":\"late 10 9\",\"error\":\"refused\",\"line\":3}"
-    );
-    assert!(rt; spent_body(alloc, 2)?.as_str() == "{\"spent\":2}");
-    assert!(rt;
-        live_body(alloc, 56, 2, 100)?.as_str() == "{\"as_of\":56,\"balance\":2,\"day\":100}"
-    );
-    assert!(rt;
-        total_body(alloc, 56, 100, 2)?.as_str() == "{\"as_of\":56,\"day\":100,\"total\":2}"
-    );
-    let memory = error_body(alloc, "memory")?;
-    let no_memory = reply_text(alloc, StatusCode::INTERNAL_SERVER_ERROR, memory.as_str())?;
-    assert!(rt; no_memory.as_bytes() == no_memory_text());
+    assert!(rt; is(refused_body(rt.alloc(), 3, &late)?, refused));
+    assert!(rt; is(spent_body(rt.alloc(), 2)?, "{\"spent\":2}"));
+    assert!(rt; is(live_body(rt.alloc(), 56, 2, 100)?, live));
+    assert!(rt; is(total_body(rt.alloc(), 56, 100, 2)?, total));
     Ok(())
 }

@@ -1,33 +1,12 @@
 // What comes of each request, byte for byte, however its bytes come in pieces.
+mod rows;
+
 use road_io::{Link, MemLink};
 use road_time::NoMemory;
+use rows::{ASKED, BAD_HEAD, NO_LENGTH, REFUSED, Refused};
 use std::alloc::Global;
 use toll_heads::Routes;
 use toll_requests::{Asked, BodyEnd, SessionEnd, read_asked, read_routed, skip_body};
-
-const BAD_HEAD: &[u8] =
-    b"HTTP/1.1 400 Bad Request\r\nContent-Length: 16\r\nContent-Type: application/json\r\nConnection: close\r\n\r\n\
-        {\"error\":\"head\"}";
-
-const NO_PATH: &[u8] =
-    b"HTTP/1.1 404 Not Found\r\nContent-Length: 19\r\nContent-Type: application/json\r\nConnection: close\r\n\r\n\
-        {\"error\":\"no path\"}";
-
-const BAD_METHOD: &[u8] =
-    b"HTTP/1.1 405 Method Not Allowed\r\nContent-Length: 18\r\nContent-Type: application/json\r\n\
-        Connection: close\r\n\r\n{\"error\":\"method\"}";
-
-const BAD_LENGTH: &[u8] =
-    b"HTTP/1.1 400 Bad Request\r\nContent-Length: 18\r\nContent-Type: application/json\r\nConnection: close\r\n\r\n\
-        {\"error\":\"length\"}";
-
-const NO_LENGTH: &[u8] =
-    b"HTTP/1.1 411 Length Required\r\nContent-Length: 25\r\nContent-Type: application/json\r\n\
-        Connection: close\r\n\r\n{\"error\":\"length needed\"}";
-
-const TOO_LONG: &[u8] =
-    b"HTTP/1.1 413 Payload Too Large\r\nContent-Length: 20\r\nContent-Type: application/json\r\n\
-        Connection: close\r\n\r\n{\"error\":\"too long\"}";
 
 /// What came of a request.
 #[derive(Clone, Copy, Debug, PartialEq, Eq)]
@@ -51,216 +30,44 @@ fn came_of(read: &Result<Asked, SessionEnd>) -> Came {
     }
 }
 
-/// What came of a request, and what was answered.
-#[derive(Drop)]
-struct Told {
+/// Whether this comes of a request in pieces of this size, and this is answered.
+fn comes(
+    alloc: Global,
+    routes: &Routes,
+    input: &[u8],
+    piece: usize,
     came: Came,
-    answer: Vec<u8>,
-}
-
-fn tell(alloc: Global, routes: &Routes, input: &[u8], piece: usize) -> Result<Told, NoMemory> {
+    answer: &[u8],
+) -> Result<bool, NoMemory> {
     let mut link = MemLink::new(alloc, input, piece.max(1), 1000, &[])?;
     let read = read_routed(alloc, routes, &mut link);
-    let answer = Vec::from_slice(alloc, link.bytes())?;
-    Ok(Told {
-        came: came_of(&read),
-        answer,
-    })
+    Ok(came_of(&read) == came && link.bytes() == answer)
 }
 
-/// Requests that are read, and what they ask.
-const ASKED: [(&[u8], Came); 24] = [
-    (b"GET /days/100 HTTP/1.1\r\n\r\n", Came::Day(100)),
-    (b"GET /days/100 HTTP/1.0\n\n", Came::Day(100)),
-    (b"\r\n\r\nGET /days/100 HTTP/1.1\r\n\r\n", Came::Day(100)),
-    (b"GET /days/0000000100 HTTP/1.1\r\n\r\n", Came::Day(100)),
-    (
-        b"GET /days/70?day=/live&x=%20 HTTP/1.1\r\nHost: x\r\n\r\n",
-        Came::Day(70),
-    ),
-    (
-        b"GET /days/1000000? HTTP/1.1\r\nContent-Length: x\r\nTransfer-Encoding: chunked\r\n\r\nbody",
-        Came::Day(1000000),
-    ),
-    (
-        b"POST /days/100 HTTP/1.1\r\nContent-Length: 0\r\n\r\n",
-        Came::Import(100, 0),
-    ),
-    (
-        b"POST /days/100 HTTP/1.1\r\ncontent-LENGTH: \t5 \r\n\r\nabc",
-        Came::Import(100, 5),
-    ),
-    (
-        b"POST /days/100 HTTP/1.1\r\nContent-Length: 0000000003\r\nExpect: 100-continue\r\n\r\nabcd",
-        Came::Import(100, 3),
-    ),
-    (
-        b"POST /days/100 HTTP/1.1\r\nContent-Length: 4000000000\r\n\r\n",
-        Came::Import(100, 4000000000),
-    ),
-    (
-        b"GET /spent/100/0/100 HTTP/1.1\r\n\r\n",
-        Came::Spent(100, 0, 100),
-    ),
-    (
-        b"GET /spent/1/255/2147483647 HTTP/1.1\r\n\r\n",
-        Came::Spent(1, 255, 2147483647),
-    ),
-    (
-        b"GET /spent/1000000/000/0 HTTP/1.1\r\n\r\n",
-        Came::Spent(1000000, 0, 0),
-    ),
-    (b"GET /live/0 HTTP/1.1\r\n\r\n", Came::Live(0)),
-    (
-        b"GET /live/2147483647 HTTP/1.1\r\n\r\n",
-        Came::Live(2147483647),
-    ),
-    (b"GET /live HTTP/1.1\r\n\r\n", Came::Total),
-    (b"GET /live?x HTTP/1.1\r\n\r\n", Came::Total),
-    (b"", Came::Ended(SessionEnd::Cut)),
-    (b"GET", Came::Ended(SessionEnd::Cut)),
-    (b"GET /days/100", Came::Ended(SessionEnd::Cut)),
-    (b"GET /days/100 HTTP/1.1", Came::Ended(SessionEnd::Cut)),
-    (b"GET /days/100 HTTP/1.1\r\n", Came::Ended(SessionEnd::Cut)),
-    (
-        b"GET /days/100 HTTP/1.1\r\nHost: x\r\n\r",
-        Came::Ended(SessionEnd::Cut),
-    ),
-    (b"\r\n", Came::Ended(SessionEnd::Cut)),
-];
-
-/// Requests that are refused with one status and answer.
-struct Refused {
-    status: u16,
-    answer: &'static [u8],
-    requests: &'static [&'static [u8]],
+/// Whether each request of a kind is refused so.
+fn are_refused(
+    alloc: Global,
+    routes: &Routes,
+    piece: usize,
+    refused: &Refused,
+) -> Result<bool, NoMemory> {
+    let end = Came::Ended(SessionEnd::Answered(refused.status));
+    let mut same = true;
+    for request in refused.requests {
+        same = comes(alloc, routes, request, piece, end, refused.answer)? && same;
+    }
+    Ok(same)
 }
-
-const REFUSED: [Refused; 6] = [
-    Refused {
-        status: 400,
-        answer: BAD_HEAD,
-        requests: &[
-            b"\0",
-            b"GET /days/100 HTTP/1.2\r\n\r\n",
-            b"GET /days/100 HTTP/2.0\r\n\r\n",
-            b"GET /days/100 HTTP/1.1\r\nHost : x\r\n\r\n",
-            b"GET /days/100 HTTP/1.1\r\nHost: x\r\n more\r\n\r\n",
-            b"GET /days/100 HTTP/1.1\r\n: x\r\n\r\n",
-            b"G(T /days/100 HTTP/1.1\r\n\r\n",
-        ],
-    },
-    Refused {
-        status: 404,
-        answer: NO_PATH,
-        requests: &[
-            b"GET /nothing HTTP/1.1\r\n\r\n",
-            b"GET / HTTP/1.1\r\n\r\n",
-            b"GET * HTTP/1.1\r\n\r\n",
-            b"GET http://desk/live HTTP/1.1\r\n\r\n",
-            b"GET days/100 HTTP/1.1\r\n\r\n",
-            b"GET //days/100 HTTP/1.1\r\n\r\n",
-            b"GET /days HTTP/1.1\r\n\r\n",
-            b"GET /days/ HTTP/1.1\r\n\r\n",
-            b"GET /days/100/ HTTP/1.1\r\n\r\n",
-            b"GET /days/7 HTTP/1.1\r\n\r\n",
-            b"GET /days/69 HTTP/1.1\r\n\r\n",
-            b"GET /days/1000001 HTTP/1.1\r\n\r\n",
-            b"GET /days/00000000100 HTTP/1.1\r\n\r\n",
-            b"GET /days/18446744073709551716 HTTP/1.1\r\n\r\n",
-            b"GET /days/+100 HTTP/1.1\r\n\r\n",
-            b"GET /days/-100 HTTP/1.1\r\n\r\n",
-            b"GET /days/1e2 HTTP/1.1\r\n\r\n",
-            b"GET /days/%31%30%30 HTTP/1.1\r\n\r\n",
-            b"GET /%64ays/100 HTTP/1.1\r\n\r\n",
-            b"GET /days/100%3Fx HTTP/1.1\r\n\r\n",
-            b"GET /days/\xc2\xb9\xc2\xb9\xc2\xb9 HTTP/1.1\r\n\r\n",
-            b"POST /nothing HTTP/1.1\r\n\r\n",
-            b"POST /days/7 HTTP/1.1\r\nContent-Length: x\r\n\r\n",
-            b"GET /spent/100/0 HTTP/1.1\r\n\r\n",
-            b"GET /spent/0/0/100 HTTP/1.1\r\n\r\n",
-            b"GET /spent/100/256/100 HTTP/1.1\r\n\r\n",
-            b"GET /spent/100/0/2147483648 HTTP/1.1\r\n\r\n",
-            b"GET /spent/100/0/100/ HTTP/1.1\r\n\r\n",
-            b"GET /spent/100/0/100/1 HTTP/1.1\r\n\r\n",
-            b"GET /spent/100//100 HTTP/1.1\r\n\r\n",
-            b"GET /live/ HTTP/1.1\r\n\r\n",
-            b"GET /live/2147483648 HTTP/1.1\r\n\r\n",
-            b"GET /live/9999999999 HTTP/1.1\r\n\r\n",
-            b"GET /LIVE HTTP/1.1\r\n\r\n",
-        ],
-    },
-    Refused {
-        status: 405,
-        answer: BAD_METHOD,
-        requests: &[
-            b"DELETE /days/100 HTTP/1.1\r\n\r\n",
-            b"PUT /days/100 HTTP/1.1\r\nContent-Length: x\r\n\r\n",
-            b"HEAD /days/100 HTTP/1.1\r\n\r\n",
-            b"get /days/100 HTTP/1.1\r\n\r\n",
-            b"GETS /days/100 HTTP/1.1\r\n\r\n",
-            b"POST /spent/100/0/100 HTTP/1.1\r\nContent-Length: 0\r\n\r\n",
-            b"POST /live/100 HTTP/1.1\r\n\r\n",
-            b"POST /live HTTP/1.1\r\n\r\n",
-            b"OPTIONS /live HTTP/1.1\r\n\r\n",
-        ],
-    },
-    Refused {
-        status: 400,
-        answer: BAD_LENGTH,
-        requests: &[
-            b"POST /days/100 HTTP/1.1\r\nContent-Length: x\r\n\r\n",
-            b"POST /days/100 HTTP/1.1\r\nContent-Length:\r\n\r\n",
-            b"POST /days/100 HTTP/1.1\r\nContent-Length: +5\r\n\r\n",
-            b"POST /days/100 HTTP/1.1\r\nContent-Length: -5\r\n\r\n",
-            b"POST /days/100 HTTP/1.1\r\nContent-Length: 5, 5\r\n\r\n",
-            b"POST /days/100 HTTP/1.1\r\nContent-Length: 0x5\r\n\r\n",
-            b"POST /days/100 HTTP/1.1\r\nContent-Length: 00000000005\r\n\r\n",
-            b"POST /days/100 HTTP/1.1\r\nContent-Length: 18446744073709551621\r\n\r\n",
-            b"POST /days/100 HTTP/1.1\r\nContent-Length: 5\r\nContent-Length: 5\r\n\r\n",
-            b"POST /days/100 HTTP/1.1\r\nContent-Length: 0\r\ncontent-length: 0\r\n\r\n",
-            b"POST /days/100 HTTP/1.1\r\nContent-Length: 5\r\nContent-Length: x\r\nTransfer-Encoding: chunked\r\n\r\n",
-            b"POST /days/100 HTTP/1.1\r\nTransfer-Encoding: chunked\r\nContent-Length: x\r\n\r\n",
-        ],
-    },
-    Refused {
-        status: 411,
-        answer: NO_LENGTH,
-        requests: &[
-            b"POST /days/100 HTTP/1.1\r\n\r\n",
-            b"POST /days/100 HTTP/1.1\r\nContent-Lengths: 5\r\n\r\n",
-            b"POST /days/100 HTTP/1.1\r\nTransfer-Encoding: chunked\r\n\r\n",
-            b"POST /days/100 HTTP/1.1\r\nContent-Length: 0\r\ntransfer-encoding: identity\r\n\r\n",
-            b"POST /days/100 HTTP/1.1\r\nTransfer-Encoding:\r\nContent-Length: 4000000001\r\n\r\n",
-        ],
-    },
-    Refused {
-        status: 413,
-        answer: TOO_LONG,
-        requests: &[
-            b"POST /days/100 HTTP/1.1\r\nContent-Length: 4000000001\r\n\r\n",
-            b"POST /days/100 HTTP/1.1\r\nContent-Length: 9999999999\r\n\r\n",
-        ],
-    },
-];
 
 #[test]
 fn requests(rt: HostRuntime) -> Result<(), NoMemory> {
-    let alloc = rt.alloc();
-    let routes = Routes::new(alloc)?;
+    let routes = Routes::new(rt.alloc())?;
     for piece in [1, 7, 10_000] {
         for (request, wanted) in &ASKED {
-            let told = tell(alloc, &routes, request, piece)?;
-            assert!(rt; told.came == *wanted && told.answer.is_empty());
+            assert!(rt; comes(rt.alloc(), &routes, request, piece, *wanted, b"")?);
         }
         for refused in &REFUSED {
-            for request in refused.requests {
-                let told = tell(alloc, &routes, request, piece)?;
-                assert!(rt;
-                    told.came == Came::Ended(SessionEnd::Answered(refused.status))
-                        && told.answer.as_slice() == refused.answer
-                );
-            }
+            assert!(rt; are_refused(rt.alloc(), &routes, piece, refused)?);
         }
     }
     Ok(())
@@ -288,28 +95,58 @@ fn wide_head(alloc: Global, count: u32) -> Result<Vec<u8>, NoMemory> {
     Ok(head)
 }
 
+/// Whether this comes of a head with so many bytes in its one field.
+fn long_comes(
+    alloc: Global,
+    routes: &Routes,
+    count: u32,
+    piece: usize,
+    came: Came,
+    answer: &[u8],
+) -> Result<bool, NoMemory> {
+    let head = long_head(alloc, count)?;
+    comes(alloc, routes, head.as_slice(), piece, came, answer)
+}
+
+/// Whether this comes of a head of so many fields.
+fn wide_comes(
+    alloc: Global,
+    routes: &Routes,
+    count: u32,
+    piece: usize,
+    came: Came,
+    answer: &[u8],
+) -> Result<bool, NoMemory> {
+    let head = wide_head(alloc, count)?;
+    comes(alloc, routes, head.as_slice(), piece, came, answer)
+}
+
+const BAD: Came = Came::Ended(SessionEnd::Answered(400));
+
 #[test]
 fn heads_at_their_limits(rt: HostRuntime) -> Result<(), NoMemory> {
-    let alloc = rt.alloc();
-    let routes = Routes::new(alloc)?;
-    let bad = Came::Ended(SessionEnd::Answered(400));
+    let routes = Routes::new(rt.alloc())?;
+    assert_eq!(rt; long_head(rt.alloc(), 8161)?.len(), 8192);
     for piece in [1000, 10_000] {
-        let longest = long_head(alloc, 8161)?;
-        assert!(rt; longest.len() == 8192);
-        assert!(rt; tell(alloc, &routes, longest.as_slice(), piece)?.came == Came::Day(100));
-        let longer = tell(alloc, &routes, long_head(alloc, 8162)?.as_slice(), piece)?;
-        assert!(rt; longer.came == bad && longer.answer.as_slice() == BAD_HEAD);
-        let widest = wide_head(alloc, 64)?;
-        assert!(rt; tell(alloc, &routes, widest.as_slice(), piece)?.came == Came::Day(100));
-        let wider = tell(alloc, &routes, wide_head(alloc, 65)?.as_slice(), piece)?;
-        assert!(rt; wider.came == bad && wider.answer.as_slice() == BAD_HEAD);
+        assert!(rt; long_comes(rt.alloc(), &routes, 8161, piece, Came::Day(100), b"")?);
+        assert!(rt; long_comes(rt.alloc(), &routes, 8162, piece, BAD, BAD_HEAD)?);
+        assert!(rt; wide_comes(rt.alloc(), &routes, 64, piece, Came::Day(100), b"")?);
+        assert!(rt; wide_comes(rt.alloc(), &routes, 65, piece, BAD, BAD_HEAD)?);
     }
-    let whole = b"POST /days/100?a HTTP/1.1\r\nHost: x\r\nContent-Length: 5\r\n\r\n".as_slice();
-    for count in 0..whole.len() {
-        let cut = tell(alloc, &routes, &whole[..count], 3)?;
-        assert!(rt; cut.came == Came::Ended(SessionEnd::Cut) && cut.answer.is_empty());
+    Ok(())
+}
+
+/// A POST without its body.
+const POST: &[u8] = b"POST /days/100?a HTTP/1.1\r\nHost: x\r\nContent-Length: 5\r\n\r\n";
+
+#[test]
+fn a_head_that_is_cut_is_not_answered(rt: HostRuntime) -> Result<(), NoMemory> {
+    let routes = Routes::new(rt.alloc())?;
+    let cut = Came::Ended(SessionEnd::Cut);
+    for count in 0..POST.len() {
+        assert!(rt; comes(rt.alloc(), &routes, &POST[..count], 3, cut, b"")?);
     }
-    assert!(rt; tell(alloc, &routes, whole, 3)?.came == Came::Import(100, 5));
+    assert!(rt; comes(rt.alloc(), &routes, POST, 3, Came::Import(100, 5), b"")?);
     Ok(())
 }
 
@@ -333,31 +170,58 @@ fn post(
     Ok(Some((end, more)))
 }
 
+/// What comes of this input over a link of some room that fails at some reads, and what is answered.
+fn comes_over(
+    alloc: Global,
+    input: &[u8],
+    room: usize,
+    fails: &[u32],
+    came: Came,
+    answer: &[u8],
+) -> Result<bool, NoMemory> {
+    let mut link = MemLink::new(alloc, input, 10, room, fails)?;
+    let read = read_asked(alloc, &mut link);
+    Ok(came_of(&read) == came && link.bytes() == answer)
+}
+
+const HEAD: &[u8] = b"POST /days/100 HTTP/1.1\r\nContent-Length: 5\r\n\r\n";
+
+const WHOLE: &[u8] = b"POST /days/100 HTTP/1.1\r\nContent-Length: 5\r\n\r\nabcdef";
+
+const CUT: &[u8] = b"POST /days/100 HTTP/1.1\r\nContent-Length: 5\r\n\r\nabc";
+
+const UNSIZED: &[u8] = b"POST /days/100 HTTP/1.1\r\n\r\n";
+
+/// Inputs in pieces of some size, of which a read fails or none, and how they end. The head has 46 bytes.
+const POSTS: [(&[u8], usize, &[u32], Option<(BodyEnd, usize)>); 15] = [
+    (WHOLE, 1, &[], Some((BodyEnd::Whole, 1))),
+    (WHOLE, 46, &[], Some((BodyEnd::Whole, 1))),
+    (WHOLE, 48, &[], Some((BodyEnd::Whole, 1))),
+    (WHOLE, 100, &[], Some((BodyEnd::Whole, 0))),
+    (CUT, 1, &[], Some((BodyEnd::Cut, 0))),
+    (CUT, 46, &[], Some((BodyEnd::Cut, 0))),
+    (CUT, 48, &[], Some((BodyEnd::Cut, 0))),
+    (CUT, 100, &[], Some((BodyEnd::Cut, 0))),
+    (HEAD, 1, &[], Some((BodyEnd::Cut, 0))),
+    (HEAD, 46, &[], Some((BodyEnd::Cut, 0))),
+    (HEAD, 48, &[], Some((BodyEnd::Cut, 0))),
+    (HEAD, 100, &[], Some((BodyEnd::Cut, 0))),
+    (WHOLE, 46, &[1], Some((BodyEnd::LinkFault, 6))),
+    (CUT, 46, &[2], Some((BodyEnd::LinkFault, 0))),
+    (WHOLE, 46, &[0], None),
+];
+
 #[test]
 fn bodies_and_faults(rt: HostRuntime) -> Result<(), NoMemory> {
-    let alloc = rt.alloc();
-    let head = b"POST /days/100 HTTP/1.1\r\nContent-Length: 5\r\n\r\n".as_slice();
-    let whole = b"POST /days/100 HTTP/1.1\r\nContent-Length: 5\r\n\r\nabcdef".as_slice();
-    let cut = b"POST /days/100 HTTP/1.1\r\nContent-Length: 5\r\n\r\nabc".as_slice();
-    assert!(rt; head.len() == 46);
-    for (piece, more) in [(1, 1), (46, 1), (48, 1), (100, 0)] {
-        assert!(rt; post(alloc, whole, piece, &[])? == Some((BodyEnd::Whole, more)));
-        assert!(rt; post(alloc, cut, piece, &[])? == Some((BodyEnd::Cut, 0)));
-        assert!(rt; post(alloc, head, piece, &[])? == Some((BodyEnd::Cut, 0)));
+    assert_eq!(rt; HEAD.len(), 46);
+    for (input, piece, fails, end) in &POSTS {
+        assert!(rt; post(rt.alloc(), input, *piece, fails)? == *end);
     }
-    assert!(rt; post(alloc, whole, 46, &[1])? == Some((BodyEnd::LinkFault, 6)));
-    assert!(rt; post(alloc, cut, 46, &[2])? == Some((BodyEnd::LinkFault, 0)));
-    assert!(rt; post(alloc, whole, 46, &[0])?.is_none());
-    for (room, end) in [
-        (128, SessionEnd::Answered(411)),
-        (127, SessionEnd::LinkFault),
-    ] {
-        let mut link = MemLink::new(alloc, b"POST /days/100 HTTP/1.1\r\n\r\n", 100, room, &[])?;
-        let came = came_of(&read_asked(alloc, &mut link));
-        assert!(rt; came == Came::Ended(end) && link.bytes() == &NO_LENGTH[..room]);
-    }
-    let mut faulty = MemLink::new(alloc, head, 10, 1000, &[4])?;
-    let came = came_of(&read_asked(alloc, &mut faulty));
-    assert!(rt; came == Came::Ended(SessionEnd::LinkFault) && faulty.bytes().is_empty());
+    let answered = Came::Ended(SessionEnd::Answered(411));
+    let fault = Came::Ended(SessionEnd::LinkFault);
+    assert_eq!(rt; NO_LENGTH.len(), 128);
+    assert!(rt; comes_over(rt.alloc(), UNSIZED, 128, &[], answered, NO_LENGTH)?);
+    assert!(rt; comes_over(rt.alloc(), UNSIZED, 127, &[], fault, &NO_LENGTH[..127])?);
+    assert!(rt; comes_over(rt.alloc(), HEAD, 1000, &[4], fault, b"")?);
     Ok(())
 }

@@ -6,17 +6,16 @@ ghost use Rattle.expressway.specs.declared.lane_event.LaneEvent.{LaneEvent as Ev
 ghost use Rattle.expressway.specs.Ready.{IsReady};
 ghost use Rattle.partition_workers.specs.Callers.{HasOut};
 
+mod held;
+
 use expressway::{Carriage, Done, Events, Finding, Job, LaneEvent};
 use partition_workers::{
-    Crew, Entry, Gate, Held, InlineCrew, LateCrew, MarkCrew, NoGate, Places, Starter, ThreadCrew,
-    ThreadPlaces, begin, finish_among, run_both, start_beside,
+    Crew, Entry, InlineCrew, LateCrew, MarkCrew, NoGate, Places, Started, ThreadCrew, ThreadPlaces,
+    finish_among, run_both, start_beside,
 };
 use road_time::{NoMemory, Report, Tariffs};
 use std::alloc::Global;
 use std::collections::VecDeque;
-use std::sync::Arc;
-use std::sync::atomic::{AtomicU64, Ordering};
-use std::thread::Threads;
 
 fn moves<T: Send>() {}
 
@@ -170,127 +169,34 @@ fn what_was_answered_has_the_toll(rt: HostRuntime) -> Result<(), NoMemory> {
     Ok(())
 }
 
+/// Two jobs over a crew, the second finished first: whether the first was run, and the second.
+fn are_run<C: Crew>(alloc: Global, crew: &mut C) -> Result<(bool, bool), NoMemory>
+    requires { C.out crew.old ≡ [] }
+{
+    let (first, second) = run_both(crew, one_report(alloc, 2, 0)?, one_report(alloc, 1, 1)?);
+    Ok((first.result.is_ok(), second.result.is_ok()))
+}
+
+/// Whether a job of a worker, of one event, was told; it may be untold where it was not run.
+fn is_told(job: Option<&Started>, worker: u8, number: u32, ran: bool) -> bool {
+    match job {
+        Some(job) => { (job.worker, job.number, job.events.items().len()) == (worker, number, 1) }
+        None => !ran,
+    }
+}
+
 /// Jobs are told as they are started. A job that cannot be listed ends the list, and is not run.
 #[test]
 fn jobs_are_told_as_they_are_started(rt: HostRuntime) -> Result<(), NoMemory> {
-    let alloc = rt.alloc();
-    let mut crew = LateCrew::new(alloc, true);
-    let (first, second) = run_both(
-        &mut crew,
-        one_report(alloc, 2, 0)?,
-        one_report(alloc, 1, 1)?,
-    );
-    let rows = [
-        (2u8, 0u32, first.result.is_ok()),
-        (1, 1, second.result.is_ok()),
-    ];
+    let mut crew = LateCrew::new(rt.alloc(), true);
+    let (first, second) = are_run(rt.alloc(), &mut crew)?;
     let mut listed = crew.jobs().iter();
-    for (worker, number, ran) in rows {
-        match listed.next() {
-            Some(job) => assert_eq!(rt;
-                (job.worker, job.number, job.events.items().len()),
-                (worker, number, 1),
-                "job {number}"
-            ),
-            None => assert!(rt; !ran, "job {number} is not listed"),
-        }
-    }
+    assert!(rt; is_told(listed.next(), 2, 0, first), "job 0");
+    assert!(rt; is_told(listed.next(), 1, 1, second), "job 1");
     assert!(rt; listed.next().is_none(), "two jobs");
-    assert!(rt; InlineCrew::new(alloc, false).jobs().is_empty(), "untold");
-    Ok(())
-}
-
-/// Holds job 0 until job 1 has passed, for so many looks, and notes whether it saw that.
-#[derive(Clone, Drop)]
-struct SecondFirst {
-    passed: Arc<AtomicU64, Global>,
-    saw: Arc<AtomicU64, Global>,
-}
-
-const LOOKS: u32 = 300_000_000;
-
-impl Gate for SecondFirst {
-    fn pass(&self, _worker: u8, number: u32) {
-        if number != 0 {
-            self.passed.store(1, Ordering::SeqCst);
-            return;
-        }
-        for _ in 0..LOOKS {
-            if self.passed.load(Ordering::SeqCst) == 1 {
-                self.saw.store(1, Ordering::SeqCst);
-                return;
-            }
-        }
-    }
-}
-
-impl Starter for SecondFirst {
-    fn begin<R: Threads>(&self, rt: &R, alloc: Global, job: Job) -> Held {
-        begin(rt, alloc, self, job)
-    }
-}
-
-/// A crew whose caller passes the gate before each start.
-#[derive(Drop)]
-struct OnCaller<C> {
-    gate: SecondFirst,
-    crew: C,
-}
-
-impl<C: Crew> Crew for OnCaller<C> {
-    type Ticket = C::Ticket;
-
-    type Name = C::Name;
-
-    ghost exact = { C.exact };
-
-    ghost out = { λ s. C.out s.crew };
-
-    ghost number = { C.number };
-
-    ghost holds = { λ s n job. C.holds s.crew n job };
-
-    ghost gave = { λ s t. C.gave s.crew t };
-
-    ghost which = { λ s. C.which s.crew };
-
-    ghost jobs = { λ s. C.jobs s.crew };
-
-    ghost answers = { λ s. C.answers s.crew };
-
-    fn start(&mut self, job: Job) -> C::Ticket {
-        self.gate.pass(job.worker, job.number);
-        self.crew.start(job)
-    }
-
-    fn finish(&mut self, ticket: C::Ticket) -> Done {
-        self.crew.finish(ticket)
-    }
-}
-
-/// A job that is held sees the next one pass in a thread of its own, and does not where the caller runs both.
-#[test]
-fn a_held_job_sees_the_next_one_pass_in_threads(rt: HostRuntime) -> Result<(), NoMemory> {
-    let alloc = rt.alloc();
-    let gate = SecondFirst {
-        passed: Arc::new(alloc, AtomicU64::new(0))?,
-        saw: Arc::new(alloc, AtomicU64::new(0))?,
-    };
-    let saw = Arc::try_clone(&gate.saw)?;
-    let mut threads = ThreadCrew::new(rt, alloc, gate);
-    assert!(rt; are_answered(alloc, &mut threads, 0)?, "in threads");
-    assert_eq!(rt; saw.load(Ordering::SeqCst), 1, "seen");
-
-    let gate = SecondFirst {
-        passed: Arc::new(alloc, AtomicU64::new(0))?,
-        saw: Arc::new(alloc, AtomicU64::new(0))?,
-    };
-    let unseen = Arc::try_clone(&gate.saw)?;
-    let mut on_caller = OnCaller {
-        gate,
-        crew: InlineCrew::new(alloc, false),
-    };
-    assert!(rt; are_answered(alloc, &mut on_caller, 0)?, "on the caller");
-    assert_eq!(rt; unseen.load(Ordering::SeqCst), 0, "unseen");
+    assert!(rt;
+        InlineCrew::new(rt.alloc(), false).jobs().is_empty(),
+        "untold"
+    );
     Ok(())
 }

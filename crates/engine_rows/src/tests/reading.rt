@@ -1,8 +1,10 @@
 // Days as they are read: whole, refused, late, and with a source that fails.
+mod late;
+
 use day_reading::{DayAhead, DayEnd, DayReader, ReadEnd, ReadStop, find_digest};
 use keeper::Digest;
 use road_io::MemSource;
-use road_time::{Limits, NoMemory, Report, Tuple};
+use road_time::{Limits, NoMemory, Tuple};
 use std::alloc::Global;
 use std::thread::Threads;
 use tuple_format::Cause;
@@ -11,6 +13,10 @@ const ONE: &str = "0,0,7,30,0,0,0,10,52800,-1,-1,-1,-1,-1,-1\n";
 
 const PAIR: &str =
     "0,10,1,30,0,1,0,10,52800,-1,-1,-1,-1,-1,-1\n0,10,2,30,0,1,0,10,52800,-1,-1,-1,-1,-1,-1\n";
+
+const THREE: &str =
+    "0,0,7,30,0,0,0,10,52800,-1,-1,-1,-1,-1,-1\n0,0,7,30,0,0,0,10,52800,-1,-1,-1,-1,-1,-1\n\
+        0,0,7,30,0,0,0,10,52800,-1,-1,-1,-1,-1,-1\n";
 
 /// How a source is read: at most so many bytes at a time, failing at some reads.
 #[derive(Clone, Copy)]
@@ -108,145 +114,144 @@ fn is_same(end: &Result<(), ReadEnd>, ahead: &Result<DayEnd, ReadStop>) -> bool 
     }
 }
 
-fn refused(line: u64, cause: Cause) -> Result<(), ReadEnd> {
-    Err(ReadEnd::Refused { line, cause })
+const TWO_LINES: Limits = Limits {
+    lines: 2,
+    ..Limits::DAY
+};
+
+const ONE_LINE: Limits = Limits {
+    lines: 1,
+    ..Limits::DAY
+};
+
+const ONE_VEHICLE: Limits = Limits {
+    vehicles: 1,
+    ..Limits::DAY
+};
+
+/// A day by its lines, its limits, the number of its tuples, and the line and the cause of its end where it is refused.
+type Row = (&'static str, Limits, usize, Option<(u64, Cause)>);
+
+const ROWS: [Row; 11] = [
+    ("", Limits::DAY, 0, None),
+    (ONE, Limits::DAY, 1, None),
+    (
+        "0,10,1,30,0,1,0,10,52800,-1,-1,-1,-1,-1,-1\n0,10,2,30,0,1,0,10,52800,-1,-1,-1,-1,-1,-1\n\
+            0,9,3,30,0,1,0,10,52800,-1,-1,-1,-1,-1,-1\n",
+        Limits::DAY,
+        2,
+        Some((3, Cause::Late(10, 9))),
+    ),
+    (
+        "0,0,1,30,0,1,0,10,52800,-1,-1,-1,-1,-1,-1\n0,10,1,30,0,1,0,10,52800,-1,-1,-1,-1,-1,-1\n\
+            0,20,1,30,0,1,0,10,52800,-1,-1,-1,-1,-1,-1\n0,30,1,30,0,1,0,10,52800,-1,-1,-1,-1,-1,-1\n\
+            0,40,1,30,0,1,0,10,52800,-1,-1,-1,-1,-1,-1\n",
+        Limits::DAY,
+        4,
+        Some((5, Cause::TooOften(1, 1))),
+    ),
+    (THREE, TWO_LINES, 2, Some((3, Cause::Many(2)))),
+    (
+        "\n0,0,7,30,0,0,0,10,52800,-1,-1,-1,-1,-1,-1\n",
+        ONE_LINE,
+        0,
+        Some((2, Cause::Many(1))),
+    ),
+    (PAIR, ONE_VEHICLE, 1, Some((2, Cause::Vehicles(1)))),
+    (
+        "0,0,7,30,0,0,0,10,52800,-1,-1,-1,-1,-1\n",
+        Limits::DAY,
+        0,
+        Some((1, Cause::Fields(14))),
+    ),
+    (
+        "0,0,7,101,0,0,0,10,52800,-1,-1,-1,-1,-1,-1\n",
+        Limits::DAY,
+        0,
+        Some((1, Cause::Range(4))),
+    ),
+    (
+        "0,0,x,30,0,0,0,10,52800,-1,-1,-1,-1,-1,-1\n",
+        Limits::DAY,
+        0,
+        Some((1, Cause::Number(3))),
+    ),
+    (
+        "0,0,7,30,0,0,0,10,52800,-1,-1,-1,-2,-1,-1\n",
+        Limits::DAY,
+        0,
+        Some((1, Cause::Range(13))),
+    ),
+];
+
+/// The end of a day that is refused at a line, or read whole.
+fn end_of(refused: Option<(u64, Cause)>) -> Result<(), ReadEnd> {
+    match refused {
+        Some((line, cause)) => Err(ReadEnd::Refused { line, cause }),
+        None => Ok(()),
+    }
 }
 
-fn report(time: u32, vid: u32) -> Tuple {
-    Tuple::Report(Report {
-        time,
-        vid,
-        spd: 30,
-        xway: 0,
-        lane: 1,
-        dir: 0,
-        seg: 10,
-        pos: 52_800,
-    })
+/// Whether a day is read so, and the same a tuple ahead.
+fn is_read<R: Threads>(rt: &R, alloc: Global, row: &Row) -> Result<bool, NoMemory> {
+    let (input, limits, count, refused) = row;
+    let end = end_of(*refused);
+    let ahead = count_ahead(rt, alloc, input, limits, &[])?;
+    let day = read_day(rt, alloc, input, limits, 0, WHOLE)?;
+    let same = day.end == end && is_same(&end, &ahead.1);
+    Ok(same && (day.tuples.len(), ahead.0) == (*count, *count))
 }
 
 #[test]
 fn days_and_their_ends(rt: HostRuntime) -> Result<(), NoMemory> {
-    let alloc = rt.alloc();
-    let two_lines = Limits {
-        lines: 2,
-        ..Limits::DAY
-    };
-    let one_line = Limits {
-        lines: 1,
-        ..Limits::DAY
-    };
-    let one_vehicle = Limits {
-        vehicles: 1,
-        ..Limits::DAY
-    };
-    let late_line = format!(in alloc; "{PAIR}0,9,3,30,0,1,0,10,52800,-1,-1,-1,-1,-1,-1\n")?;
-    let often =
-        "0,0,1,30,0,1,0,10,52800,-1,-1,-1,-1,-1,-1\n0,10,1,30,0,1,0,10,52800,-1,-1,-1,-1,-1,-1\n\
-            0,20,1,30,0,1,0,10,52800,-1,-1,-1,-1,-1,-1\n0,30,1,30,0,1,0,10,52800,-1,-1,-1,-1,-1,-1\n\
-            0,40,1,30,0,1,0,10,52800,-1,-1,-1,-1,-1,-1\n";
-    let three = format!(in alloc; "{ONE}{ONE}{ONE}")?;
-    let then_one = format!(in alloc; "\n{ONE}")?;
-    let rows = [
-        ("", Limits::DAY, 0, Ok(())),
-        (ONE, Limits::DAY, 1, Ok(())),
-        (
-            late_line.as_str(),
-            Limits::DAY,
-            2,
-            refused(3, Cause::Late(10, 9)),
-        ),
-        (often, Limits::DAY, 4, refused(5, Cause::TooOften(1, 1))),
-        (three.as_str(), two_lines, 2, refused(3, Cause::Many(2))),
-        (then_one.as_str(), one_line, 0, refused(2, Cause::Many(1))),
-        (PAIR, one_vehicle, 1, refused(2, Cause::Vehicles(1))),
-        (
-            "0,0,7,30,0,0,0,10,52800,-1,-1,-1,-1,-1\n",
-            Limits::DAY,
-            0,
-            refused(1, Cause::Fields(14)),
-        ),
-        (
-            "0,0,7,101,0,0,0,10,52800,-1,-1,-1,-1,-1,-1\n",
-            Limits::DAY,
-            0,
-            refused(1, Cause::Range(4)),
-        ),
-        (
-            "0,0,x,30,0,0,0,10,52800,-1,-1,-1,-1,-1,-1\n",
-            Limits::DAY,
-            0,
-            refused(1, Cause::Number(3)),
-        ),
-        (
-            "0,0,7,30,0,0,0,10,52800,-1,-1,-1,-2,-1,-1\n",
-            Limits::DAY,
-            0,
-            refused(1, Cause::Range(13)),
-        ),
-    ];
-    for (input, limits, count, end) in &rows {
-        let day = read_day(&rt, alloc, input, limits, 0, WHOLE)?;
-        assert_eq!(rt; day.tuples.len(), *count, "{input}");
-        assert!(rt; day.end == *end, "{input}");
-        let ahead = count_ahead(&rt, alloc, input, limits, &[])?;
-        assert!(rt; ahead.0 == *count && is_same(end, &ahead.1), "{input}");
+    for row in &ROWS {
+        let input = row.0;
+        assert!(rt; is_read(&rt, rt.alloc(), row)?, "{input}");
     }
-    let one = read_day(&rt, alloc, ONE, &Limits::DAY, 0, WHOLE)?;
-    let text = one.digest.text(alloc)?;
-    assert!(rt; one.lines == 1 && one.bytes == 42);
-    assert!(rt;
-        text.as_str() == "fc2f0b2e7199ba75ff5a464f444f1d13574338c146416b399a7125bc0993cf7b"
-    );
-    let whole = DayEnd::Whole {
-        bytes: 42,
-        digest: one.digest,
-    };
-    assert!(rt; count_ahead(&rt, alloc, ONE, &Limits::DAY, &[])? == (1, Ok(whole)));
-    assert!(rt;
-        count_ahead(&rt, alloc, PAIR, &Limits::DAY, &[1])? == (0, Err(ReadStop::ReadFault))
-    );
-    let mut source = MemSource::new(alloc, three.as_bytes(), 7, &[])?;
-    assert!(rt; find_digest(alloc, 41, &mut source) == Ok(one.digest));
-    let mut source = MemSource::new(alloc, ONE.as_bytes(), 7, &[])?;
-    let read = day_reading::read_day(&rt, alloc, &Limits::DAY, 0, &mut source);
-    assert!(rt; read.map(|day| (day.tuples.len(), day.end)) == Ok((1, whole)));
     Ok(())
 }
 
+/// The digest of one line, where its day has one line, one tuple and 42 bytes.
+fn digest_of_one<R: Threads>(rt: &R, alloc: Global) -> Result<Option<Digest>, NoMemory> {
+    let one = read_day(rt, alloc, ONE, &Limits::DAY, 0, WHOLE)?;
+    if (one.lines, one.bytes, one.tuples.len()) == (1, 42, 1) {
+        Ok(Some(one.digest))
+    } else {
+        Ok(None)
+    }
+}
+
+/// Whether a digest has this text.
+fn has_text(alloc: Global, digest: &Digest, wanted: &str) -> Result<bool, NoMemory> {
+    Ok(digest.text(alloc)?.as_str() == wanted)
+}
+
+/// Whether the first 42 bytes of three lines have this digest.
+fn is_found(alloc: Global, digest: Digest) -> Result<bool, NoMemory> {
+    let mut source = MemSource::new(alloc, THREE.as_bytes(), 7, &[])?;
+    Ok(find_digest(alloc, 41, &mut source) == Ok(digest))
+}
+
+/// Whether one line is read at once to this end.
+fn is_read_at_once<R: Threads>(rt: &R, alloc: Global, whole: DayEnd) -> Result<bool, NoMemory> {
+    let mut source = MemSource::new(alloc, ONE.as_bytes(), 7, &[])?;
+    let read = day_reading::read_day(rt, alloc, &Limits::DAY, 0, &mut source);
+    Ok(read.map(|day| (day.tuples.len(), day.end)) == Ok((1, whole)))
+}
+
+const TEXT: &str = "fc2f0b2e7199ba75ff5a464f444f1d13574338c146416b399a7125bc0993cf7b";
+
 #[test]
-fn late_lines(rt: HostRuntime) -> Result<(), NoMemory> {
-    let alloc = rt.alloc();
-    let input =
-        "0,30,1,30,0,1,0,10,52800,-1,-1,-1,-1,-1,-1\n2,0,1,-1,-1,-1,-1,-1,-1,9,-1,-1,-1,-1,-1\n\
-            0,0,2,30,0,1,0,10,52800,-1,-1,-1,-1,-1,-1\n";
-    let balance = Tuple::Balance {
-        time: 0,
-        vid: 1,
-        qid: 9,
+fn one_line_and_its_digest(rt: HostRuntime) -> Result<(), NoMemory> {
+    let Some(digest) = digest_of_one(&rt, rt.alloc())? else {
+        return Err(NoMemory);
     };
-    for piece in [1, 7, 65_536] {
-        let reads = Reads { piece, fails: &[] };
-        let day = read_day(&rt, alloc, input, &Limits::DAY, 30, reads)?;
-        assert!(rt; day.tuples.as_slice() == [balance, report(0, 2), report(30, 1)].as_slice());
-        assert!(rt; day.end == Ok(()));
-        let early = read_day(&rt, alloc, input, &Limits::DAY, 29, reads)?;
-        assert!(rt; early.tuples.as_slice() == [report(30, 1)].as_slice());
-        assert!(rt; early.end == refused(2, Cause::Late(30, 0)));
-    }
-    let mut whole = false;
-    for at in 0..100u32 {
-        let reads = Reads {
-            piece: 10,
-            fails: &[at],
-        };
-        let day = read_day(&rt, alloc, input, &Limits::DAY, 30, reads)?;
-        if day.end == Ok(()) {
-            whole = day.tuples.len() == 3;
-            break;
-        }
-        assert!(rt; day.end == Err(ReadEnd::ReadFault) && day.tuples.len() < 3);
-    }
-    assert!(rt; whole);
+    let whole = DayEnd::Whole { bytes: 42, digest };
+    assert!(rt; has_text(rt.alloc(), &digest, TEXT)?);
+    assert!(rt; count_ahead(&rt, rt.alloc(), ONE, &Limits::DAY, &[])? == (1, Ok(whole)));
+    let cut = count_ahead(&rt, rt.alloc(), PAIR, &Limits::DAY, &[1])?;
+    assert!(rt; cut == (0, Err(ReadStop::ReadFault)));
+    assert!(rt; is_found(rt.alloc(), digest)?);
+    assert!(rt; is_read_at_once(&rt, rt.alloc(), whole)?);
     Ok(())
 }

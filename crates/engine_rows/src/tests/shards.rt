@@ -17,6 +17,38 @@ fn at(time: u32, pos: u32) -> Tuple {
     })
 }
 
+const NOTHING: Tracked = Tracked {
+    begins: false,
+    stopped: false,
+    left: None,
+    charge: Charge::No,
+};
+
+/// What is told of them.
+const TOLD: [Option<Tracked>; 6] = [
+    Some(Tracked {
+        begins: true,
+        ..NOTHING
+    }),
+    Some(NOTHING),
+    Some(NOTHING),
+    Some(Tracked {
+        stopped: true,
+        ..NOTHING
+    }),
+    None,
+    Some(Tracked {
+        left: Some(Place {
+            xway: 0,
+            dir: 0,
+            lane: 2,
+            seg: 10,
+            pos: 55000,
+        }),
+        ..NOTHING
+    }),
+];
+
 /// Four equal reports, a request that tells nothing, and a report elsewhere in the stretch.
 #[test]
 fn shards_tell_the_worked_row(rt: HostRuntime) -> Result<(), NoMemory> {
@@ -30,38 +62,6 @@ fn shards_tell_the_worked_row(rt: HostRuntime) -> Result<(), NoMemory> {
     ];
     let mut shards = Shards::new(rt.alloc(), 2)?;
     let list = shards.see_all(&rt, &tuples)?;
-    let nothing = Tracked {
-        begins: false,
-        stopped: false,
-        left: None,
-        charge: Charge::No,
-    };
-    let wants = [
-        Some(Tracked {
-            begins: true,
-            ..nothing
-        }),
-        Some(nothing),
-        Some(nothing),
-        Some(Tracked {
-            stopped: true,
-            ..nothing
-        }),
-        None,
-        Some(Tracked {
-            left: Some(Place {
-                xway: 0,
-                dir: 0,
-                lane: 2,
-                seg: 10,
-                pos: 55000,
-            }),
-            ..nothing
-        }),
-    ];
-    assert_eq!(rt; list.items().len(), wants.len());
-    for (told, want) in list.items().iter().zip(wants.iter()) {
-        assert!(rt; *told == *want);
-    }
+    assert!(rt; list.items() == TOLD.as_slice());
     Ok(())
 }

@@ -1,6 +1,6 @@
 // Notices compared with those of a day that is recomputed in bulk.
 use super::days::{PAIR, day};
-use super::runs::{Ends, ONE, run};
+use super::runs::{Ending, Ends, ONE, ends_with, is_end, run};
 use road_time::Limits;
 use std::test::Fail;
 
@@ -18,70 +18,107 @@ const TOLD: &[u8] =
 /// The same without its fourth line.
 const SHORT: &[u8] = b"0,1,0,-1,0\n0,2,0,-1,0\n0,2,130,-1,0\n0,3,180,0,0\n0,4,240,16,0\n";
 
+/// An aside, how the audit of that day compares with it, and the status.
+const COMPARED: [(&[u8], &str, u8); 2] = [
+    (TOLD, "# agree notices 6\n", 0),
+    (
+        SHORT,
+        "# differs line 4 wanted 1,180,3,10 found 0,3,180,0,0\n",
+        7,
+    ),
+];
+
 #[test]
 fn stopped_on_another_way(rt: HostRuntime) -> Result<(), Fail> {
-    let alloc = rt.alloc();
-    let input = day(alloc, &[], &[&PAIR, &ELSEWHERE])?;
-    let audit: &[&str] = &["audit", "100", "--shards", "2", "--workers", "3"];
-    let rows: [(&[u8], &str, u8); 2] = [
-        (TOLD, "# agree notices 6\n", 0),
-        (
-            SHORT,
-            "# differs line 4 wanted 1,180,3,10 found 0,3,180,0,0\n",
-            7,
-        ),
-    ];
-    for (aside, text, status) in rows {
+    let input = day(rt.alloc(), &[], &[&PAIR, &ELSEWHERE])?;
+    let audit = &["audit", "100", "--shards", "2", "--workers", "3"];
+    for (aside, text, status) in &COMPARED {
         let ends = Ends::of(input.as_slice(), aside);
-        let got = run(&rt, alloc, &Limits::DAY, audit, ends)?;
-        assert!(rt; got.0.as_slice() == text.as_bytes(), "{text}");
-        assert_eq!(rt; got.1, status, "{text}");
+        let right = ends_with(
+            &rt,
+            rt.alloc(),
+            &Limits::DAY,
+            audit,
+            ends,
+            text.as_bytes(),
+            *status,
+        )?;
+        assert!(rt; right, "{text}");
     }
     Ok(())
 }
 
+const AUDIT: &[&str] = &["audit", "100"];
+
+/// One report and its notice.
+const GOOD: Ending = Ending {
+    words: AUDIT,
+    input: ONE,
+    aside: b"0,7,0,-1,0\n",
+    input_fails: &[],
+    aside_fails: &[],
+    room: 2000,
+    text: "# agree notices 1\n",
+    status: 0,
+};
+
+/// A report that is half a minute late, and their notices.
+const LATE: Ending = Ending {
+    words: &["audit", "--late=30", "100", "--shards=64"],
+    input: "0,30,1,30,0,1,0,10,52800,-1,-1,-1,-1,-1,-1\n0,0,2,30,0,1,0,10,52800,-1,-1,-1,-1,-1,-1\n",
+    aside: b"0,2,0,-1,0\n0,1,30,-1,0\n",
+    text: "# agree notices 2\n",
+    ..GOOD
+};
+
 /// Lateness, refused lines, faults and words: as of `validate`.
+const ENDS: [Ending; 8] = [
+    GOOD,
+    LATE,
+    Ending {
+        words: &["audit", "100", "--late", "29"],
+        text: "# refused line 2 late 30 0\n",
+        status: 2,
+        ..LATE
+    },
+    Ending {
+        input: "x\n",
+        aside_fails: &[0],
+        text: "# refused line 1 fields 1\n",
+        status: 2,
+        ..GOOD
+    },
+    Ending {
+        input_fails: &[3],
+        text: "# read fault\n",
+        status: 4,
+        ..GOOD
+    },
+    Ending {
+        aside_fails: &[0],
+        text: "# read fault\n",
+        status: 4,
+        ..GOOD
+    },
+    Ending {
+        room: 3,
+        text: "# a",
+        status: 5,
+        ..GOOD
+    },
+    Ending {
+        words: &["audit", "100", "--shards", "0"],
+        text: "# words\n",
+        status: 1,
+        ..GOOD
+    },
+];
+
 #[test]
 fn audits_and_their_ends(rt: HostRuntime) -> Result<(), Fail> {
-    let alloc = rt.alloc();
-    let good = Ends::of(ONE.as_bytes(), b"0,7,0,-1,0\n");
-    let turned =
-        "0,30,1,30,0,1,0,10,52800,-1,-1,-1,-1,-1,-1\n0,0,2,30,0,1,0,10,52800,-1,-1,-1,-1,-1,-1\n";
-    let late = Ends {
-        input: turned.as_bytes(),
-        aside: b"0,2,0,-1,0\n0,1,30,-1,0\n",
-        ..good
-    };
-    let unread = Ends {
-        input_fails: &[3],
-        ..good
-    };
-    let no_aside = Ends {
-        aside_fails: &[0],
-        ..good
-    };
-    let refused = Ends {
-        input: b"x\n",
-        ..no_aside
-    };
-    let audit: &[&str] = &["audit", "100"];
-    let of_late: &[&str] = &["audit", "--late=30", "100", "--shards=64"];
-    let too_late: &[&str] = &["audit", "100", "--late", "29"];
-    let no_shard: &[&str] = &["audit", "100", "--shards", "0"];
-    let rows: [(&[&str], Ends<'_>, &str, u8); 8] = [
-        (audit, good, "# agree notices 1\n", 0),
-        (of_late, late, "# agree notices 2\n", 0),
-        (too_late, late, "# refused line 2 late 30 0\n", 2),
-        (audit, refused, "# refused line 1 fields 1\n", 2),
-        (audit, unread, "# read fault\n", 4),
-        (audit, no_aside, "# read fault\n", 4),
-        (audit, Ends { room: 3, ..good }, "# a", 5),
-        (no_shard, good, "# words\n", 1),
-    ];
-    for (words, ends, text, status) in rows {
-        let got = run(&rt, alloc, &Limits::DAY, words, ends)?;
-        assert!(rt; got.0.as_slice() == text.as_bytes(), "{text}");
-        assert_eq!(rt; got.1, status, "{text}");
+    for row in &ENDS {
+        let text = row.text;
+        assert!(rt; is_end(&rt, rt.alloc(), row)?, "{text}");
     }
     Ok(())
 }
@@ -124,15 +161,9 @@ fn an_hour_and_its_audits(rt: HostRuntime) -> Result<(), Fail> {
     let notices = count(answers.0.as_slice());
     let text = format!(in alloc; "# agree notices {notices}\n")?;
     for [shards, workers] in SHARED {
-        let got = run(
-            &rt,
-            alloc,
-            &Limits::DAY,
-            &["audit", "100", shards, workers],
-            ends,
-        )?;
-        assert!(rt; got.0.as_slice() == text.as_bytes(), "{shards} {workers}");
-        assert_eq!(rt; got.1, 0, "{shards} {workers}");
+        let words = &["audit", "100", shards, workers];
+        let right = ends_with(&rt, alloc, &Limits::DAY, words, ends, text.as_bytes(), 0)?;
+        assert!(rt; right, "{shards} {workers}");
     }
     Ok(())
 }

@@ -91,6 +91,54 @@ pub fn run_on<K: Keeper, R: Threads + Sync>(
     Ok((Vec::from_slice(alloc, sink.bytes())?, status))
 }
 
+/// Whether `office` writes this text and has this status where nothing is kept.
+pub fn ends_with<R: Threads + Sync>(
+    rt: &R,
+    alloc: Global,
+    limits: &Limits,
+    words: &[&str],
+    ends: Ends<'_>,
+    text: &[u8],
+    status: u8,
+) -> Result<bool, Fail>
+    requires { IsLimits limits.now }
+{
+    let got = run(rt, alloc, limits, words, ends)?;
+    Ok(got.0.as_slice() == text && got.1 == status)
+}
+
+/// A command, what it reads, which reads fail, the room of its sink, what it writes and its status.
+#[derive(Clone, Copy)]
+pub struct Ending {
+    pub words: &'static [&'static str],
+    pub input: &'static str,
+    pub aside: &'static [u8],
+    pub input_fails: &'static [u32],
+    pub aside_fails: &'static [u32],
+    pub room: usize,
+    pub text: &'static str,
+    pub status: u8,
+}
+
+/// Whether a command ends so.
+pub fn is_end<R: Threads + Sync>(rt: &R, alloc: Global, row: &Ending) -> Result<bool, Fail> {
+    let ends = Ends {
+        input_fails: row.input_fails,
+        aside_fails: row.aside_fails,
+        room: row.room,
+        ..Ends::of(row.input.as_bytes(), row.aside)
+    };
+    ends_with(
+        rt,
+        alloc,
+        &Limits::DAY,
+        row.words,
+        ends,
+        row.text.as_bytes(),
+        row.status,
+    )
+}
+
 /// A command over a keeper writes this text and has this status.
 pub fn writes<K: Keeper, R: Abort + Threads + Sync>(
     rt: &R,

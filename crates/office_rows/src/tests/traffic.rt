@@ -4,6 +4,7 @@ use keeper::MemKeeper;
 use road_time::Limits;
 use std::alloc::{AllocError, Global};
 use std::test::Fail;
+use std::thread::Threads;
 
 /// The file of seed 1, three vehicles, a minute and a crash, as it was worked out apart.
 const SMALL: &str =
@@ -134,49 +135,84 @@ fn word(alloc: Global, text: &[u8], number: usize) -> Result<Vec<u8>, AllocError
     Ok(found)
 }
 
-#[test]
-fn a_file_rehearsed_and_imported(rt: HostRuntime) -> Result<(), Fail> {
-    let alloc = rt.alloc();
+/// Three spellings of the words of one file.
+const SPELLINGS: [&[&str]; 3] = [
+    &["generate", "1", "--vehicles=20"],
+    &["generate", "--vehicles", "20", "1"],
+    &["generate", "--vehicles=20", "--", "1"],
+];
+
+/// Whether these words make a file of 15,883 bytes, the same by the first spelling.
+fn is_one_file<R: Threads + Sync>(rt: &R, alloc: Global, words: &[&str]) -> Result<bool, Fail> {
     let mut ends = Ends::of(b"", b"");
     ends.room = 40_000;
-    let three: [&[&str]; 3] = [
-        &["generate", "1", "--vehicles=20"],
-        &["generate", "--vehicles", "20", "1"],
-        &["generate", "--vehicles=20", "--", "1"],
-    ];
-    let first = run(&rt, alloc, &Limits::DAY, three[0], ends)?;
-    assert_eq!(rt; first.0.len(), 15_883);
-    for words in three {
-        let file = run(&rt, alloc, &Limits::DAY, words, ends)?;
-        assert!(rt; file.0.as_slice() == first.0.as_slice());
-        assert_eq!(rt; file.1, 0);
-    }
-    let rehearse = [
-        "rehearse",
-        "1",
-        "--vehicles=20",
-        "--minutes=10",
-        "--crashes=1",
-    ];
-    let generate = [
-        "generate",
-        "1",
-        "--vehicles=20",
-        "--minutes=10",
-        "--crashes=1",
-    ];
-    let rehearsed = run(&rt, alloc, &Limits::DAY, &rehearse, ends)?;
-    let again = run(&rt, alloc, &Limits::DAY, &rehearse, ends)?;
-    assert!(rt; rehearsed.0.as_slice() == again.0.as_slice());
-    assert!(rt; rehearsed.0.as_slice().starts_with(FRONT));
-    let file = run(&rt, alloc, &Limits::DAY, &generate, ends)?;
-    ends.input = file.0.as_slice();
-    let stored = run(&rt, alloc, &Limits::DAY, &["import", "100"], ends)?;
-    assert_eq!(rt; stored.1, 0);
+    let first = run(rt, alloc, &Limits::DAY, SPELLINGS[0], ends)?;
+    let file = run(rt, alloc, &Limits::DAY, words, ends)?;
+    Ok((file.0.len(), file.1) == (15_883, 0) && file.0.as_slice() == first.0.as_slice())
+}
+
+/// The sizes of a file, behind its command.
+const SIZES: [&str; 4] = ["1", "--vehicles=20", "--minutes=10", "--crashes=1"];
+
+/// What a command writes of that file, and its status.
+fn of_sizes<R: Threads + Sync>(
+    rt: &R,
+    alloc: Global,
+    command: &'static str,
+) -> Result<(Vec<u8>, u8), Fail> {
+    let [seed, vehicles, minutes, crashes] = SIZES;
+    let mut ends = Ends::of(b"", b"");
+    ends.room = 40_000;
+    run(
+        rt,
+        alloc,
+        &Limits::DAY,
+        &[command, seed, vehicles, minutes, crashes],
+        ends,
+    )
+}
+
+/// Whether the closing line of the import of a file tells what its rehearsal tells: the words of these numbers.
+fn is_imported_as<R: Threads + Sync>(
+    rt: &R,
+    alloc: Global,
+    file: &[u8],
+    rehearsed: &[u8],
+) -> Result<bool, Fail> {
+    let mut ends = Ends::of(file, b"");
+    ends.room = 40_000;
+    let (stored, status) = run(rt, alloc, &Limits::DAY, &["import", "100"], ends)?;
+    let mut same = status == 0;
     for (one, other) in [(7, 5), (9, 7), (13, 9)] {
-        let here = word(alloc, rehearsed.0.as_slice(), one)?;
-        let there = word(alloc, stored.0.as_slice(), other)?;
-        assert!(rt; here.as_slice() == there.as_slice());
+        same = is_word(alloc, rehearsed, one, stored.as_slice(), other)? && same;
     }
+    Ok(same)
+}
+
+/// Whether a word of a text is a word of another.
+fn is_word(
+    alloc: Global,
+    text: &[u8],
+    number: usize,
+    other: &[u8],
+    there: usize,
+) -> Result<bool, AllocError> {
+    let found = word(alloc, text, number)?;
+    let wanted = word(alloc, other, there)?;
+    Ok(found.as_slice() == wanted.as_slice())
+}
+
+#[test]
+fn a_file_rehearsed_and_imported(rt: HostRuntime) -> Result<(), Fail> {
+    for words in SPELLINGS {
+        assert!(rt; is_one_file(&rt, rt.alloc(), words)?);
+    }
+    let rehearsed = of_sizes(&rt, rt.alloc(), "rehearse")?.0;
+    let again = of_sizes(&rt, rt.alloc(), "rehearse")?.0;
+    assert!(rt;
+        rehearsed.as_slice() == again.as_slice() && rehearsed.as_slice().starts_with(FRONT)
+    );
+    let file = of_sizes(&rt, rt.alloc(), "generate")?.0;
+    assert!(rt; is_imported_as(&rt, rt.alloc(), file.as_slice(), rehearsed.as_slice())?);
     Ok(())
 }

@@ -166,21 +166,21 @@ fn histories_are_kept_once(rt: HostRuntime) -> Result<(), KeepFault> {
     Ok(())
 }
 
+/// Histories, how many lines are lawful, and the line that is refused with its cause.
+const REFUSED: [(&[u8], u32, u64, PastCause); 7] = [
+    (TWO, 1, 2, PastCause::Many(1)),
+    (&[b'7'; 201], 1, 1, PastCause::Long),
+    (b"7,1,0\n", 9, 1, PastCause::Fields(3)),
+    (b"\n7,1,x,5\n", 9, 2, PastCause::Number(3)),
+    (b"7,70,0,5\n", 9, 1, PastCause::Range(2)),
+    (b"7,1,0,9999999999\n7,1,256,5", 9, 2, PastCause::Range(3)),
+    (b"7,1,0,0\n8,1,0,3\n7,01,-0,5\n", 9, 3, PastCause::Twice),
+];
+
 #[test]
 fn lines_that_are_refused(rt: HostRuntime) -> Result<(), KeepFault> {
-    let alloc = rt.alloc();
-    let long = [b'7'; 201];
-    let rows: [(&[u8], u32, u64, PastCause); 7] = [
-        (TWO, 1, 2, PastCause::Many(1)),
-        (&long, 1, 1, PastCause::Long),
-        (b"7,1,0\n", 9, 1, PastCause::Fields(3)),
-        (b"\n7,1,x,5\n", 9, 2, PastCause::Number(3)),
-        (b"7,70,0,5\n", 9, 1, PastCause::Range(2)),
-        (b"7,1,0,9999999999\n7,1,256,5", 9, 2, PastCause::Range(3)),
-        (b"7,1,0,0\n8,1,0,3\n7,01,-0,5\n", 9, 3, PastCause::Twice),
-    ];
-    for (input, most, line, cause) in rows {
-        let (outcome, none) = refused_at(&rt, alloc, most, input)?;
+    for (input, most, line, cause) in REFUSED {
+        let (outcome, none) = refused_at(&rt, rt.alloc(), most, input)?;
         assert!(rt; outcome == PastOutcome::Row { line, cause }, "line {line}");
         assert!(rt; none, "nothing is kept at line {line}");
     }

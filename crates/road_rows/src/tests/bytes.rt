@@ -10,95 +10,137 @@ use road_time::NoMemory;
 use std::alloc::Global;
 use std::io::{self, Read, Write};
 
-/// How a source ends after so many lines of such lengths and takes.
-#[derive(Debug, PartialEq, Drop)]
-struct Cuts {
-    lengths: Vec<usize>,
+/// Bytes, the reads of them that fail, how long their lines are, how many bytes these take, and how they end.
+struct Row {
+    bytes: &'static [u8],
+    fails: &'static [u32],
+    lengths: &'static [usize],
     taken: usize,
     end: Result<bool, LineFault>,
 }
 
-fn cut_all(alloc: Global, bytes: &[u8], piece: usize, fails: &[u32]) -> Result<Cuts, NoMemory> {
-    let mut source = MemSource::new(alloc, bytes, piece.max(1), fails)?;
+/// However they come in pieces.
+const ROWS: [Row; 5] = [
+    Row {
+        bytes: &[b'1'; 200],
+        fails: &[],
+        lengths: &[200],
+        taken: 200,
+        end: Ok(false),
+    },
+    Row {
+        bytes: &[b'1'; 201],
+        fails: &[],
+        lengths: &[],
+        taken: 0,
+        end: Err(LineFault::LongLine(1)),
+    },
+    Row {
+        bytes: b"ab\n\nc\r\n",
+        fails: &[],
+        lengths: &[2, 0, 2],
+        taken: 7,
+        end: Ok(false),
+    },
+    Row {
+        bytes: b"",
+        fails: &[],
+        lengths: &[],
+        taken: 0,
+        end: Ok(false),
+    },
+    Row {
+        bytes: b"ab\nc",
+        fails: &[0],
+        lengths: &[],
+        taken: 0,
+        end: Err(LineFault::ReadFault),
+    },
+];
+
+/// Byte by byte.
+const LATER: Row = Row {
+    bytes: b"ab\nc",
+    fails: &[3],
+    lengths: &[2],
+    taken: 3,
+    end: Err(LineFault::ReadFault),
+};
+
+/// Whether a row's bytes are cut as they are to be, in pieces of this size.
+fn is_cut(alloc: Global, piece: usize, row: &Row) -> Result<bool, NoMemory> {
+    let mut source = MemSource::new(alloc, row.bytes, piece.max(1), row.fails)?;
     let mut cutter = LineCutter::new(alloc)?;
-    let mut lengths = Vec::new(alloc);
     let mut taken: usize = 0;
-    for _ in 0..1000u32 {
-        if cutter.number() > 1000 {
-            break;
+    for length in row.lengths {
+        if cutter.number() > 1000 || cutter.advance(&mut source) != Ok(true) {
+            return Ok(false);
         }
-        let end = cutter.advance(&mut source);
-        if end != Ok(true) {
-            return Ok(Cuts {
-                lengths,
-                taken,
-                end,
-            });
+        if cutter.line().len() != *length {
+            return Ok(false);
         }
-        lengths.push(cutter.line().len())?;
         taken = taken.saturating_add(cutter.rest().len());
     }
-    Ok(Cuts {
-        lengths,
-        taken,
-        end: Ok(true),
-    })
+    if cutter.number() > 1000 {
+        return Ok(false);
+    }
+    Ok((cutter.advance(&mut source), taken) == (row.end, row.taken))
 }
 
 #[test]
 fn lines_at_their_limits(rt: HostRuntime) -> Result<(), NoMemory> {
-    let alloc = rt.alloc();
-    let ones = [b'1'; 201];
     for piece in [1, 7, 65_536] {
-        let whole = cut_all(alloc, &ones[..200], piece, &[])?;
-        assert!(rt;
-            whole.lengths.as_slice() == [200].as_slice()
-                && whole.taken == 200
-                && whole.end == Ok(false)
-        );
-        let long = cut_all(alloc, &ones, piece, &[])?;
-        assert!(rt; long.lengths.is_empty() && long.end == Err(LineFault::LongLine(1)));
-        let three = cut_all(alloc, b"ab\n\nc\r\n", piece, &[])?;
-        assert!(rt;
-            three.lengths.as_slice() == [2, 0, 2].as_slice()
-                && three.taken == 7
-                && three.end == Ok(false)
-        );
-        let none = cut_all(alloc, b"", piece, &[])?;
-        assert!(rt; none.lengths.is_empty() && none.end == Ok(false));
-        let failed = cut_all(alloc, b"ab\nc", piece, &[0])?;
-        assert!(rt; failed.lengths.is_empty() && failed.end == Err(LineFault::ReadFault));
+        for row in &ROWS {
+            assert!(rt; is_cut(rt.alloc(), piece, row)?);
+        }
     }
-    let later = cut_all(alloc, b"ab\nc", 1, &[3])?;
-    assert!(rt;
-        later.lengths.as_slice() == [2].as_slice() && later.end == Err(LineFault::ReadFault)
-    );
+    assert!(rt; is_cut(rt.alloc(), 1, &LATER)?);
     Ok(())
+}
+
+/// Whether a sink with room for five bytes takes five, two at a time, and no more.
+fn fills_up(alloc: Global) -> Result<bool, NoMemory> {
+    let mut sink = MemSink::new(alloc, 5, 2)?;
+    let first = put_all(&mut sink, b"abc");
+    let second = put_all(&mut sink, b"def");
+    let third = sink.write(b"g");
+    let ends = (first, second, third) == (Ok(()), Err(Failed), Err(Failed));
+    Ok(ends && sink.bytes() == b"abcde".as_slice())
+}
+
+/// Whether a source gives three bytes, two at a time, and fails at its second read.
+fn gives_out(alloc: Global) -> Result<bool, NoMemory> {
+    let mut source = MemSource::new(alloc, b"abc", 2, &[1])?;
+    let mut buf = [0u8; 8];
+    let came = [
+        source.read(&mut buf),
+        source.read(&mut buf),
+        source.read(&mut buf),
+        source.read(&mut buf),
+    ];
+    Ok(came == [Ok(2), Err(Failed), Ok(1), Ok(0)])
 }
 
 #[test]
 fn bytes_in_and_out(rt: HostRuntime) -> Result<(), NoMemory> {
-    let alloc = rt.alloc();
-    let mut sink = MemSink::new(alloc, 5, 2)?;
-    assert!(rt; put_all(&mut sink, b"abc") == Ok(()));
-    assert!(rt; put_all(&mut sink, b"def") == Err(Failed));
-    assert!(rt; sink.bytes() == b"abcde".as_slice() && sink.write(b"g") == Err(Failed));
-    assert!(rt; put_all(&mut VoidSink, b"abc") == Ok(()) && VoidSink.write(b"abc") == Ok(3));
-    let mut source = MemSource::new(alloc, b"abc", 2, &[1])?;
-    let mut buf = [0u8; 8];
-    assert!(rt; source.read(&mut buf) == Ok(2) && source.read(&mut buf) == Err(Failed));
-    assert!(rt; source.read(&mut buf) == Ok(1) && source.read(&mut buf) == Ok(0));
+    assert!(rt; fills_up(rt.alloc())?);
+    assert!(rt; gives_out(rt.alloc())?);
+    let void = (put_all(&mut VoidSink, b"abc"), VoidSink.write(b"abc"));
+    assert!(rt; void == (Ok(()), Ok(3)));
     Ok(())
 }
 
 #[test]
 fn bytes_both_ways(rt: HostRuntime) -> Result<(), NoMemory> {
-    let alloc = rt.alloc();
-    let mut link = MemLink::new(alloc, b"abc", 2, 3, &[1])?;
+    let mut link = MemLink::new(rt.alloc(), b"abc", 2, 3, &[1])?;
     let mut buf = [0u8; 8];
-    assert!(rt; link.read(&mut buf) == Ok(2) && link.read(&mut buf) == Err(Failed));
-    assert!(rt; link.write(b"xyz") == Ok(2) && link.read(&mut buf) == Ok(1));
-    assert!(rt; send_all(&mut link, b"st") == Err(Failed) && link.bytes() == b"xys".as_slice());
+    let read = (link.read(&mut buf), link.read(&mut buf));
+    let written = link.write(b"xyz");
+    let last = link.read(&mut buf);
+    let sent = send_all(&mut link, b"st");
+    assert!(rt; read == (Ok(2), Err(Failed)));
+    assert!(rt; (written, last, sent) == (Ok(2), Ok(1), Err(Failed)));
+    assert!(rt; link.bytes() == b"xys".as_slice());
     Ok(())
 }
 
@@ -152,16 +194,18 @@ fn an_interrupted_call_is_made_again(rt: HostRuntime) {
 
 #[test]
 fn a_file_is_opened_once_at_its_first_read(rt: HostRuntime) -> Result<(), NoMemory> {
-    let alloc = rt.alloc();
     let path = "a_file_that_road_io_reads";
-    let mut later = FileSource::at(alloc, rt, path)?;
-    let mut missing = FileSource::at(alloc, rt, path)?;
+    let mut later = FileSource::at(rt.alloc(), rt, path)?;
+    let mut missing = FileSource::at(rt.alloc(), rt, path)?;
     let mut buf = [0u8; 8];
-    assert!(rt; missing.read(&mut buf) == Err(Failed));
-    assert!(rt; std::fs::write(&rt, path, b"abc").is_ok());
-    assert!(rt; missing.read(&mut buf) == Err(Failed));
-    assert!(rt; later.read(&mut buf) == Ok(3) && &buf[..3] == b"abc".as_slice());
-    assert!(rt; later.read(&mut buf) == Ok(0));
-    assert!(rt; std::fs::remove_file(&rt, path).is_ok());
+    let missed = missing.read(&mut buf);
+    let made = std::fs::write(&rt, path, b"abc").is_ok();
+    let again = missing.read(&mut buf);
+    let came = later.read(&mut buf);
+    let ended = later.read(&mut [0u8; 8]);
+    let removed = std::fs::remove_file(&rt, path).is_ok();
+    assert!(rt; (made, removed) == (true, true));
+    assert!(rt; [missed, again, came, ended] == [Err(Failed), Err(Failed), Ok(3), Ok(0)]);
+    assert!(rt; &buf[..3] == b"abc".as_slice());
     Ok(())
 }

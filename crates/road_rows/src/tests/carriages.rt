@@ -1,13 +1,12 @@
 // What is found for the events of a few worked rows, each written out with its findings.
-ghost use Rattle.std.specs.Prelude.{◌≡◌, ◌++◌, [], ◌∷◌, List, true, map, IfOk};
-ghost use Rattle.expressway.specs.declared.lane_event.LaneEvent.{LaneEvent as Event};
+ghost use Rattle.std.specs.Prelude.{◌≡◌, true};
 ghost use Rattle.expressway.specs.Checks.{can_be_run};
-ghost use Rattle.expressway.specs.Findings.{shown, findings};
-ghost use Rattle.expressway.specs.Stands.{StandsFor};
-ghost use Rattle.expressway.specs.Ready.{IsReady};
 
-use expressway::{Carriage, Done, Events, Finding, Job, LaneEvent, run};
+mod running;
+
+use expressway::{Carriage, Done, Finding, Job, LaneEvent};
 use road_time::{NoMemory, Place, Report, Tariff, Tariffs};
+use running::{at_once, one_by_one};
 use std::alloc::Global;
 
 /// The event that a report was seen: position, second, vehicle, speed, expressway, lane, direction, segment, feet,
@@ -63,83 +62,6 @@ macro_rules! told {
             alert: $alert,
         }
     };
-}
-
-/// What events find in one job. Worker and number come back.
-fn at_once(alloc: Global, tariffs: &Tariffs, events: &[LaneEvent]) -> Result<Vec<Finding>, NoMemory>
-    requires { can_be_run events.now ≡ true }
-{
-    let mut all = Vec::new(alloc);
-    all.extend_from_slice(events)?;
-    let carriage = Carriage::new(alloc, tariffs)?;
-    let job = Job {
-        worker: 2,
-        number: 9,
-        carriage,
-        events: Events::from_vec(all),
-    };
-    let Done {
-        worker,
-        number,
-        findings,
-        result,
-        ..
-    } = run(alloc, job);
-    result?;
-    if worker == 2 && number == 9 {
-        Ok(findings.into_vec())
-    } else {
-        Ok(Vec::new(alloc))
-    }
-}
-
-/// Runs an event in a job of its own, and keeps what it finds.
-fn next_job(
-    alloc: Global,
-    carriage: Carriage,
-    event: LaneEvent,
-    found: &mut Vec<Finding>,
-) -> Result<Carriage, NoMemory>
-    requires { (before : List Event) × IsReady carriage before (event ∷ []) }
-    ensures { IfOk result (λ c. (before : List Event) → IsReady carriage before (event ∷ [])
-        → StandsFor c (before ++ event ∷ [])) }
-{
-    let mut one = Vec::new(alloc);
-    one.push(event)?;
-    let Done {
-        carriage,
-        findings,
-        result,
-        ..
-    } = run(
-        alloc,
-        Job {
-            worker: 0,
-            number: 0,
-            carriage,
-            events: Events::from_vec(one),
-        },
-    );
-    result?;
-    found.extend_from_slice(findings.items())?;
-    Ok(carriage)
-}
-
-/// What events find, each in a job of its own on the same carriage.
-fn one_by_one(
-    alloc: Global,
-    tariffs: &Tariffs,
-    events: &[LaneEvent],
-) -> Result<Vec<Finding>, NoMemory>
-    requires { can_be_run events.now ≡ true }
-{
-    let mut carriage = Carriage::new(alloc, tariffs)?;
-    let mut found = Vec::new(alloc);
-    for event in events {
-        let next = next_job(alloc, carriage, *event, &mut found)?;
-        carriage = next;
-    }
-    Ok(found)
 }
 
 /// One report.
@@ -226,9 +148,102 @@ fn jobs_move_between_threads(_rt: HostRuntime) {
     moves::<Done>();
 }
 
+/// What one report finds.
+const OF_ONE_REPORT: [Finding; 1] = [told!(0, -1, 0, None)];
+
+/// What is found where the pair clears: all on one way, which the first worker has at each width.
+const OF_THE_PAIR: [Finding; 4] = [
+    told!(0, -1, 0, None),
+    told!(1, -1, 0, None),
+    told!(9, 10, 0, Some(10)),
+    told!(10, 20, 0, None),
+];
+
+/// What is found where one stopped on another way, by one worker of all ways.
+const OF_ALL_WAYS: [Finding; 5] = [
+    told!(0, -1, 0, None),
+    told!(1, -1, 0, None),
+    told!(8, -1, 0, None),
+    told!(9, 0, 0, Some(10)),
+    told!(10, 16, 0, None),
+];
+
+/// The same by the worker of the place. The leave is the one event of its job, then comes a minute that is blocked,
+/// and then one that is not.
+const OF_ITS_WAY: [Finding; 4] = [
+    told!(0, -1, 0, None),
+    told!(1, -1, 0, None),
+    told!(9, 0, 0, Some(10)),
+    told!(10, 16, 0, None),
+];
+
+/// The same by the worker of the other way.
+const OF_THE_OTHER_WAY: [Finding; 1] = [told!(8, -1, 0, None)];
+
+/// Whether events find this in one job.
+fn finds(
+    alloc: Global,
+    tariffs: &Tariffs,
+    events: &[LaneEvent],
+    wanted: &[Finding],
+) -> Result<bool, NoMemory>
+    requires { can_be_run events.now ≡ true }
+{
+    Ok(at_once(alloc, tariffs, events)?.as_slice() == wanted)
+}
+
+/// Whether they find it in a job for each.
+fn finds_each(
+    alloc: Global,
+    tariffs: &Tariffs,
+    events: &[LaneEvent],
+    wanted: &[Finding],
+) -> Result<bool, NoMemory>
+    requires { can_be_run events.now ≡ true }
+{
+    Ok(one_by_one(alloc, tariffs, events)?.as_slice() == wanted)
+}
+
 #[test]
 fn runs_find_what_the_worked_rows_say(rt: HostRuntime) -> Result<(), NoMemory> {
     let plain = Tariffs::new(rt.alloc());
+    assert!(rt;
+        finds(rt.alloc(), &plain, &one_report(), &OF_ONE_REPORT)?,
+        "one report"
+    );
+    let pair = pair_clears();
+    assert!(rt;
+        finds(rt.alloc(), &plain, &pair, &OF_THE_PAIR)?,
+        "the pair clears, at widths 1, 3 and 64"
+    );
+    assert!(rt;
+        finds_each(rt.alloc(), &plain, &pair, &OF_THE_PAIR)?,
+        "the pair clears, a job for each event"
+    );
+    let all = stopped_elsewhere();
+    assert!(rt;
+        finds(rt.alloc(), &plain, &all, &OF_ALL_WAYS)?,
+        "stopped on another way, at width 1"
+    );
+    let here = left_for_elsewhere();
+    assert!(rt;
+        finds(rt.alloc(), &plain, &here, &OF_ITS_WAY)?,
+        "stopped on another way, at widths 3 and 64"
+    );
+    assert!(rt;
+        finds_each(rt.alloc(), &plain, &here, &OF_ITS_WAY)?,
+        "one worker's ways, a job for each event"
+    );
+    let there = seen_elsewhere();
+    assert!(rt;
+        finds(rt.alloc(), &plain, &there, &OF_THE_OTHER_WAY)?,
+        "the other way, at widths 3 and 64"
+    );
+    Ok(())
+}
+
+#[test]
+fn one_report_finds_the_same_under_another_tariff(rt: HostRuntime) -> Result<(), NoMemory> {
     let mut steep = Tariffs::new(rt.alloc());
     steep.set(
         0,
@@ -238,72 +253,6 @@ fn runs_find_what_the_worked_rows_say(rt: HostRuntime) -> Result<(), NoMemory> {
             factor: 5,
         },
     )?;
-
-    let none = [told!(0, -1, 0, None)];
-    assert_eq!(rt;
-        at_once(rt.alloc(), &plain, &one_report())?.as_slice(),
-        none.as_slice(),
-        "one report"
-    );
-    assert_eq!(rt;
-        at_once(rt.alloc(), &steep, &one_report())?.as_slice(),
-        none.as_slice(),
-        "one report under another tariff"
-    );
-
-    // All on one way, which the first worker has at each width.
-    let cleared = [
-        told!(0, -1, 0, None),
-        told!(1, -1, 0, None),
-        told!(9, 10, 0, Some(10)),
-        told!(10, 20, 0, None),
-    ];
-    assert_eq!(rt;
-        at_once(rt.alloc(), &plain, &pair_clears())?.as_slice(),
-        cleared.as_slice(),
-        "the pair clears: widths 1, 3 and 64, worker 0"
-    );
-    assert_eq!(rt;
-        one_by_one(rt.alloc(), &plain, &pair_clears())?.as_slice(),
-        cleared.as_slice(),
-        "the pair clears: a job for each event"
-    );
-
-    let all = [
-        told!(0, -1, 0, None),
-        told!(1, -1, 0, None),
-        told!(8, -1, 0, None),
-        told!(9, 0, 0, Some(10)),
-        told!(10, 16, 0, None),
-    ];
-    assert_eq!(rt;
-        at_once(rt.alloc(), &plain, &stopped_elsewhere())?.as_slice(),
-        all.as_slice(),
-        "stopped on another way: width 1, worker 0"
-    );
-
-    // The leave is the one event of its job, then comes a minute that is blocked, and then one that is not.
-    let found_here = [
-        told!(0, -1, 0, None),
-        told!(1, -1, 0, None),
-        told!(9, 0, 0, Some(10)),
-        told!(10, 16, 0, None),
-    ];
-    assert_eq!(rt;
-        at_once(rt.alloc(), &plain, &left_for_elsewhere())?.as_slice(),
-        found_here.as_slice(),
-        "stopped on another way: widths 3 and 64, worker 0"
-    );
-    assert_eq!(rt;
-        one_by_one(rt.alloc(), &plain, &left_for_elsewhere())?.as_slice(),
-        found_here.as_slice(),
-        "one worker's ways: a job for each event"
-    );
-    let found_there = [told!(8, -1, 0, None)];
-    assert_eq!(rt;
-        at_once(rt.alloc(), &plain, &seen_elsewhere())?.as_slice(),
-        found_there.as_slice(),
-        "stopped on another way: widths 3 and 64, worker 2"
-    );
+    assert!(rt; finds(rt.alloc(), &steep, &one_report(), &OF_ONE_REPORT)?);
     Ok(())
 }

@@ -18,42 +18,68 @@ fn read(alloc: Global, words: &[&str]) -> Result<Serving, WordFault> {
     }
 }
 
-fn serving(port: u16, sessions: u64, readers: u8) -> Result<Serving, WordFault> {
-    Ok(Serving {
-        port,
-        sessions,
-        readers,
-    })
+/// A server's port, sessions and readers.
+macro_rules! serving {
+    ($port:expr, $sessions:expr, $readers:expr) => {
+        Ok(Serving {
+            port: $port,
+            sessions: $sessions,
+            readers: $readers,
+        })
+    };
 }
+
+/// Words, and what they mean.
+const SERVED: [(&[&str], Result<Serving, WordFault>); 8] = [
+    (&["8080"], serving!(8080, 18_446_744_073_709_551_615, 4)),
+    (&["08080"], serving!(8080, 18_446_744_073_709_551_615, 4)),
+    (
+        &["--", "65535"],
+        serving!(65_535, 18_446_744_073_709_551_615, 4),
+    ),
+    (&["1", "--sessions", "2"], serving!(1, 2, 4)),
+    (&["--sessions=2", "1"], serving!(1, 2, 4)),
+    (
+        &["--readers", "64", "1", "--sessions=1"],
+        serving!(1, 1, 64),
+    ),
+    (
+        &["1", "--readers=1"],
+        serving!(1, 18_446_744_073_709_551_615, 1),
+    ),
+    (
+        &["1", "--sessions", "18446744073709551615"],
+        serving!(1, 18_446_744_073_709_551_615, 4),
+    ),
+];
+
+/// Words of no stated form.
+const REFUSED: [&[&str]; 17] = [
+    &[],
+    &["0"],
+    &["65536"],
+    &["+80"],
+    &["80", "81"],
+    &["000000000000000008080"],
+    &["8080", "--sessions", "0"],
+    &["8080", "--sessions", "18446744073709551616"],
+    &["8080", "--sessions"],
+    &["8080", "--sessions="],
+    &["8080", "--sessions=1", "--sessions=1"],
+    &["8080", "--readers", "0"],
+    &["8080", "--readers", "65"],
+    &["8080", "--reader", "1"],
+    &["--readers", "1"],
+    &["8080", "--help"],
+    &["8080", "-h"],
+];
 
 #[test]
 fn words_and_what_is_served(rt: HostRuntime) {
-    let alloc = rt.alloc();
-    let most = 18_446_744_073_709_551_615;
-    let words = Err(WordFault::Words);
-    assert!(rt; read(alloc, &["8080"]) == serving(8080, most, 4));
-    assert!(rt; read(alloc, &["08080"]) == serving(8080, most, 4));
-    assert!(rt; read(alloc, &["--", "65535"]) == serving(65_535, most, 4));
-    assert!(rt; read(alloc, &["1", "--sessions", "2"]) == serving(1, 2, 4));
-    assert!(rt; read(alloc, &["--sessions=2", "1"]) == serving(1, 2, 4));
-    assert!(rt; read(alloc, &["--readers", "64", "1", "--sessions=1"]) == serving(1, 1, 64));
-    assert!(rt; read(alloc, &["1", "--readers=1"]) == serving(1, most, 1));
-    assert!(rt; read(alloc, &["1", "--sessions", "18446744073709551615"]) == serving(1, most, 4));
-    assert!(rt; read(alloc, &[]) == words);
-    assert!(rt; read(alloc, &["0"]) == words);
-    assert!(rt; read(alloc, &["65536"]) == words);
-    assert!(rt; read(alloc, &["+80"]) == words);
-    assert!(rt; read(alloc, &["80", "81"]) == words);
-    assert!(rt; read(alloc, &["000000000000000008080"]) == words);
-    assert!(rt; read(alloc, &["8080", "--sessions", "0"]) == words);
-    assert!(rt; read(alloc, &["8080", "--sessions", "18446744073709551616"]) == words);
-    assert!(rt; read(alloc, &["8080", "--sessions"]) == words);
-    assert!(rt; read(alloc, &["8080", "--sessions="]) == words);
-    assert!(rt; read(alloc, &["8080", "--sessions=1", "--sessions=1"]) == words);
-    assert!(rt; read(alloc, &["8080", "--readers", "0"]) == words);
-    assert!(rt; read(alloc, &["8080", "--readers", "65"]) == words);
-    assert!(rt; read(alloc, &["8080", "--reader", "1"]) == words);
-    assert!(rt; read(alloc, &["--readers", "1"]) == words);
-    assert!(rt; read(alloc, &["8080", "--help"]) == words);
-    assert!(rt; read(alloc, &["8080", "-h"]) == words);
+    for (words, serving) in &SERVED {
+        assert!(rt; read(rt.alloc(), words) == *serving);
+    }
+    for words in &REFUSED {
+        assert!(rt; read(rt.alloc(), words) == Err(WordFault::Words));
+    }
 }

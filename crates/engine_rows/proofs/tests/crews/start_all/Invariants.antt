@@ -6,4 +6,5 @@ use Rattle.engine_rows.proofs.tests.crews.start_all.Given as goal
 abbrev pub invariant-loop-number : goal.invariant-loop-number
 invariant-loop-number g l =
     let k = g.C.Crew in
-    (tasks : List (g.row.C-Ticket.Denot × Job)) × (map (λ t. t.0) tasks ≡ l.tickets.items) × HasOut k.out k.number k.holds k.gave l.crew tasks × (length tasks ≡ l.number)
+    (tasks : List (g.row.C-Ticket.Denot × Job)) × (map (λ t. t.0) tasks ≡ l.tickets.items)
+    × HasOut k.out k.number k.holds k.gave l.crew tasks × (length tasks ≡ l.number)

@@ -4,7 +4,8 @@ use Rattle.engine_rows.proofs.tests.standing.are_answered_in_order.Goals as goal
 
 pub start_beside-two-requires-clause-room : goal.start_beside-two-requires-clause-room
 start_beside-two-requires-clause-room g c =
-    let k = g.C.Crew in (_, c.start_beside-one.ensures.out [] (idle k.out k.number k.holds k.gave _ c.requires), omega arith)
+    let k = g.C.Crew in
+    (_, c.start_beside-one.ensures.out [] (idle k.out k.number k.holds k.gave _ c.requires), omega arith)
 
 pub finish_among-sooner-requires : goal.finish_among-sooner-requires
 finish_among-sooner-requires g c =

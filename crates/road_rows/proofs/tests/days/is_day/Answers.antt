@@ -11,6 +11,8 @@ loop-tuple-preserved c =
     let i = c.loop-tuple.tuple-index in
     let valid = c.is_valid.ensures c.if-not-is_valid.false in
     record {
-      stands = subst (λ ts. StandsFor c.admit.new.self DAY 0 ts) (sym (take_more day i _ c.loop-tuple-test.true)) (c.in-Ok.ensures.admitted DAY 0 _ c.loop-tuple.invariant.stands);
-      fit = day_more day i _ c.loop-tuple-test.true c.if-tuples-gt1000.false valid (c.in-Ok.ensures.judged DAY 0 _ c.loop-tuple.invariant.stands) c.loop-tuple.invariant.fit;
+      stands = subst (λ ts. StandsFor c.admit.new.self DAY 0 ts) (sym (take_more day i _ c.loop-tuple-test.true))
+          (c.in-Ok.ensures.admitted DAY 0 _ c.loop-tuple.invariant.stands);
+      fit = day_more day i _ c.loop-tuple-test.true c.if-tuples-gt1000.false valid
+          (c.in-Ok.ensures.judged DAY 0 _ c.loop-tuple.invariant.stands) c.loop-tuple.invariant.fit;
     }

@@ -1,0 +1,113 @@
+// Links and keepers that fail, and what is answered after them.
+ghost use Rattle.std.specs.Prelude.{◌≡◌};
+
+use super::{EMPTY_DAY, ask, desk_of};
+use keeper::MemKeeper;
+use live_board::{Board, BoardReader, board};
+use partition_workers::InlineCrew;
+use road_io::MemLink;
+use road_time::NoMemory;
+use std::alloc::Global;
+use std::sync::Wait;
+use std::thread::Threads;
+use toll_desk::{Desk, SessionEnd, session};
+
+const FOUR_LINES: &[u8] = b"POST /days/100 HTTP/1.1\r\nContent-Length: 4\r\n\r\n\n\n\n\n";
+
+/// How a session over a link ends, whether nothing was written, and how a POST of an empty day ends after it.
+fn then_an_empty_day<R: Wait + Threads + Drop>(
+    alloc: Global,
+    desk: &mut Desk<MemKeeper, InlineCrew, R>,
+    reader: &mut BoardReader,
+    link: &mut MemLink,
+) -> Result<(SessionEnd, bool, SessionEnd), NoMemory>
+    requires board { reader.old.board ≡ desk.old.writer.board }
+{
+    let end = session(alloc, link, reader, desk);
+    let silent = link.bytes().is_empty();
+    let (next, _) = ask(alloc, desk, reader, EMPTY_DAY, 100)?;
+    Ok((end, silent, next))
+}
+
+/// The same, of a new desk whose keeper fails at these calls.
+fn over_a_new_desk<R: Wait + Threads + Drop + Copy>(
+    rt: R,
+    alloc: Global,
+    fails: &[u32],
+    link: &mut MemLink,
+) -> Result<(SessionEnd, bool, SessionEnd), NoMemory> {
+    let keeper = MemKeeper::new(alloc, fails)?;
+    let Board { writer, readers } = board(rt, alloc, 1)?;
+    let mut readers = readers.into_vec();
+    let mut desk = desk_of(rt, alloc, keeper, writer);
+    let came = match readers.pop() {
+        Some(mut reader) => then_an_empty_day(alloc, &mut desk, &mut reader, link),
+        None => Err(NoMemory),
+    };
+    desk.end();
+    came
+}
+
+/// Whether a session over a link of these bytes, of a new desk, ends so, silent or not, and a POST is answered then.
+fn ends_so<R: Wait + Threads + Drop + Copy>(
+    rt: R,
+    alloc: Global,
+    link: &mut MemLink,
+    fails: &[u32],
+    end: SessionEnd,
+    silent: bool,
+) -> Result<bool, NoMemory> {
+    let came = over_a_new_desk(rt, alloc, fails, link)?;
+    Ok(came == (end, silent, SessionEnd::Answered(200)))
+}
+
+/// A POST that is cut at any byte is cut, answers nothing and stores nothing.
+#[test]
+fn a_cut_post_stores_nothing(rt: HostRuntime) -> Result<(), NoMemory> {
+    for at in 0..FOUR_LINES.len() {
+        let mut link = MemLink::new(rt.alloc(), &FOUR_LINES[..at], 100, 1000, &[])?;
+        assert!(rt;
+            ends_so(rt, rt.alloc(), &mut link, &[], SessionEnd::Cut, true)?,
+            "{at}"
+        );
+    }
+    Ok(())
+}
+
+/// A POST whose link fails at a read, then at a write, and whose keeper fails at a call: the next POST is answered.
+#[test]
+fn a_fault_is_told(rt: HostRuntime) -> Result<(), NoMemory> {
+    for call in 0..3u32 {
+        let mut link = MemLink::new(rt.alloc(), FOUR_LINES, 23, 1000, &[call])?;
+        assert!(rt;
+            ends_so(rt, rt.alloc(), &mut link, &[], SessionEnd::LinkFault, true)?,
+            "{call}"
+        );
+    }
+    let mut narrow = MemLink::new(rt.alloc(), EMPTY_DAY, 100, 300, &[])?;
+    assert!(rt;
+        ends_so(
+            rt,
+            rt.alloc(),
+            &mut narrow,
+            &[],
+            SessionEnd::LinkFault,
+            false
+        )?
+    );
+    Ok(())
+}
+
+/// The same where the keeper fails.
+#[test]
+fn a_keeper_that_fails_is_told(rt: HostRuntime) -> Result<(), NoMemory> {
+    for call in 0..3u32 {
+        let mut link = MemLink::new(rt.alloc(), EMPTY_DAY, 100, 1000, &[])?;
+        let end = SessionEnd::Answered(503);
+        assert!(rt;
+            ends_so(rt, rt.alloc(), &mut link, &[call], end, false)?,
+            "{call}"
+        );
+    }
+    Ok(())
+}
