@@ -11,7 +11,7 @@ use Rattle.road_time.specs.declared.road.Stretch.{Stretch}
 use Rattle.road_time.specs.declared.road.Place.{Place}
 use Rattle.road_time.specs.Tuples.{stretch_around, same_stretch, same_place}
 use Rattle.road_time.specs.Stops.{Stop, has_accident}
-use Rattle.road_time.specs.Entries.{Entry, is_standing, standing, standing_at, entries_up_to}
+use Rattle.road_time.specs.Entries.{StopEntry, is_standing, standing, standing_at, entries_up_to}
 use Rattle.road_time.proofs.SameLaws.{place_is, place_same, number_same}
 use Rattle.road_time.proofs.AccidentLaws.{both}
 use Rattle.road_time.proofs.StandLaws.{found, given, standing_among}
@@ -32,7 +32,7 @@ abbrev shares : List Stop → Stop → Bool
 shares ss a = list_any (λ b. same_place a.1 b.1 && not (a.0 == b.0)) ss
 
 -- an accident is two vehicles that stand at one place of the stretch
-accident_two : (es : List Entry) (k : Stretch) → has_accident (standing es) k ≡ true →
+accident_two : (es : List StopEntry) (k : Stretch) → has_accident (standing es) k ≡ true →
     (p : Place) × (v : ℕ) × (w : ℕ) × (same_stretch (stretch_around p) k ≡ true) × (nat_eq v w ≡ false)
     × (is_standing es v p ≡ true) × (is_standing es w p ≡ true)
 accident_two es k h =
@@ -54,7 +54,7 @@ accident_two es k h =
     not_so false h = refl
 
 -- two vehicles that stand at one place of the stretch are an accident
-two_accident : (es : List Entry) (k : Stretch) (p : Place) (v w : ℕ) → same_stretch (stretch_around p) k ≡ true →
+two_accident : (es : List StopEntry) (k : Stretch) (p : Place) (v w : ℕ) → same_stretch (stretch_around p) k ≡ true →
     nat_eq v w ≡ false → is_standing es v p ≡ true → is_standing es w p ≡ true →
     has_accident (standing es) k ≡ true
 two_accident es k p v w here apart first second =
@@ -66,7 +66,7 @@ two_accident es k p v w here apart first second =
     (standing_among es (v, p) ∙ first)
 
 -- all entries are up to a second that none is after
-all_up_to : (second t : ℕ) (es : List Entry) → second ≤ t → AllByRecursion (λ e. e.second ≤ second) es →
+all_up_to : (second t : ℕ) (es : List StopEntry) → second ≤ t → AllByRecursion (λ e. e.second ≤ second) es →
     entries_up_to t es ≡ es
 all_up_to second t [] le h = refl
 all_up_to second t (e ∷ es) le h =
@@ -75,14 +75,14 @@ all_up_to second t (e ∷ es) le h =
     (le-leb e.second t (omega (arith, l, le))) ∙ ap (λ xs. e ∷ xs) (all_up_to second t es le h.1)
 
 -- an entry does not change the seconds before it
-pub earlier_same : (es : List Entry) (e : Entry) (t : ℕ) → t < e.second →
+pub earlier_same : (es : List StopEntry) (e : StopEntry) (t : ℕ) → t < e.second →
     entries_up_to t (es ++ e ∷ []) ≡ entries_up_to t es
 earlier_same es e t lt =
     filter-append (λ x. nat_le x.second t) es (e ∷ [])
     ∙ ap (λ xs. entries_up_to t es ++ xs) (cond-false (nat_le e.second t) (e ∷ []) [] (lt-leb e.second t lt))
     ∙ append-nil (entries_up_to t es)
 
-module _ (second : ℕ) (has : Place → ℕ → Bool) (count : Place → ℕ) (spell : Stretch → Spell) (es : List Entry)
+module _ (second : ℕ) (has : Place → ℕ → Bool) (count : Place → ℕ) (spell : Stretch → Spell) (es : List StopEntry)
     (st : Stand second has count spell es) where
   -- an accident stands now exactly where some place of the stretch is crowded
   pub accident_now : (k : Stretch) → has_accident (standing es) k ≡ nat_le 1 (spell k).places

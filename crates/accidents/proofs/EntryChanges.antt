@@ -9,7 +9,7 @@ use Rattle.road_time.specs.declared.road.Stretch.{Stretch}
 use Rattle.road_time.specs.declared.road.Place.{Place}
 use Rattle.road_time.specs.Tuples.{stretch_around, same_stretch, same_place}
 use Rattle.road_time.specs.Stops.{has_accident}
-use Rattle.road_time.specs.Entries.{Entry, is_standing, standing, standing_at}
+use Rattle.road_time.specs.Entries.{StopEntry, is_standing, standing, standing_at}
 use Rattle.road_time.proofs.SameLaws.{stretch_is, place_is, place_same, number_same}
 use Rattle.road_time.proofs.EntryLaws.{standing_push}
 use Rattle.accidents.specs.declared.spell.Spell.{Spell}
@@ -20,11 +20,11 @@ use Rattle.accidents.proofs.Counts.{counted_more, counted_less, counted_same}
 use Rattle.accidents.proofs.Spells.{history_same}
 use Rattle.accidents.proofs.Changes.{number_is, earlier_same}
 
-module _ (second : ℕ) (has : Place → ℕ → Bool) (count : Place → ℕ) (spell : Stretch → Spell) (es : List Entry)
+module _ (second : ℕ) (has : Place → ℕ → Bool) (count : Place → ℕ) (spell : Stretch → Spell) (es : List StopEntry)
     (st : Stand second has count spell es) where
   module _ (vid : ℕ) (place : Place) (stops : Bool) where
     -- one entry more, at the current second
-    abbrev pub entry : Entry
+    abbrev pub entry : StopEntry
     entry = record { second = second; vid = vid; place = place; stops = stops }
 
     -- an entry at the current second leaves the history as it was

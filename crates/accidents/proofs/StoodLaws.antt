@@ -10,14 +10,14 @@ use Rattle.accidents.specs.declared.spell.Spell.{Spell}
 use Rattle.road_time.specs.Clock.{minute_of}
 use Rattle.road_time.specs.declared.road.Stretch.{Stretch}
 use Rattle.road_time.specs.Stops.{stood, near, segments_ahead}
-use Rattle.road_time.specs.Entries.{Entry, standing_at}
-use Rattle.accidents.specs.Kept.{Kept, spell_of}
+use Rattle.road_time.specs.Entries.{StopEntry, standing_at}
+use Rattle.accidents.specs.Kept.{KeptStops, spell_of}
 use Rattle.accidents.specs.Near.{stood_in, near_in}
 use Rattle.accidents.specs.Stands.{StandsFor}
 use Rattle.accidents.proofs.Spells.{stood_last_is}
 
 -- of a stretch
-pub stood_in_is : (s : Kept) (es : List Entry) → StandsFor s es → (k : Stretch) →
+pub stood_in_is : (s : KeptStops) (es : List StopEntry) → StandsFor s es → (k : Stretch) →
     stood_in s k ≡ stood (standing_at es) (minute_of s.second - 1) k
 stood_in_is s es st k =
     let m : s.second / 60 ≡ s.second / 60 + 1 - 1 = omega arith in
@@ -29,12 +29,12 @@ find_same : (p q : ℕ → Bool) (xs : List ℕ) → ((x : ℕ) → p x ≡ q x)
 find_same p q xs h = λ j. find (λ x. h x j) xs
 
 -- ahead of a stretch
-pub near_in_is : (s : Kept) (es : List Entry) → StandsFor s es → (k : Stretch) →
+pub near_in_is : (s : KeptStops) (es : List StopEntry) → StandsFor s es → (k : Stretch) →
     near_in s k ≡ near (standing_at es) (minute_of s.second) k
 near_in_is s es st k = find_same _ _ (segments_ahead k) (λ x. stood_in_is s es st (record k { seg = x }))
 
 -- where each stretch stays as it is, so does what is ahead
-pub near_in_same : (s t : Kept) → ((k : Stretch) → stood_in s k ≡ stood_in t k) → (k : Stretch) →
+pub near_in_same : (s t : KeptStops) → ((k : Stretch) → stood_in s k ≡ stood_in t k) → (k : Stretch) →
     near_in s k ≡ near_in t k
 near_in_same s t h k = find_same _ _ (segments_ahead k) (λ x. h (record k { seg = x }))
 

@@ -9,7 +9,7 @@ use Rattle.accidents.specs.declared.places.Stopped.{Stopped}
 
 -- what is kept: the current second, who stands where, how many stand at each place where one does, and the accidents
 -- of each stretch that had one
-pub record Kept : Type 0 where
+pub record KeptStops : Type 0 where
   pub second : ℕ
   pub standing : List Stopped
   pub counts : List (Place × ℕ)

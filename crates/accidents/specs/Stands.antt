@@ -3,11 +3,11 @@ use Rattle.road_time.specs.declared.road.Stretch.{Stretch}
 use Rattle.road_time.specs.declared.road.Place.{Place}
 use Rattle.road_time.specs.Tuples.{stretch_around, same_stretch, same_place}
 use Rattle.road_time.specs.Stops.{has_accident}
-use Rattle.road_time.specs.Entries.{Entry, is_standing, standing_at}
+use Rattle.road_time.specs.Entries.{StopEntry, is_standing, standing_at}
 use Rattle.accidents.specs.declared.spell.Spell.{Spell}
 use Rattle.accidents.specs.Counted.{IsCounted}
 use Rattle.accidents.specs.History.{IsHistory}
-use Rattle.accidents.specs.Kept.{Kept, has_stopped, count_of, spell_of}
+use Rattle.accidents.specs.Kept.{KeptStops, has_stopped, count_of, spell_of}
 
 -- two vehicles or more at a place of the stretch, by a count of each place
 abbrev pub is_crowded : (Place → ℕ) → Stretch → Place → Bool
@@ -18,7 +18,7 @@ is_crowded count k p = same_stretch (stretch_around p) k && nat_le 2 (count p)
 -- and each stretch as many places with two or more; and of each stretch the seconds before the current one at which an
 -- accident stood are kept
 pub record Stand (second : ℕ) (has : Place → ℕ → Bool) (count : Place → ℕ) (spell : Stretch → Spell)
-    (entries : List Entry) : Type 0 where
+    (entries : List StopEntry) : Type 0 where
   pub none_after : All (λ e. e.second ≤ second) entries
   pub standing : (p : Place) (v : ℕ) → has p v ≡ is_standing entries v p
   pub counts : (p : Place) → IsCounted nat_eq (has p) (count p)
@@ -26,5 +26,5 @@ pub record Stand (second : ℕ) (has : Place → ℕ → Bool) (count : Place �
   pub history : (k : Stretch) → IsHistory second (spell k) (λ t. has_accident (standing_at entries t) k)
 
 -- the object stands for the entries
-abbrev pub StandsFor : Kept → List Entry → Type 0
+abbrev pub StandsFor : KeptStops → List StopEntry → Type 0
 StandsFor s entries = Stand s.second (has_stopped s.standing) (count_of s.counts) (spell_of s.spells) entries

@@ -2,7 +2,7 @@
 ghost use Rattle.std.specs.Prelude.{◌≡◌, ◌≤◌, ◌-◌, ◌++◌, ◌∷◌, [], List, true, false, OnOk, OnErr};
 ghost use Rattle.road_time.specs.Clock.{minute_of};
 ghost use Rattle.road_time.specs.Stops.{stood, near};
-ghost use Rattle.road_time.specs.Entries.{Entry, standing_at};
+ghost use Rattle.road_time.specs.Entries.{StopEntry, standing_at};
 ghost use Rattle.accidents.specs.Kept.{has_stopped};
 ghost use Rattle.accidents.specs.Near.{stood_in, near_in};
 ghost use Rattle.accidents.specs.Stands.{StandsFor};
@@ -28,9 +28,9 @@ pub struct Stops {
 }
 
 impl Model for Stops {
-    ghost use Rattle.accidents.specs.Kept.{Kept};
+    ghost use Rattle.accidents.specs.Kept.{KeptStops};
 
-    ghost Value = { Kept };
+    ghost Value = { KeptStops };
 
     ghost view = { λ s. record {
       second = s.second;
@@ -64,7 +64,7 @@ impl Stops {
     /// The vehicle stands at the place from the current second on. Where it stands there already nothing changes.
     pub fn stop(&mut self, place: Place, vid: u32) -> Result<(), NoMemory>
         ensures second { self.new.second ≡ self.old.second }
-        ensures stopped { OnOk result ((entries : List Entry) → StandsFor self.old entries
+        ensures stopped { OnOk result ((entries : List StopEntry) → StandsFor self.old entries
             → StandsFor self.new (entries
             ++ record { second = self.old.second; vid = vid; place = place; stops = true } ∷ [])) }
         ensures idle { has_stopped self.old.standing place vid ≡ true → self.new ≡ self.old }
@@ -89,7 +89,7 @@ impl Stops {
     /// The vehicle stands at the place no more. Where it does not stand there nothing changes.
     pub fn leave(&mut self, place: Place, vid: u32)
         ensures second { self.new.second ≡ self.old.second }
-        ensures left { (entries : List Entry) → StandsFor self.old entries
+        ensures left { (entries : List StopEntry) → StandsFor self.old entries
             → StandsFor self.new (entries
             ++ record { second = self.old.second; vid = vid; place = place; stops = false } ∷ []) }
         ensures idle { has_stopped self.old.standing place vid ≡ false → self.new ≡ self.old }
@@ -107,14 +107,14 @@ impl Stops {
     pub fn advance(&mut self, second: u32)
         requires { self.old.second ≤ second }
         ensures second { self.new ≡ record self.old { second = second } }
-        ensures kept { (entries : List Entry) → StandsFor self.old entries → StandsFor self.new entries }
+        ensures kept { (entries : List StopEntry) → StandsFor self.old entries → StandsFor self.new entries }
     {
         self.second = second;
     }
 
     /// Whether an accident stood in the stretch in the minute before the current one.
     pub fn stood_last_minute(&self, stretch: Stretch) -> bool
-        ensures exact { (entries : List Entry) → StandsFor self.now entries
+        ensures exact { (entries : List StopEntry) → StandsFor self.now entries
             → result ≡ stood (standing_at entries) (minute_of self.now.second - 1) stretch }
         ensures kept { result ≡ stood_in self.now stretch }
     {
@@ -125,7 +125,7 @@ impl Stops {
     pub fn nearest(&self, stretch: Stretch) -> Option<u8>
         requires segment { stretch.seg ≤ 99 }
         requires direction { stretch.dir ≤ 1 }
-        ensures exact { (entries : List Entry) → StandsFor self.now entries
+        ensures exact { (entries : List StopEntry) → StandsFor self.now entries
             → result ≡ near (standing_at entries) (minute_of self.now.second) stretch }
         ensures kept { result ≡ near_in self.now stretch }
     {

@@ -10,14 +10,14 @@ use Rattle.std.specs.FinMap.{FinMap, get, insert, find, nat_cmp-IsAntisymmetric,
 use Rattle.std.proofs.lemmas.Bool.{cond_both, eqb-true}
 use Rattle.accounts.specs.declared.vehicle.First.{First}
 use Rattle.accounts.specs.declared.vehicle.Vehicle.{Vehicle}
-use Rattle.accounts.specs.Sums.{Spent, amount_in, account_in, total_in, with_charge, same_owner, sum_at}
+use Rattle.accounts.specs.Sums.{SpentMap, amount_in, account_in, total_in, with_charge, same_owner, sum_at}
 use Rattle.accounts.specs.Entries.{vehicle_at, is_further, sum_on, first_sum, first_after, all_sums, looked_up}
 use Rattle.accounts.specs.Books.{Accounts, told_of, spent_of, IsSound}
 use Rattle.accounts.proofs.SumLaws.{account_more, total_more, account_none, total_none, account_few, amount_few}
 use Rattle.accounts.proofs.EntryLaws.{get_spent, spent_after, spent_same, all_apart, charged_up, parts_few}
 
 -- two books with the same parts
-pub book_made : {a a' : FinMap nat_cmp ℕ} {b b' : Spent} {n n' : ℕ} → a ≡ a' → b ≡ b' → n ≡ n' →
+pub book_made : {a a' : FinMap nat_cmp ℕ} {b b' : SpentMap} {n n' : ℕ} → a ≡ a' → b ≡ b' → n ≡ n' →
     ◌≡◌ {A = Accounts} (record { told = a; spent = b; made = n }) (record { told = a'; spent = b'; made = n' })
 book_made p q r = cc
 

@@ -4,24 +4,24 @@ use Rattle.std.specs.List.{fold}
 use Rattle.std.proofs.lemmas.List.{length-append}
 use Rattle.std.proofs.lemmas.List.Sums.{fold-append}
 use Rattle.road_time.specs.declared.road.Tuple.{Tuple}
-use Rattle.road_time.specs.Order.{InOrder}
+use Rattle.road_time.specs.Order.{AreTimesInOrder}
 use Rattle.road_time.specs.Rates.{Tariffs}
 use Rattle.road_time.specs.Sights.{moments}
-use Rattle.road_time.specs.Day.{Charge, rules, charges_between, charges}
+use Rattle.road_time.specs.Day.{ChargedToll, rules, charges_between, charges}
 use Rattle.road_time.proofs.AccountLaws.{charges_step}
 use Rattle.road_time.proofs.StepLaws.{between_before}
 use Rattle.accounts.specs.Operations.{Operation, Begin, Step}
-use Rattle.accounts.specs.Boards.{Board, blank, board_with, board_after, AreSteps, IsLive}
+use Rattle.accounts.specs.Boards.{BoardState, blank, board_with, board_after, AreSteps, IsLive}
 
 -- a board shows a day's charges at its mark
-pub record Shows (day : List Tuple) (tariffs : Tariffs) (number : ℕ) (b : Board) : Type 0 where
+pub record Shows (day : List Tuple) (tariffs : Tariffs) (number : ℕ) (b : BoardState) : Type 0 where
   pub of_day : b.number ≡ number
   pub inside : b.mark ≤ length day
   pub exact : b.charged ≡ charges day tariffs (moments (take b.mark day))
 
 module _ (day : List Tuple) (tariffs : Tariffs) (number : ℕ) where
   -- a step from its mark keeps that
-  shows_step : (b : Board) (cs : List Charge) (next : ℕ) → Shows day tariffs number b → b.mark < next →
+  shows_step : (b : BoardState) (cs : List ChargedToll) (next : ℕ) → Shows day tariffs number b → b.mark < next →
       next ≤ length day → cs ≡ charges_between (rules day tariffs) day b.mark next →
       Shows day tariffs number (board_with b (Step cs next))
   shows_step b cs next h less inside is = record {
@@ -31,7 +31,7 @@ module _ (day : List Tuple) (tariffs : Tariffs) (number : ℕ) where
   }
 
   -- so do steps
-  shows_steps : (b : Board) (ops : List Operation) → Shows day tariffs number b → AreSteps day tariffs b.mark ops →
+  shows_steps : (b : BoardState) (ops : List Operation) → Shows day tariffs number b → AreSteps day tariffs b.mark ops →
       Shows day tariffs number (fold board_with b ops)
   shows_steps b [] h steps = h
   shows_steps b (Begin n ∷ ops) h steps = absurd steps
@@ -39,7 +39,7 @@ module _ (day : List Tuple) (tariffs : Tariffs) (number : ℕ) where
       shows_steps (board_with b (Step cs next)) ops (shows_step b cs next h steps.0 steps.1 steps.2) steps.3
 
   -- a day that begins shows nothing charged
-  begun : (b : Board) → Shows day tariffs number (board_with b (Begin number))
+  begun : (b : BoardState) → Shows day tariffs number (board_with b (Begin number))
   begun b = record { of_day = refl; inside = omega arith; exact = refl }
 
   -- a day and its steps, whatever was published before
@@ -49,7 +49,7 @@ module _ (day : List Tuple) (tariffs : Tariffs) (number : ℕ) where
       subst (Shows day tariffs number) (sym (fold-append board_with blank earlier (Begin number ∷ steps)))
       (shows_steps (board_with (board_after earlier) (Begin number)) steps (begun (board_after earlier)) h)
 
-module _ (day later : List Tuple) (order : InOrder (day ++ later)) (tariffs : Tariffs) where
+module _ (day later : List Tuple) (order : AreTimesInOrder (day ++ later)) (tariffs : Tariffs) where
   -- steps of a day are steps of a longer one
   grown : (mark : ℕ) (ops : List Operation) → AreSteps day tariffs mark ops → AreSteps (day ++ later) tariffs mark ops
   grown mark [] h = tt

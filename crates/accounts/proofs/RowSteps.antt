@@ -2,7 +2,7 @@
 use Rattle.std.proofs.Common.{◌≡◌, ℕ, ◌+◌, ◌≤◌, ◌<◌, ◌==◌, ◌&&◌, ◌++◌, inl, inr, Bool, true, false, cond, nat_lt, List}
 use Rattle.std.proofs.Common.{[], ◌∷◌, length, map, Some, refl, sym, ap, ◌∙◌, arith, get_or}
 use Rattle.std.specs.Option.{unwrap_or}
-use Rattle.std.specs.List.{filter, sum_by, AllByRecursion, IsDistinct}
+use Rattle.std.specs.List.{sum_by, AllByRecursion, IsDistinct}
 use Rattle.std.specs.List.Sorted.{IsPermutation, IsSortedByKey, IsStrictlySortedBy}
 use Rattle.std.specs.Map.{lookup, keys_of}
 use Rattle.std.specs.declared.cmp.Ordering.{Ordering}
@@ -17,10 +17,11 @@ use Rattle.std.proofs.lemmas.Map.Keys.{IsDistinct-head, IsDistinct-tail, IsDisti
 use Rattle.std.proofs.lemmas.Map.Keys.{apart_from_distinct, sorted_from_all_adjacent, sorted_head, sorted_tail}
 use Rattle.std.proofs.lemmas.Bool.{cond_both, cond-true, cond-false, ltb-true, ltb-false}
 use Rattle.road_time.specs.declared.day.SpentRow.{SpentRow}
-use Rattle.road_time.specs.Rows.{IsBefore, Rise, tolls_in}
+use Rattle.road_time.specs.Rows.{IsBefore, AreRowsRising, tolls_in}
 use Rattle.accounts.specs.Sums.{owner_cmp, sums_of, same_owner, sum_at, owner_of, listed, AreRowsOf}
 use Rattle.accounts.proofs.SumLaws.{get_sums}
 use Rattle.accounts.proofs.OwnerOrder.{owner_total, owner_tied, same_flip, same_is}
+use Rattle.road_time.proofs.RowLaws.{tolls_cons}
 
 -- what is listed
 
@@ -84,24 +85,13 @@ listed_some day (e ∷ es) =
 abbrev holds : ℕ → ℕ → SpentRow → Bool
 holds v x r = r.vid == v && r.xway == x
 
--- one row more
-tolls_more : (r : SpentRow) (rs : List SpentRow) (v x : ℕ) →
-    tolls_in (r ∷ rs) v x ≡ cond (holds v x r) r.tolls 0 + tolls_in rs v x
-tolls_more r rs v x =
-    let one = sum_by-cons (λ (r : SpentRow). r.tolls) r (filter (holds v x) rs) in
-    cond_both (holds v x r) (r ∷ filter (holds v x) rs) (filter (holds v x) rs)
-    (λ zs. sum_by (λ r. r.tolls) zs ≡ cond (holds v x r) r.tolls 0 + tolls_in rs v x)
-    (λ t. let there : cond (holds v x r) r.tolls 0 ≡ r.tolls = cond-true (holds v x r) r.tolls 0 t in
-    omega (arith, one, there))
-    (λ t. let gone : cond (holds v x r) r.tolls 0 ≡ 0 = cond-false (holds v x r) r.tolls 0 t in omega (arith, gone))
-
 -- a row that is listed or not, as it has something
 tolls_listed : (day : ℕ) (e : (ℕ × ℕ) × ℕ) (es : List ((ℕ × ℕ) × ℕ)) (v x : ℕ) →
     tolls_in (listed day (e ∷ es)) v x ≡ cond (same_owner e.0 (v, x)) e.1 0 + tolls_in (listed day es) v x
 tolls_listed day e es v x =
     cond_both (nat_lt 0 e.1) (record { day = day; vid = e.0.0; xway = e.0.1; tolls = e.1 } ∷ listed day es)
     (listed day es) (λ rs. tolls_in rs v x ≡ cond (same_owner e.0 (v, x)) e.1 0 + tolls_in (listed day es) v x)
-    (λ _. tolls_more (record { day = day; vid = e.0.0; xway = e.0.1; tolls = e.1 }) (listed day es) v x)
+    (λ _. tolls_cons (record { day = day; vid = e.0.0; xway = e.0.1; tolls = e.1 }) (listed day es) v x)
     (λ t. nothing (same_owner e.0 (v, x)) e.1 (tolls_in (listed day es) v x) (ltb-false 0 e.1 t))
   where
     nothing : (b : Bool) (n m : ℕ) → n ≤ 0 → m ≡ cond b n 0 + m
@@ -142,7 +132,7 @@ listed_exact day (e ∷ es) h v x =
 weighed : (v x : ℕ) (rs : List SpentRow) → tolls_in rs v x ≡ sum_by (λ r. cond (holds v x r) r.tolls 0) rs
 weighed v x [] = refl
 weighed v x (r ∷ rs) =
-    let one = tolls_more r rs v x in
+    let one = tolls_cons r rs v x in
     let all = sum_by-cons (λ (r : SpentRow). cond (holds v x r) r.tolls 0) r rs in
     let rest = weighed v x rs in
     omega (arith, one, all, rest)
@@ -184,7 +174,7 @@ each_before r [] h = tt
 each_before r (s ∷ ss) h = (before_by r s (nat_cmp r.vid s.vid) refl h.0, each_before r ss h.1)
 
 -- rows of rising owners rise
-rise_of : (rs : List SpentRow) → IsStrictlySortedBy owner_cmp (map owner_of rs) → Rise rs
+rise_of : (rs : List SpentRow) → IsStrictlySortedBy owner_cmp (map owner_of rs) → AreRowsRising rs
 rise_of [] h = tt
 rise_of (r ∷ rs) h = (
   each_before r rs (sorted_head owner_cmp (owner_of r) (map owner_of rs) h),
@@ -198,7 +188,7 @@ no_row = record { day = 0; vid = 0; xway = 0; tolls = 0 }
 
 -- sorted rows of owners apart rise
 sorted_rise : (rs : List SpentRow) → IsSortedByKey owner_of owner_cmp rs → IsDistinct same_owner (map owner_of rs) →
-    Rise rs
+    AreRowsRising rs
 sorted_rise rs sorted apart =
     rise_of rs (sorted_from_all_adjacent owner_total (map owner_of rs) (owner_of no_row) (λ k h. step k h))
   where

@@ -4,17 +4,17 @@ use Rattle.std.proofs.Common.{◌∙◌, le_refl, arith, ⊎_elim}
 use Rattle.std.specs.List.{fold}
 use Rattle.std.proofs.lemmas.List.Sums.{fold-append}
 use Rattle.accounts.specs.Operations.{Operation, Begin, Step}
-use Rattle.accounts.specs.Boards.{Board, blank, board_with, board_after, all_accounts}
+use Rattle.accounts.specs.Boards.{BoardState, blank, board_with, board_after, all_accounts}
 use Rattle.accounts.specs.Shown.{shown_with, shown_by, shown_after, board_on}
 
 -- once a day began, each operation counts
-some_shown : (ops : List Operation) (b : Board) → fold shown_with (Some b) ops ≡ Some (fold board_with b ops)
+some_shown : (ops : List Operation) (b : BoardState) → fold shown_with (Some b) ops ≡ Some (fold board_with b ops)
 some_shown [] b = refl
 some_shown (Begin n ∷ ops) b = some_shown ops (board_with b (Begin n))
 some_shown (Step cs mark ∷ ops) b = some_shown ops (board_with b (Step cs mark))
 
 -- nothing is shown, or the board of all operations, whatever was there before
-none_or : (ops : List Operation) (b : Board) → (fold shown_with None ops ≡ None)
+none_or : (ops : List Operation) (b : BoardState) → (fold shown_with None ops ≡ None)
     ⊎ (fold shown_with None ops ≡ Some (fold board_with b ops))
 none_or [] b = inl refl
 none_or (Begin n ∷ ops) b = inr (some_shown ops (board_with b (Begin n)))
@@ -32,8 +32,8 @@ begun_shown earlier steps n =
 pub shown_few : (ops : List Operation) → all_accounts (shown_after ops) ≤ all_accounts (board_after ops)
 shown_few ops =
     ⊎_elim (λ (e : shown_by ops ≡ None). subst
-    (λ (s : Option Board). all_accounts (board_on s) ≤ all_accounts (board_after ops)) (sym e) (omega arith))
+    (λ (s : Option BoardState). all_accounts (board_on s) ≤ all_accounts (board_after ops)) (sym e) (omega arith))
     (λ (e : shown_by ops ≡ Some (board_after ops)). subst
-    (λ (s : Option Board). all_accounts (board_on s) ≤ all_accounts (board_after ops)) (sym e)
+    (λ (s : Option BoardState). all_accounts (board_on s) ≤ all_accounts (board_after ops)) (sym e)
     (le_refl (all_accounts (board_after ops))))
     (none_or ops blank)

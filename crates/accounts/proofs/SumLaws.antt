@@ -13,9 +13,9 @@ use Rattle.std.specs.FinMap.{entries-insert, entries_sorted, len-empty, len-entr
 use Rattle.std.specs.FinMap.Entries.{below_all, by_order}
 use Rattle.std.proofs.lemmas.List.Sums.{sum_by-cons}
 use Rattle.std.proofs.lemmas.Bool.{cond_both, cond-true, cond-false}
-use Rattle.road_time.specs.Day.{Charge, sum_of, charges_to}
+use Rattle.road_time.specs.Day.{ChargedToll, sum_of, charges_to}
 use Rattle.road_time.specs.Rows.{charges_on, spent}
-use Rattle.accounts.specs.Sums.{owner_cmp, Spent, sums_of, amount_in, account_in, total_in, with_charge, spent_by}
+use Rattle.accounts.specs.Sums.{owner_cmp, SpentMap, sums_of, amount_in, account_in, total_in, with_charge, spent_by}
 use Rattle.accounts.specs.Sums.{same_owner}
 use Rattle.accounts.proofs.OwnerOrder.{owner_total, owner_ties, owner_tied, same_flip, same_is}
 
@@ -131,7 +131,7 @@ settle true x y a t h = omega arith
 settle false x y a t h = omega arith
 
 -- the sum of what passes a test, with one charge more
-weight_more : (p : ℕ × ℕ → Bool) (m : Spent) (c : Charge) →
+weight_more : (p : ℕ × ℕ → Bool) (m : SpentMap) (c : ChargedToll) →
     weight p (entries (with_charge m c)) ≡ weight p (entries m) + cond (p (c.vid, c.xway)) c.toll 0
 weight_more p m c =
     settle (p (c.vid, c.xway)) (weight p (entries (with_charge m c))) (weight p (entries m)) (amount_in m c.vid c.xway)
@@ -143,7 +143,7 @@ weight_more p m c =
     ∙ weight_put p (c.vid, c.xway) (amount_in m c.vid c.xway + c.toll) (entries m) (entries_sorted m)))
 
 -- an account with one charge more
-pub account_more : (m : Spent) (c : Charge) (vid : ℕ) →
+pub account_more : (m : SpentMap) (c : ChargedToll) (vid : ℕ) →
     account_in (with_charge m c) vid ≡ account_in m vid + cond (c.vid == vid) c.toll 0
 account_more m c vid =
     filtered (λ k. k.0 == vid) (entries (with_charge m c))
@@ -151,7 +151,7 @@ account_more m c vid =
     ∙ ap (λ n. n + cond (c.vid == vid) c.toll 0) (sym (filtered (λ k. k.0 == vid) (entries m))))
 
 -- the total with one charge more
-pub total_more : (m : Spent) (c : Charge) → total_in (with_charge m c) ≡ total_in m + c.toll
+pub total_more : (m : SpentMap) (c : ChargedToll) → total_in (with_charge m c) ≡ total_in m + c.toll
 total_more m c = weight_more (λ _. true) m c
 
 -- a look-up after a number was put in
@@ -161,7 +161,7 @@ picked true a t o h = let e = h refl in omega (arith, e)
 picked false a t o h = omega arith
 
 -- a sum with one charge more
-pub amount_more : (m : Spent) (c : Charge) (v x : ℕ) →
+pub amount_more : (m : SpentMap) (c : ChargedToll) (v x : ℕ) →
     amount_in (with_charge m c) v x ≡ amount_in m v x + cond (c.vid == v && c.xway == x) c.toll 0
 amount_more m c v x =
     ap (λ o. unwrap_or o 0) (get-insert owner_total m (c.vid, c.xway) (amount_in m c.vid c.xway + c.toll) (v, x))
@@ -184,7 +184,7 @@ weight_few p (e ∷ es) =
     same n = omega arith
 
 -- an account is at most the total
-pub account_few : (m : Spent) (vid : ℕ) → account_in m vid ≤ total_in m
+pub account_few : (m : SpentMap) (vid : ℕ) → account_in m vid ≤ total_in m
 account_few m vid = let e = filtered (λ k. k.0 == vid) (entries m) in let few =
     weight_few (λ k. k.0 == vid) (entries m) in omega (arith, e, few)
 
@@ -198,7 +198,7 @@ found_few q (e ∷ es) =
     (λ o. unwrap_or o 0 ≤ weight (λ _. true) (e ∷ es)) (λ _. omega (arith, all)) (λ _. omega (arith, rest, all))
 
 -- a sum is at most the total
-pub amount_few : (m : Spent) (v x : ℕ) → amount_in m v x ≤ total_in m
+pub amount_few : (m : SpentMap) (v x : ℕ) → amount_in m v x ≤ total_in m
 amount_few m v x = let e = ap (λ o. unwrap_or o 0) (get-entries m (v, x)) in let few = found_few (v, x) (entries m) in
     omega (arith, e, few)
 
@@ -224,16 +224,16 @@ pub total_none : total_in empty ≡ 0
 total_none = ap (λ es. sum_by (λ e. e.1) es) empty_is
 
 -- one charge more, where a test picks charges
-charged_more : (c : Charge) (cs : List Charge) (p : Charge → Bool) →
+charged_more : (c : ChargedToll) (cs : List ChargedToll) (p : ChargedToll → Bool) →
     sum_of (filter p (c ∷ cs)) ≡ cond (p c) c.toll 0 + sum_of (filter p cs)
 charged_more c cs p =
-    let one = sum_by-cons (λ (x : Charge). x.toll) c (filter p cs) in
+    let one = sum_by-cons (λ (x : ChargedToll). x.toll) c (filter p cs) in
     cond_both (p c) (c ∷ filter p cs) (filter p cs) (λ zs. sum_of zs ≡ cond (p c) c.toll 0 + sum_of (filter p cs))
     (λ t. let there : cond (p c) c.toll 0 ≡ c.toll = cond-true (p c) c.toll 0 t in omega (arith, one, there))
     (λ t. let gone : cond (p c) c.toll 0 ≡ 0 = cond-false (p c) c.toll 0 t in omega (arith, gone))
 
 -- an account after some charges
-account_fold : (cs : List Charge) (m : Spent) (vid : ℕ) →
+account_fold : (cs : List ChargedToll) (m : SpentMap) (vid : ℕ) →
     account_in (fold with_charge m cs) vid ≡ account_in m vid + sum_of (charges_to vid cs)
 account_fold [] m vid = omega arith
 account_fold (c ∷ cs) m vid =
@@ -243,16 +243,16 @@ account_fold (c ∷ cs) m vid =
     omega (arith, rest, one, more)
 
 -- the total after some charges
-total_fold : (cs : List Charge) (m : Spent) → total_in (fold with_charge m cs) ≡ total_in m + sum_of cs
+total_fold : (cs : List ChargedToll) (m : SpentMap) → total_in (fold with_charge m cs) ≡ total_in m + sum_of cs
 total_fold [] m = omega arith
 total_fold (c ∷ cs) m =
     let rest = total_fold cs (with_charge m c) in
     let one = total_more m c in
-    let more = sum_by-cons (λ (x : Charge). x.toll) c cs in
+    let more = sum_by-cons (λ (x : ChargedToll). x.toll) c cs in
     omega (arith, rest, one, more)
 
 -- one charge more, by vehicle and expressway
-spent_more : (c : Charge) (cs : List Charge) (v x : ℕ) →
+spent_more : (c : ChargedToll) (cs : List ChargedToll) (v x : ℕ) →
     spent (c ∷ cs) v x ≡ cond (c.vid == v && c.xway == x) c.toll 0 + spent cs v x
 spent_more c cs v x =
     cond_both (c.vid == v) (c ∷ charges_to v cs) (charges_to v cs)
@@ -264,7 +264,7 @@ spent_more c cs v x =
     zero_first n = omega arith
 
 -- a sum after some charges
-amount_fold : (cs : List Charge) (m : Spent) (v x : ℕ) →
+amount_fold : (cs : List ChargedToll) (m : SpentMap) (v x : ℕ) →
     amount_in (fold with_charge m cs) v x ≡ amount_in m v x + spent cs v x
 amount_fold [] m v x = omega arith
 amount_fold (c ∷ cs) m v x =
@@ -274,15 +274,15 @@ amount_fold (c ∷ cs) m v x =
     omega (arith, rest, one, more)
 
 -- the account of some charges
-pub account_by : (cs : List Charge) (vid : ℕ) → account_in (spent_by cs) vid ≡ sum_of (charges_to vid cs)
+pub account_by : (cs : List ChargedToll) (vid : ℕ) → account_in (spent_by cs) vid ≡ sum_of (charges_to vid cs)
 account_by cs vid = let all = account_fold cs empty vid in let none = account_none vid in omega (arith, all, none)
 
 -- their total
-pub total_by : (cs : List Charge) → total_in (spent_by cs) ≡ sum_of cs
+pub total_by : (cs : List ChargedToll) → total_in (spent_by cs) ≡ sum_of cs
 total_by cs = let all = total_fold cs empty in let none = total_none in omega (arith, all, none)
 
 -- their sum by vehicle and expressway
-pub amount_by : (cs : List Charge) (v x : ℕ) → amount_in (spent_by cs) v x ≡ spent cs v x
+pub amount_by : (cs : List ChargedToll) (v x : ℕ) → amount_in (spent_by cs) v x ≡ spent cs v x
 amount_by cs v x =
     let all = amount_fold cs empty v x in
     let none : amount_in empty v x ≡ 0 = ap (λ o. unwrap_or o 0) (get-empty owner_cmp (v, x)) in

@@ -5,11 +5,11 @@ use Rattle.std.specs.Cmp.{nat_cmp_total}
 use Rattle.std.specs.FinMap.{FinMap, get, insert, get-insert}
 use Rattle.std.proofs.lemmas.List.Sums.{sum_by-cons}
 use Rattle.road_time.specs.declared.day.SpentRow.{SpentRow}
-use Rattle.road_time.specs.Day.{Charge}
+use Rattle.road_time.specs.Day.{ChargedToll}
 use Rattle.road_time.specs.Rows.{rows_from}
 use Rattle.road_time.proofs.RowLaws.{only_rows}
 use Rattle.accounts.specs.declared.worked.Answers.{Answers}
-use Rattle.accounts.specs.Sums.{Spent, account_in, total_in, spent_by, AreRowsOf}
+use Rattle.accounts.specs.Sums.{SpentMap, account_in, total_in, spent_by, AreRowsOf}
 use Rattle.accounts.proofs.SumLaws.{account_by, total_by, amount_by}
 
 -- what vehicle 100 was told last
@@ -17,7 +17,7 @@ pub told_it : (told : FinMap nat_cmp ℕ) (toll : ℕ) → get (insert told 100 
 told_it told toll = get-insert nat_cmp_total told 100 toll 100
 
 -- a charge of vehicle 100 on expressway 0
-abbrev pub charge : ℕ → Charge
+abbrev pub charge : ℕ → ChargedToll
 charge toll = record { vid = 100; xway = 0; toll = toll }
 
 -- what is in both is one
@@ -25,7 +25,7 @@ pub some_is : (a b : ℕ) → Some a ≡ Some b → a ≡ b
 some_is a b e = cc
 
 -- the rows of charges are those that the definitions make of them
-pub rows_by : (cs : List Charge) (m : Spent) (number : ℕ) (rows : List SpentRow) → m ≡ spent_by cs →
+pub rows_by : (cs : List ChargedToll) (m : SpentMap) (number : ℕ) (rows : List SpentRow) → m ≡ spent_by cs →
     AreRowsOf m number rows → rows ≡ rows_from number cs
 rows_by cs m number rows e are =
     let there = subst (λ x. AreRowsOf x number rows) e are in
@@ -39,47 +39,47 @@ rows_by cs m number rows e are =
     })
 
 -- the account of one charge
-pub one_account : (m : Spent) (toll : ℕ) → m ≡ spent_by (charge toll ∷ []) → account_in m 100 ≡ toll
+pub one_account : (m : SpentMap) (toll : ℕ) → m ≡ spent_by (charge toll ∷ []) → account_in m 100 ≡ toll
 one_account m toll e =
     let here = ap (λ x. account_in x 100) e in
     let by = account_by (charge toll ∷ []) 100 in
-    let one = sum_by-cons (λ (c : Charge). c.toll) (charge toll) [] in
+    let one = sum_by-cons (λ (c : ChargedToll). c.toll) (charge toll) [] in
     omega (arith, here, by, one)
 
 -- and the total
-pub one_total : (m : Spent) (toll : ℕ) → m ≡ spent_by (charge toll ∷ []) → total_in m ≡ toll
+pub one_total : (m : SpentMap) (toll : ℕ) → m ≡ spent_by (charge toll ∷ []) → total_in m ≡ toll
 one_total m toll e =
     let here = ap total_in e in
     let by = total_by (charge toll ∷ []) in
-    let one = sum_by-cons (λ (c : Charge). c.toll) (charge toll) [] in
+    let one = sum_by-cons (λ (c : ChargedToll). c.toll) (charge toll) [] in
     omega (arith, here, by, one)
 
 -- a charge of vehicle 100 of 2
-abbrev pub charge_on : ℕ → Charge
+abbrev pub charge_on : ℕ → ChargedToll
 charge_on xway = record { vid = 100; xway = xway; toll = 2 }
 
 -- three of them, on two expressways
-abbrev pub three : List Charge
+abbrev pub three : List ChargedToll
 three = charge_on 1 ∷ charge_on 0 ∷ charge_on 1 ∷ []
 
 -- their account
-pub three_account : (m : Spent) → m ≡ spent_by three → account_in m 100 ≡ 6
+pub three_account : (m : SpentMap) → m ≡ spent_by three → account_in m 100 ≡ 6
 three_account m e =
     let here = ap (λ x. account_in x 100) e in
     let by = account_by three 100 in
-    let one = sum_by-cons (λ (c : Charge). c.toll) (charge_on 1) (charge_on 0 ∷ charge_on 1 ∷ []) in
-    let two = sum_by-cons (λ (c : Charge). c.toll) (charge_on 0) (charge_on 1 ∷ []) in
-    let last = sum_by-cons (λ (c : Charge). c.toll) (charge_on 1) [] in
+    let one = sum_by-cons (λ (c : ChargedToll). c.toll) (charge_on 1) (charge_on 0 ∷ charge_on 1 ∷ []) in
+    let two = sum_by-cons (λ (c : ChargedToll). c.toll) (charge_on 0) (charge_on 1 ∷ []) in
+    let last = sum_by-cons (λ (c : ChargedToll). c.toll) (charge_on 1) [] in
     omega (arith, here, by, one, two, last)
 
 -- and their total
-pub three_total : (m : Spent) → m ≡ spent_by three → total_in m ≡ 6
+pub three_total : (m : SpentMap) → m ≡ spent_by three → total_in m ≡ 6
 three_total m e =
     let here = ap total_in e in
     let by = total_by three in
-    let one = sum_by-cons (λ (c : Charge). c.toll) (charge_on 1) (charge_on 0 ∷ charge_on 1 ∷ []) in
-    let two = sum_by-cons (λ (c : Charge). c.toll) (charge_on 0) (charge_on 1 ∷ []) in
-    let last = sum_by-cons (λ (c : Charge). c.toll) (charge_on 1) [] in
+    let one = sum_by-cons (λ (c : ChargedToll). c.toll) (charge_on 1) (charge_on 0 ∷ charge_on 1 ∷ []) in
+    let two = sum_by-cons (λ (c : ChargedToll). c.toll) (charge_on 0) (charge_on 1 ∷ []) in
+    let last = sum_by-cons (λ (c : ChargedToll). c.toll) (charge_on 1) [] in
     omega (arith, here, by, one, two, last)
 
 -- three answers by their parts

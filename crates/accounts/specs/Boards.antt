@@ -2,34 +2,34 @@ use Rattle.std.specs.Prelude.{◌≡◌, ℕ, ◌≤◌, ◌<◌, ◌^◌, List,
 use Rattle.std.specs.List.{fold}
 use Rattle.road_time.specs.declared.road.Tuple.{Tuple}
 use Rattle.road_time.specs.Rates.{Tariffs}
-use Rattle.road_time.specs.Day.{Charge, rules, charges_between, sum_of, charges_to}
+use Rattle.road_time.specs.Day.{ChargedToll, rules, charges_between, sum_of, charges_to}
 use Rattle.accounts.specs.Operations.{Operation, Begin, Step, Posted, posted_with}
 
 -- the day that began last, the mark of its last step, and the charges of its steps
-pub record Board : Type 0 where
+pub record BoardState : Type 0 where
   pub number : ℕ
   pub mark : ℕ
-  pub charged : List Charge
+  pub charged : List ChargedToll
 
 -- a board on which nothing was published
-abbrev pub blank : Board
+abbrev pub blank : BoardState
 blank = record { number = 0; mark = 0; charged = [] }
 
 -- with one operation more
-abbrev pub board_with : Board → Operation → Board
+abbrev pub board_with : BoardState → Operation → BoardState
 board_with b (Begin number) = record { number = number; mark = 0; charged = [] }
 board_with b (Step charges mark) = record { number = b.number; mark = mark; charged = b.charged ++ charges }
 
 -- the board after some operations
-abbrev pub board_after : List Operation → Board
+abbrev pub board_after : List Operation → BoardState
 board_after ops = fold board_with blank ops
 
 -- a vehicle's account on it
-abbrev pub account : Board → ℕ → ℕ
+abbrev pub account : BoardState → ℕ → ℕ
 account b vid = sum_of (charges_to vid b.charged)
 
 -- and what all vehicles owe
-abbrev pub all_accounts : Board → ℕ
+abbrev pub all_accounts : BoardState → ℕ
 all_accounts b = sum_of b.charged
 
 -- steps of a day from a mark on: the marks rise, none above its length, and each step has the charges from mark to mark

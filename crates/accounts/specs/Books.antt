@@ -5,20 +5,20 @@ use Rattle.std.specs.Ordering.{nat_cmp}
 use Rattle.std.specs.FinMap.{FinMap, from_entries, code}
 use Rattle.std.specs.Coded.{Coded, code_by, coded×, coded_ℕ}
 use Rattle.accounts.specs.declared.vehicle.Vehicle.{Vehicle}
-use Rattle.accounts.specs.Sums.{Spent, sums_of, account_in, total_in, same_owner}
+use Rattle.accounts.specs.Sums.{SpentMap, sums_of, account_in, total_in, same_owner}
 use Rattle.accounts.specs.Entries.{vehicle_at, is_further, all_sums}
 use Rattle.std.specs.Prelude.{refl}
 
 -- a book: the toll told last to each vehicle, what each was charged on each expressway, and how many charges were made
 pub record Accounts : Type 0 where
   pub told : FinMap nat_cmp ℕ
-  pub spent : Spent
+  pub spent : SpentMap
   pub made : ℕ
 
 -- a book is stored as its parts
 abbrev pub accounts_code : Coded Accounts
 accounts_code =
-    code_by (FinMap nat_cmp ℕ × (Spent × ℕ))
+    code_by (FinMap nat_cmp ℕ × (SpentMap × ℕ))
     (coded× (code coded_ℕ coded_ℕ) (coded× (code (coded× coded_ℕ coded_ℕ) coded_ℕ) coded_ℕ))
     (λ b. (b.told, (b.spent, b.made))) (λ p. record { told = p.0; spent = p.1.0; made = p.1.1 }) (λ _. refl)
 
@@ -27,7 +27,7 @@ abbrev pub told_of : List (ℕ × Vehicle) → FinMap nat_cmp ℕ
 told_of vehicles = from_entries (map (λ e. (e.0, e.1.told)) vehicles)
 
 -- what the entries of first charges and of further expressways sum up
-abbrev pub spent_of : List (ℕ × Vehicle) → List ((ℕ × ℕ) × ℕ) → Spent
+abbrev pub spent_of : List (ℕ × Vehicle) → List ((ℕ × ℕ) × ℕ) → SpentMap
 spent_of vehicles further = sums_of (all_sums vehicles further)
 
 -- each vehicle's sum is its account, the total that of all, and none is more than the charges made can come to; a sum

@@ -1,9 +1,9 @@
 use Rattle.std.specs.Prelude.{◌≡◌, ℕ, ◌≤◌, List, ◌++◌, take, length}
 use Rattle.road_time.specs.declared.road.Tuple.{Tuple}
-use Rattle.road_time.specs.Order.{InOrder}
+use Rattle.road_time.specs.Order.{AreTimesInOrder}
 use Rattle.road_time.specs.Rates.{Tariffs}
 use Rattle.road_time.specs.declared.day.SpentRow.{SpentRow}
-use Rattle.road_time.specs.Day.{Charge, balance, total, sum_of, charges_to}
+use Rattle.road_time.specs.Day.{ChargedToll, balance, total, sum_of, charges_to}
 use Rattle.road_time.specs.Rows.{rows_from}
 use Rattle.accounts.specs.Sums.{account_in, total_in, spent_by, AreRowsOf}
 use Rattle.accounts.specs.Operations.{Operation}
@@ -22,13 +22,14 @@ LiveLaw =
 -- and it still shows those of the day when more tuples follow
 abbrev pub GrowLaw : Type 0
 GrowLaw =
-    (day later : List Tuple) → InOrder (day ++ later) → (tariffs : Tariffs) (number : ℕ) (ops : List Operation) →
+    (day later : List Tuple) → AreTimesInOrder (day ++ later) →
+    (tariffs : Tariffs) (number : ℕ) (ops : List Operation) →
     IsLive day tariffs number ops → IsLive (day ++ later) tariffs number ops
 
 -- the sums of charges are what the definitions make of the charges: each account, the total, and the rows of a day
 abbrev pub BookLaw : Type 0
 BookLaw =
-    (cs : List Charge) →
+    (cs : List ChargedToll) →
     ((vid : ℕ) → account_in (spent_by cs) vid ≡ sum_of (charges_to vid cs))
     × (total_in (spent_by cs) ≡ sum_of cs)
     × ((number : ℕ) (rows : List SpentRow) → AreRowsOf (spent_by cs) number rows → rows ≡ rows_from number cs)

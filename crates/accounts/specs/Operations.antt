@@ -1,15 +1,15 @@
 use Rattle.std.specs.Prelude.{◌≡◌, ℕ, ◌⊎◌, List, [], ◌∷◌, ◌++◌, Option}
 use Rattle.std.specs.Option.{option_map}
-use Rattle.road_time.specs.Day.{Charge}
+use Rattle.road_time.specs.Day.{ChargedToll}
 use Rattle.accounts.specs.declared.publisher.Charged.{Charged}
 
 -- what is published: that a day begins, or charges up to a mark
 pub data Operation : Type 0 where
   Begin : ℕ → Operation
-  Step : List Charge → ℕ → Operation
+  Step : List ChargedToll → ℕ → Operation
 
 -- a charge of the code, as the definitions have it
-abbrev pub charge_of : Charged → Charge
+abbrev pub charge_of : Charged → ChargedToll
 charge_of c = record { vid = c.vid; xway = c.xway; toll = c.toll }
 
 -- the operations that are published, and those that wait for the next one

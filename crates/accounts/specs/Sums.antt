@@ -6,44 +6,44 @@ use Rattle.std.specs.declared.cmp.Ordering.{Ordering}
 use Rattle.std.specs.Ordering.{nat_cmp, ordering_then}
 use Rattle.std.specs.FinMap.{FinMap, empty, get, insert, entries, from_entries}
 use Rattle.road_time.specs.declared.day.SpentRow.{SpentRow}
-use Rattle.road_time.specs.Day.{Charge}
-use Rattle.road_time.specs.Rows.{Rise, tolls_in}
+use Rattle.road_time.specs.Day.{ChargedToll}
+use Rattle.road_time.specs.Rows.{AreRowsRising, tolls_in}
 
 -- the order of a vehicle and an expressway
 abbrev pub owner_cmp : ℕ × ℕ → ℕ × ℕ → Ordering
 owner_cmp a b = ordering_then (nat_cmp a.0 b.0) (nat_cmp a.1 b.1)
 
 -- what each vehicle was charged on each expressway
-abbrev pub Spent : Type 0
-Spent = FinMap owner_cmp ℕ
+abbrev pub SpentMap : Type 0
+SpentMap = FinMap owner_cmp ℕ
 
 -- the sums that entries tell
-abbrev pub sums_of : List ((ℕ × ℕ) × ℕ) → Spent
+abbrev pub sums_of : List ((ℕ × ℕ) × ℕ) → SpentMap
 sums_of es = from_entries es
 
 -- a vehicle's charges on an expressway, added up
-abbrev pub amount_in : Spent → ℕ → ℕ → ℕ
+abbrev pub amount_in : SpentMap → ℕ → ℕ → ℕ
 amount_in spent vid xway = unwrap_or (get spent (vid, xway)) 0
 
 -- a vehicle's charges, added up
-abbrev pub account_in : Spent → ℕ → ℕ
+abbrev pub account_in : SpentMap → ℕ → ℕ
 account_in spent vid = sum_by (λ e. e.1) (filter (λ e. e.0.0 == vid) (entries spent))
 
 -- all charges, added up
-abbrev pub total_in : Spent → ℕ
+abbrev pub total_in : SpentMap → ℕ
 total_in spent = sum_by (λ e. e.1) (entries spent)
 
 -- with one charge more
-abbrev pub with_charge : Spent → Charge → Spent
+abbrev pub with_charge : SpentMap → ChargedToll → SpentMap
 with_charge spent c = insert spent (c.vid, c.xway) (amount_in spent c.vid c.xway + c.toll)
 
 -- the sums of some charges
-abbrev pub spent_by : List Charge → Spent
+abbrev pub spent_by : List ChargedToll → SpentMap
 spent_by cs = fold with_charge empty cs
 
 -- the rows of a day: in the order of vehicles and expressways, none of them zero, with what was charged
-pub record AreRowsOf (spent : Spent) (day : ℕ) (rows : List SpentRow) : Type 0 where
-  pub in_order : Rise rows
+pub record AreRowsOf (spent : SpentMap) (day : ℕ) (rows : List SpentRow) : Type 0 where
+  pub in_order : AreRowsRising rows
   pub of_day : AllByRecursion (λ r. r.day ≡ day) rows
   pub none_zero : AllByRecursion (λ r. 0 < r.tolls) rows
   pub exact : (vid xway : ℕ) → tolls_in rows vid xway ≡ amount_in spent vid xway

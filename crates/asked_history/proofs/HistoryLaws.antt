@@ -9,7 +9,7 @@ use Rattle.road_time.specs.declared.day.SpentRow.{SpentRow}
 use Rattle.road_time.specs.Fits.{IsValid, IsDay}
 use Rattle.road_time.specs.Rates.{Tariffs}
 use Rattle.road_time.specs.Sights.{Sight, moments_after}
-use Rattle.road_time.specs.Tolls.{Finding}
+use Rattle.road_time.specs.Tolls.{StretchTold}
 use Rattle.road_time.specs.Day.{rules, told_by, answer_by, notices_by, notices}
 use Rattle.keeper.specs.History as kept
 use Rattle.keeper.specs.Office.{Office, RowsRise, rows_between}
@@ -24,7 +24,7 @@ SameFor number a b (Balance time vid qid) = Unit {0}
 SameFor number a b (Spent time vid xway qid day) = a (number - day) vid xway ≡ b (number - day) vid xway
 SameFor number a b (Travel time) = Unit {0}
 
-module _ (finding : Sight → Finding) (number : ℕ) (a b : ℕ → ℕ → ℕ → ℕ) where
+module _ (finding : Sight → StretchTold) (number : ℕ) (a b : ℕ → ℕ → ℕ → ℕ) where
   -- the answer to a tuple is the same by both
   same_answer : (before : List Tuple) (x : Tuple) → SameFor number a b x →
       answer_by finding number a (before, x) ≡ answer_by finding number b (before, x)

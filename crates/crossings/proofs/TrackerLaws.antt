@@ -7,12 +7,12 @@ use Rattle.road_time.specs.declared.road.Report.{Report}
 use Rattle.road_time.specs.Stops.{trail}
 use Rattle.road_time.proofs.TrailLaws.{trail_push}
 use Rattle.crossings.specs.declared.seen.Seen.{Seen}
-use Rattle.crossings.specs.Runs.{Kept, kept}
+use Rattle.crossings.specs.Runs.{KeptSeen, kept}
 use Rattle.crossings.specs.Stands.{StandsFor}
 
 -- where what is kept of the report's vehicle is that of its reports with this one, and of others what was, it is that
 -- of all reports with this one
-pub seen_more : (before after : Kept) (reports : List Report) (r : Report) (now : Seen) → StandsFor before reports →
+pub seen_more : (before after : KeptSeen) (reports : List Report) (r : Report) (now : Seen) → StandsFor before reports →
     kept (r ∷ trail reports r.vid) ≡ Some now →
     ((v : ℕ) → lookup (nat_eq v) after ≡ (if nat_eq r.vid v then Some now else lookup (nat_eq v) before)) →
     StandsFor after (reports ++ r ∷ [])

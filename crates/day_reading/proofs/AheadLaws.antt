@@ -13,20 +13,11 @@ use Rattle.day_reading.specs.declared.day_ahead.Following.{Following}
 use Rattle.day_reading.specs.declared.day_ahead.Following.TheVariants.{Waits, Ends, Stops}
 use Rattle.day_reading.specs.declared.day_reader.DayReader.{DayReader}
 use Rattle.road_time.specs.Fits.{IsLimits}
-use Rattle.day_reading.specs.Days.{most_read}
-use Rattle.day_reading.specs.Readings.{Gives, GathersOn, IsFrontOf}
+use Rattle.day_reading.specs.Days.{most_of_day}
+use Rattle.day_reading.specs.Readings.{GivesTuple, GathersOn, IsFrontOf}
 use Rattle.day_reading.specs.Ahead.{answer_of, is_waiting, has_more, IsAhead, IsGatheringAhead, HasReadAhead}
 use Rattle.day_reading.proofs.BoundLaws.{day_within}
-
--- a day that lesser limits allow is a day
-pub day_of_fit : (tuples : List Tuple) (limits : Limits) → IsLimits limits → Fit tuples limits → IsDay tuples
-day_of_fit tuples limits l f = record {
-  valid = f.valid;
-  lines = omega (arith, f.lines, l.lines);
-  in_order = f.in_order;
-  vehicles = omega (arith, f.vehicles, l.vehicles);
-  rare = f.rare;
-}
+use Rattle.road_time.proofs.FitLaws.{day_of_fit}
 
 gathers_fit : (f : Following) (r : DayReader) (limits : Limits) (late : ℕ) (given : List Tuple) →
     GathersOn (answer_of f) r limits late given → Fit given limits
@@ -66,7 +57,7 @@ front_less given day x f =
     ∙ ap (take n) (sym (append_assoc given (x ∷ []) rest) ∙ ap (λ ys. ys ++ rest) e ∙ take-append-drop k day)
 
 gives_front : (f : Following) (r : DayReader) (limits : Limits) (late : ℕ) (left : Option (List ℕ)) (bytes : List ℕ)
-    (given : List Tuple) → Gives (answer_of f) r limits late left bytes given →
+    (given : List Tuple) → GivesTuple (answer_of f) r limits late left bytes given →
     IsFrontOf given (reads bytes limits late).tuples
 gives_front (Waits x) r limits late left bytes given s = front_less given (reads bytes limits late).tuples x s.front
 gives_front Ends r limits late left bytes given s = s.0.front
@@ -78,7 +69,7 @@ pub ahead_front : (d : DayAhead) (limits : Limits) (late : ℕ) (left : Option (
 ahead_front d limits late left bytes given s = gives_front d.following d.reader limits late left bytes given s
 
 gives_all : (f : Following) (r : DayReader) (limits : Limits) (late : ℕ) (left : Option (List ℕ)) (bytes : List ℕ)
-    (given : List Tuple) → is_waiting f ≡ false → Gives (answer_of f) r limits late left bytes given →
+    (given : List Tuple) → is_waiting f ≡ false → GivesTuple (answer_of f) r limits late left bytes given →
     given ≡ (reads bytes limits late).tuples
 gives_all (Waits x) r limits late left bytes given w s = let bad : ⊥ = cc in absurd bad
 gives_all Ends r limits late left bytes given w s = s.1
@@ -92,5 +83,6 @@ ahead_all d limits late left bytes given none s = gives_all d.following d.reader
 
 -- a reader reads a day no further than its line limit and one buffer
 pub ahead_within : (d : DayAhead) (limits : Limits) (left : Option (List ℕ)) (bytes : List ℕ) →
-    HasReadAhead d limits.lines left bytes → (count : ℕ) × (count ≤ most_read limits) × (left ≡ Some (drop count bytes))
+    HasReadAhead d limits.lines left bytes → (count : ℕ) × (count ≤ most_of_day limits)
+    × (left ≡ Some (drop count bytes))
 ahead_within d limits left bytes s = day_within d.reader limits left bytes s

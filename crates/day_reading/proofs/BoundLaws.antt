@@ -13,7 +13,8 @@ use Rattle.road_io.specs.declared.cutter.LineFault.TheVariants.{LongLine, ReadFa
 use Rattle.day_reading.specs.declared.consumed.Consumed.{Consumed}
 use Rattle.road_time.specs.declared.day.Limits.{Limits}
 use Rattle.day_reading.specs.declared.day_reader.DayReader.{DayReader}
-use Rattle.day_reading.specs.Days.{ReadsWithin, StopsSoon, most_read}
+use Rattle.day_reading.specs.Days.{StopsSoon, most_of_day}
+use Rattle.road_io.specs.Within.{ReadsWithin}
 use Rattle.day_reading.specs.Readings.{HasRead, HasReadLines, HasReadOf}
 use Rattle.day_reading.proofs.LinesLaws.{lines_sum, lines_take, one_line, none_long}
 use Rattle.day_reading.proofs.StepLaws.{cuts_ok, taken_ok}
@@ -108,9 +109,9 @@ nothing_read most left = λ bytes e. (0, omega arith, e)
 
 -- a reader reads a day no further than its line limit and one buffer
 pub day_within : (r : DayReader) (limits : Limits) (left : Option (List ℕ)) (bytes : List ℕ) →
-    HasReadOf r limits.lines left bytes → (count : ℕ) × (count ≤ most_read limits) × (left ≡ Some (drop count bytes))
+    HasReadOf r limits.lines left bytes → (count : ℕ) × (count ≤ most_of_day limits) × (left ≡ Some (drop count bytes))
 day_within r limits left bytes s =
-    read_within r.cutter left r.consumed bytes (most_read limits) s.1.0 (omega (arith, r.few_bytes, r.few_lines, s.0))
+    read_within r.cutter left r.consumed bytes (most_of_day limits) s.1.0 (omega (arith, r.few_bytes, r.few_lines, s.0))
 
 -- first so many bytes were read, and then so many
 pub within_then : (a b : ℕ) (before mid after : Option (List ℕ)) → ReadsWithin a before mid → ReadsWithin b mid after →

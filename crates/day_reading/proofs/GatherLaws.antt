@@ -7,9 +7,9 @@ use Rattle.road_time.specs.declared.day.Limits.{Limits}
 use Rattle.road_time.specs.Fits.{Allowed, Fit}
 use Rattle.road_time.specs.Order.{by_time}
 use Rattle.road_time.specs.Reads.{line_fault, tuples_of, reading_at, accepts_after}
-use Rattle.road_time.proofs.ReadLaws.{accepted}
+use Rattle.road_time.proofs.ReadLaws.{accepted, allowed_none}
 use Rattle.road_time.proofs.AllowedLaws.{allowed_push, admitted, fit_by_time, fit_take}
-use Rattle.tuple_format.specs.Gates.{Gate}
+use Rattle.tuple_format.specs.Gates.{GateState}
 use Rattle.tuple_format.specs.Sorting.{Sorting, IsSorting}
 use Rattle.day_reading.specs.declared.ending.Ending.{Ending}
 use Rattle.day_reading.specs.declared.ending.Ending.TheVariants.{Whole, Stopped}
@@ -18,17 +18,6 @@ use Rattle.day_reading.specs.Lines.{TakesLine}
 use Rattle.day_reading.specs.Readings.{Gathers, Gathered, GathersAt, IsFrontOf, IsGivingOut}
 use Rattle.day_reading.proofs.FrontLaws.{stays_line}
 use Rattle.day_reading.proofs.GiveLaws.{take_next}
-
--- nothing is allowed by all limits
-pub allowed_none : (limits : Limits) → Allowed [] limits
-allowed_none limits =
-    record {
-      valid = λ k d h. absurd (omega arith);
-      lines = omega arith;
-      vehicles = omega arith;
-      rare =
-          λ v m. omega arith;
-    }
 
 -- a day of nothing
 pub fit_none : (limits : Limits) → Fit [] limits
@@ -56,7 +45,7 @@ gave_next limits put given x allowed front at =
 
 module _ (limits : Limits) (late : ℕ) (given : List Tuple) where
   -- after a line, by what it did
-  pub gather_line : (result : Option Ending) (line : List ℕ) (number number' : ℕ) (gate gate' : Gate)
+  pub gather_line : (result : Option Ending) (line : List ℕ) (number number' : ℕ) (gate gate' : GateState)
       (sorter sorter' : Sorting) → Gathers number gate sorter limits late given → number' ≡ number + 1
       → TakesLine limits late result number' line gate gate' sorter sorter' →
       GathersAt result number' gate' sorter' limits late given
@@ -84,13 +73,13 @@ module _ (limits : Limits) (late : ℕ) (given : List Tuple) where
   gather_line (Some (Stopped NoMemory)) line number number' gate gate' sorter sorter' s next judged = tt
 
   -- where no line follows
-  pub gather_end : (number : ℕ) (gate : Gate) (sorter : Sorting) → Gathers number gate sorter limits late given →
+  pub gather_end : (number : ℕ) (gate : GateState) (sorter : Sorting) → Gathers number gate sorter limits late given →
       Gathered sorter limits late given
   gather_end number gate sorter s =
       record { put = tuples_of s.before; ended = false; allowed = s.allowed; gave = s.gave }
 
 -- a tuple more that is given, while lines are read on
-pub gather_on : (limits : Limits) (late : ℕ) (given : List Tuple) (x : Tuple) (number : ℕ) (gate : Gate)
+pub gather_on : (limits : Limits) (late : ℕ) (given : List Tuple) (x : Tuple) (number : ℕ) (gate : GateState)
     (sorter sorter' : Sorting) → (s : Gathers number gate sorter limits late given)
     → slice_get (by_time (tuples_of s.before)) (length given) ≡ Some x →
     IsSorting sorter' late (tuples_of s.before) (length given + 1) false
@@ -127,7 +116,7 @@ gather_out limits late given x sorter sorter' s next =
     )
 
 pub gathers_some : (end : Ending) (limits : Limits) (late : ℕ) (given : List Tuple) (x : Tuple) (number : ℕ)
-    (gate : Gate) (sorter sorter' : Sorting) → IsGivingOut end
+    (gate : GateState) (sorter sorter' : Sorting) → IsGivingOut end
     → ((put : List Tuple) (taken : ℕ) (ended : Bool) → IsSorting sorter late put taken ended →
     (slice_get (by_time put) taken ≡ Some x) × IsSorting sorter' late put (taken + 1) true)
     → GathersAt (Some end) number gate sorter limits late given → Fit (given ++ x ∷ []) limits
@@ -152,7 +141,7 @@ gathered_none limits late given sorter sorter' s none =
           ((none s.put (length given) s.ended s.gave.0).1, s.gave.1);
     }
 
-pub gathers_none : (end : Ending) (limits : Limits) (late : ℕ) (given : List Tuple) (number : ℕ) (gate : Gate)
+pub gathers_none : (end : Ending) (limits : Limits) (late : ℕ) (given : List Tuple) (number : ℕ) (gate : GateState)
     (sorter sorter' : Sorting) → IsGivingOut end
     → ((put : List Tuple) (taken : ℕ) (ended : Bool) → IsSorting sorter late put taken ended → (taken ≡ length put)
     × IsSorting sorter' late put taken true)

@@ -10,7 +10,7 @@ use Rattle.road_time.specs.Order.{by_time}
 use Rattle.road_time.specs.Reads.{accepts, accepts_after, reads, tuples_of}
 use Rattle.road_time.proofs.ReadLaws.{reads_fit}
 use Rattle.road_time.proofs.OrderLaws.{by_time_length}
-use Rattle.tuple_format.specs.Gates.{Gate}
+use Rattle.tuple_format.specs.Gates.{GateState}
 use Rattle.tuple_format.specs.Sorting.{Sorting, IsSorting}
 use Rattle.day_reading.specs.declared.consumed.Consumed.{Consumed}
 use Rattle.day_reading.specs.declared.ending.Ending.{Ending}
@@ -31,7 +31,8 @@ front_short given day e = omega (arith, ap length e, length-take (length given) 
 
 module _ (limits : Limits) (late : ℕ) (bytes : List ℕ) (given : List Tuple) (x : Tuple) where
   -- while lines are read on
-  pub give_on : (front : Option (List ℕ)) (number : ℕ) (consumed : Consumed) (gate : Gate) (sorter sorter' : Sorting) →
+  pub give_on : (front : Option (List ℕ)) (number : ℕ) (consumed : Consumed) (gate : GateState)
+      (sorter sorter' : Sorting) →
       IsFrontOf given (reads bytes limits late).tuples
       → (s : ReadsOn front number consumed gate sorter limits late bytes given) →
       slice_get (by_time (tuples_of s.before)) (length given) ≡ Some x →
@@ -74,7 +75,7 @@ module _ (limits : Limits) (late : ℕ) (bytes : List ℕ) (given : List Tuple) 
       ∙ ap (λ k. take k (reads bytes limits late).tuples) (sym (length_push given x))
 
   -- where lines are read no more
-  pub give_out : (end : Ending) (front : Option (List ℕ)) (number : ℕ) (consumed : Consumed) (gate : Gate)
+  pub give_out : (end : Ending) (front : Option (List ℕ)) (number : ℕ) (consumed : Consumed) (gate : GateState)
       (sorter sorter' : Sorting) → IsGivingOut end → IsFrontOf given (reads bytes limits late).tuples
       → ((put : List Tuple) (taken : ℕ) (ended : Bool) → IsSorting sorter late put taken ended →
       (slice_get (by_time put) taken ≡ Some x) × IsSorting sorter' late put (taken + 1) true)
@@ -116,7 +117,7 @@ few_given limits late bytes given front =
 
 -- where none waits any more, the whole day was given
 pub none_out : (end : Ending) (limits : Limits) (late : ℕ) (bytes : List ℕ) (given : List Tuple)
-    (front : Option (List ℕ)) (number : ℕ) (consumed : Consumed) (gate : Gate) (sorter sorter' : Sorting) →
+    (front : Option (List ℕ)) (number : ℕ) (consumed : Consumed) (gate : GateState) (sorter sorter' : Sorting) →
     IsGivingOut end → IsFrontOf given (reads bytes limits late).tuples
     → ((put : List Tuple) (taken : ℕ) (ended : Bool) → IsSorting sorter late put taken ended → (taken ≡ length put)
     × IsSorting sorter' late put taken true)

@@ -13,7 +13,7 @@ use Rattle.road_time.specs.Reads.{line_fault, fault_of_form, formed, tuples_of}
 use Rattle.road_time.proofs.ReadLaws.{tuples_push}
 use Rattle.tuple_format.specs.declared.cause.Cause.{Cause}
 use Rattle.tuple_format.specs.Causes.{answered, cause_of}
-use Rattle.tuple_format.specs.Gates.{Gate, StandsFor}
+use Rattle.tuple_format.specs.Gates.{GateState, StandsFor}
 use Rattle.tuple_format.specs.Sorting.{Sorting, IsSorting}
 use Rattle.day_reading.specs.declared.ending.Ending.{Ending}
 use Rattle.day_reading.specs.declared.ending.Ending.TheVariants.{Whole, Stopped}
@@ -46,7 +46,7 @@ module _ (limits : Limits) (late line : ℕ) (text : List ℕ) (short : length t
   more_is before r e = tuples_push before text ∙ ap (λ f. tuples_of before ++ cons_option (formed f) []) e
 
   -- a line with a tuple
-  pub line_of_tuple : (result : Option Ending) (x : Tuple) (gate gate' : Gate) (sorter sorter' : Sorting) →
+  pub line_of_tuple : (result : Option Ending) (x : Tuple) (gate gate' : GateState) (sorter sorter' : Sorting) →
       form (without_cr text) ≡ Ok (Some x)
       → TakesTuple limits late result line x gate gate' sorter sorter' →
       TakesLine limits late result line text gate gate' sorter sorter'
@@ -68,7 +68,7 @@ module _ (limits : Limits) (late line : ℕ) (text : List ℕ) (short : length t
   line_of_tuple (Some (Stopped NoMemory)) x gate gate' sorter sorter' e h = tt
 
   -- an empty line
-  pub line_of_none : (gate : Gate) (sorter : Sorting) → form (without_cr text) ≡ Ok None →
+  pub line_of_none : (gate : GateState) (sorter : Sorting) → form (without_cr text) ≡ Ok None →
       TakesLine limits late None line text gate gate sorter sorter
   line_of_none gate sorter e = λ before size stands.
       let same = sym (more_is before (Ok None) e ∙ append-nil (tuples_of before)) in (
@@ -78,7 +78,8 @@ module _ (limits : Limits) (late line : ℕ) (text : List ℕ) (short : length t
       )
 
   -- a line that is refused for its form
-  pub line_of_err : (gate : Gate) (sorter : Sorting) (cause : Cause) → answered (form (without_cr text)) ≡ Err cause →
+  pub line_of_err : (gate : GateState) (sorter : Sorting) (cause : Cause) →
+      answered (form (without_cr text)) ≡ Err cause →
       TakesLine limits late (Some (refusal line cause)) line text gate gate sorter sorter
   line_of_err gate sorter cause e =
       let f = form_of_err (form (without_cr text)) cause e in (

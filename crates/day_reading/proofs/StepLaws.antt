@@ -15,7 +15,7 @@ use Rattle.road_io.specs.declared.cutter.LineFault.TheVariants.{LongLine}
 use Rattle.tuple_format.specs.declared.cause.Cause.{Cause}
 use Rattle.tuple_format.specs.declared.cause.Cause.TheVariants as causes
 use Rattle.tuple_format.specs.Causes.{cause_of}
-use Rattle.tuple_format.specs.Gates.{Gate}
+use Rattle.tuple_format.specs.Gates.{GateState}
 use Rattle.tuple_format.specs.Sorting.{Sorting, IsSorting}
 use Rattle.day_reading.specs.declared.consumed.Consumed.{Consumed}
 use Rattle.day_reading.specs.declared.ending.Ending.{Ending}
@@ -42,7 +42,7 @@ taken_ok (Some xs) (Some ys) rest bs now c e f = let a : bs ≡ xs = cc in let b
 module _ (limits : Limits) (late : ℕ) (bytes : List ℕ) (given : List Tuple) where
   -- a line more
   pub next_line : (before after : Option (List ℕ)) (line rest : List ℕ) (number number' : ℕ)
-      (consumed consumed' : Consumed) (gate gate' : Gate) (sorter sorter' : Sorting)
+      (consumed consumed' : Consumed) (gate gate' : GateState) (sorter sorter' : Sorting)
       → ReadsOn before number consumed gate sorter limits late bytes given → Cuts (Ok true) before after line →
       Consumes before after rest → number' ≡ number + 1
       → ((taken : List ℕ) → HasTaken consumed taken → HasTaken consumed' (taken ++ rest)) →
@@ -98,7 +98,7 @@ module _ (limits : Limits) (late : ℕ) (bytes : List ℕ) (given : List Tuple) 
 
   -- a line that is refused
   pub refused_line : (before after : Option (List ℕ)) (line : List ℕ) (number number' n : ℕ) (cause : Cause)
-      (consumed : Consumed) (gate gate' : Gate) (sorter sorter' : Sorting)
+      (consumed : Consumed) (gate gate' : GateState) (sorter sorter' : Sorting)
       → ReadsOn before number consumed gate sorter limits late bytes given → Cuts (Ok true) before after line →
       number' ≡ number + 1
       → TakesLine limits late (Some (Stopped (Refused n cause))) number' line gate gate' sorter sorter'
@@ -123,7 +123,8 @@ module _ (limits : Limits) (late : ℕ) (bytes : List ℕ) (given : List Tuple) 
       subst (λ ys. FirstHas 201 (lines_of ys)) same c.0
 
   -- a line that is long
-  pub long_line : (before after : Option (List ℕ)) (line : List ℕ) (number n : ℕ) (consumed : Consumed) (gate : Gate)
+  pub long_line : (before after : Option (List ℕ)) (line : List ℕ) (number n : ℕ) (consumed : Consumed)
+      (gate : GateState)
       (sorter : Sorting)
       → ReadsOn before number consumed gate sorter limits late bytes given → Cuts (Err (LongLine n)) before after line →
       n ≡ number + 1
@@ -141,7 +142,7 @@ module _ (limits : Limits) (late : ℕ) (bytes : List ℕ) (given : List Tuple) 
   end_there (Some xs) after line bs c e = let same : bs ≡ xs = cc in same ∙ c.0
 
   -- the end of the lines
-  pub whole_end : (before after : Option (List ℕ)) (line : List ℕ) (number : ℕ) (consumed : Consumed) (gate : Gate)
+  pub whole_end : (before after : Option (List ℕ)) (line : List ℕ) (number : ℕ) (consumed : Consumed) (gate : GateState)
       (sorter : Sorting)
       → ReadsOn before number consumed gate sorter limits late bytes given → Cuts (Ok false) before after line
       → GivesOut sorter limits late bytes given × EndsWhole number consumed limits late bytes
@@ -167,7 +168,7 @@ module _ (limits : Limits) (late : ℕ) (bytes : List ℕ) (given : List Tuple) 
 
   -- what is read on after a line, by what the line did
   pub after_line : (before after : Option (List ℕ)) (line rest : List ℕ) (number number' : ℕ)
-      (consumed consumed' : Consumed) (gate gate' : Gate) (sorter sorter' : Sorting) (result : Option Ending)
+      (consumed consumed' : Consumed) (gate gate' : GateState) (sorter sorter' : Sorting) (result : Option Ending)
       → ReadsOn before number consumed gate sorter limits late bytes given → Cuts (Ok true) before after line →
       Consumes before after rest → number' ≡ number + 1
       → ((taken : List ℕ) → HasTaken consumed taken → HasTaken consumed' (taken ++ rest)) →

@@ -8,7 +8,7 @@ use Rattle.day_reading.specs.declared.day_ahead.Following.TheVariants.{Waits, En
 use Rattle.day_reading.specs.declared.ending.ReadEnd.{ReadEnd}
 use Rattle.day_reading.specs.declared.ending.ReadEnd.TheVariants.{Refused}
 use Rattle.day_reading.specs.declared.whole_day.ReadStop.{ReadStop}
-use Rattle.day_reading.specs.Readings.{Gives, GathersOn, HasReadOf, HasFailed}
+use Rattle.day_reading.specs.Readings.{GivesTuple, GathersOn, HasReadOf, HasReaderFailed}
 
 -- the reader's answer behind what was given
 abbrev pub answer_of : Following → Result (Option Tuple) ReadEnd
@@ -28,7 +28,7 @@ has_more d = is_waiting d.following
 
 -- so much was given of the day that the bytes are, and what follows is known
 abbrev pub IsAhead : DayAhead → Limits → ℕ → Option (List ℕ) → List ℕ → List Tuple → Type 0
-IsAhead d limits late left bytes given = Gives (answer_of d.following) d.reader limits late left bytes given
+IsAhead d limits late left bytes given = GivesTuple (answer_of d.following) d.reader limits late left bytes given
 
 -- what was given, with the tuple that waits, is a day that the limits allow, also over a source that does not tell its
 -- bytes
@@ -41,7 +41,7 @@ HasReadAhead d lines left bytes = HasReadOf d.reader lines left bytes
 
 -- the source failed before
 abbrev pub HasFailedAhead : DayAhead → Type 0
-HasFailedAhead d = HasFailed d.reader
+HasFailedAhead d = HasReaderFailed d.reader
 
 -- an answer of `next`: one tuple more, or none where the whole day was given; a fault is free
 abbrev pub GivesAhead : Result (Option Tuple) ReadStop → DayAhead → Limits → ℕ → Option (List ℕ) → List ℕ → List Tuple →

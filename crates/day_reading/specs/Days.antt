@@ -15,18 +15,13 @@ EndsReading (Refused line cause) bytes refused = (fault : Fault) × (refused ≡
     × (cause_of fault ≡ cause)
 
 -- a day of fewer than 2^63 bytes
-abbrev pub IsShort : DayEnd → Type 0
-IsShort (Whole n digest) = n < 2 ^ 63
-IsShort (Refused line cause) = Unit {0}
-
--- of the bytes that a source had, at most the first so many were read
-abbrev pub ReadsWithin : ℕ → Option (List ℕ) → Option (List ℕ) → Type 0
-ReadsWithin most before after = (bytes : List ℕ) → before ≡ Some bytes → (count : ℕ) × (count ≤ most)
-    × (after ≡ Some (drop count bytes))
+abbrev pub IsShortDay : DayEnd → Type 0
+IsShortDay (Whole n digest) = n < 2 ^ 63
+IsShortDay (Refused line cause) = Unit {0}
 
 -- the most that a day is read: a line more than it may have, each of 200 bytes and its end, and one buffer
-abbrev pub most_read : Limits → ℕ
-most_read limits = 201 * (limits.lines + 1) + 65536
+abbrev pub most_of_day : Limits → ℕ
+most_of_day limits = 201 * (limits.lines + 1) + 65536
 
 -- so many bytes of a source were read, and but for one buffer they are no more than its first so many lines
 abbrev pub StopsSoon : ℕ → List ℕ → Option (List ℕ) → Type 0

@@ -6,7 +6,7 @@ use Rattle.road_time.specs.declared.day.Limits.{Limits}
 use Rattle.road_time.specs.Reads.{admit_fault, line_fault, tuples_of}
 use Rattle.tuple_format.specs.Causes.{cause_of}
 use Rattle.tuple_format.specs.declared.cause.Cause.{Cause}
-use Rattle.tuple_format.specs.Gates.{Gate, StandsFor}
+use Rattle.tuple_format.specs.Gates.{GateState, StandsFor}
 use Rattle.tuple_format.specs.Sorting.{Sorting, IsSorting}
 use Rattle.day_reading.specs.declared.day_ahead.Following.{Following}
 use Rattle.day_reading.specs.declared.day_ahead.Following.TheVariants.{Stops}
@@ -19,15 +19,15 @@ abbrev pub refusal : ℕ → Cause → Ending
 refusal line cause = Stopped (Refused line cause)
 
 -- tuples were put behind those that were put before, and nothing more was taken
-abbrev pub Puts : ℕ → List Tuple → List Tuple → Sorting → Sorting → Type 0
-Puts late before after old new = (taken : ℕ) → IsSorting old late before taken false →
+abbrev pub PutsTuples : ℕ → List Tuple → List Tuple → Sorting → Sorting → Type 0
+PutsTuples late before after old new = (taken : ℕ) → IsSorting old late before taken false →
     IsSorting new late after taken false
 
 -- a tuple was let in and waits, or is refused with its cause; want of memory is free
-abbrev pub TakesTuple : Limits → ℕ → Option Ending → ℕ → Tuple → Gate → Gate → Sorting → Sorting → Type 0
+abbrev pub TakesTuple : Limits → ℕ → Option Ending → ℕ → Tuple → GateState → GateState → Sorting → Sorting → Type 0
 TakesTuple limits late None line x gate gate' sorter sorter' = (before : List Tuple) → StandsFor gate limits late before
     → (admit_fault limits late before x ≡ None) × StandsFor gate' limits late (before ++ x ∷ [])
-    × Puts late before (before ++ x ∷ []) sorter sorter'
+    × PutsTuples late before (before ++ x ∷ []) sorter sorter'
 TakesTuple limits late (Some Whole) line x gate gate' sorter sorter' = ⊥
 TakesTuple limits late (Some (Stopped (Refused n cause))) line x gate gate' sorter sorter' =
     (n ≡ line) × (sorter' ≡ sorter)
@@ -37,11 +37,11 @@ TakesTuple limits late (Some (Stopped ReadFault)) line x gate gate' sorter sorte
 TakesTuple limits late (Some (Stopped NoMemory)) line x gate gate' sorter sorter' = Unit {0}
 
 -- the same of a line that follows others, which may have no tuple
-abbrev pub TakesLine : Limits → ℕ → Option Ending → ℕ → List ℕ → Gate → Gate → Sorting → Sorting → Type 0
+abbrev pub TakesLine : Limits → ℕ → Option Ending → ℕ → List ℕ → GateState → GateState → Sorting → Sorting → Type 0
 TakesLine limits late None line text gate gate' sorter sorter' = (before : List (List ℕ)) → length before + 1 ≡ line →
     StandsFor gate limits late (tuples_of before)
     → (line_fault limits late before text ≡ None) × StandsFor gate' limits late (tuples_of (before ++ text ∷ []))
-    × Puts late (tuples_of before) (tuples_of (before ++ text ∷ [])) sorter sorter'
+    × PutsTuples late (tuples_of before) (tuples_of (before ++ text ∷ [])) sorter sorter'
 TakesLine limits late (Some Whole) line text gate gate' sorter sorter' = ⊥
 TakesLine limits late (Some (Stopped (Refused n cause))) line text gate gate' sorter sorter' =
     (n ≡ line) × (sorter' ≡ sorter)

@@ -12,7 +12,7 @@ use Rattle.road_io.specs.Cutter.{ahead, number_of}
 use Rattle.digest_beside.specs.Beside.{TookBeside}
 use Rattle.tuple_format.specs.Causes.{cause_of}
 use Rattle.tuple_format.specs.declared.cause.Cause.{Cause}
-use Rattle.tuple_format.specs.Gates.{Gate, StandsFor}
+use Rattle.tuple_format.specs.Gates.{GateState, StandsFor}
 use Rattle.tuple_format.specs.Sorting.{Sorting, IsSorting}
 use Rattle.day_reading.specs.declared.ending.Ending.{Ending}
 use Rattle.day_reading.specs.declared.ending.Ending.TheVariants.{Whole, Stopped}
@@ -30,7 +30,7 @@ abbrev pub HasTaken : Consumed → List ℕ → Type 0
 HasTaken c bytes = TookBeside c.digester bytes × (c.bytes ≡ length bytes)
 
 -- lines are read on: those before were all let in, and the rest lies ahead
-pub record ReadsOn (front : Option (List ℕ)) (number : ℕ) (consumed : Consumed) (gate : Gate) (sorter : Sorting)
+pub record ReadsOn (front : Option (List ℕ)) (number : ℕ) (consumed : Consumed) (gate : GateState) (sorter : Sorting)
     (limits : Limits) (late : ℕ) (bytes : List ℕ) (given : List Tuple) : Type 0 where
   pub before : List (List ℕ)
   pub taken : List ℕ
@@ -60,7 +60,8 @@ EndsRefused line cause limits late bytes =
     (fault : Fault) × ((accepts bytes limits late).refused ≡ Some (line, fault)) × (cause_of fault ≡ cause)
 
 -- where the reading of lines stands
-abbrev pub StandsAt : Option Ending → Option (List ℕ) → ℕ → Consumed → Gate → Sorting → Limits → ℕ → List ℕ → List Tuple
+abbrev pub StandsAt : Option Ending → Option (List ℕ) → ℕ → Consumed → GateState → Sorting → Limits → ℕ → List ℕ →
+    List Tuple
     → Type 0
 StandsAt None front number consumed gate sorter limits late bytes given =
     ReadsOn front number consumed gate sorter limits late bytes given
@@ -108,22 +109,22 @@ HasReadOf r lines left bytes =
     (r.intake.line_limit ≡ lines) × HasReadLines (ahead r.cutter left) (number_of r.cutter) r.consumed bytes
 
 -- the source failed before
-abbrev pub HasFailed : DayReader → Type 0
-HasFailed r = r.end ≡ Some (Stopped ReadFault)
+abbrev pub HasReaderFailed : DayReader → Type 0
+HasReaderFailed r = r.end ≡ Some (Stopped ReadFault)
 
 -- an answer of `next`: the next tuple, the end of a whole day, or the first refused line behind all that was accepted
-abbrev pub Gives : Result (Option Tuple) ReadEnd → DayReader → Limits → ℕ → Option (List ℕ) → List ℕ → List Tuple →
+abbrev pub GivesTuple : Result (Option Tuple) ReadEnd → DayReader → Limits → ℕ → Option (List ℕ) → List ℕ → List Tuple →
     Type 0
-Gives (Ok (Some x)) r limits late left bytes given = IsReading r limits late left bytes (given ++ x ∷ [])
-Gives (Ok None) r limits late left bytes given =
+GivesTuple (Ok (Some x)) r limits late left bytes given = IsReading r limits late left bytes (given ++ x ∷ [])
+GivesTuple (Ok None) r limits late left bytes given =
     IsReading r limits late left bytes given × (given ≡ (reads bytes limits late).tuples)
     × ((reads bytes limits late).refused ≡ None)
     × HasTaken r.consumed bytes × (number_of r.cutter ≡ length (lines_of bytes))
-Gives (Err (Refused line cause)) r limits late left bytes given =
+GivesTuple (Err (Refused line cause)) r limits late left bytes given =
     (given ≡ (reads bytes limits late).tuples) × EndsRefused line cause limits late bytes
     × IsReading r limits late left bytes given
-Gives (Err ReadFault) r limits late left bytes given = Unit {0}
-Gives (Err NoMemory) r limits late left bytes given = Unit {0}
+GivesTuple (Err ReadFault) r limits late left bytes given = Unit {0}
+GivesTuple (Err NoMemory) r limits late left bytes given = Unit {0}
 
 -- a refused line that is answered is the last of so many that were cut, or the one behind them
 abbrev pub RefusesAfter : Result (Option Tuple) ReadEnd → ℕ → Type 0
@@ -137,7 +138,7 @@ abbrev pub GaveOf : Sorting → ℕ → List Tuple → List Tuple → Bool → T
 GaveOf sorter late put given ended = IsSorting sorter late put (length given) ended × IsFrontOf given (by_time put)
 
 -- lines are read on after some that were all let in
-pub record Gathers (number : ℕ) (gate : Gate) (sorter : Sorting) (limits : Limits) (late : ℕ)
+pub record Gathers (number : ℕ) (gate : GateState) (sorter : Sorting) (limits : Limits) (late : ℕ)
     (given : List Tuple) : Type 0 where
   pub before : List (List ℕ)
   pub allowed : Allowed (tuples_of before) limits
@@ -153,7 +154,7 @@ pub record Gathered (sorter : Sorting) (limits : Limits) (late : ℕ) (given : L
   pub gave : GaveOf sorter late put given ended
 
 -- what was let in, by how the reading of lines stands
-abbrev pub GathersAt : Option Ending → ℕ → Gate → Sorting → Limits → ℕ → List Tuple → Type 0
+abbrev pub GathersAt : Option Ending → ℕ → GateState → Sorting → Limits → ℕ → List Tuple → Type 0
 GathersAt None number gate sorter limits late given = Gathers number gate sorter limits late given
 GathersAt (Some Whole) number gate sorter limits late given = Gathered sorter limits late given
 GathersAt (Some (Stopped (Refused line cause))) number gate sorter limits late given = Gathered sorter limits late given

@@ -6,7 +6,7 @@ ghost use Rattle.road_io.specs.Faults.{HasCause};
 ghost use Rattle.road_io.specs.Plans.{NeverFails};
 ghost use Rattle.keeper.specs.Digests.{Took};
 ghost use Rattle.keeper.specs.Kept.{found_digest};
-ghost use Rattle.day_reading.specs.Days.{ReadsWithin};
+ghost use Rattle.road_io.specs.Within.{ReadsWithin};
 ghost use Rattle.day_reading.specs.Pieces.{TakesPiece};
 ghost use Rattle.day_reading.specs.declared.whole_day.ReadStop.TheVariants.{ReadFault};
 

@@ -5,7 +5,8 @@ ghost use Rattle.road_time.specs.Reads.{reads};
 ghost use Rattle.road_io.specs.Blame.{FaultsByPlan};
 ghost use Rattle.road_io.specs.Plans.{NeverFails};
 ghost use Rattle.road_io.specs.Cutter.{ahead};
-ghost use Rattle.day_reading.specs.Days.{EndsReading, IsShort, ReadsWithin, LeavesBehind, most_read};
+ghost use Rattle.day_reading.specs.Days.{EndsReading, IsShortDay, LeavesBehind, most_of_day};
+ghost use Rattle.road_io.specs.Within.{ReadsWithin};
 ghost use Rattle.day_reading.specs.Readings.{HasTaken, HasRead};
 ghost use Rattle.day_reading.specs.declared.whole_day.ReadStop.TheVariants.{ReadFault};
 
@@ -46,7 +47,7 @@ pub fn whole<R: Threads>(rt: &R, reader: DayReader) -> DayEnd
     ensures exact { (bytes : List ℕ) → HasTaken reader.consumed bytes → EndsReading result bytes None }
     ensures left { (left : Option (List ℕ)) (bytes : List ℕ) → HasTaken reader.consumed bytes
         → HasRead (ahead reader.cutter left) reader.consumed bytes → LeavesBehind result bytes left }
-    ensures short { reader.intake.line_limit ≤ 16000000 → IsShort result }
+    ensures short { reader.intake.line_limit ≤ 16000000 → IsShortDay result }
 {
     let bytes = reader.bytes();
     DayEnd::Whole {
@@ -70,10 +71,10 @@ pub fn read_day<S: Source, R: Threads>(
     ensures end { (bytes : List ℕ) → S.left source.old ≡ Some bytes
         → IfOk result (λ d. EndsReading d.end bytes (reads bytes limits.now late).refused) }
     ensures fit { IfOk result (λ d. Fit d.tuples.items limits.now) }
-    ensures short { IfOk result (λ d. IsShort d.end) }
+    ensures short { IfOk result (λ d. IsShortDay d.end) }
     ensures left { (bytes : List ℕ) → S.left source.old ≡ Some bytes
         → IfOk result (λ d. LeavesBehind d.end bytes (S.left source.new)) }
-    ensures bounded { ReadsWithin (most_read limits.now) (S.left source.old) (S.left source.new) }
+    ensures bounded { ReadsWithin (most_of_day limits.now) (S.left source.old) (S.left source.new) }
     ensures same { S.name source.new ≡ S.name source.old }
     ensures source { FaultsByPlan (S.faults source.old) (S.faults source.new) (S.plan source.old)
         (result ≡ Err ReadFault) }

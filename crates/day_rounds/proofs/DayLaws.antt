@@ -8,7 +8,7 @@ use Rattle.accounts.specs.Operations.{Posted}
 use Rattle.day_reading.specs.declared.day_ahead.DayAhead.{DayAhead}
 use Rattle.day_reading.specs.Ahead.{IsGatheringAhead}
 use Rattle.expressway.specs.declared.job.Job.{Job}
-use Rattle.partition_workers.specs.Told.{Told}
+use Rattle.partition_workers.specs.Told.{CrewTold}
 use Rattle.watermark.specs.Shares.{State, start}
 use Rattle.watermark.specs.Floors.{Setting}
 use Rattle.day_rounds.specs.declared.begun.Import.{Import}
@@ -57,9 +57,9 @@ on_gathers limits l same late e a b was mid o p x y s on h =
     subst (λ m. IsGatheringAhead b m late s.fed) (sym same) (on.given.gathers [] h)
 
 module _ {S T : Type 0} (out : S → List ℕ) (number : T → ℕ) (holds : S → ℕ → Job → Type 0) (gave : S → T → Type 0)
-    (exact : Bool) (jobs : S → Option Told) where
+    (exact : Bool) (jobs : S → Option CrewTold) where
   -- a day that is stopped in its midst
-  pub cut_at : (fault : DayFault) (e : Setting) (told : Option Told) (w width : ℕ) (l limits : Limits) → w ≡ width →
+  pub cut_at : (fault : DayFault) (e : Setting) (told : Option CrewTold) (w width : ℕ) (l limits : Limits) → w ≡ width →
       l ≡ limits → (late : ℕ) (s : State) (given : List Tuple) (a b : DayAhead) (was mid o p q : Option (List ℕ))
       (x y z : Option Posted) (run : Import T) (crew : S) →
       HasGiven limits late given a b was mid → HasText e s o p → HasStepped limits.backlog s x y →

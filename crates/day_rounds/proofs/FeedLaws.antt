@@ -12,11 +12,11 @@ use Rattle.road_time.proofs.AllowedLaws.{fit_left}
 use Rattle.expressway.specs.Results.{AreFirst}
 use Rattle.expressway.specs.declared.job.Job.{Job}
 use Rattle.expressway.specs.declared.finding.Finding.{Finding}
-use Rattle.partition_workers.specs.Told.{Told}
+use Rattle.partition_workers.specs.Told.{CrewTold}
 use Rattle.watermark.specs.Shares.{State}
 use Rattle.watermark.specs.Steps.{after_feed}
 use Rattle.watermark.specs.Sound.{CanFeed, IsTrue}
-use Rattle.watermark.specs.Starts.{Start, HaveStarted}
+use Rattle.watermark.specs.Starts.{JobStart, HaveStarted}
 use Rattle.watermark.specs.Floors.{Setting, StandsFor}
 use Rattle.day_rounds.specs.Tasks.{AreOpen}
 use Rattle.day_rounds.specs.Runs.{Runs, HasAnswered, CanFeedAll, fed_all, start_of}
@@ -64,7 +64,8 @@ module _ (width : ℕ) where
   open_fed tariffs of s (x ∷ xs) jobs h =
       open_fed tariffs of (after_feed width s x) xs jobs (open_feed tariffs of width s x jobs h)
 
-  starts_fed : (of backlog : ℕ) (s : State) (xs : List Tuple) (starts : List Start) → HaveStarted of backlog s starts →
+  starts_fed : (of backlog : ℕ) (s : State) (xs : List Tuple) (starts : List JobStart) →
+      HaveStarted of backlog s starts →
       HaveStarted of backlog (fed_all width s xs) starts
   starts_fed of backlog s [] starts h = h
   starts_fed of backlog s (x ∷ xs) starts h =
@@ -100,8 +101,8 @@ module _ (width : ℕ) where
       }
 
 module _ {S T : Type 0} (out : S → List ℕ) (number : T → ℕ) (holds : S → ℕ → Job → Type 0) (gave : S → T → Type 0)
-    (exact : Bool) (jobs : S → Option Told) (answers : S → Option (List Finding))
-    (e : Setting) (told : Option Told) (answered : Option (List Finding)) (run : Import T) (crew : S) (s : State)
+    (exact : Bool) (jobs : S → Option CrewTold) (answers : S → Option (List Finding))
+    (e : Setting) (told : Option CrewTold) (answered : Option (List Finding)) (run : Import T) (crew : S) (s : State)
     (h : Runs out number holds gave exact jobs answers e told answered run crew s) where
   -- the import goes on
   pub fed_runs : (now : Import T) (xs : List Tuple) → now.tickets.items ≡ run.tickets.items →

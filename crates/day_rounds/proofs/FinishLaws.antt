@@ -4,7 +4,7 @@ use Rattle.std.proofs.Common.{◌++◌, length, map, is_err, IsOk, Result, Ok, E
 use Rattle.std.proofs.Common.{append_assoc, slice_index_or}
 use Rattle.std.specs.Prelude.{Option, Some, None, Contains}
 use Rattle.std.specs.List.{remove}
-use Rattle.std.specs.Result.{OnOk, OnErr}
+use Rattle.std.specs.Result.{OnOk}
 use Rattle.std.proofs.lemmas.List.{map-append}
 use Rattle.expressway.specs.declared.job.Job.{Job}
 use Rattle.expressway.specs.declared.job.Done.{Done}
@@ -12,9 +12,9 @@ use Rattle.expressway.specs.declared.finding.Finding.{Finding}
 use Rattle.expressway.specs.Findings.{shown}
 use Rattle.road_time.specs.declared.road.Tuple.{Tuple}
 use Rattle.expressway.specs.Results.{AreFirst, IsResultOf, IsResultShaped}
-use Rattle.road_time.specs.Tolls.{Finding as RoadFinding}
+use Rattle.road_time.specs.Tolls.{StretchTold as RoadFinding}
 use Rattle.partition_workers.specs.Numbers.{IsOneMore}
-use Rattle.partition_workers.specs.Told.{Told, WhereTold, ForgetsJob, Answers}
+use Rattle.partition_workers.specs.Told.{CrewTold, WhereTold, ForgetsJob, AnswersFindings}
 use Rattle.partition_workers.specs.Callers.{HasOut, IsListingWhereTold}
 use Rattle.partition_workers.proofs.ListingLaws.{where_finished}
 use Rattle.watermark.specs.Shares.{State}
@@ -23,7 +23,7 @@ use Rattle.watermark.specs.Sound.{IsTrue}
 use Rattle.watermark.specs.Jobs.{MayComeBack}
 use Rattle.watermark.specs.Starts.{HaveStarted}
 use Rattle.watermark.specs.Floors.{Setting, StandsFor}
-use Rattle.watermark.proofs.Jobs.{comes_back, true_result}
+use Rattle.watermark.proofs.Jobs.{comes_back, true_result, ok_is}
 use Rattle.watermark.proofs.Starts.{starts_back}
 use Rattle.watermark.proofs.Truths.{true_back}
 use Rattle.day_rounds.specs.Tasks.{IsOpen, AreOpen}
@@ -43,7 +43,7 @@ split_at ((t, job) ∷ tasks) (suc n) ticket h e =
     ((t, job) ∷ b, j, a, ap (λ ts. (t, job) ∷ ts) is, ap (λ ts. t ∷ ts) rest)
 
 -- what is listed is so too where an answer was refused
-pub listing_weaker : (told : Option Told) (js : List Job) (out : List ℕ) (r : Bool) (now : Option Told) →
+pub listing_weaker : (told : Option CrewTold) (js : List Job) (out : List ℕ) (r : Bool) (now : Option CrewTold) →
     IsListingWhereTold told js out r now → IsListingWhereTold told js out true now
 listing_weaker None js out r None h = tt
 listing_weaker None js out r (Some now) h = absurd h
@@ -65,17 +65,13 @@ pub no_err : {T E : Type 0} (r : Result T E) → IsOk r → (false || is_err r) 
 no_err (Ok x) h = refl
 no_err (Err e) h = cc
 
-ok_is : {T E P : Type 0} (r : Result T E) → IsOk r → OnOk r P → P
-ok_is (Ok x) h p = p
-ok_is (Err e) h p = cc
-
 pub well : {T E : Type 0} (r : Result T E) → is_err r ≡ false → IsOk r
 well (Ok x) e = refl
 well (Err x) e = cc
 
 -- findings that are answered come behind those that were
 answered_more : (was : Option (List Finding)) (found : List (ℕ × RoadFinding)) (old now : Option (List Finding))
-    (done : Done) → IsOk done.result → HasAnswered was found old → WhereTold (Answers done) old now →
+    (done : Done) → IsOk done.result → HasAnswered was found old → WhereTold (AnswersFindings done) old now →
     HasAnswered was (found ++ map shown done.findings) now
 answered_more None found None None done ok h more = tt
 answered_more None found None (Some now) done ok h more = absurd more
@@ -89,8 +85,8 @@ answered_more (Some was) found (Some old) (Some now) done ok h more = (
 )
 
 module _ {S T : Type 0} (out : S → List ℕ) (number : T → ℕ) (holds : S → ℕ → Job → Type 0) (gave : S → T → Type 0)
-    (exact : Bool) (jobs : S → Option Told) (answers : S → Option (List Finding))
-    (e : Setting) (told : Option Told) (answered : Option (List Finding)) (run : Import T) (crew : S) (s : State)
+    (exact : Bool) (jobs : S → Option CrewTold) (answers : S → Option (List Finding))
+    (e : Setting) (told : Option CrewTold) (answered : Option (List Finding)) (run : Import T) (crew : S) (s : State)
     (h : Runs out number holds gave exact jobs answers e told answered run crew s)
     (place : ℕ) (ticket : T) (within : place < length run.tickets.items)
     (value : ticket ≡ slice_index_or run.tickets.items place ticket) where
@@ -180,7 +176,7 @@ module _ {S T : Type 0} (out : S → List ℕ) (number : T → ℕ) (holds : S �
           StandsFor e now.floor (after_back s done.worker (map shown done.findings)) →
           (exact ≡ true → (b : List (T × Job)) (j : Job) (a : List (T × Job)) →
           HasOut out number holds gave crew (b ++ (ticket, j) ∷ a) → IsResultOf j done) →
-          WhereTold (Answers done) (answers crew) (answers crewed) →
+          WhereTold (AnswersFindings done) (answers crew) (answers crewed) →
           Runs out number holds gave exact jobs answers e told answered now crewed
           (after_back s done.worker (map shown done.findings))
       finish_runs now items width limits st ran says =
@@ -218,16 +214,6 @@ module _ {S T : Type 0} (out : S → List ℕ) (number : T → ℕ) (holds : S �
 pub ok_both : {T E P Q R : Type 0} (r : Result T E) → (P → Q → R) → OnOk r P → OnOk r Q → OnOk r R
 ok_both (Ok x) f p q = f p q
 ok_both (Err e) f p q = tt
-
--- what holds where it was refused
-pub on_err : {T E P Q : Type 0} (r : Result T E) → (P → Q) → OnErr r P → OnErr r Q
-on_err (Ok x) f p = tt
-on_err (Err e) f p = f p
-
--- a list of no length is empty, and one of some length is not
-pub no_items : {X : Type 0} (xs : List X) → length xs ≡ 0 → xs ≡ []
-no_items [] h = refl
-no_items (x ∷ xs) h = absurd (omega (arith, h))
 
 pub some_items : {X : Type 0} (xs : List X) (P : Type 0) → (length xs ≡ 0 → ⊥) → xs ≡ [] → P
 some_items [] P h e = absurd (h refl)

@@ -26,9 +26,10 @@ use Rattle.watermark.specs.Steps.{after_settle}
 use Rattle.watermark.specs.Sound.{IsSound, IsTrue}
 use Rattle.watermark.specs.Written.{settled_text, written_to}
 use Rattle.watermark.specs.Floors.{Setting}
-use Rattle.watermark.specs.Floors.{WritesSome as WritesSomeOf}
+use Rattle.watermark.specs.Floors.{WritesSomeSettled as WritesSomeOf}
 use Rattle.watermark.proofs.Marks.{is_mark, settled_le}
-use Rattle.watermark.proofs.Texts.{out-append, text_goes_on}
+use Rattle.watermark.proofs.Texts.{text_goes_on}
+use Rattle.settling.proofs.PrintLaws.{out_both}
 use Rattle.watermark.proofs.Truths.{exact_notices}
 use Rattle.day_rounds.specs.Fronts.{HasText, HasFront}
 
@@ -95,7 +96,7 @@ module _ (width : ℕ) (limits : Limits) (e : Setting) (s : State) (some : 1 ≤
       front ∙ sym (exact_notices width limits s some sound n low e.tariffs are e.number kept) in (
         text_out (notices_by (rules later e.tariffs) e.number kept (drop n ms)),
         ap text_out split
-            ∙ (out-append (notices_by (rules later e.tariffs) e.number kept (take n ms))
+            ∙ (out_both (notices_by (rules later e.tariffs) e.number kept (take n ms))
             (notices_by (rules later e.tariffs) e.number kept (drop n ms))
             ∙ ap (λ ns. text_out ns ++ text_out (notices_by (rules later e.tariffs) e.number kept (drop n ms))) same),
       )

@@ -20,7 +20,7 @@ use Rattle.expressway.specs.Events.{events_for}
 use Rattle.expressway.specs.Results.{AreFirst}
 use Rattle.watermark.specs.Starts.{started_for}
 use Rattle.watermark.proofs.Events.{events_grow}
-use Rattle.watermark.proofs.Texts.{out-append}
+use Rattle.settling.proofs.PrintLaws.{out_both}
 use Rattle.day_rounds.specs.declared.fault.DayFault.{DayFault}
 use Rattle.day_rounds.specs.declared.fault.DayFault.TheVariants.{ReadFault, WriteFault, KeeperFault, NoMemory}
 use Rattle.day_rounds.specs.Faults.{WritesUpTo}
@@ -63,7 +63,7 @@ module _ (some whole : List Tuple) (first : AreFirst some whole) (limits : Limit
         text_out (notices_by (rules day tariffs) number kept (drop n ms)),
         ap (λ d. text_out (notices d tariffs number kept)) joined
             ∙ (ap text_out split
-            ∙ (out-append (notices_by (rules day tariffs) number kept (take n ms))
+            ∙ (out_both (notices_by (rules day tariffs) number kept (take n ms))
             (notices_by (rules day tariffs) number kept (drop n ms))
             ∙ ap (λ ns. text_out ns ++ text_out (notices_by (rules day tariffs) number kept (drop n ms))) front)),
       )

@@ -14,11 +14,11 @@ use Rattle.expressway.specs.declared.finding.Finding.{Finding}
 use Rattle.expressway.specs.declared.lane_event.LaneEvent.{LaneEvent}
 use Rattle.expressway.specs.Events.{events_for, position_told}
 use Rattle.expressway.specs.Results.{AreFirst}
-use Rattle.partition_workers.specs.Told.{Told, WhereTold}
+use Rattle.partition_workers.specs.Told.{CrewTold, WhereTold}
 use Rattle.partition_workers.specs.Callers.{HasOut, IsListingWhereTold, ListsAll, ListsFirst}
 use Rattle.partition_workers.proofs.CallerLaws.{idle, all_home}
 use Rattle.partition_workers.proofs.ListingLaws.{where_none, where_all, where_first}
-use Rattle.watermark.specs.Shares.{State, start, ahead}
+use Rattle.watermark.specs.Shares.{State, start, events_ahead}
 use Rattle.watermark.specs.Sound.{IsSound}
 use Rattle.watermark.specs.Starts.{HaveStarted, started_for}
 use Rattle.watermark.specs.Floors.{Setting, StandsFor}
@@ -71,15 +71,15 @@ all_started width limits s day jobs sound fed all have =
       whole = λ w k.
           let sh = s.share w in
           let none =
-          none_ahead s.settled (ahead sh) (all_ahead width limits s sound w k)
-          (subst (λ n. AllByRecursion (λ e. position_told e < n) (ahead sh)) (sym settled)
+          none_ahead s.settled (events_ahead sh) (all_ahead width limits s sound w k)
+          (subst (λ n. AllByRecursion (λ e. position_told e < n) (events_ahead sh)) (sym settled)
           (all_below width limits s sound w k)) in
           subst (λ d. started_for w (map start_of jobs) ≡ events_for d w width) fed
           (started_whole width limits s (map start_of jobs) sound have w k (none_last sh.out sh.waiting none));
     }
 
 -- no job was started
-pub none_first : (width : ℕ) (limits : Limits) (day : List Tuple) (told : Option Told) → (since : List Job)
+pub none_first : (width : ℕ) (limits : Limits) (day : List Tuple) (told : Option CrewTold) → (since : List Job)
     × HaveFirstStarted width limits.backlog day since × WhereTold (ListsFirst since) told told
 none_first width limits day told = (
   [],
@@ -88,7 +88,8 @@ none_first width limits day told = (
 )
 
 -- the same, of an equal width and equal limits
-pub as_listed_first : (was width : ℕ) (old limits : Limits) (day : List Tuple) (told now : Option Told) → was ≡ width →
+pub as_listed_first : (was width : ℕ) (old limits : Limits) (day : List Tuple) (told now : Option CrewTold) →
+    was ≡ width →
     old ≡ limits →
     (since : List Job) × HaveFirstStarted was old.backlog day since × WhereTold (ListsFirst since) told now →
     (since : List Job) × HaveFirstStarted width limits.backlog day since × WhereTold (ListsFirst since) told now
@@ -98,7 +99,8 @@ as_listed_first was width old limits day told now e f h =
     (subst (λ l. (since : List Job) × HaveFirstStarted was l.backlog day since × WhereTold (ListsFirst since) told now)
     f h)
 
-pub as_listed_all : (was width : ℕ) (old limits : Limits) (day : List Tuple) (told now : Option Told) → was ≡ width →
+pub as_listed_all : (was width : ℕ) (old limits : Limits) (day : List Tuple) (told now : Option CrewTold) →
+    was ≡ width →
     old ≡ limits →
     (since : List Job) × HaveAllStarted was old.backlog day since × WhereTold (ListsAll since) told now →
     (since : List Job) × HaveAllStarted width limits.backlog day since × WhereTold (ListsAll since) told now
@@ -112,7 +114,7 @@ none_answered None = tt
 none_answered (Some was) = ([], sym (append-nil was), refl)
 
 module _ {S T : Type 0} (out : S → List ℕ) (number : T → ℕ) (holds : S → ℕ → Job → Type 0) (gave : S → T → Type 0)
-    (exact : Bool) (jobs : S → Option Told) (answers : S → Option (List Finding)) where
+    (exact : Bool) (jobs : S → Option CrewTold) (answers : S → Option (List Finding)) where
   -- an import that begins on a crew that has nothing out
   pub begun_runs : (e : Setting) (run : Import T) (crew : S) → StandsFor e run.floor start → run.tickets.items ≡ [] →
       out crew ≡ [] → Runs out number holds gave exact jobs answers e (jobs crew) (answers crew) run crew start
@@ -134,7 +136,8 @@ module _ {S T : Type 0} (out : S → List ℕ) (number : T → ℕ) (holds : S �
   no_tasks [] h = refl
   no_tasks (t ∷ tasks) h = cc
 
-  module _ (e : Setting) (told : Option Told) (answered : Option (List Finding)) (run : Import T) (crew : S) (s : State)
+  module _ (e : Setting) (told : Option CrewTold) (answered : Option (List Finding)) (run : Import T) (crew : S)
+      (s : State)
       (h : Runs out number holds gave exact jobs answers e told answered run crew s) where
     pub nothing_out : run.tickets.items ≡ [] → out crew ≡ []
     nothing_out none =

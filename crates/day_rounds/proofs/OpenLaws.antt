@@ -4,7 +4,7 @@ use Rattle.std.proofs.Common.{length, refl, sym, ap, ◌∙◌, arith, subst, le
 use Rattle.std.specs.List.{AllByRecursion}
 use Rattle.std.proofs.lemmas.Bool.{cases_eq}
 use Rattle.road_time.specs.Rates.{Tariffs}
-use Rattle.road_time.specs.Tolls.{Finding}
+use Rattle.road_time.specs.Tolls.{StretchTold}
 use Rattle.road_time.specs.declared.road.Tuple.{Tuple}
 use Rattle.road_time.proofs.EachLaws.{joined, weakened}
 use Rattle.expressway.specs.declared.job.Job.{Job}
@@ -233,7 +233,8 @@ module _ (tariffs : Tariffs) (width : ℕ) (s : State) (worker : ℕ) (within : 
       clash (x ∷ es) e f = cc
 
   -- what was done of one came back
-  pub open_back : (found : List (ℕ × Finding)) (before : List Job) (job : Job) (after : List Job) → job.worker ≡ worker
+  pub open_back : (found : List (ℕ × StretchTold)) (before : List Job) (job : Job) (after : List Job) →
+      job.worker ≡ worker
       → AreOpen tariffs width s (before ++ job ∷ after) →
       AreOpen tariffs width (after_back s worker found) (before ++ after)
   open_back found before job after is h =

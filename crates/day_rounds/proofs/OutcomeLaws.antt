@@ -15,13 +15,13 @@ use Rattle.accounts.specs.Operations.{Operation, Posted}
 use Rattle.day_reading.specs.declared.day_ahead.DayAhead.{DayAhead}
 use Rattle.day_reading.specs.declared.whole_day.ReadStop.{ReadStop}
 use Rattle.day_reading.specs.declared.whole_day.ReadStop.TheVariants as reading
-use Rattle.day_reading.specs.Days.{EndsReading, IsShort}
+use Rattle.day_reading.specs.Days.{EndsReading, IsShortDay}
 use Rattle.day_reading.specs.Ahead.{has_more, IsAhead, IsGatheringAhead}
 use Rattle.day_reading.proofs.AheadLaws.{ahead_all}
 use Rattle.expressway.specs.declared.job.Job.{Job}
 use Rattle.expressway.specs.declared.finding.Finding.{Finding}
 use Rattle.expressway.specs.Results.{AreFirst}
-use Rattle.partition_workers.specs.Told.{Told, WhereTold}
+use Rattle.partition_workers.specs.Told.{CrewTold, WhereTold}
 use Rattle.partition_workers.specs.Callers.{ListsFirst}
 use Rattle.settling.specs.Closes.{IsClosed}
 use Rattle.watermark.proofs.Ones.{few_tolls}
@@ -55,8 +55,8 @@ list_same None = refl
 list_same (Some p) = ap Some (sym (append-nil p.published))
 
 module _ {S T : Type 0} (out : S → List ℕ) (number : T → ℕ) (holds : S → ℕ → Job → Type 0) (gave : S → T → Type 0)
-    (exact : Bool) (jobs : S → Option Told) (answers : S → Option (List Finding))
-    (e : Setting) (told : Option Told) (answered : Option (List Finding)) (run : Import T) (crew : S) (s : State)
+    (exact : Bool) (jobs : S → Option CrewTold) (answers : S → Option (List Finding))
+    (e : Setting) (told : Option CrewTold) (answered : Option (List Finding)) (run : Import T) (crew : S) (s : State)
     (h : Runs out number holds gave exact jobs answers e told answered run crew s)
     (limits : Limits) (late : ℕ) (a b : DayAhead) (was left old new : Option (List ℕ)) (before posted : Option Posted)
     (on : IsOn run.floor.limits late e a b was left old new before posted s)
@@ -95,7 +95,7 @@ module _ {S T : Type 0} (out : S → List ℕ) (number : T → ℕ) (holds : S �
       IsClosed r.closed e.number (given s.found) e.number e.history s.fed →
       ((limits : Limits) (late : ℕ) (left : Option (List ℕ)) (bytes : List ℕ) (given : List Tuple) →
       IsAhead b limits late left bytes given → EndsReading r.end bytes (reads bytes limits late).refused) →
-      IsShort r.end →
+      IsShortDay r.end →
       HasRun (task_of e w l late) exact (λ bytes. IsAhead a l late was bytes []) answered (answers crew) told
       (jobs crew) old new before posted r
   whole_run none r count closed ends short = record {
@@ -146,8 +146,8 @@ module _ {S T : Type 0} (out : S → List ℕ) (number : T → ℕ) (holds : S �
 
 -- a day that was cut
 pub cut_stopped : {S T : Type 0} (out : S → List ℕ) (number : T → ℕ) (holds : S → ℕ → Job → Type 0)
-    (gave : S → T → Type 0) (exact : Bool) (jobs : S → Option Told)
-    (fault : DayFault) (e : Setting) (told : Option Told) (width : ℕ) (limits : Limits) (late : ℕ) (a : DayAhead)
+    (gave : S → T → Type 0) (exact : Bool) (jobs : S → Option CrewTold)
+    (fault : DayFault) (e : Setting) (told : Option CrewTold) (width : ℕ) (limits : Limits) (late : ℕ) (a : DayAhead)
     (was old new : Option (List ℕ)) (before posted : Option Posted) (run : Import T) (crew last : S) →
     (h : IsCut out number holds gave exact jobs fault e told width limits late a was old new before posted run crew) →
     (since : List Job) × HaveFirstStarted width limits.backlog h.fed since
@@ -175,7 +175,7 @@ under P w n l m wide same h = subst (λ k. P k m) wide (subst (P w) same h)
 
 -- what is known of the bytes is known by whatever tells it
 module _ (t : Task) (exact : Bool) (was_is is : List ℕ → Type 0) (sees : (bytes : List ℕ) → is bytes → was_is bytes)
-    (jobs listed : Option Told) (text new : Option (List ℕ)) (was posted : Option Posted) where
+    (jobs listed : Option CrewTold) (text new : Option (List ℕ)) (was posted : Option Posted) where
   pub seen_run : (answers answered : Option (List Finding)) (r : WorkedDay) →
       HasRun t exact was_is answers answered jobs listed text new was posted r →
       HasRun t exact is answers answered jobs listed text new was posted r
@@ -218,7 +218,7 @@ pub why_read : (stop : ReadStop) → (of_reading stop ≡ ReadFault) ⊎ (of_rea
 why_read reading.ReadFault = inl refl
 why_read reading.NoMemory = inr refl
 
-pub none_stopped : (t : Task) (exact : Bool) (is : List ℕ → Type 0) (told : Option Told) (text : Option (List ℕ))
+pub none_stopped : (t : Task) (exact : Bool) (is : List ℕ → Type 0) (told : Option CrewTold) (text : Option (List ℕ))
     (posted : Option Posted) (fault : DayFault) →
     (fault ≡ ReadFault) ⊎ (fault ≡ NoMemory) → HasStopped t exact is told told text text posted posted fault
 none_stopped t exact is told text posted fault why = record {

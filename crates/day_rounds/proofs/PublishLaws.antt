@@ -7,27 +7,27 @@ use Rattle.std.specs.Result.{OnErr, IfOk}
 use Rattle.road_time.specs.declared.road.Tuple.{Tuple}
 use Rattle.road_time.specs.declared.day.Limits.{Limits}
 use Rattle.road_time.specs.Sights.{Sight, moments}
-use Rattle.road_time.specs.Tolls.{Finding}
-use Rattle.road_time.specs.Day.{Charge, given, charges_by, charges_between}
+use Rattle.road_time.specs.Tolls.{StretchTold}
+use Rattle.road_time.specs.Day.{ChargedToll, given, charges_by, charges_between}
 use Rattle.road_time.proofs.AccountLaws.{take_shorter}
 use Rattle.road_time.proofs.SightLaws.{moments_take}
 use Rattle.accounts.specs.Operations.{Operation, Begin, Step, Posted, posted_with, queued_with, IsRefused}
 use Rattle.settling.specs.declared.fault.SettleFault.{SettleFault}
-use Rattle.settling.specs.Boards.{IsAbreast, Publishes, posted_if}
+use Rattle.settling.specs.Boards.{IsAbreast, PublishesStep, posted_if}
 use Rattle.watermark.specs.Shares.{State, start}
 use Rattle.watermark.specs.Steps.{after_settle}
 use Rattle.watermark.specs.Written.{charged_to}
 use Rattle.day_rounds.specs.Published.{AreStepsBy, settled_between, posted_more, HasStepped, published_of}
 
 -- the charges between positions of the first tuples are those of all
-pub between_first : (finding : Sight → Finding) (day : List Tuple) (a b n : ℕ) → b ≤ n → n ≤ length day →
+pub between_first : (finding : Sight → StretchTold) (day : List Tuple) (a b n : ℕ) → b ≤ n → n ≤ length day →
     charges_between finding (take n day) a b ≡ charges_between finding day a b
 between_first finding day a b n low within =
     ap (λ ms. charges_by finding (drop a (take b ms))) (sym (moments_take n day within))
     ∙ ap (λ ms. charges_by finding (drop a ms)) (take_shorter b n (moments day) low)
 
 -- the last mark is no earlier than the first
-pub steps_rise : (finding : Sight → Finding) (day : List Tuple) (backlog mark last : ℕ) (ops : List Operation) →
+pub steps_rise : (finding : Sight → StretchTold) (day : List Tuple) (backlog mark last : ℕ) (ops : List Operation) →
     AreStepsBy finding day backlog mark last ops → mark ≤ last
 steps_rise finding day backlog mark last [] h = omega (arith, h)
 steps_rise finding day backlog mark last (Begin number ∷ ops) h = absurd h
@@ -37,7 +37,7 @@ steps_rise finding day backlog mark last (Step charges next ∷ ops) h =
     omega (arith, more, up)
 
 -- steps are those of any findings and day with the same charges up to their last mark
-pub steps_same : (f g : Sight → Finding) (day other : List Tuple) (backlog mark last : ℕ) (ops : List Operation) →
+pub steps_same : (f g : Sight → StretchTold) (day other : List Tuple) (backlog mark last : ℕ) (ops : List Operation) →
     ((a b : ℕ) → b ≤ last → charges_between f day a b ≡ charges_between g other a b) →
     AreStepsBy f day backlog mark last ops → AreStepsBy g other backlog mark last ops
 steps_same f g day other backlog mark last [] same h = h
@@ -51,7 +51,7 @@ steps_same f g day other backlog mark last (Step charges next ∷ ops) same h = 
 )
 
 -- with one step more
-pub steps_push : (finding : Sight → Finding) (day : List Tuple) (backlog mark last n : ℕ) (ops : List Operation) →
+pub steps_push : (finding : Sight → StretchTold) (day : List Tuple) (backlog mark last n : ℕ) (ops : List Operation) →
     AreStepsBy finding day backlog mark last ops → last < n → n ≤ last + backlog →
     AreStepsBy finding day backlog mark n (ops ++ Step (charges_between finding day last n) n ∷ [])
 steps_push finding day backlog mark last n [] h up few = (
@@ -142,8 +142,8 @@ steps_under l m e s now was posted =
     subst (λ k. (before : Option Posted) → HasStepped k.backlog s before was → HasStepped k.backlog now before posted) e
 
 -- what a publisher did, by how settling ended
-pub posted_ok : {I : Type 0} (r : Result ℕ SettleFault) (count mark : I → ℕ) (charges : I → List Charge)
-    (before now : Option Posted) → ((i : I) → Publishes r (count i) (charges i) (mark i) before now) →
+pub posted_ok : {I : Type 0} (r : Result ℕ SettleFault) (count mark : I → ℕ) (charges : I → List ChargedToll)
+    (before now : Option Posted) → ((i : I) → PublishesStep r (count i) (charges i) (mark i) before now) →
     IfOk r (λ n. (i : I) → now ≡ posted_if (count i) (charges i) (mark i) before)
 posted_ok (Ok x) count mark charges before now h = h
 posted_ok (Err e) count mark charges before now h = tt
@@ -159,7 +159,7 @@ same_list o before now h =
     queue None = refl
     queue (Some p) = refl
 
-pub posted_err : (r : Result ℕ SettleFault) (count mark : ℕ) (charges : List Charge) (before now : Option Posted) →
-    Publishes r count charges mark before now → OnErr r (published_of now ≡ published_of before)
+pub posted_err : (r : Result ℕ SettleFault) (count mark : ℕ) (charges : List ChargedToll) (before now : Option Posted) →
+    PublishesStep r count charges mark before now → OnErr r (published_of now ≡ published_of before)
 posted_err (Ok x) count mark charges before now h = tt
 posted_err (Err e) count mark charges before now h = same_list (Step charges mark) before now h

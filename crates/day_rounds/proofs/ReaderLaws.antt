@@ -13,7 +13,7 @@ use Rattle.road_io.specs.declared.cutter.LineCutter.{LineCutter}
 use Rattle.day_reading.specs.declared.day_ahead.Following.{Following}
 use Rattle.day_reading.specs.declared.day_ahead.Following.TheVariants.{Waits, Ends, Stops}
 use Rattle.day_reading.specs.declared.day_reader.DayReader.{DayReader}
-use Rattle.day_reading.specs.Readings.{Gives, HasReadOf}
+use Rattle.day_reading.specs.Readings.{GivesTuple, HasReadOf}
 use Rattle.day_reading.specs.Ahead.{answer_of, is_waiting, has_more, IsAhead, IsGatheringAhead, HasReadAhead}
 use Rattle.day_reading.specs.Ahead.{GivesAhead, GathersAhead}
 use Rattle.day_reading.proofs.AheadLaws.{ahead_front, ahead_fit}
@@ -99,7 +99,7 @@ none_ahead c (Some xs) h = ap Some (no_more (held c) xs (some_is h))
 
 left_by : (f : Following) (r : DayReader) (limits : Limits) (late : ℕ) (left : Option (List ℕ)) (bytes : List ℕ)
     (given : List Tuple) (lines : ℕ) → is_waiting f ≡ false → (reads bytes limits late).refused ≡ None →
-    Gives (answer_of f) r limits late left bytes given → HasReadOf r lines left bytes → left ≡ Some []
+    GivesTuple (answer_of f) r limits late left bytes given → HasReadOf r lines left bytes → left ≡ Some []
 left_by (Waits x) r limits late left bytes given lines ended none h read = cc
 left_by Ends r limits late left bytes given lines ended none h read =
     let rest = read.1.0 in

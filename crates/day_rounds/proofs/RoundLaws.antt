@@ -13,7 +13,7 @@ use Rattle.expressway.specs.Results.{AreFirst}
 use Rattle.expressway.specs.declared.job.Job.{Job}
 use Rattle.expressway.specs.declared.lane_event.LaneEvent.{LaneEvent}
 use Rattle.expressway.specs.declared.finding.Finding.{Finding}
-use Rattle.partition_workers.specs.Told.{Told}
+use Rattle.partition_workers.specs.Told.{CrewTold}
 use Rattle.watermark.specs.Shares.{State, can_give}
 use Rattle.watermark.specs.Steps.{given_out, taken_back, after_give}
 use Rattle.watermark.specs.Written.{settled_text, settled_charges}
@@ -163,8 +163,8 @@ none_mapped f [] h = refl
 none_mapped f (x ∷ xs) h = cc
 
 module _ {S T : Type 0} (out : S → List ℕ) (number : T → ℕ) (holds : S → ℕ → Job → Type 0) (gave : S → T → Type 0)
-    (exact : Bool) (jobs : S → Option Told) (answers : S → Option (List Finding))
-    (e : Setting) (told : Option Told) (answered : Option (List Finding)) (run : Import T) (crew : S) (s : State)
+    (exact : Bool) (jobs : S → Option CrewTold) (answers : S → Option (List Finding))
+    (e : Setting) (told : Option CrewTold) (answered : Option (List Finding)) (run : Import T) (crew : S) (s : State)
     (h : Runs out number holds gave exact jobs answers e told answered run crew s) where
   -- without tickets no job is out
   pub all_home : run.tickets.items ≡ [] → (v : ℕ) → v < run.floor.inboxes.width → (s.share v).out ≡ []

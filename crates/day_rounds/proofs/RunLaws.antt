@@ -10,14 +10,14 @@ use Rattle.expressway.specs.declared.finding.Finding.{Finding}
 use Rattle.expressway.specs.declared.lane_event.LaneEvent.{LaneEvent}
 use Rattle.expressway.specs.Ready.{IsReady}
 use Rattle.partition_workers.specs.Numbers.{IsOneMore}
-use Rattle.partition_workers.specs.Told.{Told, WhereTold, ListsJob}
+use Rattle.partition_workers.specs.Told.{CrewTold, WhereTold, ListsJob}
 use Rattle.partition_workers.specs.Callers.{HasOut}
 use Rattle.partition_workers.proofs.ListingLaws.{where_started}
 use Rattle.watermark.specs.Shares.{State, can_give}
 use Rattle.watermark.specs.Steps.{after_give}
 use Rattle.watermark.specs.Sound.{IsTrue}
 use Rattle.watermark.specs.Jobs.{IsNext}
-use Rattle.watermark.specs.Starts.{Start, next_start, HaveStarted}
+use Rattle.watermark.specs.Starts.{JobStart, next_start, HaveStarted}
 use Rattle.watermark.specs.Floors.{Setting, StandsFor}
 use Rattle.watermark.proofs.Jobs.{next_ready}
 use Rattle.watermark.proofs.Starts.{starts_give}
@@ -27,7 +27,7 @@ use Rattle.day_rounds.specs.Runs.{Runs, HasAnswered, start_of, given_if}
 use Rattle.day_rounds.specs.declared.begun.Import.{Import}
 use Rattle.day_rounds.proofs.OpenLaws.{few_open, open_give}
 
-abbrev start_at : ℕ → ℕ → List LaneEvent → Start
+abbrev start_at : ℕ → ℕ → List LaneEvent → JobStart
 start_at w n es = record { worker = w; number = n; events = es }
 
 -- the job that is given is the one that starts
@@ -45,8 +45,8 @@ pub if_none : (s : State) (worker : ℕ) → can_give (s.share worker) ≡ false
 if_none s worker can = sym (cond-false (can_give (s.share worker)) (after_give s worker) s can)
 
 module _ {S T : Type 0} (out : S → List ℕ) (number : T → ℕ) (holds : S → ℕ → Job → Type 0) (gave : S → T → Type 0)
-    (exact : Bool) (jobs : S → Option Told) (answers : S → Option (List Finding))
-    (e : Setting) (told : Option Told) (answered : Option (List Finding)) (run : Import T) (crew : S) (s : State)
+    (exact : Bool) (jobs : S → Option CrewTold) (answers : S → Option (List Finding))
+    (e : Setting) (told : Option CrewTold) (answered : Option (List Finding)) (run : Import T) (crew : S) (s : State)
     (h : Runs out number holds gave exact jobs answers e told answered run crew s) where
   abbrev Now : Import T → S → State → Type 0
   Now = Runs out number holds gave exact jobs answers e told answered

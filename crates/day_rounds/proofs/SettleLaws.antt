@@ -14,7 +14,7 @@ use Rattle.settling.proofs.AnswerLaws.{notices_exact}
 use Rattle.settling.proofs.StayLaws.{run_between}
 use Rattle.expressway.specs.declared.job.Job.{Job}
 use Rattle.expressway.specs.declared.finding.Finding.{Finding}
-use Rattle.partition_workers.specs.Told.{Told}
+use Rattle.partition_workers.specs.Told.{CrewTold}
 use Rattle.watermark.specs.Shares.{State, mark}
 use Rattle.watermark.specs.Steps.{after_settle}
 use Rattle.watermark.specs.Written.{settled_text, written_to}
@@ -31,11 +31,6 @@ use Rattle.day_rounds.specs.Runs.{Runs, IsDone, start_of}
 use Rattle.day_rounds.specs.Rounds.{IsSettled}
 use Rattle.day_rounds.specs.declared.begun.Import.{Import}
 use Rattle.day_rounds.proofs.OpenLaws.{open_settle}
-
--- what holds of an answer and of a fault, by one thing or by four
-pub if_more : {T E : Type 0} {P Z : T → Type 0} (r : Result T E) → ((x : T) → P x → Z x) → IfOk r P → IfOk r Z
-if_more (Ok x) h p = h x p
-if_more (Err e) h p = tt
 
 pub if_four : {T E : Type 0} {P Q R U Z : T → Type 0} (r : Result T E) → ((x : T) → P x → Q x → R x → U x → Z x) →
     IfOk r P → IfOk r Q → IfOk r R → IfOk r U → IfOk r Z
@@ -94,8 +89,8 @@ round_settled width backlog e s mid xs n old new was posted done is text steps =
 }
 
 module _ {S T : Type 0} (out : S → List ℕ) (number : T → ℕ) (holds : S → ℕ → Job → Type 0) (gave : S → T → Type 0)
-    (exact : Bool) (jobs : S → Option Told) (answers : S → Option (List Finding))
-    (e : Setting) (told : Option Told) (answered : Option (List Finding)) (run : Import T) (crew : S) (s : State)
+    (exact : Bool) (jobs : S → Option CrewTold) (answers : S → Option (List Finding))
+    (e : Setting) (told : Option CrewTold) (answered : Option (List Finding)) (run : Import T) (crew : S) (s : State)
     (h : Runs out number holds gave exact jobs answers e told answered run crew s) where
   -- the import goes on
   pub settled_runs : (now : Import T) (n : ℕ) → now.tickets.items ≡ run.tickets.items →

@@ -3,7 +3,7 @@ use Rattle.std.proofs.Common.{◌≡◌, ℕ, ◌+◌, ◌*◌, ◌<◌, ⊎_eli
 use Rattle.std.proofs.Common.{arith, subst, append-nil}
 use Rattle.std.proofs.lemmas.Bool.{cases_Bool, cases_eq}
 use Rattle.road_time.specs.declared.day.Limits.{Limits}
-use Rattle.watermark.specs.Shares.{State, ahead, is_empty, can_give, mark}
+use Rattle.watermark.specs.Shares.{State, events_ahead, is_empty, can_give, mark}
 use Rattle.watermark.specs.Steps.{given_out, taken_back, after_give, after_back}
 use Rattle.watermark.specs.Sound.{IsSound}
 use Rattle.watermark.proofs.Workers.{for_worker, at_own, at_other, nothing_out}
@@ -62,7 +62,7 @@ one_given width s w within can =
       settled = refl;
       found = refl;
       ahead = λ v.
-          for_worker (λ sh. ahead sh ≡ ahead (s.share v)) w v (given_out s.given) s.share
+          for_worker (λ sh. events_ahead sh ≡ events_ahead (s.share v)) w v (given_out s.given) s.share
           (λ e. append-nil (s.share v).waiting
           ∙ sym (ap (λ es. es ++ (s.share v).waiting) (ap (λ u. (s.share u).out) e ∙ none))) refl;
       worked = omega (arith, one, was, more);

@@ -14,10 +14,10 @@ use Rattle.expressway.specs.declared.job.Job.{Job}
 use Rattle.expressway.specs.declared.finding.Finding.{Finding}
 use Rattle.expressway.specs.declared.lane_event.LaneEvent.{LaneEvent}
 use Rattle.expressway.specs.Events.{position_told}
-use Rattle.partition_workers.specs.Told.{Told}
+use Rattle.partition_workers.specs.Told.{CrewTold}
 use Rattle.watermark.proofs.Events.{all_ahead, all_below}
 use Rattle.day_rounds.specs.declared.begun.Import.{Import}
-use Rattle.day_rounds.proofs.FinishLaws.{no_items}
+use Rattle.keeper.proofs.ListFacts.{no_length}
 use Rattle.day_rounds.specs.Tasks.{out_at, one_out, one_if}
 use Rattle.day_rounds.specs.Runs.{Runs, fed_all}
 use Rattle.accounts.specs.Operations.{Posted}
@@ -82,7 +82,7 @@ turn_is width backlog e s mid xs n k old new was posted low moved idle is text s
 -- a turn does something
 pub some_done : (P : Type 0) (count k : ℕ) (xs : List Tuple) → length xs ≡ count → (k ≡ 0 → xs ≡ [] → P) →
     (P → 1 ≤ count) → 1 ≤ count + k
-some_done P zero zero xs l idle some = let h = some (idle refl (no_items xs l)) in omega (arith, h)
+some_done P zero zero xs l idle some = let h = some (idle refl (no_length xs l)) in omega (arith, h)
 some_done P zero (suc k) xs l idle some = omega arith
 some_done P (suc count) k xs l idle some = omega arith
 
@@ -121,8 +121,8 @@ empty_first n [] ys a b = refl
 empty_first n (e ∷ xs) ys a b = absurd (let x = a.0 in let y = b.0 in omega (arith, x, y))
 
 module _ {S T : Type 0} (out : S → List ℕ) (number : T → ℕ) (holds : S → ℕ → Job → Type 0) (gave : S → T → Type 0)
-    (exact : Bool) (jobs : S → Option Told) (answers : S → Option (List Finding))
-    (e : Setting) (told : Option Told) (answered : Option (List Finding)) (run : Import T) (crew : S) (s : State)
+    (exact : Bool) (jobs : S → Option CrewTold) (answers : S → Option (List Finding))
+    (e : Setting) (told : Option CrewTold) (answered : Option (List Finding)) (run : Import T) (crew : S) (s : State)
     (h : Runs out number holds gave exact jobs answers e told answered run crew s) where
   -- as many tickets as jobs that are out
   pub tickets_are : length run.tickets.items ≡ out_at s.share run.floor.inboxes.width
@@ -139,7 +139,7 @@ module _ {S T : Type 0} (out : S → List ℕ) (number : T → ℕ) (holds : S �
   pub no_ticket : s.settled ≡ length s.fed → run.tickets.items ≡ []
   no_ticket all =
       let w = run.floor.inboxes.width in
-      no_items run.tickets.items (tickets_are ∙ nothing_out s.share w (λ v k.
+      no_length run.tickets.items (tickets_are ∙ nothing_out s.share w (λ v k.
       empty_first s.settled (s.share v).out (s.share v).waiting (all_ahead w run.floor.limits s h.stands.sound v k)
       (subst (λ n. AllByRecursion (λ ev. position_told ev < n) ((s.share v).out ++ (s.share v).waiting)) (sym all)
       (all_below w run.floor.limits s h.stands.sound v k))))

@@ -9,7 +9,7 @@ use Rattle.day_reading.specs.declared.day_ahead.DayAhead.{DayAhead}
 use Rattle.day_reading.specs.Ahead.{IsAhead}
 use Rattle.expressway.specs.Results.{AreFirst}
 use Rattle.expressway.specs.declared.job.Job.{Job}
-use Rattle.partition_workers.specs.Told.{Told}
+use Rattle.partition_workers.specs.Told.{CrewTold}
 use Rattle.watermark.specs.Shares.{State}
 use Rattle.watermark.specs.Floors.{Setting}
 use Rattle.day_rounds.specs.declared.begun.Import.{Import}
@@ -23,8 +23,8 @@ use Rattle.day_rounds.specs.Runs.{Stopped}
 -- day that the bytes are; the jobs that were started are theirs; and with an exact crew
 -- the text goes on to some first bytes of their output, and the steps are theirs by the rules
 pub record IsHalted {S T : Type 0} (out : S → List ℕ) (number : T → ℕ) (holds : S → ℕ → Job → Type 0)
-    (gave : S → T → Type 0) (exact : Bool) (jobs : S → Option Told)
-    (fault : DayFault) (e : Setting) (told : Option Told) (width : ℕ) (limits : Limits) (late : ℕ) (s : State)
+    (gave : S → T → Type 0) (exact : Bool) (jobs : S → Option CrewTold)
+    (fault : DayFault) (e : Setting) (told : Option CrewTold) (width : ℕ) (limits : Limits) (late : ℕ) (s : State)
     (given : List Tuple) (ahead : DayAhead) (left : Option (List ℕ))
     (old new : Option (List ℕ)) (was posted : Option Posted) (run : Import T) (crew : S) : Type 0 where
   pub fed : List Tuple
@@ -38,8 +38,9 @@ pub record IsHalted {S T : Type 0} (out : S → List ℕ) (number : T → ℕ) (
 
 -- the same of a day from its start
 pub record IsCut {S T : Type 0} (out : S → List ℕ) (number : T → ℕ) (holds : S → ℕ → Job → Type 0)
-    (gave : S → T → Type 0) (exact : Bool) (jobs : S → Option Told)
-    (fault : DayFault) (e : Setting) (told : Option Told) (width : ℕ) (limits : Limits) (late : ℕ) (ahead : DayAhead)
+    (gave : S → T → Type 0) (exact : Bool) (jobs : S → Option CrewTold)
+    (fault : DayFault) (e : Setting) (told : Option CrewTold) (width : ℕ) (limits : Limits) (late : ℕ)
+    (ahead : DayAhead)
     (left : Option (List ℕ))
     (old new : Option (List ℕ)) (was posted : Option Posted) (run : Import T) (crew : S) : Type 0 where
   pub fed : List Tuple

@@ -4,7 +4,7 @@ use Rattle.std.specs.List.{AllByRecursion}
 use Rattle.road_time.specs.declared.road.Tuple.{Tuple}
 use Rattle.road_time.specs.Rates.{Tariffs}
 use Rattle.road_time.specs.Sights.{moments}
-use Rattle.road_time.specs.Tolls.{Finding}
+use Rattle.road_time.specs.Tolls.{StretchTold}
 use Rattle.road_time.specs.Day.{given, merged, notices, charges, charges_by}
 use Rattle.expressway.specs.declared.job.Job.{Job}
 use Rattle.expressway.specs.Events.{events_for}
@@ -27,6 +27,7 @@ pub record HaveAllStarted (width backlog : ℕ) (day : List Tuple) (jobs : List 
   pub whole : (worker : ℕ) → worker < width → started_for worker (map start_of jobs) ≡ events_for day worker width
 
 -- findings make the notices and the charges of the rules
-pub record AreRightFor (found : List (ℕ × Finding)) (day : List Tuple) (tariffs : Tariffs) (number : ℕ) : Type 0 where
+pub record AreRightFor (found : List (ℕ × StretchTold)) (day : List Tuple) (tariffs : Tariffs)
+    (number : ℕ) : Type 0 where
   pub notices_are : (kept : ℕ → ℕ → ℕ → ℕ) → merged day found number kept ≡ notices day tariffs number kept
   pub charges_are : charges_by (given found) (moments day) ≡ charges day tariffs (moments day)

@@ -6,18 +6,18 @@ use Rattle.road_time.specs.declared.road.Tuple.{Tuple}
 use Rattle.road_time.specs.declared.day.Limits.{Limits}
 use Rattle.road_time.specs.Rates.{Tariffs}
 use Rattle.road_time.specs.Sights.{Sight}
-use Rattle.road_time.specs.Tolls.{Finding as RoadFinding}
+use Rattle.road_time.specs.Tolls.{StretchTold as RoadFinding}
 use Rattle.road_time.specs.Fits.{Fit}
 use Rattle.road_time.specs.Reads.{reads}
 use Rattle.road_time.specs.Day.{given, rules, notices, merged}
 use Rattle.road_time.specs.Text.{out}
 use Rattle.accounts.specs.Operations.{Operation, Posted}
-use Rattle.day_reading.specs.Days.{EndsReading, IsShort}
+use Rattle.day_reading.specs.Days.{EndsReading, IsShortDay}
 use Rattle.expressway.specs.declared.job.Job.{Job}
 use Rattle.expressway.specs.declared.finding.Finding.{Finding}
-use Rattle.partition_workers.specs.Told.{Told, WhereTold}
+use Rattle.partition_workers.specs.Told.{CrewTold, WhereTold}
 use Rattle.partition_workers.specs.Callers.{ListsAll, ListsFirst}
-use Rattle.settling.specs.Answers.{History}
+use Rattle.settling.specs.Answers.{PaidHistory}
 use Rattle.settling.specs.Closes.{IsClosed}
 use Rattle.watermark.specs.Floors.{Setting}
 use Rattle.day_rounds.specs.declared.fault.DayFault.{DayFault}
@@ -35,7 +35,7 @@ pub record Task : Type 0 where
   pub late : ℕ
   pub tariffs : Tariffs
   pub number : ℕ
-  pub history : History
+  pub history : PaidHistory
 
 -- that of a setting
 abbrev pub task_of : Setting → ℕ → Limits → ℕ → Task
@@ -50,12 +50,12 @@ pub record HasStepsBy (finding : Sight → RoadFinding) (t : Task) (day : List T
   pub published : published_of now ≡ option_map (λ p. p.published ++ steps) old
 
 -- jobs that were started are all of each worker's, and are listed
-abbrev pub HasStartedAll : Task → List Tuple → Option Told → Option Told → Type 0
+abbrev pub HasStartedAll : Task → List Tuple → Option CrewTold → Option CrewTold → Type 0
 HasStartedAll t day jobs listed = (since : List Job) × HaveAllStarted t.width t.limits.backlog day since
     × WhereTold (ListsAll since) jobs listed
 
 -- or they are the first of each worker's, and the first of them are listed
-abbrev pub HasStartedFirst : Task → List Tuple → Option Told → Option Told → Type 0
+abbrev pub HasStartedFirst : Task → List Tuple → Option CrewTold → Option CrewTold → Type 0
 HasStartedFirst t day jobs listed = (since : List Job) × HaveFirstStarted t.width t.limits.backlog day since
     × WhereTold (ListsFirst since) jobs listed
 
@@ -63,13 +63,13 @@ HasStartedFirst t day jobs listed = (since : List Job) × HaveFirstStarted t.wid
 -- closed and published of them is by the findings that the
 -- crew answered, and over an exact crew by the rules; and the jobs that were started are all of each worker's
 pub record HasRun (t : Task) (exact : Bool) (is : List ℕ → Type 0) (answers answered : Option (List Finding))
-    (jobs listed : Option Told) (old new : Option (List ℕ)) (was posted : Option Posted) (run : WorkedDay) : Type
+    (jobs listed : Option CrewTold) (old new : Option (List ℕ)) (was posted : Option Posted) (run : WorkedDay) : Type
     0 where
   pub day : List Tuple
   pub fit : Fit day t.limits
   pub read : (bytes : List ℕ) → is bytes → (day ≡ (reads bytes t.limits t.late).tuples)
       × EndsReading run.end bytes (reads bytes t.limits t.late).refused
-  pub short : IsShort run.end
+  pub short : IsShortDay run.end
   pub count : run.tuples ≡ length day
   pub found : List (ℕ × RoadFinding)
   pub found_are : HasAnswered answers found answered
@@ -86,7 +86,7 @@ pub record HasRun (t : Task) (exact : Bool) (is : List ℕ → Type 0) (answers 
 -- a day of some bytes was stopped: over an exact crew some first bytes of its output were written, and after a write
 -- fault not all, and what was published are steps
 -- of it by the rules; and the jobs that were started are the first of each worker's
-pub record HasStopped (t : Task) (exact : Bool) (is : List ℕ → Type 0) (jobs listed : Option Told)
+pub record HasStopped (t : Task) (exact : Bool) (is : List ℕ → Type 0) (jobs listed : Option CrewTold)
     (old new : Option (List ℕ)) (was posted : Option Posted) (fault : DayFault) : Type 0 where
   pub front : exact ≡ true → (bytes : List ℕ) → is bytes → (kept : ℕ → ℕ → ℕ → ℕ) → t.history ≡ Some kept
       → WritesUpTo fault (out (notices (reads bytes t.limits t.late).tuples t.tariffs t.number kept)) old new

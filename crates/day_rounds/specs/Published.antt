@@ -3,15 +3,15 @@ use Rattle.std.specs.Prelude.{◌≡◌, ℕ, ◌+◌, ◌≤◌, ◌<◌, List,
 use Rattle.std.specs.Option.{option_map}
 use Rattle.road_time.specs.declared.road.Tuple.{Tuple}
 use Rattle.road_time.specs.Sights.{Sight}
-use Rattle.road_time.specs.Tolls.{Finding}
+use Rattle.road_time.specs.Tolls.{StretchTold}
 use Rattle.road_time.specs.Rates.{Tariffs}
-use Rattle.road_time.specs.Day.{Charge, given, rules, charges_between}
+use Rattle.road_time.specs.Day.{ChargedToll, given, rules, charges_between}
 use Rattle.accounts.specs.Operations.{Operation, Begin, Step, Posted}
 use Rattle.watermark.specs.Shares.{State}
 
 -- steps of a day by findings, from a mark on to a last one: each goes on to a later mark, at most so many positions
 -- on, and has the charges between them
-abbrev pub AreStepsBy : (Sight → Finding) → List Tuple → ℕ → ℕ → ℕ → List Operation → Type 0
+abbrev pub AreStepsBy : (Sight → StretchTold) → List Tuple → ℕ → ℕ → ℕ → List Operation → Type 0
 AreStepsBy finding day backlog mark last [] = mark ≡ last
 AreStepsBy finding day backlog mark last (Begin number ∷ ops) = ⊥
 AreStepsBy finding day backlog mark last (Step charges next ∷ ops) =
@@ -19,7 +19,7 @@ AreStepsBy finding day backlog mark last (Step charges next ∷ ops) =
     × AreStepsBy finding day backlog next last ops
 
 -- what was charged between two positions of those that are settled
-abbrev pub settled_between : State → ℕ → ℕ → List Charge
+abbrev pub settled_between : State → ℕ → ℕ → List ChargedToll
 settled_between s a b = charges_between (given s.found) (take s.settled s.fed) a b
 
 -- with some operations more

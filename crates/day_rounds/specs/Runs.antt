@@ -1,12 +1,12 @@
 -- What holds of an import between two steps.
 use Rattle.std.specs.Prelude.{◌≡◌, ℕ, zero, suc, ◌+◌, ◌≤◌, Bool, true, false, List, [], ◌∷◌, ◌++◌, length, map, Option}
 use Rattle.std.specs.Prelude.{Some, None, if◌then◌else◌}
-use Rattle.road_time.specs.Tolls.{Finding as RoadFinding}
+use Rattle.road_time.specs.Tolls.{StretchTold as RoadFinding}
 use Rattle.road_time.specs.declared.road.Tuple.{Tuple}
 use Rattle.expressway.specs.declared.job.Job.{Job}
 use Rattle.expressway.specs.declared.finding.Finding.{Finding}
 use Rattle.expressway.specs.Findings.{shown}
-use Rattle.partition_workers.specs.Told.{Told}
+use Rattle.partition_workers.specs.Told.{CrewTold}
 use Rattle.partition_workers.specs.Callers.{HasOut, IsListingWhereTold}
 use Rattle.watermark.specs.Shares.{State, can_give, mark}
 use Rattle.watermark.specs.Steps.{after_feed, after_give, after_back}
@@ -15,14 +15,14 @@ use Rattle.expressway.specs.Results.{AreFirst}
 use Rattle.road_time.specs.declared.day.Limits.{Limits}
 use Rattle.road_time.specs.Fits.{Fit}
 use Rattle.watermark.specs.Sound.{CanBack, IsSound, IsTrue}
-use Rattle.watermark.specs.Starts.{Start, HaveStarted}
+use Rattle.watermark.specs.Starts.{JobStart, HaveStarted}
 use Rattle.watermark.specs.Floors.{Setting, StandsFor}
 use Rattle.day_rounds.specs.Tasks.{AreOpen}
 use Rattle.day_rounds.specs.Published.{settled_between}
 use Rattle.day_rounds.specs.declared.begun.Import.{Import}
 
 -- a job, as the list of those that were started has it
-abbrev pub start_of : Job → Start
+abbrev pub start_of : Job → JobStart
 start_of job = record { worker = job.worker; number = job.number; events = job.events }
 
 -- the findings that a crew answered since, where it tells them, are those that were found
@@ -36,8 +36,8 @@ HasAnswered (Some was) found (Some now) = (since : List Finding) × (now ≡ was
 -- out; with an exact crew the findings are true;
 -- and of the jobs started since it began, and the findings answered, the crew tells what was told to it and by it
 pub record Runs {S T : Type 0} (out : S → List ℕ) (number : T → ℕ) (holds : S → ℕ → Job → Type 0)
-    (gave : S → T → Type 0) (exact : Bool) (jobs : S → Option Told) (answers : S → Option (List Finding))
-    (e : Setting) (told : Option Told) (answered : Option (List Finding)) (run : Import T) (crew : S)
+    (gave : S → T → Type 0) (exact : Bool) (jobs : S → Option CrewTold) (answers : S → Option (List Finding))
+    (e : Setting) (told : Option CrewTold) (answered : Option (List Finding)) (run : Import T) (crew : S)
     (s : State) : Type 0 where
   pub stands : StandsFor e run.floor s
   pub tasks : List (T × Job)
@@ -53,8 +53,8 @@ pub record Runs {S T : Type 0} (out : S → List ℕ) (number : T → ℕ) (hold
 -- and after a refusal, in the import of a day: the jobs that are left to be finished, and those that were started,
 -- which are the first of each worker's
 pub record Stopped {S T : Type 0} (out : S → List ℕ) (number : T → ℕ) (holds : S → ℕ → Job → Type 0)
-    (gave : S → T → Type 0) (jobs : S → Option Told)
-    (told : Option Told) (width : ℕ) (limits : Limits) (day : List Tuple) (run : Import T) (crew : S) : Type 0 where
+    (gave : S → T → Type 0) (jobs : S → Option CrewTold)
+    (told : Option CrewTold) (width : ℕ) (limits : Limits) (day : List Tuple) (run : Import T) (crew : S) : Type 0 where
   pub state : State
   pub sound : IsSound width limits state
   pub first : AreFirst state.fed day

@@ -3,7 +3,7 @@ ghost use Rattle.std.specs.Prelude.{◌≡◌, ◌≤◌, [], ℕ, List, Option,
 ghost use Rattle.road_time.specs.Reads.{reads};
 ghost use Rattle.road_io.specs.Plans.{NeverFails};
 ghost use Rattle.road_io.specs.Rooms.{Endless};
-ghost use Rattle.day_reading.specs.Days.{LeavesBehind, most_read};
+ghost use Rattle.day_reading.specs.Days.{LeavesBehind, most_of_day};
 ghost use Rattle.day_reading.specs.Ahead.{IsAhead, IsGatheringAhead, HasReadAhead, HasFailedAhead};
 ghost use Rattle.settling.specs.Answers.{history_of};
 ghost use Rattle.settling.specs.Boards.{IsAbreast};
@@ -78,7 +78,7 @@ pub fn run_opened<C: Crew, S: Source, K: Keeper, O: Sink, P: Publisher, R: Threa
         (C.jobs crew.old) (C.jobs crew.new) (O.written sink.old) (O.written sink.new) (P.posted publisher.old)
         (P.posted publisher.new) fault) }
     ensures bounded { (bytes : List ℕ) → HasReadAhead ahead run.floor.limits.lines (S.left source.old) bytes
-        → (count : ℕ) × (count ≤ most_read run.floor.limits) × (S.left source.new ≡ Some (drop count bytes)) }
+        → (count : ℕ) × (count ≤ most_of_day run.floor.limits) × (S.left source.new ≡ Some (drop count bytes)) }
     ensures leaves { IfOk result (λ r. (e : Setting) (late : ℕ)
         → Runs C.out C.number C.holds C.gave C.exact C.jobs C.answers e (C.jobs crew.old) (C.answers crew.old) run
         crew.old start

@@ -3,7 +3,8 @@ ghost use Rattle.std.specs.Prelude.{◌≡◌, ◌≤◌, [], ℕ, List, Some, N
 ghost use Rattle.road_time.specs.Reads.{reads};
 ghost use Rattle.road_io.specs.Plans.{NeverFails};
 ghost use Rattle.road_io.specs.Rooms.{Endless};
-ghost use Rattle.day_reading.specs.Days.{LeavesBehind, ReadsWithin, most_read};
+ghost use Rattle.day_reading.specs.Days.{LeavesBehind, most_of_day};
+ghost use Rattle.road_io.specs.Within.{ReadsWithin};
 ghost use Rattle.settling.specs.Answers.{history_of};
 ghost use Rattle.settling.specs.Boards.{IsAbreast};
 ghost use Rattle.watermark.specs.Terms.{AreTerms};
@@ -70,7 +71,7 @@ pub fn run_day<C: Crew, S: Source, K: Keeper, O: Sink, P: Publisher, R: Threads>
         })
         C.exact (λ bytes. S.left source.old ≡ Some bytes) (C.jobs crew.old) (C.jobs crew.new)
         (O.written sink.old) (O.written sink.new) (P.posted publisher.old) (P.posted publisher.new) fault) }
-    ensures bounded { ReadsWithin (most_read limits.now) (S.left source.old) (S.left source.new) }
+    ensures bounded { ReadsWithin (most_of_day limits.now) (S.left source.old) (S.left source.new) }
     ensures leaves { IfOk result (λ run. (bytes : List ℕ) → S.left source.old ≡ Some bytes
         → LeavesBehind run.end bytes (S.left source.new)) }
     ensures rest { OnOk result ((bytes : List ℕ) → S.left source.old ≡ Some bytes

@@ -3,9 +3,9 @@ ghost use Rattle.std.specs.Prelude.{◌≡◌, [], ℕ, List, Option, IfOk};
 ghost use Rattle.road_time.specs.declared.road.Tuple.{Tuple as RoadTuple};
 ghost use Rattle.road_time.specs.declared.day.Limits.{Limits as DayLimits};
 ghost use Rattle.expressway.specs.declared.job.Job.{Job};
-ghost use Rattle.partition_workers.specs.Told.{Told, WhereTold};
+ghost use Rattle.partition_workers.specs.Told.{CrewTold, WhereTold};
 ghost use Rattle.partition_workers.specs.Callers.{ListsFirst};
-ghost use Rattle.settling.specs.Answers.{History};
+ghost use Rattle.settling.specs.Answers.{PaidHistory};
 ghost use Rattle.watermark.specs.Terms.{AreTerms};
 ghost use Rattle.watermark.specs.Shares.{start};
 ghost use Rattle.watermark.specs.Floors.{StandsFor};
@@ -28,7 +28,7 @@ pub fn begin<T: Drop>(
     tariffs: &Tariffs,
 ) -> Result<Import<T>, NoMemory>
     requires { AreTerms width limits.now }
-    ensures stands { IfOk result (λ run. (number : ℕ) (history : History)
+    ensures stands { IfOk result (λ run. (number : ℕ) (history : PaidHistory)
         → StandsFor (record { tariffs = tariffs.now; number = number; history = history }) run.floor start) }
     ensures width { IfOk result (λ run. run.floor.inboxes.width ≡ width) }
     ensures limits { IfOk result (λ run. run.floor.limits ≡ limits.now) }
@@ -43,11 +43,11 @@ pub fn begin<T: Drop>(
 
 /// Finishes all that is out after a refusal.
 pub fn stop<C: Crew>(run: Import<C::Ticket>, crew: &mut C)
-    requires { (told : Option Told) × (width : ℕ) × (limits : DayLimits) × (day : List RoadTuple)
+    requires { (told : Option CrewTold) × (width : ℕ) × (limits : DayLimits) × (day : List RoadTuple)
         × Stopped C.out C.number C.holds C.gave C.jobs told width limits day run crew.old }
     ensures idle { C.out crew.new ≡ [] }
     ensures which { C.which crew.new ≡ C.which crew.old }
-    ensures jobs { (told : Option Told) (width : ℕ) (limits : DayLimits) (day : List RoadTuple)
+    ensures jobs { (told : Option CrewTold) (width : ℕ) (limits : DayLimits) (day : List RoadTuple)
         → Stopped C.out C.number C.holds C.gave C.jobs told width limits day run crew.old
         → (since : List Job) × HaveFirstStarted width limits.backlog day since
         × WhereTold (ListsFirst since) told (C.jobs crew.new) }

@@ -4,7 +4,7 @@ ghost use Rattle.road_io.specs.Plans.{NeverFails};
 ghost use Rattle.road_io.specs.Rooms.{Endless};
 ghost use Rattle.day_reading.specs.Ahead.{has_more, IsGatheringAhead, HasReadAhead, HasFailedAhead};
 ghost use Rattle.expressway.specs.declared.finding.Finding.{Finding};
-ghost use Rattle.partition_workers.specs.Told.{Told};
+ghost use Rattle.partition_workers.specs.Told.{CrewTold};
 ghost use Rattle.settling.specs.Answers.{history_of};
 ghost use Rattle.settling.specs.Boards.{IsAbreast};
 ghost use Rattle.watermark.specs.Shares.{State, start};
@@ -47,7 +47,7 @@ pub fn run_plan<C: Crew, S: Source, K: Keeper, O: Sink, P: Publisher, R: Threads
     requires width { plan.now.width ≡ run.old.floor.inboxes.width }
     requires none { run.old.tickets.items ≡ [] }
     requires unfailed { HasFailedAhead ahead.old → ⊥ }
-    requires runs { (e : Setting) × (told : Option Told) × (answered : Option (List Finding)) × (late : ℕ)
+    requires runs { (e : Setting) × (told : Option CrewTold) × (answered : Option (List Finding)) × (late : ℕ)
         × Runs C.out C.number C.holds C.gave C.exact C.jobs C.answers e told answered run.old crew.old start
         × IsGatheringAhead ahead.old run.old.floor.limits late []
         × (e.number ≡ day) × (e.history ≡ history_of (K.told keeper.old)) × IsAbreast (P.posted publisher.old) 0 }
@@ -56,7 +56,8 @@ pub fn run_plan<C: Crew, S: Source, K: Keeper, O: Sink, P: Publisher, R: Threads
     ensures crew { C.which crew.new ≡ C.which crew.old }
     ensures none { OnOk result (run.new.tickets.items ≡ []) }
     ensures ended { OnOk result (has_more ahead.new ≡ false) }
-    ensures done { IfOk result (λ n. (e : Setting) (told : Option Told) (answered : Option (List Finding)) (late : ℕ)
+    ensures done { IfOk result (λ n. (e : Setting) (told : Option CrewTold) (answered : Option (List Finding))
+        (late : ℕ)
         → Runs C.out C.number C.holds C.gave C.exact C.jobs C.answers e told answered run.old crew.old start
         → IsGatheringAhead ahead.old run.old.floor.limits late []
         → e.number ≡ day → e.history ≡ history_of (K.told keeper.old)
@@ -65,7 +66,7 @@ pub fn run_plan<C: Crew, S: Source, K: Keeper, O: Sink, P: Publisher, R: Threads
         × (now.settled ≡ length now.fed) × (n ≡ now.settled)
         × Runs C.out C.number C.holds C.gave C.exact C.jobs C.answers e told answered run.new crew.new now) }
     ensures halted { IfErr result (λ fault.
-        (e : Setting) (told : Option Told) (answered : Option (List Finding)) (late : ℕ)
+        (e : Setting) (told : Option CrewTold) (answered : Option (List Finding)) (late : ℕ)
         → Runs C.out C.number C.holds C.gave C.exact C.jobs C.answers e told answered run.old crew.old start
         → IsGatheringAhead ahead.old run.old.floor.limits late []
         → e.number ≡ day → e.history ≡ history_of (K.told keeper.old)

@@ -6,7 +6,7 @@ ghost use Rattle.road_io.specs.Plans.{NeverFails};
 ghost use Rattle.road_io.specs.Rooms.{Endless};
 ghost use Rattle.day_reading.specs.Ahead.{has_more, HasReadAhead, HasFailedAhead};
 ghost use Rattle.expressway.specs.declared.finding.Finding.{Finding};
-ghost use Rattle.partition_workers.specs.Told.{Told};
+ghost use Rattle.partition_workers.specs.Told.{CrewTold};
 ghost use Rattle.settling.specs.Answers.{history_of};
 ghost use Rattle.settling.specs.Boards.{IsAbreast};
 ghost use Rattle.watermark.specs.Shares.{State};
@@ -48,7 +48,7 @@ pub fn next_round<C: Crew, S: Source, K: Keeper, O: Sink, P: Publisher, R: Threa
     requires width { width ≡ run.old.floor.inboxes.width }
     requires none { run.old.tickets.items ≡ [] }
     requires unfailed { HasFailedAhead ahead.old → ⊥ }
-    requires runs { (e : Setting) × (told : Option Told) × (answered : Option (List Finding)) × (s : State)
+    requires runs { (e : Setting) × (told : Option CrewTold) × (answered : Option (List Finding)) × (s : State)
         × Runs C.out C.number C.holds C.gave C.exact C.jobs C.answers e told answered run.old crew.old s
         × CanFeedAll run.old.floor.limits s these.old.items
         × (e.number ≡ day) × (e.history ≡ history_of (K.told keeper.old))
@@ -58,7 +58,7 @@ pub fn next_round<C: Crew, S: Source, K: Keeper, O: Sink, P: Publisher, R: Threa
     ensures crew { C.which crew.new ≡ C.which crew.old }
     ensures none { OnOk result (run.new.tickets.items ≡ []) }
     ensures done { IfOk result (λ n.
-        (e : Setting) (told : Option Told) (answered : Option (List Finding)) (s : State)
+        (e : Setting) (told : Option CrewTold) (answered : Option (List Finding)) (s : State)
         → Runs C.out C.number C.holds C.gave C.exact C.jobs C.answers e told answered run.old crew.old s
         → CanFeedAll run.old.floor.limits s these.old.items
         → e.number ≡ day → e.history ≡ history_of (K.told keeper.old)
@@ -73,7 +73,7 @@ pub fn next_round<C: Crew, S: Source, K: Keeper, O: Sink, P: Publisher, R: Threa
     ensures few { OnOk result (length these.new.items ≤ run.old.floor.limits.backlog) }
     ensures ended { OnOk result (these.new.items ≡ [] → has_more ahead.new ≡ false) }
     ensures halted { IfErr result (λ fault.
-        (e : Setting) (told : Option Told) (answered : Option (List Finding)) (late : ℕ) (s : State)
+        (e : Setting) (told : Option CrewTold) (answered : Option (List Finding)) (late : ℕ) (s : State)
         → Runs C.out C.number C.holds C.gave C.exact C.jobs C.answers e told answered run.old crew.old s
         → CanFeedAll run.old.floor.limits s these.old.items
         → e.number ≡ day → e.history ≡ history_of (K.told keeper.old)

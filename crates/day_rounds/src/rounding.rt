@@ -9,7 +9,7 @@ ghost use Rattle.day_reading.specs.Ahead.{HasReadAhead, HasFailedAhead};
 ghost use Rattle.day_reading.specs.declared.whole_day.ReadStop.TheVariants.{ReadFault};
 ghost use Rattle.expressway.specs.Results.{AreFirst};
 ghost use Rattle.expressway.specs.declared.finding.Finding.{Finding};
-ghost use Rattle.partition_workers.specs.Told.{Told};
+ghost use Rattle.partition_workers.specs.Told.{CrewTold};
 ghost use Rattle.settling.specs.Answers.{history_of};
 ghost use Rattle.settling.specs.Boards.{IsAbreast};
 ghost use Rattle.settling.specs.Faults.{SinkFaults, KeeperFaults};
@@ -60,7 +60,7 @@ pub fn round<C: Crew, S: Source, K: Keeper, O: Sink, P: Publisher, R: Threads>(
     requires width { width ≡ run.old.floor.inboxes.width }
     requires none { run.old.tickets.items ≡ [] }
     requires unfailed { HasFailedAhead ahead.old → ⊥ }
-    requires runs { (e : Setting) × (told : Option Told) × (answered : Option (List Finding)) × (s : State)
+    requires runs { (e : Setting) × (told : Option CrewTold) × (answered : Option (List Finding)) × (s : State)
         × Runs C.out C.number C.holds C.gave C.exact C.jobs C.answers e told answered run.old crew.old s
         × CanFeedAll run.old.floor.limits s these.old.items
         × (e.number ≡ day) × (e.history ≡ history_of (K.told keeper.old))
@@ -69,7 +69,8 @@ pub fn round<C: Crew, S: Source, K: Keeper, O: Sink, P: Publisher, R: Threads>(
     ensures limits { run.new.floor.limits ≡ run.old.floor.limits }
     ensures crew { C.which crew.new ≡ C.which crew.old }
     ensures none { OnOk result (run.new.tickets.items ≡ []) }
-    ensures done { IfOk result (λ r. (e : Setting) (told : Option Told) (answered : Option (List Finding)) (s : State)
+    ensures done { IfOk result (λ r. (e : Setting) (told : Option CrewTold) (answered : Option (List Finding))
+        (s : State)
         → Runs C.out C.number C.holds C.gave C.exact C.jobs C.answers e told answered run.old crew.old s
         → CanFeedAll run.old.floor.limits s these.old.items
         → e.number ≡ day → e.history ≡ history_of (K.told keeper.old)
@@ -79,14 +80,15 @@ pub fn round<C: Crew, S: Source, K: Keeper, O: Sink, P: Publisher, R: Threads>(
         × (r.settled ≡ now.settled)
         × Runs C.out C.number C.holds C.gave C.exact C.jobs C.answers e told answered run.new crew.new now
         × IsAbreast (P.posted publisher.new) (sum_of (settled_charges now))) }
-    ensures stopped { OnErr result ((e : Setting) (told : Option Told) (answered : Option (List Finding)) (s : State)
+    ensures stopped { OnErr result ((e : Setting) (told : Option CrewTold) (answered : Option (List Finding))
+        (s : State)
         → Runs C.out C.number C.holds C.gave C.exact C.jobs C.answers e told answered run.old crew.old s
         → CanFeedAll run.old.floor.limits s these.old.items
         → (whole : List RoadTuple) → AreFirst (s.fed ++ these.old.items) whole
         → Stopped C.out C.number C.holds C.gave C.jobs told run.old.floor.inboxes.width run.old.floor.limits whole
         run.new crew.new) }
     ensures front { IfErr result (λ fault.
-        (e : Setting) (told : Option Told) (answered : Option (List Finding)) (s : State)
+        (e : Setting) (told : Option CrewTold) (answered : Option (List Finding)) (s : State)
         → Runs C.out C.number C.holds C.gave C.exact C.jobs C.answers e told answered run.old crew.old s
         → CanFeedAll run.old.floor.limits s these.old.items
         → e.number ≡ day → e.history ≡ history_of (K.told keeper.old) → C.exact ≡ true

@@ -7,7 +7,7 @@ ghost use Rattle.day_reading.specs.Ahead.{HasReadAhead, HasFailedAhead};
 ghost use Rattle.day_reading.specs.declared.whole_day.ReadStop.TheVariants.{ReadFault};
 ghost use Rattle.expressway.specs.Results.{AreFirst};
 ghost use Rattle.expressway.specs.declared.finding.Finding.{Finding};
-ghost use Rattle.partition_workers.specs.Told.{Told};
+ghost use Rattle.partition_workers.specs.Told.{CrewTold};
 ghost use Rattle.watermark.specs.Shares.{State};
 ghost use Rattle.watermark.specs.Floors.{Setting, StandsFor};
 ghost use Rattle.day_rounds.specs.Readers.{HasReadOn};
@@ -46,16 +46,17 @@ pub fn give_all<C: Crew>(
     width: u8,
 ) -> Result<(), NoMemory>
     requires width { width ≡ run.old.floor.inboxes.width }
-    requires runs { (e : Setting) × (told : Option Told) × (answered : Option (List Finding)) × (s : State)
+    requires runs { (e : Setting) × (told : Option CrewTold) × (answered : Option (List Finding)) × (s : State)
         × Runs C.out C.number C.holds C.gave C.exact C.jobs C.answers e told answered run.old crew.old s }
     ensures width { run.new.floor.inboxes.width ≡ run.old.floor.inboxes.width }
     ensures limits { run.new.floor.limits ≡ run.old.floor.limits }
     ensures which { C.which crew.new ≡ C.which crew.old }
-    ensures given { OnOk result ((e : Setting) (told : Option Told) (answered : Option (List Finding)) (s : State)
+    ensures given { OnOk result ((e : Setting) (told : Option CrewTold) (answered : Option (List Finding)) (s : State)
         → Runs C.out C.number C.holds C.gave C.exact C.jobs C.answers e told answered run.old crew.old s
         → Runs C.out C.number C.holds C.gave C.exact C.jobs C.answers e told answered run.new crew.new
         (given_all s width)) }
-    ensures refused { OnErr result ((e : Setting) (told : Option Told) (answered : Option (List Finding)) (s : State)
+    ensures refused { OnErr result ((e : Setting) (told : Option CrewTold) (answered : Option (List Finding))
+        (s : State)
         → Runs C.out C.number C.holds C.gave C.exact C.jobs C.answers e told answered run.old crew.old s
         → (n : ℕ) × Runs C.out C.number C.holds C.gave C.exact C.jobs C.answers e told answered run.new crew.new
         (given_all s n)) }
@@ -68,17 +69,18 @@ pub fn give_all<C: Crew>(
 
 /// Finishes all jobs that are out, in the order of their starts. After a refusal the floor serves no more.
 pub fn finish_firsts<C: Crew>(run: &mut Import<C::Ticket>, crew: &mut C) -> Result<(), NoMemory>
-    requires runs { (e : Setting) × (told : Option Told) × (answered : Option (List Finding)) × (s : State)
+    requires runs { (e : Setting) × (told : Option CrewTold) × (answered : Option (List Finding)) × (s : State)
         × Runs C.out C.number C.holds C.gave C.exact C.jobs C.answers e told answered run.old crew.old s }
     ensures width { run.new.floor.inboxes.width ≡ run.old.floor.inboxes.width }
     ensures limits { run.new.floor.limits ≡ run.old.floor.limits }
     ensures which { C.which crew.new ≡ C.which crew.old }
     ensures none { OnOk result (run.new.tickets.items ≡ []) }
-    ensures came { OnOk result ((e : Setting) (told : Option Told) (answered : Option (List Finding)) (s : State)
+    ensures came { OnOk result ((e : Setting) (told : Option CrewTold) (answered : Option (List Finding)) (s : State)
         → Runs C.out C.number C.holds C.gave C.exact C.jobs C.answers e told answered run.old crew.old s
         → (now : State) × IsLater s now × Runs C.out C.number C.holds C.gave C.exact C.jobs C.answers e told answered
         run.new crew.new now) }
-    ensures stopped { OnErr result ((e : Setting) (told : Option Told) (answered : Option (List Finding)) (s : State)
+    ensures stopped { OnErr result ((e : Setting) (told : Option CrewTold) (answered : Option (List Finding))
+        (s : State)
         → Runs C.out C.number C.holds C.gave C.exact C.jobs C.answers e told answered run.old crew.old s
         → (day : List RoadTuple) → AreFirst s.fed day
         → Stopped C.out C.number C.holds C.gave C.jobs told run.old.floor.inboxes.width run.old.floor.limits day run.new
@@ -104,7 +106,7 @@ pub fn work_round<C: Crew, S: Source, R: Threads>(
     these: &mut Vec<Tuple>,
 ) -> Result<Option<ReadStop>, NoMemory>
     requires width { width ≡ run.old.floor.inboxes.width }
-    requires runs { (e : Setting) × (told : Option Told) × (answered : Option (List Finding)) × (s : State)
+    requires runs { (e : Setting) × (told : Option CrewTold) × (answered : Option (List Finding)) × (s : State)
         × Runs C.out C.number C.holds C.gave C.exact C.jobs C.answers e told answered run.old crew.old s
         × CanFeedAll run.old.floor.limits s these.old.items }
     requires none { run.old.tickets.items ≡ [] }
@@ -113,12 +115,13 @@ pub fn work_round<C: Crew, S: Source, R: Threads>(
     ensures limits { run.new.floor.limits ≡ run.old.floor.limits }
     ensures which { C.which crew.new ≡ C.which crew.old }
     ensures none { OnOk result (run.new.tickets.items ≡ []) }
-    ensures done { OnOk result ((e : Setting) (told : Option Told) (answered : Option (List Finding)) (s : State)
+    ensures done { OnOk result ((e : Setting) (told : Option CrewTold) (answered : Option (List Finding)) (s : State)
         → Runs C.out C.number C.holds C.gave C.exact C.jobs C.answers e told answered run.old crew.old s
         → CanFeedAll run.old.floor.limits s these.old.items
         → (now : State) × IsDone run.old.floor.inboxes.width s these.old.items now
         × Runs C.out C.number C.holds C.gave C.exact C.jobs C.answers e told answered run.new crew.new now) }
-    ensures stopped { OnErr result ((e : Setting) (told : Option Told) (answered : Option (List Finding)) (s : State)
+    ensures stopped { OnErr result ((e : Setting) (told : Option CrewTold) (answered : Option (List Finding))
+        (s : State)
         → Runs C.out C.number C.holds C.gave C.exact C.jobs C.answers e told answered run.old crew.old s
         → CanFeedAll run.old.floor.limits s these.old.items
         → (day : List RoadTuple) → AreFirst (s.fed ++ these.old.items) day

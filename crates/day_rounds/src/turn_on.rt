@@ -6,7 +6,7 @@ ghost use Rattle.road_io.specs.Plans.{NeverFails};
 ghost use Rattle.road_io.specs.Rooms.{Endless};
 ghost use Rattle.day_reading.specs.Ahead.{has_more, IsGatheringAhead, HasReadAhead, HasFailedAhead};
 ghost use Rattle.expressway.specs.declared.finding.Finding.{Finding};
-ghost use Rattle.partition_workers.specs.Told.{Told};
+ghost use Rattle.partition_workers.specs.Told.{CrewTold};
 ghost use Rattle.settling.specs.Answers.{history_of};
 ghost use Rattle.settling.specs.Boards.{IsAbreast};
 ghost use Rattle.draws.specs.Draws.{drawn};
@@ -67,7 +67,8 @@ pub fn next_turn<C: Crew, S: Source, K: Keeper, O: Sink, P: Publisher, R: Thread
 ) -> Result<u64, DayFault>
     requires width { width ≡ run.old.floor.inboxes.width }
     requires unfailed { HasFailedAhead ahead.old → ⊥ }
-    requires runs { (e : Setting) × (told : Option Told) × (answered : Option (List Finding)) × (late : ℕ) × (s : State)
+    requires runs { (e : Setting) × (told : Option CrewTold) × (answered : Option (List Finding)) × (late : ℕ) ×
+        (s : State)
         × Runs C.out C.number C.holds C.gave C.exact C.jobs C.answers e told answered run.old crew.old s
         × IsGatheringAhead ahead.old run.old.floor.limits late s.fed
         × (e.number ≡ day) × (e.history ≡ history_of (K.told keeper.old))
@@ -76,7 +77,7 @@ pub fn next_turn<C: Crew, S: Source, K: Keeper, O: Sink, P: Publisher, R: Thread
     ensures limits { run.new.floor.limits ≡ run.old.floor.limits }
     ensures crew { C.which crew.new ≡ C.which crew.old }
     ensures done { IfOk result (λ n.
-        (e : Setting) (told : Option Told) (answered : Option (List Finding)) (late : ℕ) (s : State)
+        (e : Setting) (told : Option CrewTold) (answered : Option (List Finding)) (late : ℕ) (s : State)
         → Runs C.out C.number C.holds C.gave C.exact C.jobs C.answers e told answered run.old crew.old s
         → IsGatheringAhead ahead.old run.old.floor.limits late s.fed
         → e.number ≡ day → e.history ≡ history_of (K.told keeper.old)
@@ -89,7 +90,7 @@ pub fn next_turn<C: Crew, S: Source, K: Keeper, O: Sink, P: Publisher, R: Thread
         × IsAbreast (P.posted publisher.new) (sum_of (settled_charges now))
         × (s.settled ≡ length s.fed → has_more ahead.old ≡ true → 1 ≤ length xs)) }
     ensures halted { IfErr result (λ fault.
-        (e : Setting) (told : Option Told) (answered : Option (List Finding)) (late : ℕ) (s : State)
+        (e : Setting) (told : Option CrewTold) (answered : Option (List Finding)) (late : ℕ) (s : State)
         → Runs C.out C.number C.holds C.gave C.exact C.jobs C.answers e told answered run.old crew.old s
         → IsGatheringAhead ahead.old run.old.floor.limits late s.fed
         → e.number ≡ day → e.history ≡ history_of (K.told keeper.old)

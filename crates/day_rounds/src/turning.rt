@@ -4,7 +4,7 @@ ghost use Rattle.road_time.specs.declared.road.Tuple.{Tuple as RoadTuple};
 ghost use Rattle.draws.specs.Draws.{drawn, after_draws};
 ghost use Rattle.expressway.specs.Results.{AreFirst};
 ghost use Rattle.expressway.specs.declared.finding.Finding.{Finding};
-ghost use Rattle.partition_workers.specs.Told.{Told};
+ghost use Rattle.partition_workers.specs.Told.{CrewTold};
 ghost use Rattle.watermark.specs.Shares.{State, mark};
 ghost use Rattle.watermark.specs.Floors.{Setting};
 ghost use Rattle.day_rounds.specs.Runs.{Runs, Stopped};
@@ -35,12 +35,12 @@ pub fn give_drawn<C: Crew>(
     rng: &mut Lcg64Xsh32,
 ) -> Result<(), NoMemory>
     requires width { width ≡ run.old.floor.inboxes.width }
-    requires runs { (e : Setting) × (told : Option Told) × (answered : Option (List Finding)) × (s : State)
+    requires runs { (e : Setting) × (told : Option CrewTold) × (answered : Option (List Finding)) × (s : State)
         × Runs C.out C.number C.holds C.gave C.exact C.jobs C.answers e told answered run.old crew.old s }
     ensures width { run.new.floor.inboxes.width ≡ run.old.floor.inboxes.width }
     ensures limits { run.new.floor.limits ≡ run.old.floor.limits }
     ensures which { C.which crew.new ≡ C.which crew.old }
-    ensures given { (e : Setting) (told : Option Told) (answered : Option (List Finding)) (s : State)
+    ensures given { (e : Setting) (told : Option CrewTold) (answered : Option (List Finding)) (s : State)
         → Runs C.out C.number C.holds C.gave C.exact C.jobs C.answers e told answered run.old crew.old s
         → (now : State) × (k : ℕ) × IsGiven run.old.floor.inboxes.width k s now
         × Runs C.out C.number C.holds C.gave C.exact C.jobs C.answers e told answered run.new crew.new now }
@@ -60,18 +60,19 @@ fn give_if_none<C: Crew>(
     worker: u8,
 ) -> Result<(), NoMemory>
     requires within { worker < run.old.floor.inboxes.width }
-    requires runs { (e : Setting) × (told : Option Told) × (answered : Option (List Finding)) × (s : State)
+    requires runs { (e : Setting) × (told : Option CrewTold) × (answered : Option (List Finding)) × (s : State)
         × Runs C.out C.number C.holds C.gave C.exact C.jobs C.answers e told answered run.old crew.old s }
     ensures width { run.new.floor.inboxes.width ≡ run.old.floor.inboxes.width }
     ensures limits { run.new.floor.limits ≡ run.old.floor.limits }
     ensures which { C.which crew.new ≡ C.which crew.old }
-    ensures given { OnOk result ((e : Setting) (told : Option Told) (answered : Option (List Finding)) (s : State)
+    ensures given { OnOk result ((e : Setting) (told : Option CrewTold) (answered : Option (List Finding)) (s : State)
         → Runs C.out C.number C.holds C.gave C.exact C.jobs C.answers e told answered run.old crew.old s
         → (now : State) × (k : ℕ) × IsGiven run.old.floor.inboxes.width k s now
         × Runs C.out C.number C.holds C.gave C.exact C.jobs C.answers e told answered run.new crew.new now
         × (((run.old.tickets.items ≡ []) → (v : ℕ) → v < worker → (s.share v).waiting ≡ []) → run.new.tickets.items ≡ []
         → (v : ℕ) → v < worker + 1 → (now.share v).waiting ≡ [])) }
-    ensures refused { OnErr result ((e : Setting) (told : Option Told) (answered : Option (List Finding)) (s : State)
+    ensures refused { OnErr result ((e : Setting) (told : Option CrewTold) (answered : Option (List Finding))
+        (s : State)
         → Runs C.out C.number C.holds C.gave C.exact C.jobs C.answers e told answered run.old crew.old s
         → Runs C.out C.number C.holds C.gave C.exact C.jobs C.answers e told answered run.new crew.new s) }
 {
@@ -88,17 +89,18 @@ pub fn give_least<C: Crew>(
     width: u8,
 ) -> Result<(), NoMemory>
     requires width { width ≡ run.old.floor.inboxes.width }
-    requires runs { (e : Setting) × (told : Option Told) × (answered : Option (List Finding)) × (s : State)
+    requires runs { (e : Setting) × (told : Option CrewTold) × (answered : Option (List Finding)) × (s : State)
         × Runs C.out C.number C.holds C.gave C.exact C.jobs C.answers e told answered run.old crew.old s }
     ensures width { run.new.floor.inboxes.width ≡ run.old.floor.inboxes.width }
     ensures limits { run.new.floor.limits ≡ run.old.floor.limits }
     ensures which { C.which crew.new ≡ C.which crew.old }
-    ensures given { OnOk result ((e : Setting) (told : Option Told) (answered : Option (List Finding)) (s : State)
+    ensures given { OnOk result ((e : Setting) (told : Option CrewTold) (answered : Option (List Finding)) (s : State)
         → Runs C.out C.number C.holds C.gave C.exact C.jobs C.answers e told answered run.old crew.old s
         → (now : State) × (k : ℕ) × IsGiven run.old.floor.inboxes.width k s now
         × Runs C.out C.number C.holds C.gave C.exact C.jobs C.answers e told answered run.new crew.new now
         × (run.new.tickets.items ≡ [] → (worker : ℕ) → worker < width → (now.share worker).waiting ≡ [])) }
-    ensures refused { OnErr result ((e : Setting) (told : Option Told) (answered : Option (List Finding)) (s : State)
+    ensures refused { OnErr result ((e : Setting) (told : Option CrewTold) (answered : Option (List Finding))
+        (s : State)
         → Runs C.out C.number C.holds C.gave C.exact C.jobs C.answers e told answered run.old crew.old s
         → (now : State) × (k : ℕ) × IsGiven run.old.floor.inboxes.width k s now
         × Runs C.out C.number C.holds C.gave C.exact C.jobs C.answers e told answered run.new crew.new now) }
@@ -115,19 +117,20 @@ pub fn finish_drawn<C: Crew>(
     crew: &mut C,
     rng: &mut Lcg64Xsh32,
 ) -> Result<(), NoMemory>
-    requires runs { (e : Setting) × (told : Option Told) × (answered : Option (List Finding)) × (s : State)
+    requires runs { (e : Setting) × (told : Option CrewTold) × (answered : Option (List Finding)) × (s : State)
         × Runs C.out C.number C.holds C.gave C.exact C.jobs C.answers e told answered run.old crew.old s }
     ensures width { run.new.floor.inboxes.width ≡ run.old.floor.inboxes.width }
     ensures limits { run.new.floor.limits ≡ run.old.floor.limits }
     ensures which { C.which crew.new ≡ C.which crew.old }
-    ensures came { OnOk result ((e : Setting) (told : Option Told) (answered : Option (List Finding)) (s : State)
+    ensures came { OnOk result ((e : Setting) (told : Option CrewTold) (answered : Option (List Finding)) (s : State)
         → Runs C.out C.number C.holds C.gave C.exact C.jobs C.answers e told answered run.old crew.old s
         → (now : State) × (k : ℕ) × IsMoved run.old.floor.inboxes.width k s now
         × (length run.new.tickets.items + k ≡ length run.old.tickets.items)
         × Runs C.out C.number C.holds C.gave C.exact C.jobs C.answers e told answered run.new crew.new now) }
     ensures some { OnOk result (1 ≤ length run.old.tickets.items
         → length run.new.tickets.items + 1 ≤ length run.old.tickets.items) }
-    ensures stopped { OnErr result ((e : Setting) (told : Option Told) (answered : Option (List Finding)) (s : State)
+    ensures stopped { OnErr result ((e : Setting) (told : Option CrewTold) (answered : Option (List Finding))
+        (s : State)
         → Runs C.out C.number C.holds C.gave C.exact C.jobs C.answers e told answered run.old crew.old s
         → (day : List RoadTuple) → AreFirst s.fed day
         → Stopped C.out C.number C.holds C.gave C.jobs told run.old.floor.inboxes.width run.old.floor.limits day run.new
@@ -159,17 +162,18 @@ pub fn work_turn<C: Crew>(
     rng: &mut Lcg64Xsh32,
 ) -> Result<(), NoMemory>
     requires width { width ≡ run.old.floor.inboxes.width }
-    requires runs { (e : Setting) × (told : Option Told) × (answered : Option (List Finding)) × (s : State)
+    requires runs { (e : Setting) × (told : Option CrewTold) × (answered : Option (List Finding)) × (s : State)
         × Runs C.out C.number C.holds C.gave C.exact C.jobs C.answers e told answered run.old crew.old s }
     ensures width { run.new.floor.inboxes.width ≡ run.old.floor.inboxes.width }
     ensures limits { run.new.floor.limits ≡ run.old.floor.limits }
     ensures which { C.which crew.new ≡ C.which crew.old }
-    ensures worked { OnOk result ((e : Setting) (told : Option Told) (answered : Option (List Finding)) (s : State)
+    ensures worked { OnOk result ((e : Setting) (told : Option CrewTold) (answered : Option (List Finding)) (s : State)
         → Runs C.out C.number C.holds C.gave C.exact C.jobs C.answers e told answered run.old crew.old s
         → (now : State) × (k : ℕ) × IsMoved run.old.floor.inboxes.width k s now
         × Runs C.out C.number C.holds C.gave C.exact C.jobs C.answers e told answered run.new crew.new now
         × (k ≡ 0 → mark run.old.floor.inboxes.width s ≡ length s.fed)) }
-    ensures stopped { OnErr result ((e : Setting) (told : Option Told) (answered : Option (List Finding)) (s : State)
+    ensures stopped { OnErr result ((e : Setting) (told : Option CrewTold) (answered : Option (List Finding))
+        (s : State)
         → Runs C.out C.number C.holds C.gave C.exact C.jobs C.answers e told answered run.old crew.old s
         → (day : List RoadTuple) → AreFirst s.fed day
         → Stopped C.out C.number C.holds C.gave C.jobs told run.old.floor.inboxes.width run.old.floor.limits day run.new

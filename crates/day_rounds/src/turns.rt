@@ -5,7 +5,7 @@ ghost use Rattle.road_time.specs.declared.road.Tuple.{Tuple as RoadTuple};
 ghost use Rattle.road_time.specs.Day.{sum_of};
 ghost use Rattle.expressway.specs.Results.{AreFirst};
 ghost use Rattle.expressway.specs.declared.finding.Finding.{Finding};
-ghost use Rattle.partition_workers.specs.Told.{Told};
+ghost use Rattle.partition_workers.specs.Told.{CrewTold};
 ghost use Rattle.settling.specs.Answers.{history_of};
 ghost use Rattle.settling.specs.Boards.{IsAbreast};
 ghost use Rattle.settling.specs.Faults.{SinkFaults, KeeperFaults};
@@ -38,13 +38,13 @@ pub fn feed_turn<C: Crew>(
     rng: &mut Lcg64Xsh32,
 ) -> Result<(), NoMemory>
     requires width { width ≡ run.old.floor.inboxes.width }
-    requires runs { (e : Setting) × (told : Option Told) × (answered : Option (List Finding)) × (s : State)
+    requires runs { (e : Setting) × (told : Option CrewTold) × (answered : Option (List Finding)) × (s : State)
         × Runs C.out C.number C.holds C.gave C.exact C.jobs C.answers e told answered run.old crew.old s
         × CanFeedAll run.old.floor.limits s these.now }
     ensures width { run.new.floor.inboxes.width ≡ run.old.floor.inboxes.width }
     ensures limits { run.new.floor.limits ≡ run.old.floor.limits }
     ensures which { C.which crew.new ≡ C.which crew.old }
-    ensures worked { OnOk result ((e : Setting) (told : Option Told) (answered : Option (List Finding)) (s : State)
+    ensures worked { OnOk result ((e : Setting) (told : Option CrewTold) (answered : Option (List Finding)) (s : State)
         → Runs C.out C.number C.holds C.gave C.exact C.jobs C.answers e told answered run.old crew.old s
         → CanFeedAll run.old.floor.limits s these.now
         → (now : State) × (k : ℕ)
@@ -53,7 +53,8 @@ pub fn feed_turn<C: Crew>(
         × (k ≡ 0
         → mark run.old.floor.inboxes.width (fed_all run.old.floor.inboxes.width s these.now)
         ≡ length (fed_all run.old.floor.inboxes.width s these.now).fed)) }
-    ensures stopped { OnErr result ((e : Setting) (told : Option Told) (answered : Option (List Finding)) (s : State)
+    ensures stopped { OnErr result ((e : Setting) (told : Option CrewTold) (answered : Option (List Finding))
+        (s : State)
         → Runs C.out C.number C.holds C.gave C.exact C.jobs C.answers e told answered run.old crew.old s
         → CanFeedAll run.old.floor.limits s these.now
         → (whole : List RoadTuple) → AreFirst (s.fed ++ these.now) whole
@@ -78,7 +79,7 @@ pub fn turn<C: Crew, K: Keeper, O: Sink, P: Publisher>(
     publisher: &mut P,
 ) -> Result<u64, SettleFault>
     requires width { width ≡ run.old.floor.inboxes.width }
-    requires runs { (e : Setting) × (told : Option Told) × (answered : Option (List Finding)) × (s : State)
+    requires runs { (e : Setting) × (told : Option CrewTold) × (answered : Option (List Finding)) × (s : State)
         × Runs C.out C.number C.holds C.gave C.exact C.jobs C.answers e told answered run.old crew.old s
         × CanFeedAll run.old.floor.limits s these.now
         × (e.number ≡ day) × (e.history ≡ history_of (K.told keeper.old))
@@ -86,7 +87,8 @@ pub fn turn<C: Crew, K: Keeper, O: Sink, P: Publisher>(
     ensures width { run.new.floor.inboxes.width ≡ run.old.floor.inboxes.width }
     ensures limits { run.new.floor.limits ≡ run.old.floor.limits }
     ensures crew { C.which crew.new ≡ C.which crew.old }
-    ensures done { IfOk result (λ n. (e : Setting) (told : Option Told) (answered : Option (List Finding)) (s : State)
+    ensures done { IfOk result (λ n. (e : Setting) (told : Option CrewTold) (answered : Option (List Finding))
+        (s : State)
         → Runs C.out C.number C.holds C.gave C.exact C.jobs C.answers e told answered run.old crew.old s
         → CanFeedAll run.old.floor.limits s these.now
         → e.number ≡ day → e.history ≡ history_of (K.told keeper.old)
@@ -96,14 +98,15 @@ pub fn turn<C: Crew, K: Keeper, O: Sink, P: Publisher>(
         × (n ≡ now.settled) × Runs C.out C.number C.holds C.gave C.exact C.jobs C.answers e told answered run.new
         crew.new now
         × IsAbreast (P.posted publisher.new) (sum_of (settled_charges now))) }
-    ensures stopped { OnErr result ((e : Setting) (told : Option Told) (answered : Option (List Finding)) (s : State)
+    ensures stopped { OnErr result ((e : Setting) (told : Option CrewTold) (answered : Option (List Finding))
+        (s : State)
         → Runs C.out C.number C.holds C.gave C.exact C.jobs C.answers e told answered run.old crew.old s
         → CanFeedAll run.old.floor.limits s these.now
         → (whole : List RoadTuple) → AreFirst (s.fed ++ these.now) whole
         → Stopped C.out C.number C.holds C.gave C.jobs told run.old.floor.inboxes.width run.old.floor.limits whole
         run.new crew.new) }
     ensures front { IfErr result (λ fault.
-        (e : Setting) (told : Option Told) (answered : Option (List Finding)) (s : State)
+        (e : Setting) (told : Option CrewTold) (answered : Option (List Finding)) (s : State)
         → Runs C.out C.number C.holds C.gave C.exact C.jobs C.answers e told answered run.old crew.old s
         → CanFeedAll run.old.floor.limits s these.now
         → e.number ≡ day → e.history ≡ history_of (K.told keeper.old) → C.exact ≡ true

@@ -1,11 +1,11 @@
 use Rattle.std.specs.Prelude.{ℕ, List, ◌≡◌, ◌++◌}
 use Rattle.keeper.specs.Digests.{Took}
-use Rattle.digest_beside.specs.declared.held.Held.{Held}
-use Rattle.digest_beside.specs.declared.held.Held.TheVariants.{Here, There}
+use Rattle.digest_beside.specs.declared.held.HeldDigest.{HeldDigest}
+use Rattle.digest_beside.specs.declared.held.HeldDigest.TheVariants.{Here, There}
 use Rattle.digest_beside.specs.declared.beside_digester.BesideDigester.{BesideDigester}
 
 -- the digester that comes back took these bytes, or a thread promised that it will
-abbrev pub WillHold : Held → List ℕ → Type 0
+abbrev pub WillHold : HeldDigest → List ℕ → Type 0
 WillHold (Here back) bytes = Took back.digester bytes
 WillHold (There child) bytes =
     (before : List ℕ) × Took child.promise.before.value before × (bytes ≡ before ++ child.promise.piece.value.items)

@@ -3,7 +3,7 @@ ghost use Rattle.std.specs.Prelude.{◌≡◌, ◌++◌, [], ℕ, List};
 ghost use Rattle.keeper.specs.Digests.{Took, digest_of};
 ghost use Rattle.digest_beside.specs.Beside.{WillHold, TookBeside};
 
-use crate::held::{Back, Held, begin, end};
+use crate::held::{Back, HeldDigest, begin, end};
 use keeper::{Digest, Digester};
 use std::alloc::Global;
 use std::mem;
@@ -12,7 +12,7 @@ use std::thread::Threads;
 /// Takes the digest of bytes that come in pieces, a chunk at a time in a thread.
 #[derive(Drop)]
 pub struct BesideDigester {
-    held: Held,
+    held: HeldDigest,
     waiting: Vec<u8>,
     chunk: usize,
     alloc: Global,
@@ -24,7 +24,7 @@ impl BesideDigester {
         ensures { TookBeside result [] }
     {
         BesideDigester {
-            held: Held::Here(Back {
+            held: HeldDigest::Here(Back {
                 digester: Digester::new(),
                 chunk: Vec::new(alloc),
             }),
@@ -39,7 +39,7 @@ impl BesideDigester {
         ensures took { (bytes : List ℕ) → WillHold self.old.held bytes → Took result.digester bytes }
         ensures waiting { self.new.waiting ≡ self.old.waiting }
     {
-        let fresh = Held::Here(Back {
+        let fresh = HeldDigest::Here(Back {
             digester: Digester::new(),
             chunk: Vec::new(self.alloc),
         });
@@ -74,7 +74,7 @@ impl BesideDigester {
         back.digester.add(&self.waiting);
         back.digester.add(piece);
         self.waiting.clear();
-        self.held = Held::Here(back);
+        self.held = HeldDigest::Here(back);
     }
 
     /// Takes a further piece.

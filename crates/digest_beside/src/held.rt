@@ -17,12 +17,12 @@ pub struct Back {
 
 /// The promise that a digester takes this piece.
 #[derive(Drop)]
-pub struct Takes {
+pub struct DigestsPiece {
     pub before: Snapshot<Digester>,
     pub piece: Snapshot<Vec<u8>>,
 }
 
-impl Promise<Back> for Takes {
+impl Promise<Back> for DigestsPiece {
     ghost use Rattle.std.specs.Prelude.{◌++◌, ℕ, List};
     ghost use Rattle.keeper.specs.Digests.{Took};
 
@@ -32,9 +32,9 @@ impl Promise<Back> for Takes {
 
 /// A digester that is here, or the thread that has it.
 #[derive(Drop)]
-pub enum Held {
+pub enum HeldDigest {
     Here(Back),
-    There(PromisedHandle<Back, Takes>),
+    There(PromisedHandle<Back, DigestsPiece>),
 }
 
 /// The digester takes the chunk.
@@ -47,10 +47,10 @@ fn take(digester: Digester, chunk: Vec<u8>) -> Back
 }
 
 /// A thread takes the chunk, or the caller does where no thread can be had.
-pub fn begin<R: Threads>(rt: &R, digester: Digester, chunk: Vec<u8>) -> Held
+pub fn begin<R: Threads>(rt: &R, digester: Digester, chunk: Vec<u8>) -> HeldDigest
     ensures { (bytes : List ℕ) → Took digester bytes → WillHold result (bytes ++ chunk.items) }
 {
-    let promise = Takes {
+    let promise = DigestsPiece {
         before: Snapshot::of(&digester),
         piece: Snapshot::of(&chunk),
     };
@@ -61,17 +61,17 @@ pub fn begin<R: Threads>(rt: &R, digester: Digester, chunk: Vec<u8>) -> Held
             ensures { (bytes : List ℕ) → Took digester bytes → Took result.digester (bytes ++ chunk.items) }
         { take(digester, chunk) },
     ) {
-        Ok(child) => Held::There(child),
-        Err(refused) => Held::Here((refused.value)()),
+        Ok(child) => HeldDigest::There(child),
+        Err(refused) => HeldDigest::Here((refused.value)()),
     }
 }
 
 /// The digester, once its thread is done.
-pub fn end<R: Threads>(rt: &R, held: Held) -> Back
+pub fn end<R: Threads>(rt: &R, held: HeldDigest) -> Back
     ensures { (bytes : List ℕ) → WillHold held bytes → Took result.digester bytes }
 {
     match held {
-        Held::Here(back) => back,
-        Held::There(child) => child.join(rt),
+        HeldDigest::Here(back) => back,
+        HeldDigest::There(child) => child.join(rt),
     }
 }

@@ -25,12 +25,12 @@ use Rattle.expressway.specs.Ready.{IsReady}
 use Rattle.expressway.specs.Results.{IsResultOf}
 use Rattle.expressway.proofs.ShapeLaws.{shaped}
 use Rattle.watermark.specs.declared.floor.Floor.{Floor}
-use Rattle.watermark.specs.Shares.{State, ahead, ahead_of, can_give, mark}
+use Rattle.watermark.specs.Shares.{State, events_ahead, ahead_of, can_give, mark}
 use Rattle.watermark.specs.Steps.{given_out, taken_back, after_give, after_back}
 use Rattle.watermark.specs.Sound.{IsSound, IsTrue}
 use Rattle.watermark.specs.Jobs.{IsNext, MayComeBack}
 use Rattle.watermark.specs.Floors.{Setting, StandsFor, Serves, Writes}
-use Rattle.watermark.proofs.Jobs.{next_ready, goes_out, some_out, comes_back}
+use Rattle.watermark.proofs.Jobs.{next_ready, goes_out, some_out, comes_back, ok_is}
 use Rattle.watermark.proofs.Workers.{at_own, at_other}
 use Rattle.watermark.proofs.Marks.{all_back}
 use Rattle.watermark.proofs.Truths.{exact_notices, true_give, true_back}
@@ -40,10 +40,6 @@ use Rattle.example_floor.specs.Turns.{after_run, after_runs, AllHome, AreAnswere
 pub well : {T E : Type 0} (r : Result T E) → is_err r ≡ false → IsOk r
 well (Ok x) e = refl
 well (Err x) e = cc
-
-pub ok_is : {T E P : Type 0} (r : Result T E) → IsOk r → OnOk r P → P
-ok_is (Ok x) h p = p
-ok_is (Err e) h p = cc
 
 module _ (e : Setting) (f g : Floor) (s : State) (worker : ℕ) (job : Job) (st : StandsFor e f s)
     (next : IsNext e.tariffs s worker job) (within : worker < f.inboxes.width) where
@@ -154,7 +150,8 @@ runs_back tariffs s (suc n) home w k =
     ⊎_elim
     (λ e. ap (λ v. ahead_of (after_run tariffs t n) v) e
     ∙ run_own (can_give (t.share n)) tariffs t n refl (runs_home tariffs s n home n))
-    (λ ne. ap ahead (run_other (can_give (t.share n)) tariffs t n w ne) ∙ runs_back tariffs s n home w (below w n k ne))
+    (λ ne. ap events_ahead (run_other (can_give (t.share n)) tariffs t n w ne) ∙ runs_back tariffs s n home w
+    (below w n k ne))
     (cases_eq w n)
   where
     below : (a b : ℕ) → a < suc b → (a ≡ b → ⊥) → a < b
@@ -229,11 +226,6 @@ answered tariffs width limits s some home sound are =
           (λ (d : List Tuple). merged (take n d) t.found number kept ≡ notices (take n d) tariffs number kept) same
           (exact_notices width limits t some sound n (omega (arith, all, le)) tariffs are number kept);
     }
-
--- what is said of an answer follows from what is said of it
-pub if_one : {T E : Type 0} {P R : T → Type 0} (r : Result T E) → ((x : T) → P x → R x) → IfOk r P → IfOk r R
-if_one (Ok x) h p = h x p
-if_one (Err e) h p = tt
 
 -- what follows where a call went well
 pub on_ok : {T E P R : Type 0} (r : Result T E) → (P → R) → OnOk r P → OnOk r R

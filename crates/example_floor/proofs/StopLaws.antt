@@ -11,30 +11,31 @@ use Rattle.road_time.specs.Day.{given, notices, merged}
 use Rattle.road_time.specs.Text.{out}
 use Rattle.settling.specs.declared.fault.SettleFault.{SettleFault}
 use Rattle.settling.specs.declared.fault.SettleFault.TheVariants.{KeeperFault, WriteFault, NoMemory}
-use Rattle.settling.specs.Answers.{History, AreNotices}
+use Rattle.settling.specs.Answers.{PaidHistory, AreNotices}
 use Rattle.settling.specs.Levels.{Level, AddsFront, AddsPieces, FillsUp, Adds}
-use Rattle.settling.specs.Asking.{Plan, asked}
+use Rattle.settling.specs.Asking.{AskingPlan, requests_of}
 use Rattle.settling.specs.Runs.{TakesRun, StopsRun}
 use Rattle.settling.proofs.AnswerLaws.{notices_exact}
 use Rattle.settling.proofs.AskLaws.{passes_none, up_to_all}
 use Rattle.settling.proofs.LevelLaws.{front_whole}
 use Rattle.watermark.specs.Shares.{State, mark}
-use Rattle.watermark.specs.Floors.{Setting, Takes, Stops}
+use Rattle.watermark.specs.Floors.{Setting, TakesSettled, StopsSettling}
 use Rattle.example_floor.specs.Turns.{AreAnswered}
 use Rattle.example_floor.specs.Stops.{TakesDay, StopsDay}
 
 -- nothing was written yet
-pub not_begun : (day : List Tuple) (tariffs : Tariffs) (number : ℕ) (kept : ℕ → ℕ → ℕ → ℕ) (w : Level) (plan : Plan) →
+pub not_begun : (day : List Tuple) (tariffs : Tariffs) (number : ℕ) (kept : ℕ → ℕ → ℕ → ℕ) (w : Level)
+    (plan : AskingPlan) →
     StopsDay NoMemory day tariffs number kept w w plan plan
 not_begun day tariffs number kept w plan =
     ((0, omega arith, appends_none w.0, takes_none w.1), (0, omega arith, passes_none plan))
 
 -- all was written, and then no memory was left
 pub all_taken : (day : List Tuple) (tariffs : Tariffs) (number : ℕ) (kept : ℕ → ℕ → ℕ → ℕ) (old now : Level)
-    (plan left : Plan) → TakesDay day tariffs number kept old now plan left →
+    (plan left : AskingPlan) → TakesDay day tariffs number kept old now plan left →
     StopsDay NoMemory day tariffs number kept old now plan left
 all_taken day tariffs number kept old now plan left h =
-    (front_whole old now (out (notices day tariffs number kept)) h.0, up_to_all plan left (asked day) h.1)
+    (front_whole old now (out (notices day tariffs number kept)) h.0, up_to_all plan left (requests_of day) h.1)
 
 -- the first tuples of a day
 first_part : (done later day : List Tuple) → day ≡ done ++ later → (take (length done) day ≡ done)
@@ -55,7 +56,7 @@ module _ (e : Setting) (s t : State) (width n : ℕ) (kept : ℕ → ℕ → ℕ
       ∙ (ap (λ k. take k t.fed) all ∙ (ap (take (length s.fed)) are.same ∙ take-length s.fed))
 
   -- what is said of the whole run is said of the day
-  on_day : (P : History → List Tuple → List Tuple → Type 0) →
+  on_day : (P : PaidHistory → List Tuple → List Tuple → Type 0) →
       P e.history (take t.settled t.fed) (take (n - t.settled) (drop t.settled t.fed)) → P (Some kept) [] s.fed
   on_day P h =
       subst (λ d. P (Some kept) [] d) run_is
@@ -78,7 +79,7 @@ module _ (e : Setting) (s t : State) (width n : ℕ) (kept : ℕ → ℕ → ℕ
       (are.fronts (length done) part.1 e.number kept)
 
   -- a day that was taken whole
-  pub day_took : (old now : Level) (plan left : Plan) → Takes e t n old now plan left →
+  pub day_took : (old now : Level) (plan left : AskingPlan) → TakesSettled e t n old now plan left →
       TakesDay s.fed e.tariffs e.number kept old now plan left
   day_took old now plan left h =
       let run : TakesRun (given t.found) e.number (Some kept) [] s.fed old now plan left =
@@ -86,7 +87,7 @@ module _ (e : Setting) (s t : State) (width n : ℕ) (kept : ℕ → ℕ → ℕ
       (subst (λ ns. Adds old now (out ns)) (day_told run.0 run.1) run.2, run.3)
 
   -- a run of the day that was stopped
-  stopped_by : (fault : SettleFault) (old now : Level) (plan left : Plan) →
+  stopped_by : (fault : SettleFault) (old now : Level) (plan left : AskingPlan) →
       StopsRun fault (given t.found) e.number (Some kept) [] s.fed old now plan left →
       StopsDay fault s.fed e.tariffs e.number kept old now plan left
   stopped_by KeeperFault old now plan left h = record {
@@ -103,7 +104,8 @@ module _ (e : Setting) (s t : State) (width n : ℕ) (kept : ℕ → ℕ → ℕ
   stopped_by NoMemory old now plan left h = (subst (λ ns. AddsFront (out ns) old now) (day_told h.0 h.1) h.2, h.3)
 
   -- a day that was stopped
-  pub day_stopped : (fault : SettleFault) (old now : Level) (plan left : Plan) → Stops fault e t n old now plan left →
+  pub day_stopped : (fault : SettleFault) (old now : Level) (plan left : AskingPlan) →
+      StopsSettling fault e t n old now plan left →
       StopsDay fault s.fed e.tariffs e.number kept old now plan left
   day_stopped fault old now plan left h =
       stopped_by fault old now plan left

@@ -10,7 +10,7 @@ ghost use Rattle.keeper.specs.History.{paid};
 ghost use Rattle.keeper.specs.Memory.{kept_by, plan_of};
 ghost use Rattle.settling.specs.declared.fault.SettleFault.TheVariants.{KeeperFault, WriteFault};
 ghost use Rattle.settling.specs.Answers.{history_of};
-ghost use Rattle.settling.specs.Asking.{asked};
+ghost use Rattle.settling.specs.Asking.{requests_of};
 ghost use Rattle.example_floor.specs.Stops.{TakesDay, StopsDay};
 
 use crate::feeding::feed_all;
@@ -95,13 +95,13 @@ fn settle_in_memory(
     requires room { length tuples.now ≤ DAY.backlog }
     ensures fits { OnOk result (length (out (notices tuples.now [] 100 (paid (kept_by keeper.old).rows)))
         ≤ room_of sink.old) }
-    ensures passed { OnOk result ((i : ℕ) → i < asked tuples.now → plan_of keeper.old i ≡ false) }
+    ensures passed { OnOk result ((i : ℕ) → i < requests_of tuples.now → plan_of keeper.old i ≡ false) }
     ensures full { result ≡ Err WriteFault
         → bytes_of sink.new
         ≡ bytes_of sink.old ++ take (room_of sink.old)
         (out (notices tuples.now [] 100 (paid (kept_by keeper.old).rows))) }
     ensures failed { result ≡ Err KeeperFault
-        → (i : ℕ) × (i < asked tuples.now) × (plan_of keeper.old i ≡ true)
+        → (i : ℕ) × (i < requests_of tuples.now) × (plan_of keeper.old i ≡ true)
         × ((j : ℕ) → j < i → plan_of keeper.old j ≡ false) }
 {
     settle_day(rt, width, tuples, keeper, sink)

@@ -9,7 +9,7 @@ use Rattle.std.proofs.lemmas.Bool.{cases_Bool, and_parts, leb-true, eqb-true}
 use Rattle.road_time.specs.declared.road.Report.{Report}
 use Rattle.road_time.specs.declared.road.Tuple.TheVariants.{Report as ReportTuple}
 use Rattle.road_time.specs.Clock.{minute_of}
-use Rattle.road_time.specs.Order.{NoneBefore, InOrder}
+use Rattle.road_time.specs.Order.{NoneBefore, AreTimesInOrder}
 use Rattle.road_time.specs.Notes.{distinct}
 use Rattle.road_time.specs.Entries.{is_standing}
 use Rattle.road_time.specs.Fits.{IsDay, IsValid, IsReport}
@@ -83,7 +83,7 @@ none_before second (r ∷ rs) h = let both =
     (leb-true second r.time both.0, none_before second rs both.1)
 
 -- Times of those that pass do not fall
-in_order : (rs : List Report) → times_rise rs ≡ true → InOrder (as_tuples rs)
+in_order : (rs : List Report) → times_rise rs ≡ true → AreTimesInOrder (as_tuples rs)
 in_order [] h = tt
 in_order (r ∷ rs) h = let both = and_parts (list_all (λ q. nat_le r.time q.time) rs) (times_rise rs) h in
     (none_before r.time rs both.0, in_order rs both.1)

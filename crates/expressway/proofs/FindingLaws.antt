@@ -11,7 +11,7 @@ use Rattle.road_time.specs.declared.road.Report.{Report}
 use Rattle.road_time.specs.declared.road.Stretch.{Stretch}
 use Rattle.road_time.specs.declared.road.Place.{Place}
 use Rattle.road_time.specs.Clock.{minute_of}
-use Rattle.road_time.specs.Order.{InOrder}
+use Rattle.road_time.specs.Order.{AreTimesInOrder}
 use Rattle.road_time.specs.Ways.{way_of, worker_for}
 use Rattle.road_time.specs.Tuples.{reports, stretch_of, place_of}
 use Rattle.road_time.specs.Notes.{Note, notes_at}
@@ -20,7 +20,7 @@ use Rattle.road_time.specs.Rates.{Tariffs}
 use Rattle.road_time.specs.Stops.{Stop, up_to, near, trail, stands, left_by}
 use Rattle.road_time.specs.Stays.{begins, is_told}
 use Rattle.road_time.specs.Entries.{entries_up_to, standing_at}
-use Rattle.road_time.specs.Tolls.{Finding, notes_of, stops_at, near_at, finding_by, finding_at}
+use Rattle.road_time.specs.Tolls.{StretchTold, notes_of, stops_at, near_at, finding_by, finding_at}
 use Rattle.road_time.specs.Day.{rules, told_if, told_sight}
 use Rattle.road_time.proofs.SameLaws.{number_same}
 use Rattle.road_time.proofs.SightLaws.{moments-append}
@@ -35,11 +35,11 @@ use Rattle.expressway.proofs.SeenLaws.{all_seen}
 use Rattle.expressway.proofs.TimeLaws.{stopped_then}
 
 -- what is for the worker
-abbrev pub kept_if : Bool → Option (ℕ × Finding) → Option (ℕ × Finding)
+abbrev pub kept_if : Bool → Option (ℕ × StretchTold) → Option (ℕ × StretchTold)
 kept_if true o = o
 kept_if false o = None
 
-module _ (day : List Tuple) (order : InOrder day) (tariffs : Tariffs) (worker width : ℕ) where
+module _ (day : List Tuple) (order : AreTimesInOrder day) (tariffs : Tariffs) (worker width : ℕ) where
   -- the worker's events, the notes of the reports in them, and who stands at the end of a second by them
   abbrev mine : List LaneEvent
   mine = events_for day worker width
@@ -67,7 +67,7 @@ module _ (day : List Tuple) (order : InOrder day) (tariffs : Tariffs) (worker wi
       ∙ all_seen width k day) m
 
   -- the finding by the rules over the whole day
-  abbrev by_rules : Bool → ℕ → Report → Option (ℕ × Finding)
+  abbrev by_rules : Bool → ℕ → Report → Option (ℕ × StretchTold)
   by_rules b position r = found_if b (notes_of (reports day)) (stops_at (reports day)) tariffs position r
 
   -- and so the finding of each report
@@ -84,7 +84,7 @@ module _ (day : List Tuple) (order : InOrder day) (tariffs : Tariffs) (worker wi
   when_rule false position r its = refl
 
   -- what the rules tell at a moment, if it is for the worker
-  abbrev rule_at : Moment → Option (ℕ × Finding)
+  abbrev rule_at : Moment → Option (ℕ × StretchTold)
   rule_at (before, ReportTuple r) =
       kept_if (worker_for (way_of (stretch_of r)) width == worker)
       (by_rules (is_told (previous (sights_of before r.vid)) r) (length before) r)
@@ -93,7 +93,7 @@ module _ (day : List Tuple) (order : InOrder day) (tariffs : Tariffs) (worker wi
   rule_at (before, Travel time) = None
 
   -- what the worker finds for some of its events
-  abbrev found : List LaneEvent → List (ℕ × Finding)
+  abbrev found : List LaneEvent → List (ℕ × StretchTold)
   found es = filter_map (finding_of notes_read stops_read tariffs) es
 
   -- a report adds what the rules tell, if it is the worker's
@@ -146,11 +146,11 @@ module _ (day : List Tuple) (order : InOrder day) (tariffs : Tariffs) (worker wi
   is_its s = worker_for (way_of (stretch_of s.1)) width == worker
 
   -- reports with what the rules find for them
-  abbrev with_rules : List Sight → List (ℕ × Finding)
+  abbrev with_rules : List Sight → List (ℕ × StretchTold)
   with_rules ss = map (λ s. (s.0, rules day tariffs s)) ss
 
   -- one report that is told, or not, and the worker's, or not
-  told_step : (b t : Bool) (position : ℕ) (r : Report) (fs : List (ℕ × Finding)) (ss : List Sight) →
+  told_step : (b t : Bool) (position : ℕ) (r : Report) (fs : List (ℕ × StretchTold)) (ss : List Sight) →
       is_its (position, r) ≡ t → fs ≡ with_rules (filter is_its ss) →
       cons_option (kept_if t (by_rules b position r)) fs ≡ with_rules
       (filter is_its (cons_option (told_if b (position, r)) ss))
@@ -177,14 +177,14 @@ module _ (day : List Tuple) (order : InOrder day) (tariffs : Tariffs) (worker wi
   found_whole = found_all ∙ told_after (moments day)
 
   -- a report at another position adds nothing at this one
-  apart_report : (n position : ℕ) (r : Report) (t b : Bool) (fs : List (ℕ × Finding)) → (position == n) ≡ false →
+  apart_report : (n position : ℕ) (r : Report) (t b : Bool) (fs : List (ℕ × StretchTold)) → (position == n) ≡ false →
       found_at n (cons_option (kept_if t (by_rules b position r)) fs) ≡ found_at n fs
   apart_report n position r true true fs h = cond-false (position == n) _ _ h
   apart_report n position r true false fs h = refl
   apart_report n position r false b fs h = refl
 
   -- nor does another tuple
-  apart : (n : ℕ) (before : List Tuple) (x : Tuple) (fs : List (ℕ × Finding)) → (length before == n) ≡ false →
+  apart : (n : ℕ) (before : List Tuple) (x : Tuple) (fs : List (ℕ × StretchTold)) → (length before == n) ≡ false →
       found_at n (cons_option (rule_at (before, x)) fs) ≡ found_at n fs
   apart n before (ReportTuple r) fs h = apart_report n (length before) r _ _ fs h
   apart n before (Balance time vid qid) fs h = refl
@@ -208,7 +208,7 @@ module _ (day : List Tuple) (order : InOrder day) (tariffs : Tariffs) (worker wi
       ∙ none_above n (before ++ x ∷ []) xs (omega (arith, h, length_push before x))
 
   -- a report that is told has its finding at its position
-  here : (position : ℕ) (r : Report) (t b : Bool) (fs : List (ℕ × Finding)) → t ≡ true → b ≡ true →
+  here : (position : ℕ) (r : Report) (t b : Bool) (fs : List (ℕ × StretchTold)) → t ≡ true → b ≡ true →
       found_at position (cons_option (kept_if t (by_rules b position r)) fs)
       ≡ (position, finding_at (reports day) tariffs r) ∷ found_at position fs
   here position r true true fs h g = cond-true (position == position) _ _ (number_same position)
@@ -216,7 +216,7 @@ module _ (day : List Tuple) (order : InOrder day) (tariffs : Tariffs) (worker wi
   here position r false b fs h g = absurd (false≢true h)
 
   -- one that is another worker's has none
-  elsewhere : (position : ℕ) (o : Option (ℕ × Finding)) (t : Bool) (fs : List (ℕ × Finding)) → t ≡ false →
+  elsewhere : (position : ℕ) (o : Option (ℕ × StretchTold)) (t : Bool) (fs : List (ℕ × StretchTold)) → t ≡ false →
       found_at position (cons_option (kept_if t o) fs) ≡ found_at position fs
   elsewhere position o true fs h = absurd (false≢true (sym h))
   elsewhere position o false fs h = refl

@@ -14,11 +14,11 @@ use Rattle.road_time.specs.Lav.{lav}
 use Rattle.road_time.specs.Stops.{near}
 use Rattle.road_time.specs.Entries.{standing_at}
 use Rattle.road_time.specs.Rates.{Tariffs, tariff_of, toll_of, whole_of}
-use Rattle.road_time.specs.Tolls.{Finding, notes_of, finding_by}
-use Rattle.speed_stats.specs.Kept.{Kept as Averages}
+use Rattle.road_time.specs.Tolls.{StretchTold, notes_of, finding_by}
+use Rattle.speed_stats.specs.Kept.{KeptSpeeds as Averages}
 use Rattle.speed_stats.specs.Parts.{flow_in}
 use Rattle.speed_stats.proofs.PastLaws.{cars_in_is, lav_in_is, cars_in_same, lav_in_same}
-use Rattle.accidents.specs.Kept.{Kept as Standing, spell_of}
+use Rattle.accidents.specs.Kept.{KeptStops as Standing, spell_of}
 use Rattle.accidents.specs.declared.spell.Spell.{Spell}
 use Rattle.accidents.specs.History.{stood_last, is_marked}
 use Rattle.accidents.specs.Near.{stood_in}
@@ -26,18 +26,19 @@ use Rattle.accidents.proofs.StoodLaws.{near_in_is, near_in_same}
 use Rattle.expressway.specs.declared.lane_event.LaneEvent.{LaneEvent}
 use Rattle.expressway.specs.declared.known.Known.{Known}
 use Rattle.expressway.specs.Events.{seen, entries}
-use Rattle.expressway.specs.Kept.{Kept}
+use Rattle.expressway.specs.Kept.{KeptWays}
 use Rattle.expressway.specs.Known.{found_in, IsTrueIn, IsInStep}
 use Rattle.expressway.specs.Stands.{IsAt}
 
 -- a finding by its parts
 made : (tariffs : Tariffs) (xway : ℕ) {v w : Option Frac} {n m : ℕ} {a b : Option ℕ} → v ≡ w → n ≡ m → a ≡ b →
-    ◌≡◌ {A = Finding} (record { lav = whole_of v; toll = toll_of (tariff_of tariffs xway) n v (is_some a); alert = a })
+    ◌≡◌ {A = StretchTold}
+    (record { lav = whole_of v; toll = toll_of (tariff_of tariffs xway) n v (is_some a); alert = a })
     (record { lav = whole_of w; toll = toll_of (tariff_of tariffs xway) m w (is_some b); alert = b })
 made tariffs xway p q r = rw (p, q, r) refl
 
 -- what is told by what is kept is what is found by the events
-pub found_in_is : (c : Kept) (r : Report) (before : List LaneEvent) → IsAt c r.time before →
+pub found_in_is : (c : KeptWays) (r : Report) (before : List LaneEvent) → IsAt c r.time before →
     found_in c (stretch_of r) ≡ finding_by (notes_of (seen before)) (standing_at (entries before)) c.tariffs r
 found_in_is c r before at =
     let k = stretch_of r in
@@ -58,7 +59,7 @@ stood_later second later s h =
     let same : later / 60 ≡ second / 60 = omega (arith, h) in
     ap (λ m. stood_at m s) same
 
-module _ (c d : Kept) where
+module _ (c d : KeptWays) where
   -- in the same minute, with the averages of the minutes before and the stops of the minute before, the same is told
   pub found_same : d.tariffs ≡ c.tariffs → 1 ≤ c.speeds.minute → d.speeds.minute ≡ c.speeds.minute →
       ((k : Stretch) (m : ℕ) → m < c.speeds.minute → c.speeds.minute < m + 6 →
@@ -101,18 +102,18 @@ module _ (c d : Kept) where
   }
 
 -- what is known stays true where a report of the current minute is noted, and vehicles stop or leave
-pub noted_step : (c : Kept) (known : List (Option Known)) → IsInStep c known → (speeds : Averages) →
+pub noted_step : (c : KeptWays) (known : List (Option Known)) → IsInStep c known → (speeds : Averages) →
     speeds.minute ≡ c.speeds.minute →
     ((k : Stretch) (m : ℕ) → m < c.speeds.minute → c.speeds.minute < m + 6 →
     flow_in speeds.rings k m ≡ flow_in c.speeds.rings k m) →
     (stops : Standing) → stops.second ≡ c.stops.second → ((k : Stretch) → stood_in stops k ≡ stood_in c.stops k) →
     IsInStep (record { speeds = speeds; stops = stops; tariffs = c.tariffs }) known
 noted_step c known h speeds minute past stops second last =
-    let d : Kept = record { speeds = speeds; stops = stops; tariffs = c.tariffs } in
+    let d : KeptWays = record { speeds = speeds; stops = stops; tariffs = c.tariffs } in
     step_same c d known minute (ap minute_of second) (found_same c d refl (omega (arith, h.minute)) minute past last) h
 
 -- and where the second moves on
-pub moved_step : (c : Kept) (known : List (Option Known)) → IsInStep c known → (speeds : Averages) (minute : ℕ) →
+pub moved_step : (c : KeptWays) (known : List (Option Known)) → IsInStep c known → (speeds : Averages) (minute : ℕ) →
     speeds.minute ≡ minute →
     c.speeds.minute ≤ minute → (c.speeds.minute ≡ minute → speeds ≡ c.speeds) → (stops : Standing) (second : ℕ) →
     minute ≡ minute_of second →
@@ -121,7 +122,7 @@ pub moved_step : (c : Kept) (known : List (Option Known)) → IsInStep c known �
 moved_step c known h speeds minute new up same stops second of moved =
     ⊎_elim here later (cases_eq c.speeds.minute minute)
   where
-    d : Kept
+    d : KeptWays
     d = record { speeds = speeds; stops = stops; tariffs = c.tariffs }
 
     now : stops.second ≡ second
@@ -139,12 +140,13 @@ moved_step c known h speeds minute new up same stops second of moved =
     later ne = step_later c d known (omega (arith, new, up, ne)) (new ∙ of ∙ ap minute_of (sym now)) h
 
 -- what is known at a place is true
-pub true_at : (c : Kept) (known : List (Option Known)) (at : ℕ) (d : Option Known) (q : Known) → All (IsTrueIn c) known
+pub true_at : (c : KeptWays) (known : List (Option Known)) (at : ℕ) (d : Option Known) (q : Known) →
+    All (IsTrueIn c) known
     → at < length known → get_or known at d ≡ Some q → IsTrueIn c (Some q)
 true_at c known at d q all within h = subst (IsTrueIn c) h (All-get_or (IsTrueIn c) known at d within all)
 
 -- nothing known is true
-pub nothing_known : (c : Kept) (n : ℕ) → All (IsTrueIn c) (replicate n None)
+pub nothing_known : (c : KeptWays) (n : ℕ) → All (IsTrueIn c) (replicate n None)
 nothing_known c n =
     let nothing : List (Option Known) = replicate n None in
     let long : length nothing ≡ n = length-replicate n None in

@@ -4,7 +4,7 @@ use Rattle.std.proofs.Common.{drop}
 use Rattle.road_time.specs.declared.road.Tuple.{Tuple}
 use Rattle.road_time.specs.declared.road.Tuple.TheVariants.{Report as ReportTuple}
 use Rattle.road_time.specs.declared.road.Report.{Report}
-use Rattle.road_time.specs.Tolls.{Finding}
+use Rattle.road_time.specs.Tolls.{StretchTold}
 use Rattle.expressway.specs.declared.lane_event.LaneEvent.{LaneEvent}
 use Rattle.expressway.specs.declared.lane_event.LaneEvent.TheVariants.{Seen, Leave}
 use Rattle.expressway.specs.Events.{events_for}
@@ -20,11 +20,11 @@ abbrev R : ℕ → ℕ → ℕ → ℕ → ℕ → ℕ → ℕ → ℕ → Tuple
 R time vid spd xway lane dir seg at = ReportTuple (report time vid spd xway lane dir seg at)
 
 -- a finding: position, toll, alert, average
-abbrev F : ℕ → ℕ → Option ℕ → ℕ → ℕ × Finding
+abbrev F : ℕ → ℕ → Option ℕ → ℕ → ℕ × StretchTold
 F position toll alert lav = (position, record { lav = pos lav; toll = toll; alert = alert })
 
 -- a finding without an average
-abbrev none : ℕ → ℕ × Finding
+abbrev none : ℕ → ℕ × StretchTold
 none position = (position, record { lav = negsuc 0; toll = 0; alert = None })
 
 -- two vehicles at one place at a second

@@ -10,19 +10,19 @@ use Rattle.road_time.specs.declared.road.Report.{Report}
 use Rattle.road_time.specs.Rates.{Tariffs}
 use Rattle.road_time.specs.Sights.{moments, moments_after, Sight, sights_of, previous}
 use Rattle.road_time.specs.Stays.{is_told}
-use Rattle.road_time.specs.Tolls.{Finding}
+use Rattle.road_time.specs.Tolls.{StretchTold}
 use Rattle.road_time.specs.Day.{rules, told_if, given, no_finding}
 use Rattle.road_time.proofs.EachLaws.{some_is, no_some}
 use Rattle.road_time.proofs.FindingLaws.{AgreeAt}
 
 -- at each position of the first tuples that is told, the findings have that of the rules over the whole day
-abbrev pub AreRules : List Tuple → Tariffs → List Tuple → List (ℕ × Finding) → Type 0
+abbrev pub AreRules : List Tuple → Tariffs → List Tuple → List (ℕ × StretchTold) → Type 0
 AreRules day tariffs first found =
     (before later : List Tuple) (r : Report) → first ≡ before ++ ReportTuple r ∷ later →
     is_told (previous (sights_of before r.vid)) r ≡ true →
     lookup (λ at. at == length before) found ≡ Some (rules day tariffs (length before, r))
 
-module _ (day : List Tuple) (tariffs : Tariffs) (first : List Tuple) (found : List (ℕ × Finding))
+module _ (day : List Tuple) (tariffs : Tariffs) (first : List Tuple) (found : List (ℕ × StretchTold))
     (are : AreRules day tariffs first found) where
   -- what is given for a report that is told, or not
   told_step : (before later : List Tuple) (r : Report) → first ≡ before ++ ReportTuple r ∷ later → (b : Bool) →

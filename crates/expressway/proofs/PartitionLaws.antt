@@ -9,13 +9,13 @@ use Rattle.std.proofs.lemmas.Bool.{cases_eq, ne_eqb}
 use Rattle.road_time.specs.declared.road.Tuple.{Tuple}
 use Rattle.road_time.specs.declared.road.Tuple.TheVariants.{Report as ReportTuple}
 use Rattle.road_time.specs.declared.road.Report.{Report}
-use Rattle.road_time.specs.Order.{InOrder}
+use Rattle.road_time.specs.Order.{AreTimesInOrder}
 use Rattle.road_time.specs.Ways.{way_of, worker_for}
 use Rattle.road_time.specs.Tuples.{stretch_of}
 use Rattle.road_time.specs.Rates.{Tariffs}
 use Rattle.road_time.specs.Sights.{sights_of, previous}
 use Rattle.road_time.specs.Stays.{is_told}
-use Rattle.road_time.specs.Tolls.{Finding}
+use Rattle.road_time.specs.Tolls.{StretchTold}
 use Rattle.road_time.specs.Day.{rules, given, notices, merged}
 use Rattle.road_time.proofs.FindingLaws.{notices_same}
 use Rattle.expressway.specs.Events.{events_for}
@@ -29,20 +29,20 @@ same_head : {X : Type 0} (x y : X) (xs ys : List X) → x ∷ xs ≡ y ∷ ys �
 same_head x y xs ys h = cc
 
 -- the first finding at a position, by whether it is the next
-first_step : (b : Bool) (f g : ℕ × Finding) (fs : List (ℕ × Finding)) (rest : Option Finding) →
+first_step : (b : Bool) (f g : ℕ × StretchTold) (fs : List (ℕ × StretchTold)) (rest : Option StretchTold) →
     (fs ≡ f ∷ [] → rest ≡ Some f.1) → cond b (g ∷ fs) fs ≡ f ∷ [] → cond b (Some g.1) rest ≡ Some f.1
 first_step true f g fs rest h e = ap (λ x. Some x.1) (same_head g f fs [] e)
 first_step false f g fs rest h e = h e
 
 -- the one finding at a position is the one given for it
-pub first_is : (n : ℕ) (v : Finding) (fs : List (ℕ × Finding)) → found_at n fs ≡ (n, v) ∷ [] →
+pub first_is : (n : ℕ) (v : StretchTold) (fs : List (ℕ × StretchTold)) → found_at n fs ≡ (n, v) ∷ [] →
     lookup (λ at. at == n) fs ≡ Some v
 first_is n v [] h = cc
 first_is n v (g ∷ fs) h = first_step (g.0 == n) (n, v) g (found_at n fs) (lookup (λ at. at == n) fs) (first_is n v fs) h
 
-module _ (day : List Tuple) (order : InOrder day) (tariffs : Tariffs) (width : ℕ) (some : 1 ≤ width) where
+module _ (day : List Tuple) (order : AreTimesInOrder day) (tariffs : Tariffs) (width : ℕ) (some : 1 ≤ width) where
   -- what a worker finds
-  abbrev of_worker : ℕ → List (ℕ × Finding)
+  abbrev of_worker : ℕ → List (ℕ × StretchTold)
   of_worker worker = findings [] (events_for day worker width) tariffs
 
   module _ (before later : List Tuple) (r : Report) (parts : day ≡ before ++ ReportTuple r ∷ later)

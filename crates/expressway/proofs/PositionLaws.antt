@@ -15,7 +15,7 @@ use Rattle.road_time.proofs.EachLaws.{joined, kept, weakened}
 use Rattle.expressway.specs.declared.lane_event.LaneEvent.{LaneEvent}
 use Rattle.expressway.specs.declared.lane_event.LaneEvent.TheVariants.{Seen}
 use Rattle.expressway.specs.Events.{events, events_at, events_for, leave_of, way_told, position_told}
-use Rattle.expressway.specs.Runs.{Rise}
+use Rattle.expressway.specs.Runs.{PositionsRise}
 use Rattle.expressway.specs.Laws.{IsFrom}
 
 -- no event is of a position below n
@@ -27,13 +27,13 @@ abbrev Below : ℕ → List LaneEvent → Type 0
 Below n es = AllByRecursion (λ e. position_told e < n) es
 
 -- the events of a report have its position
-leave_position : (position : ℕ) (r : Report) (o : Option Place) (b s : Bool) →
+pub leave_position : (position : ℕ) (r : Report) (o : Option Place) (b s : Bool) →
     AllByRecursion (λ e. position_told e ≡ position) (leave_of position r o ++ Seen position r b s ∷ [])
 leave_position position r None b s = (refl, tt)
 leave_position position r (Some place) b s = (refl, (refl, tt))
 
 -- the events of a tuple have its position
-at_position : (before : List Tuple) (x : Tuple) →
+pub at_position : (before : List Tuple) (x : Tuple) →
     AllByRecursion (λ e. position_told e ≡ length before) (events_at (before, x))
 at_position before (ReportTuple r) = leave_position (length before) r (left_by (trail (reports before) r.vid) r) _ _
 at_position before (Balance time vid qid) = tt
@@ -42,7 +42,7 @@ at_position before (Travel time) = tt
 
 -- events of one position, and then rising ones of none lower, rise
 rise_joined : (n : ℕ) (es later : List LaneEvent) → AllByRecursion (λ e. position_told e ≡ n) es → From n later →
-    Rise later → Rise (es ++ later)
+    PositionsRise later → PositionsRise (es ++ later)
 rise_joined n [] later h g rise = rise
 rise_joined n (e ∷ es) later h g rise = (
   joined (λ f. position_told e ≤ position_told f) es later
@@ -74,7 +74,7 @@ from_after before (x ∷ xs) =
     (from_less before x (after (before ++ x ∷ []) xs) (from_after (before ++ x ∷ []) xs))
 
 -- they rise
-rise_after : (before day : List Tuple) → Rise (after before day)
+rise_after : (before day : List Tuple) → PositionsRise (after before day)
 rise_after before [] = tt
 rise_after before (x ∷ xs) =
     rise_joined (length before) (events_at (before, x)) (after (before ++ x ∷ []) xs) (at_position before x)
@@ -92,18 +92,18 @@ below_after n before (x ∷ xs) h =
 
 -- one event more or less in front
 rise_step : (b : Bool) (e : LaneEvent) (es : List LaneEvent) →
-    AllByRecursion (λ f. position_told e ≤ position_told f) es → Rise es → Rise (cond b (e ∷ es) es)
+    AllByRecursion (λ f. position_told e ≤ position_told f) es → PositionsRise es → PositionsRise (cond b (e ∷ es) es)
 rise_step true e es h g = (h, g)
 rise_step false e es h g = g
 
 -- some of rising events rise
-rise_kept : (p : LaneEvent → Bool) (es : List LaneEvent) → Rise es → Rise (filter p es)
+rise_kept : (p : LaneEvent → Bool) (es : List LaneEvent) → PositionsRise es → PositionsRise (filter p es)
 rise_kept p [] h = tt
 rise_kept p (e ∷ es) h = rise_step (p e) e (filter p es) (kept (λ f. position_told e ≤ position_told f) p es h.0)
     (rise_kept p es h.1)
 
 -- a worker's events rise
-pub events_rise : (day : List Tuple) (worker width : ℕ) → Rise (events_for day worker width)
+pub events_rise : (day : List Tuple) (worker width : ℕ) → PositionsRise (events_for day worker width)
 events_rise day worker width = rise_kept (λ e. worker_for (way_told e) width == worker) (events day) (rise_after [] day)
 
 -- and are of positions of the day
@@ -112,12 +112,12 @@ events_below day worker width = kept (λ e. position_told e < length day) (λ e.
     (events day) (below_after (length day) [] day (omega arith))
 
 -- the rest of events that rise
-pub rise_rest : (es later : List LaneEvent) → Rise (es ++ later) → Rise later
+pub rise_rest : (es later : List LaneEvent) → PositionsRise (es ++ later) → PositionsRise later
 rise_rest [] later h = h
 rise_rest (e ∷ es) later h = rise_rest es later h.1
 
 -- where events rise, none is of a lower position than the first
-pub all_from : (n : ℕ) (es : List LaneEvent) → Rise es → IsFrom n es → From n es
+pub all_from : (n : ℕ) (es : List LaneEvent) → PositionsRise es → IsFrom n es → From n es
 all_from n [] h g = tt
 all_from n (e ∷ es) h g = (
   g,

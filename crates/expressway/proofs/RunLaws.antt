@@ -13,7 +13,7 @@ use Rattle.road_time.specs.declared.road.Place.{Place}
 use Rattle.road_time.specs.declared.day.Limits.{Limits}
 use Rattle.road_time.specs.Fits.{Fit}
 use Rattle.road_time.proofs.PartLaws.{fit_chosen}
-use Rattle.road_time.specs.Order.{InOrder}
+use Rattle.road_time.specs.Order.{AreTimesInOrder}
 use Rattle.road_time.specs.Ways.{way_of, worker_for}
 use Rattle.road_time.specs.Tuples.{reports, time_of, stretch_of, place_of, same_place}
 use Rattle.road_time.specs.Stops.{trail, stands, left_by}
@@ -46,7 +46,7 @@ last_part P [] y h = h.0
 last_part P (x ∷ xs) y h = last_part P xs y h.1
 
 -- in order, the tuples before the last are in order and not later
-order_start : (day : List Tuple) (x : Tuple) → InOrder (day ++ x ∷ []) → InOrder day
+order_start : (day : List Tuple) (x : Tuple) → AreTimesInOrder (day ++ x ∷ []) → AreTimesInOrder day
     × AllByRecursion (λ y. time_of y ≤ time_of x) day
 order_start [] x h = (tt, tt)
 order_start (y ∷ ys) x h =
@@ -149,9 +149,9 @@ module _ (worker width : ℕ) where
   events_for_push day x = ap mine (events_push day x) ∙ filter-append is_told (events day) (events_at (day, x))
 
   -- a worker's events may run from the first on
-  pub may_run : (day : List Tuple) → InOrder day → MayRun [] (events_for day worker width)
+  pub may_run : (day : List Tuple) → AreTimesInOrder day → MayRun [] (events_for day worker width)
   may_run day =
-      by_push (λ d. InOrder d → MayRun [] (events_for d worker width)) (λ _. tt)
+      by_push (λ d. AreTimesInOrder d → MayRun [] (events_for d worker width)) (λ _. tt)
       (λ d x f order. let parts = order_start d x order in
       subst (MayRun []) (sym (events_for_push d x)) (run_push d x parts.1 (f parts.0))) day
 

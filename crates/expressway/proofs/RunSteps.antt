@@ -7,14 +7,14 @@ use Rattle.std.specs.Result.{OnErr}
 use Rattle.road_time.specs.declared.road.Tuple.TheVariants.{Report as ReportTuple}
 use Rattle.road_time.specs.declared.day.TheConstants.Limits.{DAY}
 use Rattle.road_time.specs.Fits.{Fit}
-use Rattle.road_time.specs.Tolls.{Finding}
+use Rattle.road_time.specs.Tolls.{StretchTold}
 use Rattle.road_time.proofs.AllowedLaws.{fit_left}
 use Rattle.expressway.specs.declared.lane_event.LaneEvent.{LaneEvent}
 use Rattle.expressway.specs.declared.finding.Finding.{Finding as CodeFinding}
 use Rattle.expressway.specs.Events.{seen, report_seen}
 use Rattle.expressway.specs.Runs.{MayRun}
 use Rattle.expressway.specs.Findings.{shown, findings}
-use Rattle.expressway.specs.Kept.{Kept}
+use Rattle.expressway.specs.Kept.{KeptWays}
 use Rattle.expressway.specs.Stands.{StandsFor}
 use Rattle.expressway.specs.Ready.{CanRun, IsReady}
 use Rattle.expressway.specs.Results.{AreFirst}
@@ -48,13 +48,14 @@ first_can before some e rest can =
     }
 
 -- the first of a carriage's events were run: what is kept now stands for them too, and what was found is theirs
-pub record AreRun (entry c : Kept) (fs : List CodeFinding) (all some : List LaneEvent) : Type 0 where
+pub record AreRun (entry c : KeptWays) (fs : List CodeFinding) (all some : List LaneEvent) : Type 0 where
   pub tariffs : c.tariffs ≡ entry.tariffs
   pub stands : (before : List LaneEvent) → IsReady entry before all → StandsFor c (before ++ some)
   pub found : (before : List LaneEvent) → IsReady entry before all → map shown fs ≡ findings before some entry.tariffs
 
 -- none was run yet
-pub none_run : (entry : Kept) (fs : List CodeFinding) (all : List LaneEvent) → fs ≡ [] → AreRun entry entry fs all []
+pub none_run : (entry : KeptWays) (fs : List CodeFinding) (all : List LaneEvent) → fs ≡ [] →
+    AreRun entry entry fs all []
 none_run entry fs all h = record {
   tariffs = refl;
   stands = λ before ready. subst (StandsFor entry) (sym (append-nil before)) ready.stands;
@@ -62,7 +63,7 @@ none_run entry fs all h = record {
 }
 
 -- a carriage after the first events is ready for the next
-pub next_ready : (entry c : Kept) (fs : List CodeFinding) (all some : List LaneEvent) (e : LaneEvent)
+pub next_ready : (entry c : KeptWays) (fs : List CodeFinding) (all some : List LaneEvent) (e : LaneEvent)
     (rest : List LaneEvent) → all ≡ some ++ e ∷ rest → AreRun entry c fs all some →
     (before : List LaneEvent) → IsReady entry before all → IsReady c (before ++ some) (e ∷ [])
 next_ready entry c fs all some e rest parts run before ready = record {
@@ -71,8 +72,8 @@ next_ready entry c fs all some e rest parts run before ready = record {
 }
 
 -- one more was run
-pub one_run : (entry c d : Kept) (fs gs : List CodeFinding) (all some : List LaneEvent) (e : LaneEvent)
-    (rest : List LaneEvent) (new : List (ℕ × Finding)) → all ≡ some ++ e ∷ rest → AreRun entry c fs all some →
+pub one_run : (entry c d : KeptWays) (fs gs : List CodeFinding) (all some : List LaneEvent) (e : LaneEvent)
+    (rest : List LaneEvent) (new : List (ℕ × StretchTold)) → all ≡ some ++ e ∷ rest → AreRun entry c fs all some →
     d.tariffs ≡ c.tariffs →
     ((before : List LaneEvent) → IsReady c before (e ∷ []) → StandsFor d (before ++ e ∷ [])) →
     ((before : List LaneEvent) → IsReady c before (e ∷ []) → new ≡ findings before (e ∷ []) c.tariffs) →
@@ -91,7 +92,7 @@ one_run entry c d fs gs all some e rest new parts run same carries finds kept = 
 }
 
 -- what was found of the first events is the first of what all find
-pub some_first : (entry c : Kept) (fs : List CodeFinding) (all some later : List LaneEvent) → all ≡ some ++ later →
+pub some_first : (entry c : KeptWays) (fs : List CodeFinding) (all some later : List LaneEvent) → all ≡ some ++ later →
     AreRun entry c fs all some →
     (before : List LaneEvent) → IsReady entry before all → AreFirst (map shown fs) (findings before all entry.tariffs)
 some_first entry c fs all some later parts run before ready = (
@@ -112,7 +113,8 @@ on_refusal (Ok x) p = tt
 on_refusal (Err e) p = p
 
 -- a carriage after the first of events that can be run on a new one is ready for the next
-pub from_new : (c : Kept) (all some : List LaneEvent) (e : LaneEvent) (rest : List LaneEvent) → all ≡ some ++ e ∷ rest →
+pub from_new : (c : KeptWays) (all some : List LaneEvent) (e : LaneEvent) (rest : List LaneEvent) →
+    all ≡ some ++ e ∷ rest →
     CanRun [] all → StandsFor c some → IsReady c some (e ∷ [])
 from_new c all some e rest parts can stands =
     record { stands = stands; runs = first_can [] some e rest (subst (CanRun []) parts can) }

@@ -8,14 +8,14 @@ use Rattle.std.proofs.lemmas.Bool.{cond-false, ne_eqb}
 use Rattle.road_time.specs.declared.road.Tuple.{Tuple}
 use Rattle.road_time.specs.declared.road.Tuple.TheVariants.{Report as ReportTuple}
 use Rattle.road_time.specs.declared.road.Report.{Report}
-use Rattle.road_time.specs.Order.{InOrder}
+use Rattle.road_time.specs.Order.{AreTimesInOrder}
 use Rattle.road_time.specs.Notes.{Note}
 use Rattle.road_time.specs.Rates.{Tariffs}
 use Rattle.road_time.specs.Stops.{Stop}
 use Rattle.road_time.specs.Sights.{moments, sights_of, previous}
 use Rattle.road_time.specs.Stays.{is_told}
 use Rattle.road_time.specs.declared.road.Report.{Report}
-use Rattle.road_time.specs.Tolls.{Finding}
+use Rattle.road_time.specs.Tolls.{StretchTold}
 use Rattle.road_time.specs.Day.{rules, given, charges_by, charges_between, notices_by, notices, charges, merged}
 use Rattle.road_time.proofs.SightLaws.{moments_first}
 use Rattle.road_time.proofs.DayLaws.{prefix_at}
@@ -34,7 +34,7 @@ use Rattle.expressway.proofs.PartitionLaws.{found_one, first_is}
 
 -- a finding of another position is none at this one
 none_when : (i position : ℕ) (b : Bool) (ns : List Note) (us : ℕ → List Stop) (tariffs : Tariffs) (r : Report)
-    (fs : List (ℕ × Finding)) → (position == i) ≡ false →
+    (fs : List (ℕ × StretchTold)) → (position == i) ≡ false →
     found_at i (cons_option (found_if b ns us tariffs position r) fs) ≡ found_at i fs
 none_when i position true ns us tariffs r fs h = cond-false (position == i) _ _ h
 none_when i position false ns us tariffs r fs h = refl
@@ -49,7 +49,8 @@ none_found i n ns us tariffs (Seen position r b stopped ∷ es) h l =
 none_found i n ns us tariffs (Leave position time vid place ∷ es) h l = none_found i n ns us tariffs es h l.1
 
 -- the events that are back find at an earlier position what all of the worker's find
-back_same : (day : List Tuple) (tariffs : Tariffs) (worker width i n : ℕ) (back out : List LaneEvent) → InOrder day →
+back_same : (day : List Tuple) (tariffs : Tariffs) (worker width i n : ℕ) (back out : List LaneEvent) →
+    AreTimesInOrder day →
     events_for day worker width ≡ back ++ out → i < n → From n out →
     found_at i (findings [] back tariffs) ≡ found_at i (findings [] (events_for day worker width) tariffs)
 back_same day tariffs worker width i n back out order parts h l =
@@ -64,7 +65,8 @@ back_same day tariffs worker width i n back out order parts h l =
 joined_same : {X : Type 0} {a b c d : List X} → a ≡ c → b ≡ d → a ++ b ≡ c ++ d
 joined_same p q = rw (p, q) refl
 
-module _ (day : List Tuple) (order : InOrder day) (tariffs : Tariffs) (width n : ℕ) (back out : ℕ → List LaneEvent)
+module _ (day : List Tuple) (order : AreTimesInOrder day) (tariffs : Tariffs) (width n : ℕ)
+    (back out : ℕ → List LaneEvent)
     (are : AreBack day width n back out) where
   -- what is out is of no position below the mark
   later_out : (worker : ℕ) → worker < width → From n (out worker)
@@ -94,7 +96,7 @@ shorter : (first before rest : List Tuple) (x : Tuple) (n : ℕ) → first ≡ b
 shorter first before rest x n e l = omega (arith, l, ap length e, length-append before (x ∷ rest))
 
 -- one position, one finding
-one_value : (i : ℕ) (fs : List (ℕ × Finding)) → map (λ f. f.0) fs ≡ i ∷ [] → (f : Finding) × (fs ≡ (i, f) ∷ [])
+one_value : (i : ℕ) (fs : List (ℕ × StretchTold)) → map (λ f. f.0) fs ≡ i ∷ [] → (f : StretchTold) × (fs ≡ (i, f) ∷ [])
 one_value i [] e = absurd (none_one i e)
   where
     none_one : (i : ℕ) → ◌≡◌ {A = List ℕ} [] (i ∷ []) → ⊥
@@ -108,7 +110,7 @@ one_value i (f ∷ g ∷ fs) e = absurd (two_one f.0 g.0 i (map (λ h. h.0) fs) 
     two_one : (a b i : ℕ) (xs : List ℕ) → a ∷ b ∷ xs ≡ i ∷ [] → ⊥
     two_one a b i xs e = cc
 
-module _ (first later : List Tuple) (order : InOrder (first ++ later)) (tariffs : Tariffs) (width : ℕ)
+module _ (first later : List Tuple) (order : AreTimesInOrder (first ++ later)) (tariffs : Tariffs) (width : ℕ)
     (some : 1 ≤ width) (n : ℕ) (long : length first ≡ n)
     (back out : ℕ → List LaneEvent) (are : AreBack (first ++ later) width n back out) where
   -- what the workers gave for a position of the first tuples that is told
@@ -125,17 +127,17 @@ module _ (first later : List Tuple) (order : InOrder (first ++ later)) (tariffs 
       ∙ found_one (first ++ later) order tariffs width some before (rest ++ later) r whole told
 
   -- there is one finding given for it
-  pub one_given : (found : List (ℕ × Finding)) → HaveTheirPositions tariffs width back found →
+  pub one_given : (found : List (ℕ × StretchTold)) → HaveTheirPositions tariffs width back found →
       (before rest : List Tuple) (r : Report) → first ≡ before ++ ReportTuple r ∷ rest →
       is_told (previous (sights_of before r.vid)) r ≡ true →
-      (f : Finding) × (found_at (length before) found ≡ (length before, f) ∷ [])
+      (f : StretchTold) × (found_at (length before) found ≡ (length before, f) ∷ [])
   one_given found same before rest r split told =
       one_value (length before) (found_at (length before) found)
       (same (length before) ∙ ap (map (λ f. f.0)) (found_back before rest r split told))
 
-module _ (first later : List Tuple) (order : InOrder (first ++ later)) (tariffs : Tariffs) (width : ℕ)
+module _ (first later : List Tuple) (order : AreTimesInOrder (first ++ later)) (tariffs : Tariffs) (width : ℕ)
     (some : 1 ≤ width) (n : ℕ) (long : length first ≡ n)
-    (back out : ℕ → List LaneEvent) (are : AreBack (first ++ later) width n back out) (found : List (ℕ × Finding))
+    (back out : ℕ → List LaneEvent) (are : AreBack (first ++ later) width n back out) (found : List (ℕ × StretchTold))
     (all_given : AreGiven tariffs width back found) where
   -- what is given is what the rules find
   are_rules : AreRules (first ++ later) tariffs first found

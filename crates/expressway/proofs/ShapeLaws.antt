@@ -1,29 +1,28 @@
 -- what a job finds could be, and so its result has the shape of one
-use Rattle.std.proofs.Common.{◌≡◌, ℕ, ◌+◌, ◌-◌, ◌*◌, ◌/◌, ◌≤◌, ◌==◌, ◌&&◌, ◌⊎◌, ⊎_elim, inl, inr, Bool, true, false}
-use Rattle.std.proofs.Common.{cond, not, min, List, [], ◌∷◌, ◌++◌, map, IfSome, Option, Some, None, Result, Ok, Err}
-use Rattle.std.proofs.Common.{nat_le, nat_lt, refl, sym, ap, ◌∙◌, arith, subst}
+use Rattle.std.proofs.Common.{◌≡◌, ℕ, ◌+◌, ◌-◌, ◌/◌, ◌≤◌, ◌==◌, ◌&&◌, ◌⊎◌, ⊎_elim, inl, inr, Bool, true, false}
+use Rattle.std.proofs.Common.{cond, not, List, [], ◌∷◌, ◌++◌, map, IfSome, Option, Some, None, Result, Ok, Err}
+use Rattle.std.proofs.Common.{nat_le, refl, sym, ap, ◌∙◌, arith, subst}
 use Rattle.std.specs.List.{filter_map, find, cons_option, AllByRecursion}
 use Rattle.std.specs.Result.{OnOk, OnErr}
 use Rattle.std.proofs.lemmas.List.{map-append}
 use Rattle.std.proofs.lemmas.List.Elements.{All-from_recursion, recursion_from_All, filter_map-append}
 use Rattle.std.proofs.lemmas.Bool.{cond_both, leb-true, le-leb}
-use Rattle.std.proofs.Math.Nat.{min-le_right, div-le_of_le-mul}
+use Rattle.std.proofs.Math.Nat.{div-le_of_le-mul}
 use Rattle.road_time.specs.declared.road.Report.{Report}
 use Rattle.road_time.specs.declared.road.Stretch.{Stretch}
 use Rattle.road_time.specs.declared.road.Frac.{Frac}
 use Rattle.road_time.specs.declared.road.Tuple.TheVariants.{Report as ReportTuple}
-use Rattle.road_time.specs.declared.tariff.Tariff.{Tariff}
 use Rattle.road_time.specs.declared.day.TheConstants.Limits.{DAY}
 use Rattle.road_time.specs.Clock.{minute_of}
 use Rattle.road_time.specs.Ways.{downstream_of}
 use Rattle.road_time.specs.Tuples.{stretch_of}
 use Rattle.road_time.specs.Notes.{Note, cars}
 use Rattle.road_time.specs.Lav.{lav}
-use Rattle.road_time.specs.Rates.{Tariffs, tariff_of, is_slow, toll_of, whole_of}
+use Rattle.road_time.specs.Rates.{Tariffs, tariff_of, whole_of}
 use Rattle.road_time.specs.Stops.{Stop, segments_ahead, near}
 use Rattle.road_time.specs.Entries.{standing_at}
 use Rattle.road_time.specs.Fits.{IsReport, IsValid}
-use Rattle.road_time.specs.Tolls.{Finding, notes_of, finding_by}
+use Rattle.road_time.specs.Tolls.{StretchTold, notes_of, finding_by}
 use Rattle.road_time.specs.Text.{is_lav}
 use Rattle.road_time.proofs.EachLaws.{left_part, right_part}
 use Rattle.road_time.proofs.LavLaws.{IsAverage, lav_is}
@@ -37,22 +36,16 @@ use Rattle.expressway.specs.Findings.{shown, found_if, finding_of, findings}
 use Rattle.expressway.specs.Ready.{CanRun}
 use Rattle.expressway.specs.Results.{AreFirst, IsResultOf, IsResultShaped, IsPossible, positions}
 use Rattle.expressway.proofs.ReadyLaws.{as_tuples, reports_back}
+use Rattle.road_time.proofs.BoundLaws.{toll_of_few, segments_few}
 
 -- a finding that could be, as the definitions have it
-abbrev CouldBe : ℕ × Finding → Type 0
+abbrev CouldBe : ℕ × StretchTold → Type 0
 CouldBe f = (is_lav f.1.lav ≡ true) × (f.1.toll ≤ 500000000000) × IfSome f.1.alert (λ s. s ≤ 99)
 
 -- an average of at most 100, rounded down, or none
 lav_valid : (o : Option Frac) → ((f : Frac) → o ≡ Some f → IsAverage f) → is_lav (whole_of o) ≡ true
 lav_valid None h = refl
 lav_valid (Some f) h = let is = h f refl in le-leb (f.num / f.den) 100 (div-le_of_le-mul f.den (omega (arith, is.2)))
-
--- a toll is at most the greatest
-toll_few : (t : Tariff) (n : ℕ) (average : Option Frac) (blocked : Bool) → toll_of t n average blocked ≤ 500000000000
-toll_few t n average blocked =
-    cond_both (nat_lt t.crowd n && (is_slow t.speed average && not blocked))
-    (min (t.factor * ((n - t.crowd) * (n - t.crowd))) 500000000000) 0 (λ x. x ≤ 500000000000)
-    (λ _. min-le_right (t.factor * ((n - t.crowd) * (n - t.crowd))) 500000000000) (λ _. omega arith)
 
 -- a segment that may be none
 abbrev Few : Option ℕ → Type 0
@@ -76,13 +69,6 @@ few_more : (o : Option ℕ) (ts : List ℕ) → Few o → AllByRecursion (λ t. 
 few_more None ts f h = h
 few_more (Some t) ts f h = (f, h)
 
--- the segments ahead are of the road
-segments_few : (s dir : ℕ) (is : List ℕ) → s ≤ 99 → AllByRecursion (λ t. t ≤ 99) (filter_map (downstream_of s dir) is)
-segments_few s dir [] h = tt
-segments_few s dir (i ∷ is) h =
-    few_more (downstream_of s dir i) (filter_map (downstream_of s dir) is) (ahead_few s dir i h)
-    (segments_few s dir is h)
-
 -- and so is the first of them that passes a test
 find_few : (p : ℕ → Bool) (ts : List ℕ) → AllByRecursion (λ t. t ≤ 99) ts → Few (find p ts)
 find_few p [] h = tt
@@ -98,13 +84,14 @@ module _ (ns : List Note) (stops_at : ℕ → List Stop) (tariffs : Tariffs)
   found_could : (position : ℕ) (r : Report) → IsReport r → CouldBe (position, finding_by ns stops_at tariffs r)
   found_could position r v = (
     lav_valid (lav ns (minute_of r.time) (stretch_of r)) (good (minute_of r.time) (stretch_of r)),
-    toll_few (tariff_of tariffs r.xway) (cars ns (minute_of r.time - 1) (stretch_of r))
+    toll_of_few (tariff_of tariffs r.xway) (cars ns (minute_of r.time - 1) (stretch_of r))
         (lav ns (minute_of r.time) (stretch_of r)) _,
     near_few stops_at (minute_of r.time) (stretch_of r) v.6,
   )
 
   -- what is found for a report, if it is told
-  if_could : (b : Bool) (position : ℕ) (r : Report) (fs : List (ℕ × Finding)) → IsReport r → AllByRecursion CouldBe fs →
+  if_could : (b : Bool) (position : ℕ) (r : Report) (fs : List (ℕ × StretchTold)) → IsReport r →
+      AllByRecursion CouldBe fs →
       AllByRecursion CouldBe (cons_option (found_if b ns stops_at tariffs position r) fs)
   if_could true position r fs v h = (found_could position r v, h)
   if_could false position r fs v h = h
@@ -152,17 +139,17 @@ either (Ok x) p q = inl p
 either (Err e) p q = inr q
 
 -- what follows from what holds, where all went well
-ok_map : {T E P Q : Type 0} (r : Result T E) → (P → Q) → OnOk r P → OnOk r Q
+pub ok_map : {T E P Q : Type 0} (r : Result T E) → (P → Q) → OnOk r P → OnOk r Q
 ok_map (Ok x) f p = f p
 ok_map (Err e) f p = tt
 
 -- or where memory ran out
-err_map : {T E P Q : Type 0} (r : Result T E) → (P → Q) → OnErr r P → OnErr r Q
+pub err_map : {T E P Q : Type 0} (r : Result T E) → (P → Q) → OnErr r P → OnErr r Q
 err_map (Ok x) f p = tt
 err_map (Err e) f p = f p
 
 -- the positions of the first findings are the first positions
-first_positions : (fs : List CodeFinding) (found : List (ℕ × Finding)) → AreFirst (map shown fs) found →
+first_positions : (fs : List CodeFinding) (found : List (ℕ × StretchTold)) → AreFirst (map shown fs) found →
     AreFirst (positions fs) (map (λ f. f.0) found)
 first_positions fs found h = (
   map (λ f. f.0) h.0,

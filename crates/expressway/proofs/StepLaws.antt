@@ -15,14 +15,14 @@ use Rattle.road_time.specs.Lav.{lav}
 use Rattle.road_time.specs.Stops.{Stop, near}
 use Rattle.road_time.specs.Rates.{Tariffs, tariff_of, toll_of, whole_of}
 use Rattle.road_time.specs.Tuples.{stretch_of}
-use Rattle.road_time.specs.Tolls.{notes_of, Finding, finding_by}
+use Rattle.road_time.specs.Tolls.{notes_of, StretchTold, finding_by}
 use Rattle.speed_stats.specs.Stands.{StandsFor as AveragesStandFor}
 use Rattle.accidents.specs.Stands.{StandsFor as StopsStandFor}
 use Rattle.expressway.specs.declared.lane_event.LaneEvent.{LaneEvent}
 use Rattle.expressway.specs.declared.lane_event.LaneEvent.TheVariants.{Leave}
 use Rattle.expressway.specs.Events.{seen, entries, report_seen, entry_of, time_told}
 use Rattle.expressway.specs.Runs.{NoneAfter}
-use Rattle.expressway.specs.Kept.{Kept}
+use Rattle.expressway.specs.Kept.{KeptWays}
 use Rattle.expressway.specs.Stands.{last_second, StandsFor}
 use Rattle.expressway.specs.Ready.{IsReady}
 use Rattle.expressway.proofs.JobLaws.{follows}
@@ -53,7 +53,7 @@ minute_le : (a b : ℕ) → a ≤ b → minute_of a ≤ minute_of b
 minute_le a b h = omega arith
 
 -- the next event is not before the second of a carriage
-pub second_le : (c : Kept) (before : List LaneEvent) (e : LaneEvent) → IsReady c before (e ∷ []) →
+pub second_le : (c : KeptWays) (before : List LaneEvent) (e : LaneEvent) → IsReady c before (e ∷ []) →
     c.stops.second ≤ time_told e
 second_le c before e r =
     let last = last_le (time_told e) before (follows before e r.runs.order.0) in
@@ -61,7 +61,7 @@ second_le c before e r =
     omega (arith, last, now)
 
 -- nor before its minute
-pub minutes_le : (c : Kept) (before : List LaneEvent) (e : LaneEvent) → IsReady c before (e ∷ []) →
+pub minutes_le : (c : KeptWays) (before : List LaneEvent) (e : LaneEvent) → IsReady c before (e ∷ []) →
     c.speeds.minute ≤ minute_of (time_told e)
 minutes_le c before e r =
     let last =
@@ -70,7 +70,7 @@ minutes_le c before e r =
     omega (arith, last, now)
 
 -- a carriage with the notes and the entries of one event more, at its second, stands for the events with it
-pub at_next : (c : Kept) (before : List LaneEvent) (e : LaneEvent) →
+pub at_next : (c : KeptWays) (before : List LaneEvent) (e : LaneEvent) →
     AveragesStandFor c.speeds (notes_of (seen before) ++ notes_of (seen (e ∷ []))) →
     StopsStandFor c.stops (entries before ++ entries (e ∷ [])) →
     c.speeds.minute ≡ minute_of (time_told e) → c.stops.second ≡ time_told e → StandsFor c (before ++ e ∷ [])
@@ -82,7 +82,7 @@ at_next c before e a s m t = record {
 }
 
 -- the same for a leave, of which there is no note
-pub at_left : (c : Kept) (before : List LaneEvent) (position time vid : ℕ) (place : Place) →
+pub at_left : (c : KeptWays) (before : List LaneEvent) (position time vid : ℕ) (place : Place) →
     AveragesStandFor c.speeds (notes_of (seen before)) →
     StopsStandFor c.stops (entries before ++ record { second = time; vid = vid; place = place; stops = false } ∷ []) →
     c.speeds.minute ≡ minute_of time → c.stops.second ≡ time →
@@ -91,7 +91,7 @@ at_left c before position time vid place a s m t =
     at_next c before (Leave position time vid place) (rw (append-nil (notes_of (seen before))) a) s m t
 
 -- a finding by its parts
-abbrev pub found_as : ℕ → ℤ → ℕ → Option ℕ → ℕ × Finding
+abbrev pub found_as : ℕ → ℤ → ℕ → Option ℕ → ℕ × StretchTold
 found_as position whole toll alert = (position, record { lav = whole; toll = toll; alert = alert })
 
 -- what the parts of a carriage say of a report's stretch in its minute is what is found for the report

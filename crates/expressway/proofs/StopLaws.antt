@@ -15,7 +15,7 @@ use Rattle.road_time.specs.Ways.{way_of, worker_for}
 use Rattle.road_time.specs.Tuples.{reports, report_of, stretch_around, place_of, same_place}
 use Rattle.road_time.specs.Stops.{stands, left_by, trail, is_stopped}
 use Rattle.road_time.specs.Stays.{begins}
-use Rattle.road_time.specs.Entries.{Entry, is_standing}
+use Rattle.road_time.specs.Entries.{StopEntry, is_standing}
 use Rattle.road_time.specs.Sights.{moments, sights_of, previous}
 use Rattle.road_time.proofs.SameLaws.{place_is, place_same}
 use Rattle.road_time.proofs.SightLaws.{moments-append}
@@ -68,7 +68,8 @@ module _ (worker width vid : ℕ) (place : Place) (its : worker_for (way_of (str
       ∙ filter_map-append entry_of (told_to worker width es) (cond (is_told e) (e ∷ []) [])
 
   -- who stands after a leave, if the worker is told of it
-  leave_entry : (es : List Entry) (position time v : ℕ) (p : Place) (b : Bool) → (same_place p place ≡ true → b ≡ true)
+  leave_entry : (es : List StopEntry) (position time v : ℕ) (p : Place) (b : Bool) →
+      (same_place p place ≡ true → b ≡ true)
       →
       is_standing (es ++ entries (cond b (Leave position time v p ∷ []) [])) vid place
       ≡ cond (v == vid && same_place p place) false (is_standing es vid place)
@@ -87,7 +88,7 @@ module _ (worker width vid : ℕ) (place : Place) (its : worker_for (way_of (str
       ∙ leave_entry (entries (told_to worker width es)) position time v p _ (its_worker p)
 
   -- who stands after a report, if the worker is told of it
-  seen_entry : (es : List Entry) (position : ℕ) (r : Report) (b s t : Bool) →
+  seen_entry : (es : List StopEntry) (position : ℕ) (r : Report) (b s t : Bool) →
       (same_place (place_of r) place ≡ true → t ≡ true) →
       is_standing (es ++ entries (cond t (Seen position r b s ∷ []) [])) vid place
       ≡ cond (r.vid == vid && same_place (place_of r) place) (s || is_standing es vid place)

@@ -8,11 +8,11 @@ use Rattle.road_time.specs.declared.road.Tuple.{Tuple}
 use Rattle.road_time.specs.declared.road.Tuple.TheVariants.{Report as ReportTuple, Balance, Spent, Travel}
 use Rattle.road_time.specs.declared.road.Report.{Report}
 use Rattle.road_time.specs.declared.road.Place.{Place}
-use Rattle.road_time.specs.Order.{NoneBefore, InOrder}
+use Rattle.road_time.specs.Order.{NoneBefore, AreTimesInOrder}
 use Rattle.road_time.specs.Ways.{way_of, worker_for}
 use Rattle.road_time.specs.Tuples.{reports, report_of, time_of, stretch_around}
 use Rattle.road_time.specs.Stops.{up_to, is_stopped}
-use Rattle.road_time.specs.Entries.{Entry, is_standing, entries_up_to}
+use Rattle.road_time.specs.Entries.{StopEntry, is_standing, entries_up_to}
 use Rattle.road_time.specs.Sights.{moments_after}
 use Rattle.road_time.specs.Stops.{trail, left_by}
 use Rattle.road_time.proofs.EachLaws.{kept}
@@ -50,7 +50,7 @@ reports_cut second (Travel time ∷ xs) = without_report (nat_le time second) (T
     ∙ reports_cut second xs
 
 -- entries of one second
-abbrev Of : ℕ → List Entry → Type 0
+abbrev Of : ℕ → List StopEntry → Type 0
 Of n es = AllByRecursion (λ e. e.second ≡ n) es
 
 -- events of one second have entries of it
@@ -75,13 +75,13 @@ events_time before (Spent time vid xway qid of_day) = tt
 events_time before (Travel time) = tt
 
 -- entries of a second are all there up to a later one
-all_up_to : (second n : ℕ) (es : List Entry) → Of n es → n ≤ second → entries_up_to second es ≡ es
+all_up_to : (second n : ℕ) (es : List StopEntry) → Of n es → n ≤ second → entries_up_to second es ≡ es
 all_up_to second n [] h g = refl
 all_up_to second n (e ∷ es) h g = cond-true (nat_le e.second second) _ _ (le-leb e.second second (omega (arith, h.0)))
     ∙ ap (λ xs. e ∷ xs) (all_up_to second n es h.1 g)
 
 -- and none up to an earlier one
-none_up_to : (second n : ℕ) (es : List Entry) → Of n es → second < n → entries_up_to second es ≡ []
+none_up_to : (second n : ℕ) (es : List StopEntry) → Of n es → second < n → entries_up_to second es ≡ []
 none_up_to second n [] h g = refl
 none_up_to second n (e ∷ es) h g = cond-false (nat_le e.second second) _ _ (lt-leb e.second second (omega (arith, h.0)))
     ∙ none_up_to second n es h.1 g
@@ -99,7 +99,7 @@ joined_same p q = rw (p, q) refl
 
 module _ (worker width second : ℕ) where
   -- the worker's entries of events
-  abbrev told : List LaneEvent → List Entry
+  abbrev told : List LaneEvent → List StopEntry
   told es = entries (told_to worker width es)
 
   -- the events of tuples after others
@@ -138,7 +138,7 @@ module _ (worker width second : ℕ) where
       (none_told n (before ++ x ∷ []) xs h l.1)
 
   -- the entries up to a second are those of the tuples up to it
-  pub told_cut : (before day : List Tuple) → InOrder day →
+  pub told_cut : (before day : List Tuple) → AreTimesInOrder day →
       entries_up_to second (told (after before day)) ≡ told (after before (cut second day))
   told_cut before [] h = refl
   told_cut before (x ∷ xs) h =
@@ -156,7 +156,7 @@ module _ (worker width second : ℕ) where
 
 -- who is stopped at a place of the worker's ways at the end of a second, as the worker reads it
 pub stopped_then : (worker width second vid : ℕ) (place : Place) →
-    worker_for (way_of (stretch_around place)) width ≡ worker → (day : List Tuple) → InOrder day →
+    worker_for (way_of (stretch_around place)) width ≡ worker → (day : List Tuple) → AreTimesInOrder day →
     is_standing (entries_up_to second (entries (events_for day worker width))) vid place ≡ is_stopped
     (up_to second (reports day)) vid place
 stopped_then worker width second vid place its day order =

@@ -10,7 +10,7 @@ use Rattle.road_time.specs.Tuples.{reports, stretch_of, place_of, stretch_around
 use Rattle.road_time.specs.Stops.{trail, stands, left_by}
 use Rattle.road_time.specs.Sights.{Moment, moments, sights_of, previous}
 use Rattle.road_time.specs.Stays.{begins}
-use Rattle.road_time.specs.Entries.{Entry}
+use Rattle.road_time.specs.Entries.{StopEntry}
 use Rattle.expressway.specs.declared.lane_event.LaneEvent.{LaneEvent}
 use Rattle.expressway.specs.declared.lane_event.LaneEvent.TheVariants.{Seen, Leave}
 
@@ -70,12 +70,12 @@ abbrev pub seen : List LaneEvent → List Report
 seen es = filter_map report_seen es
 
 -- what an event says of stops: a report after which its vehicle is stopped is a stop at its place
-abbrev pub entry_of : LaneEvent → Option Entry
+abbrev pub entry_of : LaneEvent → Option StopEntry
 entry_of (Seen position r begins true) =
     Some (record { second = r.time; vid = r.vid; place = place_of r; stops = true })
 entry_of (Seen position r begins false) = None
 entry_of (Leave position time vid place) = Some (record { second = time; vid = vid; place = place; stops = false })
 
 -- the stops and leaves that the events tell
-abbrev pub entries : List LaneEvent → List Entry
+abbrev pub entries : List LaneEvent → List StopEntry
 entries es = filter_map entry_of es

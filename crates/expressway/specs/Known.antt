@@ -2,14 +2,14 @@ use Rattle.std.specs.Prelude.{◌≡◌, ◌≤◌, List, All, Option, Some, Non
 use Rattle.road_time.specs.Clock.{minute_of}
 use Rattle.road_time.specs.declared.road.Stretch.{Stretch}
 use Rattle.road_time.specs.Rates.{tariff_of, toll_of, whole_of}
-use Rattle.road_time.specs.Tolls.{Finding}
+use Rattle.road_time.specs.Tolls.{StretchTold}
 use Rattle.speed_stats.specs.Past.{cars_in, lav_in}
 use Rattle.accidents.specs.Near.{near_in}
 use Rattle.expressway.specs.declared.known.Known.{Known}
-use Rattle.expressway.specs.Kept.{Kept}
+use Rattle.expressway.specs.Kept.{KeptWays}
 
 -- what is told of a stretch in the current minute, by what is kept of it
-abbrev pub found_in : Kept → Stretch → Finding
+abbrev pub found_in : KeptWays → Stretch → StretchTold
 found_in c k = record {
   lav = whole_of (lav_in c.speeds k);
   toll = toll_of (tariff_of c.tariffs k.xway) (cars_in c.speeds k) (lav_in c.speeds k) (is_some (near_in c.stops k));
@@ -17,15 +17,15 @@ found_in c k = record {
 }
 
 -- what is known of a stretch, as the definitions have it
-abbrev pub known_as : Known → Finding
+abbrev pub known_as : Known → StretchTold
 known_as q = record { lav = q.lav; toll = q.toll; alert = q.alert }
 
 -- what is known is of no later minute than the current one, and true in its minute
-abbrev pub IsTrueIn : Kept → Option Known → Type 0
+abbrev pub IsTrueIn : KeptWays → Option Known → Type 0
 IsTrueIn c None = Unit {0}
 IsTrueIn c (Some q) = (q.minute ≤ c.speeds.minute) × (q.minute ≡ c.speeds.minute → known_as q ≡ found_in c q.stretch)
 
 -- the averages are of the minute of the second at which the stops are, and all that is known is true
-pub record IsInStep (c : Kept) (known : List (Option Known)) : Type 0 where
+pub record IsInStep (c : KeptWays) (known : List (Option Known)) : Type 0 where
   pub minute : c.speeds.minute ≡ minute_of c.stops.second
   pub known_ones : All (IsTrueIn c) known

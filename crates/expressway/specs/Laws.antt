@@ -14,7 +14,7 @@ use Rattle.road_time.specs.Sights.{Sight, moments, sights_of, previous}
 use Rattle.road_time.specs.Stays.{is_told}
 use Rattle.road_time.specs.Stops.{up_to, is_stopped}
 use Rattle.road_time.specs.Entries.{is_standing, entries_up_to}
-use Rattle.road_time.specs.Tolls.{Finding}
+use Rattle.road_time.specs.Tolls.{StretchTold}
 use Rattle.road_time.specs.Day.{rules, told_sight, given, charges_between, balance_by, total_by, notices, balance}
 use Rattle.road_time.specs.Day.{total, merged}
 use Rattle.expressway.specs.declared.lane_event.LaneEvent.{LaneEvent}
@@ -24,7 +24,7 @@ use Rattle.expressway.specs.Ready.{CanRun}
 use Rattle.expressway.specs.Results.{IsResultOf, IsResultShaped}
 use Rattle.expressway.specs.Events.{events_for, position_told, seen, entries}
 use Rattle.expressway.specs.Findings.{findings, found_at}
-use Rattle.expressway.specs.Runs.{MayRun, Rise}
+use Rattle.expressway.specs.Runs.{MayRun, PositionsRise}
 
 -- the reports that are from a stretch
 abbrev pub from : Stretch → List Report → List Report
@@ -97,7 +97,7 @@ JobLaw =
     findings before (es ++ later) tariffs ≡ findings before es tariffs ++ findings (before ++ es) later tariffs
 
 -- the findings of all workers, of so many
-abbrev pub all_findings : List Tuple → Tariffs → ℕ → List (ℕ × Finding)
+abbrev pub all_findings : List Tuple → Tariffs → ℕ → List (ℕ × StretchTold)
 all_findings day tariffs width =
     flat_map (λ worker. findings [] (events_for day worker width) tariffs) (range_with_len 0 width)
 
@@ -112,7 +112,7 @@ PartitionLaw =
 abbrev pub PositionLaw : Type 0
 PositionLaw =
     (day : List Tuple) (worker width : ℕ) →
-    Rise (events_for day worker width)
+    PositionsRise (events_for day worker width)
     × AllByRecursion (λ e. position_told e < length day) (events_for day worker width)
 
 -- the first event, if there is one, is of no position below n
@@ -126,14 +126,14 @@ pub record AreBack (day : List Tuple) (width n : ℕ) (back out : ℕ → List L
   pub next : (worker : ℕ) → worker < width → IsFrom n (out worker)
 
 -- the findings given are those of the events that are back, in whatever order the workers gave them
-abbrev pub AreGiven : Tariffs → ℕ → (ℕ → List LaneEvent) → List (ℕ × Finding) → Type 0
+abbrev pub AreGiven : Tariffs → ℕ → (ℕ → List LaneEvent) → List (ℕ × StretchTold) → Type 0
 AreGiven tariffs width back found =
     (position : ℕ) →
     found_at position found ≡ found_at position
     (flat_map (λ worker. findings [] (back worker) tariffs) (range_with_len 0 width))
 
 -- the findings given have the positions of those, whatever their values
-abbrev pub HaveTheirPositions : Tariffs → ℕ → (ℕ → List LaneEvent) → List (ℕ × Finding) → Type 0
+abbrev pub HaveTheirPositions : Tariffs → ℕ → (ℕ → List LaneEvent) → List (ℕ × StretchTold) → Type 0
 HaveTheirPositions tariffs width back found =
     (position : ℕ) →
     map (λ f. f.0) (found_at position found) ≡ map (λ f. f.0)
@@ -145,18 +145,18 @@ abbrev pub OneLaw : Type 0
 OneLaw =
     (day : List Tuple) (limits : Limits) → Fit day limits → (tariffs : Tariffs) (width : ℕ) → 1 ≤ width → (n : ℕ) →
     n ≤ length day →
-    (back out : ℕ → List LaneEvent) → AreBack day width n back out → (found : List (ℕ × Finding)) →
+    (back out : ℕ → List LaneEvent) → AreBack day width n back out → (found : List (ℕ × StretchTold)) →
     HaveTheirPositions tariffs width back found →
     (before later : List Tuple) (r : Report) → take n day ≡ before ++ ReportTuple r ∷ later →
     is_told (previous (sights_of before r.vid)) r ≡ true →
-    (f : Finding) × (found_at (length before) found ≡ (length before, f) ∷ [])
+    (f : StretchTold) × (found_at (length before) found ≡ (length before, f) ∷ [])
 
 -- and where the findings given are the workers' own, they make the notices of the first n tuples
 abbrev pub SettleLaw : Type 0
 SettleLaw =
     (day : List Tuple) (limits : Limits) → Fit day limits → (tariffs : Tariffs) (width : ℕ) → 1 ≤ width → (n : ℕ) →
     n ≤ length day →
-    (back out : ℕ → List LaneEvent) → AreBack day width n back out → (found : List (ℕ × Finding)) →
+    (back out : ℕ → List LaneEvent) → AreBack day width n back out → (found : List (ℕ × StretchTold)) →
     AreGiven tariffs width back found →
     (number : ℕ) (kept : ℕ → ℕ → ℕ → ℕ) →
     merged (take n day) found number kept ≡ notices (take n day) tariffs number kept
@@ -167,7 +167,7 @@ abbrev pub AccountLaw : Type 0
 AccountLaw =
     (day : List Tuple) (limits : Limits) → Fit day limits → (tariffs : Tariffs) (width : ℕ) → 1 ≤ width → (n : ℕ) →
     n ≤ length day →
-    (back out : ℕ → List LaneEvent) → AreBack day width n back out → (found : List (ℕ × Finding)) →
+    (back out : ℕ → List LaneEvent) → AreBack day width n back out → (found : List (ℕ × StretchTold)) →
     AreGiven tariffs width back found →
     ((a b : ℕ) → b ≤ n → charges_between (given found) day a b ≡ charges_between (rules day tariffs) day a b)
     × ((vid : ℕ) → balance_by (given found) vid (take n day) ≡ balance day tariffs vid (take n day))

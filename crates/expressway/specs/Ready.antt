@@ -4,7 +4,7 @@ use Rattle.road_time.specs.Fits.{IsDay}
 use Rattle.expressway.specs.declared.lane_event.LaneEvent.{LaneEvent}
 use Rattle.expressway.specs.Events.{seen}
 use Rattle.expressway.specs.Runs.{MayRun}
-use Rattle.expressway.specs.Kept.{Kept}
+use Rattle.expressway.specs.Kept.{KeptWays}
 use Rattle.expressway.specs.Stands.{StandsFor}
 
 -- events can be run after earlier ones: they may follow them, and all reports that they show are a day's
@@ -13,6 +13,6 @@ pub record CanRun (before es : List LaneEvent) : Type 0 where
   pub day : IsDay (map (λ r. ReportTuple r) (seen (before ++ es)))
 
 -- a carriage stands for earlier events, and these can be run after them
-pub record IsReady (c : Kept) (before es : List LaneEvent) : Type 0 where
+pub record IsReady (c : KeptWays) (before es : List LaneEvent) : Type 0 where
   pub stands : StandsFor c before
   pub runs : CanRun before es

@@ -21,6 +21,6 @@ MayRun before [] = Unit {0}
 MayRun before (e ∷ es) = MayFollow before e × MayRun (before ++ e ∷ []) es
 
 -- positions do not fall from event to event
-abbrev pub Rise : List LaneEvent → Type 0
-Rise [] = Unit {0}
-Rise (e ∷ es) = AllByRecursion (λ f. position_told e ≤ position_told f) es × Rise es
+abbrev pub PositionsRise : List LaneEvent → Type 0
+PositionsRise [] = Unit {0}
+PositionsRise (e ∷ es) = AllByRecursion (λ f. position_told e ≤ position_told f) es × PositionsRise es

@@ -6,7 +6,7 @@ use Rattle.speed_stats.specs.Stands.{StandsFor as AveragesStandFor}
 use Rattle.accidents.specs.Stands.{StandsFor as StopsStandFor}
 use Rattle.expressway.specs.declared.lane_event.LaneEvent.{LaneEvent}
 use Rattle.expressway.specs.Events.{seen, entries, time_told}
-use Rattle.expressway.specs.Kept.{Kept}
+use Rattle.expressway.specs.Kept.{KeptWays}
 
 -- the second of the last event, 0 where there is none
 abbrev pub last_second : List LaneEvent → ℕ
@@ -14,12 +14,12 @@ last_second es = fold (λ before e. time_told e) 0 es
 
 -- what is kept is that of the events, brought up to a second: the averages are of the reports that were seen, and who
 -- stands is who stands after the stops and leaves
-pub record IsAt (c : Kept) (time : ℕ) (es : List LaneEvent) : Type 0 where
+pub record IsAt (c : KeptWays) (time : ℕ) (es : List LaneEvent) : Type 0 where
   pub averages : AveragesStandFor c.speeds (notes_of (seen es))
   pub standing : StopsStandFor c.stops (entries es)
   pub minute : c.speeds.minute ≡ minute_of time
   pub second : c.stops.second ≡ time
 
 -- a carriage stands for the events that were run on it: all is brought up to the second of the last
-abbrev pub StandsFor : Kept → List LaneEvent → Type 0
+abbrev pub StandsFor : KeptWays → List LaneEvent → Type 0
 StandsFor c es = IsAt c (last_second es) es

@@ -23,9 +23,9 @@ pub struct Carriage {
 
 impl Model for Carriage {
     ghost use Rattle.std.specs.Prelude.{box_value};
-    ghost use Rattle.expressway.specs.Kept.{Kept};
+    ghost use Rattle.expressway.specs.Kept.{KeptWays};
 
-    ghost Value = { Kept };
+    ghost Value = { KeptWays };
 
     ghost view = { λ c. box_value c.parts };
 }

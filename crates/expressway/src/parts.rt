@@ -6,7 +6,7 @@ ghost use Rattle.std.specs.Option.{option_map};
 ghost use Rattle.road_time.specs.Clock.{minute_of};
 ghost use Rattle.road_time.specs.Notes.{Note, note_of};
 ghost use Rattle.road_time.specs.Tuples.{stretch_of as defined_stretch_of};
-ghost use Rattle.road_time.specs.Entries.{Entry, standing_at};
+ghost use Rattle.road_time.specs.Entries.{StopEntry, standing_at};
 ghost use Rattle.road_time.specs.Tolls.{notes_of, finding_by};
 ghost use Rattle.speed_stats.specs.Stands.{StandsFor as AveragesStandFor, CanNote};
 ghost use Rattle.accidents.specs.Stands.{StandsFor as StopsStandFor};
@@ -42,9 +42,9 @@ pub struct Parts {
 }
 
 impl Model for Parts {
-    ghost use Rattle.expressway.specs.Kept.{Kept};
+    ghost use Rattle.expressway.specs.Kept.{KeptWays};
 
-    ghost Value = { Kept };
+    ghost Value = { KeptWays };
 
     ghost use Rattle.expressway.specs.Known.{IsInStep};
 
@@ -72,7 +72,8 @@ fn note(speeds: &mut Speeds, report: &Report) -> Result<(), NoMemory>
 fn stop_if(stops: &mut Stops, stopped: bool, report: &Report) -> Result<(), NoMemory>
     requires second { stops.old.second ≡ report.now.time }
     ensures second { stops.new.second ≡ stops.old.second }
-    ensures stopped { OnOk result ((before : List Entry) (position : ℕ) (begins : Bool) → StopsStandFor stops.old before
+    ensures stopped { OnOk result ((before : List StopEntry) (position : ℕ) (begins : Bool)
+        → StopsStandFor stops.old before
         → StopsStandFor stops.new (before ++ entries (Seen position report.now begins stopped ∷ []))) }
     ensures last { (k : StretchValue) → stood_in stops.new k ≡ stood_in stops.old k }
 {

@@ -8,7 +8,7 @@ use Rattle.road_time.specs.declared.road.Tuple.{Tuple}
 use Rattle.road_time.specs.declared.day.SpentRow.{SpentRow}
 use Rattle.road_time.specs.Form.{Fault}
 use Rattle.road_time.specs.Rates.{Tariffs}
-use Rattle.road_time.specs.Tolls.{Finding}
+use Rattle.road_time.specs.Tolls.{StretchTold}
 use Rattle.road_time.specs.Day.{given}
 use Rattle.road_time.specs.Rows.{rows_from}
 use Rattle.road_time.specs.Text.{out}
@@ -31,7 +31,7 @@ use Rattle.day_rounds.specs.declared.fault.DayFault.TheVariants as stop
 use Rattle.import_once.specs.Imports.{DayAnswer, Work, work_by, worked_record, worked_office, import_worked}
 use Rattle.import_once.specs.Imports.{answers_worked, unless_passed, Does, Merges, KeepsAll, LeavesAlone, LeavesRead}
 use Rattle.import_once.specs.Imports.{IsOfNewDay, IsOfKeptDay}
-use Rattle.import_once.specs.Stages.{run_record, Stores, Finishes, Tells, IsAnswered, IsWhole, IsOfEnd}
+use Rattle.import_once.specs.Stages.{run_record, Stores, Finishes, Tells, IsRecordAnswered, IsReadWhole, IsOfEnd}
 use Rattle.day_rounds.specs.Faults.{WritesUpTo}
 use Rattle.import_once.specs.Runs.{stopped_outcome, WhereWorked}
 use Rattle.import_once.proofs.WorkLaws.{record_is, rows_are}
@@ -64,7 +64,8 @@ does_merges w a was old new now NoMemory (inl h) = inl h.1
 does_merges w a was old new now NoMemory (inr h) = inr h
 does_merges w a was old new now _ h = h
 
-module _ (w : WhenRefused) (number : ℕ) (found : List (ℕ × Finding)) (bytes : List ℕ) (day : List Tuple) (o : Office)
+module _ (w : WhenRefused) (number : ℕ) (found : List (ℕ × StretchTold)) (bytes : List ℕ) (day : List Tuple)
+    (o : Office)
     (old new : Option (List ℕ)) (now : Option Office) (run : WorkedDay) (tariffs : Tariffs)
     (wrote : Appends old new (out (work_by found number day o).told)) (count : run.tuples ≡ length day)
     (closed : IsClosed run.closed number (given found) number (Some (paid o.rows)) day)
@@ -88,14 +89,15 @@ module _ (w : WhenRefused) (number : ℕ) (found : List (ℕ × Finding)) (bytes
       (sym h.0)
       (record { outcome_is = ap (Refused line) (sym e.2); wrote = wrote; kept = h.1 }))
 
-module _ (w : WhenRefused) (number : ℕ) (found : List (ℕ × Finding)) (bytes : List ℕ) (day : List Tuple) (o : Office)
+module _ (w : WhenRefused) (number : ℕ) (found : List (ℕ × StretchTold)) (bytes : List ℕ) (day : List Tuple)
+    (o : Office)
     (old new : Option (List ℕ)) (now : Option Office) (run : WorkedDay) (tariffs : Tariffs)
     (wrote : Appends old new (out (work_by found number day o).told)) (count : run.tuples ≡ length day)
     (closed : IsClosed run.closed number (given found) number (Some (paid o.rows)) day)
     (under : tariffs ≡ o.tariffs) (same : now ≡ Some o) where
   -- a day that was worked and answered
   tells_whole : (kept : DayRecord) (outcome : Outcome) →
-      kept ≡ worked_record (work_by found number day o) number bytes day o → IsAnswered kept outcome
+      kept ≡ worked_record (work_by found number day o) number bytes day o → IsRecordAnswered kept outcome
       → Does w (answers_worked (work_by found number day o) number bytes day None o) o old new now outcome
   tells_whole kept (Answered r) e h = record { outcome_is = ap Answered (h ∙ e); wrote = wrote; kept = same }
   tells_whole kept NoMemory e h =
@@ -183,7 +185,7 @@ kept_alone _ source others h o = absurd h
 
 -- of a day that was read to its end no line was refused
 pub whole_unrefused : (end : DayEnd) (bytes : List ℕ) (refused : Option (ℕ × Fault)) → EndsReading end bytes refused →
-    IsWhole end → refused ≡ None
+    IsReadWhole end → refused ≡ None
 whole_unrefused (Whole n digest) bytes refused e h = e.0
 whole_unrefused (RefusedAt line cause) bytes refused e h = absurd h
 

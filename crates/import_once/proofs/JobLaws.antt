@@ -8,7 +8,7 @@ use Rattle.road_time.specs.Day.{rules}
 use Rattle.expressway.specs.declared.job.Job.{Job}
 use Rattle.expressway.specs.Events.{events_for}
 use Rattle.partition_workers.specs.Lists.{started}
-use Rattle.partition_workers.specs.Told.{Told, WhereTold}
+use Rattle.partition_workers.specs.Told.{CrewTold, WhereTold}
 use Rattle.partition_workers.specs.Callers.{ListsAll, ListsFirst}
 use Rattle.accounts.specs.Operations.{Operation, Begin, Posted, posted_with, queued_with, IsRefused}
 use Rattle.watermark.specs.Starts.{started_for}
@@ -21,7 +21,7 @@ use Rattle.keeper.specs.declared.kept.KeepFault.{KeepFault}
 use Rattle.import_once.specs.declared.outcomes.Outcome.{Outcome}
 use Rattle.import_once.specs.declared.outcomes.Outcome.TheVariants.{Stored, Answered, Refused}
 use Rattle.import_once.specs.Imports.{IsOfKeptDay}
-use Rattle.import_once.specs.Runs.{stopped_outcome, refused_outcome, WhereWorked, HasStarted, HasStepped, Publishes}
+use Rattle.import_once.specs.Runs.{stopped_outcome, refused_outcome, WhereWorked, HasStarted, HasStepped, PublishesDay}
 use Rattle.import_once.proofs.FinishLaws.{where_worked}
 use Rattle.day_rounds.specs.declared.fault.DayFault.TheVariants as stop
 use Rattle.keeper.specs.declared.kept.KeepFault.TheVariants as keeping
@@ -44,7 +44,7 @@ kept_unworked (Refused line cause) P h = absurd h
 kept_unworked _ P h = tt
 
 -- what lists all lists the first
-lists_first : (jobs : List Job) (was now : Option Told) → WhereTold (ListsAll jobs) was now →
+lists_first : (jobs : List Job) (was now : Option CrewTold) → WhereTold (ListsAll jobs) was now →
     WhereTold (ListsFirst jobs) was now
 lists_first jobs None None h = tt
 lists_first jobs None (Some now) h = absurd h
@@ -62,7 +62,8 @@ all_first width backlog day since h = record {
 }
 
 -- the jobs of a day that was worked
-pub started_all : (width backlog : ℕ) (day : List Tuple) (was now : Option Told) (outcome : Outcome) (since : List Job)
+pub started_all : (width backlog : ℕ) (day : List Tuple) (was now : Option CrewTold) (outcome : Outcome)
+    (since : List Job)
     → HaveAllStarted width backlog day since → WhereTold (ListsAll since) was now →
     HasStarted width backlog day was now outcome
 started_all width backlog day was now outcome since h listed =
@@ -75,19 +76,20 @@ started_all width backlog day was now outcome since h listed =
     }
 
 -- and of one whose work was stopped
-pub started_first : (width backlog : ℕ) (day : List Tuple) (was now : Option Told) (s : DayFault) (since : List Job) →
+pub started_first : (width backlog : ℕ) (day : List Tuple) (was now : Option CrewTold) (s : DayFault)
+    (since : List Job) →
     HaveFirstStarted width backlog day since → WhereTold (ListsFirst since) was now
     → HasStarted width backlog day was now (stopped_outcome s)
 started_first width backlog day was now s since h listed =
     record { since = since; started = h; listed = listed; all = stops_unworked s _ }
 
 -- a crew that started no job lists none more
-told_same : (told : Option Told) → WhereTold (ListsFirst []) told told
+told_same : (told : Option CrewTold) → WhereTold (ListsFirst []) told told
 told_same None = tt
 told_same (Some t) = ([], [], sym (append-nil t.listed), refl)
 
 -- no job was started
-pub none_started : (width backlog : ℕ) (day : List Tuple) (told : Option Told) (outcome : Outcome)
+pub none_started : (width backlog : ℕ) (day : List Tuple) (told : Option CrewTold) (outcome : Outcome)
     → WhereWorked outcome (HaveAllStarted width backlog day [] × WhereTold (ListsAll []) told told) →
     HasStarted width backlog day told told outcome
 none_started width backlog day told outcome h = record {
@@ -98,7 +100,7 @@ none_started width backlog day told outcome h = record {
 }
 
 -- a crew of a day whose keeper refused started no job
-pub refused_started : (width backlog : ℕ) (day : List Tuple) (told : Option Told) (fault : KeepFault)
+pub refused_started : (width backlog : ℕ) (day : List Tuple) (told : Option CrewTold) (fault : KeepFault)
     (outcome : Outcome)
     → outcome ≡ refused_outcome fault → HasStarted width backlog day told told outcome
 refused_started width backlog day told fault outcome is =
@@ -138,7 +140,7 @@ stepped_some tariffs day backlog old now s h =
 pub begun_published : (tariffs : Tariffs) (day : List Tuple) (number backlog : ℕ) (was : Posted)
     (old mid now : Option Posted) (outcome : Outcome) → old ≡ Some was →
     mid ≡ option_map (posted_with (Begin number)) old
-    → HasStepped tariffs day backlog mid now outcome → Publishes tariffs day number backlog was now outcome
+    → HasStepped tariffs day backlog mid now outcome → PublishesDay tariffs day number backlog was now outcome
 begun_published tariffs day number backlog was old mid now outcome e f h =
     let start : mid ≡ Some (posted_with (Begin number) was) = f ∙ ap (option_map (posted_with (Begin number))) e in
     let all : published_of now ≡ Some ((was.published ++ (was.queued ++ Begin number ∷ [])) ++ h.steps) =

@@ -7,8 +7,8 @@ use Rattle.road_time.specs.declared.day.Limits.{Limits}
 use Rattle.road_time.specs.Fits.{Fit, IsLimits}
 use Rattle.road_time.specs.Rates.{Tariffs}
 use Rattle.road_time.specs.Sights.{moments, Sight}
-use Rattle.road_time.specs.Tolls.{Finding}
-use Rattle.road_time.specs.Day.{Charge, given, notices, charges_by, sum_of}
+use Rattle.road_time.specs.Tolls.{StretchTold}
+use Rattle.road_time.specs.Day.{ChargedToll, given, notices, charges_by, sum_of}
 use Rattle.road_time.specs.Rows.{rows_from}
 use Rattle.road_time.specs.Text.{out}
 use Rattle.road_time.proofs.BoundLaws.{total_few}
@@ -22,22 +22,23 @@ use Rattle.keeper.specs.Office.{Office, RowsRise, sum_of_rows}
 use Rattle.std.specs.List.{AllByRecursion}
 use Rattle.keeper.specs.Kept.{IsDayPut}
 use Rattle.keeper.proofs.HistoryLaws.{day_rows_law}
-use Rattle.settling.specs.Answers.{History}
+use Rattle.settling.specs.Answers.{PaidHistory}
 use Rattle.settling.specs.Closes.{IsClosed}
 use Rattle.settling.proofs.AnswerLaws.{notices_few, notices_exact}
-use Rattle.day_reading.specs.Days.{IsShort}
+use Rattle.day_reading.specs.Days.{IsShortDay}
 use Rattle.day_rounds.specs.Imports.{AreRightFor}
 use Rattle.day_rounds.specs.declared.day_run.WorkedDay.{WorkedDay}
 use Rattle.import_once.specs.Imports.{work_of, work_by, worked_record}
 use Rattle.import_once.specs.Stages.{run_record, CanPut}
 
 -- a day that was worked may be put, whatever was found for it
-pub run_fits : (number : ℕ) (limits : Limits) (found : List (ℕ × Finding)) (history : History) (day : List Tuple)
-    (run : WorkedDay) → IsLimits limits → Fit day limits → IsShort run.end → run.tuples ≡ length day
+pub run_fits : (number : ℕ) (limits : Limits) (found : List (ℕ × StretchTold)) (history : PaidHistory)
+    (day : List Tuple)
+    (run : WorkedDay) → IsLimits limits → Fit day limits → IsShortDay run.end → run.tuples ≡ length day
     → IsClosed run.closed number (given found) number history day → ((s : Sight) → (given found s).toll ≤ 500000000000)
     → CanPut number run
 run_fits number limits found history day run within fit short count closed few =
-    let cs : List Charge = charges_by (given found) (moments day) in
+    let cs : List ChargedToll = charges_by (given found) (moments day) in
     let rows = are_rows cs number in
     let told_few = notices_few (given found) number history (moments day) closed.told closed.told_are in
     let most = total_few (given found) few day in
@@ -70,7 +71,7 @@ record_fits number bytes digest run tariffs small can = record {
   sum = can.sum;
 }
 
-module _ (number : ℕ) (found : List (ℕ × Finding)) (day : List Tuple) (o : Office) (run : WorkedDay)
+module _ (number : ℕ) (found : List (ℕ × StretchTold)) (day : List Tuple) (o : Office) (run : WorkedDay)
     (closed : IsClosed run.closed number (given found) number (Some (paid o.rows)) day) where
   -- the notices of a day that was worked
   told_is : closed.told ≡ (work_by found number day o).told
@@ -93,7 +94,7 @@ module _ (number : ℕ) (found : List (ℕ × Finding)) (day : List Tuple) (o : 
   rows_are = closed.rows
 
 -- the work by findings that are right for a day is its work by the rules
-pub right_work : (number : ℕ) (found : List (ℕ × Finding)) (day : List Tuple) (o : Office) →
+pub right_work : (number : ℕ) (found : List (ℕ × StretchTold)) (day : List Tuple) (o : Office) →
     AreRightFor found day o.tariffs number → work_by found number day o ≡ work_of number day o
 right_work number found day o right =
     let told = right.notices_are (paid o.rows) in

@@ -9,8 +9,8 @@ use Rattle.road_time.specs.declared.day.Limits.{Limits}
 use Rattle.road_time.specs.Form.{Fault}
 use Rattle.road_time.specs.Reads.{reads}
 use Rattle.road_time.specs.Sights.{moments}
-use Rattle.road_time.specs.Tolls.{Finding}
-use Rattle.road_time.specs.Day.{Charge, given, merged, notices, charges, charges_by, sum_of}
+use Rattle.road_time.specs.Tolls.{StretchTold}
+use Rattle.road_time.specs.Day.{ChargedToll, given, merged, notices, charges, charges_by, sum_of}
 use Rattle.road_time.specs.Rows.{rows_from}
 use Rattle.road_time.specs.Text.{out}
 use Rattle.tuple_format.specs.Causes.{cause_of}
@@ -25,7 +25,7 @@ use Rattle.keeper.specs.Office.{Office, record_of, last_day}
 use Rattle.keeper.specs.Kept.{IsDayPut, seal_of, with_day, found_digest}
 use Rattle.keeper.specs.Calls.{WhenRefused, Leaves}
 use Rattle.settling.specs.Printing.{WritesFront, WritesLess}
-use Rattle.day_reading.specs.Days.{StopsSoon, most_read}
+use Rattle.day_reading.specs.Days.{StopsSoon, most_of_day}
 use Rattle.import_once.specs.declared.outcomes.Outcome.{Outcome}
 use Rattle.import_once.specs.declared.outcomes.Outcome.TheVariants.{Stored, Already, Answered, Refused, DayPassed}
 use Rattle.import_once.specs.declared.outcomes.Outcome.TheVariants.{Differs, ReadFault, WriteFault, KeeperFault}
@@ -40,7 +40,7 @@ pub record DayAnswer : Type 0 where
 -- what a day told and what it charged
 pub record Work : Type 0 where
   pub told : List Notice
-  pub charged : List Charge
+  pub charged : List ChargedToll
 
 -- the work of a day by the rules, under the tariffs and after the history of an office
 abbrev pub work_of : ℕ → List Tuple → Office → Work
@@ -48,7 +48,7 @@ work_of number day o =
     record { told = notices day o.tariffs number (paid o.rows); charged = charges day o.tariffs (moments day) }
 
 -- the work of a day by what was found for the reports that are told
-abbrev pub work_by : List (ℕ × Finding) → ℕ → List Tuple → Office → Work
+abbrev pub work_by : List (ℕ × StretchTold) → ℕ → List Tuple → Office → Work
 work_by found number day o =
     record { told = merged day found number (paid o.rows); charged = charges_by (given found) (moments day) }
 
@@ -140,25 +140,25 @@ answers_answer number late limits bytes o =
 -- By what was found:
 
 -- importing a day that was read
-abbrev pub import_merged : List (ℕ × Finding) → ℕ → List ℕ → List Tuple → Option (ℕ × Fault) → Office → DayAnswer
+abbrev pub import_merged : List (ℕ × StretchTold) → ℕ → List ℕ → List Tuple → Option (ℕ × Fault) → Office → DayAnswer
 import_merged found number bytes day refused o = import_worked (work_by found number day o) number bytes day refused o
 
 -- and answering it
-abbrev pub answers_merged : List (ℕ × Finding) → ℕ → List ℕ → List Tuple → Option (ℕ × Fault) → Office → DayAnswer
+abbrev pub answers_merged : List (ℕ × StretchTold) → ℕ → List ℕ → List Tuple → Option (ℕ × Fault) → Office → DayAnswer
 answers_merged found number bytes day refused o = answers_worked (work_by found number day o) number bytes day refused o
 
 -- importing a new day of these bytes
-abbrev pub new_import_found : List (ℕ × Finding) → ℕ → ℕ → Limits → List ℕ → Office → DayAnswer
+abbrev pub new_import_found : List (ℕ × StretchTold) → ℕ → ℕ → Limits → List ℕ → Office → DayAnswer
 new_import_found found number late limits bytes o =
     import_merged found number bytes (reads bytes limits late).tuples (reads bytes limits late).refused o
 
 -- importing a day of these bytes
-abbrev pub import_found : List (ℕ × Finding) → ℕ → ℕ → Limits → List ℕ → Office → DayAnswer
+abbrev pub import_found : List (ℕ × StretchTold) → ℕ → ℕ → Limits → List ℕ → Office → DayAnswer
 import_found found number late limits bytes o =
     unless_kept (new_import_found found number late limits bytes o) number bytes o
 
 -- and answering one
-abbrev pub answers_found : List (ℕ × Finding) → ℕ → ℕ → Limits → List ℕ → Office → DayAnswer
+abbrev pub answers_found : List (ℕ × StretchTold) → ℕ → ℕ → Limits → List ℕ → Office → DayAnswer
 answers_found found number late limits bytes o =
     answers_merged found number bytes (reads bytes limits late).tuples (reads bytes limits late).refused o
 
@@ -219,7 +219,7 @@ LeavesRead _ refused bytes left = Unit {0}
 
 -- the most that an import reads: of a day that is kept, one byte more than it had
 abbrev pub most_imported : Option DayRecord → Limits → ℕ
-most_imported None limits = most_read limits
+most_imported None limits = most_of_day limits
 most_imported (Some kept) limits = kept.bytes + 1
 
 -- the outcome of a day that is read

@@ -3,12 +3,12 @@ use Rattle.std.specs.Prelude.{ℕ, ◌≡◌, ◌≤◌, ◌++◌, ◌⊎◌, Li
 use Rattle.std.specs.Option.{option_map}
 use Rattle.road_time.specs.declared.road.Tuple.{Tuple}
 use Rattle.road_time.specs.Rates.{Tariffs}
-use Rattle.road_time.specs.Tolls.{Finding as RoadFinding}
+use Rattle.road_time.specs.Tolls.{StretchTold as RoadFinding}
 use Rattle.road_time.specs.Day.{rules}
 use Rattle.expressway.specs.declared.finding.Finding.{Finding}
 use Rattle.expressway.specs.declared.job.Job.{Job}
 use Rattle.accounts.specs.Operations.{Operation, Begin, Posted}
-use Rattle.partition_workers.specs.Told.{Told, WhereTold}
+use Rattle.partition_workers.specs.Told.{CrewTold, WhereTold}
 use Rattle.partition_workers.specs.Callers.{ListsAll, ListsFirst}
 use Rattle.keeper.specs.declared.kept.KeepFault.{KeepFault}
 use Rattle.keeper.specs.declared.kept.KeepFault.TheVariants as keeping
@@ -51,7 +51,8 @@ pub record DoesByCrew (w : WhenRefused) (answer : List (ℕ × RoadFinding) → 
   pub merges : Merges w (answer found) was old new now outcome
 
 -- the jobs of a day: the crew tells the first of each worker's, and where the day was worked all
-pub record HasStarted (width backlog : ℕ) (day : List Tuple) (told now_told : Option Told) (outcome : Outcome) : Type
+pub record HasStarted (width backlog : ℕ) (day : List Tuple) (told now_told : Option CrewTold)
+    (outcome : Outcome) : Type
     0 where
   pub since : List Job
   pub started : HaveFirstStarted width backlog day since
@@ -80,7 +81,7 @@ pub record HasPublished (tariffs : Tariffs) (day : List Tuple) (number backlog :
   pub whole : WhereWorked outcome (mark ≡ length day)
 
 -- what an import publishes of a day: it and its steps; or, where it was not worked, nothing
-abbrev pub Publishes : Tariffs → List Tuple → ℕ → ℕ → Posted → Option Posted → Outcome → Type 0
-Publishes tariffs day number backlog was now outcome =
+abbrev pub PublishesDay : Tariffs → List Tuple → ℕ → ℕ → Posted → Option Posted → Outcome → Type 0
+PublishesDay tariffs day number backlog was now outcome =
     HasPublished tariffs day number backlog was now outcome
     ⊎ ((published_of now ≡ Some was.published) × WhereWorked outcome ⊥)

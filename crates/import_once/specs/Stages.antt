@@ -11,7 +11,7 @@ use Rattle.keeper.specs.Kept.{seal_of, with_day, found_digest}
 use Rattle.keeper.specs.Calls.{WhenRefused, Leaves}
 use Rattle.day_reading.specs.declared.whole_day.DayEnd.{DayEnd}
 use Rattle.day_reading.specs.declared.whole_day.DayEnd.TheVariants as end
-use Rattle.day_reading.specs.Days.{IsShort}
+use Rattle.day_reading.specs.Days.{IsShortDay}
 use Rattle.import_once.specs.declared.outcomes.Outcome.{Outcome}
 use Rattle.import_once.specs.declared.outcomes.Outcome.TheVariants.{Stored, Already, Answered, Refused, Differs}
 use Rattle.import_once.specs.declared.outcomes.Outcome.TheVariants.{ReadFault, KeeperFault, NoMemory}
@@ -36,7 +36,7 @@ run_record number bytes digest run tariffs =
 
 -- a day that was worked may be put
 pub record CanPut (number : ℕ) (run : WorkedDay) : Type 0 where
-  pub short : IsShort run.end
+  pub short : IsShortDay run.end
   pub tuples : run.tuples < 2 ^ 63
   pub notices : run.closed.notices < 2 ^ 63
   pub total : run.closed.total < 2 ^ 63
@@ -62,25 +62,25 @@ Finishes w number (end.Refused line cause) run tariffs was now outcome =
     (outcome ≡ Refused line cause) × (now ≡ Some was)
 
 -- a record is answered, or memory ran out
-abbrev pub IsAnswered : DayRecord → Outcome → Type 0
-IsAnswered kept (Answered r) = r ≡ kept
-IsAnswered kept NoMemory = Unit {0}
-IsAnswered kept _ = ⊥
+abbrev pub IsRecordAnswered : DayRecord → Outcome → Type 0
+IsRecordAnswered kept (Answered r) = r ≡ kept
+IsRecordAnswered kept NoMemory = Unit {0}
+IsRecordAnswered kept _ = ⊥
 
 -- a day that was read whole is answered, unless memory runs out; of another one the first refused line is named
 abbrev pub Tells : ℕ → DayEnd → WorkedDay → Tariffs → Outcome → Type 0
 Tells number (end.Whole bytes digest) run tariffs outcome =
-    IsAnswered (run_record number bytes digest run tariffs) outcome
+    IsRecordAnswered (run_record number bytes digest run tariffs) outcome
 Tells number (end.Refused line cause) run tariffs outcome = outcome ≡ Refused line cause
 
 -- a day was read to its end
-abbrev pub IsWhole : DayEnd → Type 0
-IsWhole (end.Whole bytes digest) = Unit {0}
-IsWhole (end.Refused line cause) = ⊥
+abbrev pub IsReadWhole : DayEnd → Type 0
+IsReadWhole (end.Whole bytes digest) = Unit {0}
+IsReadWhole (end.Refused line cause) = ⊥
 
 -- a day is stored of a reading that came to its end, and a line is named that ended it
 abbrev pub IsOfEnd : DayEnd → Outcome → Type 0
-IsOfEnd read (Stored kept) = IsWhole read
+IsOfEnd read (Stored kept) = IsReadWhole read
 IsOfEnd read (Refused line cause) = read ≡ end.Refused line cause
 IsOfEnd read _ = Unit {0}
 

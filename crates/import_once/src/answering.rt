@@ -3,7 +3,8 @@ ghost use Rattle.std.specs.Prelude.{◌≡◌, ◌≤◌, List, ℕ, Some, [], t
 ghost use Rattle.road_time.specs.Reads.{reads};
 ghost use Rattle.keeper.specs.Office.{Office};
 ghost use Rattle.road_time.specs.Fits.{IsLimits};
-ghost use Rattle.day_reading.specs.Days.{ReadsWithin, most_read};
+ghost use Rattle.day_reading.specs.Days.{most_of_day};
+ghost use Rattle.road_io.specs.Within.{ReadsWithin};
 ghost use Rattle.road_io.specs.Blame.{FaultsByPlan, FaultsByRoom};
 ghost use Rattle.import_once.specs.Imports.{answers_answer, answers_found, Does, LeavesRead, IsOfAnswers};
 ghost use Rattle.import_once.specs.Runs.{DoesByCrew, HasStarted};
@@ -56,7 +57,7 @@ fn answer_under<S: Source, O: Sink, K: Keeper, C: Crew, R: Threads>(
     ensures own { IsOfAnswers result }
     ensures leaves { (bytes : List ℕ) → S.left source.old ≡ Some bytes
         → LeavesRead result (reads bytes limits.now late).refused bytes (S.left source.new) }
-    ensures bounded { ReadsWithin (most_read limits.now) (S.left source.old) (S.left source.new) }
+    ensures bounded { ReadsWithin (most_of_day limits.now) (S.left source.old) (S.left source.new) }
     ensures idle { C.out crew.new ≡ [] }
     ensures crew { C.which crew.new ≡ C.which crew.old }
     ensures read_same { S.name source.new ≡ S.name source.old }
@@ -121,7 +122,7 @@ pub fn answers<S: Source, O: Sink, K: Keeper, C: Crew, R: Threads>(
     ensures own { IsOfAnswers result }
     ensures leaves { (bytes : List ℕ) → S.left source.old ≡ Some bytes
         → LeavesRead result (reads bytes limits.now late).refused bytes (S.left source.new) }
-    ensures bounded { ReadsWithin (most_read limits.now) (S.left source.old) (S.left source.new) }
+    ensures bounded { ReadsWithin (most_of_day limits.now) (S.left source.old) (S.left source.new) }
     ensures idle { C.out crew.new ≡ [] }
     ensures crew { C.which crew.new ≡ C.which crew.old }
     ensures read_same { S.name source.new ≡ S.name source.old }

@@ -7,12 +7,13 @@ ghost use Rattle.keeper.specs.Kept.{IsLater};
 ghost use Rattle.keeper.specs.Calls.{IfTold};
 ghost use Rattle.settling.specs.Boards.{IsAbreast};
 ghost use Rattle.road_time.specs.Fits.{IsLimits};
-ghost use Rattle.day_reading.specs.Days.{ReadsWithin, most_read};
+ghost use Rattle.day_reading.specs.Days.{most_of_day};
+ghost use Rattle.road_io.specs.Within.{ReadsWithin};
 ghost use Rattle.road_io.specs.Blame.{FaultsByPlan, FaultsByRoom};
 ghost use Rattle.import_once.specs.Imports.{new_import, new_import_found};
 ghost use Rattle.import_once.specs.Imports.{Does, LeavesRead, PutsOnce};
 ghost use Rattle.import_once.specs.Imports.{KeepsAll, IsOfNewDay};
-ghost use Rattle.import_once.specs.Runs.{DoesByCrew, HasStarted, HasStepped, Publishes};
+ghost use Rattle.import_once.specs.Runs.{DoesByCrew, HasStarted, HasStepped, PublishesDay};
 ghost use Rattle.accounts.specs.Operations.{Posted};
 ghost use Rattle.import_once.specs.declared.outcomes.Outcome.TheVariants.{Stored, ReadFault, WriteFault, KeeperFault};
 
@@ -72,7 +73,7 @@ fn import_under<S: Source, O: Sink, K: Keeper, C: Crew, P: Publisher, R: Threads
     ensures leaves { (bytes : List ℕ) → S.left source.old ≡ Some bytes
         → LeavesRead result (reads bytes limits.now late).refused bytes (S.left source.new) }
     ensures new_day { IsOfNewDay result }
-    ensures bounded { ReadsWithin (most_read limits.now) (S.left source.old) (S.left source.new) }
+    ensures bounded { ReadsWithin (most_of_day limits.now) (S.left source.old) (S.left source.new) }
     ensures idle { C.out crew.new ≡ [] }
     ensures crew { C.which crew.new ≡ C.which crew.old }
     ensures publisher { P.which publisher.new ≡ P.which publisher.old }
@@ -127,7 +128,7 @@ pub(crate) fn import_begun<S: Source, O: Sink, K: Keeper, C: Crew, P: Publisher,
         (C.jobs crew.new) result }
     ensures published { C.exact ≡ true → (bytes : List ℕ) (was : Posted) → S.left source.old ≡ Some bytes
         → P.posted publisher.old ≡ Some was
-        → Publishes tariffs.now (reads bytes limits.now late).tuples number limits.now.backlog was
+        → PublishesDay tariffs.now (reads bytes limits.now late).tuples number limits.now.backlog was
         (P.posted publisher.new) result }
     ensures puts { (o : Office) → K.told keeper.old ≡ Some o → PutsOnce number o (K.told keeper.new) }
     ensures keeps { KeepsAll result (K.told keeper.new ≡ K.told keeper.old) }
@@ -136,7 +137,7 @@ pub(crate) fn import_begun<S: Source, O: Sink, K: Keeper, C: Crew, P: Publisher,
     ensures leaves { (bytes : List ℕ) → S.left source.old ≡ Some bytes
         → LeavesRead result (reads bytes limits.now late).refused bytes (S.left source.new) }
     ensures new_day { IsOfNewDay result }
-    ensures bounded { ReadsWithin (most_read limits.now) (S.left source.old) (S.left source.new) }
+    ensures bounded { ReadsWithin (most_of_day limits.now) (S.left source.old) (S.left source.new) }
     ensures idle { C.out crew.new ≡ [] }
     ensures crew { C.which crew.new ≡ C.which crew.old }
     ensures publisher { P.which publisher.new ≡ P.which publisher.old }

@@ -4,12 +4,13 @@ ghost use Rattle.road_time.specs.Reads.{reads};
 ghost use Rattle.keeper.specs.declared.kept.DayRecord.{DayRecord};
 ghost use Rattle.keeper.specs.Office.{Office, record_of, last_day};
 ghost use Rattle.road_time.specs.Fits.{IsLimits};
-ghost use Rattle.day_reading.specs.Days.{ReadsWithin, most_read};
+ghost use Rattle.day_reading.specs.Days.{most_of_day};
+ghost use Rattle.road_io.specs.Within.{ReadsWithin};
 ghost use Rattle.road_io.specs.Blame.{FaultsByPlan, FaultsByRoom};
 ghost use Rattle.import_once.specs.Imports.{import_answer, import_found};
 ghost use Rattle.import_once.specs.Imports.{most_imported, Does, LeavesRest, LeavesAlone, LeavesRead, PutsOnce};
 ghost use Rattle.import_once.specs.Imports.{KeepsAll, IsUncompared};
-ghost use Rattle.import_once.specs.Runs.{DoesByCrew, HasStarted, Publishes};
+ghost use Rattle.import_once.specs.Runs.{DoesByCrew, HasStarted, PublishesDay};
 ghost use Rattle.accounts.specs.Operations.{Posted};
 ghost use Rattle.import_once.specs.declared.outcomes.Outcome.TheVariants.{Stored, ReadFault, WriteFault, KeeperFault};
 
@@ -59,7 +60,7 @@ pub fn import<S: Source, O: Sink, K: Keeper, C: Crew, P: Publisher, R: Threads>(
     ensures published { C.exact ≡ true → (bytes : List ℕ) (o : Office) (was : Posted) → S.left source.old ≡ Some bytes
         → K.told keeper.old ≡ Some o
         → P.posted publisher.old ≡ Some was
-        → Publishes o.tariffs (reads bytes limits.now late).tuples day limits.now.backlog was
+        → PublishesDay o.tariffs (reads bytes limits.now late).tuples day limits.now.backlog was
         (P.posted publisher.new) result }
     ensures puts { (o : Office) → K.told keeper.old ≡ Some o → PutsOnce day o (K.told keeper.new) }
     ensures keeps { KeepsAll result (K.told keeper.new ≡ K.told keeper.old) }
@@ -74,7 +75,7 @@ pub fn import<S: Source, O: Sink, K: Keeper, C: Crew, P: Publisher, R: Threads>(
     ensures unread { (o : Office) → K.told keeper.old ≡ Some o → record_of o day ≡ None → day ≤ last_day o
         → source.new ≡ source.old }
     ensures uncompared { IsUncompared result
-        → ReadsWithin (most_read limits.now) (S.left source.old) (S.left source.new) }
+        → ReadsWithin (most_of_day limits.now) (S.left source.old) (S.left source.new) }
     ensures bounded { (o : Office) → K.told keeper.old ≡ Some o
         → ReadsWithin (most_imported (record_of o day) limits.now) (S.left source.old) (S.left source.new) }
     ensures idle { C.out crew.new ≡ [] }

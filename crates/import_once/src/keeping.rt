@@ -8,7 +8,7 @@ ghost use Rattle.keeper.specs.declared.digest.Digest.{Digest as DigestValue};
 ghost use Rattle.day_reading.specs.declared.whole_day.DayEnd.TheVariants.{Whole};
 ghost use Rattle.road_io.specs.Blame.{FaultsByPlan};
 ghost use Rattle.import_once.specs.Imports.{IsOfNewDay, IsOfAnswers, PutsOnce, KeepsAll};
-ghost use Rattle.import_once.specs.Stages.{run_record, CanPut, Stores, Finishes, Tells, IsWhole, IsOfEnd};
+ghost use Rattle.import_once.specs.Stages.{run_record, CanPut, Stores, Finishes, Tells, IsReadWhole, IsOfEnd};
 ghost use Rattle.import_once.specs.declared.outcomes.Outcome.TheVariants.{Stored, ReadFault, WriteFault, KeeperFault};
 
 use crate::outcomes::{Outcome, refused};
@@ -77,7 +77,7 @@ pub fn finish_import<K: Keeper>(
         → Finishes K.refuses number run.now.end run.now tariffs.now o (K.told keeper.new) result }
     ensures puts { (o : Office) → K.told keeper.old ≡ Some o → PutsOnce number o (K.told keeper.new) }
     ensures keeps { KeepsAll result (K.told keeper.new ≡ K.told keeper.old) }
-    ensures whole { (kept : DayRecordValue) → result ≡ Stored kept → IsWhole run.now.end }
+    ensures whole { (kept : DayRecordValue) → result ≡ Stored kept → IsReadWhole run.now.end }
     ensures of_end { IsOfEnd run.now.end result }
     ensures new_day { IsOfNewDay result }
     ensures unread { result ≢ ReadFault }

@@ -1,6 +1,6 @@
 // A day that is kept is read up to one byte more than it had, and compared.
 ghost use Rattle.std.specs.Prelude.{◌≡◌, ◌≢◌, ◌+◌, List, ℕ, Some};
-ghost use Rattle.day_reading.specs.Days.{ReadsWithin};
+ghost use Rattle.road_io.specs.Within.{ReadsWithin};
 ghost use Rattle.road_io.specs.Blame.{FaultsByPlan};
 ghost use Rattle.import_once.specs.Imports.{again, IsOfKeptDay, IsUncompared};
 ghost use Rattle.import_once.specs.Stages.{Compares};

@@ -6,12 +6,13 @@ ghost use Rattle.keeper.specs.Office.{Office, last_day};
 ghost use Rattle.keeper.specs.Kept.{IsLater};
 ghost use Rattle.keeper.specs.Calls.{IfTold};
 ghost use Rattle.road_time.specs.Fits.{IsLimits};
-ghost use Rattle.day_reading.specs.Days.{ReadsWithin, most_read};
+ghost use Rattle.day_reading.specs.Days.{most_of_day};
+ghost use Rattle.road_io.specs.Within.{ReadsWithin};
 ghost use Rattle.road_io.specs.Blame.{FaultsByPlan, FaultsByRoom};
 ghost use Rattle.import_once.specs.Imports.{new_import, new_import_found, unless_passed};
 ghost use Rattle.import_once.specs.Imports.{Does, LeavesAlone, LeavesRead, PutsOnce};
 ghost use Rattle.import_once.specs.Imports.{KeepsAll, IsOfNewDay};
-ghost use Rattle.import_once.specs.Runs.{DoesByCrew, HasStarted, Publishes};
+ghost use Rattle.import_once.specs.Runs.{DoesByCrew, HasStarted, PublishesDay};
 ghost use Rattle.accounts.specs.Operations.{Posted};
 ghost use Rattle.import_once.specs.declared.outcomes.Outcome.TheVariants.{Stored, ReadFault, WriteFault, KeeperFault};
 
@@ -60,7 +61,7 @@ fn import_later<S: Source, O: Sink, K: Keeper, C: Crew, P: Publisher, R: Threads
     ensures published { C.exact ≡ true → (bytes : List ℕ) (o : Office) (was : Posted) → S.left source.old ≡ Some bytes
         → K.told keeper.old ≡ Some o
         → P.posted publisher.old ≡ Some was
-        → Publishes o.tariffs (reads bytes limits.now late).tuples number limits.now.backlog was
+        → PublishesDay o.tariffs (reads bytes limits.now late).tuples number limits.now.backlog was
         (P.posted publisher.new) result }
     ensures puts { (o : Office) → K.told keeper.old ≡ Some o → PutsOnce number o (K.told keeper.new) }
     ensures keeps { KeepsAll result (K.told keeper.new ≡ K.told keeper.old) }
@@ -69,7 +70,7 @@ fn import_later<S: Source, O: Sink, K: Keeper, C: Crew, P: Publisher, R: Threads
     ensures leaves { (bytes : List ℕ) → S.left source.old ≡ Some bytes
         → LeavesRead result (reads bytes limits.now late).refused bytes (S.left source.new) }
     ensures new_day { IsOfNewDay result }
-    ensures bounded { ReadsWithin (most_read limits.now) (S.left source.old) (S.left source.new) }
+    ensures bounded { ReadsWithin (most_of_day limits.now) (S.left source.old) (S.left source.new) }
     ensures idle { C.out crew.new ≡ [] }
     ensures crew { C.which crew.new ≡ C.which crew.old }
     ensures publisher { P.which publisher.new ≡ P.which publisher.old }
@@ -124,7 +125,7 @@ pub(crate) fn import_new<S: Source, O: Sink, K: Keeper, C: Crew, P: Publisher, R
     ensures published { C.exact ≡ true → (bytes : List ℕ) (o : Office) (was : Posted) → S.left source.old ≡ Some bytes
         → K.told keeper.old ≡ Some o
         → P.posted publisher.old ≡ Some was
-        → Publishes o.tariffs (reads bytes limits.now late).tuples number limits.now.backlog was
+        → PublishesDay o.tariffs (reads bytes limits.now late).tuples number limits.now.backlog was
         (P.posted publisher.new) result }
     ensures puts { (o : Office) → K.told keeper.old ≡ Some o → PutsOnce number o (K.told keeper.new) }
     ensures keeps { KeepsAll result (K.told keeper.new ≡ K.told keeper.old) }
@@ -134,7 +135,7 @@ pub(crate) fn import_new<S: Source, O: Sink, K: Keeper, C: Crew, P: Publisher, R
         → LeavesRead result (reads bytes limits.now late).refused bytes (S.left source.new) }
     ensures alone { LeavesAlone result (source.new ≡ source.old) ((sink.new ≡ sink.old)
         × (publisher.new ≡ publisher.old) × (crew.new ≡ crew.old)) }
-    ensures bounded { ReadsWithin (most_read limits.now) (S.left source.old) (S.left source.new) }
+    ensures bounded { ReadsWithin (most_of_day limits.now) (S.left source.old) (S.left source.new) }
     ensures idle { C.out crew.new ≡ [] }
     ensures crew { C.which crew.new ≡ C.which crew.old }
     ensures publisher { P.which publisher.new ≡ P.which publisher.old }

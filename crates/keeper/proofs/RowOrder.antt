@@ -78,7 +78,7 @@ all_at P (x ∷ xs) zero d h less = h.0
 all_at P (x ∷ xs) (suc i) d h less = all_at P xs i d h.1 (omega arith)
 
 -- less is not equal, and greater is not
-less_apart : Less ≡ Equal → ⊥
+pub less_apart : Less ≡ Equal → ⊥
 less_apart e = cc
 
 pub greater_apart : Greater ≡ Equal → ⊥

@@ -257,3 +257,13 @@ pub same_office : (ds es : List DayRecord) (rs ss : List SpentRow) (past : Optio
     ds ≡ es → rs ≡ ss → ts ≡ us → ◌≡◌ {A = Office} (record { days = ds; rows = rs; past = past; tariffs = ts })
     (record { days = es; rows = ss; past = past; tariffs = us })
 same_office ds es rs ss past ts us p q r = cc
+
+-- the greatest of some days is no less than the first
+pub greatest_least : (n : ℕ) (ds : List DayRecord) → n ≤ greatest_day n ds
+greatest_least n ds = (days_most n ds).0
+
+-- where the last day is 0 and days are counted from 1, none is kept
+pub none_kept : (days : List DayRecord) (past : Option PastRecord) → last_from days past ≡ 0 →
+    AllByRecursion (λ r. 1 ≤ r.day) days → days ≡ []
+none_kept [] past e h = refl
+none_kept (d ∷ ds) past e h = absurd (omega (arith, e, h.0, greatest_least d.day ds))

@@ -6,7 +6,7 @@ use Rattle.road_time.specs.declared.road.Notice.{Notice}
 use Rattle.road_time.specs.declared.road.Notice.TheVariants.{Toll as TollNotice}
 use Rattle.road_time.specs.Sights.{Moment, moments, Sight, sights_of, previous}
 use Rattle.road_time.specs.Stays.{is_told}
-use Rattle.road_time.specs.Tolls.{Finding}
+use Rattle.road_time.specs.Tolls.{StretchTold}
 use Rattle.road_time.specs.Day.{rules, told_if, alert_of, notices_of, told_by, answer_by, notices_by, charges}
 use Rattle.road_time.proofs.SightLaws.{length-moments}
 use Rattle.road_time.proofs.BoundLaws.{rules_few, total_few}
@@ -21,7 +21,7 @@ alert_few : (r : Report) (o : Option ℕ) → length (alert_of r o) ≤ 1
 alert_few r None = omega arith
 alert_few r (Some seg) = omega arith
 
-module _ (finding : Sight → Finding) (number : ℕ) (kept : ℕ → ℕ → ℕ → ℕ) where
+module _ (finding : Sight → StretchTold) (number : ℕ) (kept : ℕ → ℕ → ℕ → ℕ) where
   -- what is told to a sight is two notices at most
   told_few : (o : Option Sight) → length (notices_of finding o) ≤ 2
   told_few None = omega arith

@@ -1,7 +1,7 @@
 use Rattle.std.specs.Prelude.{◌≡◌, ℕ, ◌^◌, ◌<◌, ◌≤◌, List, length}
 use Rattle.std.specs.List.{AllByRecursion}
 use Rattle.road_time.specs.declared.day.SpentRow.{SpentRow}
-use Rattle.road_time.specs.Rows.{Rise, rows_of}
+use Rattle.road_time.specs.Rows.{AreRowsRising, rows_of}
 use Rattle.road_time.specs.declared.road.Tuple.{Tuple}
 use Rattle.road_time.specs.Fits.{IsDay}
 use Rattle.keeper.specs.Kept.{IsDayPut, kept_record}
@@ -20,7 +20,8 @@ KeysLaw = (rows : List SpentRow) → RowsRise rows → KeysDiffer rows
 
 -- the rows of one day in the order of vehicles and expressways are in rising order
 abbrev pub DayRowsLaw : Type 0
-DayRowsLaw = (rows : List SpentRow) (day : ℕ) → AllByRecursion (λ r. r.day ≡ day) rows → Rise rows → RowsRise rows
+DayRowsLaw = (rows : List SpentRow) (day : ℕ) → AllByRecursion (λ r. r.day ≡ day) rows → AreRowsRising rows →
+    RowsRise rows
 
 -- what a day stores may be put: its record and its rows fit together
 abbrev pub StoredLaw : Type 0

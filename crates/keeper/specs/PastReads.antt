@@ -23,15 +23,15 @@ abbrev pub past_uses : List Use
 past_uses = name ∷ From 1 69 ∷ From 0 255 ∷ From 0 9999999999 ∷ []
 
 -- the amount of a line's numbers, where the days are counted back from a base
-abbrev pub past_row : ℕ → List ℤ → Option SpentRow
-past_row base (pos vid ∷ pos day ∷ pos xway ∷ pos tolls ∷ []) =
+abbrev pub past_amount : ℕ → List ℤ → Option SpentRow
+past_amount base (pos vid ∷ pos day ∷ pos xway ∷ pos tolls ∷ []) =
     Some (record { day = base - day; vid = vid; xway = xway; tolls = tolls })
-past_row base _ = None
+past_amount base _ = None
 
 -- the amount of four numbers, unless one is out of its range
 abbrev pub past_in_ranges : ℕ → List ℤ → Option ℕ → Result (Option SpentRow) PastFault
 past_in_ranges base zs (Some n) = Err (OfLine (Range n))
-past_in_ranges base zs None = Ok (past_row base zs)
+past_in_ranges base zs None = Ok (past_amount base zs)
 
 -- the amount of four fields, or the first that is no number
 abbrev pub past_of_fields : ℕ → List (List ℕ) → Option ℕ → Result (Option SpentRow) PastFault
@@ -53,8 +53,8 @@ past_formed (Ok o) = o
 past_formed (Err f) = None
 
 -- the amounts of lines
-abbrev pub past_rows : ℕ → List (List ℕ) → List SpentRow
-past_rows base lines = filter_map (λ l. past_formed (past_form base (without_cr l))) lines
+abbrev pub past_amounts : ℕ → List (List ℕ) → List SpentRow
+past_amounts base lines = filter_map (λ l. past_formed (past_form base (without_cr l))) lines
 
 -- why a line of this form is refused after these amounts
 abbrev pub fault_of_past : List SpentRow → Result (Option SpentRow) PastFault → Option PastFault
@@ -67,7 +67,7 @@ abbrev pub past_fault : ℕ → Limits → List (List ℕ) → List ℕ → Opti
 past_fault base limits before line =
     if nat_lt 200 (length line) then Some (OfLine Long)
     else if nat_le limits.past (length before) then Some (OfLine (Many limits.past))
-    else fault_of_past (past_rows base before) (past_form base (without_cr line))
+    else fault_of_past (past_amounts base before) (past_form base (without_cr line))
 
 -- the amounts that were read, zeros too, and the number and fault of the line at which the reading ended, if one was
 -- refused
@@ -78,11 +78,11 @@ pub record PastReading : Type 0 where
 -- the reading ends at a line that is refused, or goes on
 abbrev pub past_at : ℕ → List (List ℕ) → Option PastFault → PastReading → PastReading
 past_at base before None rest = rest
-past_at base before (Some f) rest = record { rows = past_rows base before; refused = Some (length before + 1, f) }
+past_at base before (Some f) rest = record { rows = past_amounts base before; refused = Some (length before + 1, f) }
 
 -- the amounts of the lines up to the first that is refused
 abbrev pub past_after : ℕ → Limits → List (List ℕ) → List (List ℕ) → PastReading
-past_after base limits before [] = record { rows = past_rows base before; refused = None }
+past_after base limits before [] = record { rows = past_amounts base before; refused = None }
 past_after base limits before (l ∷ ls) =
     past_at base before (past_fault base limits before l) (past_after base limits (before ++ l ∷ []) ls)
 

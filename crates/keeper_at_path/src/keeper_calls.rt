@@ -4,7 +4,7 @@ ghost use Rattle.std.specs.Prelude.{None};
 use crate::at_path::AtPath;
 use crate::keeper_in::KeeperIn;
 use crate::puts::{PutDay, PutPast, PutTariff};
-use crate::reads::{Day, KeptTariffs, LastDay, Past, Rows, Spent, VehicleRows};
+use crate::reads::{AskedDay, AskedSpent, KeptTariffs, LastDay, Past, Rows, VehicleRows};
 use keeper::{DayRecord, KeepFault, Keeper, PastRecord};
 use road_time::{SpentRow, Tariff, Tariffs};
 
@@ -27,7 +27,7 @@ impl<S: AtPath> Keeper for KeeperIn<S> {
     }
 
     fn day(&mut self, day: u32) -> Result<Option<DayRecord>, KeepFault> {
-        self.ask(Day { day })
+        self.ask(AskedDay { day })
     }
 
     fn past(&mut self) -> Result<Option<PastRecord>, KeepFault> {
@@ -35,7 +35,7 @@ impl<S: AtPath> Keeper for KeeperIn<S> {
     }
 
     fn spent(&mut self, day: u32, vid: u32, xway: u8) -> Result<u64, KeepFault> {
-        self.ask(Spent { day, vid, xway })
+        self.ask(AskedSpent { day, vid, xway })
     }
 
     fn rows(&mut self, from: u32, to: u32) -> Result<Vec<SpentRow>, KeepFault> {

@@ -17,4 +17,4 @@ pub use at_path::{AtPath, KeptStore};
 pub use call::Call;
 pub use keeper_in::KeeperIn;
 pub use puts::{PutDay, PutPast, PutTariff};
-pub use reads::{Day, KeptTariffs, LastDay, Past, Rows, Spent, VehicleRows};
+pub use reads::{AskedDay, AskedSpent, KeptTariffs, LastDay, Past, Rows, VehicleRows};

@@ -23,11 +23,11 @@ impl Call for LastDay {
 
 /// Asks for the record of a day.
 #[derive(Clone, Copy)]
-pub struct Day {
+pub struct AskedDay {
     pub day: u32,
 }
 
-impl Call for Day {
+impl Call for AskedDay {
     type Answer = Option<DayRecord>;
 
     ghost fits = { λ _. Unit {0} };
@@ -57,13 +57,13 @@ impl Call for Past {
 
 /// Asks for the amount of a vehicle on an expressway on a day.
 #[derive(Clone, Copy)]
-pub struct Spent {
+pub struct AskedSpent {
     pub day: u32,
     pub vid: u32,
     pub xway: u8,
 }
 
-impl Call for Spent {
+impl Call for AskedSpent {
     type Answer = u64;
 
     ghost fits = { λ _. Unit {0} };

@@ -12,8 +12,8 @@ use Rattle.keeper.specs.Office.{Office}
 use Rattle.kept_tables.specs.Stands.{HasOffice}
 
 -- a statement, a query or a commit was refused with this error
-abbrev pub Refuses : List ℕ → Row → State → State → Error → Type 0
-Refuses sql params before after e =
+abbrev pub RefusesStatement : List ℕ → Row → State → State → Error → Type 0
+RefusesStatement sql params before after e =
     Executes sql params before after (Err e)
     ⊎ (ExecutesInside 0 sql params before after (Err e)
     ⊎ (FailsToQuery sql params before after e ⊎ FailsToCommit before after e))
@@ -24,7 +24,7 @@ pub record Refused {S : Type 0} (g : Ghosts S) (error : Error) : Type 0 where
   pub params : Row
   pub before : Held S
   pub after : Held S
-  pub refused : Refuses sql params (state g before) (state g after) error
+  pub refused : RefusesStatement sql params (state g before) (state g after) error
 
 -- and not for want of memory
 pub record WasRefused {S : Type 0} (g : Ghosts S) : Type 0 where

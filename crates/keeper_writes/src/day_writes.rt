@@ -7,7 +7,7 @@ ghost use Rattle.sqlite.specs.State.{HasCleanDisk, Survives};
 ghost use Rattle.keeper.specs.declared.kept.DayRecord.{DayRecord};
 ghost use Rattle.keeper.specs.Office.{Office};
 ghost use Rattle.keeper.specs.Kept.{IsDayPut, IsLater, with_day};
-ghost use Rattle.kept_tables.specs.Stands.{Contents, Holds, HoldsAs, HasOffice, IsWhole, with_record, with_seal};
+ghost use Rattle.kept_tables.specs.Stands.{Contents, Holds, HoldsAs, HasOffice, IsWholeDigest, with_record, with_seal};
 ghost use Rattle.kept_tables.specs.Steps.{StaysInside};
 ghost use Rattle.keeper_writes.specs.Causes.{Refused};
 
@@ -48,8 +48,8 @@ pub fn put_record<S: Alter>(tx: &mut Transaction<'_, S>, kept: &DayRecord) -> Re
     requires notices { kept.now.notices < 2 ^ 63 }
     requires total { kept.now.total < 2 ^ 63 }
     ensures day { kept.now.day < 2 ^ 32 }
-    ensures digest { IsWhole kept.now.digest }
-    ensures told { IsWhole kept.now.notices_digest }
+    ensures digest { IsWholeDigest kept.now.digest }
+    ensures told { IsWholeDigest kept.now.notices_digest }
     ensures same_reference { tx.new.conn.ghost_name ≡ tx.old.conn.ghost_name }
     ensures puts { HasCleanDisk (state S.Store tx.new.conn.now)
         → IsTrue (state S.Store tx.old.conn.now).in_transaction → (c : Contents)
@@ -81,7 +81,7 @@ pub fn put_record<S: Alter>(tx: &mut Transaction<'_, S>, kept: &DayRecord) -> Re
 
 /// Puts the seal of a day after all others.
 pub fn put_seal<S: Alter>(tx: &mut Transaction<'_, S>, day: u32, seal: &Digest) -> Result<(), Error>
-    ensures fits { IsWhole seal.now }
+    ensures fits { IsWholeDigest seal.now }
     ensures same_reference { tx.new.conn.ghost_name ≡ tx.old.conn.ghost_name }
     ensures puts { HasCleanDisk (state S.Store tx.new.conn.now)
         → IsTrue (state S.Store tx.old.conn.now).in_transaction → (version : List Row) → (c : Contents)

@@ -1,18 +1,17 @@
 -- What may be put after what a keeper answered.
-use Rattle.std.proofs.Common.{◌≡◌, ℕ, ◌<◌, ◌≤◌, max, nat_eq, Bool, true, List, [], ◌∷◌, Option, Some, None, Result, Ok}
+use Rattle.std.proofs.Common.{◌≡◌, ℕ, ◌<◌, nat_eq, Bool, true, [], ◌∷◌, Option, Some, None, Result, Ok}
 use Rattle.std.proofs.Common.{Err, refl, sym, ap, subst, ◌∙◌, arith}
-use Rattle.std.specs.List.{AllByRecursion}
 use Rattle.std.proofs.lemmas.Bool.{eqb-true}
 use Rattle.road_time.specs.declared.day.SpentRow.{SpentRow}
 use Rattle.keeper.specs.declared.digest.Digest.{Digest}
 use Rattle.keeper.specs.declared.kept.DayRecord.{DayRecord}
-use Rattle.keeper.specs.declared.kept.PastRecord.{PastRecord}
 use Rattle.keeper.specs.declared.kept.KeepFault.{KeepFault}
-use Rattle.keeper.specs.Office.{Office, row_cmp, last_day, last_from, greatest_day}
+use Rattle.keeper.specs.Office.{Office, row_cmp, last_day}
 use Rattle.keeper.specs.Kept.{IsDayPut, IsLater, HasNoDays}
 use Rattle.keeper.specs.Calls.{Reads, SoundIfTold, IfTold}
 use Rattle.keeper.proofs.ListFacts.{rise_one}
 use Rattle.keeper.proofs.WorkedLaws.{amount}
+use Rattle.keeper.proofs.SoundLaws.{none_kept}
 
 -- the day of one amount
 pub day_fits : (k : DayRecord) (a : SpentRow) (d : Digest) →
@@ -52,17 +51,6 @@ pub later_than : (told : Option Office) (last day : ℕ) → IfTold told (λ o. 
     IfTold told (IsLater day)
 later_than None last day h less = tt
 later_than (Some o) last day h less = omega (arith, h, less)
-
--- the greatest of some days is no less than the first
-greatest_least : (n : ℕ) (ds : List DayRecord) → n ≤ greatest_day n ds
-greatest_least n [] = omega arith
-greatest_least n (d ∷ ds) = let more = greatest_least (max n d.day) ds in omega (arith, more)
-
--- where the last day is 0, none is kept
-none_kept : (days : List DayRecord) (past : Option PastRecord) → last_from days past ≡ 0 →
-    AllByRecursion (λ r. 1 ≤ r.day) days → days ≡ []
-none_kept [] past e h = refl
-none_kept (d ∷ ds) past e h = absurd (omega (arith, e, h.0, greatest_least d.day ds))
 
 -- a number that is tested to be 0 is
 pub zero_if : (n : ℕ) → ◌≡◌ {A = Result Bool KeepFault} (Ok (nat_eq n 0)) (Ok true) → n ≡ 0

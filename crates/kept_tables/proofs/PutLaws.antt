@@ -14,7 +14,7 @@ use Rattle.keeper.specs.declared.kept.PastRecord.{PastRecord}
 use Rattle.keeper.specs.Office.{Office, sum_of_rows, greatest_day, last_from}
 use Rattle.keeper.specs.Kept.{IsDayPut, IsPastPut, IsLater, HasNoDays, with_day, with_past}
 use Rattle.keeper.proofs.SoundLaws.{day_sound, past_sound}
-use Rattle.kept_tables.specs.Stands.{Contents, Holds, HasOffice, HasTables, FitsDay, FitsSpent, FitsPast, IsWhole}
+use Rattle.kept_tables.specs.Stands.{Contents, Holds, HasOffice, HasTables, FitsDay, FitsSpent, FitsPast, IsWholeDigest}
 use Rattle.kept_tables.specs.Stands.{with_rows}
 use Rattle.kept_tables.specs.Steps.{Adds, StaysInside}
 use Rattle.kept_tables.proofs.EditLaws.{other_rows}
@@ -109,7 +109,7 @@ stays_then a b c (Ok u) p q = shows_then a b c p q
 stays_then a b c (Err e) p q = kept_after a b c p q
 
 -- bytes that are 32 and each below 256 are a whole digest
-pub whole_by : (d : Digest) → length d.bytes ≡ 32 → ((i : ℕ) → get_or d.bytes i 0 < 256) → IsWhole d
+pub whole_by : (d : Digest) → length d.bytes ≡ 32 → ((i : ℕ) → get_or d.bytes i 0 < 256) → IsWholeDigest d
 whole_by d long each = (long, each_below d.bytes each)
   where
     each_below : (bs : List ℕ) → ((i : ℕ) → get_or bs i 0 < 256) → AllByRecursion (λ b. b < 256) bs

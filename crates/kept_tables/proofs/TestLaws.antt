@@ -19,7 +19,7 @@ use Rattle.keeper.specs.declared.digest.Digest.{Digest}
 use Rattle.keeper.specs.declared.kept.DayRecord.{DayRecord}
 use Rattle.keeper.specs.declared.kept.PastRecord.{PastRecord}
 use Rattle.keeper.specs.Office.{Office, IsSound, IsPast, row_cmp, rows_on, rows_off, sum_of_rows}
-use Rattle.kept_tables.specs.Stands.{IsWhole, FitsDay, FitsSpent, FitsPast, FitsFields}
+use Rattle.kept_tables.specs.Stands.{IsWholeDigest, FitsDay, FitsSpent, FitsPast, FitsFields}
 use Rattle.kept_tables.specs.Tests.{rises, fits_kept, past_fits, is_tariff, are_tariffs, is_sound, is_whole, fits_day}
 use Rattle.kept_tables.specs.Tests.{fits_spent, fits_past, fits_fields}
 
@@ -86,12 +86,12 @@ module _ {K : Type 0} (cmp : K → K → Ordering) where
 -- ---- what fits its fields
 
 -- a digest that passes is whole
-whole_is : (d : Digest) → is_whole d ≡ true → IsWhole d
+whole_is : (d : Digest) → is_whole d ≡ true → IsWholeDigest d
 whole_is d h = let p = and_parts (length d.bytes == 32) (list_all (λ b. nat_lt b 256) d.bytes) h in
     (eq_is (length d.bytes) 32 p.0, all_is (λ b. b < 256) (λ b. nat_lt b 256) (λ b. lt_is b 256) d.bytes p.1)
 
 -- a whole digest passes
-whole_if : (d : Digest) → IsWhole d → is_whole d ≡ true
+whole_if : (d : Digest) → IsWholeDigest d → is_whole d ≡ true
 whole_if d h =
     both (eq_if (length d.bytes) 32 h.0) (all_if (λ b. b < 256) (λ b. nat_lt b 256) (λ b. lt_if b 256) d.bytes h.1)
 

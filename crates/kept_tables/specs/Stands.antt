@@ -19,8 +19,8 @@ use Rattle.kept_tables.specs.Layout.{tariffs, form}
 use Rattle.kept_tables.specs.Codec.{day_row, seal_row, old_row, spent_row, past_row, tariff_row, version_row}
 
 -- a digest has 32 bytes
-abbrev pub IsWhole : Digest → Type 0
-IsWhole d = (length d.bytes ≡ 32) × AllByRecursion (λ b. b < 256) d.bytes
+abbrev pub IsWholeDigest : Digest → Type 0
+IsWholeDigest d = (length d.bytes ≡ 32) × AllByRecursion (λ b. b < 256) d.bytes
 
 -- the numbers and digests of a day fit its fields
 pub record FitsDay (r : DayRecord) : Type 0 where
@@ -29,9 +29,9 @@ pub record FitsDay (r : DayRecord) : Type 0 where
   pub tuples : r.tuples < 2 ^ 63
   pub notices : r.notices < 2 ^ 63
   pub total : r.total < 2 ^ 63
-  pub digest : IsWhole r.digest
-  pub told : IsWhole r.notices_digest
-  pub seal : IsWhole r.tariffs
+  pub digest : IsWholeDigest r.digest
+  pub told : IsWholeDigest r.notices_digest
+  pub seal : IsWholeDigest r.tariffs
 
 -- those of an amount
 abbrev pub FitsSpent : SpentRow → Type 0
@@ -39,7 +39,7 @@ FitsSpent r = (r.day < 2 ^ 32) × (r.vid < 2 ^ 32) × (r.xway < 2 ^ 8) × (r.tol
 
 -- those of a history
 abbrev pub FitsPast : PastRecord → Type 0
-FitsPast p = (p.base < 2 ^ 32) × (p.bytes < 2 ^ 63) × (p.rows < 2 ^ 63) × IsWhole p.digest
+FitsPast p = (p.base < 2 ^ 32) × (p.bytes < 2 ^ 63) × (p.rows < 2 ^ 63) × IsWholeDigest p.digest
 
 -- all that an office keeps fits its fields
 pub record FitsFields (o : Office) : Type 0 where

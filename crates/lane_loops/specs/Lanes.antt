@@ -14,8 +14,8 @@ pub record Serves {N : Type 0} (faults : N → ℕ) (old new : Lane N) : Type 0 
   pub had : StartsWith new.reader.seen old.reader.seen
 
 -- a lane failed
-abbrev pub HasFailed : {N : Type 0} → List (Lane N) → Type 0
-HasFailed lanes = Any (λ lane. lane.failed ≡ true) lanes
+abbrev pub HasFailedLane : {N : Type 0} → List (Lane N) → Type 0
+HasFailedLane lanes = Any (λ lane. lane.failed ≡ true) lanes
 
 -- the count of a lane's listener rose
 abbrev pub AnyRose : {N : Type 0} → (N → ℕ) → List (Lane N) → List (Lane N) → Type 0

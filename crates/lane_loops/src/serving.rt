@@ -1,7 +1,7 @@
 // Serving a number of connections.
 ghost use Rattle.std.specs.Prelude.{◌≡◌, ◌≤◌, ◌↔◌, true, false, length, vec_len, All};
 ghost use Rattle.std.specs.List.{AllZip, list_any};
-ghost use Rattle.lane_loops.specs.Lanes.{Serves, HasFailed, AnyRose, accepted_in_all};
+ghost use Rattle.lane_loops.specs.Lanes.{Serves, HasFailedLane, AnyRose, accepted_in_all};
 ghost use Rattle.lane_loops.specs.declared.serve_end.ServeEnd.TheVariants.{Served, ListenFault};
 
 use crate::host::Host;
@@ -84,7 +84,7 @@ pub fn serve<N: Listener + Drop + Send, H: Host + Sync, R: Threads + Wait + Sync
     requires few { length lanes.old ≤ 64 }
     requires fresh { All (λ lane. N.accepted lane.listener ≡ 0) lanes.old }
     ensures lanes { AllZip (Serves N.faults) lanes.old lanes.new }
-    ensures end { (result ≡ ListenFault) ↔ HasFailed lanes.new }
+    ensures end { (result ≡ ListenFault) ↔ HasFailedLane lanes.new }
     ensures cause { result ≡ ListenFault → AnyRose N.faults lanes.old lanes.new }
     ensures served { result ≡ Served → accepted_in_all N.accepted lanes.new ≡ sessions }
     ensures fault { result ≡ ListenFault → accepted_in_all N.accepted lanes.new ≤ sessions }

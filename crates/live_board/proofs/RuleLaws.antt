@@ -15,29 +15,30 @@ use Rattle.live_board.specs.declared.page.Page.{Page}
 use Rattle.live_board.specs.declared.page.Post.{Post}
 use Rattle.live_board.specs.Totals.{Shows, nothing}
 use Rattle.live_board.specs.Changes.{page_with, operations_of}
-use Rattle.live_board.specs.InOrder.{Good, Fits, Kept, Looks, Meets}
+use Rattle.live_board.specs.InOrder.{Good, FitsPage, Kept, LooksAtPage, Meets}
 use Rattle.live_board.proofs.ShowLaws.{shows_posts, shows_nothing}
 
 -- who knows no history fits each page
-fits_none : (p : Page) → Fits p None
+fits_none : (p : Page) → FitsPage p None
 fits_none p b e = absurd (cc e)
 
 -- one view changes, on a good page of the same history
 keeps : (x y : Page) (views : List (Option Book)) (seat : ℕ) (w : Option Book) → Kept x views → Good y →
-    y.front.book ≡ x.front.book → Fits y w → Kept y (set views seat w)
+    y.front.book ≡ x.front.book → FitsPage y w → Kept y (set views seat w)
 keeps x y views seat w kept good same fit = record {
   good = good;
-  each = λ j u e. ⊎_elim (λ (t : (j ≡ seat) × (w ≡ u)). subst (Fits y) t.1 fit)
+  each = λ j u e. ⊎_elim (λ (t : (j ≡ seat) × (w ≡ u)). subst (FitsPage y) t.1 fit)
       (λ (t : (j ≢ seat) × (get_elem? views j ≡ some u)). λ b is. same ∙ kept.each j u t.1 b is)
       (at_set views seat j w u e);
 }
 
 -- a new view
-adds : (x : Page) (views : List (Option Book)) (f : Option Book) → Kept x views → Fits x f → Kept x (views ++ f ∷ [])
+adds : (x : Page) (views : List (Option Book)) (f : Option Book) → Kept x views → FitsPage x f →
+    Kept x (views ++ f ∷ [])
 adds x views f kept fit = record {
   good = kept.good;
   each = λ j u e. ⊎_elim (λ (t : get_elem? views j ≡ some u). kept.each j u t)
-      (λ (same : f ≡ u). subst (Fits x) same fit) (at_snoc views f u j e);
+      (λ (same : f ≡ u). subst (FitsPage x) same fit) (at_snoc views f u j e);
 }
 
 -- a page of nothing is good
@@ -53,8 +54,8 @@ good_nothing p shown none = record {
 pub opens : (p : Page) → p.shown ≡ nothing → p.front.log ≡ [] → Kept p (None ∷ [])
 opens p shown none = record { good = good_nothing p shown none; each = at_first }
   where
-    at_first : (j : ℕ) (u : Option Book) → get_elem? (None ∷ []) j ≡ some u → Fits p u
-    at_first zero u e = subst (Fits p) (cc e) (fits_none p)
+    at_first : (j : ℕ) (u : Option Book) → get_elem? (None ∷ []) j ≡ some u → FitsPage p u
+    at_first zero u e = subst (FitsPage p) (cc e) (fits_none p)
     at_first (suc j) u e = absurd (some-ne-none u (sym e))
 
 -- a new reader
@@ -62,7 +63,7 @@ pub admits : Admits Kept None
 admits x views kept = adds x views None kept (fits_none x)
 
 -- a look
-pub looks : (seat : ℕ) (v : Option Book) (x : Page) → TurnsAt Kept seat v x x Looks
+pub looks : (seat : ℕ) (v : Option Book) (x : Page) → TurnsAt Kept seat v x x LooksAtPage
 looks seat v x views kept at = let fit = kept.each seat v at in
     (v, keeps x x views seat v kept kept.good refl fit, (refl, kept.good, fit))
 
@@ -81,7 +82,7 @@ forks seat v x views kept at = let fit = kept.each seat v at in
 -- and learned
 pub merges : (seat : ℕ) (v : Option Book) (other : ℕ) (w : Option Book) → Merges Kept seat v other w w None
 merges seat v other w x views kept at apart there =
-    let fit : Fits x w =
+    let fit : FitsPage x w =
     ⊎_elim (λ (t : (other ≡ seat) × (w ≡ w)). absurd (apart t.0))
     (λ (t : (other ≢ seat) × (get_elem? views other ≡ some w)). kept.each other w t.1)
     (at_set views seat other w w there) in

@@ -12,10 +12,10 @@ use Rattle.std.proofs.lemmas.List.Filters.{sum_by-filter_both}
 use Rattle.std.proofs.lemmas.List.Sums.{sum_by-append, sum_by-cons}
 use Rattle.std.proofs.lemmas.List.Elements.{filter-append}
 use Rattle.std.proofs.lemmas.List.{append_assoc, append-nil}
-use Rattle.road_time.specs.Day.{Charge, sum_of, charges_to}
+use Rattle.road_time.specs.Day.{ChargedToll, sum_of, charges_to}
 use Rattle.accounts.specs.declared.publisher.Charged.{Charged}
 use Rattle.accounts.specs.Operations.{charge_of}
-use Rattle.accounts.specs.Boards.{Board, board_with, account, all_accounts}
+use Rattle.accounts.specs.Boards.{BoardState, board_with, account, all_accounts}
 use Rattle.accounts.specs.Shown.{shown_with, shown_by, board_on}
 use Rattle.live_board.specs.declared.live.Live.{Live}
 use Rattle.live_board.specs.declared.change.Change.{Change}
@@ -32,20 +32,20 @@ sum_none : (vid : ℕ) → sum_in empty vid ≡ 0
 sum_none vid = ap (λ o. unwrap_or o 0) (get-empty nat_cmp vid)
 
 -- a sum of all charges with one more
-sum_more : (cs : List Charge) (c : Charge) → sum_of (cs ++ c ∷ []) ≡ sum_of cs + c.toll
-sum_more cs c = let both = sum_by-append (λ (x : Charge). x.toll) cs (c ∷ []) in omega (arith, both)
+sum_more : (cs : List ChargedToll) (c : ChargedToll) → sum_of (cs ++ c ∷ []) ≡ sum_of cs + c.toll
+sum_more cs c = let both = sum_by-append (λ (x : ChargedToll). x.toll) cs (c ∷ []) in omega (arith, both)
 
 -- what one charge adds to a vehicle's account
-one_to : (b : Bool) (c : Charge) → sum_of (cond b (c ∷ []) []) ≡ cond b c.toll 0
-one_to true c = let one = sum_by-cons (λ (x : Charge). x.toll) c [] in omega (arith, one)
+one_to : (b : Bool) (c : ChargedToll) → sum_of (cond b (c ∷ []) []) ≡ cond b c.toll 0
+one_to true c = let one = sum_by-cons (λ (x : ChargedToll). x.toll) c [] in omega (arith, one)
 one_to false c = refl
 
 -- an account with one charge more
-account_more : (vid : ℕ) (cs : List Charge) (c : Charge) →
+account_more : (vid : ℕ) (cs : List ChargedToll) (c : ChargedToll) →
     sum_of (charges_to vid (cs ++ c ∷ [])) ≡ sum_of (charges_to vid cs) + cond (c.vid == vid) c.toll 0
 account_more vid cs c =
-    ap sum_of (filter-append (λ (x : Charge). x.vid == vid) cs (c ∷ []))
-    ∙ (sum_by-append (λ (x : Charge). x.toll) (charges_to vid cs) (charges_to vid (c ∷ []))
+    ap sum_of (filter-append (λ (x : ChargedToll). x.vid == vid) cs (c ∷ []))
+    ∙ (sum_by-append (λ (x : ChargedToll). x.toll) (charges_to vid cs) (charges_to vid (c ∷ []))
     ∙ ap (λ n. sum_of (charges_to vid cs) + n) (one_to (c.vid == vid) c))
 
 -- a number with a toll more, in 64 bits
@@ -53,7 +53,7 @@ added_is : (n s toll : ℕ) → n ≡ s % 2 ^ 64 → added n toll ≡ (s + toll)
 added_is n s toll e = ap (λ k. (k + toll) % 2 ^ 64) e ∙ mod-add-mod s (2 ^ 64) toll
 
 -- each sum stays its account, in 64 bits, with one charge more
-each_step : (sums : FinMap nat_cmp ℕ) (bs : List Charge) (c : Charged) →
+each_step : (sums : FinMap nat_cmp ℕ) (bs : List ChargedToll) (c : Charged) →
     ((v : ℕ) → sum_in sums v ≡ sum_of (charges_to v bs) % 2 ^ 64) →
     (v : ℕ) → sum_in (with_charged sums c) v ≡ sum_of (charges_to v (bs ++ charge_of c ∷ [])) % 2 ^ 64
 each_step sums bs c h v =
@@ -72,7 +72,7 @@ each_step sums bs c h v =
         add-zero k = omega arith
 
 -- and with some charges more
-each_with : (cs : List Charged) (sums : FinMap nat_cmp ℕ) (bs : List Charge) →
+each_with : (cs : List Charged) (sums : FinMap nat_cmp ℕ) (bs : List ChargedToll) →
     ((v : ℕ) → sum_in sums v ≡ sum_of (charges_to v bs) % 2 ^ 64) →
     (v : ℕ) → sum_in (with_charges sums cs) v ≡ sum_of (charges_to v (bs ++ map charge_of cs)) % 2 ^ 64
 each_with [] sums bs h v = h v ∙ ap (λ xs. sum_of (charges_to v xs) % 2 ^ 64) (sym (append-nil bs))
@@ -81,7 +81,7 @@ each_with (c ∷ cs) sums bs h v =
     ∙ ap (λ xs. sum_of (charges_to v xs) % 2 ^ 64) (append_assoc bs (charge_of c ∷ []) (map charge_of cs))
 
 -- so does the sum of all
-whole_is : (cs : List Charged) (n : ℕ) (bs : List Charge) → n ≡ sum_of bs % 2 ^ 64 →
+whole_is : (cs : List Charged) (n : ℕ) (bs : List ChargedToll) → n ≡ sum_of bs % 2 ^ 64 →
     whole_with n cs ≡ sum_of (bs ++ map charge_of cs) % 2 ^ 64
 whole_is [] n bs h = h ∙ ap (λ xs. sum_of xs % 2 ^ 64) (sym (append-nil bs))
 whole_is (c ∷ cs) n bs h =
@@ -90,7 +90,7 @@ whole_is (c ∷ cs) n bs h =
     ∙ ap (λ xs. sum_of xs % 2 ^ 64) (append_assoc bs (charge_of c ∷ []) (map charge_of cs))
 
 -- a change keeps what the totals show
-pub shows_with : (t : Totals) (s : Option Board) (o : Change) → Shows t s →
+pub shows_with : (t : Totals) (s : Option BoardState) (o : Change) → Shows t s →
     Shows (totals_with t o) (shown_with s (operation_of o))
 shows_with t s (Begins day) h = record { begun = refl; number = refl; mark = refl; each = sum_none; whole = refl }
 shows_with t None (Charges cs mark) h =
@@ -107,7 +107,7 @@ shows_with t (Some b) (Charges cs mark) h =
     })
 
 -- so do posts
-pub shows_posts : (ps : List Post) (p : Page) (s : Option Board) → Shows p.shown s →
+pub shows_posts : (ps : List Post) (p : Page) (s : Option BoardState) → Shows p.shown s →
     Shows (fold page_with p ps).shown (fold shown_with s (operations_of ps))
 shows_posts [] p s h = h
 shows_posts (Changed c ∷ ps) p s h =
@@ -119,10 +119,11 @@ pub shows_nothing : Shows nothing (shown_by [])
 shows_nothing = record { begun = refl; number = refl; mark = refl; each = sum_none; whole = refl }
 
 -- an account is a part of what all vehicles owe
-account_few : (b : Board) (vid : ℕ) → account b vid ≤ all_accounts b
+account_few : (b : BoardState) (vid : ℕ) → account b vid ≤ all_accounts b
 account_few b vid =
-    let both = sum_by-filter_both (λ (c : Charge). c.vid == vid) (λ (c : Charge). not (c.vid == vid)) (λ _. refl)
-    (λ (c : Charge). c.toll) b.charged in
+    let both =
+    sum_by-filter_both (λ (c : ChargedToll). c.vid == vid) (λ (c : ChargedToll). not (c.vid == vid)) (λ _. refl)
+    (λ (c : ChargedToll). c.toll) b.charged in
     omega (arith, both)
 
 -- a number below 2^63 is itself in 64 bits
@@ -130,13 +131,13 @@ small : (n m : ℕ) → n ≤ m → m < 2 ^ 63 → n % 2 ^ 64 ≡ n
 small n m few fits = omega (arith, few, fits)
 
 -- where all that is owed is below 2^63, the totals have each account
-pub account_is : (t : Totals) (s : Option Board) (vid : ℕ) → Shows t s → all_accounts (board_on s) < 2 ^ 63 →
+pub account_is : (t : Totals) (s : Option BoardState) (vid : ℕ) → Shows t s → all_accounts (board_on s) < 2 ^ 63 →
     sum_in t.sums vid ≡ account (board_on s) vid
 account_is t s vid h fits =
     h.each vid ∙ small (account (board_on s) vid) (all_accounts (board_on s)) (account_few (board_on s) vid) fits
 
 -- and what all vehicles owe
-pub all_is : (t : Totals) (s : Option Board) → Shows t s → all_accounts (board_on s) < 2 ^ 63 →
+pub all_is : (t : Totals) (s : Option BoardState) → Shows t s → all_accounts (board_on s) < 2 ^ 63 →
     t.whole ≡ all_accounts (board_on s)
 all_is t s h fits =
     h.whole ∙ small (all_accounts (board_on s)) (all_accounts (board_on s)) (le_refl (all_accounts (board_on s))) fits
@@ -147,11 +148,11 @@ live_made : {a a' b b' n n' : ℕ} → a ≡ a' → b ≡ b' → n ≡ n' →
 live_made p q r = cc
 
 -- the totals answer what the board has
-pub balance_is : (t : Totals) (s : Option Board) (vid : ℕ) → Shows t s → all_accounts (board_on s) < 2 ^ 63 →
+pub balance_is : (t : Totals) (s : Option BoardState) (vid : ℕ) → Shows t s → all_accounts (board_on s) < 2 ^ 63 →
     ◌≡◌ {A = Live} (record { day = t.number; as_of = t.mark; amount = sum_in t.sums vid }) (balance_on (board_on s) vid)
 balance_is t s vid h fits = live_made h.number h.mark (account_is t s vid h fits)
 
 -- and what all vehicles owe on it
-pub total_is : (t : Totals) (s : Option Board) → Shows t s → all_accounts (board_on s) < 2 ^ 63 →
+pub total_is : (t : Totals) (s : Option BoardState) → Shows t s → all_accounts (board_on s) < 2 ^ 63 →
     ◌≡◌ {A = Live} (record { day = t.number; as_of = t.mark; amount = t.whole }) (total_on (board_on s))
 total_is t s h fits = live_made h.number h.mark (all_is t s h fits)

@@ -14,17 +14,17 @@ pub record Good (p : Page) : Type 0 where
   pub below : all_accounts (board_after p.front.log) < 2 ^ 63
 
 -- where a history is known, it is the page's
-abbrev pub Fits : Page → Option Book → Type 0
-Fits p v = (b : Book) → v ≡ Some b → p.front.book ≡ b
+abbrev pub FitsPage : Page → Option Book → Type 0
+FitsPage p v = (b : Book) → v ≡ Some b → p.front.book ≡ b
 
 -- the rule of a board: the page is good, and of the history that each knows
 pub record Kept (p : Page) (views : List (Option Book)) : Type 0 where
   pub good : Good p
-  pub each : (seat : ℕ) (v : Option Book) → get_elem? views seat ≡ some v → Fits p v
+  pub each : (seat : ℕ) (v : Option Book) → get_elem? views seat ≡ some v → FitsPage p v
 
 -- a look: the page is good, and of the history that is known
-abbrev pub Looks : Option Book → Page → Page → Option Book → Type 0
-Looks v x y w = (w ≡ v) × Good y × Fits y v
+abbrev pub LooksAtPage : Option Book → Page → Page → Option Book → Type 0
+LooksAtPage v x y w = (w ≡ v) × Good y × FitsPage y v
 
 -- the first publication: the writer knows the history
 abbrev pub Meets : Option Book → Page → Page → Option Book → Type 0

@@ -1,6 +1,6 @@
 pub mod Totals
 pub mod Codes
-pub mod History
+pub mod OperationLog
 pub mod Changes
 pub mod Passes
 pub mod InOrder

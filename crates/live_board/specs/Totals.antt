@@ -6,7 +6,7 @@ use Rattle.std.specs.Ordering.{nat_cmp}
 use Rattle.std.specs.FinMap.{FinMap, empty, get, insert, code}
 use Rattle.std.specs.Coded.{Coded, code_by, coded×, coded_ℕ, coded_bool}
 use Rattle.accounts.specs.declared.publisher.Charged.{Charged}
-use Rattle.accounts.specs.Boards.{Board, account, all_accounts}
+use Rattle.accounts.specs.Boards.{BoardState, account, all_accounts}
 use Rattle.accounts.specs.Shown.{board_on}
 
 -- what is kept of a board: whether a day began, the day, the mark, the sum of each vehicle's charges, and the sum of
@@ -55,7 +55,7 @@ abbrev pub whole_with : ℕ → List Charged → ℕ
 whole_with n cs = fold (λ m c. added m c.toll) n cs
 
 -- totals show a board, or that no day began, as far as 64 bits have it
-pub record Shows (t : Totals) (s : Option Board) : Type 0 where
+pub record Shows (t : Totals) (s : Option BoardState) : Type 0 where
   pub begun : t.begun ≡ is_some s
   pub number : t.number ≡ (board_on s).number
   pub mark : t.mark ≡ (board_on s).mark

@@ -1,11 +1,11 @@
 // A beginning of a board's history.
 ghost use Rattle.std.specs.Prelude.{◌≡◌, ◌++◌, ◌∷◌, [], IfSome, IsTrue, IsFalse};
-ghost use Rattle.live_board.specs.History.{head_of};
+ghost use Rattle.live_board.specs.OperationLog.{head_of};
 ghost use Rattle.live_board.specs.Changes.{operation_of};
 ghost use Rattle.live_board.specs.Passes.{StartsWith};
 
 use crate::change::Change;
-use crate::history::{Add, Entry, Head, History, Nothing};
+use crate::operation_log::{Add, Head, Logged, Nothing, OperationLog};
 use logbook::{Offer, Seen, Start, Word};
 use std::marker::Model;
 use std::snapshot::Snapshot;
@@ -13,14 +13,14 @@ use std::snapshot::Snapshot;
 /// That the history has reached some operations, and how many they are. Contracts see of which history, and the
 /// operations.
 #[derive(Drop)]
-pub struct Front {
+pub struct Beginning {
     count: u64,
-    seen: Seen<Entry, u64, History>,
+    seen: Seen<Logged, u64, OperationLog>,
 }
 
-impl Model for Front {
+impl Model for Beginning {
     ghost use Rattle.std.specs.Prelude.{◌≡◌, length};
-    ghost use Rattle.live_board.specs.History.{Reach, reach_code};
+    ghost use Rattle.live_board.specs.OperationLog.{Reach, reach_code};
 
     ghost Value = { Reach };
 
@@ -32,28 +32,28 @@ impl Model for Front {
 }
 
 /// A new history, with no operation.
-pub fn open_history() -> (Head, Front)
+pub fn open_history() -> (Head, Beginning)
     ensures head { result.0 ≡ head_of result.1.book }
     ensures none { result.1.log ≡ [] }
 {
     let (seen, mut first, _second) = Seen::open(Start::alone(), 0, 0);
     let head = Word::tracked(0, &mut first);
-    (head, Front { count: 0, seen })
+    (head, Beginning { count: 0, seen })
 }
 
-impl Front {
+impl Beginning {
     /// The same again.
-    pub fn again(&self) -> Front
+    pub fn again(&self) -> Beginning
         ensures { result ≡ self.now }
     {
-        Front {
+        Beginning {
             count: self.count,
             seen: self.seen.again(),
         }
     }
 
     /// Whether it has all that another has. Of two beginnings of one history the longer one begins with the other.
-    pub fn has(&self, other: &Front) -> bool
+    pub fn has(&self, other: &Beginning) -> bool
         requires { other.now.book ≡ self.now.book }
         ensures has { IsTrue result → StartsWith self.now.log other.now.log }
         ensures less { IsFalse result → StartsWith other.now.log self.now.log }
@@ -67,7 +67,7 @@ impl Front {
     }
 
     /// Adds a change's operation to the history, which is to have no more than this.
-    pub fn add(&self, head: &Head, about: &Snapshot<Change>) -> Option<Front>
+    pub fn add(&self, head: &Head, about: &Snapshot<Change>) -> Option<Beginning>
         requires { head.now ≡ head_of self.now.book }
         ensures { IfSome result (λ f. f
             ≡ record { book = self.now.book; log = self.now.log ++ operation_of about.now.value ∷ [] }) }
@@ -76,7 +76,7 @@ impl Front {
             return None;
         }
         let mut seen = self.seen.again();
-        let mut offer: Offer<Entry, u64, History, Nothing> = seen.plain::<
+        let mut offer: Offer<Logged, u64, OperationLog, Nothing> = seen.plain::<
             Nothing,
             Snapshot<Change>,
             Add,
@@ -93,7 +93,7 @@ impl Front {
         if found != count {
             return None;
         }
-        Some(Front {
+        Some(Beginning {
             count: count + 1,
             seen,
         })

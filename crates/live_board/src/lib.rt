@@ -9,10 +9,10 @@
 mod change;
 mod charge;
 mod front;
-mod history;
 pub mod laws;
 mod live;
 mod opening;
+mod operation_log;
 mod page;
 mod parts;
 mod post;

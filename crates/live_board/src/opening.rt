@@ -3,7 +3,7 @@ ghost use Rattle.std.specs.Prelude.{◌≡◌, ◌<◌, ◌≤◌, [], Some, dro
 ghost use Rattle.left_right.specs.Sides.{view};
 ghost use Rattle.live_board.specs.Passes.{unposted, pass_of};
 
-use crate::front::{Front, open_history};
+use crate::front::{Beginning, open_history};
 use crate::page::Page;
 use crate::parts::{Board, Readers};
 use crate::post::Keeping;
@@ -17,7 +17,7 @@ use std::alloc::Global;
 use std::sync::Wait;
 
 /// Makes a reader, which is told of which history the board is.
-fn make_reader(writer: &mut Keeping, front: &Front) -> Result<BoardReader, NoMemory>
+fn make_reader(writer: &mut Keeping, front: &Beginning) -> Result<BoardReader, NoMemory>
     requires { view writer.old.desk.place ≡ Some front.now.book }
     ensures shown { writer.new.desk.shown ≡ writer.old.desk.shown }
     ensures waits { (writer.new.log ≡ writer.old.log) × (writer.new.behind ≡ writer.old.behind) }
@@ -33,7 +33,7 @@ fn make_reader(writer: &mut Keeping, front: &Front) -> Result<BoardReader, NoMem
 fn make_readers(
     alloc: Global,
     writer: &mut Keeping,
-    front: &Front,
+    front: &Beginning,
     count: u8,
 ) -> Result<Readers, NoMemory>
     requires { view writer.old.desk.place ≡ Some front.now.book }
@@ -53,7 +53,7 @@ fn make_readers(
 fn open_writer<R: Wait>(
     rt: &R,
     alloc: Global,
-    front: &Front,
+    front: &Beginning,
     readers: usize,
 ) -> Result<Keeping, NoMemory>
     requires readers { (0 < readers) × (readers ≤ 64) }

@@ -2,22 +2,22 @@
 ghost use Rattle.std.specs.Prelude.{◌≡◌, ◌⊎◌, ◌++◌, ◌^◌, ◌<◌, drop, OnOk, OnErr};
 ghost use Rattle.accounts.specs.Operations.{posted_with, queued_with};
 ghost use Rattle.accounts.specs.Boards.{board_after, all_accounts};
-ghost use Rattle.live_board.specs.History.{head_of};
+ghost use Rattle.live_board.specs.OperationLog.{head_of};
 ghost use Rattle.live_board.specs.Changes.{operation_of, posted_on};
-ghost use Rattle.live_board.specs.Passes.{Held};
+ghost use Rattle.live_board.specs.Passes.{HoldsBeginning};
 
 use crate::change::Change;
-use crate::front::Front;
-use crate::history::Head;
+use crate::front::Beginning;
+use crate::operation_log::Head;
 use crate::page::{Page, Post};
-use crate::rule::{InOrder, Publishes, View};
+use crate::rule::{InOrder, PageView, Publishes};
 use left_right::writer::Writer;
 use road_time::NoMemory;
 use std::snapshot::Snapshot;
 use std::sync::Wait;
 
 /// The writer of two copies.
-pub type Keeping = Writer<Page, Post, View, InOrder>;
+pub type Keeping = Writer<Page, Post, PageView, InOrder>;
 
 /// Queues a change, adds its operation to the history, and shows all that is queued, or at an error nothing. It waits
 /// for readers that are in the middle of an answer.
@@ -26,9 +26,9 @@ pub fn submit<R: Wait>(
     rt: &R,
     writer: Keeping,
     head: &Head,
-    front: Front,
+    front: Beginning,
     change: Change,
-) -> (Keeping, Option<Front>, Result<(), NoMemory>)
+) -> (Keeping, Option<Beginning>, Result<(), NoMemory>)
     requires head { head.now ≡ head_of front.book }
     requires book { writer.desk.shown.value.front.book ≡ front.book }
     requires front { front.log ≡ (posted_on writer.desk.shown.value
@@ -38,7 +38,7 @@ pub fn submit<R: Wait>(
         (posted_with (operation_of change)
         (posted_on writer.desk.shown.value (drop writer.behind writer.log.items))).published) < 2 ^ 63 }
     ensures book { result.0.desk.shown.value.front.book ≡ front.book }
-    ensures held { Held front.book (posted_on result.0.desk.shown.value
+    ensures held { HoldsBeginning front.book (posted_on result.0.desk.shown.value
         (drop result.0.behind result.0.log.items)) result.1 }
     ensures ok { OnOk result.2 (posted_on result.0.desk.shown.value
         (drop result.0.behind result.0.log.items) ≡ posted_with (operation_of change)

@@ -4,10 +4,10 @@ ghost use Rattle.accounts.specs.Shown.{shown_after};
 ghost use Rattle.left_right.specs.Sides.{view};
 ghost use Rattle.live_board.specs.Passes.{Sees, StartsWith, balance_on, total_on, pass_of};
 
-use crate::front::Front;
+use crate::front::Beginning;
 use crate::live::Live;
 use crate::page::Page;
-use crate::rule::{InOrder, Looks, View};
+use crate::rule::{InOrder, Looks, PageView};
 use crate::told::Told;
 use left_right::reader::Reader;
 use std::marker::Model;
@@ -16,8 +16,8 @@ use std::marker::Model;
 /// told of.
 #[derive(Drop)]
 pub struct BoardReader {
-    reader: Option<Reader<Page, View, InOrder>>,
-    front: Front,
+    reader: Option<Reader<Page, PageView, InOrder>>,
+    front: Beginning,
 }
 
 impl Model for BoardReader {
@@ -35,7 +35,7 @@ impl Model for BoardReader {
 }
 
 impl BoardReader {
-    pub(crate) fn new(reader: Reader<Page, View, InOrder>, front: Front) -> Self
+    pub(crate) fn new(reader: Reader<Page, PageView, InOrder>, front: Beginning) -> Self
         requires { view reader.place ≡ Some front.book }
         ensures { result ≡ pass_of front }
     {

@@ -2,13 +2,13 @@
 ghost use Rattle.std.specs.Prelude.{◌≡◌, ◌^◌, ◌<◌, Some, [], drop, OnOk, OnErr};
 ghost use Rattle.accounts.specs.Operations.{posted_with, IsRefused};
 ghost use Rattle.accounts.specs.Boards.{board_after, all_accounts};
-ghost use Rattle.live_board.specs.History.{head_of, numbers_of};
+ghost use Rattle.live_board.specs.OperationLog.{head_of, numbers_of};
 ghost use Rattle.live_board.specs.Changes.{operation_of};
 ghost use Rattle.live_board.specs.Passes.{unposted};
 
 use crate::change::Change;
-use crate::front::Front;
-use crate::history::Head;
+use crate::front::Beginning;
+use crate::operation_log::Head;
 use crate::post::{Keeping, submit};
 use crate::told::Told;
 use accounts::{Charged, Publisher};
@@ -24,17 +24,17 @@ pub struct BoardWriter<R: Wait + Drop> {
     writer: Option<Keeping>,
     head: Head,
     // All that is published and queued, unless the history had more than that, which no other writer adds.
-    front: Option<Front>,
+    front: Option<Beginning>,
 }
 
 impl<R: Wait + Drop> Model for BoardWriter<R> {
     ghost use Rattle.std.specs.Prelude.{◌≡◌, Some, drop};
     ghost use Rattle.std.specs.Option.{option_map, unwrap_or};
-    ghost use Rattle.live_board.specs.History.{head_of, numbers_of};
+    ghost use Rattle.live_board.specs.OperationLog.{head_of, numbers_of};
     ghost use Rattle.live_board.specs.Changes.{posted_on};
-    ghost use Rattle.live_board.specs.Passes.{Writing, writing_code, unposted, Held};
+    ghost use Rattle.live_board.specs.Passes.{BoardWriting, writing_code, unposted, HoldsBeginning};
 
-    ghost Value = { Writing };
+    ghost Value = { BoardWriting };
 
     ghost coded = { writing_code };
 
@@ -46,12 +46,12 @@ impl<R: Wait + Drop> Model for BoardWriter<R> {
 
     ghost invariant = { λ w. (w.head ≡ head_of w.head.book)
         × (option_map (λ s. s.desk.shown.value.front.book) w.writer ≡ Some w.head.book)
-        × Held w.head.book (unwrap_or (option_map
+        × HoldsBeginning w.head.book (unwrap_or (option_map
         (λ s. posted_on s.desk.shown.value (drop s.behind s.log.items)) w.writer) unposted) w.front };
 }
 
 impl<R: Wait + Drop> BoardWriter<R> {
-    pub(crate) fn new(rt: R, alloc: Global, writer: Keeping, head: Head, front: Front) -> Self
+    pub(crate) fn new(rt: R, alloc: Global, writer: Keeping, head: Head, front: Beginning) -> Self
         requires head { head ≡ head_of front.book }
         requires none { front.log ≡ [] }
         requires shown { writer.desk.shown.value.front ≡ front }

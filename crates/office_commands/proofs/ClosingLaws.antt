@@ -9,7 +9,8 @@ use Rattle.office_commands.specs.declared.closing.Closing.{Closing}
 use Rattle.office_commands.specs.declared.closing.Closing.TheVariants.{Words, ReadFault, KeeperFault, NoMemory}
 use Rattle.office_commands.specs.Closings.{status_of}
 use Rattle.office_commands.specs.Commands.{Answer}
-use Rattle.office_commands.specs.Endings.{Sort, Own, Unread, Unkept, Unroomed, sort_of, IsFront, StandsBy, StandsBefore}
+use Rattle.office_commands.specs.Endings.{Sort, Own, Unread, Unkept, Unroomed, sort_of, IsTextFront, StandsBy}
+use Rattle.office_commands.specs.Endings.{StandsBefore}
 use Rattle.office_commands.specs.Endings.{Wrote, stopping, refusing}
 use Rattle.keeper.specs.declared.kept.KeepFault.TheVariants as keeping
 use Rattle.day_reading.specs.declared.whole_day.ReadStop.TheVariants as stops
@@ -54,16 +55,16 @@ is_words Words e = refl
 is_words _ e = absurd (omega (arith, e))
 
 -- a whole text is some first bytes of itself
-pub whole_front : (text whole : List ℕ) → text ≡ whole → IsFront text whole
+pub whole_front : (text whole : List ℕ) → text ≡ whole → IsTextFront text whole
 whole_front text whole e = (length whole, e ∙ sym (take_all (length whole) whole (omega arith)))
 
 -- what may stand before any closing line is some first bytes of the text
-front_by : (s : Sort) (a : Answer) (c : Closing) (text : List ℕ) → StandsBy s a c text → IsFront text a.text
+front_by : (s : Sort) (a : Answer) (c : Closing) (text : List ℕ) → StandsBy s a c text → IsTextFront text a.text
 front_by Own a c text h = whole_front text a.text h.1
 front_by _ a c text h = h
 
 -- and so before this one
-pub front_of : (a : Answer) (c : Closing) (text : List ℕ) → StandsBefore a c text → IsFront text a.text
+pub front_of : (a : Answer) (c : Closing) (text : List ℕ) → StandsBefore a c text → IsTextFront text a.text
 front_of a c text h = front_by (sort_of c) a c text h
 
 -- a run that could not read wrote nothing

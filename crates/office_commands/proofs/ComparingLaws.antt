@@ -7,8 +7,9 @@ use Rattle.road_time.specs.declared.day.Limits.{Limits}
 use Rattle.road_time.specs.Lines.{lines_of}
 use Rattle.road_time.specs.Reads.{reads}
 use Rattle.office_words.specs.declared.command.Comparison.{Comparison}
-use Rattle.office_commands.specs.Commands.{comparison_of, compared_tuples, compare_row, accidents_of, unless_refused}
-use Rattle.office_commands.specs.Commands.{accidents_row}
+use Rattle.office_commands.specs.Commands.{comparison_of, compared_tuples, compare_command, accidents_of}
+use Rattle.office_commands.specs.Commands.{unless_refused}
+use Rattle.office_commands.specs.Commands.{accidents_command}
 use Rattle.office_commands.specs.Days.{recomputed, refusal_of}
 use Rattle.office_words.specs.declared.command.Recomputing.TheVariants.{Plainly}
 
@@ -26,14 +27,14 @@ same_office (Some r) number tuples lines o = refl
 
 -- so does the row of a command that compares
 pub no_row_text : (limits : Limits) (asked : Comparison) (bytes aside : List ℕ) (o : Office) →
-    [] ≡ (compare_row limits asked bytes aside o).text
+    [] ≡ (compare_command limits asked bytes aside o).text
 no_row_text limits asked bytes aside o =
     no_text (refusal_of (reads bytes (recomputed asked.how limits) asked.late).refused) asked.day
     (compared_tuples limits asked bytes) (lines_of aside) o
 
 -- and leaves the office as it was
 pub same_row : (limits : Limits) (asked : Comparison) (bytes aside : List ℕ) (o : Office) →
-    (compare_row limits asked bytes aside o).office ≡ o
+    (compare_command limits asked bytes aside o).office ≡ o
 same_row limits asked bytes aside o =
     same_office (refusal_of (reads bytes (recomputed asked.how limits) asked.late).refused) asked.day
     (compared_tuples limits asked bytes) (lines_of aside) o
@@ -46,7 +47,7 @@ accidents_office (Some r) tuples o = refl
 
 -- and the row of the command that writes one
 pub same_log : (limits : Limits) (late : ℕ) (bytes : List ℕ) (o : Office) →
-    (accidents_row limits late bytes o).office ≡ o
+    (accidents_command limits late bytes o).office ≡ o
 same_log limits late bytes o =
     accidents_office (refusal_of (reads bytes (recomputed Plainly limits) late).refused)
     (reads bytes (recomputed Plainly limits) late).tuples o

@@ -15,7 +15,8 @@ use Rattle.office_commands.specs.Commands.{Answer}
 use Rattle.office_commands.proofs.KeepingLaws.{unchanged}
 use Rattle.office_commands.proofs.ClosingLaws.{IsOf, is_of}
 use Rattle.office_commands.specs.Endings.{Sort, Own, Unread, Unkept, Unroomed, sort_of, StandsBy, StandsBefore, Wrote}
-use Rattle.office_commands.specs.Endings.{LeftBy, KeepsBy, Keeps, Closes, Halted, HoldsBy, Did, Said, Concludes, Holds}
+use Rattle.office_commands.specs.Endings.{LeftBy, KeepsBy, Keeps, Closes, Halted, HoldsBy, Did, SaysLine, Concludes}
+use Rattle.office_commands.specs.Endings.{HoldsSame}
 use Rattle.office_commands.specs.Endings.{status_by}
 
 module _ (w : WhenRefused) (a : Answer) (was : Office) (old mid : Option (List ℕ)) (now : Option Office) where
@@ -59,13 +60,13 @@ module _ (w : WhenRefused) (a : Answer) (was : Office) (old mid : Option (List �
 
   module _ (new : Option (List ℕ)) (status : ℕ) where
     said_on : (text : List ℕ) (c : Closing) → Appends old mid text → Closes c status mid new →
-        Said text c status old new
+        SaysLine text c status old new
     said_on text c wrote (inl h) = inl (h.0, appends_on old mid new text (closing_line c) _ wrote h.1 refl)
     said_on text c wrote (inr h) =
         inr (h.0, (h.1.0, h.1.1, appends_on old mid new text (take h.1.0 (closing_line c)) _ wrote h.1.2 refl))
 
     said : (text : List ℕ) (c : Closing) → Appends old mid text → Closes c status mid new
-        ⊎ Closes NoMemory status mid new → Said text c status old new ⊎ Said text NoMemory status old new
+        ⊎ Closes NoMemory status mid new → SaysLine text c status old new ⊎ SaysLine text NoMemory status old new
     said text c wrote (inl h) = inl (said_on text c wrote h)
     said text c wrote (inr h) = inr (said_on text NoMemory wrote h)
 
@@ -91,10 +92,10 @@ closing_of a b r is also = cc
 -- what is kept is as it was after a command that ends well once it has put, and did not
 pub closing_holds : (w : WhenRefused) (a : Answer) (was : Office) (now : Option Office) (c : Closing) →
     status_by a.closing ≡ 0
-    → StandsBefore a c [] → KeepsBy (sort_of c) w a was now → Holds (status_of c) (now ≡ Some was)
+    → StandsBefore a c [] → KeepsBy (sort_of c) w a was now → HoldsSame (status_of c) (now ≡ Some was)
 closing_holds w a was now c zero stands keeps = go (sort_of c) (is_of c) stands keeps
   where
-    go : (s : Sort) → IsOf s c → StandsBy s a c [] → KeepsBy s w a was now → Holds (status_of c) (now ≡ Some was)
+    go : (s : Sort) → IsOf s c → StandsBy s a c [] → KeepsBy s w a was now → HoldsSame (status_of c) (now ≡ Some was)
     go Own is stands keeps = λ well failed room. absurd (well (ap status_by stands.0 ∙ zero))
     go Unread is stands keeps = λ well failed room. keeps
     go Unkept is stands keeps = λ well failed room. absurd (failed (ap status_of is))

@@ -8,7 +8,7 @@ use Rattle.office_commands.specs.declared.closing.Closing.{Closing}
 use Rattle.office_commands.specs.declared.closing.Closing.TheVariants.{ReadFault, KeeperFault, NoMemory}
 use Rattle.office_commands.specs.Closings.{closing_line, status_of}
 use Rattle.office_commands.specs.Commands.{Answer}
-use Rattle.office_commands.specs.Endings.{Sort, Own, Unread, Unkept, Unroomed, sort_of, IsFront, StandsBy, Wrote}
+use Rattle.office_commands.specs.Endings.{Sort, Own, Unread, Unkept, Unroomed, sort_of, IsTextFront, StandsBy, Wrote}
 use Rattle.office_commands.specs.Endings.{Closes, WroteAll, WroteFault, WroteSome, last_line, status_by}
 use Rattle.office_commands.proofs.ClosingLaws.{IsOf, is_of, front_of}
 
@@ -27,7 +27,7 @@ module _ (a : Answer) (old mid new : Option (List ℕ)) (status : ℕ) where
   )
 
   -- a fault's line after some first bytes of the text
-  faulted : (c f : Closing) (text : List ℕ) → c ≡ f → IsFront text a.text → Appends old mid text →
+  faulted : (c f : Closing) (text : List ℕ) → c ≡ f → IsTextFront text a.text → Appends old mid text →
       Appends mid new (closing_line c) → WroteFault a f old new
   faulted c f text is front w l = (
     text,

@@ -20,7 +20,7 @@ use Rattle.past_file.specs.declared.outcomes.PastOutcome.TheVariants.{Differs, R
 use Rattle.office_commands.specs.declared.closing.Closing.{Closing}
 use Rattle.office_commands.specs.Commands.{past_closing, past_by}
 use Rattle.office_commands.specs.Closings.{status_of}
-use Rattle.office_commands.specs.Endings.{StandsBefore, Holds, sort_of, KeepsBy}
+use Rattle.office_commands.specs.Endings.{StandsBefore, HoldsSame, sort_of, KeepsBy}
 use Rattle.office_commands.specs.Rests.{LeavesOfPast, HasStoppedPast, HasReadPast}
 use Rattle.office_commands.proofs.ClosingLaws.{whole_front}
 use Rattle.office_commands.proofs.OutcomeLaws.{neither}
@@ -151,7 +151,7 @@ past_rest w limits base bytes o p now left _ c e h rest soon =
 
 -- what is kept is as it was, unless a history was put, the keeper failed or memory ran out
 pub past_held : (base : ℕ) (P : Type 0) (done : PastOutcome) (c : Closing) → c ≡ past_closing base done →
-    KeepsAllPast done P → Holds (status_of c) P
+    KeepsAllPast done P → HoldsSame (status_of c) P
 past_held base P (Stored r) c e h = λ well failed room. absurd (well (ap status_of e))
 past_held base P KeeperFault c e h = λ well failed room. absurd (failed (ap status_of e))
 past_held base P NoMemory c e h = λ well failed room. absurd (room (ap status_of e))

@@ -9,14 +9,15 @@ use Rattle.office_commands.specs.declared.closing.Closing.{Closing}
 use Rattle.office_commands.specs.declared.closing.Closing.TheVariants.{NoMemory}
 use Rattle.office_commands.specs.Closings.{status_of}
 use Rattle.office_commands.specs.Commands.{Answer}
-use Rattle.office_commands.specs.Endings.{Sort, Own, Unread, Unkept, Unroomed, sort_of, LeftBy, KeepsBy, Keeps, IsWhole}
+use Rattle.office_commands.specs.Endings.{Sort, Own, Unread, Unkept, Unroomed, sort_of, LeftBy, KeepsBy, Keeps}
+use Rattle.office_commands.specs.Endings.{IsOldOrWhole}
 use Rattle.office_commands.specs.Endings.{Closes, refusing}
 use Rattle.office_commands.proofs.ClosingLaws.{IsOf, is_of}
 use Rattle.keeper.specs.declared.kept.KeepFault.TheVariants as keeping
 
 -- what a refused put leaves is all or nothing
 leaves_whole : (w : WhenRefused) (fault : KeepFault) (a : Answer) (was : Office) (now : Option Office) (o : Office) →
-    now ≡ Some o → Leaves w fault o was a.office → IsWhole a was now
+    now ≡ Some o → Leaves w fault o was a.office → IsOldOrWhole a was now
 leaves_whole PutsNothing fault a was now o e h = inl (e ∙ ap (λ x. Some x) h)
 leaves_whole FailsLate keeping.Failed a was now o e h = inr (e ∙ ap (λ x. Some x) h)
 leaves_whole FailsLate keeping.NoMemory a was now o e h = inl (e ∙ ap (λ x. Some x) h)
@@ -25,20 +26,20 @@ leaves_whole AllOrNothing fault a was now o e (inr h) = inr (e ∙ ap (λ x. Som
 
 -- and so what a fault leaves
 left_whole : (w : WhenRefused) (fault : KeepFault) (a : Answer) (was : Office) (now : Option Office) →
-    LeftBy w fault a was now → IsWhole a was now
+    LeftBy w fault a was now → IsOldOrWhole a was now
 left_whole w fault a was now (inl h) = inl h
 left_whole w fault a was now (inr h) = leaves_whole w fault a was now h.0 h.1 h.2
 
 module _ (w : WhenRefused) (a : Answer) (was : Office) (now : Option Office) where
   -- by the sort of the closing line
-  whole_by : (s : Sort) → KeepsBy s w a was now → IsWhole a was now
+  whole_by : (s : Sort) → KeepsBy s w a was now → IsOldOrWhole a was now
   whole_by Own h = inr h
   whole_by Unread h = inl h
   whole_by Unkept h = left_whole w keeping.Failed a was now h
   whole_by Unroomed h = left_whole w keeping.NoMemory a was now h
 
   -- what is kept after any run is what was kept, or all that is asked
-  pub kept_whole : (r : Result (Option Closing) Failed) → Keeps w a was now r → IsWhole a was now
+  pub kept_whole : (r : Result (Option Closing) Failed) → Keeps w a was now r → IsOldOrWhole a was now
   kept_whole (Ok (Some c)) h = whole_by (sort_of c) h
   kept_whole (Ok None) h = inr h
   kept_whole (Err e) h = inl h
@@ -98,7 +99,8 @@ module _ (w : WhenRefused) (a : Answer) (was : Office) (now : Option Office) whe
         go Unroomed is keeps = absurd (omega (arith, h.0 ∙ ap status_of is, e))
 
 -- what is kept whole and is to stay is as it was
-pub whole_same : (a : Answer) (was : Office) (now : Option Office) → a.office ≡ was → IsWhole a was now → now ≡ Some was
+pub whole_same : (a : Answer) (was : Office) (now : Option Office) → a.office ≡ was → IsOldOrWhole a was now →
+    now ≡ Some was
 whole_same a was now e (inl h) = h
 whole_same a was now e (inr h) = h ∙ ap (λ x. Some x) e
 

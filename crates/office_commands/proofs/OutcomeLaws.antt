@@ -14,7 +14,7 @@ use Rattle.import_once.specs.declared.outcomes.Outcome.TheVariants.{NoMemory}
 use Rattle.office_commands.specs.declared.closing.Closing.{Closing}
 use Rattle.office_commands.specs.Commands.{closing_by, row_by}
 use Rattle.office_commands.specs.Closings.{status_of}
-use Rattle.office_commands.specs.Endings.{Wrote, Keeps, Ends, Halted, Did, Holds, code_of}
+use Rattle.office_commands.specs.Endings.{Wrote, Keeps, EndsCommand, Halted, Did, HoldsSame, code_of}
 use Rattle.office_commands.proofs.ClosingLaws.{whole_front}
 use Rattle.road_io.specs.Blame.{FaultsByRoom}
 use Rattle.road_io.specs.Rooms.{Room}
@@ -36,7 +36,8 @@ module _ (w : WhenRefused) (number : ℕ) (a : day.DayAnswer) (was : Office) (ol
   KeepsIt r = Keeps w (row_by number a) was now r
 
   -- the text of a call that stored, answered, or said why not, and of one that was stopped
-  pub wrote : (done : Outcome) (r : Result (Option Closing) Failed) → Ends (closing_by number done) r → DoesIt done →
+  pub wrote : (done : Outcome) (r : Result (Option Closing) Failed) → EndsCommand (closing_by number done) r →
+      DoesIt done →
       WroteIt r
   wrote ReadFault (Ok c) e h = subst (λ x. WroteIt (Ok x)) (sym e) (take h.0.0 a.text, (h.0.0, refl), h.0.1)
   wrote KeeperFault (Ok c) e (inl h) = subst (λ x. WroteIt (Ok x)) (sym e) (take h.0.0 a.text, (h.0.0, refl), h.0.1)
@@ -50,7 +51,8 @@ module _ (w : WhenRefused) (number : ℕ) (a : day.DayAnswer) (was : Office) (ol
       subst (λ x. WroteIt (Ok x)) (sym e) (a.text, (ap (closing_by number) h.outcome_is, refl), h.wrote)
 
   -- and what is kept after it
-  pub keeps : (done : Outcome) (r : Result (Option Closing) Failed) → Ends (closing_by number done) r → DoesIt done →
+  pub keeps : (done : Outcome) (r : Result (Option Closing) Failed) → EndsCommand (closing_by number done) r →
+      DoesIt done →
       KeepsIt r
   keeps (Stored kept) (Ok c) e h = subst (λ x. KeepsIt (Ok x)) (sym e) h.kept
   keeps (Already kept) (Ok c) e h = subst (λ x. KeepsIt (Ok x)) (sym e) h.kept
@@ -77,7 +79,7 @@ module _ (w : WhenRefused) (number : ℕ) (a : day.DayAnswer) (was : Office) (ol
   stopped_did fault (inr h) = (a.text, inr (refl, h.1), h.0)
 
   -- what a command wrote and what is kept then
-  pub did : (done : Outcome) (r : Result (Option Closing) Failed) → Ends (closing_by number done) r →
+  pub did : (done : Outcome) (r : Result (Option Closing) Failed) → EndsCommand (closing_by number done) r →
       Does w a was old new now done → Did w (row_by number a) was old new now r
   did (Stored kept) (Ok c) e h =
       subst (λ x. Did w (row_by number a) was old new now (Ok x)) (sym e)
@@ -120,7 +122,7 @@ neither code k e named failed (inr s) = failed (sym e ∙ s)
 
 -- what is kept is as it was, unless a day was stored, the keeper failed or memory ran out
 pub held : (number : ℕ) (P : Type 0) (done : Outcome) (r : Result (Option Closing) Failed) →
-    Ends (closing_by number done) r → KeepsAll done P → Holds (code_of r) P
+    EndsCommand (closing_by number done) r → KeepsAll done P → HoldsSame (code_of r) P
 held number P (Stored kept) (Ok c) e h = λ well failed room. absurd (well (code_is c _ e))
 held number P KeeperFault (Ok c) e h = λ well failed room. absurd (failed (code_is c _ e))
 held number P NoMemory (Ok c) e h = λ well failed room. absurd (room (code_is c _ e))

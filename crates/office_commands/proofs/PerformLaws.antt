@@ -5,7 +5,7 @@ use Rattle.road_io.specs.Plans.{NeverFails}
 use Rattle.road_io.proofs.SinkLaws.{appends_none}
 use Rattle.office_words.specs.declared.command.Command.{Command}
 use Rattle.office_commands.specs.declared.closing.Closing.{Closing}
-use Rattle.office_commands.specs.Commands.{Answer, compare_row}
+use Rattle.office_commands.specs.Commands.{Answer, compare_command}
 use Rattle.office_commands.specs.Endings.{StandsBefore, Wrote, KeepsBy, sort_of, Did}
 use Rattle.office_commands.specs.Faults.{ReadFaults}
 use Rattle.office_commands.specs.Uses.{uses_source, uses_aside, uses_keeper, uses_crew}
@@ -67,13 +67,14 @@ by_both before now aside_before aside_now plan aside_plan uses asks failed named
 module _ (w : WhenRefused) (limits : Limits) (asked : Comparison) (bytes lines : List ℕ) (o : Office)
     (now : Option Office) (c : Closing) where
   -- a comparison keeps what was kept
-  pub compare_keeps : now ≡ Some o → KeepsBy (sort_of c) w (compare_row limits asked bytes lines o) o now
+  pub compare_keeps : now ≡ Some o → KeepsBy (sort_of c) w (compare_command limits asked bytes lines o) o now
   compare_keeps kept =
-      closing_same w (compare_row limits asked bytes lines o) o now c (same_row limits asked bytes lines o) kept
+      closing_same w (compare_command limits asked bytes lines o) o now c (same_row limits asked bytes lines o) kept
 
   -- and names its line alone
-  pub compare_did : (old : Option (List ℕ)) → StandsBefore (compare_row limits asked bytes lines o) c [] → now ≡ Some o
-      → Did w (compare_row limits asked bytes lines o) o old old now (Ok (Some c))
+  pub compare_did : (old : Option (List ℕ)) → StandsBefore (compare_command limits asked bytes lines o) c [] →
+      now ≡ Some o
+      → Did w (compare_command limits asked bytes lines o) o old old now (Ok (Some c))
   compare_did old stands kept =
-      did_silent w (compare_row limits asked bytes lines o) o old old now c (no_row_text limits asked bytes lines o)
+      did_silent w (compare_command limits asked bytes lines o) o old old now c (no_row_text limits asked bytes lines o)
       stands (compare_keeps kept) (appends_none old)

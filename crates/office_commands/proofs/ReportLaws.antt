@@ -7,25 +7,25 @@ use Rattle.reports.specs.declared.report_fault.ReportFault.TheVariants as report
 use Rattle.reports.specs.Endings.{Reported}
 use Rattle.reports.specs.Endings as report
 use Rattle.office_commands.specs.declared.closing.Closing.{Closing}
-use Rattle.office_commands.specs.Commands.{report_row, told}
+use Rattle.office_commands.specs.Commands.{report_command, told}
 use Rattle.office_commands.specs.Endings.{Wrote, EndsReport}
 
 -- a report changes nothing
-pub report_office : (number : ℕ) (text : Option (List ℕ)) (o : Office) → (report_row number text o).office ≡ o
+pub report_office : (number : ℕ) (text : Option (List ℕ)) (o : Office) → (report_command number text o).office ≡ o
 report_office number None o = refl
 report_office number (Some text) o = refl
 
 module _ (number : ℕ) (o : Office) (old new : Option (List ℕ)) where
   -- a report of a day, which may have none
   pub reported : (text : Option (List ℕ)) (done : Result (Unit {0}) ReportFault) (r : Result (Option Closing) Failed) →
-      EndsReport number done r → Reported done old new text → Wrote (report_row number text o) r old new
+      EndsReport number done r → Reported done old new text → Wrote (report_command number text o) r old new
   reported None (Ok u) r e h = absurd h
   reported (Some t) (Ok u) (Ok c) e h = subst (λ x. Wrote (told t o) (Ok x) old new) (sym e) (refl, h)
   reported None (Err reports.NoDay) (Ok c) e h =
-      subst (λ x. Wrote (report_row number None o) (Ok x) old new) (sym e) ([], (refl, refl), h)
+      subst (λ x. Wrote (report_command number None o) (Ok x) old new) (sym e) ([], (refl, refl), h)
   reported (Some t) (Err reports.NoDay) r e h = absurd h
   reported None (Err reports.KeeperFault) (Ok c) e h =
-      subst (λ x. Wrote (report_row number None o) (Ok x) old new) (sym e) ([], (0, refl), h)
+      subst (λ x. Wrote (report_command number None o) (Ok x) old new) (sym e) ([], (0, refl), h)
   reported (Some t) (Err reports.KeeperFault) (Ok c) e h =
       subst (λ x. Wrote (told t o) (Ok x) old new) (sym e) (take h.0 t, (h.0, refl), h.1)
   reported None (Err reports.WriteFault) (Ok c) e h = absurd e
@@ -33,7 +33,7 @@ module _ (number : ℕ) (o : Office) (old new : Option (List ℕ)) where
   reported None (Err reports.WriteFault) (Err x) e h = ([], (0, refl), h)
   reported (Some t) (Err reports.WriteFault) (Err x) e h = (take h.0 t, (h.0, refl), h.1)
   reported None (Err reports.NoMemory) (Ok c) e h =
-      subst (λ x. Wrote (report_row number None o) (Ok x) old new) (sym e) ([], (0, refl), h)
+      subst (λ x. Wrote (report_command number None o) (Ok x) old new) (sym e) ([], (0, refl), h)
   reported (Some t) (Err reports.NoMemory) (Ok c) e h =
       subst (λ x. Wrote (told t o) (Ok x) old new) (sym e) (take h.0 t, (h.0, refl), h.1)
   reported (Some t) _ (Err x) e h = absurd e

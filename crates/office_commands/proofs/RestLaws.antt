@@ -25,7 +25,7 @@ use Rattle.office_commands.specs.declared.closing.Closing.{Closing}
 use Rattle.office_commands.specs.Closings.{status_of}
 use Rattle.office_commands.specs.Commands.{closing_by}
 use Rattle.office_commands.specs.Days.{refused_at}
-use Rattle.office_commands.specs.Endings.{Ends, code_of, stopping, refusing}
+use Rattle.office_commands.specs.Endings.{EndsCommand, code_of, stopping, refusing}
 use Rattle.office_commands.specs.Entries.{IsComparison}
 use Rattle.office_commands.specs.Rests.{HasStopped, HasEnded, HasReadTo, EndsAt, SaysBy, LeavesOfDay}
 use Rattle.office_commands.proofs.OutcomeLaws.{code_is, neither}
@@ -97,7 +97,8 @@ module _ (refused : Option (ℕ × Fault)) (bytes : List ℕ) (left : Option (Li
       (λ s. named (sym (code_is c k e) ∙ s))
 
   -- a day that was answered
-  pub answered_to : (number : ℕ) (done : Outcome) (r : Result (Option Closing) Failed) → Ends (closing_by number done) r
+  pub answered_to : (number : ℕ) (done : Outcome) (r : Result (Option Closing) Failed) →
+      EndsCommand (closing_by number done) r
       → IsOfAnswers done → LeavesRead done refused bytes left → To (code_of r)
   answered_to number (Answered kept) (Ok c) e own l = answered_well c _ e refl l
   answered_to number (Refused line cause) (Ok c) e own l = record {
@@ -118,7 +119,8 @@ module _ (refused : Option (ℕ × Fault)) (bytes : List ℕ) (left : Option (Li
   answered_to number _ r e own l = absurd own
 
   -- a day that was to be kept, and a line of which was refused
-  pub imported_to : (number : ℕ) (done : Outcome) (r : Result (Option Closing) Failed) → Ends (closing_by number done) r
+  pub imported_to : (number : ℕ) (done : Outcome) (r : Result (Option Closing) Failed) →
+      EndsCommand (closing_by number done) r
       → LeavesRead done refused bytes left → code_of r ≡ 2 → HasStopped refused bytes left
   imported_to number (Refused line cause) (Ok c) e l s = (line, l.0.0, l.0.1, l.1)
   imported_to number WriteFault (Ok c) e l s = absurd e
@@ -127,7 +129,7 @@ module _ (refused : Option (ℕ × Fault)) (bytes : List ℕ) (left : Option (Li
 
 -- a day whose import ended at a refused line, or as the keeper failed, was compared with none
 pub imported_alone : (number : ℕ) (P : Type 0) (done : Outcome) (r : Result (Option Closing) Failed) →
-    Ends (closing_by number done) r → (IsUncompared done → P) → (code_of r ≡ 2) ⊎ (code_of r ≡ 6) → P
+    EndsCommand (closing_by number done) r → (IsUncompared done → P) → (code_of r ≡ 2) ⊎ (code_of r ≡ 6) → P
 imported_alone number P (Already kept) (Ok c) e h s =
     absurd (neither _ 0 (code_is c _ e) (λ t. omega (arith, t)) (λ t. omega (arith, t)) s)
 imported_alone number P (Answered kept) (Ok c) e h s =
@@ -184,7 +186,7 @@ pub rests : (w : WhenRefused) (work : Work) (number : ℕ) (bytes : List ℕ) (t
     (res : Result (Option Closing) Failed)
     → Merges w (unless_recorded r (import_worked work number bytes tuples refused o) number bytes o) o old new now done
     → ((kept : DayRecord) → done ≡ Stored kept → left ≡ Some []) → LeavesRest done r bytes left
-    → Ends (closing_by number done) res → code_of res ≡ 0 → LeavesOfDay r bytes left
+    → EndsCommand (closing_by number done) res → code_of res ≡ 0 → LeavesOfDay r bytes left
 rests w work number bytes tuples refused o None old new now left (Stored kept) (Ok c) m whole rest e s = whole kept refl
 rests w work number bytes tuples refused o (Some k) old new now left (Stored kept) (Ok c) m whole rest e s =
     absurd (subst IsAgain (sym m.outcome_is) (is_again k (found_digest bytes k.bytes)))

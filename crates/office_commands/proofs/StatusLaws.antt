@@ -3,14 +3,14 @@ use Rattle.std.proofs.Common.{◌≡◌, ◌≢◌, ◌⊎◌, inl, inr, ℕ, Bo
 use Rattle.road_time.specs.Form.{Fault}
 use Rattle.keeper.specs.Office.{Office}
 use Rattle.day_reading.proofs.BoundLaws.{nothing_read}
-use Rattle.day_reading.specs.Days.{most_read}
+use Rattle.day_reading.specs.Days.{most_of_day}
 use Rattle.office_words.specs.declared.command.Command.{Command}
 use Rattle.office_words.specs.declared.command.Recomputing.TheVariants.{Plainly}
 use Rattle.road_time.specs.declared.day.Limits.{Limits}
 use Rattle.road_time.specs.Reads.{reads}
 use Rattle.past_file.specs.Imports.{most_past}
 use Rattle.office_commands.specs.Days.{recomputed}
-use Rattle.office_commands.specs.Endings.{Holds}
+use Rattle.office_commands.specs.Endings.{HoldsSame}
 use Rattle.office_commands.specs.Rests.{HasReadTo, HasReadDay, ReadsAsked, LeavesAsKept, ReadsUncompared}
 use Rattle.office_commands.proofs.RestLaws.{to_other}
 use Rattle.office_words.specs.declared.command.Command.TheVariants as command
@@ -53,7 +53,7 @@ read_status limits (Some (command.Answers run')) status code before after same h
     day_status limits run'.late status code before after same h
 read_status limits (Some (command.Import run')) status code before after same h = (
   λ bytes told s. h.0 bytes told (sym (same (λ e. omega (arith, s, e)) (λ e. omega (arith, s, e))) ∙ s),
-  uncompared_status (most_read limits) status code before after same h.1,
+  uncompared_status (most_of_day limits) status code before after same h.1,
 )
 read_status limits (Some (command.Compare asked)) status code before after same h =
     day_status (recomputed asked.how limits) asked.late status code before after same h
@@ -76,7 +76,8 @@ rest_status limits (Some (command.Past base)) status code o bytes left same h = 
 rest_status limits _ status code o bytes left same h = tt
 
 -- and of what is kept
-pub holds_status : (status code : ℕ) (P : Type 0) → Ended status code → status ≢ 5 → Holds code P → Holds status P
+pub holds_status : (status code : ℕ) (P : Type 0) → Ended status code → status ≢ 5 → HoldsSame code P →
+    HoldsSame status P
 holds_status status code P same unbroken h = λ well failed room.
     let is = same unbroken room in
     h (λ e. well (is ∙ e)) (λ e. failed (is ∙ e)) (λ e. room (is ∙ e))
@@ -86,15 +87,15 @@ pub read_other : (limits : Limits) (m : Option Command) (code : ℕ) (left : Opt
     code ≢ 2 → ReadsAsked limits m code left left
 read_other limits (Some (command.Answers run')) code left well parted named =
     record {
-      within = nothing_read (most_read limits) left;
+      within = nothing_read (most_of_day limits) left;
       to =
           λ bytes told. to_other (reads bytes limits run'.late).refused bytes left code well parted named;
     }
 read_other limits (Some (command.Import run')) code left well parted named =
-    (λ bytes told s. absurd (named s), λ s. nothing_read (most_read limits) left)
+    (λ bytes told s. absurd (named s), λ s. nothing_read (most_of_day limits) left)
 read_other limits (Some (command.Compare asked)) code left well parted named =
     record {
-      within = nothing_read (most_read (recomputed asked.how limits)) left;
+      within = nothing_read (most_of_day (recomputed asked.how limits)) left;
       to =
           λ bytes told. to_other (reads bytes (recomputed asked.how limits) asked.late).refused bytes left code well
           parted
@@ -102,7 +103,7 @@ read_other limits (Some (command.Compare asked)) code left well parted named =
     }
 read_other limits (Some (command.Accidents late)) code left well parted named =
     record {
-      within = nothing_read (most_read (recomputed Plainly limits)) left;
+      within = nothing_read (most_of_day (recomputed Plainly limits)) left;
       to =
           λ bytes told. to_other (reads bytes (recomputed Plainly limits) late).refused bytes left code well parted
           named;
@@ -119,7 +120,8 @@ rest_other limits (Some (command.Past base)) code o bytes left well named =
 rest_other limits _ code o bytes left well named = tt
 
 -- after a read fault nothing was put, and what is not put is as it was
-pub unread_same : (changes : Bool) (code : ℕ) (P : Type 0) → (changes ≡ true → Holds code P) → (changes ≡ false → P) →
+pub unread_same : (changes : Bool) (code : ℕ) (P : Type 0) → (changes ≡ true → HoldsSame code P) →
+    (changes ≡ false → P) →
     code ≡ 4 → P
 unread_same true code P held same s =
     held refl (λ e. omega (arith, s, e)) (λ e. omega (arith, s, e)) (λ e. omega (arith, s, e))

@@ -4,7 +4,7 @@ use Rattle.std.proofs.Common.{subst, arith}
 use Rattle.std.proofs.lemmas.Bool.{cond-false, lt-leb}
 use Rattle.road_time.specs.declared.day.TheConstants.Limits.{DAY}
 use Rattle.road_time.specs.declared.road.Tuple.{Tuple}
-use Rattle.road_time.specs.Tolls.{Finding}
+use Rattle.road_time.specs.Tolls.{StretchTold}
 use Rattle.road_time.specs.Form.{Fault}
 use Rattle.road_time.specs.Reads.{reads}
 use Rattle.road_io.specs.declared.source.Failed.{Failed}
@@ -109,7 +109,7 @@ module _ (day : ℕ) (some : 70 ≤ day) (file : List ℕ) (late : ℕ) (whole :
   alone_stored = stored_by (work_of day tuples nothing_kept)
 
   -- and one by what a crew found
-  pub found_stored : (found : List (ℕ × Finding)) →
+  pub found_stored : (found : List (ℕ × StretchTold)) →
       (import_found found day late DAY file nothing_kept).outcome ≡ Stored
       (worked_record (work_by found day tuples nothing_kept) day file tuples nothing_kept)
   found_stored found = stored_by (work_by found day tuples nothing_kept)

@@ -70,12 +70,12 @@ abbrev pub row_by : ℕ → day.DayAnswer → Answer
 row_by number a = record { text = a.text; closing = closing_by number a.outcome; office = a.office }
 
 -- the command `answers DAY`
-abbrev pub answers_row : Limits → DayRun → List ℕ → Office → Answer
-answers_row limits run bytes o = row_by run.day (answers_answer run.day run.late limits bytes o)
+abbrev pub answers_command : Limits → DayRun → List ℕ → Office → Answer
+answers_command limits run bytes o = row_by run.day (answers_answer run.day run.late limits bytes o)
 
 -- the command `import DAY`
-abbrev pub import_row : Limits → DayRun → List ℕ → Office → Answer
-import_row limits run bytes o = row_by run.day (import_answer run.day run.late limits bytes o)
+abbrev pub import_command : Limits → DayRun → List ℕ → Office → Answer
+import_command limits run bytes o = row_by run.day (import_answer run.day run.late limits bytes o)
 
 -- the notices of a day after what an office keeps
 abbrev pub notices_of_day : ℕ → List Tuple → Office → List Notice
@@ -99,45 +99,45 @@ abbrev pub compared_tuples : Limits → Comparison → List ℕ → List Tuple
 compared_tuples limits asked bytes = (reads bytes (recomputed asked.how limits) asked.late).tuples
 
 -- the commands `validate DAY` and `audit DAY`
-abbrev pub compare_row : Limits → Comparison → List ℕ → List ℕ → Office → Answer
-compare_row limits asked bytes aside o =
+abbrev pub compare_command : Limits → Comparison → List ℕ → List ℕ → Office → Answer
+compare_command limits asked bytes aside o =
     unless_refused (refusal_of (reads bytes (recomputed asked.how limits) asked.late).refused)
     (comparison_of asked.day (compared_tuples limits asked bytes) (lines_of aside) o)
 
 -- the command `accidents`
-abbrev pub accidents_row : Limits → ℕ → List ℕ → Office → Answer
-accidents_row limits late bytes o =
+abbrev pub accidents_command : Limits → ℕ → List ℕ → Office → Answer
+accidents_command limits late bytes o =
     unless_refused (refusal_of (reads bytes (recomputed Plainly limits) late).refused)
     (accidents_of (reads bytes (recomputed Plainly limits) late).tuples o)
 
 -- a report of a day, which has none where the day is not kept
-abbrev pub report_row : ℕ → Option (List ℕ) → Office → Answer
-report_row number None o = closed (NoDay number) o
-report_row number (Some text) o = told text o
+abbrev pub report_command : ℕ → Option (List ℕ) → Office → Answer
+report_command number None o = closed (NoDay number) o
+report_command number (Some text) o = told text o
 
 -- the command `day DAY`
-abbrev pub day_row : ℕ → Office → Answer
-day_row number o = report_row number (day_report number o) o
+abbrev pub day_command : ℕ → Office → Answer
+day_command number o = report_command number (day_report number o) o
 
 -- the command `export DAY`
-abbrev pub export_row : ℕ → Office → Answer
-export_row number o = report_row number (export_report number o) o
+abbrev pub export_command : ℕ → Office → Answer
+export_command number o = report_command number (export_report number o) o
 
 -- the command `vehicle VID FROM TO`
-abbrev pub vehicle_row : ℕ → ℕ → ℕ → Office → Answer
-vehicle_row vid from to o = told (vehicle_report vid from to o) o
+abbrev pub vehicle_command : ℕ → ℕ → ℕ → Office → Answer
+vehicle_command vid from to o = told (vehicle_report vid from to o) o
 
 -- the command `tariff XWAY CROWD SPEED FACTOR`
-abbrev pub tariff_row : ℕ → ℕ → ℕ → ℕ → Office → Answer
-tariff_row xway crowd speed factor o = record {
+abbrev pub tariff_command : ℕ → ℕ → ℕ → ℕ → Office → Answer
+tariff_command xway crowd speed factor o = record {
   text = [];
   closing = Some (TariffPut xway crowd speed factor);
   office = with_tariff_of xway (record { crowd = crowd; speed = speed; factor = factor }) o;
 }
 
 -- the command `tariffs`
-abbrev pub tariffs_row : Office → Answer
-tariffs_row o = told (tariffs_text o.tariffs) o
+abbrev pub tariffs_command : Office → Answer
+tariffs_command o = told (tariffs_text o.tariffs) o
 
 -- the closing line of a history that is kept, or is not
 abbrev pub past_closing : ℕ → PastOutcome → Closing
@@ -156,30 +156,30 @@ abbrev pub past_by : ℕ → PastAnswer → Answer
 past_by base a = record { text = []; closing = Some (past_closing base a.outcome); office = a.office }
 
 -- the command `past BASE`
-abbrev pub history_row : Limits → ℕ → List ℕ → Office → Answer
-history_row limits base bytes o = past_by base (past_answer base limits bytes o)
+abbrev pub history_command : Limits → ℕ → List ℕ → Office → Answer
+history_command limits base bytes o = past_by base (past_answer base limits bytes o)
 
 -- the command `generate SEED`
-abbrev pub generate_row : ℕ → Size → Office → Answer
-generate_row seed size o = told (file_of (plan_of seed size)) o
+abbrev pub generate_command : ℕ → Size → Office → Answer
+generate_command seed size o = told (file_of (plan_of seed size)) o
 
 -- the command `rehearse SEED`
-abbrev pub rehearse_row : ℕ → Size → DayRun → Office → Answer
-rehearse_row seed size run o = closed (rehearsed (rehearsed_record run.day (plan_of seed size))) o
+abbrev pub rehearse_command : ℕ → Size → DayRun → Office → Answer
+rehearse_command seed size run o = closed (rehearsed (rehearsed_record run.day (plan_of seed size))) o
 
 -- what words ask, by the command that they mean, over the bytes of the source, those of the aside, and what is kept
 abbrev pub office_answer : Limits → List ℕ → List ℕ → Office → Option Command → Answer
 office_answer limits bytes aside o None = closed Words o
-office_answer limits bytes aside o (Some (command.Answers run)) = answers_row limits run bytes o
-office_answer limits bytes aside o (Some (command.Import run)) = import_row limits run bytes o
-office_answer limits bytes aside o (Some (command.Compare asked)) = compare_row limits asked bytes aside o
-office_answer limits bytes aside o (Some (command.Past base)) = history_row limits base bytes o
-office_answer limits bytes aside o (Some (command.Day number)) = day_row number o
-office_answer limits bytes aside o (Some (command.Vehicle vid from to)) = vehicle_row vid from to o
-office_answer limits bytes aside o (Some (command.Accidents late)) = accidents_row limits late bytes o
-office_answer limits bytes aside o (Some (command.Export number)) = export_row number o
+office_answer limits bytes aside o (Some (command.Answers run)) = answers_command limits run bytes o
+office_answer limits bytes aside o (Some (command.Import run)) = import_command limits run bytes o
+office_answer limits bytes aside o (Some (command.Compare asked)) = compare_command limits asked bytes aside o
+office_answer limits bytes aside o (Some (command.Past base)) = history_command limits base bytes o
+office_answer limits bytes aside o (Some (command.Day number)) = day_command number o
+office_answer limits bytes aside o (Some (command.Vehicle vid from to)) = vehicle_command vid from to o
+office_answer limits bytes aside o (Some (command.Accidents late)) = accidents_command limits late bytes o
+office_answer limits bytes aside o (Some (command.Export number)) = export_command number o
 office_answer limits bytes aside o (Some (command.Tariff xway crowd speed factor)) =
-    tariff_row xway crowd speed factor o
-office_answer limits bytes aside o (Some command.Tariffs) = tariffs_row o
-office_answer limits bytes aside o (Some (command.Generate seed size)) = generate_row seed size o
-office_answer limits bytes aside o (Some (command.Rehearse seed size run)) = rehearse_row seed size run o
+    tariff_command xway crowd speed factor o
+office_answer limits bytes aside o (Some command.Tariffs) = tariffs_command o
+office_answer limits bytes aside o (Some (command.Generate seed size)) = generate_command seed size o
+office_answer limits bytes aside o (Some (command.Rehearse seed size run)) = rehearse_command seed size run o

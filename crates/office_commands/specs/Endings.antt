@@ -33,14 +33,14 @@ sort_of NoMemory = Unroomed
 sort_of _ = Own
 
 -- a text is some first bytes of another
-abbrev pub IsFront : List ℕ → List ℕ → Type 0
-IsFront text whole = (k : ℕ) × (text ≡ take k whole)
+abbrev pub IsTextFront : List ℕ → List ℕ → Type 0
+IsTextFront text whole = (k : ℕ) × (text ≡ take k whole)
 
 -- what may stand before a closing line of a sort: the whole text before the command's own, some first bytes of it
 -- before that of a fault
 abbrev pub StandsBy : Sort → Answer → Closing → List ℕ → Type 0
 StandsBy Own a c text = (Some c ≡ a.closing) × (text ≡ a.text)
-StandsBy _ a c text = IsFront text a.text
+StandsBy _ a c text = IsTextFront text a.text
 
 -- what may stand before a closing line
 abbrev pub StandsBefore : Answer → Closing → List ℕ → Type 0
@@ -51,7 +51,7 @@ StandsBefore a c text = StandsBy (sort_of c) a c text
 abbrev pub Wrote : Answer → Result (Option Closing) Failed → Option (List ℕ) → Option (List ℕ) → Type 0
 Wrote a (Ok (Some c)) old new = (text : List ℕ) × StandsBefore a c text × Appends old new text
 Wrote a (Ok None) old new = (None ≡ a.closing) × Appends old new a.text
-Wrote a (Err e) old new = (text : List ℕ) × IsFront text a.text × Appends old new text
+Wrote a (Err e) old new = (text : List ℕ) × IsTextFront text a.text × Appends old new text
 
 -- what a fault or want of memory leaves: what was kept, or what a refused put leaves
 abbrev pub LeftBy : WhenRefused → KeepFault → Answer → Office → Option Office → Type 0
@@ -71,15 +71,15 @@ Keeps w a was now (Ok None) = now ≡ Some a.office
 Keeps w a was now (Err e) = now ≡ Some was
 
 -- what is kept is what was kept, or all that is asked
-abbrev pub IsWhole : Answer → Office → Option Office → Type 0
-IsWhole a was now = (now ≡ Some was) ⊎ (now ≡ Some a.office)
+abbrev pub IsOldOrWhole : Answer → Office → Option Office → Type 0
+IsOldOrWhole a was now = (now ≡ Some was) ⊎ (now ≡ Some a.office)
 
 -- a command ends with the closing line that it has, and where it has none its sink failed
-abbrev pub Ends : Option Closing → Result (Option Closing) Failed → Type 0
-Ends None (Ok c) = ⊥
-Ends None (Err e) = Unit {0}
-Ends (Some k) (Ok c) = c ≡ Some k
-Ends (Some k) (Err e) = ⊥
+abbrev pub EndsCommand : Option Closing → Result (Option Closing) Failed → Type 0
+EndsCommand None (Ok c) = ⊥
+EndsCommand None (Err e) = Unit {0}
+EndsCommand (Some k) (Ok c) = c ≡ Some k
+EndsCommand (Some k) (Err e) = ⊥
 
 -- how a report of a day ends, as a command
 abbrev pub EndsReport : ℕ → Result (Unit {0}) ReportFault → Result (Option Closing) Failed → Type 0
@@ -123,13 +123,13 @@ WroteAll a old new = Appends old new (a.text ++ last_line a.closing)
 
 -- some first bytes of the text were written, and then a fault's closing line
 abbrev pub WroteFault : Answer → Closing → Option (List ℕ) → Option (List ℕ) → Type 0
-WroteFault a c old new = (text : List ℕ) × IsFront text a.text × Appends old new (text ++ closing_line c)
+WroteFault a c old new = (text : List ℕ) × IsTextFront text a.text × Appends old new (text ++ closing_line c)
 
 -- some first bytes of the text were written; or all that may stand before a closing line, and then some first bytes of
 -- that line and not all
 abbrev pub WroteSome : Answer → Option (List ℕ) → Option (List ℕ) → Type 0
 WroteSome a old new =
-    ((text : List ℕ) × IsFront text a.text × Appends old new text)
+    ((text : List ℕ) × IsTextFront text a.text × Appends old new text)
     ⊎ ((c : Closing) × (text : List ℕ) × (k : ℕ) × StandsBefore a c text × (k < length (closing_line c))
     × Appends old new (text ++ take k (closing_line c)))
 
@@ -145,7 +145,7 @@ pub record Writes (a : Answer) (status : ℕ) (old new : Option (List ℕ)) : Ty
 pub record KeepsTo (w : WhenRefused) (a : Answer) (status : ℕ) (was : Office) (now : Option Office) : Type 0 where
   pub exact : status ≢ 4 → status ≢ 5 → status ≢ 6 → status ≢ 8 → now ≡ Some a.office
   pub refused : status ≡ 6 → LeftBy w keeping.Failed a was now
-  pub whole : IsWhole a was now
+  pub whole : IsOldOrWhole a was now
 
 -- the status that a run is to end with, if its closing line is written
 abbrev pub code_of : Result (Option Closing) Failed → ℕ
@@ -159,25 +159,25 @@ code_of (Err e) = 5
 -- does and the put was refused
 abbrev pub Halted : WhenRefused → KeepFault → Answer → Office → List ℕ → Option Office → Type 0
 Halted w fault a was text now =
-    (IsFront text a.text × (now ≡ Some was))
+    (IsTextFront text a.text × (now ≡ Some was))
     ⊎ ((text ≡ a.text) × ((o : Office) × (now ≡ Some o) × Leaves w fault o was a.office))
 
 -- what stands before a closing line of a sort, and what is kept then
 abbrev pub HoldsBy : Sort → WhenRefused → Answer → Office → Closing → List ℕ → Option Office → Type 0
 HoldsBy Own w a was c text now = (Some c ≡ a.closing) × (text ≡ a.text) × (now ≡ Some a.office)
-HoldsBy Unread w a was c text now = IsFront text a.text × (now ≡ Some was)
+HoldsBy Unread w a was c text now = IsTextFront text a.text × (now ≡ Some was)
 HoldsBy Unkept w a was c text now = Halted w keeping.Failed a was text now
 HoldsBy Unroomed w a was c text now = Halted w keeping.NoMemory a was text now
 
 -- a text is not whole, unless what is kept is what is asked
-abbrev pub IsShort : Answer → List ℕ → Option Office → Type 0
-IsShort a text now = now ≢ Some a.office → length text < length a.text
+abbrev pub IsShortText : Answer → List ℕ → Option Office → Type 0
+IsShortText a text now = now ≢ Some a.office → length text < length a.text
 
 -- the sink failed in the text: some first bytes of it stand there, not all where a day is still to be kept, and what is
 -- kept is as it was
 abbrev pub Broke : Answer → Office → Option (List ℕ) → Option (List ℕ) → Option Office → Type 0
 Broke a was old new now =
-    (text : List ℕ) × IsFront text a.text × Appends old new text × (now ≡ Some was) × IsShort a text now
+    (text : List ℕ) × IsTextFront text a.text × Appends old new text × (now ≡ Some was) × IsShortText a text now
 
 -- what a command wrote and what is kept then, by how it ended
 abbrev pub Did : WhenRefused → Answer → Office → Option (List ℕ) → Option (List ℕ) → Option Office
@@ -187,8 +187,8 @@ Did w a was old new now (Ok None) = (None ≡ a.closing) × Appends old new a.te
 Did w a was old new now (Err e) = Broke a was old new now
 
 -- a text and a closing line were written and the status is that line's, or the sink failed in that line
-abbrev pub Said : List ℕ → Closing → ℕ → Option (List ℕ) → Option (List ℕ) → Type 0
-Said text c status old new =
+abbrev pub SaysLine : List ℕ → Closing → ℕ → Option (List ℕ) → Option (List ℕ) → Type 0
+SaysLine text c status old new =
     ((status ≡ status_of c) × Appends old new (text ++ closing_line c))
     ⊎ ((status ≡ 5) × ((k : ℕ) × (k < length (closing_line c)) × Appends old new (text ++ take k (closing_line c))))
 
@@ -196,7 +196,7 @@ Said text c status old new =
 abbrev pub SaidAll : WhenRefused → Answer → Office → ℕ → Option (List ℕ) → Option (List ℕ) → Option Office → Type 0
 SaidAll w a was status old new now =
     (c : Closing) × (text : List ℕ) × HoldsBy (sort_of c) w a was c text now
-    × (Said text c status old new ⊎ Said text NoMemory status old new)
+    × (SaysLine text c status old new ⊎ SaysLine text NoMemory status old new)
 
 -- a run without one wrote all
 abbrev pub WroteAlone : Answer → ℕ → Option (List ℕ) → Option (List ℕ) → Option Office → Type 0
@@ -212,5 +212,5 @@ Concludes w a was status old new now =
     SaidAll w a was status old new now ⊎ (WroteAlone a status old new now ⊎ WroteLess a was status old new now)
 
 -- what is kept is as it was, unless a command ended well, its keeper failed, or memory ran out
-abbrev pub Holds : ℕ → Type 0 → Type 0
-Holds code same = code ≢ 0 → code ≢ 6 → code ≢ 8 → same
+abbrev pub HoldsSame : ℕ → Type 0 → Type 0
+HoldsSame code same = code ≢ 0 → code ≢ 6 → code ≢ 8 → same

@@ -5,8 +5,8 @@ use Rattle.road_time.specs.declared.road.Notice.{Notice}
 use Rattle.office_commands.specs.declared.closing.Closing.{Closing}
 use Rattle.office_commands.specs.declared.closing.Closing.TheVariants.{Agree}
 use Rattle.office_commands.specs.declared.closing.Closing.TheVariants.{DiffersLine}
-use Rattle.office_commands.specs.declared.aside.Entry.{Entry}
-use Rattle.office_commands.specs.declared.aside.Entry.TheVariants.{Line, Long, End}
+use Rattle.office_commands.specs.declared.aside.AsideEntry.{AsideEntry}
+use Rattle.office_commands.specs.declared.aside.AsideEntry.TheVariants.{Line, Long, End}
 use Rattle.office_commands.specs.Asides.{entries_of, compared_from}
 
 -- the entries of the bytes that lie ahead
@@ -18,7 +18,7 @@ abbrev pub EndsEntries : List ℕ → Type 0
 EndsEntries bytes = entered bytes ≡ []
 
 -- an entry comes first and is taken, or it is long, or none is left
-abbrev pub Enters : Entry → Option (List ℕ) → Option (List ℕ) → List ℕ → Type 0
+abbrev pub Enters : AsideEntry → Option (List ℕ) → Option (List ℕ) → List ℕ → Type 0
 Enters Line before after line =
     (bytes : List ℕ) → before ≡ Some bytes → (now : List ℕ) × (after ≡ Some now) × (entered bytes ≡ line ∷ entered now)
 Enters Long before after line =

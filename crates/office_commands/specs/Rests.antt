@@ -8,7 +8,8 @@ use Rattle.keeper.specs.declared.kept.DayRecord.{DayRecord}
 use Rattle.keeper.specs.declared.kept.PastRecord.{PastRecord}
 use Rattle.keeper.specs.Office.{Office, record_of}
 use Rattle.keeper.specs.PastReads.{PastFault, past_reads}
-use Rattle.day_reading.specs.Days.{ReadsWithin, StopsSoon, most_read}
+use Rattle.day_reading.specs.Days.{StopsSoon, most_of_day}
+use Rattle.road_io.specs.Within.{ReadsWithin}
 use Rattle.past_file.specs.Imports.{most_past}
 use Rattle.office_words.specs.declared.command.Command.{Command}
 use Rattle.office_words.specs.declared.command.Command.TheVariants as command
@@ -43,7 +44,7 @@ pub record HasReadTo (refused : Option (ℕ × Fault)) (status : ℕ) (bytes : L
 
 -- a day was read within its limits, and to where the status says
 pub record HasReadDay (limits : Limits) (late status : ℕ) (before after : Option (List ℕ)) : Type 0 where
-  pub within : ReadsWithin (most_read limits) before after
+  pub within : ReadsWithin (most_of_day limits) before after
   pub to : (bytes : List ℕ) → before ≡ Some bytes → HasReadTo (reads bytes limits late).refused status bytes after
 
 -- of a day that is to be kept a refused line ends the reading
@@ -59,7 +60,7 @@ ReadsUncompared most status before after = (status ≡ 2) ⊎ (status ≡ 6) →
 abbrev pub ReadsAsked : Limits → Option Command → ℕ → Option (List ℕ) → Option (List ℕ) → Type 0
 ReadsAsked limits (Some (command.Answers run)) status before after = HasReadDay limits run.late status before after
 ReadsAsked limits (Some (command.Import run)) status before after =
-    StopsThere limits run.late status before after × ReadsUncompared (most_read limits) status before after
+    StopsThere limits run.late status before after × ReadsUncompared (most_of_day limits) status before after
 ReadsAsked limits (Some (command.Past base)) status before after =
     ReadsUncompared (most_past limits) status before after
 ReadsAsked limits (Some (command.Compare asked)) status before after =

@@ -6,7 +6,7 @@ use Rattle.road_time.specs.declared.road.Tuple.{Tuple}
 use Rattle.road_time.specs.declared.day.Limits.{Limits}
 use Rattle.keeper.specs.Office.{Office, record_of, last_day}
 use Rattle.keeper.specs.Kept.{with_tariff_of}
-use Rattle.day_reading.specs.Days.{most_read}
+use Rattle.day_reading.specs.Days.{most_of_day}
 use Rattle.import_once.specs.Imports.{most_imported, PutsOnce}
 use Rattle.past_file.specs.Imports.{NeedsNone, PutsPast, most_kept}
 use Rattle.office_words.specs.Meaning.{means}
@@ -71,12 +71,12 @@ abbrev pub changes_kept : Option Command → Bool
 changes_kept meant = (uses meant).changes
 
 -- a crew answers what is found by the rules, where it is used
-abbrev pub IsRight : Option Command → Bool → Type 0
-IsRight meant exact = uses_crew meant ≡ true → exact ≡ true
+abbrev pub IsRightCrew : Option Command → Bool → Type 0
+IsRightCrew meant exact = uses_crew meant ≡ true → exact ≡ true
 
 -- and where the aside is used too
 abbrev pub IsRightAside : Option Command → Bool → Type 0
-IsRightAside meant exact = uses_aside meant ≡ true → IsRight meant exact
+IsRightAside meant exact = uses_aside meant ≡ true → IsRightCrew meant exact
 
 -- a source tells its bytes, where it is used
 abbrev pub SourceTells : Option Command → Option (List ℕ) → List ℕ → Type 0
@@ -93,7 +93,7 @@ KeeperTells meant kept o = uses_keeper meant ≡ true → kept ≡ Some o
 -- what is used is told, and the crew is right
 pub record IsTold (meant : Option Command) (exact : Bool) (source aside : Option (List ℕ)) (kept : Option Office)
     (bytes lines : List ℕ) (o : Office) : Type 0 where
-  pub right : IsRight meant exact
+  pub right : IsRightCrew meant exact
   pub source_is : SourceTells meant source bytes
   pub aside_is : AsideTells meant aside lines
   pub kept_is : KeeperTells meant kept o
@@ -123,11 +123,11 @@ most_noticed number tuples o = most_compared (length (notices_of_day number tupl
 
 -- the most that words have read of the source
 abbrev pub most_of : Limits → Office → Option Command → ℕ
-most_of limits o (Some (command.Answers run)) = most_read limits
+most_of limits o (Some (command.Answers run)) = most_of_day limits
 most_of limits o (Some (command.Import run)) = most_imported (record_of o run.day) limits
-most_of limits o (Some (command.Compare asked)) = most_read (recomputed asked.how limits)
+most_of limits o (Some (command.Compare asked)) = most_of_day (recomputed asked.how limits)
 most_of limits o (Some (command.Past base)) = most_kept o.past limits
-most_of limits o (Some (command.Accidents late)) = most_read (recomputed Plainly limits)
+most_of limits o (Some (command.Accidents late)) = most_of_day (recomputed Plainly limits)
 most_of limits o _ = 0
 
 -- and of the aside

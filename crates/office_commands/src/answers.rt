@@ -2,9 +2,10 @@
 ghost use Rattle.std.specs.Prelude.{◌≡◌, ◌≢◌, ℕ, List, [], Some, Ok, true, IsErr};
 ghost use Rattle.keeper.specs.Office.{Office};
 ghost use Rattle.road_time.specs.Fits.{IsLimits};
-ghost use Rattle.day_reading.specs.Days.{ReadsWithin, most_read};
+ghost use Rattle.day_reading.specs.Days.{most_of_day};
+ghost use Rattle.road_io.specs.Within.{ReadsWithin};
 ghost use Rattle.office_words.specs.Meaning.{IsRun};
-ghost use Rattle.office_commands.specs.Commands.{answers_row};
+ghost use Rattle.office_commands.specs.Commands.{answers_command};
 ghost use Rattle.office_commands.specs.Endings.{Wrote, Keeps, Did, code_of};
 ghost use Rattle.office_commands.specs.Rests.{HasReadDay};
 ghost use Rattle.office_commands.specs.declared.closing.Closing.TheVariants.{ReadFault, KeeperFault, Words};
@@ -36,20 +37,20 @@ pub fn answers<S: Source, O: Sink, K: Keeper, C: Crew, R: Threads>(
     requires idle { C.out crew.old ≡ [] }
     ensures wrote { C.exact ≡ true → (bytes : List ℕ) (o : Office) → S.left source.old ≡ Some bytes
         → K.told keeper.old ≡ Some o
-        → Wrote (answers_row limits.now run bytes o) result (O.written sink.old) (O.written sink.new) }
+        → Wrote (answers_command limits.now run bytes o) result (O.written sink.old) (O.written sink.new) }
     ensures keeps { C.exact ≡ true → (bytes : List ℕ) (o : Office) → S.left source.old ≡ Some bytes
         → K.told keeper.old ≡ Some o
-        → Keeps K.refuses (answers_row limits.now run bytes o) o (K.told keeper.new) result }
+        → Keeps K.refuses (answers_command limits.now run bytes o) o (K.told keeper.new) result }
     ensures does { C.exact ≡ true → (bytes : List ℕ) (o : Office) → S.left source.old ≡ Some bytes
         → K.told keeper.old ≡ Some o
-        → Did K.refuses (answers_row limits.now run bytes o) o (O.written sink.old) (O.written sink.new)
+        → Did K.refuses (answers_command limits.now run bytes o) o (O.written sink.old) (O.written sink.new)
         (K.told keeper.new) result }
     ensures reads { HasReadDay limits.now run.late (code_of result) (S.left source.old) (S.left source.new) }
     ensures kept { K.told keeper.new ≡ K.told keeper.old }
     ensures idle { C.out crew.new ≡ [] }
     ensures crew { C.which crew.new ≡ C.which crew.old }
     ensures said { result ≢ Ok (Some Words) }
-    ensures bounded { ReadsWithin (most_read limits.now) (S.left source.old) (S.left source.new) }
+    ensures bounded { ReadsWithin (most_of_day limits.now) (S.left source.old) (S.left source.new) }
     ensures source { FaultsByPlan (S.faults source.old) (S.faults source.new) (S.plan source.old)
         (result ≡ Ok (Some ReadFault)) }
     ensures sink { FaultsByRoom (O.faults sink.old) (O.faults sink.new) (O.room sink.old) (O.room sink.new)

@@ -5,7 +5,7 @@ ghost use Rattle.road_time.specs.Lines.{lines_of, without_cr};
 ghost use Rattle.road_time.specs.Text.{notice_text, read_notice as defined_read_notice};
 ghost use Rattle.road_io.specs.Plans.{NeverFails};
 ghost use Rattle.road_io.specs.Cutter.{ahead, line_of, number_of, fault_of};
-ghost use Rattle.day_reading.specs.Days.{ReadsWithin};
+ghost use Rattle.road_io.specs.Within.{ReadsWithin};
 ghost use Rattle.office_commands.specs.Asides.{entry_of, is_marked, compared, compared_from};
 ghost use Rattle.office_commands.specs.Entries.{Enters, entered, GoesOn, PartsAt, IsComparison, IsComparisonOr};
 ghost use Rattle.office_commands.specs.Entries.{HasReadLines, most_compared};
@@ -24,7 +24,7 @@ use tuple_format::{put_notice, read_notice, trimmed};
 
 /// What an aside has next.
 #[derive(Clone, Copy, Debug, PartialEq)]
-pub enum Entry {
+pub enum AsideEntry {
     Line,
     Long,
     End,
@@ -41,14 +41,14 @@ fn is_marked(text: &[u8]) -> bool
 }
 
 /// Moves to the next line of an aside. It ends with its bytes, or at a line that begins with #.
-fn next_entry<A: Source>(cutter: &mut LineCutter, aside: &mut A) -> Result<Entry, ReadStop>
+fn next_entry<A: Source>(cutter: &mut LineCutter, aside: &mut A) -> Result<AsideEntry, ReadStop>
     requires number { number_of cutter.old + 1 < 2 ^ 64 }
     requires whole { fault_of cutter.old ≡ None }
     ensures enters { IfOk result
         (λ entry. Enters entry (ahead cutter.old (A.left aside.old)) (ahead cutter.new (A.left aside.new))
         (line_of cutter.new)) }
     ensures next { IfOk result
-        (λ entry. entry ≡ Entry.Line → (number_of cutter.new ≡ number_of cutter.old + 1) ×
+        (λ entry. entry ≡ AsideEntry.Line → (number_of cutter.new ≡ number_of cutter.old + 1) ×
         (fault_of cutter.new ≡ None) × (length (line_of cutter.new) ≤ 200)) }
     ensures read { (lines : ℕ) (bytes : List ℕ) → HasReadLines (ahead cutter.old (A.left aside.old)) lines bytes
         → HasReadLines (ahead cutter.new (A.left aside.new)) (lines + 1) bytes }
@@ -59,13 +59,13 @@ fn next_entry<A: Source>(cutter: &mut LineCutter, aside: &mut A) -> Result<Entry
     match cutter.advance(aside) {
         Ok(true) => {
             if is_marked(cutter.line()) {
-                Ok(Entry::End)
+                Ok(AsideEntry::End)
             } else {
-                Ok(Entry::Line)
+                Ok(AsideEntry::Line)
             }
         }
-        Ok(false) => Ok(Entry::End),
-        Err(LineFault::LongLine(_)) => Ok(Entry::Long),
+        Ok(false) => Ok(AsideEntry::End),
+        Err(LineFault::LongLine(_)) => Ok(AsideEntry::Long),
         Err(LineFault::ReadFault) => Err(ReadStop::ReadFault),
     }
 }
@@ -124,13 +124,13 @@ fn compare_one<A: Source>(
     ensures still { NeverFails (A.plan aside.old) → NeverFails (A.plan aside.new) }
 {
     match next_entry(cutter, aside) {
-        Ok(Entry::Line) => match is_text_of(notice, cutter.line(), room) {
+        Ok(AsideEntry::Line) => match is_text_of(notice, cutter.line(), room) {
             Ok(true) => Ok(None),
             Ok(false) => Ok(differs(line, EntryText::Read(*notice), entry_of(cutter.line()))),
             Err(_) => Err(ReadStop::NoMemory),
         },
-        Ok(Entry::Long) => Ok(differs(line, EntryText::Read(*notice), EntryText::Malformed)),
-        Ok(Entry::End) => Ok(differs(line, EntryText::Read(*notice), EntryText::Nothing)),
+        Ok(AsideEntry::Long) => Ok(differs(line, EntryText::Read(*notice), EntryText::Malformed)),
+        Ok(AsideEntry::End) => Ok(differs(line, EntryText::Read(*notice), EntryText::Nothing)),
         Err(stop) => Err(stop),
     }
 }
@@ -152,17 +152,17 @@ fn compare_end<A: Source>(
     ensures aside { FaultsByPlan (A.faults aside.old) (A.faults aside.new) (A.plan aside.old) (result ≡ Err ReadFault) }
 {
     match next_entry(cutter, aside) {
-        Ok(Entry::Line) => Ok(Closing::DiffersLine {
+        Ok(AsideEntry::Line) => Ok(Closing::DiffersLine {
             line,
             wanted: EntryText::Nothing,
             found: entry_of(cutter.line()),
         }),
-        Ok(Entry::Long) => Ok(Closing::DiffersLine {
+        Ok(AsideEntry::Long) => Ok(Closing::DiffersLine {
             line,
             wanted: EntryText::Nothing,
             found: EntryText::Malformed,
         }),
-        Ok(Entry::End) => Ok(Closing::Agree { notices: line - 1 }),
+        Ok(AsideEntry::End) => Ok(Closing::Agree { notices: line - 1 }),
         Err(stop) => Err(stop),
     }
 }

@@ -7,10 +7,11 @@ ghost use Rattle.road_io.specs.Plans.{NeverFails};
 ghost use Rattle.keeper.specs.Office.{Office};
 ghost use Rattle.keeper.specs.declared.kept.KeepFault.TheVariants.{Failed};
 ghost use Rattle.validator.specs.History.{paid, KeysDiffer};
-ghost use Rattle.day_reading.specs.Days.{ReadsWithin, most_read};
+ghost use Rattle.day_reading.specs.Days.{most_of_day};
+ghost use Rattle.road_io.specs.Within.{ReadsWithin};
 ghost use Rattle.office_words.specs.Meaning.{IsComparing};
 ghost use Rattle.office_commands.specs.Asides.{compared};
-ghost use Rattle.office_commands.specs.Commands.{compare_row, comparison_of, compared_tuples};
+ghost use Rattle.office_commands.specs.Commands.{compare_command, comparison_of, compared_tuples};
 ghost use Rattle.office_commands.specs.Commands.{notices_of_day};
 ghost use Rattle.office_commands.specs.Commands.{unless_refused, closed};
 ghost use Rattle.office_commands.specs.Days.{recomputed, in_bulk, IsRightFor};
@@ -25,7 +26,7 @@ ghost use Rattle.road_io.specs.Blame.{FaultsByPlan};
 
 use crate::aside::compare;
 use crate::closing::Closing;
-use crate::day::{Day, read_day, stopped};
+use crate::day::{ReadDay, read_day, stopped};
 use crate::refusal::refused;
 use asked_history::history_for;
 use keeper::{KeepFault, Keeper};
@@ -118,7 +119,7 @@ fn compare_day<A: Source, K: Keeper, C: Crew, R: Threads + Sync>(
     rt: &R,
     alloc: Global,
     asked: Comparison,
-    day: &Day,
+    day: &ReadDay,
     tariffs: &Tariffs,
     aside: &mut A,
     keeper: &mut K,
@@ -179,7 +180,7 @@ pub fn compare_source<S: Source, A: Source, K: Keeper, C: Crew, R: Threads + Syn
     requires idle { C.out crew.old ≡ [] }
     ensures exact { IsRightFor asked.how C.exact → (bytes lines : List ℕ) (o : Office) → S.left source.old ≡ Some bytes
         → A.left aside.old ≡ Some lines → K.told keeper.old ≡ Some o
-        → StandsBefore (compare_row limits.now asked bytes lines o) result [] }
+        → StandsBefore (compare_command limits.now asked bytes lines o) result [] }
     ensures kept { (o : Office) → K.told keeper.old ≡ Some o → K.told keeper.new ≡ Some o }
     ensures said { result ≢ Words }
     ensures reads { HasReadDay (recomputed asked.how limits.now) asked.late (status_of result)
@@ -187,7 +188,7 @@ pub fn compare_source<S: Source, A: Source, K: Keeper, C: Crew, R: Threads + Syn
     ensures refused_first { status_of result ≡ 2 → aside.new ≡ aside.old }
     ensures source_first { (bytes : List ℕ) → S.left source.old ≡ Some bytes → S.left source.new ≢ Some []
         → aside.new ≡ aside.old }
-    ensures bounded { ReadsWithin (most_read (recomputed asked.how limits.now)) (S.left source.old)
+    ensures bounded { ReadsWithin (most_of_day (recomputed asked.how limits.now)) (S.left source.old)
         (S.left source.new) }
     ensures aside_bounded { IsRightFor asked.how C.exact → (bytes : List ℕ) (o : Office)
         → S.left source.old ≡ Some bytes → K.told keeper.old ≡ Some o

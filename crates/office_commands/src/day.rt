@@ -2,7 +2,8 @@
 ghost use Rattle.std.specs.Prelude.{◌≡◌, ◌≤◌, List, ℕ, Some, Err, IfOk};
 ghost use Rattle.road_time.specs.Fits.{Fit, IsLimits};
 ghost use Rattle.road_time.specs.Reads.{reads};
-ghost use Rattle.day_reading.specs.Days.{ReadsWithin, most_read};
+ghost use Rattle.day_reading.specs.Days.{most_of_day};
+ghost use Rattle.road_io.specs.Within.{ReadsWithin};
 ghost use Rattle.day_reading.specs.declared.whole_day.ReadStop.TheVariants.{ReadFault};
 ghost use Rattle.office_commands.specs.Days.{most_lines, recomputed, refusal_of, refused_at};
 ghost use Rattle.office_commands.specs.Endings.{stopping};
@@ -20,7 +21,7 @@ use tuple_format::Cause;
 
 /// The tuples of a day in the order of Time, and the first line that was refused, if one was.
 #[derive(Drop)]
-pub struct Day {
+pub struct ReadDay {
     pub tuples: Vec<Tuple>,
     pub refused: Option<(u64, Cause)>,
 }
@@ -73,7 +74,7 @@ pub fn read_day<S: Source, R: Threads>(
     how: Recomputing,
     late: u8,
     source: &mut S,
-) -> Result<Day, ReadStop>
+) -> Result<ReadDay, ReadStop>
     requires within { IsLimits limits.now }
     requires soon { late ≤ 120 }
     ensures tuples { (bytes : List ℕ) → S.left source.old ≡ Some bytes
@@ -84,13 +85,13 @@ pub fn read_day<S: Source, R: Threads>(
     ensures ends { (bytes : List ℕ) → S.left source.old ≡ Some bytes
         → IfOk result
         (λ d. EndsAt d.refused (reads bytes (recomputed how limits.now) late).refused bytes (S.left source.new)) }
-    ensures bounded { ReadsWithin (most_read (recomputed how limits.now)) (S.left source.old) (S.left source.new) }
+    ensures bounded { ReadsWithin (most_of_day (recomputed how limits.now)) (S.left source.old) (S.left source.new) }
     ensures source { FaultsByPlan (S.faults source.old) (S.faults source.new) (S.plan source.old)
         (result ≡ Err ReadFault) }
 {
     let lesser = recomputed(limits, how);
     match day_reading::read_day(rt, alloc, &lesser, late, source) {
-        Ok(day) => Ok(Day {
+        Ok(day) => Ok(ReadDay {
             refused: refused_at(day.end),
             tuples: day.tuples,
         }),

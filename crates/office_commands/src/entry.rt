@@ -4,14 +4,15 @@ ghost use Rattle.road_io.specs.Plans.{NeverFails};
 ghost use Rattle.keeper.specs.Office.{Office};
 ghost use Rattle.keeper.specs.declared.kept.KeepFault.TheVariants as keep_fault;
 ghost use Rattle.road_time.specs.Fits.{IsLimits};
-ghost use Rattle.day_reading.specs.Days.{ReadsWithin};
+ghost use Rattle.road_io.specs.Within.{ReadsWithin};
 ghost use Rattle.office_commands.specs.Closings.{closing_line, status_of};
 ghost use Rattle.office_commands.specs.Commands.{office_answer};
 ghost use Rattle.office_commands.specs.Endings.{Wrote, Keeps, Closes, Writes, KeepsTo};
-ghost use Rattle.office_commands.specs.Endings.{Did, Concludes, Holds, code_of};
+ghost use Rattle.office_commands.specs.Endings.{Did, Concludes, HoldsSame, code_of};
 ghost use Rattle.office_commands.specs.Rests.{LeavesAsKept, ReadsAsked};
 ghost use Rattle.office_commands.specs.declared.closing.Closing.TheVariants.{ReadFault, KeeperFault, NoMemory, Words};
-ghost use Rattle.office_commands.specs.Uses.{asked, IsTold, IsRight, IsRightAside, SourceTells, KeeperTells, uses_crew};
+ghost use Rattle.office_commands.specs.Uses.{asked, IsTold, IsRightCrew, IsRightAside, SourceTells, KeeperTells};
+ghost use Rattle.office_commands.specs.Uses.{uses_crew};
 ghost use Rattle.office_commands.specs.Uses.{uses_source, uses_aside, uses_keeper, changes_kept, AsksPassed, PutsAsked};
 ghost use Rattle.office_commands.specs.Uses.{most_of, most_aside_of};
 ghost use Rattle.office_commands.specs.Faults.{ReadFaults};
@@ -73,7 +74,7 @@ fn run<S: Source, A: Source, O: Sink, K: Keeper, C: Crew, R: Threads + Sync>(
         → IsTold (asked words.now) C.exact (S.left source.old) (A.left aside.old) (K.told keeper.old) bytes lines o
         → Wrote (office_answer limits.now bytes lines o (asked words.now)) result (O.written sink.old)
         (O.written sink.new) }
-    ensures keeps { (bytes lines : List ℕ) (o : Office) → IsRight (asked words.now) C.exact
+    ensures keeps { (bytes lines : List ℕ) (o : Office) → IsRightCrew (asked words.now) C.exact
         → SourceTells (asked words.now) (S.left source.old) bytes → K.told keeper.old ≡ Some o
         → Keeps K.refuses (office_answer limits.now bytes lines o (asked words.now)) o (K.told keeper.new) result }
     ensures does { (bytes lines : List ℕ) (o : Office)
@@ -85,7 +86,7 @@ fn run<S: Source, A: Source, O: Sink, K: Keeper, C: Crew, R: Threads + Sync>(
     ensures unchanged { (o : Office) → K.told keeper.old ≡ Some o → changes_kept (asked words.now) ≡ false
         → K.told keeper.new ≡ Some o }
     ensures held { (o : Office) → K.told keeper.old ≡ Some o → changes_kept (asked words.now) ≡ true
-        → Holds (code_of result) (K.told keeper.new ≡ Some o) }
+        → HoldsSame (code_of result) (K.told keeper.new ≡ Some o) }
     ensures words { IsOk result → result ≢ Ok (Some NoMemory)
         → (result ≡ Ok (Some Words) ↔ (asked words.now ≡ None)) }
     ensures source_unused { uses_source (asked words.now) ≡ false → source.new ≡ source.old }
@@ -145,7 +146,7 @@ pub fn office<S: Source, A: Source, O: Sink, K: Keeper, C: Crew, R: Threads + Sy
         → IsTold (asked words.now) C.exact (S.left source.old) (A.left aside.old) (K.told keeper.old) bytes lines o
         → Writes (office_answer limits.now bytes lines o (asked words.now)) result (O.written sink.old)
         (O.written sink.new) }
-    ensures keeps { (bytes lines : List ℕ) (o : Office) → IsRight (asked words.now) C.exact
+    ensures keeps { (bytes lines : List ℕ) (o : Office) → IsRightCrew (asked words.now) C.exact
         → SourceTells (asked words.now) (S.left source.old) bytes → K.told keeper.old ≡ Some o
         → KeepsTo K.refuses (office_answer limits.now bytes lines o (asked words.now)) result o (K.told keeper.new) }
     ensures keeps_unread { (o : Office) → K.told keeper.old ≡ Some o → result ≡ 4 → K.told keeper.new ≡ Some o }
@@ -159,7 +160,7 @@ pub fn office<S: Source, A: Source, O: Sink, K: Keeper, C: Crew, R: Threads + Sy
     ensures unchanged { (o : Office) → K.told keeper.old ≡ Some o → changes_kept (asked words.now) ≡ false
         → K.told keeper.new ≡ Some o }
     ensures held { (o : Office) → K.told keeper.old ≡ Some o → changes_kept (asked words.now) ≡ true → result ≢ 5
-        → Holds result (K.told keeper.new ≡ Some o) }
+        → HoldsSame result (K.told keeper.new ≡ Some o) }
     ensures words { result ≢ 5 → result ≢ 8 → (result ≡ 1 ↔ (asked words.now ≡ None)) }
     ensures source_unused { uses_source (asked words.now) ≡ false → source.new ≡ source.old }
     ensures passed { (o : Office) → K.told keeper.old ≡ Some o → AsksPassed (asked words.now) o

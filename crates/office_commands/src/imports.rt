@@ -2,11 +2,12 @@
 ghost use Rattle.std.specs.Prelude.{◌≡◌, ◌≢◌, ℕ, List, [], Some, Ok, true, IsErr};
 ghost use Rattle.keeper.specs.Office.{Office, record_of};
 ghost use Rattle.road_time.specs.Fits.{IsLimits};
-ghost use Rattle.day_reading.specs.Days.{ReadsWithin, most_read};
+ghost use Rattle.day_reading.specs.Days.{most_of_day};
+ghost use Rattle.road_io.specs.Within.{ReadsWithin};
 ghost use Rattle.import_once.specs.Imports.{most_imported, PutsOnce};
 ghost use Rattle.office_words.specs.Meaning.{IsRun};
-ghost use Rattle.office_commands.specs.Commands.{import_row};
-ghost use Rattle.office_commands.specs.Endings.{Wrote, Keeps, Did, Holds, code_of};
+ghost use Rattle.office_commands.specs.Commands.{import_command};
+ghost use Rattle.office_commands.specs.Endings.{Wrote, Keeps, Did, HoldsSame, code_of};
 ghost use Rattle.office_commands.specs.Rests.{StopsThere, ReadsUncompared, LeavesOfDay};
 ghost use Rattle.office_commands.specs.declared.closing.Closing.TheVariants.{ReadFault, KeeperFault, Words};
 ghost use Rattle.office_commands.specs.Uses.{IsPassed};
@@ -39,20 +40,20 @@ pub fn import<S: Source, O: Sink, K: Keeper, C: Crew, R: Threads>(
     requires idle { C.out crew.old ≡ [] }
     ensures wrote { C.exact ≡ true → (bytes : List ℕ) (o : Office) → S.left source.old ≡ Some bytes
         → K.told keeper.old ≡ Some o
-        → Wrote (import_row limits.now run bytes o) result (O.written sink.old) (O.written sink.new) }
+        → Wrote (import_command limits.now run bytes o) result (O.written sink.old) (O.written sink.new) }
     ensures keeps { C.exact ≡ true → (bytes : List ℕ) (o : Office) → S.left source.old ≡ Some bytes
         → K.told keeper.old ≡ Some o
-        → Keeps K.refuses (import_row limits.now run bytes o) o (K.told keeper.new) result }
+        → Keeps K.refuses (import_command limits.now run bytes o) o (K.told keeper.new) result }
     ensures does { C.exact ≡ true → (bytes : List ℕ) (o : Office) → S.left source.old ≡ Some bytes
         → K.told keeper.old ≡ Some o
-        → Did K.refuses (import_row limits.now run bytes o) o (O.written sink.old) (O.written sink.new)
+        → Did K.refuses (import_command limits.now run bytes o) o (O.written sink.old) (O.written sink.new)
         (K.told keeper.new) result }
     ensures stops { StopsThere limits.now run.late (code_of result) (S.left source.old) (S.left source.new) }
-    ensures uncompared { ReadsUncompared (most_read limits.now) (code_of result)
+    ensures uncompared { ReadsUncompared (most_of_day limits.now) (code_of result)
         (S.left source.old) (S.left source.new) }
     ensures rest { (bytes : List ℕ) (o : Office) → S.left source.old ≡ Some bytes → K.told keeper.old ≡ Some o
         → code_of result ≡ 0 → LeavesOfDay (record_of o run.day) bytes (S.left source.new) }
-    ensures held { Holds (code_of result) (K.told keeper.new ≡ K.told keeper.old) }
+    ensures held { HoldsSame (code_of result) (K.told keeper.new ≡ K.told keeper.old) }
     ensures puts { (o : Office) → K.told keeper.old ≡ Some o → PutsOnce run.day o (K.told keeper.new) }
     ensures unread { (o : Office) → K.told keeper.old ≡ Some o → IsPassed run.day o → source.new ≡ source.old }
     ensures idle { C.out crew.new ≡ [] }

@@ -2,17 +2,18 @@
 ghost use Rattle.std.specs.Prelude.{◌≡◌, ◌≢◌, ◌≤◌, ℕ, List, Some, Ok, IsErr};
 ghost use Rattle.road_time.specs.Fits.{IsDay, IsLimits};
 ghost use Rattle.keeper.specs.Office.{Office};
-ghost use Rattle.day_reading.specs.Days.{ReadsWithin, most_read};
+ghost use Rattle.day_reading.specs.Days.{most_of_day};
+ghost use Rattle.road_io.specs.Within.{ReadsWithin};
 ghost use Rattle.office_words.specs.declared.command.Recomputing.TheVariants.{Plainly};
 ghost use Rattle.office_commands.specs.Days.{recomputed};
-ghost use Rattle.office_commands.specs.Commands.{accidents_row, accidents_of, unless_refused};
+ghost use Rattle.office_commands.specs.Commands.{accidents_command, accidents_of, unless_refused};
 ghost use Rattle.office_commands.specs.Endings.{Wrote, code_of};
 ghost use Rattle.office_commands.specs.Rests.{HasReadDay, SaysBy};
 ghost use Rattle.office_commands.specs.declared.closing.Closing.TheVariants.{ReadFault, KeeperFault, Words};
 ghost use Rattle.road_io.specs.Blame.{FaultsByPlan, FaultsByRoom};
 
 use crate::closing::Closing;
-use crate::day::{Day, read_day, stopped};
+use crate::day::{ReadDay, read_day, stopped};
 use office_words::Recomputing;
 use reports::{ReportFault, accident_log};
 use road_io::{Failed, Sink, Source};
@@ -23,7 +24,7 @@ use std::thread::Threads;
 /// Writes the accident log of a day that was read whole.
 fn write_accidents<O: Sink>(
     alloc: Global,
-    day: &Day,
+    day: &ReadDay,
     sink: &mut O,
 ) -> Result<Option<Closing>, Failed>
     requires { IsDay day.now.tuples.items }
@@ -59,12 +60,13 @@ pub fn accidents<S: Source, O: Sink, R: Threads>(
     requires soon { late ≤ 120 }
     requires limits { IsLimits limits.now }
     ensures wrote { (bytes : List ℕ) (o : Office) → S.left source.old ≡ Some bytes
-        → Wrote (accidents_row limits.now late bytes o) result (O.written sink.old) (O.written sink.new) }
+        → Wrote (accidents_command limits.now late bytes o) result (O.written sink.old) (O.written sink.new) }
     ensures said { result ≢ Ok (Some Words) }
     ensures unasked { result ≢ Ok (Some KeeperFault) }
     ensures reads { HasReadDay (recomputed Plainly limits.now) late (code_of result) (S.left source.old)
         (S.left source.new) }
-    ensures bounded { ReadsWithin (most_read (recomputed Plainly limits.now)) (S.left source.old) (S.left source.new) }
+    ensures bounded { ReadsWithin (most_of_day (recomputed Plainly limits.now)) (S.left source.old)
+        (S.left source.new) }
     ensures source { FaultsByPlan (S.faults source.old) (S.faults source.new) (S.plan source.old)
         (result ≡ Ok (Some ReadFault)) }
     ensures sink { FaultsByRoom (O.faults sink.old) (O.faults sink.new) (O.room sink.old) (O.room sink.new)

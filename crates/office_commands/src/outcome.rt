@@ -2,7 +2,7 @@
 ghost use Rattle.std.specs.Prelude.{◌≡◌, ◌≢◌, Some, Ok, OnErr};
 ghost use Rattle.import_once.specs.declared.outcomes.Outcome.TheVariants as outcome;
 ghost use Rattle.office_commands.specs.Commands.{closing_by};
-ghost use Rattle.office_commands.specs.Endings.{Ends};
+ghost use Rattle.office_commands.specs.Endings.{EndsCommand};
 ghost use Rattle.office_commands.specs.declared.closing.Closing.TheVariants.{ReadFault, KeeperFault, Words};
 
 use crate::closing::Closing;
@@ -11,7 +11,7 @@ use road_io::Failed;
 
 /// How the day with this number ends.
 pub fn ended(day: u32, done: Outcome) -> Result<Option<Closing>, Failed>
-    ensures ends { Ends (closing_by day done) result }
+    ensures ends { EndsCommand (closing_by day done) result }
     ensures said { result ≢ Ok (Some Words) }
     ensures unread { result ≡ Ok (Some ReadFault) → done ≡ outcome.ReadFault }
     ensures unkept { result ≡ Ok (Some KeeperFault) → done ≡ outcome.KeeperFault }

@@ -3,12 +3,12 @@ ghost use Rattle.std.specs.Prelude.{◌≡◌, ◌≢◌, ℕ, List, [], Some, O
 ghost use Rattle.road_io.specs.Plans.{NeverFails};
 ghost use Rattle.keeper.specs.Office.{Office};
 ghost use Rattle.road_time.specs.Fits.{IsLimits};
-ghost use Rattle.day_reading.specs.Days.{ReadsWithin};
+ghost use Rattle.road_io.specs.Within.{ReadsWithin};
 ghost use Rattle.office_words.specs.Meaning.{IsInRange};
-ghost use Rattle.office_commands.specs.Endings.{Wrote, Keeps, Did, Holds, code_of};
+ghost use Rattle.office_commands.specs.Endings.{Wrote, Keeps, Did, HoldsSame, code_of};
 ghost use Rattle.office_commands.specs.Rests.{LeavesAsKept, ReadsAsked};
 ghost use Rattle.office_commands.specs.declared.closing.Closing.TheVariants.{ReadFault, KeeperFault, Words};
-ghost use Rattle.office_commands.specs.Uses.{IsTold, IsRight, IsRightAside, SourceTells, KeeperTells, uses_crew};
+ghost use Rattle.office_commands.specs.Uses.{IsTold, IsRightCrew, IsRightAside, SourceTells, KeeperTells, uses_crew};
 ghost use Rattle.office_commands.specs.Uses.{uses_source, uses_aside, uses_keeper, changes_kept, AsksPassed, PutsAsked};
 ghost use Rattle.office_commands.specs.Uses.{most_of, most_aside_of};
 ghost use Rattle.office_commands.specs.Commands.{office_answer};
@@ -18,9 +18,9 @@ ghost use Rattle.road_io.specs.Blame.{FaultsByPlan, FaultsByRoom};
 use crate::answers::answers;
 use crate::closing::Closing;
 use crate::comparing::compare_source;
-use crate::history::past;
 use crate::imports::import;
 use crate::mishaps::accidents;
+use crate::past::past;
 use crate::statements::{day, export, vehicle};
 use crate::tariffs::{tariff, tariffs};
 use crate::traffic::{generate, rehearse};
@@ -52,7 +52,7 @@ pub(crate) fn perform<S: Source, A: Source, O: Sink, K: Keeper, C: Crew, R: Thre
         → IsTold (Some command) C.exact (S.left source.old) (A.left aside.old) (K.told keeper.old) bytes lines o
         → Wrote (office_answer limits.now bytes lines o (Some command)) result (O.written sink.old)
         (O.written sink.new) }
-    ensures keeps { (bytes lines : List ℕ) (o : Office) → IsRight (Some command) C.exact
+    ensures keeps { (bytes lines : List ℕ) (o : Office) → IsRightCrew (Some command) C.exact
         → SourceTells (Some command) (S.left source.old) bytes → K.told keeper.old ≡ Some o
         → Keeps K.refuses (office_answer limits.now bytes lines o (Some command)) o (K.told keeper.new) result }
     ensures does { (bytes lines : List ℕ) (o : Office)
@@ -64,7 +64,7 @@ pub(crate) fn perform<S: Source, A: Source, O: Sink, K: Keeper, C: Crew, R: Thre
     ensures unchanged { (o : Office) → K.told keeper.old ≡ Some o → changes_kept (Some command) ≡ false
         → K.told keeper.new ≡ Some o }
     ensures held { (o : Office) → K.told keeper.old ≡ Some o → changes_kept (Some command) ≡ true
-        → Holds (code_of result) (K.told keeper.new ≡ Some o) }
+        → HoldsSame (code_of result) (K.told keeper.new ≡ Some o) }
     ensures said { result ≢ Ok (Some Words) }
     ensures source_unused { uses_source (Some command) ≡ false → source.new ≡ source.old }
     ensures passed { (o : Office) → K.told keeper.old ≡ Some o → AsksPassed (Some command) o → source.new ≡ source.old }

@@ -2,7 +2,7 @@
 ghost use Rattle.std.specs.Prelude.{◌≡◌, ◌≢◌, Some, Ok, Err, OnErr, IsErr};
 ghost use Rattle.keeper.specs.Office.{Office};
 ghost use Rattle.reports.specs.declared.report_fault.ReportFault.TheVariants as report_fault;
-ghost use Rattle.office_commands.specs.Commands.{day_row, vehicle_row, export_row};
+ghost use Rattle.office_commands.specs.Commands.{day_command, vehicle_command, export_command};
 ghost use Rattle.office_commands.specs.Endings.{Wrote, Keeps, EndsReport};
 ghost use Rattle.office_commands.specs.declared.closing.Closing.TheVariants.{ReadFault, KeeperFault, Words};
 ghost use Rattle.road_io.specs.Blame.{FaultsByPlan, FaultsByRoom};
@@ -38,9 +38,9 @@ pub fn day<O: Sink, K: Keeper>(
     keeper: &mut K,
 ) -> Result<Option<Closing>, Failed>
     ensures wrote { (o : Office) → K.told keeper.old ≡ Some o
-        → Wrote (day_row day o) result (O.written sink.old) (O.written sink.new) }
+        → Wrote (day_command day o) result (O.written sink.old) (O.written sink.new) }
     ensures keeps { (o : Office) → K.told keeper.old ≡ Some o
-        → Keeps K.refuses (day_row day o) o (K.told keeper.new) result }
+        → Keeps K.refuses (day_command day o) o (K.told keeper.new) result }
     ensures kept { K.told keeper.new ≡ K.told keeper.old }
     ensures said { result ≢ Ok (Some Words) }
     ensures unread { result ≢ Ok (Some ReadFault) }
@@ -63,9 +63,9 @@ pub fn vehicle<O: Sink, K: Keeper>(
     keeper: &mut K,
 ) -> Result<Option<Closing>, Failed>
     ensures wrote { (o : Office) → K.told keeper.old ≡ Some o
-        → Wrote (vehicle_row vid from to o) result (O.written sink.old) (O.written sink.new) }
+        → Wrote (vehicle_command vid from to o) result (O.written sink.old) (O.written sink.new) }
     ensures keeps { (o : Office) → K.told keeper.old ≡ Some o
-        → Keeps K.refuses (vehicle_row vid from to o) o (K.told keeper.new) result }
+        → Keeps K.refuses (vehicle_command vid from to o) o (K.told keeper.new) result }
     ensures kept { K.told keeper.new ≡ K.told keeper.old }
     ensures said { result ≢ Ok (Some Words) }
     ensures unread { result ≢ Ok (Some ReadFault) }
@@ -86,9 +86,9 @@ pub fn export<O: Sink, K: Keeper>(
     keeper: &mut K,
 ) -> Result<Option<Closing>, Failed>
     ensures wrote { (o : Office) → K.told keeper.old ≡ Some o
-        → Wrote (export_row day o) result (O.written sink.old) (O.written sink.new) }
+        → Wrote (export_command day o) result (O.written sink.old) (O.written sink.new) }
     ensures keeps { (o : Office) → K.told keeper.old ≡ Some o
-        → Keeps K.refuses (export_row day o) o (K.told keeper.new) result }
+        → Keeps K.refuses (export_command day o) o (K.told keeper.new) result }
     ensures kept { K.told keeper.new ≡ K.told keeper.old }
     ensures said { result ≢ Ok (Some Words) }
     ensures unread { result ≢ Ok (Some ReadFault) }

@@ -1,7 +1,7 @@
 // The commands `tariff XWAY CROWD SPEED FACTOR` and `tariffs`.
 ghost use Rattle.std.specs.Prelude.{◌≡◌, ◌≢◌, ◌≤◌, [], Some, Ok, IsErr};
 ghost use Rattle.keeper.specs.Office.{Office};
-ghost use Rattle.office_commands.specs.Commands.{tariff_row, tariffs_row};
+ghost use Rattle.office_commands.specs.Commands.{tariff_command, tariffs_command};
 ghost use Rattle.office_commands.specs.Endings.{StandsBefore, Wrote, sort_of, KeepsBy, Keeps};
 ghost use Rattle.office_commands.specs.declared.closing.Closing.TheVariants.{ReadFault, KeeperFault, Words};
 ghost use Rattle.road_io.specs.Blame.{FaultsByPlan, FaultsByRoom};
@@ -19,9 +19,9 @@ pub fn tariff<K: Keeper>(xway: u8, crowd: u32, speed: u8, factor: u8, keeper: &m
     requires speed { speed ≤ 100 }
     requires factor { factor ≤ 20 }
     ensures exact { (o : Office) → K.told keeper.old ≡ Some o
-        → StandsBefore (tariff_row xway crowd speed factor o) result [] }
+        → StandsBefore (tariff_command xway crowd speed factor o) result [] }
     ensures keeps { (o : Office) → K.told keeper.old ≡ Some o
-        → KeepsBy (sort_of result) K.refuses (tariff_row xway crowd speed factor o) o (K.told keeper.new) }
+        → KeepsBy (sort_of result) K.refuses (tariff_command xway crowd speed factor o) o (K.told keeper.new) }
     ensures said { result ≢ Words }
     ensures unread { result ≢ ReadFault }
     ensures keeper { FaultsByPlan (K.faults keeper.old) (K.faults keeper.new) (K.plan keeper.old)
@@ -50,9 +50,9 @@ pub fn tariffs<O: Sink, K: Keeper>(
     keeper: &mut K,
 ) -> Result<Option<Closing>, Failed>
     ensures wrote { (o : Office) → K.told keeper.old ≡ Some o
-        → Wrote (tariffs_row o) result (O.written sink.old) (O.written sink.new) }
+        → Wrote (tariffs_command o) result (O.written sink.old) (O.written sink.new) }
     ensures keeps { (o : Office) → K.told keeper.old ≡ Some o
-        → Keeps K.refuses (tariffs_row o) o (K.told keeper.new) result }
+        → Keeps K.refuses (tariffs_command o) o (K.told keeper.new) result }
     ensures kept { K.told keeper.new ≡ K.told keeper.old }
     ensures said { result ≢ Ok (Some Words) }
     ensures unread { result ≢ Ok (Some ReadFault) }

@@ -9,7 +9,7 @@ ghost use Rattle.traffic_gen.specs.declared.plan.GenFault.TheVariants as gen_fau
 ghost use Rattle.traffic_gen.specs.Plans.{first_out};
 ghost use Rattle.traffic_gen.specs.Traffic.{file_of};
 ghost use Rattle.office_words.specs.Meaning.{IsRun, IsSize};
-ghost use Rattle.office_commands.specs.Commands.{generate_row, rehearse_row};
+ghost use Rattle.office_commands.specs.Commands.{generate_command, rehearse_command};
 ghost use Rattle.office_commands.specs.Endings.{StandsBefore, Wrote};
 ghost use Rattle.office_commands.specs.Traffic.{plan_of, rehearsed_record, rehearsed, EndsTraffic};
 ghost use Rattle.office_commands.specs.declared.closing.Closing.TheVariants.{ReadFault, KeeperFault, Words};
@@ -67,7 +67,8 @@ pub fn generate<O: Sink>(
     sink: &mut O,
 ) -> Result<Option<Closing>, Failed>
     requires { IsSize size }
-    ensures wrote { (o : Office) → Wrote (generate_row seed size o) result (O.written sink.old) (O.written sink.new) }
+    ensures wrote { (o : Office) → Wrote (generate_command seed size o) result (O.written sink.old)
+        (O.written sink.new) }
     ensures said { result ≢ Ok (Some Words) }
     ensures unread { result ≢ Ok (Some ReadFault) }
     ensures unasked { result ≢ Ok (Some KeeperFault) }
@@ -177,7 +178,7 @@ pub fn rehearse<C: Crew, R: Threads>(
     requires size { IsSize size }
     requires range { IsRun run }
     requires idle { C.out crew.old ≡ [] }
-    ensures exact { C.exact ≡ true → (o : Office) → StandsBefore (rehearse_row seed size run o) result [] }
+    ensures exact { C.exact ≡ true → (o : Office) → StandsBefore (rehearse_command seed size run o) result [] }
     ensures idle { C.out crew.new ≡ [] }
     ensures crew { C.which crew.new ≡ C.which crew.old }
     ensures said { result ≢ Words }

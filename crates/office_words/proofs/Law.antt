@@ -11,7 +11,7 @@ use Rattle.clap.specs.Walk.{Names, Row, Rule, Walk, answers_to, walk, walked, wa
 use Rattle.clap.specs.Walk.{finished}
 use Rattle.clap.specs.Simple.{App, Shape, built, built_leaf, inherited, label_of, entered}
 use Rattle.clap.specs.Faults.{walk_fault, settle_fault, defaults_fault, check_fault, entered_fault, flags_fault}
-use Rattle.office_words.specs.Grammar.{Form, Text, Said, Look, ending, alone, joined, refused, plain, look, says}
+use Rattle.office_words.specs.Grammar.{Form, Text, Said, WordLook, ending, alone, joined, refused, plain, look, says}
 use Rattle.office_words.specs.Grammar.{spoken}
 use Rattle.office_words.specs.App.{app_of_forms, shape_of_form, office_top, unless, found_in}
 use Rattle.office_words.specs.Laws.{row_said, rows_said, AllText, FindsWhatIsSpoken}
@@ -148,7 +148,7 @@ module _ (fs : List Form) where
       met : find (answers_to word) (map label_of (subs fs)) ≡ None
       met = name_found word fs ∙ ap (option_map (λ (g : Form). (g.name, []))) e
 
-      go : (l : Look) → Shows l word → (ws : List Text) →
+      go : (l : WordLook) → Shows l word → (ws : List Text) →
           found_from (walk [] names nothing_held (word ∷ ws))
           (walk_fault whole_app.top names (walk_from nothing_held) (word ∷ ws)) ≡ None
       go ending shown [] = rw (met, shown) refl

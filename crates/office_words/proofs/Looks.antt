@@ -4,11 +4,12 @@ use Rattle.std.proofs.Common.{◌++◌, bytes_eq, arith, true≢false, Option, S
 use Rattle.std.specs.List.{list_any, list_all, before_first, after_first, position_or_len}
 use Rattle.std.proofs.lemmas.Bool.{eqb-true}
 use Rattle.std.proofs.lemmas.Slice.Eq.{bytes_eq-Decides}
-use Rattle.office_words.specs.Grammar.{Text, Said, Look, long_look, look_after_two, look_after_one, is_equals, ending}
+use Rattle.office_words.specs.Grammar.{Text, Said, WordLook, long_look, look_after_two, look_after_one, is_equals}
+use Rattle.office_words.specs.Grammar.{ending}
 use Rattle.office_words.specs.Grammar.{alone, joined, refused, plain, look, contains, is_said, Form, says, give, placed}
 
 -- how a word of this look is written
-abbrev pub Written : Look → Text → Type 0
+abbrev pub Written : WordLook → Text → Type 0
 Written ending word = word ≡ 45 ∷ 45 ∷ []
 Written (alone n) word = word ≡ 45 ∷ 45 ∷ n
 Written (joined n v) word = word ≡ 45 ∷ 45 ∷ (n ++ 61 ∷ v)
@@ -108,7 +109,7 @@ all_from (p ∷ ps) test h =
     more false e = e
 
 -- what the grammar makes of a word with this look
-abbrev pub by_look : Form → Text → List Text → List Text → Said → Look → Option Said
+abbrev pub by_look : Form → Text → List Text → List Text → Said → WordLook → Option Said
 by_look f word words left said l = elim l [
   | ending ↦ placed f left said words
   | alone name ↦ if contains f.options name then says f left (Some name) said words else None
@@ -122,7 +123,7 @@ by_look f word words left said l = elim l [
 ]
 
 -- and of one where the value of an option is awaited
-abbrev pub by_value : Form → Text → List Text → List Text → Text → Said → Look → Option Said
+abbrev pub by_value : Form → Text → List Text → List Text → Text → Said → WordLook → Option Said
 by_value f word words left name said l = elim l [
   | ending ↦ None
   | alone x ↦ None

@@ -5,9 +5,11 @@ use Rattle.std.specs.List.{list_all}
 use Rattle.std.specs.Option.{unwrap_or}
 use Rattle.std.proofs.lemmas.Option.{none-some}
 use Rattle.std.proofs.lemmas.Slice.Eq.{bytes_eq-Decides}
-use Rattle.office_words.specs.Grammar.{Form, Text, Said, Look, ending, alone, joined, refused, plain, look, contains}
+use Rattle.office_words.specs.Grammar.{Form, Text, Said, WordLook, ending, alone, joined, refused, plain, look}
+use Rattle.office_words.specs.Grammar.{contains}
 use Rattle.office_words.specs.Grammar.{is_said, give, whole, placed, says}
-use Rattle.office_words.specs.Spelling.{Item, in_place, apart, joint, AllFit, words_of, told, filled, IsFresh, Spells}
+use Rattle.office_words.specs.Spelling.{Item, in_place, apart, joint, AllFit, words_of, told, filled, HasFreshNames}
+use Rattle.office_words.specs.Spelling.{Spells}
 use Rattle.office_words.proofs.Looks.{Written, written, is_said_more, by_look, by_value}
 use Rattle.office_words.proofs.Spelling.{Open}
 
@@ -87,7 +89,7 @@ module _ (f : Form) where
   -- what is read behind `--` is of places in turn
   from_placed : (words left : List Text) (said out : Said) → Open f left said → placed f left said words ≡ Some out
       → (rest : Said) × (words ≡ map (λ p. p.1) rest) × (out ≡ said ++ rest) × (map (λ p. p.0) rest ≡ left)
-      × IsFresh said rest
+      × HasFreshNames said rest
   from_placed [] left said out o e =
       let k = ends left said out o e in
       ([], refl, k.1 ∙ sym (append-nil said), sym k.0, tt)
@@ -106,7 +108,8 @@ module _ (f : Form) where
   -- the words are items, and then places behind `--`, if there are any
   abbrev Parts : List Text → Said → List Text → Said → Type 0
   Parts left said words out = (items : List Item) × (rest : Option Said) × (words ≡ words_of items rest)
-      × (out ≡ said ++ told items rest) × AllFit f items × (filled items rest ≡ left) × IsFresh said (told items rest)
+      × (out ≡ said ++ told items rest) × AllFit f items × (filled items rest ≡ left)
+      × HasFreshNames said (told items rest)
 
   -- words that are read so are spelled so
   abbrev FromNone : List Text → Type 0
@@ -124,7 +127,7 @@ module _ (f : Form) where
   none_step : (word : Text) (words : List Text) → FromNone words → FromSome words → FromNone (word ∷ words)
   none_step word words fn fs left said out o e = go (look word) refl (written word) e
     where
-      go : (l : Look) → look word ≡ l → Written l word → by_look f word words left said l ≡ Some out →
+      go : (l : WordLook) → look word ≡ l → Written l word → by_look f word words left said l ≡ Some out →
           Parts left said (word ∷ words) out
       go ending is w h =
           let r = from_placed words left said out o h in
@@ -185,7 +188,7 @@ module _ (f : Form) where
   some_step : (word : Text) (words : List Text) → FromNone words → FromSome (word ∷ words)
   some_step word words fn left said out n has o e = go (look word) refl e
     where
-      go : (l : Look) → look word ≡ l → by_value f word words left n said l ≡ Some out
+      go : (l : WordLook) → look word ≡ l → by_value f word words left n said l ≡ Some out
           → (v : Text) × (more : List Text) × (word ∷ words ≡ v ∷ more) × (look v ≡ plain) × (is_said n said ≡ false)
           × Parts left (said ++ (n, v) ∷ []) more out
       go ending is h = absurd (none-some out h)
@@ -227,5 +230,5 @@ module _ (f : Form) where
         fit = p.4;
         places = p.5;
         once =
-            subst (IsFresh []) (sym p.3) p.6;
+            subst (HasFreshNames []) (sym p.3) p.6;
       }

@@ -2,7 +2,8 @@
 use Rattle.std.proofs.Common.{◌≡◌, ◌∙◌, ◌||◌, Bool, true, false, refl, sym, ap, subst, List, [], ◌∷◌, ◌++◌, map, Option}
 use Rattle.std.proofs.Common.{Some, None, bytes_eq, append-nil, append_assoc}
 use Rattle.office_words.specs.Grammar.{Form, Text, Said, look, contains, is_said, whole, placed, says}
-use Rattle.office_words.specs.Spelling.{Item, in_place, apart, joint, AllFit, words_of, told, filled, IsFresh, Spells}
+use Rattle.office_words.specs.Spelling.{Item, in_place, apart, joint, AllFit, words_of, told, filled, HasFreshNames}
+use Rattle.office_words.specs.Spelling.{Spells}
 use Rattle.office_words.proofs.Looks.{plainly, is_said_more, all_from, AllPlainly, by_look, by_value}
 
 -- the places to come are the form's, are apart from one another and from the options, and none is said
@@ -45,7 +46,7 @@ module _ (f : Form) (named : AllPlainly f.options) where
       go false false e = e
 
   -- what is said of places is read so behind `--`
-  to_placed : (rest said : Said) → IsFresh said rest → Covers (map (λ p. p.0) rest) said →
+  to_placed : (rest said : Said) → HasFreshNames said rest → Covers (map (λ p. p.0) rest) said →
       placed f (map (λ p. p.0) rest) said (map (λ p. p.1) rest) ≡ Some (said ++ rest)
   to_placed [] said fresh covers = covered said covers ∙ ap (λ s. Some s) (sym (append-nil said))
   to_placed (p ∷ rest) said fresh covers =
@@ -53,7 +54,8 @@ module _ (f : Form) (named : AllPlainly f.options) where
       ∙ ap (λ s. Some s) (append_assoc said (p ∷ []) rest))
 
   -- what is spelled so is read so
-  to_says : (items : List Item) (rest : Option Said) (said : Said) → AllFit f items → IsFresh said (told items rest) →
+  to_says : (items : List Item) (rest : Option Said) (said : Said) → AllFit f items →
+      HasFreshNames said (told items rest) →
       Covers (filled items rest) said
       → says f (filled items rest) None said (words_of items rest) ≡ Some (said ++ told items rest)
   unfolding look
@@ -78,7 +80,7 @@ module _ (f : Form) (named : AllPlainly f.options) where
   -- words that are spelled so are read so
   pub read_back : (words : List Text) (said : Said) → Spells f words said → says f f.places None [] words ≡ Some said
   read_back words said s =
-      let fresh : IsFresh [] (told s.items s.rest) = subst (IsFresh []) s.said_is s.once in
+      let fresh : HasFreshNames [] (told s.items s.rest) = subst (HasFreshNames []) s.said_is s.once in
       let all : Covers (filled s.items s.rest) [] = λ n has. subst (λ ps. contains ps n ≡ true) (sym s.places) has in
       ap (says f f.places None []) s.words_are
       ∙ subst (λ ps. says f ps None [] (words_of s.items s.rest) ≡ Some (told s.items s.rest)) s.places

@@ -7,7 +7,8 @@ use Rattle.std.proofs.lemmas.Slice.Eq.{bytes_eq-Decides}
 use Rattle.clap.specs.Walk.{Row, idle, option, walked, nothing_held, walk_from, is_pending}
 use Rattle.clap.specs.declared.error.kind.ErrorKind.TheVariants.{InvalidValue}
 use Rattle.clap.specs.Faults.{walk_fault, turn_fault, settle_fault, flags_fault}
-use Rattle.office_words.specs.Grammar.{Form, Text, Said, Look, ending, alone, joined, refused, plain, look, contains}
+use Rattle.office_words.specs.Grammar.{Form, Text, Said, WordLook, ending, alone, joined, refused, plain, look}
+use Rattle.office_words.specs.Grammar.{contains}
 use Rattle.office_words.specs.Grammar.{give, says}
 use Rattle.office_words.specs.Laws.{row_said, AllText}
 use Rattle.office_words.proofs.Leaf.{place_made, made, leaf, no_short, long_is, Knows, as_place, as_option}
@@ -38,7 +39,8 @@ module _ (f : Form) where
   -- a word with this look is the value, or is refused
   value_next : (word : Text) (words : List Text) (said : Said) (n : Text) (left : List Text) (i : ℕ) → AllText words →
       Says f words → Knows (made f) n → ComesAt (made f) i left
-      → (l : Look) → Shows l word → outcome (leaf f) (at (rows said) (Some (n, [])) (option n) i false) (word ∷ words)
+      → (l : WordLook) → Shows l word →
+      outcome (leaf f) (at (rows said) (Some (n, [])) (option n) i false) (word ∷ words)
       ≡ result (by_value f word words left n said l)
   unfolding walked flags_fault
   value_next word words said n left i text next k comes ending shown =

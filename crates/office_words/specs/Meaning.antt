@@ -166,11 +166,11 @@ abbrev pub means : List Text → Option Command
 means words = option_and_then (λ p. meaning p.0 (value_of p.1)) (spoken forms words)
 
 -- the words are refused exactly where they mean no command, and the command is the one that they mean
-abbrev pub Reads : Option Command → Result Command WordFault → Type 0
-Reads None (Ok c) = ⊥
-Reads None (Err e) = Unit {0}
-Reads (Some c) (Ok d) = d ≡ c
-Reads (Some c) (Err e) = e ≡ fault.NoMemory
+abbrev pub ReadsCommand : Option Command → Result Command WordFault → Type 0
+ReadsCommand None (Ok c) = ⊥
+ReadsCommand None (Err e) = Unit {0}
+ReadsCommand (Some c) (Ok d) = d ≡ c
+ReadsCommand (Some c) (Err e) = e ≡ fault.NoMemory
 
 -- sizes of traffic are in their ranges
 pub record IsSize (size : Size) : Type 0 where

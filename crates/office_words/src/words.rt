@@ -2,7 +2,7 @@
 ghost use Rattle.std.specs.Prelude.{◌≡◌, IfOk, map, string_bytes};
 ghost use Rattle.clap.specs.Words.{kind_of};
 ghost use Rattle.clap.specs.declared.error.kind.ErrorKind.TheVariants as kind;
-ghost use Rattle.office_words.specs.Meaning.{Reads, means, IsInRange};
+ghost use Rattle.office_words.specs.Meaning.{ReadsCommand, means, IsInRange};
 
 use crate::command::{Command, WordFault};
 use crate::{reading, table};
@@ -22,7 +22,7 @@ pub fn fault_of(error: &Error) -> WordFault
 
 /// The command that the words mean. They are refused exactly where they are of no stated form.
 pub fn read_words(alloc: Global, words: &[String]) -> Result<Command, WordFault>
-    ensures reads { Reads (means (map string_bytes words.now)) result }
+    ensures reads { ReadsCommand (means (map string_bytes words.now)) result }
     ensures range { IfOk result IsInRange }
 {
     let matches = match table::parse(alloc, words) {

@@ -3,35 +3,35 @@ use Rattle.expressway.specs.declared.lane_event.LaneEvent.{LaneEvent}
 use Rattle.expressway.specs.Ready.{IsReady}
 use Rattle.expressway.specs.declared.job.Job.{Job}
 use Rattle.expressway.specs.Results.{IsResultOf, IsResultShaped}
-use Rattle.partition_workers.specs.declared.places.Entry.{Entry}
-use Rattle.partition_workers.specs.declared.places.Entry.TheVariants.{Ran, Waits, Unlisted}
+use Rattle.partition_workers.specs.declared.places.TicketEntry.{TicketEntry}
+use Rattle.partition_workers.specs.declared.places.TicketEntry.TheVariants.{Ran, Waits, Unlisted}
 
 -- an entry is of a job: what was done of the job is its result, or it is the job itself
-abbrev pub IsOf : Entry → Job → Type 0
+abbrev pub IsOf : TicketEntry → Job → Type 0
 IsOf (Ran done) job = IsResultOf job done
 IsOf (Waits own) job = own ≡ job
 IsOf (Unlisted own) job = own ≡ job
 
 -- the same, but that what was done of the job may only have the shape of its result
-abbrev pub IsShapedFor : Entry → Job → Type 0
+abbrev pub IsShapedFor : TicketEntry → Job → Type 0
 IsShapedFor (Ran done) job = IsResultShaped job done
 IsShapedFor (Waits own) job = own ≡ job
 IsShapedFor (Unlisted own) job = own ≡ job
 
 -- whether the job of an entry is not listed
-abbrev pub is_unlisted : Entry → Bool
+abbrev pub is_unlisted : TicketEntry → Bool
 is_unlisted (Ran done) = false
 is_unlisted (Waits job) = false
 is_unlisted (Unlisted job) = true
 
 -- the job of an entry has run, if it is listed
-abbrev pub HasRun : Entry → Type 0
+abbrev pub HasRun : TicketEntry → Type 0
 HasRun (Ran done) = Unit {0}
 HasRun (Waits job) = ⊥
 HasRun (Unlisted job) = Unit {0}
 
 -- the job of an entry has not run; if it is listed it can be run
-abbrev pub IsYetToRun : Entry → Type 0
+abbrev pub IsYetToRun : TicketEntry → Type 0
 IsYetToRun (Ran done) = ⊥
 IsYetToRun (Waits job) = (before : List LaneEvent) × IsReady job.carriage before job.events
 IsYetToRun (Unlisted job) = Unit {0}

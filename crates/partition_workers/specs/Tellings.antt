@@ -2,7 +2,7 @@ use Rattle.std.specs.Prelude.{Bool, false, List, Option, Some, None, slice_get}
 use Rattle.partition_workers.specs.declared.job_list.Started.{Started}
 use Rattle.partition_workers.specs.declared.job_list.JobList.{JobList}
 use Rattle.partition_workers.specs.Lists.{jobs_of}
-use Rattle.partition_workers.specs.Told.{Told}
+use Rattle.partition_workers.specs.Told.{CrewTold}
 
 -- whether a place has an entry whose job is not listed, by a test of entries
 abbrev pub is_unlisted_at : {X : Type 0} → (X → Bool) → Option (Option X) → Bool
@@ -11,11 +11,11 @@ is_unlisted_at test (Some None) = false
 is_unlisted_at test (Some (Some entry)) = test entry
 
 -- what a crew tells by its jobs and its places, with that test of what lies in them
-abbrev pub told : {X : Type 0} → (X → Bool) → Option (List Started) → Bool → List (Option X) → Option Told
+abbrev pub told : {X : Type 0} → (X → Bool) → Option (List Started) → Bool → List (Option X) → Option CrewTold
 told test None lists places = None
 told test (Some jobs) lists places =
     Some (record { listed = jobs; lists = lists; unlisted = λ n. is_unlisted_at test (slice_get places n) })
 
 -- what a crew tells by its list and its places
-abbrev pub told_by : {X : Type 0} → (X → Bool) → JobList → List (Option X) → Option Told
+abbrev pub told_by : {X : Type 0} → (X → Bool) → JobList → List (Option X) → Option CrewTold
 told_by test list places = told test (jobs_of list) list.lists places

@@ -6,7 +6,7 @@ ghost use Rattle.expressway.specs.Ready.{IsReady};
 ghost use Rattle.expressway.specs.Results.{IsResultOf};
 ghost use Rattle.partition_workers.specs.Entries.{IsOf, HasRun, IsYetToRun, is_unlisted};
 
-use crate::places::Entry;
+use crate::places::TicketEntry;
 use expressway::{Done, Findings, Job, run};
 use road_time::NoMemory;
 use std::alloc::Global;
@@ -26,55 +26,55 @@ fn refused(alloc: Global, job: Job) -> Done
 }
 
 /// Runs a job, if it is listed.
-pub(crate) fn run_now(alloc: Global, job: Job, listed: bool) -> Entry
+pub(crate) fn run_now(alloc: Global, job: Job, listed: bool) -> TicketEntry
     requires { (before : List LaneEvent) × IsReady job.carriage before job.events }
     ensures of { IsOf result job }
     ensures ran { HasRun result }
     ensures listed { is_unlisted result ≡ not listed }
 {
     if listed {
-        Entry::Ran(run(alloc, job))
+        TicketEntry::Ran(run(alloc, job))
     } else {
-        Entry::Unlisted(job)
+        TicketEntry::Unlisted(job)
     }
 }
 
 /// Keeps a job to be run later, if it is listed.
-pub(crate) fn run_later(job: Job, listed: bool) -> Entry
+pub(crate) fn run_later(job: Job, listed: bool) -> TicketEntry
     requires { (before : List LaneEvent) × IsReady job.carriage before job.events }
     ensures of { IsOf result job }
     ensures waits { IsYetToRun result }
     ensures listed { is_unlisted result ≡ not listed }
 {
     if listed {
-        Entry::Waits(job)
+        TicketEntry::Waits(job)
     } else {
-        Entry::Unlisted(job)
+        TicketEntry::Unlisted(job)
     }
 }
 
 /// What is answered of a job that was run as it was started, if it was listed.
-pub(crate) fn answer_of(alloc: Global, entry: Entry) -> Done
+pub(crate) fn answer_of(alloc: Global, entry: TicketEntry) -> Done
     requires { HasRun entry }
     ensures run { (job : TheJob) → IsOf entry job → IsResultOf job result }
     ensures err { is_unlisted entry ≡ true → is_err result.result ≡ true }
 {
     match entry {
-        Entry::Ran(done) => done,
-        Entry::Waits(_) => unreachable!(),
-        Entry::Unlisted(job) => refused(alloc, job),
+        TicketEntry::Ran(done) => done,
+        TicketEntry::Waits(_) => unreachable!(),
+        TicketEntry::Unlisted(job) => refused(alloc, job),
     }
 }
 
 /// Runs a job that waits, if it was listed, and answers what was done of it.
-pub(crate) fn run_waiting(alloc: Global, entry: Entry) -> Done
+pub(crate) fn run_waiting(alloc: Global, entry: TicketEntry) -> Done
     requires { IsYetToRun entry }
     ensures run { (job : TheJob) → IsOf entry job → IsResultOf job result }
     ensures err { is_unlisted entry ≡ true → is_err result.result ≡ true }
 {
     match entry {
-        Entry::Ran(_) => unreachable!(),
-        Entry::Waits(job) => run(alloc, job),
-        Entry::Unlisted(job) => refused(alloc, job),
+        TicketEntry::Ran(_) => unreachable!(),
+        TicketEntry::Waits(job) => run(alloc, job),
+        TicketEntry::Unlisted(job) => refused(alloc, job),
     }
 }

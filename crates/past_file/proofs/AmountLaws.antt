@@ -20,7 +20,7 @@ use Rattle.road_time.proofs.EachLaws as each
 use Rattle.keeper.specs.History.{is_row}
 use Rattle.keeper.specs.Office.{row_cmp, RowsRise}
 use Rattle.keeper.specs.PastReads.{with_row, past_kept}
-use Rattle.keeper.proofs.RowOrder.{row_total, not_row}
+use Rattle.keeper.proofs.RowOrder.{row_total, not_row, less_apart, greater_apart}
 use Rattle.past_file.specs.declared.amounts.Key.{Key}
 use Rattle.past_file.specs.declared.amounts.Amounts.{Amounts}
 use Rattle.past_file.specs.Rows.{amount_of, IsPastRow, HasRows, TakesAmount}
@@ -52,12 +52,6 @@ tied r s e =
 -- rows that do not tie are not
 apart : (r s : SpentRow) → (row_cmp r s ≡ Equal → ⊥) → is_row r.day r.vid r.xway s ≡ false
 apart r s no_tie = not_row r.day r.vid r.xway s (λ e. no_tie (row_total.antisymm r s ∙ ap ordering_reverse e))
-
-less_apart : Less ≡ Equal → ⊥
-less_apart e = cc
-
-greater_apart : Greater ≡ Equal → ⊥
-greater_apart e = cc
 
 some_none : (x : ℕ) → Some x ≡ None → ⊥
 some_none x e = cc

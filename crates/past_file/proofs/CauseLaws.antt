@@ -10,7 +10,7 @@ use Rattle.road_time.specs.Numbers.{number_of, fields_of_text}
 use Rattle.road_time.specs.Form.{Long, Many, Fields, first_odd, first_out}
 use Rattle.keeper.specs.History.{is_row}
 use Rattle.keeper.specs.PastReads.{PastFault, OfLine, Twice, PastReading, past_uses, past_in_ranges, past_of_fields}
-use Rattle.keeper.specs.PastReads.{past_form, past_rows, fault_of_past, past_fault, past_at, past_after}
+use Rattle.keeper.specs.PastReads.{past_form, past_amounts, fault_of_past, past_fault, past_at, past_after}
 use Rattle.past_file.specs.Causes.{IsCause, past_cause_of}
 use Rattle.past_file.specs.Laws.{CausesLaw}
 
@@ -63,11 +63,11 @@ by_form rows (Ok (Some r)) h = cond_both (list_any (is_row r.day r.vid r.xway) r
 of_line : (base : ℕ) (limits : Limits) (before : List (List ℕ)) (line : List ℕ) →
     SomeIsPast (past_fault base limits before line)
 of_line base limits before line =
-    let by = fault_of_past (past_rows base before) (past_form base (without_cr line)) in
+    let by = fault_of_past (past_amounts base before) (past_form base (without_cr line)) in
     let many = cond (nat_le limits.past (length before)) (Some (OfLine (Many limits.past))) by in
     cond_both (nat_lt 200 (length line)) (Some (OfLine Long)) many SomeIsPast (λ _. refl)
     (λ _. cond_both (nat_le limits.past (length before)) (Some (OfLine (Many limits.past))) by SomeIsPast (λ _. refl)
-    (λ _. by_form (past_rows base before) (past_form base (without_cr line)) (form base (without_cr line))))
+    (λ _. by_form (past_amounts base before) (past_form base (without_cr line)) (form base (without_cr line))))
 
 -- the reading that ends at a line, or goes on
 at_line : (base : ℕ) (before : List (List ℕ)) (fault : Option PastFault) (rest : PastReading) → SomeIsPast fault →

@@ -8,7 +8,7 @@ use Rattle.road_time.specs.declared.day.Limits.{Limits}
 use Rattle.road_time.specs.declared.day.SpentRow.{SpentRow}
 use Rattle.road_time.specs.Lines.{without_cr}
 use Rattle.road_time.specs.Form.{Many}
-use Rattle.keeper.specs.PastReads.{PastFault, OfLine, Twice, past_form, past_formed, past_rows, past_fault}
+use Rattle.keeper.specs.PastReads.{PastFault, OfLine, Twice, past_form, past_formed, past_amounts, past_fault}
 use Rattle.keeper.specs.PastReads.{fault_of_past}
 use Rattle.past_file.specs.declared.outcomes.PastCause.{PastCause}
 use Rattle.past_file.specs.declared.outcomes.PastCause.TheVariants as causes
@@ -21,14 +21,14 @@ use Rattle.past_file.specs.Readings.{GathersRows, TakesRow, StopsTwice, JudgesRo
 
 -- a line more
 rows_push : (base : ℕ) (before : List (List ℕ)) (line : List ℕ) →
-    past_rows base (before ++ line ∷ []) ≡ past_rows base before ++ cons_option
+    past_amounts base (before ++ line ∷ []) ≡ past_amounts base before ++ cons_option
     (past_formed (past_form base (without_cr line))) []
 rows_push base before line = filter_map-append (λ l. past_formed (past_form base (without_cr l))) before (line ∷ [])
 
 module _ (base : ℕ) (limits : Limits) (before : List (List ℕ)) (line : List ℕ) where
   -- a line that is not long and not too many is judged by its form
   fault_short : length line ≤ 200 → length before < limits.past →
-      past_fault base limits before line ≡ fault_of_past (past_rows base before) (past_form base (without_cr line))
+      past_fault base limits before line ≡ fault_of_past (past_amounts base before) (past_form base (without_cr line))
   fault_short short few = cond-false _ _ _ (lt-leb 201 (length line) (omega arith))
       ∙ cond-false _ _ _ (lt-leb limits.past (length before) few)
 
@@ -76,7 +76,7 @@ module _ (base number : ℕ) (limits : Limits) (line : List ℕ) (old new : Amou
         λ before size g. (
           f.0,
           fault_short base limits before line short (omega (arith, size, few))
-              ∙ ap (fault_of_past (past_rows base before)) f.1,
+              ∙ ap (fault_of_past (past_amounts base before)) f.1,
           f.2,
         ),
       )
@@ -87,11 +87,11 @@ module _ (base number : ℕ) (limits : Limits) (line : List ℕ) (old new : Amou
   empty_judged same few h = λ before size g. (
       let none = ok_row (past_form base (without_cr line)) None h in (
         fault_short base limits before line short (omega (arith, size, few))
-            ∙ ap (fault_of_past (past_rows base before)) none,
-        let rows : past_rows base (before ++ line ∷ []) ≡ past_rows base before = rows_push base before line
-            ∙ ap (λ r. past_rows base before ++ cons_option (past_formed r) []) none
-            ∙ append-nil (past_rows base before) in
-            subst (λ (a : Amounts). HasRows a base (past_rows base (before ++ line ∷ []))) (sym same)
+            ∙ ap (fault_of_past (past_amounts base before)) none,
+        let rows : past_amounts base (before ++ line ∷ []) ≡ past_amounts base before = rows_push base before line
+            ∙ ap (λ r. past_amounts base before ++ cons_option (past_formed r) []) none
+            ∙ append-nil (past_amounts base before) in
+            subst (λ (a : Amounts). HasRows a base (past_amounts base (before ++ line ∷ []))) (sym same)
             (subst (HasRows old base) (sym rows) g),
       ))
 
@@ -102,21 +102,22 @@ module _ (base number : ℕ) (limits : Limits) (line : List ℕ) (old new : Amou
       JudgesRow stop base limits number line old new
   row_judged r None few h s t = λ before size g. (
       let some = ok_row (past_form base (without_cr line)) (Some r) h in
-      let taken = t (past_rows base before) g in (
+      let taken = t (past_amounts base before) g in (
         fault_short base limits before line short (omega (arith, size, few))
-            ∙ ap (fault_of_past (past_rows base before)) some ∙ cond-false _ _ _ taken.0,
-        let rows : past_rows base (before ++ line ∷ []) ≡ past_rows base before ++ r ∷ [] = rows_push base before line
-            ∙ ap (λ x. past_rows base before ++ cons_option (past_formed x) []) some in
+            ∙ ap (fault_of_past (past_amounts base before)) some ∙ cond-false _ _ _ taken.0,
+        let rows : past_amounts base (before ++ line ∷ []) ≡ past_amounts base before ++ r ∷ [] =
+            rows_push base before line
+            ∙ ap (λ x. past_amounts base before ++ cons_option (past_formed x) []) some in
             subst (HasRows new base) (sym rows) taken.1,
       ))
   row_judged r (Some (Row n cause)) few h s t = (
     s.0,
     λ before size g. (
         let some = ok_row (past_form base (without_cr line)) (Some r) h in
-        let taken = t (past_rows base before) g in (
+        let taken = t (past_amounts base before) g in (
           Twice,
           fault_short base limits before line short (omega (arith, size, few))
-              ∙ ap (fault_of_past (past_rows base before)) some ∙ cond-true _ _ _ taken,
+              ∙ ap (fault_of_past (past_amounts base before)) some ∙ cond-true _ _ _ taken,
           s.1,
         )),
   )

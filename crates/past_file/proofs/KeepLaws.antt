@@ -1,19 +1,18 @@
 -- What is kept of a history, and what is answered where one or a day is kept.
-use Rattle.std.proofs.Common.{◌≡◌, ℕ, ◌<◌, ◌≤◌, ◌==◌, inr, max, Bool, true, false, cond, List, [], ◌∷◌, Option, Some}
+use Rattle.std.proofs.Common.{◌≡◌, ℕ, ◌<◌, ◌==◌, inr, Bool, true, false, cond, List, [], ◌∷◌, Option, Some}
 use Rattle.std.proofs.Common.{None, Result, Ok, Err, refl, sym, ap, subst, ◌∙◌, arith}
 use Rattle.std.specs.Str.{bytes_eq}
-use Rattle.std.specs.List.{AllByRecursion}
 use Rattle.std.proofs.lemmas.Bool.{cond-true, cond-false}
 use Rattle.road_time.specs.declared.day.Limits.{Limits}
 use Rattle.road_time.specs.declared.day.SpentRow.{SpentRow}
-use Rattle.road_time.specs.Form.{Long, Many, Fields, Number, Range, Late, TooOften, Vehicles}
+use Rattle.road_time.specs.Form.{Late, TooOften, Vehicles}
 use Rattle.keeper.specs.declared.digest.Digest.{Digest}
 use Rattle.keeper.specs.declared.kept.DayRecord.{DayRecord}
 use Rattle.keeper.specs.declared.kept.PastRecord.{PastRecord}
 use Rattle.keeper.specs.declared.kept.KeepFault.{KeepFault}
-use Rattle.keeper.specs.Office.{Office, IsSound, last_day, last_from, greatest_day}
+use Rattle.keeper.specs.Office.{Office, IsSound, last_day, last_from}
 use Rattle.keeper.specs.Kept.{HasNoDays, with_past, found_digest}
-use Rattle.keeper.specs.PastReads.{PastFault, OfLine, Twice, past_reads, past_record, past_kept, next_past}
+use Rattle.keeper.specs.PastReads.{PastFault, OfLine, past_reads, past_record, past_kept, next_past}
 use Rattle.keeper.specs.Calls.{WhenRefused, Leaves, Puts, Reads, SoundIfTold, IfTold}
 use Rattle.past_file.specs.declared.outcomes.PastCause.{PastCause}
 use Rattle.past_file.specs.declared.outcomes.PastOutcome.TheVariants.{Stored, Already, Row, OtherBase, Differs}
@@ -21,6 +20,7 @@ use Rattle.past_file.specs.declared.outcomes.PastOutcome.TheVariants.{PastLate}
 use Rattle.past_file.specs.Causes.{IsCause, past_cause_of}
 use Rattle.past_file.specs.Imports.{PastAnswer, unchanged, past_compared, past_again, past_read, past_new, DoesPast}
 use Rattle.past_file.specs.Imports.{HaltsPast}
+use Rattle.keeper.proofs.SoundLaws.{none_kept}
 
 -- the cause of a fault is one
 pub cause_is : (fault : PastFault) (cause : PastCause) → IsCause fault cause → cause ≡ past_cause_of fault
@@ -28,17 +28,6 @@ cause_is (OfLine (Late a b)) cause h = absurd h
 cause_is (OfLine (TooOften a b)) cause h = absurd h
 cause_is (OfLine (Vehicles n)) cause h = absurd h
 cause_is _ cause h = h
-
--- the greatest of some days is no less than the first
-greatest_least : (n : ℕ) (ds : List DayRecord) → n ≤ greatest_day n ds
-greatest_least n [] = omega arith
-greatest_least n (d ∷ ds) = let more = greatest_least (max n d.day) ds in omega (arith, more)
-
--- where the last day is 0 and days are counted from 1, none is kept
-none_kept : (days : List DayRecord) (past : Option PastRecord) → last_from days past ≡ 0 →
-    AllByRecursion (λ r. 1 ≤ r.day) days → days ≡ []
-none_kept [] past e h = refl
-none_kept (d ∷ ds) past e h = absurd (omega (arith, e, h.0, greatest_least d.day ds))
 
 -- no day and no history is kept
 pub has_no_days : (o : Office) → IsSound o → o.past ≡ None → last_day o ≡ 0 → HasNoDays o

@@ -1,7 +1,6 @@
 -- What is put of a history that was read.
-use Rattle.std.proofs.Common.{◌≡◌, ℕ, ◌+◌, ◌<◌, ◌≤◌, ◌^◌, nat_lt, List, [], ◌∷◌, length, map, sym, subst, arith}
+use Rattle.std.proofs.Common.{◌≡◌, ℕ, ◌+◌, ◌<◌, ◌≤◌, ◌^◌, nat_lt, List, length, map, sym, subst, arith}
 use Rattle.std.specs.List.{AllByRecursion, filter}
-use Rattle.std.proofs.lemmas.Bool.{cond_both, ltb-true}
 use Rattle.road_time.specs.declared.day.SpentRow.{SpentRow}
 use Rattle.road_time.proofs.EachLaws as each
 use Rattle.keeper.specs.declared.digest.Digest.{Digest}
@@ -12,14 +11,7 @@ use Rattle.keeper.specs.Office.{RowsRise}
 use Rattle.keeper.specs.PastReads.{past_kept, past_record}
 use Rattle.past_file.specs.declared.amounts.Amounts.{Amounts}
 use Rattle.past_file.specs.Rows.{amount_of, IsPastRow, HasRows}
-
--- amounts that pass are above zero
-above_zero : (xs : List SpentRow) → AllByRecursion (λ r. 0 < r.tolls) (filter (λ r. nat_lt 0 r.tolls) xs)
-above_zero [] = tt
-above_zero (x ∷ xs) =
-    cond_both (nat_lt 0 x.tolls) (x ∷ filter (λ r. nat_lt 0 r.tolls) xs) (filter (λ r. nat_lt 0 r.tolls) xs)
-    (AllByRecursion (λ r. 0 < r.tolls))
-    (λ e. (ltb-true 0 x.tolls e, above_zero xs)) (λ _. above_zero xs)
+use Rattle.road_time.proofs.RowLaws.{not_zero}
 
 -- the record that is made is that of the bytes and the amounts
 pub record_is : (base n m : ℕ) (digest : Digest) (bytes : List ℕ) (rows : List SpentRow) → n ≡ length bytes →
@@ -41,7 +33,7 @@ may_be_put a base rows kept past h e rise few low same short count =
       few = omega (arith, count, few);
       from = each.weakened (IsPastRow base) (λ r. past.base ≤ r.day + 69) (λ r v. omega (arith, same, v.0)) kept valid;
       to = each.weakened (IsPastRow base) (λ r. r.day < past.base) (λ r v. omega (arith, same, v.1)) kept valid;
-      above_zero = subst (AllByRecursion (λ r. 0 < r.tolls)) (sym e) (above_zero (map amount_of a.by_key.entries));
+      above_zero = subst (AllByRecursion (λ r. 0 < r.tolls)) (sym e) (not_zero (map amount_of a.by_key.entries));
       small = each.weakened (IsPastRow base) (λ r. r.tolls < 2 ^ 63) (λ r v. omega (arith, v.2)) kept valid;
       rise = rise;
       counted = sym count;

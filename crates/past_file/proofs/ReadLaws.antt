@@ -10,7 +10,8 @@ use Rattle.road_time.specs.Form.{Long}
 use Rattle.road_io.specs.Cutter.{Cuts, FirstHas, held, ahead, number_of}
 use Rattle.road_io.specs.declared.cutter.LineCutter.{LineCutter}
 use Rattle.road_io.specs.declared.cutter.LineFault.TheVariants.{LongLine}
-use Rattle.keeper.specs.PastReads.{PastFault, OfLine, past_reads, past_after, past_at, past_rows, past_fault, past_kept}
+use Rattle.keeper.specs.PastReads.{PastFault, OfLine, past_reads, past_after, past_at, past_amounts, past_fault}
+use Rattle.keeper.specs.PastReads.{past_kept}
 use Rattle.keeper.specs.PastReads.{past_record}
 use Rattle.day_reading.specs.declared.consumed.Consumed.{Consumed}
 use Rattle.day_reading.specs.Readings.{HasTaken}
@@ -79,7 +80,7 @@ module _ (base : ℕ) (limits : Limits) (bytes : List ℕ) where
       past_reads bytes base limits ≡ past_after base limits before (lines_of now)
       → lines_of now ≡ line ∷ lines → past_fault base limits before line ≡ Some fault →
       past_reads bytes base limits
-      ≡ record { rows = past_rows base before; refused = Some (length before + 1, fault) }
+      ≡ record { rows = past_amounts base before; refused = Some (length before + 1, fault) }
   refused_at before now line lines fault e cut f =
       e ∙ ap (past_after base limits before) cut
       ∙ ap (λ k. past_at base before k (past_after base limits (before ++ line ∷ []) lines)) f
@@ -123,7 +124,7 @@ module _ (base : ℕ) (limits : Limits) (bytes : List ℕ) where
       EndsPast consumed amounts base limits left bytes
   whole_end before cutter left line number consumed amounts s cuts =
       let end = nothing_there before (ahead cutter left) line s.now cuts s.ahead_is in
-      let read : past_reads bytes base limits ≡ record { rows = past_rows base s.before; refused = None } =
+      let read : past_reads bytes base limits ≡ record { rows = past_amounts base s.before; refused = None } =
       s.read_is ∙ ap (λ bs. past_after base limits s.before (lines_of bs)) end.0 in
       let all : bytes ≡ s.taken = s.bytes_are ∙ ap (λ xs. s.taken ++ xs) end.0 ∙ append-nil s.taken in
       record {

@@ -7,7 +7,7 @@ use Rattle.road_time.specs.declared.day.SpentRow.{SpentRow}
 use Rattle.road_time.specs.Lines.{lines_of}
 use Rattle.road_io.specs.Cutter.{ahead, number_of}
 use Rattle.keeper.specs.History.{is_row}
-use Rattle.keeper.specs.PastReads.{PastFault, past_fault, past_rows, past_reads, past_after, past_kept, past_record}
+use Rattle.keeper.specs.PastReads.{PastFault, past_fault, past_amounts, past_reads, past_after, past_kept, past_record}
 use Rattle.day_reading.specs.declared.consumed.Consumed.{Consumed}
 use Rattle.day_reading.specs.Days.{StopsSoon}
 use Rattle.day_reading.specs.Readings.{HasTaken, HasReadLines}
@@ -42,10 +42,10 @@ StopsTwice number (Some NoMemory) = Unit {0}
 -- a line was judged behind those before it
 abbrev pub JudgesRow : Option PastStop → ℕ → Limits → ℕ → List ℕ → Amounts → Amounts → Type 0
 JudgesRow None base limits number line old new =
-    (before : List (List ℕ)) → length before + 1 ≡ number → HasRows old base (past_rows base before)
-    → (past_fault base limits before line ≡ None) × HasRows new base (past_rows base (before ++ line ∷ []))
+    (before : List (List ℕ)) → length before + 1 ≡ number → HasRows old base (past_amounts base before)
+    → (past_fault base limits before line ≡ None) × HasRows new base (past_amounts base (before ++ line ∷ []))
 JudgesRow (Some (Row n cause)) base limits number line old new = (n ≡ number)
-    × ((before : List (List ℕ)) → length before + 1 ≡ number → HasRows old base (past_rows base before) →
+    × ((before : List (List ℕ)) → length before + 1 ≡ number → HasRows old base (past_amounts base before) →
     (fault : PastFault) × (past_fault base limits before line ≡ Some fault) × IsCause fault cause)
 JudgesRow (Some ReadFault) base limits number line old new = ⊥
 JudgesRow (Some NoMemory) base limits number line old new = Unit {0}
@@ -61,7 +61,7 @@ pub record ReadsPastOn (front : Option (List ℕ)) (number : ℕ) (consumed : Co
   pub has_taken : HasTaken consumed taken
   pub read_is : past_reads bytes base limits ≡ past_after base limits before (lines_of now)
   pub number_is : number ≡ length before
-  pub rows_are : HasRows amounts base (past_rows base before)
+  pub rows_are : HasRows amounts base (past_amounts base before)
 
 -- a reader reads the history that the bytes are, where so much of the source is left
 abbrev pub IsReadingPast : PastReader → ℕ → Limits → Option (List ℕ) → List ℕ → Type 0

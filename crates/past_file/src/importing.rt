@@ -7,7 +7,7 @@ ghost use Rattle.keeper.specs.Office.{Office};
 ghost use Rattle.keeper.specs.Kept.{IsPastPut, HasNoDays};
 ghost use Rattle.keeper.specs.PastReads.{past_reads, past_record, past_kept};
 ghost use Rattle.keeper.specs.Calls.{WhenRefused, IfTold};
-ghost use Rattle.day_reading.specs.Days.{ReadsWithin};
+ghost use Rattle.road_io.specs.Within.{ReadsWithin};
 ghost use Rattle.past_file.specs.Imports.{past_compared, unchanged, past_again, past_read, past_new, past_answer};
 ghost use Rattle.past_file.specs.Imports.{DoesPast};
 ghost use Rattle.past_file.specs.Imports.{LeavesPast, NeedsNone, IsUnread, IsPastUncompared, RefusesSoon, PutsPast};
@@ -16,7 +16,7 @@ ghost use Rattle.past_file.specs.declared.outcomes.PastOutcome.TheVariants.{Read
 
 use crate::history::History;
 use crate::judging::PastStop;
-use crate::outcomes::{PastOutcome, refused};
+use crate::outcomes::{PastOutcome, keeper_refused};
 use crate::whole_past::read_past;
 use day_reading::{ReadStop, find_digest};
 use keeper::{Digest, Keeper, PastRecord};
@@ -84,7 +84,7 @@ fn store<K: Keeper>(history: &History, keeper: &mut K) -> PastOutcome
 {
     match keeper.put_past(&history.past, history.rows.as_slice()) {
         Ok(()) => PastOutcome::Stored(history.past),
-        Err(fault) => refused(fault),
+        Err(fault) => keeper_refused(fault),
     }
 }
 
@@ -156,7 +156,7 @@ fn import_new<S: Source, K: Keeper, R: Threads>(
                 import_first(rt, alloc, base, limits, source, keeper)
             }
         }
-        Err(fault) => refused(fault),
+        Err(fault) => keeper_refused(fault),
     }
 }
 
@@ -192,6 +192,6 @@ pub fn import_past<S: Source, K: Keeper, R: Threads>(
     match keeper.past() {
         Ok(Some(kept)) => compare(alloc, &kept, base, source),
         Ok(None) => import_new(rt, alloc, base, limits, source, keeper),
-        Err(fault) => refused(fault),
+        Err(fault) => keeper_refused(fault),
     }
 }

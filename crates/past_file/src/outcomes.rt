@@ -62,7 +62,7 @@ pub enum PastOutcome {
 }
 
 /// The outcome of a history whose keeper refused.
-pub fn refused(fault: KeepFault) -> PastOutcome
+pub fn keeper_refused(fault: KeepFault) -> PastOutcome
     ensures { result ≡ past_refused fault }
 {
     match fault {

@@ -2,7 +2,7 @@
 ghost use Rattle.std.specs.Prelude.{◌≡◌, ℕ, List, Some, Err, IfOk, IfErr, ◌≤◌};
 ghost use Rattle.road_io.specs.Blame.{FaultsByPlan};
 ghost use Rattle.keeper.specs.Kept.{IsPastPut};
-ghost use Rattle.day_reading.specs.Days.{ReadsWithin};
+ghost use Rattle.road_io.specs.Within.{ReadsWithin};
 ghost use Rattle.past_file.specs.Readings.{ReadsPast, StopsSoonAt};
 ghost use Rattle.past_file.specs.Imports.{most_past};
 ghost use Rattle.past_file.specs.declared.judging.PastStop.TheVariants.{ReadFault};

@@ -12,7 +12,7 @@ use Rattle.road_time.specs.Lines.{lines_of}
 use Rattle.road_io.specs.Cutter.{FirstHas, Cuts}
 
 -- a text is what lies before a place, the byte there, and what comes after it
-cut_at : (xs : List ℕ) (i b : ℕ) → i < length xs → get_or xs i 0 ≡ b → xs ≡ take i xs ++ b ∷ drop (i + 1) xs
+pub cut_at : (xs : List ℕ) (i b : ℕ) → i < length xs → get_or xs i 0 ≡ b → xs ≡ take i xs ++ b ∷ drop (i + 1) xs
 cut_at xs i b h e =
     sym (take-append-drop i xs) ∙ ap (λ ys. take i xs ++ ys) (drop_more xs i 0 h ∙ ap (λ y. y ∷ drop (i + 1) xs) e)
 

@@ -55,9 +55,9 @@ IsCut Long bytes = (more : List ℕ) → FirstHas 201 (lines_of (bytes ++ more))
 IsCut More bytes = (length bytes ≤ 200) × (0 < length bytes → lines_of bytes ≡ bytes ∷ [])
 
 -- what an answer of `advance` leaves, where n lines were cut before: the line's bytes with its end are at most 201
-abbrev pub Stands : Result Bool LineFault → ℕ → LineCutter → Type 0
-Stands (Ok true) n c = (number_of c ≡ n + 1) × (length (line_of c) ≤ 200) × (fault_of c ≡ None)
+abbrev pub StandsCut : Result Bool LineFault → ℕ → LineCutter → Type 0
+StandsCut (Ok true) n c = (number_of c ≡ n + 1) × (length (line_of c) ≤ 200) × (fault_of c ≡ None)
     × (length (rest_of c) ≤ 201)
-Stands (Ok false) n c = (number_of c ≡ n) × (line_of c ≡ []) × (rest_of c ≡ []) × (fault_of c ≡ None)
-Stands (Err (LongLine k)) n c = (k ≡ n + 1) × (number_of c ≡ n) × (rest_of c ≡ []) × (fault_of c ≡ Some (LongLine k))
-Stands (Err ReadFault) n c = (number_of c ≡ n) × (rest_of c ≡ []) × (fault_of c ≡ Some ReadFault)
+StandsCut (Ok false) n c = (number_of c ≡ n) × (line_of c ≡ []) × (rest_of c ≡ []) × (fault_of c ≡ None)
+StandsCut (Err (LongLine k)) n c = (k ≡ n + 1) × (number_of c ≡ n) × (rest_of c ≡ []) × (fault_of c ≡ Some (LongLine k))
+StandsCut (Err ReadFault) n c = (number_of c ≡ n) × (rest_of c ≡ []) × (fault_of c ≡ Some ReadFault)

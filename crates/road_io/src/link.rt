@@ -5,7 +5,7 @@ ghost use Rattle.std.specs.Io.KnownBytes.{ReadConsumes, WriteAppends};
 ghost use Rattle.road_io.specs.Faults.{HasCause};
 ghost use Rattle.road_io.specs.Plans.{AsPlanned};
 ghost use Rattle.road_io.specs.Portions.{Portion, Moves};
-ghost use Rattle.road_io.specs.Rooms.{Room, Takes, Refuses, Puts};
+ghost use Rattle.road_io.specs.Rooms.{Room, Takes, Refuses, PutsBytes};
 
 use crate::source::Failed;
 
@@ -53,7 +53,7 @@ pub trait Link {
 
 /// Writes all bytes. After a fault a prefix was written.
 pub fn send_all<L: Link>(link: &mut L, bytes: &[u8]) -> Result<(), Failed>
-    ensures bytes { Puts (L.written link.old) (L.written link.new) result bytes.now }
+    ensures bytes { PutsBytes (L.written link.old) (L.written link.new) result bytes.now }
     ensures took { OnOk result (Takes (L.room link.old) (L.room link.new) (length bytes.now)) }
     ensures full { OnErr result (Refuses (L.room link.old) (L.room link.new) (length bytes.now)) }
     ensures unread { L.left link.new ≡ L.left link.old }

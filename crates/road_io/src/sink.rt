@@ -3,7 +3,7 @@ ghost use Rattle.std.specs.Prelude.{ℕ, ◌≡◌, List, Option, ◌<◌, ◌�
 ghost use Rattle.std.specs.Io.KnownBytes.{WriteAppends};
 ghost use Rattle.road_io.specs.Faults.{HasCause};
 ghost use Rattle.road_io.specs.Portions.{Portion, AnyPart, Moves};
-ghost use Rattle.road_io.specs.Rooms.{Room, Untold, Takes, Refuses, Puts};
+ghost use Rattle.road_io.specs.Rooms.{Room, Untold, Takes, Refuses, PutsBytes};
 
 use crate::retrying::write_retrying;
 use crate::source::Failed;
@@ -35,7 +35,7 @@ pub trait Sink {
 
 /// Writes all bytes. After a fault a prefix was written.
 pub fn put_all<O: Sink>(sink: &mut O, bytes: &[u8]) -> Result<(), Failed>
-    ensures bytes { Puts (O.written sink.old) (O.written sink.new) result bytes.now }
+    ensures bytes { PutsBytes (O.written sink.old) (O.written sink.new) result bytes.now }
     ensures took { OnOk result (Takes (O.room sink.old) (O.room sink.new) (length bytes.now)) }
     ensures full { OnErr result (Refuses (O.room sink.old) (O.room sink.new) (length bytes.now)) }
     ensures cause { HasCause (O.faults sink.old) (O.faults sink.new) result }

@@ -11,7 +11,7 @@ use Rattle.std.specs.BTreeSet.{insert_key}
 use Rattle.std.specs.Cmp.{unsigned_tied}
 use Rattle.std.specs.Cmp.Lexicographic.{slice_cmp}
 use Rattle.std.proofs.lemmas.Cmp.{nat_list_cmp_total}
-use Rattle.std.proofs.lemmas.Bool.{and_parts, eqb-true}
+use Rattle.std.proofs.lemmas.Bool.{and_parts}
 use Rattle.road_time.specs.declared.road.Report.{Report}
 use Rattle.road_time.specs.declared.road.Place.{Place}
 use Rattle.road_time.specs.Tuples.{place_of, same_place}
@@ -21,6 +21,7 @@ use Rattle.road_time.specs.Log.{stands_at, place_cmp, places_of}
 use Rattle.road_time.proofs.EachLaws.{weakened}
 use Rattle.road_time.proofs.MemberLaws.{Mem, mem_map}
 use Rattle.road_time.proofs.MemberLaws.{mem_filter_from, any_mem}
+use Rattle.road_time.proofs.SameLaws.{place_is}
 
 -- places in order
 
@@ -47,15 +48,6 @@ place_parts : {a b c d e a' b' c' d' e' : ℕ} → a ≡ a' → b ≡ b' → c �
     ◌≡◌ {A = Place} (record { xway = a; dir = b; lane = c; seg = d; pos = e })
     (record { xway = a'; dir = b'; lane = c'; seg = d'; pos = e' })
 place_parts p q r s t = cc
-
-pub place_is : (a b : Place) → same_place a b ≡ true → a ≡ b
-place_is a b h =
-    let one = and_parts (a.xway == b.xway) _ h in
-    let two = and_parts (a.dir == b.dir) _ one.1 in
-    let three = and_parts (a.lane == b.lane) _ two.1 in
-    let four = and_parts (a.seg == b.seg) _ three.1 in
-    place_parts (eqb-true a.xway b.xway one.0) (eqb-true a.dir b.dir two.0) (eqb-true a.lane b.lane three.0)
-    (eqb-true a.seg b.seg four.0) (eqb-true a.pos b.pos four.1)
 
 equal_is : (a b : Place) → place_cmp a b ≡ Equal → a ≡ b
 equal_is a b e = place_is a b (sym (tied_place a b) ∙ ap is_eq e)

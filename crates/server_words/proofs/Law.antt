@@ -13,7 +13,7 @@ use Rattle.office_words.proofs.Spelling.{Open, read_back}
 use Rattle.office_words.proofs.SpelledBack.{spelled_back}
 use Rattle.server_words.specs.App.{server_app}
 use Rattle.server_words.specs.Meaning.{server_form, said_by_words}
-use Rattle.server_words.specs.Laws.{FindsWhatIsSaid, IsSaidOnlySo}
+use Rattle.server_words.specs.Laws.{FindsWhatIsSaid, IsServingSaidOnlySo}
 
 -- no subcommand is met, since there is none
 alone : (words : List Text) (stop : Option (Text × List Text))
@@ -38,5 +38,5 @@ named = ((refl, λ v. refl), ((refl, λ v. refl), tt))
 apart : Open server_form server_form.places []
 apart = (refl, refl, refl, refl, tt)
 
-pub spelled : (words : List Text) → IsSaidOnlySo words
+pub spelled : (words : List Text) → IsServingSaidOnlySo words
 spelled words said = (spelled_back server_form words said apart, read_back server_form named words said)

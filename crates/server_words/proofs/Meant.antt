@@ -19,7 +19,7 @@ use Rattle.office_words.specs.declared.command.WordFault.{WordFault}
 use Rattle.office_words.specs.declared.command.WordFault.TheVariants.{Words, NoMemory}
 use Rattle.office_words.proofs.Meant.{value_is}
 use Rattle.server_words.specs.App.{server_app, found_in}
-use Rattle.server_words.specs.Meaning.{meaning, means, said_by_words, Reads}
+use Rattle.server_words.specs.Meaning.{meaning, means, said_by_words, ReadsServing}
 use Rattle.server_words.specs.declared.serving.Serving.{Serving}
 use Rattle.server_words.proofs.Law.{law}
 
@@ -48,15 +48,15 @@ refused words text k among = meant words text ∙ go (fault_of server_app words)
     go (x ∷ xs) h = refl
 
 pub on_error : (words : List Text) → AllText words → (e : Error) (f : WordFault) → HasKind (fault_of server_app words) e
-    → (f ≡ Words → kind_of e ≡ OutOfMemory → ⊥) → Reads (means words) (Err f)
+    → (f ≡ Words → kind_of e ≡ OutOfMemory → ⊥) → ReadsServing (means words) (Err f)
 on_error words text e NoMemory has apart = go (means words)
   where
-    go : (o : Option Serving) → Reads o (Err NoMemory)
+    go : (o : Option Serving) → ReadsServing o (Err NoMemory)
     go None = tt
     go (Some s) = refl
 on_error words text e Words (inl out) apart = absurd (apart refl out)
 on_error words text e Words (inr among) apart =
-    subst (λ o. Reads o (Err Words)) (sym (refused words text (kind_of e) among)) tt
+    subst (λ o. ReadsServing o (Err Words)) (sym (refused words text (kind_of e) among)) tt
 
 -- what the words mean, from the matches
 pub on_matches : (words : List Text) → AllText words → (m : ArgMatches) → fault_of server_app words ≡ [] →

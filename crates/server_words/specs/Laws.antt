@@ -11,5 +11,5 @@ abbrev pub FindsWhatIsSaid : List Text → Type 0
 FindsWhatIsSaid words = AllText words → found_in words ≡ option_map (map row_said) (said_by_words words)
 
 -- it is said exactly where the words are spelled so
-abbrev pub IsSaidOnlySo : List Text → Type 0
-IsSaidOnlySo words = (said : Said) → said_by_words words ≡ Some said ↔ Spells server_form words said
+abbrev pub IsServingSaidOnlySo : List Text → Type 0
+IsServingSaidOnlySo words = (said : Said) → said_by_words words ≡ Some said ↔ Spells server_form words said

@@ -28,11 +28,11 @@ abbrev pub means : List Text → Option Serving
 means words = option_and_then (λ said. meaning (value_of said)) (said_by_words words)
 
 -- the words are refused exactly where they mean nothing, and what is answered is what they mean
-abbrev pub Reads : Option Serving → Result Serving WordFault → Type 0
-Reads None (Ok s) = ⊥
-Reads None (Err e) = Unit {0}
-Reads (Some s) (Ok t) = t ≡ s
-Reads (Some s) (Err e) = e ≡ fault.NoMemory
+abbrev pub ReadsServing : Option Serving → Result Serving WordFault → Type 0
+ReadsServing None (Ok s) = ⊥
+ReadsServing None (Err e) = Unit {0}
+ReadsServing (Some s) (Ok t) = t ≡ s
+ReadsServing (Some s) (Err e) = e ≡ fault.NoMemory
 
 -- the numbers are in their ranges
 pub record IsInRange (serving : Serving) : Type 0 where

@@ -1,6 +1,6 @@
 // Laws of the definitions, which no code runs.
 ghost use Rattle.std.specs.Prelude.{map, string_bytes};
-ghost use Rattle.server_words.specs.Laws.{FindsWhatIsSaid, IsSaidOnlySo};
+ghost use Rattle.server_words.specs.Laws.{FindsWhatIsSaid, IsServingSaidOnlySo};
 
 /// What clap finds in the words is what the grammar says that they say.
 pub fn words_law(words: &[String])
@@ -9,5 +9,5 @@ pub fn words_law(words: &[String])
 
 /// The grammar says what it does exactly of the words that are spelled so.
 pub fn spelling_law(words: &[String])
-    ensures { IsSaidOnlySo (map string_bytes words.now) }
+    ensures { IsServingSaidOnlySo (map string_bytes words.now) }
 {}

@@ -1,7 +1,7 @@
 // The words of the server, read.
 ghost use Rattle.std.specs.Prelude.{◌≡◌, IfOk, IfSome, map, string_bytes};
 ghost use Rattle.clap.specs.Words.{first_value, found_of};
-ghost use Rattle.server_words.specs.Meaning.{Reads, meaning, means, IsInRange};
+ghost use Rattle.server_words.specs.Meaning.{ReadsServing, meaning, means, IsInRange};
 
 use crate::serving::Serving;
 use crate::table;
@@ -26,7 +26,7 @@ fn serving(m: &ArgMatches<'_>) -> Option<Serving>
 
 /// How to serve by the words. They are refused exactly where they are of no stated form.
 pub fn read_words(alloc: Global, words: &[String]) -> Result<Serving, WordFault>
-    ensures reads { Reads (means (map string_bytes words.now)) result }
+    ensures reads { ReadsServing (means (map string_bytes words.now)) result }
     ensures range { IfOk result IsInRange }
 {
     let matches = match table::parse(alloc, words) {

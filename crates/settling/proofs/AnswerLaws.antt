@@ -10,15 +10,15 @@ use Rattle.road_time.specs.declared.road.Notice.TheVariants.{Toll as TollNotice,
 use Rattle.road_time.specs.declared.road.Notice.TheVariants.{Spent as SpentNotice}
 use Rattle.road_time.specs.Sights.{Moment, Sight, sights_of, previous}
 use Rattle.road_time.specs.Stays.{is_told}
-use Rattle.road_time.specs.Tolls.{Finding}
+use Rattle.road_time.specs.Tolls.{StretchTold}
 use Rattle.road_time.specs.Day.{told_if, told_by, told_sight, notices_of, alert_of, answer_by, notices_by, balance_by}
 use Rattle.accounts.specs.Sums.{account_in}
 use Rattle.accounts.specs.Books.{Accounts}
 use Rattle.settling.specs.Slots.{slot_of, found_of}
-use Rattle.settling.specs.Answers.{History, IsPaid, AreNoticesAt, AreNotices, alert_to, told_notices, IsSaid}
+use Rattle.settling.specs.Answers.{PaidHistory, IsPaid, AreNoticesAt, AreNotices, alert_to, told_notices, IsSaid}
 
 -- each history allows some amount
-pub some_paid : (history : History) (day vid xway : ℕ) → (amount : ℕ) × IsPaid history day vid xway amount
+pub some_paid : (history : PaidHistory) (day vid xway : ℕ) → (amount : ℕ) × IsPaid history day vid xway amount
 some_paid None day vid xway = (0, tt)
 some_paid (Some kept) day vid xway = (kept day vid xway, refl)
 
@@ -28,13 +28,13 @@ alert_same r None = refl
 alert_same r (Some seg) = refl
 
 -- what a report is told is the same by both words
-told_same : (b : Bool) (finding : Sight → Finding) (s : Sight) →
+told_same : (b : Bool) (finding : Sight → StretchTold) (s : Sight) →
     told_notices b s.1.time s.1.vid (found_of (finding s)) ≡ notices_of finding (told_if b s)
 told_same false finding s = refl
 told_same true finding s = ap (λ ns. ns ++ TollNotice s.1.vid s.1.time (finding s).lav (finding s).toll ∷ [])
     (alert_same s.1 (finding s).alert)
 
-module _ (finding : Sight → Finding) (number : ℕ) (history : History) where
+module _ (finding : Sight → StretchTold) (number : ℕ) (history : PaidHistory) where
   -- what a slot says is what its moment has
   pub said_is : (before : List Tuple) (x : Tuple) (b : Accounts) (ns : List Notice) →
       ((vid : ℕ) → account_in b.spent vid ≡ balance_by finding vid before) →
@@ -103,7 +103,7 @@ module _ (finding : Sight → Finding) (number : ℕ) (history : History) where
       omega arith
 
 -- where the history is told, the notices are those of the definitions
-module _ (finding : Sight → Finding) (number : ℕ) (kept : ℕ → ℕ → ℕ → ℕ) where
+module _ (finding : Sight → StretchTold) (number : ℕ) (kept : ℕ → ℕ → ℕ → ℕ) where
   exact_at : (m : Moment) (ns : List Notice) → AreNoticesAt finding number (Some kept) m ns →
       ns ≡ told_by finding m ++ answer_by finding number kept m
   exact_at (before, ReportTuple r) ns h = h ∙ sym (append-nil (told_by finding (before, ReportTuple r)))

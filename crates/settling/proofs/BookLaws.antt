@@ -14,8 +14,9 @@ use Rattle.road_time.specs.declared.road.Tuple.TheVariants.{Spent as SpentTuple,
 use Rattle.road_time.specs.declared.road.Report as road
 use Rattle.road_time.specs.Sights.{Moment, moments, Sight, sights_of, previous}
 use Rattle.road_time.specs.Stays.{begins, is_told, is_charged, stay_start}
-use Rattle.road_time.specs.Tolls.{Finding}
-use Rattle.road_time.specs.Day.{Charge as Owed, toll_told, xway_of, owed_if, owed_by, charges_by, balance_by, total_by}
+use Rattle.road_time.specs.Tolls.{StretchTold}
+use Rattle.road_time.specs.Day.{ChargedToll as Owed, toll_told, xway_of, owed_if, owed_by, charges_by, balance_by}
+use Rattle.road_time.specs.Day.{total_by}
 use Rattle.road_time.proofs.SightLaws.{sights_of_push, sights_of_other, length-moments}
 use Rattle.road_time.proofs.FindingLaws.{outside, still_outside, charged_outside}
 use Rattle.road_time.proofs.AccountLaws.{charges_push}
@@ -31,7 +32,7 @@ use Rattle.settling.specs.Slots.{slot_of, found_for}
 use Rattle.settling.specs.Books.{told_last, IsBook, charges_for, charged_with, told_with, charges_in, book_after}
 use Rattle.settling.specs.Books.{WasTold, CanSettle, HasFewTolls}
 
-module _ (finding : Sight → Finding) where
+module _ (finding : Sight → StretchTold) where
   last_step : (s : Sight) (older : List Sight) (b : Bool) → begins (previous older) s.1 ≡ b → not (s.1.lane == 4) ≡ true
       →
       (outside (previous older) ≡ true → begins (previous older) s.1 ≡ false →
@@ -137,7 +138,7 @@ after_made (Report time vid charge t) toll b = told_made t vid toll (charged_wit
 after_made (Balance time vid qid) toll b = omega arith
 after_made (Spent time vid qid xway day) toll b = omega arith
 
-module _ (finding : Sight → Finding) (b : Accounts) (before : List Tuple) (book : IsBook b finding before) where
+module _ (finding : Sight → StretchTold) (b : Accounts) (before : List Tuple) (book : IsBook b finding before) where
   told_step : (c : Bool) (r : road.Report) (v : ℕ) → (r.vid == v) ≡ c →
       cond c (cond (is_told (previous (sights_of before r.vid)) r) (Some (finding (length before, r)).toll)
       (told_last finding (sights_of before v))) (told_last finding (sights_of before v))
@@ -197,12 +198,12 @@ module _ (finding : Sight → Finding) (b : Accounts) (before : List Tuple) (boo
   total_is = ap total_in book.spent ∙ total_by_sums (charges_by finding (moments before))
 
 -- no tuples have a book of nothing
-pub book_none : (finding : Sight → Finding) (b : Accounts) → b ≡ record { told = empty; spent = empty; made = 0 } →
+pub book_none : (finding : Sight → StretchTold) (b : Accounts) → b ≡ record { told = empty; spent = empty; made = 0 } →
     IsBook b finding []
 book_none finding b e =
     subst (λ a. IsBook a finding []) (sym e) (record { told = λ vid. get-empty nat_cmp vid; spent = refl; made = refl })
 
-module _ (finding : Sight → Finding) where
+module _ (finding : Sight → StretchTold) where
   owed_few_by : (c : Bool) (own : List Sight) (r : road.Report) → length (owed_if c finding own r) ≤ 1
   owed_few_by false own r = omega arith
   owed_few_by true own r = omega arith
@@ -221,13 +222,13 @@ module _ (finding : Sight → Finding) where
       length-append (owed_by finding m) (charges_by finding ms) in omega arith
 
 -- at most one charge a tuple was made
-pub made_few : (finding : Sight → Finding) (b : Accounts) (before : List Tuple) → IsBook b finding before →
+pub made_few : (finding : Sight → StretchTold) (b : Accounts) (before : List Tuple) → IsBook b finding before →
     b.made ≤ length before
 made_few finding b before book = let made = book.made in let few = charges_few finding (moments before) in let size =
     length-moments [] before in omega arith
 
 -- the tolls of slots are few
-pub found_few : (finding : Sight → Finding) → HasFewTolls finding → (m : Moment) →
+pub found_few : (finding : Sight → StretchTold) → HasFewTolls finding → (m : Moment) →
     (found_for finding m).toll ≤ 500000000000
 found_few finding few (before, ReportTuple r) = few (length before, r)
 found_few finding few (before, BalanceTuple time vid qid) = omega arith

@@ -12,7 +12,7 @@ use Rattle.road_time.specs.declared.road.Tuple.TheVariants.{Spent as SpentTuple,
 use Rattle.road_time.specs.declared.road.Report as road
 use Rattle.road_time.specs.Sights.{moments, moments_after, Sight, sights_of, previous}
 use Rattle.road_time.specs.Stays.{is_told}
-use Rattle.road_time.specs.Tolls.{Finding}
+use Rattle.road_time.specs.Tolls.{StretchTold}
 use Rattle.road_time.specs.Day.{told_if, told_sight, given, no_finding}
 use Rattle.road_time.proofs.EachLaws.{weakened}
 use Rattle.settling.specs.declared.slot.Slot.{Slot}
@@ -20,17 +20,18 @@ use Rattle.settling.specs.Books.{HasFewTolls}
 use Rattle.settling.specs.Slots.{due_of, found_of, slot_of, slots_of}
 
 -- what is looked up is there before it is added, or it is what is added
-lookup_none : (t : ℕ → Bool) (more : List (ℕ × Finding)) → AllByRecursion (λ q. t q.0 ≡ false) more →
+lookup_none : (t : ℕ → Bool) (more : List (ℕ × StretchTold)) → AllByRecursion (λ q. t q.0 ≡ false) more →
     lookup t more ≡ None
 lookup_none t [] h = refl
 lookup_none t (q ∷ qs) h = ap (λ b. cond b (Some q.1) (lookup t qs)) h.0 ∙ lookup_none t qs h.1
 
-lookup_first : (t : ℕ → Bool) (found more : List (ℕ × Finding)) → AllByRecursion (λ q. t q.0 ≡ false) more →
+lookup_first : (t : ℕ → Bool) (found more : List (ℕ × StretchTold)) → AllByRecursion (λ q. t q.0 ≡ false) more →
     lookup t (found ++ more) ≡ lookup t found
 lookup_first t [] more h = lookup_none t more h
 lookup_first t (f ∷ fs) more h = ap (cond (t f.0) (Some f.1)) (lookup_first t fs more h)
 
-lookup_new : (t : ℕ → Bool) (found : List (ℕ × Finding)) (p : ℕ) (f : Finding) → t p ≡ true → lookup t found ≡ None →
+lookup_new : (t : ℕ → Bool) (found : List (ℕ × StretchTold)) (p : ℕ) (f : StretchTold) → t p ≡ true →
+    lookup t found ≡ None →
     lookup t (found ++ (p, f) ∷ []) ≡ Some f
 lookup_new t [] p f e h = ap (λ b. cond b (Some f) None) e
 lookup_new t (q ∷ qs) p f e h = by_first (t q.0) refl (lookup_new t qs p f e)
@@ -43,7 +44,7 @@ lookup_new t (q ∷ qs) p f e h = by_first (t q.0) refl (lookup_new t qs p f e)
         ∙ rest (sym (ap (λ b. cond b (Some q.1) (lookup t qs)) is) ∙ h)
 
 -- findings for later positions leave those of earlier ones
-given_first : (n : ℕ) (found more : List (ℕ × Finding)) (s : Sight) → AllByRecursion (λ q. n ≤ q.0) more → s.0 < n →
+given_first : (n : ℕ) (found more : List (ℕ × StretchTold)) (s : Sight) → AllByRecursion (λ q. n ≤ q.0) more → s.0 < n →
     given found s ≡ given (found ++ more) s
 given_first n found more s later less =
     let none : AllByRecursion (λ q. (q.0 == s.0) ≡ false) more =
@@ -76,7 +77,7 @@ told_below n before (x ∷ xs) h =
     (λ s e. let at = told_at before x s e in omega arith) (told_below n (before ++ x ∷ []) xs (omega arith))
 
 -- findings given for later positions are the same where the tuples before are told
-pub given_later : (found more : List (ℕ × Finding)) (before : List Tuple) →
+pub given_later : (found more : List (ℕ × StretchTold)) (before : List Tuple) →
     AllByRecursion (λ q. length before ≤ q.0) more →
     AllByRecursion (λ s. given found s ≡ given (found ++ more) s) (filter_map told_sight (moments before))
 given_later found more before later =
@@ -84,7 +85,7 @@ given_later found more before later =
     (λ s less. given_first (length before) found more s later less) (filter_map told_sight (moments before))
     (told_below (length before) [] before (omega arith))
 
-module _ (found : List (ℕ × Finding)) (p : ℕ) (f : Finding) where
+module _ (found : List (ℕ × StretchTold)) (p : ℕ) (f : StretchTold) where
   -- a finding given for one position leaves the slots of others
   given_other : (s : Sight) → (s.0 ≡ p → ⊥) → given (found ++ (p, f) ∷ []) s ≡ given found s
   given_other s ne =
@@ -143,7 +144,7 @@ module _ (found : List (ℕ × Finding)) (p : ℕ) (f : Finding) where
       (slots_filled (before ++ x ∷ []) xs at r s (omega arith) none here is)
 
 -- nothing is given for a position above all that findings were given for
-pub given_none : (found : List (ℕ × Finding)) (s : Sight) → AllByRecursion (λ q. q.0 < s.0) found →
+pub given_none : (found : List (ℕ × StretchTold)) (s : Sight) → AllByRecursion (λ q. q.0 < s.0) found →
     given found s ≡ no_finding
 given_none found s ahead =
     ap (λ o. unwrap_or o no_finding)
@@ -152,13 +153,13 @@ given_none found s ahead =
     found ahead))
 
 -- one finding more leaves few tolls, if its own is one
-pub given_few : (found : List (ℕ × Finding)) (p : ℕ) (f : Finding) → lookup (λ q. q == p) found ≡ None →
+pub given_few : (found : List (ℕ × StretchTold)) (p : ℕ) (f : StretchTold) → lookup (λ q. q == p) found ≡ None →
     HasFewTolls (given found) → f.toll ≤ 500000000000 → HasFewTolls (given (found ++ (p, f) ∷ []))
 given_few found p f none few toll s =
     ⊎_elim
-    (λ (e : s.0 ≡ p). subst (λ (g : Finding). g.toll ≤ 500000000000)
+    (λ (e : s.0 ≡ p). subst (λ (g : StretchTold). g.toll ≤ 500000000000)
     (sym (ap (λ o. unwrap_or o no_finding)
     (lookup_new (λ at. at == s.0) found p f (eq-eqb p s.0 (sym e))
     (subst (λ n. lookup (λ at. at == n) found ≡ None) (sym e) none)))) toll)
-    (λ (e : s.0 ≡ p → ⊥). subst (λ (g : Finding). g.toll ≤ 500000000000) (sym (given_other found p f s e)) (few s))
+    (λ (e : s.0 ≡ p → ⊥). subst (λ (g : StretchTold). g.toll ≤ 500000000000) (sym (given_other found p f s e)) (few s))
     (cases_eq s.0 p)

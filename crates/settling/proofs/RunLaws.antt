@@ -9,7 +9,7 @@ use Rattle.road_time.specs.declared.road.Tuple.TheVariants.{Travel}
 use Rattle.road_time.specs.declared.road.Tuple.{Tuple}
 use Rattle.road_time.specs.declared.road.Notice.{Notice}
 use Rattle.road_time.specs.Sights.{moments, moments_after, Sight}
-use Rattle.road_time.specs.Tolls.{Finding}
+use Rattle.road_time.specs.Tolls.{StretchTold}
 use Rattle.road_time.specs.Day.{owed_by, charges_by, sum_of, total_by}
 use Rattle.road_time.proofs.BoundLaws.{total_few}
 use Rattle.road_time.specs.Text.{out}
@@ -23,9 +23,9 @@ use Rattle.settling.specs.declared.slot.Slot.{Slot}
 use Rattle.settling.specs.declared.settler.Settler.{Settler}
 use Rattle.settling.specs.Slots.{slot_of, slots_of}
 use Rattle.settling.specs.Books.{IsBook, HasFewTolls, charges_in, book_after}
-use Rattle.settling.specs.Answers.{History, AreNotices, IsSaid}
+use Rattle.settling.specs.Answers.{PaidHistory, AreNotices, IsSaid}
 use Rattle.settling.specs.Levels.{Level}
-use Rattle.settling.specs.Asking.{Plan, Passes, asked}
+use Rattle.settling.specs.Asking.{AskingPlan, PassesCalls, requests_of}
 use Rattle.settling.specs.Printing.{Holds, HandsOn}
 use Rattle.settling.specs.Runs.{StandsFor, InRun, HasRun, Waits, WritesRun, SettlesSlot, TakesRun}
 use Rattle.settling.proofs.LevelLaws.{adds_none}
@@ -43,9 +43,9 @@ run_moments before run x = moments-append before run (x ∷ [])
 pub run_tuples : (before run : List Tuple) (x : Tuple) → (before ++ run) ++ x ∷ [] ≡ before ++ (run ++ x ∷ [])
 run_tuples before run x = append_assoc before run (x ∷ [])
 
-module _ (finding : Sight → Finding) (number : ℕ) (history : History) where
+module _ (finding : Sight → StretchTold) (number : ℕ) (history : PaidHistory) where
   -- a run begins
-  pub run_begins : (s : Settler) (before : List Tuple) (w : Level) (plan : Plan) →
+  pub run_begins : (s : Settler) (before : List Tuple) (w : Level) (plan : AskingPlan) →
       StandsFor s finding number history before → InRun s finding number history before [] w w plan plan
   run_begins s before w plan h =
       let same : before ≡ before ++ [] = sym (append-nil before) in
@@ -85,7 +85,8 @@ module _ (finding : Sight → Finding) (number : ℕ) (history : History) where
       said)))
 
   -- a run goes on over one slot
-  pub run_more : (s s' : Settler) (before run : List Tuple) (x : Tuple) (old now now' : Level) (plan left left' : Plan)
+  pub run_more : (s s' : Settler) (before run : List Tuple) (x : Tuple) (old now now' : Level)
+      (plan left left' : AskingPlan)
       (ns : List Notice) → InRun s finding number history before run old now plan left →
       s'.settled ≡ s.settled + 1 →
       s'.book ≡ book_after (slot_of finding (before ++ run, x)).due (slot_of finding (before ++ run, x)).found.toll
@@ -114,8 +115,9 @@ module _ (finding : Sight → Finding) (number : ℕ) (history : History) where
         count = let n = h.count in let m = says.0 in let l = length-append h.told ns in omega arith;
         holds = subst (λ t. Holds s'.printer (out h.earlier) t old now') (sym (out_both h.told ns))
             (says.1 (out h.earlier) (out h.told) old h.holds);
-        passed = subst (λ n. Passes n plan left') (ap (λ n. asked run + n) (asked_slot finding (before ++ run) x)
-            ∙ sym (asked_more run x)) (passes_on plan left left' (asked run) _ h.passed settles.1);
+        passed = subst (λ n. PassesCalls n plan left')
+            (ap (λ n. requests_of run + n) (asked_slot finding (before ++ run) x)
+            ∙ sym (asked_more run x)) (passes_on plan left left' (requests_of run) _ h.passed settles.1);
         charged =
             charges ∙ (ap (λ cs. cs ++ charges_in (slot_of finding (before ++ run, x)).due s.book) h.charged
             ∙ (ap (λ cs. charges_by finding (moments_after before run) ++ cs)
@@ -126,7 +128,7 @@ module _ (finding : Sight → Finding) (number : ℕ) (history : History) where
       }
 
   -- in a run few notices were written
-  pub run_few : (s : Settler) (before run : List Tuple) (old now : Level) (plan left : Plan) →
+  pub run_few : (s : Settler) (before run : List Tuple) (old now : Level) (plan left : AskingPlan) →
       InRun s finding number history before run old now plan left → length before + length run ≤ 16000000 →
       s.printer.notices ≤ 32000000
   run_few s before run old now plan left h few =
@@ -138,18 +140,18 @@ module _ (finding : Sight → Finding) (number : ℕ) (history : History) where
       omega arith
 
   -- all of a run was written
-  pub run_took : (s : Settler) (before run : List Tuple) (old now : Level) (plan left : Plan) →
+  pub run_took : (s : Settler) (before run : List Tuple) (old now : Level) (plan left : AskingPlan) →
       HasRun s finding number history before run old now plan left →
       TakesRun finding number history before run old now plan left
   run_took s before run old now plan left h = (h.told, h.told_are, h.wrote, h.passed)
 
-  pub run_wrote : (before run : List Tuple) (old now : Level) (plan left : Plan) →
+  pub run_wrote : (before run : List Tuple) (old now : Level) (plan left : AskingPlan) →
       TakesRun finding number history before run old now plan left →
       WritesRun finding number history before run old.0 now.0
   run_wrote before run old now plan left h = (h.0, h.1, h.2.0)
 
   -- a run ends where its charges are listed no more
-  pub run_ends : (s s' : Settler) (before run : List Tuple) (old now : Level) (plan left : Plan) →
+  pub run_ends : (s s' : Settler) (before run : List Tuple) (old now : Level) (plan left : AskingPlan) →
       HasRun s finding number history before run old now plan left →
       s'.settled ≡ s.settled → s'.book ≡ s.book → s'.printer ≡ s.printer → s'.charges.items ≡ [] →
       StandsFor s' finding number history (before ++ run)
@@ -171,7 +173,7 @@ module _ (finding : Sight → Finding) (number : ℕ) (history : History) where
       }
 
 -- what is owed after a run is what was owed before it and the run's charges
-pub run_total : (finding : Sight → Finding) (a b : Accounts) (before run : List Tuple) (cs : List Charged) →
+pub run_total : (finding : Sight → StretchTold) (a b : Accounts) (before run : List Tuple) (cs : List Charged) →
     IsBook a finding before → IsBook b finding (before ++ run) →
     map charge_of cs ≡ charges_by finding (moments_after before run) →
     total_in a.spent + sum_of (map charge_of cs) ≡ total_in b.spent
@@ -187,7 +189,7 @@ run_total finding a b before run cs first last charged =
     ∙ (sym more ∙ sym (total_is finding b (before ++ run) last)))
 
 -- what is owed fits 63 bits
-pub run_fits : (finding : Sight → Finding) (b : Accounts) (tuples : List Tuple) → HasFewTolls finding →
+pub run_fits : (finding : Sight → StretchTold) (b : Accounts) (tuples : List Tuple) → HasFewTolls finding →
     IsBook b finding tuples → length tuples ≤ 16000000 → total_in b.spent < 2 ^ 63
 run_fits finding b tuples few book short =
     let is = total_is finding b tuples book in
@@ -201,7 +203,7 @@ run_long before rest count h = length-append before (take count rest)
     ∙ ap (λ n. length before + n) (length-take-le count rest h)
 
 -- the first slot that waits, and those behind it
-pub first_slot : (finding : Sight → Finding) (all later : List Slot) (slot : Slot) (before : List Tuple) (x : Tuple)
+pub first_slot : (finding : Sight → StretchTold) (all later : List Slot) (slot : Slot) (before : List Tuple) (x : Tuple)
     (rest : List Tuple) → all ≡ slot ∷ later → all ≡ slots_of finding before (x ∷ rest) →
     (slot ≡ slot_of finding (before, x)) × (later ≡ slots_of finding (before ++ x ∷ []) rest)
 first_slot finding all later slot before x rest e f =
@@ -209,7 +211,8 @@ first_slot finding all later slot before x rest e f =
     (cc, cc)
 
 -- what waits behind the first slot
-pub waits_more : (finding : Sight → Finding) (all later : List Slot) (slot : Slot) (before run : List Tuple) (x : Tuple)
+pub waits_more : (finding : Sight → StretchTold) (all later : List Slot) (slot : Slot) (before run : List Tuple)
+    (x : Tuple)
     (rest : List Tuple) → all ≡ slot ∷ later → Waits all finding (before ++ run) (x ∷ rest) →
     Waits later finding (before ++ (run ++ x ∷ [])) rest
 waits_more finding all later slot before run x rest e h =
@@ -227,9 +230,9 @@ pub rest_more : (i : ℕ) (rest : List Tuple) → i < length rest → (x : Tuple
 rest_more i rest h =
     (get_or rest i (Travel 0), rw (← add-one i) at (drop-cons rest i (Travel 0) h), take_more rest i (Travel 0) h)
 
-module _ (finding : Sight → Finding) (number : ℕ) (history : History) where
+module _ (finding : Sight → StretchTold) (number : ℕ) (history : PaidHistory) where
   -- all text that is held was handed on
-  pub run_flushed : (s s' : Settler) (before run : List Tuple) (old now now' : Level) (plan left : Plan) →
+  pub run_flushed : (s s' : Settler) (before run : List Tuple) (old now now' : Level) (plan left : AskingPlan) →
       InRun s finding number history before run old now plan left →
       s'.settled ≡ s.settled → s'.book ≡ s.book → s'.charges ≡ s.charges →
       HandsOn {T = Unit {0}} (Ok tt) s.printer s'.printer now now' →

@@ -14,13 +14,13 @@ use Rattle.road_time.specs.declared.road.Notice.{Notice}
 use Rattle.road_time.specs.declared.road.Notice.TheVariants.{Balance as BalanceNotice}
 use Rattle.road_time.specs.Sights.{moments, moments_after, Sight, sights_of, previous}
 use Rattle.road_time.specs.Stays.{is_told}
-use Rattle.road_time.specs.Tolls.{Finding}
+use Rattle.road_time.specs.Tolls.{StretchTold}
 use Rattle.road_time.specs.Day.{told_if, told_sight, notices_of, sum_of, charges_to}
 use Rattle.road_time.proofs.EachLaws.{joined}
 use Rattle.road_time.proofs.FindingLaws.{AgreeAt, told_agree, charges_same}
 use Rattle.road_time.proofs.SightLaws.{moments-append, moments_push, moments_take, length-moments, sights_of_push}
 use Rattle.road_time.proofs.SightLaws.{sights_of_other}
-use Rattle.settling.specs.Answers.{History, AreNoticesAt, AreNotices}
+use Rattle.settling.specs.Answers.{PaidHistory, AreNoticesAt, AreNotices}
 use Rattle.settling.specs.Books.{told_last, IsBook}
 use Rattle.settling.specs.declared.settler.Settler.{Settler}
 use Rattle.settling.specs.declared.slot.Slot.{Slot}
@@ -65,7 +65,7 @@ run_between fed a count h =
     ∙ (ap moments (sym (up_to_run fed a count h)) ∙ moments-append [] (take a fed) (take count (drop a fed))))
     ∙ drop_at (moments (take a fed)) (moments_after (take a fed) (take count (drop a fed))) a first)
 
-module _ (f g : Sight → Finding) where
+module _ (f g : Sight → StretchTold) where
   told_when : (b : Bool) (s : Sight) → b ≡ true → told_if b s ≡ Some s
   told_when true s e = refl
   told_when false s e = let no : ⊥ = cc in absurd no
@@ -126,7 +126,7 @@ module _ (f g : Sight → Finding) where
   notices_at None h = refl
   notices_at (Some s) h = ap (λ t. notices_of (λ _. t) (Some s)) (h s refl)
 
-  same_at : (number : ℕ) (history : History) (before : List Tuple) (x : Tuple) (ns : List Notice) →
+  same_at : (number : ℕ) (history : PaidHistory) (before : List Tuple) (x : Tuple) (ns : List Notice) →
       AllByRecursion (AgreeAt f g) (moments before) → AgreeAt f g (before, x) →
       AreNoticesAt f number history (before, x) ns → AreNoticesAt g number history (before, x) ns
   same_at number history before (ReportTuple r) ns all at h = h ∙ notices_at (told_sight (before, ReportTuple r)) at
@@ -136,7 +136,7 @@ module _ (f g : Sight → Finding) where
   same_at number history before (Travel time) ns all at h = h
 
   -- so do notices
-  pub notices_stay : (number : ℕ) (history : History) (before rest : List Tuple) (ns : List Notice) →
+  pub notices_stay : (number : ℕ) (history : PaidHistory) (before rest : List Tuple) (ns : List Notice) →
       AllByRecursion (AgreeAt f g) (moments before) → AllByRecursion (AgreeAt f g) (moments_after before rest) →
       AreNotices f number history (moments_after before rest) ns →
       AreNotices g number history (moments_after before rest) ns
@@ -154,7 +154,8 @@ module _ (f g : Sight → Finding) where
       )
 
 -- a settler stands by findings that are the same where its tuples are told
-pub stands_by : (s : Settler) (finding other : Sight → Finding) (number : ℕ) (history : History) (before : List Tuple) →
+pub stands_by : (s : Settler) (finding other : Sight → StretchTold) (number : ℕ) (history : PaidHistory)
+    (before : List Tuple) →
     AllByRecursion (λ t. finding t ≡ other t) (filter_map told_sight (moments before)) →
     StandsFor s finding number history before → StandsFor s other number history before
 stands_by s finding other number history before same h =
@@ -171,7 +172,7 @@ stands_by s finding other number history before same h =
     }
 
 -- a slot more waits when a tuple more is fed
-pub waits_fed : (slots : List Slot) (finding : Sight → Finding) (before rest : List Tuple) (x : Tuple) →
+pub waits_fed : (slots : List Slot) (finding : Sight → StretchTold) (before rest : List Tuple) (x : Tuple) →
     Waits slots finding before rest → length before + length rest + 1 ≤ 16000000 →
     Waits (slots ++ slot_of finding (before ++ rest, x) ∷ []) finding before (rest ++ x ∷ [])
 waits_fed slots finding before rest x h short =
@@ -185,7 +186,7 @@ waits_fed slots finding before rest x h short =
     }
 
 -- as many slots wait as tuples
-pub waits_long : (slots : List Slot) (finding : Sight → Finding) (before rest : List Tuple) →
+pub waits_long : (slots : List Slot) (finding : Sight → StretchTold) (before rest : List Tuple) →
     Waits slots finding before rest → length slots ≡ length rest
 waits_long slots finding before rest h = ap length h.slots_are
     ∙ (length-map (moments_after before rest) (slot_of finding) ∙ length-moments before rest)

@@ -7,7 +7,7 @@ use Rattle.road_time.proofs.AccountLaws.{take_shorter}
 use Rattle.road_time.specs.declared.road.Tuple.{Tuple}
 use Rattle.road_time.specs.declared.road.Notice.{Notice}
 use Rattle.road_time.specs.Sights.{moments_after, Sight}
-use Rattle.road_time.specs.Tolls.{Finding}
+use Rattle.road_time.specs.Tolls.{StretchTold}
 use Rattle.road_time.specs.Text.{out}
 use Rattle.road_time.proofs.SightLaws.{moments-append}
 use Rattle.settling.specs.declared.fault.SettleFault.{SettleFault}
@@ -16,9 +16,9 @@ use Rattle.settling.specs.declared.printer.Printer.{Printer}
 use Rattle.settling.specs.declared.settler.Settler.{Settler}
 use Rattle.settling.specs.Faults.{write_failed, keeper_failed}
 use Rattle.settling.specs.Levels.{Level, AddsFront, AddsPieces, FillsUp}
-use Rattle.settling.specs.Asking.{Plan, PassesUpTo, FailsAfter, asked}
+use Rattle.settling.specs.Asking.{AskingPlan, PassesUpTo, FailsAfter, requests_of}
 use Rattle.settling.specs.Slots.{slot_of}
-use Rattle.settling.specs.Answers.{History, AreNotices, IsSaid}
+use Rattle.settling.specs.Answers.{PaidHistory, AreNotices, IsSaid}
 use Rattle.settling.specs.Printing.{WritesSome, HandsOn}
 use Rattle.settling.specs.Runs.{InRun, WritesSomeOfRun, SettlesSlot, TakesRun, StopsRun}
 use Rattle.settling.proofs.LevelLaws.{front_longer, fills_longer, front_pieces, front_whole, text_front, text_less}
@@ -27,10 +27,10 @@ use Rattle.settling.proofs.PrintLaws.{out_both, some_more, handed_pieces}
 use Rattle.settling.proofs.AnswerLaws.{notices_both, some_notices}
 use Rattle.settling.proofs.RunLaws.{told_more}
 
-module _ (finding : Sight → Finding) (number : ℕ) (history : History) where
+module _ (finding : Sight → StretchTold) (number : ℕ) (history : PaidHistory) where
   -- a run is stopped at a slot
   pub run_stops : (fault : SettleFault) (s : Settler) (q : Printer) (before run : List Tuple) (x : Tuple)
-      (old now now' : Level) (plan left left' : Plan) (ns : List Notice) →
+      (old now now' : Level) (plan left left' : AskingPlan) (ns : List Notice) →
       InRun s finding number history before run old now plan left →
       IsSaid history number (slot_of finding (before ++ run, x)).due (slot_of finding (before ++ run, x)).found s.book
       ns →
@@ -48,21 +48,21 @@ module _ (finding : Sight → Finding) (number : ℕ) (history : History) where
     wrote = subst (AddsPieces (out h.told) old) (sym settles.1)
         (handed_pieces s.printer (out h.earlier) (out h.told) old now h.holds);
     failed = subst (λ n. FailsAfter n plan left') (omega arith)
-        (fails_on plan left left' (asked run) 0 h.passed settles.2);
+        (fails_on plan left left' (requests_of run) 0 h.passed settles.2);
   }
   run_stops WriteFault s q before run x old now now' plan left left' ns h said settles = (
     h.told ++ ns,
     told_more finding number history before run x s h.told ns h.book h.told_are said,
     subst (λ t. FillsUp t old now') (sym (out_both h.told ns)) (settles.0 (out h.earlier) (out h.told) old h.holds),
-    subst (λ n. PassesUpTo n plan left') (ap (λ n. asked run + n) (asked_slot finding (before ++ run) x)
-        ∙ sym (asked_more run x)) (up_to_on plan left left' (asked run) _ h.passed settles.1),
+    subst (λ n. PassesUpTo n plan left') (ap (λ n. requests_of run + n) (asked_slot finding (before ++ run) x)
+        ∙ sym (asked_more run x)) (up_to_on plan left left' (requests_of run) _ h.passed settles.1),
   )
   run_stops NoMemory s q before run x old now now' plan left left' ns h said settles = (
     h.told ++ ns,
     told_more finding number history before run x s h.told ns h.book h.told_are said,
     subst (λ t. AddsFront t old now') (sym (out_both h.told ns)) (settles.0 (out h.earlier) (out h.told) old h.holds),
-    subst (λ n. PassesUpTo n plan left') (ap (λ n. asked run + n) (asked_slot finding (before ++ run) x)
-        ∙ sym (asked_more run x)) (up_to_on plan left left' (asked run) _ h.passed settles.1),
+    subst (λ n. PassesUpTo n plan left') (ap (λ n. requests_of run + n) (asked_slot finding (before ++ run) x)
+        ∙ sym (asked_more run x)) (up_to_on plan left left' (requests_of run) _ h.passed settles.1),
   )
 
   -- the notices of a run's first tuples stand before those of all of it
@@ -78,7 +78,7 @@ module _ (finding : Sight → Finding) (number : ℕ) (history : History) where
       )
 
   -- where the first tuples of a run were stopped, the whole run was
-  pub stops_longer : (fault : SettleFault) (before run later : List Tuple) (old now : Level) (plan left : Plan) →
+  pub stops_longer : (fault : SettleFault) (before run later : List Tuple) (old now : Level) (plan left : AskingPlan) →
       StopsRun fault finding number history before run old now plan left →
       StopsRun fault finding number history before (run ++ later) old now plan left
   stops_longer KeeperFault before run later old now plan left h = record {
@@ -98,7 +98,7 @@ module _ (finding : Sight → Finding) (number : ℕ) (history : History) where
         h.0 ++ more.0,
         more.1,
         subst (λ t. FillsUp t old now) (sym (out_both h.0 more.0)) (fills_longer old now (out h.0) (out more.0) h.2),
-        up_to_more plan left (asked run) (asked (run ++ later)) (omega arith) h.3,
+        up_to_more plan left (requests_of run) (requests_of (run ++ later)) (omega arith) h.3,
       )
   stops_longer NoMemory before run later old now plan left h =
       let more = more_told before run later h.0 h.1 in
@@ -106,11 +106,11 @@ module _ (finding : Sight → Finding) (number : ℕ) (history : History) where
         h.0 ++ more.0,
         more.1,
         subst (λ t. AddsFront t old now) (sym (out_both h.0 more.0)) (front_longer old now (out h.0) (out more.0) h.2),
-        up_to_more plan left (asked run) (asked (run ++ later)) (omega arith) h.3,
+        up_to_more plan left (requests_of run) (requests_of (run ++ later)) (omega arith) h.3,
       )
 
   -- what was taken where a run was stopped is some of its text
-  pub some_of_run : (fault : SettleFault) (before run : List Tuple) (old now : Level) (plan left : Plan) →
+  pub some_of_run : (fault : SettleFault) (before run : List Tuple) (old now : Level) (plan left : AskingPlan) →
       StopsRun fault finding number history before run old now plan left →
       WritesSomeOfRun fault finding number history before run old.0 now.0
   some_of_run KeeperFault before run old now plan left h =
@@ -126,18 +126,18 @@ module _ (finding : Sight → Finding) (number : ℕ) (history : History) where
   some_of_run NoMemory before run old now plan left h = (h.0, h.1, text_front old now (out h.0) h.2)
 
   -- and then no memory was left
-  pub run_unpublished : (fault : SettleFault) (before run : List Tuple) (old now : Level) (plan left : Plan) →
+  pub run_unpublished : (fault : SettleFault) (before run : List Tuple) (old now : Level) (plan left : AskingPlan) →
       write_failed {T = Unit {0}} (Err fault) ≡ false → keeper_failed {T = Unit {0}} (Err fault) ≡ false →
       TakesRun finding number history before run old now plan left →
       StopsRun fault finding number history before run old now plan left
   run_unpublished KeeperFault before run old now plan left w k h = let no : ⊥ = cc in absurd no
   run_unpublished WriteFault before run old now plan left w k h = let no : ⊥ = cc in absurd no
   run_unpublished NoMemory before run old now plan left w k h =
-      (h.0, h.1, front_whole old now (out h.0) h.2, up_to_all plan left (asked run) h.3)
+      (h.0, h.1, front_whole old now (out h.0) h.2, up_to_all plan left (requests_of run) h.3)
 
   -- the sink failed while text that is held was handed on
   pub run_unflushed : (fault : SettleFault) (s : Settler) (q : Printer) (before run : List Tuple) (old now now' : Level)
-      (plan left : Plan) → InRun s finding number history before run old now plan left →
+      (plan left : AskingPlan) → InRun s finding number history before run old now plan left →
       HandsOn {T = Unit {0}} (Err fault) s.printer q now now' →
       StopsRun fault finding number history before run old now' plan left
   run_unflushed KeeperFault s q before run old now now' plan left h hands = absurd hands
@@ -146,13 +146,13 @@ module _ (finding : Sight → Finding) (number : ℕ) (history : History) where
     h.told_are,
     hands (out h.earlier) (out h.told) old h.holds.prints,
     up_to_all plan left
-        (asked run) h.passed,
+        (requests_of run) h.passed,
   )
   run_unflushed NoMemory s q before run old now now' plan left h hands = absurd hands
 
 -- where a run was stopped in its first tuples, it was stopped
-pub stops_within : (finding : Sight → Finding) (number : ℕ) (history : History) (fault : SettleFault)
-    (before rest : List Tuple) (i count : ℕ) (old now : Level) (plan left : Plan) → i ≤ count →
+pub stops_within : (finding : Sight → StretchTold) (number : ℕ) (history : PaidHistory) (fault : SettleFault)
+    (before rest : List Tuple) (i count : ℕ) (old now : Level) (plan left : AskingPlan) → i ≤ count →
     StopsRun fault finding number history before (take i rest) old now plan left →
     StopsRun fault finding number history before (take count rest) old now plan left
 stops_within finding number history fault before rest i count old now plan left le h =

@@ -7,7 +7,7 @@ use Rattle.road_time.specs.declared.road.Notice.{Notice}
 use Rattle.road_time.specs.declared.road.Notice.TheVariants.{Toll as TollNotice, Alert as AlertNotice}
 use Rattle.road_time.specs.declared.road.Notice.TheVariants.{Balance as BalanceNotice, Spent as SpentNotice}
 use Rattle.road_time.specs.Sights.{Moment, Sight}
-use Rattle.road_time.specs.Tolls.{Finding}
+use Rattle.road_time.specs.Tolls.{StretchTold}
 use Rattle.road_time.specs.Day.{told_by, balance_by}
 use Rattle.accounts.specs.Sums.{account_in}
 use Rattle.accounts.specs.Books.{Accounts}
@@ -18,20 +18,20 @@ use Rattle.settling.specs.declared.slot.Due.{Due}
 use Rattle.settling.specs.declared.slot.Due.TheVariants.{Nothing, Report, Balance, Spent}
 
 -- what was paid on a day by a vehicle on an expressway, where that is told
-abbrev pub History : Type 0
-History = Option (ℕ → ℕ → ℕ → ℕ)
+abbrev pub PaidHistory : Type 0
+PaidHistory = Option (ℕ → ℕ → ℕ → ℕ)
 
 -- the history of what a keeper tells
-abbrev pub history_of : Option Office → History
+abbrev pub history_of : Option Office → PaidHistory
 history_of told = option_map (λ o. paid o.rows) told
 
 -- a history allows an amount as the answer
-abbrev pub IsPaid : History → ℕ → ℕ → ℕ → ℕ → Type 0
+abbrev pub IsPaid : PaidHistory → ℕ → ℕ → ℕ → ℕ → Type 0
 IsPaid None day vid xway amount = Unit {0}
 IsPaid (Some kept) day vid xway amount = amount ≡ kept day vid xway
 
 -- the notices of a moment, by findings and after a history
-abbrev pub AreNoticesAt : (Sight → Finding) → ℕ → History → Moment → List Notice → Type 0
+abbrev pub AreNoticesAt : (Sight → StretchTold) → ℕ → PaidHistory → Moment → List Notice → Type 0
 AreNoticesAt finding number history (before, ReportTuple r) ns = ns ≡ told_by finding (before, ReportTuple r)
 AreNoticesAt finding number history (before, BalanceTuple time vid qid) ns =
     ns ≡ BalanceNotice time qid (balance_by finding vid before) ∷ []
@@ -40,7 +40,7 @@ AreNoticesAt finding number history (before, SpentTuple time vid xway qid day) n
 AreNoticesAt finding number history (before, Travel time) ns = ns ≡ []
 
 -- the notices of some moments, one after another
-abbrev pub AreNotices : (Sight → Finding) → ℕ → History → List Moment → List Notice → Type 0
+abbrev pub AreNotices : (Sight → StretchTold) → ℕ → PaidHistory → List Moment → List Notice → Type 0
 AreNotices finding number history [] ns = ns ≡ []
 AreNotices finding number history (m ∷ ms) ns = (first : List Notice) × (later : List Notice) × (ns ≡ first ++ later)
     × AreNoticesAt finding number history m first × AreNotices finding number history ms later
@@ -58,7 +58,7 @@ told_notices false time vid found = []
 told_notices true time vid found = alert_to time vid found.alert ++ TollNotice vid time found.lav found.toll ∷ []
 
 -- the notices of a slot, after a book and a history
-abbrev pub IsSaid : History → ℕ → Due → Found → Accounts → List Notice → Type 0
+abbrev pub IsSaid : PaidHistory → ℕ → Due → Found → Accounts → List Notice → Type 0
 IsSaid history number Nothing found b ns = ns ≡ []
 IsSaid history number (Report time vid charge told) found b ns = ns ≡ told_notices told time vid found
 IsSaid history number (Balance time vid qid) found b ns = ns ≡ BalanceNotice time qid (account_in b.spent vid) ∷ []

@@ -10,21 +10,21 @@ use Rattle.settling.specs.declared.slot.Due.{Due}
 use Rattle.settling.specs.declared.slot.Due.TheVariants.{Nothing, Report, Balance, Spent}
 
 -- which of a keeper's calls to come fail, where it tells that, the next being 0
-abbrev pub Plan : Type 0
-Plan = Option (ℕ → Bool)
+abbrev pub AskingPlan : Type 0
+AskingPlan = Option (ℕ → Bool)
 
 -- so many calls passed, none of which was planned to fail, and those after them stay planned as they were
-abbrev pub Passes : ℕ → Plan → Plan → Type 0
-Passes n None now = Unit {0}
-Passes n (Some p) None = ⊥
-Passes n (Some p) (Some q) = ((i : ℕ) → i < n → p i ≡ false) × ((i : ℕ) → q i ≡ p (i + n))
+abbrev pub PassesCalls : ℕ → AskingPlan → AskingPlan → Type 0
+PassesCalls n None now = Unit {0}
+PassesCalls n (Some p) None = ⊥
+PassesCalls n (Some p) (Some q) = ((i : ℕ) → i < n → p i ≡ false) × ((i : ℕ) → q i ≡ p (i + n))
 
 -- at most so many calls passed
-abbrev pub PassesUpTo : ℕ → Plan → Plan → Type 0
-PassesUpTo n old now = (k : ℕ) × (k ≤ n) × Passes k old now
+abbrev pub PassesUpTo : ℕ → AskingPlan → AskingPlan → Type 0
+PassesUpTo n old now = (k : ℕ) × (k ≤ n) × PassesCalls k old now
 
 -- so many calls passed, and the next failed as it was planned
-abbrev pub FailsAfter : ℕ → Plan → Plan → Type 0
+abbrev pub FailsAfter : ℕ → AskingPlan → AskingPlan → Type 0
 FailsAfter n None now = Unit {0}
 FailsAfter n (Some p) None = ⊥
 FailsAfter n (Some p) (Some q) = ((i : ℕ) → i < n → p i ≡ false) × (p n ≡ true) × ((i : ℕ) → q i ≡ p (i + (n + 1)))
@@ -37,9 +37,9 @@ asked_by (SpentTuple time vid xway qid day) = 1
 asked_by (Travel time) = 0
 
 -- and where several are
-abbrev pub asked : List Tuple → ℕ
-asked [] = 0
-asked (x ∷ xs) = asked_by x + asked xs
+abbrev pub requests_of : List Tuple → ℕ
+requests_of [] = 0
+requests_of (x ∷ xs) = asked_by x + requests_of xs
 
 -- and where a slot is
 abbrev pub asked_for : Due → ℕ
@@ -49,8 +49,8 @@ asked_for (Balance time vid qid) = 0
 asked_for (Spent time vid qid xway day) = 1
 
 -- one call was made, which failed exactly where that is answered
-abbrev pub AsksOnce : {T : Type 0} → Result T SettleFault → Plan → Plan → Type 0
-AsksOnce (Ok x) old now = Passes 1 old now
+abbrev pub AsksOnce : {T : Type 0} → Result T SettleFault → AskingPlan → AskingPlan → Type 0
+AsksOnce (Ok x) old now = PassesCalls 1 old now
 AsksOnce (Err KeeperFault) old now = FailsAfter 0 old now
 AsksOnce (Err WriteFault) old now = ⊥
-AsksOnce (Err NoMemory) old now = Passes 1 old now
+AsksOnce (Err NoMemory) old now = PassesCalls 1 old now

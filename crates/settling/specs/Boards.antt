@@ -1,7 +1,7 @@
 -- What a publisher is asked for and left with.
 use Rattle.std.specs.Prelude.{ℕ, zero, suc, ◌≡◌, List, [], Option, Some, None, Result, Ok, Err}
 use Rattle.std.specs.Option.{option_map}
-use Rattle.road_time.specs.Day.{Charge}
+use Rattle.road_time.specs.Day.{ChargedToll}
 use Rattle.accounts.specs.Operations.{Step, Posted, posted_with, IsRefused}
 use Rattle.accounts.specs.Boards.{board_after, all_accounts}
 use Rattle.settling.specs.declared.fault.SettleFault.{SettleFault}
@@ -12,12 +12,13 @@ IsAbreast None total = Unit {0}
 IsAbreast (Some p) total = (p.queued ≡ []) × (all_accounts (board_after p.published) ≡ total)
 
 -- with one step more, if something was settled
-abbrev pub posted_if : ℕ → List Charge → ℕ → Option Posted → Option Posted
+abbrev pub posted_if : ℕ → List ChargedToll → ℕ → Option Posted → Option Posted
 posted_if zero charges mark before = before
 posted_if (suc n) charges mark before = option_map (posted_with (Step charges mark)) before
 
 -- one step is published if something was settled, and none otherwise; where settling was stopped none is published
-abbrev pub Publishes : {T : Type 0} → Result T SettleFault → ℕ → List Charge → ℕ → Option Posted → Option Posted →
+abbrev pub PublishesStep : {T : Type 0} → Result T SettleFault → ℕ → List ChargedToll → ℕ → Option Posted →
+    Option Posted →
     Type 0
-Publishes (Ok x) count charges mark before now = now ≡ posted_if count charges mark before
-Publishes (Err fault) count charges mark before now = IsRefused (Step charges mark) before now
+PublishesStep (Ok x) count charges mark before now = now ≡ posted_if count charges mark before
+PublishesStep (Err fault) count charges mark before now = IsRefused (Step charges mark) before now

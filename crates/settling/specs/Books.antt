@@ -6,8 +6,8 @@ use Rattle.std.specs.FinMap.{get, insert}
 use Rattle.road_time.specs.declared.road.Tuple.{Tuple}
 use Rattle.road_time.specs.Sights.{moments, Sight, sights_of, previous}
 use Rattle.road_time.specs.Stays.{is_told}
-use Rattle.road_time.specs.Tolls.{Finding}
-use Rattle.road_time.specs.Day.{Charge as Owed, charges_by}
+use Rattle.road_time.specs.Tolls.{StretchTold}
+use Rattle.road_time.specs.Day.{ChargedToll as Owed, charges_by}
 use Rattle.crossings.specs.declared.tracked.Charge.{Charge}
 use Rattle.crossings.specs.declared.tracked.Charge.TheVariants.{No, Last}
 use Rattle.accounts.specs.Sums.{with_charge, spent_by}
@@ -16,18 +16,18 @@ use Rattle.settling.specs.declared.slot.Due.{Due}
 use Rattle.settling.specs.declared.slot.Due.TheVariants.{Nothing, Report, Balance, Spent}
 
 -- the toll that a vehicle was told last, by its reports, the newest first
-abbrev pub told_last : (Sight → Finding) → List Sight → Option ℕ
+abbrev pub told_last : (Sight → StretchTold) → List Sight → Option ℕ
 told_last finding [] = None
 told_last finding (s ∷ older) = if is_told (previous older) s.1 then Some (finding s).toll else told_last finding older
 
 -- a book is that of some tuples: each vehicle's toll told last, and the sums and the number of the charges
-pub record IsBook (b : Accounts) (finding : Sight → Finding) (before : List Tuple) : Type 0 where
+pub record IsBook (b : Accounts) (finding : Sight → StretchTold) (before : List Tuple) : Type 0 where
   pub told : (vid : ℕ) → get b.told vid ≡ told_last finding (sights_of before vid)
   pub spent : b.spent ≡ spent_by (charges_by finding (moments before))
   pub made : b.made ≡ length (charges_by finding (moments before))
 
 -- tolls that a book takes
-abbrev pub HasFewTolls : (Sight → Finding) → Type 0
+abbrev pub HasFewTolls : (Sight → StretchTold) → Type 0
 HasFewTolls finding = (s : Sight) → (finding s).toll ≤ 500000000000
 
 -- What a slot does:

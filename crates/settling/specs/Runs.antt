@@ -4,7 +4,7 @@ use Rattle.std.specs.Io.KnownBytes.{Appends}
 use Rattle.road_time.specs.declared.road.Tuple.{Tuple}
 use Rattle.road_time.specs.declared.road.Notice.{Notice}
 use Rattle.road_time.specs.Sights.{moments, moments_after, Sight}
-use Rattle.road_time.specs.Tolls.{Finding}
+use Rattle.road_time.specs.Tolls.{StretchTold}
 use Rattle.road_time.specs.Day.{charges_by}
 use Rattle.road_time.specs.Text.{out}
 use Rattle.accounts.specs.Operations.{charge_of}
@@ -14,16 +14,16 @@ use Rattle.settling.specs.declared.fault.SettleFault.{SettleFault}
 use Rattle.settling.specs.declared.settler.Settler.{Settler}
 use Rattle.settling.specs.Slots.{slots_of}
 use Rattle.settling.specs.Books.{IsBook, HasFewTolls}
-use Rattle.settling.specs.Answers.{History, AreNotices}
+use Rattle.settling.specs.Answers.{PaidHistory, AreNotices}
 use Rattle.settling.specs.declared.fault.SettleFault.TheVariants.{KeeperFault, WriteFault, NoMemory}
 use Rattle.settling.specs.declared.slot.Due.{Due}
 use Rattle.settling.specs.declared.printer.Printer.{Printer}
 use Rattle.settling.specs.Levels.{Level, Adds, AddsFront, AddsPieces, FillsUp}
-use Rattle.settling.specs.Asking.{Plan, Passes, PassesUpTo, FailsAfter, asked_by, asked, asked_for}
+use Rattle.settling.specs.Asking.{AskingPlan, PassesCalls, PassesUpTo, FailsAfter, asked_by, requests_of, asked_for}
 use Rattle.settling.specs.Printing.{Holds, WritesSome, Says}
 
 -- a settler between two runs: its book is that of the tuples that are settled, and it took the text of their notices
-pub record StandsFor (s : Settler) (finding : Sight → Finding) (number : ℕ) (history : History)
+pub record StandsFor (s : Settler) (finding : Sight → StretchTold) (number : ℕ) (history : PaidHistory)
     (before : List Tuple) : Type 0 where
   pub settled : s.settled ≡ length before
   pub book : IsBook s.book finding before
@@ -36,8 +36,9 @@ pub record StandsFor (s : Settler) (finding : Sight → Finding) (number : ℕ) 
 
 -- a settler in the midst of a run over some tuples more, of whose text the sink took a part, and for whose requests
 -- the keeper was asked
-pub record InRun (s : Settler) (finding : Sight → Finding) (number : ℕ) (history : History) (before run : List Tuple)
-    (old now : Level) (plan left : Plan) : Type 0 where
+pub record InRun (s : Settler) (finding : Sight → StretchTold) (number : ℕ) (history : PaidHistory)
+    (before run : List Tuple)
+    (old now : Level) (plan left : AskingPlan) : Type 0 where
   pub settled : s.settled ≡ length (before ++ run)
   pub book : IsBook s.book finding (before ++ run)
   pub earlier : List Notice
@@ -47,11 +48,12 @@ pub record InRun (s : Settler) (finding : Sight → Finding) (number : ℕ) (his
   pub count : s.printer.notices ≡ length earlier + length told
   pub holds : Holds s.printer (out earlier) (out told) old now
   pub charged : map charge_of s.charges.items ≡ charges_by finding (moments_after before run)
-  pub passed : Passes (asked run) plan left
+  pub passed : PassesCalls (requests_of run) plan left
 
 -- a settler after a run, whose text was taken whole
-pub record HasRun (s : Settler) (finding : Sight → Finding) (number : ℕ) (history : History) (before run : List Tuple)
-    (old now : Level) (plan left : Plan) : Type 0 where
+pub record HasRun (s : Settler) (finding : Sight → StretchTold) (number : ℕ) (history : PaidHistory)
+    (before run : List Tuple)
+    (old now : Level) (plan left : AskingPlan) : Type 0 where
   pub settled : s.settled ≡ length (before ++ run)
   pub book : IsBook s.book finding (before ++ run)
   pub earlier : List Notice
@@ -63,32 +65,36 @@ pub record HasRun (s : Settler) (finding : Sight → Finding) (number : ℕ) (hi
   pub none_held : s.printer.piece.items ≡ []
   pub wrote : Adds old now (out told)
   pub charged : map charge_of s.charges.items ≡ charges_by finding (moments_after before run)
-  pub passed : Passes (asked run) plan left
+  pub passed : PassesCalls (requests_of run) plan left
 
 -- the slots are those of tuples that follow the settled ones, few enough for a day
-pub record Waits (slots : List Slot) (finding : Sight → Finding) (before rest : List Tuple) : Type 0 where
+pub record Waits (slots : List Slot) (finding : Sight → StretchTold) (before rest : List Tuple) : Type 0 where
   pub slots_are : slots ≡ slots_of finding before rest
   pub few_tolls : HasFewTolls finding
   pub few : length before + length rest ≤ 16000000
 
 -- the text of the notices of a run was written
-abbrev pub WritesRun : (Sight → Finding) → ℕ → History → List Tuple → List Tuple → Option (List ℕ) → Option (List ℕ) →
+abbrev pub WritesRun : (Sight → StretchTold) → ℕ → PaidHistory → List Tuple → List Tuple → Option (List ℕ) →
+    Option (List ℕ) →
     Type 0
 WritesRun finding number history before run old now =
     (told : List Notice) × AreNotices finding number history (moments_after before run) told
     × Appends old now (out told)
 
 -- some first bytes of it were written
-abbrev pub WritesSomeOfRun : SettleFault → (Sight → Finding) → ℕ → History → List Tuple → List Tuple → Option (List ℕ) →
+abbrev pub WritesSomeOfRun : SettleFault → (Sight → StretchTold) → ℕ → PaidHistory → List Tuple → List Tuple →
+    Option (List ℕ) →
     Option (List ℕ) → Type 0
 WritesSomeOfRun fault finding number history before run old now =
     (told : List Notice) × AreNotices finding number history (moments_after before run) told
     × WritesSome fault (out told) old now
 
 -- a slot was settled, with these notices, or settling was stopped at it: by the keeper before anything was said
-abbrev pub SettlesSlot : {T : Type 0} → Result T SettleFault → Due → Printer → Printer → Level → Level → Plan → Plan →
+abbrev pub SettlesSlot : {T : Type 0} → Result T SettleFault → Due → Printer → Printer → Level → Level → AskingPlan →
+    AskingPlan →
     List Notice → Type 0
-SettlesSlot (Ok x) due p q before now plan left ns = Says (Ok x) p q before now ns × Passes (asked_for due) plan left
+SettlesSlot (Ok x) due p q before now plan left ns = Says (Ok x) p q before now ns
+    × PassesCalls (asked_for due) plan left
 SettlesSlot (Err KeeperFault) due p q before now plan left ns = (asked_for due ≡ 1) × (now ≡ before)
     × FailsAfter 0 plan left
 SettlesSlot (Err WriteFault) due p q before now plan left ns = Says {T = Unit {0}} (Err WriteFault) p q before now ns
@@ -98,15 +104,16 @@ SettlesSlot (Err NoMemory) due p q before now plan left ns = Says {T = Unit {0}}
 
 -- the sink took the text of the notices of a run, and the keeper was asked for each request, and planned none of these
 -- calls to fail
-abbrev pub TakesRun : (Sight → Finding) → ℕ → History → List Tuple → List Tuple → Level → Level → Plan → Plan → Type 0
+abbrev pub TakesRun : (Sight → StretchTold) → ℕ → PaidHistory → List Tuple → List Tuple → Level → Level → AskingPlan →
+    AskingPlan → Type 0
 TakesRun finding number history before run old now plan left =
     (told : List Notice) × AreNotices finding number history (moments_after before run) told × Adds old now (out told)
-    × Passes (asked run) plan left
+    × PassesCalls (requests_of run) plan left
 
 -- the keeper failed at a request of a run, as it was planned, and at none before; of the text up to there all is
 -- written but what a piece holds
-pub record FailsInRun (finding : Sight → Finding) (number : ℕ) (history : History) (before run : List Tuple)
-    (old now : Level) (plan left : Plan) : Type 0 where
+pub record FailsInRun (finding : Sight → StretchTold) (number : ℕ) (history : PaidHistory) (before run : List Tuple)
+    (old now : Level) (plan left : AskingPlan) : Type 0 where
   pub done : List Tuple
   pub request : Tuple
   pub later : List Tuple
@@ -115,17 +122,18 @@ pub record FailsInRun (finding : Sight → Finding) (number : ℕ) (history : Hi
   pub told : List Notice
   pub told_are : AreNotices finding number history (moments_after before done) told
   pub wrote : AddsPieces (out told) old now
-  pub failed : FailsAfter (asked done) plan left
+  pub failed : FailsAfter (requests_of done) plan left
 
 -- where a run was stopped: by the keeper at the call that was planned to fail; by the sink where its room was full; or
 -- for want of memory
-abbrev pub StopsRun : SettleFault → (Sight → Finding) → ℕ → History → List Tuple → List Tuple → Level → Level → Plan →
-    Plan → Type 0
+abbrev pub StopsRun : SettleFault → (Sight → StretchTold) → ℕ → PaidHistory → List Tuple → List Tuple → Level → Level →
+    AskingPlan →
+    AskingPlan → Type 0
 StopsRun KeeperFault finding number history before run old now plan left =
     FailsInRun finding number history before run old now plan left
 StopsRun WriteFault finding number history before run old now plan left =
     (told : List Notice) × AreNotices finding number history (moments_after before run) told
-    × FillsUp (out told) old now × PassesUpTo (asked run) plan left
+    × FillsUp (out told) old now × PassesUpTo (requests_of run) plan left
 StopsRun NoMemory finding number history before run old now plan left =
     (told : List Notice) × AreNotices finding number history (moments_after before run) told
-    × AddsFront (out told) old now × PassesUpTo (asked run) plan left
+    × AddsFront (out told) old now × PassesUpTo (requests_of run) plan left

@@ -1,5 +1,6 @@
 //! Laws of what is settled, as contracts of functions that run nothing.
-ghost use Rattle.settling.specs.Laws.{ExactLaw, FedLaw, FeedLaw, FindingLaw, LaterLaw, FillLaw, TotalLaw, MergedLaw};
+ghost use Rattle.settling.specs.Laws.{ExactLaw, FedLaw, FeedLaw, SettledFindingLaw, LaterLaw, FillLaw, TotalLaw};
+ghost use Rattle.settling.specs.Laws.{MergedLaw};
 ghost use Rattle.settling.specs.Laws.{WroteLaw};
 
 /// After a history that is told, notices are those of the definitions.
@@ -19,7 +20,7 @@ pub fn feed_law()
 
 /// Findings given for later positions change nothing of what is settled.
 pub fn finding_law()
-    ensures { FindingLaw }
+    ensures { SettledFindingLaw }
 {}
 
 /// What a day owes fits 63 bits.

@@ -1,8 +1,8 @@
 // What is kept of the positions that are settled.
 ghost use Rattle.std.specs.Prelude.{ℕ, ◌≡◌, []};
 ghost use Rattle.road_time.specs.Sights.{Sight};
-ghost use Rattle.road_time.specs.Tolls.{Finding};
-ghost use Rattle.settling.specs.Answers.{History};
+ghost use Rattle.road_time.specs.Tolls.{StretchTold};
+ghost use Rattle.settling.specs.Answers.{PaidHistory};
 ghost use Rattle.settling.specs.Runs.{StandsFor};
 
 mod closing;
@@ -29,7 +29,7 @@ pub struct Settler {
 impl Settler {
     /// Nothing is settled. It takes no memory.
     pub fn new(alloc: Global) -> Self
-        ensures { (finding : Sight → Finding) (number : ℕ) (history : History)
+        ensures { (finding : Sight → StretchTold) (number : ℕ) (history : PaidHistory)
             → StandsFor result finding number history [] }
     {
         Settler {

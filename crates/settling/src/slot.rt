@@ -6,7 +6,7 @@ ghost use Rattle.road_time.specs.declared.road.Tuple.{Tuple as TupleValue};
 ghost use Rattle.road_time.specs.declared.road.Tuple.TheVariants.{Report as ReportTuple};
 ghost use Rattle.road_time.specs.Day.{no_finding};
 ghost use Rattle.road_time.specs.Sights.{Sight};
-ghost use Rattle.road_time.specs.Tolls.{Finding};
+ghost use Rattle.road_time.specs.Tolls.{StretchTold};
 ghost use Rattle.road_time.specs.Tuples.{report_of};
 ghost use Rattle.crossings.specs.Laws.{IsTold};
 ghost use Rattle.settling.specs.Slots.{slot_of, due_of, found_of};
@@ -116,7 +116,7 @@ impl Slot {
     /// The slot of a report, by what the tracker told of it.
     #[inline(always)]
     pub fn of_report(report: &Report, tracked: &Tracked) -> Slot
-        ensures { (finding : Sight → Finding) (day : List TupleValue) → IsTold tracked.now day report.now
+        ensures { (finding : Sight → StretchTold) (day : List TupleValue) → IsTold tracked.now day report.now
             → finding (length day, report.now) ≡ no_finding
             → result ≡ slot_of finding (day, ReportTuple report.now) }
     {
@@ -129,7 +129,7 @@ impl Slot {
     /// The slot of a tuple that is no report.
     #[inline(always)]
     pub fn of_request(tuple: &Tuple) -> Slot
-        ensures { (finding : Sight → Finding) (day : List TupleValue) → report_of tuple.now ≡ None
+        ensures { (finding : Sight → StretchTold) (day : List TupleValue) → report_of tuple.now ≡ None
             → result ≡ slot_of finding (day, tuple.now) }
     {
         Slot {

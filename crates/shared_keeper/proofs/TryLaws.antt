@@ -1,14 +1,13 @@
 -- What the last day tells of what may be put.
-use Rattle.std.proofs.Common.{◌≡◌, inl, ℕ, ◌≤◌, max, List, [], ◌∷◌, Option, Some, None, Result, Ok, Err, refl, sym, ap}
+use Rattle.std.proofs.Common.{◌≡◌, inl, ℕ, ◌≤◌, Option, Some, None, Result, Ok, Err, refl, sym, ap}
 use Rattle.std.proofs.Common.{subst, ◌∙◌, arith}
-use Rattle.std.specs.List.{AllByRecursion}
-use Rattle.keeper.specs.declared.kept.DayRecord.{DayRecord}
 use Rattle.keeper.specs.declared.kept.PastRecord.{PastRecord}
 use Rattle.keeper.specs.declared.kept.KeepFault.{KeepFault}
-use Rattle.keeper.specs.Office.{Office, IsSound, day_before, last_day, last_from, greatest_day}
+use Rattle.keeper.specs.Office.{Office, IsSound, day_before, last_day, last_from}
 use Rattle.keeper.specs.Kept.{HasNoDays}
 use Rattle.keeper.specs.Calls.{WhenRefused, Reads, Puts, SoundIfTold, IfTold}
 use Rattle.shared_keeper.specs.Tries.{Tries}
+use Rattle.keeper.proofs.SoundLaws.{none_kept}
 
 -- the last day of the office that is told, where it was asked for
 pub told_last : (before after : Option Office) (r : Result ℕ KeepFault) (last : ℕ) →
@@ -17,17 +16,6 @@ told_last before None r last h e = tt
 told_last None (Some p) r last h e = let bad : ⊥ = cc in absurd bad
 told_last (Some o) (Some p) (Ok n) last h e = let same : n ≡ last = cc in ap last_day h.0 ∙ sym h.1 ∙ same
 told_last (Some o) (Some p) (Err k) last h e = let bad : ⊥ = cc in absurd bad
-
--- the greatest of some days is no less than the first
-greatest_least : (n : ℕ) (ds : List DayRecord) → n ≤ greatest_day n ds
-greatest_least n [] = omega arith
-greatest_least n (d ∷ ds) = let more = greatest_least (max n d.day) ds in omega (arith, more)
-
--- where the last day is 0 and days are counted from 1, none is kept
-none_kept : (days : List DayRecord) (past : Option PastRecord) → last_from days past ≡ 0 →
-    AllByRecursion (λ r. 1 ≤ r.day) days → days ≡ []
-none_kept [] past e h = refl
-none_kept (d ∷ ds) past e h = absurd (omega (arith, e, h.0, greatest_least d.day ds))
 
 -- where nothing comes before a history whose base is from 70, none is kept
 no_past : (past : Option PastRecord) → day_before past ≡ 0 → ((p : PastRecord) → past ≡ Some p → 70 ≤ p.base) →

@@ -7,18 +7,18 @@ use Rattle.std.specs.Map.{lookup}
 use Rattle.std.proofs.lemmas.List.{append-nil, length_push}
 use Rattle.std.proofs.lemmas.List.Elements.{filter-append, recursion_from_All}
 use Rattle.std.proofs.lemmas.List.Sums.{sum_by-cons, sum_by_push}
-use Rattle.std.proofs.lemmas.Bool.{cases_Bool, cond_both, cond-true, cond-false, and_left, and_parts, eqb-true, ne_eqb}
+use Rattle.std.proofs.lemmas.Bool.{cases_Bool, cond_both, cond-true, cond-false, and_left, ne_eqb}
 use Rattle.std.proofs.lemmas.Bool.{eq-eqb}
 use Rattle.road_time.specs.declared.road.Stretch.{Stretch}
 use Rattle.road_time.specs.Tuples.{same_stretch}
 use Rattle.road_time.specs.Notes.{Note, has, cars, speeds12, is_noted_at, notes_at, notes_of_vehicle}
-use Rattle.road_time.specs.Lav.{Flow, flow_at}
-use Rattle.speed_stats.specs.Kept.{Kept}
+use Rattle.road_time.specs.Lav.{CarFlow, flow_at}
+use Rattle.speed_stats.specs.Kept.{KeptSpeeds}
 use Rattle.speed_stats.specs.declared.this_minute.Car.{Car}
 use Rattle.speed_stats.specs.declared.this_minute.Sum.{Sum}
 use Rattle.speed_stats.specs.declared.window.Flow.{Flow as CodeFlow}
 use Rattle.speed_stats.specs.declared.window.Ring.{Ring}
-use Rattle.speed_stats.specs.Parts.{shown, no_flow, no_sum, more, sum_for, ring_flow, flow_of}
+use Rattle.speed_stats.specs.Parts.{shown_flow, no_flow, no_sum, more, sum_for, ring_flow, flow_of}
 use Rattle.speed_stats.specs.Parts.{IsSmall, AreSmall}
 use Rattle.speed_stats.specs.Stands.{StandsFor}
 
@@ -28,13 +28,6 @@ use Rattle.speed_stats.specs.Stands.{StandsFor}
 same_parts : {a b c x y z : ℕ} → a ≡ x → b ≡ y → c ≡ z →
     ◌≡◌ {A = Stretch} (record { xway = a; dir = b; seg = c }) (record { xway = x; dir = y; seg = z })
 same_parts p q r = cc
-
--- stretches that are the same
-pub same_is : (k j : Stretch) → same_stretch k j ≡ true → k ≡ j
-same_is k j h =
-    let one = and_parts (k.xway == j.xway) (k.dir == j.dir && k.seg == j.seg) h in
-    let two = and_parts (k.dir == j.dir) (k.seg == j.seg) one.1 in
-    same_parts (eqb-true k.xway j.xway one.0) (eqb-true k.dir j.dir two.0) (eqb-true k.seg j.seg two.1)
 
 -- no note is of a later minute
 
@@ -90,11 +83,11 @@ sum_made p q = cc
 
 -- two flows by their parts
 pub flow_made : {a b c d : ℕ} → a ≡ c → b ≡ d →
-    ◌≡◌ {A = Flow} (record { cars = a; speeds12 = b }) (record { cars = c; speeds12 = d })
+    ◌≡◌ {A = CarFlow} (record { cars = a; speeds12 = b }) (record { cars = c; speeds12 = d })
 flow_made p q = cc
 
 -- a flow of nothing is no flow
-pub nothing : (f : CodeFlow) → shown f ≡ record { cars = 0; speeds12 = 0 } → f ≡ no_flow
+pub nothing : (f : CodeFlow) → shown_flow f ≡ record { cars = 0; speeds12 = 0 } → f ≡ no_flow
 nothing f e = none f.cars f.speeds12 (ap (λ g. g.cars) e) (ap (λ g. g.speeds12) e)
   where
     none : (a b : ℕ) → a ≡ 0 → b ≡ 0 →
@@ -166,15 +159,15 @@ small_after rings small k ring' each after h = λ j m.
     (λ _. each m) (λ _. small j m))
 
 -- what a ring that is there says
-pub ring_is : (s : Kept) (notes : List Note) (st : StandsFor s notes) (k : Stretch) (ring : Ring) →
+pub ring_is : (s : KeptSpeeds) (notes : List Note) (st : StandsFor s notes) (k : Stretch) (ring : Ring) →
     Some ring ≡ lookup (same_stretch k) s.rings → (f : CodeFlow) (m : ℕ) → f ≡ ring_flow ring m → (j : ℕ) → m ≡ j →
-    s.minute < m + 6 → shown f ≡ flow_at notes k j
-ring_is s notes st k ring there f m e j same h = ap shown (e ∙ ap (λ o. flow_of o m) there) ∙ st.flows k m h
+    s.minute < m + 6 → shown_flow f ≡ flow_at notes k j
+ring_is s notes st k ring there f m e j same h = ap shown_flow (e ∙ ap (λ o. flow_of o m) there) ∙ st.flows k m h
     ∙ ap (flow_at notes k) same
 
 -- what is kept, by its parts
 pub kept_made : {m m' : ℕ} {a a' : List (Car × Sum)} {b b' : List (Stretch × Ring)} → m ≡ m' → a ≡ a' → b ≡ b' →
-    ◌≡◌ {A = Kept} (record { minute = m; seen = a; rings = b }) (record { minute = m'; seen = a'; rings = b' })
+    ◌≡◌ {A = KeptSpeeds} (record { minute = m; seen = a; rings = b }) (record { minute = m'; seen = a'; rings = b' })
 kept_made p q r = cc
 
 -- one more note, of what is seen so

@@ -19,16 +19,17 @@ use Rattle.road_time.proofs.PushLaws.{cars_yes, cars_no, speeds12_yes, speeds12_
 use Rattle.road_time.proofs.EachLaws.{kept}
 use Rattle.road_time.proofs.FitLaws.{cars-le_vehicles}
 use Rattle.road_time.proofs.LavLaws.{speeds_slow}
-use Rattle.speed_stats.specs.Kept.{Kept}
+use Rattle.speed_stats.specs.Kept.{KeptSpeeds}
 use Rattle.speed_stats.specs.declared.this_minute.Car.{Car}
 use Rattle.speed_stats.specs.declared.window.Ring.{Ring}
-use Rattle.speed_stats.specs.Parts.{shown, no_flow, more, mean12, grown, sum_for, ring_flow, flow_of, same_car}
+use Rattle.speed_stats.specs.Parts.{shown_flow, no_flow, more, mean12, grown, sum_for, ring_flow, flow_of, same_car}
 use Rattle.speed_stats.specs.Parts.{sum_in, flow_in, IsSmall}
 use Rattle.speed_stats.specs.Stands.{StandsFor, CanNote}
-use Rattle.speed_stats.proofs.NoteParts.{same_is, none_later, narrow, of_both, slow_sum, flow_made, nothing, more_sum}
+use Rattle.speed_stats.proofs.NoteParts.{none_later, narrow, of_both, slow_sum, flow_made, nothing, more_sum}
+use Rattle.road_time.proofs.SameLaws.{stretch_is}
 use Rattle.speed_stats.proofs.NoteParts.{noted_count, own_push, pick}
 
-module _ (s : Kept) (notes : List Note) (st : StandsFor s notes) (k : Stretch) (v spd : ℕ) where
+module _ (s : KeptSpeeds) (notes : List Note) (st : StandsFor s notes) (k : Stretch) (v spd : ℕ) where
   -- the note
   abbrev pub n : Note
   n = record { minute = s.minute; stretch = k; vid = v; spd = spd }
@@ -117,7 +118,8 @@ module _ (s : Kept) (notes : List Note) (st : StandsFor s notes) (k : Stretch) (
   part_few = let e = step in omega (arith, e)
 
   -- the flow with the note is that of the notes with it
-  grown_is : shown (grown (flow_in s.rings k s.minute) (sum_in s.seen car) spd) ≡ flow_at (notes ++ n ∷ []) k s.minute
+  grown_is : shown_flow (grown (flow_in s.rings k s.minute) (sum_in s.seen car) spd)
+      ≡ flow_at (notes ++ n ∷ []) k s.minute
   grown_is = flow_made number speeds
     where
       up : (b : Bool) (a c : ℕ) → a ≡ c → cond (not b) (a + 1) a ≡ c + cond b 0 1
@@ -148,9 +150,9 @@ module _ (s : Kept) (notes : List Note) (st : StandsFor s notes) (k : Stretch) (
       let by = speeds_slow (notes ++ n ∷ []) s.minute k
       (recursion_from_All (λ x. x.spd ≤ 100) (notes ++ n ∷ [])
       (All-push (λ x. x.spd ≤ 100) notes n st.slow slow)) in
-      let cars_are : (shown (grown (flow_in s.rings k s.minute) (sum_in s.seen car) spd)).cars
+      let cars_are : (shown_flow (grown (flow_in s.rings k s.minute) (sum_in s.seen car) spd)).cars
       ≡ cars (notes ++ n ∷ []) s.minute k = ap (λ f. f.cars) grown_is in
-      let speeds_are : (shown (grown (flow_in s.rings k s.minute) (sum_in s.seen car) spd)).speeds12 ≡ speeds12
+      let speeds_are : (shown_flow (grown (flow_in s.rings k s.minute) (sum_in s.seen car) spd)).speeds12 ≡ speeds12
       (notes ++ n ∷ []) s.minute k = ap (λ f. f.speeds12) grown_is in
       record {
         few = omega (arith, all, few, cars_are);
@@ -174,23 +176,24 @@ module _ (s : Kept) (notes : List Note) (st : StandsFor s notes) (k : Stretch) (
       (here : ring_flow ring' s.minute ≡ grown (flow_in s.rings k s.minute) (sum_in s.seen car) spd)
       (window : (m : ℕ) → s.minute < m + 6 → m < s.minute → ring_flow ring' m ≡ ring_flow ring m)
       (later : (m : ℕ) → s.minute < m → ring_flow ring m ≡ no_flow → ring_flow ring' m ≡ no_flow) where
-    at_here : (m : ℕ) → s.minute < m + 6 → shown (ring_flow ring' m) ≡ flow_at (notes ++ n ∷ []) k m
+    at_here : (m : ℕ) → s.minute < m + 6 → shown_flow (ring_flow ring' m) ≡ flow_at (notes ++ n ∷ []) k m
     at_here m h =
         ⊎_elim
-        (λ e. subst (λ (x : ℕ). shown (ring_flow ring' x) ≡ flow_at (notes ++ n ∷ []) k x) (eqb-true s.minute m e)
-        (ap shown here ∙ grown_is))
+        (λ e. subst (λ (x : ℕ). shown_flow (ring_flow ring' x) ≡ flow_at (notes ++ n ∷ []) k x) (eqb-true s.minute m e)
+        (ap shown_flow here ∙ grown_is))
         (λ e. other e)
         (cases_Bool (s.minute == m))
       where
         gone : (s.minute == m) ≡ false → flow_at (notes ++ n ∷ []) k m ≡ flow_at notes k m
         gone e = flow_no k m (and_left (s.minute == m) (same_stretch k k) e)
 
-        other : (s.minute == m) ≡ false → shown (ring_flow ring' m) ≡ flow_at (notes ++ n ∷ []) k m
+        other : (s.minute == m) ≡ false → shown_flow (ring_flow ring' m) ≡ flow_at (notes ++ n ∷ []) k m
         other e =
             ⊎_elim
-            (λ b. ap shown (window m h (less b) ∙ was m) ∙ st.flows k m h ∙ sym (gone e))
+            (λ b. ap shown_flow (window m h (less b) ∙ was m) ∙ st.flows k m h ∙ sym (gone e))
             (λ b. let up = over e b in
-            ap shown (later m up (nothing (ring_flow ring m) (ap shown (was m) ∙ st.flows k m h ∙ none_yet k m up)))
+            ap shown_flow
+            (later m up (nothing (ring_flow ring m) (ap shown_flow (was m) ∙ st.flows k m h ∙ none_yet k m up)))
             ∙ sym (none_yet k m up) ∙ sym (gone e))
             (cases_Bool (nat_lt m s.minute))
           where
@@ -201,13 +204,14 @@ module _ (s : Kept) (notes : List Note) (st : StandsFor s notes) (k : Stretch) (
             over e b = grind (arith, nat_tests)
 
     flows_after : (j : Stretch) (m : ℕ) → s.minute < m + 6 →
-        shown (flow_of (cond (same_stretch k j) (Some ring') (lookup (same_stretch j) s.rings)) m) ≡ flow_at
+        shown_flow (flow_of (cond (same_stretch k j) (Some ring') (lookup (same_stretch j) s.rings)) m) ≡ flow_at
         (notes ++ n ∷ []) j m
     flows_after j m h =
         ⊎_elim
-        (λ e. ap (λ b. shown (flow_of (cond b (Some ring') (lookup (same_stretch j) s.rings)) m)) e ∙ at_here m h
-        ∙ ap (λ x. flow_at (notes ++ n ∷ []) x m) (same_is k j e))
-        (λ e. ap (λ b. shown (flow_of (cond b (Some ring') (lookup (same_stretch j) s.rings)) m)) e ∙ st.flows j m h
+        (λ e. ap (λ b. shown_flow (flow_of (cond b (Some ring') (lookup (same_stretch j) s.rings)) m)) e ∙ at_here m h
+        ∙ ap (λ x. flow_at (notes ++ n ∷ []) x m) (stretch_is k j e))
+        (λ e. ap (λ b. shown_flow (flow_of (cond b (Some ring') (lookup (same_stretch j) s.rings)) m)) e ∙ st.flows j m
+        h
         ∙ sym (flow_no j m (no_here e)))
         (cases_Bool (same_stretch k j))
       where
@@ -219,7 +223,7 @@ module _ (s : Kept) (notes : List Note) (st : StandsFor s notes) (k : Stretch) (
             and_no false = refl
 
     -- what stands for the notes, with one more
-    pub noted : (t : Kept) → t.minute ≡ s.minute → spd ≤ 100 → CanNote notes n →
+    pub noted : (t : KeptSpeeds) → t.minute ≡ s.minute → spd ≤ 100 → CanNote notes n →
         ((c : Car) → sum_in t.seen c ≡ cond (same_car car c) (more (sum_in s.seen car) spd) (sum_in s.seen c)) →
         ((j : Stretch) →
         lookup (same_stretch j) t.rings ≡ cond (same_stretch k j) (Some ring') (lookup (same_stretch j) s.rings)) →
@@ -231,7 +235,7 @@ module _ (s : Kept) (notes : List Note) (st : StandsFor s notes) (k : Stretch) (
           slow = All-push (λ x. x.spd ≤ 100) notes n st.slow slow;
           few = can.few;
           sums = λ j w. rw e (sums (record { stretch = j; vid = w }) ∙ after j w);
-          flows = λ j m h. ap (λ o. shown (flow_of o m)) (rings j) ∙ flows_after j m (rw e at h);
+          flows = λ j m h. ap (λ o. shown_flow (flow_of o m)) (rings j) ∙ flows_after j m (rw e at h);
         }
       where
         after : (j : Stretch) (w : ℕ) →
@@ -241,7 +245,7 @@ module _ (s : Kept) (notes : List Note) (st : StandsFor s notes) (k : Stretch) (
         after j w =
             ⊎_elim
             (λ b. let both = and_parts (same_stretch k j) (v == w) b in
-            let place : k ≡ j = same_is k j both.0 in
+            let place : k ≡ j = stretch_is k j both.0 in
             let who : v ≡ w = eqb-true v w both.1 in
             ap (λ x. cond x (more (sum_in s.seen car) spd) (sum_in s.seen (record { stretch = j; vid = w }))) b
             ∙ ap (λ x. more x spd) (st.sums k v)
@@ -258,13 +262,13 @@ module _ (s : Kept) (notes : List Note) (st : StandsFor s notes) (k : Stretch) (
             (sum_for (notes_of_vehicle (notes_at notes s.minute j) w))) b))
             (cases_Bool (same_stretch k j && v == w))
 
-pub noted_as : (s held : Kept) → s ≡ held → (notes : List Note) → StandsFor held notes →
+pub noted_as : (s held : KeptSpeeds) → s ≡ held → (notes : List Note) → StandsFor held notes →
     (k : Stretch) (v spd : ℕ) (ring ring' : Ring) → ((m : ℕ) → ring_flow ring m ≡ flow_in s.rings k m) →
     ring_flow ring' s.minute ≡ grown (flow_in s.rings k s.minute) (sum_in s.seen (record { stretch = k; vid = v })) spd
     →
     ((m : ℕ) → s.minute < m + 6 → m < s.minute → ring_flow ring' m ≡ ring_flow ring m) →
     ((m : ℕ) → s.minute < m → ring_flow ring m ≡ no_flow → ring_flow ring' m ≡ no_flow) →
-    (t : Kept) → t.minute ≡ s.minute → spd ≤ 100 →
+    (t : KeptSpeeds) → t.minute ≡ s.minute → spd ≤ 100 →
     CanNote notes (record { minute = held.minute; stretch = k; vid = v; spd = spd }) →
     ((c : Car) →
     sum_in t.seen c ≡ cond (same_car (record { stretch = k; vid = v }) c)
@@ -273,9 +277,11 @@ pub noted_as : (s held : Kept) → s ≡ held → (notes : List Note) → Stands
     lookup (same_stretch j) t.rings ≡ cond (same_stretch k j) (Some ring') (lookup (same_stretch j) s.rings)) →
     StandsFor t (notes ++ record { minute = held.minute; stretch = k; vid = v; spd = spd } ∷ [])
 noted_as s held e notes st k v spd ring ring' was here window later t same slow can sums rings =
-    subst (λ (x : Kept). StandsFor t (notes ++ record { minute = x.minute; stretch = k; vid = v; spd = spd } ∷ [])) e
-    (noted s notes (subst (λ (x : Kept). StandsFor x notes) (sym e) st) k v spd ring ring' was here window later t same
-    slow (subst (λ (x : Kept). CanNote notes (record { minute = x.minute; stretch = k; vid = v; spd = spd }))
+    subst (λ (x : KeptSpeeds).
+    StandsFor t (notes ++ record { minute = x.minute; stretch = k; vid = v; spd = spd } ∷ [])) e
+    (noted s notes
+    (subst (λ (x : KeptSpeeds). StandsFor x notes) (sym e) st) k v spd ring ring' was here window later t same
+    slow (subst (λ (x : KeptSpeeds). CanNote notes (record { minute = x.minute; stretch = k; vid = v; spd = spd }))
     (sym e) can) sums rings)
 
 -- three notes leave room for one more

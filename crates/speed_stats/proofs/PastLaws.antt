@@ -4,22 +4,23 @@ use Rattle.std.specs.Map.{lookup}
 use Rattle.road_time.specs.declared.road.Stretch.{Stretch}
 use Rattle.road_time.specs.Tuples.{same_stretch}
 use Rattle.road_time.specs.Notes.{Note, cars}
-use Rattle.road_time.specs.Lav.{Flow, lav, lav_of}
+use Rattle.road_time.specs.Lav.{CarFlow, lav, lav_of}
 use Rattle.road_time.proofs.SameLaws.{stretch_is}
 use Rattle.road_time.proofs.PrefixLaws.{five_same}
-use Rattle.speed_stats.specs.Kept.{Kept}
+use Rattle.speed_stats.specs.Kept.{KeptSpeeds}
 use Rattle.speed_stats.specs.declared.window.Ring.{Ring}
-use Rattle.speed_stats.specs.Parts.{shown, flow_of, flow_in, ring_flow}
+use Rattle.speed_stats.specs.Parts.{shown_flow, flow_of, flow_in, ring_flow}
 use Rattle.speed_stats.specs.Past.{cars_in, lav_in}
 use Rattle.speed_stats.specs.Stands.{StandsFor}
 
 -- the cars are those of the notes
-pub cars_in_is : (s : Kept) (notes : List Note) → StandsFor s notes → (k : Stretch) →
+pub cars_in_is : (s : KeptSpeeds) (notes : List Note) → StandsFor s notes → (k : Stretch) →
     cars_in s k ≡ cars notes (s.minute - 1) k
-cars_in_is s notes st k = ap (λ (f : Flow). f.cars) (st.flows k (s.minute - 1) (omega (arith, st.first)))
+cars_in_is s notes st k = ap (λ (f : CarFlow). f.cars) (st.flows k (s.minute - 1) (omega (arith, st.first)))
 
 -- so is the average
-pub lav_in_is : (s : Kept) (notes : List Note) → StandsFor s notes → (k : Stretch) → lav_in s k ≡ lav notes s.minute k
+pub lav_in_is : (s : KeptSpeeds) (notes : List Note) → StandsFor s notes → (k : Stretch) →
+    lav_in s k ≡ lav notes s.minute k
 lav_in_is s notes st k =
     ap lav_of
     (five_same (st.flows k (s.minute - 5) (omega (arith, st.first)))
@@ -38,7 +39,7 @@ past_put rings after stretch ring m put same k = ap (λ o. flow_of o m) (put k) 
     by true e = same ∙ ap (λ s. flow_in rings s m) (stretch_is stretch k e)
     by false e = refl
 
-module _ (s t : Kept) (first : 1 ≤ s.minute) (minute : t.minute ≡ s.minute)
+module _ (s t : KeptSpeeds) (first : 1 ≤ s.minute) (minute : t.minute ≡ s.minute)
     (past : (k : Stretch) (m : ℕ) → m < s.minute → s.minute < m + 6 → flow_in t.rings k m ≡ flow_in s.rings k m) where
   at : (k : Stretch) (d : ℕ) → 1 ≤ d → d ≤ 5 → flow_in t.rings k (t.minute - d) ≡ flow_in s.rings k (s.minute - d)
   at k d one five = ap (λ n. flow_in t.rings k (n - d)) minute
@@ -52,6 +53,7 @@ module _ (s t : Kept) (first : 1 ≤ s.minute) (minute : t.minute ≡ s.minute)
   pub lav_in_same : (k : Stretch) → lav_in t k ≡ lav_in s k
   lav_in_same k =
       ap lav_of
-      (five_same (ap shown (at k 5 (omega arith) (omega arith))) (ap shown (at k 4 (omega arith) (omega arith)))
-      (ap shown (at k 3 (omega arith) (omega arith)))
-      (ap shown (at k 2 (omega arith) (omega arith))) (ap shown (at k 1 (omega arith) (omega arith))))
+      (five_same (ap shown_flow (at k 5 (omega arith) (omega arith)))
+      (ap shown_flow (at k 4 (omega arith) (omega arith)))
+      (ap shown_flow (at k 3 (omega arith) (omega arith)))
+      (ap shown_flow (at k 2 (omega arith) (omega arith))) (ap shown_flow (at k 1 (omega arith) (omega arith))))

@@ -4,7 +4,7 @@ use Rattle.road_time.specs.declared.road.Stretch.{Stretch}
 use Rattle.road_time.specs.declared.road.Frac.{Frac}
 use Rattle.road_time.specs.Notes.{Note, cars}
 use Rattle.road_time.specs.Lav.{lav}
-use Rattle.speed_stats.specs.declared.worked.Seen.{Seen}
+use Rattle.speed_stats.specs.declared.worked.VehiclesSeen.{VehiclesSeen}
 
 -- the worked stretch
 abbrev pub here : Stretch
@@ -63,5 +63,5 @@ one_minute a b m p q r = ap (λ x. lav (two x b) m here) p
 
 -- two answers by their parts
 pub seen_made : {a x : ℕ} {b y : Option Frac} → a ≡ x → b ≡ y →
-    ◌≡◌ {A = Seen} (record { cars = a; lav = b }) (record { cars = x; lav = y })
+    ◌≡◌ {A = VehiclesSeen} (record { cars = a; lav = b }) (record { cars = x; lav = y })
 seen_made p q = cc

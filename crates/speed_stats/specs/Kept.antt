@@ -6,7 +6,7 @@ use Rattle.speed_stats.specs.declared.window.Ring.{Ring}
 
 -- what is kept: the current minute, what was noted in it of each vehicle, and the flows of the last six minutes of
 -- each stretch
-pub record Kept : Type 0 where
+pub record KeptSpeeds : Type 0 where
   pub minute : ℕ
   pub seen : List (Car × Sum)
   pub rings : List (Stretch × Ring)

@@ -4,16 +4,16 @@ use Rattle.std.specs.Map.{lookup}
 use Rattle.road_time.specs.declared.road.Stretch.{Stretch}
 use Rattle.road_time.specs.Tuples.{same_stretch}
 use Rattle.road_time.specs.Notes.{Note}
-use Rattle.road_time.specs.Lav.{Flow}
+use Rattle.road_time.specs.Lav.{CarFlow}
 use Rattle.speed_stats.specs.declared.this_minute.Car.{Car}
 use Rattle.speed_stats.specs.declared.this_minute.Sum.{Sum}
 use Rattle.speed_stats.specs.declared.window.Flow.{Flow as CodeFlow}
-use Rattle.speed_stats.specs.declared.window.Slot.{Slot}
+use Rattle.speed_stats.specs.declared.window.RingSlot.{RingSlot}
 use Rattle.speed_stats.specs.declared.window.Ring.{Ring}
 
 -- a flow of the code, as the definitions have it
-abbrev pub shown : CodeFlow → Flow
-shown f = record { cars = f.cars; speeds12 = f.speeds12 }
+abbrev pub shown_flow : CodeFlow → CarFlow
+shown_flow f = record { cars = f.cars; speeds12 = f.speeds12 }
 
 -- nothing noted
 abbrev pub no_flow : CodeFlow
@@ -45,7 +45,7 @@ abbrev pub sum_for : List Note → Sum
 sum_for ns = record { total = sum_by (λ n. n.spd) ns; count = length ns }
 
 -- a slot's flow, where it is of the minute
-abbrev pub slot_flow : Slot → ℕ → CodeFlow
+abbrev pub slot_flow : RingSlot → ℕ → CodeFlow
 slot_flow s m = if s.minute == m then s.flow else no_flow
 
 -- what a ring keeps of a minute

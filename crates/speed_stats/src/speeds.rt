@@ -21,9 +21,9 @@ pub struct Speeds {
 }
 
 impl Model for Speeds {
-    ghost use Rattle.speed_stats.specs.Kept.{Kept};
+    ghost use Rattle.speed_stats.specs.Kept.{KeptSpeeds};
 
-    ghost Value = { Kept };
+    ghost Value = { KeptSpeeds };
 
     ghost use Rattle.speed_stats.specs.Parts.{AreSmall};
 

@@ -1,7 +1,8 @@
 // The flows of the last six minutes of a stretch, and the mean of their averages.
 ghost use Rattle.std.specs.Prelude.{◌≡◌, ◌≤◌, ◌<◌, ◌+◌, ◌*◌, ◌^◌, ℕ, All, length, map, IfSome};
 ghost use Rattle.road_time.specs.Lav.{lav_of};
-ghost use Rattle.speed_stats.specs.Parts.{mean12 as mean12_of, more as more_of, grown as grown_of, ring_flow, shown};
+ghost use Rattle.speed_stats.specs.Parts.{mean12 as mean12_of, more as more_of, grown as grown_of, ring_flow};
+ghost use Rattle.speed_stats.specs.Parts.{shown_flow};
 ghost use Rattle.speed_stats.specs.Parts.{no_flow, IsSmall};
 
 use crate::this_minute::{Sum, mean12, more};
@@ -24,7 +25,7 @@ impl Flow {
 
 /// A flow and its minute.
 #[derive(Clone, Copy, Debug, PartialEq, Eq)]
-pub struct Slot {
+pub struct RingSlot {
     pub minute: u32,
     pub flow: Flow,
 }
@@ -32,7 +33,7 @@ pub struct Slot {
 /// The flows of the last six minutes of a stretch, each in the slot of its minute.
 #[derive(Clone, Copy, Debug, PartialEq, Eq)]
 pub struct Ring {
-    pub slots: [Slot; 6],
+    pub slots: [RingSlot; 6],
 }
 
 /// A flow with one more note of a vehicle, of which these speeds were noted before.
@@ -63,7 +64,7 @@ impl Ring {
         ensures { (m : ℕ) → ring_flow result m ≡ no_flow }
     {
         Ring {
-            slots: [Slot {
+            slots: [RingSlot {
                 minute: 0,
                 flow: Flow::NONE,
             }; 6],
@@ -92,7 +93,7 @@ impl Ring {
         ensures small { IsSmall flow → ((m : ℕ) → IsSmall (ring_flow self.old m)) → (m : ℕ)
             → IsSmall (ring_flow self.new m) }
     {
-        self.slots[(minute % 6) as usize] = Slot { minute, flow };
+        self.slots[(minute % 6) as usize] = RingSlot { minute, flow };
     }
 }
 
@@ -102,7 +103,7 @@ pub fn mean_average(flows: &[Flow]) -> Option<Frac>
     requires few { length flows.now ≤ 5 }
     requires small { All IsSmall flows.now }
     ensures average { IfSome result (λ f. (1 ≤ f.den) × (f.den ≤ 2 ^ 101) × (f.num ≤ 100 * f.den)) }
-    ensures exact { result ≡ lav_of (map shown flows.now) }
+    ensures exact { result ≡ lav_of (map shown_flow flows.now) }
 {
     let mut num: u128 = 0;
     let mut den: u128 = 1;

@@ -14,14 +14,14 @@ const HERE: Stretch = Stretch {
 
 /// The cars of a minute, and the average speed that its tolls go by.
 #[derive(Clone, Copy, Debug, PartialEq, Eq)]
-pub struct Seen {
+pub struct VehiclesSeen {
     pub cars: u32,
     pub lav: Option<Frac>,
 }
 
 /// The speeds 10 and 20 of one vehicle and 90 of another in the first minute, as the second minute sees them, and the
 /// seventh.
-pub fn two_vehicles(alloc: Global) -> Result<(Seen, Seen), NoMemory>
+pub fn two_vehicles(alloc: Global) -> Result<(VehiclesSeen, VehiclesSeen), NoMemory>
     ensures { IfOk result (λ seen. seen
         ≡ (record { cars = 2; lav = Some (record { num = 1260; den = 24 }) }, record { cars = 0; lav = None })) }
 {
@@ -30,12 +30,12 @@ pub fn two_vehicles(alloc: Global) -> Result<(Seen, Seen), NoMemory>
     speeds.note(HERE, 1, 20)?;
     speeds.note(HERE, 2, 90)?;
     speeds.roll(2);
-    let second = Seen {
+    let second = VehiclesSeen {
         cars: speeds.cars(HERE),
         lav: speeds.lav(HERE),
     };
     speeds.roll(7);
-    let seventh = Seen {
+    let seventh = VehiclesSeen {
         cars: speeds.cars(HERE),
         lav: speeds.lav(HERE),
     };

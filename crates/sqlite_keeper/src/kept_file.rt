@@ -4,8 +4,8 @@ ghost use Rattle.keeper.specs.Calls.{CountsFaults};
 
 use keeper::{DayRecord, KeepFault, Keeper, PastRecord};
 use keeper_at_path::{
-    Call, Day, KeeperIn, KeptStore, KeptTariffs, LastDay, Past, PutDay, PutPast, PutTariff, Rows,
-    Spent, VehicleRows,
+    AskedDay, AskedSpent, Call, KeeperIn, KeptStore, KeptTariffs, LastDay, Past, PutDay, PutPast,
+    PutTariff, Rows, VehicleRows,
 };
 use keeper_writes::refusals::refusal;
 use road_time::{NoMemory, SpentRow, Tariff, Tariffs};
@@ -80,7 +80,7 @@ impl Keeper for SqliteKeeper {
     }
 
     fn day(&mut self, day: u32) -> Result<Option<DayRecord>, KeepFault> {
-        self.ask(Day { day })
+        self.ask(AskedDay { day })
     }
 
     fn past(&mut self) -> Result<Option<PastRecord>, KeepFault> {
@@ -88,7 +88,7 @@ impl Keeper for SqliteKeeper {
     }
 
     fn spent(&mut self, day: u32, vid: u32, xway: u8) -> Result<u64, KeepFault> {
-        self.ask(Spent { day, vid, xway })
+        self.ask(AskedSpent { day, vid, xway })
     }
 
     fn rows(&mut self, from: u32, to: u32) -> Result<Vec<SpentRow>, KeepFault> {

@@ -9,8 +9,8 @@ use Rattle.standing_crew.specs.declared.cells.Parcel.{Parcel}
 use Rattle.standing_crew.specs.declared.cells.View.{View}
 use Rattle.std.specs.Prelude.{slice_get}
 use Rattle.std.proofs.lemmas.Option.{none-some, same_Some, slice_get_within}
-use Rattle.standing_crew.specs.declared.place.Place.{Place}
-use Rattle.standing_crew.specs.declared.place.Place.TheVariants.{Cell}
+use Rattle.standing_crew.specs.declared.place.TicketPlace.{TicketPlace}
+use Rattle.standing_crew.specs.declared.place.TicketPlace.TheVariants.{Cell}
 use Rattle.standing_crew.specs.Crews.{AreFree}
 use Rattle.standing_crew.specs.Views.{Sat, new_crew, input_of}
 use Rattle.standing_crew.specs.Cells.{CellRule, CellIs}
@@ -84,7 +84,7 @@ read (y ∷ ys) zero d x e = same_Some y x e
 read (y ∷ ys) (suc n) d x e = read ys n d x e
 
 -- a new crew has no job out
-pub new_free : (places : List (Option Place)) (count : ℕ) (me : Sat) → me ≡ (new_crew count, []) →
+pub new_free : (places : List (Option TicketPlace)) (count : ℕ) (me : Sat) → me ≡ (new_crew count, []) →
     ((i : ℕ) → i < length places → get_or places i None ≡ None) → AreFree places me.0 count
 new_free places count me is empty = record {
   free = λ n _. ap (λ (s : Sat). input_of s.0 n) is ∙ all_same {A = Option Job} count n None;

@@ -1,7 +1,7 @@
 -- The helpers of a crew.
 use Rattle.std.specs.Prelude.{◌≡◌, ℕ, List, length, All}
 use Rattle.atomic_table.specs.Seated.{TableId}
-use Rattle.standing_crew.specs.declared.board.Board.{Board}
+use Rattle.standing_crew.specs.declared.board.CellBoard.{CellBoard}
 use Rattle.standing_crew.specs.declared.helper.Helper.{Helper}
 use Rattle.standing_crew.specs.Boards.{board_id}
 
@@ -11,7 +11,7 @@ IsHelperAt cells helper = board_id helper.board ≡ cells
 
 -- which crew one is: its cells, and how many helpers were made with it
 abbrev pub CrewName : Type 0
-CrewName = Board × ℕ
+CrewName = CellBoard × ℕ
 
 -- these are all the helpers that were made with a crew
 abbrev pub AreHelpersOf : CrewName → List Helper → Type 0

@@ -4,7 +4,7 @@ ghost use Rattle.standing_crew.specs.Boards.{board_id};
 ghost use Rattle.standing_crew.specs.Calls.{IsAt, KeepsSeat};
 ghost use Rattle.standing_crew.specs.Views.{new_crew};
 
-use crate::board::Board;
+use crate::board::CellBoard;
 use crate::cells::{CellSeat, CellTable};
 use crate::moves::{BELL, SLEEPERS, ring};
 use atomic_table::Table;
@@ -15,16 +15,16 @@ use std::sync::Arc;
 // The words behind those of the cells: the stop, and those that `moves` names.
 const WORDS: usize = 4;
 
-impl Board {
+impl CellBoard {
     /// So many cells, all free, and the crew's seat.
-    pub(crate) fn new(alloc: Global, count: usize) -> Result<(Board, CellSeat), NoMemory>
+    pub(crate) fn new(alloc: Global, count: usize) -> Result<(CellBoard, CellSeat), NoMemory>
         requires { (0 < count) × (count ≤ 64) }
         ensures seat { IfOk result (λ r. IsAt (board_id r.0) r.1 × (r.1.id ≡ 0) × (r.1.me ≡ (new_crew count, []))) }
         ensures count { IfOk result (λ r. r.0.count ≡ count) }
     {
         let words = vec![in alloc; 0u64; count + WORDS]?;
         let (table, seat) = Table::vacant(alloc, words.as_slice(), count, &count)?;
-        let board = Board {
+        let board = CellBoard {
             table: Arc::new(alloc, table)?,
             count,
         };
@@ -32,10 +32,10 @@ impl Board {
     }
 
     /// The same cells.
-    pub(crate) fn share(&self) -> Result<Board, NoMemory>
+    pub(crate) fn share(&self) -> Result<CellBoard, NoMemory>
         ensures { IfOk result (λ r. (board_id r ≡ board_id self.now) × (r.count ≡ self.now.count)) }
     {
-        Ok(Board {
+        Ok(CellBoard {
             table: Arc::try_clone(&self.table)?,
             count: self.count,
         })

@@ -8,12 +8,12 @@ ghost use Rattle.standing_crew.specs.Crews.{AreFree, HoldsJob};
 ghost use Rattle.standing_crew.specs.Helpers.{AreHelpersOf};
 ghost use Rattle.standing_crew.specs.Views.{new_crew};
 
-use crate::board::Board;
+use crate::board::CellBoard;
 use crate::cells::CellSeat;
 use crate::finishing::finish_at;
 use crate::helper::{Helper, Helpers};
 use crate::moves::raise_stop;
-use crate::place::Place;
+use crate::place::TicketPlace;
 use crate::plays::Hires;
 use crate::starting::start_at;
 use expressway::{Done, Job};
@@ -29,12 +29,12 @@ pub struct StandingCrew<R, G> {
     rt: R,
     alloc: Global,
     gate: G,
-    board: Board,
+    board: CellBoard,
     hired: usize,
     seat: CellSeat,
     stopped: bool,
     list: JobList,
-    places: [Option<Place>; 64],
+    places: [Option<TicketPlace>; 64],
     ghost at: { IsAt (board_id board) seat },
     ghost first: { seat.id ≡ 0 },
     ghost idle: { seat.me.0.taken ≡ None },
@@ -51,7 +51,7 @@ impl<R: Wait + Drop, G: Gate + Drop> StandingCrew<R, G> {
         alloc: Global,
         tell: bool,
         gate: G,
-        board: Board,
+        board: CellBoard,
         hired: usize,
         seat: CellSeat,
     ) -> StandingCrew<R, G>
@@ -71,7 +71,7 @@ impl<R: Wait + Drop, G: Gate + Drop> StandingCrew<R, G> {
             stopped: false,
             list: JobList::new(alloc, tell),
             places: array::from_fn(
-                |_at: usize| -> Option<Place>
+                |_at: usize| -> Option<TicketPlace>
                     ensures { result ≡ None }
                 { None },
             ),
@@ -132,7 +132,7 @@ impl<R: Wait + Drop, G: Gate + Drop> Crew for StandingCrew<R, G> {
 
     type Ticket = Ticket;
 
-    type Name = (Board, usize);
+    type Name = (CellBoard, usize);
 
     ghost exact = { true };
 

@@ -5,13 +5,13 @@ ghost use Rattle.expressway.specs.Results.{IsResultOf};
 ghost use Rattle.partition_workers.specs.Places.{out_of};
 ghost use Rattle.standing_crew.specs.Boards.{board_id};
 ghost use Rattle.standing_crew.specs.Calls.{IsAt, IsSame};
-ghost use Rattle.standing_crew.specs.Crews.{AreFree, HoldsJob, IsAnswered, IsFinished, IsHeldIn, is_unlisted};
+ghost use Rattle.standing_crew.specs.Crews.{AreFree, HoldsJob, IsJobAnswered, IsFinished, IsHeldIn, is_unlisted};
 ghost use Rattle.standing_crew.specs.Views.{input_of};
-ghost use Rattle.standing_crew.specs.declared.place.Place.TheVariants.{Cell};
+ghost use Rattle.standing_crew.specs.declared.place.TicketPlace.TheVariants.{Cell};
 
-use crate::board::Board;
+use crate::board::CellBoard;
 use crate::cells::CellSeat;
-use crate::place::Place;
+use crate::place::TicketPlace;
 use crate::places::take_out;
 use crate::waiting::await_done;
 use expressway::{Done, Findings, Job};
@@ -38,24 +38,24 @@ fn refused(alloc: Global, job: Job) -> Done
 fn answer<R: Wait, G: Gate>(
     rt: &R,
     alloc: Global,
-    board: &Board,
+    board: &CellBoard,
     seat: &mut CellSeat,
     gate: &G,
-    place: Place,
+    place: TicketPlace,
     at: usize,
 ) -> Done
     requires crew { IsAt (board_id board.now) seat.old × (seat.old.id ≡ 0) }
     requires idle { seat.old.me.0.taken ≡ None }
     requires cell { place ≡ Cell → at < board.now.count }
     ensures same { IsSame seat.old seat.new }
-    ensures answered { IsAnswered at place seat.old.me seat.new.me }
+    ensures answered { IsJobAnswered at place seat.old.me seat.new.me }
     ensures done { (job : TheJob) → IsHeldIn (input_of seat.old.me.0 at) place job → IsResultOf job result }
     ensures err { is_unlisted place ≡ true → is_err result.result ≡ true }
 {
     match place {
-        Place::Ran(done) => done,
-        Place::Unlisted(job) => refused(alloc, job),
-        Place::Cell => await_done(rt, alloc, board.cells(), seat, gate, board.count, at),
+        TicketPlace::Ran(done) => done,
+        TicketPlace::Unlisted(job) => refused(alloc, job),
+        TicketPlace::Cell => await_done(rt, alloc, board.cells(), seat, gate, board.count, at),
     }
 }
 
@@ -63,10 +63,10 @@ fn answer<R: Wait, G: Gate>(
 pub(crate) fn finish_at<R: Wait, G: Gate>(
     rt: &R,
     alloc: Global,
-    board: &Board,
+    board: &CellBoard,
     seat: &mut CellSeat,
     gate: &G,
-    places: &mut [Option<Place>],
+    places: &mut [Option<TicketPlace>],
     ticket: Ticket,
 ) -> Done
     requires crew { IsAt (board_id board.now) seat.old × (seat.old.id ≡ 0) }

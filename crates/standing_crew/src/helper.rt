@@ -3,7 +3,7 @@ ghost use Rattle.std.specs.Prelude.{◌≡◌, [], None, true};
 ghost use Rattle.standing_crew.specs.Boards.{board_id};
 ghost use Rattle.standing_crew.specs.Calls.{IsAt};
 
-use crate::board::Board;
+use crate::board::CellBoard;
 use crate::cells::CellSeat;
 use crate::waiting::help_at;
 use partition_workers::Gate;
@@ -14,7 +14,7 @@ use std::sync::Wait;
 #[derive(Drop)]
 pub struct Helper {
     pub(crate) alloc: Global,
-    pub(crate) board: Board,
+    pub(crate) board: CellBoard,
     pub(crate) seat: CellSeat,
     ghost at: { IsAt (board_id board) seat },
     ghost idle: { seat.me.0.taken ≡ None },

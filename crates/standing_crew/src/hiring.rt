@@ -5,7 +5,7 @@ ghost use Rattle.standing_crew.specs.Boards.{board_id};
 ghost use Rattle.standing_crew.specs.Calls.{IsAt, KeepsSeat};
 ghost use Rattle.standing_crew.specs.Helpers.{AreHelpersOf};
 
-use crate::board::Board;
+use crate::board::CellBoard;
 use crate::cells::CellSeat;
 use crate::crew::StandingCrew;
 use crate::helper::{Helper, Helpers};
@@ -23,7 +23,7 @@ pub struct Crewed<R, G> {
 }
 
 /// A helper at these cells.
-fn hire(alloc: Global, board: &Board, seat: &mut CellSeat) -> Result<Helper, NoMemory>
+fn hire(alloc: Global, board: &CellBoard, seat: &mut CellSeat) -> Result<Helper, NoMemory>
     requires { IsAt (board_id board.now) seat.old }
     ensures same { KeepsSeat seat.old seat.new }
     ensures crew { IfOk result (λ h. board_id h.board ≡ board_id board.now) }
@@ -40,7 +40,7 @@ fn hire(alloc: Global, board: &Board, seat: &mut CellSeat) -> Result<Helper, NoM
 /// So many helpers at these cells.
 fn hire_all(
     alloc: Global,
-    board: &Board,
+    board: &CellBoard,
     seat: &mut CellSeat,
     count: u8,
 ) -> Result<Helpers, NoMemory>
@@ -72,7 +72,7 @@ pub fn standing<R: Wait + Drop, G: Gate + Drop>(
     ensures count { IfOk result (λ c. length c.helpers.items ≡ helpers) }
     ensures helpers { IfOk result (λ c. AreHelpersOf (⟦<StandingCrew<R, G> as Crew>⟧.which c.crew) c.helpers.items) }
 {
-    let (board, mut seat) = Board::new(alloc, usize::from(cells))?;
+    let (board, mut seat) = CellBoard::new(alloc, usize::from(cells))?;
     let hired = hire_all(alloc, &board, &mut seat, helpers)?;
     Ok(Crewed {
         crew: StandingCrew::new(rt, alloc, tell, gate, board, usize::from(helpers), seat),

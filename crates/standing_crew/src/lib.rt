@@ -22,10 +22,10 @@ mod waiting;
 mod work;
 
 pub use alongside::beside;
-pub use board::Board;
+pub use board::CellBoard;
 pub use cells::{Cells, Parcel, View};
 pub use crew::StandingCrew;
 pub use helper::{Helper, Helpers, help};
 pub use hiring::{Crewed, standing};
-pub use place::Place;
+pub use place::TicketPlace;
 pub use sends::{crew_may_go, helper_may_go};

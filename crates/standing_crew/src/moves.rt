@@ -9,7 +9,9 @@ ghost use Rattle.standing_crew.specs.Views.{after_announce, after_take, after_co
 ghost use Rattle.standing_crew.specs.Calls.{IsAt, IsSame, KeepsSeat, HasTurn};
 
 use crate::cells::{CellSeat, CellTable, Parcel};
-use crate::plays::{Announces, Collects, GivesBack, Looks, Opens, Rings, Shuts, Stops, Takes};
+use crate::plays::{
+    Announces, Collects, GivesBack, LooksForStop, Opens, Rings, Shuts, StopsCrew, TakesJob,
+};
 use expressway::{Done, Job};
 
 const FREE: u64 = 0;
@@ -62,7 +64,7 @@ pub(crate) fn take(cells: &CellTable, seat: &mut CellSeat, cell: usize) -> Optio
     ensures none { IfNone result (seat.new.me ≡ seat.old.me) }
 {
     if cells.peek(cell) != READY
-        || cells.compare_exchange::<Takes>(seat, cell, READY, TAKEN) != READY
+        || cells.compare_exchange::<TakesJob>(seat, cell, READY, TAKEN) != READY
     {
         return None;
     }
@@ -112,7 +114,7 @@ pub(crate) fn raise_stop(cells: &CellTable, seat: &mut CellSeat, count: usize)
     ensures same { IsSame seat.old seat.new }
     ensures stopped { seat.new.me ≡ after_stop seat.old.me }
 {
-    cells.store::<Stops>(seat, count, 1);
+    cells.store::<StopsCrew>(seat, count, 1);
 }
 
 /// Whether the stop was raised.
@@ -122,7 +124,7 @@ pub(crate) fn sees_stop(cells: &CellTable, seat: &mut CellSeat, count: usize) ->
     ensures same { IsSame seat.old seat.new }
     ensures seen { MatchBool result (seat.new.me ≡ after_stop seat.old.me) (seat.new.me ≡ seat.old.me) }
 {
-    cells.load::<Looks>(seat, count) == 1
+    cells.load::<LooksForStop>(seat, count) == 1
 }
 
 /// Rings the bell, for helpers that wait.

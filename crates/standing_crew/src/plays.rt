@@ -18,9 +18,9 @@ impl Play<Option<Parcel>, View> for Announces {
     ghost then = { announces };
 }
 
-pub struct Takes;
+pub struct TakesJob;
 
-impl Play<Option<Parcel>, View> for Takes {
+impl Play<Option<Parcel>, View> for TakesJob {
     ghost then = { takes_job };
 }
 
@@ -42,15 +42,15 @@ impl Play<Option<Parcel>, View> for Shuts {
     ghost then = { shuts };
 }
 
-pub struct Stops;
+pub struct StopsCrew;
 
-impl Play<Option<Parcel>, View> for Stops {
+impl Play<Option<Parcel>, View> for StopsCrew {
     ghost then = { stops };
 }
 
-pub struct Looks;
+pub struct LooksForStop;
 
-impl Play<Option<Parcel>, View> for Looks {
+impl Play<Option<Parcel>, View> for LooksForStop {
     ghost then = { looks };
 }
 

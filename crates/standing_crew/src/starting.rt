@@ -6,10 +6,10 @@ ghost use Rattle.standing_crew.specs.Calls.{IsAt, IsSame};
 ghost use Rattle.standing_crew.specs.Crews.{AreFree, IsBegun, IsStarted, is_unlisted};
 ghost use Rattle.standing_crew.specs.Views.{CanBeRun, input_of};
 
-use crate::board::Board;
+use crate::board::CellBoard;
 use crate::cells::CellSeat;
 use crate::moves::announce;
-use crate::place::Place;
+use crate::place::TicketPlace;
 use crate::places::first_free;
 use crate::work::run_past;
 use expressway::Job;
@@ -19,12 +19,12 @@ use std::alloc::Global;
 /// Announces a job in the cell of a number. Where that cell is not free, it passes the gate and runs it.
 fn announce_at<G: Gate>(
     alloc: Global,
-    board: &Board,
+    board: &CellBoard,
     seat: &mut CellSeat,
     gate: &G,
     at: usize,
     job: Job,
-) -> Place
+) -> TicketPlace
     requires crew { IsAt (board_id board.now) seat.old × (seat.old.id ≡ 0) }
     requires cell { at < board.now.count }
     requires free { input_of seat.old.me.0 at ≡ None }
@@ -36,9 +36,9 @@ fn announce_at<G: Gate>(
     match announce(board.cells(), seat, at, job) {
         Ok(()) => {
             board.call_one(seat);
-            Place::Cell
+            TicketPlace::Cell
         }
-        Err(job) => Place::Ran(run_past(alloc, gate, job)),
+        Err(job) => TicketPlace::Ran(run_past(alloc, gate, job)),
     }
 }
 
@@ -46,14 +46,14 @@ fn announce_at<G: Gate>(
 /// it.
 fn begin<G: Gate>(
     alloc: Global,
-    board: &Board,
+    board: &CellBoard,
     seat: &mut CellSeat,
     gate: &G,
     stopped: bool,
     listed: bool,
     at: usize,
     job: Job,
-) -> Place
+) -> TicketPlace
     requires crew { IsAt (board_id board.now) seat.old × (seat.old.id ≡ 0) }
     requires free { input_of seat.old.me.0 at ≡ None }
     requires ready { CanBeRun job }
@@ -62,9 +62,9 @@ fn begin<G: Gate>(
     ensures listed { is_unlisted result ≡ not listed }
 {
     if !listed {
-        Place::Unlisted(job)
+        TicketPlace::Unlisted(job)
     } else if stopped || at >= board.count {
-        Place::Ran(run_past(alloc, gate, job))
+        TicketPlace::Ran(run_past(alloc, gate, job))
     } else {
         announce_at(alloc, board, seat, gate, at, job)
     }
@@ -73,11 +73,11 @@ fn begin<G: Gate>(
 /// Begins a job at the first free number, if it is listed.
 pub(crate) fn start_at<G: Gate>(
     alloc: Global,
-    board: &Board,
+    board: &CellBoard,
     seat: &mut CellSeat,
     gate: &G,
     stopped: bool,
-    places: &mut [Option<Place>],
+    places: &mut [Option<TicketPlace>],
     listed: bool,
     job: Job,
 ) -> Ticket

@@ -8,7 +8,7 @@ use Rattle.toll_texts.specs.Replies.{Reply, no_memory_reply}
 use Rattle.toll_requests.specs.Sends.{SendsReply, HasRoomFor}
 use Rattle.toll_requests.specs.declared.session_end.SessionEnd.{SessionEnd}
 use Rattle.toll_requests.specs.declared.session_end.SessionEnd.TheVariants.{LinkFault}
-use Rattle.toll_desk.specs.Answers.{Answers}
+use Rattle.toll_desk.specs.Answers.{AnswersReply}
 use Rattle.road_io.specs.Faults.{Rose}
 use Rattle.keeper.specs.declared.kept.KeepFault.TheVariants.{Failed}
 
@@ -19,7 +19,7 @@ endless_has room r e = subst (λ o. HasRoomFor o r) (sym e) (tt, tt)
 -- want of memory answers in place of each reply
 pub memory_answers : (r : Reply) (room : Room) (old new : Option (List ℕ)) (end : SessionEnd) →
     SendsReply no_memory_reply old new end → (HasRoomFor room no_memory_reply → end ≢ LinkFault) →
-    Answers r room old new end
+    AnswersReply r room old new end
 memory_answers r room old new end sent sure = (inr sent, λ has. sure (has.1, has.1))
 
 -- an office that is told is one

@@ -27,8 +27,8 @@ abbrev pub wire_of : Option (List ℕ) → Option (ℕ → Bool) → Option (Lis
 wire_of left plan written room = record { left = left; plan = plan; written = written; room = room }
 
 -- a reply was sent, or the one for want of memory; or the link failed, but not where it had room for both
-abbrev pub Answers : Reply → Room → Option (List ℕ) → Option (List ℕ) → SessionEnd → Type 0
-Answers r room old new end = Replies r old new end × (HasRoomFor room r → end ≢ LinkFault)
+abbrev pub AnswersReply : Reply → Room → Option (List ℕ) → Option (List ℕ) → SessionEnd → Type 0
+AnswersReply r room old new end = Replies r old new end × (HasRoomFor room r → end ≢ LinkFault)
 
 -- an answer of status 200
 abbrev pub good : List ℕ → Reply
@@ -63,4 +63,4 @@ outcome_reply WriteFault = no_memory_reply
 -- a reply of what is kept; or that the keeper failed, where its count rose
 abbrev pub AnswersUnlessFailed : Reply → ℕ → ℕ → Room → Option (List ℕ) → Option (List ℕ) → SessionEnd → Type 0
 AnswersUnlessFailed r before now room old new end =
-    Answers r room old new end ⊎ (Rose before now × Answers keeper_reply room old new end)
+    AnswersReply r room old new end ⊎ (Rose before now × AnswersReply keeper_reply room old new end)

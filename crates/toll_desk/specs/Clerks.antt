@@ -9,29 +9,29 @@ use Rattle.toll_desk.specs.Desk.{IsOfKept}
 use Rattle.toll_desk.specs.Sessions.{EndsAtOnce, Asks, ServesLive}
 
 -- what a clerk tells: nothing; or the request that was passed to it, if one was
-abbrev pub Told : Type 0
-Told = Option (Option Passed)
+abbrev pub ClerkTold : Type 0
+ClerkTold = Option (Option Passed)
 
 -- none was passed, where that is told
-abbrev pub IsFresh : Told → Type 0
+abbrev pub IsFresh : ClerkTold → Type 0
 IsFresh None = Unit {0}
 IsFresh (Some None) = Unit {0}
 IsFresh (Some (Some p)) = ⊥
 
 -- a request was passed once, and ended so, where that is told
-abbrev pub Passes : Told → Told → Asked → SessionEnd → Type 0
-Passes None after asked end = Unit {0}
-Passes (Some p) after asked end = after ≡ Some (Some (record { asked = asked; end = end }))
+abbrev pub PassesRequest : ClerkTold → ClerkTold → Asked → SessionEnd → Type 0
+PassesRequest None after asked end = Unit {0}
+PassesRequest (Some p) after asked end = after ≡ Some (Some (record { asked = asked; end = end }))
 
 -- a request of what is kept is passed on once, as it was read, and its clerk's end is the session's: nothing is written
 -- by a clerk that tells, so nothing by the session, and the reader is left as it was
-abbrev pub PassesOn : List ℕ → Told → Told → Pass → Pass → Wire → Wire → SessionEnd → Type 0
+abbrev pub PassesOn : List ℕ → ClerkTold → ClerkTold → Pass → Pass → Wire → Wire → SessionEnd → Type 0
 PassesOn bytes told now p q old new end =
-    (asked : Asked) × (mid : Wire) × Asks bytes asked old mid × IsOfKept asked × Passes told now asked end
+    (asked : Asked) × (mid : Wire) × Asks bytes asked old mid × IsOfKept asked × PassesRequest told now asked end
     × ((t : Option Passed) → told ≡ Some t → new.written ≡ old.written) × (q ≡ p)
 
 -- a session that passes on what is asked of what is kept; all else is answered, and the clerk stays as it was
-abbrev pub Shares : List ℕ → Told → Told → Pass → Pass → Wire → Wire → SessionEnd → Type 0
+abbrev pub Shares : List ℕ → ClerkTold → ClerkTold → Pass → Pass → Wire → Wire → SessionEnd → Type 0
 Shares bytes told now p q old new end =
     (EndsAtOnce bytes old new end × (now ≡ told) × (q ≡ p))
     ⊎ (PassesOn bytes told now p q old new end

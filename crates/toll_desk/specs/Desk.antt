@@ -9,15 +9,16 @@ use Rattle.toll_requests.specs.declared.asked.Asked.{Asked}
 use Rattle.toll_requests.specs.declared.asked.Asked.TheVariants.{Day, Import, Spent, Live, LiveTotal}
 use Rattle.toll_requests.specs.declared.session_end.SessionEnd.{SessionEnd}
 use Rattle.toll_desk.specs.Answers.{Wire, day_reply, spent_reply, AnswersUnlessFailed}
-use Rattle.toll_desk.specs.Imports.{State, ImportsDay}
+use Rattle.toll_desk.specs.Imports.{DeskState, ImportsDay}
 
 -- what is kept is told as it was, nothing is published, and nothing is read
-abbrev pub LeavesAll : Office → State → State → Wire → Wire → Type 0
+abbrev pub LeavesAll : Office → DeskState → DeskState → Wire → Wire → Type 0
 LeavesAll o was now old new = (now.told ≡ Some o) × (now.posted ≡ was.posted) × (new.left ≡ old.left)
 
 -- a session's end of what is asked of what is kept: the reply of a day or of an amount, which leaves all as it is, or
 -- that of an import
-abbrev pub AnswersKept : WhenRefused → Bool → Asked → Limits → Office → State → State → Wire → Wire → SessionEnd →
+abbrev pub AnswersKept : WhenRefused → Bool → Asked → Limits → Office → DeskState → DeskState → Wire → Wire →
+    SessionEnd →
     Type 0
 AnswersKept w exact (Day day) limits o was now old new end =
     LeavesAll o was now old new

@@ -11,21 +11,21 @@ use Rattle.keeper.specs.Office.{Office}
 use Rattle.import_once.specs.declared.outcomes.Outcome.{Outcome}
 use Rattle.import_once.specs.declared.outcomes.Outcome.TheVariants.{Stored, ReadFault, WriteFault, KeeperFault}
 use Rattle.import_once.specs.Imports.{import_answer, Does, PutsOnce, LeavesAlone}
-use Rattle.import_once.specs.Runs.{Publishes}
+use Rattle.import_once.specs.Runs.{PublishesDay}
 use Rattle.toll_requests.specs.Bodies.{filled}
 use Rattle.toll_requests.specs.declared.session_end.SessionEnd.{SessionEnd}
 use Rattle.toll_requests.specs.declared.session_end.SessionEnd.TheVariants.{Cut, LinkFault}
-use Rattle.toll_desk.specs.Answers.{Wire, Answers, outcome_reply}
+use Rattle.toll_desk.specs.Answers.{Wire, AnswersReply, outcome_reply}
 
 -- what a desk keeps, where it tells that: its office, the faults that its keeper counted, and what it published and
 -- queued
-pub record State : Type 0 where
+pub record DeskState : Type 0 where
   pub told : Option Office
   pub faults : ℕ
   pub posted : Posted
 
 -- it, as it is
-abbrev pub state_of : Option Office → ℕ → Posted → State
+abbrev pub state_of : Option Office → ℕ → Posted → DeskState
 state_of told faults posted = record { told = told; faults = faults; posted = posted }
 
 -- the import of a day from these bytes: over an exact crew by the rules, what is kept and what is published; over any
@@ -33,7 +33,8 @@ state_of told faults posted = record { told = told; faults = faults; posted = po
 pub record Imports (w : WhenRefused) (exact : Bool) (day : ℕ) (limits : Limits) (bytes : List ℕ) (o : Office)
     (now : Option Office) (was : Posted) (posted : Option Posted) (outcome : Outcome) : Type 0 where
   pub does : exact ≡ true → Does w (import_answer day 0 limits bytes o) o None None now outcome
-  pub publishes : exact ≡ true → Publishes o.tariffs (reads bytes limits 0).tuples day limits.backlog was posted outcome
+  pub publishes : exact ≡ true →
+      PublishesDay o.tariffs (reads bytes limits 0).tuples day limits.backlog was posted outcome
   pub puts : PutsOnce day o now
   pub alone : LeavesAlone outcome (Unit {0}) (posted ≡ Some was)
 
@@ -54,10 +55,11 @@ FailsInBody old new end = (end ≡ LinkFault) × (new.written ≡ old.written) �
 abbrev pub AnswersBody : ℕ → List ℕ → Outcome → Wire → Wire → SessionEnd → Type 0
 AnswersBody count all outcome old new end =
     (count ≤ length all) × (new.left ≡ Some (drop count all)) × IsOfBody outcome
-    × Answers (outcome_reply outcome) old.room old.written new.written end
+    × AnswersReply (outcome_reply outcome) old.room old.written new.written end
 
 -- a day is imported from a body of so many bytes; one that is cut or failed in counts as one that goes on with zeros
-abbrev pub ImportsDay : WhenRefused → Bool → ℕ → Limits → ℕ → List ℕ → Office → State → State → Wire → Wire → SessionEnd
+abbrev pub ImportsDay : WhenRefused → Bool → ℕ → Limits → ℕ → List ℕ → Office → DeskState → DeskState → Wire → Wire →
+    SessionEnd
     → Type 0
 ImportsDay w exact day limits count all o was now old new end =
     (outcome : Outcome) × (outcome ≡ KeeperFault → Rose was.faults now.faults)

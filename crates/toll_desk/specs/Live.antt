@@ -1,6 +1,6 @@
 -- What is answered of the live board.
 use Rattle.std.specs.Prelude.{◌≡◌, ◌⊎◌, ℕ, Option, Some, None}
-use Rattle.accounts.specs.Boards.{Board}
+use Rattle.accounts.specs.Boards.{BoardState}
 use Rattle.accounts.specs.Shown.{shown_after}
 use Rattle.live_board.specs.declared.live.Live.{Live as Shown}
 use Rattle.live_board.specs.Passes.{Pass, Sees, balance_on, total_on}
@@ -9,7 +9,7 @@ use Rattle.toll_texts.specs.Replies.{Reply, no_memory_reply}
 use Rattle.toll_requests.specs.declared.asked.Asked.{Asked}
 use Rattle.toll_requests.specs.declared.asked.Asked.TheVariants.{Day, Import, Spent, Live, LiveTotal}
 use Rattle.toll_requests.specs.declared.session_end.SessionEnd.{SessionEnd}
-use Rattle.toll_desk.specs.Answers.{Wire, Answers, good}
+use Rattle.toll_desk.specs.Answers.{Wire, AnswersReply, good}
 
 -- whom it is asked of: a vehicle, or all
 abbrev pub asked_of : Asked → Option ℕ
@@ -28,7 +28,7 @@ IsOfLive (Spent day xway vid) = ⊥
 IsOfLive (Import day count early) = ⊥
 
 -- a vehicle's account on a board, or what all owe
-abbrev pub live_of : Option ℕ → Board → Shown
+abbrev pub live_of : Option ℕ → BoardState → Shown
 live_of (Some vid) b = balance_on b vid
 live_of None b = total_on b
 
@@ -41,5 +41,5 @@ live_reply None s = good (total_body s.as_of s.day s.amount)
 -- answered; or the reader gives nothing and stays as it was, which is answered as want of memory is
 abbrev pub AnswersLive : Option ℕ → Pass → Pass → Wire → Wire → SessionEnd → Type 0
 AnswersLive vid p q old new end =
-    (Sees p q × Answers (live_reply vid (live_of vid (shown_after q.seen))) old.room old.written new.written end)
-    ⊎ ((q ≡ p) × Answers no_memory_reply old.room old.written new.written end)
+    (Sees p q × AnswersReply (live_reply vid (live_of vid (shown_after q.seen))) old.room old.written new.written end)
+    ⊎ ((q ≡ p) × AnswersReply no_memory_reply old.room old.written new.written end)

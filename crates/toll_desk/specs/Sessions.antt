@@ -5,26 +5,27 @@ use Rattle.road_time.specs.declared.day.Limits.{Limits}
 use Rattle.keeper.specs.Calls.{WhenRefused}
 use Rattle.keeper.specs.Office.{Office}
 use Rattle.live_board.specs.Passes.{Pass, StartsWith}
-use Rattle.toll_requests.specs.Requests.{ReadsAsked}
+use Rattle.toll_requests.specs.Requests.{ReadsHeadAsked}
 use Rattle.toll_requests.specs.declared.asked.Asked.{Asked}
 use Rattle.toll_requests.specs.declared.session_end.SessionEnd.{SessionEnd}
 use Rattle.toll_desk.specs.Answers.{Wire}
-use Rattle.toll_desk.specs.Imports.{State}
+use Rattle.toll_desk.specs.Imports.{DeskState}
 use Rattle.toll_desk.specs.Desk.{AnswersKept, IsOfKept}
 use Rattle.toll_desk.specs.Live.{asked_of, IsOfLive, AnswersLive}
 
 -- the session ends where the request is read: it is refused, or cut, or the link failed
 abbrev pub EndsAtOnce : List ℕ → Wire → Wire → SessionEnd → Type 0
-EndsAtOnce bytes old new end = ReadsAsked bytes new.left old.written new.written (Err end)
+EndsAtOnce bytes old new end = ReadsHeadAsked bytes new.left old.written new.written (Err end)
 
 -- the request is read, and is of this; nothing is written, and reads that do not fail go on so
 abbrev pub Asks : List ℕ → Asked → Wire → Wire → Type 0
 Asks bytes asked old mid =
-    ReadsAsked bytes mid.left old.written mid.written (Ok asked) × (mid.room ≡ old.room)
+    ReadsHeadAsked bytes mid.left old.written mid.written (Ok asked) × (mid.room ≡ old.room)
     × (NeverFails old.plan → NeverFails mid.plan)
 
 -- a request of what is kept is answered, and the reader knows then all that is published
-abbrev pub ServesKept : WhenRefused → Bool → List ℕ → Limits → Office → State → State → Pass → Wire → Wire → SessionEnd
+abbrev pub ServesKept : WhenRefused → Bool → List ℕ → Limits → Office → DeskState → DeskState → Pass → Wire → Wire →
+    SessionEnd
     → Type 0
 ServesKept w exact bytes limits o was now q old new end =
     (asked : Asked) × (mid : Wire) × Asks bytes asked old mid × IsOfKept asked
@@ -38,7 +39,7 @@ ServesLive bytes p q old new end =
 
 -- a session over a link with these bytes, a desk that keeps this office and a reader of its board: it ends at once; or
 -- what is asked is answered of what is kept; or of the live board
-abbrev pub Serves : WhenRefused → Bool → List ℕ → Limits → Office → State → State → Pass → Pass → Wire → Wire →
+abbrev pub Serves : WhenRefused → Bool → List ℕ → Limits → Office → DeskState → DeskState → Pass → Pass → Wire → Wire →
     SessionEnd → Type 0
 Serves w exact bytes limits o was now p q old new end =
     (EndsAtOnce bytes old new end × (now ≡ was) × (q ≡ p))

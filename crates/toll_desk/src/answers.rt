@@ -6,7 +6,7 @@ ghost use Rattle.keeper.specs.declared.kept.KeepFault.TheVariants.{Failed};
 ghost use Rattle.keeper.specs.Office.{Office, record_of};
 ghost use Rattle.toll_texts.specs.Replies.{Reply as ReplyValue};
 ghost use Rattle.toll_requests.specs.declared.session_end.SessionEnd.TheVariants.{Answered, LinkFault};
-ghost use Rattle.toll_desk.specs.Answers.{Answers, AnswersUnlessFailed, day_reply, spent_reply, keeper_reply};
+ghost use Rattle.toll_desk.specs.Answers.{AnswersReply, AnswersUnlessFailed, day_reply, spent_reply, keeper_reply};
 
 use http::StatusCode;
 use keeper::{DayRecord, KeepFault, Keeper};
@@ -24,7 +24,7 @@ pub fn send_made<L: Link>(
     body: Result<String, NoMemory>,
 ) -> SessionEnd
     ensures sent { (text : List ℕ) → IfOk body (λ s. string_bytes s ≡ text)
-        → Answers (record { status = status; body = text })
+        → AnswersReply (record { status = status; body = text })
         (L.room link.old) (L.written link.old) (L.written link.new) result }
     ensures unavailable { status ≢ 503 → result ≢ Answered 503 }
     ensures unread { L.left link.new ≡ L.left link.old }
@@ -40,7 +40,7 @@ pub fn send_made<L: Link>(
 
 /// Answers that the keeper failed.
 pub fn send_keeper_fault<L: Link>(alloc: Global, link: &mut L) -> SessionEnd
-    ensures sent { Answers keeper_reply (L.room link.old) (L.written link.old) (L.written link.new) result }
+    ensures sent { AnswersReply keeper_reply (L.room link.old) (L.written link.old) (L.written link.new) result }
     ensures unread { L.left link.new ≡ L.left link.old }
     ensures sure { L.room link.old ≡ Endless → result ≢ LinkFault }
     ensures cause { result ≡ LinkFault → Rose (L.faults link.old) (L.faults link.new) }
@@ -67,7 +67,7 @@ fn send_refusal<L: Link>(alloc: Global, fault: KeepFault, link: &mut L) -> Sessi
 
 /// Answers a day, if it is kept.
 fn send_day<L: Link>(alloc: Global, kept: Option<DayRecord>, link: &mut L) -> SessionEnd
-    ensures sent { Answers (day_reply kept) (L.room link.old) (L.written link.old) (L.written link.new) result }
+    ensures sent { AnswersReply (day_reply kept) (L.room link.old) (L.written link.old) (L.written link.new) result }
     ensures unavailable { result ≢ Answered 503 }
     ensures unread { L.left link.new ≡ L.left link.old }
     ensures sure { L.room link.old ≡ Endless → result ≢ LinkFault }

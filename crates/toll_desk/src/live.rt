@@ -4,7 +4,7 @@ ghost use Rattle.road_io.specs.Faults.{Rose};
 ghost use Rattle.road_io.specs.Rooms.{Endless};
 ghost use Rattle.live_board.specs.Passes.{StartsWith};
 ghost use Rattle.toll_requests.specs.declared.session_end.SessionEnd.TheVariants.{Answered, LinkFault};
-ghost use Rattle.toll_desk.specs.Answers.{Answers, wire_of};
+ghost use Rattle.toll_desk.specs.Answers.{AnswersReply, wire_of};
 ghost use Rattle.toll_desk.specs.Live.{asked_of, IsOfLive, AnswersLive, live_reply};
 
 use crate::answers::send_made;
@@ -17,7 +17,7 @@ use toll_texts::{live_body, total_body};
 
 /// Sends a vehicle's account.
 fn send_balance<L: Link>(alloc: Global, shown: Live, link: &mut L) -> SessionEnd
-    ensures sent { (vid : ℕ) → Answers (live_reply (Some vid) shown)
+    ensures sent { (vid : ℕ) → AnswersReply (live_reply (Some vid) shown)
         (L.room link.old) (L.written link.old) (L.written link.new) result }
     ensures unavailable { result ≢ Answered 503 }
     ensures unread { L.left link.new ≡ L.left link.old }
@@ -31,7 +31,8 @@ fn send_balance<L: Link>(alloc: Global, shown: Live, link: &mut L) -> SessionEnd
 
 /// Sends what all vehicles owe.
 fn send_total<L: Link>(alloc: Global, shown: Live, link: &mut L) -> SessionEnd
-    ensures sent { Answers (live_reply None shown) (L.room link.old) (L.written link.old) (L.written link.new) result }
+    ensures sent { AnswersReply (live_reply None shown) (L.room link.old) (L.written link.old)
+        (L.written link.new) result }
     ensures unavailable { result ≢ Answered 503 }
     ensures unread { L.left link.new ≡ L.left link.old }
     ensures sure { L.room link.old ≡ Endless → result ≢ LinkFault }

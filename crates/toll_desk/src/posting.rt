@@ -8,7 +8,7 @@ ghost use Rattle.road_time.specs.Fits.{IsLimits};
 ghost use Rattle.keeper.specs.Office.{Office};
 ghost use Rattle.import_once.specs.declared.outcomes.Outcome.TheVariants.{KeeperFault};
 ghost use Rattle.toll_requests.specs.declared.session_end.SessionEnd.TheVariants.{Answered, LinkFault};
-ghost use Rattle.toll_desk.specs.Answers.{Answers, wire_of, outcome_reply};
+ghost use Rattle.toll_desk.specs.Answers.{AnswersReply, wire_of, outcome_reply};
 ghost use Rattle.toll_desk.specs.Imports.{state_of, ImportsDay};
 
 use crate::answers::{send_keeper_fault, send_made};
@@ -29,7 +29,8 @@ use toll_texts::{differs_body, imported_body, passed_body, refused_body};
 
 /// Answers how an import ended.
 fn send_outcome<L: Link>(alloc: Global, link: &mut L, outcome: Outcome) -> SessionEnd
-    ensures sent { Answers (outcome_reply outcome) (L.room link.old) (L.written link.old) (L.written link.new) result }
+    ensures sent { AnswersReply (outcome_reply outcome) (L.room link.old) (L.written link.old)
+        (L.written link.new) result }
     ensures unavailable { result ≡ Answered 503 → outcome ≡ KeeperFault }
     ensures unread { L.left link.new ≡ L.left link.old }
     ensures sure { L.room link.old ≡ Endless → result ≢ LinkFault }

@@ -8,7 +8,7 @@ use Rattle.std.proofs.lemmas.Str.{IsUtf8-from_ascii}
 use Rattle.std.proofs.lemmas.Str.Ascii.{IsAscii-nil, IsAscii-cons}
 use Rattle.toll_heads.specs.Numbers.{number_in}
 use Rattle.toll_heads.specs.Paths.{parts_of, begins_with, place_of, day_place, live_place, spent_of}
-use Rattle.toll_heads.specs.declared.place.Place.{Place}
+use Rattle.toll_heads.specs.declared.place.DeskPlace.{DeskPlace}
 use Rattle.toll_heads.specs.Places.{PlacesAreAscii}
 use Rattle.toll_heads.proofs.PlaceLaws.{spent_parts, place_cases}
 use Rattle.toll_heads.proofs.PartLaws.{number_part, glued, glue_parts, bytes_same, front_is}
@@ -27,19 +27,19 @@ ascii_bytes (b ∷ bs) e =
     IsAscii-cons b bs (omega (arith, low)) (ascii_bytes bs p.1)
 
 -- a day
-day_ascii : (text : List ℕ) (p : Place) (n : Option ℕ) → number_in 70 1000000 text ≡ n → day_place n ≡ Some p →
+day_ascii : (text : List ℕ) (p : DeskPlace) (n : Option ℕ) → number_in 70 1000000 text ≡ n → day_place n ≡ Some p →
     IsAscii text
 day_ascii text p None is e = absurd (cc e)
 day_ascii text p (Some n) is e = (number_part 70 1000000 text n is).1
 
 -- a vehicle
-live_ascii : (text : List ℕ) (p : Place) (n : Option ℕ) → number_in 0 2147483647 text ≡ n → live_place n ≡ Some p →
+live_ascii : (text : List ℕ) (p : DeskPlace) (n : Option ℕ) → number_in 0 2147483647 text ≡ n → live_place n ≡ Some p →
     IsAscii text
 live_ascii text p None is e = absurd (cc e)
 live_ascii text p (Some n) is e = (number_part 0 2147483647 text n is).1
 
 -- a charge: three numbers with slashes between them
-spent_ascii : (text : List ℕ) (p : Place) → spent_of (parts_of text) ≡ Some p → IsAscii text
+spent_ascii : (text : List ℕ) (p : DeskPlace) → spent_of (parts_of text) ≡ Some p → IsAscii text
 spent_ascii text p e =
     let s = spent_parts (parts_of text) p e in
     let joined : text ≡ s.0 ++ 47 ∷ (s.1 ++ 47 ∷ s.2) = sym (glue_parts text) ∙ ap glued s.3 in
@@ -70,6 +70,6 @@ places_are_ascii path p is = by (bytes_eq path (codes "/live")) refl (begins_wit
 pub no_text : (path : List ℕ) → (IsUtf8 path → ⊥) → None ≡ place_of path
 no_text path bad = by (place_of path) refl
   where
-    by : (o : Option Place) → place_of path ≡ o → None ≡ o
+    by : (o : Option DeskPlace) → place_of path ≡ o → None ≡ o
     by None e = refl
     by (Some p) e = absurd (bad (IsUtf8-from_ascii path (places_are_ascii path p e)))

@@ -3,9 +3,10 @@ use Rattle.std.proofs.Common.{◌≡◌, ℕ, ◌+◌, ◌<◌, ◌≤◌, ◌==
 use Rattle.std.proofs.Common.{take, drop, get_or, None, refl, sym, ap, subst, ◌∙◌, arith, zero, suc}
 use Rattle.std.specs.List.{list_all, onto_first}
 use Rattle.std.proofs.lemmas.Bool.{cond-false, cond-true, and_parts, and_from, not-true, false_from_ne_true, eqb-true}
-use Rattle.std.proofs.lemmas.List.{take-append-drop, drop_more, take_all}
+use Rattle.std.proofs.lemmas.List.{take_all}
 use Rattle.std.proofs.lemmas.List.Folds.{list_all_more}
 use Rattle.toll_heads.specs.Paths.{parts_at, parts_of, spent_of}
+use Rattle.road_io.proofs.LineLaws.{cut_at}
 
 -- a byte that is another
 abbrev pub is_other : ℕ → ℕ → Bool
@@ -41,11 +42,6 @@ others_below byte xs (suc n) h absent =
     let one : n + 1 ≡ suc n = omega arith in
     subst (λ m. list_all (is_other byte) (take m xs) ≡ true) one
     (list_all_more (is_other byte) xs n 0 (omega arith) ∙ and_from _ _ below here)
-
--- a text is what is before a byte, it, and what is behind it
-cut_at : (xs : List ℕ) (i b : ℕ) → i < length xs → get_or xs i 0 ≡ b → xs ≡ take i xs ++ b ∷ drop (i + 1) xs
-cut_at xs i b h e =
-    sym (take-append-drop i xs) ∙ ap (λ ys. take i xs ++ ys) (drop_more xs i 0 h ∙ ap (λ y. y ∷ drop (i + 1) xs) e)
 
 -- a text is cut where a byte stands first
 pub cut_found : (byte : ℕ) (xs rest : List ℕ) (i : ℕ) → i < length xs → AbsentBelow byte xs i →

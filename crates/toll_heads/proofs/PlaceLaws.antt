@@ -5,8 +5,8 @@ use Rattle.std.specs.Str.{bytes_eq}
 use Rattle.matchit.specs.Seek.{first}
 use Rattle.toll_heads.specs.Numbers.{number_in}
 use Rattle.toll_heads.specs.Paths.{parts_of, begins_with, place_of, day_place, live_place, spent_place, spent_of}
-use Rattle.toll_heads.specs.declared.place.Place.{Place}
-use Rattle.toll_heads.specs.declared.place.Place.TheVariants.{TotalPlace}
+use Rattle.toll_heads.specs.declared.place.DeskPlace.{DeskPlace}
+use Rattle.toll_heads.specs.declared.place.DeskPlace.TheVariants.{TotalPlace}
 use Rattle.toll_heads.specs.declared.route.Route.{Route}
 use Rattle.toll_heads.specs.declared.route.Route.TheVariants.{OfDay, OfLive, OfTotal, OfSpent}
 use Rattle.toll_heads.specs.Rows.{desk_rows, key_of}
@@ -15,7 +15,7 @@ use Rattle.toll_heads.proofs.RouteLaws.{find_routes}
 use Rattle.toll_heads.proofs.PartLaws.{IsNumber, number_part, glued, glue_parts, bytes_same, front_is}
 
 -- a place that is there is one
-place_inj : (p q : Place) → Some p ≡ Some q → p ≡ q
+place_inj : (p q : DeskPlace) → Some p ≡ Some q → p ≡ q
 place_inj p q e = cc e
 
 -- and so a number
@@ -23,7 +23,7 @@ some_inj : (m n : ℕ) → Some m ≡ Some n → m ≡ n
 some_inj m n e = cc e
 
 -- three parts that name a charge
-pub spent_parts : (ls : List (List ℕ)) (p : Place) → spent_of ls ≡ Some p
+pub spent_parts : (ls : List (List ℕ)) (p : DeskPlace) → spent_of ls ≡ Some p
     → (a : List ℕ) × (b : List ℕ) × (c : List ℕ) × (ls ≡ a ∷ b ∷ c ∷ []) × IsNumber a × IsNumber b × IsNumber c
     × (route_of p ≡ OfSpent)
 spent_parts [] p e = absurd (cc e)
@@ -52,7 +52,7 @@ spent_parts (a ∷ b ∷ c ∷ []) p e =
     )
 
 -- a path of a charge finds the route of charges
-spent_found : (text : List ℕ) (p : Place) → spent_of (parts_of text) ≡ Some p →
+spent_found : (text : List ℕ) (p : DeskPlace) → spent_of (parts_of text) ≡ Some p →
     first desk_rows (codes "/spent/" ++ text) ≡ Some (key_of (route_of p))
 spent_found text p e =
     let s = spent_parts (parts_of text) p e in
@@ -61,14 +61,14 @@ spent_found text p e =
     ∙ ap (λ r. Some (key_of r)) (sym s.7)
 
 -- one of a day that of days
-day_found : (text : List ℕ) (p : Place) (n : Option ℕ) → number_in 70 1000000 text ≡ n → day_place n ≡ Some p →
+day_found : (text : List ℕ) (p : DeskPlace) (n : Option ℕ) → number_in 70 1000000 text ≡ n → day_place n ≡ Some p →
     first desk_rows (codes "/days/" ++ text) ≡ Some (key_of (route_of p))
 day_found text p None is e = absurd (cc e)
 day_found text p (Some n) is e = find_routes.1 text (number_part 70 1000000 text n is).0
     ∙ ap (λ q. Some (key_of (route_of q))) (place_inj _ _ e)
 
 -- and one of a vehicle's account that of accounts
-live_found : (text : List ℕ) (p : Place) (n : Option ℕ) → number_in 0 2147483647 text ≡ n → live_place n ≡ Some p →
+live_found : (text : List ℕ) (p : DeskPlace) (n : Option ℕ) → number_in 0 2147483647 text ≡ n → live_place n ≡ Some p →
     first desk_rows (codes "/live/" ++ text) ≡ Some (key_of (route_of p))
 live_found text p None is e = absurd (cc e)
 live_found text p (Some n) is e = find_routes.2 text (number_part 0 2147483647 text n is).0
@@ -100,40 +100,41 @@ places_have_routes path p is = by (bytes_eq path (codes "/live")) refl (begins_w
 pub no_route : (path : List ℕ) → None ≡ first desk_rows path → None ≡ place_of path
 no_route path none = by (place_of path) refl
   where
-    by : (o : Option Place) → place_of path ≡ o → None ≡ o
+    by : (o : Option DeskPlace) → place_of path ≡ o → None ≡ o
     by None e = refl
     by (Some p) e = absurd (cc (none ∙ places_have_routes path p e))
 
 -- a path that finds one route names no place of another
-other : (path : List ℕ) (r q : Route) (o : Option Place) → place_of path ≡ o → first desk_rows path ≡ Some (key_of r)
-    → ((p : Place) → o ≡ Some p → route_of p ≡ q) → (key_of r ≡ key_of q → ⊥) → o ≡ None
+other : (path : List ℕ) (r q : Route) (o : Option DeskPlace) → place_of path ≡ o →
+    first desk_rows path ≡ Some (key_of r)
+    → ((p : DeskPlace) → o ≡ Some p → route_of p ≡ q) → (key_of r ≡ key_of q → ⊥) → o ≡ None
 other path r q None is found at apart = refl
 other path r q (Some p) is found at apart =
     absurd (apart (some_inj _ _ (sym found ∙ places_have_routes path p is) ∙ ap key_of (at p refl)))
 
 -- the routes of places
-day_route : (p : Place) (n : Option ℕ) → day_place n ≡ Some p → route_of p ≡ OfDay
+day_route : (p : DeskPlace) (n : Option ℕ) → day_place n ≡ Some p → route_of p ≡ OfDay
 day_route p None e = absurd (cc e)
 day_route p (Some n) e = ap route_of (sym (place_inj _ _ e))
 
 -- of an account
-live_route : (p : Place) (n : Option ℕ) → live_place n ≡ Some p → route_of p ≡ OfLive
+live_route : (p : DeskPlace) (n : Option ℕ) → live_place n ≡ Some p → route_of p ≡ OfLive
 live_route p None e = absurd (cc e)
 live_route p (Some n) e = ap route_of (sym (place_inj _ _ e))
 
 -- of a charge
-spent_route : (p : Place) (ls : List (List ℕ)) → spent_of ls ≡ Some p → route_of p ≡ OfSpent
+spent_route : (p : DeskPlace) (ls : List (List ℕ)) → spent_of ls ≡ Some p → route_of p ≡ OfSpent
 spent_route p ls e = (spent_parts ls p e).7
 
 -- the place that a path names, by what it is and what it begins with
-abbrev pub place_cases : List ℕ → Bool → Bool → Bool → Bool → Option Place
+abbrev pub place_cases : List ℕ → Bool → Bool → Bool → Bool → Option DeskPlace
 place_cases path u v w x =
     cond u (Some TotalPlace)
     (cond v (day_place (number_in 70 1000000 (drop 6 path)))
     (cond w (live_place (number_in 0 2147483647 (drop 6 path))) (cond x (spent_of (parts_of (drop 7 path))) None)))
 
 -- the place by a route, by the same
-abbrev route_cases : Route → List ℕ → Bool → Bool → Bool → Bool → Option Place
+abbrev route_cases : Route → List ℕ → Bool → Bool → Bool → Bool → Option DeskPlace
 route_cases OfDay path u v w x = cond v (day_place (number_in 70 1000000 (drop 6 path))) None
 route_cases OfLive path u v w x = cond w (live_place (number_in 0 2147483647 (drop 6 path))) None
 route_cases OfTotal path u v w x = cond u (Some TotalPlace) None
@@ -181,7 +182,7 @@ routes_have_places path r found = by r _ _ _ _ (fronts_differ path) found refl �
     shown OfTotal = refl
     shown OfSpent = refl
 
-    at_total : (p : Place) → Some TotalPlace ≡ Some p → route_of p ≡ OfTotal
+    at_total : (p : DeskPlace) → Some TotalPlace ≡ Some p → route_of p ≡ OfTotal
     at_total p e = ap route_of (sym (place_inj _ _ e))
 
     total : (q : Route) → first desk_rows path ≡ Some (key_of q) → place_of path ≡ Some TotalPlace →

@@ -35,10 +35,10 @@ IsHeld buf headers Cut = Unit {0}
 IsHeld buf headers LinkFault = Unit {0}
 
 -- what stands first in a link's bytes; what was read is the first of them, and the rest is left
-abbrev pub IsFront : List ℕ → List ℕ → List HeaderSpan → Option (List ℕ) → Front → Type 0
-IsFront bytes buf headers left (Head held spans) =
+abbrev pub IsLinkFront : List ℕ → List ℕ → List HeaderSpan → Option (List ℕ) → Front → Type 0
+IsLinkFront bytes buf headers left (Head held spans) =
     (h : RequestHead) × IsRequestAt (take held buf) headers spans h × (length h.fields ≤ 64)
     × (prepend_known (take held buf) left ≡ Some bytes)
-IsFront bytes buf headers left Bad = IsBadHead (front_of bytes)
-IsFront bytes buf headers left Cut = IsCutHead (front_of bytes)
-IsFront bytes buf headers left LinkFault = Unit {0}
+IsLinkFront bytes buf headers left Bad = IsBadHead (front_of bytes)
+IsLinkFront bytes buf headers left Cut = IsCutHead (front_of bytes)
+IsLinkFront bytes buf headers left LinkFault = Unit {0}

@@ -1,5 +1,5 @@
 -- What a link's bytes begin with.
-use Rattle.std.specs.Prelude.{◌≡◌, ◌⊎◌, ℕ, ◌<◌, ◌≤◌, List, [], ◌++◌, length, take, drop, Option, Some}
+use Rattle.std.specs.Prelude.{◌≡◌, ◌⊎◌, ℕ, ◌<◌, ◌≤◌, List, [], ◌++◌, length, take}
 use Rattle.httparse.specs.Grammar.{RequestHead, ReadsRequest, EndsInTarget}
 
 -- the most bytes in which a head must end
@@ -35,8 +35,3 @@ MayGoOn bytes = ((more : List ℕ) × (h : RequestHead) × ReadsRequest (bytes +
 -- a front ends before its head does
 abbrev pub IsCutHead : List ℕ → Type 0
 IsCutHead front = HasNoHead front × (length front < head_room) × MayGoOn front
-
--- of the bytes that a link had, at most the first so many were read
-abbrev pub ReadsWithin : ℕ → Option (List ℕ) → Option (List ℕ) → Type 0
-ReadsWithin most before after =
-    (bytes : List ℕ) → before ≡ Some bytes → (count : ℕ) × (count ≤ most) × (after ≡ Some (drop count bytes))

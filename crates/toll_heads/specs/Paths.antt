@@ -4,8 +4,8 @@ use Rattle.std.specs.Prelude.{codes, Bool}
 use Rattle.std.specs.List.{slice_split}
 use Rattle.std.specs.Str.{bytes_eq}
 use Rattle.toll_heads.specs.Numbers.{number_in}
-use Rattle.toll_heads.specs.declared.place.Place.{Place}
-use Rattle.toll_heads.specs.declared.place.Place.TheVariants.{DayPlace, SpentPlace, LivePlace, TotalPlace}
+use Rattle.toll_heads.specs.declared.place.DeskPlace.{DeskPlace}
+use Rattle.toll_heads.specs.declared.place.DeskPlace.TheVariants.{DayPlace, SpentPlace, LivePlace, TotalPlace}
 
 -- the parts of a text, with a byte between two
 abbrev pub parts_at : ℕ → List ℕ → List (List ℕ)
@@ -30,24 +30,24 @@ CutsAt byte text part None = parts_at byte text ≡ part ∷ []
 CutsAt byte text part (Some rest) = parts_at byte text ≡ part ∷ parts_at byte rest
 
 -- the place of a day, if its number is one
-abbrev pub day_place : Option ℕ → Option Place
+abbrev pub day_place : Option ℕ → Option DeskPlace
 day_place None = None
 day_place (Some day) = Some (DayPlace day)
 
 -- of a vehicle's account
-abbrev pub live_place : Option ℕ → Option Place
+abbrev pub live_place : Option ℕ → Option DeskPlace
 live_place None = None
 live_place (Some vid) = Some (LivePlace vid)
 
 -- and of a charge
-abbrev pub spent_place : Option ℕ → Option ℕ → Option ℕ → Option Place
+abbrev pub spent_place : Option ℕ → Option ℕ → Option ℕ → Option DeskPlace
 spent_place (Some day) (Some xway) (Some vid) = Some (SpentPlace day xway vid)
 spent_place None xway vid = None
 spent_place (Some day) None vid = None
 spent_place (Some day) (Some xway) None = None
 
 -- a day, an expressway and a vehicle, with a slash between two
-abbrev pub spent_of : List (List ℕ) → Option Place
+abbrev pub spent_of : List (List ℕ) → Option DeskPlace
 spent_of [] = None
 spent_of (day ∷ []) = None
 spent_of (day ∷ xway ∷ []) = None
@@ -56,7 +56,7 @@ spent_of (day ∷ xway ∷ vid ∷ []) =
 spent_of (day ∷ xway ∷ vid ∷ more ∷ rest) = None
 
 -- the numbers of a place are in their ranges
-abbrev pub IsPlace : Place → Type 0
+abbrev pub IsPlace : DeskPlace → Type 0
 IsPlace (DayPlace day) = (70 ≤ day) × (day ≤ 1000000)
 IsPlace (SpentPlace day xway vid) = (1 ≤ day) × (day ≤ 1000000) × (vid ≤ 2147483647)
 IsPlace (LivePlace vid) = vid ≤ 2147483647
@@ -67,23 +67,23 @@ abbrev pub begins_with : List ℕ → List ℕ → Bool
 begins_with text front = bytes_eq (take (length front) text) front
 
 -- the place of a day that a path names
-abbrev pub day_at : List ℕ → Option Place
+abbrev pub day_at : List ℕ → Option DeskPlace
 day_at path = if begins_with path (codes "/days/") then day_place (number_in 70 1000000 (drop 6 path)) else None
 
 -- the place of a vehicle on the live board that a path names
-abbrev pub live_at : List ℕ → Option Place
+abbrev pub live_at : List ℕ → Option DeskPlace
 live_at path = if begins_with path (codes "/live/") then live_place (number_in 0 2147483647 (drop 6 path)) else None
 
 -- the place of the live board's total, if a path is its
-abbrev pub total_at : List ℕ → Option Place
+abbrev pub total_at : List ℕ → Option DeskPlace
 total_at path = if bytes_eq path (codes "/live") then Some TotalPlace else None
 
 -- the place of an amount that a path names
-abbrev pub spent_at : List ℕ → Option Place
+abbrev pub spent_at : List ℕ → Option DeskPlace
 spent_at path = if begins_with path (codes "/spent/") then spent_of (parts_of (drop 7 path)) else None
 
 -- the place that a path names: `/live`, or one of three fronts with numbers behind it
-abbrev pub place_of : List ℕ → Option Place
+abbrev pub place_of : List ℕ → Option DeskPlace
 place_of path =
     if bytes_eq path (codes "/live") then Some TotalPlace
     else if begins_with path (codes "/days/") then day_place (number_in 70 1000000 (drop 6 path))

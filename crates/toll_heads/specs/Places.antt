@@ -4,20 +4,20 @@ use Rattle.std.specs.Str.{IsAscii}
 use Rattle.matchit.specs.Seek.{first}
 use Rattle.toll_heads.specs.Paths.{place_of, day_at, live_at, total_at, spent_at}
 use Rattle.toll_heads.specs.Rows.{desk_rows, key_of}
-use Rattle.toll_heads.specs.declared.place.Place.{Place}
-use Rattle.toll_heads.specs.declared.place.Place.TheVariants.{DayPlace, SpentPlace, LivePlace, TotalPlace}
+use Rattle.toll_heads.specs.declared.place.DeskPlace.{DeskPlace}
+use Rattle.toll_heads.specs.declared.place.DeskPlace.TheVariants.{DayPlace, SpentPlace, LivePlace, TotalPlace}
 use Rattle.toll_heads.specs.declared.route.Route.{Route}
 use Rattle.toll_heads.specs.declared.route.Route.TheVariants.{OfDay, OfLive, OfTotal, OfSpent}
 
 -- a place's route
-abbrev pub route_of : Place → Route
+abbrev pub route_of : DeskPlace → Route
 route_of (DayPlace day) = OfDay
 route_of (LivePlace vid) = OfLive
 route_of TotalPlace = OfTotal
 route_of (SpentPlace day xway vid) = OfSpent
 
 -- the place that a path of a route names
-abbrev pub place_by : Route → List ℕ → Option Place
+abbrev pub place_by : Route → List ℕ → Option DeskPlace
 place_by OfDay path = day_at path
 place_by OfLive path = live_at path
 place_by OfTotal path = total_at path
@@ -26,7 +26,7 @@ place_by OfSpent path = spent_at path
 -- a path that names a place finds its route
 abbrev pub PlacesHaveRoutes : Type 0
 PlacesHaveRoutes =
-    (path : List ℕ) (p : Place) → place_of path ≡ Some p → first desk_rows path ≡ Some (key_of (route_of p))
+    (path : List ℕ) (p : DeskPlace) → place_of path ≡ Some p → first desk_rows path ≡ Some (key_of (route_of p))
 
 -- a path that finds a route names what it names by that route
 abbrev pub RoutesHavePlaces : Type 0
@@ -35,4 +35,4 @@ RoutesHavePlaces =
 
 -- a path that names a place is ASCII
 abbrev pub PlacesAreAscii : Type 0
-PlacesAreAscii = (path : List ℕ) (p : Place) → place_of path ≡ Some p → IsAscii path
+PlacesAreAscii = (path : List ℕ) (p : DeskPlace) → place_of path ≡ Some p → IsAscii path

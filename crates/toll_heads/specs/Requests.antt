@@ -6,8 +6,8 @@ use Rattle.httparse.specs.Grammar.{RequestHead}
 use Rattle.httparse.specs.Spans.{name_and_value}
 use Rattle.toll_heads.specs.Numbers.{number_of}
 use Rattle.toll_heads.specs.Paths.{path_of, place_of}
-use Rattle.toll_heads.specs.declared.place.Place.{Place}
-use Rattle.toll_heads.specs.declared.place.Place.TheVariants.{DayPlace, SpentPlace, LivePlace, TotalPlace}
+use Rattle.toll_heads.specs.declared.place.DeskPlace.{DeskPlace}
+use Rattle.toll_heads.specs.declared.place.DeskPlace.TheVariants.{DayPlace, SpentPlace, LivePlace, TotalPlace}
 use Rattle.toll_heads.specs.declared.wanted.Wanted.{Wanted}
 use Rattle.toll_heads.specs.declared.wanted.Wanted.TheVariants.{Day, Import, Spent, Live, LiveTotal}
 use Rattle.toll_heads.specs.declared.wanted.Refusal.{Refusal}
@@ -50,7 +50,7 @@ abbrev pub only_get : List ℕ → Wanted → Result Wanted Refusal
 only_get method wanted = if bytes_eq method (codes "GET") then Ok wanted else Err BadMethod
 
 -- what is asked for at a place by a method, with fields
-abbrev pub asked_at : Option Place → List ℕ → List (List ℕ × List ℕ) → Result Wanted Refusal
+abbrev pub asked_at : Option DeskPlace → List ℕ → List (List ℕ × List ℕ) → Result Wanted Refusal
 asked_at None method fields = Err NoPath
 asked_at (Some (DayPlace day)) method fields =
     if bytes_eq method (codes "POST") then import_of day (body_length fields) else only_get method (Day day)

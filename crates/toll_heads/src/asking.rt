@@ -7,7 +7,7 @@ ghost use Rattle.toll_heads.specs.Asks.{IsWanted};
 
 use crate::fields::body_length;
 use crate::paths::path_of;
-use crate::place::Place;
+use crate::place::DeskPlace;
 use crate::routing::Routes;
 use crate::wanted::{Refusal, Wanted};
 use httparse::spans::{HeaderSpan, RequestSpans};
@@ -38,7 +38,7 @@ pub fn wanted_of(
     let method = spans.method.of(buf);
     match routes.place(path_of(spans.path.of(buf))) {
         None => Err(Refusal::NoPath),
-        Some(Place::DayPlace(day)) => {
+        Some(DeskPlace::DayPlace(day)) => {
             if method == b"POST".as_slice() {
                 let length = body_length(buf, &headers[..spans.headers])?;
                 Ok(Wanted::Import(day, length))
@@ -46,8 +46,11 @@ pub fn wanted_of(
                 only_get(method, Wanted::Day(day))
             }
         }
-        Some(Place::SpentPlace(day, xway, vid)) => only_get(method, Wanted::Spent(day, xway, vid)),
-        Some(Place::LivePlace(vid)) => only_get(method, Wanted::Live(vid)),
-        Some(Place::TotalPlace) => only_get(method, Wanted::LiveTotal),
+        Some(DeskPlace::SpentPlace(day, xway, vid)) => only_get(
+            method,
+            Wanted::Spent(day, xway, vid),
+        ),
+        Some(DeskPlace::LivePlace(vid)) => only_get(method, Wanted::Live(vid)),
+        Some(DeskPlace::TotalPlace) => only_get(method, Wanted::LiveTotal),
     }
 }

@@ -18,6 +18,6 @@ mod wanted;
 
 pub use asking::wanted_of;
 pub use fronts::{Front, read_front};
-pub use place::Place;
+pub use place::DeskPlace;
 pub use routing::Routes;
 pub use wanted::{Refusal, Wanted};

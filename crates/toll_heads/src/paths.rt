@@ -5,7 +5,7 @@ ghost use Rattle.toll_heads.specs.Paths.{day_at as day_at_path, live_at as live_
 ghost use Rattle.toll_heads.specs.Paths.{total_at as total_at_path, spent_at as spent_at_path};
 
 use crate::numbers::number_in;
-use crate::place::Place;
+use crate::place::DeskPlace;
 use memchr::memchr;
 
 /// The first part of a text, and what comes behind the byte that ends it, if one does.
@@ -26,7 +26,7 @@ pub(crate) fn path_of(target: &[u8]) -> &[u8]
 }
 
 /// The place that a day, an expressway and a vehicle name.
-fn spent_of_text(text: &[u8]) -> Option<Place>
+fn spent_of_text(text: &[u8]) -> Option<DeskPlace>
     ensures place { result ≡ spent_of (parts_of text.now) }
     ensures within { IfSome result IsPlace }
 {
@@ -43,53 +43,53 @@ fn spent_of_text(text: &[u8]) -> Option<Place>
             let day = number_in(1, 1_000_000, day)?;
             let xway = number_in(0, 255, xway)?;
             let vid = number_in(0, 2_147_483_647, vid)?;
-            Some(Place::SpentPlace(day, xway as u8, vid))
+            Some(DeskPlace::SpentPlace(day, xway as u8, vid))
         }
     }
 }
 
 /// The place of a day that a path names.
-pub(crate) fn day_at(path: &[u8]) -> Option<Place>
+pub(crate) fn day_at(path: &[u8]) -> Option<DeskPlace>
     ensures place { result ≡ day_at_path path.now }
     ensures within { IfSome result IsPlace }
 {
     match path.strip_prefix(b"/days/") {
         Some(day) => {
             let day = number_in(70, 1_000_000, day)?;
-            Some(Place::DayPlace(day))
+            Some(DeskPlace::DayPlace(day))
         }
         None => None,
     }
 }
 
 /// The place of a vehicle on the live board that a path names.
-pub(crate) fn live_at(path: &[u8]) -> Option<Place>
+pub(crate) fn live_at(path: &[u8]) -> Option<DeskPlace>
     ensures place { result ≡ live_at_path path.now }
     ensures within { IfSome result IsPlace }
 {
     match path.strip_prefix(b"/live/") {
         Some(vid) => {
             let vid = number_in(0, 2_147_483_647, vid)?;
-            Some(Place::LivePlace(vid))
+            Some(DeskPlace::LivePlace(vid))
         }
         None => None,
     }
 }
 
 /// The place of the live board's total, if a path is its.
-pub(crate) fn total_at(path: &[u8]) -> Option<Place>
+pub(crate) fn total_at(path: &[u8]) -> Option<DeskPlace>
     ensures place { result ≡ total_at_path path.now }
     ensures within { IfSome result IsPlace }
 {
     if path == b"/live".as_slice() {
-        Some(Place::TotalPlace)
+        Some(DeskPlace::TotalPlace)
     } else {
         None
     }
 }
 
 /// The place of an amount that a path names.
-pub(crate) fn spent_at(path: &[u8]) -> Option<Place>
+pub(crate) fn spent_at(path: &[u8]) -> Option<DeskPlace>
     ensures place { result ≡ spent_at_path path.now }
     ensures within { IfSome result IsPlace }
 {

@@ -7,7 +7,7 @@ ghost use Rattle.toll_heads.specs.Paths.{place_of as place_of_path, IsPlace};
 ghost use Rattle.toll_heads.specs.Places.{place_by as place_by_route};
 
 use crate::paths::{day_at, live_at, spent_at, total_at};
-use crate::place::Place;
+use crate::place::DeskPlace;
 use crate::route::Route;
 use matchit::{InsertError, Router};
 use road_time::NoMemory;
@@ -44,7 +44,7 @@ fn find_route(router: &Router<Route>, path: &str) -> Option<Route>
 }
 
 /// The place that a path of a route names.
-fn place_by(route: Route, path: &[u8]) -> Option<Place>
+fn place_by(route: Route, path: &[u8]) -> Option<DeskPlace>
     ensures place { result ≡ place_by_route route path.now }
     ensures within { IfSome result IsPlace }
 {
@@ -57,7 +57,7 @@ fn place_by(route: Route, path: &[u8]) -> Option<Place>
 }
 
 /// The place that a path names, by the route that it finds.
-fn place_in(router: &Router<Route>, path: &[u8]) -> Option<Place>
+fn place_in(router: &Router<Route>, path: &[u8]) -> Option<DeskPlace>
     requires { rename key_at router.now ≡ desk_rows }
     ensures place { result ≡ place_of_path path.now }
     ensures within { IfSome result IsPlace }
@@ -81,7 +81,7 @@ impl Routes {
     }
 
     /// The place that a path names.
-    pub fn place(&self, path: &[u8]) -> Option<Place>
+    pub fn place(&self, path: &[u8]) -> Option<DeskPlace>
         ensures place { result ≡ place_of_path path.now }
         ensures within { IfSome result IsPlace }
     {

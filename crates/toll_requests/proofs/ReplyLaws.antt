@@ -17,7 +17,7 @@ use Rattle.toll_heads.specs.declared.wanted.Refusal.TheVariants.{BadHead, NoPath
 use Rattle.toll_heads.specs.declared.wanted.Refusal.TheVariants.{TooLong}
 use Rattle.toll_texts.specs.Replies.{Reply, reply_bytes, no_memory_reply}
 use Rattle.toll_requests.specs.Sends.{Replies, HasRoom, HasRoomFor, refusal_reply, refusal_room}
-use Rattle.toll_requests.specs.Requests.{asked_for, wanted_in, Heads, HasBody, IsRefused, ReadsAsked}
+use Rattle.toll_requests.specs.Requests.{asked_for, wanted_in, Heads, HasBody, IsRequestRefused, ReadsHeadAsked}
 use Rattle.toll_requests.specs.declared.session_end.SessionEnd.{SessionEnd}
 use Rattle.toll_requests.specs.declared.session_end.SessionEnd.TheVariants.{Answered, Cut, LinkFault}
 
@@ -66,8 +66,9 @@ has_body (wanted.Live vid) rest more = tt
 has_body wanted.LiveTotal rest more = tt
 
 -- a refusal that was answered
-pub refused : (bytes : List ℕ) (left old new : Option (List ℕ)) (r : Refusal) (end : SessionEnd) → IsRefused bytes r →
-    Replies (refusal_reply r) old new end → ReadsAsked bytes left old new (Err end)
+pub refused : (bytes : List ℕ) (left old new : Option (List ℕ)) (r : Refusal) (end : SessionEnd) →
+    IsRequestRefused bytes r →
+    Replies (refusal_reply r) old new end → ReadsHeadAsked bytes left old new (Err end)
 refused bytes left old new r (Answered s) is (inl sent) = inl (r, is, sent)
 refused bytes left old new r (Answered s) is (inr sent) = inr sent
 refused bytes left old new r Cut is (inl sent) = absurd sent

@@ -40,10 +40,10 @@ abbrev pub IsCutOff : Bool → ℕ → List ℕ → Option (List ℕ) → Type 0
 IsCutOff cut left early known = cut ≡ true → (0 < left) × (early ≡ []) × ((all : List ℕ) → known ≡ Some all → all ≡ [])
 
 -- how a body ended: whole, with nothing left of it; cut; or at a fault of its link
-abbrev pub Ends : ℕ → ℕ → Bool → BodyEnd → Type 0
-Ends left faults cut Whole = (left ≡ 0) × (faults ≡ 0) × (cut ≡ false)
-Ends left faults cut Cut = cut ≡ true
-Ends left faults cut LinkFault = (0 < faults) × (cut ≡ false)
+abbrev pub EndsBody : ℕ → ℕ → Bool → BodyEnd → Type 0
+EndsBody left faults cut Whole = (left ≡ 0) × (faults ≡ 0) × (cut ≡ false)
+EndsBody left faults cut Cut = cut ≡ true
+EndsBody left faults cut LinkFault = (0 < faults) × (cut ≡ false)
 
 -- what is left of a link after a body of so many of its bytes: the body was there, and no more was read; or the bytes
 -- end

@@ -52,23 +52,24 @@ HasBody (Live vid) after left = Unit {0}
 HasBody LiveTotal after left = Unit {0}
 
 -- why a request of these bytes is refused: its head is bad, or what its head asks for is refused
-abbrev pub IsRefused : List ℕ → Refusal → Type 0
-IsRefused bytes r =
+abbrev pub IsRequestRefused : List ℕ → Refusal → Type 0
+IsRequestRefused bytes r =
     ((r ≡ BadHead) × IsBadHead (front_of bytes))
     ⊎ ((h : RequestHead) × (after : List ℕ) × Heads bytes h after × (wanted_of h ≡ Err r))
 
 -- an answer of the reading: what is asked; or the request was refused, with its answer, or for want of memory; or the
 -- bytes
 -- end before the head; or the link failed
-abbrev pub ReadsAsked : List ℕ → Option (List ℕ) → Option (List ℕ) → Option (List ℕ) → Result Asked SessionEnd → Type 0
-ReadsAsked bytes left old new (Ok asked) =
+abbrev pub ReadsHeadAsked : List ℕ → Option (List ℕ) → Option (List ℕ) → Option (List ℕ) → Result Asked SessionEnd →
+    Type 0
+ReadsHeadAsked bytes left old new (Ok asked) =
     (h : RequestHead) × (after : List ℕ) × Heads bytes h after
     × (wanted_of h ≡ Ok (wanted_in asked)) × HasBody asked after left × (new ≡ old)
-ReadsAsked bytes left old new (Err Cut) = IsCutHead (front_of bytes) × (new ≡ old)
-ReadsAsked bytes left old new (Err (Answered status)) =
-    ((r : Refusal) × IsRefused bytes r × SendsReply (refusal_reply r) old new (Answered status))
+ReadsHeadAsked bytes left old new (Err Cut) = IsCutHead (front_of bytes) × (new ≡ old)
+ReadsHeadAsked bytes left old new (Err (Answered status)) =
+    ((r : Refusal) × IsRequestRefused bytes r × SendsReply (refusal_reply r) old new (Answered status))
     ⊎ SendsReply no_memory_reply old new (Answered status)
-ReadsAsked bytes left old new (Err LinkFault) =
+ReadsHeadAsked bytes left old new (Err LinkFault) =
     (new ≡ old)
-    ⊎ (((r : Refusal) × IsRefused bytes r × SendsReply (refusal_reply r) old new LinkFault)
+    ⊎ (((r : Refusal) × IsRequestRefused bytes r × SendsReply (refusal_reply r) old new LinkFault)
     ⊎ SendsReply no_memory_reply old new LinkFault)

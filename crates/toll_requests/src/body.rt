@@ -6,7 +6,7 @@ ghost use Rattle.std.specs.Io.KnownBytes.{ReadConsumes};
 ghost use Rattle.road_io.specs.Faults.{HasCause};
 ghost use Rattle.road_io.specs.Portions.{AnyPart};
 ghost use Rattle.road_io.specs.Rooms.{Room, Untold};
-ghost use Rattle.toll_requests.specs.Bodies.{body_left, IsBehind, IsSure, HasCauses, IsCutOff, Ends, LeavesBody};
+ghost use Rattle.toll_requests.specs.Bodies.{body_left, IsBehind, IsSure, HasCauses, IsCutOff, EndsBody, LeavesBody};
 
 use crate::body_end::BodyEnd;
 use road_io::{Failed, Link, Source};
@@ -129,7 +129,7 @@ impl<'a, 'b, L: Link, N: Start> Source for Body<'a, 'b, L, N> {
 
 /// Reads a body to its end.
 pub fn drain<'a, 'b, L: Link, N: Start>(body: &mut Body<'a, 'b, L, N>) -> BodyEnd
-    ensures end { Ends body.new.left body.new.faults body.new.cut result }
+    ensures end { EndsBody body.new.left body.new.faults body.new.cut result }
     ensures leaves { (all : List ℕ) → N.bytes ≡ Some all → LeavesBody N.total all (L.left body.new.link.now) result }
     ensures fewer { body.new.left ≤ body.old.left }
     ensures same { body.new.link.ghost_name ≡ body.old.link.ghost_name }

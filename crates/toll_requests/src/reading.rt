@@ -5,9 +5,9 @@ ghost use Rattle.road_io.specs.Faults.{Rose};
 ghost use Rattle.road_io.specs.Plans.{NeverFails};
 ghost use Rattle.httparse.specs.Grammar.{RequestHead};
 ghost use Rattle.httparse.specs.Spans.{IsRequestAt, IsRequestWithin};
-ghost use Rattle.toll_heads.specs.Fronts.{ReadsWithin};
+ghost use Rattle.road_io.specs.Within.{ReadsWithin};
 ghost use Rattle.toll_heads.specs.Asks.{IsWanted};
-ghost use Rattle.toll_requests.specs.Requests.{asked_for, IsAsked, ReadsAsked};
+ghost use Rattle.toll_requests.specs.Requests.{asked_for, IsAsked, ReadsHeadAsked};
 ghost use Rattle.toll_requests.specs.Sends.{HasRoom, refusal_room};
 ghost use Rattle.toll_requests.specs.declared.session_end.SessionEnd.TheVariants.{Answered, LinkFault};
 
@@ -53,7 +53,7 @@ fn ask<L: Link>(
     ensures reads { (h : RequestHead) (bytes : List ℕ) → IsRequestAt buf.now headers.now spans.now h
         → length h.fields ≤ 64
         → prepend_known buf.now (L.left link.old) ≡ Some bytes
-        → ReadsAsked bytes (L.left link.new) (L.written link.old) (L.written link.new) result }
+        → ReadsHeadAsked bytes (L.left link.new) (L.written link.old) (L.written link.new) result }
     ensures unread { L.left link.new ≡ L.left link.old }
     ensures plan_kept { L.plan link.new ≡ L.plan link.old }
     ensures room_kept { IfOk result (λ a. L.room link.new ≡ L.room link.old) }
@@ -79,7 +79,7 @@ pub fn read_routed<L: Link>(
     link: &mut L,
 ) -> Result<Asked, SessionEnd>
     ensures reads { (bytes : List ℕ) → L.left link.old ≡ Some bytes
-        → ReadsAsked bytes (L.left link.new) (L.written link.old) (L.written link.new) result }
+        → ReadsHeadAsked bytes (L.left link.new) (L.written link.old) (L.written link.new) result }
     ensures bounded { ReadsWithin 8192 (L.left link.old) (L.left link.new) }
     ensures ranges { IfOk result IsAsked }
     ensures room_kept { IfOk result (λ a. L.room link.new ≡ L.room link.old) }
@@ -103,7 +103,7 @@ pub fn read_routed<L: Link>(
 /// answered here.
 pub fn read_asked<L: Link>(alloc: Global, link: &mut L) -> Result<Asked, SessionEnd>
     ensures reads { (bytes : List ℕ) → L.left link.old ≡ Some bytes
-        → ReadsAsked bytes (L.left link.new) (L.written link.old) (L.written link.new) result }
+        → ReadsHeadAsked bytes (L.left link.new) (L.written link.old) (L.written link.new) result }
     ensures bounded { ReadsWithin 8192 (L.left link.old) (L.left link.new) }
     ensures ranges { IfOk result IsAsked }
     ensures room_kept { IfOk result (λ a. L.room link.new ≡ L.room link.old) }

@@ -1,16 +1,15 @@
 -- the whole traffic is a day that is accepted, in the order of lines
-use Rattle.std.proofs.Common.{◌≡◌, ℕ, zero, suc, ◌+◌, ◌*◌, ◌≤◌, List, [], ◌∷◌, length, map, Option, Some, None, refl}
+use Rattle.std.proofs.Common.{◌≡◌, ℕ, zero, suc, ◌+◌, ◌*◌, ◌≤◌, List, [], length, map, None, refl}
 use Rattle.std.proofs.Common.{arith, sym, subst}
-use Rattle.std.specs.List.{cons_option}
 use Rattle.std.proofs.lemmas.List.{length-map}
 use Rattle.std.proofs.lemmas.List.Elements.{All-from_recursion, recursion_from_All}
 use Rattle.road_time.specs.declared.road.Tuple.{Tuple}
 use Rattle.road_time.specs.declared.road.Report.{Report}
 use Rattle.road_time.specs.declared.day.TheConstants.Limits.{DAY}
-use Rattle.road_time.specs.Tuples.{report_of, reports}
+use Rattle.road_time.specs.Tuples.{reports}
 use Rattle.road_time.specs.Fits.{IsValid, IsDay, Allowed, vehicles_seen}
 use Rattle.road_time.specs.Reads.{reads}
-use Rattle.road_time.proofs.NoteLaws.{distinct-le}
+use Rattle.road_time.proofs.NoteLaws.{distinct-le, reports-le}
 use Rattle.road_time.proofs.AllowedLaws.{fit_by_time}
 use Rattle.road_time.proofs.OrderLaws.{by_time_length}
 use Rattle.road_time.proofs.FitLines.{reads_back}
@@ -96,15 +95,6 @@ module _ (plan : GenPlan) (r : InRange plan) where
       (trip_traffic plan (trips plan)) (crashes_so_far plan.crashes (omega arith))
       (trips_so_far (trips plan) (omega arith))
 
--- no more reports than tuples
-fewer_reports : (xs : List Tuple) → length (reports xs) ≤ length xs
-fewer_reports [] = omega arith
-fewer_reports (x ∷ xs) = step (report_of x) (fewer_reports xs)
-  where
-    step : (o : Option Report) → length (reports xs) ≤ length xs → length (cons_option o (reports xs)) ≤ length (x ∷ xs)
-    step None h = omega (arith, h)
-    step (Some r) h = omega (arith, h)
-
 -- no more vehicles than tuples
 few_seen : (xs : List Tuple) → length (vehicles_seen xs) ≤ length xs
 few_seen xs =
@@ -113,7 +103,7 @@ few_seen xs =
       distinct-le (map (λ (r : Report). r.vid) (reports xs)),
       length-map (reports xs)
           (λ (r : Report). r.vid),
-      fewer_reports xs,
+      reports-le xs,
     )
 
 -- few vehicles are a day that the limits allow

@@ -10,7 +10,7 @@ use Rattle.std.proofs.lemmas.Bool.Decides.{nat_tests}
 use Rattle.road_time.specs.declared.road.Tuple.{Tuple}
 use Rattle.road_time.specs.declared.road.Tuple.TheVariants.{Travel}
 use Rattle.road_time.specs.Tuples.{time_of}
-use Rattle.road_time.specs.Order.{NoneBefore, InOrder, IsByTime}
+use Rattle.road_time.specs.Order.{NoneBefore, AreTimesInOrder, IsByTime}
 
 -- the first is before none
 first_before : (y : Tuple) (ys : List Tuple) → IsNonDecreasingBy time_of (y ∷ ys) → NoneBefore (time_of y) ys
@@ -19,7 +19,7 @@ first_before y ys up =
     (All-from_get_or (λ x. time_of y ≤ time_of x) ys y (λ i h. up 0 (suc i) y (omega arith) (omega (arith, h))))
 
 -- Times that do not fall are in order
-in_order_from : (ys : List Tuple) → IsNonDecreasingBy time_of ys → InOrder ys
+in_order_from : (ys : List Tuple) → IsNonDecreasingBy time_of ys → AreTimesInOrder ys
 in_order_from [] up = tt
 in_order_from (y ∷ ys) up = (first_before y ys up, in_order_from ys (IsNonDecreasingBy-drop time_of 1 (y ∷ ys) up))
 

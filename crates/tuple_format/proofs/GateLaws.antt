@@ -21,7 +21,7 @@ use Rattle.road_time.proofs.EachLaws.{some_is}
 use Rattle.road_time.proofs.LateLaws.{greatest_push, count_push, seen_push, count_other, seen_other}
 use Rattle.tuple_format.specs.declared.recent.Recent.{Recent}
 use Rattle.tuple_format.specs.Recents.{count_in, first_in, noted}
-use Rattle.tuple_format.specs.Gates.{Gate, StandsFor, kept_of, count_of, noted_of, kept_fault, Judges}
+use Rattle.tuple_format.specs.Gates.{GateState, StandsFor, kept_of, count_of, noted_of, kept_fault, Judges}
 use Rattle.tuple_format.specs.declared.gatekeeper.AdmitFault.{AdmitFault}
 
 -- one report more is counted in its minute alone
@@ -65,7 +65,7 @@ same_fault None n count limit vid m b c v = rw (← c, ← v) refl
 same_fault (Some r) n count limit vid m b c v = rw (← c, ← v) refl
 
 -- so the whole fault of a report is that of what is kept
-pub report_same : (g : Gate) (limits : Limits) (late : ℕ) (before : List Tuple) (r : Report) →
+pub report_same : (g : GateState) (limits : Limits) (late : ℕ) (before : List Tuple) (r : Report) →
     StandsFor g limits late before → greatest_time before ≤ r.time + late →
     report_fault limits before r ≡ kept_fault (kept_of g.seen r.vid) (length g.seen) g.vehicle_limit r.vid
     (minute_of r.time)
@@ -106,7 +106,8 @@ length_more vs v true n o e h = rw e (omega (arith, h))
 length_more vs v false n o e h = rw e (omega (arith, h, length_push vs v))
 
 -- what is kept goes on with one report more
-module _ (g : Gate) (limits : Limits) (late : ℕ) (before : List Tuple) (r : Report) (seen : List (ℕ × Recent)) where
+module _ (g : GateState) (limits : Limits) (late : ℕ) (before : List Tuple) (r : Report)
+    (seen : List (ℕ × Recent)) where
   -- one vehicle has a report more
   abbrev pub Noted : Type 0
   Noted = (v : ℕ) →
@@ -114,7 +115,7 @@ module _ (g : Gate) (limits : Limits) (late : ℕ) (before : List Tuple) (r : Re
       ≡ (if nat_eq r.vid v then Some (noted_of (kept_of g.seen r.vid) (minute_of r.time)) else kept_of g.seen v)
 
   -- what is kept after the report
-  abbrev pub after : Gate
+  abbrev pub after : GateState
   after = record {
     vehicle_limit = g.vehicle_limit;
     lateness = g.lateness;
@@ -179,7 +180,7 @@ module _ (g : Gate) (limits : Limits) (late : ℕ) (before : List Tuple) (r : Re
       counts_at v minute false last e up near h risen = omega (arith, st.counts v minute (omega (arith, h, risen)))
 
 -- and with another tuple
-pub other_step : (g : Gate) (limits : Limits) (late : ℕ) (before : List Tuple) (x : Tuple) → report_of x ≡ None →
+pub other_step : (g : GateState) (limits : Limits) (late : ℕ) (before : List Tuple) (x : Tuple) → report_of x ≡ None →
     StandsFor g limits late before →
     StandsFor
     (record {
@@ -218,7 +219,7 @@ free limits before (Balance time vid qid) e = refl
 free limits before (Spent time vid xway qid day) e = refl
 free limits before (Travel time) e = refl
 
-module _ (g : Gate) (limits : Limits) (late : ℕ) (before : List Tuple) (x : Tuple) (time : ℕ) where
+module _ (g : GateState) (limits : Limits) (late : ℕ) (before : List Tuple) (x : Tuple) (time : ℕ) where
   -- what the code compares is what the definition compares
   in_time_of : StandsFor g limits late before → time ≡ time_of x → g.greatest ≤ time + g.lateness →
       greatest_time before ≤ time_of x + late

@@ -10,20 +10,20 @@ use Rattle.road_time.specs.declared.road.Tuple.{Tuple}
 use Rattle.road_time.specs.Tuples.{time_of}
 use Rattle.road_time.specs.Order.{placed}
 use Rattle.road_time.proofs.NumberOrder.{order_cases}
-use Rattle.tuple_format.specs.declared.waiting.Turn.{Turn}
+use Rattle.tuple_format.specs.declared.waiting.WaitingTurn.{WaitingTurn}
 use Rattle.tuple_format.specs.Turns.{Keyed}
 
 -- turns are compared by Time, then by number
-abbrev pub turn_cmp : Turn → Turn → Ordering
+abbrev pub turn_cmp : WaitingTurn → WaitingTurn → Ordering
 turn_cmp a b = ordering_then (nat_cmp a.time b.time) (nat_cmp a.number b.number)
 
 module _ (x : Tuple) (count : ℕ) where
   -- the turn of the next tuple that comes
-  abbrev pub turn : Turn
+  abbrev pub turn : WaitingTurn
   turn = record { time = time_of x; number = count }
 
   -- where the new tuple goes, after an entry or before it
-  choose : (e : Turn × Tuple) → e.0.time ≡ time_of e.1 → e.0.number < count → (Q : Ordering → Type 0) →
+  choose : (e : WaitingTurn × Tuple) → e.0.time ≡ time_of e.1 → e.0.number < count → (Q : Ordering → Type 0) →
       (time_of x < time_of e.1 → Q Less) → (time_of e.1 ≤ time_of x → Q Greater) → Q (turn_cmp turn e.0)
   choose e is less Q f g =
       order_cases (time_of x) e.0.time (λ o. Q (ordering_then o (nat_cmp count e.0.number)))
@@ -33,7 +33,7 @@ module _ (x : Tuple) (count : ℕ) where
       (λ l. g (omega (arith, is, l)))
 
   -- a new tuple stands behind those that are not later
-  pub insert_values : (es : List (Turn × Tuple)) → Keyed count es →
+  pub insert_values : (es : List (WaitingTurn × Tuple)) → Keyed count es →
       values_of (insert_entry turn_cmp es turn x) ≡ placed (values_of es) x
   insert_values [] h = refl
   insert_values (e ∷ es) h =
@@ -48,12 +48,13 @@ module _ (x : Tuple) (count : ℕ) where
       over a b l = grind arith
 
   -- the numbers stay below the next one
-  more : (es : List (Turn × Tuple)) → Keyed count es → Keyed (count + 1) es
+  more : (es : List (WaitingTurn × Tuple)) → Keyed count es → Keyed (count + 1) es
   more [] h = tt
   more (e ∷ es) h = ((h.0.0, omega (arith, h.0.1)), more es h.1)
 
   -- the new tuple has its Time and its number
-  pub insert_keyed : (es : List (Turn × Tuple)) → Keyed count es → Keyed (count + 1) (insert_entry turn_cmp es turn x)
+  pub insert_keyed : (es : List (WaitingTurn × Tuple)) → Keyed count es →
+      Keyed (count + 1) (insert_entry turn_cmp es turn x)
   insert_keyed [] h = ((refl, omega arith), tt)
   insert_keyed (e ∷ es) h =
       choose e h.0.0 h.0.1

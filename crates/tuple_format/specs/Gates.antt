@@ -17,7 +17,7 @@ use Rattle.tuple_format.specs.Recents.{count_in, first_in, noted}
 
 -- what a gatekeeper keeps: the limit of vehicles, the lateness, the greatest Time, and of each vehicle that reported
 -- the reports of its last minutes
-pub record Gate : Type 0 where
+pub record GateState : Type 0 where
   pub vehicle_limit : ℕ
   pub lateness : ℕ
   pub greatest : ℕ
@@ -34,7 +34,7 @@ count_of (Some r) minute = count_in r minute
 
 -- a gatekeeper stands for tuples that were accepted, in the order of their lines: their greatest Time, their vehicles,
 -- and each one's reports in the minute of the greatest Time and in the two minutes before
-pub record StandsFor (gate : Gate) (limits : Limits) (late : ℕ) (before : List Tuple) : Type 0 where
+pub record StandsFor (gate : GateState) (limits : Limits) (late : ℕ) (before : List Tuple) : Type 0 where
   pub vehicle_limit : gate.vehicle_limit ≡ limits.vehicles
   pub lateness : gate.lateness ≡ late
   pub few : late ≤ 120

@@ -37,9 +37,9 @@ pub struct Gatekeeper {
 }
 
 impl Model for Gatekeeper {
-    ghost use Rattle.tuple_format.specs.Gates.{Gate};
+    ghost use Rattle.tuple_format.specs.Gates.{GateState};
 
-    ghost Value = { Gate };
+    ghost Value = { GateState };
 
     ghost view = { λ g. record {
       vehicle_limit = g.vehicle_limit;

@@ -11,7 +11,7 @@ use std::marker::Model;
 
 /// The place of a waiting tuple: by Time, and then as they came.
 #[derive(Clone, Copy, Debug, PartialEq, Eq, PartialOrd, Ord)]
-pub struct Turn {
+pub struct WaitingTurn {
     pub time: u32,
     pub number: u64,
 }
@@ -20,7 +20,7 @@ pub struct Turn {
 #[derive(Drop)]
 pub struct Waiting {
     only: Option<Tuple>,
-    turns: BTreeMap<Turn, Tuple>,
+    turns: BTreeMap<WaitingTurn, Tuple>,
     count: u64,
 }
 
@@ -37,7 +37,11 @@ impl Model for Waiting {
 }
 
 /// Gives a tuple its turn behind those that are not later.
-fn place(turns: &mut BTreeMap<Turn, Tuple>, count: &mut u64, tuple: &Tuple) -> Result<(), NoMemory>
+fn place(
+    turns: &mut BTreeMap<WaitingTurn, Tuple>,
+    count: &mut u64,
+    tuple: &Tuple,
+) -> Result<(), NoMemory>
     requires { Keyed count.old turns.old.entries }
     ensures keyed { Keyed count.new turns.new.entries }
     ensures put { OnOk result (values_of turns.new.entries ≡ placed (values_of turns.old.entries) tuple.now) }
@@ -46,7 +50,7 @@ fn place(turns: &mut BTreeMap<Turn, Tuple>, count: &mut u64, tuple: &Tuple) -> R
     let Some(next) = count.checked_add(1) else {
         return Err(NoMemory);
     };
-    let turn = Turn {
+    let turn = WaitingTurn {
         time: tuple.time(),
         number: *count,
     };

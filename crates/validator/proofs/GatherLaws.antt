@@ -9,7 +9,7 @@ use Rattle.road_time.specs.declared.road.Tuple.TheVariants.{Report as ReportTupl
 use Rattle.road_time.specs.declared.road.Stretch.{Stretch}
 use Rattle.road_time.specs.Tuples.{reports}
 use Rattle.road_time.specs.Notes.{note_of, notes_at, vehicles_of, notes_of_vehicle, speed12}
-use Rattle.road_time.specs.Lav.{Flow, flow_at}
+use Rattle.road_time.specs.Lav.{CarFlow, flow_at}
 use Rattle.road_time.specs.Tolls.{notes_of}
 use Rattle.road_time.proofs.NoteLaws.{filter-le}
 use Rattle.validator.specs.declared.spots.Spot.{Spot}
@@ -78,7 +78,7 @@ module _ (s : Spot) where
 
   -- no reports, no flow
   pub flow_none : (day : List Tuple) → filter (is_of s) day ≡ [] →
-      ◌≡◌ {A = Flow} (record { cars = 0; speeds12 = 0 }) (flow_at (notes_of (reports day)) s.stretch s.minute)
+      ◌≡◌ {A = CarFlow} (record { cars = 0; speeds12 = 0 }) (flow_at (notes_of (reports day)) s.stretch s.minute)
   flow_none day none = sym (ap (λ xs. flow_at (notes_of (reports xs)) s.stretch s.minute) none) ∙ flow_there day
 
   -- they are no more than the day has

@@ -11,7 +11,7 @@ use Rattle.road_time.specs.declared.road.Tuple.{Tuple}
 use Rattle.road_time.specs.declared.road.Report.{Report}
 use Rattle.road_time.specs.declared.road.Place.{Place}
 use Rattle.road_time.specs.declared.road.Mishap.{Mishap}
-use Rattle.road_time.specs.Order.{InOrder, greatest_time}
+use Rattle.road_time.specs.Order.{AreTimesInOrder, greatest_time}
 use Rattle.road_time.specs.Tuples.{reports, place_of, same_place}
 use Rattle.road_time.specs.Stops.{Stop}
 use Rattle.road_time.specs.Tolls.{stops_at}
@@ -24,7 +24,8 @@ use Rattle.validator.specs.declared.halts.Halt.{Halt}
 use Rattle.validator.specs.declared.mishaps.Group.{Group}
 use Rattle.validator.specs.Halts.{covers, halting, halts_of, is_at}
 use Rattle.validator.specs.Groups.{shown_group, has_other, stands_with, has_halts, groups_of, mishap_in}
-use Rattle.validator.proofs.HaltLaws.{halts_among, any_map}
+use Rattle.validator.proofs.HaltLaws.{halts_among}
+use Rattle.road_time.proofs.StandLaws.{any_map}
 
 -- runs
 
@@ -116,7 +117,7 @@ accident_same ss ts p f =
     (accident_from ts ss p (λ s h. f s ∙ h))
 
 -- an accident stands at a place as the halts there have it
-pub stands_is : (day : List Tuple) → InOrder day → (p : Place) (t : ℕ) →
+pub stands_is : (day : List Tuple) → AreTimesInOrder day → (p : Place) (t : ℕ) →
     stands_at (reports day) p t ≡ stands_with (filter (is_at p) (halts_of (reports day))) t
 stands_is day order p t =
     sym (accident_at (halts_of (reports day)) t p
@@ -129,7 +130,7 @@ none_first : (from : ℕ) → stands_first (stands_with []) from ≡ false
 none_first zero = refl
 none_first (suc t) = refl
 
-module _ (day : List Tuple) (order : InOrder day) (last from : ℕ) where
+module _ (day : List Tuple) (order : AreTimesInOrder day) (last from : ℕ) where
   abbrev hs : List Halt
   hs = halts_of (reports day)
 
@@ -157,7 +158,7 @@ module _ (day : List Tuple) (order : InOrder day) (last from : ℕ) where
       one_group p (filter (is_at p) hs) refl (groups_of hs ps) (filter_map (mishap_at (reports day) last from) ps)
       (begun_is ps)
 
-range_more : (a n : ℕ) → range_with_len a (suc n) ≡ range_with_len a n ++ (a + n) ∷ []
+pub range_more : (a n : ℕ) → range_with_len a (suc n) ≡ range_with_len a n ++ (a + n) ∷ []
 range_more a zero = let e : a ≡ a + 0 = omega arith in ap (λ x. x ∷ []) e
 range_more a (suc n) = let e : a + 1 + n ≡ a + suc n = omega arith in
     ap (λ xs. a ∷ xs) (range_more (a + 1) n ∙ ap (λ x. range_with_len (a + 1) n ++ x ∷ []) e)
@@ -178,7 +179,7 @@ flat_same f g h [] = refl
 flat_same f g h (n ∷ ns) = rw (h n, flat_same f g h ns) refl
 
 -- the log is what begins in the groups
-pub log_is : (day : List Tuple) → InOrder day →
+pub log_is : (day : List Tuple) → AreTimesInOrder day →
     log_of day ≡ flat_map
     (λ from. filter_map (mishap_in (greatest_time day) from)
     (groups_of (halts_of (reports day)) (places_of (reports day)))) (range_with_len 0 (greatest_time day + 1))

@@ -1,6 +1,6 @@
 -- who stands at the end of a second, by when each vehicle stands where
 use Rattle.std.proofs.Common.{◌≡◌, ℕ, ◌≤◌, ◌==◌, ◌&&◌, ◌||◌, nat_le, nat_lt, Bool, true, false, cond, List, [], ◌∷◌}
-use Rattle.std.proofs.Common.{◌++◌, map, reverse, refl, sym, ap, ◌∙◌, arith, Option, Some}
+use Rattle.std.proofs.Common.{◌++◌, reverse, refl, sym, ap, ◌∙◌, arith, Option, Some}
 use Rattle.std.specs.List.{filter, list_any, AllByRecursion}
 use Rattle.std.proofs.lemmas.List.{reverse-append, append-nil}
 use Rattle.std.proofs.lemmas.List.Elements.{filter-append}
@@ -11,14 +11,14 @@ use Rattle.road_time.specs.declared.road.Tuple.{Tuple}
 use Rattle.road_time.specs.declared.road.Tuple.TheVariants.{Report as ReportTuple, Balance, Spent, Travel}
 use Rattle.road_time.specs.declared.road.Report.{Report}
 use Rattle.road_time.specs.declared.road.Place.{Place}
-use Rattle.road_time.specs.Order.{NoneBefore, InOrder}
+use Rattle.road_time.specs.Order.{NoneBefore, AreTimesInOrder}
 use Rattle.road_time.specs.Tuples.{reports, place_of, same_place}
 use Rattle.road_time.specs.Stops.{Stop, near, stands, up_to}
 use Rattle.road_time.specs.declared.road.Stretch.{Stretch}
 use Rattle.road_time.specs.Tolls.{stops_at, near_at}
 use Rattle.road_time.proofs.SameLaws.{place_is}
 use Rattle.road_time.proofs.TrailLaws.{stands_elsewhere}
-use Rattle.road_time.proofs.StandLaws.{near_in, same_stop, is_among, stops_among, any_filter}
+use Rattle.road_time.proofs.StandLaws.{near_in, same_stop, is_among, stops_among, any_filter, any_map}
 use Rattle.road_time.proofs.EachLaws.{turned, joined, weakened}
 use Rattle.validator.specs.declared.halts.Mark.{Mark}
 use Rattle.validator.specs.declared.halts.Halt.{Halt}
@@ -49,7 +49,7 @@ none_before t (Spent time vid xway qid day ∷ xs) h = none_before t xs h.1
 none_before t (Travel time ∷ xs) h = none_before t xs h.1
 
 -- the newest first, Times do not rise
-pub fall_turned : (day : List Tuple) → InOrder day → Fall (reverse (reports day))
+pub fall_turned : (day : List Tuple) → AreTimesInOrder day → Fall (reverse (reports day))
 fall_turned [] h = tt
 fall_turned (ReportTuple r ∷ xs) h =
     let e : reverse (r ∷ reports xs) ≡ reverse (reports xs) ++ r ∷ [] = reverse-append (r ∷ []) (reports xs) in
@@ -62,11 +62,6 @@ fall_turned (Travel time ∷ xs) h = fall_turned xs h.1
 -- a vehicle stands at a place at the end of a second
 abbrev pub halts_at : List Halt → ℕ → ℕ → Place → Bool
 halts_at hs t v p = list_any (λ h. covers t h && (h.vid == v && same_place h.place p)) hs
-
-pub any_map : {X Y : Type 0} (r : Y → Bool) (f : X → Y) (xs : List X) →
-    list_any r (map f xs) ≡ list_any (λ x. r (f x)) xs
-any_map r f [] = refl
-any_map r f (x ∷ xs) = ap (λ z. r (f x) || z) (any_map r f xs)
 
 pub halting_among : (hs : List Halt) (t : ℕ) (s : Stop) → is_among (halting hs t) s ≡ halts_at hs t s.0 s.1
 halting_among hs t s = any_map (λ x. same_stop x s) (λ h. (h.vid, h.place)) (filter (covers t) hs)
@@ -227,7 +222,7 @@ module _ (t v : ℕ) (p : Place) where
           ∙ here_now same f ∙ sym (ap (λ b. stands (of_vehicle v (cond b (r ∷ past older) (past older))) p) f)
 
 -- who stands, by the halts, is who is stopped
-pub halts_among : (day : List Tuple) → InOrder day → (t : ℕ) (s : Stop) →
+pub halts_among : (day : List Tuple) → AreTimesInOrder day → (t : ℕ) (s : Stop) →
     is_among (halting (halts_of (reports day)) t) s ≡ is_among (stops_at (reports day) t) s
 halts_among day order t s =
     halting_among (halts_of (reports day)) t s
@@ -236,7 +231,7 @@ halts_among day order t s =
     ∙ sym (stops_among (up_to t (reports day)) s)
 
 -- and so are the accidents
-pub near_halts : (day : List Tuple) → InOrder day → (m : ℕ) (k : Stretch) →
+pub near_halts : (day : List Tuple) → AreTimesInOrder day → (m : ℕ) (k : Stretch) →
     near (halting (halts_of (reports day))) m k ≡ near_at (reports day) m k
 near_halts day order m k =
     near_in (halting (halts_of (reports day))) (stops_at (reports day)) m k (λ t s e. halts_among day order t s)

@@ -1,18 +1,16 @@
 -- one more report with its mark
 use Rattle.std.proofs.Common.{◌≡◌, ℕ, ◌==◌, Bool, true, false, cond, List, [], ◌∷◌, ◌++◌, reverse, refl, sym, ap, ◌∙◌}
 use Rattle.std.proofs.Common.{Option}
-use Rattle.std.proofs.lemmas.List.{reverse-append, append_assoc}
+use Rattle.std.proofs.lemmas.List.{append_assoc}
 use Rattle.std.proofs.lemmas.Bool.{eqb-true}
 use Rattle.road_time.specs.declared.road.Report.{Report}
 use Rattle.road_time.specs.Tuples.{place_of}
 use Rattle.road_time.specs.Stops.{stands}
-use Rattle.validator.specs.declared.halts.Seen.{Seen}
+use Rattle.validator.specs.declared.halts.HaltSeen.{HaltSeen}
 use Rattle.validator.specs.declared.halts.Mark.{Mark}
 use Rattle.validator.specs.declared.halts.Halt.{Halt}
 use Rattle.validator.specs.Halts.{kept, of_vehicle, marks_of, next_time, halt_if, halts_after}
-
-pub newest_first : {X : Type 0} (xs : List X) (x : X) → reverse (xs ++ x ∷ []) ≡ x ∷ reverse xs
-newest_first xs x = reverse-append xs (x ∷ [])
+use Rattle.road_time.proofs.SightLaws.{newest_first}
 
 -- the marks of one report more
 pub marks_push : (ms : List Mark) (rs : List Report) (r : Report) (b : Bool) → reverse ms ≡ marks_of (reverse rs) →
@@ -23,7 +21,7 @@ marks_push ms rs r b e f =
     ∙ ap (λ c. record { report = r; stands = c } ∷ marks_of (reverse rs)) f ∙ sym (ap marks_of (newest_first rs r))
 
 -- the runs after one report more
-pub seen_push : (before after : ℕ → Option Seen) (rs : List Report) (r : Report) →
+pub seen_push : (before after : ℕ → Option HaltSeen) (rs : List Report) (r : Report) →
     ((v : ℕ) → before v ≡ kept (of_vehicle v (reverse rs))) →
     kept (r ∷ of_vehicle r.vid (reverse rs)) ≡ after r.vid → ((v : ℕ) → (r.vid == v) ≡ false → after v ≡ before v) →
     (v : ℕ) → after v ≡ kept (of_vehicle v (reverse (rs ++ r ∷ [])))

@@ -11,21 +11,21 @@ use Rattle.road_time.specs.Tuples.{report_of}
 use Rattle.road_time.specs.Rates.{Tariffs}
 use Rattle.road_time.specs.Sights.{Moment, moments, Sight, sights_of, previous}
 use Rattle.road_time.specs.Stays.{is_told, is_charged, stay_start}
-use Rattle.road_time.specs.Tolls.{Finding}
-use Rattle.road_time.specs.Day.{Charge, rules, sum_of, charges_to, owed_if, owed_by, told_if, told_by, notices_of}
+use Rattle.road_time.specs.Tolls.{StretchTold}
+use Rattle.road_time.specs.Day.{ChargedToll, rules, sum_of, charges_to, owed_if, owed_by, told_if, told_by, notices_of}
 use Rattle.road_time.specs.Day.{toll_told, balance_by, answer_by, notices_by, xway_of}
 use Rattle.road_time.proofs.SightLaws.{moments_push, sights_of_push, sights_of_other}
 use Rattle.road_time.proofs.AccountLaws.{balance_push, told_last, charged_told, toll_if as told_if_is}
 use Rattle.road_time.proofs.EachLaws.{some_is, no_some}
 use Rattle.road_time.proofs.BoundLaws.{Few, rules_few, balance_few}
 use Rattle.validator.specs.declared.account.Account.{Account}
-use Rattle.validator.specs.declared.found.Found.{Found}
+use Rattle.validator.specs.declared.found.SpotFound.{SpotFound}
 use Rattle.validator.specs.Findings.{shown_told, shown_found, finding_if}
 use Rattle.validator.specs.Accounts.{newest_of, toll_kept, owed_kept, toll_after, account_after, charge_after, toll_if}
 use Rattle.validator.specs.Accounts.{toll_last, notices_told, AreAccounts}
 
 -- the notices of one tuple more
-pub notices_push : (finding : Sight → Finding) (number : ℕ) (kept : ℕ → ℕ → ℕ → ℕ) (day : List Tuple) (x : Tuple) →
+pub notices_push : (finding : Sight → StretchTold) (number : ℕ) (kept : ℕ → ℕ → ℕ → ℕ) (day : List Tuple) (x : Tuple) →
     notices_by finding number kept (moments (day ++ x ∷ [])) ≡ notices_by finding number kept (moments day)
     ++ (told_by finding (day, x) ++ answer_by finding number kept (day, x))
 notices_push finding number kept day x =
@@ -34,16 +34,17 @@ notices_push finding number kept day x =
     ∙ ap (λ ns. notices_by finding number kept (moments day) ++ ns) (append-nil (each (day, x)))
 
 -- what a report is told, by its finding
-pub told_is : (finding : Sight → Finding) (b : Bool) (s : Sight) →
+pub told_is : (finding : Sight → StretchTold) (b : Bool) (s : Sight) →
     notices_of finding (told_if b s) ≡ notices_told s.1 (finding_if b (finding s))
 told_is finding true s = refl
 told_is finding false s = refl
 
 charge_made : {v x x' t t' : ℕ} → x ≡ x' → t ≡ t' →
-    ◌≡◌ {A = List Charge} (record { vid = v; xway = x; toll = t } ∷ []) (record { vid = v; xway = x'; toll = t' } ∷ [])
+    ◌≡◌ {A = List ChargedToll} (record { vid = v; xway = x; toll = t } ∷ [])
+    (record { vid = v; xway = x'; toll = t' } ∷ [])
 charge_made e f = rw (e, f) refl
 
-module _ (finding : Sight → Finding) where
+module _ (finding : Sight → StretchTold) where
   -- the toll told last, in the words of the laws
   last_is : (own : List Sight) → toll_last finding own ≡ told_last finding own
   last_is [] = refl
@@ -73,12 +74,13 @@ module _ (finding : Sight → Finding) where
       one true t u h = zero_more t ∙ h
       one false t u h = refl
 
-  module _ (kept after : ℕ → Option Account) (before : List Tuple) (r : Report) (told : Option Found)
+  module _ (kept after : ℕ → Option Account) (before : List Tuple) (r : Report) (told : Option SpotFound)
       (are : AreAccounts finding kept before)
       (now : (v : ℕ) → after v ≡ cond (r.vid == v) (Some (account_after (kept r.vid) r told)) (kept v))
       (exact : shown_told told ≡ finding_if (is_told (previous (sights_of before r.vid)) r)
       (finding (length before, r))) where
-    toll_told_now : (b : Bool) (t : Option Found) (last : ℕ) → shown_told t ≡ finding_if b (finding (length before, r))
+    toll_told_now : (b : Bool) (t : Option SpotFound) (last : ℕ) →
+        shown_told t ≡ finding_if b (finding (length before, r))
         → toll_after t last ≡ toll_if b (finding (length before, r)) last
     toll_told_now true (Some f) last e = ap (λ x. x.toll) (some_is (shown_found f) (finding (length before, r)) e)
     toll_told_now true None last e = absurd (no_some _ e)
@@ -175,7 +177,7 @@ module _ (finding : Sight → Finding) where
       step false h = h
 
 -- before anything
-pub accounts_none : (finding : Sight → Finding) (kept : ℕ → Option Account) → ((v : ℕ) → kept v ≡ None) →
+pub accounts_none : (finding : Sight → StretchTold) (kept : ℕ → Option Account) → ((v : ℕ) → kept v ≡ None) →
     AreAccounts finding kept []
 accounts_none finding kept none = record {
   newest = λ v. ap newest_of (none v);

@@ -8,7 +8,7 @@ use Rattle.road_time.specs.Rates.{Tariffs}
 use Rattle.road_time.proofs.SameLaws.{stretch_is}
 use Rattle.road_time.proofs.EachLaws.{some_is}
 use Rattle.validator.specs.declared.spots.Spot.{Spot}
-use Rattle.validator.specs.declared.found.Found.{Found}
+use Rattle.validator.specs.declared.found.SpotFound.{SpotFound}
 use Rattle.validator.specs.Gathered.{same_spot}
 use Rattle.validator.specs.Findings.{finding_on, shown_found}
 
@@ -23,11 +23,12 @@ spot_is a b h =
     spot_made (eqb-true a.minute b.minute p.0) (stretch_is a.stretch b.stretch p.1)
 
 -- one spot more
-pub known_more : (rs : List Report) (tariffs : Tariffs) (before after : Spot → Option Found) (s : Spot) (f : Found) →
-    ((t : Spot) (g : Found) → before t ≡ Some g → shown_found g ≡ finding_on rs tariffs t.minute t.stretch) →
+pub known_more : (rs : List Report) (tariffs : Tariffs) (before after : Spot → Option SpotFound) (s : Spot)
+    (f : SpotFound) →
+    ((t : Spot) (g : SpotFound) → before t ≡ Some g → shown_found g ≡ finding_on rs tariffs t.minute t.stretch) →
     ((t : Spot) → after t ≡ cond (same_spot s t) (Some f) (before t)) →
     shown_found f ≡ finding_on rs tariffs s.minute s.stretch →
-    (t : Spot) (g : Found) → after t ≡ Some g → shown_found g ≡ finding_on rs tariffs t.minute t.stretch
+    (t : Spot) (g : SpotFound) → after t ≡ Some g → shown_found g ≡ finding_on rs tariffs t.minute t.stretch
 known_more rs tariffs before after s f known now exact t g e = step (same_spot s t) refl (sym (now t) ∙ e)
   where
     step : (b : Bool) → same_spot s t ≡ b → cond b (Some f) (before t) ≡ Some g →

@@ -9,14 +9,14 @@ use Rattle.std.proofs.lemmas.List.Elements.{filter-append}
 use Rattle.std.proofs.lemmas.List.Concat.{flat_map-append}
 use Rattle.std.proofs.lemmas.List.Sums.{fold_push, sum_by-cons, sum_by-append}
 use Rattle.std.proofs.lemmas.Bool.{cond-true, cond-false}
-use Rattle.road_time.specs.Day.{Charge, sum_of}
+use Rattle.road_time.specs.Day.{ChargedToll, sum_of}
 use Rattle.road_time.specs.declared.day.SpentRow.{SpentRow}
 use Rattle.road_time.specs.Rows.{in_order}
-use Rattle.validator.specs.declared.account.Charge.{Charge as CodeCharge}
+use Rattle.validator.specs.declared.account.StayCharge.{StayCharge as CodeCharge}
 use Rattle.validator.specs.Accounts.{shown_charge}
 
 -- some of the charges come to no more than all
-pub sum_kept : (p : Charge → Bool) (cs : List Charge) → sum_of (filter p cs) ≤ sum_of cs
+pub sum_kept : (p : ChargedToll → Bool) (cs : List ChargedToll) → sum_of (filter p cs) ≤ sum_of cs
 sum_kept p [] = omega arith
 sum_kept p (c ∷ cs) = step (p c) (sum_kept p cs)
   where
@@ -26,22 +26,22 @@ sum_kept p (c ∷ cs) = step (p c) (sum_kept p cs)
         omega (
           arith,
           h,
-          sum_by-cons (λ (x : Charge). x.toll) c (filter p cs),
-          sum_by-cons (λ (x : Charge). x.toll) c
+          sum_by-cons (λ (x : ChargedToll). x.toll) c (filter p cs),
+          sum_by-cons (λ (x : ChargedToll). x.toll) c
               cs,
         )
-    step false h = omega (arith, h, sum_by-cons (λ (x : Charge). x.toll) c cs)
+    step false h = omega (arith, h, sum_by-cons (λ (x : ChargedToll). x.toll) c cs)
 
-pub sum_taken : (n : ℕ) (cs : List Charge) → sum_of (take n cs) ≤ sum_of cs
+pub sum_taken : (n : ℕ) (cs : List ChargedToll) → sum_of (take n cs) ≤ sum_of cs
 sum_taken zero cs = omega arith
 sum_taken (suc n) [] = omega arith
 sum_taken (suc n) (c ∷ cs) =
     omega (
       arith,
       sum_taken n cs,
-      sum_by-cons (λ (x : Charge). x.toll) c (take n cs),
+      sum_by-cons (λ (x : ChargedToll). x.toll) c (take n cs),
       sum_by-cons
-          (λ (x : Charge). x.toll) c cs,
+          (λ (x : ChargedToll). x.toll) c cs,
     )
 
 map_taken : (n : ℕ) (cs : List CodeCharge) → map shown_charge (take n cs) ≡ take n (map shown_charge cs)
@@ -49,8 +49,8 @@ map_taken zero cs = refl
 map_taken (suc n) [] = refl
 map_taken (suc n) (c ∷ cs) = ap (λ xs. shown_charge c ∷ xs) (map_taken n cs)
 
-module _ (p : Charge → Bool) (cs : List CodeCharge) (i : ℕ) (d : CodeCharge) (within : i < length cs) where
-  abbrev next : Charge
+module _ (p : ChargedToll → Bool) (cs : List CodeCharge) (i : ℕ) (d : CodeCharge) (within : i < length cs) where
+  abbrev next : ChargedToll
   next = shown_charge (get_or cs i d)
 
   kept_more : filter p (map shown_charge (take (i + 1) cs)) ≡ filter p (map shown_charge (take i cs)) ++ filter p
@@ -73,14 +73,14 @@ module _ (p : Charge → Bool) (cs : List CodeCharge) (i : ℕ) (d : CodeCharge)
   zero_more : (n : ℕ) → n + 0 ≡ n
   zero_more n = omega arith
 
-  one_sum : (c : Charge) → sum_of (c ∷ []) ≡ c.toll
-  one_sum c = sum_by-cons (λ (x : Charge). x.toll) c [] ∙ zero_more c.toll
+  one_sum : (c : ChargedToll) → sum_of (c ∷ []) ≡ c.toll
+  one_sum c = sum_by-cons (λ (x : ChargedToll). x.toll) c [] ∙ zero_more c.toll
 
   pub sum_yes : p next ≡ true →
       sum_of (filter p (map shown_charge (take (i + 1) cs))) ≡ sum_of (filter p (map shown_charge (take i cs)))
       + next.toll
   sum_yes e =
-      ap sum_of (kept_yes e) ∙ sum_by-append (λ (x : Charge). x.toll) (filter p (map shown_charge (take i cs)))
+      ap sum_of (kept_yes e) ∙ sum_by-append (λ (x : ChargedToll). x.toll) (filter p (map shown_charge (take i cs)))
       (next ∷ [])
       ∙ ap (λ n. sum_of (filter p (map shown_charge (take i cs))) + n) (one_sum next)
 
@@ -93,7 +93,7 @@ module _ (p : Charge → Bool) (cs : List CodeCharge) (i : ℕ) (d : CodeCharge)
       omega (arith, a, b, e)
 
 -- one number more among those in order
-pub order_more : (f : Charge → ℕ) (cs : List CodeCharge) (i : ℕ) (d : CodeCharge) → i < length cs →
+pub order_more : (f : ChargedToll → ℕ) (cs : List CodeCharge) (i : ℕ) (d : CodeCharge) → i < length cs →
     in_order (map f (map shown_charge (take (i + 1) cs))) ≡ insert_key nat_cmp
     (in_order (map f (map shown_charge (take i cs)))) (f (shown_charge (get_or cs i d)))
 order_more f cs i d h =

@@ -6,18 +6,18 @@ use Rattle.road_time.specs.Rates.{Tariffs}
 use Rattle.road_time.specs.Sights.{moments}
 use Rattle.road_time.specs.Day.{rules, charges_by, notices_by}
 use Rattle.validator.specs.declared.output.Output.{Output}
-use Rattle.validator.specs.Findings.{Known}
+use Rattle.validator.specs.Findings.{KnowsSpots}
 use Rattle.validator.specs.Accounts.{AreAccounts, shown_charge}
 
 -- what is kept and made after some tuples of a day
 pub record IsOutput (day : List Tuple) (tariffs : Tariffs) (number : ℕ) (kept : ℕ → ℕ → ℕ → ℕ) (o : Output)
     (before : List Tuple) : Type 0 where
-  pub known : Known (reports day) tariffs o.found
+  pub known : KnowsSpots (reports day) tariffs o.found
   pub accounts : AreAccounts (rules day tariffs) (get nat_eq o.accounts) before
   pub charges : map shown_charge o.charges.items ≡ charges_by (rules day tariffs) (moments before)
   pub notices : o.notices.items ≡ notices_by (rules day tariffs) number kept (moments before)
 
 -- it is what it is after some tuples, fewer than a day may have
-abbrev pub Stands : List Tuple → Tariffs → ℕ → (ℕ → ℕ → ℕ → ℕ) → Output → Type 0
-Stands day tariffs number kept o = (before : List Tuple) × (length before ≤ 16000000)
+abbrev pub StandsAfter : List Tuple → Tariffs → ℕ → (ℕ → ℕ → ℕ → ℕ) → Output → Type 0
+StandsAfter day tariffs number kept o = (before : List Tuple) × (length before ≤ 16000000)
     × IsOutput day tariffs number kept o before

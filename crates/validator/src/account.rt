@@ -2,7 +2,7 @@
 ghost use Rattle.std.specs.Prelude.{◌≡◌, ◌+◌, ◌++◌, ◌<◌, ◌^◌, OnOk, map};
 ghost use Rattle.validator.specs.Accounts.{newest_of, toll_kept, owed_kept, account_after, charge_after, shown_charge};
 
-use crate::found::Found;
+use crate::found::SpotFound;
 use crate::owed::leaves_stay;
 use road_time::{NoMemory, Report};
 
@@ -42,7 +42,7 @@ pub fn owed(last: Option<Account>) -> u64
 }
 
 /// What is kept after one more report, and what it was told.
-pub fn after(last: Option<Account>, r: &Report, told: Option<Found>) -> Account
+pub fn after(last: Option<Account>, r: &Report, told: Option<SpotFound>) -> Account
     requires fits { owed_kept last + toll_kept last < 2 ^ 64 }
     ensures { result ≡ account_after last r.now told }
 {
@@ -64,7 +64,7 @@ pub fn after(last: Option<Account>, r: &Report, told: Option<Found>) -> Account
 
 /// A toll that a vehicle owes for a stay on an expressway.
 #[derive(Clone, Copy, Debug, PartialEq, Eq)]
-pub struct Charge {
+pub struct StayCharge {
     pub vid: u32,
     pub xway: u8,
     pub toll: u64,
@@ -72,7 +72,7 @@ pub struct Charge {
 
 /// Adds what the report charges.
 pub fn add_charge(
-    charges: &mut Vec<Charge>,
+    charges: &mut Vec<StayCharge>,
     last: Option<Account>,
     r: &Report,
 ) -> Result<(), NoMemory>
@@ -81,7 +81,7 @@ pub fn add_charge(
 {
     if let Some(account) = last {
         if leaves_stay(Some(account.newest), r) {
-            charges.push(Charge {
+            charges.push(StayCharge {
                 vid: r.vid,
                 xway: account.newest.xway,
                 toll: account.toll,

@@ -6,7 +6,7 @@ ghost use Rattle.road_time.specs.Tuples.{reports};
 ghost use Rattle.road_time.specs.Notes.{cars};
 ghost use Rattle.road_time.specs.Lav.{flow_at as defined_flow_at};
 ghost use Rattle.road_time.specs.Tolls.{notes_of, lav_at};
-ghost use Rattle.validator.specs.Flows.{shown};
+ghost use Rattle.validator.specs.Flows.{shown_flow};
 ghost use Rattle.validator.specs.Gathered.{IsGathered};
 
 use crate::flows::{Flow, flow_at, mean_average};
@@ -23,7 +23,7 @@ fn flow_on(
 ) -> Result<Flow, NoMemory>
     requires fit { IsDay gathered.now.tuples.now }
     requires right { IsGathered gathered.now }
-    ensures flow { IfOk result (λ f. shown f
+    ensures flow { IfOk result (λ f. shown_flow f
         ≡ defined_flow_at (notes_of (reports gathered.now.tuples.now)) stretch in_minute) }
     ensures bounded { IfOk result (λ f. f.speeds12 ≤ 3060 * f.cars) }
 {

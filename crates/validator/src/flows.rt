@@ -5,7 +5,7 @@ ghost use Rattle.road_time.specs.Fits.{IsDay};
 ghost use Rattle.road_time.specs.Lav.{lav, lav_of, flow_at as defined_flow_at};
 ghost use Rattle.road_time.specs.Tolls.{notes_of};
 ghost use Rattle.road_time.specs.Tuples.{reports};
-ghost use Rattle.validator.specs.Flows.{shown};
+ghost use Rattle.validator.specs.Flows.{shown_flow};
 
 use crate::cars::{speed12_at, vehicles_at};
 use road_time::{Frac, NoMemory, Stretch, Tuple};
@@ -26,7 +26,7 @@ pub fn flow_at(
     stretch: Stretch,
 ) -> Result<Flow, NoMemory>
     requires lines { length tuples.now ≤ 16000000 }
-    ensures flow { IfOk result (λ f. shown f ≡ defined_flow_at (notes_of (reports tuples.now)) stretch in_minute) }
+    ensures flow { IfOk result (λ f. shown_flow f ≡ defined_flow_at (notes_of (reports tuples.now)) stretch in_minute) }
     ensures bounded { IfOk result (λ f. f.speeds12 ≤ 3060 * f.cars) }
 {
     let vids = vehicles_at(alloc, tuples, in_minute, stretch)?;
@@ -46,7 +46,7 @@ pub fn mean_average(flows: &[Flow]) -> Option<Frac>
     requires cars { All (λ f. f.cars ≤ 500000) flows.now }
     requires speeds { All (λ f. f.speeds12 ≤ 3060 * f.cars) flows.now }
     ensures small { (f : FracValue) → result ≡ Some f → f.den < 2 ^ 120 }
-    ensures exact { result ≡ lav_of (map shown flows.now) }
+    ensures exact { result ≡ lav_of (map shown_flow flows.now) }
 {
     let mut num: u128 = 0;
     let mut den: u128 = 1;

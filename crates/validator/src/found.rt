@@ -5,7 +5,7 @@ ghost use Rattle.road_time.specs.Fits.{IsDay, IsReport};
 ghost use Rattle.road_time.specs.Tolls.{finding_at};
 ghost use Rattle.road_time.specs.Rates.{whole_of};
 ghost use Rattle.validator.specs.Gathered.{IsGathered};
-ghost use Rattle.validator.specs.Findings.{finding_on, shown_found, Known, IsMeanSpeed};
+ghost use Rattle.validator.specs.Findings.{finding_on, shown_found, KnowsSpots, IsMeanSpeed};
 
 use crate::average::average_on;
 use crate::blocked::near_by;
@@ -17,7 +17,7 @@ use std::collections::HashMap;
 
 /// What is told of a stretch in a minute: the average, the toll, and the segment of the nearest accident.
 #[derive(Clone, Copy, Debug, PartialEq, Eq)]
-pub struct Found {
+pub struct SpotFound {
     pub lav: i16,
     pub toll: u64,
     pub alert: Option<u8>,
@@ -41,7 +41,7 @@ fn found_at(
     tariffs: &Tariffs,
     in_minute: u32,
     stretch: Stretch,
-) -> Result<Found, NoMemory>
+) -> Result<SpotFound, NoMemory>
     requires fit { IsDay gathered.now.tuples.now }
     requires right { IsGathered gathered.now }
     requires first { 1 ≤ in_minute }
@@ -53,7 +53,7 @@ fn found_at(
 {
     let average = average_on(alloc, gathered, in_minute, stretch)?;
     let alert = near_by(alloc, gathered, in_minute, stretch)?;
-    Ok(Found {
+    Ok(SpotFound {
         lav: whole(average.lav),
         toll: toll_of(
             tariffs.of(stretch.xway),
@@ -70,15 +70,15 @@ pub fn found_for(
     alloc: Global,
     gathered: &Gathered,
     tariffs: &Tariffs,
-    found: &mut HashMap<Spot, Found>,
+    found: &mut HashMap<Spot, SpotFound>,
     r: &Report,
-) -> Result<Found, NoMemory>
+) -> Result<SpotFound, NoMemory>
     requires fit { IsDay gathered.now.tuples.now }
     requires right { IsGathered gathered.now }
     requires valid { IsReport r.now }
-    requires known { Known (reports gathered.now.tuples.now) tariffs.now found.old }
+    requires known { KnowsSpots (reports gathered.now.tuples.now) tariffs.now found.old }
     ensures exact { IfOk result (λ f. shown_found f ≡ finding_at (reports gathered.now.tuples.now) tariffs.now r.now) }
-    ensures kept { OnOk result (Known (reports gathered.now.tuples.now) tariffs.now found.new) }
+    ensures kept { OnOk result (KnowsSpots (reports gathered.now.tuples.now) tariffs.now found.new) }
 {
     let spot = spot_of(r);
     if let Some(before) = found.get(&spot) {

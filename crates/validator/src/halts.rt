@@ -13,7 +13,7 @@ use std::collections::HashMap;
 
 /// Where a vehicle was last, and in how many reports in a row, up to four.
 #[derive(Clone, Copy, Debug, PartialEq, Eq)]
-pub struct Seen {
+pub struct HaltSeen {
     pub place: Place,
     pub run: u8,
 }
@@ -35,28 +35,28 @@ pub struct Halt {
 }
 
 /// The run after one more report.
-fn next(last: Option<Seen>, here: Place) -> Seen
+fn next(last: Option<HaltSeen>, here: Place) -> HaltSeen
     ensures { (own : List ReportValue) → (r : ReportValue) → kept own ≡ last → defined_place_of r ≡ here
         → kept (r ∷ own) ≡ Some result }
 {
     match last {
-        None => Seen {
+        None => HaltSeen {
             place: here,
             run: 1,
         },
         Some(seen) => {
             if seen.place != here {
-                Seen {
+                HaltSeen {
                     place: here,
                     run: 1,
                 }
             } else if seen.run < 4 {
-                Seen {
+                HaltSeen {
                     place: here,
                     run: seen.run + 1,
                 }
             } else {
-                Seen {
+                HaltSeen {
                     place: here,
                     run: 4,
                 }
@@ -66,7 +66,7 @@ fn next(last: Option<Seen>, here: Place) -> Seen
 }
 
 /// Whether the vehicle stands after its next report.
-fn see(seen: &mut HashMap<u32, Seen>, r: &Report) -> Result<bool, NoMemory>
+fn see(seen: &mut HashMap<u32, HaltSeen>, r: &Report) -> Result<bool, NoMemory>
     ensures stands { IfOk result (λ b. (own : List ReportValue) → kept own ≡ get nat_eq seen.old r.now.vid
         → b ≡ stands (r.now ∷ own) (defined_place_of r.now)) }
     ensures run { OnOk result ((own : List ReportValue) → kept own ≡ get nat_eq seen.old r.now.vid
@@ -82,7 +82,7 @@ fn see(seen: &mut HashMap<u32, Seen>, r: &Report) -> Result<bool, NoMemory>
 fn marks(alloc: Global, tuples: &[Tuple]) -> Result<Vec<Mark>, NoMemory>
     ensures { IfOk result (λ marks. reverse marks.items ≡ marks_of (reverse (reports tuples.now))) }
 {
-    let mut seen: HashMap<u32, Seen> = HashMap::new(alloc);
+    let mut seen: HashMap<u32, HaltSeen> = HashMap::new(alloc);
     let mut marks: Vec<Mark> = Vec::new(alloc);
     for tuple in tuples {
         if let Some(report) = report_of(tuple) {

@@ -10,14 +10,14 @@ ghost use Rattle.road_time.specs.Stays.{is_told};
 ghost use Rattle.road_time.specs.Tolls.{finding_at};
 ghost use Rattle.road_time.specs.Day.{notices as defined_notices, charges as defined_charges, sum_of};
 ghost use Rattle.road_time.specs.Sights.{moments};
-ghost use Rattle.validator.specs.Findings.{shown_told, finding_if, Known};
+ghost use Rattle.validator.specs.Findings.{shown_told, finding_if, KnowsSpots};
 ghost use Rattle.validator.specs.Accounts.{shown_charge, notices_told, owed_kept, toll_kept};
 ghost use Rattle.validator.specs.History.{is_row, paid as defined_paid, KeysDiffer};
 ghost use Rattle.validator.specs.Gathered.{IsGathered};
-ghost use Rattle.validator.specs.Outputs.{IsOutput, Stands};
+ghost use Rattle.validator.specs.Outputs.{IsOutput, StandsAfter};
 
-use crate::account::{Account, Charge, add_charge, after, newest, owed};
-use crate::found::{Found, found_for};
+use crate::account::{Account, StayCharge, add_charge, after, newest, owed};
+use crate::found::{SpotFound, found_for};
 use crate::owed::begins;
 use crate::spots::{Gathered, Spot, gather};
 use road_time::{NoMemory, Notice, Report, SpentRow, Tariffs, Tuple};
@@ -28,8 +28,8 @@ use std::collections::HashMap;
 #[derive(Drop)]
 pub struct Output {
     accounts: HashMap<u32, Account>,
-    found: HashMap<Spot, Found>,
-    charges: Vec<Charge>,
+    found: HashMap<Spot, SpotFound>,
+    charges: Vec<StayCharge>,
     notices: Vec<Notice>,
 }
 
@@ -38,17 +38,17 @@ fn told(
     alloc: Global,
     gathered: &Gathered,
     tariffs: &Tariffs,
-    found: &mut HashMap<Spot, Found>,
+    found: &mut HashMap<Spot, SpotFound>,
     prev: Option<Report>,
     r: &Report,
-) -> Result<Option<Found>, NoMemory>
+) -> Result<Option<SpotFound>, NoMemory>
     requires fit { IsDay gathered.now.tuples.now }
     requires right { IsGathered gathered.now }
     requires valid { IsReport r.now }
-    requires known { Known (reports gathered.now.tuples.now) tariffs.now found.old }
+    requires known { KnowsSpots (reports gathered.now.tuples.now) tariffs.now found.old }
     ensures exact { IfOk result (λ f. shown_told f ≡ finding_if (is_told prev r.now)
         (finding_at (reports gathered.now.tuples.now) tariffs.now r.now)) }
-    ensures kept { OnOk result (Known (reports gathered.now.tuples.now) tariffs.now found.new) }
+    ensures kept { OnOk result (KnowsSpots (reports gathered.now.tuples.now) tariffs.now found.new) }
 {
     if begins(prev, r) && r.lane != 4 {
         let now = found_for(alloc, gathered, tariffs, found, r)?;
@@ -59,7 +59,7 @@ fn told(
 }
 
 /// Adds the notices of a report.
-fn add_told(notices: &mut Vec<Notice>, r: &Report, told: Option<Found>) -> Result<(), NoMemory>
+fn add_told(notices: &mut Vec<Notice>, r: &Report, told: Option<SpotFound>) -> Result<(), NoMemory>
     ensures { OnOk result (notices.new.items ≡ notices.old.items ++ notices_told r.now (shown_told told)) }
 {
     if let Some(found) = told {
@@ -115,7 +115,7 @@ fn take_report(
     requires fit { IsDay gathered.now.tuples.now }
     requires right { IsGathered gathered.now }
     requires valid { IsReport r.now }
-    requires known { Known (reports gathered.now.tuples.now) tariffs.now output.old.found }
+    requires known { KnowsSpots (reports gathered.now.tuples.now) tariffs.now output.old.found }
     requires small { (vid : ℕ) → owed_kept (get nat_eq output.old.accounts vid) + toll_kept
         (get nat_eq output.old.accounts vid) < 2 ^ 64 }
     ensures { OnOk result ((number : ℕ) → (kept : ℕ → ℕ → ℕ → ℕ) → (before : List TupleValue)
@@ -144,7 +144,7 @@ fn take_tuple(
     requires right { IsGathered gathered.now }
     requires late { 70 ≤ day }
     requires valid { IsValid tuple.now }
-    requires stands { Stands gathered.now.tuples.now tariffs.now day (defined_paid history.now) output.old }
+    requires stands { StandsAfter gathered.now.tuples.now tariffs.now day (defined_paid history.now) output.old }
     ensures { OnOk result ((before : List TupleValue)
         → IsOutput gathered.now.tuples.now tariffs.now day (defined_paid history.now) output.old before
         → IsOutput gathered.now.tuples.now tariffs.now day (defined_paid history.now) output.new
@@ -207,7 +207,11 @@ fn outputs(
 }
 
 /// The charges of the day.
-pub fn charges(alloc: Global, tuples: &[Tuple], tariffs: &Tariffs) -> Result<Vec<Charge>, NoMemory>
+pub fn charges(
+    alloc: Global,
+    tuples: &[Tuple],
+    tariffs: &Tariffs,
+) -> Result<Vec<StayCharge>, NoMemory>
     requires fit { IsDay tuples.now }
     ensures few { IfOk result (λ cs. sum_of (map shown_charge cs.items) < 2 ^ 63) }
     ensures exact { IfOk result (λ cs. map shown_charge cs.items ≡ defined_charges tuples.now tariffs.now

@@ -7,14 +7,14 @@ ghost use Rattle.road_time.specs.Rows.{in_order, charges_on, rows_to, rows_of};
 ghost use Rattle.validator.specs.RowParts.{row_on, has_tolls};
 ghost use Rattle.validator.specs.Accounts.{shown_charge};
 
-use crate::account::Charge;
+use crate::account::StayCharge;
 use crate::output::charges;
 use road_time::{NoMemory, SpentRow, Tariffs, Tuple};
 use std::alloc::Global;
 use std::collections::BTreeSet;
 
 /// The vehicles of the charges, each once and in order.
-fn vehicles(alloc: Global, charges: &[Charge]) -> Result<Vec<u32>, NoMemory>
+fn vehicles(alloc: Global, charges: &[StayCharge]) -> Result<Vec<u32>, NoMemory>
     ensures { IfOk result (λ vids. vids.items ≡ in_order (map (λ c. c.vid) (map shown_charge charges.now))) }
 {
     let mut vids = BTreeSet::new(alloc);
@@ -25,7 +25,7 @@ fn vehicles(alloc: Global, charges: &[Charge]) -> Result<Vec<u32>, NoMemory>
 }
 
 /// The expressways of the charges, each once and in order.
-fn expressways(alloc: Global, charges: &[Charge]) -> Result<Vec<u8>, NoMemory>
+fn expressways(alloc: Global, charges: &[StayCharge]) -> Result<Vec<u8>, NoMemory>
     ensures { IfOk result (λ xways. xways.items ≡ in_order (map (λ c. c.xway) (map shown_charge charges.now))) }
 {
     let mut xways = BTreeSet::new(alloc);
@@ -36,10 +36,10 @@ fn expressways(alloc: Global, charges: &[Charge]) -> Result<Vec<u8>, NoMemory>
 }
 
 /// The charges of a vehicle.
-fn charges_to(alloc: Global, charges: &[Charge], vid: u32) -> Result<Vec<Charge>, NoMemory>
+fn charges_to(alloc: Global, charges: &[StayCharge], vid: u32) -> Result<Vec<StayCharge>, NoMemory>
     ensures { IfOk result (λ own. map shown_charge own.items ≡ defined_charges_to vid (map shown_charge charges.now)) }
 {
-    let mut own: Vec<Charge> = Vec::new(alloc);
+    let mut own: Vec<StayCharge> = Vec::new(alloc);
     for charge in charges {
         if charge.vid == vid {
             own.push(*charge)?;
@@ -49,7 +49,7 @@ fn charges_to(alloc: Global, charges: &[Charge], vid: u32) -> Result<Vec<Charge>
 }
 
 /// What the charges on an expressway come to.
-fn sum_on(charges: &[Charge], xway: u8) -> u64
+fn sum_on(charges: &[StayCharge], xway: u8) -> u64
     requires { sum_of (map shown_charge charges.now) < 2 ^ 63 }
     ensures { result ≡ sum_of (charges_on xway (map shown_charge charges.now)) }
 {
@@ -67,7 +67,7 @@ fn add_rows(
     rows: &mut Vec<SpentRow>,
     day: u32,
     vid: u32,
-    own: &[Charge],
+    own: &[StayCharge],
     xways: &[u8],
 ) -> Result<(), NoMemory>
     requires { sum_of (map shown_charge own.now) < 2 ^ 63 }
@@ -94,7 +94,7 @@ fn add_vehicle_rows(
     rows: &mut Vec<SpentRow>,
     day: u32,
     vid: u32,
-    charges: &[Charge],
+    charges: &[StayCharge],
 ) -> Result<(), NoMemory>
     requires { sum_of (map shown_charge charges.now) < 2 ^ 63 }
     ensures { OnOk result (rows.new.items ≡ rows.old.items ++ filter has_tolls
@@ -109,7 +109,7 @@ fn add_vehicle_rows(
 /// The rows of vehicles, those that are not zero.
 fn rows_for(
     alloc: Global,
-    charges: &[Charge],
+    charges: &[StayCharge],
     day: u32,
     vids: &[u32],
 ) -> Result<Vec<SpentRow>, NoMemory>

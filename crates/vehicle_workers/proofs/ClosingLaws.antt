@@ -9,7 +9,7 @@ use Rattle.road_time.specs.declared.road.Report.{Report}
 use Rattle.road_time.specs.declared.road.Notice.{Notice}
 use Rattle.road_time.specs.Day.{no_finding, given}
 use Rattle.road_time.specs.Sights.{Sight, moments}
-use Rattle.road_time.specs.Tolls.{Finding}
+use Rattle.road_time.specs.Tolls.{StretchTold}
 use Rattle.road_time.proofs.SightLaws.{moments_push}
 use Rattle.crossings.specs.declared.tracked.Tracked.{Tracked}
 use Rattle.road_time.specs.Tuples.{reports, place_of}
@@ -51,11 +51,11 @@ slot_made : {f g : Found} (x y : Slot) → f ≡ g → x.due ≡ y.due →
 slot_made x y e h = rw (e, h) refl
 
 -- the slot of a report, by what it told and what was found
-pub slot_is : (finding : Sight → Finding) (before : List Tuple) (x : Tuple) (r : Report) (t : Tracked)
+pub slot_is : (finding : Sight → StretchTold) (before : List Tuple) (x : Tuple) (r : Report) (t : Tracked)
     (o : Option Tracked) (found : Found) (slot : Slot) →
     x ≡ ReportTuple r → o ≡ Some t → o ≡ tracked_by (before, x) →
     ((r : Report) → found ≡ found_of (finding (length before, r))) →
-    ((f : Sight → Finding) (day : List Tuple) → IsTold t day r → f (length day, r) ≡ no_finding →
+    ((f : Sight → StretchTold) (day : List Tuple) → IsTold t day r → f (length day, r) ≡ no_finding →
     slot ≡ slot_of f (day, ReportTuple r)) →
     ◌≡◌ {A = Slot} (record { found = found; due = slot.due }) (slot_of finding (before, x))
 slot_is finding before x r t o found slot is some told here slots =
@@ -71,10 +71,11 @@ abbrev pub no_found : Found
 no_found = record { toll = 0; lav = pos 0; alert = None }
 
 -- the slot of the tuple at a place
-pub slot_here : (found : List (ℕ × Finding)) (ts : List Tuple) (tracked : List (Option Tracked)) (places : List Found)
+pub slot_here : (found : List (ℕ × StretchTold)) (ts : List Tuple) (tracked : List (Option Tracked))
+    (places : List Found)
     (i : ℕ) (slot : Slot) →
     tracked ≡ tracked_after [] ts → IsPlaced places found → length places ≡ length ts → i < length ts →
-    ((finding : Sight → Finding) (before : List Tuple) →
+    ((finding : Sight → StretchTold) (before : List Tuple) →
     get_or tracked i None ≡ tracked_by (before, get_or ts i no_tuple) →
     ((r : Report) → get_or places i no_found ≡ found_of (finding (length before, r))) →
     slot ≡ slot_of finding (before, get_or ts i no_tuple)) →
@@ -86,13 +87,13 @@ slot_here found ts tracked places i slot are placed long within is =
     ∙ ap (λ n. found_of (given found (n, r))) (sym size))
 
 -- tuples are closed: the book is theirs, and these are their notices
-pub record AreClosed (found : List (ℕ × Finding)) (number : ℕ) (kept : ℕ → ℕ → ℕ → ℕ) (day : List Tuple)
+pub record AreClosed (found : List (ℕ × StretchTold)) (number : ℕ) (kept : ℕ → ℕ → ℕ → ℕ) (day : List Tuple)
     (book : Accounts) (notices : List Notice) : Type 0 where
   pub book_is : IsBook book (given found) day
   pub said : AreNotices (given found) number (Some kept) (moments day) notices
 
 -- one tuple more
-pub closed_more : (found : List (ℕ × Finding)) (number : ℕ) (kept : ℕ → ℕ → ℕ → ℕ) (day : List Tuple) (x : Tuple)
+pub closed_more : (found : List (ℕ × StretchTold)) (number : ℕ) (kept : ℕ → ℕ → ℕ → ℕ) (day : List Tuple) (x : Tuple)
     (b b' : Accounts) (ns said ns' : List Notice) (slot : Slot) →
     AreClosed found number kept day b ns → slot ≡ slot_of (given found) (day, x) →
     b' ≡ book_after slot.due slot.found.toll b →

@@ -8,21 +8,21 @@ use Rattle.std.proofs.lemmas.List.Elements.{All-append}
 use Rattle.std.proofs.lemmas.List.Concat.{flat_map-append}
 use Rattle.road_time.specs.declared.day.NoMemory.{NoMemory}
 use Rattle.road_time.specs.Rates.{Tariffs}
-use Rattle.road_time.specs.Tolls.{Finding as Told_}
+use Rattle.road_time.specs.Tolls.{StretchTold as Told_}
 use Rattle.expressway.specs.declared.finding.Finding.{Finding}
 use Rattle.expressway.specs.declared.job.Job.{Job}
 use Rattle.expressway.specs.declared.job.Done.{Done}
 use Rattle.expressway.specs.Findings.{shown, findings}
 use Rattle.expressway.specs.Results.{IsPossible, IsResultOf, IsResultShaped}
 use Rattle.partition_workers.specs.Numbers.{IsOneMore}
-use Rattle.partition_workers.specs.Told.{Told, WhereTold, ForgetsJob, Answers}
+use Rattle.partition_workers.specs.Told.{CrewTold, WhereTold, ForgetsJob, AnswersFindings}
 use Rattle.partition_workers.specs.Callers.{HasOut, IsListingWhereTold}
 use Rattle.partition_workers.proofs.CallerLaws.{first_task, all_home}
 use Rattle.partition_workers.proofs.ListingLaws.{where_finished}
-use Rattle.vehicle_workers.specs.Jobs.{IsFresh, Running, HasFound, Adds}
+use Rattle.vehicle_workers.specs.Jobs.{IsFresh, Running, HasFound, AddsFindings}
 
 module _ {S T : Type 0} (out : S → List ℕ) (number : T → ℕ) (holds : S → ℕ → Job → Type 0) (gave : S → T → Type 0)
-    (jobs : S → Option Told) (told : Option Told) (tariffs : Tariffs) where
+    (jobs : S → Option CrewTold) (told : Option CrewTold) (tariffs : Tariffs) where
   -- the job of the first ticket, and the others
   pub record First (crew : S) (ticket : T) (rest : List T) (todo : List Job) : Type 0 where
     pub job : Job
@@ -91,8 +91,8 @@ ok_part (Ok u) P e h = h
 ok_part (Err x) P e h = let no : ⊥ = cc in absurd no
 
 adds_more : (found more : List Finding) (answer : Done) (answered was now : Option (List Finding)) →
-    is_err answer.result ≡ false → more ≡ found ++ answer.findings → WhereTold (Adds found) answered was →
-    WhereTold (Answers answer) was now → WhereTold (Adds more) answered now
+    is_err answer.result ≡ false → more ≡ found ++ answer.findings → WhereTold (AddsFindings found) answered was →
+    WhereTold (AnswersFindings answer) was now → WhereTold (AddsFindings more) answered now
 adds_more found more answer None None None e is h g = tt
 adds_more found more answer None None (Some now) e is h g = absurd g
 adds_more found more answer None (Some was) now e is h g = absurd h
@@ -104,8 +104,8 @@ adds_more found more answer (Some a) (Some was) (Some now) e is h g =
 
 -- of jobs that were started, those done were answered, and the others are out
 pub record Finishing {S T : Type 0} (out : S → List ℕ) (number : T → ℕ) (holds : S → ℕ → Job → Type 0)
-    (gave : S → T → Type 0) (jobs : S → Option Told) (exact : Bool) (answers : S → Option (List Finding))
-    (answered : Option (List Finding)) (told : Option Told) (tariffs : Tariffs) (all_jobs : List Job) (crew : S)
+    (gave : S → T → Type 0) (jobs : S → Option CrewTold) (exact : Bool) (answers : S → Option (List Finding))
+    (answered : Option (List Finding)) (told : Option CrewTold) (tariffs : Tariffs) (all_jobs : List Job) (crew : S)
     (tickets : List T) (whole : Bool) (found : List Finding) : Type 0 where
   pub done : List Job
   pub todo : List Job
@@ -115,7 +115,7 @@ pub record Finishing {S T : Type 0} (out : S → List ℕ) (number : T → ℕ) 
   pub kept : whole ≡ true → refused ≡ false
   pub found_is : whole ≡ true → HasFound exact answers answered crew tariffs done found
 
-adds_none : (answered : Option (List Finding)) → WhereTold (Adds []) answered answered
+adds_none : (answered : Option (List Finding)) → WhereTold (AddsFindings []) answered answered
 adds_none None = tt
 adds_none (Some a) = sym (append-nil a)
 
@@ -127,8 +127,8 @@ none_true : (a b : Bool) → a ≡ false → b ≡ false → (a || b) ≡ false
 none_true a b e h = ap (λ x. x || b) e ∙ h
 
 module _ {S T : Type 0} (out : S → List ℕ) (number : T → ℕ) (holds : S → ℕ → Job → Type 0) (gave : S → T → Type 0)
-    (jobs : S → Option Told) (exact : Bool) (answers : S → Option (List Finding)) (answered : Option (List Finding))
-    (told : Option Told) (tariffs : Tariffs) (all_jobs : List Job) where
+    (jobs : S → Option CrewTold) (exact : Bool) (answers : S → Option (List Finding)) (answered : Option (List Finding))
+    (told : Option CrewTold) (tariffs : Tariffs) (all_jobs : List Job) where
   pub finishing_none : (crew : S) (tickets : List T) (found : List Finding) → answers crew ≡ answered → found ≡ [] →
       Running out number holds gave jobs told crew tariffs tickets [] all_jobs false →
       Finishing out number holds gave jobs exact answers answered told tariffs all_jobs crew tickets true found
@@ -144,7 +144,7 @@ module _ {S T : Type 0} (out : S → List ℕ) (number : T → ℕ) (holds : S �
           possible = λ k d less. absurd (omega (arith, less));
           right = λ e. refl;
           told =
-              subst (WhereTold (Adds []) answered) (sym same) (adds_none answered);
+              subst (WhereTold (AddsFindings []) answered) (sym same) (adds_none answered);
         });
   }
 
@@ -152,7 +152,7 @@ module _ {S T : Type 0} (out : S → List ℕ) (number : T → ℕ) (holds : S �
   found_more : (was now : S) (done : List Job) (job : Job) (answer : Done) (found more : List Finding) →
       IsFresh tariffs job → HasFound exact answers answered was tariffs done found →
       IsResultShaped job answer → (exact ≡ true → IsResultOf job answer) →
-      WhereTold (Answers answer) (answers was) (answers now) → is_err answer.result ≡ false →
+      WhereTold (AnswersFindings answer) (answers was) (answers now) → is_err answer.result ≡ false →
       more ≡ found ++ answer.findings →
       HasFound exact answers answered now tariffs (done ++ job ∷ []) more
   found_more was now done job answer found more fresh h shape run tells ok grown =
@@ -183,7 +183,7 @@ module _ {S T : Type 0} (out : S → List ℕ) (number : T → ℕ) (holds : S �
       HasOut out number holds gave was (before ++ (ticket, job) ∷ after) → IsResultOf job answer) →
       IsOneMore (number ticket) (out now) (out was) →
       WhereTold (ForgetsJob (number ticket) answer) (jobs was) (jobs now) →
-      WhereTold (Answers answer) (answers was) (answers now) →
+      WhereTold (AnswersFindings answer) (answers was) (answers now) →
       (kept ≡ true → (is_err answer.result ≡ false) × (found' ≡ found ++ answer.findings)) → whole' ≡ (whole && kept) →
       Finishing out number holds gave jobs exact answers answered told tariffs all_jobs now rest whole' found'
   finishing_more was now ticket tickets rest whole kept whole' found found' answer s e has shape run numbers forgets

@@ -13,7 +13,7 @@ use Rattle.road_time.specs.Day.{given, no_finding}
 use Rattle.road_time.specs.Fits.{IsDay}
 use Rattle.road_time.specs.Rates.{Tariffs}
 use Rattle.road_time.specs.Sights.{Sight, moments_after}
-use Rattle.road_time.specs.Tolls.{Finding as Told_}
+use Rattle.road_time.specs.Tolls.{StretchTold as Told_}
 use Rattle.road_time.proofs.EachLaws.{joined}
 use Rattle.road_time.proofs.SightLaws.{length-moments}
 use Rattle.expressway.specs.declared.finding.Finding.{Finding}
@@ -27,7 +27,7 @@ use Rattle.expressway.proofs.RunLaws.{may_run, carried}
 use Rattle.partition_workers.specs.declared.job_list.Started.{Started}
 use Rattle.partition_workers.specs.Lists.{started}
 use Rattle.partition_workers.specs.Numbers.{IsOneMore}
-use Rattle.partition_workers.specs.Told.{Told, WhereTold, ListsJob}
+use Rattle.partition_workers.specs.Told.{CrewTold, WhereTold, ListsJob}
 use Rattle.partition_workers.specs.Callers.{HasOut, IsListingWhereTold}
 use Rattle.partition_workers.proofs.CallerLaws.{idle}
 use Rattle.partition_workers.proofs.ListingLaws.{where_none, where_started}
@@ -54,7 +54,7 @@ few_tolls (f ∷ fs) h s =
 
 -- a job more is out
 pub one_started : {S T : Type 0} (out : S → List ℕ) (number : T → ℕ) (holds : S → ℕ → Job → Type 0)
-    (gave : S → T → Type 0) (jobs : S → Option Told) (told : Option Told) (was now : S)
+    (gave : S → T → Type 0) (jobs : S → Option CrewTold) (told : Option CrewTold) (was now : S)
     (tickets later : List T) (todo : List Job) (ticket : T) (job : Job) →
     IsReady job.carriage [] job.events →
     Running out number holds gave jobs told was job.carriage.tariffs tickets [] todo false →
@@ -79,7 +79,7 @@ one_started {S} {T} out number holds gave jobs told was now tickets later todo t
 
 -- no job is out
 pub none_started : {S T : Type 0} (out : S → List ℕ) (number : T → ℕ) (holds : S → ℕ → Job → Type 0)
-    (gave : S → T → Type 0) (jobs : S → Option Told) (crew : S) (tariffs : Tariffs) (tickets : List T)
+    (gave : S → T → Type 0) (jobs : S → Option CrewTold) (crew : S) (tariffs : Tariffs) (tickets : List T)
     (day : List Tuple) (width : ℕ) → out crew ≡ [] → tickets ≡ [] →
     HasStarted out number holds gave jobs (jobs crew) crew tariffs tickets day width 0
 none_started out number holds gave jobs crew tariffs tickets day width none empty = record {
@@ -117,7 +117,7 @@ starts_few day width (suc w) =
 
 -- a worker more: it has a job, if it has events
 pub next_started : {S T : Type 0} (out : S → List ℕ) (number : T → ℕ) (holds : S → ℕ → Job → Type 0)
-    (gave : S → T → Type 0) (jobs : S → Option Told) (told : Option Told) (was now : S)
+    (gave : S → T → Type 0) (jobs : S → Option CrewTold) (told : Option CrewTold) (was now : S)
     (tariffs : Tariffs) (tickets later : List T) (day : List Tuple) (width worker : ℕ) (e : LaneEvent)
     (es : List LaneEvent) (job : Job) →
     (h : HasStarted out number holds gave jobs told was tariffs tickets day width worker) →
@@ -153,7 +153,7 @@ next_started out number holds gave jobs told was now tariffs tickets later day w
 
 -- a worker with no events has no job
 pub none_for : {S T : Type 0} (out : S → List ℕ) (number : T → ℕ) (holds : S → ℕ → Job → Type 0) (gave : S → T → Type 0)
-    (jobs : S → Option Told) (told : Option Told) (crew : S)
+    (jobs : S → Option CrewTold) (told : Option CrewTold) (crew : S)
     (tariffs : Tariffs) (tickets : List T) (day : List Tuple) (width worker : ℕ) →
     HasStarted out number holds gave jobs told crew tariffs tickets day width worker →
     events_for day worker width ≡ [] →
@@ -171,7 +171,7 @@ none_for out number holds gave jobs told crew tariffs tickets day width worker h
 
 -- fewer than 64 jobs are out before the last of 64 workers
 pub few_started : {S T : Type 0} (out : S → List ℕ) (number : T → ℕ) (holds : S → ℕ → Job → Type 0)
-    (gave : S → T → Type 0) (jobs : S → Option Told) (told : Option Told) (crew : S)
+    (gave : S → T → Type 0) (jobs : S → Option CrewTold) (told : Option CrewTold) (crew : S)
     (tariffs : Tariffs) (tickets : List T) (day : List Tuple) (width worker : ℕ) →
     (h : HasStarted out number holds gave jobs told crew tariffs tickets day width worker) → worker < 64 →
     length h.todo < 64
@@ -183,7 +183,7 @@ few_started out number holds gave jobs told crew tariffs tickets day width worke
 
 -- the same, where the events are known to be some
 pub next_filled : {S T : Type 0} (out : S → List ℕ) (number : T → ℕ) (holds : S → ℕ → Job → Type 0)
-    (gave : S → T → Type 0) (jobs : S → Option Told) (told : Option Told) (was now : S)
+    (gave : S → T → Type 0) (jobs : S → Option CrewTold) (told : Option CrewTold) (was now : S)
     (tariffs : Tariffs) (tickets later : List T) (day : List Tuple) (width worker : ℕ) (es : List LaneEvent) (job : Job)
     →
     (h : HasStarted out number holds gave jobs told was tariffs tickets day width worker) →
@@ -199,7 +199,7 @@ next_filled out number holds gave jobs told was now tariffs tickets later day wi
 
 -- as many tickets are kept as jobs are out
 pub tickets_few : {S T : Type 0} (out : S → List ℕ) (number : T → ℕ) (holds : S → ℕ → Job → Type 0)
-    (gave : S → T → Type 0) (jobs : S → Option Told) (told : Option Told) (crew : S)
+    (gave : S → T → Type 0) (jobs : S → Option CrewTold) (told : Option CrewTold) (crew : S)
     (tariffs : Tariffs) (tickets : List T) (day : List Tuple) (width worker : ℕ) →
     (h : HasStarted out number holds gave jobs told crew tariffs tickets day width worker) → worker < 64 →
     length tickets < 64

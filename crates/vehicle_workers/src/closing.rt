@@ -7,7 +7,7 @@ ghost use Rattle.road_time.specs.declared.road.Notice.{Notice as NoticeValue};
 ghost use Rattle.road_time.specs.declared.road.Report.{Report};
 ghost use Rattle.road_time.specs.Day.{notices_by, given};
 ghost use Rattle.road_time.specs.Sights.{Sight, moments};
-ghost use Rattle.road_time.specs.Tolls.{Finding as FindingValue};
+ghost use Rattle.road_time.specs.Tolls.{StretchTold as FindingValue};
 ghost use Rattle.settling.specs.Answers.{alert_to, told_notices, IsSaid};
 ghost use Rattle.settling.specs.Books.{WasTold, CanSettle, HasFewTolls, charges_for, charged_with, told_with};
 ghost use Rattle.settling.specs.Books.{book_after};

@@ -10,10 +10,10 @@ ghost use Rattle.expressway.specs.Laws.{all_findings};
 ghost use Rattle.expressway.specs.Ready.{IsReady};
 ghost use Rattle.expressway.specs.Results.{IsPossible};
 ghost use Rattle.expressway.specs.Stands.{StandsFor};
-ghost use Rattle.partition_workers.specs.Told.{Told, WhereTold};
+ghost use Rattle.partition_workers.specs.Told.{CrewTold, WhereTold};
 ghost use Rattle.partition_workers.specs.Callers.{IsListingWhereTold};
 ghost use Rattle.vehicle_workers.specs.Seen.{tracked_after};
-ghost use Rattle.vehicle_workers.specs.Jobs.{Running, HasStarted, HasFound, StartsAll, StartsFirst, Adds};
+ghost use Rattle.vehicle_workers.specs.Jobs.{Running, HasStarted, HasFound, StartsAll, StartsFirst, AddsFindings};
 
 use expressway::{Done, Finding};
 use partition_workers::{Crew, finish_among};
@@ -44,15 +44,15 @@ pub fn finish_rest<C: Crew>(
     mut tickets: VecDeque<C::Ticket>,
     found: &mut Vec<Finding>,
 ) -> bool
-    requires out { (told : Option Told) × (tariffs : TariffsValue) × (todo : List TheJob)
+    requires out { (told : Option CrewTold) × (tariffs : TariffsValue) × (todo : List TheJob)
         × Running C.out C.number C.holds C.gave C.jobs told crew.old tariffs tickets.items [] todo false }
     requires none { found.old.items ≡ [] }
     ensures idle { C.out crew.new ≡ [] }
-    ensures told { (told : Option Told) (tariffs : TariffsValue) (todo : List TheJob)
+    ensures told { (told : Option CrewTold) (tariffs : TariffsValue) (todo : List TheJob)
         → Running C.out C.number C.holds C.gave C.jobs told crew.old tariffs tickets.items [] todo false
         → (refused : Bool) × (result ≡ true → refused ≡ false)
         × IsListingWhereTold told todo [] refused (C.jobs crew.new) }
-    ensures found { result ≡ true → (told : Option Told) (tariffs : TariffsValue) (todo : List TheJob)
+    ensures found { result ≡ true → (told : Option CrewTold) (tariffs : TariffsValue) (todo : List TheJob)
         → Running C.out C.number C.holds C.gave C.jobs told crew.old tariffs tickets.items [] todo false
         → HasFound C.exact C.answers (C.answers crew.old) crew.new tariffs todo found.new.items }
     ensures which { C.which crew.new ≡ C.which crew.old }

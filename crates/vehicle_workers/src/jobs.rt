@@ -10,10 +10,10 @@ ghost use Rattle.expressway.specs.Laws.{all_findings};
 ghost use Rattle.expressway.specs.Ready.{IsReady};
 ghost use Rattle.expressway.specs.Results.{IsPossible};
 ghost use Rattle.expressway.specs.Stands.{StandsFor};
-ghost use Rattle.partition_workers.specs.Told.{Told, WhereTold};
+ghost use Rattle.partition_workers.specs.Told.{CrewTold, WhereTold};
 ghost use Rattle.partition_workers.specs.Callers.{IsListingWhereTold};
 ghost use Rattle.vehicle_workers.specs.Seen.{tracked_after};
-ghost use Rattle.vehicle_workers.specs.Jobs.{Running, HasStarted, HasFound, StartsAll, StartsFirst, Adds};
+ghost use Rattle.vehicle_workers.specs.Jobs.{Running, HasStarted, HasFound, StartsAll, StartsFirst, AddsFindings};
 
 use crate::finishes::finish_rest;
 use crate::starts::start_all;
@@ -63,7 +63,8 @@ pub fn find_all<C: Crew>(
     ensures exact { C.exact ≡ true → IfOk result
         (λ found. map shown found.items ≡ all_findings tuples.now tariffs.now width) }
     ensures possible { IfOk result (λ found. All IsPossible found.items) }
-    ensures answers { IfOk result (λ found. WhereTold (Adds found.items) (C.answers crew.old) (C.answers crew.new)) }
+    ensures answers { IfOk result (λ found. WhereTold (AddsFindings found.items) (C.answers crew.old)
+        (C.answers crew.new)) }
     ensures jobs { OnOk result (WhereTold (StartsAll tuples.now width) (C.jobs crew.old) (C.jobs crew.new)) }
     ensures first { OnErr result (WhereTold (StartsFirst tuples.now width) (C.jobs crew.old) (C.jobs crew.new)) }
     ensures idle { C.out crew.new ≡ [] }

@@ -1,6 +1,6 @@
 // What was found, put at the positions for which it was found.
 ghost use Rattle.std.specs.Prelude.{◌≡◌, ◌∷◌, [], ℕ, List, IfOk, OnOk, length, map, vec_len};
-ghost use Rattle.road_time.specs.Tolls.{Finding as FindingValue};
+ghost use Rattle.road_time.specs.Tolls.{StretchTold as FindingValue};
 ghost use Rattle.expressway.specs.Findings.{shown};
 ghost use Rattle.vehicle_workers.specs.Closing.{IsPlaced};
 

@@ -10,10 +10,10 @@ ghost use Rattle.expressway.specs.Laws.{all_findings};
 ghost use Rattle.expressway.specs.Ready.{IsReady};
 ghost use Rattle.expressway.specs.Results.{IsPossible};
 ghost use Rattle.expressway.specs.Stands.{StandsFor};
-ghost use Rattle.partition_workers.specs.Told.{Told, WhereTold};
+ghost use Rattle.partition_workers.specs.Told.{CrewTold, WhereTold};
 ghost use Rattle.partition_workers.specs.Callers.{IsListingWhereTold};
 ghost use Rattle.vehicle_workers.specs.Seen.{tracked_after};
-ghost use Rattle.vehicle_workers.specs.Jobs.{Running, HasStarted, HasFound, StartsAll, StartsFirst, Adds};
+ghost use Rattle.vehicle_workers.specs.Jobs.{Running, HasStarted, HasFound, StartsAll, StartsFirst, AddsFindings};
 
 use crate::routing::route;
 use crossings::Tracked;
@@ -30,10 +30,10 @@ fn start_job<C: Crew>(
     tickets: &mut VecDeque<C::Ticket>,
 ) -> Result<(), NoMemory>
     requires ready { IsReady job.carriage [] job.events }
-    requires room { (told : Option Told) × (todo : List TheJob)
+    requires room { (told : Option CrewTold) × (todo : List TheJob)
         × Running C.out C.number C.holds C.gave C.jobs told crew.old job.carriage.tariffs tickets.old.items [] todo
         false × (length todo < 64) }
-    ensures started { OnOk result ((told : Option Told) (todo : List TheJob)
+    ensures started { OnOk result ((told : Option CrewTold) (todo : List TheJob)
         → Running C.out C.number C.holds C.gave C.jobs told crew.old job.carriage.tariffs tickets.old.items [] todo
         false → Running C.out C.number C.holds C.gave C.jobs told crew.new job.carriage.tariffs tickets.new.items []
         (todo ++ job ∷ []) false) }
@@ -86,10 +86,10 @@ fn start_worker<C: Crew>(
     requires tracked { tracked.now ≡ tracked_after [] tuples.now }
     requires worker { worker < width }
     requires few { width ≤ 64 }
-    requires runs { (told : Option Told)
+    requires runs { (told : Option CrewTold)
         × HasStarted C.out C.number C.holds C.gave C.jobs told crew.old tariffs.now tickets.old.items tuples.now width
         worker }
-    ensures started { OnOk result ((told : Option Told)
+    ensures started { OnOk result ((told : Option CrewTold)
         → HasStarted C.out C.number C.holds C.gave C.jobs told crew.old tariffs.now tickets.old.items tuples.now width
         worker → HasStarted C.out C.number C.holds C.gave C.jobs told crew.new tariffs.now tickets.new.items tuples.now
         width (worker + 1)) }

@@ -8,7 +8,7 @@ ghost use Rattle.expressway.specs.Results.{IsPossible};
 ghost use Rattle.validator.specs.History.{paid, KeysDiffer};
 ghost use Rattle.partition_workers.specs.Told.{WhereTold};
 ghost use Rattle.vehicle_workers.specs.Seen.{tracked_after};
-ghost use Rattle.vehicle_workers.specs.Jobs.{StartsAll, StartsFirst, Adds};
+ghost use Rattle.vehicle_workers.specs.Jobs.{StartsAll, StartsFirst, AddsFindings};
 
 use crate::closing::close;
 use crate::jobs::find_all;
@@ -87,7 +87,7 @@ pub fn bulk<R: Threads + Sync, C: Crew>(
     requires idle { C.out crew.old ≡ [] }
     ensures exact { C.exact ≡ true → IfOk result (λ all. all ≡ notices tuples.now tariffs.now day (paid history.now)) }
     ensures merged { IfOk result (λ all. (found : List FindingValue)
-        × WhereTold (Adds found) (C.answers crew.old) (C.answers crew.new)
+        × WhereTold (AddsFindings found) (C.answers crew.old) (C.answers crew.new)
         × (all ≡ merged tuples.now (map shown found) day (paid history.now))) }
     ensures jobs { OnOk result (WhereTold (StartsAll tuples.now width) (C.jobs crew.old) (C.jobs crew.new)) }
     ensures first { OnErr result (WhereTold (StartsFirst tuples.now width) (C.jobs crew.old) (C.jobs crew.new)) }

@@ -11,7 +11,7 @@ use Rattle.road_time.specs.declared.road.Tuple.TheVariants.{Spent as SpentTuple,
 use Rattle.road_time.specs.declared.road.Report.{Report}
 use Rattle.road_time.specs.declared.day.Limits.{Limits}
 use Rattle.road_time.specs.Sights.{Sight, moments_after}
-use Rattle.road_time.specs.Tolls.{Finding}
+use Rattle.road_time.specs.Tolls.{StretchTold}
 use Rattle.road_time.specs.Day.{given, no_finding}
 use Rattle.road_time.proofs.SightLaws.{moments-append, length-moments}
 use Rattle.expressway.specs.declared.finding.Finding.{Finding as CodeFinding}
@@ -23,12 +23,12 @@ use Rattle.watermark.specs.Sound.{AreFresh, ReportAt, IsSound}
 use Rattle.settling.specs.Slots.{found_of, due_of, found_for, slot_of, slots_of}
 use Rattle.watermark.proofs.Ones.{given_more, not_given, none_yet}
 
-pub slots_length : (finding : Sight → Finding) (before rest : List Tuple) →
+pub slots_length : (finding : Sight → StretchTold) (before rest : List Tuple) →
     length (slots_of finding before rest) ≡ length rest
 slots_length finding before rest = length-map (moments_after before rest) (slot_of finding) ∙ length-moments before rest
 
 -- one tuple more waits
-pub slots_push : (finding : Sight → Finding) (before rest : List Tuple) (x : Tuple) →
+pub slots_push : (finding : Sight → StretchTold) (before rest : List Tuple) (x : Tuple) →
     slots_of finding before (rest ++ x ∷ []) ≡ slots_of finding before rest ++ slot_of finding (before ++ rest, x) ∷ []
 slots_push finding before rest x = ap (map (slot_of finding)) (moments-append before rest (x ∷ []))
     ∙ map-append (slot_of finding) (moments_after before rest) ((before ++ rest, x) ∷ [])
@@ -39,7 +39,7 @@ slot_made : (m : List Tuple × Tuple) {f g : SlotFound} → f ≡ g →
 slot_made m e = rw e refl
 
 -- a slot with the same found for its report
-slot_same : (f g : Sight → Finding) (before : List Tuple) (x : Tuple) →
+slot_same : (f g : Sight → StretchTold) (before : List Tuple) (x : Tuple) →
     ((r : Report) → f (length before, r) ≡ g (length before, r)) → slot_of f (before, x) ≡ slot_of g (before, x)
 slot_same f g before (ReportTuple r) h = slot_made (before, ReportTuple r) (ap found_of (h r))
 slot_same f g before (BalanceTuple time vid qid) h = refl
@@ -47,7 +47,7 @@ slot_same f g before (SpentTuple time vid xway qid day) h = refl
 slot_same f g before (Travel time) h = refl
 
 -- what waits at other positions stays
-slots_same : (f g : Sight → Finding) (before rest : List Tuple) →
+slots_same : (f g : Sight → StretchTold) (before rest : List Tuple) →
     ((p : ℕ) (r : Report) → length before ≤ p → f (p, r) ≡ g (p, r)) → slots_of f before rest ≡ slots_of g before rest
 slots_same f g before [] h = refl
 slots_same f g before (x ∷ xs) h =
@@ -55,9 +55,9 @@ slots_same f g before (x ∷ xs) h =
     ∙ ap (λ ss. slot_of g (before, x) ∷ ss)
     (slots_same f g (before ++ x ∷ []) xs (λ p r l. h p r (omega (arith, l, length_push before x))))
 
-module _ (found : List (ℕ × Finding)) (f : ℕ × Finding) (fresh : found_at f.0 found ≡ []) where
+module _ (found : List (ℕ × StretchTold)) (f : ℕ × StretchTold) (fresh : found_at f.0 found ≡ []) where
   -- with one finding more
-  abbrev more : Sight → Finding
+  abbrev more : Sight → StretchTold
   more = given (found ++ f ∷ [])
 
   apart : (p : ℕ) (r : Report) → (f.0 ≡ p → ⊥) → more (p, r) ≡ given found (p, r)
@@ -109,7 +109,7 @@ after_first (x ∷ xs) ys zero i e = absurd (omega (arith, e))
 after_first (x ∷ xs) ys (suc n) i e = after_first xs ys n i (omega (arith, e))
 
 -- a finding put beside its tuple
-pub filled : (slots : List Slot) (settled : ℕ) (f : CodeFinding) (s : Slot) (found : List (ℕ × Finding))
+pub filled : (slots : List Slot) (settled : ℕ) (f : CodeFinding) (s : Slot) (found : List (ℕ × StretchTold))
     (before rest : List Tuple) → settled ≤ f.position → slice_get slots (f.position - settled) ≡ Some s →
     slots ≡ slots_of (given found) before rest → length before ≡ settled → found_at f.position found ≡ [] →
     ReportAt (before ++ rest) f.position →
@@ -124,7 +124,7 @@ filled slots settled f s found before rest low was are long fresh at =
     (ap (λ ss. slice_get ss (f.position - settled)) (sym are) ∙ was))
 
 -- findings that are fresh one after another
-pub fresh_at : (found xs : List (ℕ × Finding)) (f : ℕ × Finding) (ys : List (ℕ × Finding)) →
+pub fresh_at : (found xs : List (ℕ × StretchTold)) (f : ℕ × StretchTold) (ys : List (ℕ × StretchTold)) →
     AreFresh found (xs ++ f ∷ ys) → found_at f.0 (found ++ xs) ≡ []
 fresh_at found [] f ys h = ap (found_at f.0) (append-nil found) ∙ h.0
 fresh_at found (x ∷ xs) f ys h = ap (found_at f.0) (sym (append_assoc found (x ∷ []) xs))
@@ -143,7 +143,7 @@ around fs i d h =
     ∙ map-append shown (take i fs) (get_or fs i d ∷ drop (i + 1) fs)
 
 -- and with one more of the first
-pub one_further : (found : List (ℕ × Finding)) (fs : List CodeFinding) (i : ℕ) (d : CodeFinding) → i < length fs →
+pub one_further : (found : List (ℕ × StretchTold)) (fs : List CodeFinding) (i : ℕ) (d : CodeFinding) → i < length fs →
     found ++ map shown (take (i + 1) fs) ≡ (found ++ map shown (take i fs)) ++ shown (get_or fs i d) ∷ []
 one_further found fs i d h =
     ap (λ gs. found ++ map shown gs) (take_more fs i d h)
@@ -168,7 +168,7 @@ drop_push (suc n) [] x h = absurd (omega (arith, h))
 drop_push (suc n) (y ∷ ys) x h = drop_push n ys x (omega (arith, h))
 
 -- nothing was found for a tuple that is just fed
-new_found : (found : List (ℕ × Finding)) (fed : List Tuple) (x : Tuple) → found_at (length fed) found ≡ [] →
+new_found : (found : List (ℕ × StretchTold)) (fed : List Tuple) (x : Tuple) → found_at (length fed) found ≡ [] →
     found_for (given found) (fed, x) ≡ found_of no_finding
 new_found found fed (ReportTuple r) h = ap found_of (not_given found (length fed, r) h)
 new_found found fed (BalanceTuple time vid qid) h = refl

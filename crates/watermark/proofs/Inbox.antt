@@ -25,11 +25,11 @@ use Rattle.crossings.proofs.DayLaws.{newest_is, told_is_of_the_day}
 use Rattle.expressway.specs.declared.lane_event.LaneEvent.{LaneEvent}
 use Rattle.expressway.specs.declared.lane_event.LaneEvent.TheVariants.{Seen, Leave}
 use Rattle.expressway.specs.Events.{events_at, told_to, leave_of, position_told}
-use Rattle.watermark.specs.declared.desk.Desk.{Desk}
+use Rattle.watermark.specs.declared.desk.WorkerDesk.{WorkerDesk}
 use Rattle.settling.specs.declared.slot.Due.TheVariants.{Report as ReportDue}
 use Rattle.settling.specs.Slots.{due_of}
 use Rattle.watermark.specs.Shares.{Share, least_with}
-use Rattle.watermark.specs.Desks.{first_of, IsDesk, StandsAt, with_events, tracked_events}
+use Rattle.watermark.specs.Desks.{first_of, IsDesk, IsDeskAt, with_events, tracked_events}
 
 pub set_same : {X : Type 0} (xs : List X) (k : ℕ) (y : X) → k < length xs → slice_get (slice_set xs k y) k ≡ Some y
 set_same [] k y h = absurd (omega (arith, h))
@@ -49,15 +49,12 @@ pub when_err : {T E P : Type 0} (r : Result T E) → P → OnErr r P
 when_err (Ok x) p = tt
 when_err (Err e) p = p
 
-pub when_ok : {T E P Q : Type 0} (r : Result T E) → (P → Q) → OnOk r P → OnOk r Q
-when_ok (Ok x) f p = f p
-when_ok (Err e) f p = tt
-
 -- a desk that changes as its share does
-pub desk_changed : (desks : List Desk) (k i : ℕ) (old new : Desk) (change : Share → Share) → i ≡ k → k < length desks →
+pub desk_changed : (desks : List WorkerDesk) (k i : ℕ) (old new : WorkerDesk) (change : Share → Share) → i ≡ k →
+    k < length desks →
     slice_get desks k ≡ Some old → ((share : Share) → IsDesk old share → IsDesk new (change share)) →
-    (w : ℕ) (share : Share) → StandsAt desks w share →
-    StandsAt (slice_set desks i new) w (cond (w == k) (change share) share)
+    (w : ℕ) (share : Share) → IsDeskAt desks w share →
+    IsDeskAt (slice_set desks i new) w (cond (w == k) (change share) share)
 desk_changed desks k i old new change same_place high was steps w share st d found =
     let here : slice_get (slice_set desks k new) w ≡ Some d =
     subst (λ j. slice_get (slice_set desks j new) w ≡ Some d) same_place found in
@@ -74,11 +71,11 @@ desk_changed desks k i old new change same_place high was steps w share st d fou
     (cases_eq w k)
 
 -- a desk shows no more of a share than what waits and what is out
-pub same_desk : (d : Desk) (a b : Share) → a.waiting ≡ b.waiting → a.out ≡ b.out → IsDesk d a → IsDesk d b
+pub same_desk : (d : WorkerDesk) (a b : Share) → a.waiting ≡ b.waiting → a.out ≡ b.out → IsDesk d a → IsDesk d b
 same_desk d a b w o h = record { inbox = h.inbox ∙ w; first_out = h.first_out ∙ ap first_of o }
 
 -- one event more, if it is the worker's
-one_more : (w own : ℕ) (e : LaneEvent) (d : Desk) (share : Share) →
+one_more : (w own : ℕ) (e : LaneEvent) (d : WorkerDesk) (share : Share) →
     IsDesk d (cond (w == own) (with_events (e ∷ []) share) share) →
     IsDesk d (with_events (cond (own == w) (e ∷ []) []) share)
 one_more w own e d share h =
@@ -91,7 +88,7 @@ one_more w own e d share h =
     (cases_eq w own)
 
 -- and events after it
-then_more : (b : Bool) (e : LaneEvent) (es : List LaneEvent) (d : Desk) (share : Share) →
+then_more : (b : Bool) (e : LaneEvent) (es : List LaneEvent) (d : WorkerDesk) (share : Share) →
     IsDesk d (with_events es (cond b (with_events (e ∷ []) share) share)) →
     IsDesk d (with_events (cond b (e ∷ es) es) share)
 then_more true e es d share h = same_desk d (with_events es (with_events (e ∷ []) share)) (with_events (e ∷ es) share)
@@ -104,7 +101,7 @@ flipped a b =
     ⊎_elim (λ e. eq-eqb a b e ∙ sym (eq-eqb b a (sym e)))
     (λ e. ne_eqb a b e ∙ sym (ne_eqb b a (λ q. absurd (e (sym q))))) (cases_eq a b)
 
-module _ (width position : ℕ) (r : Report) (tracked : Tracked) (w : ℕ) (d : Desk) (share : Share) where
+module _ (width position : ℕ) (r : Report) (tracked : Tracked) (w : ℕ) (d : WorkerDesk) (share : Share) where
   abbrev seen_event : LaneEvent
   seen_event = Seen position r tracked.begins tracked.stopped
 
@@ -184,7 +181,7 @@ left_direction day r limits left fit e =
     (turned IsReport (reports day) (in_range day valid))))
 
 -- a tuple that is no report adds no event
-pub nothing_more : (d : Desk) (share : Share) → IsDesk d share → IsDesk d (with_events [] share)
+pub nothing_more : (d : WorkerDesk) (share : Share) → IsDesk d share → IsDesk d (with_events [] share)
 nothing_more d share h = same_desk d share (with_events [] share) (sym (append-nil share.waiting)) refl h
 
 -- the lesser of a number and the first position

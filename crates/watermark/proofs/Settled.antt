@@ -6,12 +6,12 @@ use Rattle.std.specs.Result.{IfOk}
 use Rattle.std.proofs.lemmas.List.{length-take-le, length-drop}
 use Rattle.road_time.specs.declared.road.Tuple.{Tuple}
 use Rattle.road_time.specs.Sights.{Sight, moments_after}
-use Rattle.road_time.specs.Tolls.{Finding}
+use Rattle.road_time.specs.Tolls.{StretchTold}
 use Rattle.accounts.specs.Sums.{total_in}
 use Rattle.accounts.proofs.SumLaws.{total_by}
 use Rattle.watermark.specs.Written.{settled_charges}
-use Rattle.road_time.specs.Day.{Charge, sum_of, given, charges_by, charges_between}
-use Rattle.settling.specs.Answers.{History}
+use Rattle.road_time.specs.Day.{ChargedToll, sum_of, given, charges_by, charges_between}
+use Rattle.settling.specs.Answers.{PaidHistory}
 use Rattle.settling.specs.Runs.{Waits, StandsFor as SettlerStandsFor}
 use Rattle.settling.proofs.StayLaws.{up_to_run, run_between, behind_run}
 use Rattle.watermark.specs.declared.floor.Floor.{Floor}
@@ -55,7 +55,7 @@ module _ (g : Setting) (f : Floor) (s : State) (st : StandsFor g f s)
   pub behind : drop (to - s.settled) rest ≡ drop to s.fed
   behind = behind_run s.settled (to - s.settled) s.fed ∙ ap (λ n. drop n s.fed) sum
 
-  pub charges : (finding : Sight → Finding) → charges_by finding (moments_after before (take (to - s.settled) rest))
+  pub charges : (finding : Sight → StretchTold) → charges_by finding (moments_after before (take (to - s.settled) rest))
       ≡ charges_between finding s.fed s.settled to
   charges finding = ap (charges_by finding) (run_between s.fed s.settled (to - s.settled) (omega (arith, low, within)))
       ∙ ap (λ n. charges_between finding s.fed s.settled n) sum
@@ -83,7 +83,7 @@ module _ (g : Setting) (f : Floor) (s : State) (st : StandsFor g f s)
       subst (λ d. P (take to s.fed) d) behind
       (subst (λ d. P d (drop (to - s.settled) rest)) up (subst (λ k. P (before ++ take k rest) (drop k rest)) e h))
 
-  pub as_published : (count : ℕ) → count ≡ to - s.settled → (P : ℕ → List Charge → ℕ → Type 0) →
+  pub as_published : (count : ℕ) → count ≡ to - s.settled → (P : ℕ → List ChargedToll → ℕ → Type 0) →
       P count (charges_by (given s.found) (moments_after before (take count rest))) (length before + count) →
       P (to - s.settled) (charges_between (given s.found) s.fed s.settled to) to
   as_published count e P h =
@@ -92,7 +92,7 @@ module _ (g : Setting) (f : Floor) (s : State) (st : StandsFor g f s)
       (subst (λ k. P k (charges_by (given s.found) (moments_after before (take k rest))) (length before + k)) e h))
 
   -- the settler stands for what is settled on this day
-  pub on_day : (number : ℕ) (history : History) → g.number ≡ number → g.history ≡ history →
+  pub on_day : (number : ℕ) (history : PaidHistory) → g.number ≡ number → g.history ≡ history →
       SettlerStandsFor f.settler (given s.found) number history before
   on_day number history e h =
       subst (λ k. SettlerStandsFor f.settler (given s.found) number k before) h

@@ -2,7 +2,7 @@ use Rattle.std.specs.Prelude.{◌≡◌, ℕ, ◌-◌, true, false, List, Option
 use Rattle.road_time.specs.declared.day.Limits.{Limits}
 use Rattle.road_time.specs.Rates.{Tariffs}
 use Rattle.road_time.specs.Day.{given}
-use Rattle.expressway.specs.Kept.{Kept}
+use Rattle.expressway.specs.Kept.{KeptWays}
 use Rattle.expressway.specs.Stands.{StandsFor as CarriageStandsFor}
 use Rattle.watermark.specs.declared.floor.Floor.{Floor}
 use Rattle.watermark.specs.Terms.{AreTerms}
@@ -11,18 +11,18 @@ use Rattle.watermark.specs.Sound.{IsSound}
 use Rattle.settling.specs.Slots.{slots_of}
 use Rattle.watermark.specs.Desks.{StandFor}
 use Rattle.settling.specs.declared.fault.SettleFault.{SettleFault}
-use Rattle.settling.specs.Answers.{History}
+use Rattle.settling.specs.Answers.{PaidHistory}
 use Rattle.settling.specs.Levels.{Level}
-use Rattle.settling.specs.Asking.{Plan}
+use Rattle.settling.specs.Asking.{AskingPlan}
 use Rattle.settling.specs.Runs.{WritesRun, WritesSomeOfRun, TakesRun, StopsRun, StandsFor as SettlerStandsFor}
 
 -- a worker's carriage is out with a job, or it is at home and stands for the events that are back
-abbrev pub IsHome : Tariffs → Option Kept → Share → Type 0
+abbrev pub IsHome : Tariffs → Option KeptWays → Share → Type 0
 IsHome tariffs None share = is_empty share.out ≡ false
 IsHome tariffs (Some c) share = (is_empty share.out ≡ true) × CarriageStandsFor c share.back × (c.tariffs ≡ tariffs)
 
-abbrev pub HomeAt : Tariffs → List (Option Kept) → ℕ → Share → Type 0
-HomeAt tariffs homes w share = (home : Option Kept) → slice_get homes w ≡ Some home → IsHome tariffs home share
+abbrev pub HomeAt : Tariffs → List (Option KeptWays) → ℕ → Share → Type 0
+HomeAt tariffs homes w share = (home : Option KeptWays) → slice_get homes w ≡ Some home → IsHome tariffs home share
 
 -- how many workers a floor has, and its limits
 abbrev pub width_of : Floor → ℕ
@@ -35,7 +35,7 @@ limits_of f = f.limits
 pub record Setting : Type 0 where
   pub tariffs : Tariffs
   pub number : ℕ
-  pub history : History
+  pub history : PaidHistory
 
 -- a floor stands for a state, in a setting: its inboxes for the tuples fed, its slots for those that wait with what
 -- was found for them, its homes for the shares, and its
@@ -64,19 +64,19 @@ Writes g s n old now =
     old now
 
 -- or some first bytes of it
-abbrev pub WritesSome : SettleFault → Setting → State → ℕ → Option (List ℕ) → Option (List ℕ) → Type 0
-WritesSome fault g s n old now = WritesSomeOfRun fault (given s.found) g.number g.history (take s.settled s.fed)
+abbrev pub WritesSomeSettled : SettleFault → Setting → State → ℕ → Option (List ℕ) → Option (List ℕ) → Type 0
+WritesSomeSettled fault g s n old now = WritesSomeOfRun fault (given s.found) g.number g.history (take s.settled s.fed)
     (take (n - s.settled) (drop s.settled s.fed)) old now
 
 -- the sink took all of it, and the keeper was asked for each request, and planned none of these calls to fail
-abbrev pub Takes : Setting → State → ℕ → Level → Level → Plan → Plan → Type 0
-Takes g s n old now plan left =
+abbrev pub TakesSettled : Setting → State → ℕ → Level → Level → AskingPlan → AskingPlan → Type 0
+TakesSettled g s n old now plan left =
     TakesRun (given s.found) g.number g.history (take s.settled s.fed) (take (n - s.settled) (drop s.settled s.fed)) old
     now plan left
 
 -- where it was stopped: by the keeper at the call that was planned to fail; by the sink where its room was full; or
 -- for want of memory
-abbrev pub Stops : SettleFault → Setting → State → ℕ → Level → Level → Plan → Plan → Type 0
-Stops fault g s n old now plan left =
+abbrev pub StopsSettling : SettleFault → Setting → State → ℕ → Level → Level → AskingPlan → AskingPlan → Type 0
+StopsSettling fault g s n old now plan left =
     StopsRun fault (given s.found) g.number g.history (take s.settled s.fed)
     (take (n - s.settled) (drop s.settled s.fed)) old now plan left

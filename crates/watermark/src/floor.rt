@@ -7,10 +7,11 @@ ghost use Rattle.watermark.specs.Shares.{State, start, can_give, mark};
 ghost use Rattle.watermark.specs.Steps.{after_feed, after_give, after_back};
 ghost use Rattle.watermark.specs.Sound.{CanFeed};
 ghost use Rattle.watermark.specs.Jobs.{IsNext, MayComeBack};
-ghost use Rattle.watermark.specs.Floors.{Setting, width_of, limits_of, StandsFor, Serves, Writes, WritesSome, Takes};
-ghost use Rattle.watermark.specs.Floors.{Stops};
-ghost use Rattle.settling.specs.Answers.{History, history_of};
-ghost use Rattle.settling.specs.Boards.{IsAbreast, Publishes};
+ghost use Rattle.watermark.specs.Floors.{Setting, width_of, limits_of, StandsFor, Serves, Writes, WritesSomeSettled};
+ghost use Rattle.watermark.specs.Floors.{TakesSettled};
+ghost use Rattle.watermark.specs.Floors.{StopsSettling};
+ghost use Rattle.settling.specs.Answers.{PaidHistory, history_of};
+ghost use Rattle.settling.specs.Boards.{IsAbreast, PublishesStep};
 ghost use Rattle.settling.specs.Closes.{IsClosed};
 ghost use Rattle.road_time.specs.Day.{given, sum_of};
 ghost use Rattle.settling.specs.Faults.{SinkFaults, KeeperFaults};
@@ -53,7 +54,7 @@ impl Floor {
         tariffs: &Tariffs,
     ) -> Result<Floor, NoMemory>
         requires { AreTerms width limits.now }
-        ensures stands { IfOk result (λ floor. (number : ℕ) (history : History)
+        ensures stands { IfOk result (λ floor. (number : ℕ) (history : PaidHistory)
             → StandsFor (record { tariffs = tariffs.now; number = number; history = history }) floor start) }
         ensures width { IfOk result (λ floor. width_of floor ≡ width) }
         ensures limits { IfOk result (λ floor. limits_of floor ≡ limits.now) }
@@ -200,20 +201,20 @@ impl Floor {
             → g.history ≡ history_of (K.told keeper.old) → Writes g s n (O.written sink.old) (O.written sink.new)) }
         ensures stopped { IfErr result (λ fault. (g : Setting) (s : State) → StandsFor g self.old s → g.number ≡ day
             → g.history ≡ history_of (K.told keeper.old)
-            → WritesSome fault g s (mark (width_of self.old) s) (O.written sink.old) (O.written sink.new)) }
+            → WritesSomeSettled fault g s (mark (width_of self.old) s) (O.written sink.old) (O.written sink.new)) }
         ensures took { IfOk result (λ n. (g : Setting) (s : State) → StandsFor g self.old s → g.number ≡ day
             → g.history ≡ history_of (K.told keeper.old)
-            → Takes g s n (O.written sink.old, O.room sink.old) (O.written sink.new, O.room sink.new)
+            → TakesSettled g s n (O.written sink.old, O.room sink.old) (O.written sink.new, O.room sink.new)
             (K.plan keeper.old) (K.plan keeper.new)) }
         ensures where_stopped { IfErr result
             (λ fault. (g : Setting) (s : State) → StandsFor g self.old s → g.number ≡ day
             → g.history ≡ history_of (K.told keeper.old)
-            → Stops fault g s (mark (width_of self.old) s) (O.written sink.old, O.room sink.old)
+            → StopsSettling fault g s (mark (width_of self.old) s) (O.written sink.old, O.room sink.old)
             (O.written sink.new, O.room sink.new)
             (K.plan keeper.old) (K.plan keeper.new)) }
         ensures published { (g : Setting) (s : State) → StandsFor g self.old s → g.number ≡ day
             → g.history ≡ history_of (K.told keeper.old)
-            → Publishes result (mark (width_of self.old) s - s.settled) (charged_to s (mark (width_of self.old) s))
+            → PublishesStep result (mark (width_of self.old) s - s.settled) (charged_to s (mark (width_of self.old) s))
             (mark (width_of self.old) s) (P.posted publisher.old) (P.posted publisher.new) }
         ensures abreast { IfOk result (λ n. (g : Setting) (s : State) → StandsFor g self.old s → g.number ≡ day
             → g.history ≡ history_of (K.told keeper.old)

@@ -12,9 +12,9 @@ ghost use Rattle.expressway.specs.Events.{told_to};
 ghost use Rattle.watermark.specs.Shares.{Share, idle, can_give, least_of};
 ghost use Rattle.watermark.specs.Steps.{at_worker, fed_to, given_out, taken_back};
 ghost use Rattle.settling.specs.Slots.{due_of};
-ghost use Rattle.watermark.specs.Desks.{StandsAt, HasRoom, with_events, tracked_events, MayCome, StandFor};
+ghost use Rattle.watermark.specs.Desks.{IsDeskAt, HasInboxRoom, with_events, tracked_events, MayCome, StandFor};
 
-use crate::desk::Desk;
+use crate::desk::WorkerDesk;
 use crossings::{Tracked, Tracker};
 use expressway::LaneEvent;
 use road_time::{NoMemory, Place, Report, Tuple, Way, worker_of};
@@ -26,7 +26,7 @@ use std::alloc::Global;
 pub(crate) struct Inboxes {
     pub(crate) width: u8,
     pub(crate) tracker: Tracker,
-    pub(crate) desks: Vec<Desk>,
+    pub(crate) desks: Vec<WorkerDesk>,
 }
 
 /// The worker of a report.
@@ -88,37 +88,37 @@ fn leave(position: u32, report: &Report, place: Place) -> LaneEvent
 }
 
 /// Makes room in a worker's inbox for two events.
-fn make_room(desks: &mut Vec<Desk>, worker: u8) -> Result<(), NoMemory>
+fn make_room(desks: &mut Vec<WorkerDesk>, worker: u8) -> Result<(), NoMemory>
     requires { worker < vec_len desks.old }
     ensures len { vec_len desks.new ≡ vec_len desks.old }
-    ensures same { (w : ℕ) (share : Share) → StandsAt desks.old.items w share → StandsAt desks.new.items w share }
-    ensures room { OnOk result (HasRoom 2 desks.new.items worker) }
-    ensures kept { (w n : ℕ) → HasRoom n desks.old.items w → HasRoom n desks.new.items w }
+    ensures same { (w : ℕ) (share : Share) → IsDeskAt desks.old.items w share → IsDeskAt desks.new.items w share }
+    ensures room { OnOk result (HasInboxRoom 2 desks.new.items worker) }
+    ensures kept { (w n : ℕ) → HasInboxRoom n desks.old.items w → HasInboxRoom n desks.new.items w }
 {
     desks[usize::from(worker)].inbox.reserve(2)?;
     Ok(())
 }
 
 /// Puts an event into a worker's inbox.
-fn put(desks: &mut Vec<Desk>, worker: u8, event: LaneEvent)
+fn put(desks: &mut Vec<WorkerDesk>, worker: u8, event: LaneEvent)
     requires within { worker < vec_len desks.old }
-    requires room { HasRoom 1 desks.old.items worker }
+    requires room { HasInboxRoom 1 desks.old.items worker }
     ensures len { vec_len desks.new ≡ vec_len desks.old }
-    ensures put { (w : ℕ) (share : Share) → StandsAt desks.old.items w share
-        → StandsAt desks.new.items w (if w == worker then with_events (event ∷ []) share else share) }
-    ensures kept { (w n : ℕ) → HasRoom (n + 1) desks.old.items w → HasRoom n desks.new.items w }
+    ensures put { (w : ℕ) (share : Share) → IsDeskAt desks.old.items w share
+        → IsDeskAt desks.new.items w (if w == worker then with_events (event ∷ []) share else share) }
+    ensures kept { (w n : ℕ) → HasInboxRoom (n + 1) desks.old.items w → HasInboxRoom n desks.new.items w }
 {
     desks[usize::from(worker)].put(event);
 }
 
 /// Desks with nothing on them.
-fn make_desks(alloc: Global, width: u8) -> Result<Vec<Desk>, NoMemory>
+fn make_desks(alloc: Global, width: u8) -> Result<Vec<WorkerDesk>, NoMemory>
     ensures len { IfOk result (λ desks. vec_len desks ≡ width) }
-    ensures idle { IfOk result (λ desks. (w : ℕ) → StandsAt desks.items w idle) }
+    ensures idle { IfOk result (λ desks. (w : ℕ) → IsDeskAt desks.items w idle) }
 {
     let mut desks = Vec::with_capacity(alloc, usize::from(width))?;
     for _ in 0..width {
-        desks.push(Desk {
+        desks.push(WorkerDesk {
             inbox: Vec::new(alloc),
             first_out: None,
         })?;
@@ -128,7 +128,7 @@ fn make_desks(alloc: Global, width: u8) -> Result<Vec<Desk>, NoMemory>
 
 /// Makes room for the events of a report.
 fn make_rooms(
-    desks: &mut Vec<Desk>,
+    desks: &mut Vec<WorkerDesk>,
     width: u8,
     worker: u8,
     left: Option<Place>,
@@ -139,10 +139,10 @@ fn make_rooms(
     requires few { width ≤ 64 }
     requires direction { IfSome left (λ p. p.dir ≤ 1) }
     ensures len { vec_len desks.new ≡ vec_len desks.old }
-    ensures same { (w : ℕ) (share : Share) → StandsAt desks.old.items w share → StandsAt desks.new.items w share }
+    ensures same { (w : ℕ) (share : Share) → IsDeskAt desks.old.items w share → IsDeskAt desks.new.items w share }
     ensures left { OnOk result (IfSome left
-        (λ p. HasRoom 2 desks.new.items (worker_for (way_of (stretch_around p)) width))) }
-    ensures worker { OnOk result (HasRoom 2 desks.new.items worker) }
+        (λ p. HasInboxRoom 2 desks.new.items (worker_for (way_of (stretch_around p)) width))) }
+    ensures worker { OnOk result (HasInboxRoom 2 desks.new.items worker) }
 {
     match left {
         None => make_room(desks, worker),
@@ -156,7 +156,7 @@ fn make_rooms(
 
 /// Puts the events of a report into the inboxes: that its vehicle left a place, if it did, and then that it was seen.
 fn put_events(
-    desks: &mut Vec<Desk>,
+    desks: &mut Vec<WorkerDesk>,
     width: u8,
     position: u32,
     report: &Report,
@@ -168,11 +168,12 @@ fn put_events(
     requires few { width ≤ 64 }
     requires seen_direction { report.now.dir ≤ 1 }
     requires left_direction { IfSome left (λ p. p.dir ≤ 1) }
-    requires left_room { IfSome left (λ p. HasRoom 2 desks.old.items (worker_for (way_of (stretch_around p)) width)) }
-    requires seen_room { HasRoom 2 desks.old.items (worker_for (way_of (stretch_of report.now)) width) }
+    requires left_room { IfSome left (λ p. HasInboxRoom 2 desks.old.items (worker_for (way_of
+        (stretch_around p)) width)) }
+    requires seen_room { HasInboxRoom 2 desks.old.items (worker_for (way_of (stretch_of report.now)) width) }
     ensures len { vec_len desks.new ≡ vec_len desks.old }
-    ensures put { (w : ℕ) (share : Share) → StandsAt desks.old.items w share
-        → StandsAt desks.new.items w (with_events (told_to w width (tracked_events position report.now left tracked))
+    ensures put { (w : ℕ) (share : Share) → IsDeskAt desks.old.items w share
+        → IsDeskAt desks.new.items w (with_events (told_to w width (tracked_events position report.now left tracked))
         share) }
 {
     let worker = worker_of_report(report, width);

@@ -3,7 +3,7 @@ ghost use Rattle.std.specs.Prelude.{◌≡◌, ◌≤◌, ◌<◌, ◌+◌, ◌+
 ghost use Rattle.std.specs.List.{AllByRecursion};
 ghost use Rattle.std.specs.VecDeque.{deque_len};
 ghost use Rattle.road_time.specs.declared.road.Tuple.{Tuple};
-ghost use Rattle.road_time.specs.Tolls.{Finding as Told};
+ghost use Rattle.road_time.specs.Tolls.{StretchTold as Told};
 ghost use Rattle.road_time.specs.Day.{given};
 ghost use Rattle.expressway.specs.Findings.{shown, found_at};
 ghost use Rattle.watermark.specs.Sound.{AreFresh, ReportAt};

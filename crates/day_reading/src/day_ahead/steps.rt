@@ -9,8 +9,9 @@ ghost use Rattle.road_io.specs.Blame.{FaultsByPlan};
 ghost use Rattle.road_io.specs.Plans.{NeverFails};
 ghost use Rattle.road_io.specs.Cutter.{number_of};
 ghost use Rattle.day_reading.specs.Lines.{FollowsAfter};
-ghost use Rattle.day_reading.specs.Days.{EndsReading, IsShort, LeavesBehind, ReadsWithin, most_read};
-ghost use Rattle.day_reading.specs.Readings.{IsReading, IsGathering, Gives, GathersOn, HasReadOf, HasFailed};
+ghost use Rattle.day_reading.specs.Days.{EndsReading, IsShortDay, LeavesBehind, most_of_day};
+ghost use Rattle.road_io.specs.Within.{ReadsWithin};
+ghost use Rattle.day_reading.specs.Readings.{IsReading, IsGathering, GivesTuple, GathersOn, HasReadOf, HasReaderFailed};
 ghost use Rattle.day_reading.specs.Ahead.{answer_of, has_more, IsAhead, IsGatheringAhead, HasReadAhead};
 ghost use Rattle.day_reading.specs.Ahead.{HasFailedAhead, GivesAhead, GathersAhead};
 ghost use Rattle.day_reading.specs.declared.whole_day.ReadStop.TheVariants.{ReadFault};
@@ -33,7 +34,7 @@ fn look<S: Source, R: Threads>(
 ) -> Result<Following, ReadStop>
     ensures gives { (limits : LimitsValue) (late : ℕ) (bytes : List ℕ) (given : List TupleValue)
         → IsReading reader.old limits late (S.left source.old) bytes given
-        → IfOk result (λ f. Gives (answer_of f) reader.new limits late (S.left source.new) bytes given) }
+        → IfOk result (λ f. GivesTuple (answer_of f) reader.new limits late (S.left source.new) bytes given) }
     ensures gathers { (limits : LimitsValue) (late : ℕ) (given : List TupleValue)
         → IsGathering reader.old limits late given
         → IfOk result (λ f. GathersOn (answer_of f) reader.new limits late given) }
@@ -42,9 +43,9 @@ fn look<S: Source, R: Threads>(
     ensures after { IfOk result (λ f. FollowsAfter f (number_of reader.new.cutter)) }
     ensures same { S.name source.new ≡ S.name source.old }
     ensures source { FaultsByPlan (S.faults source.old) (S.faults source.new) (S.plan source.old)
-        ((HasFailed reader.old → ⊥) × (result ≡ Err ReadFault)) }
-    ensures still { (HasFailed reader.old → ⊥) → NeverFails (S.plan source.old) → NeverFails (S.plan source.new) }
-    ensures unfailed { (HasFailed reader.old → ⊥) → result ≢ Err ReadFault → HasFailed reader.new → ⊥ }
+        ((HasReaderFailed reader.old → ⊥) × (result ≡ Err ReadFault)) }
+    ensures still { (HasReaderFailed reader.old → ⊥) → NeverFails (S.plan source.old) → NeverFails (S.plan source.new) }
+    ensures unfailed { (HasReaderFailed reader.old → ⊥) → result ≢ Err ReadFault → HasReaderFailed reader.new → ⊥ }
 {
     match reader.next(rt, source) {
         Ok(Some(tuple)) => Ok(Following::Waits(tuple)),
@@ -70,7 +71,7 @@ impl DayAhead {
         ensures gathering { IfOk result (λ d. IsGatheringAhead d limits.now late []) }
         ensures read { (bytes : List ℕ) → S.left source.old ≡ Some bytes
             → IfOk result (λ d. HasReadAhead d limits.now.lines (S.left source.new) bytes) }
-        ensures bounded { ReadsWithin (most_read limits.now) (S.left source.old) (S.left source.new) }
+        ensures bounded { ReadsWithin (most_of_day limits.now) (S.left source.old) (S.left source.new) }
         ensures unfailed { IfOk result (λ d. HasFailedAhead d → ⊥) }
         ensures same { S.name source.new ≡ S.name source.old }
         ensures source { FaultsByPlan (S.faults source.old) (S.faults source.new) (S.plan source.old)
@@ -149,7 +150,7 @@ impl DayAhead {
             → LeavesBehind result bytes left }
         ensures short { (limits : LimitsValue) (late : ℕ) (given : List TupleValue)
             → IsGatheringAhead self limits late given
-            → limits.lines ≤ DAY.lines → IsShort result }
+            → limits.lines ≤ DAY.lines → IsShortDay result }
     {
         match self.following {
             Following::Stops { line, cause } => {

@@ -7,8 +7,8 @@ ghost use Rattle.road_io.specs.Blame.{FaultsByPlan};
 ghost use Rattle.road_io.specs.Plans.{NeverFails};
 ghost use Rattle.road_io.specs.Cutter.{number_of};
 ghost use Rattle.keeper.specs.Digests.{digest_of};
-ghost use Rattle.day_reading.specs.Readings.{IsReading, IsGathering, IsGivingOut, Gives, GathersOn, HasTaken};
-ghost use Rattle.day_reading.specs.Readings.{HasReadOf, HasFailed, RefusesAfter};
+ghost use Rattle.day_reading.specs.Readings.{IsReading, IsGathering, IsGivingOut, GivesTuple, GathersOn, HasTaken};
+ghost use Rattle.day_reading.specs.Readings.{HasReadOf, HasReaderFailed, RefusesAfter};
 ghost use Rattle.day_reading.specs.declared.ending.Ending.{Ending as EndingValue};
 ghost use Rattle.road_time.specs.Reads.{reads};
 ghost use Rattle.day_reading.specs.declared.ending.ReadEnd.TheVariants.{ReadFault};
@@ -32,7 +32,7 @@ impl DayReader {
         ensures reading { IfOk result (λ r. (bytes : List ℕ) → IsReading r limits.now late (Some bytes) bytes []) }
         ensures gathering { IfOk result (λ r. IsGathering r limits.now late []) }
         ensures read { IfOk result (λ r. (bytes : List ℕ) → HasReadOf r limits.now.lines (Some bytes) bytes) }
-        ensures unfailed { IfOk result (λ r. HasFailed r → ⊥) }
+        ensures unfailed { IfOk result (λ r. HasReaderFailed r → ⊥) }
     {
         let cutter = LineCutter::new(alloc)?;
         Ok(DayReader {
@@ -180,7 +180,7 @@ impl DayReader {
         requires { self.old.end ≡ Some (Stopped stop) }
         ensures gives { (limits : LimitsValue) (late : ℕ) (left : Option (List ℕ)) (bytes : List ℕ)
             (given : List TupleValue) → IsReading self.old limits late left bytes given
-            → Gives result self.new limits late left bytes given }
+            → GivesTuple result self.new limits late left bytes given }
         ensures gathers { (limits : LimitsValue) (late : ℕ) (given : List TupleValue)
             → IsGathering self.old limits late given → GathersOn result self.new limits late given }
         ensures end { self.new.end ≡ self.old.end }
@@ -204,7 +204,7 @@ impl DayReader {
         requires { self.old.end ≡ Some end }
         ensures gives { (limits : LimitsValue) (late : ℕ) (left : Option (List ℕ)) (bytes : List ℕ)
             (given : List TupleValue) → IsReading self.old limits late left bytes given
-            → Gives result self.new limits late left bytes given }
+            → GivesTuple result self.new limits late left bytes given }
         ensures gathers { (limits : LimitsValue) (late : ℕ) (given : List TupleValue)
             → IsGathering self.old limits late given → GathersOn result self.new limits late given }
         ensures end { self.new.end ≡ self.old.end }
@@ -230,7 +230,7 @@ impl DayReader {
     ) -> Result<Option<Tuple>, ReadEnd>
         ensures gives { (limits : LimitsValue) (late : ℕ) (bytes : List ℕ) (given : List TupleValue)
             → IsReading self.old limits late (S.left source.old) bytes given
-            → Gives result self.new limits late (S.left source.new) bytes given }
+            → GivesTuple result self.new limits late (S.left source.new) bytes given }
         ensures gathers { (limits : LimitsValue) (late : ℕ) (given : List TupleValue)
             → IsGathering self.old limits late given → GathersOn result self.new limits late given }
         ensures read { (lines : ℕ) (bytes : List ℕ) → HasReadOf self.old lines (S.left source.old) bytes
@@ -238,9 +238,10 @@ impl DayReader {
         ensures after { RefusesAfter result (number_of self.new.cutter) }
         ensures same { S.name source.new ≡ S.name source.old }
         ensures source { FaultsByPlan (S.faults source.old) (S.faults source.new) (S.plan source.old)
-            ((HasFailed self.old → ⊥) × (result ≡ Err ReadFault)) }
-        ensures still { (HasFailed self.old → ⊥) → NeverFails (S.plan source.old) → NeverFails (S.plan source.new) }
-        ensures unfailed { (HasFailed self.old → ⊥) → result ≢ Err ReadFault → HasFailed self.new → ⊥ }
+            ((HasReaderFailed self.old → ⊥) × (result ≡ Err ReadFault)) }
+        ensures still { (HasReaderFailed self.old → ⊥) → NeverFails (S.plan source.old) → NeverFails
+            (S.plan source.new) }
+        ensures unfailed { (HasReaderFailed self.old → ⊥) → result ≢ Err ReadFault → HasReaderFailed self.new → ⊥ }
     {
         if let Some(end) = self.end {
             return self.drain(end);

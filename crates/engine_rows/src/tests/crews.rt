@@ -10,8 +10,8 @@ mod held;
 
 use expressway::{Carriage, Done, Events, Finding, Job, LaneEvent};
 use partition_workers::{
-    Crew, Entry, InlineCrew, LateCrew, MarkCrew, NoGate, Places, Started, ThreadCrew, ThreadPlaces,
-    finish_among, run_both, start_beside,
+    Crew, InlineCrew, LateCrew, MarkCrew, NoGate, Places, Started, ThreadCrew, ThreadPlaces,
+    TicketEntry, finish_among, run_both, start_beside,
 };
 use road_time::{NoMemory, Report, Tariffs};
 use std::alloc::Global;
@@ -22,7 +22,7 @@ fn moves<T: Send>() {}
 /// Crews, and what they keep, may move between threads.
 #[test]
 fn crews_move_between_threads(_rt: HostRuntime) {
-    moves::<Entry>();
+    moves::<TicketEntry>();
     moves::<Places>();
     moves::<ThreadPlaces>();
     moves::<InlineCrew>();

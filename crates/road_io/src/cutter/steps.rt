@@ -5,7 +5,7 @@ ghost use Rattle.std.specs.List.{slice_range};
 ghost use Rattle.std.specs.Io.KnownBytes.{ReadConsumes, Consumes, Keeps, IsAtEnd};
 ghost use Rattle.road_io.specs.Faults.{HasCause, Rose};
 ghost use Rattle.road_io.specs.Plans.{AsPlanned, NeverFails};
-ghost use Rattle.road_io.specs.Cutter.{IsCut, Cuts, held, ahead, line_of, number_of, fault_of, rest_of, Stands};
+ghost use Rattle.road_io.specs.Cutter.{IsCut, Cuts, held, ahead, line_of, number_of, fault_of, rest_of, StandsCut};
 ghost use Rattle.road_io.specs.declared.cutter.LineFault.{LineFault};
 ghost use Rattle.road_io.specs.declared.cutter.LineFault.TheVariants.{ReadFault};
 ghost use Rattle.road_io.specs.declared.cutter.Cut.TheVariants.{More};
@@ -141,7 +141,7 @@ impl LineCutter {
         requires open { fault_of self.old ≡ None }
         ensures cuts { IfSome result (λ answer. (left : Option (List ℕ))
             → Cuts answer (ahead self.old left) (ahead self.new left) (line_of self.new)) }
-        ensures stands { IfSome result (λ answer. Stands answer (number_of self.old) self.new) }
+        ensures stands { IfSome result (λ answer. StandsCut answer (number_of self.old) self.new) }
         ensures taken { result ≡ Some (Ok true) → (left : Option (List ℕ))
             → Consumes (ahead self.old left) (ahead self.new left) (rest_of self.new) }
         ensures unread { IfSome result (λ answer. answer ≢ Err ReadFault) }
@@ -174,7 +174,7 @@ impl LineCutter {
         requires short { IsCut More (held self.old) }
         ensures cuts { (left : Option (List ℕ)) → IsAtEnd left
             → Cuts (Ok result) (ahead self.old left) (ahead self.new left) (line_of self.new) }
-        ensures stands { Stands (Ok result) (number_of self.old) self.new }
+        ensures stands { StandsCut (Ok result) (number_of self.old) self.new }
         ensures taken { result ≡ true → (left : Option (List ℕ))
             → Consumes (ahead self.old left) (ahead self.new left) (rest_of self.new) }
     {
@@ -194,7 +194,7 @@ impl LineCutter {
         requires { number_of self.old + 1 < 2 ^ 64 }
         ensures cuts { fault_of self.old ≡ None
             → Cuts result (ahead self.old (S.left source.old)) (ahead self.new (S.left source.new)) (line_of self.new) }
-        ensures stands { fault_of self.old ≡ None → Stands result (number_of self.old) self.new }
+        ensures stands { fault_of self.old ≡ None → StandsCut result (number_of self.old) self.new }
         ensures taken { fault_of self.old ≡ None → result ≡ Ok true
             → Consumes (ahead self.old (S.left source.old)) (ahead self.new (S.left source.new)) (rest_of self.new) }
         ensures stuck { (f : LineFault) → fault_of self.old ≡ Some f

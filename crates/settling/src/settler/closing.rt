@@ -2,8 +2,8 @@
 ghost use Rattle.std.specs.Prelude.{◌≡◌, ℕ, List, IfOk};
 ghost use Rattle.road_time.specs.declared.road.Tuple.{Tuple};
 ghost use Rattle.road_time.specs.Sights.{Sight};
-ghost use Rattle.road_time.specs.Tolls.{Finding};
-ghost use Rattle.settling.specs.Answers.{History};
+ghost use Rattle.road_time.specs.Tolls.{StretchTold};
+ghost use Rattle.settling.specs.Answers.{PaidHistory};
 ghost use Rattle.settling.specs.Closes.{IsClosed};
 ghost use Rattle.settling.specs.Runs.{StandsFor};
 
@@ -60,7 +60,7 @@ impl Settler {
     /// What is left of a day, under its number. The one error is want of memory.
     pub fn close(self, day: u32) -> Result<Closed, NoMemory>
         ensures { IfOk result (λ closed.
-            (finding : Sight → Finding) (number : ℕ) (history : History) (before : List Tuple)
+            (finding : Sight → StretchTold) (number : ℕ) (history : PaidHistory) (before : List Tuple)
             → StandsFor self finding number history before → IsClosed closed day finding number history before) }
     {
         let rows = self.book.spent_rows(day)?;

@@ -3,12 +3,12 @@ ghost use Rattle.std.specs.Prelude.{◌≡◌, ◌≤◌, ◌<◌, ◌+◌, ◌^
 ghost use Rattle.std.specs.Prelude.{length, map};
 ghost use Rattle.road_time.specs.declared.road.Tuple.{Tuple};
 ghost use Rattle.road_time.specs.Sights.{Sight, moments_after};
-ghost use Rattle.road_time.specs.Tolls.{Finding};
+ghost use Rattle.road_time.specs.Tolls.{StretchTold};
 ghost use Rattle.road_time.specs.Day.{charges_by, sum_of};
 ghost use Rattle.accounts.specs.Operations.{charge_of};
 ghost use Rattle.accounts.specs.Sums.{total_in};
 ghost use Rattle.settling.specs.Answers.{history_of};
-ghost use Rattle.settling.specs.Boards.{IsAbreast, Publishes};
+ghost use Rattle.settling.specs.Boards.{IsAbreast, PublishesStep};
 ghost use Rattle.settling.specs.Faults.{SinkFaults, KeeperFaults, write_failed, keeper_failed};
 ghost use Rattle.settling.specs.Runs.{StandsFor, Waits, WritesRun, WritesSomeOfRun, TakesRun, StopsRun};
 
@@ -27,7 +27,7 @@ impl Settler {
             × (total + sum_of (map charge_of self.old.charges.items) ≡ total_in self.old.book.spent) }
         requires few { total_in self.old.book.spent < 2 ^ 63 }
         requires idle { count ≡ 0 → self.old.charges.items ≡ [] }
-        ensures published { Publishes result count (map charge_of self.old.charges.items) self.old.settled
+        ensures published { PublishesStep result count (map charge_of self.old.charges.items) self.old.settled
             (P.posted publisher.old) (P.posted publisher.new) }
         ensures abreast { OnOk result (IsAbreast (P.posted publisher.new) (total_in self.old.book.spent)) }
         ensures which { P.which publisher.new ≡ P.which publisher.old }
@@ -62,43 +62,43 @@ impl Settler {
         sink: &mut O,
         publisher: &mut P,
     ) -> Result<u64, SettleFault>
-        requires waits { (finding : Sight → Finding) × (before : List Tuple) × (rest : List Tuple)
+        requires waits { (finding : Sight → StretchTold) × (before : List Tuple) × (rest : List Tuple)
             × StandsFor self.old finding number (history_of (K.told keeper.old)) before
             × Waits slots.old.items finding before rest × (count ≤ length rest) }
         requires abreast { IsAbreast (P.posted publisher.old) (total_in self.old.book.spent) }
-        ensures settled { IfOk result (λ n. (finding : Sight → Finding) (before rest : List Tuple)
+        ensures settled { IfOk result (λ n. (finding : Sight → StretchTold) (before rest : List Tuple)
             → StandsFor self.old finding number (history_of (K.told keeper.old)) before
             → Waits slots.old.items finding before rest → count ≤ length rest
             → (n ≡ length before + count)
             × StandsFor self.new finding number (history_of (K.told keeper.new)) (before ++ take count rest)
             × Waits slots.new.items finding (before ++ take count rest) (drop count rest)) }
-        ensures wrote { OnOk result ((finding : Sight → Finding) (before rest : List Tuple)
+        ensures wrote { OnOk result ((finding : Sight → StretchTold) (before rest : List Tuple)
             → StandsFor self.old finding number (history_of (K.told keeper.old)) before
             → Waits slots.old.items finding before rest → count ≤ length rest
             → WritesRun finding number (history_of (K.told keeper.old)) before (take count rest) (O.written sink.old)
             (O.written sink.new)) }
-        ensures stopped { IfErr result (λ fault. (finding : Sight → Finding) (before rest : List Tuple)
+        ensures stopped { IfErr result (λ fault. (finding : Sight → StretchTold) (before rest : List Tuple)
             → StandsFor self.old finding number (history_of (K.told keeper.old)) before
             → Waits slots.old.items finding before rest → count ≤ length rest
             → WritesSomeOfRun fault finding number (history_of (K.told keeper.old)) before (take count rest)
             (O.written sink.old) (O.written sink.new)) }
-        ensures took { OnOk result ((finding : Sight → Finding) (before rest : List Tuple)
+        ensures took { OnOk result ((finding : Sight → StretchTold) (before rest : List Tuple)
             → StandsFor self.old finding number (history_of (K.told keeper.old)) before
             → Waits slots.old.items finding before rest → count ≤ length rest
             → TakesRun finding number (history_of (K.told keeper.old)) before (take count rest)
             (O.written sink.old, O.room sink.old) (O.written sink.new, O.room sink.new) (K.plan keeper.old)
             (K.plan keeper.new)) }
         ensures where_stopped { IfErr result
-            (λ fault. (finding : Sight → Finding) (before rest : List Tuple)
+            (λ fault. (finding : Sight → StretchTold) (before rest : List Tuple)
             → StandsFor self.old finding number (history_of (K.told keeper.old)) before
             → Waits slots.old.items finding before rest → count ≤ length rest
             → StopsRun fault finding number (history_of (K.told keeper.old)) before (take count rest)
             (O.written sink.old, O.room sink.old) (O.written sink.new, O.room sink.new) (K.plan keeper.old)
             (K.plan keeper.new)) }
-        ensures published { (finding : Sight → Finding) (before rest : List Tuple)
+        ensures published { (finding : Sight → StretchTold) (before rest : List Tuple)
             → StandsFor self.old finding number (history_of (K.told keeper.old)) before
             → Waits slots.old.items finding before rest → count ≤ length rest
-            → Publishes result count (charges_by finding (moments_after before (take count rest)))
+            → PublishesStep result count (charges_by finding (moments_after before (take count rest)))
             (length before + count) (P.posted publisher.old) (P.posted publisher.new) }
         ensures abreast { OnOk result (IsAbreast (P.posted publisher.new) (total_in self.new.book.spent)) }
         ensures which { P.which publisher.new ≡ P.which publisher.old }

@@ -3,9 +3,9 @@ ghost use Rattle.std.specs.Prelude.{◌≡◌, ◌≤◌, ◌+◌, ◌++◌, ◌
 ghost use Rattle.std.specs.VecDeque.{deque_len};
 ghost use Rattle.road_time.specs.declared.road.Tuple.{Tuple};
 ghost use Rattle.road_time.specs.Sights.{Sight};
-ghost use Rattle.road_time.specs.Tolls.{Finding};
+ghost use Rattle.road_time.specs.Tolls.{StretchTold};
 ghost use Rattle.settling.specs.Answers.{history_of};
-ghost use Rattle.settling.specs.Asking.{Plan};
+ghost use Rattle.settling.specs.Asking.{AskingPlan};
 ghost use Rattle.settling.specs.Faults.{SinkFaults, KeeperFaults};
 ghost use Rattle.settling.specs.Levels.{Level};
 ghost use Rattle.settling.specs.Slots.{slots_of};
@@ -27,13 +27,14 @@ impl Settler {
         keeper: &mut K,
         sink: &mut O,
     ) -> Result<(), SettleFault>
-        requires { (finding : Sight → Finding) × (before : List Tuple) × (run : List Tuple) × (x : Tuple)
-            × (rest : List Tuple) × (old : Level) × (plan : Plan)
+        requires { (finding : Sight → StretchTold) × (before : List Tuple) × (run : List Tuple) × (x : Tuple)
+            × (rest : List Tuple) × (old : Level) × (plan : AskingPlan)
             × InRun self.old finding number (history_of (K.told keeper.old)) before run old
             (O.written sink.old, O.room sink.old) plan (K.plan keeper.old)
             × Waits slots.old.items finding (before ++ run) (x ∷ rest) }
-        ensures ok { OnOk result ((finding : Sight → Finding) (before run : List Tuple) (x : Tuple) (rest : List Tuple)
-            (old : Level) (plan : Plan)
+        ensures ok { OnOk result ((finding : Sight → StretchTold) (before run : List Tuple) (x : Tuple)
+            (rest : List Tuple)
+            (old : Level) (plan : AskingPlan)
             → InRun self.old finding number (history_of (K.told keeper.old)) before run old
             (O.written sink.old, O.room sink.old) plan (K.plan keeper.old)
             → Waits slots.old.items finding (before ++ run) (x ∷ rest)
@@ -41,8 +42,8 @@ impl Settler {
             (O.written sink.new, O.room sink.new) plan (K.plan keeper.new)
             × Waits slots.new.items finding (before ++ (run ++ x ∷ [])) rest) }
         ensures err { IfErr result (λ fault.
-            (finding : Sight → Finding) (before run : List Tuple) (x : Tuple) (rest : List Tuple) (old : Level)
-            (plan : Plan)
+            (finding : Sight → StretchTold) (before run : List Tuple) (x : Tuple) (rest : List Tuple) (old : Level)
+            (plan : AskingPlan)
             → InRun self.old finding number (history_of (K.told keeper.old)) before run old
             (O.written sink.old, O.room sink.old) plan (K.plan keeper.old)
             → Waits slots.old.items finding (before ++ run) (x ∷ rest)
@@ -72,17 +73,17 @@ impl Settler {
         keeper: &mut K,
         sink: &mut O,
     ) -> Result<(), SettleFault>
-        requires waits { (finding : Sight → Finding) × (before : List Tuple) × (rest : List Tuple)
+        requires waits { (finding : Sight → StretchTold) × (before : List Tuple) × (rest : List Tuple)
             × StandsFor self.old finding number (history_of (K.told keeper.old)) before
             × Waits slots.old.items finding before rest × (count ≤ length rest) }
-        ensures ok { OnOk result ((finding : Sight → Finding) (before rest : List Tuple)
+        ensures ok { OnOk result ((finding : Sight → StretchTold) (before rest : List Tuple)
             → StandsFor self.old finding number (history_of (K.told keeper.old)) before
             → Waits slots.old.items finding before rest → count ≤ length rest
             → InRun self.new finding number (history_of (K.told keeper.new)) before (take count rest)
             (O.written sink.old, O.room sink.old) (O.written sink.new, O.room sink.new) (K.plan keeper.old)
             (K.plan keeper.new)
             × Waits slots.new.items finding (before ++ take count rest) (drop count rest)) }
-        ensures err { IfErr result (λ fault. (finding : Sight → Finding) (before rest : List Tuple)
+        ensures err { IfErr result (λ fault. (finding : Sight → StretchTold) (before rest : List Tuple)
             → StandsFor self.old finding number (history_of (K.told keeper.old)) before
             → Waits slots.old.items finding before rest → count ≤ length rest
             → StopsRun fault finding number (history_of (K.told keeper.old)) before (take count rest)
@@ -110,17 +111,17 @@ impl Settler {
         keeper: &mut K,
         sink: &mut O,
     ) -> Result<(), SettleFault>
-        requires waits { (finding : Sight → Finding) × (before : List Tuple) × (rest : List Tuple)
+        requires waits { (finding : Sight → StretchTold) × (before : List Tuple) × (rest : List Tuple)
             × StandsFor self.old finding number (history_of (K.told keeper.old)) before
             × Waits slots.old.items finding before rest × (count ≤ length rest) }
-        ensures ok { OnOk result ((finding : Sight → Finding) (before rest : List Tuple)
+        ensures ok { OnOk result ((finding : Sight → StretchTold) (before rest : List Tuple)
             → StandsFor self.old finding number (history_of (K.told keeper.old)) before
             → Waits slots.old.items finding before rest → count ≤ length rest
             → HasRun self.new finding number (history_of (K.told keeper.new)) before (take count rest)
             (O.written sink.old, O.room sink.old) (O.written sink.new, O.room sink.new) (K.plan keeper.old)
             (K.plan keeper.new)
             × Waits slots.new.items finding (before ++ take count rest) (drop count rest)) }
-        ensures err { IfErr result (λ fault. (finding : Sight → Finding) (before rest : List Tuple)
+        ensures err { IfErr result (λ fault. (finding : Sight → StretchTold) (before rest : List Tuple)
             → StandsFor self.old finding number (history_of (K.told keeper.old)) before
             → Waits slots.old.items finding before rest → count ≤ length rest
             → StopsRun fault finding number (history_of (K.told keeper.old)) before (take count rest)

@@ -3,8 +3,8 @@ ghost use Rattle.std.specs.Prelude.{◌≡◌, ◌≢◌, ◌≤◌, ◌<◌, �
 ghost use Rattle.std.specs.Io.KnownBytes.{ReadConsumes};
 ghost use Rattle.road_io.specs.Faults.{Rose, HasCause};
 ghost use Rattle.road_io.specs.Plans.{AsPlanned, NeverFails};
-ghost use Rattle.toll_heads.specs.Fronts.{ReadsWithin};
-ghost use Rattle.toll_heads.specs.Asks.{IsLook, IsHeld, IsFront};
+ghost use Rattle.road_io.specs.Within.{ReadsWithin};
+ghost use Rattle.toll_heads.specs.Asks.{IsLook, IsHeld, IsLinkFront};
 ghost use Rattle.toll_heads.specs.declared.fronts.Front.TheVariants.{LinkFault};
 
 use super::{Front, Look};
@@ -45,7 +45,7 @@ pub fn read_front<L: Link>(link: &mut L, buffer: &mut [u8], headers: &mut [Heade
     requires size { length buffer.old ≡ 8192 }
     requires fields { length headers.old ≡ 64 }
     ensures front { (bytes : List ℕ) → L.left link.old ≡ Some bytes
-        → IsFront bytes buffer.new headers.new (L.left link.new) result }
+        → IsLinkFront bytes buffer.new headers.new (L.left link.new) result }
     ensures bounded { ReadsWithin 8192 (L.left link.old) (L.left link.new) }
     ensures held { IsHeld buffer.new headers.new result }
     ensures size { length buffer.new ≡ 8192 }

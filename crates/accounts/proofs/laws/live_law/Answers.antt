@@ -1,7 +1,7 @@
 use Rattle.std.proofs.Common.{◌≡◌, List, Some, sym, ap, subst}
 use Rattle.road_time.specs.Day.{sum_of, charges_to}
 use Rattle.accounts.specs.Operations.{Operation}
-use Rattle.accounts.specs.Boards.{Board, board_after}
+use Rattle.accounts.specs.Boards.{BoardState, board_after}
 use Rattle.accounts.specs.Shown.{shown_by, shown_after, board_on}
 use Rattle.accounts.proofs.LiveLaws.{Shows, shown, live_more}
 use Rattle.accounts.proofs.ShownLaws.{begun_shown}
@@ -16,7 +16,7 @@ returns-clause-shows c = λ day tariffs number ops live.
     (subst (λ (xs : List Operation). shown_by xs ≡ Some (board_after xs)) (sym live.whole)
     (begun_shown live.earlier live.steps number)) in
     let shows : Shows day tariffs number (shown_after ops) =
-    subst (λ (b : Board). Shows day tariffs number b) (sym same) all in
+    subst (λ (b : BoardState). Shows day tariffs number b) (sym same) all in
     (shows.of_day, shows.inside, λ vid. ap (λ cs. sum_of (charges_to vid cs)) shows.exact, ap sum_of shows.exact)
 
 pub returns-clause-grows : goal.returns-clause-grows

@@ -1,13 +1,13 @@
 use Rattle.std.proofs.Common.{◌≡◌, ℕ, ◌+◌, Some, IsSome, refl, sym, ap, subst, ◌∙◌}
 use Rattle.std.specs.FinMap.{empty, get}
-use Rattle.accounts.specs.Sums.{Spent, with_charge, spent_by}
+use Rattle.accounts.specs.Sums.{SpentMap, with_charge, spent_by}
 use Rattle.accounts.specs.Books.{Accounts}
 use Rattle.accounts.proofs.WorkedLaws.{told_it, charge_on, three, some_is, rows_by, three_account, three_total}
 use Rattle.accounts.proofs.WorkedLaws.{answers_made}
 use Rattle.accounts.proofs.worked.two_expressways.Goals as goal
 
 -- a book with one charge more
-more : (a b : Accounts) (xway n : ℕ) (m : Spent) →
+more : (a b : Accounts) (xway n : ℕ) (m : SpentMap) →
     b ≡ record a { spent = with_charge a.spent (record { vid = 100; xway = xway; toll = n }); made = a.made + 1 } →
     n ≡ 2 → a.spent ≡ m → b.spent ≡ with_charge m (charge_on xway)
 more a b xway n m e is was = ap (λ (s : Accounts). s.spent) e

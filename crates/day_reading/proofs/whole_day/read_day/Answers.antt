@@ -4,7 +4,7 @@ use Rattle.road_time.specs.declared.road.Tuple.{Tuple}
 use Rattle.day_reading.specs.declared.ending.ReadEnd.{ReadEnd}
 use Rattle.day_reading.specs.declared.ending.ReadEnd.TheVariants.{Refused, ReadFault}
 use Rattle.road_io.specs.Cutter.{number_of}
-use Rattle.day_reading.specs.Readings.{IsReading, IsGathering, HasReadOf, Gives, GathersOn}
+use Rattle.day_reading.specs.Readings.{IsReading, IsGathering, HasReadOf, GivesTuple, GathersOn}
 use Rattle.day_reading.proofs.BoundLaws.{day_within, stops_soon}
 use Rattle.day_reading.proofs.whole_day.read_day.Goals as goal
 
@@ -47,7 +47,7 @@ reading-preserved g c =
           (c.next.ensures.gathers limits late before inv.gathering));
       reading = λ bytes told. subst (λ xs. IsReading new limits late (g.S.Source.left c.next.new.source) bytes xs)
           (sym pushed)
-          (subst (λ r. Gives r new limits late (g.S.Source.left c.next.new.source) bytes before) some
+          (subst (λ r. GivesTuple r new limits late (g.S.Source.left c.next.new.source) bytes before) some
           (c.next.ensures.gives limits late bytes before (inv.reading bytes told)));
       read = λ bytes told. c.next.ensures.read limits.lines bytes (inv.read bytes told);
       unfailed = c.next.ensures.unfailed inv.unfailed (given_no_fault c.next.result x some);
@@ -63,7 +63,7 @@ returns-in-Err-Refused-clause-end g c = λ bytes told.
     let new = c.next.new.self in
     let before = c.reading.tuples.items in
     let res : c.next.result ≡ Err (Refused c.in-Err-Refused.line c.in-Err-Refused.cause) = cc in
-    (subst (λ r. Gives r new limits late (g.S.Source.left c.next.new.source) bytes before) res
+    (subst (λ r. GivesTuple r new limits late (g.S.Source.left c.next.new.source) bytes before) res
     (c.next.ensures.gives limits late bytes before (c.reading.invariant.reading bytes told))).1
 
 pub returns-then-is_err-clause-bounded : goal.returns-then-is_err-clause-bounded
@@ -102,7 +102,7 @@ returns-in-Ok-None-clause-left g c = λ bytes told.
     let new = c.next.new.self in
     let left = g.S.Source.left c.next.new.source in
     let res : c.next.result ≡ Ok None = cc in
-    let gives = subst (λ r. Gives r new limits c.args.late left bytes c.reading.tuples.items) res
+    let gives = subst (λ r. GivesTuple r new limits c.args.late left bytes c.reading.tuples.items) res
     (c.next.ensures.gives limits c.args.late bytes c.reading.tuples.items
     (c.reading.invariant.reading bytes told)) in
     let read = c.next.ensures.read limits.lines bytes (c.reading.invariant.read bytes told) in

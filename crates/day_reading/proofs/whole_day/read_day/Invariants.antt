@@ -1,6 +1,6 @@
 use Rattle.std.proofs.Common.{◌≡◌, ◌+◌, ◌-◌, ◌≤◌, length, List, ℕ, Some}
 use Rattle.road_io.specs.Plans.{NeverFails}
-use Rattle.day_reading.specs.Readings.{IsReading, IsGathering, HasReadOf, HasFailed}
+use Rattle.day_reading.specs.Readings.{IsReading, IsGathering, HasReadOf, HasReaderFailed}
 use Rattle.day_reading.proofs.whole_day.read_day.Given as goal
 
 abbrev pub invariant-reading : goal.invariant-reading
@@ -10,7 +10,7 @@ invariant-reading g l = record {
       IsReading l.reader l.limits l.late (g.S.Source.left l.source) bytes l.tuples.items;
   read : (bytes : List ℕ) → g.S.Source.left l.initial.source ≡ Some bytes →
       HasReadOf l.reader l.limits.lines (g.S.Source.left l.source) bytes;
-  unfailed : HasFailed l.reader → ⊥;
+  unfailed : HasReaderFailed l.reader → ⊥;
   same : g.S.Source.name l.source ≡ g.S.Source.name l.initial.source;
   later : g.S.Source.faults l.initial.source ≤ g.S.Source.faults l.source;
   still : NeverFails (g.S.Source.plan l.initial.source) → NeverFails (g.S.Source.plan l.source);

@@ -1,7 +1,7 @@
 use Rattle.std.proofs.Common.{◌≡◌, ◌≤◌, [], inr, refl, sym, subst, arith}
 use Rattle.std.specs.Prelude.{Some, None}
 use Rattle.road_time.specs.Reads.{reads}
-use Rattle.day_reading.specs.Days.{most_read}
+use Rattle.day_reading.specs.Days.{most_of_day}
 use Rattle.day_reading.specs.Ahead.{IsAhead, IsGatheringAhead, HasReadAhead}
 use Rattle.settling.specs.Answers.{history_of}
 use Rattle.watermark.specs.Floors.{Setting}
@@ -130,7 +130,7 @@ returns-in-Ok-run_opened-clause-bounded g c bytes told =
     c.in-Ok-run_opened.ensures.bounded bytes
     (subst (λ l. HasReadAhead ahead l.lines left bytes) (sym c.in-Ok.ensures.limits)
     (c.in-Ok-open.ensures.read bytes told)) in
-    (count, subst (λ l. count ≤ most_read l) c.in-Ok.ensures.limits few, is)
+    (count, subst (λ l. count ≤ most_of_day l) c.in-Ok.ensures.limits few, is)
 
 pub returns-in-Err-run_opened-clause-bounded : goal.returns-in-Err-run_opened-clause-bounded
 returns-in-Err-run_opened-clause-bounded g c bytes told =
@@ -142,7 +142,7 @@ returns-in-Err-run_opened-clause-bounded g c bytes told =
     c.in-Err-run_opened.ensures.bounded bytes
     (subst (λ l. HasReadAhead ahead l.lines left bytes) (sym c.in-Ok.ensures.limits)
     (c.in-Ok-open.ensures.read bytes told)) in
-    (count, subst (λ l. count ≤ most_read l) c.in-Ok.ensures.limits few, is)
+    (count, subst (λ l. count ≤ most_of_day l) c.in-Ok.ensures.limits few, is)
 
 pub returns-in-Ok-run_opened-clause-rest : goal.returns-in-Ok-run_opened-clause-rest
 returns-in-Ok-run_opened-clause-rest g c bytes told none =

@@ -1,7 +1,8 @@
 use Rattle.std.proofs.Common.{rules, map}
 use Rattle.expressway.specs.Findings.{shown}
 use Rattle.watermark.specs.Steps.{after_back}
-use Rattle.watermark.proofs.Inbox.{when_ok, when_err}
+use Rattle.watermark.proofs.Inbox.{when_err}
+use Rattle.expressway.proofs.ShapeLaws.{ok_map}
 use Rattle.day_rounds.proofs.FinishLaws.{finish_ready, finish_stopped, finish_may, finish_came, finish_runs, well}
 use Rattle.day_rounds.proofs.finish.finish_one.Goals as goal
 
@@ -41,7 +42,7 @@ returns-clause-came g c =
     let v = c.finish_among-done.ensures in
     let d = c.finish_among-done.result in
     let ok = well d.result (search rules) in
-    when_ok c.back.result
+    ok_map c.back.result
     (λ back e told answered s h.
     let may =
     finish_may k.out k.number k.holds k.gave k.exact k.jobs k.answers e told answered c.args.run.now c.args.crew.now

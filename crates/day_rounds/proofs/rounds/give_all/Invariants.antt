@@ -1,7 +1,7 @@
 use Rattle.std.proofs.Common.{◌≡◌, List}
 use Rattle.std.specs.Prelude.{Option}
 use Rattle.expressway.specs.declared.finding.Finding.{Finding}
-use Rattle.partition_workers.specs.Told.{Told}
+use Rattle.partition_workers.specs.Told.{CrewTold}
 use Rattle.watermark.specs.Shares.{State}
 use Rattle.watermark.specs.Floors.{Setting}
 use Rattle.day_rounds.specs.Runs.{Runs, given_all}
@@ -14,7 +14,7 @@ invariant-loop-worker g l =
       width : l.run.floor.inboxes.width ≡ l.fn.run.floor.inboxes.width;
       limits : l.run.floor.limits ≡ l.fn.run.floor.limits;
       which : k.which l.crew ≡ k.which l.fn.crew;
-      given : (e : Setting) (told : Option Told) (answered : Option (List Finding)) (s : State) →
+      given : (e : Setting) (told : Option CrewTold) (answered : Option (List Finding)) (s : State) →
           Runs k.out k.number k.holds k.gave k.exact k.jobs k.answers e told answered l.fn.run l.fn.crew s →
           Runs k.out k.number k.holds k.gave k.exact k.jobs k.answers e told answered l.run l.crew
           (given_all s l.worker);

@@ -5,7 +5,7 @@ use Rattle.road_io.specs.Plans.{NeverFails}
 use Rattle.road_io.specs.Rooms.{Endless}
 use Rattle.day_reading.specs.Ahead.{has_more, IsGatheringAhead, HasReadAhead, HasFailedAhead}
 use Rattle.expressway.specs.declared.finding.Finding.{Finding}
-use Rattle.partition_workers.specs.Told.{Told}
+use Rattle.partition_workers.specs.Told.{CrewTold}
 use Rattle.settling.specs.Answers.{history_of}
 use Rattle.settling.specs.Boards.{IsAbreast}
 use Rattle.watermark.specs.Shares.{State, start}
@@ -39,7 +39,7 @@ invariant-day g l =
       keeper_sure : NeverFails (g.K.Keeper.plan l.fn.keeper) → NeverFails (g.K.Keeper.plan l.keeper);
       few : length l.these.items ≤ l.fn.run.floor.limits.backlog;
       ended : l.these.items ≡ [] → has_more l.ahead ≡ false;
-      at : (e : Setting) (told : Option Told) (answered : Option (List Finding)) (late : ℕ) →
+      at : (e : Setting) (told : Option CrewTold) (answered : Option (List Finding)) (late : ℕ) →
           Runs k.out k.number k.holds k.gave k.exact k.jobs k.answers e told answered l.fn.run l.fn.crew start →
           IsGatheringAhead l.fn.ahead l.fn.run.floor.limits late [] →
           e.number ≡ l.day → e.history ≡ history_of (g.K.Keeper.told l.fn.keeper) →

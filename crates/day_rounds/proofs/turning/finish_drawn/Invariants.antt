@@ -2,7 +2,7 @@ use Rattle.std.proofs.Common.{◌≡◌, ◌≤◌, ◌<◌, ◌+◌, ◌-◌, �
 use Rattle.std.specs.Prelude.{Option}
 use Rattle.draws.specs.Draws.{drawn, after_draws}
 use Rattle.expressway.specs.declared.finding.Finding.{Finding}
-use Rattle.partition_workers.specs.Told.{Told}
+use Rattle.partition_workers.specs.Told.{CrewTold}
 use Rattle.watermark.specs.Shares.{State}
 use Rattle.watermark.specs.Floors.{Setting}
 use Rattle.day_rounds.specs.Runs.{Runs}
@@ -22,7 +22,7 @@ invariant-loop-rng g l =
       low : l.left ≤ length l.run.tickets.items;
       drawn : l.rng ≡ after_draws (1 + (l.held - length l.run.tickets.items)) l.fn.rng;
       fewer : length l.run.tickets.items ≤ length l.fn.run.tickets.items;
-      came : (e : Setting) (told : Option Told) (answered : Option (List Finding)) (s : State) →
+      came : (e : Setting) (told : Option CrewTold) (answered : Option (List Finding)) (s : State) →
           Runs k.out k.number k.holds k.gave k.exact k.jobs k.answers e told answered l.fn.run l.fn.crew s →
           (now : State) × (n : ℕ) × IsMoved l.fn.run.floor.inboxes.width n s now
           × (length l.run.tickets.items + n ≡ length l.fn.run.tickets.items)

@@ -1,8 +1,9 @@
 use Rattle.std.proofs.Common.{◌≡◌, [], rules}
-use Rattle.watermark.proofs.Inbox.{when_ok}
+use Rattle.expressway.proofs.ShapeLaws.{ok_map}
 use Rattle.day_rounds.specs.Runs.{given_if}
 use Rattle.day_rounds.proofs.RoundLaws.{all_home}
-use Rattle.day_rounds.proofs.FinishLaws.{no_items, some_items}
+use Rattle.day_rounds.proofs.FinishLaws.{some_items}
+use Rattle.keeper.proofs.ListFacts.{no_length}
 use Rattle.day_rounds.proofs.TurnLaws.{given_same, given_one, least_waits}
 use Rattle.day_rounds.proofs.turning.give_if_none.Goals as goal
 
@@ -21,8 +22,8 @@ returns-clause-given g c =
     let k = g.C.Crew in
     let w = c.args.run.now.floor.inboxes.width in
     let worker = c.args.worker in
-    let items : c.args.run.now.tickets.items ≡ [] = no_items c.args.run.now.tickets.items (search rules) in
-    when_ok c.give_one.result
+    let items : c.args.run.now.tickets.items ≡ [] = no_length c.args.run.now.tickets.items (search rules) in
+    ok_map c.give_one.result
     (λ given e told answered s h.
     let (m, one) = given_one w s worker c.requires.within in
     let home =

@@ -3,7 +3,9 @@ use Rattle.watermark.proofs.Inbox.{when_err}
 use Rattle.expressway.specs.Results.{AreFirst}
 use Rattle.day_rounds.specs.Runs.{Stopped}
 use Rattle.day_rounds.specs.Turns.{IsGiven, IsMoved}
-use Rattle.day_rounds.proofs.FinishLaws.{ok_both, on_err, no_items}
+use Rattle.day_rounds.proofs.FinishLaws.{ok_both}
+use Rattle.expressway.proofs.ShapeLaws.{err_map}
+use Rattle.keeper.proofs.ListFacts.{no_length}
 use Rattle.day_rounds.proofs.RoundLaws.{all_home, stopped_by}
 use Rattle.day_rounds.proofs.TurnLaws.{given_then, moved_given, moved_then, none_ahead}
 use Rattle.day_rounds.proofs.turning.work_turn.Goals as goal
@@ -72,7 +74,7 @@ returns-clause-worked g c =
       last,
       λ none.
           let empty =
-          no_items c.give_least.new.run.tickets.items
+          no_length c.give_least.new.run.tickets.items
           (no_steps a b d (length c.give_least.new.run.tickets.items) (length c.finish_drawn.new.run.tickets.items)
           none count some) in
           none_ahead w (a + b) s mid both
@@ -85,7 +87,7 @@ returns-clause-worked g c =
 pub returns-clause-stopped : goal.returns-clause-stopped
 returns-clause-stopped g c =
     let k = g.C.Crew in
-    on_err c.finish_drawn.result
+    err_map c.finish_drawn.result
     (λ stopped e told answered s h day first.
     let (mid, a, given, runs) = c.give_drawn.ensures.given e told answered s h in
     let (now, b, more, all, waits) = c.in_ok-give_least.ensures.given e told answered mid runs in

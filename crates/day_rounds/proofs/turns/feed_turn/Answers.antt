@@ -5,9 +5,9 @@ use Rattle.expressway.specs.Results.{AreFirst}
 use Rattle.day_rounds.specs.Runs.{Stopped, fed_all}
 use Rattle.day_rounds.specs.Turns.{IsMoved}
 use Rattle.day_rounds.proofs.FeedLaws.{fed_runs, fed_are, first_left}
-use Rattle.day_rounds.proofs.FinishLaws.{on_err}
+use Rattle.expressway.proofs.ShapeLaws.{err_map}
 use Rattle.day_rounds.proofs.RoundLaws.{stopped_by}
-use Rattle.watermark.proofs.Inbox.{when_ok}
+use Rattle.expressway.proofs.ShapeLaws.{ok_map}
 use Rattle.day_rounds.proofs.turns.feed_turn.Goals as goal
 
 pub returns-in_err-feed_these-clause-stopped : goal.returns-in_err-feed_these-clause-stopped
@@ -40,7 +40,7 @@ returns-clause-worked g c =
     let v = c.in_ok-feed_these.ensures in
     let w = c.args.run.now.floor.inboxes.width in
     let these = c.args.these.now in
-    when_ok c.work_turn.result
+    ok_map c.work_turn.result
     (λ worked e told answered s h can.
     let fed = fed_all w s these in
     let (mid, j, moved, runs, idle) =
@@ -62,7 +62,7 @@ returns-clause-stopped g c =
     let v = c.in_ok-feed_these.ensures in
     let w = c.args.run.now.floor.inboxes.width in
     let these = c.args.these.now in
-    on_err c.work_turn.result
+    err_map c.work_turn.result
     (λ stopped e told answered s h can day first.
     let mid =
     fed_runs k.out k.number k.holds k.gave k.exact k.jobs k.answers e told answered c.args.run.now c.args.crew.now s

@@ -12,7 +12,8 @@ use Rattle.day_rounds.proofs.FeedLaws.{fed_are}
 use Rattle.day_rounds.proofs.FrontLaws.{front_before}
 use Rattle.day_rounds.proofs.PublishLaws.{steps_under}
 use Rattle.day_rounds.proofs.RoundLaws.{stopped_by}
-use Rattle.day_rounds.proofs.SettleLaws.{if_more, if_fault, settled_runs, text_kept}
+use Rattle.day_rounds.proofs.SettleLaws.{if_fault, settled_runs, text_kept}
+use Rattle.watermark.proofs.Settled.{if_ok}
 use Rattle.day_rounds.proofs.TurnedLaws.{turn_is, turn_charges, turn_text}
 use Rattle.day_rounds.proofs.turns.turn.Goals as goal
 
@@ -45,7 +46,7 @@ returns-clause-done g c =
     let run = c.feed_turn.new.run in
     let crew = c.feed_turn.new.crew in
     let f = c.args.run.now.floor in
-    if_more c.settle_done.result
+    if_ok c.settle_done.result
     (λ n settled e told answered s h can number history.
     let (mid, j, moved, runs, idle) = v.worked e told answered s h can in
     let (is, stands, text, steps, abreast) = settled e mid runs.stands number history in (

@@ -5,7 +5,7 @@ use Rattle.road_io.specs.Plans.{NeverFails}
 use Rattle.road_io.specs.Rooms.{Endless}
 use Rattle.day_reading.specs.Ahead.{IsGatheringAhead, HasReadAhead, HasFailedAhead}
 use Rattle.expressway.specs.declared.finding.Finding.{Finding}
-use Rattle.partition_workers.specs.Told.{Told}
+use Rattle.partition_workers.specs.Told.{CrewTold}
 use Rattle.settling.specs.Answers.{history_of}
 use Rattle.settling.specs.Boards.{IsAbreast}
 use Rattle.watermark.specs.Shares.{State, start, mark}
@@ -34,7 +34,7 @@ invariant-day g l =
       sink_sure : g.O.Sink.room l.fn.sink ≡ Endless → g.O.Sink.room l.sink ≡ Endless;
       keeper_later : g.K.Keeper.faults l.fn.keeper ≤ g.K.Keeper.faults l.keeper;
       keeper_sure : NeverFails (g.K.Keeper.plan l.fn.keeper) → NeverFails (g.K.Keeper.plan l.keeper);
-      at : (e : Setting) (told : Option Told) (answered : Option (List Finding)) (late : ℕ) →
+      at : (e : Setting) (told : Option CrewTold) (answered : Option (List Finding)) (late : ℕ) →
           Runs k.out k.number k.holds k.gave k.exact k.jobs k.answers e told answered l.fn.run l.fn.crew start →
           IsGatheringAhead l.fn.ahead l.fn.run.floor.limits late [] →
           e.number ≡ l.day → e.history ≡ history_of (g.K.Keeper.told l.fn.keeper) →

@@ -7,7 +7,7 @@ use Rattle.road_time.specs.Text.{out}
 use Rattle.keeper.specs.History.{paid}
 use Rattle.keeper.specs.Memory.{kept_by, plan_of}
 use Rattle.settling.specs.Answers.{history_of}
-use Rattle.settling.specs.Asking.{asked}
+use Rattle.settling.specs.Asking.{requests_of}
 use Rattle.settling.proofs.AskLaws.{asked_both}
 use Rattle.example_floor.specs.Stops.{StopsDay}
 use Rattle.example_floor.proofs.RunLaws.{on_ok}
@@ -45,6 +45,6 @@ returns-clause-failed c = λ is.
     (Some (bytes_of c.settle_day.new.sink), Bound (room_of c.settle_day.new.sink))
     (Some (plan_of a.keeper.now)) (Some (plan_of c.settle_day.new.keeper)))) is c.settle_day.ensures.stopped in
     let d = at kept refl in
-    let calls = ap asked d.day_is ∙ asked_both d.done (d.request ∷ d.later) in
+    let calls = ap requests_of d.day_is ∙ asked_both d.done (d.request ∷ d.later) in
     let one = d.asks in
-    (asked d.done, omega (arith, calls, one), d.failed.1, d.failed.0)
+    (requests_of d.done, omega (arith, calls, one), d.failed.1, d.failed.0)

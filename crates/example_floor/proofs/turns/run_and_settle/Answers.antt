@@ -6,10 +6,12 @@ use Rattle.settling.specs.Boards.{IsAbreast}
 use Rattle.watermark.specs.Shares.{mark}
 use Rattle.example_floor.specs.Turns.{after_runs}
 use Rattle.settling.specs.Levels.{Level}
-use Rattle.watermark.specs.Floors.{Stops}
+use Rattle.watermark.specs.Floors.{StopsSettling}
 use Rattle.example_floor.specs.Stops.{TakesDay, StopsDay}
 use Rattle.example_floor.proofs.StopLaws.{not_begun, day_took, day_stopped}
-use Rattle.example_floor.proofs.RunLaws.{well, ok_is, if_one, if_stopped, when_both, runs_settled, all_written}
+use Rattle.example_floor.proofs.RunLaws.{well, if_stopped, when_both, runs_settled, all_written}
+use Rattle.watermark.proofs.Settled.{if_ok}
+use Rattle.watermark.proofs.Jobs.{ok_is}
 use Rattle.example_floor.proofs.turns.run_and_settle.Goals as goal
 
 pub settle-requires : goal.settle-requires
@@ -30,7 +32,7 @@ settle-requires g c =
 pub returns-clause-settled : goal.returns-clause-settled
 returns-clause-settled g c =
     let ok = well c.run_all.result (search rules) in
-    if_one c.settle.result
+    if_ok c.settle.result
     (λ n settled e s st number history home are.
     let t = after_runs e.tariffs s c.args.width in
     let mid = ok_is c.run_all.result ok c.run_all.ensures.ran e s st in
@@ -93,8 +95,8 @@ returns-clause-stopped g c =
     let t = after_runs e.tariffs s c.args.width in
     let mid = ok_is c.run_all.result ok c.run_all.ensures.ran e s st in
     let answered = ok_is c.run_all.result ok c.run_all.ensures.answered e s st home are in
-    let at : Stops fault e t (mark c.args.width t) old new plan left =
-    subst (λ w. Stops fault e t (mark w t) old new plan left) (c.run_all.ensures.width ∙ sym c.requires.width)
+    let at : StopsSettling fault e t (mark c.args.width t) old new plan left =
+    subst (λ w. StopsSettling fault e t (mark w t) old new plan left) (c.run_all.ensures.width ∙ sym c.requires.width)
     (stops e t mid number history) in
     subst (λ d. StopsDay fault s.fed e.tariffs d kept old new plan left) number
     (day_stopped e s t c.args.width (mark c.args.width t) kept answered (runs_settled e.tariffs s c.args.width ∙ none)

@@ -4,7 +4,7 @@ use Rattle.watermark.specs.Steps.{after_give}
 use Rattle.watermark.specs.Sound.{IsSound, IsTrue}
 use Rattle.watermark.specs.Floors.{StandsFor}
 use Rattle.example_floor.proofs.RunLaws.{well, ready, may_come, run_is, none_run, run_true, charged_is}
-use Rattle.watermark.proofs.Inbox.{when_ok}
+use Rattle.expressway.proofs.ShapeLaws.{ok_map}
 use Rattle.example_floor.proofs.turns.run_next.Goals as goal
 
 pub returns-in_default-clause-ran : goal.returns-in_default-clause-ran
@@ -48,7 +48,7 @@ back-requires c =
 pub returns-clause-ran : goal.returns-clause-ran
 returns-clause-ran c =
     let ok = well c.run-done.result.result (search rules) in
-    when_ok c.back.result
+    ok_map c.back.result
     (λ back g s st.
     let next = c.in-Some.ensures.some g s st in
     let given = (c.in-None.ensures.none g (after_give s c.args.worker) next.1).1 in
@@ -68,7 +68,7 @@ returns-in_default-clause-right c = λ g s st are.
 
 pub returns-clause-right : goal.returns-clause-right
 returns-clause-right c =
-    when_ok c.back.result
+    ok_map c.back.result
     (λ back g s st are.
     let next = c.in-Some.ensures.some g s st in
     let sound =
@@ -85,7 +85,7 @@ returns-in_default-clause-charged c =
 pub returns-clause-charged : goal.returns-clause-charged
 returns-clause-charged c =
     let ok = well c.run-done.result.result (search rules) in
-    when_ok c.back.result
+    ok_map c.back.result
     (λ back g s st.
     let next = c.in-Some.ensures.some g s st in
     let given = (c.in-None.ensures.none g (after_give s c.args.worker) next.1).1 in

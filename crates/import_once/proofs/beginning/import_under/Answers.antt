@@ -5,7 +5,7 @@ use Rattle.road_time.specs.Rates.{Tariffs}
 use Rattle.road_time.specs.Day.{given, notices}
 use Rattle.road_time.specs.Text.{out}
 use Rattle.keeper.specs.History.{paid}
-use Rattle.settling.specs.Answers.{History, history_of}
+use Rattle.settling.specs.Answers.{PaidHistory, history_of}
 use Rattle.settling.specs.Closes.{IsClosed}
 use Rattle.day_rounds.specs.Imports.{AreRightFor}
 use Rattle.import_once.specs.declared.outcomes.Outcome.{Outcome}
@@ -35,7 +35,8 @@ returns-in-Ok-clause-does g c = λ exact bytes o left told under.
     let now = g.K.Keeper.told c.finish_import.new.keeper in
     let result = c.finish_import.result in
     let known : history_of (g.K.Keeper.told c.args.keeper.now) ≡ Some (paid o.rows) = ap history_of told in
-    let closed = subst (λ (h : History). IsClosed c.in-Ok.run'.closed number (given ran.found) number h ran.day) known
+    let closed =
+    subst (λ (h : PaidHistory). IsClosed c.in-Ok.run'.closed number (given ran.found) number h ran.day) known
     ran.closed in
     let read = ran.read bytes left in
     let done = finishes_does w number ran.found bytes ran.day o old new now c.in-Ok.run' c.args.tariffs.now
@@ -58,7 +59,8 @@ returns-in-Ok-clause-merged g c = λ bytes o left told under.
     let now = g.K.Keeper.told c.finish_import.new.keeper in
     let result = c.finish_import.result in
     let known : history_of (g.K.Keeper.told c.args.keeper.now) ≡ Some (paid o.rows) = ap history_of told in
-    let closed = subst (λ (h : History). IsClosed c.in-Ok.run'.closed number (given ran.found) number h ran.day) known
+    let closed =
+    subst (λ (h : PaidHistory). IsClosed c.in-Ok.run'.closed number (given ran.found) number h ran.day) known
     ran.closed in
     let read = ran.read bytes left in
     let done = finishes_does w number ran.found bytes ran.day o old new now c.in-Ok.run' c.args.tariffs.now

@@ -2,7 +2,7 @@ use Rattle.std.proofs.Common.{◌≡◌, ◌∙◌, ℕ, List, length, [], Optio
 use Rattle.road_time.specs.declared.road.Notice.{Notice}
 use Rattle.road_time.specs.Lines.{lines_of}
 use Rattle.tuple_format.specs.declared.cause.Cause.{Cause}
-use Rattle.day_reading.specs.Days.{ReadsWithin}
+use Rattle.road_io.specs.Within.{ReadsWithin}
 use Rattle.office_commands.specs.declared.closing.Closing.{Closing}
 use Rattle.office_commands.specs.Asides.{compared}
 use Rattle.office_commands.specs.Closings.{status_of}

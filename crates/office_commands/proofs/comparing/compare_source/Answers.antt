@@ -6,26 +6,26 @@ use Rattle.tuple_format.specs.declared.cause.Cause.{Cause}
 use Rattle.keeper.proofs.CallLaws.{reads_same, reads_ok}
 use Rattle.office_commands.specs.declared.closing.Closing.{Closing}
 use Rattle.office_commands.specs.Days.{recomputed}
-use Rattle.office_commands.specs.Commands.{compare_row, comparison_of, unless_refused}
+use Rattle.office_commands.specs.Commands.{compare_command, comparison_of, unless_refused}
 use Rattle.office_commands.specs.Endings.{StandsBefore}
 use Rattle.office_commands.proofs.ClosingLaws.{refuses_empty, stops_empty}
-use Rattle.day_reading.specs.Days.{ReadsWithin}
+use Rattle.road_io.specs.Within.{ReadsWithin}
 use Rattle.office_commands.specs.Closings.{status_of}
 use Rattle.office_commands.specs.Rests.{HasReadTo}
 use Rattle.office_commands.proofs.RestLaws.{to_by, to_stopped, to_refused, says_refused, ends_there}
 use Rattle.day_reading.proofs.BoundLaws.{nothing_read}
-use Rattle.day_reading.specs.Days.{most_read}
+use Rattle.day_reading.specs.Days.{most_of_day}
 use Rattle.office_commands.specs.Uses.{most_noticed}
 use Rattle.office_commands.proofs.comparing.compare_source.Goals as goal
 
 pub returns-in-Err-clause-exact : goal.returns-in-Err-clause-exact
 returns-in-Err-clause-exact g c = λ right bytes lines o told lying kept.
-    let a = compare_row c.args.limits.now c.args.asked bytes lines o in
+    let a = compare_command c.args.limits.now c.args.asked bytes lines o in
     subst (λ (k : Closing). StandsBefore a k []) (sym c.refused.ensures) (refuses_empty a c.in-Err.fault)
 
 pub returns-clause-exact : goal.returns-clause-exact
 returns-clause-exact g c = λ right bytes lines o told lying kept.
-    let a = compare_row c.args.limits.now c.args.asked bytes lines o in
+    let a = compare_command c.args.limits.now c.args.asked bytes lines o in
     subst (λ (k : Closing). StandsBefore a k []) (sym c.stopped.ensures) (stops_empty a c.in-Err-read_day.stop)
 
 pub returns-in-Ok-read_day-clause-exact : goal.returns-in-Ok-read_day-clause-exact
@@ -63,7 +63,8 @@ returns-in-Ok-read_day-clause-aside_bounded g c = λ right bytes o told kept.
 
 pub returns-in-Err-clause-reads : goal.returns-in-Err-clause-reads
 returns-in-Err-clause-reads g c = record {
-  within = nothing_read (most_read (recomputed c.args.asked.how c.args.limits.now)) (g.S.Source.left c.args.source.now);
+  within = nothing_read (most_of_day (recomputed c.args.asked.how c.args.limits.now))
+      (g.S.Source.left c.args.source.now);
   to = λ bytes left.
       let refused = (reads bytes (recomputed c.args.asked.how c.args.limits.now) c.args.asked.late).refused in
       subst (λ (k : Closing). HasReadTo refused (status_of k) bytes (g.S.Source.left c.args.source.now))

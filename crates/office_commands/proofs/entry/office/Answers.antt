@@ -4,7 +4,7 @@ use Rattle.office_commands.specs.declared.closing.Closing.{Closing}
 use Rattle.office_commands.specs.declared.closing.Closing.TheVariants.{ReadFault, KeeperFault}
 use Rattle.office_commands.specs.Commands.{office_answer}
 use Rattle.office_commands.specs.Uses.{asked, changes_kept}
-use Rattle.office_commands.specs.Endings.{Wrote, Keeps, Did, Holds, code_of}
+use Rattle.office_commands.specs.Endings.{Wrote, Keeps, Did, HoldsSame, code_of}
 use Rattle.office_commands.specs.Rests.{ReadsAsked, LeavesAsKept}
 use Rattle.office_commands.proofs.EndingLaws.{exact, all_written, read_fault, keeper_fault}
 use Rattle.office_commands.proofs.ClosingLaws.{is_unread, is_unkept}
@@ -207,7 +207,7 @@ returns-in-Ok-Some-clause-held g c = λ o kept changes unbroken.
 pub returns-in-Ok-None-clause-held : goal.returns-in-Ok-None-clause-held
 returns-in-Ok-None-clause-held g c = λ o kept changes unbroken.
     let res : c.run.result ≡ Ok None = cc in
-    subst (λ (code : ℕ). Holds code (g.K.Keeper.told c.run.new.keeper ≡ Some o)) (ap code_of res)
+    subst (λ (code : ℕ). HoldsSame code (g.K.Keeper.told c.run.new.keeper ≡ Some o)) (ap code_of res)
     (c.run.ensures.held o kept changes)
 
 pub returns-in-Err-clause-held : goal.returns-in-Err-clause-held

@@ -1,7 +1,7 @@
 use Rattle.std.proofs.Common.{◌≡◌, ◌∙◌, [], inl, Option, Some, Err, ap, sym, subst, refl, arith}
 use Rattle.std.proofs.lemmas.Option.{none-some}
 use Rattle.road_io.proofs.SinkLaws.{appends_none}
-use Rattle.day_reading.specs.Days.{ReadsWithin}
+use Rattle.road_io.specs.Within.{ReadsWithin}
 use Rattle.office_words.specs.declared.command.Command.{Command}
 use Rattle.office_words.specs.declared.command.WordFault.TheVariants as faults
 use Rattle.office_commands.specs.Commands.{office_answer}

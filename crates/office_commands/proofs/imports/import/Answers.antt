@@ -3,7 +3,8 @@ use Rattle.import_once.specs.declared.outcomes.Outcome.TheVariants.{WriteFault}
 use Rattle.import_once.specs.Imports.{import_answer}
 use Rattle.office_commands.proofs.OutcomeLaws.{wrote, keeps, by_sink}
 use Rattle.road_time.specs.Reads.{reads}
-use Rattle.day_reading.specs.Days.{ReadsWithin, most_read}
+use Rattle.day_reading.specs.Days.{most_of_day}
+use Rattle.road_io.specs.Within.{ReadsWithin}
 use Rattle.keeper.specs.Office.{record_of}
 use Rattle.import_once.specs.Imports.{work_by}
 use Rattle.office_commands.proofs.OutcomeLaws.{did, held}
@@ -63,5 +64,5 @@ pub returns-clause-uncompared : goal.returns-clause-uncompared
 returns-clause-uncompared g c =
     let before = g.S.Source.left c.args.source.now in
     let after = g.S.Source.left c.import-done.new.source in
-    imported_alone c.args.run.day (ReadsWithin (most_read c.args.limits.now) before after) c.import-done.result
+    imported_alone c.args.run.day (ReadsWithin (most_of_day c.args.limits.now) before after) c.import-done.result
     c.ended.result c.ended.ensures.ends c.import-done.ensures.uncompared

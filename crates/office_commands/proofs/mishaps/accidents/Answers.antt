@@ -5,7 +5,7 @@ use Rattle.tuple_format.specs.declared.cause.Cause.{Cause}
 use Rattle.office_commands.specs.declared.closing.Closing.{Closing}
 use Rattle.office_words.specs.declared.command.Recomputing.TheVariants.{Plainly}
 use Rattle.office_commands.specs.Days.{recomputed}
-use Rattle.office_commands.specs.Commands.{accidents_row, accidents_of, unless_refused}
+use Rattle.office_commands.specs.Commands.{accidents_command, accidents_of, unless_refused}
 use Rattle.office_commands.specs.Endings.{Wrote}
 use Rattle.office_commands.proofs.ClosingLaws.{wrote_nothing}
 use Rattle.office_commands.specs.Endings.{code_of}
@@ -16,7 +16,7 @@ use Rattle.office_commands.proofs.mishaps.accidents.Goals as goal
 pub returns-in-Err-clause-wrote : goal.returns-in-Err-clause-wrote
 returns-in-Err-clause-wrote g c = λ bytes o told.
     let old = g.O.Sink.written c.args.sink.now in
-    subst (λ (k : Closing). Wrote (accidents_row c.args.limits.now c.args.late bytes o) (Ok (Some k)) old old)
+    subst (λ (k : Closing). Wrote (accidents_command c.args.limits.now c.args.late bytes o) (Ok (Some k)) old old)
     (sym c.stopped.ensures) (wrote_nothing _ c.in-Err.stop old)
 
 pub returns-in-Ok-clause-wrote : goal.returns-in-Ok-clause-wrote

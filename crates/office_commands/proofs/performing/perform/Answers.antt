@@ -2,7 +2,8 @@
 use Rattle.std.proofs.Common.{◌∙◌, Some, Ok, sym, ap, refl}
 use Rattle.road_io.proofs.SinkLaws.{appends_none}
 use Rattle.office_commands.specs.declared.closing.Closing.TheVariants.{ReadFault}
-use Rattle.office_commands.specs.Commands.{accidents_row, history_row, tariff_row, generate_row, rehearse_row}
+use Rattle.office_commands.specs.Commands.{accidents_command, history_command, tariff_command, generate_command}
+use Rattle.office_commands.specs.Commands.{rehearse_command}
 use Rattle.office_commands.specs.Commands.{office_answer}
 use Rattle.office_commands.proofs.ReportLaws.{report_office}
 use Rattle.office_commands.proofs.KeepingLaws.{kept_same, closing_same, kept_whole}
@@ -129,7 +130,7 @@ returns-in-Past-clause-keeps g c = λ bytes lines o right told kept.
 pub returns-in-Past-clause-does : goal.returns-in-Past-clause-does
 returns-in-Past-clause-does g c = λ bytes lines o told kept.
     rw c.in-Past.is
-    (did_silent _ (history_row c.args.limits.now c.in-Past.base bytes o) _ _ _ _ _ refl
+    (did_silent _ (history_command c.args.limits.now c.in-Past.base bytes o) _ _ _ _ _ refl
     (c.past.ensures.exact bytes o (told.source_is (ap source_of c.in-Past.is)) kept)
     (c.past.ensures.keeps bytes o (told.source_is (ap source_of c.in-Past.is)) kept) (appends_none _))
 
@@ -190,7 +191,7 @@ returns-in-Accidents-clause-wrote g c = λ bytes lines o told.
 
 pub returns-in-Accidents-clause-keeps : goal.returns-in-Accidents-clause-keeps
 returns-in-Accidents-clause-keeps g c = λ bytes lines o right told kept. rw c.in-Accidents.is
-    (kept_same _ (accidents_row c.args.limits.now c.in-Accidents.late bytes o) _ _ _
+    (kept_same _ (accidents_command c.args.limits.now c.in-Accidents.late bytes o) _ _ _
     (same_log c.args.limits.now c.in-Accidents.late bytes o) kept)
 
 pub returns-in-Accidents-clause-does : goal.returns-in-Accidents-clause-does
@@ -235,7 +236,7 @@ returns-in-Tariff-clause-keeps g c = λ bytes lines o right told kept. rw c.in-T
 pub returns-in-Tariff-clause-does : goal.returns-in-Tariff-clause-does
 returns-in-Tariff-clause-does g c = λ bytes lines o told kept.
     rw c.in-Tariff.is
-    (did_silent _ (tariff_row c.in-Tariff.xway c.in-Tariff.crowd c.in-Tariff.speed c.in-Tariff.factor o) _ _ _ _ _
+    (did_silent _ (tariff_command c.in-Tariff.xway c.in-Tariff.crowd c.in-Tariff.speed c.in-Tariff.factor o) _ _ _ _ _
     refl (c.tariff.ensures.exact o kept) (c.tariff.ensures.keeps o kept) (appends_none _))
 
 pub returns-in-Tariff-clause-rest : goal.returns-in-Tariff-clause-rest
@@ -243,14 +244,15 @@ returns-in-Tariff-clause-rest g c = λ bytes o changes told kept. rw c.in-Tariff
 
 pub returns-in-Tariff-clause-held : goal.returns-in-Tariff-clause-held
 returns-in-Tariff-clause-held g c = λ o kept changes.
-    closing_holds _ (tariff_row c.in-Tariff.xway c.in-Tariff.crowd c.in-Tariff.speed c.in-Tariff.factor o) _ _ _ refl
+    closing_holds _
+    (tariff_command c.in-Tariff.xway c.in-Tariff.crowd c.in-Tariff.speed c.in-Tariff.factor o) _ _ _ refl
     (c.tariff.ensures.exact o kept) (c.tariff.ensures.keeps o kept)
 
 pub returns-in-Tariff-clause-puts : goal.returns-in-Tariff-clause-puts
 returns-in-Tariff-clause-puts g c = λ o kept.
     rw c.in-Tariff.is
     (kept_whole g.K.Keeper.refuses
-    (tariff_row c.in-Tariff.xway c.in-Tariff.crowd c.in-Tariff.speed c.in-Tariff.factor o) _ _
+    (tariff_command c.in-Tariff.xway c.in-Tariff.crowd c.in-Tariff.speed c.in-Tariff.factor o) _ _
     (Ok (Some c.tariff.result)) (c.tariff.ensures.keeps o kept))
 
 -- `tariffs`
@@ -274,7 +276,7 @@ returns-in-Generate-clause-wrote g c = λ bytes lines o told. rw c.in-Generate.i
 
 pub returns-in-Generate-clause-keeps : goal.returns-in-Generate-clause-keeps
 returns-in-Generate-clause-keeps g c = λ bytes lines o right told kept.
-    rw c.in-Generate.is (kept_same _ (generate_row c.in-Generate.seed c.in-Generate.size o) _ _ _ refl kept)
+    rw c.in-Generate.is (kept_same _ (generate_command c.in-Generate.seed c.in-Generate.size o) _ _ _ refl kept)
 
 pub returns-in-Generate-clause-does : goal.returns-in-Generate-clause-does
 returns-in-Generate-clause-does g c = λ bytes lines o told kept.
@@ -289,7 +291,7 @@ returns-in-Rehearse-clause-wrote g c = λ bytes lines o told.
 
 pub returns-in-Rehearse-clause-keeps : goal.returns-in-Rehearse-clause-keeps
 returns-in-Rehearse-clause-keeps g c = λ bytes lines o right told kept. rw c.in-Rehearse.is
-    (closing_same _ (rehearse_row c.in-Rehearse.seed c.in-Rehearse.size c.in-Rehearse.run' o) _ _ _ refl kept)
+    (closing_same _ (rehearse_command c.in-Rehearse.seed c.in-Rehearse.size c.in-Rehearse.run' o) _ _ _ refl kept)
 
 pub returns-in-Rehearse-clause-does : goal.returns-in-Rehearse-clause-does
 returns-in-Rehearse-clause-does g c = λ bytes lines o told kept.

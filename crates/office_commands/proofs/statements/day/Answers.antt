@@ -1,7 +1,7 @@
 use Rattle.std.proofs.Common.{◌≡◌, ◌∙◌, Err}
 use Rattle.reports.specs.Statements.{day_report}
 use Rattle.reports.specs.declared.report_fault.ReportFault.TheVariants.{WriteFault}
-use Rattle.office_commands.specs.Commands.{day_row}
+use Rattle.office_commands.specs.Commands.{day_command}
 use Rattle.office_commands.proofs.KeepingLaws.{kept_same}
 use Rattle.office_commands.proofs.OutcomeLaws.{by_sink}
 use Rattle.office_commands.proofs.ReportLaws.{reported, report_office}
@@ -15,7 +15,7 @@ returns-clause-wrote g c = λ o told.
 
 pub returns-clause-keeps : goal.returns-clause-keeps
 returns-clause-keeps g c = λ o told.
-    kept_same g.K.Keeper.refuses (day_row c.args.day o) o (g.K.Keeper.told c.day_statement-done.new.keeper)
+    kept_same g.K.Keeper.refuses (day_command c.args.day o) o (g.K.Keeper.told c.day_statement-done.new.keeper)
     c.reported.result (report_office c.args.day (day_report c.args.day o) o)
     (c.day_statement-done.ensures.kept ∙ told)
 

@@ -1,7 +1,7 @@
 use Rattle.std.proofs.Common.{◌≡◌, ◌∙◌, refl, Err}
 use Rattle.reports.specs.Statements.{vehicle_report}
 use Rattle.reports.specs.declared.report_fault.ReportFault.TheVariants.{WriteFault}
-use Rattle.office_commands.specs.Commands.{vehicle_row}
+use Rattle.office_commands.specs.Commands.{vehicle_command}
 use Rattle.office_commands.proofs.KeepingLaws.{kept_same}
 use Rattle.office_commands.proofs.OutcomeLaws.{by_sink}
 use Rattle.office_commands.proofs.ReportLaws.{stated}
@@ -15,7 +15,7 @@ returns-clause-wrote g c = λ o told.
 
 pub returns-clause-keeps : goal.returns-clause-keeps
 returns-clause-keeps g c = λ o told.
-    kept_same g.K.Keeper.refuses (vehicle_row c.args.vid c.args.from c.args.to o) o
+    kept_same g.K.Keeper.refuses (vehicle_command c.args.vid c.args.from c.args.to o) o
     (g.K.Keeper.told c.vehicle_statement-done.new.keeper) c.reported.result refl
     (c.vehicle_statement-done.ensures.kept ∙ told)
 

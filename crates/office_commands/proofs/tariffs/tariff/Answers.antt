@@ -4,7 +4,7 @@ use Rattle.keeper.specs.Calls.{Puts}
 use Rattle.keeper.specs.Kept.{with_tariff_of}
 use Rattle.keeper.specs.Office.{Office}
 use Rattle.office_commands.specs.declared.closing.Closing.{Closing}
-use Rattle.office_commands.specs.Commands.{tariff_row}
+use Rattle.office_commands.specs.Commands.{tariff_command}
 use Rattle.office_commands.specs.Endings.{StandsBefore, sort_of, KeepsBy}
 use Rattle.office_commands.proofs.KeepingLaws.{refused_keeps}
 use Rattle.office_commands.proofs.ClosingLaws.{refuses_empty}
@@ -25,14 +25,14 @@ returns-in-Ok-clause-keeps g c = λ o told.
 
 pub returns-in-Err-clause-exact : goal.returns-in-Err-clause-exact
 returns-in-Err-clause-exact g c = λ o told.
-    let a = tariff_row c.args.xway c.args.crowd c.args.speed c.args.factor o in
+    let a = tariff_command c.args.xway c.args.crowd c.args.speed c.args.factor o in
     subst (λ (k : Closing). StandsBefore a k []) (sym c.refused.ensures) (refuses_empty a c.in-Err.fault)
 
 pub returns-in-Err-clause-keeps : goal.returns-in-Err-clause-keeps
 returns-in-Err-clause-keeps g c = λ o told.
     let w = g.K.Keeper.refuses in
     let after = g.K.Keeper.told c.put_tariff.new.self in
-    let a = tariff_row c.args.xway c.args.crowd c.args.speed c.args.factor o in
+    let a = tariff_command c.args.xway c.args.crowd c.args.speed c.args.factor o in
     let next =
     with_tariff_of c.args.xway (record { crowd = c.args.crowd; speed = c.args.speed; factor = c.args.factor }) in
     let put =

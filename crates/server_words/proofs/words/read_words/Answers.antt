@@ -1,7 +1,7 @@
 use Rattle.std.proofs.Common.{◌∙◌, refl, sym, subst, map, string_bytes, Ok, Err}
 use Rattle.office_words.specs.declared.command.WordFault.TheVariants.{Words}
 use Rattle.office_words.proofs.Meant.{all_text}
-use Rattle.server_words.specs.Meaning.{Reads}
+use Rattle.server_words.specs.Meaning.{ReadsServing}
 use Rattle.server_words.proofs.Meant.{on_error, on_matches}
 use Rattle.server_words.proofs.words.read_words.Goals as goal
 
@@ -14,10 +14,10 @@ pub returns-in-Some-clause-reads : goal.returns-in-Some-clause-reads
 returns-in-Some-clause-reads c =
     let is = on_matches (map string_bytes c.args.words.now) (all_text c.args.words.now) c.in-Ok.matches
     c.in-Ok.ensures.kinds c.in-Ok.ensures.matches in
-    subst (λ o. Reads o (Ok c.in-Some.serving)) (c.in-Some.ensures.value ∙ sym is) refl
+    subst (λ o. ReadsServing o (Ok c.in-Some.serving)) (c.in-Some.ensures.value ∙ sym is) refl
 
 pub returns-clause-reads : goal.returns-clause-reads
 returns-clause-reads c =
     let is = on_matches (map string_bytes c.args.words.now) (all_text c.args.words.now) c.in-Ok.matches
     c.in-Ok.ensures.kinds c.in-Ok.ensures.matches in
-    subst (λ o. Reads o (Err Words)) (c.in-None.ensures.value ∙ sym is) tt
+    subst (λ o. ReadsServing o (Err Words)) (c.in-None.ensures.value ∙ sym is) tt

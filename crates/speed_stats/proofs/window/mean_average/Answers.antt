@@ -1,8 +1,9 @@
 use Rattle.std.proofs.Common.{ℕ, ◌<◌, ◌+◌, ◌*◌, ◌^◌, arith, add-one, get_or}
 use Rattle.std.proofs.Math.Nat.{pow-suc}
 use Rattle.std.proofs.Math.Facts.{Fits-of_lt}
-use Rattle.speed_stats.proofs.MeanLaws.{den_step, den_some, num_step, num_fits, den_fits, whole_small, whole_fits}
-use Rattle.speed_stats.proofs.MeanLaws.{whole_some, mean_slow, sum_yes, sum_no, count_yes, count_no}
+use Rattle.road_time.proofs.MeanLaws.{den_step, den_fits, whole_small, whole_fits, sum_yes, sum_no, count_yes, count_no}
+use Rattle.speed_stats.proofs.MeanLaws.{den_some, num_step, num_fits, whole_some, mean_slow}
+use Rattle.speed_stats.specs.Parts.{shown_flow}
 use Rattle.speed_stats.specs.declared.window.Flow.{Flow as CodeFlow}
 use Rattle.speed_stats.proofs.window.mean_average.Goals as goal
 use Rattle.speed_stats.proofs.window.mean_average.Goals.{then-flow-gt0, else-flow-gt0}
@@ -23,10 +24,12 @@ loop-flow-preserved c =
     elim c.if-flow-gt0.branch [
       | then-flow-gt0 w ↦ record {
         sum = rw (w.num-is, w.den-is, w.from.ensures, w.from-then-flow-gt0.ensures, w.from-den.ensures)
-            (sum_yes c.args.flows.now i none c.loop-flow.num c.loop-flow.den c.loop-flow.busy c.loop-flow-test.true
+            (sum_yes shown_flow c.args.flows.now i none c.loop-flow.num c.loop-flow.den c.loop-flow.busy
+            c.loop-flow-test.true
             inv.sum inv.busy w.if-flow-gt0.true);
         busy = rw w.busy-is
-            (count_yes c.args.flows.now i none c.loop-flow.num c.loop-flow.den c.loop-flow.busy c.loop-flow-test.true
+            (count_yes shown_flow c.args.flows.now i none c.loop-flow.num c.loop-flow.den c.loop-flow.busy
+            c.loop-flow-test.true
             inv.sum inv.busy w.if-flow-gt0.true);
         few = omega arith;
         den_some = rw (w.den-is, w.from-den.ensures) (den_some c.loop-flow.den f.cars inv.den_some w.if-flow-gt0.true);
@@ -38,10 +41,12 @@ loop-flow-preserved c =
       }
       | else-flow-gt0 w ↦ record {
         sum = rw (w.num-is, w.den-is)
-            (sum_no c.args.flows.now i none c.loop-flow.num c.loop-flow.den c.loop-flow.busy c.loop-flow-test.true
+            (sum_no shown_flow c.args.flows.now i none c.loop-flow.num c.loop-flow.den c.loop-flow.busy
+            c.loop-flow-test.true
             inv.sum inv.busy w.if-flow-gt0.false);
         busy = rw w.busy-is
-            (count_no c.args.flows.now i none c.loop-flow.num c.loop-flow.den c.loop-flow.busy c.loop-flow-test.true
+            (count_no shown_flow c.args.flows.now i none c.loop-flow.num c.loop-flow.den c.loop-flow.busy
+            c.loop-flow-test.true
             inv.sum inv.busy w.if-flow-gt0.false);
         few = omega arith;
         den_some = rw w.den-is inv.den_some;

@@ -3,16 +3,16 @@ use Rattle.expressway.specs.declared.job.Job.{Job}
 use Rattle.expressway.specs.Results.{IsResultOf}
 use Rattle.standing_crew.specs.Views.{input_of}
 use Rattle.standing_crew.specs.Crews.{IsHeldIn}
-use Rattle.standing_crew.specs.declared.place.Place.{Place}
+use Rattle.standing_crew.specs.declared.place.TicketPlace.{TicketPlace}
 use Rattle.standing_crew.proofs.finishing.answer.Goals as goal
 
 pub returns-in-Cell-clause-done : goal.returns-in-Cell-clause-done
 returns-in-Cell-clause-done g c job held =
     c.await_done.ensures.done job
-    (subst (λ (p : Place). IsHeldIn (input_of c.args.seat.now.me.0 c.args.at) p job) c.in-Cell.is held)
+    (subst (λ (p : TicketPlace). IsHeldIn (input_of c.args.seat.now.me.0 c.args.at) p job) c.in-Cell.is held)
 
 pub returns-in-Unlisted-clause-done : goal.returns-in-Unlisted-clause-done
 returns-in-Unlisted-clause-done g c job held =
     let same : c.in-Unlisted.job ≡ job =
-    subst (λ (p : Place). IsHeldIn (input_of c.args.seat.now.me.0 c.args.at) p job) c.in-Unlisted.is held in
+    subst (λ (p : TicketPlace). IsHeldIn (input_of c.args.seat.now.me.0 c.args.at) p job) c.in-Unlisted.is held in
     subst (λ (j : Job). IsResultOf j c.refused.result) same c.refused.ensures.of

@@ -1,6 +1,6 @@
 use Rattle.std.proofs.Common.{◌≡◌, inl, subst}
 use Rattle.keeper.specs.Office.{record_of}
-use Rattle.toll_desk.specs.Answers.{Answers, day_reply}
+use Rattle.toll_desk.specs.Answers.{AnswersReply, day_reply}
 use Rattle.toll_desk.proofs.SendLaws.{kept_is, failed_rose}
 use Rattle.toll_desk.proofs.answers.answer_day.Goals as goal
 
@@ -8,7 +8,7 @@ pub returns-in-Ok-clause-sent : goal.returns-in-Ok-clause-sent
 returns-in-Ok-clause-sent g c = λ o told.
     let found = kept_is _ _ o c.in-Ok.kept (λ o kept. kept ≡ record_of o c.args.day) told c.in-Ok.ensures.state in
     inl (subst
-    (λ k. Answers (day_reply k) (g.L.Link.room c.args.link.now) (g.L.Link.written c.args.link.now)
+    (λ k. AnswersReply (day_reply k) (g.L.Link.room c.args.link.now) (g.L.Link.written c.args.link.now)
     (g.L.Link.written c.send_day.new.link) c.send_day.result) found c.send_day.ensures.sent)
 
 pub returns-in-Ok-clause-unavailable : goal.returns-in-Ok-clause-unavailable

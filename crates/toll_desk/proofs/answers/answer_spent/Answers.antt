@@ -1,7 +1,7 @@
 use Rattle.std.proofs.Common.{◌≡◌, inl, subst, arith}
 use Rattle.keeper.specs.History.{paid}
 use Rattle.toll_texts.specs.Bodies.{spent_body}
-use Rattle.toll_desk.specs.Answers.{Answers, good, spent_reply}
+use Rattle.toll_desk.specs.Answers.{AnswersReply, good, spent_reply}
 use Rattle.toll_desk.proofs.SendLaws.{kept_is, failed_rose}
 use Rattle.toll_desk.proofs.answers.answer_spent.Goals as goal
 
@@ -10,7 +10,7 @@ returns-in-Ok-clause-sent g c = λ o told.
     let found = kept_is _ _ o c.in-Ok.amount (λ o tolls. tolls ≡ paid o.rows c.args.day c.args.vid c.args.xway) told
     c.in-Ok.ensures.state in
     inl (subst
-    (λ n. Answers (good (spent_body n)) (g.L.Link.room c.args.link.now) (g.L.Link.written c.args.link.now)
+    (λ n. AnswersReply (good (spent_body n)) (g.L.Link.room c.args.link.now) (g.L.Link.written c.args.link.now)
     (g.L.Link.written c.send_made.new.link) c.send_made.result) found
     (c.send_made.ensures.sent (spent_body c.in-Ok.amount) c.spent_body.ensures))
 

@@ -1,6 +1,6 @@
 use Rattle.std.proofs.Common.{IfOk, string_bytes, subst, ◌≡◌, ◌∙◌}
 use Rattle.toll_texts.specs.Replies.{no_memory_reply}
-use Rattle.toll_desk.specs.Answers.{Answers}
+use Rattle.toll_desk.specs.Answers.{AnswersReply}
 use Rattle.toll_requests.proofs.ReplyLaws.{reply_of}
 use Rattle.toll_requests.proofs.StatusLaws.{not_unavailable, memory_is_available}
 use Rattle.toll_desk.proofs.SendLaws.{endless_has, memory_answers}
@@ -9,7 +9,8 @@ use Rattle.toll_desk.proofs.answers.send_made.Goals as goal
 pub returns-in-Ok-clause-sent : goal.returns-in-Ok-clause-sent
 returns-in-Ok-clause-sent g c = λ text is.
     let same : string_bytes c.in-Ok.text ≡ text = subst (λ b. IfOk b (λ s. string_bytes s ≡ text)) c.in-Ok.is is in
-    subst (λ b. Answers (reply_of c.args.status b) (g.L.Link.room c.args.link.now) (g.L.Link.written c.args.link.now)
+    subst (λ b.
+    AnswersReply (reply_of c.args.status b) (g.L.Link.room c.args.link.now) (g.L.Link.written c.args.link.now)
     (g.L.Link.written c.send_reply.new.link) c.send_reply.result)
     (c.as_str.ensures.value ∙ same) (c.send_reply.ensures.sent, c.send_reply.ensures.sure)
 

@@ -1,5 +1,5 @@
 use Rattle.std.proofs.Common.{subst, sym, ap, ◌∙◌, arith}
-use Rattle.toll_requests.specs.Bodies.{Ends}
+use Rattle.toll_requests.specs.Bodies.{EndsBody}
 use Rattle.toll_requests.proofs.BodyLaws.{body_told, none_left}
 use Rattle.toll_desk.proofs.ImportLaws.{alone_as}
 use Rattle.toll_desk.proofs.importing.import_from.Goals as goal
@@ -20,5 +20,5 @@ returns-clause-stored g c = λ all kept is stored cut.
     let told = body_told c.args.count c.args.early.now all (g.L.Link.left c.args.link.now) (c.requires.bytes ∙ is) in
     let b = c.drain-end.new.body in
     let none = none_left _ _ _ (c.import-outcome.ensures.whole _ kept told stored) in
-    let off = b.cut_off (subst (Ends b.left b.faults b.cut) cut c.drain-end.ensures.end) in
+    let off = b.cut_off (subst (EndsBody b.left b.faults b.cut) cut c.drain-end.ensures.end) in
     omega (arith, none, off.0, c.drain-end.ensures.fewer)

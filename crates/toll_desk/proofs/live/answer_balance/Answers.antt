@@ -1,7 +1,7 @@
 use Rattle.std.proofs.Common.{[], Some, None, inl, inr, refl, sym, subst}
 use Rattle.std.proofs.lemmas.List.{append-nil}
 use Rattle.toll_texts.specs.Replies.{no_memory_reply}
-use Rattle.toll_desk.specs.Answers.{Answers}
+use Rattle.toll_desk.specs.Answers.{AnswersReply}
 use Rattle.toll_desk.specs.Live.{live_reply}
 use Rattle.toll_requests.proofs.StatusLaws.{memory_is_available}
 use Rattle.toll_desk.proofs.SendLaws.{endless_has}
@@ -12,7 +12,7 @@ pub returns-in-Some-clause-answers : goal.returns-in-Some-clause-answers
 returns-in-Some-clause-answers g c =
     inl (
       c.in-Some.ensures.sees,
-      subst (λ s. Answers (live_reply (Some c.args.vid) s) (g.L.Link.room c.args.link.now)
+      subst (λ s. AnswersReply (live_reply (Some c.args.vid) s) (g.L.Link.room c.args.link.now)
           (g.L.Link.written c.args.link.now) (g.L.Link.written c.send_balance.new.link) c.send_balance.result)
           c.in-Some.ensures.live (c.send_balance.ensures.sent c.args.vid),
     )

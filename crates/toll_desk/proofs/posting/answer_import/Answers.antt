@@ -1,7 +1,7 @@
 use Rattle.std.proofs.Common.{Some, inl, inr, refl, subst, ◌∙◌}
 use Rattle.toll_requests.specs.Bodies.{LeavesBody}
 use Rattle.toll_requests.proofs.BodyLaws.{never_faulty}
-use Rattle.toll_desk.specs.Answers.{Answers, outcome_reply}
+use Rattle.toll_desk.specs.Answers.{AnswersReply, outcome_reply}
 use Rattle.toll_desk.specs.Imports.{Imports}
 use Rattle.toll_desk.proofs.ImportLaws.{filled_whole}
 use Rattle.toll_desk.proofs.posting.answer_import.Goals as goal
@@ -19,9 +19,9 @@ returns-in-Whole-clause-imports g c = λ all o known told.
           left.0,
           c.send_outcome.ensures.unread ∙ left.1,
           ((λ read. i.ensures.read read c.in-Whole.is), i.ensures.unfailed),
-          subst (λ r. Answers (outcome_reply i.result.0) r (g.L.Link.written c.args.link.now)
+          subst (λ r. AnswersReply (outcome_reply i.result.0) r (g.L.Link.written c.args.link.now)
               (g.L.Link.written c.send_outcome.new.link) c.send_outcome.result) i.ensures.room_kept
-              (subst (λ w. Answers (outcome_reply i.result.0) (g.L.Link.room i.new.link) w
+              (subst (λ w. AnswersReply (outcome_reply i.result.0) (g.L.Link.room i.new.link) w
               (g.L.Link.written c.send_outcome.new.link) c.send_outcome.result) i.ensures.unwritten
               c.send_outcome.ensures.sent),
         ),

@@ -1,14 +1,14 @@
 use Rattle.std.proofs.Common.{◌≡◌, codes, sym, subst, arith}
 use Rattle.toll_texts.specs.Bodies.{imported_body, refused_body, passed_body, differs_body}
 use Rattle.toll_texts.specs.Replies.{no_memory_reply}
-use Rattle.toll_desk.specs.Answers.{Answers, outcome_reply}
+use Rattle.toll_desk.specs.Answers.{AnswersReply, outcome_reply}
 use Rattle.toll_requests.proofs.StatusLaws.{memory_is_available}
 use Rattle.toll_desk.proofs.SendLaws.{endless_has, memory_answers}
 use Rattle.toll_desk.proofs.posting.send_outcome.Goals as goal
 
 pub returns-in-Stored-clause-sent : goal.returns-in-Stored-clause-sent
 returns-in-Stored-clause-sent g c =
-    subst (λ r. Answers (outcome_reply r) (g.L.Link.room c.args.link.now) (g.L.Link.written c.args.link.now)
+    subst (λ r. AnswersReply (outcome_reply r) (g.L.Link.room c.args.link.now) (g.L.Link.written c.args.link.now)
     (g.L.Link.written c.send_made.new.link) c.send_made.result) (sym c.in-Stored.is)
     (c.send_made.ensures.sent (imported_body c.in-Stored.kept (codes "stored")) c.imported_body.ensures)
 
@@ -18,7 +18,7 @@ returns-in-Stored-clause-unavailable g c =
 
 pub returns-in-Already-clause-sent : goal.returns-in-Already-clause-sent
 returns-in-Already-clause-sent g c =
-    subst (λ r. Answers (outcome_reply r) (g.L.Link.room c.args.link.now) (g.L.Link.written c.args.link.now)
+    subst (λ r. AnswersReply (outcome_reply r) (g.L.Link.room c.args.link.now) (g.L.Link.written c.args.link.now)
     (g.L.Link.written c.send_made-in-Already.new.link) c.send_made-in-Already.result) (sym c.in-Already.is)
     (c.send_made-in-Already.ensures.sent (imported_body c.in-Already.kept (codes "already"))
     c.imported_body-in-Already.ensures)
@@ -30,7 +30,7 @@ returns-in-Already-clause-unavailable g c =
 
 pub returns-in-Refused-clause-sent : goal.returns-in-Refused-clause-sent
 returns-in-Refused-clause-sent g c =
-    subst (λ r. Answers (outcome_reply r) (g.L.Link.room c.args.link.now) (g.L.Link.written c.args.link.now)
+    subst (λ r. AnswersReply (outcome_reply r) (g.L.Link.room c.args.link.now) (g.L.Link.written c.args.link.now)
     (g.L.Link.written c.send_made-in-Refused.new.link) c.send_made-in-Refused.result) (sym c.in-Refused.is)
     (c.send_made-in-Refused.ensures.sent (refused_body c.in-Refused.line c.in-Refused.cause) c.refused_body.ensures)
 
@@ -41,7 +41,7 @@ returns-in-Refused-clause-unavailable g c =
 
 pub returns-in-DayPassed-clause-sent : goal.returns-in-DayPassed-clause-sent
 returns-in-DayPassed-clause-sent g c =
-    subst (λ r. Answers (outcome_reply r) (g.L.Link.room c.args.link.now) (g.L.Link.written c.args.link.now)
+    subst (λ r. AnswersReply (outcome_reply r) (g.L.Link.room c.args.link.now) (g.L.Link.written c.args.link.now)
     (g.L.Link.written c.send_made-in-DayPassed.new.link) c.send_made-in-DayPassed.result) (sym c.in-DayPassed.is)
     (c.send_made-in-DayPassed.ensures.sent (passed_body c.in-DayPassed.last) c.passed_body.ensures)
 
@@ -52,7 +52,7 @@ returns-in-DayPassed-clause-unavailable g c =
 
 pub returns-in-Differs-clause-sent : goal.returns-in-Differs-clause-sent
 returns-in-Differs-clause-sent g c =
-    subst (λ r. Answers (outcome_reply r) (g.L.Link.room c.args.link.now) (g.L.Link.written c.args.link.now)
+    subst (λ r. AnswersReply (outcome_reply r) (g.L.Link.room c.args.link.now) (g.L.Link.written c.args.link.now)
     (g.L.Link.written c.send_made-in-Differs.new.link) c.send_made-in-Differs.result) (sym c.in-Differs.is)
     (c.send_made-in-Differs.ensures.sent (differs_body c.in-Differs.kept c.in-Differs.found) c.differs_body.ensures)
 
@@ -63,7 +63,7 @@ returns-in-Differs-clause-unavailable g c =
 
 pub returns-in-KeeperFault-clause-sent : goal.returns-in-KeeperFault-clause-sent
 returns-in-KeeperFault-clause-sent g c =
-    subst (λ r. Answers (outcome_reply r) (g.L.Link.room c.args.link.now) (g.L.Link.written c.args.link.now)
+    subst (λ r. AnswersReply (outcome_reply r) (g.L.Link.room c.args.link.now) (g.L.Link.written c.args.link.now)
     (g.L.Link.written c.send_keeper_fault.new.link) c.send_keeper_fault.result) (sym c.in-KeeperFault.is)
     c.send_keeper_fault.ensures.sent
 

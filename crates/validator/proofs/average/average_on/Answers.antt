@@ -4,16 +4,18 @@ use Rattle.road_time.specs.Tuples.{reports}
 use Rattle.road_time.specs.Tolls.{notes_of}
 use Rattle.road_time.proofs.PrefixLaws.{five_same}
 use Rattle.validator.specs.declared.flows.Flow.{Flow}
-use Rattle.validator.specs.Flows.{shown}
-use Rattle.validator.proofs.MeanLaws.{flow_few, all_five}
+use Rattle.validator.specs.Flows.{shown_flow}
+use Rattle.road_time.proofs.MeanLaws.{all_five}
+use Rattle.validator.proofs.MeanLaws.{flow_few}
 use Rattle.validator.proofs.average.average_on.Goals as goal
 
 pub mean_average-requires-clause-cars : goal.mean_average-requires-clause-cars
 mean_average-requires-clause-cars c =
     let day = c.args.gathered.now.tuples.now in
-    let few = λ (f : Flow) (i : ℕ) (e : shown f ≡ defined_flow (notes_of (reports day)) c.args.stretch i). flow_few day
+    let few =
+    λ (f : Flow) (i : ℕ) (e : shown_flow f ≡ defined_flow (notes_of (reports day)) c.args.stretch i). flow_few day
     c.requires.fit f c.args.stretch i e in
-    all_five (λ f. f.cars ≤ 500000) c.in_ok-a.a c.in_ok-b.b c.in_ok-c.c c.in_ok-d.d c.in_ok-e.e
+    all_five (λ (f : Flow). f.cars ≤ 500000) c.in_ok-a.a c.in_ok-b.b c.in_ok-c.c c.in_ok-d.d c.in_ok-e.e
     (few c.in_ok-a.a c.saturating_sub.result c.in_ok-a.ensures.flow)
     (few c.in_ok-b.b c.saturating_sub-2.result c.in_ok-b.ensures.flow)
     (few c.in_ok-c.c c.saturating_sub-3.result c.in_ok-c.ensures.flow)

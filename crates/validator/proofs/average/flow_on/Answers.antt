@@ -1,10 +1,10 @@
 use Rattle.std.proofs.Common.{◌≡◌, ◌≤◌, None, IfOk, length, ap, sym, ◌∙◌, subst, rules}
 use Rattle.std.specs.HashMap.{get}
-use Rattle.road_time.specs.Lav.{Flow, flow_at as defined_flow}
+use Rattle.road_time.specs.Lav.{CarFlow, flow_at as defined_flow}
 use Rattle.road_time.specs.Tuples.{reports}
 use Rattle.road_time.specs.Tolls.{notes_of}
 use Rattle.validator.specs.declared.spots.Spot.{Spot}
-use Rattle.validator.specs.Flows.{shown}
+use Rattle.validator.specs.Flows.{shown_flow}
 use Rattle.validator.specs.Gathered.{same_spot, listed}
 use Rattle.validator.proofs.GatherLaws.{flow_there, flow_none, fewer_there}
 use Rattle.validator.proofs.average.flow_on.Goals as goal
@@ -29,4 +29,4 @@ returns-in-Some-clause-flow c =
     let kept : c.as_slice.result.now ≡ listed (get same_spot c.args.gathered.now.by_spot s) = search rules in
     let same = ap (λ xs. defined_flow (notes_of (reports xs)) c.args.stretch c.args.in_minute)
     (kept ∙ c.requires.right.by_spot s) ∙ flow_there s c.args.gathered.now.tuples.now in
-    subst (λ (flow : Flow). IfOk c.flow_at.result (λ f. shown f ≡ flow)) same c.flow_at.ensures.flow
+    subst (λ (flow : CarFlow). IfOk c.flow_at.result (λ f. shown_flow f ≡ flow)) same c.flow_at.ensures.flow

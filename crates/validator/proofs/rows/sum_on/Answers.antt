@@ -1,12 +1,12 @@
 use Rattle.std.proofs.Common.{◌≡◌, ◌==◌, true, get_or, arith}
 use Rattle.std.proofs.lemmas.Bool.{eq-eqb}
 use Rattle.std.proofs.Math.Facts.{Fits-of_lt}
-use Rattle.road_time.specs.Day.{Charge as DayCharge}
-use Rattle.validator.specs.declared.account.Charge.{Charge}
+use Rattle.road_time.specs.Day.{ChargedToll as DayCharge}
+use Rattle.validator.specs.declared.account.StayCharge.{StayCharge}
 use Rattle.validator.proofs.SumParts.{sum_yes, sum_few}
 use Rattle.validator.proofs.rows.sum_on.Goals as goal
 
-abbrev none : Charge
+abbrev none : StayCharge
 none = record { vid = 0; xway = 0; toll = 0 }
 
 pub overflow_add-total : goal.overflow_add-total

@@ -1,11 +1,11 @@
 use Rattle.std.proofs.Common.{◌≡◌, ap, sym, ◌∙◌, rules, get_or}
 use Rattle.std.specs.Ordering.{nat_cmp}
 use Rattle.std.specs.BTreeSet.{insert_key}
-use Rattle.validator.specs.declared.account.Charge.{Charge}
+use Rattle.validator.specs.declared.account.StayCharge.{StayCharge}
 use Rattle.validator.proofs.SumParts.{order_more}
 use Rattle.validator.proofs.rows.vehicles.Goals as goal
 
-abbrev none : Charge
+abbrev none : StayCharge
 none = record { vid = 0; xway = 0; toll = 0 }
 
 pub loop-charge-preserved : goal.loop-charge-preserved

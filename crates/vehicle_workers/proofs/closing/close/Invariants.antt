@@ -1,6 +1,6 @@
 use Rattle.std.proofs.Common.{ℕ, List, take}
 use Rattle.road_time.specs.Day.{given}
-use Rattle.road_time.specs.Tolls.{Finding}
+use Rattle.road_time.specs.Tolls.{StretchTold}
 use Rattle.settling.specs.Books.{HasFewTolls}
 use Rattle.vehicle_workers.specs.Closing.{IsPlaced}
 use Rattle.vehicle_workers.specs.Payments.{amounts_of}
@@ -8,5 +8,5 @@ use Rattle.vehicle_workers.proofs.ClosingLaws.{AreClosed}
 use Rattle.vehicle_workers.proofs.closing.close.Given as goal
 
 abbrev pub invariant-loop-at : goal.invariant-loop-at
-invariant-loop-at l = (found : List (ℕ × Finding)) → IsPlaced l.places found → HasFewTolls (given found) →
+invariant-loop-at l = (found : List (ℕ × StretchTold)) → IsPlaced l.places found → HasFewTolls (given found) →
     AreClosed found l.number (amounts_of l.payments.amounts.entries) (take l.at l.tuples) l.book l.notices.items

@@ -2,7 +2,7 @@ use Rattle.std.proofs.Common.{◌≡◌, List, [], false, length}
 use Rattle.std.specs.Prelude.{Option}
 use Rattle.road_time.specs.Rates.{Tariffs}
 use Rattle.expressway.specs.declared.job.Job.{Job}
-use Rattle.partition_workers.specs.Told.{Told}
+use Rattle.partition_workers.specs.Told.{CrewTold}
 use Rattle.vehicle_workers.specs.Jobs.{Running}
 use Rattle.vehicle_workers.proofs.FinishLaws.{Finishing}
 use Rattle.vehicle_workers.proofs.finishes.finish_rest.Given as goal
@@ -11,7 +11,7 @@ abbrev pub invariant-loop-ticket : goal.invariant-loop-ticket
 invariant-loop-ticket g l =
     let k = g.C.Crew in
     record {
-      runs : (told : Option Told) (tariffs : Tariffs) (todo : List Job) →
+      runs : (told : Option CrewTold) (tariffs : Tariffs) (todo : List Job) →
           Running k.out k.number k.holds k.gave k.jobs told l.initial.crew tariffs l.initial.tickets.items [] todo false
           →
           Finishing k.out k.number k.holds k.gave k.jobs k.exact k.answers (k.answers l.initial.crew) told tariffs todo

@@ -1,7 +1,7 @@
 use Rattle.std.proofs.Common.{◌≡◌, ◌≤◌, ℕ, [], ◌∙◌, subst, arith}
 use Rattle.partition_workers.specs.Told.{WhereTold}
 use Rattle.partition_workers.specs.Callers.{IsListingWhereTold}
-use Rattle.vehicle_workers.specs.Jobs.{HasStarted, Adds}
+use Rattle.vehicle_workers.specs.Jobs.{HasStarted, AddsFindings}
 use Rattle.vehicle_workers.proofs.FoundLaws.{all_found, told_all, told_first, some_started}
 use Rattle.vehicle_workers.proofs.jobs.find_all.Goals as goal
 
@@ -29,7 +29,7 @@ pub returns-then-whole-clause-answers : goal.returns-then-whole-clause-answers
 returns-then-whole-clause-answers g c =
     let k = g.C.Crew in
     let s = c.in-Ok.ensures.all in
-    subst (λ a. WhereTold (Adds c.finish_rest-whole.new.found.items) a (k.answers c.finish_rest-whole.new.crew))
+    subst (λ a. WhereTold (AddsFindings c.finish_rest-whole.new.found.items) a (k.answers c.finish_rest-whole.new.crew))
     c.start_all-started.ensures.answers
     (c.finish_rest-whole.ensures.found c.if-whole.true _ c.args.tariffs.now s.todo s.runs).told
 

@@ -2,7 +2,7 @@ use Rattle.std.proofs.Common.{◌≡◌, ℕ, ◌++◌, List, length, take, map}
 use Rattle.std.specs.List.{AllByRecursion}
 use Rattle.std.specs.VecDeque.{deque_len}
 use Rattle.road_time.specs.declared.road.Tuple.{Tuple}
-use Rattle.road_time.specs.Tolls.{Finding}
+use Rattle.road_time.specs.Tolls.{StretchTold}
 use Rattle.road_time.specs.Day.{given}
 use Rattle.expressway.specs.Findings.{shown}
 use Rattle.watermark.specs.Sound.{AreFresh, ReportAt}
@@ -12,7 +12,7 @@ use Rattle.watermark.proofs.slots.fill.Given as goal
 abbrev pub invariant-loop-finding : goal.invariant-loop-finding
 invariant-loop-finding l = record {
   len : deque_len l.slots ≡ deque_len l.fn.slots;
-  filled : (found : List (ℕ × Finding)) (before rest : List Tuple) →
+  filled : (found : List (ℕ × StretchTold)) (before rest : List Tuple) →
       l.fn.slots.items ≡ slots_of (given found) before rest → length before ≡ l.settled →
       AreFresh found (map shown l.findings) →
       AllByRecursion (λ f. ReportAt (before ++ rest) f.0) (map shown l.findings) →

@@ -1,12 +1,12 @@
 use Rattle.std.proofs.Common.{◌≤◌, subst}
-use Rattle.accidents.specs.Kept.{Kept, has_stopped, count_of, spell_of}
+use Rattle.accidents.specs.Kept.{KeptStops, has_stopped, count_of, spell_of}
 use Rattle.accidents.specs.Stands.{StandsFor, Stand}
 use Rattle.accidents.proofs.Changes.{stand_later}
 use Rattle.accidents.proofs.stops.Stops.advance.Goals as goal
 
 pub returns-clause-kept : goal.returns-clause-kept
 returns-clause-kept c = λ es.
-    let f : Kept =
+    let f : KeptStops =
     record {
       second = c.self.inside.second;
       standing = c.self.inside.standing.keys;
@@ -14,7 +14,7 @@ returns-clause-kept c = λ es.
           c.self.inside.counts.entries;
       spells = c.self.inside.spells.entries;
     } in
-    subst (λ (x : Kept). x.second ≤ c.args.second → StandsFor x es →
+    subst (λ (x : KeptStops). x.second ≤ c.args.second → StandsFor x es →
     Stand c.args.second (has_stopped f.standing) (count_of f.counts) (spell_of f.spells) es) c.self.view_is
     (λ le st. stand_later f.second (has_stopped f.standing) (count_of f.counts) (spell_of f.spells) es st c.args.second
     le) c.requires

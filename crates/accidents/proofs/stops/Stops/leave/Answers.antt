@@ -1,12 +1,12 @@
 use Rattle.std.proofs.Common.{◌∷◌, [], ◌++◌, false, refl, sym, ap, subst, ◌∙◌, ◌-◌, cond, nat_eq}
-use Rattle.accidents.specs.Kept.{Kept, has_stopped, count_of, spell_of}
+use Rattle.accidents.specs.Kept.{KeptStops, has_stopped, count_of, spell_of}
 use Rattle.accidents.specs.Stands.{StandsFor}
 use Rattle.accidents.proofs.EntryChanges.{stand_leaves}
 use Rattle.accidents.proofs.stops.Stops.leave.Goals as goal
 
 pub returns-then-swap_remove-clause-left : goal.returns-then-swap_remove-clause-left
 returns-then-swap_remove-clause-left c = λ es.
-    let f : Kept =
+    let f : KeptStops =
     record {
       second = c.self.inside.second;
       standing = c.self.inside.standing.keys;
@@ -14,7 +14,7 @@ returns-then-swap_remove-clause-left c = λ es.
           c.self.inside.counts.entries;
       spells = c.self.inside.spells.entries;
     } in
-    subst (λ (x : Kept). StandsFor x es →
+    subst (λ (x : KeptStops). StandsFor x es →
     StandsFor
     (record {
       second = f.second;

@@ -1,7 +1,7 @@
 use Rattle.std.proofs.Common.{◌≡◌, ◌∷◌, [], ◌++◌, true, refl, sym, ap, subst, ◌∙◌, ◌+◌, cond, nat_eq, rules}
 use Rattle.std.proofs.lemmas.Bool.{false≢true}
 use Rattle.road_time.specs.Tuples.{same_place}
-use Rattle.accidents.specs.Kept.{Kept, same_stopped, has_stopped, count_of, spell_of}
+use Rattle.accidents.specs.Kept.{KeptStops, same_stopped, has_stopped, count_of, spell_of}
 use Rattle.accidents.specs.Stands.{StandsFor}
 use Rattle.accidents.proofs.Changes.{counted_put}
 use Rattle.accidents.proofs.EntryChanges.{stand_idle, stand_stops}
@@ -12,7 +12,7 @@ returns-then-contains-clause-stopped c = λ es st.
     let s = c.args.self.now in
     stand_idle s.second (has_stopped s.standing) (count_of s.counts) (spell_of s.spells) es st c.args.vid c.args.place
     true
-    (sym (c.contains.ensures ∙ ap (λ (x : Kept). has_stopped x.standing c.args.place c.args.vid) c.self.view_is)
+    (sym (c.contains.ensures ∙ ap (λ (x : KeptStops). has_stopped x.standing c.args.place c.args.vid) c.self.view_is)
     ∙ c.if-contains.true)
 
 pub returns-clause-idle : goal.returns-clause-idle
@@ -20,11 +20,11 @@ returns-clause-idle c =
     λ there. absurd
     (false≢true
     (sym c.if-contains.false ∙ c.contains.ensures
-    ∙ ap (λ (s : Kept). has_stopped s.standing c.args.place c.args.vid) c.self.view_is ∙ there))
+    ∙ ap (λ (s : KeptStops). has_stopped s.standing c.args.place c.args.vid) c.self.view_is ∙ there))
 
 pub returns-clause-stopped : goal.returns-clause-stopped
 returns-clause-stopped c = λ es.
-    let f : Kept =
+    let f : KeptStops =
     record {
       second = c.self.inside.second;
       standing = c.self.inside.standing.keys;
@@ -34,7 +34,7 @@ returns-clause-stopped c = λ es.
     } in
     let p0 = c.args.place in
     let more : c.in_ok-more.more ≡ count_of f.counts p0 + 1 = search rules in
-    subst (λ (x : Kept). StandsFor x es →
+    subst (λ (x : KeptStops). StandsFor x es →
     StandsFor
     (record {
       second = f.second;

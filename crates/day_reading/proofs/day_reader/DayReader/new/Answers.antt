@@ -1,7 +1,8 @@
 use Rattle.std.proofs.Common.{◌++◌, [], Some, refl, ap, arith}
 use Rattle.road_io.specs.Cutter.{held}
 use Rattle.day_reading.specs.Readings.{HasRead}
-use Rattle.day_reading.proofs.GatherLaws.{allowed_none, fit_none}
+use Rattle.day_reading.proofs.GatherLaws.{fit_none}
+use Rattle.road_time.proofs.ReadLaws.{allowed_none}
 use Rattle.day_reading.proofs.day_reader.DayReader.new.Goals as goal
 
 pub returns-clause-reading : goal.returns-clause-reading

@@ -1,5 +1,5 @@
 use Rattle.std.proofs.Common.{◌≡◌, ◌+◌, ◌++◌, ◌∙◌, List, length, ℕ, sym, subst, Ok, Err, Some, true, false}
-use Rattle.road_io.specs.Cutter.{ahead, number_of, line_of, rest_of, Cuts, Stands}
+use Rattle.road_io.specs.Cutter.{ahead, number_of, line_of, rest_of, Cuts, StandsCut}
 use Rattle.road_io.specs.declared.cutter.LineFault.TheVariants.{LongLine, ReadFault}
 use Rattle.day_reading.specs.declared.ending.Ending.{Ending}
 use Rattle.day_reading.specs.Lines.{TakesLine}
@@ -23,7 +23,7 @@ returns-in-Ok-true-clause-reading g c = λ limits late bytes given s.
     let none = self.unbroken open_is in
     let res : c.advance.result ≡ Ok true = cc in
     let cuts = subst (λ r. Cuts r before after (line_of new)) res (c.advance.ensures.cuts none) in
-    let stands = subst (λ r. Stands r (number_of old) new) res (c.advance.ensures.stands none) in
+    let stands = subst (λ r. StandsCut r (number_of old) new) res (c.advance.ensures.stands none) in
     let took = c.advance.ensures.taken none res in
     let judged = c.take-end.ensures.takes limits late (sym s.line_limit) in
     let judged_line =
@@ -58,7 +58,7 @@ returns-in-Err-LongLine-clause-reading g c = λ limits late bytes given s.
     let none = self.unbroken open_is in
     let res : c.advance.result ≡ Err (LongLine c.in-Err-LongLine.line) = cc in
     let cuts = subst (λ r. Cuts r before after (line_of new)) res (c.advance.ensures.cuts none) in
-    let stands = subst (λ r. Stands r (number_of old) new) res (c.advance.ensures.stands none) in
+    let stands = subst (λ r. StandsCut r (number_of old) new) res (c.advance.ensures.stands none) in
     let long =
     long_line limits late bytes given before after (line_of new) (number_of old) c.in-Err-LongLine.line
     self.consumed self.intake.gate self.intake.sorter on cuts stands.0 in
@@ -79,7 +79,8 @@ returns-in-Ok-true-clause-gathering g c = λ limits late given s.
     let on = subst (λ o. GathersAt o (number_of old) self.intake.gate self.intake.sorter limits late given) c.requires
     s.stands in
     let res : c.advance.result ≡ Ok true = cc in
-    let stands = subst (λ r. Stands r (number_of old) new) res (c.advance.ensures.stands (self.unbroken c.requires)) in
+    let stands =
+    subst (λ r. StandsCut r (number_of old) new) res (c.advance.ensures.stands (self.unbroken c.requires)) in
     let judged = c.take-end.ensures.takes limits late (sym s.line_limit) in
     let judged_line =
     subst (λ l. TakesLine limits late c.take-end.result c.number.result l self.intake.gate c.take-end.new.self.gate
@@ -120,7 +121,7 @@ returns-in-Ok-true-clause-read g c = λ lines bytes s.
     let none = self.unbroken c.requires in
     let res : c.advance.result ≡ Ok true = cc in
     let cuts = subst (λ r. Cuts r before after (line_of new)) res (c.advance.ensures.cuts none) in
-    let stands = subst (λ r. Stands r (number_of old) new) res (c.advance.ensures.stands none) in
+    let stands = subst (λ r. StandsCut r (number_of old) new) res (c.advance.ensures.stands none) in
     let counts =
     subst (λ r. c.add.new.self.bytes ≡ self.consumed.bytes + length r) c.rest.ensures c.add.ensures.count in (
       c.take-end.ensures.limit
@@ -139,7 +140,7 @@ returns-in-Ok-false-clause-read g c = λ lines bytes s.
     let none = self.unbroken c.requires in
     let res : c.advance.result ≡ Ok false = cc in
     let cuts = subst (λ r. Cuts r before after (line_of new)) res (c.advance.ensures.cuts none) in
-    let stands = subst (λ r. Stands r (number_of old) new) res (c.advance.ensures.stands none) in
+    let stands = subst (λ r. StandsCut r (number_of old) new) res (c.advance.ensures.stands none) in
     (s.0, lines_end before after (line_of new) bytes self.consumed (number_of old) (number_of new) s.1 cuts stands.0)
 
 pub returns-in-Err-LongLine-clause-read : goal.returns-in-Err-LongLine-clause-read
@@ -153,7 +154,7 @@ returns-in-Err-LongLine-clause-read g c = λ lines bytes s.
     let f = LongLine c.in-Err-LongLine.line in
     let res : c.advance.result ≡ Err f = cc in
     let cuts = subst (λ r. Cuts r before after (line_of new)) res (c.advance.ensures.cuts none) in
-    let stands = subst (λ r. Stands r (number_of old) new) res (c.advance.ensures.stands none) in (
+    let stands = subst (λ r. StandsCut r (number_of old) new) res (c.advance.ensures.stands none) in (
       s.0,
       lines_fault f before after (line_of new) bytes self.consumed (number_of old) (number_of new) s.1 cuts
           stands.1,
@@ -169,7 +170,7 @@ returns-in-Err-ReadFault-clause-read g c = λ lines bytes s.
     let none = self.unbroken c.requires in
     let res : c.advance.result ≡ Err ReadFault = cc in
     let cuts = subst (λ r. Cuts r before after (line_of new)) res (c.advance.ensures.cuts none) in
-    let stands = subst (λ r. Stands r (number_of old) new) res (c.advance.ensures.stands none) in (
+    let stands = subst (λ r. StandsCut r (number_of old) new) res (c.advance.ensures.stands none) in (
       s.0,
       lines_fault ReadFault before after (line_of new) bytes self.consumed (number_of old) (number_of new) s.1 cuts
           stands.0,

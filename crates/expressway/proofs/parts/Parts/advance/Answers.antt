@@ -1,15 +1,15 @@
 use Rattle.std.proofs.Common.{◌≡◌, ◌≤◌, arith, ap, sym, subst, ◌∙◌}
 use Rattle.road_time.specs.Tolls.{notes_of}
-use Rattle.accidents.specs.Kept.{Kept as Standing}
+use Rattle.accidents.specs.Kept.{KeptStops as Standing}
 use Rattle.expressway.specs.Events.{seen, entries}
-use Rattle.expressway.specs.Kept.{Kept}
+use Rattle.expressway.specs.Kept.{KeptWays}
 use Rattle.expressway.specs.Stands.{IsAt}
 use Rattle.expressway.proofs.KnownLaws.{moved_step}
 use Rattle.expressway.proofs.parts.Parts.advance.Goals as goal
 
 pub returns-clause-at : goal.returns-clause-at
 returns-clause-at c = λ before last at.
-    let was = subst (λ (k : Kept). IsAt k last before) (sym c.self.view_is) at in
+    let was = subst (λ (k : KeptWays). IsAt k last before) (sym c.self.view_is) at in
     record {
       averages = c.roll.ensures.kept (notes_of (seen before)) was.averages;
       standing = c.advance.ensures.kept (entries before) was.standing;
@@ -20,7 +20,7 @@ returns-clause-at c = λ before last at.
 pub invariant_of-self : goal.invariant_of-self
 invariant_of-self c =
     let was : c.self.inside.speeds.minute ≡ c.args.self.now.speeds.minute =
-    ap (λ (k : Kept). k.speeds.minute) c.self.view_is in
+    ap (λ (k : KeptWays). k.speeds.minute) c.self.view_is in
     let up : c.self.inside.speeds.minute ≤ c.minute.result =
     omega (arith, was, c.requires.minute, c.minute.ensures) in
     moved_step (record { speeds = c.self.inside.speeds; stops = c.self.inside.stops; tariffs = c.self.inside.tariffs })

@@ -3,7 +3,7 @@ use Rattle.road_time.specs.Tolls.{notes_of, finding_by}
 use Rattle.road_time.specs.Rates.{toll_of, whole_of}
 use Rattle.road_time.specs.Entries.{standing_at}
 use Rattle.expressway.specs.Events.{seen, entries}
-use Rattle.expressway.specs.Kept.{Kept}
+use Rattle.expressway.specs.Kept.{KeptWays}
 use Rattle.expressway.specs.Stands.{IsAt}
 use Rattle.expressway.proofs.StepLaws.{found_as, found_is}
 use Rattle.expressway.proofs.parts.Parts.find_anew.Goals as goal
@@ -11,7 +11,7 @@ use Rattle.expressway.proofs.parts.Parts.find_anew.Goals as goal
 pub returns-clause-exact : goal.returns-clause-exact
 returns-clause-exact c = λ before at.
     let r = c.args.report.now in
-    let now = subst (λ (k : Kept). IsAt k r.time before) (sym c.self.view_is) at in
+    let now = subst (λ (k : KeptWays). IsAt k r.time before) (sym c.self.view_is) at in
     let ns = notes_of (seen before) in
     let toll_is = c.toll.ensures.exact
     ∙ ap (λ v. toll_of c.of-tariff.result c.cars-cars.result v c.is_some.result) c.as_ref-2.ensures.value
@@ -25,4 +25,4 @@ returns-clause-exact c = λ before at.
     (c.whole_lav.ensures ∙ ap whole_of c.as_ref.ensures.value) toll_is in
     let same : to_z w16 (of_z w16 c.whole_lav.result) ≡ c.whole_lav.result = search rules in
     ap (λ z. found_as c.args.position z c.toll.result c.nearest-alert.result) same ∙ found
-    ∙ ap (λ (k : Kept). (c.args.position, finding_by ns (standing_at (entries before)) k.tariffs r)) c.self.view_is
+    ∙ ap (λ (k : KeptWays). (c.args.position, finding_by ns (standing_at (entries before)) k.tariffs r)) c.self.view_is

@@ -1,14 +1,14 @@
 use Rattle.std.proofs.Common.{rules, w16, to_z, of_z, ◌≡◌, All, Some, sym, ap, subst, ◌∙◌, arith}
 use Rattle.std.proofs.lemmas.List.Elements.{All-set}
 use Rattle.road_time.specs.Clock.{minute_of}
-use Rattle.expressway.specs.Kept.{Kept}
+use Rattle.expressway.specs.Kept.{KeptWays}
 use Rattle.expressway.specs.Known.{found_in, IsTrueIn}
 use Rattle.expressway.proofs.StepLaws.{found_as}
 use Rattle.expressway.proofs.parts.Parts.know.Goals as goal
 
 pub invariant_of-self : goal.invariant_of-self
 invariant_of-self c =
-    let now : Kept =
+    let now : KeptWays =
     record { speeds = c.self.inside.speeds; stops = c.self.inside.stops; tariffs = c.self.inside.tariffs } in
     let minute : c.minute.result ≡ c.self.inside.speeds.minute = c.minute.ensures ∙ ap minute_of c.second.ensures
     ∙ sym c.self.invariant.minute in
@@ -21,7 +21,7 @@ invariant_of-self c =
             omega (arith, minute),
             λ e. ap (λ z. (found_as 0 z c.args.finding.toll c.args.finding.alert).1) same
                 ∙ c.requires ∙ ap (found_in c.args.self.now) (sym c.stretch-stretch.ensures)
-                ∙ sym (ap (λ (k : Kept). found_in k c.stretch-stretch.result) c.self.view_is),
+                ∙ sym (ap (λ (k : KeptWays). found_in k c.stretch-stretch.result) c.self.view_is),
           )
           c.self.invariant.known_ones);
     }

@@ -2,14 +2,14 @@ use Rattle.std.proofs.Common.{rules, ◌≡◌, ◌<◌, true, Some, length, get
 use Rattle.road_time.specs.Clock.{minute_of}
 use Rattle.road_time.specs.Tuples.{same_stretch}
 use Rattle.road_time.proofs.SameLaws.{stretch_is}
-use Rattle.expressway.specs.Kept.{Kept}
+use Rattle.expressway.specs.Kept.{KeptWays}
 use Rattle.expressway.specs.Known.{found_in}
 use Rattle.expressway.proofs.KnownLaws.{true_at}
 use Rattle.expressway.proofs.parts.Parts.known_of.Goals as goal
 
 pub returns-then-known-minute : goal.returns-then-known-minute
 returns-then-known-minute c =
-    let now : Kept =
+    let now : KeptWays =
     record { speeds = c.self.inside.speeds; stops = c.self.inside.stops; tariffs = c.self.inside.tariffs } in
     let q = c.in_ok-known.known in
     let found = c.in_ok-get.ensures.lookup in
@@ -24,4 +24,4 @@ returns-then-known-minute c =
     (true_at now c.self.inside.known.items c.place.result c.in_ok-get.field-0.now q c.self.invariant.known_ones within
     here).1 minute
     ∙ ap (found_in now) (stretch_is q.stretch c.args.stretch same)
-    ∙ ap (λ (k : Kept). found_in k c.args.stretch) c.self.view_is
+    ∙ ap (λ (k : KeptWays). found_in k c.args.stretch) c.self.view_is

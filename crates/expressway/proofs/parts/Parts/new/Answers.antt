@@ -1,6 +1,6 @@
 use Rattle.std.proofs.Common.{All, sym, ap, subst, ◌∙◌}
 use Rattle.road_time.specs.Clock.{minute_of}
-use Rattle.accidents.specs.Kept.{Kept as Standing}
+use Rattle.accidents.specs.Kept.{KeptStops as Standing}
 use Rattle.expressway.specs.Known.{IsTrueIn}
 use Rattle.expressway.proofs.KnownLaws.{nothing_known}
 use Rattle.expressway.proofs.parts.Parts.new.Goals as goal

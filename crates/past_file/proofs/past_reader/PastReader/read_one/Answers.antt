@@ -1,6 +1,6 @@
 use Rattle.std.proofs.Common.{◌≡◌, ◌+◌, ◌++◌, ◌≤◌, length, List, ℕ, Option, Some, None, Ok, Err, true, false, refl}
 use Rattle.std.proofs.Common.{subst, arith}
-use Rattle.road_io.specs.Cutter.{ahead, number_of, line_of, rest_of, Cuts, Stands}
+use Rattle.road_io.specs.Cutter.{ahead, number_of, line_of, rest_of, Cuts, StandsCut}
 use Rattle.road_io.specs.declared.cutter.LineFault.TheVariants.{LongLine, ReadFault}
 use Rattle.day_reading.specs.Readings.{HasTaken}
 use Rattle.past_file.specs.declared.outcomes.PastCause.TheVariants as causes
@@ -21,7 +21,7 @@ returns-in-None-clause-steps g c = λ limits bytes same s.
     let after = ahead new (g.S.Source.left c.advance.new.source) in
     let res : c.advance.result ≡ Ok true = cc in
     let cuts = subst (λ r. Cuts r before after (line_of new)) res (c.advance.ensures.cuts c.requires.unbroken) in
-    let stands = subst (λ r. Stands r (number_of old) new) res (c.advance.ensures.stands c.requires.unbroken) in
+    let stands = subst (λ r. StandsCut r (number_of old) new) res (c.advance.ensures.stands c.requires.unbroken) in
     let took = c.advance.ensures.taken c.requires.unbroken res in
     let adds =
     subst (λ r. (taken : List ℕ) → HasTaken self.consumed taken → HasTaken c.add.new.self (taken ++ r))
@@ -49,7 +49,7 @@ returns-in-Some-clause-steps g c = λ limits bytes same s.
     let after = ahead new (g.S.Source.left c.advance.new.source) in
     let res : c.advance.result ≡ Ok true = cc in
     let cuts = subst (λ r. Cuts r before after (line_of new)) res (c.advance.ensures.cuts c.requires.unbroken) in
-    let stands = subst (λ r. Stands r (number_of old) new) res (c.advance.ensures.stands c.requires.unbroken) in
+    let stands = subst (λ r. StandsCut r (number_of old) new) res (c.advance.ensures.stands c.requires.unbroken) in
     let some : c.judge.result ≡ Some c.in-Some.stop = cc in
     let judged =
     subst (λ (r : Option PastStop). JudgesRow r c.args.base limits c.number-line.result c.line.result.now self.amounts
@@ -83,7 +83,8 @@ returns-in-Err-LongLine-clause-steps g c = λ limits bytes same s.
     let after = ahead new (g.S.Source.left c.advance.new.source) in
     let res : c.advance.result ≡ Err (LongLine c.in-Err-LongLine.line) = cc in
     let cuts = subst (λ r. Cuts r before after (line_of new)) res (c.advance.ensures.cuts c.requires.unbroken) in
-    let stands = subst (λ r. Stands r (number_of self.cutter) new) res (c.advance.ensures.stands c.requires.unbroken) in
+    let stands =
+    subst (λ r. StandsCut r (number_of self.cutter) new) res (c.advance.ensures.stands c.requires.unbroken) in
     let stop : c.refused.result ≡ Row c.in-Err-LongLine.line causes.Long =
     cc (c.refused.ensures, c.in-Err-LongLine.line-is) in
     refused_steps c.refused.result c.in-Err-LongLine.line causes.Long _ c.args.base limits
@@ -100,7 +101,7 @@ returns-in-None-clause-read g c = λ bytes s.
     let after = ahead new (g.S.Source.left c.advance.new.source) in
     let res : c.advance.result ≡ Ok true = cc in
     let cuts = subst (λ r. Cuts r before after (line_of new)) res (c.advance.ensures.cuts c.requires.unbroken) in
-    let stands = subst (λ r. Stands r (number_of old) new) res (c.advance.ensures.stands c.requires.unbroken) in
+    let stands = subst (λ r. StandsCut r (number_of old) new) res (c.advance.ensures.stands c.requires.unbroken) in
     let counts =
     subst (λ r. c.add.new.self.bytes ≡ self.consumed.bytes + length r) c.rest.ensures c.add.ensures.count in
     lines_on before after (line_of new) (rest_of new) bytes self.consumed c.add.new.self (number_of old)
@@ -115,7 +116,7 @@ returns-in-Some-clause-read g c = λ bytes s.
     let after = ahead new (g.S.Source.left c.advance.new.source) in
     let res : c.advance.result ≡ Ok true = cc in
     let cuts = subst (λ r. Cuts r before after (line_of new)) res (c.advance.ensures.cuts c.requires.unbroken) in
-    let stands = subst (λ r. Stands r (number_of old) new) res (c.advance.ensures.stands c.requires.unbroken) in
+    let stands = subst (λ r. StandsCut r (number_of old) new) res (c.advance.ensures.stands c.requires.unbroken) in
     let counts =
     subst (λ r. c.add.new.self.bytes ≡ self.consumed.bytes + length r) c.rest.ensures c.add.ensures.count in
     lines_on before after (line_of new) (rest_of new) bytes self.consumed c.add.new.self (number_of old)
@@ -130,7 +131,8 @@ returns-in-Ok-false-clause-read g c = λ bytes s.
     let after = ahead new (g.S.Source.left c.advance.new.source) in
     let res : c.advance.result ≡ Ok false = cc in
     let cuts = subst (λ r. Cuts r before after (line_of new)) res (c.advance.ensures.cuts c.requires.unbroken) in
-    let stands = subst (λ r. Stands r (number_of self.cutter) new) res (c.advance.ensures.stands c.requires.unbroken) in
+    let stands =
+    subst (λ r. StandsCut r (number_of self.cutter) new) res (c.advance.ensures.stands c.requires.unbroken) in
     lines_end before after (line_of new) bytes self.consumed (number_of self.cutter) (number_of new) s cuts stands.0
 
 pub returns-in-Err-LongLine-clause-read : goal.returns-in-Err-LongLine-clause-read
@@ -142,7 +144,8 @@ returns-in-Err-LongLine-clause-read g c = λ bytes s.
     let after = ahead new (g.S.Source.left c.advance.new.source) in
     let res : c.advance.result ≡ Err (LongLine c.in-Err-LongLine.line) = cc in
     let cuts = subst (λ r. Cuts r before after (line_of new)) res (c.advance.ensures.cuts c.requires.unbroken) in
-    let stands = subst (λ r. Stands r (number_of self.cutter) new) res (c.advance.ensures.stands c.requires.unbroken) in
+    let stands =
+    subst (λ r. StandsCut r (number_of self.cutter) new) res (c.advance.ensures.stands c.requires.unbroken) in
     lines_fault (LongLine c.in-Err-LongLine.line) before after (line_of new) bytes self.consumed (number_of self.cutter)
     (number_of new) s cuts stands.1
 
@@ -155,7 +158,8 @@ returns-in-Err-ReadFault-clause-read g c = λ bytes s.
     let after = ahead new (g.S.Source.left c.advance.new.source) in
     let res : c.advance.result ≡ Err ReadFault = cc in
     let cuts = subst (λ r. Cuts r before after (line_of new)) res (c.advance.ensures.cuts c.requires.unbroken) in
-    let stands = subst (λ r. Stands r (number_of self.cutter) new) res (c.advance.ensures.stands c.requires.unbroken) in
+    let stands =
+    subst (λ r. StandsCut r (number_of self.cutter) new) res (c.advance.ensures.stands c.requires.unbroken) in
     lines_fault ReadFault before after (line_of new) bytes self.consumed (number_of self.cutter)
     (number_of new) s cuts stands.0
 
@@ -176,7 +180,8 @@ returns-in-Err-LongLine-clause-after g c =
     let self = c.args.self.now in
     let new = c.advance.new.self in
     let res : c.advance.result ≡ Err (LongLine c.in-Err-LongLine.line) = cc in
-    let stands = subst (λ r. Stands r (number_of self.cutter) new) res (c.advance.ensures.stands c.requires.unbroken) in
+    let stands =
+    subst (λ r. StandsCut r (number_of self.cutter) new) res (c.advance.ensures.stands c.requires.unbroken) in
     let stop : Row c.in-Err-LongLine.line causes.Long ≡ c.refused.result =
     cc (c.refused.ensures, c.in-Err-LongLine.line-is) in
     let after : number_of new ≤ c.in-Err-LongLine.line = omega (arith, stands.0, stands.1) in

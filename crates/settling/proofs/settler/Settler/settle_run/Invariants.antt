@@ -1,7 +1,7 @@
 use Rattle.std.proofs.Common.{◌≡◌, ◌≤◌, ◌++◌, List, take, drop, length, Ok}
 use Rattle.road_time.specs.declared.road.Tuple.{Tuple}
 use Rattle.road_time.specs.Sights.{Sight}
-use Rattle.road_time.specs.Tolls.{Finding}
+use Rattle.road_time.specs.Tolls.{StretchTold}
 use Rattle.settling.specs.Answers.{history_of}
 use Rattle.settling.specs.Faults.{SinkFaults, KeeperFaults}
 use Rattle.settling.specs.Runs.{StandsFor, InRun, Waits}
@@ -9,7 +9,7 @@ use Rattle.settling.proofs.settler.Settler.settle_run.Given as goal
 
 abbrev pub invariant-loop : goal.invariant-loop
 invariant-loop g l = record {
-  run : (finding : Sight → Finding) (before rest : List Tuple) →
+  run : (finding : Sight → StretchTold) (before rest : List Tuple) →
       StandsFor l.fn.self finding l.number (history_of (g.K.Keeper.told l.fn.keeper)) before →
       Waits l.fn.slots.items finding before rest → l.count ≤ length rest →
       InRun l.self finding l.number (history_of (g.K.Keeper.told l.keeper)) before (take l.counter rest)

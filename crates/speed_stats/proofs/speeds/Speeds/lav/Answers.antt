@@ -3,9 +3,9 @@ use Rattle.std.specs.Map.{lookup}
 use Rattle.road_time.specs.Lav.{lav_of}
 use Rattle.road_time.specs.Tuples.{same_stretch}
 use Rattle.road_time.proofs.PrefixLaws.{five_same}
-use Rattle.speed_stats.specs.Kept.{Kept}
+use Rattle.speed_stats.specs.Kept.{KeptSpeeds}
 use Rattle.speed_stats.specs.Parts.{IsSmall}
-use Rattle.speed_stats.proofs.MeanLaws.{all_five}
+use Rattle.road_time.proofs.MeanLaws.{all_five}
 use Rattle.speed_stats.proofs.NoteParts.{ring_small, ring_is}
 use Rattle.speed_stats.proofs.speeds.Speeds.lav.Goals as goal
 
@@ -19,9 +19,9 @@ mean_average-requires-clause-small c =
 
 pub returns-clause-exact : goal.returns-clause-exact
 returns-clause-exact c = λ notes st.
-    let was : c.self.inside.minute ≡ c.args.self.now.minute = ap (λ (s : Kept). s.minute) c.self.view_is in
+    let was : c.self.inside.minute ≡ c.args.self.now.minute = ap (λ (s : KeptSpeeds). s.minute) c.self.view_is in
     let there : Some c.in_ok-ring.ring.now ≡ lookup (same_stretch c.args.stretch) c.args.self.now.rings =
-    c.in_ok-ring.ensures.value ∙ ap (λ (s : Kept). lookup (same_stretch c.args.stretch) s.rings) c.self.view_is in
+    c.in_ok-ring.ensures.value ∙ ap (λ (s : KeptSpeeds). lookup (same_stretch c.args.stretch) s.rings) c.self.view_is in
     let is = ring_is c.args.self.now notes st c.args.stretch c.in_ok-ring.ring.now there in
     c.mean_average.ensures.exact
     ∙ ap lav_of

@@ -3,7 +3,7 @@ use Rattle.std.specs.Map.{lookup}
 use Rattle.std.proofs.lemmas.Map.Steps.{set_value_same}
 use Rattle.std.proofs.lemmas.Result.{err_from_is_err_and}
 use Rattle.road_time.specs.Tuples.{same_stretch}
-use Rattle.speed_stats.specs.Kept.{Kept}
+use Rattle.speed_stats.specs.Kept.{KeptSpeeds}
 use Rattle.speed_stats.specs.Parts.{IsSmall, AreSmall, grown, flow_of, flow_in, sum_in, no_flow}
 use Rattle.speed_stats.proofs.NoteSteps.{total_few, count_few, speeds_few, part_few, cars_few, noted_as}
 use Rattle.speed_stats.proofs.NoteParts.{kept_made}
@@ -15,53 +15,53 @@ use Rattle.speed_stats.proofs.speeds.Speeds.note.Goals as goal
 pub add-requires-clause-total : goal.add-requires-clause-total
 add-requires-clause-total c =
     let one = c.requires.one in
-    rw (ap (λ (s : Kept). s.seen) c.self.view_is)
+    rw (ap (λ (s : KeptSpeeds). s.seen) c.self.view_is)
     (total_few c.args.self.now one.0 one.1 c.args.stretch c.args.vid c.args.spd one.2)
 
 pub add-requires-clause-count : goal.add-requires-clause-count
 add-requires-clause-count c =
     let one = c.requires.one in
-    rw (ap (λ (s : Kept). s.seen) c.self.view_is)
+    rw (ap (λ (s : KeptSpeeds). s.seen) c.self.view_is)
     (count_few c.args.self.now one.0 one.1 c.args.stretch c.args.vid c.args.spd one.2)
 
 pub add-requires-in-None-clause-total : goal.add-requires-in-None-clause-total
 add-requires-in-None-clause-total c =
     let one = c.requires.one in
-    rw (ap (λ (s : Kept). s.seen) c.self.view_is)
+    rw (ap (λ (s : KeptSpeeds). s.seen) c.self.view_is)
     (total_few c.args.self.now one.0 one.1 c.args.stretch c.args.vid c.args.spd one.2)
 
 pub add-requires-in-None-clause-count : goal.add-requires-in-None-clause-count
 add-requires-in-None-clause-count c =
     let one = c.requires.one in
-    rw (ap (λ (s : Kept). s.seen) c.self.view_is)
+    rw (ap (λ (s : KeptSpeeds). s.seen) c.self.view_is)
     (count_few c.args.self.now one.0 one.1 c.args.stretch c.args.vid c.args.spd one.2)
 
 pub grown-requires-clause-total : goal.grown-requires-clause-total
 grown-requires-clause-total c =
     let one = c.requires.one in
     rw (c.in_ok-before-in-Some.ensures.before
-    ∙ ap (λ (s : Kept). sum_in s.seen (record { stretch = c.args.stretch; vid = c.args.vid })) c.self.view_is)
+    ∙ ap (λ (s : KeptSpeeds). sum_in s.seen (record { stretch = c.args.stretch; vid = c.args.vid })) c.self.view_is)
     (total_few c.args.self.now one.0 one.1 c.args.stretch c.args.vid c.args.spd one.2)
 
 pub grown-requires-clause-count : goal.grown-requires-clause-count
 grown-requires-clause-count c =
     let one = c.requires.one in
     rw (c.in_ok-before-in-Some.ensures.before
-    ∙ ap (λ (s : Kept). sum_in s.seen (record { stretch = c.args.stretch; vid = c.args.vid })) c.self.view_is)
+    ∙ ap (λ (s : KeptSpeeds). sum_in s.seen (record { stretch = c.args.stretch; vid = c.args.vid })) c.self.view_is)
     (count_few c.args.self.now one.0 one.1 c.args.stretch c.args.vid c.args.spd one.2)
 
 pub grown-requires-in-None-clause-total : goal.grown-requires-in-None-clause-total
 grown-requires-in-None-clause-total c =
     let one = c.requires.one in
     rw (c.in_ok-before-in-None.ensures.before
-    ∙ ap (λ (s : Kept). sum_in s.seen (record { stretch = c.args.stretch; vid = c.args.vid })) c.self.view_is)
+    ∙ ap (λ (s : KeptSpeeds). sum_in s.seen (record { stretch = c.args.stretch; vid = c.args.vid })) c.self.view_is)
     (total_few c.args.self.now one.0 one.1 c.args.stretch c.args.vid c.args.spd one.2)
 
 pub grown-requires-in-None-clause-count : goal.grown-requires-in-None-clause-count
 grown-requires-in-None-clause-count c =
     let one = c.requires.one in
     rw (c.in_ok-before-in-None.ensures.before
-    ∙ ap (λ (s : Kept). sum_in s.seen (record { stretch = c.args.stretch; vid = c.args.vid })) c.self.view_is)
+    ∙ ap (λ (s : KeptSpeeds). sum_in s.seen (record { stretch = c.args.stretch; vid = c.args.vid })) c.self.view_is)
     (count_few c.args.self.now one.0 one.1 c.args.stretch c.args.vid c.args.spd one.2)
 
 pub grown-requires-clause-cars : goal.grown-requires-clause-cars
@@ -69,7 +69,7 @@ grown-requires-clause-cars c =
     let one = c.requires.one in
     let at : c.at.result ≡ flow_in c.args.self.now.rings c.args.stretch c.args.self.now.minute = c.at.ensures
     ∙ ap (λ o. flow_of o c.self.inside.minute) c.in-Some.ensures.value
-    ∙ ap (λ (s : Kept). flow_in s.rings c.args.stretch s.minute) c.self.view_is in
+    ∙ ap (λ (s : KeptSpeeds). flow_in s.rings c.args.stretch s.minute) c.self.view_is in
     rw at (cars_few c.args.self.now one.0 one.1 c.args.stretch c.args.vid c.args.spd c.args.self.now.minute
     (omega arith))
 
@@ -78,7 +78,7 @@ grown-requires-clause-speeds c =
     let one = c.requires.one in
     let at : c.at.result ≡ flow_in c.args.self.now.rings c.args.stretch c.args.self.now.minute = c.at.ensures
     ∙ ap (λ o. flow_of o c.self.inside.minute) c.in-Some.ensures.value
-    ∙ ap (λ (s : Kept). flow_in s.rings c.args.stretch s.minute) c.self.view_is in
+    ∙ ap (λ (s : KeptSpeeds). flow_in s.rings c.args.stretch s.minute) c.self.view_is in
     rw at (speeds_few c.args.self.now one.0 one.1 c.args.stretch c.args.vid c.args.spd)
 
 pub grown-requires-clause-part : goal.grown-requires-clause-part
@@ -86,11 +86,12 @@ grown-requires-clause-part c =
     let one = c.requires.one in
     let at : c.at.result ≡ flow_in c.args.self.now.rings c.args.stretch c.args.self.now.minute = c.at.ensures
     ∙ ap (λ o. flow_of o c.self.inside.minute) c.in-Some.ensures.value
-    ∙ ap (λ (s : Kept). flow_in s.rings c.args.stretch s.minute) c.self.view_is in
+    ∙ ap (λ (s : KeptSpeeds). flow_in s.rings c.args.stretch s.minute) c.self.view_is in
     rw (
       at,
       c.in_ok-before-in-Some.ensures.before
-          ∙ ap (λ (s : Kept). sum_in s.seen (record { stretch = c.args.stretch; vid = c.args.vid })) c.self.view_is,
+          ∙ ap (λ (s : KeptSpeeds). sum_in s.seen (record { stretch = c.args.stretch; vid = c.args.vid }))
+          c.self.view_is,
     )
     (part_few c.args.self.now one.0 one.1 c.args.stretch c.args.vid c.args.spd)
 
@@ -99,10 +100,10 @@ grown-requires-in-None-clause-part c =
     let one = c.requires.one in
     let none : 0 ≡ (flow_in c.args.self.now.rings c.args.stretch c.args.self.now.minute).speeds12 =
     ap (λ o. (flow_of o c.self.inside.minute).speeds12) c.in-None.ensures.value
-    ∙ ap (λ (s : Kept). (flow_in s.rings c.args.stretch s.minute).speeds12) c.self.view_is in
+    ∙ ap (λ (s : KeptSpeeds). (flow_in s.rings c.args.stretch s.minute).speeds12) c.self.view_is in
     let part = part_few c.args.self.now one.0 one.1 c.args.stretch c.args.vid c.args.spd in
     rw (c.in_ok-before-in-None.ensures.before
-    ∙ ap (λ (s : Kept). sum_in s.seen (record { stretch = c.args.stretch; vid = c.args.vid })) c.self.view_is)
+    ∙ ap (λ (s : KeptSpeeds). sum_in s.seen (record { stretch = c.args.stretch; vid = c.args.vid })) c.self.view_is)
     (omega (arith, none, part))
 
 pub returns-in_err-before-in-Some-clause-refused : goal.returns-in_err-before-in-Some-clause-refused
@@ -162,10 +163,10 @@ invariant_of-self-in-Some c =
     let rings = c.self.inside.rings.entries in
     let at : c.at.result ≡ flow_in c.args.self.now.rings c.args.stretch c.args.self.now.minute = c.at.ensures
     ∙ ap (λ o. flow_of o c.self.inside.minute) c.in-Some.ensures.value
-    ∙ ap (λ (s : Kept). flow_in s.rings c.args.stretch s.minute) c.self.view_is in
+    ∙ ap (λ (s : KeptSpeeds). flow_in s.rings c.args.stretch s.minute) c.self.view_is in
     let before : c.in_ok-before-in-Some.before ≡ sum_in c.args.self.now.seen
     (record { stretch = c.args.stretch; vid = c.args.vid }) = c.in_ok-before-in-Some.ensures.before
-    ∙ ap (λ (s : Kept). sum_in s.seen (record { stretch = c.args.stretch; vid = c.args.vid })) c.self.view_is in
+    ∙ ap (λ (s : KeptSpeeds). sum_in s.seen (record { stretch = c.args.stretch; vid = c.args.vid })) c.self.view_is in
     let is = c.grown.ensures ∙ ap (λ f. grown f c.in_ok-before-in-Some.before c.args.spd) at
     ∙ ap (λ b. grown (flow_in c.args.self.now.rings c.args.stretch c.args.self.now.minute) b c.args.spd) before in
     let small : IsSmall c.grown.result =
@@ -182,10 +183,10 @@ invariant_of-self-in-None c =
     let rings = c.self.inside.rings.entries in
     let none : no_flow ≡ flow_in c.args.self.now.rings c.args.stretch c.args.self.now.minute =
     ap (λ o. flow_of o c.self.inside.minute) c.in-None.ensures.value
-    ∙ ap (λ (s : Kept). flow_in s.rings c.args.stretch s.minute) c.self.view_is in
+    ∙ ap (λ (s : KeptSpeeds). flow_in s.rings c.args.stretch s.minute) c.self.view_is in
     let before : c.in_ok-before-in-None.before ≡ sum_in c.args.self.now.seen
     (record { stretch = c.args.stretch; vid = c.args.vid }) = c.in_ok-before-in-None.ensures.before
-    ∙ ap (λ (s : Kept). sum_in s.seen (record { stretch = c.args.stretch; vid = c.args.vid })) c.self.view_is in
+    ∙ ap (λ (s : KeptSpeeds). sum_in s.seen (record { stretch = c.args.stretch; vid = c.args.vid })) c.self.view_is in
     let is = c.grown-in-None.ensures ∙ ap (λ f. grown f c.in_ok-before-in-None.before c.args.spd) none
     ∙ ap (λ b. grown (flow_in c.args.self.now.rings c.args.stretch c.args.self.now.minute) b c.args.spd) before in
     let small : IsSmall c.grown-in-None.result =
@@ -205,20 +206,20 @@ returns-in_err-before-in-Some-clause-past c = λ k m early late.
     ((c.get_mut.follows.holds c.in-Some.ring.now).0
     ∙ set_value_same (same_stretch c.args.stretch) c.self.inside.rings.entries c.in-Some.ring.now
     (sym c.in-Some.ensures.value))
-    ∙ ap (λ (s : Kept). flow_in s.rings k m) c.self.view_is
+    ∙ ap (λ (s : KeptSpeeds). flow_in s.rings k m) c.self.view_is
 
 pub returns-in_ok-before-in-Some-clause-past : goal.returns-in_ok-before-in-Some-clause-past
 returns-in_ok-before-in-Some-clause-past c = λ k m early late.
-    let was : c.self.inside.minute ≡ c.args.self.now.minute = ap (λ (s : Kept). s.minute) c.self.view_is in
+    let was : c.self.inside.minute ≡ c.args.self.now.minute = ap (λ (s : KeptSpeeds). s.minute) c.self.view_is in
     past_put c.self.inside.rings.entries _ c.args.stretch c.put.new.self m
     (λ j. ((c.get_mut.follows.holds c.put.new.self).3 (search rules)).0 j)
     (c.put.ensures.window m (omega (arith, was, late)) (omega (arith, was, early))
     ∙ ap (λ o. flow_of o m) c.in-Some.ensures.value) k
-    ∙ ap (λ (s : Kept). flow_in s.rings k m) c.self.view_is
+    ∙ ap (λ (s : KeptSpeeds). flow_in s.rings k m) c.self.view_is
 
 pub returns-in_ok-insert-in-None-clause-past : goal.returns-in_ok-insert-in-None-clause-past
 returns-in_ok-insert-in-None-clause-past c = λ k m early late.
-    let was : c.self.inside.minute ≡ c.args.self.now.minute = ap (λ (s : Kept). s.minute) c.self.view_is in
+    let was : c.self.inside.minute ≡ c.args.self.now.minute = ap (λ (s : KeptSpeeds). s.minute) c.self.view_is in
     let same : c.reserve.new.self.entries ≡ c.self.inside.rings.entries = search rules in
     past_put c.self.inside.rings.entries c.insert.new.self.entries c.args.stretch c.put-in-None.new.self m
     (λ j. c.in_ok-insert-in-None.ensures.updates.0 j
@@ -226,4 +227,4 @@ returns-in_ok-insert-in-None-clause-past c = λ k m early late.
     same)
     (c.put-in-None.ensures.window m (omega (arith, was, late)) (omega (arith, was, early)) ∙ c.new-ring.ensures m
     ∙ ap (λ o. flow_of o m) c.in-None.ensures.value) k
-    ∙ ap (λ (s : Kept). flow_in s.rings k m) c.self.view_is
+    ∙ ap (λ (s : KeptSpeeds). flow_in s.rings k m) c.self.view_is

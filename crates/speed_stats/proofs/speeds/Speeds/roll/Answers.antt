@@ -1,14 +1,14 @@
 use Rattle.std.proofs.Common.{◌≡◌, ◌<◌, arith, sym, ap, ◌∙◌, unwrap_or}
 use Rattle.std.specs.Map.{lookup}
 use Rattle.road_time.specs.Notes.{notes_of_vehicle}
-use Rattle.speed_stats.specs.Kept.{Kept}
-use Rattle.speed_stats.specs.Parts.{sum_for, same_car, no_sum, shown, flow_in}
+use Rattle.speed_stats.specs.Kept.{KeptSpeeds}
+use Rattle.speed_stats.specs.Parts.{sum_for, same_car, no_sum, shown_flow, flow_in}
 use Rattle.speed_stats.proofs.NoteParts.{none_later, all_later}
 use Rattle.speed_stats.proofs.speeds.Speeds.roll.Goals as goal
 
 pub returns-clause-kept : goal.returns-clause-kept
 returns-clause-kept c = λ notes st.
-    let was : c.self.inside.minute ≡ c.args.self.now.minute = ap (λ (s : Kept). s.minute) c.self.view_is in
+    let was : c.self.inside.minute ≡ c.args.self.now.minute = ap (λ (s : KeptSpeeds). s.minute) c.self.view_is in
     let asked = c.requires in
     let later : c.args.self.now.minute < c.args.minute = omega (arith, was, asked) in
     let first = st.first in
@@ -21,6 +21,6 @@ returns-clause-kept c = λ notes st.
           c.forget.ensures
           ∙ sym (ap (λ zs. sum_for (notes_of_vehicle zs v))
           (none_later notes c.args.self.now.minute c.args.minute k later st.none_after));
-      flows = λ k m h. ap (λ (s : Kept). shown (flow_in s.rings k m)) c.self.view_is
+      flows = λ k m h. ap (λ (s : KeptSpeeds). shown_flow (flow_in s.rings k m)) c.self.view_is
           ∙ st.flows k m (omega (arith, later, h));
     }

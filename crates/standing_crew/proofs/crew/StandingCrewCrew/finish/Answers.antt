@@ -1,6 +1,6 @@
 use Rattle.std.proofs.Common.{◌∙◌, ap, List, length, length-set}
 use Rattle.std.specs.Prelude.{Option, None}
-use Rattle.standing_crew.specs.declared.place.Place.{Place}
+use Rattle.standing_crew.specs.declared.place.TicketPlace.{TicketPlace}
 use Rattle.expressway.proofs.ShapeLaws.{shaped}
 use Rattle.partition_workers.proofs.Puts.{take_less}
 use Rattle.partition_workers.proofs.Tellings.{finish_tells, told_are_out}
@@ -20,7 +20,7 @@ invariant_of-self g c =
       idle = beside.taken ∙ crew.idle;
       hands = beside.hands ∙ crew.hands;
       wide = beside.wide ∙ crew.wide;
-      all = ap (λ (ps : List (Option Place)). length ps) t.taken.is ∙ (length-set _ _ (None) ∙ crew.all);
+      all = ap (λ (ps : List (Option TicketPlace)). length ps) t.taken.is ∙ (length-set _ _ (None) ∙ crew.all);
       free = answered_free _ _ _ _ _ _ _ crew.free t.taken t.answered;
     }
 

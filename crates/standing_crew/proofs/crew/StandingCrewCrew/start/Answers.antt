@@ -1,6 +1,6 @@
 use Rattle.std.proofs.Common.{◌∙◌, ap, List, length, length-set}
 use Rattle.std.specs.Prelude.{Option, Some}
-use Rattle.standing_crew.specs.declared.place.Place.{Place}
+use Rattle.standing_crew.specs.declared.place.TicketPlace.{TicketPlace}
 use Rattle.partition_workers.proofs.Puts.{put_more}
 use Rattle.partition_workers.proofs.Tellings.{start_tells, told_are_out}
 use Rattle.standing_crew.specs.Crews.{is_unlisted}
@@ -19,7 +19,7 @@ invariant_of-self g c =
       idle = beside.taken ∙ crew.idle;
       hands = beside.hands ∙ crew.hands;
       wide = beside.wide ∙ crew.wide;
-      all = ap (λ (ps : List (Option Place)). length ps) t.put.is ∙ (length-set _ _ (Some t.place) ∙ crew.all);
+      all = ap (λ (ps : List (Option TicketPlace)). length ps) t.put.is ∙ (length-set _ _ (Some t.place) ∙ crew.all);
       free = begun_free _ _ _ _ _ _ _ _ crew.free t.put t.begun;
     }
 

@@ -6,7 +6,7 @@ use Rattle.std.proofs.lemmas.List.{length-take-le}
 use Rattle.std.proofs.lemmas.List.Elements.{All-from_recursion}
 use Rattle.road_time.specs.Day.{given}
 use Rattle.expressway.specs.declared.finding.Finding.{Finding}
-use Rattle.expressway.specs.Kept.{Kept}
+use Rattle.expressway.specs.Kept.{KeptWays}
 use Rattle.expressway.specs.Findings.{shown}
 use Rattle.watermark.specs.Steps.{after_back}
 use Rattle.watermark.specs.Sound.{AreFresh, ReportAt, IsSound}
@@ -47,7 +47,7 @@ returns-clause-back c = λ g s st may.
     let fresh = fresh_back f.inboxes.width f.limits s worker c.args.done.number fs st.sound may.can in
     let long : length (take s.settled s.fed) ≡ f.settled = length-take-le s.settled s.fed st.sound.settled
     ∙ sym st.settled in
-    let back : List (Option Kept) = c.bring_home.new.homes.items in
+    let back : List (Option KeptWays) = c.bring_home.new.homes.items in
     record {
       terms = subst (λ n. AreTerms n f.limits) (sym width) st.terms;
       sound = subst (λ n. IsSound n f.limits (after_back s worker fs)) (sym width)

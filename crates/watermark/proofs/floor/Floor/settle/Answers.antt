@@ -2,7 +2,7 @@ use Rattle.std.proofs.Common.{◌≡◌, ℕ, ◌+◌, ◌-◌, ◌≤◌, lengt
 use Rattle.std.specs.VecDeque.{deque_len}
 use Rattle.road_time.specs.Day.{given}
 use Rattle.settling.specs.Answers.{history_of}
-use Rattle.settling.specs.Boards.{IsAbreast, Publishes, posted_if}
+use Rattle.settling.specs.Boards.{IsAbreast, PublishesStep, posted_if}
 use Rattle.settling.specs.Slots.{slots_of}
 use Rattle.settling.specs.Levels.{Level}
 use Rattle.settling.specs.Runs.{WritesRun, WritesSomeOfRun, TakesRun, StopsRun, StandsFor as SettlerStandsFor}
@@ -218,7 +218,7 @@ returns-in-Err-clause-published g c = λ e s st number history.
     let few = subst (λ n. n ≤ length (drop s.settled s.fed)) (sym count) (few_rest e f s st held) in
     let day = on_day e f s st held c.args.day (history_of (g.K.Keeper.told c.args.keeper.now)) number history in
     as_published e f s st held (c.least-mark.result - f.settled) count
-    (λ k cs m. Publishes {T = ℕ} (Err c.in-Err.fault) k cs m (g.P.Publisher.posted c.args.publisher.now)
+    (λ k cs m. PublishesStep {T = ℕ} (Err c.in-Err.fault) k cs m (g.P.Publisher.posted c.args.publisher.now)
     (g.P.Publisher.posted c.settle.new.publisher))
     (c.in-Err.ensures.published (given s.found) (take s.settled s.fed) (drop s.settled s.fed) day
     (waits e f s st held) few)

@@ -1,11 +1,11 @@
 // The command `past BASE`: the amounts of the 69 days before a day, which are kept from then on.
 ghost use Rattle.std.specs.Prelude.{◌≡◌, ◌≢◌, ◌≤◌, [], ℕ, List, Some};
 ghost use Rattle.keeper.specs.Office.{Office};
-ghost use Rattle.day_reading.specs.Days.{ReadsWithin};
+ghost use Rattle.road_io.specs.Within.{ReadsWithin};
 ghost use Rattle.past_file.specs.Imports.{NeedsNone, PutsPast, most_kept, most_past};
 ghost use Rattle.past_file.specs.declared.outcomes.PastOutcome.TheVariants as outcome;
-ghost use Rattle.office_commands.specs.Commands.{past_closing, history_row};
-ghost use Rattle.office_commands.specs.Endings.{StandsBefore, Holds, sort_of, KeepsBy};
+ghost use Rattle.office_commands.specs.Commands.{past_closing, history_command};
+ghost use Rattle.office_commands.specs.Endings.{StandsBefore, HoldsSame, sort_of, KeepsBy};
 ghost use Rattle.office_commands.specs.Closings.{status_of};
 ghost use Rattle.office_commands.specs.Rests.{HasReadPast, ReadsUncompared};
 ghost use Rattle.office_commands.specs.declared.closing.Closing.TheVariants.{ReadFault, KeeperFault, Words};
@@ -56,15 +56,15 @@ pub fn past<S: Source, K: Keeper, R: Threads>(
 ) -> Closing
     requires low { 70 ≤ base }
     ensures exact { (bytes : List ℕ) (o : Office) → S.left source.old ≡ Some bytes → K.told keeper.old ≡ Some o
-        → StandsBefore (history_row limits.now base bytes o) result [] }
+        → StandsBefore (history_command limits.now base bytes o) result [] }
     ensures keeps { (bytes : List ℕ) (o : Office) → S.left source.old ≡ Some bytes → K.told keeper.old ≡ Some o
-        → KeepsBy (sort_of result) K.refuses (history_row limits.now base bytes o) o (K.told keeper.new) }
+        → KeepsBy (sort_of result) K.refuses (history_command limits.now base bytes o) o (K.told keeper.new) }
     ensures rest { (bytes : List ℕ) (o : Office) → S.left source.old ≡ Some bytes → K.told keeper.old ≡ Some o
         → HasReadPast limits.now base (status_of result) o.past bytes (S.left source.new) }
     ensures uncompared { ReadsUncompared (most_past limits.now) (status_of result)
         (S.left source.old) (S.left source.new) }
     ensures puts { (o : Office) → K.told keeper.old ≡ Some o → PutsPast base o (K.told keeper.new) }
-    ensures held { Holds (status_of result) (K.told keeper.new ≡ K.told keeper.old) }
+    ensures held { HoldsSame (status_of result) (K.told keeper.new ≡ K.told keeper.old) }
     ensures unread { (o : Office) → K.told keeper.old ≡ Some o → NeedsNone o.past base o → source.new ≡ source.old }
     ensures said { result ≢ Words }
     ensures bounded { (o : Office) → K.told keeper.old ≡ Some o

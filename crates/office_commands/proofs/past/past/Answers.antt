@@ -1,8 +1,8 @@
 use Rattle.std.proofs.Common.{◌≡◌}
-use Rattle.day_reading.specs.Days.{ReadsWithin}
+use Rattle.road_io.specs.Within.{ReadsWithin}
 use Rattle.past_file.specs.Imports.{past_answer, most_past}
 use Rattle.office_commands.proofs.HistoryLaws.{past_stands, past_keeps, past_rest, past_held, past_alone}
-use Rattle.office_commands.proofs.history.past.Goals as goal
+use Rattle.office_commands.proofs.past.past.Goals as goal
 
 pub returns-clause-exact : goal.returns-clause-exact
 returns-clause-exact g c = λ bytes o left told.

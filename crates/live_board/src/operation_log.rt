@@ -6,9 +6,9 @@ use std::marker::Model;
 use std::snapshot::Snapshot;
 
 /// An operation, as the history has it. No value of it is made.
-pub struct Entry {}
+pub struct Logged {}
 
-impl Model for Entry {
+impl Model for Logged {
     ghost use Rattle.accounts.specs.Operations.{Operation, Begin};
     ghost use Rattle.live_board.specs.Codes.{operation_code};
 
@@ -20,12 +20,12 @@ impl Model for Entry {
 }
 
 /// The rule of a history.
-pub struct History;
+pub struct OperationLog;
 
-impl Rule<Entry, u64> for History {
+impl Rule<Logged, u64> for OperationLog {
     ghost use Rattle.std.specs.Prelude.{[]};
     ghost use base.Fml.{ftrue};
-    ghost use Rattle.live_board.specs.History.{Counted};
+    ghost use Rattle.live_board.specs.OperationLog.{Counted};
 
     ghost holds = { λ cells log. Counted cells log };
 
@@ -41,12 +41,12 @@ impl Rule<Entry, u64> for History {
 }
 
 /// The word that counts a history.
-pub type Head = Word<Entry, u64, History>;
+pub type Head = Word<Logged, u64, OperationLog>;
 
 /// Nothing is traded.
 pub struct Nothing;
 
-impl Gain<Entry, u64> for Nothing {
+impl Gain<Logged, u64> for Nothing {
     ghost use base.Fml.{ftrue};
 
     ghost after = { λ names about answer. ftrue };
@@ -55,13 +55,13 @@ impl Gain<Entry, u64> for Nothing {
 /// A step that adds a change's operation.
 pub struct Add;
 
-impl Play<Entry, u64> for Add {
-    ghost use Rattle.live_board.specs.History.{Adds};
+impl Play<Logged, u64> for Add {
+    ghost use Rattle.live_board.specs.OperationLog.{AddsSeen};
 
-    ghost then = { Adds };
+    ghost then = { AddsSeen };
 }
 
-impl Plain<Snapshot<Change>, Entry, u64> for Add {
+impl Plain<Snapshot<Change>, Logged, u64> for Add {
     ghost use Rattle.std.specs.Prelude.{None};
     ghost use Rattle.live_board.specs.Changes.{operation_of};
 
