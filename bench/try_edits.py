@@ -5,8 +5,8 @@
 
 Each is a must-fail edit of its crate, in the form of those of `crates/CRATE/must-fail`. The repository is copied to a new
 folder, where the edits of the crates that are named, or of all, take the place of the gate's, and `rt ci CRATE..` tries them
-there. A crate that an earlier `rt ci` on this machine proved is not proved again. The script ends with status 1 where an
-edit is not refused, or cannot be read or applied.
+there, or `rt must-fail CRATE..` in a kit whose `rt ci` takes no name. Where the kit keeps what an `rt ci` proved, a crate is
+not proved again. The script ends with status 1 where an edit is not refused, or cannot be read or applied.
 """
 import pathlib
 import re
@@ -26,6 +26,12 @@ def copied(to, names):
         shutil.copytree(EDITS / name, to / "crates" / name / "must-fail")
 
 
+def command(names):
+    """What tries the edits of these crates with the kit that is here."""
+    told = subprocess.run(["rt", "help"], text=True, stdout=subprocess.PIPE, stderr=subprocess.STDOUT).stdout
+    return ["rt", "ci" if re.search(r"^ *rt ci .*NAME", told, re.M) else "must-fail", *names]
+
+
 def main():
     names = sys.argv[1:] or sorted(it.name for it in EDITS.iterdir() if it.is_dir())
     lacking = [it for it in names if not (EDITS / it).is_dir()]
@@ -36,7 +42,7 @@ def main():
         to = pathlib.Path(folder) / "copy"
         copied(to, names)
         subprocess.run(["git", "init", "-q"], cwd=to, check=True)
-        ran = subprocess.run(["rt", "ci", *names], cwd=to, text=True, stdout=subprocess.PIPE, stderr=subprocess.STDOUT)
+        ran = subprocess.run(command(names), cwd=to, text=True, stdout=subprocess.PIPE, stderr=subprocess.STDOUT)
     told = [line for line in ran.stdout.splitlines() if re.match(r"(rt: )?must-fail ", line)]
     print("\n".join(told))
     refused = sum("refused, as it must be" in line for line in told)

@@ -1,12 +1,11 @@
 -- what is kept, at first and at a later second
-use Rattle.std.proofs.Common.{◌≡◌, ℕ, ◌≤◌, ◌<◌, ◌==◌, ◌&&◌, nat_eq, nat_le, not, ⊎_elim, Bool, true, false, []}
-use Rattle.std.proofs.Common.{cond, List, ◌∷◌, ◌++◌, refl, sym, ap, ◌∙◌, arith, unwrap_or, Option, Some}
+use Rattle.std.proofs.Common.{◌≡◌, ℕ, ◌≤◌, ◌<◌, ◌==◌, ◌&&◌, nat_eq, nat_le, not, ⊎_elim, Bool, true, false, [], cond}
+use Rattle.std.proofs.Common.{List, ◌∷◌, ◌++◌, refl, sym, ap, ◌∙◌, arith, unwrap_or, Option, Some}
 use Rattle.std.specs.List.{list_any, AllByRecursion, IsDistinct}
 use Rattle.std.proofs.lemmas.List.{append-nil}
-use Rattle.std.proofs.lemmas.List.Elements.{recursion_from_All}
-use Rattle.std.proofs.lemmas.List.Elements.{filter-append}
-use Rattle.std.proofs.lemmas.Bool.{cond-true, cond-false, and_parts, and_from, or_cases, not_from_false}
-use Rattle.std.proofs.lemmas.Bool.{le-leb, lt-leb, leb-true, eqb-true, false≢true}
+use Rattle.std.proofs.lemmas.List.Elements.{recursion_from_All, filter-append}
+use Rattle.std.proofs.lemmas.Bool.{cond-true, cond-false, and_parts, and_from, or_cases, not_from_false, le-leb, lt-leb}
+use Rattle.std.proofs.lemmas.Bool.{leb-true, eqb-true, false≢true}
 use Rattle.road_time.specs.declared.road.Stretch.{Stretch}
 use Rattle.road_time.specs.declared.road.Place.{Place}
 use Rattle.road_time.specs.Tuples.{stretch_around, same_stretch, same_place}
@@ -17,10 +16,9 @@ use Rattle.road_time.proofs.AccidentLaws.{both}
 use Rattle.road_time.proofs.StandLaws.{found, given, standing_among}
 use Rattle.accidents.specs.declared.spell.Spell.{Spell}
 use Rattle.accidents.specs.History.{IsHistory}
-use Rattle.accidents.specs.Kept.{has_stopped, count_of, spell_of}
+use Rattle.accidents.specs.Kept.{has_stopped, how_many_at, spell_of}
 use Rattle.accidents.specs.Stands.{Stand, is_crowded}
-use Rattle.accidents.proofs.Counts.{counted_one, one_counted, counted_two}
-use Rattle.accidents.proofs.Counts.{two_counted}
+use Rattle.accidents.proofs.Counts.{counted_one, one_counted, counted_two, two_counted}
 use Rattle.accidents.proofs.Spells.{history_later}
 
 -- numbers that test as the same are equal
@@ -55,8 +53,7 @@ accident_two es k h =
 
 -- two vehicles that stand at one place of the stretch are an accident
 two_accident : (es : List StopEntry) (k : Stretch) (p : Place) (v w : ℕ) → same_stretch (stretch_around p) k ≡ true →
-    nat_eq v w ≡ false → is_standing es v p ≡ true → is_standing es w p ≡ true →
-    has_accident (standing es) k ≡ true
+    nat_eq v w ≡ false → is_standing es v p ≡ true → is_standing es w p ≡ true → has_accident (standing es) k ≡ true
 two_accident es k p v w here apart first second =
     given (λ x. same_stretch (stretch_around x.1) k && shares (standing es) x) (standing es) (v, p)
     (and_from (same_stretch (stretch_around p) k) (shares (standing es) (v, p)) here
@@ -130,7 +127,7 @@ spell_none k = record {
 }
 
 -- nobody stands
-pub stand_new : Stand 0 (has_stopped []) (count_of []) (spell_of []) []
+pub stand_new : Stand 0 (has_stopped []) (how_many_at []) (spell_of []) []
 unfolding IsDistinct
 stand_new = record {
   none_after = λ i d h. absurd (omega arith);

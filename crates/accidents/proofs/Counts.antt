@@ -4,7 +4,7 @@ use Rattle.std.proofs.Common.{refl, sym, ap, ◌∙◌, arith}
 use Rattle.std.specs.List.{list_any, IsDistinct, AllByRecursion}
 use Rattle.std.proofs.lemmas.Bool.{cases_Bool, or_cases, or_left, or_right, or_from, false≢true}
 use Rattle.std.proofs.lemmas.Map.Keys.{IsDistinct-head, IsDistinct-tail, IsDistinct-cons}
-use Rattle.accidents.specs.Counted.{IsCounted}
+use Rattle.accidents.specs.Counted.{AreSoMany}
 
 -- neither of two, where not one or the other
 pub split_or : (a b : Bool) → (a || b) ≡ false → (a ≡ false) × (b ≡ false)
@@ -46,8 +46,8 @@ module _ {X : Type 0} (same : X → X → Bool) (is : (x y : X) → same x y ≡
       by_cases false b = refl
 
   -- one more
-  pub counted_more : (test after : X → Bool) (n : ℕ) (x : X) → IsCounted same test n → test x ≡ false →
-      ((y : X) → after y ≡ cond (same x y) true (test y)) → IsCounted same after (n + 1)
+  pub counted_more : (test after : X → Bool) (n : ℕ) (x : X) → AreSoMany same test n → test x ≡ false →
+      ((y : X) → after y ≡ cond (same x y) true (test y)) → AreSoMany same after (n + 1)
   counted_more test after n x h new step = record {
     members = x ∷ h.members;
     distinct = IsDistinct-cons same x h.members (none_of x h.members (h.each x ∙ new)) h.distinct;
@@ -121,8 +121,8 @@ module _ {X : Type 0} (same : X → X → Bool) (is : (x y : X) → same x y ≡
       (cases_Bool (same x y))
 
   -- one less
-  pub counted_less : (test after : X → Bool) (n : ℕ) (x : X) → IsCounted same test n → test x ≡ true →
-      ((y : X) → after y ≡ cond (same x y) false (test y)) → IsCounted same after (n - 1)
+  pub counted_less : (test after : X → Bool) (n : ℕ) (x : X) → AreSoMany same test n → test x ≡ true →
+      ((y : X) → after y ≡ cond (same x y) false (test y)) → AreSoMany same after (n - 1)
   counted_less test after n x h there step = record {
     members = take_out x h.members;
     distinct = out_distinct x h.members h.distinct;
@@ -131,8 +131,8 @@ module _ {X : Type 0} (same : X → X → Bool) (is : (x y : X) → same x y ≡
   }
 
   -- the same ones
-  pub counted_same : (test after : X → Bool) (n m : ℕ) → IsCounted same test n → n ≡ m → ((y : X) → after y ≡ test y) →
-      IsCounted same after m
+  pub counted_same : (test after : X → Bool) (n m : ℕ) → AreSoMany same test n → n ≡ m → ((y : X) → after y ≡ test y) →
+      AreSoMany same after m
   counted_same test after n m h e step =
       record { members = h.members; distinct = h.distinct; each = λ y. h.each y ∙ sym (step y); many = h.many ∙ e }
 
@@ -142,7 +142,7 @@ module _ {X : Type 0} (same : X → X → Bool) (is : (x y : X) → same x y ≡
   first_of (x ∷ xs) h = (x, or_left (same x x) (list_any (same x) xs) (itself x))
 
   -- one of those that are counted
-  pub counted_one : (test : X → Bool) (n : ℕ) → IsCounted same test n → 1 ≤ n → (x : X) × (test x ≡ true)
+  pub counted_one : (test : X → Bool) (n : ℕ) → AreSoMany same test n → 1 ≤ n → (x : X) × (test x ≡ true)
   counted_one test n h g = let w = first_of h.members (let e = h.many in omega (arith, e)) in
       (w.0, sym (h.each w.0) ∙ w.1)
 
@@ -152,7 +152,7 @@ module _ {X : Type 0} (same : X → X → Bool) (is : (x y : X) → same x y ≡
   some_length x (y ∷ ys) h = omega arith
 
   -- where one passes, at least one is counted
-  pub one_counted : (test : X → Bool) (n : ℕ) (x : X) → IsCounted same test n → test x ≡ true → 1 ≤ n
+  pub one_counted : (test : X → Bool) (n : ℕ) (x : X) → AreSoMany same test n → test x ≡ true → 1 ≤ n
   one_counted test n x h e = let m = h.many in let l = some_length x h.members (h.each x ∙ e) in omega (arith, m, l)
 
   -- two of a list of two or more, each there once
@@ -169,7 +169,7 @@ module _ {X : Type 0} (same : X → X → Bool) (is : (x y : X) → same x y ≡
   )
 
   -- two of those that are counted
-  pub counted_two : (test : X → Bool) (n : ℕ) → IsCounted same test n → 2 ≤ n → (x : X) × (y : X) × (same x y ≡ false)
+  pub counted_two : (test : X → Bool) (n : ℕ) → AreSoMany same test n → 2 ≤ n → (x : X) × (y : X) × (same x y ≡ false)
       × (test x ≡ true) × (test y ≡ true)
   counted_two test n h g =
       let w = two_of h.members h.distinct (let e = h.many in omega (arith, e)) in
@@ -188,7 +188,7 @@ module _ {X : Type 0} (same : X → X → Bool) (is : (x y : X) → same x y ≡
   both_length x y (z ∷ w ∷ zs) e f g = omega arith
 
   -- where two pass, at least two are counted
-  pub two_counted : (test : X → Bool) (n : ℕ) (x y : X) → IsCounted same test n → same x y ≡ false → test x ≡ true →
+  pub two_counted : (test : X → Bool) (n : ℕ) (x y : X) → AreSoMany same test n → same x y ≡ false → test x ≡ true →
       test y ≡ true → 2 ≤ n
   two_counted test n x y h e f g = let m = h.many in let l =
       both_length x y h.members e (h.each x ∙ f) (h.each y ∙ g) in omega (arith, m, l)

@@ -1,9 +1,8 @@
 -- what is kept, after one more entry
-use Rattle.std.proofs.Common.{◌≡◌, ℕ, ◌+◌, ◌-◌, ◌≤◌, ◌==◌, ◌&&◌, nat_eq, nat_le, ⊎_elim, Bool, true, false, []}
-use Rattle.std.proofs.Common.{cond, List, ◌∷◌, ◌++◌, refl, sym, ap, ◌∙◌, arith, subst}
+use Rattle.std.proofs.Common.{◌≡◌, ℕ, ◌+◌, ◌-◌, ◌≤◌, ◌==◌, ◌&&◌, nat_eq, nat_le, ⊎_elim, Bool, true, false, [], cond}
+use Rattle.std.proofs.Common.{List, ◌∷◌, ◌++◌, refl, sym, ap, ◌∙◌, arith, subst}
 use Rattle.std.proofs.lemmas.List.Elements.{All-push}
-use Rattle.std.proofs.lemmas.Bool.{cases_Bool, cond-true, cond-false, and_parts, and_from}
-use Rattle.std.proofs.lemmas.Bool.{eqb-true}
+use Rattle.std.proofs.lemmas.Bool.{cases_Bool, cond-true, cond-false, and_parts, and_from, eqb-true}
 use Rattle.std.proofs.lemmas.Bool.Decides.{nat_tests}
 use Rattle.road_time.specs.declared.road.Stretch.{Stretch}
 use Rattle.road_time.specs.declared.road.Place.{Place}
@@ -13,7 +12,7 @@ use Rattle.road_time.specs.Entries.{StopEntry, is_standing, standing, standing_a
 use Rattle.road_time.proofs.SameLaws.{stretch_is, place_is, place_same, number_same}
 use Rattle.road_time.proofs.EntryLaws.{standing_push}
 use Rattle.accidents.specs.declared.spell.Spell.{Spell}
-use Rattle.accidents.specs.Counted.{IsCounted}
+use Rattle.accidents.specs.Counted.{AreSoMany}
 use Rattle.accidents.specs.History.{IsHistory}
 use Rattle.accidents.specs.Stands.{Stand, is_crowded}
 use Rattle.accidents.proofs.Counts.{counted_more, counted_less, counted_same}
@@ -77,8 +76,8 @@ module _ (second : ℕ) (has : Place → ℕ → Bool) (count : Place → ℕ) (
           and_false false = refl
 
       -- an entry that changes who stands
-      stand_changed : ((p : Place) → IsCounted nat_eq (has' p) (count' p)) →
-          ((k : Stretch) → IsCounted same_place (is_crowded count' k) (spell' k).places) →
+      stand_changed : ((p : Place) → AreSoMany nat_eq (has' p) (count' p)) →
+          ((k : Stretch) → AreSoMany same_place (is_crowded count' k) (spell' k).places) →
           Stand second has' count' spell' (es ++ entry ∷ [])
       stand_changed counts places = record {
         none_after = All-push (λ e. e.second ≤ second) es entry st.none_after (omega arith);
@@ -106,7 +105,7 @@ module _ (second : ℕ) (has : Place → ℕ → Bool) (count : Place → ℕ) (
 
       -- in another stretch
       places_there : (n : ℕ) → ((p : Place) → count' p ≡ cond (same_place place p) n (count p)) → (k : Stretch) →
-          same_stretch (stretch_around place) k ≡ false → IsCounted same_place (is_crowded count' k) (spell' k).places
+          same_stretch (stretch_around place) k ≡ false → AreSoMany same_place (is_crowded count' k) (spell' k).places
       places_there n now k e =
           counted_same same_place place_is place_same (is_crowded count k) (is_crowded count' k) (spell k).places
           (spell' k).places (st.places k) (ap (λ s. s.places) (sym (others k e)))
@@ -133,9 +132,8 @@ module _ (second : ℕ) (has : Place → ℕ → Bool) (count : Place → ℕ) (
 
       -- whether the place is crowded changed or not
       places_here : (n m : ℕ) → ((p : Place) → count' p ≡ cond (same_place place p) n (count p)) →
-          (spell' here).places ≡ m →
-          (nat_le 2 n ≡ nat_le 2 (count place) → m ≡ (spell here).places →
-          IsCounted same_place (is_crowded count' here) (spell' here).places)
+          (spell' here).places ≡ m → (nat_le 2 n ≡ nat_le 2 (count place) → m ≡ (spell here).places →
+          AreSoMany same_place (is_crowded count' here) (spell' here).places)
       places_here n m now e same less =
           counted_same same_place place_is place_same (is_crowded count here) (is_crowded count' here)
           (spell here).places (spell' here).places (st.places here) (sym (e ∙ less))
@@ -190,7 +188,7 @@ module _ (second : ℕ) (has : Place → ℕ → Bool) (count : Place → ℕ) (
           (λ e. places_there has' count' spell' put others_at past_at (count place + 1) now j e)
           (cases_Bool (same_stretch (stretch_around place) j)))
         where
-          counts_here : IsCounted nat_eq (has' place) (count' place)
+          counts_here : AreSoMany nat_eq (has' place) (count' place)
           counts_here =
               counted_same nat_eq number_is number_same (has' place) (has' place) (count place + 1) (count' place)
               (counted_more nat_eq number_is number_same (has place) (has' place) (count place) vid
@@ -200,7 +198,7 @@ module _ (second : ℕ) (has : Place → ℕ → Bool) (count : Place → ℕ) (
               (sym (now place ∙ cond-true (same_place place place) (count place + 1) (count place) (place_same place)))
               (λ v. refl)
 
-          counts_there : (p : Place) → same_place place p ≡ false → IsCounted nat_eq (has' p) (count' p)
+          counts_there : (p : Place) → same_place place p ≡ false → AreSoMany nat_eq (has' p) (count' p)
           counts_there p e =
               counted_same nat_eq number_is number_same (has p) (has' p) (count p) (count' p) (st.counts p)
               (sym (now p ∙ cond-false (same_place place p) (count place + 1) (count p) e))
@@ -210,7 +208,7 @@ module _ (second : ℕ) (has : Place → ℕ → Bool) (count : Place → ℕ) (
               (nat_eq (count place) 1) 1 0
           more_at = subst (λ x. (spell' x).places ≡ (spell x).places + cond (nat_eq (count place) 1) 1 0) at more
 
-          places_now : IsCounted same_place (is_crowded count' (stretch_around place))
+          places_now : AreSoMany same_place (is_crowded count' (stretch_around place))
               (spell' (stretch_around place)).places
           places_now =
               ⊎_elim
@@ -248,7 +246,7 @@ module _ (second : ℕ) (has : Place → ℕ → Bool) (count : Place → ℕ) (
           (λ e. places_there has' count' spell' put others_at past_at (count place - 1) now j e)
           (cases_Bool (same_stretch (stretch_around place) j)))
         where
-          counts_here : IsCounted nat_eq (has' place) (count' place)
+          counts_here : AreSoMany nat_eq (has' place) (count' place)
           counts_here =
               counted_same nat_eq number_is number_same (has' place) (has' place) (count place - 1) (count' place)
               (counted_less nat_eq number_is number_same (has place) (has' place) (count place) vid
@@ -258,7 +256,7 @@ module _ (second : ℕ) (has : Place → ℕ → Bool) (count : Place → ℕ) (
               (sym (now place ∙ cond-true (same_place place place) (count place - 1) (count place) (place_same place)))
               (λ v. refl)
 
-          counts_there : (p : Place) → same_place place p ≡ false → IsCounted nat_eq (has' p) (count' p)
+          counts_there : (p : Place) → same_place place p ≡ false → AreSoMany nat_eq (has' p) (count' p)
           counts_there p e =
               counted_same nat_eq number_is number_same (has p) (has' p) (count p) (count' p) (st.counts p)
               (sym (now p ∙ cond-false (same_place place p) (count place - 1) (count p) e))
@@ -268,7 +266,7 @@ module _ (second : ℕ) (has : Place → ℕ → Bool) (count : Place → ℕ) (
               (nat_eq (count place) 2) 1 0
           less_at = subst (λ x. (spell' x).places ≡ (spell x).places - cond (nat_eq (count place) 2) 1 0) at less
 
-          places_now : IsCounted same_place (is_crowded count' (stretch_around place))
+          places_now : AreSoMany same_place (is_crowded count' (stretch_around place))
               (spell' (stretch_around place)).places
           places_now =
               ⊎_elim

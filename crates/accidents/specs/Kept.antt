@@ -24,8 +24,8 @@ abbrev pub has_stopped : List Stopped → Place → ℕ → Bool
 has_stopped standing p v = list_any (same_stopped (record { vid = v; place = p })) standing
 
 -- how many vehicles are kept for the place
-abbrev pub count_of : List (Place × ℕ) → Place → ℕ
-count_of counts p = unwrap_or (lookup (same_place p) counts) 0
+abbrev pub how_many_at : List (Place × ℕ) → Place → ℕ
+how_many_at counts p = unwrap_or (lookup (same_place p) counts) 0
 
 -- what is kept of the stretch
 abbrev pub spell_of : List (Stretch × Spell) → Stretch → Spell

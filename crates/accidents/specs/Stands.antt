@@ -5,9 +5,9 @@ use Rattle.road_time.specs.Tuples.{stretch_around, same_stretch, same_place}
 use Rattle.road_time.specs.Stops.{has_accident}
 use Rattle.road_time.specs.Entries.{StopEntry, is_standing, standing_at}
 use Rattle.accidents.specs.declared.spell.Spell.{Spell}
-use Rattle.accidents.specs.Counted.{IsCounted}
+use Rattle.accidents.specs.Counted.{AreSoMany}
 use Rattle.accidents.specs.History.{IsHistory}
-use Rattle.accidents.specs.Kept.{KeptStops, has_stopped, count_of, spell_of}
+use Rattle.accidents.specs.Kept.{KeptStops, has_stopped, how_many_at, spell_of}
 
 -- two vehicles or more at a place of the stretch, by a count of each place
 abbrev pub is_crowded : (Place → ℕ) → Stretch → Place → Bool
@@ -21,10 +21,10 @@ pub record Stand (second : ℕ) (has : Place → ℕ → Bool) (count : Place �
     (entries : List StopEntry) : Type 0 where
   pub none_after : All (λ e. e.second ≤ second) entries
   pub standing : (p : Place) (v : ℕ) → has p v ≡ is_standing entries v p
-  pub counts : (p : Place) → IsCounted nat_eq (has p) (count p)
-  pub places : (k : Stretch) → IsCounted same_place (is_crowded count k) (spell k).places
+  pub counts : (p : Place) → AreSoMany nat_eq (has p) (count p)
+  pub places : (k : Stretch) → AreSoMany same_place (is_crowded count k) (spell k).places
   pub history : (k : Stretch) → IsHistory second (spell k) (λ t. has_accident (standing_at entries t) k)
 
 -- the object stands for the entries
 abbrev pub StandsFor : KeptStops → List StopEntry → Type 0
-StandsFor s entries = Stand s.second (has_stopped s.standing) (count_of s.counts) (spell_of s.spells) entries
+StandsFor s entries = Stand s.second (has_stopped s.standing) (how_many_at s.counts) (spell_of s.spells) entries

@@ -2,7 +2,7 @@
 ghost use Rattle.std.specs.Prelude.{◌≡◌, ◌-◌, if◌then◌else◌};
 ghost use Rattle.road_time.specs.Tuples.{same_place};
 ghost use Rattle.road_time.specs.declared.road.Place.{Place as PlaceValue};
-ghost use Rattle.accidents.specs.Kept.{count_of};
+ghost use Rattle.accidents.specs.Kept.{how_many_at};
 
 use indexmap::IndexMap;
 use road_time::Place;
@@ -16,15 +16,15 @@ pub struct Stopped {
 
 /// How many vehicles stand at the place.
 pub(crate) fn count_at(counts: &IndexMap<Place, u32>, place: Place) -> u32
-    ensures { result ≡ count_of counts.now.entries place }
+    ensures { result ≡ how_many_at counts.now.entries place }
 {
     counts.get(&place).copied().unwrap_or(0)
 }
 
 /// One vehicle less at the place.
 pub(crate) fn one_less(counts: &mut IndexMap<Place, u32>, place: Place)
-    ensures { (p : PlaceValue) → count_of counts.new.entries p ≡
-        (if same_place place p then count_of counts.old.entries place - 1 else count_of counts.old.entries p) }
+    ensures { (p : PlaceValue) → how_many_at counts.new.entries p ≡
+        (if same_place place p then how_many_at counts.old.entries place - 1 else how_many_at counts.old.entries p) }
 {
     let count = count_at(counts, place);
     if count < 2 {

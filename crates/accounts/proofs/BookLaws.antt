@@ -8,11 +8,12 @@ use Rattle.std.specs.Ordering.{nat_cmp}
 use Rattle.std.specs.Cmp.{nat_cmp_total, unsigned_tied, nat_eq_equiv}
 use Rattle.std.specs.FinMap.{FinMap, get, insert, find, nat_cmp-IsAntisymmetric, same_map, get-insert, get-from_entries}
 use Rattle.std.proofs.lemmas.Bool.{cond_both, eqb-true}
+use Rattle.road_time.specs.declared.tariff.TheConstants.{GREATEST_TOLL}
 use Rattle.accounts.specs.declared.vehicle.First.{First}
 use Rattle.accounts.specs.declared.vehicle.Vehicle.{Vehicle}
 use Rattle.accounts.specs.Sums.{SpentMap, amount_in, account_in, total_in, with_charge, same_owner, sum_at}
-use Rattle.accounts.specs.Entries.{vehicle_at, is_further, sum_on, first_sum, first_after, all_sums, looked_up}
-use Rattle.accounts.specs.Books.{Accounts, told_of, spent_of, IsSound}
+use Rattle.accounts.specs.Entries.{vehicle_at, is_further, sum_of_first, first_sum, first_after, all_sums, looked_up}
+use Rattle.accounts.specs.Books.{Accounts, told_of, spent_sums, IsBalanced}
 use Rattle.accounts.proofs.SumLaws.{account_more, total_more, account_none, total_none, account_few, amount_few}
 use Rattle.accounts.proofs.EntryLaws.{get_spent, spent_after, spent_same, all_apart, charged_up, parts_few}
 
@@ -73,7 +74,7 @@ entry_or o = unwrap_or o (record { told = 0; sum = 0; first = None })
 
 -- a new book is sound
 pub sound_new : (vs : List (ℕ × Vehicle)) (es : List ((ℕ × ℕ) × ℕ)) → vs ≡ [] → es ≡ [] → IsDistinct nat_eq (keys_of vs)
-    → IsSound vs es 0 0
+    → IsBalanced vs es 0 0
 sound_new vs es p q unique = record {
   unique = unique;
   apart = λ vid xway _. ap (lookup (same_owner (vid, xway))) q;
@@ -94,22 +95,22 @@ module _ (vs ws : List (ℕ × Vehicle)) (vid : ℕ) (is : Vehicle)
       (cond_both (nat_eq vid v) (Some is) (lookup (nat_eq v) vs) (λ o. P v (entry_or o))
       (λ t. subst (λ k. P k is) (eqb-true vid v t) here) (λ _. there v))
 
-  module _ (es : List ((ℕ × ℕ) × ℕ)) (total made : ℕ) (sound : IsSound vs es total made)
+  module _ (es : List ((ℕ × ℕ) × ℕ)) (total made : ℕ) (sound : IsBalanced vs es total made)
       (unique : IsDistinct nat_eq (keys_of ws)) (sum : is.sum ≡ (vehicle_at vs vid).sum)
       (first : is.first ≡ (vehicle_at vs vid).first) where
     -- a toll told leaves what was charged
-    pub spent_told : spent_of ws es ≡ spent_of vs es
+    pub spent_told : spent_sums ws es ≡ spent_sums vs es
     spent_told =
         spent_same vs ws es sound.unique unique (each_put (λ v e. e.first ≡ (vehicle_at vs v).first) first (λ v. refl))
 
     -- and a book sound
-    pub sound_told : is.told ≤ 500000000000 → IsSound ws es total made
+    pub sound_told : is.told ≤ GREATEST_TOLL → IsBalanced ws es total made
     sound_told few = record {
       unique = unique;
       apart = each_put (λ v e. (xway : ℕ) → is_further e.first xway ≡ false → lookup (same_owner (v, xway)) es ≡ None)
           (λ xway h. sound.apart vid xway (ap (λ f. is_further f xway) (sym first) ∙ h)) sound.apart;
-      told = each_put (λ v e. e.told ≤ 500000000000) few sound.told;
-      account = λ v. each_put (λ v e. e.sum ≡ account_in (spent_of vs es) v) (sum ∙ sound.account vid) sound.account v
+      told = each_put (λ v e. e.told ≤ GREATEST_TOLL) few sound.told;
+      account = λ v. each_put (λ v e. e.sum ≡ account_in (spent_sums vs es) v) (sum ∙ sound.account vid) sound.account v
           ∙ ap (λ m. account_in m v) (sym spent_told);
       whole = sound.whole ∙ ap total_in (sym spent_told);
       bound = sound.bound;
@@ -117,7 +118,7 @@ module _ (vs ws : List (ℕ × Vehicle)) (vid : ℕ) (is : Vehicle)
     }
 
 -- a book's sums are of owners apart
-pub sums_apart : (vs : List (ℕ × Vehicle)) (es : List ((ℕ × ℕ) × ℕ)) (total made : ℕ) → IsSound vs es total made →
+pub sums_apart : (vs : List (ℕ × Vehicle)) (es : List ((ℕ × ℕ) × ℕ)) (total made : ℕ) → IsBalanced vs es total made →
     IsDistinct same_owner (keys_of es) → IsDistinct same_owner (keys_of (all_sums vs es))
 sums_apart vs es total made sound further =
     all_apart vs es sound.unique further
@@ -142,25 +143,25 @@ first_stays (Some f) xway toll x n o apart h = stays_by (f.xway == xway) refl h
         cc)
         (λ _. apart g)
 
-module _ (vs : List (ℕ × Vehicle)) (es : List ((ℕ × ℕ) × ℕ)) (total made : ℕ) (sound : IsSound vs es total made)
+module _ (vs : List (ℕ × Vehicle)) (es : List ((ℕ × ℕ) × ℕ)) (total made : ℕ) (sound : IsBalanced vs es total made)
     (vid : ℕ) (was : Vehicle) (there : Some was ≡ lookup (nat_eq vid) vs) where
   -- the vehicle's entry
   entry_was : vehicle_at vs vid ≡ was
   entry_was = ap entry_or (sym there)
 
   -- what a vehicle was told is a toll
-  pub told_few : was.told ≤ 500000000000
-  told_few = subst (λ e. e.told ≤ 500000000000) entry_was (sound.told vid)
+  pub told_few : was.told ≤ GREATEST_TOLL
+  told_few = subst (λ e. e.told ≤ GREATEST_TOLL) entry_was (sound.told vid)
 
   -- its sum is its account
-  pub sum_is : was.sum ≡ account_in (spent_of vs es) vid
+  pub sum_is : was.sum ≡ account_in (spent_sums vs es) vid
   sum_is = ap (λ e. e.sum) (sym entry_was) ∙ sound.account vid
 
   -- which the charges made bound
-  pub sum_few : was.sum ≤ 500000000000 * made
+  pub sum_few : was.sum ≤ GREATEST_TOLL * made
   sum_few =
       let is = sum_is in
-      let few = account_few (spent_of vs es) vid in
+      let few = account_few (spent_sums vs es) vid in
       let whole = sound.whole in
       let bound = sound.bound in
       omega (arith, is, few, whole, bound)
@@ -175,14 +176,14 @@ module _ (vs : List (ℕ × Vehicle)) (es : List ((ℕ × ℕ) × ℕ)) (total m
 
   module _ (few : made < 16000000) (xway : ℕ) where
     -- a sum on an expressway is bounded too
-    amount_most : unwrap_or (sum_on was.first xway (lookup (same_owner (vid, xway)) es)) 0 ≤ 500000000000 * made
+    amount_most : unwrap_or (sum_of_first was.first xway (lookup (same_owner (vid, xway)) es)) 0 ≤ GREATEST_TOLL * made
     amount_most =
-        let found : amount_in (spent_of vs es) vid xway ≡ unwrap_or (looked_up vs es (vid, xway)) 0 =
+        let found : amount_in (spent_sums vs es) vid xway ≡ unwrap_or (looked_up vs es (vid, xway)) 0 =
         ap (λ o. unwrap_or o 0) (get_spent vs es sound.unique (vid, xway)) in
         let is : unwrap_or (looked_up vs es (vid, xway)) 0 ≡ unwrap_or
-        (sum_on was.first xway (lookup (same_owner (vid, xway)) es)) 0 =
-        ap (λ e. unwrap_or (sum_on e.first xway (lookup (same_owner (vid, xway)) es)) 0) entry_was in
-        let most = amount_few (spent_of vs es) vid xway in
+        (sum_of_first was.first xway (lookup (same_owner (vid, xway)) es)) 0 =
+        ap (λ e. unwrap_or (sum_of_first e.first xway (lookup (same_owner (vid, xway)) es)) 0) entry_was in
+        let most = amount_few (spent_sums vs es) vid xway in
         let whole = sound.whole in
         let bound = sound.bound in
         omega (arith, found, is, most, whole, bound)
@@ -210,12 +211,12 @@ module _ (vs : List (ℕ × Vehicle)) (es : List ((ℕ × ℕ) × ℕ)) (total m
         (sums : (q : ℕ × ℕ) → lookup (same_owner q) fs ≡ cond (is_further was.first xway && same_owner (vid, xway) q)
         (Some (sum_at es (vid, xway) + was.told)) (lookup (same_owner q) es)) where
       -- a charge, as the entries take it
-      pub spent_charged : spent_of ws fs ≡ with_charge (spent_of vs es)
+      pub spent_charged : spent_sums ws fs ≡ with_charge (spent_sums vs es)
           (record { vid = vid; xway = xway; toll = was.told })
       spent_charged =
           spent_after vs ws es fs sound.unique unique (vid, xway) (unwrap_or (looked_up vs es (vid, xway)) 0 + was.told)
           (charged_up vs ws es fs vid xway was.told was is there first (was_apart xway) vehicles sums)
-          ∙ ap (λ o. insert (spent_of vs es) (vid, xway) (unwrap_or o 0 + was.told))
+          ∙ ap (λ o. insert (spent_sums vs es) (vid, xway) (unwrap_or o 0 + was.told))
           (sym (get_spent vs es sound.unique (vid, xway)))
 
       -- what the first charge's entry keeps stands nowhere else after it
@@ -240,29 +241,29 @@ module _ (vs : List (ℕ × Vehicle)) (es : List ((ℕ × ℕ) × ℕ)) (total m
               and_false false = refl
 
       -- the account of each vehicle with the charge
-      sum_each : (v : ℕ) → (vehicle_at ws v).sum ≡ account_in (spent_of vs es) v + cond (vid == v) was.told 0
+      sum_each : (v : ℕ) → (vehicle_at ws v).sum ≡ account_in (spent_sums vs es) v + cond (vid == v) was.told 0
       sum_each v =
           ap (λ o. (entry_or o).sum) (vehicles v) ∙ sum_by (nat_eq vid v) refl
         where
-          sum_by : (b : Bool) → nat_eq vid v ≡ b →
-              (entry_or (cond b (Some is) (lookup (nat_eq v) vs))).sum ≡ account_in (spent_of vs es) v + cond b was.told
+          sum_by : (b : Bool) → nat_eq vid v ≡ b → (entry_or (cond b (Some is) (lookup (nat_eq v) vs))).sum ≡
+              account_in (spent_sums vs es) v + cond b was.told
               0
-          sum_by true e = let mine : was.sum ≡ account_in (spent_of vs es) v =
-              sum_is ∙ ap (account_in (spent_of vs es)) (eqb-true vid v e) in omega (arith, mine, sum)
+          sum_by true e = let mine : was.sum ≡ account_in (spent_sums vs es) v =
+              sum_is ∙ ap (account_in (spent_sums vs es)) (eqb-true vid v e) in omega (arith, mine, sum)
           sum_by false e = let theirs = sound.account v in omega (arith, theirs)
 
       -- a book with one charge more is sound
-      pub sound_charged : IsSound ws fs (total + was.told) (made + 1)
+      pub sound_charged : IsBalanced ws fs (total + was.told) (made + 1)
       sound_charged = record {
         unique = unique;
         apart = charged_apart;
-        told = each_put vs ws vid is vehicles (λ v e. e.told ≤ 500000000000)
-            (subst (λ n. n ≤ 500000000000) (sym told) told_few) sound.told;
+        told = each_put vs ws vid is vehicles (λ v e. e.told ≤ GREATEST_TOLL)
+            (subst (λ n. n ≤ GREATEST_TOLL) (sym told) told_few) sound.told;
         account = λ v. sum_each v
-            ∙ (sym (account_more (spent_of vs es) (record { vid = vid; xway = xway; toll = was.told }) v)
+            ∙ (sym (account_more (spent_sums vs es) (record { vid = vid; xway = xway; toll = was.told }) v)
             ∙ ap (λ m. account_in m v) (sym spent_charged));
         whole = ap (λ n. n + was.told) sound.whole
-            ∙ (sym (total_more (spent_of vs es) (record { vid = vid; xway = xway; toll = was.told }))
+            ∙ (sym (total_more (spent_sums vs es) (record { vid = vid; xway = xway; toll = was.told }))
             ∙ ap total_in (sym spent_charged));
         bound = let a = sound.bound in let b = told_few in omega (arith, a, b);
         few = omega (arith, few);

@@ -11,9 +11,9 @@ use Rattle.std.proofs.lemmas.Map.Keys.{IsDistinct-head, IsDistinct-tail, IsDisti
 use Rattle.accounts.specs.declared.vehicle.First.{First}
 use Rattle.accounts.specs.declared.vehicle.Vehicle.{Vehicle}
 use Rattle.accounts.specs.Sums.{same_owner, sum_at}
-use Rattle.accounts.specs.Books.{spent_of}
-use Rattle.accounts.specs.Entries.{vehicle_at, is_further, sum_on, first_sum, first_after, with_first, firsts, all_sums}
-use Rattle.accounts.specs.Entries.{looked_up}
+use Rattle.accounts.specs.Books.{spent_sums}
+use Rattle.accounts.specs.Entries.{vehicle_at, is_further, sum_of_first, first_sum, first_after, with_first, firsts}
+use Rattle.accounts.specs.Entries.{all_sums, looked_up}
 use Rattle.accounts.proofs.SumLaws.{get_sums, sums_after}
 use Rattle.accounts.proofs.OwnerOrder.{owner_total, owner_ties}
 
@@ -35,7 +35,7 @@ with_before (Some f) v fs es = refl
 
 -- it is found by its vehicle and its expressway
 step_first : (first : Option First) (v : ℕ) (es : List ((ℕ × ℕ) × ℕ)) (q : ℕ × ℕ) → nat_eq q.0 v ≡ true →
-    lookup (same_owner q) (with_first v first es) ≡ sum_on first q.1 (lookup (same_owner q) es)
+    lookup (same_owner q) (with_first v first es) ≡ sum_of_first first q.1 (lookup (same_owner q) es)
 step_first None v es q h = refl
 step_first (Some f) v es q h =
     ap (λ b. cond (b && q.1 == f.xway) (Some f.sum) (lookup (same_owner q) es)) h
@@ -55,25 +55,25 @@ found (v ∷ vs) es h q =
     let rest = found vs es (IsDistinct-tail nat_eq v.0 (keys_of vs) h) q in
     let before = ap (lookup (same_owner q)) (with_before v.1.first v.0 (firsts vs) es) in
     cond_both (nat_eq q.0 v.0) (Some v.1) (lookup (nat_eq q.0) vs)
-    (λ o. lookup (same_owner q) (all_sums (v ∷ vs) es) ≡ sum_on
+    (λ o. lookup (same_owner q) (all_sums (v ∷ vs) es) ≡ sum_of_first
     (unwrap_or {T = Vehicle} o (record { told = 0; sum = 0; first = None })).first q.1 (lookup (same_owner q) es))
-    (λ t. before ∙ (step_first v.1.first v.0 (all_sums vs es) q t ∙ ap (sum_on v.1.first q.1)
+    (λ t. before ∙ (step_first v.1.first v.0 (all_sums vs es) q t ∙ ap (sum_of_first v.1.first q.1)
     (rest ∙ ap
-    (λ o. sum_on (unwrap_or {T = Vehicle} o (record { told = 0; sum = 0; first = None })).first q.1
+    (λ o. sum_of_first (unwrap_or {T = Vehicle} o (record { told = 0; sum = 0; first = None })).first q.1
     (lookup (same_owner q) es))
     (no_vehicle vs v.0 q.0 (sym (eqb-true q.0 v.0 t)) (IsDistinct-head nat_eq v.0 (keys_of vs) h)))))
     (λ t. before ∙ (step_other v.1.first v.0 (all_sums vs es) q t ∙ rest))
 
 -- the map has what the two look-ups find
 pub get_spent : (vs : List (ℕ × Vehicle)) (es : List ((ℕ × ℕ) × ℕ)) → IsDistinct nat_eq (keys_of vs) → (q : ℕ × ℕ) →
-    get (spent_of vs es) q ≡ looked_up vs es q
+    get (spent_sums vs es) q ≡ looked_up vs es q
 get_spent vs es h q = get_sums (all_sums vs es) q ∙ found vs es h q
 
 -- entries that look up alike but for one are the map with that one put in
 pub spent_after : (vs ws : List (ℕ × Vehicle)) (es fs : List ((ℕ × ℕ) × ℕ)) → IsDistinct nat_eq (keys_of vs) →
     IsDistinct nat_eq (keys_of ws) → (k : ℕ × ℕ) (n : ℕ) →
     ((q : ℕ × ℕ) → looked_up ws fs q ≡ cond (same_owner k q) (Some n) (looked_up vs es q)) →
-    spent_of ws fs ≡ insert (spent_of vs es) k n
+    spent_sums ws fs ≡ insert (spent_sums vs es) k n
 spent_after vs ws es fs a b k n h =
     sums_after (all_sums vs es) (all_sums ws fs) k n
     (λ q. found ws fs b q ∙ (h q ∙ ap (λ o. cond (same_owner k q) (Some n) o) (sym (found vs es a q))))
@@ -81,11 +81,11 @@ spent_after vs ws es fs a b k n h =
 -- entries that look up alike are one map
 pub spent_same : (vs ws : List (ℕ × Vehicle)) (es : List ((ℕ × ℕ) × ℕ)) → IsDistinct nat_eq (keys_of vs) →
     IsDistinct nat_eq (keys_of ws) → ((v : ℕ) → (vehicle_at ws v).first ≡ (vehicle_at vs v).first) →
-    spent_of ws es ≡ spent_of vs es
+    spent_sums ws es ≡ spent_sums vs es
 spent_same vs ws es a b h =
-    same_map owner_total owner_ties (spent_of ws es) (spent_of vs es)
+    same_map owner_total owner_ties (spent_sums ws es) (spent_sums vs es)
     (λ q. get_spent ws es b q
-    ∙ (ap (λ f. sum_on f q.1 (lookup (same_owner q) es)) (h q.0) ∙ sym (get_spent vs es a q)))
+    ∙ (ap (λ f. sum_of_first f q.1 (lookup (same_owner q) es)) (h q.0) ∙ sym (get_spent vs es a q)))
 
 -- where each sum stands once
 
@@ -118,7 +118,7 @@ with_apart None v vs es head tail rest h = rest
 with_apart (Some f) v vs es head tail rest h =
     IsDistinct-cons same_owner (v, f.xway) (keys_of (all_sums vs es))
     (none_all (all_sums vs es) (v, f.xway) (found vs es tail (v, f.xway)
-    ∙ (ap (λ o. sum_on (unwrap_or {T = Vehicle} o (record { told = 0; sum = 0; first = None })).first f.xway
+    ∙ (ap (λ o. sum_of_first (unwrap_or {T = Vehicle} o (record { told = 0; sum = 0; first = None })).first f.xway
     (lookup (same_owner (v, f.xway)) es)) (no_vehicle vs v v refl head)
     ∙ h f refl)))
     rest
@@ -154,7 +154,7 @@ swap false false m n o h = refl
 
 -- the same where the expressway is the first charge's, or is not
 after_by : (b : Bool) (f : First) (xway toll : ℕ) (o : Option ℕ) (x : ℕ) (ox : Option ℕ) → f.xway == xway ≡ b →
-    sum_on (Some (cond b (record { xway = xway; sum = f.sum + toll }) f)) x
+    sum_of_first (Some (cond b (record { xway = xway; sum = f.sum + toll }) f)) x
     (cond (not b && xway == x) (Some (unwrap_or o 0 + toll)) ox)
     ≡ cond (xway == x) (Some (unwrap_or (cond b (Some f.sum) o) 0 + toll)) (cond (f.xway == x) (Some f.sum) ox)
 after_by true f xway toll o x ox e =
@@ -167,10 +167,9 @@ after_by false f xway toll o x ox e =
 
 -- a charge on an expressway adds to the sum there, and leaves the others
 after : (first : Option First) (xway toll : ℕ) (o : Option ℕ) (x : ℕ) (ox : Option ℕ) →
-    (is_further first xway ≡ false → o ≡ None) →
-    sum_on (Some (first_after first xway toll)) x
+    (is_further first xway ≡ false → o ≡ None) → sum_of_first (Some (first_after first xway toll)) x
     (cond (is_further first xway && xway == x) (Some (unwrap_or o 0 + toll)) ox) ≡ cond (xway == x)
-    (Some (unwrap_or (sum_on first xway o) 0 + toll)) (sum_on first x ox)
+    (Some (unwrap_or (sum_of_first first xway o) 0 + toll)) (sum_of_first first x ox)
 after None xway toll o x ox h =
     let none : unwrap_or o 0 ≡ 0 = ap (λ o. unwrap_or o 0) (h refl) in
     let all : toll ≡ unwrap_or o 0 + toll = omega arith in
@@ -179,7 +178,8 @@ after (Some f) xway toll o x ox h = after_by (f.xway == xway) f xway toll o x ox
 
 -- both parts of a sum are at most the sum
 pub parts_few : (first : Option First) (xway : ℕ) (o : Option ℕ) → (is_further first xway ≡ false → o ≡ None) →
-    (unwrap_or o 0 ≤ unwrap_or (sum_on first xway o) 0) × (first_sum first xway ≤ unwrap_or (sum_on first xway o) 0)
+    (unwrap_or o 0 ≤ unwrap_or (sum_of_first first xway o) 0) ×
+    (first_sum first xway ≤ unwrap_or (sum_of_first first xway o) 0)
 parts_few None xway o h = (omega arith, omega arith)
 parts_few (Some f) xway o h = parts_by (f.xway == xway) (λ e. h (ap not e))
   where
@@ -204,23 +204,25 @@ module _ (vs ws : List (ℕ × Vehicle)) (es fs : List ((ℕ × ℕ) × ℕ)) (v
 
   -- by whether the vehicle is the charged one
   charged_by : (b : Bool) (v x : ℕ) → nat_eq vid v ≡ b →
-      sum_on (unwrap_or (cond b (Some is) (lookup (nat_eq v) vs)) (record { told = 0; sum = 0; first = None })).first x
+      sum_of_first (unwrap_or (cond b (Some is) (lookup (nat_eq v) vs))
+      (record { told = 0; sum = 0; first = None })).first x
       (cond (is_further was.first xway && (b && xway == x)) (Some (sum_at es (vid, xway) + toll))
       (lookup (same_owner (v, x)) es))
       ≡ cond (b && xway == x) (Some (unwrap_or (looked_up vs es (vid, xway)) 0 + toll)) (looked_up vs es (v, x))
   charged_by true v x e =
       let same : (vehicle_at vs v).first ≡ was.first = ap (λ k. (vehicle_at vs k).first) (sym (eqb-true vid v e))
       ∙ ap (λ w. w.first) entry_is in
-      ap (λ f. sum_on f x
+      ap (λ f. sum_of_first f x
       (cond (is_further was.first xway && xway == x) (Some (sum_at es (vid, xway) + toll))
       (lookup (same_owner (v, x)) es))) first
       ∙ (after was.first xway toll (lookup (same_owner (vid, xway)) es) x (lookup (same_owner (v, x)) es) apart
-      ∙ (ap (λ f. cond (xway == x) (Some (unwrap_or (sum_on f xway (lookup (same_owner (vid, xway)) es)) 0 + toll))
-      (sum_on was.first x (lookup (same_owner (v, x)) es))) (ap (λ w. w.first) (sym entry_is))
+      ∙ (ap (λ f. cond (xway == x) (Some (unwrap_or (sum_of_first f xway (lookup (same_owner (vid, xway)) es)) 0 +
+      toll))
+      (sum_of_first was.first x (lookup (same_owner (v, x)) es))) (ap (λ w. w.first) (sym entry_is))
       ∙ ap (λ f. cond (xway == x) (Some (unwrap_or (looked_up vs es (vid, xway)) 0 + toll))
-      (sum_on f x (lookup (same_owner (v, x)) es))) (sym same)))
+      (sum_of_first f x (lookup (same_owner (v, x)) es))) (sym same)))
   charged_by false v x e =
-      ap (λ b. sum_on (vehicle_at vs v).first x
+      ap (λ b. sum_of_first (vehicle_at vs v).first x
       (cond b (Some (sum_at es (vid, xway) + toll)) (lookup (same_owner (v, x)) es)))
       (and_false (is_further was.first xway))
     where
@@ -233,9 +235,9 @@ module _ (vs ws : List (ℕ × Vehicle)) (es fs : List ((ℕ × ℕ) × ℕ)) (v
       looked_up ws fs q ≡ cond (same_owner (vid, xway) q) (Some (unwrap_or (looked_up vs es (vid, xway)) 0 + toll))
       (looked_up vs es q)
   charged_up q =
-      ap (λ o. sum_on (unwrap_or {T = Vehicle} o (record { told = 0; sum = 0; first = None })).first q.1
+      ap (λ o. sum_of_first (unwrap_or {T = Vehicle} o (record { told = 0; sum = 0; first = None })).first q.1
       (lookup (same_owner q) fs)) (vehicles q.0)
-      ∙ (ap (λ o. sum_on
+      ∙ (ap (λ o. sum_of_first
       (unwrap_or (cond (nat_eq vid q.0) (Some is) (lookup (nat_eq q.0) vs))
       (record { told = 0; sum = 0; first = None })).first q.1 o) (sums q)
       ∙ charged_by (nat_eq vid q.0) q.0 q.1 refl)

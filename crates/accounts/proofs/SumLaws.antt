@@ -7,9 +7,8 @@ use Rattle.std.specs.Map.{lookup}
 use Rattle.std.specs.declared.cmp.Ordering.{Ordering}
 use Rattle.std.specs.Ordering.{is_eq, is_lt, eq_by_cmp}
 use Rattle.std.specs.declared.cmp.Ordering.TheVariants.{Less, Equal, Greater}
-use Rattle.std.specs.FinMap.{empty, get, insert, entries, find, put, is_sorted}
-use Rattle.std.specs.FinMap.{same_map, get-empty, get-insert, get-from_entries, get-entries}
-use Rattle.std.specs.FinMap.{entries-insert, entries_sorted, len-empty, len-entries}
+use Rattle.std.specs.FinMap.{empty, get, insert, entries, find, put, is_sorted, same_map, get-empty, get-insert}
+use Rattle.std.specs.FinMap.{get-from_entries, get-entries, entries-insert, entries_sorted, len-empty, len-entries}
 use Rattle.std.specs.FinMap.Entries.{below_all, by_order}
 use Rattle.std.proofs.lemmas.List.Sums.{sum_by-cons}
 use Rattle.std.proofs.lemmas.Bool.{cond_both, cond-true, cond-false}

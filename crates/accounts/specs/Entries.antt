@@ -16,13 +16,13 @@ is_further None xway = false
 is_further (Some f) xway = not (f.xway == xway)
 
 -- the sum on an expressway: the first charge's own, or what is kept of further expressways
-abbrev pub sum_on : Option First → ℕ → Option ℕ → Option ℕ
-sum_on None xway further = further
-sum_on (Some f) xway further = if f.xway == xway then Some f.sum else further
+abbrev pub sum_of_first : Option First → ℕ → Option ℕ → Option ℕ
+sum_of_first None xway further = further
+sum_of_first (Some f) xway further = if f.xway == xway then Some f.sum else further
 
 -- the first charge's own sum on an expressway, 0 for none
 abbrev pub first_sum : Option First → ℕ → ℕ
-first_sum first xway = unwrap_or (sum_on first xway None) 0
+first_sum first xway = unwrap_or (sum_of_first first xway None) 0
 
 -- what stands for the first charge after a charge on an expressway
 abbrev pub first_after : Option First → ℕ → ℕ → First
@@ -45,4 +45,4 @@ all_sums vehicles further = firsts vehicles ++ further
 
 -- what a vehicle was charged on an expressway, by the two look-ups
 abbrev pub looked_up : List (ℕ × Vehicle) → List ((ℕ × ℕ) × ℕ) → ℕ × ℕ → Option ℕ
-looked_up vehicles further q = sum_on (vehicle_at vehicles q.0).first q.1 (lookup (same_owner q) further)
+looked_up vehicles further q = sum_of_first (vehicle_at vehicles q.0).first q.1 (lookup (same_owner q) further)

@@ -29,7 +29,6 @@ GrowLaw =
 -- the sums of charges are what the definitions make of the charges: each account, the total, and the rows of a day
 abbrev pub BookLaw : Type 0
 BookLaw =
-    (cs : List ChargedToll) →
-    ((vid : ℕ) → account_in (spent_by cs) vid ≡ sum_of (charges_to vid cs))
+    (cs : List ChargedToll) → ((vid : ℕ) → account_in (spent_by cs) vid ≡ sum_of (charges_to vid cs))
     × (total_in (spent_by cs) ≡ sum_of cs)
     × ((number : ℕ) (rows : List SpentRow) → AreRowsOf (spent_by cs) number rows → rows ≡ rows_from number cs)

@@ -1,6 +1,7 @@
 // The day's accounts.
 ghost use Rattle.std.specs.Prelude.{◌≡◌, ◌≤◌, ◌<◌, ◌+◌, ◌*◌, ◌++◌, ◌∷◌, Some, IsSome, IfOk, OnErr};
 ghost use Rattle.std.specs.FinMap.{empty, get, insert};
+ghost use Rattle.road_time.specs.declared.tariff.TheConstants.{GREATEST_TOLL};
 ghost use Rattle.accounts.specs.Sums.{account_in, total_in, with_charge, AreRowsOf};
 
 use crate::rows::{list_firsts, list_further, sort_rows};
@@ -30,15 +31,15 @@ impl Model for Book {
 
     ghost coded = { accounts_code };
 
-    ghost use Rattle.accounts.specs.Books.{told_of, spent_of, IsSound};
+    ghost use Rattle.accounts.specs.Books.{told_of, spent_sums, IsBalanced};
 
     ghost view = { λ b. record {
       told = told_of b.vehicles.entries;
-      spent = spent_of b.vehicles.entries b.further.entries;
+      spent = spent_sums b.vehicles.entries b.further.entries;
       made = b.made;
     } };
 
-    ghost invariant = { λ b. IsSound b.vehicles.entries b.further.entries b.total b.made };
+    ghost invariant = { λ b. IsBalanced b.vehicles.entries b.further.entries b.total b.made };
 }
 
 impl Book {
@@ -57,7 +58,7 @@ impl Book {
 
     /// Keeps the toll that a vehicle is told, at most 500,000,000,000. The one error is want of memory.
     pub fn notify(&mut self, vid: u32, toll: u64) -> Result<(), NoMemory>
-        requires { toll ≤ 500000000000 }
+        requires { toll ≤ GREATEST_TOLL }
         ensures told { IfOk result (λ _. self.new ≡ record self.old { told = insert self.old.told vid toll }) }
         ensures refused { OnErr result (self.new ≡ self.old) }
     {
@@ -71,7 +72,7 @@ impl Book {
         requires told { IsSome (get self.old.told vid) }
         requires few { self.old.made < 16000000 }
         ensures toll { IfOk result (λ toll. Some toll ≡ get self.old.told vid) }
-        ensures capped { IfOk result (λ toll. toll ≤ 500000000000) }
+        ensures capped { IfOk result (λ toll. toll ≤ GREATEST_TOLL) }
         ensures booked { IfOk result (λ toll. self.new
             ≡ record self.old {
               spent = with_charge self.old.spent (record { vid = vid; xway = xway; toll = toll });
@@ -97,7 +98,7 @@ impl Book {
     /// A vehicle's account: the sum of what it was charged, 0 for one that never was.
     pub fn balance(&self, vid: u32) -> u64
         ensures account { result ≡ account_in self.now.spent vid }
-        ensures few { result ≤ 500000000000 * self.now.made }
+        ensures few { result ≤ GREATEST_TOLL * self.now.made }
     {
         match self.vehicles.get(&vid) {
             Some(vehicle) => vehicle.sum,
@@ -108,7 +109,7 @@ impl Book {
     /// The sum of all accounts.
     pub fn total(&self) -> u64
         ensures total { result ≡ total_in self.now.spent }
-        ensures few { result ≤ 500000000000 * self.now.made }
+        ensures few { result ≤ GREATEST_TOLL * self.now.made }
     {
         self.total
     }

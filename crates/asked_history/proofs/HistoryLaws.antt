@@ -1,7 +1,6 @@
 -- The output of a day is the same by any history that has the amounts that are asked for.
-use Rattle.std.proofs.Common.{◌≡◌, ℕ, ◌-◌, ◌≤◌, ◌||◌, Bool, true, false, List, [], ◌∷◌, ◌++◌, Option, Some, None, refl}
-use Rattle.std.proofs.Common.{sym, ap, ◌∙◌, arith}
-use Rattle.std.specs.List.{AllByRecursion, list_any, find}
+use Rattle.std.proofs.Common.{◌≡◌, ℕ, ◌-◌, ◌≤◌, ◌||◌, Bool, true, false, List, [], ◌∷◌, ◌++◌, refl, ap, ◌∙◌, arith}
+use Rattle.std.specs.List.{AllByRecursion, list_any}
 use Rattle.std.proofs.lemmas.List.Elements.{recursion_from_All}
 use Rattle.road_time.specs.declared.road.Tuple.{Tuple}
 use Rattle.road_time.specs.declared.road.Tuple.TheVariants.{Report as ReportTuple, Balance, Spent, Travel}
@@ -11,10 +10,9 @@ use Rattle.road_time.specs.Rates.{Tariffs}
 use Rattle.road_time.specs.Sights.{Sight, moments_after}
 use Rattle.road_time.specs.Tolls.{StretchTold}
 use Rattle.road_time.specs.Day.{rules, told_by, answer_by, notices_by, notices}
-use Rattle.keeper.specs.History as kept
-use Rattle.keeper.specs.Office.{Office, RowsRise, rows_between}
-use Rattle.keeper.proofs.HistoryLaws.{history_law, keys_law}
-use Rattle.validator.specs.History as plain
+use Rattle.road_time.specs.History.{paid}
+use Rattle.keeper.specs.Office.{Office, rows_between}
+use Rattle.keeper.proofs.HistoryLaws.{history_law}
 use Rattle.asked_history.specs.Asks.{asks_history}
 
 -- two histories have the same for what a tuple asks
@@ -44,39 +42,30 @@ module _ (finding : Sight → StretchTold) (number : ℕ) (a b : ℕ → ℕ →
       ∙ ap (λ ns. (told_by finding (before, x) ++ answer_by finding number b (before, x)) ++ ns)
       (same_notices (before ++ x ∷ []) xs h.1)
 
--- the amount of a row is the same by both words
-same_tolls : (o : Option SpentRow) → plain.tolls_of o ≡ kept.tolls_of o
-same_tolls None = refl
-same_tolls (Some r) = refl
-
--- what rows say was paid is the same by both words
-pub same_paid : (rows : List SpentRow) (day vid xway : ℕ) → plain.paid rows day vid xway ≡ kept.paid rows day vid xway
-same_paid rows day vid xway = same_tolls (find (kept.is_row day vid xway) rows)
-
 -- a valid tuple of a day is answered alike by all amounts and by those of the 69 days before
 valid_same : (number : ℕ) (o : Office) (rows : List SpentRow) → rows ≡ rows_between o (number - 69) (number - 1) →
-    70 ≤ number → (x : Tuple) → IsValid x → SameFor number (plain.paid rows) (kept.paid o.rows) x
+    70 ≤ number → (x : Tuple) → IsValid x → SameFor number (paid rows) (paid o.rows) x
 valid_same number o rows e low (ReportTuple r) v = tt
 valid_same number o rows e low (Balance time vid qid) v = tt
 valid_same number o rows e low (Spent time vid xway qid day) v =
     let from : number - 69 ≤ number - day = omega (arith, v.4, v.5) in
     let to : number - day ≤ number - 1 = omega (arith, v.4, v.5) in
-    same_paid rows (number - day) vid xway ∙ ap (λ rs. kept.paid rs (number - day) vid xway) e
+    ap (λ rs. paid rs (number - day) vid xway) e
     ∙ history_law o (number - 69) (number - 1) (number - day) vid xway from to
 valid_same number o rows e low (Travel time) v = tt
 
 all_same : (number : ℕ) (o : Office) (rows : List SpentRow) → rows ≡ rows_between o (number - 69) (number - 1) →
     70 ≤ number → (xs : List Tuple) → AllByRecursion IsValid xs →
-    AllByRecursion (SameFor number (plain.paid rows) (kept.paid o.rows)) xs
+    AllByRecursion (SameFor number (paid rows) (paid o.rows)) xs
 all_same number o rows e low [] v = tt
 all_same number o rows e low (x ∷ xs) v = (valid_same number o rows e low x v.0, all_same number o rows e low xs v.1)
 
 -- a day's output by the amounts of the 69 days before is that by all amounts
 pub by_history : (number : ℕ) (o : Office) (rows : List SpentRow) → rows ≡ rows_between o (number - 69) (number - 1) →
     70 ≤ number → (day : List Tuple) → IsDay day → (tariffs : Tariffs) →
-    notices day tariffs number (plain.paid rows) ≡ notices day tariffs number (kept.paid o.rows)
+    notices day tariffs number (paid rows) ≡ notices day tariffs number (paid o.rows)
 by_history number o rows e low day fit tariffs =
-    same_notices (rules day tariffs) number (plain.paid rows) (kept.paid o.rows) [] day
+    same_notices (rules day tariffs) number (paid rows) (paid o.rows) [] day
     (all_same number o rows e low day (recursion_from_All IsValid day fit.valid))
 
 -- a tuple that asks for nothing is answered alike by any two histories
@@ -101,12 +90,3 @@ none_asks number a b (x ∷ xs) e =
 pub by_none : (number : ℕ) (a b : ℕ → ℕ → ℕ → ℕ) (day : List Tuple) (tariffs : Tariffs) →
     list_any asks_history day ≡ false → notices day tariffs number a ≡ notices day tariffs number b
 by_none number a b day tariffs e = same_notices (rules day tariffs) number a b [] day (none_asks number a b day e)
-
--- rows whose keys differ by one word differ by the other
-same_keys : (rows : List SpentRow) → kept.KeysDiffer rows → plain.KeysDiffer rows
-same_keys [] h = tt
-same_keys (r ∷ rs) h = (h.0, same_keys rs h.1)
-
--- rows that rise have no key twice
-pub keys_differ : (rows : List SpentRow) → RowsRise rows → plain.KeysDiffer rows
-keys_differ rows rise = same_keys rows (keys_law rows rise)

@@ -6,10 +6,9 @@ ghost use Rattle.road_time.specs.Rates.{Tariffs as TariffMap};
 ghost use Rattle.road_time.specs.Day.{notices};
 ghost use Rattle.road_io.specs.Faults.{Rose};
 ghost use Rattle.road_io.specs.Plans.{NeverFails};
-ghost use Rattle.keeper.specs.History.{paid as paid_of};
 ghost use Rattle.keeper.specs.Office.{Office};
 ghost use Rattle.keeper.specs.declared.kept.KeepFault.TheVariants.{Failed};
-ghost use Rattle.validator.specs.History.{paid, KeysDiffer};
+ghost use Rattle.road_time.specs.History.{paid, KeysDiffer};
 ghost use Rattle.asked_history.specs.Asks.{asks_history};
 
 use keeper::{KeepFault, Keeper};
@@ -44,7 +43,7 @@ pub fn history_for<K: Keeper>(
     requires low { 70 ≤ number }
     ensures told { (o : Office) → K.told keeper.old ≡ Some o
         → IfOk result (λ rows. (tariffs : TariffMap)
-        → notices tuples.now tariffs number (paid rows.items) ≡ notices tuples.now tariffs number (paid_of o.rows)) }
+        → notices tuples.now tariffs number (paid rows.items) ≡ notices tuples.now tariffs number (paid o.rows)) }
     ensures keys { IfOk result (λ rows. KeysDiffer rows.items) }
     ensures same { K.told keeper.new ≡ K.told keeper.old }
     ensures cause { result ≡ Err Failed → Rose (K.faults keeper.old) (K.faults keeper.new) }

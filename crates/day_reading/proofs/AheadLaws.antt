@@ -5,14 +5,13 @@ use Rattle.std.proofs.lemmas.List.{length_push, take-append-drop}
 use Rattle.std.proofs.Math.Seq.{take-append_seam}
 use Rattle.road_time.specs.declared.road.Tuple.{Tuple}
 use Rattle.road_time.specs.declared.day.Limits.{Limits}
-use Rattle.road_time.specs.Fits.{Fit, IsDay}
+use Rattle.road_time.specs.Fits.{Fit, IsDay, IsLimits}
 use Rattle.road_time.specs.Reads.{reads}
 use Rattle.road_time.proofs.AllowedLaws.{fit_left}
 use Rattle.day_reading.specs.declared.day_ahead.DayAhead.{DayAhead}
 use Rattle.day_reading.specs.declared.day_ahead.Following.{Following}
 use Rattle.day_reading.specs.declared.day_ahead.Following.TheVariants.{Waits, Ends, Stops}
 use Rattle.day_reading.specs.declared.day_reader.DayReader.{DayReader}
-use Rattle.road_time.specs.Fits.{IsLimits}
 use Rattle.day_reading.specs.Days.{most_of_day}
 use Rattle.day_reading.specs.Readings.{GivesTuple, GathersOn, IsFrontOf}
 use Rattle.day_reading.specs.Ahead.{answer_of, is_waiting, has_more, IsAhead, IsGatheringAhead, HasReadAhead}

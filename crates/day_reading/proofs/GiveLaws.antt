@@ -32,8 +32,7 @@ front_short given day e = omega (arith, ap length e, length-take (length given) 
 module _ (limits : Limits) (late : ℕ) (bytes : List ℕ) (given : List Tuple) (x : Tuple) where
   -- while lines are read on
   pub give_on : (front : Option (List ℕ)) (number : ℕ) (consumed : Consumed) (gate : GateState)
-      (sorter sorter' : Sorting) →
-      IsFrontOf given (reads bytes limits late).tuples
+      (sorter sorter' : Sorting) → IsFrontOf given (reads bytes limits late).tuples
       → (s : ReadsOn front number consumed gate sorter limits late bytes given) →
       slice_get (by_time (tuples_of s.before)) (length given) ≡ Some x →
       IsSorting sorter' late (tuples_of s.before) (length given + 1) false

@@ -12,7 +12,7 @@ use Rattle.road_time.specs.Form.{Fault, form}
 use Rattle.road_time.specs.Reads.{line_fault, fault_of_form, formed, tuples_of}
 use Rattle.road_time.proofs.ReadLaws.{tuples_push}
 use Rattle.tuple_format.specs.declared.cause.Cause.{Cause}
-use Rattle.tuple_format.specs.Causes.{answered, cause_of}
+use Rattle.tuple_format.specs.Causes.{reader_answer, cause_of}
 use Rattle.tuple_format.specs.Gates.{GateState, StandsFor}
 use Rattle.tuple_format.specs.Sorting.{Sorting, IsSorting}
 use Rattle.day_reading.specs.declared.ending.Ending.{Ending}
@@ -21,12 +21,13 @@ use Rattle.day_reading.specs.declared.ending.ReadEnd.TheVariants.{Refused, ReadF
 use Rattle.day_reading.specs.Lines.{TakesTuple, TakesLine, refusal}
 
 -- what the reader answers well is the form
-pub form_of_ok : (r : Result (Option Tuple) Fault) (o : Option Tuple) → answered r ≡ Ok o → r ≡ Ok o
+pub form_of_ok : (r : Result (Option Tuple) Fault) (o : Option Tuple) → reader_answer r ≡ Ok o → r ≡ Ok o
 form_of_ok (Ok x) o e = let same : x ≡ o = cc in ap Ok same
 form_of_ok (Err f) o e = cc
 
 -- and what it refuses is a fault of form
-pub form_of_err : (r : Result (Option Tuple) Fault) (cause : Cause) → answered r ≡ Err cause → (f : Fault) × (r ≡ Err f)
+pub form_of_err : (r : Result (Option Tuple) Fault) (cause : Cause) → reader_answer r ≡ Err cause → (f : Fault) ×
+    (r ≡ Err f)
     × (cause_of f ≡ cause)
 form_of_err (Ok x) cause e = let bad : ⊥ = cc in absurd bad
 form_of_err (Err f) cause e = (f, refl, cc)
@@ -79,7 +80,7 @@ module _ (limits : Limits) (late line : ℕ) (text : List ℕ) (short : length t
 
   -- a line that is refused for its form
   pub line_of_err : (gate : GateState) (sorter : Sorting) (cause : Cause) →
-      answered (form (without_cr text)) ≡ Err cause →
+      reader_answer (form (without_cr text)) ≡ Err cause →
       TakesLine limits late (Some (refusal line cause)) line text gate gate sorter sorter
   line_of_err gate sorter cause e =
       let f = form_of_err (form (without_cr text)) cause e in (

@@ -8,7 +8,7 @@ use Rattle.road_time.specs.Form.{Fault}
 use Rattle.road_time.specs.Fits.{Allowed, Fit}
 use Rattle.road_time.specs.Order.{by_time}
 use Rattle.road_time.specs.Reads.{reads, accepts, accepts_after, tuples_of}
-use Rattle.road_io.specs.Cutter.{ahead, number_of}
+use Rattle.road_io.specs.Cutter.{ahead, line_number}
 use Rattle.digest_beside.specs.Beside.{TookBeside}
 use Rattle.tuple_format.specs.Causes.{cause_of}
 use Rattle.tuple_format.specs.declared.cause.Cause.{Cause}
@@ -86,7 +86,8 @@ pub record IsReading (r : DayReader) (limits : Limits) (late : ℕ) (left : Opti
   pub line_limit : r.intake.line_limit ≡ limits.lines
   pub count : r.given ≡ length given
   pub front : IsFrontOf given (reads bytes limits late).tuples
-  pub stands : StandsAt r.end (ahead r.cutter left) (number_of r.cutter) r.consumed r.intake.gate r.intake.sorter limits
+  pub stands : StandsAt r.end (ahead r.cutter left) (line_number r.cutter) r.consumed r.intake.gate r.intake.sorter
+      limits
       late bytes given
 
 -- the first of the bytes that a source had were taken, and counted; the rest lies ahead
@@ -106,7 +107,7 @@ HasReadLines front number consumed bytes = (read : HasRead front consumed bytes)
 -- source had
 abbrev pub HasReadOf : DayReader → ℕ → Option (List ℕ) → List ℕ → Type 0
 HasReadOf r lines left bytes =
-    (r.intake.line_limit ≡ lines) × HasReadLines (ahead r.cutter left) (number_of r.cutter) r.consumed bytes
+    (r.intake.line_limit ≡ lines) × HasReadLines (ahead r.cutter left) (line_number r.cutter) r.consumed bytes
 
 -- the source failed before
 abbrev pub HasReaderFailed : DayReader → Type 0
@@ -119,7 +120,7 @@ GivesTuple (Ok (Some x)) r limits late left bytes given = IsReading r limits lat
 GivesTuple (Ok None) r limits late left bytes given =
     IsReading r limits late left bytes given × (given ≡ (reads bytes limits late).tuples)
     × ((reads bytes limits late).refused ≡ None)
-    × HasTaken r.consumed bytes × (number_of r.cutter ≡ length (lines_of bytes))
+    × HasTaken r.consumed bytes × (line_number r.cutter ≡ length (lines_of bytes))
 GivesTuple (Err (Refused line cause)) r limits late left bytes given =
     (given ≡ (reads bytes limits late).tuples) × EndsRefused line cause limits late bytes
     × IsReading r limits late left bytes given
@@ -165,7 +166,7 @@ GathersAt (Some (Stopped NoMemory)) number gate sorter limits late given = Unit 
 pub record IsGathering (r : DayReader) (limits : Limits) (late : ℕ) (given : List Tuple) : Type 0 where
   pub line_limit : r.intake.line_limit ≡ limits.lines
   pub fit : Fit given limits
-  pub stands : GathersAt r.end (number_of r.cutter) r.intake.gate r.intake.sorter limits late given
+  pub stands : GathersAt r.end (line_number r.cutter) r.intake.gate r.intake.sorter limits late given
 
 -- an answer of `next`: one tuple more, or no more; a refused line leaves what was given
 abbrev pub GathersOn : Result (Option Tuple) ReadEnd → DayReader → Limits → ℕ → List Tuple → Type 0

@@ -1,5 +1,5 @@
 // Reading a day one tuple ahead: the types.
-ghost use Rattle.road_io.specs.Cutter.{number_of};
+ghost use Rattle.road_io.specs.Cutter.{line_number};
 ghost use Rattle.day_reading.specs.Lines.{FollowsAfter};
 
 use crate::day_reader::DayReader;
@@ -24,5 +24,5 @@ pub enum Following {
 pub struct DayAhead {
     reader: DayReader,
     following: Following,
-    ghost stops: { FollowsAfter following (number_of reader.cutter) },
+    ghost stops: { FollowsAfter following (line_number reader.cutter) },
 }

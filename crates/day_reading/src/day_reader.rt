@@ -1,6 +1,6 @@
 // Reading a day: the type.
 ghost use Rattle.std.specs.Prelude.{◌≡◌, ◌≤◌, ◌+◌, ◌*◌, None};
-ghost use Rattle.road_io.specs.Cutter.{number_of, fault_of};
+ghost use Rattle.road_io.specs.Cutter.{line_number, fault_of};
 ghost use Rattle.day_reading.specs.Lines.{StopsAfter};
 
 use crate::consumed::Consumed;
@@ -18,9 +18,9 @@ pub struct DayReader {
     consumed: Consumed,
     given: u64,
     end: Option<Ending>,
-    ghost few_lines: { number_of cutter ≤ intake.line_limit + 1 },
-    ghost goes_on: { end ≡ None → number_of cutter ≤ intake.line_limit },
+    ghost few_lines: { line_number cutter ≤ intake.line_limit + 1 },
+    ghost goes_on: { end ≡ None → line_number cutter ≤ intake.line_limit },
     ghost unbroken: { end ≡ None → fault_of cutter ≡ None },
-    ghost stops: { StopsAfter end (number_of cutter) },
-    ghost few_bytes: { consumed.bytes ≤ 201 * number_of cutter },
+    ghost stops: { StopsAfter end (line_number cutter) },
+    ghost few_bytes: { consumed.bytes ≤ 201 * line_number cutter },
 }

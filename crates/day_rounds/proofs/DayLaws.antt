@@ -16,7 +16,7 @@ use Rattle.day_rounds.specs.declared.fault.DayFault.{DayFault}
 use Rattle.day_rounds.specs.Fronts.{HasText}
 use Rattle.day_rounds.specs.Published.{HasStepped}
 use Rattle.day_rounds.specs.Readers.{HasGiven}
-use Rattle.day_rounds.specs.Halts.{IsHalted, IsCut}
+use Rattle.day_rounds.specs.Halts.{IsHalted, IsCutDay}
 use Rattle.day_rounds.specs.Days.{IsOn}
 use Rattle.day_reading.proofs.AheadLaws.{ahead_fit}
 use Rattle.day_rounds.specs.Runs.{CanFeedAll}
@@ -64,7 +64,7 @@ module _ {S T : Type 0} (out : S → List ℕ) (number : T → ℕ) (holds : S �
       (x y z : Option Posted) (run : Import T) (crew : S) →
       HasGiven limits late given a b was mid → HasText e s o p → HasStepped limits.backlog s x y →
       IsHalted out number holds gave exact jobs fault e told w l late s given b mid p q y z run crew →
-      IsCut out number holds gave exact jobs fault e told width limits late a was o q x z run crew
+      IsCutDay out number holds gave exact jobs fault e told width limits late a was o q x z run crew
   cut_at fault e told w width l limits wide same late s given a b was mid o p q x y z run crew gave_all text steps
       halted =
       let h = subst

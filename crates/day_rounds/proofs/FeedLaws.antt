@@ -19,7 +19,7 @@ use Rattle.watermark.specs.Sound.{CanFeed, IsTrue}
 use Rattle.watermark.specs.Starts.{JobStart, HaveStarted}
 use Rattle.watermark.specs.Floors.{Setting, StandsFor}
 use Rattle.day_rounds.specs.Tasks.{AreOpen}
-use Rattle.day_rounds.specs.Runs.{Runs, HasAnswered, CanFeedAll, fed_all, start_of}
+use Rattle.day_rounds.specs.Runs.{Runs, HasAnswered, CanFeedAll, after_feeds, start_of}
 use Rattle.day_rounds.specs.declared.begun.Import.{Import}
 use Rattle.day_rounds.proofs.OpenLaws.{open_feed}
 
@@ -30,72 +30,71 @@ no_tuple = ReportTuple (record { time = 0; vid = 0; spd = 0; xway = 0; lane = 0;
 module _ (width : ℕ) where
   -- one tuple more, after some
   pub fed_push : (s : State) (xs : List Tuple) (x : Tuple) →
-      fed_all width s (xs ++ x ∷ []) ≡ after_feed width (fed_all width s xs) x
+      after_feeds width s (xs ++ x ∷ []) ≡ after_feed width (after_feeds width s xs) x
   fed_push s [] x = refl
   fed_push s (y ∷ xs) x = fed_push (after_feed width s y) xs x
 
   -- what was fed, settled and found
-  pub fed_are : (s : State) (xs : List Tuple) → (fed_all width s xs).fed ≡ s.fed ++ xs
+  pub fed_are : (s : State) (xs : List Tuple) → (after_feeds width s xs).fed ≡ s.fed ++ xs
   fed_are s [] = sym (append-nil s.fed)
   fed_are s (x ∷ xs) = fed_are (after_feed width s x) xs ∙ append_assoc s.fed (x ∷ []) xs
 
-  pub fed_settled : (s : State) (xs : List Tuple) → (fed_all width s xs).settled ≡ s.settled
+  pub fed_settled : (s : State) (xs : List Tuple) → (after_feeds width s xs).settled ≡ s.settled
   fed_settled s [] = refl
   fed_settled s (x ∷ xs) = fed_settled (after_feed width s x) xs
 
-  pub fed_found : (s : State) (xs : List Tuple) → (fed_all width s xs).found ≡ s.found
+  pub fed_found : (s : State) (xs : List Tuple) → (after_feeds width s xs).found ≡ s.found
   fed_found s [] = refl
   fed_found s (x ∷ xs) = fed_found (after_feed width s x) xs
 
   -- no job is out that was not before
-  pub fed_out : (s : State) (xs : List Tuple) (w : ℕ) → ((fed_all width s xs).share w).out ≡ (s.share w).out
+  pub fed_out : (s : State) (xs : List Tuple) (w : ℕ) → ((after_feeds width s xs).share w).out ≡ (s.share w).out
   fed_out s [] w = refl
   fed_out s (x ∷ xs) w = fed_out (after_feed width s x) xs w
 
   -- the tuples that are settled stay
   pub fed_first : (s : State) (xs : List Tuple) → s.settled ≤ length s.fed →
-      take (fed_all width s xs).settled (fed_all width s xs).fed ≡ take s.settled s.fed
-  fed_first s xs h = ap (λ n. take n (fed_all width s xs).fed) (fed_settled s xs)
+      take (after_feeds width s xs).settled (after_feeds width s xs).fed ≡ take s.settled s.fed
+  fed_first s xs h = ap (λ n. take n (after_feeds width s xs).fed) (fed_settled s xs)
       ∙ (ap (take s.settled) (fed_are s xs) ∙ take-append-le s.settled s.fed xs h)
 
   open_fed : (tariffs : Tariffs) (of : ℕ) (s : State) (xs : List Tuple) (jobs : List Job) → AreOpen tariffs of s jobs →
-      AreOpen tariffs of (fed_all width s xs) jobs
+      AreOpen tariffs of (after_feeds width s xs) jobs
   open_fed tariffs of s [] jobs h = h
   open_fed tariffs of s (x ∷ xs) jobs h =
       open_fed tariffs of (after_feed width s x) xs jobs (open_feed tariffs of width s x jobs h)
 
   starts_fed : (of backlog : ℕ) (s : State) (xs : List Tuple) (starts : List JobStart) →
-      HaveStarted of backlog s starts →
-      HaveStarted of backlog (fed_all width s xs) starts
+      HaveStarted of backlog s starts → HaveStarted of backlog (after_feeds width s xs) starts
   starts_fed of backlog s [] starts h = h
   starts_fed of backlog s (x ∷ xs) starts h =
       starts_fed of backlog (after_feed width s x) xs starts
       (record { count = h.count; numbered = h.numbered; each = h.each; whole = h.whole })
 
   true_fed : (tariffs : Tariffs) (of : ℕ) (s : State) (xs : List Tuple) → IsTrue tariffs of s →
-      IsTrue tariffs of (fed_all width s xs)
+      IsTrue tariffs of (after_feeds width s xs)
   true_fed tariffs of s [] h = h
   true_fed tariffs of s (x ∷ xs) h = true_fed tariffs of (after_feed width s x) xs h
 
   -- the next one may be fed after the first ones
   pub can_next : (limits : Limits) (s : State) (xs : List Tuple) (i : ℕ) (d : Tuple) → CanFeedAll limits s xs →
-      i < length xs → CanFeed limits (fed_all width s (take i xs)) (slice_index_or xs i d)
+      i < length xs → CanFeed limits (after_feeds width s (take i xs)) (slice_index_or xs i d)
   can_next limits s xs i d can h =
       let x = slice_index_or xs i d in
       let first = take i xs in
-      let whole : s.fed ++ xs ≡ ((fed_all width s first).fed ++ x ∷ []) ++ drop (i + 1) xs =
+      let whole : s.fed ++ xs ≡ ((after_feeds width s first).fed ++ x ∷ []) ++ drop (i + 1) xs =
       ap (λ ys. s.fed ++ ys) (sym (take-append-drop (i + 1) xs) ∙ ap (λ ys. ys ++ drop (i + 1) xs) (take_more xs i d h))
       ∙
       (sym (append_assoc s.fed (first ++ x ∷ []) (drop (i + 1) xs))
       ∙ ap (λ ys. ys ++ drop (i + 1) xs)
       (sym (append_assoc s.fed first (x ∷ [])) ∙ ap (λ ys. ys ++ x ∷ []) (sym (fed_are s first)))) in
       let room = can.room in
-      let long : length (fed_all width s first).fed ≡ length s.fed + length first = ap length (fed_are s first)
+      let long : length (after_feeds width s first).fed ≡ length s.fed + length first = ap length (fed_are s first)
       ∙ length-append s.fed first in
       let few : length first ≡ i = length-take-le i xs (omega (arith, h)) in
       let same = fed_settled s first in
       record {
-        fit = fit_left ((fed_all width s first).fed ++ x ∷ []) (drop (i + 1) xs) limits
+        fit = fit_left ((after_feeds width s first).fed ++ x ∷ []) (drop (i + 1) xs) limits
             (subst (λ d. Fit d limits) whole can.fit);
         room = omega (arith, h, room, long, few, same);
       }
@@ -107,11 +106,11 @@ module _ {S T : Type 0} (out : S → List ℕ) (number : T → ℕ) (holds : S �
   -- the import goes on
   pub fed_runs : (now : Import T) (xs : List Tuple) → now.tickets.items ≡ run.tickets.items →
       now.floor.inboxes.width ≡ run.floor.inboxes.width → now.floor.limits ≡ run.floor.limits →
-      StandsFor e now.floor (fed_all run.floor.inboxes.width s xs) →
-      Runs out number holds gave exact jobs answers e told answered now crew (fed_all run.floor.inboxes.width s xs)
+      StandsFor e now.floor (after_feeds run.floor.inboxes.width s xs) →
+      Runs out number holds gave exact jobs answers e told answered now crew (after_feeds run.floor.inboxes.width s xs)
   fed_runs now xs items width limits st =
       let w = run.floor.inboxes.width in
-      let t = fed_all w s xs in
+      let t = after_feeds w s xs in
       record {
         stands = st;
         tasks = h.tasks;

@@ -23,10 +23,9 @@ use Rattle.settling.proofs.AnswerLaws.{notices_exact}
 use Rattle.settling.proofs.StayLaws.{run_between}
 use Rattle.watermark.specs.Shares.{State, mark}
 use Rattle.watermark.specs.Steps.{after_settle}
-use Rattle.watermark.specs.Sound.{IsSound, IsTrue}
+use Rattle.watermark.specs.Sound.{SoundState, IsTrue}
 use Rattle.watermark.specs.Written.{settled_text, written_to}
-use Rattle.watermark.specs.Floors.{Setting}
-use Rattle.watermark.specs.Floors.{WritesSomeSettled as WritesSomeOf}
+use Rattle.watermark.specs.Floors.{Setting, WritesSomeSettled as WritesSomeOf}
 use Rattle.watermark.proofs.Marks.{is_mark, settled_le}
 use Rattle.watermark.proofs.Texts.{text_goes_on}
 use Rattle.settling.proofs.PrintLaws.{out_both}
@@ -67,7 +66,7 @@ module _ (first old new : Option (List ℕ)) (before text rest : List ℕ) (had 
   some_more WriteFault h = less_more h
   some_more NoMemory h = front_more h
 
-module _ (width : ℕ) (limits : Limits) (e : Setting) (s : State) (some : 1 ≤ width) (sound : IsSound width limits s)
+module _ (width : ℕ) (limits : Limits) (e : Setting) (s : State) (some : 1 ≤ width) (sound : SoundState width limits s)
     (are : IsTrue e.tariffs width s) (later : List Tuple) (first : AreFirst s.fed later) (fit : Fit later limits) where
   -- the output of a day begins with the text of what is done of its first tuples
   pub text_first : (n : ℕ) → n ≤ mark width s → (kept : ℕ → ℕ → ℕ → ℕ) → (rest : List ℕ)

@@ -16,7 +16,7 @@ use Rattle.settling.specs.declared.fault.SettleFault.TheVariants as settle
 use Rattle.settling.specs.Printing.{WritesSome}
 use Rattle.expressway.specs.Results.{AreFirst}
 use Rattle.watermark.specs.Shares.{State}
-use Rattle.watermark.specs.Sound.{IsSound, IsTrue}
+use Rattle.watermark.specs.Sound.{SoundState, IsTrue}
 use Rattle.watermark.specs.Floors.{Setting}
 use Rattle.watermark.proofs.Marks.{settled_le}
 use Rattle.watermark.proofs.Truths.{exact_between}
@@ -47,7 +47,7 @@ pub front_of_reading : (stop : ReadStop) (e : Setting) (day : List Tuple) (first
 front_of_reading stop e day first new h kept known =
     none_up_to stop (text_out (notices day e.tariffs e.number kept)) first new (h kept known)
 
-module _ (width : ℕ) (limits : Limits) (e : Setting) (s : State) (some : 1 ≤ width) (sound : IsSound width limits s)
+module _ (width : ℕ) (limits : Limits) (e : Setting) (s : State) (some : 1 ≤ width) (sound : SoundState width limits s)
     (are : IsTrue e.tariffs width s) (later : List Tuple) (first : AreFirst s.fed later) (fit : Fit later limits) where
   -- where the findings are true the charges up to what is settled are those of the rules, in any day that goes on from
   -- the tuples fed

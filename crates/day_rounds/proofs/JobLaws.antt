@@ -19,7 +19,7 @@ use Rattle.partition_workers.specs.Callers.{HasOut, IsListingWhereTold, ListsAll
 use Rattle.partition_workers.proofs.CallerLaws.{idle, all_home}
 use Rattle.partition_workers.proofs.ListingLaws.{where_none, where_all, where_first}
 use Rattle.watermark.specs.Shares.{State, start, events_ahead}
-use Rattle.watermark.specs.Sound.{IsSound}
+use Rattle.watermark.specs.Sound.{SoundState}
 use Rattle.watermark.specs.Starts.{HaveStarted, started_for}
 use Rattle.watermark.specs.Floors.{Setting, StandsFor}
 use Rattle.watermark.proofs.Events.{all_ahead, all_below, events_grow}
@@ -38,7 +38,7 @@ first_then a b c h k = (h.0 ++ k.0, k.1 ∙ (ap (λ xs. xs ++ k.0) h.1 ∙ appen
 
 -- what was started for a state of a day is the first of the day's
 pub first_started : (width : ℕ) (limits : Limits) (s : State) (day : List Tuple) (jobs : List Job) →
-    IsSound width limits s → AreFirst s.fed day → HaveStarted width limits.backlog s (map start_of jobs) →
+    SoundState width limits s → AreFirst s.fed day → HaveStarted width limits.backlog s (map start_of jobs) →
     HaveFirstStarted width limits.backlog day jobs
 first_started width limits s day jobs sound first have = record {
   numbered = have.numbered;
@@ -61,7 +61,7 @@ none_last [] ys h = h
 none_last (x ∷ xs) ys h = cc
 
 pub all_started : (width : ℕ) (limits : Limits) (s : State) (day : List Tuple) (jobs : List Job) →
-    IsSound width limits s → s.fed ≡ day → s.settled ≡ length day →
+    SoundState width limits s → s.fed ≡ day → s.settled ≡ length day →
     HaveStarted width limits.backlog s (map start_of jobs) → HaveAllStarted width limits.backlog day jobs
 all_started width limits s day jobs sound fed all have =
     let settled : s.settled ≡ length s.fed = all ∙ ap length (sym fed) in
@@ -89,8 +89,7 @@ none_first width limits day told = (
 
 -- the same, of an equal width and equal limits
 pub as_listed_first : (was width : ℕ) (old limits : Limits) (day : List Tuple) (told now : Option CrewTold) →
-    was ≡ width →
-    old ≡ limits →
+    was ≡ width → old ≡ limits →
     (since : List Job) × HaveFirstStarted was old.backlog day since × WhereTold (ListsFirst since) told now →
     (since : List Job) × HaveFirstStarted width limits.backlog day since × WhereTold (ListsFirst since) told now
 as_listed_first was width old limits day told now e f h =
@@ -100,8 +99,7 @@ as_listed_first was width old limits day told now e f h =
     f h)
 
 pub as_listed_all : (was width : ℕ) (old limits : Limits) (day : List Tuple) (told now : Option CrewTold) →
-    was ≡ width →
-    old ≡ limits →
+    was ≡ width → old ≡ limits →
     (since : List Job) × HaveAllStarted was old.backlog day since × WhereTold (ListsAll since) told now →
     (since : List Job) × HaveAllStarted width limits.backlog day since × WhereTold (ListsAll since) told now
 as_listed_all was width old limits day told now e f h =

@@ -32,12 +32,12 @@ use Rattle.day_rounds.specs.declared.day_run.WorkedDay.{WorkedDay}
 use Rattle.day_rounds.specs.declared.fault.DayFault.{DayFault}
 use Rattle.day_rounds.specs.declared.fault.DayFault.TheVariants.{ReadFault, NoMemory}
 use Rattle.day_rounds.specs.Days.{IsOn}
-use Rattle.day_rounds.specs.Halts.{IsCut}
+use Rattle.day_rounds.specs.Halts.{IsCutDay}
 use Rattle.day_rounds.specs.Imports.{HaveFirstStarted}
 use Rattle.day_rounds.specs.Published.{AreStepsBy, posted_more, published_of}
 use Rattle.day_rounds.specs.Runs.{Runs}
 use Rattle.day_rounds.specs.Faults.{of_reading, WritesUpTo}
-use Rattle.day_rounds.specs.Outcomes.{Task, task_of, HasStepsBy, HasRun, HasStopped}
+use Rattle.day_rounds.specs.Outcomes.{Task, task_of, HasStepsBy, HasImported, HasStopped}
 use Rattle.day_rounds.proofs.FrontLaws.{front_before}
 use Rattle.day_rounds.proofs.GrowLaws.{front_grows, steps_grow, started_grows}
 use Rattle.day_rounds.proofs.HaltLaws.{steps_rules, stepped_rules}
@@ -96,7 +96,7 @@ module _ {S T : Type 0} (out : S → List ℕ) (number : T → ℕ) (holds : S �
       ((limits : Limits) (late : ℕ) (left : Option (List ℕ)) (bytes : List ℕ) (given : List Tuple) →
       IsAhead b limits late left bytes given → EndsReading r.end bytes (reads bytes limits late).refused) →
       IsShortDay r.end →
-      HasRun (task_of e w l late) exact (λ bytes. IsAhead a l late was bytes []) answered (answers crew) told
+      HasImported (task_of e w l late) exact (λ bytes. IsAhead a l late was bytes []) answered (answers crew) told
       (jobs crew) old new before posted r
   whole_run none r count closed ends short = record {
     day = s.fed;
@@ -149,8 +149,8 @@ pub cut_stopped : {S T : Type 0} (out : S → List ℕ) (number : T → ℕ) (ho
     (gave : S → T → Type 0) (exact : Bool) (jobs : S → Option CrewTold)
     (fault : DayFault) (e : Setting) (told : Option CrewTold) (width : ℕ) (limits : Limits) (late : ℕ) (a : DayAhead)
     (was old new : Option (List ℕ)) (before posted : Option Posted) (run : Import T) (crew last : S) →
-    (h : IsCut out number holds gave exact jobs fault e told width limits late a was old new before posted run crew) →
-    (since : List Job) × HaveFirstStarted width limits.backlog h.fed since
+    (h : IsCutDay out number holds gave exact jobs fault e told width limits late a was old new before posted run crew)
+    → (since : List Job) × HaveFirstStarted width limits.backlog h.fed since
     × WhereTold (ListsFirst since) told (jobs last) →
     HasStopped (task_of e width limits late) exact (λ bytes. IsAhead a limits late was bytes []) told
     (jobs last) old new before posted fault
@@ -177,8 +177,8 @@ under P w n l m wide same h = subst (λ k. P k m) wide (subst (P w) same h)
 module _ (t : Task) (exact : Bool) (was_is is : List ℕ → Type 0) (sees : (bytes : List ℕ) → is bytes → was_is bytes)
     (jobs listed : Option CrewTold) (text new : Option (List ℕ)) (was posted : Option Posted) where
   pub seen_run : (answers answered : Option (List Finding)) (r : WorkedDay) →
-      HasRun t exact was_is answers answered jobs listed text new was posted r →
-      HasRun t exact is answers answered jobs listed text new was posted r
+      HasImported t exact was_is answers answered jobs listed text new was posted r →
+      HasImported t exact is answers answered jobs listed text new was posted r
   seen_run answers answered r h = record {
     day = h.day;
     fit = h.fit;

@@ -7,8 +7,7 @@ use Rattle.road_time.specs.declared.day.Limits.{Limits}
 use Rattle.road_time.specs.Reads.{reads}
 use Rattle.day_reading.specs.declared.day_ahead.DayAhead.{DayAhead}
 use Rattle.day_reading.specs.declared.whole_day.ReadStop.{ReadStop}
-use Rattle.road_io.specs.Cutter.{held}
-use Rattle.road_io.specs.Cutter.{ahead as cutter_ahead}
+use Rattle.road_io.specs.Cutter.{held, ahead as cutter_ahead}
 use Rattle.road_io.specs.declared.cutter.LineCutter.{LineCutter}
 use Rattle.day_reading.specs.declared.day_ahead.Following.{Following}
 use Rattle.day_reading.specs.declared.day_ahead.Following.TheVariants.{Waits, Ends, Stops}
@@ -33,8 +32,7 @@ given_none limits late d left = record {
 -- some, and then some more
 pub given_more : (limits : Limits) (late : ℕ) (xs ys : List Tuple) (old mid new : DayAhead)
     (was between left : Option (List ℕ)) → HasGiven limits late xs old mid was between →
-    HasGiven limits late ys mid new between left →
-    HasGiven limits late (xs ++ ys) old new was left
+    HasGiven limits late ys mid new between left → HasGiven limits late (xs ++ ys) old new was left
 given_more limits late xs ys old mid new was between left a b = record {
   gathers = λ given h. subst (IsGatheringAhead new limits late) (append_assoc given xs ys)
       (b.gathers (given ++ xs) (a.gathers given h));

@@ -17,20 +17,20 @@ use Rattle.partition_workers.specs.Told.{CrewTold}
 use Rattle.watermark.specs.Shares.{State, can_give}
 use Rattle.watermark.specs.Steps.{given_out, taken_back, after_give}
 use Rattle.watermark.specs.Written.{settled_text, settled_charges}
-use Rattle.watermark.specs.Sound.{IsSound}
+use Rattle.watermark.specs.Sound.{SoundState}
 use Rattle.watermark.specs.Floors.{Setting}
 use Rattle.watermark.proofs.Workers.{for_worker, at_own, at_other}
 use Rattle.watermark.proofs.Marks.{all_back}
 use Rattle.watermark.proofs.Texts.{same_told, merged_same, charged_same, not_settled, long_first}
 use Rattle.day_rounds.specs.Published.{settled_between}
-use Rattle.day_rounds.specs.Runs.{Runs, Stopped, CameBack, IsLater, IsDone, fed_all, given_all}
+use Rattle.day_rounds.specs.Runs.{Runs, Stopped, CameBack, OnlyTakesBack, IsDone, after_feeds, given_all}
 use Rattle.day_rounds.specs.declared.begun.Import.{Import}
 use Rattle.day_rounds.proofs.OpenLaws.{out_none}
 use Rattle.day_rounds.proofs.FeedLaws.{fed_are, fed_settled, fed_found, fed_out, fed_first}
 use Rattle.day_rounds.proofs.FinishLaws.{listing_weaker}
 
 -- a state is no earlier than itself, nor than one before one before it
-pub later_same : (s : State) → IsLater s s
+pub later_same : (s : State) → OnlyTakesBack s s
 later_same s =
     record {
       fed = refl;
@@ -42,7 +42,7 @@ later_same s =
           λ a b. refl;
     }
 
-pub later_then : (s mid now : State) → IsLater s mid → IsLater mid now → IsLater s now
+pub later_then : (s mid now : State) → OnlyTakesBack s mid → OnlyTakesBack mid now → OnlyTakesBack s now
 later_then s mid now a b = record {
   fed = b.fed ∙ a.fed;
   settled = b.settled ∙ a.settled;
@@ -53,13 +53,13 @@ later_then s mid now a b = record {
 }
 
 -- one that came back
-pub came_later : (width : ℕ) (limits : Limits) (s now : State) → IsSound width limits s → CameBack width s now →
-    IsLater s now
+pub came_later : (width : ℕ) (limits : Limits) (s now : State) → SoundState width limits s → CameBack width s now →
+    OnlyTakesBack s now
 came_later width limits s now sound came =
     let low = not_settled width limits s came.worker came.job came.found sound came.can in
     let first = take s.settled s.fed in
     let long = long_first width limits s sound in
-    subst (IsLater s) (sym came.is) (record {
+    subst (OnlyTakesBack s) (sym came.is) (record {
       fed = refl;
       settled = refl;
       waiting = λ w. for_worker (λ sh. sh.waiting ≡ (s.share w).waiting) came.worker w taken_back s.share
@@ -193,10 +193,10 @@ module _ {S T : Type 0} (out : S → List ℕ) (number : T → ℕ) (holds : S �
     w = run.floor.inboxes.width
 
     abbrev fed : State
-    fed = fed_all w s xs
+    fed = after_feeds w s xs
 
     -- all that was fed is done, where all jobs that were given are back
-    pub round_done : (now : State) → IsLater (given_all fed w) now → ((v : ℕ) → v < w → (now.share v).out ≡ []) →
+    pub round_done : (now : State) → OnlyTakesBack (given_all fed w) now → ((v : ℕ) → v < w → (now.share v).out ≡ []) →
         IsDone w s xs now
     round_done now later none =
         let t = given_all fed w in

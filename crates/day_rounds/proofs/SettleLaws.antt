@@ -20,7 +20,7 @@ use Rattle.watermark.specs.Steps.{after_settle}
 use Rattle.watermark.specs.Written.{settled_text, written_to}
 use Rattle.watermark.specs.Sound.{IsTrue}
 use Rattle.watermark.specs.Starts.{HaveStarted}
-use Rattle.watermark.specs.Floors.{Setting, StandsFor, Writes}
+use Rattle.watermark.specs.Floors.{Setting, StandsFor, WritesText}
 use Rattle.watermark.proofs.Texts.{text_goes_on}
 use Rattle.accounts.specs.Operations.{Posted}
 use Rattle.day_rounds.specs.Fronts.{HasText}
@@ -43,7 +43,7 @@ if_fault (Err e) h p = h e p
 
 -- what is written is the text of the positions up to the mark
 pub written_is : (e : Setting) (s : State) (n : ℕ) (kept : ℕ → ℕ → ℕ → ℕ) (old now : Option (List ℕ)) → s.settled ≤ n →
-    n ≤ length s.fed → e.history ≡ Some kept → Writes e s n old now → Appends old now (written_to e.number kept s n)
+    n ≤ length s.fed → e.history ≡ Some kept → WritesText e s n old now → Appends old now (written_to e.number kept s n)
 written_is e s n kept old now low high known wrote =
     let (told, are, put) = wrote in
     let sum : s.settled + (n - s.settled) ≡ n = omega (arith, low) in
@@ -62,7 +62,7 @@ written_is e s n kept old now low high known wrote =
 
 -- the text goes on
 pub text_more : (e : Setting) (s : State) (n : ℕ) → s.settled ≤ n → n ≤ length s.fed → (first old new : Option (List ℕ))
-    → Writes e s n old new → HasText e s first old → HasText e (after_settle s n) first new
+    → WritesText e s n old new → HasText e s first old → HasText e (after_settle s n) first new
 text_more e s n low within first old new wrote had kept known =
     subst (Appends first new) (sym (text_goes_on s n low within e.number kept))
     (Appends-trans first old new (settled_text e.number kept s) (written_to e.number kept s n) (had kept known)

@@ -5,7 +5,7 @@ use Rattle.std.proofs.lemmas.Bool.{cases_Bool, cases_eq}
 use Rattle.road_time.specs.declared.day.Limits.{Limits}
 use Rattle.watermark.specs.Shares.{State, events_ahead, is_empty, can_give, mark}
 use Rattle.watermark.specs.Steps.{given_out, taken_back, after_give, after_back}
-use Rattle.watermark.specs.Sound.{IsSound}
+use Rattle.watermark.specs.Sound.{SoundState}
 use Rattle.watermark.proofs.Workers.{for_worker, at_own, at_other, nothing_out}
 use Rattle.watermark.proofs.Jobs.{some_out}
 use Rattle.watermark.proofs.Marks.{all_back}
@@ -130,7 +130,7 @@ one_back width s now came =
     (λ v ne. ap (λ sh. sh.out) (at_other w v taken_back s.share ne)) in
     subst (HasWorked width 1 s) (sym came.is) (omega (arith, was, none, less))
 
-pub came_moved : (width : ℕ) (limits : Limits) (s now : State) → IsSound width limits s → CameBack width s now →
+pub came_moved : (width : ℕ) (limits : Limits) (s now : State) → SoundState width limits s → CameBack width s now →
     IsMoved width 1 s now
 came_moved width limits s now sound came =
     let later = came_later width limits s now sound came in

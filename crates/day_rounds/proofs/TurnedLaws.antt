@@ -19,20 +19,19 @@ use Rattle.watermark.proofs.Events.{all_ahead, all_below}
 use Rattle.day_rounds.specs.declared.begun.Import.{Import}
 use Rattle.keeper.proofs.ListFacts.{no_length}
 use Rattle.day_rounds.specs.Tasks.{out_at, one_out, one_if}
-use Rattle.day_rounds.specs.Runs.{Runs, fed_all}
+use Rattle.day_rounds.specs.Runs.{Runs, after_feeds}
 use Rattle.accounts.specs.Operations.{Posted}
 use Rattle.day_rounds.specs.Fronts.{HasText}
-use Rattle.day_rounds.specs.Published.{HasStepped}
+use Rattle.day_rounds.specs.Published.{HasStepped, settled_between}
 use Rattle.day_rounds.proofs.PublishLaws.{stepped_moved}
 use Rattle.day_rounds.specs.Turns.{IsMoved, IsTurned}
 use Rattle.day_rounds.proofs.OpenLaws.{out_same}
 use Rattle.day_rounds.proofs.FeedLaws.{fed_are, fed_settled, fed_found, fed_first, fed_out}
-use Rattle.day_rounds.specs.Published.{settled_between}
 use Rattle.day_rounds.proofs.RoundLaws.{text_same, charges_same, between_same}
 use Rattle.day_rounds.proofs.SettleLaws.{text_kept}
 
 -- feeding gives no job
-fed_given : (width : ℕ) (s : State) (xs : List Tuple) → (fed_all width s xs).given ≡ s.given
+fed_given : (width : ℕ) (s : State) (xs : List Tuple) → (after_feeds width s xs).given ≡ s.given
 fed_given width s [] = refl
 fed_given width s (x ∷ xs) = fed_given width (after_feed width s x) xs
 
@@ -41,31 +40,32 @@ from_fed a b c o p q k e f h = omega (arith, e, f, h)
 
 -- the charges that were settled before stay
 pub turn_charges : (width k : ℕ) (s mid : State) (xs : List Tuple) → s.settled ≤ length s.fed →
-    IsMoved width k (fed_all width s xs) mid → settled_charges mid ≡ settled_charges s
-turn_charges width k s mid xs low moved = moved.charges ∙ charges_same s (fed_all width s xs) (fed_first width s xs low)
+    IsMoved width k (after_feeds width s xs) mid → settled_charges mid ≡ settled_charges s
+turn_charges width k s mid xs low moved = moved.charges ∙ charges_same s (after_feeds width s xs)
+    (fed_first width s xs low)
     (fed_found width s xs)
 
 pub turn_between : (width k : ℕ) (s mid : State) (xs : List Tuple) → s.settled ≤ length s.fed →
-    IsMoved width k (fed_all width s xs) mid → (a b : ℕ) → settled_between mid a b ≡ settled_between s a b
+    IsMoved width k (after_feeds width s xs) mid → (a b : ℕ) → settled_between mid a b ≡ settled_between s a b
 turn_between width k s mid xs low moved a b = moved.between a b
-    ∙ between_same s (fed_all width s xs) (fed_first width s xs low) (fed_found width s xs) a b
+    ∙ between_same s (after_feeds width s xs) (fed_first width s xs low) (fed_found width s xs) a b
 
 -- nor does the text
 pub turn_text : (width k : ℕ) (s mid : State) (xs : List Tuple) → s.settled ≤ length s.fed →
-    IsMoved width k (fed_all width s xs) mid → (d : ℕ) (kept : ℕ → ℕ → ℕ → ℕ) →
+    IsMoved width k (after_feeds width s xs) mid → (d : ℕ) (kept : ℕ → ℕ → ℕ → ℕ) →
     settled_text d kept mid ≡ settled_text d kept s
 turn_text width k s mid xs low moved d kept = moved.text d kept
-    ∙ text_same s (fed_all width s xs) (fed_first width s xs low) (fed_found width s xs) d kept
+    ∙ text_same s (after_feeds width s xs) (fed_first width s xs low) (fed_found width s xs) d kept
 
 pub turn_is : (width backlog : ℕ) (e : Setting) (s mid : State) (xs : List Tuple) (n k : ℕ) (old new : Option (List ℕ))
-    (was posted : Option Posted) → s.settled ≤ length s.fed → IsMoved width k (fed_all width s xs) mid →
-    (k ≡ 0 → mark width (fed_all width s xs) ≡ length (fed_all width s xs).fed) → n ≡ mark width mid →
+    (was posted : Option Posted) → s.settled ≤ length s.fed → IsMoved width k (after_feeds width s xs) mid →
+    (k ≡ 0 → mark width (after_feeds width s xs) ≡ length (after_feeds width s xs).fed) → n ≡ mark width mid →
     ((first : Option (List ℕ)) → HasText e mid first old → HasText e (after_settle mid n) first new) →
     ((before : Option Posted) → HasStepped backlog mid before was →
     HasStepped backlog (after_settle mid n) before posted) →
     IsTurned width backlog k e s xs old new was posted (after_settle mid n)
 turn_is width backlog e s mid xs n k old new was posted low moved idle is text steps =
-    let fed = fed_all width s xs in
+    let fed = after_feeds width s xs in
     record {
       fed = moved.fed ∙ fed_are width s xs;
       marked = is;
@@ -76,7 +76,8 @@ turn_is width backlog e s mid xs n k old new was posted low moved idle is text s
       worked = from_fed s.given fed.given mid.given (out_at s.share width) (out_at fed.share width)
           (out_at mid.share width) k (fed_given width s xs)
           (out_same s.share fed.share width (λ v h. fed_out width s xs v)) moved.worked;
-      idle = λ none no. subst (λ ys. mark width (fed_all width s ys) ≡ length (fed_all width s ys).fed) no (idle none);
+      idle = λ none no. subst (λ ys. mark width (after_feeds width s ys) ≡ length (after_feeds width s ys).fed) no
+          (idle none);
     }
 
 -- a turn does something

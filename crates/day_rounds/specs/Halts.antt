@@ -37,7 +37,7 @@ pub record IsHalted {S T : Type 0} (out : S → List ℕ) (number : T → ℕ) (
       HasSteps e.tariffs fed limits.backlog before posted
 
 -- the same of a day from its start
-pub record IsCut {S T : Type 0} (out : S → List ℕ) (number : T → ℕ) (holds : S → ℕ → Job → Type 0)
+pub record IsCutDay {S T : Type 0} (out : S → List ℕ) (number : T → ℕ) (holds : S → ℕ → Job → Type 0)
     (gave : S → T → Type 0) (exact : Bool) (jobs : S → Option CrewTold)
     (fault : DayFault) (e : Setting) (told : Option CrewTold) (width : ℕ) (limits : Limits) (late : ℕ)
     (ahead : DayAhead)

@@ -2,6 +2,7 @@
 use Rattle.std.specs.Prelude.{◌≡◌, ◌≤◌, ℕ, Bool, true, List, ◌++◌, length, Option, Some}
 use Rattle.std.specs.Option.{option_map}
 use Rattle.std.specs.Io.KnownBytes.{Appends}
+use Rattle.road_time.specs.declared.tariff.TheConstants.{GREATEST_TOLL}
 use Rattle.road_time.specs.declared.road.Tuple.{Tuple}
 use Rattle.road_time.specs.declared.day.Limits.{Limits}
 use Rattle.road_time.specs.Rates.{Tariffs}
@@ -62,7 +63,7 @@ HasStartedFirst t day jobs listed = (since : List Job) × HaveFirstStarted t.wid
 -- a day of some bytes was imported: the tuples that were read are all of those that the bytes are; what was written,
 -- closed and published of them is by the findings that the
 -- crew answered, and over an exact crew by the rules; and the jobs that were started are all of each worker's
-pub record HasRun (t : Task) (exact : Bool) (is : List ℕ → Type 0) (answers answered : Option (List Finding))
+pub record HasImported (t : Task) (exact : Bool) (is : List ℕ → Type 0) (answers answered : Option (List Finding))
     (jobs listed : Option CrewTold) (old new : Option (List ℕ)) (was posted : Option Posted) (run : WorkedDay) : Type
     0 where
   pub day : List Tuple
@@ -73,7 +74,7 @@ pub record HasRun (t : Task) (exact : Bool) (is : List ℕ → Type 0) (answers 
   pub count : run.tuples ≡ length day
   pub found : List (ℕ × RoadFinding)
   pub found_are : HasAnswered answers found answered
-  pub few : (s : Sight) → (given found s).toll ≤ 500000000000
+  pub few : (s : Sight) → (given found s).toll ≤ GREATEST_TOLL
   pub wrote : (kept : ℕ → ℕ → ℕ → ℕ) → t.history ≡ Some kept → Appends old new (out (merged day found t.number kept))
   pub exactly : exact ≡ true → (kept : ℕ → ℕ → ℕ → ℕ) → t.history ≡ Some kept →
       Appends old new (out (notices day t.tariffs t.number kept))

@@ -14,7 +14,7 @@ use Rattle.watermark.specs.Written.{settled_text, settled_charges}
 use Rattle.expressway.specs.Results.{AreFirst}
 use Rattle.road_time.specs.declared.day.Limits.{Limits}
 use Rattle.road_time.specs.Fits.{Fit}
-use Rattle.watermark.specs.Sound.{CanBack, IsSound, IsTrue}
+use Rattle.watermark.specs.Sound.{CanBack, SoundState, IsTrue}
 use Rattle.watermark.specs.Starts.{JobStart, HaveStarted}
 use Rattle.watermark.specs.Floors.{Setting, StandsFor}
 use Rattle.day_rounds.specs.Tasks.{AreOpen}
@@ -56,7 +56,7 @@ pub record Stopped {S T : Type 0} (out : S → List ℕ) (number : T → ℕ) (h
     (gave : S → T → Type 0) (jobs : S → Option CrewTold)
     (told : Option CrewTold) (width : ℕ) (limits : Limits) (day : List Tuple) (run : Import T) (crew : S) : Type 0 where
   pub state : State
-  pub sound : IsSound width limits state
+  pub sound : SoundState width limits state
   pub first : AreFirst state.fed day
   pub tasks : List (T × Job)
   pub tickets : map (λ t. t.0) tasks ≡ run.tickets.items
@@ -83,12 +83,12 @@ given_all s zero = s
 given_all s (suc worker) = given_if (given_all s worker) worker
 
 -- some tuples are fed, one after another
-abbrev pub fed_all : ℕ → State → List Tuple → State
-fed_all width s [] = s
-fed_all width s (x ∷ xs) = fed_all width (after_feed width s x) xs
+abbrev pub after_feeds : ℕ → State → List Tuple → State
+after_feeds width s [] = s
+after_feeds width s (x ∷ xs) = after_feeds width (after_feed width s x) xs
 
 -- nothing was fed, given or settled from one state to a later one
-pub record IsLater (s now : State) : Type 0 where
+pub record OnlyTakesBack (s now : State) : Type 0 where
   pub fed : now.fed ≡ s.fed
   pub settled : now.settled ≡ s.settled
   pub waiting : (worker : ℕ) → (now.share worker).waiting ≡ (s.share worker).waiting

@@ -11,7 +11,7 @@ ghost use Rattle.watermark.specs.Shares.{start};
 ghost use Rattle.watermark.specs.Floors.{Setting};
 ghost use Rattle.day_rounds.specs.Runs.{Runs};
 ghost use Rattle.day_rounds.specs.Faults.{IsCounted};
-ghost use Rattle.day_rounds.specs.Outcomes.{task_of, HasRun, HasStopped};
+ghost use Rattle.day_rounds.specs.Outcomes.{task_of, HasImported, HasStopped};
 ghost use Rattle.day_rounds.specs.declared.fault.DayFault.TheVariants.{ReadFault, WriteFault, KeeperFault};
 
 use crate::begun::Import;
@@ -65,7 +65,7 @@ pub fn run_opened<C: Crew, S: Source, K: Keeper, O: Sink, P: Publisher, R: Threa
         → Runs C.out C.number C.holds C.gave C.exact C.jobs C.answers e (C.jobs crew.old) (C.answers crew.old) run
         crew.old start
         → IsGatheringAhead ahead run.floor.limits late [] → e.number ≡ day → e.history ≡ history_of (K.told keeper.old)
-        → HasRun (task_of e run.floor.inboxes.width run.floor.limits late) C.exact
+        → HasImported (task_of e run.floor.inboxes.width run.floor.limits late) C.exact
         (λ bytes. IsAhead ahead run.floor.limits late (S.left source.old) bytes [])
         (C.answers crew.old) (C.answers crew.new) (C.jobs crew.old) (C.jobs crew.new) (O.written sink.old)
         (O.written sink.new) (P.posted publisher.old) (P.posted publisher.new) r) }

@@ -9,7 +9,7 @@ ghost use Rattle.settling.specs.Answers.{history_of};
 ghost use Rattle.settling.specs.Boards.{IsAbreast};
 ghost use Rattle.watermark.specs.Terms.{AreTerms};
 ghost use Rattle.day_rounds.specs.Faults.{IsCounted};
-ghost use Rattle.day_rounds.specs.Outcomes.{HasRun, HasStopped};
+ghost use Rattle.day_rounds.specs.Outcomes.{HasImported, HasStopped};
 ghost use Rattle.day_rounds.specs.declared.fault.DayFault.TheVariants.{ReadFault, WriteFault, KeeperFault};
 
 use crate::day_run::{WorkedDay, run_opened};
@@ -49,7 +49,7 @@ pub fn run_day<C: Crew, S: Source, K: Keeper, O: Sink, P: Publisher, R: Threads>
     ensures idle { C.out crew.new ≡ [] }
     ensures crew { C.which crew.new ≡ C.which crew.old }
     ensures ran { IfOk result (λ run.
-        HasRun (record {
+        HasImported (record {
           width = plan.now.width;
           limits = limits.now;
           late = late;

@@ -11,7 +11,7 @@ ghost use Rattle.watermark.specs.Shares.{State, start};
 ghost use Rattle.watermark.specs.Floors.{Setting};
 ghost use Rattle.day_rounds.specs.Runs.{Runs};
 ghost use Rattle.day_rounds.specs.Days.{IsOn};
-ghost use Rattle.day_rounds.specs.Halts.{IsCut};
+ghost use Rattle.day_rounds.specs.Halts.{IsCutDay};
 ghost use Rattle.day_rounds.specs.Faults.{IsCounted};
 ghost use Rattle.day_rounds.specs.declared.fault.DayFault.TheVariants.{ReadFault, WriteFault, KeeperFault};
 
@@ -70,7 +70,7 @@ pub fn run_plan<C: Crew, S: Source, K: Keeper, O: Sink, P: Publisher, R: Threads
         → Runs C.out C.number C.holds C.gave C.exact C.jobs C.answers e told answered run.old crew.old start
         → IsGatheringAhead ahead.old run.old.floor.limits late []
         → e.number ≡ day → e.history ≡ history_of (K.told keeper.old)
-        → IsCut C.out C.number C.holds C.gave C.exact C.jobs fault e told run.old.floor.inboxes.width
+        → IsCutDay C.out C.number C.holds C.gave C.exact C.jobs fault e told run.old.floor.inboxes.width
         run.old.floor.limits late ahead.old (S.left source.old)
         (O.written sink.old) (O.written sink.new) (P.posted publisher.old) (P.posted publisher.new) run.new crew.new) }
     ensures read { (lines : ℕ) (bytes : List ℕ) → HasReadAhead ahead.old lines (S.left source.old) bytes

@@ -11,7 +11,7 @@ ghost use Rattle.partition_workers.specs.Told.{CrewTold};
 ghost use Rattle.watermark.specs.Shares.{State};
 ghost use Rattle.watermark.specs.Floors.{Setting, StandsFor};
 ghost use Rattle.day_rounds.specs.Readers.{HasReadOn};
-ghost use Rattle.day_rounds.specs.Runs.{Runs, Stopped, CanFeedAll, IsLater, IsDone, fed_all, given_all};
+ghost use Rattle.day_rounds.specs.Runs.{Runs, Stopped, CanFeedAll, OnlyTakesBack, IsDone, after_feeds, given_all};
 
 use crate::begun::Import;
 use crate::finish::finish_one;
@@ -31,7 +31,7 @@ pub fn feed_these<T: Drop>(run: &mut Import<T>, these: &[Tuple]) -> Result<(), N
     ensures tickets { run.new.tickets.items ≡ run.old.tickets.items }
     ensures fed { OnOk result ((e : Setting) (s : State) → StandsFor e run.old.floor s
         → CanFeedAll run.old.floor.limits s these.now
-        → StandsFor e run.new.floor (fed_all run.old.floor.inboxes.width s these.now)) }
+        → StandsFor e run.new.floor (after_feeds run.old.floor.inboxes.width s these.now)) }
 {
     for tuple in these {
         run.floor.feed(*tuple)?;
@@ -77,7 +77,8 @@ pub fn finish_firsts<C: Crew>(run: &mut Import<C::Ticket>, crew: &mut C) -> Resu
     ensures none { OnOk result (run.new.tickets.items ≡ []) }
     ensures came { OnOk result ((e : Setting) (told : Option CrewTold) (answered : Option (List Finding)) (s : State)
         → Runs C.out C.number C.holds C.gave C.exact C.jobs C.answers e told answered run.old crew.old s
-        → (now : State) × IsLater s now × Runs C.out C.number C.holds C.gave C.exact C.jobs C.answers e told answered
+        → (now : State) × OnlyTakesBack s now × Runs C.out C.number C.holds C.gave C.exact C.jobs C.answers e told
+        answered
         run.new crew.new now) }
     ensures stopped { OnErr result ((e : Setting) (told : Option CrewTold) (answered : Option (List Finding))
         (s : State)

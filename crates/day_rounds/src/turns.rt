@@ -12,7 +12,7 @@ ghost use Rattle.settling.specs.Faults.{SinkFaults, KeeperFaults};
 ghost use Rattle.watermark.specs.Shares.{State, mark};
 ghost use Rattle.watermark.specs.Written.{settled_charges};
 ghost use Rattle.watermark.specs.Floors.{Setting};
-ghost use Rattle.day_rounds.specs.Runs.{Runs, Stopped, CanFeedAll, fed_all};
+ghost use Rattle.day_rounds.specs.Runs.{Runs, Stopped, CanFeedAll, after_feeds};
 ghost use Rattle.day_rounds.specs.Turns.{IsMoved, IsTurned};
 ghost use Rattle.day_rounds.specs.Published.{published_of};
 ghost use Rattle.day_rounds.specs.Fronts.{HasText, HasFront};
@@ -48,11 +48,11 @@ pub fn feed_turn<C: Crew>(
         → Runs C.out C.number C.holds C.gave C.exact C.jobs C.answers e told answered run.old crew.old s
         → CanFeedAll run.old.floor.limits s these.now
         → (now : State) × (k : ℕ)
-        × IsMoved run.old.floor.inboxes.width k (fed_all run.old.floor.inboxes.width s these.now) now
+        × IsMoved run.old.floor.inboxes.width k (after_feeds run.old.floor.inboxes.width s these.now) now
         × Runs C.out C.number C.holds C.gave C.exact C.jobs C.answers e told answered run.new crew.new now
         × (k ≡ 0
-        → mark run.old.floor.inboxes.width (fed_all run.old.floor.inboxes.width s these.now)
-        ≡ length (fed_all run.old.floor.inboxes.width s these.now).fed)) }
+        → mark run.old.floor.inboxes.width (after_feeds run.old.floor.inboxes.width s these.now)
+        ≡ length (after_feeds run.old.floor.inboxes.width s these.now).fed)) }
     ensures stopped { OnErr result ((e : Setting) (told : Option CrewTold) (answered : Option (List Finding))
         (s : State)
         → Runs C.out C.number C.holds C.gave C.exact C.jobs C.answers e told answered run.old crew.old s

@@ -2,7 +2,7 @@
 ghost use Rattle.std.specs.Prelude.{◌≡◌, ◌≤◌, ◌⊎◌, [], None, map, string_bytes};
 ghost use Rattle.road_io.specs.Faults.{Rose};
 ghost use Rattle.road_time.specs.Fits.{IsLimits};
-ghost use Rattle.server_words.specs.Meaning.{means};
+ghost use Rattle.server_words.specs.Meaning.{serving_meant};
 ghost use Rattle.desk_server.specs.Endings.{counts_of, EndsWith, HasServed};
 
 use crate::ending::ServerEnd;
@@ -37,13 +37,13 @@ pub fn serve_words<
     requires within { IsLimits limits.now }
     requires idle { C.out crew ≡ [] }
     requires unused { D.accepted door.old ≡ 0 }
-    ensures ends { EndsWith (means (map string_bytes words.now))
+    ensures ends { EndsWith (serving_meant (map string_bytes words.now))
         (counts_of (D.refused door.old) (D.faults door.old) (D.accepted door.old))
         (counts_of (D.refused door.new) (D.faults door.new) (D.accepted door.new)) result.0 }
-    ensures served { result.0 ≡ 0 → HasServed (means (map string_bytes words.now))
+    ensures served { result.0 ≡ 0 → HasServed (serving_meant (map string_bytes words.now))
         (counts_of (D.refused door.new) (D.faults door.new) (D.accepted door.new)) }
-    ensures words { result.0 ≡ 1 → means (map string_bytes words.now) ≡ None }
-    ensures no_words { means (map string_bytes words.now) ≡ None → (result.0 ≡ 1) ⊎ (result.0 ≡ 8) }
+    ensures words { result.0 ≡ 1 → serving_meant (map string_bytes words.now) ≡ None }
+    ensures no_words { serving_meant (map string_bytes words.now) ≡ None → (result.0 ≡ 1) ⊎ (result.0 ≡ 8) }
     ensures untouched { result.0 ≡ 1 → door.new ≡ door.old }
     ensures refused { result.0 ≡ 2 → Rose (D.refused door.old) (D.refused door.new) }
     ensures fault { result.0 ≡ 4 → Rose (D.faults door.old) (D.faults door.new) }

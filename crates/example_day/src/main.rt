@@ -8,7 +8,7 @@ ghost use Rattle.road_time.specs.Fits.{IsDay, Fit};
 ghost use Rattle.road_time.specs.Day.{notices as notices_of};
 ghost use Rattle.road_time.specs.Text.{out};
 ghost use Rattle.road_time.specs.declared.day.TheConstants.Limits.{DAY};
-ghost use Rattle.validator.specs.History.{paid, KeysDiffer};
+ghost use Rattle.road_time.specs.History.{paid, KeysDiffer};
 
 use day_reading::DayReader;
 use reports::accident_log;

@@ -27,9 +27,9 @@ use Rattle.expressway.proofs.ShapeLaws.{shaped}
 use Rattle.watermark.specs.declared.floor.Floor.{Floor}
 use Rattle.watermark.specs.Shares.{State, events_ahead, ahead_of, can_give, mark}
 use Rattle.watermark.specs.Steps.{given_out, taken_back, after_give, after_back}
-use Rattle.watermark.specs.Sound.{IsSound, IsTrue}
+use Rattle.watermark.specs.Sound.{SoundState, IsTrue}
 use Rattle.watermark.specs.Jobs.{IsNext, MayComeBack}
-use Rattle.watermark.specs.Floors.{Setting, StandsFor, Serves, Writes}
+use Rattle.watermark.specs.Floors.{Setting, StandsFor, StandsForSome, WritesText}
 use Rattle.watermark.proofs.Jobs.{next_ready, goes_out, some_out, comes_back, ok_is}
 use Rattle.watermark.proofs.Workers.{at_own, at_other}
 use Rattle.watermark.proofs.Marks.{all_back}
@@ -159,7 +159,7 @@ runs_back tariffs s (suc n) home w k =
 
 -- the findings stay true
 pub run_true : (tariffs : Tariffs) (width : ℕ) (limits : Limits) (s : State) (worker : ℕ) → worker < width →
-    can_give (s.share worker) ≡ true → IsSound width limits (after_give s worker) → IsTrue tariffs width s →
+    can_give (s.share worker) ≡ true → SoundState width limits (after_give s worker) → IsTrue tariffs width s →
     IsTrue tariffs width (after_run tariffs s worker)
 run_true tariffs width limits s worker within can sound are =
     let given = after_give s worker in
@@ -185,8 +185,7 @@ runs_settled tariffs s (suc n) =
 -- what is written of the whole day, where all is answered, is the output of the rules
 pub all_written : (e : Setting) (s t : State) (width n : ℕ) (kept : ℕ → ℕ → ℕ → ℕ) (old now : Option (List ℕ)) →
     AreAnswered e.tariffs width s.fed t → t.settled ≡ 0 → n ≡ mark width t → e.history ≡ Some kept →
-    Writes e t n old now →
-    (n ≡ length s.fed) × Appends old now (out (notices s.fed e.tariffs e.number kept))
+    WritesText e t n old now → (n ≡ length s.fed) × Appends old now (out (notices s.fed e.tariffs e.number kept))
 all_written e s t width n kept old now are none is history wrote =
     let all : n ≡ length s.fed = is ∙ are.mark_is in
     let told = wrote.0 in
@@ -208,7 +207,7 @@ all_written e s t width n kept old now are none is history wrote =
 
 -- so all is answered
 pub answered : (tariffs : Tariffs) (width : ℕ) (limits : Limits) (s : State) → 1 ≤ width → AllHome s →
-    IsSound width limits (after_runs tariffs s width) → IsTrue tariffs width (after_runs tariffs s width) →
+    SoundState width limits (after_runs tariffs s width) → IsTrue tariffs width (after_runs tariffs s width) →
     AreAnswered tariffs width s.fed (after_runs tariffs s width)
 answered tariffs width limits s some home sound are =
     let t = after_runs tariffs s width in
@@ -244,5 +243,5 @@ when_both (Ok x) h p q = h x p q
 when_both (Err e) h p q = tt
 
 -- a floor that stands for a state serves
-pub serves : {g : Setting} {f : Floor} {s : State} → StandsFor g f s → Serves f
+pub serves : {g : Setting} {f : Floor} {s : State} → StandsFor g f s → StandsForSome f
 serves {g} {f} {s} st = record { setting = g; state = s; stands = st }

@@ -25,8 +25,7 @@ use Rattle.example_floor.specs.Stops.{TakesDay, StopsDay}
 
 -- nothing was written yet
 pub not_begun : (day : List Tuple) (tariffs : Tariffs) (number : ℕ) (kept : ℕ → ℕ → ℕ → ℕ) (w : Level)
-    (plan : AskingPlan) →
-    StopsDay NoMemory day tariffs number kept w w plan plan
+    (plan : AskingPlan) → StopsDay NoMemory day tariffs number kept w w plan plan
 not_begun day tariffs number kept w plan =
     ((0, omega arith, appends_none w.0, takes_none w.1), (0, omega arith, passes_none plan))
 
@@ -105,8 +104,7 @@ module _ (e : Setting) (s t : State) (width n : ℕ) (kept : ℕ → ℕ → ℕ
 
   -- a day that was stopped
   pub day_stopped : (fault : SettleFault) (old now : Level) (plan left : AskingPlan) →
-      StopsSettling fault e t n old now plan left →
-      StopsDay fault s.fed e.tariffs e.number kept old now plan left
+      StopsSettling fault e t n old now plan left → StopsDay fault s.fed e.tariffs e.number kept old now plan left
   day_stopped fault old now plan left h =
       stopped_by fault old now plan left
       (on_day (λ k b r. StopsRun fault (given t.found) e.number k b r old now plan left) h)

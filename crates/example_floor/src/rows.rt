@@ -6,7 +6,7 @@ ghost use Rattle.road_time.specs.declared.day.TheConstants.Limits.{DAY};
 ghost use Rattle.road_time.specs.Day.{notices};
 ghost use Rattle.road_time.specs.Text.{out};
 ghost use Rattle.road_io.specs.Fakes.{bytes_of, room_of};
-ghost use Rattle.keeper.specs.History.{paid};
+ghost use Rattle.road_time.specs.History.{paid};
 ghost use Rattle.keeper.specs.Memory.{kept_by, plan_of};
 ghost use Rattle.settling.specs.declared.fault.SettleFault.TheVariants.{KeeperFault, WriteFault};
 ghost use Rattle.settling.specs.Answers.{history_of};

@@ -8,7 +8,7 @@ ghost use Rattle.settling.specs.Boards.{IsAbreast};
 ghost use Rattle.watermark.specs.Written.{settled_charges};
 ghost use Rattle.watermark.specs.Shares.{State};
 ghost use Rattle.watermark.specs.Steps.{after_settle};
-ghost use Rattle.watermark.specs.Floors.{Setting, width_of, limits_of, StandsFor, Serves};
+ghost use Rattle.watermark.specs.Floors.{Setting, width_of, limits_of, StandsFor, StandsForSome};
 ghost use Rattle.example_floor.specs.Turns.{after_run, after_runs, AllHome, AreAnswered};
 ghost use Rattle.example_floor.specs.Stops.{TakesDay, StopsDay};
 ghost use Rattle.watermark.specs.Sound.{IsTrue};
@@ -27,7 +27,7 @@ use watermark::Floor;
 /// After a refusal the floor serves no more.
 pub fn run_next(rt: HostRuntime, floor: &mut Floor, worker: u8) -> Result<(), NoMemory>
     requires within { worker < width_of floor.old }
-    requires serves { Serves floor.old }
+    requires serves { StandsForSome floor.old }
     ensures width { width_of floor.new ≡ width_of floor.old }
     ensures limits { limits_of floor.new ≡ limits_of floor.old }
     ensures ran { OnOk result ((g : Setting) (s : State) → StandsFor g floor.old s
@@ -57,7 +57,7 @@ pub fn run_next(rt: HostRuntime, floor: &mut Floor, worker: u8) -> Result<(), No
 /// findings make the notices of the rules. After a refusal the floor serves no more.
 pub fn run_all(rt: HostRuntime, floor: &mut Floor, width: u8) -> Result<(), NoMemory>
     requires width { width ≡ width_of floor.old }
-    requires serves { Serves floor.old }
+    requires serves { StandsForSome floor.old }
     ensures width { width_of floor.new ≡ width_of floor.old }
     ensures limits { limits_of floor.new ≡ limits_of floor.old }
     ensures ran { OnOk result ((g : Setting) (s : State) → StandsFor g floor.old s

@@ -18,7 +18,8 @@ use Rattle.expressway.specs.declared.lane_event.LaneEvent.TheVariants.{Seen, Lea
 use Rattle.expressway.specs.Events.{seen, entries, time_told}
 use Rattle.expressway.specs.Runs.{NoneAfter, MayFollow, MayRun}
 use Rattle.expressway.specs.Ready.{CanRun}
-use Rattle.expressway.specs.Checks.{follows, all_follow, in_range, times_rise, is_in, all_rare, are_a_day, can_be_run}
+use Rattle.expressway.specs.Checks.{follows, all_follow, numbers_in_range, times_rise, is_report_of, all_rare}
+use Rattle.expressway.specs.Checks.{are_a_day, can_be_run}
 use Rattle.expressway.proofs.ReadyLaws.{as_tuples, reports_back}
 
 -- what passes a test has what the test tells
@@ -49,7 +50,7 @@ may_run before (e ∷ es) h = let both = and_parts (follows before e) (all_follo
     (may_follow before e both.0, may_run (before ++ e ∷ []) es both.1)
 
 -- a report that passes is in range
-is_report : (r : Report) → in_range r ≡ true → IsReport r
+is_report : (r : Report) → numbers_in_range r ≡ true → IsReport r
 is_report r h =
     let a = and_parts (nat_le r.time 86399) _ h in
     let b = and_parts (nat_le r.vid 2147483647) _ a.1 in
@@ -69,9 +70,9 @@ is_report r h =
     )
 
 -- reports that pass are valid tuples
-all_valid : (rs : List Report) → list_all in_range rs ≡ true → AllByRecursion IsValid (as_tuples rs)
+all_valid : (rs : List Report) → list_all numbers_in_range rs ≡ true → AllByRecursion IsValid (as_tuples rs)
 all_valid [] h = tt
-all_valid (r ∷ rs) h = let both = and_parts (in_range r) (list_all in_range rs) h in
+all_valid (r ∷ rs) h = let both = and_parts (numbers_in_range r) (list_all numbers_in_range rs) h in
     (is_report r both.0, all_valid rs both.1)
 
 -- none of those that pass is of an earlier second
@@ -89,25 +90,26 @@ in_order (r ∷ rs) h = let both = and_parts (list_all (λ q. nat_le r.time q.ti
     (none_before r.time rs both.0, in_order rs both.1)
 
 -- a report that is not of the vehicle in the minute is not counted
-not_counted : (vid minute : ℕ) (r : Report) (rs : List Report) → is_in vid minute r ≡ false →
-    count_by (is_in vid minute) rs ≡ 0 → count_by (is_in vid minute) (r ∷ rs) ≡ 0
+not_counted : (vid minute : ℕ) (r : Report) (rs : List Report) → is_report_of vid minute r ≡ false →
+    count_by (is_report_of vid minute) rs ≡ 0 → count_by (is_report_of vid minute) (r ∷ rs) ≡ 0
 not_counted vid minute r rs e h =
-    let none : ◌≡◌ {A = ℕ} (cond {A = ℕ} (is_in vid minute r) 1 0) 0 = ap (λ b. cond {A = ℕ} b 1 0) e in
-    omega (arith, sum_by-cons (λ q. cond (is_in vid minute q) 1 0) r rs, none, h)
+    let none : ◌≡◌ {A = ℕ} (cond {A = ℕ} (is_report_of vid minute r) 1 0) 0 = ap (λ b. cond {A = ℕ} b 1 0) e in
+    omega (arith, sum_by-cons (λ q. cond (is_report_of vid minute q) 1 0) r rs, none, h)
 
 -- none of the reports is of a vehicle in a minute, or at most four of all are
 rare_or_none : (all : List Report) (vid minute : ℕ) (rs : List Report) → all_rare all rs ≡ true →
-    (count_by (is_in vid minute) rs ≡ 0) ⊎ (count_by (is_in vid minute) all ≤ 4)
+    (count_by (is_report_of vid minute) rs ≡ 0) ⊎ (count_by (is_report_of vid minute) all ≤ 4)
 rare_or_none all vid minute [] h = inl refl
 rare_or_none all vid minute (r ∷ rs) h =
-    let both = and_parts (nat_le (count_by (is_in r.vid (minute_of r.time)) all) 4) (all_rare all rs) h in
+    let both = and_parts (nat_le (count_by (is_report_of r.vid (minute_of r.time)) all) 4) (all_rare all rs) h in
     ⊎_elim
     (λ yes. let same = and_parts (r.vid == vid) (minute_of r.time == minute) yes in
-    inr (subst (λ m. count_by (is_in vid m) all ≤ 4) (eqb-true (minute_of r.time) minute same.1)
-    (subst (λ v. count_by (is_in v (minute_of r.time)) all ≤ 4) (eqb-true r.vid vid same.0) (leb-true _ 4 both.0))))
+    inr (subst (λ m. count_by (is_report_of vid m) all ≤ 4) (eqb-true (minute_of r.time) minute same.1)
+    (subst (λ v. count_by (is_report_of v (minute_of r.time)) all ≤ 4) (eqb-true r.vid vid same.0)
+    (leb-true _ 4 both.0))))
     (λ no. ⊎_elim (λ e. inl (not_counted vid minute r rs no e)) (λ few. inr few)
     (rare_or_none all vid minute rs both.1))
-    (cases_Bool (is_in vid minute r))
+    (cases_Bool (is_report_of vid minute r))
 
 -- none is at most four
 few : (n : ℕ) → n ≡ 0 → n ≤ 4
@@ -116,7 +118,7 @@ few n e = omega (arith, e)
 -- reports that pass are a day's
 is_day : (rs : List Report) → are_a_day rs ≡ true → IsDay (as_tuples rs)
 is_day rs h =
-    let a = and_parts (list_all in_range rs) _ h in
+    let a = and_parts (list_all numbers_in_range rs) _ h in
     let b = and_parts (nat_le (length rs) 16000000) _ a.1 in
     let c = and_parts (times_rise rs) _ b.1 in
     let d = and_parts (nat_le (length (distinct (map (λ r. r.vid) rs))) 500000) (all_rare rs rs) c.1 in

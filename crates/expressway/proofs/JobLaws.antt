@@ -18,7 +18,7 @@ use Rattle.road_time.proofs.PrefixLaws.{other_minute, each_before, any_same, fin
 use Rattle.road_time.proofs.StretchLaws.{finding_until}
 use Rattle.expressway.specs.declared.lane_event.LaneEvent.{LaneEvent}
 use Rattle.expressway.specs.declared.lane_event.LaneEvent.TheVariants.{Seen, Leave}
-use Rattle.expressway.specs.Events.{seen, entries, entry_of, report_seen, time_told}
+use Rattle.expressway.specs.Events.{seen, entries, stop_entry_of, report_seen, time_told}
 use Rattle.expressway.specs.Findings.{found_if, finding_of, findings}
 use Rattle.road_time.proofs.EachLaws.{left_part, right_part}
 use Rattle.expressway.specs.Runs.{NoneAfter, MayFollow, MayRun}
@@ -58,7 +58,7 @@ none_entered t s (Leave position time vid place ∷ es) h l =
 entries_until : (t s : ℕ) (es later : List LaneEvent) → t < s → NotBefore s later →
     entries_up_to t (entries (es ++ later)) ≡ entries_up_to t (entries es)
 entries_until t s es later h l =
-    ap (entries_up_to t) (filter_map-append entry_of es later)
+    ap (entries_up_to t) (filter_map-append stop_entry_of es later)
     ∙ filter-append (λ e. nat_le e.second t) (entries es) (entries later)
     ∙ ap (λ xs. entries_up_to t (entries es) ++ xs) (none_entered t s later h l)
     ∙ append-nil (entries_up_to t (entries es))

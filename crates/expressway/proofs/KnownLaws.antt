@@ -27,8 +27,8 @@ use Rattle.expressway.specs.declared.lane_event.LaneEvent.{LaneEvent}
 use Rattle.expressway.specs.declared.known.Known.{Known}
 use Rattle.expressway.specs.Events.{seen, entries}
 use Rattle.expressway.specs.Kept.{KeptWays}
-use Rattle.expressway.specs.Known.{found_in, IsTrueIn, IsInStep}
-use Rattle.expressway.specs.Stands.{IsAt}
+use Rattle.expressway.specs.Known.{told_now_of, IsTrueIn, IsInStep}
+use Rattle.expressway.specs.Stands.{IsUpTo}
 
 -- a finding by its parts
 made : (tariffs : Tariffs) (xway : ℕ) {v w : Option Frac} {n m : ℕ} {a b : Option ℕ} → v ≡ w → n ≡ m → a ≡ b →
@@ -38,8 +38,8 @@ made : (tariffs : Tariffs) (xway : ℕ) {v w : Option Frac} {n m : ℕ} {a b : O
 made tariffs xway p q r = rw (p, q, r) refl
 
 -- what is told by what is kept is what is found by the events
-pub found_in_is : (c : KeptWays) (r : Report) (before : List LaneEvent) → IsAt c r.time before →
-    found_in c (stretch_of r) ≡ finding_by (notes_of (seen before)) (standing_at (entries before)) c.tariffs r
+pub found_in_is : (c : KeptWays) (r : Report) (before : List LaneEvent) → IsUpTo c r.time before →
+    told_now_of c (stretch_of r) ≡ finding_by (notes_of (seen before)) (standing_at (entries before)) c.tariffs r
 found_in_is c r before at =
     let k = stretch_of r in
     let ns = notes_of (seen before) in
@@ -64,21 +64,21 @@ module _ (c d : KeptWays) where
   pub found_same : d.tariffs ≡ c.tariffs → 1 ≤ c.speeds.minute → d.speeds.minute ≡ c.speeds.minute →
       ((k : Stretch) (m : ℕ) → m < c.speeds.minute → c.speeds.minute < m + 6 →
       flow_in d.speeds.rings k m ≡ flow_in c.speeds.rings k m) →
-      ((k : Stretch) → stood_in d.stops k ≡ stood_in c.stops k) → (k : Stretch) → found_in d k ≡ found_in c k
+      ((k : Stretch) → stood_in d.stops k ≡ stood_in c.stops k) → (k : Stretch) → told_now_of d k ≡ told_now_of c k
   found_same tariffs first minute past last k =
-      ap (λ t. found_in (record { speeds = d.speeds; stops = d.stops; tariffs = t }) k) tariffs
+      ap (λ t. told_now_of (record { speeds = d.speeds; stops = d.stops; tariffs = t }) k) tariffs
       ∙ made c.tariffs k.xway (lav_in_same c.speeds d.speeds first minute past k)
       (cars_in_same c.speeds d.speeds first minute past k) (near_in_same d.stops c.stops last k)
 
   -- so what is known stays true
-  true_same : d.speeds.minute ≡ c.speeds.minute → ((k : Stretch) → found_in d k ≡ found_in c k) → (q : Option Known) →
-      IsTrueIn c q → IsTrueIn d q
+  true_same : d.speeds.minute ≡ c.speeds.minute → ((k : Stretch) → told_now_of d k ≡ told_now_of c k) →
+      (q : Option Known) → IsTrueIn c q → IsTrueIn d q
   true_same minute same None h = tt
   true_same minute same (Some q) h = (omega (arith, h.0, minute), λ e. h.1 (e ∙ minute) ∙ sym (same q.stretch))
 
   pub step_same : (known : List (Option Known)) → d.speeds.minute ≡ c.speeds.minute →
       minute_of d.stops.second ≡ minute_of c.stops.second →
-      ((k : Stretch) → found_in d k ≡ found_in c k) → IsInStep c known → IsInStep d known
+      ((k : Stretch) → told_now_of d k ≡ told_now_of c k) → IsInStep c known → IsInStep d known
   step_same known minute second same h = record {
     minute = minute ∙ h.minute ∙ sym second;
     known_ones =
@@ -103,8 +103,7 @@ module _ (c d : KeptWays) where
 
 -- what is known stays true where a report of the current minute is noted, and vehicles stop or leave
 pub noted_step : (c : KeptWays) (known : List (Option Known)) → IsInStep c known → (speeds : Averages) →
-    speeds.minute ≡ c.speeds.minute →
-    ((k : Stretch) (m : ℕ) → m < c.speeds.minute → c.speeds.minute < m + 6 →
+    speeds.minute ≡ c.speeds.minute → ((k : Stretch) (m : ℕ) → m < c.speeds.minute → c.speeds.minute < m + 6 →
     flow_in speeds.rings k m ≡ flow_in c.speeds.rings k m) →
     (stops : Standing) → stops.second ≡ c.stops.second → ((k : Stretch) → stood_in stops k ≡ stood_in c.stops k) →
     IsInStep (record { speeds = speeds; stops = stops; tariffs = c.tariffs }) known
@@ -116,8 +115,7 @@ noted_step c known h speeds minute past stops second last =
 pub moved_step : (c : KeptWays) (known : List (Option Known)) → IsInStep c known → (speeds : Averages) (minute : ℕ) →
     speeds.minute ≡ minute →
     c.speeds.minute ≤ minute → (c.speeds.minute ≡ minute → speeds ≡ c.speeds) → (stops : Standing) (second : ℕ) →
-    minute ≡ minute_of second →
-    stops ≡ record c.stops { second = second } →
+    minute ≡ minute_of second → stops ≡ record c.stops { second = second } →
     IsInStep (record { speeds = speeds; stops = stops; tariffs = c.tariffs }) known
 moved_step c known h speeds minute new up same stops second of moved =
     ⊎_elim here later (cases_eq c.speeds.minute minute)

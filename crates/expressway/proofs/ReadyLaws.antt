@@ -17,6 +17,7 @@ use Rattle.road_time.specs.Notes.{Note, note_of, distinct}
 use Rattle.road_time.specs.Fits.{Fit, IsDay, IsValid, IsReport}
 use Rattle.road_time.specs.Tolls.{notes_of}
 use Rattle.road_time.proofs.EachLaws.{right_part}
+use Rattle.road_time.proofs.FitLaws.{same_vids}
 use Rattle.speed_stats.specs.Stands.{CanNote}
 use Rattle.expressway.specs.declared.lane_event.LaneEvent.{LaneEvent}
 use Rattle.expressway.specs.declared.lane_event.LaneEvent.TheVariants.{Seen}
@@ -32,11 +33,6 @@ as_tuples rs = map (λ r. ReportTuple r) rs
 pub reports_back : (rs : List Report) → reports (as_tuples rs) ≡ rs
 reports_back [] = refl
 reports_back (r ∷ rs) = ap (λ xs. r ∷ xs) (reports_back rs)
-
--- the vehicles of notes are those of the reports
-noted_vehicles : (rs : List Report) → map (λ n. n.vid) (notes_of rs) ≡ map (λ r. r.vid) rs
-noted_vehicles [] = refl
-noted_vehicles (r ∷ rs) = ap (λ vs. r.vid ∷ vs) (noted_vehicles rs)
 
 -- whether a report, or a note, is of a vehicle in a minute
 abbrev is_in : ℕ → ℕ → Report → Bool
@@ -96,7 +92,7 @@ next_note before position r b s can =
     rw (sum_by_push (λ q. cond (is_in r.vid m q) 1 0) rs r) at rare in
     let itself : is_in r.vid m r ≡ true = and_from (r.vid == r.vid) (m == m) (number_same r.vid) (number_same m) in
     let same : map (λ n. n.vid) (notes_of rs ++ note_of r ∷ []) ≡ map (λ q. q.vid) (rs ++ r ∷ []) =
-    ap (map (λ n. n.vid)) (sym (map-append note_of rs (r ∷ []))) ∙ noted_vehicles (rs ++ r ∷ []) in
+    ap (map (λ n. n.vid)) (sym (map-append note_of rs (r ∷ []))) ∙ same_vids (rs ++ r ∷ []) in
     record {
       three = rw (noted_count r.vid m rs) (one_of_four _ (is_in r.vid m r) itself counted);
       few = rw same vehicles;

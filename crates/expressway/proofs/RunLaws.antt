@@ -121,8 +121,7 @@ module _ (worker width : ℕ) where
 
   -- and then that it was seen
   report_run : (day : List Tuple) (r : Report) (b s : Bool) → NoneAfter r.time (events day) →
-      MayRun [] (mine (events day)) →
-      MayRun []
+      MayRun [] (mine (events day)) → MayRun []
       (mine (events day)
       ++ mine (leave_of (length day) r (left_by (trail (reports day) r.vid) r) ++ Seen (length day) r b s ∷ []))
   report_run day r b s l h =

@@ -22,7 +22,7 @@ use Rattle.expressway.proofs.JobLaws.{split_run, findings_split}
 use Rattle.expressway.proofs.ReadyLaws.{as_tuples}
 
 -- the first of events that may run may run
-run_left : (before es later : List LaneEvent) → MayRun before (es ++ later) → MayRun before es
+pub run_left : (before es later : List LaneEvent) → MayRun before (es ++ later) → MayRun before es
 run_left before [] later h = tt
 run_left before (e ∷ es) later h = (h.0, run_left (before ++ e ∷ []) es later h.1)
 
@@ -74,8 +74,7 @@ next_ready entry c fs all some e rest parts run before ready = record {
 -- one more was run
 pub one_run : (entry c d : KeptWays) (fs gs : List CodeFinding) (all some : List LaneEvent) (e : LaneEvent)
     (rest : List LaneEvent) (new : List (ℕ × StretchTold)) → all ≡ some ++ e ∷ rest → AreRun entry c fs all some →
-    d.tariffs ≡ c.tariffs →
-    ((before : List LaneEvent) → IsReady c before (e ∷ []) → StandsFor d (before ++ e ∷ [])) →
+    d.tariffs ≡ c.tariffs → ((before : List LaneEvent) → IsReady c before (e ∷ []) → StandsFor d (before ++ e ∷ [])) →
     ((before : List LaneEvent) → IsReady c before (e ∷ []) → new ≡ findings before (e ∷ []) c.tariffs) →
     map shown gs ≡ map shown fs ++ new → AreRun entry d gs all (some ++ e ∷ [])
 one_run entry c d fs gs all some e rest new parts run same carries finds kept = record {
@@ -114,8 +113,7 @@ on_refusal (Err e) p = p
 
 -- a carriage after the first of events that can be run on a new one is ready for the next
 pub from_new : (c : KeptWays) (all some : List LaneEvent) (e : LaneEvent) (rest : List LaneEvent) →
-    all ≡ some ++ e ∷ rest →
-    CanRun [] all → StandsFor c some → IsReady c some (e ∷ [])
+    all ≡ some ++ e ∷ rest → CanRun [] all → StandsFor c some → IsReady c some (e ∷ [])
 from_new c all some e rest parts can stands =
     record { stands = stands; runs = first_can [] some e rest (subst (CanRun []) parts can) }
 

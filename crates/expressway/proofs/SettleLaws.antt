@@ -14,7 +14,6 @@ use Rattle.road_time.specs.Rates.{Tariffs}
 use Rattle.road_time.specs.Stops.{Stop}
 use Rattle.road_time.specs.Sights.{moments, sights_of, previous}
 use Rattle.road_time.specs.Stays.{is_told}
-use Rattle.road_time.specs.declared.road.Report.{Report}
 use Rattle.road_time.specs.Tolls.{StretchTold}
 use Rattle.road_time.specs.Day.{rules, given, charges_by, charges_between, notices_by, notices, charges, merged}
 use Rattle.road_time.proofs.SightLaws.{moments_first}
@@ -50,8 +49,7 @@ none_found i n ns us tariffs (Leave position time vid place ∷ es) h l = none_f
 
 -- the events that are back find at an earlier position what all of the worker's find
 back_same : (day : List Tuple) (tariffs : Tariffs) (worker width i n : ℕ) (back out : List LaneEvent) →
-    AreTimesInOrder day →
-    events_for day worker width ≡ back ++ out → i < n → From n out →
+    AreTimesInOrder day → events_for day worker width ≡ back ++ out → i < n → From n out →
     found_at i (findings [] back tariffs) ≡ found_at i (findings [] (events_for day worker width) tariffs)
 back_same day tariffs worker width i n back out order parts h l =
     sym (

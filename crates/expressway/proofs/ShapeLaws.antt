@@ -6,8 +6,8 @@ use Rattle.std.specs.List.{filter_map, find, cons_option, AllByRecursion}
 use Rattle.std.specs.Result.{OnOk, OnErr}
 use Rattle.std.proofs.lemmas.List.{map-append}
 use Rattle.std.proofs.lemmas.List.Elements.{All-from_recursion, recursion_from_All, filter_map-append}
-use Rattle.std.proofs.lemmas.Bool.{cond_both, leb-true, le-leb}
-use Rattle.std.proofs.Math.Nat.{div-le_of_le-mul}
+use Rattle.std.proofs.lemmas.Bool.{cond_both, leb-true}
+use Rattle.road_time.specs.declared.tariff.TheConstants.{GREATEST_TOLL}
 use Rattle.road_time.specs.declared.road.Report.{Report}
 use Rattle.road_time.specs.declared.road.Stretch.{Stretch}
 use Rattle.road_time.specs.declared.road.Frac.{Frac}
@@ -17,15 +17,15 @@ use Rattle.road_time.specs.Clock.{minute_of}
 use Rattle.road_time.specs.Ways.{downstream_of}
 use Rattle.road_time.specs.Tuples.{stretch_of}
 use Rattle.road_time.specs.Notes.{Note, cars}
-use Rattle.road_time.specs.Lav.{lav}
-use Rattle.road_time.specs.Rates.{Tariffs, tariff_of, whole_of}
+use Rattle.road_time.specs.Lav.{lav, IsAverage}
+use Rattle.road_time.specs.Rates.{Tariffs, tariff_of}
 use Rattle.road_time.specs.Stops.{Stop, segments_ahead, near}
 use Rattle.road_time.specs.Entries.{standing_at}
 use Rattle.road_time.specs.Fits.{IsReport, IsValid}
 use Rattle.road_time.specs.Tolls.{StretchTold, notes_of, finding_by}
 use Rattle.road_time.specs.Text.{is_lav}
 use Rattle.road_time.proofs.EachLaws.{left_part, right_part}
-use Rattle.road_time.proofs.LavLaws.{IsAverage, lav_is}
+use Rattle.road_time.proofs.LavLaws.{lav_is}
 use Rattle.expressway.specs.declared.lane_event.LaneEvent.{LaneEvent}
 use Rattle.expressway.specs.declared.lane_event.LaneEvent.TheVariants.{Seen, Leave}
 use Rattle.expressway.specs.declared.finding.Finding.{Finding as CodeFinding}
@@ -37,15 +37,11 @@ use Rattle.expressway.specs.Ready.{CanRun}
 use Rattle.expressway.specs.Results.{AreFirst, IsResultOf, IsResultShaped, IsPossible, positions}
 use Rattle.expressway.proofs.ReadyLaws.{as_tuples, reports_back}
 use Rattle.road_time.proofs.BoundLaws.{toll_of_few, segments_few}
+use Rattle.road_time.proofs.OutLaws.{lav_valid}
 
 -- a finding that could be, as the definitions have it
 abbrev CouldBe : ℕ × StretchTold → Type 0
-CouldBe f = (is_lav f.1.lav ≡ true) × (f.1.toll ≤ 500000000000) × IfSome f.1.alert (λ s. s ≤ 99)
-
--- an average of at most 100, rounded down, or none
-lav_valid : (o : Option Frac) → ((f : Frac) → o ≡ Some f → IsAverage f) → is_lav (whole_of o) ≡ true
-lav_valid None h = refl
-lav_valid (Some f) h = let is = h f refl in le-leb (f.num / f.den) 100 (div-le_of_le-mul f.den (omega (arith, is.2)))
+CouldBe f = (is_lav f.1.lav ≡ true) × (f.1.toll ≤ GREATEST_TOLL) × IfSome f.1.alert (λ s. s ≤ 99)
 
 -- a segment that may be none
 abbrev Few : Option ℕ → Type 0
@@ -91,8 +87,7 @@ module _ (ns : List Note) (stops_at : ℕ → List Stop) (tariffs : Tariffs)
 
   -- what is found for a report, if it is told
   if_could : (b : Bool) (position : ℕ) (r : Report) (fs : List (ℕ × StretchTold)) → IsReport r →
-      AllByRecursion CouldBe fs →
-      AllByRecursion CouldBe (cons_option (found_if b ns stops_at tariffs position r) fs)
+      AllByRecursion CouldBe fs → AllByRecursion CouldBe (cons_option (found_if b ns stops_at tariffs position r) fs)
   if_could true position r fs v h = (found_could position r v, h)
   if_could false position r fs v h = h
 
@@ -129,7 +124,7 @@ possible [] h = tt
 possible (f ∷ fs) h = (record { lav = h.0.0; toll = h.0.1; alert = h.0.2 }, possible fs h.1)
 
 -- their positions are those that they show
-positions_shown : (fs : List CodeFinding) → map (λ f. f.0) (map shown fs) ≡ positions fs
+pub positions_shown : (fs : List CodeFinding) → map (λ f. f.0) (map shown fs) ≡ positions fs
 positions_shown [] = refl
 positions_shown (f ∷ fs) = ap (λ ps. f.position ∷ ps) (positions_shown fs)
 

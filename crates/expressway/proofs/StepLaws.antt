@@ -20,7 +20,7 @@ use Rattle.speed_stats.specs.Stands.{StandsFor as AveragesStandFor}
 use Rattle.accidents.specs.Stands.{StandsFor as StopsStandFor}
 use Rattle.expressway.specs.declared.lane_event.LaneEvent.{LaneEvent}
 use Rattle.expressway.specs.declared.lane_event.LaneEvent.TheVariants.{Leave}
-use Rattle.expressway.specs.Events.{seen, entries, report_seen, entry_of, time_told}
+use Rattle.expressway.specs.Events.{seen, entries, report_seen, stop_entry_of, time_told}
 use Rattle.expressway.specs.Runs.{NoneAfter}
 use Rattle.expressway.specs.Kept.{KeptWays}
 use Rattle.expressway.specs.Stands.{last_second, StandsFor}
@@ -33,7 +33,7 @@ seen_push es e = filter_map-append report_seen es (e ∷ [])
 
 -- the stops and leaves with one event more
 pub entries_push : (es : List LaneEvent) (e : LaneEvent) → entries (es ++ e ∷ []) ≡ entries es ++ entries (e ∷ [])
-entries_push es e = filter_map-append entry_of es (e ∷ [])
+entries_push es e = filter_map-append stop_entry_of es (e ∷ [])
 
 -- the last event is the newest
 pub last_push : (es : List LaneEvent) (e : LaneEvent) → last_second (es ++ e ∷ []) ≡ time_told e

@@ -23,7 +23,7 @@ use Rattle.road_time.proofs.TrailLaws.{by_push, trail_push, stands_longer, stand
 use Rattle.road_time.proofs.EntryLaws.{standing_push}
 use Rattle.expressway.specs.declared.lane_event.LaneEvent.{LaneEvent}
 use Rattle.expressway.specs.declared.lane_event.LaneEvent.TheVariants.{Seen, Leave}
-use Rattle.expressway.specs.Events.{events, events_at, leave_of, told_to, way_told, entry_of, entries}
+use Rattle.expressway.specs.Events.{events, events_at, leave_of, told_to, way_told, stop_entry_of, entries}
 
 -- a choice between equal values
 cond_same : {X : Type 0} (b : Bool) (x : X) → cond b x x ≡ x
@@ -65,13 +65,12 @@ module _ (worker width vid : ℕ) (place : Place) (its : worker_for (way_of (str
       entries (told_to worker width (es ++ e ∷ [])) ≡ entries (told_to worker width es) ++ entries
       (cond (is_told e) (e ∷ []) [])
   entries_push es e = ap entries (filter-append is_told es (e ∷ []))
-      ∙ filter_map-append entry_of (told_to worker width es) (cond (is_told e) (e ∷ []) [])
+      ∙ filter_map-append stop_entry_of (told_to worker width es) (cond (is_told e) (e ∷ []) [])
 
   -- who stands after a leave, if the worker is told of it
   leave_entry : (es : List StopEntry) (position time v : ℕ) (p : Place) (b : Bool) →
       (same_place p place ≡ true → b ≡ true)
-      →
-      is_standing (es ++ entries (cond b (Leave position time v p ∷ []) [])) vid place
+      → is_standing (es ++ entries (cond b (Leave position time v p ∷ []) [])) vid place
       ≡ cond (v == vid && same_place p place) false (is_standing es vid place)
   leave_entry es position time v p true h =
       standing_push es (record { second = time; vid = v; place = p; stops = false }) vid place
@@ -138,8 +137,7 @@ module _ (worker width vid : ℕ) (place : Place) (its : worker_for (way_of (str
 
   -- a report of the vehicle, by whether it is at the place
   own_step : (es : List LaneEvent) (position : ℕ) (own : List Report) (r : Report) → (r.vid == vid) ≡ true →
-      is_read es ≡ stands own place →
-      cond (r.vid == vid && same_place (place_of r) place)
+      is_read es ≡ stands own place → cond (r.vid == vid && same_place (place_of r) place)
       (stands (r ∷ own) (place_of r) || is_left es position r (left_by own r))
       (is_left es position r (left_by own r)) ≡ stands (r ∷ own) place
   own_step es position own r v h =
@@ -161,8 +159,7 @@ module _ (worker width vid : ℕ) (place : Place) (its : worker_for (way_of (str
 
   -- after the events of one report the worker reads who is stopped
   report_step : (es : List LaneEvent) (position : ℕ) (rs : List Report) (r : Report) (b : Bool) →
-      is_read es ≡ is_stopped rs vid place →
-      is_read (es
+      is_read es ≡ is_stopped rs vid place → is_read (es
       ++ (leave_of position r (left_by (trail rs r.vid) r) ++ Seen position r b
       (stands (r ∷ trail rs r.vid) (place_of r)) ∷ [])) ≡ is_stopped (rs ++ r ∷ []) vid place
   report_step es position rs r b h =

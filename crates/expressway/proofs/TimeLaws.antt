@@ -11,14 +11,14 @@ use Rattle.road_time.specs.declared.road.Place.{Place}
 use Rattle.road_time.specs.Order.{NoneBefore, AreTimesInOrder}
 use Rattle.road_time.specs.Ways.{way_of, worker_for}
 use Rattle.road_time.specs.Tuples.{reports, report_of, time_of, stretch_around}
-use Rattle.road_time.specs.Stops.{up_to, is_stopped}
+use Rattle.road_time.specs.Stops.{up_to, is_stopped, trail, left_by}
 use Rattle.road_time.specs.Entries.{StopEntry, is_standing, entries_up_to}
 use Rattle.road_time.specs.Sights.{moments_after}
-use Rattle.road_time.specs.Stops.{trail, left_by}
 use Rattle.road_time.proofs.EachLaws.{kept}
 use Rattle.expressway.specs.declared.lane_event.LaneEvent.{LaneEvent}
 use Rattle.expressway.specs.declared.lane_event.LaneEvent.TheVariants.{Seen, Leave}
-use Rattle.expressway.specs.Events.{events_at, events_for, leave_of, told_to, way_told, time_told, entry_of, entries}
+use Rattle.expressway.specs.Events.{events_at, events_for, leave_of, told_to, way_told, time_told, stop_entry_of}
+use Rattle.expressway.specs.Events.{entries}
 use Rattle.expressway.proofs.StopLaws.{stopped_same}
 
 -- the tuples up to the end of a second
@@ -111,7 +111,7 @@ module _ (worker width second : ℕ) where
   told-append xs ys =
       let is_told = λ (e : LaneEvent). eqb (worker_for (way_told e) width) worker in
       ap entries (filter-append is_told xs ys)
-      ∙ filter_map-append entry_of (told_to worker width xs) (told_to worker width ys)
+      ∙ filter_map-append stop_entry_of (told_to worker width xs) (told_to worker width ys)
 
   -- the entries of a tuple are of its second
   told_time : (before : List Tuple) (x : Tuple) → Of (time_of x) (told (events_at (before, x)))

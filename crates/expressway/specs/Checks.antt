@@ -20,8 +20,8 @@ all_follow before [] = true
 all_follow before (e ∷ es) = follows before e && all_follow (before ++ e ∷ []) es
 
 -- whether the numbers of a report are in their ranges
-abbrev pub in_range : Report → Bool
-in_range r =
+abbrev pub numbers_in_range : Report → Bool
+numbers_in_range r =
     nat_le r.time 86399
     && (nat_le r.vid 2147483647
     && (nat_le r.spd 100
@@ -33,17 +33,17 @@ times_rise [] = true
 times_rise (r ∷ rs) = list_all (λ q. nat_le r.time q.time) rs && times_rise rs
 
 -- whether a report is of a vehicle in a minute
-abbrev pub is_in : ℕ → ℕ → Report → Bool
-is_in vid minute r = r.vid == vid && minute_of r.time == minute
+abbrev pub is_report_of : ℕ → ℕ → Report → Bool
+is_report_of vid minute r = r.vid == vid && minute_of r.time == minute
 
 -- whether each report is one of at most four of its vehicle in its minute
 abbrev pub all_rare : List Report → List Report → Bool
-all_rare all rs = list_all (λ r. nat_le (count_by (is_in r.vid (minute_of r.time)) all) 4) rs
+all_rare all rs = list_all (λ r. nat_le (count_by (is_report_of r.vid (minute_of r.time)) all) 4) rs
 
 -- whether reports are a day's
 abbrev pub are_a_day : List Report → Bool
 are_a_day rs =
-    list_all in_range rs
+    list_all numbers_in_range rs
     && (nat_le (length rs) 16000000
     && (times_rise rs && (nat_le (length (distinct (map (λ r. r.vid) rs))) 500000 && all_rare rs rs)))
 

@@ -70,12 +70,12 @@ abbrev pub seen : List LaneEvent → List Report
 seen es = filter_map report_seen es
 
 -- what an event says of stops: a report after which its vehicle is stopped is a stop at its place
-abbrev pub entry_of : LaneEvent → Option StopEntry
-entry_of (Seen position r begins true) =
+abbrev pub stop_entry_of : LaneEvent → Option StopEntry
+stop_entry_of (Seen position r begins true) =
     Some (record { second = r.time; vid = r.vid; place = place_of r; stops = true })
-entry_of (Seen position r begins false) = None
-entry_of (Leave position time vid place) = Some (record { second = time; vid = vid; place = place; stops = false })
+stop_entry_of (Seen position r begins false) = None
+stop_entry_of (Leave position time vid place) = Some (record { second = time; vid = vid; place = place; stops = false })
 
 -- the stops and leaves that the events tell
 abbrev pub entries : List LaneEvent → List StopEntry
-entries es = filter_map entry_of es
+entries es = filter_map stop_entry_of es

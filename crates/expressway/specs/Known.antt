@@ -9,8 +9,8 @@ use Rattle.expressway.specs.declared.known.Known.{Known}
 use Rattle.expressway.specs.Kept.{KeptWays}
 
 -- what is told of a stretch in the current minute, by what is kept of it
-abbrev pub found_in : KeptWays → Stretch → StretchTold
-found_in c k = record {
+abbrev pub told_now_of : KeptWays → Stretch → StretchTold
+told_now_of c k = record {
   lav = whole_of (lav_in c.speeds k);
   toll = toll_of (tariff_of c.tariffs k.xway) (cars_in c.speeds k) (lav_in c.speeds k) (is_some (near_in c.stops k));
   alert = near_in c.stops k;
@@ -23,7 +23,7 @@ known_as q = record { lav = q.lav; toll = q.toll; alert = q.alert }
 -- what is known is of no later minute than the current one, and true in its minute
 abbrev pub IsTrueIn : KeptWays → Option Known → Type 0
 IsTrueIn c None = Unit {0}
-IsTrueIn c (Some q) = (q.minute ≤ c.speeds.minute) × (q.minute ≡ c.speeds.minute → known_as q ≡ found_in c q.stretch)
+IsTrueIn c (Some q) = (q.minute ≤ c.speeds.minute) × (q.minute ≡ c.speeds.minute → known_as q ≡ told_now_of c q.stretch)
 
 -- the averages are of the minute of the second at which the stops are, and all that is known is true
 pub record IsInStep (c : KeptWays) (known : List (Option Known)) : Type 0 where

@@ -39,8 +39,7 @@ SeenLaw =
 -- a worker reads from its events who is stopped at each place of its ways, at the end of each second
 abbrev pub StoppedLaw : Type 0
 StoppedLaw =
-    (day : List Tuple) (limits : Limits) → Fit day limits → (width : ℕ) (place : Place) (vid second : ℕ) →
-    is_standing
+    (day : List Tuple) (limits : Limits) → Fit day limits → (width : ℕ) (place : Place) (vid second : ℕ) → is_standing
     (entries_up_to second (entries (events_for day (worker_for (way_of (stretch_around place)) width) width))) vid
     place
     ≡ is_stopped (up_to second (reports day)) vid place
@@ -111,8 +110,7 @@ PartitionLaw =
 -- a worker's events are in the order of their positions
 abbrev pub PositionLaw : Type 0
 PositionLaw =
-    (day : List Tuple) (worker width : ℕ) →
-    PositionsRise (events_for day worker width)
+    (day : List Tuple) (worker width : ℕ) → PositionsRise (events_for day worker width)
     × AllByRecursion (λ e. position_told e < length day) (events_for day worker width)
 
 -- the first event, if there is one, is of no position below n
@@ -128,15 +126,13 @@ pub record AreBack (day : List Tuple) (width n : ℕ) (back out : ℕ → List L
 -- the findings given are those of the events that are back, in whatever order the workers gave them
 abbrev pub AreGiven : Tariffs → ℕ → (ℕ → List LaneEvent) → List (ℕ × StretchTold) → Type 0
 AreGiven tariffs width back found =
-    (position : ℕ) →
-    found_at position found ≡ found_at position
+    (position : ℕ) → found_at position found ≡ found_at position
     (flat_map (λ worker. findings [] (back worker) tariffs) (range_with_len 0 width))
 
 -- the findings given have the positions of those, whatever their values
 abbrev pub HaveTheirPositions : Tariffs → ℕ → (ℕ → List LaneEvent) → List (ℕ × StretchTold) → Type 0
 HaveTheirPositions tariffs width back found =
-    (position : ℕ) →
-    map (λ f. f.0) (found_at position found) ≡ map (λ f. f.0)
+    (position : ℕ) → map (λ f. f.0) (found_at position found) ≡ map (λ f. f.0)
     (found_at position (flat_map (λ worker. findings [] (back worker) tariffs) (range_with_len 0 width)))
 
 -- where no event that is out is of a position below n, there is exactly one finding given at each of the first n
@@ -144,8 +140,7 @@ HaveTheirPositions tariffs width back found =
 abbrev pub OneLaw : Type 0
 OneLaw =
     (day : List Tuple) (limits : Limits) → Fit day limits → (tariffs : Tariffs) (width : ℕ) → 1 ≤ width → (n : ℕ) →
-    n ≤ length day →
-    (back out : ℕ → List LaneEvent) → AreBack day width n back out → (found : List (ℕ × StretchTold)) →
+    n ≤ length day → (back out : ℕ → List LaneEvent) → AreBack day width n back out → (found : List (ℕ × StretchTold)) →
     HaveTheirPositions tariffs width back found →
     (before later : List Tuple) (r : Report) → take n day ≡ before ++ ReportTuple r ∷ later →
     is_told (previous (sights_of before r.vid)) r ≡ true →
@@ -155,10 +150,8 @@ OneLaw =
 abbrev pub SettleLaw : Type 0
 SettleLaw =
     (day : List Tuple) (limits : Limits) → Fit day limits → (tariffs : Tariffs) (width : ℕ) → 1 ≤ width → (n : ℕ) →
-    n ≤ length day →
-    (back out : ℕ → List LaneEvent) → AreBack day width n back out → (found : List (ℕ × StretchTold)) →
-    AreGiven tariffs width back found →
-    (number : ℕ) (kept : ℕ → ℕ → ℕ → ℕ) →
+    n ≤ length day → (back out : ℕ → List LaneEvent) → AreBack day width n back out → (found : List (ℕ × StretchTold)) →
+    AreGiven tariffs width back found → (number : ℕ) (kept : ℕ → ℕ → ℕ → ℕ) →
     merged (take n day) found number kept ≡ notices (take n day) tariffs number kept
 
 -- and they make the charges of the rules over the whole day between any positions up to n, and with them the accounts
@@ -166,8 +159,7 @@ SettleLaw =
 abbrev pub AccountLaw : Type 0
 AccountLaw =
     (day : List Tuple) (limits : Limits) → Fit day limits → (tariffs : Tariffs) (width : ℕ) → 1 ≤ width → (n : ℕ) →
-    n ≤ length day →
-    (back out : ℕ → List LaneEvent) → AreBack day width n back out → (found : List (ℕ × StretchTold)) →
+    n ≤ length day → (back out : ℕ → List LaneEvent) → AreBack day width n back out → (found : List (ℕ × StretchTold)) →
     AreGiven tariffs width back found →
     ((a b : ℕ) → b ≤ n → charges_between (given found) day a b ≡ charges_between (rules day tariffs) day a b)
     × ((vid : ℕ) → balance_by (given found) vid (take n day) ≡ balance day tariffs vid (take n day))

@@ -1,4 +1,5 @@
 use Rattle.std.specs.Prelude.{◌≡◌, ℕ, ◌≤◌, true, List, ◌++◌, map, All, IfSome, OnOk, OnErr}
+use Rattle.road_time.specs.declared.tariff.TheConstants.{GREATEST_TOLL}
 use Rattle.road_time.specs.Text.{is_lav}
 use Rattle.expressway.specs.declared.lane_event.LaneEvent.{LaneEvent}
 use Rattle.expressway.specs.declared.finding.Finding.{Finding}
@@ -34,7 +35,7 @@ pub record IsResultOf (job : Job) (done : Done) : Type 0 where
 -- none or a segment's
 pub record IsPossible (f : Finding) : Type 0 where
   pub lav : is_lav f.lav ≡ true
-  pub toll : f.toll ≤ 500000000000
+  pub toll : f.toll ≤ GREATEST_TOLL
   pub alert : IfSome f.alert (λ s. s ≤ 99)
 
 -- the positions of findings, and those of what is found for the job's events

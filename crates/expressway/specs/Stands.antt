@@ -14,7 +14,7 @@ last_second es = fold (λ before e. time_told e) 0 es
 
 -- what is kept is that of the events, brought up to a second: the averages are of the reports that were seen, and who
 -- stands is who stands after the stops and leaves
-pub record IsAt (c : KeptWays) (time : ℕ) (es : List LaneEvent) : Type 0 where
+pub record IsUpTo (c : KeptWays) (time : ℕ) (es : List LaneEvent) : Type 0 where
   pub averages : AveragesStandFor c.speeds (notes_of (seen es))
   pub standing : StopsStandFor c.stops (entries es)
   pub minute : c.speeds.minute ≡ minute_of time
@@ -22,4 +22,4 @@ pub record IsAt (c : KeptWays) (time : ℕ) (es : List LaneEvent) : Type 0 where
 
 -- a carriage stands for the events that were run on it: all is brought up to the second of the last
 abbrev pub StandsFor : KeptWays → List LaneEvent → Type 0
-StandsFor c es = IsAt c (last_second es) es
+StandsFor c es = IsUpTo c (last_second es) es

@@ -14,11 +14,11 @@ ghost use Rattle.expressway.specs.declared.lane_event.LaneEvent.{LaneEvent as Ev
 ghost use Rattle.expressway.specs.declared.lane_event.LaneEvent.TheVariants.{Seen, Leave};
 ghost use Rattle.expressway.specs.Events.{seen, entries};
 ghost use Rattle.expressway.specs.Findings.{shown, found_if, findings};
-ghost use Rattle.expressway.specs.Known.{found_in, known_as};
+ghost use Rattle.expressway.specs.Known.{told_now_of, known_as};
 ghost use Rattle.speed_stats.specs.Parts.{flow_in};
 ghost use Rattle.accidents.specs.Near.{stood_in};
 ghost use Rattle.road_time.specs.declared.road.Stretch.{Stretch as StretchValue};
-ghost use Rattle.expressway.specs.Stands.{IsAt, StandsFor};
+ghost use Rattle.expressway.specs.Stands.{IsUpTo, StandsFor};
 ghost use Rattle.expressway.specs.Ready.{IsReady};
 
 use crate::finding::Finding;
@@ -104,7 +104,7 @@ impl Parts {
         requires minute { self.old.speeds.minute ≤ minute_of second }
         requires second { self.old.stops.second ≤ second }
         ensures tariffs { self.new.tariffs ≡ self.old.tariffs }
-        ensures at { (before : List Event) (last : ℕ) → IsAt self.old last before → IsAt self.new second before }
+        ensures at { (before : List Event) (last : ℕ) → IsUpTo self.old last before → IsUpTo self.new second before }
     {
         self.speeds.roll(minute(second));
         self.stops.advance(second);
@@ -114,12 +114,12 @@ impl Parts {
     fn find_anew(&self, position: u32, report: &Report) -> Finding
         requires segment { report.now.seg ≤ 99 }
         requires direction { report.now.dir ≤ 1 }
-        ensures exact { (before : List Event) → IsAt self.now report.now.time before
+        ensures exact { (before : List Event) → IsUpTo self.now report.now.time before
             → shown result ≡ (
               position,
               finding_by (notes_of (seen before)) (standing_at (entries before)) self.now.tariffs report.now,
             ) }
-        ensures kept { shown result ≡ (position, found_in self.now (defined_stretch_of report.now)) }
+        ensures kept { shown result ≡ (position, told_now_of self.now (defined_stretch_of report.now)) }
     {
         let stretch = report.stretch();
         let tariff = self.tariffs.of(report.xway);
@@ -137,7 +137,7 @@ impl Parts {
     /// What is known of a stretch in the current minute.
     #[inline(always)]
     fn known_of(&self, stretch: Stretch) -> Option<Known>
-        ensures { IfSome result (λ q. known_as q ≡ found_in self.now stretch) }
+        ensures { IfSome result (λ q. known_as q ≡ told_now_of self.now stretch) }
     {
         let known = (*self.known.get(place_known(stretch))?)?;
         if known.stretch == stretch && known.minute == minute(self.stops.second()) {
@@ -150,7 +150,7 @@ impl Parts {
     /// From now on what was found of the stretch of a report is known.
     #[inline(always)]
     fn know(&mut self, report: &Report, finding: Finding)
-        requires { (shown finding).1 ≡ found_in self.old (defined_stretch_of report.now) }
+        requires { (shown finding).1 ≡ told_now_of self.old (defined_stretch_of report.now) }
         ensures { self.new ≡ self.old }
     {
         let stretch = report.stretch();
@@ -168,12 +168,12 @@ impl Parts {
     fn find(&self, position: u32, report: &Report) -> Finding
         requires segment { report.now.seg ≤ 99 }
         requires direction { report.now.dir ≤ 1 }
-        ensures exact { (before : List Event) → IsAt self.now report.now.time before
+        ensures exact { (before : List Event) → IsUpTo self.now report.now.time before
             → shown result ≡ (
               position,
               finding_by (notes_of (seen before)) (standing_at (entries before)) self.now.tariffs report.now,
             ) }
-        ensures kept { shown result ≡ (position, found_in self.now (defined_stretch_of report.now)) }
+        ensures kept { shown result ≡ (position, told_now_of self.now (defined_stretch_of report.now)) }
     {
         match self.known_of(report.stretch()) {
             Some(known) => Finding {
@@ -190,10 +190,10 @@ impl Parts {
     fn find_if(&self, position: u32, report: &Report, begins: bool) -> Option<Finding>
         requires segment { report.now.seg ≤ 99 }
         requires direction { report.now.dir ≤ 1 }
-        ensures exact { (before : List Event) → IsAt self.now report.now.time before
+        ensures exact { (before : List Event) → IsUpTo self.now report.now.time before
             → option_map shown result ≡ found_if (begins && not (report.now.lane == 4)) (notes_of (seen before))
             (standing_at (entries before)) self.now.tariffs position report.now }
-        ensures kept { IfSome result (λ f. (shown f).1 ≡ found_in self.now (defined_stretch_of report.now)) }
+        ensures kept { IfSome result (λ f. (shown f).1 ≡ told_now_of self.now (defined_stretch_of report.now)) }
     {
         if begins && report.lane != EXIT_LANE {
             Some(self.find(position, report))
@@ -207,7 +207,7 @@ impl Parts {
         requires segment { report.now.seg ≤ 99 }
         requires direction { report.now.dir ≤ 1 }
         ensures same { self.new ≡ self.old }
-        ensures told { (before : List Event) → IsAt self.old report.now.time before
+        ensures told { (before : List Event) → IsUpTo self.old report.now.time before
             → option_map shown result ≡ found_if (begins && not (report.now.lane == 4)) (notes_of (seen before))
             (standing_at (entries before)) self.old.tariffs position report.now }
     {

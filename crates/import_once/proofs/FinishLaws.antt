@@ -14,7 +14,7 @@ use Rattle.road_time.specs.Rows.{rows_from}
 use Rattle.road_time.specs.Text.{out}
 use Rattle.keeper.specs.declared.kept.DayRecord.{DayRecord}
 use Rattle.keeper.specs.declared.kept.KeepFault.TheVariants as keeping
-use Rattle.keeper.specs.History.{paid}
+use Rattle.road_time.specs.History.{paid}
 use Rattle.keeper.specs.Office.{Office, last_day}
 use Rattle.keeper.specs.Kept.{with_day}
 use Rattle.keeper.specs.Calls.{WhenRefused, Leaves}

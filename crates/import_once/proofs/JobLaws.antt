@@ -7,7 +7,7 @@ use Rattle.road_time.specs.Rates.{Tariffs}
 use Rattle.road_time.specs.Day.{rules}
 use Rattle.expressway.specs.declared.job.Job.{Job}
 use Rattle.expressway.specs.Events.{events_for}
-use Rattle.partition_workers.specs.Lists.{started}
+use Rattle.partition_workers.specs.Lists.{listing_of}
 use Rattle.partition_workers.specs.Told.{CrewTold, WhereTold}
 use Rattle.partition_workers.specs.Callers.{ListsAll, ListsFirst}
 use Rattle.accounts.specs.Operations.{Operation, Begin, Posted, posted_with, queued_with, IsRefused}
@@ -21,7 +21,8 @@ use Rattle.keeper.specs.declared.kept.KeepFault.{KeepFault}
 use Rattle.import_once.specs.declared.outcomes.Outcome.{Outcome}
 use Rattle.import_once.specs.declared.outcomes.Outcome.TheVariants.{Stored, Answered, Refused}
 use Rattle.import_once.specs.Imports.{IsOfKeptDay}
-use Rattle.import_once.specs.Runs.{stopped_outcome, refused_outcome, WhereWorked, HasStarted, HasStepped, PublishesDay}
+use Rattle.import_once.specs.Runs.{stopped_outcome, refused_outcome, WhereWorked, HasStartedJobs, HasDaySteps}
+use Rattle.import_once.specs.Runs.{PublishesDay}
 use Rattle.import_once.proofs.FinishLaws.{where_worked}
 use Rattle.day_rounds.specs.declared.fault.DayFault.TheVariants as stop
 use Rattle.keeper.specs.declared.kept.KeepFault.TheVariants as keeping
@@ -49,7 +50,7 @@ lists_first : (jobs : List Job) (was now : Option CrewTold) → WhereTold (Lists
 lists_first jobs None None h = tt
 lists_first jobs None (Some now) h = absurd h
 lists_first jobs (Some was) None h = absurd h
-lists_first jobs (Some was) (Some now) h = (map started jobs, [], h, sym (append-nil (map started jobs)))
+lists_first jobs (Some was) (Some now) h = (map listing_of jobs, [], h, sym (append-nil (map listing_of jobs)))
 
 -- all jobs of a day are its first ones
 all_first : (width backlog : ℕ) (day : List Tuple) (since : List Job) → HaveAllStarted width backlog day since →
@@ -65,7 +66,7 @@ all_first width backlog day since h = record {
 pub started_all : (width backlog : ℕ) (day : List Tuple) (was now : Option CrewTold) (outcome : Outcome)
     (since : List Job)
     → HaveAllStarted width backlog day since → WhereTold (ListsAll since) was now →
-    HasStarted width backlog day was now outcome
+    HasStartedJobs width backlog day was now outcome
 started_all width backlog day was now outcome since h listed =
     record {
       since = since;
@@ -77,9 +78,8 @@ started_all width backlog day was now outcome since h listed =
 
 -- and of one whose work was stopped
 pub started_first : (width backlog : ℕ) (day : List Tuple) (was now : Option CrewTold) (s : DayFault)
-    (since : List Job) →
-    HaveFirstStarted width backlog day since → WhereTold (ListsFirst since) was now
-    → HasStarted width backlog day was now (stopped_outcome s)
+    (since : List Job) → HaveFirstStarted width backlog day since → WhereTold (ListsFirst since) was now
+    → HasStartedJobs width backlog day was now (stopped_outcome s)
 started_first width backlog day was now s since h listed =
     record { since = since; started = h; listed = listed; all = stops_unworked s _ }
 
@@ -91,7 +91,7 @@ told_same (Some t) = ([], [], sym (append-nil t.listed), refl)
 -- no job was started
 pub none_started : (width backlog : ℕ) (day : List Tuple) (told : Option CrewTold) (outcome : Outcome)
     → WhereWorked outcome (HaveAllStarted width backlog day [] × WhereTold (ListsAll []) told told) →
-    HasStarted width backlog day told told outcome
+    HasStartedJobs width backlog day told told outcome
 none_started width backlog day told outcome h = record {
   since = [];
   started = record { numbered = tt; each = tt; first = λ worker within. (events_for day worker width, refl) };
@@ -102,15 +102,15 @@ none_started width backlog day told outcome h = record {
 -- a crew of a day whose keeper refused started no job
 pub refused_started : (width backlog : ℕ) (day : List Tuple) (told : Option CrewTold) (fault : KeepFault)
     (outcome : Outcome)
-    → outcome ≡ refused_outcome fault → HasStarted width backlog day told told outcome
+    → outcome ≡ refused_outcome fault → HasStartedJobs width backlog day told told outcome
 refused_started width backlog day told fault outcome is =
-    subst (HasStarted width backlog day told told) (sym is)
+    subst (HasStartedJobs width backlog day told told) (sym is)
     (none_started width backlog day told (refused_outcome fault) (refused_unworked fault _))
 
 -- the steps of a day that was worked
 pub stepped_all : (t : Task) (day : List Tuple) (old now : Option Posted) (outcome : Outcome) →
     HasStepsBy (rules day t.tariffs) t day (length day) old now →
-    HasStepped t.tariffs day t.limits.backlog old now outcome
+    HasDaySteps t.tariffs day t.limits.backlog old now outcome
 stepped_all t day old now outcome h =
     record {
       steps = h.steps;
@@ -124,7 +124,7 @@ stepped_all t day old now outcome h =
 
 -- and of one whose work was stopped
 pub stepped_some : (tariffs : Tariffs) (day : List Tuple) (backlog : ℕ) (old now : Option Posted) (s : DayFault) →
-    HasSteps tariffs day backlog old now → HasStepped tariffs day backlog old now (stopped_outcome s)
+    HasSteps tariffs day backlog old now → HasDaySteps tariffs day backlog old now (stopped_outcome s)
 stepped_some tariffs day backlog old now s h =
     record {
       steps = h.steps;
@@ -140,7 +140,7 @@ stepped_some tariffs day backlog old now s h =
 pub begun_published : (tariffs : Tariffs) (day : List Tuple) (number backlog : ℕ) (was : Posted)
     (old mid now : Option Posted) (outcome : Outcome) → old ≡ Some was →
     mid ≡ option_map (posted_with (Begin number)) old
-    → HasStepped tariffs day backlog mid now outcome → PublishesDay tariffs day number backlog was now outcome
+    → HasDaySteps tariffs day backlog mid now outcome → PublishesDay tariffs day number backlog was now outcome
 begun_published tariffs day number backlog was old mid now outcome e f h =
     let start : mid ≡ Some (posted_with (Begin number) was) = f ∙ ap (option_map (posted_with (Begin number))) e in
     let all : published_of now ≡ Some ((was.published ++ (was.queued ++ Begin number ∷ [])) ++ h.steps) =

@@ -16,7 +16,7 @@ use Rattle.keeper.specs.Calls.{WhenRefused, PutsNothing, FailsLate, AllOrNothing
 use Rattle.import_once.specs.declared.outcomes.Outcome.{Outcome}
 use Rattle.import_once.specs.declared.outcomes.Outcome.TheVariants.{ReadFault, WriteFault, KeeperFault, NoMemory}
 use Rattle.import_once.specs.Imports.{DayAnswer, Does, unless_recorded, unless_passed, import_read}
-use Rattle.import_once.specs.Laws.{KeepsOnce, KeepOnce, after_all, RepeatLaw, OnceLaw}
+use Rattle.import_once.specs.Laws.{KeepsOnce, KeepOnce, last_office, RepeatLaw, OnceLaw}
 
 -- where an element that fits stands last, one is found
 found_last : (p : DayRecord → Bool) (rs : List DayRecord) (r : DayRecord) → p r ≡ true → (s : DayRecord)
@@ -37,12 +37,12 @@ kept_then number bytes day o =
 
 -- nothing changes where the day is kept
 stays : (number : ℕ) (bytes : List ℕ) (day : List Tuple) (was : Office) (later : List Office) (r : DayRecord) →
-    record_of was number ≡ Some r → KeepOnce number bytes day was later → after_all was later ≡ was
+    record_of was number ≡ Some r → KeepOnce number bytes day was later → last_office was later ≡ was
 stays number bytes day was [] r e h = refl
 stays number bytes day was (now ∷ later) r e h =
     let same : now ≡ was = h.0.kept r e in
     let rest = subst (λ (o : Office). KeepOnce number bytes day o later) same h.1 in
-    ap (λ (o : Office). after_all o later) same ∙ stays number bytes day was later r e rest
+    ap (λ (o : Office). last_office o later) same ∙ stays number bytes day was later r e rest
 
 -- however often a day is imported of one input, it is kept once or not at all
 pub repeat_law : RepeatLaw
@@ -52,12 +52,12 @@ repeat_law number bytes day was (now ∷ later) h =
     (λ (same : now ≡ was).
     (let rest =
     repeat_law number bytes day was later (subst (λ (o : Office). KeepOnce number bytes day o later) same h.1) in
-    subst (λ (o : Office). (after_all o later ≡ was) ⊎ (after_all o later ≡ next_office number bytes day was))
+    subst (λ (o : Office). (last_office o later ≡ was) ⊎ (last_office o later ≡ next_office number bytes day was))
     (sym same) rest))
     (λ (put : now ≡ next_office number bytes day was). (
     let kept = kept_then number bytes day was in
     let rest = subst (λ (o : Office). KeepOnce number bytes day o later) put h.1 in
-    inr (ap (λ (o : Office). after_all o later) put
+    inr (ap (λ (o : Office). last_office o later) put
     ∙ stays number bytes day (next_office number bytes day was) later kept.0 kept.1 rest)))
     h.0.either
 
@@ -125,8 +125,7 @@ none_some x e = cc
 -- by whether the day is kept
 once_by : (w : WhenRefused) (number late : ℕ) (limits : Limits) (bytes : List ℕ) (was now : Office)
     (old new : Option (List ℕ)) (outcome : Outcome) (k : Option DayRecord)
-    → record_of was number ≡ k →
-    Does w (unless_recorded k
+    → record_of was number ≡ k → Does w (unless_recorded k
     (import_read number bytes (reads bytes limits late).tuples (reads bytes limits late).refused was) number bytes
     was) was old new (Some now) outcome → KeepsOnce number bytes (reads bytes limits late).tuples was now
 once_by w number late limits bytes was now old new outcome (Some kept) e h =

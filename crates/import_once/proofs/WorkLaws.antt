@@ -1,5 +1,6 @@
 -- What a day's work comes to as a record and its amounts.
 use Rattle.std.proofs.Common.{◌≡◌, ◌<◌, ◌≤◌, ◌^◌, ℕ, List, [], length, Some, sym, ap, subst, ◌∙◌, arith}
+use Rattle.road_time.specs.declared.tariff.TheConstants.{GREATEST_TOLL}
 use Rattle.road_time.specs.declared.road.Tuple.{Tuple}
 use Rattle.road_time.specs.declared.road.Notice.{Notice}
 use Rattle.road_time.specs.declared.day.SpentRow.{SpentRow}
@@ -17,7 +18,7 @@ use Rattle.road_time.proofs.RowLaws.{are_rows}
 use Rattle.road_time.proofs.SumLaws.{rows_add_up}
 use Rattle.keeper.specs.declared.digest.Digest.{Digest}
 use Rattle.keeper.specs.Digests.{digest_of}
-use Rattle.keeper.specs.History.{paid}
+use Rattle.road_time.specs.History.{paid}
 use Rattle.keeper.specs.Office.{Office, RowsRise, sum_of_rows}
 use Rattle.std.specs.List.{AllByRecursion}
 use Rattle.keeper.specs.Kept.{IsDayPut}
@@ -35,7 +36,7 @@ use Rattle.import_once.specs.Stages.{run_record, CanPut}
 pub run_fits : (number : ℕ) (limits : Limits) (found : List (ℕ × StretchTold)) (history : PaidHistory)
     (day : List Tuple)
     (run : WorkedDay) → IsLimits limits → Fit day limits → IsShortDay run.end → run.tuples ≡ length day
-    → IsClosed run.closed number (given found) number history day → ((s : Sight) → (given found s).toll ≤ 500000000000)
+    → IsClosed run.closed number (given found) number history day → ((s : Sight) → (given found s).toll ≤ GREATEST_TOLL)
     → CanPut number run
 run_fits number limits found history day run within fit short count closed few =
     let cs : List ChargedToll = charges_by (given found) (moments day) in

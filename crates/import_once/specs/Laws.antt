@@ -21,16 +21,16 @@ KeepOnce number bytes day was [] = Unit {0}
 KeepOnce number bytes day was (now ∷ later) = KeepsOnce number bytes day was now × KeepOnce number bytes day now later
 
 -- the office after the last of them
-abbrev pub after_all : Office → List Office → Office
-after_all was [] = was
-after_all was (now ∷ later) = after_all now later
+abbrev pub last_office : Office → List Office → Office
+last_office was [] = was
+last_office was (now ∷ later) = last_office now later
 
 -- however often one day is imported of one input, it is kept once or not at all
 abbrev pub RepeatLaw : Type 0
 RepeatLaw =
     (number : ℕ) (bytes : List ℕ) (day : List Tuple) (was : Office) (later : List Office)
     → KeepOnce number bytes day was later
-    → (after_all was later ≡ was) ⊎ (after_all was later ≡ next_office number bytes day was)
+    → (last_office was later ≡ was) ⊎ (last_office was later ≡ next_office number bytes day was)
 
 -- what an import does is such an import
 abbrev pub OnceLaw : Type 0

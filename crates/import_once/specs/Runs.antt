@@ -51,7 +51,7 @@ pub record DoesByCrew (w : WhenRefused) (answer : List (ℕ × RoadFinding) → 
   pub merges : Merges w (answer found) was old new now outcome
 
 -- the jobs of a day: the crew tells the first of each worker's, and where the day was worked all
-pub record HasStarted (width backlog : ℕ) (day : List Tuple) (told now_told : Option CrewTold)
+pub record HasStartedJobs (width backlog : ℕ) (day : List Tuple) (told now_told : Option CrewTold)
     (outcome : Outcome) : Type
     0 where
   pub since : List Job
@@ -60,7 +60,7 @@ pub record HasStarted (width backlog : ℕ) (day : List Tuple) (told now_told : 
   pub all : WhereWorked outcome (HaveAllStarted width backlog day since × WhereTold (ListsAll since) told now_told)
 
 -- since an earlier time steps of a day by the rules are published, up to some mark, and to its end where it was worked
-pub record HasStepped (tariffs : Tariffs) (day : List Tuple) (backlog : ℕ) (old now : Option Posted)
+pub record HasDaySteps (tariffs : Tariffs) (day : List Tuple) (backlog : ℕ) (old now : Option Posted)
     (outcome : Outcome) : Type 0 where
   pub steps : List Operation
   pub mark : ℕ

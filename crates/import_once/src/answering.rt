@@ -7,7 +7,7 @@ ghost use Rattle.day_reading.specs.Days.{most_of_day};
 ghost use Rattle.road_io.specs.Within.{ReadsWithin};
 ghost use Rattle.road_io.specs.Blame.{FaultsByPlan, FaultsByRoom};
 ghost use Rattle.import_once.specs.Imports.{answers_answer, answers_found, Does, LeavesRead, IsOfAnswers};
-ghost use Rattle.import_once.specs.Runs.{DoesByCrew, HasStarted};
+ghost use Rattle.import_once.specs.Runs.{DoesByCrew, HasStartedJobs};
 ghost use Rattle.import_once.specs.declared.outcomes.Outcome.TheVariants.{ReadFault, WriteFault, KeeperFault};
 
 use crate::keeping::finish_answers;
@@ -51,7 +51,7 @@ fn answer_under<S: Source, O: Sink, K: Keeper, C: Crew, R: Threads>(
         → DoesByCrew K.refuses (λ found. answers_found found number late limits.now bytes o) o (C.answers crew.old)
         (C.answers crew.new) (O.written sink.old) (O.written sink.new) (K.told keeper.new) result }
     ensures jobs { (bytes : List ℕ) → S.left source.old ≡ Some bytes
-        → HasStarted plan.now.width limits.now.backlog (reads bytes limits.now late).tuples (C.jobs crew.old)
+        → HasStartedJobs plan.now.width limits.now.backlog (reads bytes limits.now late).tuples (C.jobs crew.old)
         (C.jobs crew.new) result }
     ensures kept { K.told keeper.new ≡ K.told keeper.old }
     ensures own { IsOfAnswers result }
@@ -116,7 +116,7 @@ pub fn answers<S: Source, O: Sink, K: Keeper, C: Crew, R: Threads>(
         → DoesByCrew K.refuses (λ found. answers_found found day late limits.now bytes o) o (C.answers crew.old)
         (C.answers crew.new) (O.written sink.old) (O.written sink.new) (K.told keeper.new) result }
     ensures jobs { (bytes : List ℕ) → S.left source.old ≡ Some bytes
-        → HasStarted plan.now.width limits.now.backlog (reads bytes limits.now late).tuples (C.jobs crew.old)
+        → HasStartedJobs plan.now.width limits.now.backlog (reads bytes limits.now late).tuples (C.jobs crew.old)
         (C.jobs crew.new) result }
     ensures kept { K.told keeper.new ≡ K.told keeper.old }
     ensures own { IsOfAnswers result }

@@ -10,10 +10,9 @@ ghost use Rattle.road_time.specs.Fits.{IsLimits};
 ghost use Rattle.day_reading.specs.Days.{most_of_day};
 ghost use Rattle.road_io.specs.Within.{ReadsWithin};
 ghost use Rattle.road_io.specs.Blame.{FaultsByPlan, FaultsByRoom};
-ghost use Rattle.import_once.specs.Imports.{new_import, new_import_found};
-ghost use Rattle.import_once.specs.Imports.{Does, LeavesRead, PutsOnce};
-ghost use Rattle.import_once.specs.Imports.{KeepsAll, IsOfNewDay};
-ghost use Rattle.import_once.specs.Runs.{DoesByCrew, HasStarted, HasStepped, PublishesDay};
+ghost use Rattle.import_once.specs.Imports.{new_import, new_import_found, Does, LeavesRead, PutsOnce, KeepsAll};
+ghost use Rattle.import_once.specs.Imports.{IsOfNewDay};
+ghost use Rattle.import_once.specs.Runs.{DoesByCrew, HasStartedJobs, HasDaySteps, PublishesDay};
 ghost use Rattle.accounts.specs.Operations.{Posted};
 ghost use Rattle.import_once.specs.declared.outcomes.Outcome.TheVariants.{Stored, ReadFault, WriteFault, KeeperFault};
 
@@ -61,10 +60,10 @@ fn import_under<S: Source, O: Sink, K: Keeper, C: Crew, P: Publisher, R: Threads
         → DoesByCrew K.refuses (λ found. new_import_found found number late limits.now bytes o) o (C.answers crew.old)
         (C.answers crew.new) (O.written sink.old) (O.written sink.new) (K.told keeper.new) result }
     ensures jobs { (bytes : List ℕ) → S.left source.old ≡ Some bytes
-        → HasStarted plan.now.width limits.now.backlog (reads bytes limits.now late).tuples (C.jobs crew.old)
+        → HasStartedJobs plan.now.width limits.now.backlog (reads bytes limits.now late).tuples (C.jobs crew.old)
         (C.jobs crew.new) result }
     ensures stepped { C.exact ≡ true → (bytes : List ℕ) → S.left source.old ≡ Some bytes
-        → HasStepped tariffs.now (reads bytes limits.now late).tuples limits.now.backlog (P.posted publisher.old)
+        → HasDaySteps tariffs.now (reads bytes limits.now late).tuples limits.now.backlog (P.posted publisher.old)
         (P.posted publisher.new) result }
     ensures puts { (o : Office) → K.told keeper.old ≡ Some o → PutsOnce number o (K.told keeper.new) }
     ensures keeps { KeepsAll result (K.told keeper.new ≡ K.told keeper.old) }
@@ -124,7 +123,7 @@ pub(crate) fn import_begun<S: Source, O: Sink, K: Keeper, C: Crew, P: Publisher,
         → DoesByCrew K.refuses (λ found. new_import_found found number late limits.now bytes o) o (C.answers crew.old)
         (C.answers crew.new) (O.written sink.old) (O.written sink.new) (K.told keeper.new) result }
     ensures jobs { (bytes : List ℕ) → S.left source.old ≡ Some bytes
-        → HasStarted plan.now.width limits.now.backlog (reads bytes limits.now late).tuples (C.jobs crew.old)
+        → HasStartedJobs plan.now.width limits.now.backlog (reads bytes limits.now late).tuples (C.jobs crew.old)
         (C.jobs crew.new) result }
     ensures published { C.exact ≡ true → (bytes : List ℕ) (was : Posted) → S.left source.old ≡ Some bytes
         → P.posted publisher.old ≡ Some was

@@ -7,10 +7,9 @@ ghost use Rattle.road_time.specs.Fits.{IsLimits};
 ghost use Rattle.day_reading.specs.Days.{most_of_day};
 ghost use Rattle.road_io.specs.Within.{ReadsWithin};
 ghost use Rattle.road_io.specs.Blame.{FaultsByPlan, FaultsByRoom};
-ghost use Rattle.import_once.specs.Imports.{import_answer, import_found};
-ghost use Rattle.import_once.specs.Imports.{most_imported, Does, LeavesRest, LeavesAlone, LeavesRead, PutsOnce};
-ghost use Rattle.import_once.specs.Imports.{KeepsAll, IsUncompared};
-ghost use Rattle.import_once.specs.Runs.{DoesByCrew, HasStarted, PublishesDay};
+ghost use Rattle.import_once.specs.Imports.{import_answer, import_found, most_imported, Does, LeavesRest, LeavesAlone};
+ghost use Rattle.import_once.specs.Imports.{LeavesRead, PutsOnce, KeepsAll, IsUncompared};
+ghost use Rattle.import_once.specs.Runs.{DoesByCrew, HasStartedJobs, PublishesDay};
 ghost use Rattle.accounts.specs.Operations.{Posted};
 ghost use Rattle.import_once.specs.declared.outcomes.Outcome.TheVariants.{Stored, ReadFault, WriteFault, KeeperFault};
 
@@ -55,7 +54,7 @@ pub fn import<S: Source, O: Sink, K: Keeper, C: Crew, P: Publisher, R: Threads>(
         → DoesByCrew K.refuses (λ found. import_found found day late limits.now bytes o) o (C.answers crew.old)
         (C.answers crew.new) (O.written sink.old) (O.written sink.new) (K.told keeper.new) result }
     ensures jobs { (bytes : List ℕ) → S.left source.old ≡ Some bytes
-        → HasStarted plan.now.width limits.now.backlog (reads bytes limits.now late).tuples (C.jobs crew.old)
+        → HasStartedJobs plan.now.width limits.now.backlog (reads bytes limits.now late).tuples (C.jobs crew.old)
         (C.jobs crew.new) result }
     ensures published { C.exact ≡ true → (bytes : List ℕ) (o : Office) (was : Posted) → S.left source.old ≡ Some bytes
         → K.told keeper.old ≡ Some o

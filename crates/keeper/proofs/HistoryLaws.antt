@@ -11,7 +11,7 @@ use Rattle.std.proofs.lemmas.Bool.{cases_Bool, and_parts, eqb-true, cond-true, c
 use Rattle.road_time.proofs.EachLaws.{weakened}
 use Rattle.road_time.specs.declared.day.SpentRow.{SpentRow}
 use Rattle.road_time.specs.Rows.{IsBefore}
-use Rattle.keeper.specs.History.{is_row, tolls_of}
+use Rattle.road_time.specs.History.{is_row, tolls_of}
 use Rattle.keeper.specs.Office.{row_cmp}
 use Rattle.keeper.specs.Laws.{HistoryLaw, KeysLaw, DayRowsLaw}
 use Rattle.keeper.proofs.RowOrder.{row_total, not_row, greater_apart}

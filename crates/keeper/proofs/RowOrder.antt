@@ -6,14 +6,15 @@ use Rattle.std.specs.List.Sorted.{IsStrictlySortedBy, IsNonDecreasingBy, IsParti
 use Rattle.std.specs.declared.cmp.Ordering.{Ordering}
 use Rattle.std.specs.declared.cmp.Ordering.TheVariants.{Less, Equal, Greater}
 use Rattle.std.specs.Ordering.{nat_cmp, ordering_then, ordering_index}
-use Rattle.std.specs.Cmp.{IsTotalOrder, then_total, on_total, nat_cmp_total, nat_eq_equiv}
+use Rattle.std.specs.Cmp.{IsTotalOrder, then_total, on_total, nat_cmp_total}
 use Rattle.std.specs.FinMap.{nat_cmp-IsAntisymmetric}
 use Rattle.std.proofs.lemmas.Cmp.{tied_itself, alike_right}
 use Rattle.std.proofs.lemmas.Map.Keys.{Less-from_sorted}
 use Rattle.std.proofs.lemmas.Bool.{cases_Bool, cases_lt, and_parts, eqb-true, cond-true, cond-false}
 use Rattle.road_time.specs.declared.day.SpentRow.{SpentRow}
-use Rattle.keeper.specs.History.{is_row, paid, tolls_of}
+use Rattle.road_time.specs.History.{is_row, paid, tolls_of}
 use Rattle.keeper.specs.Office.{key_cmp, row_cmp, RowsRise}
+use Rattle.keeper.proofs.ListFacts.{self_same}
 
 -- a total order
 pub row_total : IsTotalOrder row_cmp
@@ -22,7 +23,7 @@ row_total =
     (then_total (on_total (λ (r : SpentRow). r.vid) nat_cmp_total) (on_total (λ (r : SpentRow). r.xway) nat_cmp_total))
 
 -- comparisons that tie, tie each
-then_parts : (a b : Ordering) → ordering_then a b ≡ Equal → (a ≡ Equal) × (b ≡ Equal)
+pub then_parts : (a b : Ordering) → ordering_then a b ≡ Equal → (a ≡ Equal) × (b ≡ Equal)
 then_parts Less b e = absurd cc
 then_parts Equal b e = (refl, e)
 then_parts Greater b e = absurd cc
@@ -53,10 +54,6 @@ row_ties day vid xway r e =
 pub not_row : (day vid xway : ℕ) (r : SpentRow) → (key_cmp day vid xway r ≡ Equal → ⊥) → is_row day vid xway r ≡ false
 not_row day vid xway r apart =
     ⊎_elim (λ yes. absurd (apart (row_ties day vid xway r yes))) (λ off. off) (cases_Bool (is_row day vid xway r))
-
--- a number is itself
-self_same : (n : ℕ) → (n == n) ≡ true
-self_same n = nat_eq_equiv.refl n
 
 -- a row that ties with a key is of it
 is_tied : (day vid xway : ℕ) (r : SpentRow) → key_cmp day vid xway r ≡ Equal → is_row day vid xway r ≡ true

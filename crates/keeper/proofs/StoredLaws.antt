@@ -12,7 +12,7 @@ use Rattle.road_time.proofs.SightLaws.{length-moments}
 use Rattle.road_time.proofs.BoundLaws.{rules_few, total_few}
 use Rattle.road_time.proofs.RowLaws.{are_rows}
 use Rattle.road_time.proofs.SumLaws.{rows_add_up}
-use Rattle.keeper.specs.History.{paid}
+use Rattle.road_time.specs.History.{paid}
 use Rattle.keeper.specs.Laws.{StoredLaw}
 use Rattle.keeper.proofs.HistoryLaws.{day_rows_law}
 

@@ -38,8 +38,7 @@ module _ {X : Type 0} where
   each_in P k v [] h p = (p, tt)
   each_in P k v (e ∷ es) h p = by (nat_cmp k e.0) (each_in P k v es h.1 p)
     where
-      by : (o : Ordering) → AllByRecursion P (keys_of (insert_entry nat_cmp es k v)) →
-          AllByRecursion P
+      by : (o : Ordering) → AllByRecursion P (keys_of (insert_entry nat_cmp es k v)) → AllByRecursion P
           (keys_of (match_ordering o ((k, v) ∷ e ∷ es) ((e.0, v) ∷ es) (e ∷ insert_entry nat_cmp es k v)))
       by Less more = (p, h)
       by Equal more = h

@@ -13,7 +13,7 @@ use Rattle.keeper.specs.declared.kept.DayRecord.{DayRecord}
 use Rattle.keeper.specs.declared.kept.OldRecord.{OldRecord}
 use Rattle.keeper.specs.declared.kept.PastRecord.{PastRecord}
 use Rattle.keeper.specs.Digests.{digest_of}
-use Rattle.keeper.specs.History.{paid}
+use Rattle.road_time.specs.History.{paid}
 use Rattle.keeper.specs.Office.{Office, RowsRise, sum_of_rows, last_day}
 
 -- the seal of tariffs: the digest of their lines

@@ -5,7 +5,7 @@ use Rattle.road_time.specs.Rows.{AreRowsRising, rows_of}
 use Rattle.road_time.specs.declared.road.Tuple.{Tuple}
 use Rattle.road_time.specs.Fits.{IsDay}
 use Rattle.keeper.specs.Kept.{IsDayPut, kept_record}
-use Rattle.keeper.specs.History.{paid, KeysDiffer}
+use Rattle.road_time.specs.History.{paid, KeysDiffer}
 use Rattle.keeper.specs.Office.{Office, RowsRise, rows_between}
 
 -- what the amounts of some days tell of a day among them is what all amounts tell

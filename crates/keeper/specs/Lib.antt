@@ -1,5 +1,4 @@
 pub mod Digests
-pub mod History
 pub mod Office
 pub mod Kept
 pub mod Calls

@@ -7,12 +7,12 @@ use Rattle.keeper.specs.declared.memory.LateKeeper.{LateKeeper}
 use Rattle.keeper.specs.Office.{Office}
 
 -- what an office in memory keeps
-abbrev pub office_in : MemOffice → Office
-office_in m = record { days = m.days.items; rows = m.rows.items; past = m.past; tariffs = m.tariffs }
+abbrev pub memory_office : MemOffice → Office
+memory_office m = record { days = m.days.items; rows = m.rows.items; past = m.past; tariffs = m.tariffs }
 
 -- which of the calls to come fail
-abbrev pub plan_in : Failing → ℕ → Bool
-plan_in f = planned f.fails.items f.calls
+abbrev pub planned_in : Failing → ℕ → Bool
+planned_in f = planned f.fails.items f.calls
 
 -- the failed calls that were counted
 abbrev pub faults_in : Failing → ℕ
@@ -20,11 +20,11 @@ faults_in f = f.faults
 
 -- what a keeper in memory keeps
 abbrev pub kept_by : MemKeeper → Office
-kept_by k = office_in k.office
+kept_by k = memory_office k.office
 
 -- which of its calls to come fail
 abbrev pub plan_of : MemKeeper → ℕ → Bool
-plan_of k = plan_in k.failing
+plan_of k = planned_in k.failing
 
 -- the failed calls that it counted
 abbrev pub faults_of : MemKeeper → ℕ
@@ -32,11 +32,11 @@ faults_of k = faults_in k.failing
 
 -- what a keeper that fails late keeps
 abbrev pub kept_late : LateKeeper → Office
-kept_late k = office_in k.office
+kept_late k = memory_office k.office
 
 -- which of its calls to come fail
 abbrev pub plan_late : LateKeeper → ℕ → Bool
-plan_late k = plan_in k.failing
+plan_late k = planned_in k.failing
 
 -- the failed calls that it counted
 abbrev pub faults_late : LateKeeper → ℕ

@@ -9,7 +9,7 @@ use Rattle.road_time.specs.Numbers.{number_of, fields_of_text}
 use Rattle.road_time.specs.Form.{Fault, Long, Many, Fields, Number, Range, Use, From, name, first_odd, first_out}
 use Rattle.keeper.specs.declared.kept.PastRecord.{PastRecord}
 use Rattle.keeper.specs.Digests.{digest_of}
-use Rattle.keeper.specs.History.{is_row}
+use Rattle.road_time.specs.History.{is_row}
 use Rattle.keeper.specs.Office.{Office, row_cmp}
 use Rattle.keeper.specs.Kept.{with_past}
 

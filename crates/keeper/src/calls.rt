@@ -1,7 +1,7 @@
 // Whoever keeps days, amounts, a history and tariffs.
 ghost use Rattle.std.specs.Prelude.{◌≡◌, ◌<◌, IfOk};
 ghost use Rattle.road_time.specs.Rates.{IsTariff};
-ghost use Rattle.keeper.specs.History.{paid};
+ghost use Rattle.road_time.specs.History.{paid};
 ghost use Rattle.keeper.specs.Office.{RowsRise, record_of, last_day as last_day_of, rows_between, vehicle_rows_between};
 ghost use Rattle.keeper.specs.Kept.{IsDayPut, IsPastPut, IsLater, HasNoDays, with_day, with_past, with_tariff_of};
 ghost use Rattle.keeper.specs.Calls.{SoundIfTold, IfTold, Reads, Puts, GoesAsPlanned, PutsAsPlanned, Wants};

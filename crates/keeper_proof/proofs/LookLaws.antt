@@ -6,11 +6,11 @@ use Rattle.sqlite_trees.specs.declared.store.Store.{Ghosts}
 use Rattle.sqlite.specs.Effect.{Database}
 use Rattle.sqlite.specs.Held.{Held, state}
 use Rattle.keeper.specs.Office.{Office, record_of, rows_between, vehicle_rows_between}
-use Rattle.keeper.specs.History.{paid}
+use Rattle.road_time.specs.History.{paid}
 use Rattle.kept_tables.specs.Texts.{find_spent, find_tariffs, list_spent, list_vehicle, find_last, find_day, find_seal}
 use Rattle.kept_tables.specs.Texts.{find_past}
 use Rattle.kept_tables.specs.Codec.{spent_row, past_values}
-use Rattle.kept_tables.specs.Shown.{tariff_columns, day_columns, seal_columns, rows_of, last_rows}
+use Rattle.kept_tables.specs.Shown.{tariff_columns, day_columns, seal_columns, row_if_any, last_rows}
 use Rattle.kept_tables.specs.Stands.{HasOffice}
 use Rattle.kept_tables.specs.Amounts.{HasAmount}
 use Rattle.kept_tables.proofs.AmountLaws.{amount_read, asked}
@@ -28,19 +28,19 @@ module _ {S : Type 0} (g : Ghosts S) (old new : Held S) (o : Office) (has : HasO
   pub last_looks : ShowsCommitted g find_last [] old new found → found ≡ last_rows o.days
   last_looks s = last_shown o (state g s.before) (state g new) found (seen find_last [] s) s.shown
 
-  pub past_looks : ShowsCommitted g find_past [] old new found → found ≡ rows_of past_values o.past
+  pub past_looks : ShowsCommitted g find_past [] old new found → found ≡ row_if_any past_values o.past
   past_looks s = past_shown o (state g s.before) (state g new) found (seen find_past [] s) s.shown
 
   pub tariffs_look : ShowsCommitted g find_tariffs [] old new found → found ≡ map tariff_columns o.tariffs
   tariffs_look s = tariffs_shown o (state g s.before) (state g new) found (seen find_tariffs [] s) s.shown
 
   pub day_looks : (day : ℕ) → ShowsCommitted g find_day (Int (pos day) ∷ []) old new found →
-      found ≡ rows_of day_columns (record_of o day)
+      found ≡ row_if_any day_columns (record_of o day)
   day_looks day s =
       day_shown day o (state g s.before) (state g new) found (seen find_day (Int (pos day) ∷ []) s) s.shown
 
   pub seal_looks : (day : ℕ) → ShowsCommitted g find_seal (Int (pos day) ∷ []) old new found →
-      found ≡ rows_of seal_columns (record_of o day)
+      found ≡ row_if_any seal_columns (record_of o day)
   seal_looks day s =
       seal_shown day o (state g s.before) (state g new) found (seen find_seal (Int (pos day) ∷ []) s) s.shown
 

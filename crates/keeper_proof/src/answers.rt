@@ -8,7 +8,7 @@ ghost use Rattle.keeper.specs.declared.kept.DayRecord.{DayRecord};
 ghost use Rattle.keeper.specs.declared.kept.PastRecord.{PastRecord};
 ghost use Rattle.keeper.specs.Office.{RowsRise, last_from, day_before};
 ghost use Rattle.kept_tables.specs.Codec.{spent_row, past_values};
-ghost use Rattle.kept_tables.specs.Shown.{day_columns, seal_columns, tariff_columns, rows_of, last_rows};
+ghost use Rattle.kept_tables.specs.Shown.{day_columns, seal_columns, tariff_columns, row_if_any, last_rows};
 ghost use Rattle.kept_tables.specs.Stands.{FitsDay, FitsSpent};
 ghost use Rattle.kept_tables.specs.Amounts.{HasAmount};
 ghost use Rattle.keeper_proof.specs.Gives.{Gives, FitsBased};
@@ -63,7 +63,7 @@ pub fn tariffs_of(alloc: Global, found: &[Row]) -> Result<Tariffs, KeepFault>
 
 /// The history that an answer has, if any.
 pub fn past_of(found: &[Row]) -> Result<Option<PastRecord>, KeepFault>
-    ensures { (p : Option PastRecord) → IfSome p FitsBased → found.now ≡ rows_of past_values p
+    ensures { (p : Option PastRecord) → IfSome p FitsBased → found.now ≡ row_if_any past_values p
         → Gives (λ x. x) result p }
 {
     match found {
@@ -79,7 +79,8 @@ pub fn past_of(found: &[Row]) -> Result<Option<PastRecord>, KeepFault>
 /// The day that two answers have, if any.
 pub fn day_of(day: u32, found: &[Row], seals: &[Row]) -> Result<Option<DayRecord>, KeepFault>
     ensures { (kept : Option DayRecord) → IfSome kept (λ r. FitsDay r × (r.day ≡ day))
-        → found.now ≡ rows_of day_columns kept → seals.now ≡ rows_of seal_columns kept → Gives (λ x. x) result kept }
+        → found.now ≡ row_if_any day_columns kept → seals.now ≡ row_if_any seal_columns kept →
+        Gives (λ x. x) result kept }
 {
     match found {
         [] => Ok(None),
@@ -116,7 +117,7 @@ pub fn amount_in(found: &[Row]) -> Result<u64, KeepFault>
 /// The last day, by the answers for the days and for the history.
 pub fn last_of(days: &[Row], found: &[Row]) -> Result<u32, KeepFault>
     ensures { (ds : List DayRecord) → (p : Option PastRecord) → AllByRecursion FitsDay ds → IfSome p FitsBased
-        → days.now ≡ last_rows ds → found.now ≡ rows_of past_values p
+        → days.now ≡ last_rows ds → found.now ≡ row_if_any past_values p
         → Gives (λ x. x) result (last_from ds p) }
 {
     match days {
@@ -128,7 +129,7 @@ pub fn last_of(days: &[Row], found: &[Row]) -> Result<u32, KeepFault>
 
 /// The day before a history's, 0 for none.
 fn before(found: &[Row]) -> Result<u32, KeepFault>
-    ensures { (p : Option PastRecord) → IfSome p FitsBased → found.now ≡ rows_of past_values p
+    ensures { (p : Option PastRecord) → IfSome p FitsBased → found.now ≡ row_if_any past_values p
         → Gives (λ x. x) result (day_before p) }
 {
     match past_of(found)? {

@@ -5,7 +5,7 @@ ghost use Rattle.sqlite.specs.State.{HasCleanDisk, KeepsCommit, Survives};
 ghost use Rattle.road_time.specs.Rates.{IsTariff};
 ghost use Rattle.keeper.specs.Office.{Office, RowsRise, last_day as last_day_of, record_of, rows_between};
 ghost use Rattle.keeper.specs.Office.{vehicle_rows_between};
-ghost use Rattle.keeper.specs.History.{paid};
+ghost use Rattle.road_time.specs.History.{paid};
 ghost use Rattle.keeper.specs.Kept.{IsDayPut, IsPastPut, IsLater, HasNoDays, with_day, with_past, with_tariff_of};
 ghost use Rattle.keeper.specs.declared.kept.KeepFault.TheVariants.{Failed};
 ghost use Rattle.kept_tables.specs.Stands.{HasOffice, StandsForOffice};

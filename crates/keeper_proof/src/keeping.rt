@@ -5,7 +5,7 @@ ghost use Rattle.sqlite.specs.State.{HasCleanDisk, KeepsCommit, Survives};
 ghost use Rattle.road_time.specs.Rates.{IsTariff};
 ghost use Rattle.keeper.specs.Office.{Office, RowsRise, last_day as last_day_of, record_of, rows_between};
 ghost use Rattle.keeper.specs.Office.{vehicle_rows_between};
-ghost use Rattle.keeper.specs.History.{paid};
+ghost use Rattle.road_time.specs.History.{paid};
 ghost use Rattle.keeper.specs.Kept.{IsDayPut, IsPastPut, IsLater, HasNoDays, with_day, with_past, with_tariff_of};
 ghost use Rattle.keeper.specs.Calls.{SoundIfTold, IfTold, Reads, Puts, AllOrNothing, CountsFaults};
 ghost use Rattle.keeper.specs.declared.kept.KeepFault.TheVariants.{Failed};
@@ -13,7 +13,7 @@ ghost use Rattle.kept_tables.specs.Stands.{HasOffice, StandsForOffice, StandsFor
 ghost use Rattle.kept_tables.specs.Steps.{FitsAny};
 ghost use Rattle.kept_tables.specs.Told.{told_in};
 ghost use Rattle.keeper_writes.specs.Causes.{WasRefused};
-ghost use Rattle.keeper_writes.specs.Counts.{counted};
+ghost use Rattle.keeper_writes.specs.Counts.{faults_after};
 ghost use Rattle.keeper_proof.specs.Gives.{GivesUnless};
 ghost use Rattle.keeper_proof.specs.Looks.{CommitsFrom};
 
@@ -47,7 +47,7 @@ impl<S: Steady> Keeper for ProvedKeeper<S> {
             (λ o last. last ≡ last_day_of o) }
         ensures sound { SoundIfTold (told_in S.Steady.is_steady (state S.Store self.new.conn).committed) }
         ensures cause { CountsFaults self.old.faults self.new.faults result }
-        ensures counted { self.new.faults ≡ counted self.old.faults result }
+        ensures counted { self.new.faults ≡ faults_after self.old.faults result }
         ensures kept { HasCleanDisk (state S.Store self.new.conn)
             → KeepsCommit (state S.Store self.old.conn) (state S.Store self.new.conn) }
         ensures gives { HasCleanDisk (state S.Store self.new.conn) → (o : Office)
@@ -66,7 +66,7 @@ impl<S: Steady> Keeper for ProvedKeeper<S> {
             (λ o kept. kept ≡ record_of o day) }
         ensures sound { SoundIfTold (told_in S.Steady.is_steady (state S.Store self.new.conn).committed) }
         ensures cause { CountsFaults self.old.faults self.new.faults result }
-        ensures counted { self.new.faults ≡ counted self.old.faults result }
+        ensures counted { self.new.faults ≡ faults_after self.old.faults result }
         ensures kept { HasCleanDisk (state S.Store self.new.conn)
             → KeepsCommit (state S.Store self.old.conn) (state S.Store self.new.conn) }
         ensures gives { HasCleanDisk (state S.Store self.new.conn) → (o : Office)
@@ -84,7 +84,7 @@ impl<S: Steady> Keeper for ProvedKeeper<S> {
             (told_in S.Steady.is_steady (state S.Store self.new.conn).committed) result (λ o past. past ≡ o.past) }
         ensures sound { SoundIfTold (told_in S.Steady.is_steady (state S.Store self.new.conn).committed) }
         ensures cause { CountsFaults self.old.faults self.new.faults result }
-        ensures counted { self.new.faults ≡ counted self.old.faults result }
+        ensures counted { self.new.faults ≡ faults_after self.old.faults result }
         ensures kept { HasCleanDisk (state S.Store self.new.conn)
             → KeepsCommit (state S.Store self.old.conn) (state S.Store self.new.conn) }
         ensures gives { HasCleanDisk (state S.Store self.new.conn) → (o : Office)
@@ -103,7 +103,7 @@ impl<S: Steady> Keeper for ProvedKeeper<S> {
             (λ o tolls. tolls ≡ paid o.rows day vid xway) }
         ensures sound { SoundIfTold (told_in S.Steady.is_steady (state S.Store self.new.conn).committed) }
         ensures cause { CountsFaults self.old.faults self.new.faults result }
-        ensures counted { self.new.faults ≡ counted self.old.faults result }
+        ensures counted { self.new.faults ≡ faults_after self.old.faults result }
         ensures kept { HasCleanDisk (state S.Store self.new.conn)
             → KeepsCommit (state S.Store self.old.conn) (state S.Store self.new.conn) }
         ensures gives { HasCleanDisk (state S.Store self.new.conn) → (o : Office)
@@ -123,7 +123,7 @@ impl<S: Steady> Keeper for ProvedKeeper<S> {
         ensures rise { IfOk result (λ rows. RowsRise rows.items) }
         ensures sound { SoundIfTold (told_in S.Steady.is_steady (state S.Store self.new.conn).committed) }
         ensures cause { CountsFaults self.old.faults self.new.faults result }
-        ensures counted { self.new.faults ≡ counted self.old.faults result }
+        ensures counted { self.new.faults ≡ faults_after self.old.faults result }
         ensures kept { HasCleanDisk (state S.Store self.new.conn)
             → KeepsCommit (state S.Store self.old.conn) (state S.Store self.new.conn) }
         ensures gives { HasCleanDisk (state S.Store self.new.conn) → (o : Office)
@@ -143,7 +143,7 @@ impl<S: Steady> Keeper for ProvedKeeper<S> {
         ensures rise { IfOk result (λ rows. RowsRise rows.items) }
         ensures sound { SoundIfTold (told_in S.Steady.is_steady (state S.Store self.new.conn).committed) }
         ensures cause { CountsFaults self.old.faults self.new.faults result }
-        ensures counted { self.new.faults ≡ counted self.old.faults result }
+        ensures counted { self.new.faults ≡ faults_after self.old.faults result }
         ensures kept { HasCleanDisk (state S.Store self.new.conn)
             → KeepsCommit (state S.Store self.old.conn) (state S.Store self.new.conn) }
         ensures gives { HasCleanDisk (state S.Store self.new.conn) → (o : Office)
@@ -162,7 +162,7 @@ impl<S: Steady> Keeper for ProvedKeeper<S> {
             (λ o tariffs. tariffs ≡ o.tariffs) }
         ensures sound { SoundIfTold (told_in S.Steady.is_steady (state S.Store self.new.conn).committed) }
         ensures cause { CountsFaults self.old.faults self.new.faults result }
-        ensures counted { self.new.faults ≡ counted self.old.faults result }
+        ensures counted { self.new.faults ≡ faults_after self.old.faults result }
         ensures kept { HasCleanDisk (state S.Store self.new.conn)
             → KeepsCommit (state S.Store self.old.conn) (state S.Store self.new.conn) }
         ensures gives { HasCleanDisk (state S.Store self.new.conn) → (o : Office)
@@ -183,7 +183,7 @@ impl<S: Steady> Keeper for ProvedKeeper<S> {
             (told_in S.Steady.is_steady (state S.Store self.new.conn).committed) result (with_day kept.now rows.now) }
         ensures sound { SoundIfTold (told_in S.Steady.is_steady (state S.Store self.new.conn).committed) }
         ensures cause { CountsFaults self.old.faults self.new.faults result }
-        ensures counted { self.new.faults ≡ counted self.old.faults result }
+        ensures counted { self.new.faults ≡ faults_after self.old.faults result }
         ensures put { HasCleanDisk (state S.Store self.new.conn) → IsTrue (state S.Store self.new.conn).is_open
             → (o : Office) → StandsForOffice (state S.Store self.old.conn).committed o → IsLater kept.now.day o
             → OnOk result (HasOffice (state S.Store self.new.conn).committed (with_day kept.now rows.now o))
@@ -205,7 +205,7 @@ impl<S: Steady> Keeper for ProvedKeeper<S> {
             (told_in S.Steady.is_steady (state S.Store self.new.conn).committed) result (with_past kept.now rows.now) }
         ensures sound { SoundIfTold (told_in S.Steady.is_steady (state S.Store self.new.conn).committed) }
         ensures cause { CountsFaults self.old.faults self.new.faults result }
-        ensures counted { self.new.faults ≡ counted self.old.faults result }
+        ensures counted { self.new.faults ≡ faults_after self.old.faults result }
         ensures put { HasCleanDisk (state S.Store self.new.conn) → IsTrue (state S.Store self.new.conn).is_open
             → (o : Office) → StandsForOffice (state S.Store self.old.conn).committed o → HasNoDays o
             → OnOk result (HasOffice (state S.Store self.new.conn).committed (with_past kept.now rows.now o))
@@ -227,7 +227,7 @@ impl<S: Steady> Keeper for ProvedKeeper<S> {
             (with_tariff_of xway tariff.now) }
         ensures sound { SoundIfTold (told_in S.Steady.is_steady (state S.Store self.new.conn).committed) }
         ensures cause { CountsFaults self.old.faults self.new.faults result }
-        ensures counted { self.new.faults ≡ counted self.old.faults result }
+        ensures counted { self.new.faults ≡ faults_after self.old.faults result }
         ensures put { HasCleanDisk (state S.Store self.new.conn) → IsTrue (state S.Store self.new.conn).is_open
             → (o : Office) → StandsForOffice (state S.Store self.old.conn).committed o
             → OnOk result (HasOffice (state S.Store self.new.conn).committed (with_tariff_of xway tariff.now o))

@@ -5,7 +5,7 @@ ghost use Rattle.sqlite.specs.Values.{bound};
 ghost use Rattle.sqlite.specs.Held.{state};
 ghost use Rattle.sqlite.specs.State.{HasCleanDisk, KeepsCommit, Survives};
 ghost use Rattle.keeper.specs.declared.kept.KeepFault.TheVariants.{Failed};
-ghost use Rattle.kept_tables.specs.Asks.{asks};
+ghost use Rattle.kept_tables.specs.Asks.{is_ask_text};
 ghost use Rattle.keeper_writes.specs.Causes.{WasRefused};
 ghost use Rattle.keeper_proof.specs.Looks.{ShowsCommitted};
 
@@ -21,7 +21,7 @@ pub fn look<S: Alter>(
     sql: &str,
     params: &[ValueRef<'_>],
 ) -> Result<Vec<Row>, KeepFault>
-    requires { asks (first sql.now) ≡ true }
+    requires { is_ask_text (first sql.now) ≡ true }
     ensures kept { HasCleanDisk (state S.Store conn.new)
         → KeepsCommit (state S.Store conn.old) (state S.Store conn.new) }
     ensures shown { HasCleanDisk (state S.Store conn.new)

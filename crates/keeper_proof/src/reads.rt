@@ -4,7 +4,7 @@ ghost use Rattle.sqlite.specs.Held.{state};
 ghost use Rattle.sqlite.specs.State.{HasCleanDisk, KeepsCommit, Survives};
 ghost use Rattle.keeper.specs.Office.{Office, RowsRise, last_day as last_day_of, record_of, rows_between};
 ghost use Rattle.keeper.specs.Office.{vehicle_rows_between};
-ghost use Rattle.keeper.specs.History.{paid};
+ghost use Rattle.road_time.specs.History.{paid};
 ghost use Rattle.kept_tables.specs.Stands.{HasOffice};
 ghost use Rattle.keeper_writes.specs.Causes.{WasRefused};
 ghost use Rattle.keeper_proof.specs.Gives.{GivesUnless};

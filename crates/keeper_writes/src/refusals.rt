@@ -4,7 +4,7 @@ ghost use Rattle.keeper.specs.Calls.{CountsFaults};
 ghost use Rattle.keeper.specs.declared.kept.KeepFault.TheVariants.{NoMemory};
 ghost use Rattle.sqlite.specs.declared.error.Error.TheVariants.{SqliteFailure};
 ghost use Rattle.sqlite.specs.declared.error.ErrorCode.TheVariants.{OutOfMemory};
-ghost use Rattle.keeper_writes.specs.Counts.{counted};
+ghost use Rattle.keeper_writes.specs.Counts.{faults_after};
 
 use keeper::KeepFault;
 use sqlite::{Error, ErrorCode};
@@ -22,7 +22,7 @@ pub fn refusal(error: Error) -> KeepFault
 /// Hands an answer on, and counts it where it is a failure.
 pub fn count<T>(faults: &mut u64, answer: Result<T, KeepFault>) -> Result<T, KeepFault>
     ensures same { result ≡ answer }
-    ensures counted { faults.new ≡ counted faults.old answer }
+    ensures counted { faults.new ≡ faults_after faults.old answer }
     ensures cause { CountsFaults faults.old faults.new answer }
 {
     if let Err(KeepFault::Failed) = &answer {

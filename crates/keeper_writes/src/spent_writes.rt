@@ -5,7 +5,7 @@ ghost use Rattle.sqlite.specs.Held.{state};
 ghost use Rattle.sqlite.specs.State.{HasCleanDisk, Survives};
 ghost use Rattle.kept_tables.specs.Layout.{all_tables};
 ghost use Rattle.kept_tables.specs.Stands.{FitsSpent};
-ghost use Rattle.kept_tables.specs.Steps.{StaysInside, Adds};
+ghost use Rattle.kept_tables.specs.Steps.{StaysInside, AddsAmounts};
 ghost use Rattle.keeper_writes.specs.Causes.{Refused};
 
 use crate::columns::column;
@@ -25,7 +25,8 @@ pub fn put_amount<S: Alter>(
     ensures adds { HasCleanDisk (state S.Store tx.new.conn.now)
         → IsTrue (state S.Store tx.old.conn.now).in_transaction
         → (state S.Store tx.old.conn.now).now.schema ≡ all_tables
-        → OnOk result (Adds (state S.Store tx.old.conn.now).now (state S.Store tx.new.conn.now).now (row.now ∷ [])) }
+        → OnOk result (AddsAmounts (state S.Store tx.old.conn.now).now (state S.Store tx.new.conn.now).now
+        (row.now ∷ [])) }
     ensures inside { HasCleanDisk (state S.Store tx.new.conn.now)
         → IsTrue (state S.Store tx.old.conn.now).in_transaction
         → StaysInside (state S.Store tx.old.conn.now) (state S.Store tx.new.conn.now) result }
@@ -53,7 +54,7 @@ pub fn put_amounts<S: Alter>(tx: &mut Transaction<'_, S>, rows: &[SpentRow]) -> 
     ensures adds { HasCleanDisk (state S.Store tx.new.conn.now)
         → IsTrue (state S.Store tx.old.conn.now).in_transaction
         → (state S.Store tx.old.conn.now).now.schema ≡ all_tables
-        → OnOk result (Adds (state S.Store tx.old.conn.now).now (state S.Store tx.new.conn.now).now rows.now) }
+        → OnOk result (AddsAmounts (state S.Store tx.old.conn.now).now (state S.Store tx.new.conn.now).now rows.now) }
     ensures inside { HasCleanDisk (state S.Store tx.new.conn.now) → IsTrue (state S.Store tx.old.conn.now).is_open
         → IsTrue (state S.Store tx.old.conn.now).in_transaction
         → StaysInside (state S.Store tx.old.conn.now) (state S.Store tx.new.conn.now) result }

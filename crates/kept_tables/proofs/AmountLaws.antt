@@ -18,13 +18,13 @@ use Rattle.sqlite.specs.Effect.{Reads}
 use Rattle.sqlite.proofs.Callers.{reads_as, one_permutation}
 use Rattle.road_time.specs.declared.day.SpentRow.{SpentRow}
 use Rattle.keeper.specs.Office.{Office}
-use Rattle.keeper.specs.History.{is_row, paid, KeysDiffer}
+use Rattle.road_time.specs.History.{is_row, paid, KeysDiffer}
 use Rattle.keeper.proofs.HistoryLaws.{keys_law}
 use Rattle.kept_tables.specs.Layout.{all_tables}
 use Rattle.kept_tables.specs.Texts.{find_spent}
-use Rattle.kept_tables.specs.Select.{spent_query, spent_command, passes}
+use Rattle.kept_tables.specs.Select.{spent_query, spent_compiled, passes}
 use Rattle.kept_tables.specs.Codec.{spent_row}
-use Rattle.kept_tables.specs.Stands.{HasOffice, AreKept}
+use Rattle.kept_tables.specs.Stands.{HasOffice, AreAmountRows}
 use Rattle.kept_tables.specs.Amounts.{HasAmount}
 use Rattle.kept_tables.proofs.QueryLaws.{find_spent_is, find_spent_plain}
 use Rattle.kept_tables.proofs.SelectLaws.{table_answer, shown}
@@ -78,7 +78,7 @@ module _ (day vid xway : ℕ) where
   shown_tolls (x ∷ xs) = refl
 
   -- the rows of an answer are the amounts of the rows with the key, in some order
-  answer_rows : (rows : List SpentRow) (kept found : List Row) → AreKept rows kept
+  answer_rows : (rows : List SpentRow) (kept found : List Row) → AreAmountRows rows kept
       → IsPermutation
       (map (shown spent_query.project (asked day vid xway))
       (filter (passes spent_query.filter (asked day vid xway)) kept)) found
@@ -124,11 +124,10 @@ module _ (day vid xway : ℕ) where
         | inr other ↦ rw other (one_at_most rows differ.1)
       ]
 
-  pub amount_found : (o : Office) (kept found : List Row) → KeysDiffer o.rows → AreKept o.rows kept
+  pub amount_found : (o : Office) (kept found : List Row) → KeysDiffer o.rows → AreAmountRows o.rows kept
       → IsPermutation
       (map (shown spent_query.project (asked day vid xway))
-      (filter (passes spent_query.filter (asked day vid xway)) kept)) found →
-      HasAmount found (paid o.rows day vid xway)
+      (filter (passes spent_query.filter (asked day vid xway)) kept)) found → HasAmount found (paid o.rows day vid xway)
   amount_found o kept found differ are answer =
       let same = answer_rows o.rows kept found are answer in
       let first = slice_get-filter (is_row day vid xway) o.rows in
@@ -151,8 +150,8 @@ module _ (day vid xway : ℕ) where
   pub amount_read : (o : Office) (old new : State) (found : List Row) → HasOffice old.now o →
       Shown find_spent (asked day vid xway) old new found → HasAmount found (paid o.rows day vid xway)
   amount_read o old new found has shown =
-      let read : Reads spent_command old.now (asked day vid xway) found =
-      reads_as find_spent (asked day vid xway) old new all_tables has.tables.schema spent_command find_spent_is
+      let read : Reads spent_compiled old.now (asked day vid xway) found =
+      reads_as find_spent (asked day vid xway) old new all_tables has.tables.schema spent_compiled find_spent_is
       find_spent_plain.0 find_spent_plain.1 found shown in
       amount_found o (old.now.trees 1) found (keys_law o.rows has.sound.rows_rise) has.tables.rows_are
       (table_answer 1 spent_query.filter spent_query.project [] _ (asked day vid xway) found read.answer)

@@ -19,7 +19,7 @@ use Rattle.sqlite_resolve.specs.Compile.{with_command}
 use Rattle.sqlite_tied.specs.Compute.{everything}
 use Rattle.sqlite.specs.Listing.{understood, reads_listing, listing_schema, if_select, is_select}
 use Rattle.sqlite.specs.State.{State, IsUnchanged, KeepsCommit, Shown, CommitsShowing, FailsToQuery}
-use Rattle.kept_tables.specs.Asks.{is_ask, asks}
+use Rattle.kept_tables.specs.Asks.{is_ask, is_ask_text}
 use Rattle.kept_tables.specs.Texts.{find_spent, find_tariffs, list_spent, list_vehicle, find_last, find_day, find_seal}
 use Rattle.kept_tables.specs.Texts.{find_past, list_days, find_version}
 use Rattle.kept_tables.proofs.StepLaws.{kept_same, kept_if_unread}
@@ -57,16 +57,17 @@ picked (Ok d) c h = go (is_select d.command) refl h
 picked (Err w) c h = absurd (cc)
 
 -- a text that asks is parsed as a query
-found : (text : List ℕ) → asks (first text) ≡ true → (p : Parsed) × (first text ≡ Ok p) × (is_ask p.statement ≡ true)
+found : (text : List ℕ) → is_ask_text (first text) ≡ true → (p : Parsed) × (first text ≡ Ok p) ×
+    (is_ask p.statement ≡ true)
 found text h = go (first text) refl h
   where
-    go : (r : Result Parsed CompileError) → first text ≡ r → asks r ≡ true → (p : Parsed) × (first text ≡ Ok p)
+    go : (r : Result Parsed CompileError) → first text ≡ r → is_ask_text r ≡ true → (p : Parsed) × (first text ≡ Ok p)
         × (is_ask p.statement ≡ true)
     go (Ok p) is e = (p, is, e)
     go (Err w) is e = absurd (cc)
 
 -- what is understood of a text that asks returns no rows beside its own
-pub quiet : (schema : Schema) (text : List ℕ) → asks (first text) ≡ true → (c : Compiled) →
+pub quiet : (schema : Schema) (text : List ℕ) → is_ask_text (first text) ≡ true → (c : Compiled) →
     understood schema text ≡ Ok c → c.returning ≡ None
 unfolding understood
 quiet schema text asked c h =
@@ -78,13 +79,13 @@ quiet schema text asked c h =
 
 -- all is as it was
 pub asked_changes_nothing : (text : List ℕ) (params : Row) (old new : State) (rows : List Row) →
-    asks (first text) ≡ true → Shown text params old new rows → IsUnchanged old new
+    is_ask_text (first text) ≡ true → Shown text params old new rows → IsUnchanged old new
 unfolding Shown
 asked_changes_nothing text params old new rows asked h =
     let bare = quiet old.now.schema text asked h.0 h.1.is in (rw bare at h.2).3
 
 -- and nothing is committed
-pub asked_commits_nothing : (text : List ℕ) (params : Row) (s : State) (db : Trees) → asks (first text) ≡ true →
+pub asked_commits_nothing : (text : List ℕ) (params : Row) (s : State) (db : Trees) → is_ask_text (first text) ≡ true →
     ¬ CommitsShowing text params s db
 unfolding CommitsShowing
 asked_commits_nothing text params s db asked h =
@@ -92,7 +93,7 @@ asked_commits_nothing text params s db asked h =
 
 -- whatever is answered, what was committed stays
 pub asked_keeps : {X : Type 0} (rows_in : X → List Row) (text : List ℕ) (params : Row) (old new : State)
-    (r : Result X Error) → asks (first text) ≡ true
+    (r : Result X Error) → is_ask_text (first text) ≡ true
     → IfOk r (λ x. Shown text params old new (rows_in x)) → IfErr r (FailsToQuery text params old new) →
     KeepsCommit old new
 asked_keeps rows_in text params old new (Ok x) asked ok err =
@@ -100,51 +101,51 @@ asked_keeps rows_in text params old new (Ok x) asked ok err =
 asked_keeps rows_in text params old new (Err e) asked ok err = kept_if_unread old new text params e err
 
 -- the query for an amount asks
-pub find_spent_asks : asks (first find_spent) ≡ true
+pub find_spent_asks : is_ask_text (first find_spent) ≡ true
 unfolding everything
 find_spent_asks = refl
 
 -- the query for the tariffs asks
-pub find_tariffs_asks : asks (first find_tariffs) ≡ true
+pub find_tariffs_asks : is_ask_text (first find_tariffs) ≡ true
 unfolding everything
 find_tariffs_asks = refl
 
 -- the query for amounts asks
-pub list_spent_asks : asks (first list_spent) ≡ true
+pub list_spent_asks : is_ask_text (first list_spent) ≡ true
 unfolding everything
 list_spent_asks = refl
 
 -- the query for the amounts of a vehicle asks
-pub list_vehicle_asks : asks (first list_vehicle) ≡ true
+pub list_vehicle_asks : is_ask_text (first list_vehicle) ≡ true
 unfolding everything
 list_vehicle_asks = refl
 
 -- the query for the last day asks
-pub find_last_asks : asks (first find_last) ≡ true
+pub find_last_asks : is_ask_text (first find_last) ≡ true
 unfolding everything
 find_last_asks = refl
 
 -- the query for a day asks
-pub find_day_asks : asks (first find_day) ≡ true
+pub find_day_asks : is_ask_text (first find_day) ≡ true
 unfolding everything
 find_day_asks = refl
 
 -- the query for a seal asks
-pub find_seal_asks : asks (first find_seal) ≡ true
+pub find_seal_asks : is_ask_text (first find_seal) ≡ true
 unfolding everything
 find_seal_asks = refl
 
 -- the query for the history asks
-pub find_past_asks : asks (first find_past) ≡ true
+pub find_past_asks : is_ask_text (first find_past) ≡ true
 unfolding everything
 find_past_asks = refl
 
 -- the query for all days asks
-pub list_days_asks : asks (first list_days) ≡ true
+pub list_days_asks : is_ask_text (first list_days) ≡ true
 unfolding everything
 list_days_asks = refl
 
 -- the query for the version asks
-pub find_version_asks : asks (first find_version) ≡ true
+pub find_version_asks : is_ask_text (first find_version) ≡ true
 unfolding everything
 find_version_asks = refl

@@ -11,7 +11,8 @@ use Rattle.sqlite.specs.Effect.{Database}
 use Rattle.sqlite.specs.State.{State, Executes, Writes}
 use Rattle.sqlite.specs.Listing.{understood}
 use Rattle.sqlite.proofs.Callers.{IsPlain, command_of, statement_of, runs_as}
-use Rattle.kept_tables.specs.Layout.{days, spent, past, day_tariffs, tariffs, form, no_tables, old_tables}
+use Rattle.kept_tables.specs.Layout.{days_table, spent_table, past_table, day_tariffs_table, tariffs_table, form_table}
+use Rattle.kept_tables.specs.Layout.{no_tables, old_tables}
 use Rattle.kept_tables.specs.Texts.{make_days, make_spent, make_past, make_day_tariffs, make_tariffs, make_form}
 use Rattle.kept_tables.proofs.EditLaws.{went, same_value}
 
@@ -49,31 +50,32 @@ makes schema text table old new count it has ran =
     )
 
 -- each table in its turn
-pub days_in : MakesIn no_tables make_days days
+pub days_in : MakesIn no_tables make_days days_table
 unfolding understood everything
 days_in = record { command = refl; whole = refl; plain = (refl, refl); defined = refl; uncounted = refl }
 
 -- the amounts
-pub spent_in : MakesIn (created no_tables days) make_spent (record spent { tree = 0 })
+pub spent_in : MakesIn (created no_tables days_table) make_spent (record spent_table { tree = 0 })
 unfolding understood everything
 spent_in = record { command = refl; whole = refl; plain = (refl, refl); defined = refl; uncounted = refl }
 
 -- the history
-pub past_in : MakesIn (created (created no_tables days) spent) make_past (record past { tree = 0 })
+pub past_in : MakesIn (created (created no_tables days_table) spent_table) make_past (record past_table { tree = 0 })
 unfolding understood everything
 past_in = record { command = refl; whole = refl; plain = (refl, refl); defined = refl; uncounted = refl }
 
 -- the seals
-pub day_tariffs_in : MakesIn old_tables make_day_tariffs (record day_tariffs { tree = 0 })
+pub day_tariffs_in : MakesIn old_tables make_day_tariffs (record day_tariffs_table { tree = 0 })
 unfolding understood everything
 day_tariffs_in = record { command = refl; whole = refl; plain = (refl, refl); defined = refl; uncounted = refl }
 
 -- the tariffs
-pub tariffs_in : MakesIn (created old_tables day_tariffs) make_tariffs (record tariffs { tree = 0 })
+pub tariffs_in : MakesIn (created old_tables day_tariffs_table) make_tariffs (record tariffs_table { tree = 0 })
 unfolding understood everything
 tariffs_in = record { command = refl; whole = refl; plain = (refl, refl); defined = refl; uncounted = refl }
 
 -- the version
-pub form_in : MakesIn (created (created old_tables day_tariffs) tariffs) make_form (record form { tree = 0 })
+pub form_in : MakesIn (created (created old_tables day_tariffs_table) tariffs_table) make_form
+    (record form_table { tree = 0 })
 unfolding understood everything
 form_in = record { command = refl; whole = refl; plain = (refl, refl); defined = refl; uncounted = refl }

@@ -29,7 +29,7 @@ use Rattle.kept_tables.specs.Layout.{all_tables}
 use Rattle.kept_tables.specs.Texts.{find_day, find_seal, find_past, find_last, list_days}
 use Rattle.kept_tables.specs.Select.{passes, day_query, seal_query, past_query, last_query, days_query}
 use Rattle.kept_tables.specs.Codec.{day_row, seal_row, past_row, past_values}
-use Rattle.kept_tables.specs.Shown.{day_columns, seal_columns, number_columns, rows_of, last_rows}
+use Rattle.kept_tables.specs.Shown.{day_columns, seal_columns, number_columns, row_if_any, last_rows}
 use Rattle.kept_tables.specs.Stands.{HasOffice, HoldsAs, Contents, past_rows}
 use Rattle.kept_tables.proofs.QueryLaws.{find_day_is, find_day_plain, find_seal_is, find_seal_plain, find_past_is}
 use Rattle.kept_tables.proofs.QueryLaws.{find_past_plain, find_last_is, find_last_plain, list_days_is, list_days_plain}
@@ -66,7 +66,7 @@ module _ (row columns : DayRecord → Row) (tests shows : List Term) (day : ℕ)
   -- of rows that are days, the one that is asked for is found
   pub day_found : (ds : List DayRecord) (kept found : List Row) → DaysRise ds → kept ≡ map row ds
       → IsPermutation (map (shown shows (Int (pos day) ∷ [])) (filter (passes tests (Int (pos day) ∷ [])) kept)) found →
-      found ≡ rows_of columns (find (λ r. r.day == day) ds)
+      found ≡ row_if_any columns (find (λ r. r.day == day) ds)
   day_found ds kept found up are answer =
       let params = Int (pos day) ∷ [] in
       let picked : map (shown shows params) (filter (passes tests params) kept) ≡ map columns
@@ -81,17 +81,17 @@ module _ (row columns : DayRecord → Row) (tests shows : List Term) (day : ℕ)
         | inl none ↦
             let nothing : find (λ (r : DayRecord). r.day == day) ds ≡ None = sym first ∙ ap (λ l. slice_get l 0) none in
             none_left found (subst (λ l. IsPermutation (map columns l) found) none same)
-            ∙ ap (rows_of columns) (sym nothing)
+            ∙ ap (row_if_any columns) (sym nothing)
         | inr one ↦
             let it : find (λ (r : DayRecord). r.day == day) ds ≡ Some one.0 =
             sym first ∙ ap (λ l. slice_get l 0) one.1 in
             one_permutation (columns one.0) found (subst (λ l. IsPermutation (map columns l) found) one.1 same)
-            ∙ ap (rows_of columns) (sym it)
+            ∙ ap (row_if_any columns) (sym it)
       ]
 
 -- the record of a day
 pub day_shown : (day : ℕ) (o : Office) (old new : State) (found : List Row) → HasOffice old.now o →
-    Shown find_day (Int (pos day) ∷ []) old new found → found ≡ rows_of day_columns (record_of o day)
+    Shown find_day (Int (pos day) ∷ []) old new found → found ≡ row_if_any day_columns (record_of o day)
 day_shown day o old new found has shown =
     let params = Int (pos day) ∷ [] in
     let read =
@@ -105,7 +105,7 @@ day_shown day o old new found has shown =
 
 -- and its seal
 pub seal_shown : (day : ℕ) (o : Office) (old new : State) (found : List Row) → HasOffice old.now o →
-    Shown find_seal (Int (pos day) ∷ []) old new found → found ≡ rows_of seal_columns (record_of o day)
+    Shown find_seal (Int (pos day) ∷ []) old new found → found ≡ row_if_any seal_columns (record_of o day)
 seal_shown day o old new found has shown =
     let params = Int (pos day) ∷ [] in
     let read =
@@ -120,7 +120,7 @@ seal_shown day o old new found has shown =
 -- the row of a history is found, where one is kept
 past_found : (p : Option PastRecord) (found : List Row) →
     IsPermutation (map (shown past_query.project []) (filter (passes past_query.filter []) (past_rows p))) found →
-    found ≡ rows_of past_values p
+    found ≡ row_if_any past_values p
 past_found None found answer = none_left found answer
 past_found (Some p) found answer =
     let seen : passes past_query.filter [] (past_row p) ≡ true = ap (λ b. b && true) (same_numbers 1 1) in
@@ -131,7 +131,7 @@ past_found (Some p) found answer =
 
 -- the history
 pub past_shown : (o : Office) (old new : State) (found : List Row) → HasOffice old.now o →
-    Shown find_past [] old new found → found ≡ rows_of past_values o.past
+    Shown find_past [] old new found → found ≡ row_if_any past_values o.past
 past_shown o old new found has shown_so =
     let read =
     reads_as find_past [] old new all_tables has.tables.schema _ find_past_is find_past_plain.0 find_past_plain.1

@@ -18,9 +18,9 @@ use Rattle.sqlite.specs.Listing.{understood}
 use Rattle.sqlite.proofs.Callers.{runs_as, one_step, statement_of}
 use Rattle.keeper.specs.declared.kept.DayRecord.{DayRecord}
 use Rattle.keeper.specs.declared.kept.PastRecord.{PastRecord}
-use Rattle.kept_tables.specs.Layout.{all_tables, days, day_tariffs, past}
+use Rattle.kept_tables.specs.Layout.{all_tables, days_table, day_tariffs_table, past_table}
 use Rattle.kept_tables.specs.Texts.{put_day, put_seal, put_past}
-use Rattle.kept_tables.specs.Select.{day_command, seal_command, past_command}
+use Rattle.kept_tables.specs.Select.{day_compiled, seal_compiled, past_compiled}
 use Rattle.kept_tables.specs.Codec.{day_row, seal_row, past_row, day_values, seal_values, past_values}
 use Rattle.kept_tables.specs.Stands.{Contents, Holds, HoldsAs, Changes, with_record, with_seal, with_history}
 use Rattle.kept_tables.proofs.EditLaws.{went, same_value, cast_int, cast_null, other_days, other_seals, other_past}
@@ -47,11 +47,11 @@ day_edit : (old new : State) (r : DayRecord) (count : ℕ) → old.now.schema �
 day_edit old new r count schema ran =
     let params = day_values r in
     let db = old.now.trees in
-    let w = runs_as put_day params old new all_tables schema day_command put_day_is put_day_plain count ran in
+    let w = runs_as put_day params old new all_tables schema day_compiled put_day_is put_day_plain count ran in
     let text = statement_of put_day (understood all_tables put_day) in
     let done =
     went (subst
-    (λ s. Does old.step_limit (mode_of old) params (record old.now { schema = s }) text None day_command
+    (λ s. Does old.step_limit (mode_of old) params (record old.now { schema = s }) text None day_compiled
     (Ok (w.tally, new.now))) schema w.changed) in
     let now = ap (λ (p : Tally × Database). p.1) (same_value (went (went done.2).2).2) in
     let given = went done.1 in
@@ -59,9 +59,9 @@ day_edit old new r count schema ran =
     let counted = went written.2 in
     let trees : done.0.trees ≡ written.0 = ap (λ (it : Written). it.trees) (same_value counted.2)
     ∙ same_value counted.1 in
-    let step = one_step all_tables _ db written.0 (edit_of db days [] Chosen 0 given.0) refl written.1 in
-    let edit : edited db (edit_of db days [] Chosen 0 given.0) ≡ put_row (day_row r) (db 0) =
-    ap (λ all. edited db (edit_of db days [] Chosen 0 all)) given.1.1
+    let step = one_step all_tables _ db written.0 (edit_of db days_table [] Chosen 0 given.0) refl written.1 in
+    let edit : edited db (edit_of db days_table [] Chosen 0 given.0) ≡ put_row (day_row r) (db 0) =
+    ap (λ all. edited db (edit_of db days_table [] Chosen 0 all)) given.1.1
     ∙ rw (cast_int r.day, cast_null, cast_int r.bytes, cast_int r.tuples, cast_int r.notices, cast_int r.total) refl in
     let at = λ (n : ℕ). let e : new.now.trees n ≡ written.0 n = ap (λ (d : Database). d.trees n) now
     ∙ ap (λ (all : Trees). all n) trees in e in
@@ -79,11 +79,11 @@ seal_edit : (old new : State) (r : DayRecord) (count : ℕ) → old.now.schema �
 seal_edit old new r count schema ran =
     let params = seal_values r in
     let db = old.now.trees in
-    let w = runs_as put_seal params old new all_tables schema seal_command put_seal_is put_seal_plain count ran in
+    let w = runs_as put_seal params old new all_tables schema seal_compiled put_seal_is put_seal_plain count ran in
     let text = statement_of put_seal (understood all_tables put_seal) in
     let done =
     went (subst
-    (λ s. Does old.step_limit (mode_of old) params (record old.now { schema = s }) text None seal_command
+    (λ s. Does old.step_limit (mode_of old) params (record old.now { schema = s }) text None seal_compiled
     (Ok (w.tally, new.now))) schema w.changed) in
     let now = ap (λ (p : Tally × Database). p.1) (same_value (went (went done.2).2).2) in
     let given = went done.1 in
@@ -91,9 +91,10 @@ seal_edit old new r count schema ran =
     let counted = went written.2 in
     let trees : done.0.trees ≡ written.0 = ap (λ (it : Written). it.trees) (same_value counted.2)
     ∙ same_value counted.1 in
-    let step = one_step all_tables _ db written.0 (edit_of db day_tariffs [] Chosen 0 given.0) refl written.1 in
-    let edit : edited db (edit_of db day_tariffs [] Chosen 0 given.0) ≡ put_row (seal_row r) (db 4) =
-    ap (λ all. edited db (edit_of db day_tariffs [] Chosen 0 all)) given.1.1 ∙ rw (cast_int r.day, cast_null) refl in
+    let step = one_step all_tables _ db written.0 (edit_of db day_tariffs_table [] Chosen 0 given.0) refl written.1 in
+    let edit : edited db (edit_of db day_tariffs_table [] Chosen 0 given.0) ≡ put_row (seal_row r) (db 4) =
+    ap (λ all. edited db (edit_of db day_tariffs_table [] Chosen 0 all)) given.1.1 ∙
+    rw (cast_int r.day, cast_null) refl in
     let at = λ (n : ℕ). let e : new.now.trees n ≡ written.0 n = ap (λ (d : Database). d.trees n) now
     ∙ ap (λ (all : Trees). all n) trees in e in
     record {
@@ -110,11 +111,11 @@ past_edit : (old new : State) (p : PastRecord) (count : ℕ) → old.now.schema 
 past_edit old new p count schema ran =
     let params = past_values p in
     let db = old.now.trees in
-    let w = runs_as put_past params old new all_tables schema past_command put_past_is put_past_plain count ran in
+    let w = runs_as put_past params old new all_tables schema past_compiled put_past_is put_past_plain count ran in
     let text = statement_of put_past (understood all_tables put_past) in
     let done =
     went (subst
-    (λ s. Does old.step_limit (mode_of old) params (record old.now { schema = s }) text None past_command
+    (λ s. Does old.step_limit (mode_of old) params (record old.now { schema = s }) text None past_compiled
     (Ok (w.tally, new.now))) schema w.changed) in
     let now = ap (λ (p : Tally × Database). p.1) (same_value (went (went done.2).2).2) in
     let given = went done.1 in
@@ -122,9 +123,9 @@ past_edit old new p count schema ran =
     let counted = went written.2 in
     let trees : done.0.trees ≡ written.0 = ap (λ (it : Written). it.trees) (same_value counted.2)
     ∙ same_value counted.1 in
-    let step = one_step all_tables _ db written.0 (edit_of db past [] Chosen 0 given.0) refl written.1 in
-    let edit : edited db (edit_of db past [] Chosen 0 given.0) ≡ put_row (past_row p) (db 3) =
-    ap (λ all. edited db (edit_of db past [] Chosen 0 all)) given.1.1
+    let step = one_step all_tables _ db written.0 (edit_of db past_table [] Chosen 0 given.0) refl written.1 in
+    let edit : edited db (edit_of db past_table [] Chosen 0 given.0) ≡ put_row (past_row p) (db 3) =
+    ap (λ all. edited db (edit_of db past_table [] Chosen 0 all)) given.1.1
     ∙ rw (cast_int 1, cast_null, cast_int p.base, cast_int p.bytes, cast_int p.rows) refl in
     let at = λ (n : ℕ). let e : new.now.trees n ≡ written.0 n = ap (λ (d : Database). d.trees n) now
     ∙ ap (λ (all : Trees). all n) trees in e in

@@ -13,7 +13,7 @@ use Rattle.road_time.specs.Rates.{Tariffs}
 use Rattle.keeper.specs.declared.kept.DayRecord.{DayRecord}
 use Rattle.keeper.specs.declared.kept.PastRecord.{PastRecord}
 use Rattle.kept_tables.specs.Codec.{day_row, seal_row, spent_row, tariff_row}
-use Rattle.kept_tables.specs.Stands.{Contents, HoldsAs, Changes, AreKept, past_rows}
+use Rattle.kept_tables.specs.Stands.{Contents, HoldsAs, Changes, AreAmountRows, past_rows}
 
 -- a part that gave a value did not stop on the way
 pub went : {B E R : Type 0} {b : B} {Stops : E → Type 0} → ((stop : E) × Stops stop × (Ok b ≡ Err stop)) ⊎ R → R
@@ -41,7 +41,7 @@ cast_null = either _ Null
 
 module _ (version : List Row) (db next : Database) (c : Contents) where
   -- where the rows are the same, so are the amounts
-  same_rows : HoldsAs version db c → next.trees 1 ≡ db.trees 1 → AreKept c.rows (next.trees 1)
+  same_rows : HoldsAs version db c → next.trees 1 ≡ db.trees 1 → AreAmountRows c.rows (next.trees 1)
   same_rows has same = subst (λ l. IsPermutation (map spent_row c.rows) (map (drop 1) l)) (sym same) has.rows_are
 
   -- other tariffs, and all else as it was
@@ -97,7 +97,8 @@ module _ (version : List Row) (db next : Database) (c : Contents) where
   }
 
   -- other amounts
-  pub other_rows : (rows : List SpentRow) → HoldsAs version db c → next.schema ≡ db.schema → AreKept rows (next.trees 1)
+  pub other_rows : (rows : List SpentRow) → HoldsAs version db c → next.schema ≡ db.schema →
+      AreAmountRows rows (next.trees 1)
       → ((t : ℕ) → (t ≡ 1 → ⊥) → (2 ≡ t → ⊥) → next.trees t ≡ db.trees t) →
       HoldsAs version next (record c { rows = rows })
   other_rows rows has schema are others = record {

@@ -16,7 +16,7 @@ use Rattle.keeper.specs.Kept.{IsDayPut, IsPastPut, IsLater, HasNoDays, with_day,
 use Rattle.keeper.proofs.SoundLaws.{day_sound, past_sound}
 use Rattle.kept_tables.specs.Stands.{Contents, Holds, HasOffice, HasTables, FitsDay, FitsSpent, FitsPast, IsWholeDigest}
 use Rattle.kept_tables.specs.Stands.{with_rows}
-use Rattle.kept_tables.specs.Steps.{Adds, StaysInside}
+use Rattle.kept_tables.specs.Steps.{AddsAmounts, StaysInside}
 use Rattle.kept_tables.proofs.EditLaws.{other_rows}
 
 -- no day is after the greatest
@@ -49,7 +49,7 @@ below_sum (r ∷ rows) bound low =
     (omega (arith, all, low), below_sum rows bound (omega (arith, all, low)))
 
 -- amounts that are added are held
-pub adds_holds : (db next : Database) (c : Contents) (more : List SpentRow) → Holds db c → Adds db next more →
+pub adds_holds : (db next : Database) (c : Contents) (more : List SpentRow) → Holds db c → AddsAmounts db next more →
     Holds next (with_rows more c)
 adds_holds db next c more has adds =
     other_rows _ db next c (c.rows ++ more) has (adds.schema ∙ sym has.schema) (adds.rows c.rows has.rows_are)

@@ -1,20 +1,19 @@
 -- What the texts of queries and writes are understood as, over all tables.
-use Rattle.std.proofs.Common.{◌≡◌, refl, false}
+use Rattle.std.proofs.Common.{◌≡◌, refl, false, codes, [], ◌∷◌, Err}
 use Rattle.sqlite_tied.specs.Compute.{everything}
 use Rattle.sqlite.specs.Listing.{understood, reads_listing, listing_schema}
 use Rattle.sqlite.proofs.Callers.{IsPlain, command_of}
-use Rattle.std.proofs.Common.{codes, [], ◌∷◌, Err}
 use Rattle.sqlite_resolve.specs.declared.error.CompileError.TheVariants.{NoSuchTable}
 use Rattle.kept_tables.specs.Layout.{no_tables, old_tables, all_tables}
 use Rattle.kept_tables.specs.Texts.{find_spent, find_tariffs, list_spent, list_vehicle, find_last, find_day, find_seal}
 use Rattle.kept_tables.specs.Texts.{find_past, list_days, find_version, drop_tariff, put_tariff, put_day, put_seal}
 use Rattle.kept_tables.specs.Texts.{put_past, put_version}
-use Rattle.kept_tables.specs.Select.{spent_command, rows_command, tariffs_command, drop_command, put_command, asks_by}
-use Rattle.kept_tables.specs.Select.{vehicle_query, last_query, day_query, seal_query, past_query, days_query}
-use Rattle.kept_tables.specs.Select.{version_query, day_command, seal_command, past_command, version_command}
+use Rattle.kept_tables.specs.Select.{spent_compiled, rows_compiled, tariffs_compiled, drop_compiled, put_compiled}
+use Rattle.kept_tables.specs.Select.{asks_by, vehicle_query, last_query, day_query, seal_query, past_query, days_query}
+use Rattle.kept_tables.specs.Select.{version_query, day_compiled, seal_compiled, past_compiled, version_compiled}
 
 -- the query for an amount is understood so
-pub find_spent_is : command_of (understood all_tables find_spent) ≡ spent_command
+pub find_spent_is : command_of (understood all_tables find_spent) ≡ spent_compiled
 unfolding understood everything
 find_spent_is = refl
 
@@ -24,7 +23,7 @@ unfolding understood everything
 find_spent_plain = ((refl, refl), refl)
 
 -- the query for amounts is understood so
-pub list_spent_is : command_of (understood all_tables list_spent) ≡ rows_command
+pub list_spent_is : command_of (understood all_tables list_spent) ≡ rows_compiled
 unfolding understood everything
 list_spent_is = refl
 
@@ -34,7 +33,7 @@ unfolding understood everything
 list_spent_plain = ((refl, refl), refl)
 
 -- the query for the tariffs is understood so
-pub find_tariffs_is : command_of (understood all_tables find_tariffs) ≡ tariffs_command
+pub find_tariffs_is : command_of (understood all_tables find_tariffs) ≡ tariffs_compiled
 unfolding understood everything
 find_tariffs_is = refl
 
@@ -44,7 +43,7 @@ unfolding understood everything
 find_tariffs_plain = ((refl, refl), refl)
 
 -- the text that takes a tariff away is understood so
-pub drop_tariff_is : command_of (understood all_tables drop_tariff) ≡ drop_command
+pub drop_tariff_is : command_of (understood all_tables drop_tariff) ≡ drop_compiled
 unfolding understood everything
 drop_tariff_is = refl
 
@@ -54,7 +53,7 @@ unfolding understood everything
 drop_tariff_plain = (refl, refl)
 
 -- the text that puts a tariff is understood so
-pub put_tariff_is : command_of (understood all_tables put_tariff) ≡ put_command
+pub put_tariff_is : command_of (understood all_tables put_tariff) ≡ put_compiled
 unfolding understood everything
 put_tariff_is = refl
 
@@ -137,7 +136,7 @@ unfolding understood everything
 find_version_plain = ((refl, refl), refl)
 
 -- the text that puts a day is understood so
-pub put_day_is : command_of (understood all_tables put_day) ≡ day_command
+pub put_day_is : command_of (understood all_tables put_day) ≡ day_compiled
 unfolding understood everything
 put_day_is = refl
 
@@ -147,7 +146,7 @@ unfolding understood everything
 put_day_plain = (refl, refl)
 
 -- the text that puts a seal is understood so
-pub put_seal_is : command_of (understood all_tables put_seal) ≡ seal_command
+pub put_seal_is : command_of (understood all_tables put_seal) ≡ seal_compiled
 unfolding understood everything
 put_seal_is = refl
 
@@ -157,7 +156,7 @@ unfolding understood everything
 put_seal_plain = (refl, refl)
 
 -- the text that puts a history is understood so
-pub put_past_is : command_of (understood all_tables put_past) ≡ past_command
+pub put_past_is : command_of (understood all_tables put_past) ≡ past_compiled
 unfolding understood everything
 put_past_is = refl
 
@@ -167,7 +166,7 @@ unfolding understood everything
 put_past_plain = (refl, refl)
 
 -- the text that puts the version is understood so
-pub put_version_is : command_of (understood all_tables put_version) ≡ version_command
+pub put_version_is : command_of (understood all_tables put_version) ≡ version_compiled
 unfolding understood everything
 put_version_is = refl
 

@@ -30,11 +30,11 @@ use Rattle.road_time.specs.declared.tariff.Tariff.{Tariff}
 use Rattle.keeper.specs.Office.{Office, RowsRise, row_cmp, rows_between, vehicle_rows_between}
 use Rattle.kept_tables.specs.Layout.{all_tables}
 use Rattle.kept_tables.specs.Texts.{list_spent, list_vehicle, find_tariffs}
-use Rattle.kept_tables.specs.Select.{plain, passes, place, rising, rows_query, rows_command, vehicle_query}
-use Rattle.kept_tables.specs.Select.{tariffs_query, tariffs_command}
+use Rattle.kept_tables.specs.Select.{plain, passes, place, rising, rows_query, rows_compiled, vehicle_query}
+use Rattle.kept_tables.specs.Select.{tariffs_query, tariffs_compiled}
 use Rattle.kept_tables.specs.Codec.{spent_row, tariff_row}
 use Rattle.kept_tables.specs.Shown.{tariff_columns}
-use Rattle.kept_tables.specs.Stands.{HasOffice, AreKept}
+use Rattle.kept_tables.specs.Stands.{HasOffice, AreAmountRows}
 use Rattle.kept_tables.proofs.QueryLaws.{list_spent_is, list_spent_plain, list_vehicle_is, list_vehicle_plain}
 use Rattle.kept_tables.proofs.QueryLaws.{find_tariffs_is, find_tariffs_plain}
 use Rattle.kept_tables.proofs.SelectLaws.{ordered_by}
@@ -95,7 +95,7 @@ module _ (tests : List Term) (params : Row) (keep : SpentRow → Bool)
   made_blind (x ∷ xs) = refl
 
   -- what it makes of the amounts that pass
-  outs_are : (rows : List SpentRow) (kept : List Row) → AreKept rows kept →
+  outs_are : (rows : List SpentRow) (kept : List Row) → AreAmountRows rows kept →
       IsPermutation (map out_of (filter keep rows)) (map made (filter (passes tests params) kept))
   outs_are rows kept are =
       let back = λ (columns : Row). made (Null ∷ columns) in
@@ -124,7 +124,8 @@ module _ (tests : List Term) (params : Row) (keep : SpentRow → Bool)
       (filter keep rows)
       (ascending-filter (λ a b. row_cmp a b ≡ Less) keep rows (ascends row_cmp rows up)))
 
-  pub amounts_answer : (rows : List SpentRow) (db : Trees) (found : List Row) → RowsRise rows → AreKept rows (db 1) →
+  pub amounts_answer : (rows : List SpentRow) (db : Trees) (found : List Row) → RowsRise rows →
+      AreAmountRows rows (db 1) →
       IsSureAnswer (in_key_order tests) db params found → found ≡ map spent_row (filter keep rows)
   amounts_answer rows db found up are sure =
       ordered_by 1 tests (place 1 ∷ place 2 ∷ place 3 ∷ place 4 ∷ []) (rising 1 ∷ rising 2 ∷ rising 3 ∷ []) db params
@@ -136,8 +137,8 @@ pub rows_shown : (from to : ℕ) (o : Office) (old new : State) (found : List Ro
     Shown list_spent (Int (pos from) ∷ Int (pos to) ∷ []) old new found → found ≡ map spent_row (rows_between o from to)
 rows_shown from to o old new found has shown =
     let params = Int (pos from) ∷ Int (pos to) ∷ [] in
-    let read : Reads rows_command old.now params found =
-    reads_as list_spent params old new all_tables has.tables.schema rows_command list_spent_is list_spent_plain.0
+    let read : Reads rows_compiled old.now params found =
+    reads_as list_spent params old new all_tables has.tables.schema rows_compiled list_spent_is list_spent_plain.0
     list_spent_plain.1 found shown in
     amounts_answer rows_query.filter params (λ r. nat_le from r.day && nat_le r.day to)
     (λ r. ap₂ ◌&&◌ (at_least r.day from) (ap (λ b. b && true) (at_most r.day to) ∙ last_true (nat_le r.day to)))
@@ -182,8 +183,8 @@ tariff_keys a b = last_key (by_number a.0 b.0)
 pub tariffs_shown : (o : Office) (old new : State) (found : List Row) → HasOffice old.now o →
     Shown find_tariffs [] old new found → found ≡ map tariff_columns o.tariffs
 tariffs_shown o old new found has shown =
-    let read : Reads tariffs_command old.now [] found =
-    reads_as find_tariffs [] old new all_tables has.tables.schema tariffs_command find_tariffs_is
+    let read : Reads tariffs_compiled old.now [] found =
+    reads_as find_tariffs [] old new all_tables has.tables.schema tariffs_compiled find_tariffs_is
     find_tariffs_plain.0 find_tariffs_plain.1 found shown in
     let rows = map tariff_row o.tariffs in
     let all : filter (passes [] []) (old.now.trees 5) ≡ rows =

@@ -25,17 +25,17 @@ use Rattle.sqlite.specs.State.{State, Executes, mode_of}
 use Rattle.sqlite.specs.Listing.{understood}
 use Rattle.sqlite.proofs.Callers.{IsPlain, command_of, runs_as, one_step, statement_of}
 use Rattle.road_time.specs.declared.day.SpentRow.{SpentRow}
-use Rattle.kept_tables.specs.Layout.{all_tables, spent}
+use Rattle.kept_tables.specs.Layout.{all_tables, spent_table}
 use Rattle.kept_tables.specs.Texts.{put_spent}
-use Rattle.kept_tables.specs.Select.{given}
+use Rattle.kept_tables.specs.Select.{param_at}
 use Rattle.kept_tables.specs.Codec.{spent_row}
-use Rattle.kept_tables.specs.Stands.{AreKept}
-use Rattle.kept_tables.specs.Steps.{Adds}
+use Rattle.kept_tables.specs.Stands.{AreAmountRows}
+use Rattle.kept_tables.specs.Steps.{AddsAmounts}
 use Rattle.kept_tables.proofs.EditLaws.{went, same_value, cast_int, cast_null}
 
 -- what the text that puts an amount is understood as
 abbrev pub put_spent_command : Command
-put_spent_command = Insert 1 (Values (lit Null ∷ given 0 ∷ given 1 ∷ given 2 ∷ given 3 ∷ []) 5)
+put_spent_command = Insert 1 (Values (lit Null ∷ param_at 0 ∷ param_at 1 ∷ param_at 2 ∷ param_at 3 ∷ []) 5)
 
 -- it is understood so
 pub put_spent_is : command_of (understood all_tables put_spent) ≡ put_spent_command
@@ -86,12 +86,12 @@ spent_edit old new r count schema ran =
     let counted = went written.2 in
     let trees : done.0.trees ≡ written.0 = ap (λ (it : Written). it.trees) (same_value counted.2)
     ∙ same_value counted.1 in
-    let step = one_step all_tables _ db written.0 (edit_of db spent [] Chosen 0 from.0) refl written.1 in
+    let step = one_step all_tables _ db written.0 (edit_of db spent_table [] Chosen 0 from.0) refl written.1 in
     let row : Row = Int (next_rowid (db 1)) ∷ spent_row r in
-    let news : (edit_of db spent [] Chosen 0 from.0).news ≡ row ∷ [] =
-    ap (λ all. (edit_of db spent [] Chosen 0 all).news) from.1.1
+    let news : (edit_of db spent_table [] Chosen 0 from.0).news ≡ row ∷ [] =
+    ap (λ all. (edit_of db spent_table [] Chosen 0 all).news) from.1.1
     ∙ rw (cast_null, cast_int r.day, cast_int r.vid, cast_int r.xway, cast_int r.tolls) refl in
-    let edit : edited db (edit_of db spent [] Chosen 0 from.0) ≡ put_row row (db 1) = ap (put_all (db 1)) news in
+    let edit : edited db (edit_of db spent_table [] Chosen 0 from.0) ≡ put_row row (db 1) = ap (put_all (db 1)) news in
     let fresh : (not (is_taken (db 1) row) && true) ≡ true =
     subst (λ (all : List Row). are_fresh (db 1) all ≡ true) news step.fresh in
     let at = λ (n : ℕ). let e : new.now.trees n ≡ written.0 n = ap (λ (d : Database). d.trees n) now
@@ -111,8 +111,8 @@ spent_edit old new r count schema ran =
 
 -- the amounts with one more
 pub spent_put : (old new : State) (r : SpentRow) (count : ℕ) (rows : List SpentRow) → old.now.schema ≡ all_tables →
-    AreKept rows (old.now.trees 1) → Executes put_spent (spent_row r) old new (Ok count)
-    → (new.now.schema ≡ all_tables) × AreKept (rows ++ r ∷ []) (new.now.trees 1)
+    AreAmountRows rows (old.now.trees 1) → Executes put_spent (spent_row r) old new (Ok count)
+    → (new.now.schema ≡ all_tables) × AreAmountRows (rows ++ r ∷ []) (new.now.trees 1)
     × ((n : ℕ) → (n ≡ 1 → ⊥) → (2 ≡ n → ⊥) → new.now.trees n ≡ old.now.trees n)
 spent_put old new r count rows schema are ran =
     let e = spent_edit old new r count schema ran in
@@ -127,10 +127,11 @@ spent_put old new r count rows schema are ran =
     (e.3, rw (map-append spent_row rows (r ∷ []), e.4) all, e.5)
 
 -- one after another
-pub adds_then : (a b c : Database) (xs ys : List SpentRow) → Adds a b xs → Adds b c ys → Adds a c (xs ++ ys)
+pub adds_then : (a b c : Database) (xs ys : List SpentRow) → AddsAmounts a b xs → AddsAmounts b c ys →
+    AddsAmounts a c (xs ++ ys)
 adds_then a b c xs ys p q = record {
   schema = q.schema;
-  rows = λ kept are. subst (λ l. AreKept l (c.trees 1)) (append_assoc kept xs ys)
+  rows = λ kept are. subst (λ l. AreAmountRows l (c.trees 1)) (append_assoc kept xs ys)
       (q.rows (kept ++ xs) (p.rows kept are));
   others = λ tree other apart. q.others tree other apart ∙ p.others tree other apart;
 }

@@ -18,7 +18,7 @@ use Rattle.kept_tables.specs.Same.{same}
 use Rattle.kept_tables.specs.Codec.{old_row, spent_row, old_from, spent_from}
 use Rattle.kept_tables.specs.Stands.{HasOld, StandsForOffice, StandsForNone, past_rows}
 use Rattle.kept_tables.specs.Tests.{is_sound, fits_fields}
-use Rattle.kept_tables.specs.Told.{whole_in, office_in, told_in, holds_old, old_in, past_in, amounts_in}
+use Rattle.kept_tables.specs.Told.{whole_in, office_in, told_in, holds_old, old_in, past_record_in, amounts_in}
 use Rattle.kept_tables.proofs.SameLaws.{same_is, same_if}
 use Rattle.kept_tables.proofs.TestLaws.{fields_are, fields_if, sound_is, sound_if, both}
 use Rattle.kept_tables.proofs.ToldLaws.{rows_held, rows_back, past_back, stored_so, held_if_told, told_if_held}
@@ -33,7 +33,7 @@ old_held db tables h =
     record {
       records = map old_from (db.trees 0);
       rows = amounts_in (db.trees 1);
-      history = past_in (db.trees 3);
+      history = past_record_in (db.trees 3);
       tables = record {
         schema = tables;
         days_are = same_is (coded_list row.the_row.coded) _ _ a.0;
@@ -51,7 +51,7 @@ old_passes db o has =
     let up : RowsRise has.rows = subst RowsRise (ap (λ (p : Office). p.rows) has.office) has.sound.rows_rise in
     let days = ap (map old_from) has.tables.days_are ∙ map_back old_row old_from (λ _. refl) has.records in
     let rows = rows_back has.rows (db.trees 1) up has.tables.rows_are in
-    let history = ap past_in has.tables.past_is ∙ past_back has.history in
+    let history = ap past_record_in has.tables.past_is ∙ past_back has.history in
     let read : old_in db ≡ old_office has.records has.rows has.history =
     λ i. old_office (days i) (rows i) (history i) in
     let it : old_in db ≡ o = read ∙ sym has.office in
@@ -60,7 +60,7 @@ old_passes db o has =
           (has.tables.days_are ∙ ap (map old_row) (sym days)))
           (both (same_if code (map (drop 1) (db.trees 1)) (map spent_row (map spent_from (db.trees 1)))
           (stored_so has.rows (db.trees 1) has.tables.rows_are))
-          (both (same_if code (db.trees 3) (past_rows (past_in (db.trees 3)))
+          (both (same_if code (db.trees 3) (past_rows (past_record_in (db.trees 3)))
           (has.tables.past_is ∙ ap past_rows (sym history)))
           (both (subst (λ (p : Office). fits_fields p ≡ true) (sym it) (fields_if o has.fits))
           (subst (λ (p : Office). is_sound p ≡ true) (sym it) (sound_if o has.sound))))),

@@ -153,8 +153,7 @@ others_twice xway (e ∷ ts) = elim (cases_Bool (e.0 == xway)) [
 ]
 
 -- the numbers of the rows that have the key
-pub hits_are : (xway : ℕ) (ts : Tariffs) →
-    AllByRecursion (λ (r : Row). r ≡ Int (pos xway) ∷ [])
+pub hits_are : (xway : ℕ) (ts : Tariffs) → AllByRecursion (λ (r : Row). r ≡ Int (pos xway) ∷ [])
     (map (λ (e : ℕ × Tariff). Int (pos e.0) ∷ []) (filter (λ e. e.0 == xway) ts))
 hits_are xway [] = tt
 hits_are xway (e ∷ ts) = elim (cases_Bool (e.0 == xway)) [

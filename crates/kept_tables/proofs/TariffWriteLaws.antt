@@ -8,7 +8,7 @@ use Rattle.std.specs.declared.cmp.Ordering.TheVariants.{Less, Equal, Greater}
 use Rattle.std.specs.BTreeMap.{insert_entry}
 use Rattle.sqlite_value.specs.declared.value.Value.TheVariants.{Int}
 use Rattle.sqlite_value.specs.Order.{Row}
-use Rattle.sqlite_trees.specs.Tree.{Trees}
+use Rattle.sqlite_trees.specs.Tree.{Trees, put_row}
 use Rattle.sqlite_rules.specs.declared.error.Rowids.TheVariants.{Chosen, Given}
 use Rattle.sqlite_rules.specs.Edit.{edit_of, edited, without_all}
 use Rattle.sqlite_rules.specs.Calls.{ids_of}
@@ -25,9 +25,9 @@ use Rattle.keeper.specs.Office.{Office}
 use Rattle.keeper.specs.Kept.{with_tariff_of}
 use Rattle.keeper.proofs.SoundLaws.{tariff_sound}
 use Rattle.keeper.proofs.TariffLaws.{tariffs_set}
-use Rattle.kept_tables.specs.Layout.{all_tables, tariffs}
+use Rattle.kept_tables.specs.Layout.{all_tables, tariffs_table}
 use Rattle.kept_tables.specs.Texts.{drop_tariff, put_tariff}
-use Rattle.kept_tables.specs.Select.{tariff_ids, drop_command, put_command, passes}
+use Rattle.kept_tables.specs.Select.{tariff_ids, drop_compiled, put_compiled, passes}
 use Rattle.kept_tables.specs.Codec.{tariff_row}
 use Rattle.kept_tables.specs.Stands.{HasOffice, LacksTariff, contents_of}
 use Rattle.kept_tables.proofs.EditLaws.{went, same_value, cast_int, cast_null, other_tariffs}
@@ -39,7 +39,6 @@ use Rattle.kept_tables.proofs.AmountLaws.{same_numbers, last_true, none_left}
 use Rattle.sqlite_keyed.proofs.ListLemmas.{map-map, filter-map, filter_same, all-filter}
 use Rattle.std.proofs.lemmas.List.Sorted.{All-permutation, IsPermutation-sym}
 use Rattle.std.proofs.lemmas.List.Elements.{recursion_from_All, All-from_recursion}
-use Rattle.sqlite_trees.specs.Tree.{put_row}
 
 -- with other tariffs, where all else is as it was
 retariffed : (db next : Database) (o : Office) (ts : Tariffs) → HasOffice db o → next.schema ≡ all_tables →
@@ -64,18 +63,18 @@ drop_edit : (old new : State) (xway count : ℕ) → old.now.schema ≡ all_tabl
 drop_edit old new xway count schema ran =
     let params = Int (pos xway) ∷ [] in
     let db = old.now.trees in
-    let w = runs_as drop_tariff params old new all_tables schema drop_command drop_tariff_is drop_tariff_plain count
+    let w = runs_as drop_tariff params old new all_tables schema drop_compiled drop_tariff_is drop_tariff_plain count
     ran in
     let text = statement_of drop_tariff (understood all_tables drop_tariff) in
     let done =
     went (subst
-    (λ s. Does old.step_limit (mode_of old) params (record old.now { schema = s }) text None drop_command
+    (λ s. Does old.step_limit (mode_of old) params (record old.now { schema = s }) text None drop_compiled
     (Ok (w.tally, new.now))) schema w.changed) in
     let now = ap (λ (p : Tally × Database). p.1) (same_value (went (went done.2).2).2) in
     let given = went done.1 in
     let written = went given.2 in
     let trees : done.0.trees ≡ written.0 = ap (λ (it : Written). it.trees) (same_value written.2) in
-    let edit = edit_of db tariffs (ids_of given.0) Given 0 [] in
+    let edit = edit_of db tariffs_table (ids_of given.0) Given 0 [] in
     let step = one_step all_tables _ db written.0 edit refl written.1 in
     let at = λ (t : ℕ). let e : new.now.trees t ≡ written.0 t = ap (λ (d : Database). d.trees t) now
     ∙ ap (λ (all : Trees). all t) trees in e in (
@@ -166,11 +165,11 @@ put_edit : (old new : State) (xway count : ℕ) (t : Tariff) → old.now.schema 
 put_edit old new xway count t schema ran =
     let params = Int (pos xway) ∷ Int (pos t.crowd) ∷ Int (pos t.speed) ∷ Int (pos t.factor) ∷ [] in
     let db = old.now.trees in
-    let w = runs_as put_tariff params old new all_tables schema put_command put_tariff_is put_tariff_plain count ran in
+    let w = runs_as put_tariff params old new all_tables schema put_compiled put_tariff_is put_tariff_plain count ran in
     let text = statement_of put_tariff (understood all_tables put_tariff) in
     let done =
     went (subst
-    (λ s. Does old.step_limit (mode_of old) params (record old.now { schema = s }) text None put_command
+    (λ s. Does old.step_limit (mode_of old) params (record old.now { schema = s }) text None put_compiled
     (Ok (w.tally, new.now))) schema w.changed) in
     let now = ap (λ (p : Tally × Database). p.1) (same_value (went (went done.2).2).2) in
     let given = went done.1 in
@@ -178,9 +177,9 @@ put_edit old new xway count t schema ran =
     let counted = went written.2 in
     let trees : done.0.trees ≡ written.0 = ap (λ (it : Written). it.trees) (same_value counted.2)
     ∙ same_value counted.1 in
-    let step = one_step all_tables _ db written.0 (edit_of db tariffs [] Chosen 0 given.0) refl written.1 in
-    let edit : edited db (edit_of db tariffs [] Chosen 0 given.0) ≡ put_row (tariff_row (xway, t)) (db 5) =
-    ap (λ all. edited db (edit_of db tariffs [] Chosen 0 all)) given.1.1
+    let step = one_step all_tables _ db written.0 (edit_of db tariffs_table [] Chosen 0 given.0) refl written.1 in
+    let edit : edited db (edit_of db tariffs_table [] Chosen 0 given.0) ≡ put_row (tariff_row (xway, t)) (db 5) =
+    ap (λ all. edited db (edit_of db tariffs_table [] Chosen 0 all)) given.1.1
     ∙ rw (cast_int xway, cast_null, cast_int t.crowd, cast_int t.speed, cast_int t.factor) refl in
     let at = λ (n : ℕ). let e : new.now.trees n ≡ written.0 n = ap (λ (d : Database). d.trees n) now
     ∙ ap (λ (all : Trees). all n) trees in e in (

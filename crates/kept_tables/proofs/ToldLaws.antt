@@ -26,14 +26,14 @@ use Rattle.keeper.proofs.RowOrder.{row_total}
 use Rattle.kept_tables.specs.Layout.{all_tables}
 use Rattle.kept_tables.specs.Same.{same}
 use Rattle.kept_tables.specs.Codec.{day_row, seal_row, spent_row, tariff_row, version_row, spent_from, tariff_from}
-use Rattle.kept_tables.specs.Stands.{HasOffice, AreKept, past_rows}
+use Rattle.kept_tables.specs.Stands.{HasOffice, AreAmountRows, past_rows}
 use Rattle.kept_tables.specs.Tests.{is_sound, fits_fields}
-use Rattle.kept_tables.specs.Told.{whole_in, holds_all, all_in, days_from, past_in, amounts_in, are_amounts}
+use Rattle.kept_tables.specs.Told.{whole_in, holds_all, all_in, days_from, past_record_in, amounts_in, are_amounts}
 use Rattle.kept_tables.proofs.SameLaws.{same_is, same_if}
 use Rattle.kept_tables.proofs.TestLaws.{fields_are, fields_if, sound_is, sound_if, both}
 
 -- rows that are amounts are those that are read of them
-pub rows_held : (kept : List Row) → are_amounts kept ≡ true → AreKept (amounts_in kept) kept
+pub rows_held : (kept : List Row) → are_amounts kept ≡ true → AreAmountRows (amounts_in kept) kept
 rows_held kept are =
     let stored = same_is (coded_list row.the_row.coded) (map (drop 1) kept) (map spent_row (map spent_from kept)) are in
     subst (IsPermutation (map spent_row (amounts_in kept))) (sym stored)
@@ -84,7 +84,7 @@ days_back [] = refl
 days_back (d ∷ ds) = ap (λ l. d ∷ l) (days_back ds)
 
 -- so is a history
-pub past_back : (p : Option PastRecord) → past_in (past_rows p) ≡ p
+pub past_back : (p : Option PastRecord) → past_record_in (past_rows p) ≡ p
 past_back None = refl
 past_back (Some p) = refl
 
@@ -110,7 +110,8 @@ in_order rows up k d low high =
     ap is_lt (row_total.antisymm (get_or rows (k + 1) d) (get_or rows k d) ∙ ap ordering_reverse less)
 
 -- amounts that are kept in any order are found in order
-pub rows_back : (rows : List SpentRow) (kept : List Row) → RowsRise rows → AreKept rows kept → amounts_in kept ≡ rows
+pub rows_back : (rows : List SpentRow) (kept : List Row) → RowsRise rows → AreAmountRows rows kept → amounts_in kept ≡
+    rows
 rows_back rows kept up are =
     let back = λ (columns : Row). spent_from (Null ∷ columns) in
     let blind : (r : Row) → back (drop 1 r) ≡ spent_from r = λ r. cut r in
@@ -150,7 +151,7 @@ all_columns [] all = refl
 all_columns (r ∷ kept) all = ap₂ (λ x xs. x ∷ xs) (all.0 ∙ ap spent_row (blind r)) (all_columns kept all.1)
 
 -- so are the rows that keep amounts
-pub stored_so : (rows : List SpentRow) (kept : List Row) → AreKept rows kept →
+pub stored_so : (rows : List SpentRow) (kept : List Row) → AreAmountRows rows kept →
     map (drop 1) kept ≡ map spent_row (map spent_from kept)
 stored_so rows kept are =
     all_columns kept
@@ -164,7 +165,7 @@ unfolding whole_in
 told_if_held db o has =
     let days = ap₂ days_from has.tables.days_are has.tables.seals_are ∙ days_back o.days in
     let rows = rows_back o.rows (db.trees 1) has.sound.rows_rise has.tables.rows_are in
-    let history = ap past_in has.tables.past_is ∙ past_back o.past in
+    let history = ap past_record_in has.tables.past_is ∙ past_back o.past in
     let rates = ap (map tariff_from) has.tables.tariffs_are ∙ map_back tariff_row tariff_from (λ _. refl) o.tariffs in
     let it : all_in db ≡ o = λ i. record { days = days i; rows = rows i; past = history i; tariffs = rates i } in
     let code = coded_list row.the_row.coded in

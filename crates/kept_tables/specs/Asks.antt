@@ -11,6 +11,6 @@ is_ask (written.Select s) = true
 is_ask _ = false
 
 -- so is the text
-abbrev pub asks : Result Parsed CompileError → Bool
-asks (Ok p) = is_ask p.statement
-asks (Err e) = false
+abbrev pub is_ask_text : Result Parsed CompileError → Bool
+is_ask_text (Ok p) = is_ask p.statement
+is_ask_text (Err e) = false

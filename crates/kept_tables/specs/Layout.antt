@@ -23,16 +23,16 @@ column_of name kind required = record {
 }
 
 -- a column that is the key, of numbers, and of bytes
-abbrev pub key : List ℕ → Column
-key name = column_of name Integer false
+abbrev pub key_column : List ℕ → Column
+key_column name = column_of name Integer false
 
 -- a column of numbers
-abbrev pub number : List ℕ → Column
-number name = column_of name Integer true
+abbrev pub number_column : List ℕ → Column
+number_column name = column_of name Integer true
 
 -- a column of bytes
-abbrev pub bytes : List ℕ → Column
-bytes name = column_of name Blob true
+abbrev pub bytes_column : List ℕ → Column
+bytes_column name = column_of name Blob true
 
 -- a table whose first column is its key, with its checks
 abbrev pub keyed : List ℕ → ℕ → List Column → List Term → Table
@@ -56,17 +56,19 @@ abbrev pub only_one : List Term
 only_one = op2 (Compare Eq Binary) (col 1 0) (lit (Int (pos 1))) ∷ []
 
 -- the records of days
-abbrev pub days : Table
-days = keyed (codes "days") 0
-    (key (codes "day") ∷ bytes (codes "digest") ∷ number (codes "bytes") ∷ number (codes "tuples") ∷
-    number (codes "notices") ∷ bytes (codes "notices_digest") ∷ number (codes "total") ∷ []) []
+abbrev pub days_table : Table
+days_table = keyed (codes "days") 0
+    (key_column (codes "day") ∷ bytes_column (codes "digest") ∷ number_column (codes "bytes") ∷
+    number_column (codes "tuples") ∷
+    number_column (codes "notices") ∷ bytes_column (codes "notices_digest") ∷ number_column (codes "total") ∷ []) []
 
 -- amounts, whose key is made of three columns, so that each row has a number that no column shows
-abbrev pub spent : Table
-spent = record {
+abbrev pub spent_table : Table
+spent_table = record {
   name = codes "spent";
   tree = 1;
-  columns = number (codes "day") ∷ number (codes "vid") ∷ number (codes "xway") ∷ number (codes "tolls") ∷ [];
+  columns = number_column (codes "day") ∷ number_column (codes "vid") ∷ number_column (codes "xway") ∷
+      number_column (codes "tolls") ∷ [];
   key = None;
   primary = 1 ∷ 2 ∷ 3 ∷ [];
   uniques = (1 ∷ 2 ∷ 3 ∷ []) ∷ [];
@@ -90,24 +92,26 @@ spent_key = record {
 }
 
 -- the record of a history
-abbrev pub past : Table
-past = keyed (codes "past") 3
-    (key (codes "one") ∷ number (codes "base") ∷ bytes (codes "digest") ∷ number (codes "bytes") ∷
-    number (codes "rows_kept") ∷ []) only_one
+abbrev pub past_table : Table
+past_table = keyed (codes "past") 3
+    (key_column (codes "one") ∷ number_column (codes "base") ∷ bytes_column (codes "digest") ∷
+    number_column (codes "bytes") ∷
+    number_column (codes "rows_kept") ∷ []) only_one
 
 -- the seals of the tariffs that days were charged under
-abbrev pub day_tariffs : Table
-day_tariffs = keyed (codes "day_tariffs") 4 (key (codes "day") ∷ bytes (codes "digest") ∷ []) []
+abbrev pub day_tariffs_table : Table
+day_tariffs_table = keyed (codes "day_tariffs") 4 (key_column (codes "day") ∷ bytes_column (codes "digest") ∷ []) []
 
 -- tariffs
-abbrev pub tariffs : Table
-tariffs =
-    keyed (codes "tariffs") 5 (key (codes "xway") ∷ number (codes "crowd") ∷ number (codes "speed") ∷
-    number (codes "factor") ∷ []) []
+abbrev pub tariffs_table : Table
+tariffs_table =
+    keyed (codes "tariffs") 5 (key_column (codes "xway") ∷ number_column (codes "crowd") ∷
+    number_column (codes "speed") ∷
+    number_column (codes "factor") ∷ []) []
 
 -- the version of the tables
-abbrev pub form : Table
-form = keyed (codes "form") 6 (key (codes "one") ∷ number (codes "version") ∷ []) only_one
+abbrev pub form_table : Table
+form_table = keyed (codes "form") 6 (key_column (codes "one") ∷ number_column (codes "version") ∷ []) only_one
 
 -- no tables
 abbrev pub no_tables : Schema
@@ -115,12 +119,12 @@ no_tables = record { tables = []; indexes = []; views = [] }
 
 -- the tables of version 1
 abbrev pub old_tables : Schema
-old_tables = record { tables = days ∷ spent ∷ past ∷ []; indexes = spent_key ∷ []; views = [] }
+old_tables = record { tables = days_table ∷ spent_table ∷ past_table ∷ []; indexes = spent_key ∷ []; views = [] }
 
 -- the tables of version 2
 abbrev pub all_tables : Schema
 all_tables = record {
-  tables = days ∷ spent ∷ past ∷ day_tariffs ∷ tariffs ∷ form ∷ [];
+  tables = days_table ∷ spent_table ∷ past_table ∷ day_tariffs_table ∷ tariffs_table ∷ form_table ∷ [];
   indexes = spent_key ∷ [];
   views = [];
 }

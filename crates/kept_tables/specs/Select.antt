@@ -36,12 +36,12 @@ abbrev pub place : ℕ → Term
 place at = col 1 at
 
 -- a parameter
-abbrev pub given : ℕ → Term
-given at = col 0 at
+abbrev pub param_at : ℕ → Term
+param_at at = col 0 at
 
 -- a place is what a parameter is, or stands to it so
-abbrev pub compared : CompareOp → ℕ → ℕ → Term
-compared how at param = op2 (Compare how Binary) (place at) (given param)
+abbrev pub stands_to : CompareOp → ℕ → ℕ → Term
+stands_to how at param = op2 (Compare how Binary) (place at) (param_at param)
 
 -- rising, by a place
 abbrev pub rising : ℕ → Term × Key
@@ -61,12 +61,12 @@ is_one = op2 (Compare Eq Binary) (place 0) (lit (Int (pos 1)))
 
 -- what the texts are understood as
 abbrev pub spent_query : Query
-spent_query = plain 1 (compared Eq 1 0 ∷ compared Eq 2 1 ∷ compared Eq 3 2 ∷ []) (place 4 ∷ []) []
+spent_query = plain 1 (stands_to Eq 1 0 ∷ stands_to Eq 2 1 ∷ stands_to Eq 3 2 ∷ []) (place 4 ∷ []) []
 
 -- the amounts of some days
 abbrev pub rows_query : Query
 rows_query =
-    plain 1 (compared Ge 1 0 ∷ compared Le 1 1 ∷ []) (place 1 ∷ place 2 ∷ place 3 ∷ place 4 ∷ []) (rising 1 ∷
+    plain 1 (stands_to Ge 1 0 ∷ stands_to Le 1 1 ∷ []) (place 1 ∷ place 2 ∷ place 3 ∷ place 4 ∷ []) (rising 1 ∷
     rising 2 ∷ rising 3 ∷ [])
 
 -- all tariffs
@@ -75,39 +75,39 @@ tariffs_query = plain 5 [] (place 0 ∷ place 2 ∷ place 3 ∷ place 4 ∷ []) 
 
 -- the numbers of the rows of an expressway
 abbrev pub tariff_ids : Query
-tariff_ids = plain 5 (compared Eq 0 0 ∷ []) (place 0 ∷ []) []
+tariff_ids = plain 5 (stands_to Eq 0 0 ∷ []) (place 0 ∷ []) []
 
 -- the values of a tariff
 abbrev pub tariff_values : List Term
-tariff_values = given 0 ∷ lit Null ∷ given 1 ∷ given 2 ∷ given 3 ∷ []
+tariff_values = param_at 0 ∷ lit Null ∷ param_at 1 ∷ param_at 2 ∷ param_at 3 ∷ []
 
 -- the query for an amount
-abbrev pub spent_command : Command
-spent_command = Select (record { lets = []; body = spent_query }) (codes "tolls" ∷ [])
+abbrev pub spent_compiled : Command
+spent_compiled = Select (record { lets = []; body = spent_query }) (codes "tolls" ∷ [])
 
 -- the query for amounts
-abbrev pub rows_command : Command
-rows_command =
+abbrev pub rows_compiled : Command
+rows_compiled =
     Select (record { lets = []; body = rows_query }) (codes "day" ∷ codes "vid" ∷ codes "xway" ∷ codes "tolls" ∷ [])
 
 -- the query for the tariffs
-abbrev pub tariffs_command : Command
-tariffs_command =
+abbrev pub tariffs_compiled : Command
+tariffs_compiled =
     Select (record { lets = []; body = tariffs_query })
     (codes "xway" ∷ codes "crowd" ∷ codes "speed" ∷ codes "factor" ∷ [])
 
 -- a tariff is taken away
-abbrev pub drop_command : Command
-drop_command = Delete 4 (record { lets = []; body = tariff_ids })
+abbrev pub drop_compiled : Command
+drop_compiled = Delete 4 (record { lets = []; body = tariff_ids })
 
 -- a tariff is put
-abbrev pub put_command : Command
-put_command = Insert 4 (Values tariff_values 5)
+abbrev pub put_compiled : Command
+put_compiled = Insert 4 (Values tariff_values 5)
 
 -- the amounts of a vehicle
 abbrev pub vehicle_query : Query
 vehicle_query =
-    plain 1 (compared Eq 2 0 ∷ compared Ge 1 1 ∷ compared Le 1 2 ∷ []) (place 1 ∷ place 2 ∷ place 3 ∷ place 4 ∷
+    plain 1 (stands_to Eq 2 0 ∷ stands_to Ge 1 1 ∷ stands_to Le 1 2 ∷ []) (place 1 ∷ place 2 ∷ place 3 ∷ place 4 ∷
     []) (rising 1 ∷ rising 2 ∷ rising 3 ∷ [])
 
 -- the last day
@@ -116,11 +116,11 @@ last_query = topmost 0 (place 0 ∷ []) (falling 0 ∷ [])
 
 -- a day
 abbrev pub day_query : Query
-day_query = plain 0 (compared Eq 0 0 ∷ []) (place 2 ∷ place 3 ∷ place 4 ∷ place 5 ∷ place 6 ∷ place 7 ∷ []) []
+day_query = plain 0 (stands_to Eq 0 0 ∷ []) (place 2 ∷ place 3 ∷ place 4 ∷ place 5 ∷ place 6 ∷ place 7 ∷ []) []
 
 -- the seal of a day
 abbrev pub seal_query : Query
-seal_query = plain 4 (compared Eq 0 0 ∷ []) (place 2 ∷ []) []
+seal_query = plain 4 (stands_to Eq 0 0 ∷ []) (place 2 ∷ []) []
 
 -- the history
 abbrev pub past_query : Query
@@ -139,17 +139,19 @@ abbrev pub asks_by : Query → List (List ℕ) → Command
 asks_by q names = Select (record { lets = []; body = q }) names
 
 -- a day is put
-abbrev pub day_command : Command
-day_command = Insert 0 (Values (given 0 ∷ lit Null ∷ given 1 ∷ given 2 ∷ given 3 ∷ given 4 ∷ given 5 ∷ given 6 ∷ []) 8)
+abbrev pub day_compiled : Command
+day_compiled = Insert 0 (Values (param_at 0 ∷ lit Null ∷ param_at 1 ∷ param_at 2 ∷ param_at 3 ∷ param_at 4 ∷ param_at 5
+    ∷ param_at 6 ∷ []) 8)
 
 -- a seal is put
-abbrev pub seal_command : Command
-seal_command = Insert 3 (Values (given 0 ∷ lit Null ∷ given 1 ∷ []) 3)
+abbrev pub seal_compiled : Command
+seal_compiled = Insert 3 (Values (param_at 0 ∷ lit Null ∷ param_at 1 ∷ []) 3)
 
 -- a history is put
-abbrev pub past_command : Command
-past_command = Insert 2 (Values (lit (Int (pos 1)) ∷ lit Null ∷ given 0 ∷ given 1 ∷ given 2 ∷ given 3 ∷ []) 6)
+abbrev pub past_compiled : Command
+past_compiled = Insert 2 (Values (lit (Int (pos 1)) ∷ lit Null ∷ param_at 0 ∷ param_at 1 ∷ param_at 2 ∷ param_at 3 ∷
+    []) 6)
 
 -- the version is put
-abbrev pub version_command : Command
-version_command = Insert 5 (Values (lit (Int (pos 1)) ∷ lit Null ∷ lit (Int (pos 2)) ∷ []) 3)
+abbrev pub version_compiled : Command
+version_compiled = Insert 5 (Values (lit (Int (pos 1)) ∷ lit Null ∷ lit (Int (pos 2)) ∷ []) 3)

@@ -25,9 +25,9 @@ abbrev pub number_columns : DayRecord → Row
 number_columns r = Int (pos r.day) ∷ []
 
 -- the rows of what may be there: one or none
-abbrev pub rows_of : {X : Type 0} → (X → Row) → Option X → List Row
-rows_of row None = []
-rows_of row (Some x) = row x ∷ []
+abbrev pub row_if_any : {X : Type 0} → (X → Row) → Option X → List Row
+row_if_any row None = []
+row_if_any row (Some x) = row x ∷ []
 
 -- the last of some days
 abbrev pub last_rows : List DayRecord → List Row

@@ -14,8 +14,8 @@ use Rattle.keeper.specs.declared.kept.OldRecord.{OldRecord}
 use Rattle.keeper.specs.declared.kept.PastRecord.{PastRecord}
 use Rattle.keeper.specs.Office.{Office, IsSound, nothing_kept}
 use Rattle.keeper.specs.Kept.{old_office, sealed, seal_of}
-use Rattle.kept_tables.specs.Layout.{no_tables, old_tables, all_tables, days, spent, spent_key, past, day_tariffs}
-use Rattle.kept_tables.specs.Layout.{tariffs, form}
+use Rattle.kept_tables.specs.Layout.{no_tables, old_tables, all_tables, days_table, spent_table, spent_key, past_table}
+use Rattle.kept_tables.specs.Layout.{day_tariffs_table, tariffs_table, form_table}
 use Rattle.kept_tables.specs.Codec.{day_row, seal_row, old_row, spent_row, past_row, tariff_row, version_row}
 
 -- a digest has 32 bytes
@@ -54,16 +54,16 @@ past_rows None = []
 past_rows (Some p) = past_row p ∷ []
 
 -- amounts are kept in any order, each with a number of its own before its columns
-abbrev pub AreKept : List SpentRow → List Row → Type 0
-AreKept rows kept = IsPermutation (map spent_row rows) (map (drop 1) kept)
+abbrev pub AreAmountRows : List SpentRow → List Row → Type 0
+AreAmountRows rows kept = IsPermutation (map spent_row rows) (map (drop 1) kept)
 
 -- the three tables of version 1 alone are there, and hold these
 pub record HoldsOld (db : Database) (records : List OldRecord) (rows : List SpentRow) (history : Option PastRecord) :
     Type 0 where
   pub schema : db.schema ≡ old_tables
-  pub days_are : db.trees days.tree ≡ map old_row records
-  pub rows_are : AreKept rows (db.trees spent.tree)
-  pub past_is : db.trees past.tree ≡ past_rows history
+  pub days_are : db.trees days_table.tree ≡ map old_row records
+  pub rows_are : AreAmountRows rows (db.trees spent_table.tree)
+  pub past_is : db.trees past_table.tree ≡ past_rows history
 
 -- they hold what an office was before tariffs were, which fits its fields and is sound
 pub record HasOld (db : Database) (o : Office) : Type 0 where
@@ -112,12 +112,12 @@ unsealed records rows history = record {
 -- all six tables are there, with these rows for their version, and hold this
 pub record HoldsAs (version_is : List Row) (db : Database) (c : Contents) : Type 0 where
   pub schema : db.schema ≡ all_tables
-  pub days_are : db.trees days.tree ≡ map day_row c.days
-  pub rows_are : AreKept c.rows (db.trees spent.tree)
-  pub past_is : db.trees past.tree ≡ past_rows c.past
-  pub seals_are : db.trees day_tariffs.tree ≡ map seal_row c.sealed
-  pub tariffs_are : db.trees tariffs.tree ≡ map tariff_row c.tariffs
-  pub version : db.trees form.tree ≡ version_is
+  pub days_are : db.trees days_table.tree ≡ map day_row c.days
+  pub rows_are : AreAmountRows c.rows (db.trees spent_table.tree)
+  pub past_is : db.trees past_table.tree ≡ past_rows c.past
+  pub seals_are : db.trees day_tariffs_table.tree ≡ map seal_row c.sealed
+  pub tariffs_are : db.trees tariffs_table.tree ≡ map tariff_row c.tariffs
+  pub version : db.trees form_table.tree ≡ version_is
 
 -- they are there in version 2
 abbrev pub Holds : Database → Contents → Type 0

@@ -1,12 +1,12 @@
 use Rattle.std.specs.Prelude.{◌≡◌, ℕ, List, ◌++◌, IsTrue, Result, Ok, Err}
 use Rattle.road_time.specs.declared.day.SpentRow.{SpentRow}
-use Rattle.kept_tables.specs.Layout.{all_tables, spent, spent_key}
+use Rattle.kept_tables.specs.Layout.{all_tables, spent_table, spent_key}
 use Rattle.sqlite.specs.declared.error.Error.{Error}
 use Rattle.sqlite_trees.specs.Tree.{Trees}
 use Rattle.sqlite.specs.Effect.{Database}
 use Rattle.sqlite.specs.State.{State, KeepsCommit, Shows}
 use Rattle.keeper.specs.Office.{Office}
-use Rattle.kept_tables.specs.Stands.{HasOffice, AreKept}
+use Rattle.kept_tables.specs.Stands.{HasOffice, AreAmountRows}
 
 -- a step of a transaction goes on in it, and one that is refused commits nothing
 abbrev pub StaysInside : State → State → Result (Unit {0}) Error → Type 0
@@ -30,8 +30,9 @@ abbrev pub FitsAny : Office → Type 0
 FitsAny o = Unit {0}
 
 -- tables with more amounts, all else as it was
-pub record Adds (old new : Database) (more : List SpentRow) : Type 0 where
+pub record AddsAmounts (old new : Database) (more : List SpentRow) : Type 0 where
   pub schema : new.schema ≡ all_tables
-  pub rows : (kept : List SpentRow) → AreKept kept (old.trees spent.tree) →
-      AreKept (kept ++ more) (new.trees spent.tree)
-  pub others : (tree : ℕ) → (tree ≡ spent.tree → ⊥) → (spent_key.tree ≡ tree → ⊥) → new.trees tree ≡ old.trees tree
+  pub rows : (kept : List SpentRow) → AreAmountRows kept (old.trees spent_table.tree) →
+      AreAmountRows (kept ++ more) (new.trees spent_table.tree)
+  pub others : (tree : ℕ) → (tree ≡ spent_table.tree → ⊥) → (spent_key.tree ≡ tree → ⊥) → new.trees tree ≡
+      old.trees tree

@@ -1,19 +1,23 @@
-use Rattle.std.specs.Prelude.{ℕ, List, codes}
+use Rattle.std.specs.Prelude.{ℕ, List, ◌++◌, codes}
 
 -- how each table is made
 abbrev pub make_days : List ℕ
 make_days =
-    codes "CREATE TABLE days (day INTEGER PRIMARY KEY, digest BLOB NOT NULL, bytes INTEGER NOT NULL,\n  tuples INTEGER NOT NULL, notices INTEGER NOT NULL, notices_digest BLOB NOT NULL,\n  total INTEGER NOT NULL) STRICT"
+    codes "CREATE TABLE days (day INTEGER PRIMARY KEY, digest BLOB NOT NULL, bytes INTEGER NOT NULL,\n"
+    ++ (codes "  tuples INTEGER NOT NULL, notices INTEGER NOT NULL, notices_digest BLOB NOT NULL,\n"
+    ++ codes "  total INTEGER NOT NULL) STRICT")
 
 -- the amounts
 abbrev pub make_spent : List ℕ
 make_spent =
-    codes "CREATE TABLE spent (day INTEGER NOT NULL, vid INTEGER NOT NULL, xway INTEGER NOT NULL,\n  tolls INTEGER NOT NULL, PRIMARY KEY (day, vid, xway)) STRICT"
+    codes "CREATE TABLE spent (day INTEGER NOT NULL, vid INTEGER NOT NULL, xway INTEGER NOT NULL,\n"
+    ++ codes "  tolls INTEGER NOT NULL, PRIMARY KEY (day, vid, xway)) STRICT"
 
 -- the history
 abbrev pub make_past : List ℕ
 make_past =
-    codes "CREATE TABLE past (one INTEGER PRIMARY KEY CHECK (one = 1), base INTEGER NOT NULL,\n  digest BLOB NOT NULL, bytes INTEGER NOT NULL, rows_kept INTEGER NOT NULL) STRICT"
+    codes "CREATE TABLE past (one INTEGER PRIMARY KEY CHECK (one = 1), base INTEGER NOT NULL,\n"
+    ++ codes "  digest BLOB NOT NULL, bytes INTEGER NOT NULL, rows_kept INTEGER NOT NULL) STRICT"
 
 -- the seals
 abbrev pub make_day_tariffs : List ℕ
@@ -22,7 +26,8 @@ make_day_tariffs = codes "CREATE TABLE day_tariffs (day INTEGER PRIMARY KEY, dig
 -- the tariffs
 abbrev pub make_tariffs : List ℕ
 make_tariffs =
-    codes "CREATE TABLE tariffs (xway INTEGER PRIMARY KEY, crowd INTEGER NOT NULL,\n  speed INTEGER NOT NULL, factor INTEGER NOT NULL) STRICT"
+    codes "CREATE TABLE tariffs (xway INTEGER PRIMARY KEY, crowd INTEGER NOT NULL,\n"
+    ++ codes "  speed INTEGER NOT NULL, factor INTEGER NOT NULL) STRICT"
 
 -- the version
 abbrev pub make_form : List ℕ

@@ -10,7 +10,8 @@ use Rattle.keeper.specs.declared.kept.DayRecord.{DayRecord}
 use Rattle.keeper.specs.declared.kept.PastRecord.{PastRecord}
 use Rattle.keeper.specs.Office.{Office, row_cmp, nothing_kept}
 use Rattle.keeper.specs.Kept.{sealed, old_office}
-use Rattle.kept_tables.specs.Layout.{no_tables, old_tables, all_tables, days, spent, past, day_tariffs, tariffs, form}
+use Rattle.kept_tables.specs.Layout.{no_tables, old_tables, all_tables, days_table, spent_table, past_table}
+use Rattle.kept_tables.specs.Layout.{day_tariffs_table, tariffs_table, form_table}
 use Rattle.kept_tables.specs.Same.{same}
 use Rattle.kept_tables.specs.Codec.{day_row, seal_row, old_row, spent_row, tariff_row, version_row, old_from}
 use Rattle.kept_tables.specs.Codec.{spent_from, past_from, tariff_from, digest_at}
@@ -28,9 +29,9 @@ days_from (r ∷ rs) [] = []
 days_from (r ∷ rs) (s ∷ ss) = sealed (digest_at s 2) (old_from r) ∷ days_from rs ss
 
 -- the history in rows
-abbrev pub past_in : List Row → Option PastRecord
-past_in [] = None
-past_in (r ∷ rs) = Some (past_from r)
+abbrev pub past_record_in : List Row → Option PastRecord
+past_record_in [] = None
+past_record_in (r ∷ rs) = Some (past_from r)
 
 -- the amounts in rows, in order
 abbrev pub amounts_in : List Row → List SpentRow
@@ -43,33 +44,35 @@ are_amounts rows = same_rows (map (drop 1) rows) (map spent_row (map spent_from 
 -- the office that the tables of version 1 hold, if they hold one
 abbrev pub old_in : Database → Office
 old_in db =
-    old_office (map old_from (db.trees days.tree)) (amounts_in (db.trees spent.tree)) (past_in (db.trees past.tree))
+    old_office (map old_from (db.trees days_table.tree)) (amounts_in (db.trees spent_table.tree))
+    (past_record_in (db.trees past_table.tree))
 
 -- the tables of version 1 hold an office
 abbrev pub holds_old : Database → Bool
 holds_old db =
-    same_rows (db.trees days.tree) (map old_row (map old_from (db.trees days.tree)))
-    && (are_amounts (db.trees spent.tree)
-    && (same_rows (db.trees past.tree) (past_rows (past_in (db.trees past.tree)))
+    same_rows (db.trees days_table.tree) (map old_row (map old_from (db.trees days_table.tree)))
+    && (are_amounts (db.trees spent_table.tree)
+    && (same_rows (db.trees past_table.tree) (past_rows (past_record_in (db.trees past_table.tree)))
     && (fits_fields (old_in db) && is_sound (old_in db))))
 
 -- the office that all tables hold, if they hold one
 abbrev pub all_in : Database → Office
 all_in db = record {
-  days = days_from (db.trees days.tree) (db.trees day_tariffs.tree);
-  rows = amounts_in (db.trees spent.tree);
-  past = past_in (db.trees past.tree);
-  tariffs = map tariff_from (db.trees tariffs.tree);
+  days = days_from (db.trees days_table.tree) (db.trees day_tariffs_table.tree);
+  rows = amounts_in (db.trees spent_table.tree);
+  past = past_record_in (db.trees past_table.tree);
+  tariffs = map tariff_from (db.trees tariffs_table.tree);
 }
 
 -- all tables hold one
 abbrev pub holds_all : Database → Bool
 holds_all db =
-    same_rows (db.trees days.tree) (map day_row (all_in db).days) && (are_amounts (db.trees spent.tree)
-    && (same_rows (db.trees past.tree) (past_rows (all_in db).past)
-    && (same_rows (db.trees day_tariffs.tree) (map seal_row (all_in db).days)
-    && (same_rows (db.trees tariffs.tree) (map tariff_row (all_in db).tariffs)
-    && (same_rows (db.trees form.tree) (version_row ∷ []) && (fits_fields (all_in db) && is_sound (all_in db)))))))
+    same_rows (db.trees days_table.tree) (map day_row (all_in db).days) && (are_amounts (db.trees spent_table.tree)
+    && (same_rows (db.trees past_table.tree) (past_rows (all_in db).past)
+    && (same_rows (db.trees day_tariffs_table.tree) (map seal_row (all_in db).days)
+    && (same_rows (db.trees tariffs_table.tree) (map tariff_row (all_in db).tariffs)
+    && (same_rows (db.trees form_table.tree) (version_row ∷ []) &&
+    (fits_fields (all_in db) && is_sound (all_in db)))))))
 
 -- the office that all six tables hold
 unfoldable pub whole_in : Database → Option Office

@@ -7,11 +7,11 @@ use Rattle.std.proofs.lemmas.List.Sums.{sum_by_push}
 use Rattle.std.proofs.lemmas.List.Elements.{AllZip-push}
 use Rattle.std.proofs.lemmas.List.Folds.{list_any-append}
 use Rattle.lane_loops.specs.declared.lane.Lane.{Lane}
-use Rattle.lane_loops.specs.Lanes.{Serves, Ran, RanAll, AnyRose}
+use Rattle.lane_loops.specs.Lanes.{LaneServes, LaneRan, RanAll, AnyRose}
 
 -- a lane accepted at most as many connections as it drew tickets
 few : {N : Type 0} (faults accepted : N → ℕ) (x y : Lane N) (d e : ℕ) →
-    Ran faults accepted x y d e → accepted y.listener ≤ d
+    LaneRan faults accepted x y d e → accepted y.listener ≤ d
 few faults accepted x y d e one =
     ⊎_elim (λ (yes : y.failed ≡ true). omega (arith, one.failed yes))
     (λ (no : y.failed ≡ false). omega (arith, one.served no)) (cases_Bool y.failed)
@@ -31,13 +31,13 @@ apart ys y e =
 
 -- one lane more ran
 ran_push : {N : Type 0} (faults accepted : N → ℕ) (xs ys : List (Lane N)) (x y : Lane N) (a b d e : ℕ) →
-    RanAll faults accepted xs ys a b → Ran faults accepted x y d e →
+    RanAll faults accepted xs ys a b → LaneRan faults accepted x y d e →
     RanAll faults accepted (xs ++ x ∷ []) (ys ++ y ∷ []) (a + d) (b + e)
 ran_push faults accepted xs ys x y a b d e all one =
     let more = sum_by_push (λ lane. accepted lane.listener) ys y in
     let less = few faults accepted x y d e one in
     record {
-      serves = AllZip-push (Serves faults) xs ys x y all.serves one.serves;
+      serves = AllZip-push (LaneServes faults) xs ys x y all.serves one.serves;
       within = omega (arith, more, less, all.within);
       served = λ none. (let (old, new) = apart ys y none in omega (arith, more, all.served old, one.served new));
       over = λ none some. omega (arith, one.over (apart ys y none).1);
@@ -46,13 +46,13 @@ ran_push faults accepted xs ys x y a b d e all one =
 -- the same, of a list and sums that are known to be so
 pub ran_behind : {N : Type 0} (faults accepted : N → ℕ) (xs ys done : List (Lane N)) (x y : Lane N)
     (a b d e drawn ends : ℕ) → done ≡ ys ++ y ∷ [] → drawn ≡ a + d → ends ≡ b + e →
-    RanAll faults accepted xs ys a b → Ran faults accepted x y d e →
+    RanAll faults accepted xs ys a b → LaneRan faults accepted x y d e →
     RanAll faults accepted (xs ++ x ∷ []) done drawn ends
 ran_behind faults accepted xs ys done x y a b d e drawn ends p q r many one =
     rw (p, q, r) (ran_push faults accepted xs ys x y a b d e many one)
 
 -- where a lane failed, the count of its listener rose
-pub any_rose : {N : Type 0} (faults : N → ℕ) (xs ys : List (Lane N)) → AllZip (Serves faults) xs ys →
+pub any_rose : {N : Type 0} (faults : N → ℕ) (xs ys : List (Lane N)) → AllZip (LaneServes faults) xs ys →
     list_any (λ lane. lane.failed) ys ≡ true → AnyRose faults xs ys
 any_rose faults [] [] z e = absurd (false≢true e)
 any_rose faults [] (y ∷ ys) z e = absurd z

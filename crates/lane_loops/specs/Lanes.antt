@@ -7,7 +7,7 @@ use Rattle.lane_loops.specs.declared.lane.Lane.{Lane}
 
 -- a lane served: its listener's faults did not fall, and rose where it failed; its reader is one of its board, and lost
 -- nothing that it saw
-pub record Serves {N : Type 0} (faults : N → ℕ) (old new : Lane N) : Type 0 where
+pub record LaneServes {N : Type 0} (faults : N → ℕ) (old new : Lane N) : Type 0 where
   pub later : faults old.listener ≤ faults new.listener
   pub cause : new.failed ≡ true → Rose (faults old.listener) (faults new.listener)
   pub board : new.reader.board ≡ old.reader.board
@@ -27,15 +27,15 @@ accepted_in_all accepted lanes = sum_by (λ lane. accepted lane.listener) lanes
 
 -- a lane ran: it drew as many tickets as its listener accepted connections, and one more where it failed; where it did
 -- not fail it found none left
-pub record Ran {N : Type 0} (faults accepted : N → ℕ) (old new : Lane N) (drawn ends : ℕ) : Type 0 where
-  pub serves : Serves faults old new
+pub record LaneRan {N : Type 0} (faults accepted : N → ℕ) (old new : Lane N) (drawn ends : ℕ) : Type 0 where
+  pub serves : LaneServes faults old new
   pub served : new.failed ≡ false → accepted new.listener ≡ drawn
   pub over : new.failed ≡ false → 0 < ends
   pub failed : new.failed ≡ true → accepted new.listener + 1 ≡ drawn
 
 -- lanes ran: so many tickets were drawn in all
 pub record RanAll {N : Type 0} (faults accepted : N → ℕ) (old new : List (Lane N)) (drawn ends : ℕ) : Type 0 where
-  pub serves : AllZip (Serves faults) old new
+  pub serves : AllZip (LaneServes faults) old new
   pub within : accepted_in_all accepted new ≤ drawn
   pub served : list_any (λ lane. lane.failed) new ≡ false → accepted_in_all accepted new ≡ drawn
   pub over : list_any (λ lane. lane.failed) new ≡ false → 0 < length new → 0 < ends

@@ -1,6 +1,6 @@
 // The loop of one lane.
 ghost use Rattle.std.specs.Prelude.{◌≡◌, ◌+◌, ◌<◌, ◌-◌, ◌^◌, true, false};
-ghost use Rattle.lane_loops.specs.Lanes.{Serves};
+ghost use Rattle.lane_loops.specs.Lanes.{LaneServes};
 
 use crate::host::Host;
 use crate::lane::Lane;
@@ -17,7 +17,7 @@ impl<N: Listener> Lane<N> {
     fn turn<H: Host>(&mut self, alloc: Global, host: &H) -> bool
         requires room { N.accepted self.old.listener < 2 ^ 64 - 1 }
         requires goes { self.old.failed ≡ false }
-        ensures serves { Serves N.faults self.old self.new }
+        ensures serves { LaneServes N.faults self.old self.new }
         ensures accepts { result ≡ true → N.accepted self.new.listener ≡ N.accepted self.old.listener + 1 }
         ensures refuses { result ≡ false → N.accepted self.new.listener ≡ N.accepted self.old.listener }
         ensures failed { self.new.failed ≡ true → result ≡ false }
@@ -48,7 +48,7 @@ impl<N: Listener> Lane<N> {
         requires drawn { 0 < stub.old.drawn.parts }
         requires ends { 0 < stub.old.ends.parts }
         requires fresh { N.accepted self.old.listener ≡ stub.old.drawn.amount }
-        ensures serves { Serves N.faults self.old self.new }
+        ensures serves { LaneServes N.faults self.old self.new }
         ensures served { self.new.failed ≡ false → N.accepted self.new.listener ≡ stub.new.drawn.amount }
         ensures over { self.new.failed ≡ false → 0 < stub.new.ends.amount }
         ensures failed { self.new.failed ≡ true → N.accepted self.new.listener + 1 ≡ stub.new.drawn.amount }

@@ -1,7 +1,7 @@
 // The loops of all lanes.
 ghost use Rattle.std.specs.Prelude.{◌≡◌, ◌≤◌, ◌<◌, ◌+◌, ◌++◌, ◌∷◌, [], ℕ, length, vec_len, vec_capacity, All};
 ghost use denote.Param.Send.{IsSync, IsSend};
-ghost use Rattle.lane_loops.specs.Lanes.{Ran, RanAll};
+ghost use Rattle.lane_loops.specs.Lanes.{LaneRan, RanAll};
 
 use crate::host::Host;
 use crate::lane::Lane;
@@ -26,7 +26,7 @@ fn run_lane<N: Listener, H: Host, D: Draws, E: Ledger, R: Wait>(
     requires ends { stub.ends.parts ≡ 1 }
     requires unused { stub.drawn.amount ≡ 0 }
     requires fresh { N.accepted lane.listener ≡ 0 }
-    ensures ran { Ran N.faults N.accepted lane result.0 result.1.drawn.amount result.1.ends.amount }
+    ensures ran { LaneRan N.faults N.accepted lane result.0 result.1.drawn.amount result.1.ends.amount }
     ensures drawn { result.1.drawn.parts ≡ 1 }
     ensures ends { result.1.ends.parts ≡ 1 }
 {
@@ -97,7 +97,7 @@ fn run_beside<
         move || -> (Lane<N>, Stub<D, E>)
             requires { (own.drawn.parts ≡ 1) × (own.ends.parts ≡ 1) × (own.drawn.amount ≡ 0)
                 × (N.accepted last.listener ≡ 0) }
-            ensures ran { Ran N.faults N.accepted last result.0 result.1.drawn.amount result.1.ends.amount }
+            ensures ran { LaneRan N.faults N.accepted last result.0 result.1.drawn.amount result.1.ends.amount }
             ensures parts { (result.1.drawn.parts ≡ 1) × (result.1.ends.parts ≡ 1) }
         { run_lane(rt, alloc, host, tickets, last, own) },
         move || -> (Vec<Lane<N>>, Stub<D, E>)

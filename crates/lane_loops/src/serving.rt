@@ -1,7 +1,7 @@
 // Serving a number of connections.
 ghost use Rattle.std.specs.Prelude.{◌≡◌, ◌≤◌, ◌↔◌, true, false, length, vec_len, All};
 ghost use Rattle.std.specs.List.{AllZip, list_any};
-ghost use Rattle.lane_loops.specs.Lanes.{Serves, HasFailedLane, AnyRose, accepted_in_all};
+ghost use Rattle.lane_loops.specs.Lanes.{LaneServes, HasFailedLane, AnyRose, accepted_in_all};
 ghost use Rattle.lane_loops.specs.declared.serve_end.ServeEnd.TheVariants.{Served, ListenFault};
 
 use crate::host::Host;
@@ -41,7 +41,7 @@ fn run_over<
     requires tickets { sessions ≡ D.tickets }
     requires some { 1 ≤ vec_len lanes }
     requires fresh { All (λ lane. N.accepted lane.listener ≡ 0) lanes.items }
-    ensures lanes { AllZip (Serves N.faults) lanes.items result.items }
+    ensures lanes { AllZip (LaneServes N.faults) lanes.items result.items }
     ensures within { accepted_in_all N.accepted result.items ≤ sessions }
     ensures served { list_any (λ lane. lane.failed) result.items ≡ false
         → accepted_in_all N.accepted result.items ≡ sessions }
@@ -83,7 +83,7 @@ pub fn serve<N: Listener + Drop + Send, H: Host + Sync, R: Threads + Wait + Sync
     requires some { 1 ≤ length lanes.old }
     requires few { length lanes.old ≤ 64 }
     requires fresh { All (λ lane. N.accepted lane.listener ≡ 0) lanes.old }
-    ensures lanes { AllZip (Serves N.faults) lanes.old lanes.new }
+    ensures lanes { AllZip (LaneServes N.faults) lanes.old lanes.new }
     ensures end { (result ≡ ListenFault) ↔ HasFailedLane lanes.new }
     ensures cause { result ≡ ListenFault → AnyRose N.faults lanes.old lanes.new }
     ensures served { result ≡ Served → accepted_in_all N.accepted lanes.new ≡ sessions }

@@ -13,7 +13,7 @@ use Rattle.accounts.specs.Shown.{shown_with, shown_by, shown_after}
 use Rattle.accounts.proofs.ShownLaws.{shown_few}
 use Rattle.live_board.specs.declared.page.Page.{Page}
 use Rattle.live_board.specs.declared.page.Post.{Post}
-use Rattle.live_board.specs.Totals.{Shows, nothing}
+use Rattle.live_board.specs.Totals.{Shows, no_totals}
 use Rattle.live_board.specs.Changes.{page_with, operations_of}
 use Rattle.live_board.specs.InOrder.{Good, FitsPage, Kept, LooksAtPage, Meets}
 use Rattle.live_board.proofs.ShowLaws.{shows_posts, shows_nothing}
@@ -42,7 +42,7 @@ adds x views f kept fit = record {
 }
 
 -- a page of nothing is good
-good_nothing : (p : Page) → p.shown ≡ nothing → p.front.log ≡ [] → Good p
+good_nothing : (p : Page) → p.shown ≡ no_totals → p.front.log ≡ [] → Good p
 good_nothing p shown none = record {
   shows = subst (λ ops. Shows p.shown (shown_by ops)) (sym none)
       (subst (λ t. Shows t (shown_by [])) (sym shown) shows_nothing);
@@ -51,7 +51,7 @@ good_nothing p shown none = record {
 }
 
 -- a board opens with its writer
-pub opens : (p : Page) → p.shown ≡ nothing → p.front.log ≡ [] → Kept p (None ∷ [])
+pub opens : (p : Page) → p.shown ≡ no_totals → p.front.log ≡ [] → Kept p (None ∷ [])
 opens p shown none = record { good = good_nothing p shown none; each = at_first }
   where
     at_first : (j : ℕ) (u : Option Book) → get_elem? (None ∷ []) j ≡ some u → FitsPage p u

@@ -20,15 +20,16 @@ use Rattle.accounts.specs.Shown.{shown_with, shown_by, board_on}
 use Rattle.live_board.specs.declared.live.Live.{Live}
 use Rattle.live_board.specs.declared.change.Change.{Change}
 use Rattle.live_board.specs.declared.change.Change.TheVariants.{Begins, Charges}
-use Rattle.live_board.specs.Totals.{Totals, Shows, nothing, added, sum_in, with_charged, with_charges, whole_with}
+use Rattle.live_board.specs.Totals.{Totals, Shows, no_totals, added, owed_in, with_charged, with_charges, whole_with}
 use Rattle.live_board.specs.declared.page.Page.{Page}
 use Rattle.live_board.specs.declared.page.Post.{Post}
 use Rattle.live_board.specs.declared.page.Post.TheVariants.{Changed, Reached}
 use Rattle.live_board.specs.Changes.{operation_of, operations_of, totals_at, totals_with, page_with}
 use Rattle.live_board.specs.Passes.{balance_on, total_on}
+use Rattle.live_board.proofs.AnswerLaws.{live_made}
 
 -- no map has a sum
-sum_none : (vid : ℕ) → sum_in empty vid ≡ 0
+sum_none : (vid : ℕ) → owed_in empty vid ≡ 0
 sum_none vid = ap (λ o. unwrap_or o 0) (get-empty nat_cmp vid)
 
 -- a sum of all charges with one more
@@ -54,18 +55,19 @@ added_is n s toll e = ap (λ k. (k + toll) % 2 ^ 64) e ∙ mod-add-mod s (2 ^ 64
 
 -- each sum stays its account, in 64 bits, with one charge more
 each_step : (sums : FinMap nat_cmp ℕ) (bs : List ChargedToll) (c : Charged) →
-    ((v : ℕ) → sum_in sums v ≡ sum_of (charges_to v bs) % 2 ^ 64) →
-    (v : ℕ) → sum_in (with_charged sums c) v ≡ sum_of (charges_to v (bs ++ charge_of c ∷ [])) % 2 ^ 64
+    ((v : ℕ) → owed_in sums v ≡ sum_of (charges_to v bs) % 2 ^ 64) →
+    (v : ℕ) → owed_in (with_charged sums c) v ≡ sum_of (charges_to v (bs ++ charge_of c ∷ [])) % 2 ^ 64
 each_step sums bs c h v =
-    let n : ℕ = added (sum_in sums c.vid) c.toll in
+    let n : ℕ = added (owed_in sums c.vid) c.toll in
     ap (λ o. unwrap_or o 0) (get-insert nat_cmp_total sums c.vid n v)
     ∙ (ap (λ b. unwrap_or (cond b (Some n) (get sums v)) 0) (unsigned_tied v c.vid ∙ nat_eq_equiv.symm v c.vid)
     ∙ (pick (c.vid == v) refl ∙ ap (λ k. k % 2 ^ 64) (sym (account_more v bs (charge_of c)))))
   where
-    pick : (b : Bool) → c.vid == v ≡ b → unwrap_or (cond b (Some (added (sum_in sums c.vid) c.toll)) (get sums v)) 0
+    pick : (b : Bool) → c.vid == v ≡ b → unwrap_or (cond b (Some (added (owed_in sums c.vid) c.toll)) (get sums v)) 0
         ≡ (sum_of (charges_to v bs) + cond b c.toll 0) % 2 ^ 64
     pick true e =
-        added_is (sum_in sums c.vid) (sum_of (charges_to v bs)) c.toll (ap (sum_in sums) (eqb-true c.vid v e) ∙ h v)
+        added_is (owed_in sums c.vid) (sum_of (charges_to v bs)) c.toll
+        (ap (owed_in sums) (eqb-true c.vid v e) ∙ h v)
     pick false e = h v ∙ ap (λ k. k % 2 ^ 64) (add-zero (sum_of (charges_to v bs)))
       where
         add-zero : (k : ℕ) → k ≡ k + 0
@@ -73,8 +75,8 @@ each_step sums bs c h v =
 
 -- and with some charges more
 each_with : (cs : List Charged) (sums : FinMap nat_cmp ℕ) (bs : List ChargedToll) →
-    ((v : ℕ) → sum_in sums v ≡ sum_of (charges_to v bs) % 2 ^ 64) →
-    (v : ℕ) → sum_in (with_charges sums cs) v ≡ sum_of (charges_to v (bs ++ map charge_of cs)) % 2 ^ 64
+    ((v : ℕ) → owed_in sums v ≡ sum_of (charges_to v bs) % 2 ^ 64) →
+    (v : ℕ) → owed_in (with_charges sums cs) v ≡ sum_of (charges_to v (bs ++ map charge_of cs)) % 2 ^ 64
 each_with [] sums bs h v = h v ∙ ap (λ xs. sum_of (charges_to v xs) % 2 ^ 64) (sym (append-nil bs))
 each_with (c ∷ cs) sums bs h v =
     each_with cs (with_charged sums c) (bs ++ charge_of c ∷ []) (each_step sums bs c h) v
@@ -115,7 +117,7 @@ shows_posts (Changed c ∷ ps) p s h =
 shows_posts (Reached f ∷ ps) p s h = shows_posts ps (page_with p (Reached f)) s h
 
 -- totals of nothing show that nothing was published
-pub shows_nothing : Shows nothing (shown_by [])
+pub shows_nothing : Shows no_totals (shown_by [])
 shows_nothing = record { begun = refl; number = refl; mark = refl; each = sum_none; whole = refl }
 
 -- an account is a part of what all vehicles owe
@@ -132,7 +134,7 @@ small n m few fits = omega (arith, few, fits)
 
 -- where all that is owed is below 2^63, the totals have each account
 pub account_is : (t : Totals) (s : Option BoardState) (vid : ℕ) → Shows t s → all_accounts (board_on s) < 2 ^ 63 →
-    sum_in t.sums vid ≡ account (board_on s) vid
+    owed_in t.sums vid ≡ account (board_on s) vid
 account_is t s vid h fits =
     h.each vid ∙ small (account (board_on s) vid) (all_accounts (board_on s)) (account_few (board_on s) vid) fits
 
@@ -142,14 +144,10 @@ pub all_is : (t : Totals) (s : Option BoardState) → Shows t s → all_accounts
 all_is t s h fits =
     h.whole ∙ small (all_accounts (board_on s)) (all_accounts (board_on s)) (le_refl (all_accounts (board_on s))) fits
 
--- two answers with the same parts
-live_made : {a a' b b' n n' : ℕ} → a ≡ a' → b ≡ b' → n ≡ n' →
-    ◌≡◌ {A = Live} (record { day = a; as_of = b; amount = n }) (record { day = a'; as_of = b'; amount = n' })
-live_made p q r = cc
-
 -- the totals answer what the board has
 pub balance_is : (t : Totals) (s : Option BoardState) (vid : ℕ) → Shows t s → all_accounts (board_on s) < 2 ^ 63 →
-    ◌≡◌ {A = Live} (record { day = t.number; as_of = t.mark; amount = sum_in t.sums vid }) (balance_on (board_on s) vid)
+    ◌≡◌ {A = Live} (record { day = t.number; as_of = t.mark; amount = owed_in t.sums vid })
+    (balance_on (board_on s) vid)
 balance_is t s vid h fits = live_made h.number h.mark (account_is t s vid h fits)
 
 -- and what all vehicles owe on it

@@ -7,7 +7,7 @@ use Rattle.std.specs.Cmp.{nat_cmp_total, unsigned_tied, nat_eq_equiv}
 use Rattle.std.specs.FinMap.{FinMap, get, insert, find, from_entries, nat_cmp-IsAntisymmetric, same_map, get-insert}
 use Rattle.std.specs.FinMap.{get-from_entries}
 use Rattle.accounts.specs.declared.publisher.Charged.{Charged}
-use Rattle.live_board.specs.Totals.{Totals, added, sum_at, sum_in, with_charged}
+use Rattle.live_board.specs.Totals.{Totals, added, entry_sum, owed_in, with_charged}
 
 -- the map finds in entries what a look-up finds
 find_sum : (es : List (ℕ × ℕ)) (q : ℕ) → find nat_cmp q es ≡ lookup (nat_eq q) es
@@ -37,19 +37,18 @@ sums_after es fs vid n h =
     ∙ sym (get-insert nat_cmp_total (from_entries es) vid n q)))))
 
 -- a sum of entries is that of the map
-pub sum_is : (es : List (ℕ × ℕ)) (vid : ℕ) → sum_at es vid ≡ sum_in (from_entries es) vid
+pub sum_is : (es : List (ℕ × ℕ)) (vid : ℕ) → entry_sum es vid ≡ owed_in (from_entries es) vid
 sum_is es vid = ap (λ o. unwrap_or o 0) (sym (get_sum es vid))
 
 -- entries with a charge more are the map with a charge more
 pub charged_is : (es fs : List (ℕ × ℕ)) (c : Charged) →
-    ((v : ℕ) → lookup (nat_eq v) fs ≡ cond (nat_eq c.vid v) (Some (added (sum_at es c.vid) c.toll))
+    ((v : ℕ) → lookup (nat_eq v) fs ≡ cond (nat_eq c.vid v) (Some (added (entry_sum es c.vid) c.toll))
     (lookup (nat_eq v) es)) → from_entries {R = nat_cmp} fs ≡ with_charged (from_entries es) c
 charged_is es fs c h = sums_after es fs c.vid _ h
     ∙ ap (λ n. insert (from_entries es) c.vid (added n c.toll)) (sum_is es c.vid)
 
 -- two totals with the same parts
 pub totals_made : {d d' : Bool} {a a' b b' : ℕ} {s s' : FinMap nat_cmp ℕ} {w w' : ℕ} → d ≡ d' → a ≡ a' → b ≡ b' →
-    s ≡ s' → w ≡ w' →
-    ◌≡◌ {A = Totals} (record { begun = d; number = a; mark = b; sums = s; whole = w })
+    s ≡ s' → w ≡ w' → ◌≡◌ {A = Totals} (record { begun = d; number = a; mark = b; sums = s; whole = w })
     (record { begun = d'; number = a'; mark = b'; sums = s'; whole = w' })
 totals_made o p q r t = cc

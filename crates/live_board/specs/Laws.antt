@@ -12,11 +12,9 @@ use Rattle.live_board.specs.Passes.{StartsWith, balance_on, total_on}
 abbrev pub AnswersLaw : Type 0
 AnswersLaw =
     (day : List Tuple) (tariffs : Tariffs) (number : ℕ) (earlier steps seen : List Operation) →
-    AreSteps day tariffs 0 steps →
-    StartsWith (earlier ++ Begin number ∷ steps) seen → length earlier < length seen →
+    AreSteps day tariffs 0 steps → StartsWith (earlier ++ Begin number ∷ steps) seen → length earlier < length seen →
     ((shown_after seen).mark ≤ length day)
-    × ((vid : ℕ) →
-    balance_on (shown_after seen) vid ≡ record {
+    × ((vid : ℕ) → balance_on (shown_after seen) vid ≡ record {
       day = number;
       as_of = (shown_after seen).mark;
       amount =

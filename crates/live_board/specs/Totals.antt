@@ -27,24 +27,24 @@ totals_code =
     (λ p. record { begun = p.0; number = p.1.0; mark = p.1.1.0; sums = p.1.1.1.0; whole = p.1.1.1.1 }) (λ _. refl)
 
 -- nothing was charged
-abbrev pub nothing : Totals
-nothing = record { begun = false; number = 0; mark = 0; sums = empty; whole = 0 }
+abbrev pub no_totals : Totals
+no_totals = record { begun = false; number = 0; mark = 0; sums = empty; whole = 0 }
 
 -- a sum with a toll more, in 64 bits
 abbrev pub added : ℕ → ℕ → ℕ
 added n toll = (n + toll) % 2 ^ 64
 
 -- a vehicle's sum in a list of entries, 0 for none
-abbrev pub sum_at : List (ℕ × ℕ) → ℕ → ℕ
-sum_at es vid = unwrap_or (lookup (nat_eq vid) es) 0
+abbrev pub entry_sum : List (ℕ × ℕ) → ℕ → ℕ
+entry_sum es vid = unwrap_or (lookup (nat_eq vid) es) 0
 
 -- a vehicle's sum, 0 for none
-abbrev pub sum_in : FinMap nat_cmp ℕ → ℕ → ℕ
-sum_in sums vid = unwrap_or (get sums vid) 0
+abbrev pub owed_in : FinMap nat_cmp ℕ → ℕ → ℕ
+owed_in sums vid = unwrap_or (get sums vid) 0
 
 -- sums with a charge more
 abbrev pub with_charged : FinMap nat_cmp ℕ → Charged → FinMap nat_cmp ℕ
-with_charged sums c = insert sums c.vid (added (sum_in sums c.vid) c.toll)
+with_charged sums c = insert sums c.vid (added (owed_in sums c.vid) c.toll)
 
 -- and with some charges more
 abbrev pub with_charges : FinMap nat_cmp ℕ → List Charged → FinMap nat_cmp ℕ
@@ -59,5 +59,5 @@ pub record Shows (t : Totals) (s : Option BoardState) : Type 0 where
   pub begun : t.begun ≡ is_some s
   pub number : t.number ≡ (board_on s).number
   pub mark : t.mark ≡ (board_on s).mark
-  pub each : (vid : ℕ) → sum_in t.sums vid ≡ account (board_on s) vid % 2 ^ 64
+  pub each : (vid : ℕ) → owed_in t.sums vid ≡ account (board_on s) vid % 2 ^ 64
   pub whole : t.whole ≡ all_accounts (board_on s) % 2 ^ 64

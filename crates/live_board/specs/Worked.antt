@@ -6,8 +6,8 @@ abbrev pub one_toll : List Operation
 one_toll = Begin 100 ∷ Step (record { vid = 100; xway = 0; toll = 2 } ∷ []) 54 ∷ []
 
 -- then day 101 began
-abbrev pub with_toll : List Operation
-with_toll = Begin 100 ∷ Step (record { vid = 100; xway = 0; toll = 2 } ∷ []) 54 ∷ Begin 101 ∷ []
+abbrev pub with_earlier_toll : List Operation
+with_earlier_toll = Begin 100 ∷ Step (record { vid = 100; xway = 0; toll = 2 } ∷ []) 54 ∷ Begin 101 ∷ []
 
 -- day 101 began after day 100, on which nothing was charged
 abbrev pub without_toll : List Operation

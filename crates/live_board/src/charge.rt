@@ -2,7 +2,7 @@
 ghost use Rattle.std.specs.Prelude.{◌≡◌, ℕ, ◌+◌, ◌<◌, ◌≤◌, nat_eq, Some, if◌then◌else◌};
 ghost use Rattle.std.specs.Map.{lookup};
 ghost use Rattle.std.specs.HashMap.{spare};
-ghost use Rattle.live_board.specs.Totals.{added, sum_at};
+ghost use Rattle.live_board.specs.Totals.{added, entry_sum};
 
 use accounts::Charged;
 use std::collections::HashMap;
@@ -14,7 +14,7 @@ pub fn charge(sums: &mut HashMap<u32, u64>, charged: &Charged)
     requires { 0 < spare sums.old }
     ensures added { (v : ℕ) → lookup (nat_eq v) sums.new.entries ≡
         (if nat_eq charged.now.vid v then Some
-        (added (sum_at sums.old.entries charged.now.vid) charged.now.toll) else lookup (nat_eq v) sums.old.entries) }
+        (added (entry_sum sums.old.entries charged.now.vid) charged.now.toll) else lookup (nat_eq v) sums.old.entries) }
     ensures room { spare sums.old ≤ spare sums.new + 1 }
 {
     match sums.get_mut(&charged.vid) {

@@ -2,7 +2,7 @@
 ghost use Rattle.std.specs.Prelude.{◌≡◌, ◌≤◌, length, MatchResult};
 ghost use Rattle.std.specs.HashMap.{spare};
 ghost use Rattle.std.specs.FinMap.{from_entries};
-ghost use Rattle.live_board.specs.Totals.{nothing, sum_in, with_charges, whole_with};
+ghost use Rattle.live_board.specs.Totals.{no_totals, owed_in, with_charges, whole_with};
 ghost use Rattle.live_board.specs.Changes.{totals_with};
 
 use crate::change::Change;
@@ -43,7 +43,7 @@ impl Model for Shown {
 impl Shown {
     /// Nothing was charged. It takes no memory.
     pub fn new(alloc: Global) -> Self
-        ensures { result ≡ nothing }
+        ensures { result ≡ no_totals }
     {
         Shown {
             begun: false,
@@ -56,7 +56,7 @@ impl Shown {
 
     /// A vehicle's sum.
     pub fn balance(&self, vid: u32) -> Live
-        ensures { result ≡ record { day = self.now.number; as_of = self.now.mark; amount = sum_in self.now.sums vid } }
+        ensures { result ≡ record { day = self.now.number; as_of = self.now.mark; amount = owed_in self.now.sums vid } }
     {
         let amount = match self.sums.get(&vid) {
             Some(sum) => *sum,

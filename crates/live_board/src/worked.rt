@@ -1,7 +1,7 @@
 //! Calls of a board, as its callers make them.
 ghost use Rattle.std.specs.Prelude.{◌≡◌, ◌⊎◌, IfOk, IfSome, IsTrue};
 ghost use Rattle.live_board.specs.Passes.{unposted, StartsWith};
-ghost use Rattle.live_board.specs.Worked.{one_toll, with_toll, without_toll};
+ghost use Rattle.live_board.specs.Worked.{one_toll, with_earlier_toll, without_toll};
 
 use crate::live::Live;
 use crate::reader::BoardReader;
@@ -95,8 +95,8 @@ pub fn a_charge_that_may_be_refused<R: Wait + Drop>(
 ) -> Result<(bool, Option<Live>, Option<Live>), NoMemory>
     requires new { writer.old.posted ≡ unposted }
     requires one { reader.old.board ≡ writer.old.board }
-    ensures published { IfOk result (λ answers. IsTrue answers.0 → writer.new.posted.published ≡ with_toll) }
-    ensures either { IfOk result (λ _. (writer.new.posted.published ≡ with_toll)
+    ensures published { IfOk result (λ answers. IsTrue answers.0 → writer.new.posted.published ≡ with_earlier_toll) }
+    ensures either { IfOk result (λ _. (writer.new.posted.published ≡ with_earlier_toll)
         ⊎ (writer.new.posted.published ≡ without_toll)) }
 {
     writer.begin(100)?;

@@ -12,7 +12,7 @@ use Rattle.road_io.specs.declared.cutter.LineFault.TheVariants.{LongLine}
 use Rattle.office_commands.specs.declared.entry_text.EntryText.TheVariants.{Nothing, Malformed, Read}
 use Rattle.office_commands.specs.declared.closing.Closing.TheVariants.{DiffersLine}
 use Rattle.office_commands.specs.declared.closing.Closing.{Closing}
-use Rattle.office_commands.specs.Asides.{is_short, is_marked, entries_of, entry_of, compared, compared_from}
+use Rattle.office_commands.specs.Asides.{is_short, begins_with_hash, entries_of, entry_of, compared, compared_from}
 use Rattle.office_commands.specs.Entries.{entered, GoesOn, PartsAt}
 
 -- a line of at most 200 bytes is short
@@ -27,8 +27,13 @@ long line h = lt-leb (length line) 200 h
 pub long_entry : (lines : List (List ℕ)) → FirstHas 201 lines → (first : List ℕ) × (rest : List (List ℕ))
     × (200 < length first) × (entries_of lines ≡ first ∷ rest)
 long_entry [] h = absurd h
-long_entry (l ∷ ls) h =
-    (l, entries_of ls, omega (arith, h), cond-false _ _ _ (ap (λ b. b && is_marked l) (long l (omega (arith, h)))))
+long_entry (l ∷ ls) h = (
+  l,
+  entries_of ls,
+  omega (arith, h),
+  cond-false _ _ _ (ap (λ b. b && begins_with_hash l)
+      (long l (omega (arith, h)))),
+)
 
 -- a long line was met: it comes first
 pub first_long : (before after : Option (List ℕ)) (line bytes : List ℕ) (n : ℕ) →

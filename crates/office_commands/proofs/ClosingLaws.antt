@@ -10,8 +10,7 @@ use Rattle.office_commands.specs.declared.closing.Closing.TheVariants.{Words, Re
 use Rattle.office_commands.specs.Closings.{status_of}
 use Rattle.office_commands.specs.Commands.{Answer}
 use Rattle.office_commands.specs.Endings.{Sort, Own, Unread, Unkept, Unroomed, sort_of, IsTextFront, StandsBy}
-use Rattle.office_commands.specs.Endings.{StandsBefore}
-use Rattle.office_commands.specs.Endings.{Wrote, stopping, refusing}
+use Rattle.office_commands.specs.Endings.{StandsBefore, Wrote, stopping, refusing}
 use Rattle.keeper.specs.declared.kept.KeepFault.TheVariants as keeping
 use Rattle.day_reading.specs.declared.whole_day.ReadStop.TheVariants as stops
 

@@ -8,8 +8,7 @@ use Rattle.road_time.specs.Lines.{lines_of}
 use Rattle.road_time.specs.Reads.{reads}
 use Rattle.office_words.specs.declared.command.Comparison.{Comparison}
 use Rattle.office_commands.specs.Commands.{comparison_of, compared_tuples, compare_command, accidents_of}
-use Rattle.office_commands.specs.Commands.{unless_refused}
-use Rattle.office_commands.specs.Commands.{accidents_command}
+use Rattle.office_commands.specs.Commands.{unless_refused, accidents_command}
 use Rattle.office_commands.specs.Days.{recomputed, refusal_of}
 use Rattle.office_words.specs.declared.command.Recomputing.TheVariants.{Plainly}
 

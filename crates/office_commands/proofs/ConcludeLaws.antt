@@ -16,8 +16,7 @@ use Rattle.office_commands.proofs.KeepingLaws.{unchanged}
 use Rattle.office_commands.proofs.ClosingLaws.{IsOf, is_of}
 use Rattle.office_commands.specs.Endings.{Sort, Own, Unread, Unkept, Unroomed, sort_of, StandsBy, StandsBefore, Wrote}
 use Rattle.office_commands.specs.Endings.{LeftBy, KeepsBy, Keeps, Closes, Halted, HoldsBy, Did, SaysLine, Concludes}
-use Rattle.office_commands.specs.Endings.{HoldsSame}
-use Rattle.office_commands.specs.Endings.{status_by}
+use Rattle.office_commands.specs.Endings.{HoldsSame, status_by}
 
 module _ (w : WhenRefused) (a : Answer) (was : Office) (old mid : Option (List ℕ)) (now : Option Office) where
   -- by the sort of the closing line

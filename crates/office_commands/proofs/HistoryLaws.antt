@@ -66,8 +66,7 @@ again_apart : (k : PastRecord) (base : ℕ) (bytes : List ℕ) (done : PastOutco
     IsNew done → ⊥
 again_apart k base bytes done e new = go (k.base == base) (bytes_eq (found_digest bytes k.bytes).bytes k.digest.bytes) e
   where
-    go : (b s : Bool) →
-        done ≡ (if b then (if s then Already k else Differs k.digest (found_digest bytes k.bytes)) else
+    go : (b s : Bool) → done ≡ (if b then (if s then Already k else Differs k.digest (found_digest bytes k.bytes)) else
         OtherBase k.base) → ⊥
     go true true is = subst IsNew is new
     go true false is = subst IsNew is new

@@ -10,8 +10,7 @@ use Rattle.office_commands.specs.declared.closing.Closing.TheVariants.{NoMemory}
 use Rattle.office_commands.specs.Closings.{status_of}
 use Rattle.office_commands.specs.Commands.{Answer}
 use Rattle.office_commands.specs.Endings.{Sort, Own, Unread, Unkept, Unroomed, sort_of, LeftBy, KeepsBy, Keeps}
-use Rattle.office_commands.specs.Endings.{IsOldOrWhole}
-use Rattle.office_commands.specs.Endings.{Closes, refusing}
+use Rattle.office_commands.specs.Endings.{IsOldOrWhole, Closes, refusing}
 use Rattle.office_commands.proofs.ClosingLaws.{IsOf, is_of}
 use Rattle.keeper.specs.declared.kept.KeepFault.TheVariants as keeping
 

@@ -37,8 +37,7 @@ module _ (w : WhenRefused) (number : ℕ) (a : day.DayAnswer) (was : Office) (ol
 
   -- the text of a call that stored, answered, or said why not, and of one that was stopped
   pub wrote : (done : Outcome) (r : Result (Option Closing) Failed) → EndsCommand (closing_by number done) r →
-      DoesIt done →
-      WroteIt r
+      DoesIt done → WroteIt r
   wrote ReadFault (Ok c) e h = subst (λ x. WroteIt (Ok x)) (sym e) (take h.0.0 a.text, (h.0.0, refl), h.0.1)
   wrote KeeperFault (Ok c) e (inl h) = subst (λ x. WroteIt (Ok x)) (sym e) (take h.0.0 a.text, (h.0.0, refl), h.0.1)
   wrote KeeperFault (Ok c) e (inr h) = subst (λ x. WroteIt (Ok x)) (sym e) (a.text, whole_front a.text a.text refl, h.0)
@@ -52,8 +51,7 @@ module _ (w : WhenRefused) (number : ℕ) (a : day.DayAnswer) (was : Office) (ol
 
   -- and what is kept after it
   pub keeps : (done : Outcome) (r : Result (Option Closing) Failed) → EndsCommand (closing_by number done) r →
-      DoesIt done →
-      KeepsIt r
+      DoesIt done → KeepsIt r
   keeps (Stored kept) (Ok c) e h = subst (λ x. KeepsIt (Ok x)) (sym e) h.kept
   keeps (Already kept) (Ok c) e h = subst (λ x. KeepsIt (Ok x)) (sym e) h.kept
   keeps (Answered kept) (Ok c) e h = subst (λ x. KeepsIt (Ok x)) (sym e) h.kept

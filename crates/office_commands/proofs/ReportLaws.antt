@@ -7,7 +7,7 @@ use Rattle.reports.specs.declared.report_fault.ReportFault.TheVariants as report
 use Rattle.reports.specs.Endings.{Reported}
 use Rattle.reports.specs.Endings as report
 use Rattle.office_commands.specs.declared.closing.Closing.{Closing}
-use Rattle.office_commands.specs.Commands.{report_command, told}
+use Rattle.office_commands.specs.Commands.{report_command, text_alone}
 use Rattle.office_commands.specs.Endings.{Wrote, EndsReport}
 
 -- a report changes nothing
@@ -20,14 +20,14 @@ module _ (number : ℕ) (o : Office) (old new : Option (List ℕ)) where
   pub reported : (text : Option (List ℕ)) (done : Result (Unit {0}) ReportFault) (r : Result (Option Closing) Failed) →
       EndsReport number done r → Reported done old new text → Wrote (report_command number text o) r old new
   reported None (Ok u) r e h = absurd h
-  reported (Some t) (Ok u) (Ok c) e h = subst (λ x. Wrote (told t o) (Ok x) old new) (sym e) (refl, h)
+  reported (Some t) (Ok u) (Ok c) e h = subst (λ x. Wrote (text_alone t o) (Ok x) old new) (sym e) (refl, h)
   reported None (Err reports.NoDay) (Ok c) e h =
       subst (λ x. Wrote (report_command number None o) (Ok x) old new) (sym e) ([], (refl, refl), h)
   reported (Some t) (Err reports.NoDay) r e h = absurd h
   reported None (Err reports.KeeperFault) (Ok c) e h =
       subst (λ x. Wrote (report_command number None o) (Ok x) old new) (sym e) ([], (0, refl), h)
   reported (Some t) (Err reports.KeeperFault) (Ok c) e h =
-      subst (λ x. Wrote (told t o) (Ok x) old new) (sym e) (take h.0 t, (h.0, refl), h.1)
+      subst (λ x. Wrote (text_alone t o) (Ok x) old new) (sym e) (take h.0 t, (h.0, refl), h.1)
   reported None (Err reports.WriteFault) (Ok c) e h = absurd e
   reported (Some t) (Err reports.WriteFault) (Ok c) e h = absurd e
   reported None (Err reports.WriteFault) (Err x) e h = ([], (0, refl), h)
@@ -35,20 +35,20 @@ module _ (number : ℕ) (o : Office) (old new : Option (List ℕ)) where
   reported None (Err reports.NoMemory) (Ok c) e h =
       subst (λ x. Wrote (report_command number None o) (Ok x) old new) (sym e) ([], (0, refl), h)
   reported (Some t) (Err reports.NoMemory) (Ok c) e h =
-      subst (λ x. Wrote (told t o) (Ok x) old new) (sym e) (take h.0 t, (h.0, refl), h.1)
+      subst (λ x. Wrote (text_alone t o) (Ok x) old new) (sym e) (take h.0 t, (h.0, refl), h.1)
   reported (Some t) _ (Err x) e h = absurd e
   reported None _ (Err x) e h = absurd e
 
   -- a report that there always is
   pub stated : (text : List ℕ) (done : Result (Unit {0}) ReportFault) (r : Result (Option Closing) Failed) →
       EndsReport number done r → done ≢ Err reports.NoDay → report.WroteText done old new text →
-      Wrote (told text o) r old new
-  stated t (Ok u) (Ok c) e own h = subst (λ x. Wrote (told t o) (Ok x) old new) (sym e) (refl, h)
+      Wrote (text_alone text o) r old new
+  stated t (Ok u) (Ok c) e own h = subst (λ x. Wrote (text_alone t o) (Ok x) old new) (sym e) (refl, h)
   stated t (Err reports.NoDay) r e own h = absurd (own refl)
   stated t (Err reports.KeeperFault) (Ok c) e own h =
-      subst (λ x. Wrote (told t o) (Ok x) old new) (sym e) (take h.0 t, (h.0, refl), h.1)
+      subst (λ x. Wrote (text_alone t o) (Ok x) old new) (sym e) (take h.0 t, (h.0, refl), h.1)
   stated t (Err reports.WriteFault) (Ok c) e own h = absurd e
   stated t (Err reports.WriteFault) (Err x) e own h = (take h.0 t, (h.0, refl), h.1)
   stated t (Err reports.NoMemory) (Ok c) e own h =
-      subst (λ x. Wrote (told t o) (Ok x) old new) (sym e) (take h.0 t, (h.0, refl), h.1)
+      subst (λ x. Wrote (text_alone t o) (Ok x) old new) (sym e) (take h.0 t, (h.0, refl), h.1)
   stated t _ (Err x) e own h = absurd e

@@ -27,7 +27,7 @@ use Rattle.office_commands.specs.Commands.{closing_by}
 use Rattle.office_commands.specs.Days.{refused_at}
 use Rattle.office_commands.specs.Endings.{EndsCommand, code_of, stopping, refusing}
 use Rattle.office_commands.specs.Entries.{IsComparison}
-use Rattle.office_commands.specs.Rests.{HasStopped, HasEnded, HasReadTo, EndsAt, SaysBy, LeavesOfDay}
+use Rattle.office_commands.specs.Rests.{HasStoppedReading, HasEnded, HasReadTo, EndsAt, SaysBy, LeavesOfDay}
 use Rattle.office_commands.proofs.OutcomeLaws.{code_is, neither}
 use Rattle.keeper.specs.declared.kept.KeepFault.TheVariants as keeping
 use Rattle.day_reading.specs.declared.whole_day.DayEnd.TheVariants as day_end
@@ -121,7 +121,7 @@ module _ (refused : Option (ℕ × Fault)) (bytes : List ℕ) (left : Option (Li
   -- a day that was to be kept, and a line of which was refused
   pub imported_to : (number : ℕ) (done : Outcome) (r : Result (Option Closing) Failed) →
       EndsCommand (closing_by number done) r
-      → LeavesRead done refused bytes left → code_of r ≡ 2 → HasStopped refused bytes left
+      → LeavesRead done refused bytes left → code_of r ≡ 2 → HasStoppedReading refused bytes left
   imported_to number (Refused line cause) (Ok c) e l s = (line, l.0.0, l.0.1, l.1)
   imported_to number WriteFault (Ok c) e l s = absurd e
   imported_to number done (Err x) e l s = absurd (omega (arith, s))

@@ -121,8 +121,7 @@ rest_other limits _ code o bytes left well named = tt
 
 -- after a read fault nothing was put, and what is not put is as it was
 pub unread_same : (changes : Bool) (code : ℕ) (P : Type 0) → (changes ≡ true → HoldsSame code P) →
-    (changes ≡ false → P) →
-    code ≡ 4 → P
+    (changes ≡ false → P) → code ≡ 4 → P
 unread_same true code P held same s =
     held refl (λ e. omega (arith, s, e)) (λ e. omega (arith, s, e)) (λ e. omega (arith, s, e))
 unread_same false code P held same s = same refl

@@ -24,26 +24,26 @@ use Rattle.traffic_gen.specs.declared.plan.GenPlan.{GenPlan}
 use Rattle.traffic_gen.specs.declared.plan.GenFault.{GenFault}
 use Rattle.traffic_gen.specs.declared.plan.GenFault.TheVariants as traffic
 use Rattle.traffic_gen.specs.Endings as generation
-use Rattle.traffic_gen.specs.Plans.{first_out}
+use Rattle.traffic_gen.specs.Plans.{field_out}
 use Rattle.traffic_gen.specs.Traffic.{file_of}
 use Rattle.traffic_gen.proofs.FileLaws.{accepted}
 use Rattle.traffic_gen.proofs.RangeLaws.{in_range}
 use Rattle.office_commands.specs.declared.closing.Closing.{Closing}
-use Rattle.office_commands.specs.Commands.{told}
+use Rattle.office_commands.specs.Commands.{text_alone}
 use Rattle.office_commands.specs.Endings.{Wrote}
 use Rattle.office_commands.specs.Traffic.{EndsTraffic, rehearsed_record}
 
 module _ (plan : GenPlan) (o : Office) (old new : Option (List ℕ)) where
   -- what a generation wrote, as a command
   pub wrote_traffic : (done : Result ℕ GenFault) (r : Result (Option Closing) Failed) → EndsTraffic done r →
-      generation.WroteFile done plan old new → Wrote (told (file_of plan) o) r old new
-  wrote_traffic (Ok n) (Ok c) e h = subst (λ x. Wrote (told (file_of plan) o) (Ok x) old new) (sym e) (refl, h.1)
+      generation.WroteFile done plan old new → Wrote (text_alone (file_of plan) o) r old new
+  wrote_traffic (Ok n) (Ok c) e h = subst (λ x. Wrote (text_alone (file_of plan) o) (Ok x) old new) (sym e) (refl, h.1)
   wrote_traffic (Ok n) (Err x) e h = absurd e
   wrote_traffic (Err (traffic.Size field)) r e h = absurd e
   wrote_traffic (Err traffic.WriteFault) (Ok c) e h = absurd e
   wrote_traffic (Err traffic.WriteFault) (Err x) e h = (take h.0 (file_of plan), (h.0, refl), h.2)
   wrote_traffic (Err traffic.NoMemory) (Ok c) e h =
-      subst (λ x. Wrote (told (file_of plan) o) (Ok x) old new) (sym e)
+      subst (λ x. Wrote (text_alone (file_of plan) o) (Ok x) old new) (sym e)
       ([], (0, refl), subst (λ now. Appends old now []) h (appends_none old))
   wrote_traffic (Err traffic.NoMemory) (Err x) e h = absurd e
 
@@ -121,7 +121,7 @@ none_else r (Stored kept) h stored memory = stored kept refl
 none_else r NoMemory h stored memory = memory refl
 none_else r _ h stored memory = h
 
-module _ (plan : GenPlan) (late : ℕ) (file : List ℕ) (ranged : first_out plan ≡ None) (same : file ≡ file_of plan) where
+module _ (plan : GenPlan) (late : ℕ) (file : List ℕ) (ranged : field_out plan ≡ None) (same : file ≡ file_of plan) where
   -- the file of a plan is read whole
   pub whole_file : (reads file DAY late).refused ≡ None
   whole_file = ap (λ bytes. (reads bytes DAY late).refused) same

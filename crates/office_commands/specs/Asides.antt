@@ -15,14 +15,14 @@ abbrev pub is_short : List ℕ → Bool
 is_short line = nat_le (length line) 200
 
 -- a text begins with #
-abbrev pub is_marked : List ℕ → Bool
-is_marked [] = false
-is_marked (b ∷ bs) = b == 35
+abbrev pub begins_with_hash : List ℕ → Bool
+begins_with_hash [] = false
+begins_with_hash (b ∷ bs) = b == 35
 
 -- the lines before the first that is short and begins with #
 abbrev pub entries_of : List (List ℕ) → List (List ℕ)
 entries_of [] = []
-entries_of (l ∷ ls) = if is_short l && is_marked l then [] else l ∷ entries_of ls
+entries_of (l ∷ ls) = if is_short l && begins_with_hash l then [] else l ∷ entries_of ls
 
 -- a notice, if it is one
 abbrev pub entry_of : Option Notice → EntryText

@@ -39,8 +39,8 @@ already_line day tuples notices total =
     ++ (codes " notices " ++ (decimal notices ++ (codes " total " ++ (decimal total ++ codes "\n")))))))
 
 -- the line of a tariff that an expressway has from now on
-unfoldable pub tariff_line : ℕ → ℕ → ℕ → ℕ → List ℕ
-tariff_line xway crowd speed factor =
+unfoldable pub tariff_kept_line : ℕ → ℕ → ℕ → ℕ → List ℕ
+tariff_kept_line xway crowd speed factor =
     codes "# tariff xway "
     ++ (decimal xway
     ++ (codes " crowd "
@@ -78,7 +78,7 @@ closing_line (Answered day tuples notices) =
 closing_line (Stored day tuples notices total) = stored_line day tuples notices total
 closing_line (Already day tuples notices total) = already_line day tuples notices total
 closing_line (Agree notices) = codes "# agree notices " ++ (decimal notices ++ codes "\n")
-closing_line (TariffPut xway crowd speed factor) = tariff_line xway crowd speed factor
+closing_line (TariffPut xway crowd speed factor) = tariff_kept_line xway crowd speed factor
 closing_line (PastStored base rows) =
     codes "# past base " ++ (decimal base ++ (codes " rows " ++ (decimal rows ++ codes "\n")))
 closing_line (PastAlready base rows) =

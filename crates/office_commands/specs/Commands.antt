@@ -11,7 +11,7 @@ use Rattle.road_time.specs.Tariffs.{tariffs_text}
 use Rattle.reports.specs.AccidentLog.{log_text}
 use Rattle.reports.specs.Statements.{day_report, vehicle_report}
 use Rattle.reports.specs.Exports.{export_report}
-use Rattle.keeper.specs.History.{paid}
+use Rattle.road_time.specs.History.{paid}
 use Rattle.keeper.specs.Office.{Office}
 use Rattle.keeper.specs.Kept.{with_tariff_of}
 use Rattle.import_once.specs.Imports.{import_answer, answers_answer}
@@ -34,7 +34,7 @@ use Rattle.office_words.specs.declared.command.DayRun.{DayRun}
 use Rattle.office_words.specs.declared.command.Recomputing.TheVariants.{Plainly}
 use Rattle.office_words.specs.declared.command.Size.{Size}
 use Rattle.traffic_gen.specs.Traffic.{file_of}
-use Rattle.office_commands.specs.Traffic.{plan_of, rehearsed_record, rehearsed}
+use Rattle.office_commands.specs.Traffic.{plan_from_seed, rehearsed_record, rehearsed}
 use Rattle.office_commands.specs.Days.{recomputed, refusal_of}
 use Rattle.office_commands.specs.Asides.{compared}
 
@@ -45,8 +45,8 @@ pub record Answer : Type 0 where
   pub office : Office
 
 -- a text alone, where nothing that is kept changes
-abbrev pub told : List ℕ → Office → Answer
-told text o = record { text = text; closing = None; office = o }
+abbrev pub text_alone : List ℕ → Office → Answer
+text_alone text o = record { text = text; closing = None; office = o }
 
 -- a closing line alone, where nothing that is kept changes
 abbrev pub closed : Closing → Office → Answer
@@ -88,7 +88,7 @@ unless_refused (Some refused) answer = closed (Refused refused.0 refused.1) answ
 
 -- the accidents of a day
 abbrev pub accidents_of : List Tuple → Office → Answer
-accidents_of tuples o = told (log_text (log_of tuples)) o
+accidents_of tuples o = text_alone (log_text (log_of tuples)) o
 
 -- how the notices of a day compare with lines
 abbrev pub comparison_of : ℕ → List Tuple → List (List ℕ) → Office → Answer
@@ -113,7 +113,7 @@ accidents_command limits late bytes o =
 -- a report of a day, which has none where the day is not kept
 abbrev pub report_command : ℕ → Option (List ℕ) → Office → Answer
 report_command number None o = closed (NoDay number) o
-report_command number (Some text) o = told text o
+report_command number (Some text) o = text_alone text o
 
 -- the command `day DAY`
 abbrev pub day_command : ℕ → Office → Answer
@@ -125,7 +125,7 @@ export_command number o = report_command number (export_report number o) o
 
 -- the command `vehicle VID FROM TO`
 abbrev pub vehicle_command : ℕ → ℕ → ℕ → Office → Answer
-vehicle_command vid from to o = told (vehicle_report vid from to o) o
+vehicle_command vid from to o = text_alone (vehicle_report vid from to o) o
 
 -- the command `tariff XWAY CROWD SPEED FACTOR`
 abbrev pub tariff_command : ℕ → ℕ → ℕ → ℕ → Office → Answer
@@ -137,7 +137,7 @@ tariff_command xway crowd speed factor o = record {
 
 -- the command `tariffs`
 abbrev pub tariffs_command : Office → Answer
-tariffs_command o = told (tariffs_text o.tariffs) o
+tariffs_command o = text_alone (tariffs_text o.tariffs) o
 
 -- the closing line of a history that is kept, or is not
 abbrev pub past_closing : ℕ → PastOutcome → Closing
@@ -161,11 +161,11 @@ history_command limits base bytes o = past_by base (past_answer base limits byte
 
 -- the command `generate SEED`
 abbrev pub generate_command : ℕ → Size → Office → Answer
-generate_command seed size o = told (file_of (plan_of seed size)) o
+generate_command seed size o = text_alone (file_of (plan_from_seed seed size)) o
 
 -- the command `rehearse SEED`
 abbrev pub rehearse_command : ℕ → Size → DayRun → Office → Answer
-rehearse_command seed size run o = closed (rehearsed (rehearsed_record run.day (plan_of seed size))) o
+rehearse_command seed size run o = closed (rehearsed (rehearsed_record run.day (plan_from_seed seed size))) o
 
 -- what words ask, by the command that they mean, over the bytes of the source, those of the aside, and what is kept
 abbrev pub office_answer : Limits → List ℕ → List ℕ → Office → Option Command → Answer

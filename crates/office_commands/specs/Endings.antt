@@ -11,9 +11,7 @@ use Rattle.day_reading.specs.declared.whole_day.ReadStop.TheVariants as stops
 use Rattle.reports.specs.declared.report_fault.ReportFault.{ReportFault}
 use Rattle.reports.specs.declared.report_fault.ReportFault.TheVariants as reports
 use Rattle.office_commands.specs.declared.closing.Closing.{Closing}
-use Rattle.office_commands.specs.declared.closing.Closing.TheVariants.{NoDay}
-use Rattle.office_commands.specs.declared.closing.Closing.TheVariants.{ReadFault}
-use Rattle.office_commands.specs.declared.closing.Closing.TheVariants.{KeeperFault, NoMemory}
+use Rattle.office_commands.specs.declared.closing.Closing.TheVariants.{NoDay, ReadFault, KeeperFault, NoMemory}
 use Rattle.office_commands.specs.Closings.{closing_line, status_of}
 use Rattle.office_commands.specs.Commands.{Answer}
 

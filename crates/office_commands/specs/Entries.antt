@@ -3,8 +3,7 @@ use Rattle.std.specs.Prelude.{ℕ, ◌≡◌, ◌+◌, ◌*◌, ◌<◌, ◌≤�
 use Rattle.road_time.specs.Lines.{lines_of}
 use Rattle.road_time.specs.declared.road.Notice.{Notice}
 use Rattle.office_commands.specs.declared.closing.Closing.{Closing}
-use Rattle.office_commands.specs.declared.closing.Closing.TheVariants.{Agree}
-use Rattle.office_commands.specs.declared.closing.Closing.TheVariants.{DiffersLine}
+use Rattle.office_commands.specs.declared.closing.Closing.TheVariants.{Agree, DiffersLine}
 use Rattle.office_commands.specs.declared.aside.AsideEntry.{AsideEntry}
 use Rattle.office_commands.specs.declared.aside.AsideEntry.TheVariants.{Line, Long, End}
 use Rattle.office_commands.specs.Asides.{entries_of, compared_from}
@@ -49,7 +48,7 @@ IsComparisonOr None = Unit {0}
 IsComparisonOr (Some c) = IsComparison c
 
 -- of the bytes that an aside had, some were taken as so many lines at most; the rest lies ahead
-pub record HasReadLines (front : Option (List ℕ)) (lines : ℕ) (bytes : List ℕ) : Type 0 where
+pub record HasReadEntries (front : Option (List ℕ)) (lines : ℕ) (bytes : List ℕ) : Type 0 where
   pub taken : List ℕ
   pub now : List ℕ
   pub ahead_is : front ≡ Some now

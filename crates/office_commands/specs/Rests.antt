@@ -17,8 +17,8 @@ use Rattle.office_words.specs.declared.command.Recomputing.TheVariants.{Plainly}
 use Rattle.office_commands.specs.Days.{recomputed}
 
 -- reading ended at the first refused line: no more than one buffer behind it was taken
-abbrev pub HasStopped : Option (ℕ × Fault) → List ℕ → Option (List ℕ) → Type 0
-HasStopped refused bytes left =
+abbrev pub HasStoppedReading : Option (ℕ × Fault) → List ℕ → Option (List ℕ) → Type 0
+HasStoppedReading refused bytes left =
     (line : ℕ) × (fault : Fault) × (refused ≡ Some (line, fault)) × StopsSoon line bytes left
 
 -- no line was refused, and nothing is left
@@ -28,7 +28,7 @@ HasEnded refused left = (refused ≡ None) × (left ≡ Some [])
 -- where the reading of a day ended: at the refused line, if one was refused
 abbrev pub EndsAt : Option (ℕ × Cause) → Option (ℕ × Fault) → List ℕ → Option (List ℕ) → Type 0
 EndsAt None refused bytes left = HasEnded refused left
-EndsAt (Some named) refused bytes left = HasStopped refused bytes left
+EndsAt (Some named) refused bytes left = HasStoppedReading refused bytes left
 
 -- a status names a refused line exactly where one was refused
 abbrev pub SaysBy : Option (ℕ × Cause) → ℕ → Type 0
@@ -40,7 +40,7 @@ pub record HasReadTo (refused : Option (ℕ × Fault)) (status : ℕ) (bytes : L
     0 where
   pub answered : status ≡ 0 → HasEnded refused left
   pub compared : status ≡ 7 → HasEnded refused left
-  pub refused_there : status ≡ 2 → HasStopped refused bytes left
+  pub refused_there : status ≡ 2 → HasStoppedReading refused bytes left
 
 -- a day was read within its limits, and to where the status says
 pub record HasReadDay (limits : Limits) (late status : ℕ) (before after : Option (List ℕ)) : Type 0 where
@@ -50,7 +50,8 @@ pub record HasReadDay (limits : Limits) (late status : ℕ) (before after : Opti
 -- of a day that is to be kept a refused line ends the reading
 abbrev pub StopsThere : Limits → ℕ → ℕ → Option (List ℕ) → Option (List ℕ) → Type 0
 StopsThere limits late status before after =
-    (bytes : List ℕ) → before ≡ Some bytes → status ≡ 2 → HasStopped (reads bytes limits late).refused bytes after
+    (bytes : List ℕ) → before ≡ Some bytes → status ≡ 2 → HasStoppedReading (reads bytes limits late).refused bytes
+    after
 
 -- where a line was refused, or the keeper failed, nothing was compared: no more was read than this
 abbrev pub ReadsUncompared : ℕ → ℕ → Option (List ℕ) → Option (List ℕ) → Type 0

@@ -13,8 +13,8 @@ use Rattle.office_commands.specs.declared.closing.Closing.{Closing}
 use Rattle.office_commands.specs.declared.closing.Closing.TheVariants.{NoMemory, Rehearsed}
 
 -- what is to be generated from a seed
-abbrev pub plan_of : ℕ → Size → GenPlan
-plan_of seed size =
+abbrev pub plan_from_seed : ℕ → Size → GenPlan
+plan_from_seed seed size =
     record { seed = seed; vehicles = size.vehicles; minutes = size.minutes; xways = size.xways; crashes = size.crashes }
 
 -- what is kept of generated traffic as a day, where nothing else is kept: the same however late lines may come

@@ -4,11 +4,11 @@ ghost use Rattle.std.specs.Str.{bytes_eq};
 ghost use Rattle.road_time.specs.Lines.{lines_of, without_cr};
 ghost use Rattle.road_time.specs.Text.{notice_text, read_notice as defined_read_notice};
 ghost use Rattle.road_io.specs.Plans.{NeverFails};
-ghost use Rattle.road_io.specs.Cutter.{ahead, line_of, number_of, fault_of};
+ghost use Rattle.road_io.specs.Cutter.{ahead, line_of, line_number, fault_of};
 ghost use Rattle.road_io.specs.Within.{ReadsWithin};
-ghost use Rattle.office_commands.specs.Asides.{entry_of, is_marked, compared, compared_from};
+ghost use Rattle.office_commands.specs.Asides.{entry_of, begins_with_hash, compared, compared_from};
 ghost use Rattle.office_commands.specs.Entries.{Enters, entered, GoesOn, PartsAt, IsComparison, IsComparisonOr};
-ghost use Rattle.office_commands.specs.Entries.{HasReadLines, most_compared};
+ghost use Rattle.office_commands.specs.Entries.{HasReadEntries, most_compared};
 ghost use Rattle.office_commands.specs.declared.closing.Closing.{Closing as ClosingValue};
 ghost use Rattle.office_commands.specs.declared.closing.Closing.TheVariants.{DiffersLine};
 ghost use Rattle.day_reading.specs.declared.whole_day.ReadStop.TheVariants.{ReadFault, NoMemory as NoRoom};
@@ -32,7 +32,7 @@ pub enum AsideEntry {
 
 /// Whether a text begins with #.
 fn is_marked(text: &[u8]) -> bool
-    ensures { result ≡ is_marked text.now }
+    ensures { result ≡ begins_with_hash text.now }
 {
     match text {
         [] => false,
@@ -42,16 +42,16 @@ fn is_marked(text: &[u8]) -> bool
 
 /// Moves to the next line of an aside. It ends with its bytes, or at a line that begins with #.
 fn next_entry<A: Source>(cutter: &mut LineCutter, aside: &mut A) -> Result<AsideEntry, ReadStop>
-    requires number { number_of cutter.old + 1 < 2 ^ 64 }
+    requires number { line_number cutter.old + 1 < 2 ^ 64 }
     requires whole { fault_of cutter.old ≡ None }
     ensures enters { IfOk result
         (λ entry. Enters entry (ahead cutter.old (A.left aside.old)) (ahead cutter.new (A.left aside.new))
         (line_of cutter.new)) }
     ensures next { IfOk result
-        (λ entry. entry ≡ AsideEntry.Line → (number_of cutter.new ≡ number_of cutter.old + 1) ×
+        (λ entry. entry ≡ AsideEntry.Line → (line_number cutter.new ≡ line_number cutter.old + 1) ×
         (fault_of cutter.new ≡ None) × (length (line_of cutter.new) ≤ 200)) }
-    ensures read { (lines : ℕ) (bytes : List ℕ) → HasReadLines (ahead cutter.old (A.left aside.old)) lines bytes
-        → HasReadLines (ahead cutter.new (A.left aside.new)) (lines + 1) bytes }
+    ensures read { (lines : ℕ) (bytes : List ℕ) → HasReadEntries (ahead cutter.old (A.left aside.old)) lines bytes
+        → HasReadEntries (ahead cutter.new (A.left aside.new)) (lines + 1) bytes }
     ensures memory { result ≢ Err NoRoom }
     ensures aside { FaultsByPlan (A.faults aside.old) (A.faults aside.new) (A.plan aside.old) (result ≡ Err ReadFault) }
     ensures still { NeverFails (A.plan aside.old) → NeverFails (A.plan aside.new) }
@@ -110,16 +110,17 @@ fn compare_one<A: Source>(
     aside: &mut A,
     room: &mut Vec<u8>,
 ) -> Result<Option<Closing>, ReadStop>
-    requires number { number_of cutter.old + 1 < 2 ^ 64 }
+    requires number { line_number cutter.old + 1 < 2 ^ 64 }
     requires whole { fault_of cutter.old ≡ None }
     ensures same { result ≡ Ok None
         → GoesOn line notice.now (ahead cutter.old (A.left aside.old)) (ahead cutter.new (A.left aside.new)) }
     ensures other { (c : ClosingValue) → result ≡ Ok (Some c)
         → PartsAt line notice.now (ahead cutter.old (A.left aside.old)) c }
     ensures own { IfOk result (IsComparisonOr) }
-    ensures next { result ≡ Ok None → (number_of cutter.new ≡ number_of cutter.old + 1) × (fault_of cutter.new ≡ None) }
-    ensures read { (lines : ℕ) (bytes : List ℕ) → HasReadLines (ahead cutter.old (A.left aside.old)) lines bytes
-        → HasReadLines (ahead cutter.new (A.left aside.new)) (lines + 1) bytes }
+    ensures next { result ≡ Ok None → (line_number cutter.new ≡ line_number cutter.old + 1) ×
+        (fault_of cutter.new ≡ None) }
+    ensures read { (lines : ℕ) (bytes : List ℕ) → HasReadEntries (ahead cutter.old (A.left aside.old)) lines bytes
+        → HasReadEntries (ahead cutter.new (A.left aside.new)) (lines + 1) bytes }
     ensures aside { FaultsByPlan (A.faults aside.old) (A.faults aside.new) (A.plan aside.old) (result ≡ Err ReadFault) }
     ensures still { NeverFails (A.plan aside.old) → NeverFails (A.plan aside.new) }
 {
@@ -142,12 +143,12 @@ fn compare_end<A: Source>(
     aside: &mut A,
 ) -> Result<Closing, ReadStop>
     requires first { 1 ≤ line }
-    requires number { number_of cutter.old + 1 < 2 ^ 64 }
+    requires number { line_number cutter.old + 1 < 2 ^ 64 }
     requires whole { fault_of cutter.old ≡ None }
     ensures exact { (lines : List ℕ) → ahead cutter.old (A.left aside.old) ≡ Some lines
         → IfOk result (λ c. c ≡ compared_from line [] (entered lines)) }
     ensures own { IfOk result IsComparison }
-    ensures bounded { (lines : ℕ) (bytes : List ℕ) → HasReadLines (ahead cutter.old (A.left aside.old)) lines bytes
+    ensures bounded { (lines : ℕ) (bytes : List ℕ) → HasReadEntries (ahead cutter.old (A.left aside.old)) lines bytes
         → (count : ℕ) × (count ≤ most_compared lines) × (A.left aside.new ≡ Some (drop count bytes)) }
     ensures aside { FaultsByPlan (A.faults aside.old) (A.faults aside.new) (A.plan aside.old) (result ≡ Err ReadFault) }
 {

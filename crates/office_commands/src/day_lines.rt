@@ -1,8 +1,8 @@
 // Closing lines of days, of tariffs and of rehearsals.
 ghost use Rattle.std.specs.Prelude.{◌≡◌, IfOk};
 ghost use Rattle.std.specs.String.{string_bytes};
-ghost use Rattle.office_commands.specs.Closings.{closing_line, stored_line, already_line, tariff_line, differs_line};
-ghost use Rattle.office_commands.specs.Closings.{rehearsed_end, rehearsed_line};
+ghost use Rattle.office_commands.specs.Closings.{closing_line, stored_line, already_line, tariff_kept_line};
+ghost use Rattle.office_commands.specs.Closings.{differs_line, rehearsed_end, rehearsed_line};
 ghost use Rattle.office_commands.specs.declared.closing.Closing.TheVariants.{DiffersDay, Rehearsed};
 
 use keeper::Digest;
@@ -44,7 +44,7 @@ pub(crate) fn already_line(
 }
 
 /// The line of a tariff that an expressway has from now on.
-#[tactic(auto, unfolding(crate::specs::Closings::tariff_line))]
+#[tactic(auto, unfolding(crate::specs::Closings::tariff_kept_line))]
 pub(crate) fn tariff_line(
     alloc: Global,
     xway: u8,
@@ -52,7 +52,7 @@ pub(crate) fn tariff_line(
     speed: u8,
     factor: u8,
 ) -> Result<String, NoMemory>
-    ensures { IfOk result (λ line. string_bytes line ≡ tariff_line xway crowd speed factor) }
+    ensures { IfOk result (λ line. string_bytes line ≡ tariff_kept_line xway crowd speed factor) }
 {
     let line = format!(in alloc;
         "# tariff xway {xway} crowd {crowd} speed {speed} factor {factor}\n"

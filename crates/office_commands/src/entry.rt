@@ -7,14 +7,13 @@ ghost use Rattle.road_time.specs.Fits.{IsLimits};
 ghost use Rattle.road_io.specs.Within.{ReadsWithin};
 ghost use Rattle.office_commands.specs.Closings.{closing_line, status_of};
 ghost use Rattle.office_commands.specs.Commands.{office_answer};
-ghost use Rattle.office_commands.specs.Endings.{Wrote, Keeps, Closes, Writes, KeepsTo};
-ghost use Rattle.office_commands.specs.Endings.{Did, Concludes, HoldsSame, code_of};
+ghost use Rattle.office_commands.specs.Endings.{Wrote, Keeps, Closes, Writes, KeepsTo, Did, Concludes, HoldsSame};
+ghost use Rattle.office_commands.specs.Endings.{code_of};
 ghost use Rattle.office_commands.specs.Rests.{LeavesAsKept, ReadsAsked};
 ghost use Rattle.office_commands.specs.declared.closing.Closing.TheVariants.{ReadFault, KeeperFault, NoMemory, Words};
 ghost use Rattle.office_commands.specs.Uses.{asked, IsTold, IsRightCrew, IsRightAside, SourceTells, KeeperTells};
-ghost use Rattle.office_commands.specs.Uses.{uses_crew};
-ghost use Rattle.office_commands.specs.Uses.{uses_source, uses_aside, uses_keeper, changes_kept, AsksPassed, PutsAsked};
-ghost use Rattle.office_commands.specs.Uses.{most_of, most_aside_of};
+ghost use Rattle.office_commands.specs.Uses.{uses_crew, uses_source, uses_aside, uses_keeper, changes_kept, AsksPassed};
+ghost use Rattle.office_commands.specs.Uses.{PutsAsked, most_of, most_aside_of};
 ghost use Rattle.office_commands.specs.Faults.{ReadFaults};
 ghost use Rattle.road_io.specs.Blame.{FaultsByPlan, FaultsByRoom};
 

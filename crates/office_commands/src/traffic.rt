@@ -6,12 +6,12 @@ ghost use Rattle.road_io.specs.Fakes.{bytes_of};
 ghost use Rattle.keeper.specs.Kept.{kept_record};
 ghost use Rattle.keeper.specs.Office.{Office, nothing_kept};
 ghost use Rattle.traffic_gen.specs.declared.plan.GenFault.TheVariants as gen_fault;
-ghost use Rattle.traffic_gen.specs.Plans.{first_out};
+ghost use Rattle.traffic_gen.specs.Plans.{field_out};
 ghost use Rattle.traffic_gen.specs.Traffic.{file_of};
 ghost use Rattle.office_words.specs.Meaning.{IsRun, IsSize};
 ghost use Rattle.office_commands.specs.Commands.{generate_command, rehearse_command};
 ghost use Rattle.office_commands.specs.Endings.{StandsBefore, Wrote};
-ghost use Rattle.office_commands.specs.Traffic.{plan_of, rehearsed_record, rehearsed, EndsTraffic};
+ghost use Rattle.office_commands.specs.Traffic.{plan_from_seed, rehearsed_record, rehearsed, EndsTraffic};
 ghost use Rattle.office_commands.specs.declared.closing.Closing.TheVariants.{ReadFault, KeeperFault, Words};
 ghost use Rattle.road_io.specs.Blame.{FaultsByRoom};
 
@@ -30,8 +30,8 @@ use traffic_gen::{GenFault, GenPlan};
 /// What is to be generated.
 fn plan_for(seed: u64, size: Size) -> GenPlan
     requires { IsSize size }
-    ensures plan { result ≡ plan_of seed size }
-    ensures range { first_out result ≡ None }
+    ensures plan { result ≡ plan_from_seed seed size }
+    ensures range { field_out result ≡ None }
 {
     GenPlan {
         seed,
@@ -82,7 +82,7 @@ pub fn generate<O: Sink>(
 
 /// The file of a plan, in memory, of which 40,000,000 bytes are enough for any.
 fn file_in_memory(alloc: Global, plan: &GenPlan) -> Result<MemSink, NoMemory>
-    requires { first_out plan.now ≡ None }
+    requires { field_out plan.now ≡ None }
     ensures { IfOk result (λ s. bytes_of s ≡ file_of plan.now) }
 {
     let mut sink = MemSink::new(alloc, 40_000_000, 65_536)?;
@@ -141,7 +141,7 @@ fn rehearse_plan<C: Crew, R: Threads>(
     run: DayRun,
     crew: &mut C,
 ) -> Result<DayRecord, NoMemory>
-    requires plan { first_out plan.now ≡ None }
+    requires plan { field_out plan.now ≡ None }
     requires range { IsRun run }
     requires idle { C.out crew.old ≡ [] }
     ensures kept { C.exact ≡ true → IfOk result (λ r. r ≡ rehearsed_record run.day plan.now) }

@@ -148,8 +148,7 @@ module _ (fs : List Form) where
       met : find (answers_to word) (map label_of (subs fs)) ≡ None
       met = name_found word fs ∙ ap (option_map (λ (g : Form). (g.name, []))) e
 
-      go : (l : WordLook) → Shows l word → (ws : List Text) →
-          found_from (walk [] names nothing_held (word ∷ ws))
+      go : (l : WordLook) → Shows l word → (ws : List Text) → found_from (walk [] names nothing_held (word ∷ ws))
           (walk_fault whole_app.top names (walk_from nothing_held) (word ∷ ws)) ≡ None
       go ending shown [] = rw (met, shown) refl
       go ending shown (x ∷ xs) = rw (met, shown) refl

@@ -5,8 +5,8 @@ use Rattle.std.specs.List.{list_any, list_all, before_first, after_first, positi
 use Rattle.std.proofs.lemmas.Bool.{eqb-true}
 use Rattle.std.proofs.lemmas.Slice.Eq.{bytes_eq-Decides}
 use Rattle.office_words.specs.Grammar.{Text, Said, WordLook, long_look, look_after_two, look_after_one, is_equals}
-use Rattle.office_words.specs.Grammar.{ending}
-use Rattle.office_words.specs.Grammar.{alone, joined, refused, plain, look, contains, is_said, Form, says, give, placed}
+use Rattle.office_words.specs.Grammar.{ending, alone, joined, refused, plain, look, contains, is_said, Form, says, give}
+use Rattle.office_words.specs.Grammar.{words_placed}
 
 -- how a word of this look is written
 abbrev pub Written : WordLook → Text → Type 0
@@ -111,7 +111,7 @@ all_from (p ∷ ps) test h =
 -- what the grammar makes of a word with this look
 abbrev pub by_look : Form → Text → List Text → List Text → Said → WordLook → Option Said
 by_look f word words left said l = elim l [
-  | ending ↦ placed f left said words
+  | ending ↦ words_placed f left said words
   | alone name ↦ if contains f.options name then says f left (Some name) said words else None
   | joined name value ↦ if contains f.options name
       then option_and_then (λ now. says f left None now words) (give name value said) else None

@@ -6,10 +6,9 @@ use Rattle.std.specs.Option.{unwrap_or}
 use Rattle.std.proofs.lemmas.Option.{none-some}
 use Rattle.std.proofs.lemmas.Slice.Eq.{bytes_eq-Decides}
 use Rattle.office_words.specs.Grammar.{Form, Text, Said, WordLook, ending, alone, joined, refused, plain, look}
-use Rattle.office_words.specs.Grammar.{contains}
-use Rattle.office_words.specs.Grammar.{is_said, give, whole, placed, says}
-use Rattle.office_words.specs.Spelling.{Item, in_place, apart, joint, AllFit, words_of, told, filled, HasFreshNames}
-use Rattle.office_words.specs.Spelling.{Spells}
+use Rattle.office_words.specs.Grammar.{contains, is_said, give, whole, words_placed, says}
+use Rattle.office_words.specs.Spelling.{Item, in_place, apart, joint, AllFit, words_of, said_in, places_filled}
+use Rattle.office_words.specs.Spelling.{HasFreshNames, Spells}
 use Rattle.office_words.proofs.Looks.{Written, written, is_said_more, by_look, by_value}
 use Rattle.office_words.proofs.Spelling.{Open}
 
@@ -87,7 +86,8 @@ module _ (f : Form) where
       go false all = absurd (none-some out (rw all at e))
 
   -- what is read behind `--` is of places in turn
-  from_placed : (words left : List Text) (said out : Said) → Open f left said → placed f left said words ≡ Some out
+  from_placed : (words left : List Text) (said out : Said) → Open f left said → words_placed f left said words ≡
+      Some out
       → (rest : Said) × (words ≡ map (λ p. p.1) rest) × (out ≡ said ++ rest) × (map (λ p. p.0) rest ≡ left)
       × HasFreshNames said rest
   from_placed [] left said out o e =
@@ -95,7 +95,7 @@ module _ (f : Form) where
       ([], refl, k.1 ∙ sym (append-nil said), sym k.0, tt)
   from_placed (word ∷ words) [] said out o e = absurd (none-some out e)
   from_placed (word ∷ words) (place ∷ left) said out o e =
-      let g = given place word said out (λ now. placed f left now words) e in
+      let g = given place word said out (λ now. words_placed f left now words) e in
       let r = from_placed words left (said ++ (place, word) ∷ []) out (still_open left said place word o.2 o.4) g.1 in (
         (place, word) ∷ r.0,
         ap (λ ws. word ∷ ws) r.1,
@@ -108,8 +108,8 @@ module _ (f : Form) where
   -- the words are items, and then places behind `--`, if there are any
   abbrev Parts : List Text → Said → List Text → Said → Type 0
   Parts left said words out = (items : List Item) × (rest : Option Said) × (words ≡ words_of items rest)
-      × (out ≡ said ++ told items rest) × AllFit f items × (filled items rest ≡ left)
-      × HasFreshNames said (told items rest)
+      × (out ≡ said ++ said_in items rest) × AllFit f items × (places_filled items rest ≡ left)
+      × HasFreshNames said (said_in items rest)
 
   -- words that are read so are spelled so
   abbrev FromNone : List Text → Type 0
@@ -142,7 +142,7 @@ module _ (f : Form) where
                 p.1,
                 (λ i. w i ∷ (r.2 ∙ ap (λ ws. r.0 ∷ ws) p.2) i),
                 p.3
-                    ∙ append_assoc said ((n, r.0) ∷ []) (told p.0 p.1),
+                    ∙ append_assoc said ((n, r.0) ∷ []) (said_in p.0 p.1),
                 ((has, r.3), p.4),
                 p.5,
                 (r.4, p.6),
@@ -159,7 +159,7 @@ module _ (f : Form) where
                 p.1,
                 (λ i. w i ∷ p.2 i),
                 p.3
-                    ∙ append_assoc said ((n, v) ∷ []) (told p.0 p.1),
+                    ∙ append_assoc said ((n, v) ∷ []) (said_in p.0 p.1),
                 (has, p.4),
                 p.5,
                 (g.0, p.6),
@@ -178,7 +178,7 @@ module _ (f : Form) where
                 p.1,
                 ap (λ ws. word ∷ ws) p.2,
                 p.3
-                    ∙ append_assoc said ((place, word) ∷ []) (told p.0 p.1),
+                    ∙ append_assoc said ((place, word) ∷ []) (said_in p.0 p.1),
                 (is, p.4),
                 ap (λ qs. place ∷ qs) p.5,
                 (g.0, p.6),

@@ -1,9 +1,9 @@
 -- Words that are spelled so are read so: the grammar as a function gives what the grammar as a relation says.
 use Rattle.std.proofs.Common.{◌≡◌, ◌∙◌, ◌||◌, Bool, true, false, refl, sym, ap, subst, List, [], ◌∷◌, ◌++◌, map, Option}
 use Rattle.std.proofs.Common.{Some, None, bytes_eq, append-nil, append_assoc}
-use Rattle.office_words.specs.Grammar.{Form, Text, Said, look, contains, is_said, whole, placed, says}
-use Rattle.office_words.specs.Spelling.{Item, in_place, apart, joint, AllFit, words_of, told, filled, HasFreshNames}
-use Rattle.office_words.specs.Spelling.{Spells}
+use Rattle.office_words.specs.Grammar.{Form, Text, Said, look, contains, is_said, whole, words_placed, says}
+use Rattle.office_words.specs.Spelling.{Item, in_place, apart, joint, AllFit, words_of, said_in, places_filled}
+use Rattle.office_words.specs.Spelling.{HasFreshNames, Spells}
 use Rattle.office_words.proofs.Looks.{plainly, is_said_more, all_from, AllPlainly, by_look, by_value}
 
 -- the places to come are the form's, are apart from one another and from the options, and none is said
@@ -47,7 +47,7 @@ module _ (f : Form) (named : AllPlainly f.options) where
 
   -- what is said of places is read so behind `--`
   to_placed : (rest said : Said) → HasFreshNames said rest → Covers (map (λ p. p.0) rest) said →
-      placed f (map (λ p. p.0) rest) said (map (λ p. p.1) rest) ≡ Some (said ++ rest)
+      words_placed f (map (λ p. p.0) rest) said (map (λ p. p.1) rest) ≡ Some (said ++ rest)
   to_placed [] said fresh covers = covered said covers ∙ ap (λ s. Some s) (sym (append-nil said))
   to_placed (p ∷ rest) said fresh covers =
       rw fresh.0 (to_placed rest (said ++ p ∷ []) fresh.1 (covers_place p.0 p.1 _ said covers)
@@ -55,34 +55,34 @@ module _ (f : Form) (named : AllPlainly f.options) where
 
   -- what is spelled so is read so
   to_says : (items : List Item) (rest : Option Said) (said : Said) → AllFit f items →
-      HasFreshNames said (told items rest) →
-      Covers (filled items rest) said
-      → says f (filled items rest) None said (words_of items rest) ≡ Some (said ++ told items rest)
+      HasFreshNames said (said_in items rest) → Covers (places_filled items rest) said
+      → says f (places_filled items rest) None said (words_of items rest) ≡ Some (said ++ said_in items rest)
   unfolding look
   to_says [] None said fit fresh covers = covered said covers ∙ ap (λ s. Some s) (sym (append-nil said))
   to_says [] (Some rest) said fit fresh covers = to_placed rest said fresh covers
   to_says (in_place n w ∷ items) rest said fit fresh covers =
-      ap (by_look f w (words_of items rest) (n ∷ filled items rest) said) fit.0
+      ap (by_look f w (words_of items rest) (n ∷ places_filled items rest) said) fit.0
       ∙ rw fresh.0 (to_says items rest (said ++ (n, w) ∷ []) fit.1 fresh.1 (covers_place n w _ said covers)
-      ∙ ap (λ s. Some s) (append_assoc said ((n, w) ∷ []) (told items rest)))
+      ∙ ap (λ s. Some s) (append_assoc said ((n, w) ∷ []) (said_in items rest)))
   to_says (apart n v ∷ items) rest said fit fresh covers =
-      ap (by_look f (45 ∷ 45 ∷ n) (v ∷ words_of items rest) (filled items rest) said)
+      ap (by_look f (45 ∷ 45 ∷ n) (v ∷ words_of items rest) (places_filled items rest) said)
       (plainly f.options n named fit.0.0).0
-      ∙ rw fit.0.0 (ap (by_value f v (words_of items rest) (filled items rest) n said) fit.0.1
+      ∙ rw fit.0.0 (ap (by_value f v (words_of items rest) (places_filled items rest) n said) fit.0.1
       ∙ rw fresh.0 (to_says items rest (said ++ (n, v) ∷ []) fit.1 fresh.1 (covers_option n v _ said covers)
-      ∙ ap (λ s. Some s) (append_assoc said ((n, v) ∷ []) (told items rest))))
+      ∙ ap (λ s. Some s) (append_assoc said ((n, v) ∷ []) (said_in items rest))))
   to_says (joint n v ∷ items) rest said fit fresh covers =
-      ap (by_look f (45 ∷ 45 ∷ (n ++ 61 ∷ v)) (words_of items rest) (filled items rest) said)
+      ap (by_look f (45 ∷ 45 ∷ (n ++ 61 ∷ v)) (words_of items rest) (places_filled items rest) said)
       ((plainly f.options n named fit.0).1 v)
       ∙ rw (fit.0, fresh.0) (to_says items rest (said ++ (n, v) ∷ []) fit.1 fresh.1 (covers_option n v _ said covers)
-      ∙ ap (λ s. Some s) (append_assoc said ((n, v) ∷ []) (told items rest)))
+      ∙ ap (λ s. Some s) (append_assoc said ((n, v) ∷ []) (said_in items rest)))
 
   -- words that are spelled so are read so
   pub read_back : (words : List Text) (said : Said) → Spells f words said → says f f.places None [] words ≡ Some said
   read_back words said s =
-      let fresh : HasFreshNames [] (told s.items s.rest) = subst (HasFreshNames []) s.said_is s.once in
-      let all : Covers (filled s.items s.rest) [] = λ n has. subst (λ ps. contains ps n ≡ true) (sym s.places) has in
+      let fresh : HasFreshNames [] (said_in s.items s.rest) = subst (HasFreshNames []) s.said_is s.once in
+      let all : Covers (places_filled s.items s.rest) [] = λ n has. subst (λ ps. contains ps n ≡ true) (sym s.places)
+      has in
       ap (says f f.places None []) s.words_are
-      ∙ subst (λ ps. says f ps None [] (words_of s.items s.rest) ≡ Some (told s.items s.rest)) s.places
+      ∙ subst (λ ps. says f ps None [] (words_of s.items s.rest) ≡ Some (said_in s.items s.rest)) s.places
       (to_says s.items s.rest [] s.fit fresh all)
       ∙ ap (λ x. Some x) (sym s.said_is)

@@ -8,8 +8,7 @@ use Rattle.clap.specs.Walk.{Row, idle, option, walked, nothing_held, walk_from, 
 use Rattle.clap.specs.declared.error.kind.ErrorKind.TheVariants.{InvalidValue}
 use Rattle.clap.specs.Faults.{walk_fault, turn_fault, settle_fault, flags_fault}
 use Rattle.office_words.specs.Grammar.{Form, Text, Said, WordLook, ending, alone, joined, refused, plain, look}
-use Rattle.office_words.specs.Grammar.{contains}
-use Rattle.office_words.specs.Grammar.{give, says}
+use Rattle.office_words.specs.Grammar.{contains, give, says}
 use Rattle.office_words.specs.Laws.{row_said, AllText}
 use Rattle.office_words.proofs.Leaf.{place_made, made, leaf, no_short, long_is, Knows, as_place, as_option}
 use Rattle.office_words.proofs.Leaf.{knows_option, ComesAt, Shows, shows}

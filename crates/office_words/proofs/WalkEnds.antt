@@ -117,8 +117,7 @@ wants i [] [] said = refl
 wants i [] (o ∷ os) said = wants i [] os said
 wants i (p ∷ ps) os said = rw (given_is p said) (go (is_said p said) (wants (min (i + 1) usize_max) ps os said))
   where
-    go : (b : Bool) →
-        list_any (λ a. a.required && not (is_given a.id (rows said)))
+    go : (b : Bool) → list_any (λ a. a.required && not (is_given a.id (rows said)))
         (places_made (min (i + 1) usize_max) ps (options_made os)) ≡ not (list_all (λ place. is_said place said) ps)
         → (not b || list_any (λ a. a.required && not (is_given a.id (rows said)))
         (places_made (min (i + 1) usize_max) ps (options_made os)))

@@ -1,7 +1,6 @@
 -- What each command means.
 use Rattle.std.specs.Prelude.{◌≡◌, ◌≤◌, ◌&&◌, ◌*◌, ◌^◌, ◌-◌, ℕ, Bool, List, Option, Some, None, codes, length, nat_le}
-use Rattle.std.specs.Prelude.{find}
-use Rattle.std.specs.Prelude.{if◌then◌else◌, option_and_then, option_map, Result, Ok, Err}
+use Rattle.std.specs.Prelude.{find, if◌then◌else◌, option_and_then, option_map, Result, Ok, Err}
 use Rattle.std.specs.Option.{option_map_or}
 use Rattle.std.specs.Str.{bytes_eq}
 use Rattle.std.specs.Char.{is_ascii_digit}

@@ -3,8 +3,8 @@ use Rattle.std.specs.Prelude.{List, [], ◌∷◌, ◌++◌, codes}
 use Rattle.office_words.specs.Grammar.{Form, Text}
 
 -- a row of the table
-abbrev pub form : Text → List Text → List Text → Form
-form name places options = record { name = name; places = places; options = options }
+abbrev pub stated_form : Text → List Text → List Text → Form
+stated_form name places options = record { name = name; places = places; options = options }
 
 -- the options of the commands that generate traffic
 abbrev pub sizes : List Text
@@ -20,17 +20,17 @@ audits = codes "late" ∷ codes "shards" ∷ codes "workers" ∷ []
 
 -- what is built: each command with its places and its options
 abbrev pub forms : List Form
-forms = form (codes "answers") (codes "day" ∷ []) runs
-    ∷ form (codes "import") (codes "day" ∷ []) runs
-    ∷ form (codes "validate") (codes "day" ∷ []) (codes "late" ∷ [])
-    ∷ form (codes "audit") (codes "day" ∷ []) audits
-    ∷ form (codes "past") (codes "base" ∷ []) []
-    ∷ form (codes "day") (codes "day" ∷ []) []
-    ∷ form (codes "vehicle") (codes "vid" ∷ codes "from" ∷ codes "to" ∷ []) []
-    ∷ form (codes "accidents") [] (codes "late" ∷ [])
-    ∷ form (codes "export") (codes "day" ∷ []) []
-    ∷ form (codes "tariff") (codes "xway" ∷ codes "crowd" ∷ codes "speed" ∷ codes "factor" ∷ []) []
-    ∷ form (codes "tariffs") [] []
-    ∷ form (codes "generate") (codes "seed" ∷ []) sizes
-    ∷ form (codes "rehearse") (codes "seed" ∷ []) (sizes ++ runs)
+forms = stated_form (codes "answers") (codes "day" ∷ []) runs
+    ∷ stated_form (codes "import") (codes "day" ∷ []) runs
+    ∷ stated_form (codes "validate") (codes "day" ∷ []) (codes "late" ∷ [])
+    ∷ stated_form (codes "audit") (codes "day" ∷ []) audits
+    ∷ stated_form (codes "past") (codes "base" ∷ []) []
+    ∷ stated_form (codes "day") (codes "day" ∷ []) []
+    ∷ stated_form (codes "vehicle") (codes "vid" ∷ codes "from" ∷ codes "to" ∷ []) []
+    ∷ stated_form (codes "accidents") [] (codes "late" ∷ [])
+    ∷ stated_form (codes "export") (codes "day" ∷ []) []
+    ∷ stated_form (codes "tariff") (codes "xway" ∷ codes "crowd" ∷ codes "speed" ∷ codes "factor" ∷ []) []
+    ∷ stated_form (codes "tariffs") [] []
+    ∷ stated_form (codes "generate") (codes "seed" ∷ []) sizes
+    ∷ stated_form (codes "rehearse") (codes "seed" ∷ []) (sizes ++ runs)
     ∷ []

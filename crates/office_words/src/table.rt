@@ -6,7 +6,7 @@ ghost use Rattle.office_words.specs.App.{with_forms};
 ghost use Rattle.clap.specs.Simple.{with_subcommand};
 ghost use Rattle.clap.specs.Walk.{texts};
 ghost use Rattle.clap.specs.declared.builder.command.Command.TheViews.{out-Command};
-ghost use Rattle.office_words.specs.Table.{form, forms};
+ghost use Rattle.office_words.specs.Table.{stated_form, forms};
 
 use clap::{Arg, ArgAction, ArgMatches, Command, Error};
 use std::alloc::{AllocError, Global};
@@ -35,7 +35,7 @@ fn command<'a>(
     options: &[&'a str],
 ) -> Result<Command<'a>, AllocError>
     ensures app { IfOk result (λ c. app_of c
-        ≡ app_of_form (form name.entry.now (texts places.now) (texts options.now))) }
+        ≡ app_of_form (stated_form name.entry.now (texts places.now) (texts options.now))) }
     ensures local { IfOk result (λ c. (out-Command c).has_globals ≡ false) }
 {
     let mut made = Command::new(alloc, name);
@@ -57,7 +57,7 @@ fn with<'a>(
     options: &[&'a str],
 ) -> Result<Command<'a>, AllocError>
     ensures { IfOk result (λ c. app_of c ≡ with_subcommand (app_of top.entry)
-        (shape_of_form (form name.entry.now (texts places.now) (texts options.now)))) }
+        (shape_of_form (stated_form name.entry.now (texts places.now) (texts options.now)))) }
 {
     top.subcommand(command(alloc, name, places, options)?)
 }

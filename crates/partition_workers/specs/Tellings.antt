@@ -11,11 +11,11 @@ is_unlisted_at test (Some None) = false
 is_unlisted_at test (Some (Some entry)) = test entry
 
 -- what a crew tells by its jobs and its places, with that test of what lies in them
-abbrev pub told : {X : Type 0} → (X → Bool) → Option (List Started) → Bool → List (Option X) → Option CrewTold
-told test None lists places = None
-told test (Some jobs) lists places =
+abbrev pub crew_told : {X : Type 0} → (X → Bool) → Option (List Started) → Bool → List (Option X) → Option CrewTold
+crew_told test None lists places = None
+crew_told test (Some jobs) lists places =
     Some (record { listed = jobs; lists = lists; unlisted = λ n. is_unlisted_at test (slice_get places n) })
 
 -- what a crew tells by its list and its places
-abbrev pub told_by : {X : Type 0} → (X → Bool) → JobList → List (Option X) → Option CrewTold
-told_by test list places = told test (jobs_of list) list.lists places
+abbrev pub told_by_list : {X : Type 0} → (X → Bool) → JobList → List (Option X) → Option CrewTold
+told_by_list test list places = crew_told test (jobs_of list) list.lists places

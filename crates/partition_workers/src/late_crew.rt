@@ -43,7 +43,7 @@ impl Crew for LateCrew {
     ghost use Rattle.std.specs.Prelude.{true, None};
     ghost use Rattle.partition_workers.specs.Places.{out_of, HasAt, EachAt};
     ghost use Rattle.partition_workers.specs.Entries.{IsOf, IsYetToRun, is_unlisted};
-    ghost use Rattle.partition_workers.specs.Tellings.{told_by};
+    ghost use Rattle.partition_workers.specs.Tellings.{told_by_list};
 
     type Ticket = Ticket;
 
@@ -61,7 +61,7 @@ impl Crew for LateCrew {
 
     ghost which = { λ s. tt };
 
-    ghost jobs = { λ s. told_by is_unlisted s.list s.places.items };
+    ghost jobs = { λ s. told_by_list is_unlisted s.list s.places.items };
 
     ghost answers = { λ s. None };
 

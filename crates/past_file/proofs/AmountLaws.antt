@@ -9,7 +9,6 @@ use Rattle.std.specs.BTreeMap.{is_at, insert_entry}
 use Rattle.std.specs.declared.cmp.Ordering.{Ordering}
 use Rattle.std.specs.declared.cmp.Ordering.TheVariants.{Less, Equal, Greater}
 use Rattle.std.specs.Ordering.{nat_cmp, ordering_then, ordering_reverse, match_ordering, is_eq}
-use Rattle.std.specs.Cmp.{nat_eq_equiv}
 use Rattle.std.specs.FinMap.{nat_cmp-IsAntisymmetric}
 use Rattle.std.proofs.lemmas.Bool.{cond_both, cond-true, cond-false}
 use Rattle.std.proofs.lemmas.List.Sums.{fold-append}
@@ -17,23 +16,14 @@ use Rattle.std.proofs.lemmas.List.Folds.{list_any-append}
 use Rattle.std.proofs.lemmas.List.Elements.{filter-append}
 use Rattle.road_time.specs.declared.day.SpentRow.{SpentRow}
 use Rattle.road_time.proofs.EachLaws as each
-use Rattle.keeper.specs.History.{is_row}
+use Rattle.road_time.specs.History.{is_row}
 use Rattle.keeper.specs.Office.{row_cmp, RowsRise}
 use Rattle.keeper.specs.PastReads.{with_row, past_kept}
-use Rattle.keeper.proofs.RowOrder.{row_total, not_row, less_apart, greater_apart}
+use Rattle.keeper.proofs.RowOrder.{row_total, not_row, less_apart, greater_apart, then_parts}
+use Rattle.keeper.proofs.ListFacts.{self_same}
 use Rattle.past_file.specs.declared.amounts.Key.{Key}
 use Rattle.past_file.specs.declared.amounts.Amounts.{Amounts}
 use Rattle.past_file.specs.Rows.{amount_of, IsPastRow, HasRows, TakesAmount}
-
--- comparisons that tie, tie each
-then_parts : (a b : Ordering) → ordering_then a b ≡ Equal → (a ≡ Equal) × (b ≡ Equal)
-then_parts Less b e = absurd cc
-then_parts Equal b e = (refl, e)
-then_parts Greater b e = absurd cc
-
--- a number is itself
-self_same : (n : ℕ) → (n == n) ≡ true
-self_same n = nat_eq_equiv.refl n
 
 -- rows that tie are of one day, vehicle and expressway
 tied : (r s : SpentRow) → row_cmp r s ≡ Equal → is_row r.day r.vid r.xway s ≡ true
@@ -215,8 +205,7 @@ module _ (cmp : Key → Key → Ordering)
   insert_with [] k v off = refl
   insert_with (e ∷ es) k v off = by_order (cmp k e.0) refl (insert_with es k v)
     where
-      by_order : (o : Ordering) → cmp k e.0 ≡ o →
-          (lookup (is_at (cmp k)) es ≡ None →
+      by_order : (o : Ordering) → cmp k e.0 ≡ o → (lookup (is_at (cmp k)) es ≡ None →
           map amount_of (insert_entry cmp es k v) ≡ with_row (map amount_of es) (amount_of (k, v))) →
           map amount_of (insert_entry cmp (e ∷ es) k v) ≡ with_row (map amount_of (e ∷ es)) (amount_of (k, v))
       by_order Less f rest =

@@ -8,7 +8,7 @@ use Rattle.road_time.specs.declared.day.SpentRow.{SpentRow}
 use Rattle.road_time.specs.Lines.{lines_of, without_cr}
 use Rattle.road_time.specs.Numbers.{number_of, fields_of_text}
 use Rattle.road_time.specs.Form.{Long, Many, Fields, first_odd, first_out}
-use Rattle.keeper.specs.History.{is_row}
+use Rattle.road_time.specs.History.{is_row}
 use Rattle.keeper.specs.PastReads.{PastFault, OfLine, Twice, PastReading, past_uses, past_in_ranges, past_of_fields}
 use Rattle.keeper.specs.PastReads.{past_form, past_amounts, fault_of_past, past_fault, past_at, past_after}
 use Rattle.past_file.specs.Causes.{IsCause, past_cause_of}

@@ -7,12 +7,11 @@ use Rattle.std.proofs.lemmas.List.{append-nil, length_push}
 use Rattle.road_time.specs.declared.day.Limits.{Limits}
 use Rattle.road_time.specs.Lines.{lines_of}
 use Rattle.road_time.specs.Form.{Long}
-use Rattle.road_io.specs.Cutter.{Cuts, FirstHas, held, ahead, number_of}
+use Rattle.road_io.specs.Cutter.{Cuts, FirstHas, held, ahead, line_number}
 use Rattle.road_io.specs.declared.cutter.LineCutter.{LineCutter}
 use Rattle.road_io.specs.declared.cutter.LineFault.TheVariants.{LongLine}
 use Rattle.keeper.specs.PastReads.{PastFault, OfLine, past_reads, past_after, past_at, past_amounts, past_fault}
-use Rattle.keeper.specs.PastReads.{past_kept}
-use Rattle.keeper.specs.PastReads.{past_record}
+use Rattle.keeper.specs.PastReads.{past_kept, past_record}
 use Rattle.day_reading.specs.declared.consumed.Consumed.{Consumed}
 use Rattle.day_reading.specs.Readings.{HasTaken}
 use Rattle.day_reading.proofs.BoundLaws.{nothing_there, read_within, stops_soon}
@@ -26,8 +25,7 @@ use Rattle.past_file.specs.declared.past_reader.PastReader.{PastReader}
 use Rattle.past_file.specs.declared.history.History.{History}
 use Rattle.past_file.specs.Rows.{HasRows}
 use Rattle.past_file.specs.Readings.{JudgesRow, ReadsPastOn, EndsPast, RefusesPast, Steps, EndsReadingPast, ReadsPast}
-use Rattle.past_file.specs.Readings.{HasReadPastOf}
-use Rattle.past_file.specs.Readings.{StopsPastAfter, StopsSoonAt}
+use Rattle.past_file.specs.Readings.{HasReadPastOf, StopsPastAfter, StopsSoonAt}
 use Rattle.past_file.specs.Imports.{most_past}
 
 -- there is a first line, and it is long
@@ -78,8 +76,7 @@ module _ (base : ℕ) (limits : Limits) (bytes : List ℕ) where
   -- what is read where a line is refused
   refused_at : (before : List (List ℕ)) (now line : List ℕ) (lines : List (List ℕ)) (fault : PastFault) →
       past_reads bytes base limits ≡ past_after base limits before (lines_of now)
-      → lines_of now ≡ line ∷ lines → past_fault base limits before line ≡ Some fault →
-      past_reads bytes base limits
+      → lines_of now ≡ line ∷ lines → past_fault base limits before line ≡ Some fault → past_reads bytes base limits
       ≡ record { rows = past_amounts base before; refused = Some (length before + 1, fault) }
   refused_at before now line lines fault e cut f =
       e ∙ ap (past_after base limits before) cut
@@ -187,16 +184,16 @@ reads_kept (Err stop) reader base limits left bytes e exact stops =
 -- a reader reads a history no further than its line limit and one buffer
 pub past_within : (r : PastReader) (limits : Limits) (left : Option (List ℕ)) (bytes : List ℕ) →
     HasReadPastOf r left bytes
-    → number_of r.cutter ≤ limits.past + 1 → (count : ℕ) × (count ≤ most_past limits) × (left ≡ Some (drop count bytes))
+    → line_number r.cutter ≤ limits.past + 1 → (count : ℕ) × (count ≤ most_past limits) ×
+    (left ≡ Some (drop count bytes))
 past_within r limits left bytes s few =
     read_within r.cutter left r.consumed bytes (most_past limits) s.0 (omega (arith, r.few_bytes, few))
 
 -- a reader that a refused line stopped read no more than one buffer behind it
 pub past_soon : (stop : PastStop) (r : PastReader) (left : Option (List ℕ)) (bytes : List ℕ) →
-    HasReadPastOf r left bytes →
-    StopsPastAfter stop (number_of r.cutter) → StopsSoonAt stop bytes left
+    HasReadPastOf r left bytes → StopsPastAfter stop (line_number r.cutter) → StopsSoonAt stop bytes left
 past_soon (Row line cause) r left bytes s after =
-    stops_soon r.cutter left r.consumed bytes (number_of r.cutter) line s after
+    stops_soon r.cutter left r.consumed bytes (line_number r.cutter) line s after
 past_soon ReadFault r left bytes s after = tt
 past_soon NoMemory r left bytes s after = tt
 

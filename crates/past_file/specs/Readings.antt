@@ -5,8 +5,8 @@ use Rattle.std.specs.List.{list_any}
 use Rattle.road_time.specs.declared.day.Limits.{Limits}
 use Rattle.road_time.specs.declared.day.SpentRow.{SpentRow}
 use Rattle.road_time.specs.Lines.{lines_of}
-use Rattle.road_io.specs.Cutter.{ahead, number_of}
-use Rattle.keeper.specs.History.{is_row}
+use Rattle.road_io.specs.Cutter.{ahead, line_number}
+use Rattle.road_time.specs.History.{is_row}
 use Rattle.keeper.specs.PastReads.{PastFault, past_fault, past_amounts, past_reads, past_after, past_kept, past_record}
 use Rattle.day_reading.specs.declared.consumed.Consumed.{Consumed}
 use Rattle.day_reading.specs.Days.{StopsSoon}
@@ -66,12 +66,12 @@ pub record ReadsPastOn (front : Option (List ℕ)) (number : ℕ) (consumed : Co
 -- a reader reads the history that the bytes are, where so much of the source is left
 abbrev pub IsReadingPast : PastReader → ℕ → Limits → Option (List ℕ) → List ℕ → Type 0
 IsReadingPast r base limits left bytes =
-    ReadsPastOn (ahead r.cutter left) (number_of r.cutter) r.consumed r.amounts base limits bytes
+    ReadsPastOn (ahead r.cutter left) (line_number r.cutter) r.consumed r.amounts base limits bytes
 
 -- what a reader took and holds of a source's bytes, and what is left of them, is all that the source had; and it took
 -- no more lines than it cut
 abbrev pub HasReadPastOf : PastReader → Option (List ℕ) → List ℕ → Type 0
-HasReadPastOf r left bytes = HasReadLines (ahead r.cutter left) (number_of r.cutter) r.consumed bytes
+HasReadPastOf r left bytes = HasReadLines (ahead r.cutter left) (line_number r.cutter) r.consumed bytes
 
 -- all lines were read, and no byte is left
 pub record EndsPast (consumed : Consumed) (amounts : Amounts) (base : ℕ) (limits : Limits) (left : Option (List ℕ))

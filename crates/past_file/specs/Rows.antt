@@ -3,7 +3,7 @@ use Rattle.std.specs.Prelude.{ℕ, ◌≡◌, ◌+◌, ◌<◌, ◌≤◌, nat_l
 use Rattle.std.specs.Prelude.{None}
 use Rattle.std.specs.List.{fold, filter, list_any, AllByRecursion}
 use Rattle.road_time.specs.declared.day.SpentRow.{SpentRow}
-use Rattle.keeper.specs.History.{is_row}
+use Rattle.road_time.specs.History.{is_row}
 use Rattle.keeper.specs.PastReads.{with_row, past_kept}
 use Rattle.past_file.specs.declared.amounts.Key.{Key}
 use Rattle.past_file.specs.declared.amounts.Amounts.{Amounts}

@@ -9,9 +9,8 @@ ghost use Rattle.keeper.specs.PastReads.{past_reads, past_record, past_kept};
 ghost use Rattle.keeper.specs.Calls.{WhenRefused, IfTold};
 ghost use Rattle.road_io.specs.Within.{ReadsWithin};
 ghost use Rattle.past_file.specs.Imports.{past_compared, unchanged, past_again, past_read, past_new, past_answer};
-ghost use Rattle.past_file.specs.Imports.{DoesPast};
-ghost use Rattle.past_file.specs.Imports.{LeavesPast, NeedsNone, IsUnread, IsPastUncompared, RefusesSoon, PutsPast};
-ghost use Rattle.past_file.specs.Imports.{KeepsAllPast, most_past, most_kept};
+ghost use Rattle.past_file.specs.Imports.{DoesPast, LeavesPast, NeedsNone, IsUnread, IsPastUncompared, RefusesSoon};
+ghost use Rattle.past_file.specs.Imports.{PutsPast, KeepsAllPast, most_past, most_kept};
 ghost use Rattle.past_file.specs.declared.outcomes.PastOutcome.TheVariants.{ReadFault, KeeperFault};
 
 use crate::history::History;

@@ -1,6 +1,6 @@
 // Reading a history: the type.
 ghost use Rattle.std.specs.Prelude.{◌≤◌, ◌*◌};
-ghost use Rattle.road_io.specs.Cutter.{number_of};
+ghost use Rattle.road_io.specs.Cutter.{line_number};
 
 use crate::amounts::Amounts;
 use day_reading::Consumed;
@@ -14,5 +14,5 @@ pub struct PastReader {
     cutter: LineCutter,
     consumed: Consumed,
     amounts: Amounts,
-    ghost few_bytes: { consumed.bytes ≤ 201 * number_of cutter },
+    ghost few_bytes: { consumed.bytes ≤ 201 * line_number cutter },
 }

@@ -6,8 +6,7 @@ use Rattle.reports.specs.Endings.{WroteText, Reported}
 
 -- a report that has a text, and wrote it as it ended
 pub reported : (r : Result (Unit {0}) ReportFault) (old new : Option (List ℕ)) (text : List ℕ) →
-    WroteText r old new text →
-    (r ≡ Err NoDay → ⊥) → Reported r old new (Some text)
+    WroteText r old new text → (r ≡ Err NoDay → ⊥) → Reported r old new (Some text)
 reported (Ok u) old new text w own = w
 reported (Err NoDay) old new text w own = absurd (own refl)
 reported (Err KeeperFault) old new text w own = w

@@ -21,8 +21,8 @@ line_of c = slice_range c.buf.items c.from c.to
 abbrev pub rest_of : LineCutter → List ℕ
 rest_of c = slice_range c.buf.items c.from c.start
 
-abbrev pub number_of : LineCutter → ℕ
-number_of c = c.number
+abbrev pub line_number : LineCutter → ℕ
+line_number c = c.number
 
 abbrev pub fault_of : LineCutter → Option LineFault
 fault_of c = c.fault
@@ -56,8 +56,9 @@ IsCut More bytes = (length bytes ≤ 200) × (0 < length bytes → lines_of byte
 
 -- what an answer of `advance` leaves, where n lines were cut before: the line's bytes with its end are at most 201
 abbrev pub StandsCut : Result Bool LineFault → ℕ → LineCutter → Type 0
-StandsCut (Ok true) n c = (number_of c ≡ n + 1) × (length (line_of c) ≤ 200) × (fault_of c ≡ None)
+StandsCut (Ok true) n c = (line_number c ≡ n + 1) × (length (line_of c) ≤ 200) × (fault_of c ≡ None)
     × (length (rest_of c) ≤ 201)
-StandsCut (Ok false) n c = (number_of c ≡ n) × (line_of c ≡ []) × (rest_of c ≡ []) × (fault_of c ≡ None)
-StandsCut (Err (LongLine k)) n c = (k ≡ n + 1) × (number_of c ≡ n) × (rest_of c ≡ []) × (fault_of c ≡ Some (LongLine k))
-StandsCut (Err ReadFault) n c = (number_of c ≡ n) × (rest_of c ≡ []) × (fault_of c ≡ Some ReadFault)
+StandsCut (Ok false) n c = (line_number c ≡ n) × (line_of c ≡ []) × (rest_of c ≡ []) × (fault_of c ≡ None)
+StandsCut (Err (LongLine k)) n c = (k ≡ n + 1) × (line_number c ≡ n) × (rest_of c ≡ []) ×
+    (fault_of c ≡ Some (LongLine k))
+StandsCut (Err ReadFault) n c = (line_number c ≡ n) × (rest_of c ≡ []) × (fault_of c ≡ Some ReadFault)

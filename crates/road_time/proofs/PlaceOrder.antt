@@ -1,9 +1,7 @@
 -- places in order, and those at which there was a report
-use Rattle.std.proofs.Common.{◌≡◌, ℕ, ◌==◌, ◌&&◌, ◌⊎◌, ⊎_elim, inl, inr, true, []}
-use Rattle.std.proofs.Common.{not, List, ◌∷◌, map, refl, sym, ap, ◌∙◌}
-use Rattle.std.proofs.Common.{nat_le}
-use Rattle.std.specs.List.{fold, list_any}
-use Rattle.std.specs.List.{AllByRecursion}
+use Rattle.std.proofs.Common.{◌≡◌, ℕ, ◌==◌, ◌&&◌, ◌⊎◌, ⊎_elim, inl, inr, true, [], not, List, ◌∷◌, map, refl, sym, ap}
+use Rattle.std.proofs.Common.{◌∙◌, nat_le}
+use Rattle.std.specs.List.{fold, list_any, AllByRecursion}
 use Rattle.std.specs.Ordering.{nat_cmp, ordering_then, ordering_reverse, match_ordering, is_eq}
 use Rattle.std.specs.declared.cmp.Ordering.{Ordering}
 use Rattle.std.specs.declared.cmp.Ordering.TheVariants.{Less, Equal, Greater}
@@ -19,8 +17,7 @@ use Rattle.road_time.specs.Stops.{Stop, is_stopped, up_to}
 use Rattle.road_time.specs.Tolls.{stops_at}
 use Rattle.road_time.specs.Log.{stands_at, place_cmp, places_of}
 use Rattle.road_time.proofs.EachLaws.{weakened}
-use Rattle.road_time.proofs.MemberLaws.{Mem, mem_map}
-use Rattle.road_time.proofs.MemberLaws.{mem_filter_from, any_mem}
+use Rattle.road_time.proofs.MemberLaws.{Mem, mem_map, mem_filter_from, any_mem}
 use Rattle.road_time.proofs.SameLaws.{place_is}
 
 -- places in order

@@ -18,28 +18,28 @@ use Rattle.office_words.specs.Meaning.{value_of}
 use Rattle.office_words.specs.declared.command.WordFault.{WordFault}
 use Rattle.office_words.specs.declared.command.WordFault.TheVariants.{Words, NoMemory}
 use Rattle.office_words.proofs.Meant.{value_is}
-use Rattle.server_words.specs.App.{server_app, found_in}
-use Rattle.server_words.specs.Meaning.{meaning, means, said_by_words, ReadsServing}
+use Rattle.server_words.specs.App.{server_app, server_found}
+use Rattle.server_words.specs.Meaning.{serving_of, serving_meant, said_by_words, ReadsServing}
 use Rattle.server_words.specs.declared.serving.Serving.{Serving}
 use Rattle.server_words.proofs.Law.{law}
 
 -- what clap's matches stand for
 abbrev of_found : List Row → Option Serving
-of_found rows = meaning (λ n. first_of n rows)
+of_found rows = serving_of (λ n. first_of n rows)
 
-meant : (words : List Text) → AllText words → means words ≡ option_and_then of_found (found_in words)
+meant : (words : List Text) → AllText words → serving_meant words ≡ option_and_then of_found (server_found words)
 meant words text = go (said_by_words words) ∙ ap (option_and_then of_found) (sym (law words text))
   where
-    go : (o : Option Said) → option_and_then (λ said. meaning (value_of said)) o ≡ option_and_then of_found
+    go : (o : Option Said) → option_and_then (λ said. serving_of (value_of said)) o ≡ option_and_then of_found
         (option_map (map row_said) o)
     go None = refl
     go (Some said) =
         let same : value_of said ≡ (λ n. first_of n (map row_said said)) = λ i n. sym (value_is said n) i in
-        ap meaning same
+        ap serving_of same
 
 -- where clap refuses the words, they mean nothing
 refused : (words : List Text) → AllText words → (k : ErrorKind) → IsAmong k (fault_of server_app words) →
-    means words ≡ None
+    serving_meant words ≡ None
 refused words text k among = meant words text ∙ go (fault_of server_app words) among
   where
     go : (kinds : Kinds) → IsAmong k kinds →
@@ -48,8 +48,8 @@ refused words text k among = meant words text ∙ go (fault_of server_app words)
     go (x ∷ xs) h = refl
 
 pub on_error : (words : List Text) → AllText words → (e : Error) (f : WordFault) → HasKind (fault_of server_app words) e
-    → (f ≡ Words → kind_of e ≡ OutOfMemory → ⊥) → ReadsServing (means words) (Err f)
-on_error words text e NoMemory has apart = go (means words)
+    → (f ≡ Words → kind_of e ≡ OutOfMemory → ⊥) → ReadsServing (serving_meant words) (Err f)
+on_error words text e NoMemory has apart = go (serving_meant words)
   where
     go : (o : Option Serving) → ReadsServing o (Err NoMemory)
     go None = tt
@@ -61,9 +61,9 @@ on_error words text e Words (inr among) apart =
 -- what the words mean, from the matches
 pub on_matches : (words : List Text) → AllText words → (m : ArgMatches) → fault_of server_app words ≡ [] →
     HasMatchesOf server_app words m
-    → means words ≡ meaning (first_value (found_of m))
+    → serving_meant words ≡ serving_of (first_value (found_of m))
 on_matches words text m none has =
     let same : (λ (n : Text). first_of n (rows_of (found_of m))) ≡ first_value (found_of m) =
     λ i n. sym (first_value-rows (found_of m) n) i in
     meant words text ∙ ap (λ k. option_and_then of_found (unless k (Some (matches_of server_app words)))) none
-    ∙ ap of_found (sym (has refl).0) ∙ ap meaning same
+    ∙ ap of_found (sym (has refl).0) ∙ ap serving_of same

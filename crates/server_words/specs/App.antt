@@ -14,8 +14,8 @@ bare_shape = record (new_shape (codes "serve")) {
   disable_version_flag = true;
 }
 
-abbrev pub bare_app : App
-bare_app = record { top = bare_shape; subs = [] }
+abbrev pub bare_server : App
+bare_server = record { top = bare_shape; subs = [] }
 
 -- the program with its words
 abbrev pub server_app : App
@@ -27,5 +27,5 @@ server_app = record {
 }
 
 -- what clap finds in the words, where it refuses nothing
-abbrev pub found_in : List Text → Option (List Row)
-found_in words = unless (fault_of server_app words) (Some (matches_of server_app words))
+abbrev pub server_found : List Text → Option (List Row)
+server_found words = unless (fault_of server_app words) (Some (matches_of server_app words))

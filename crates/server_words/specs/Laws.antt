@@ -3,12 +3,12 @@ use Rattle.std.specs.Prelude.{◌≡◌, ◌↔◌, List, map, Some, option_map}
 use Rattle.office_words.specs.Grammar.{Text, Said}
 use Rattle.office_words.specs.Laws.{AllText, row_said}
 use Rattle.office_words.specs.Spelling.{Spells}
-use Rattle.server_words.specs.App.{found_in}
+use Rattle.server_words.specs.App.{server_found}
 use Rattle.server_words.specs.Meaning.{server_form, said_by_words}
 
 -- what clap finds is what is said
 abbrev pub FindsWhatIsSaid : List Text → Type 0
-FindsWhatIsSaid words = AllText words → found_in words ≡ option_map (map row_said) (said_by_words words)
+FindsWhatIsSaid words = AllText words → server_found words ≡ option_map (map row_said) (said_by_words words)
 
 -- it is said exactly where the words are spelled so
 abbrev pub IsServingSaidOnlySo : List Text → Type 0

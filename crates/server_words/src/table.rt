@@ -1,7 +1,7 @@
 // The form of the words, as clap is told it.
 ghost use Rattle.std.specs.Prelude.{◌≡◌, IfOk, map, string_bytes};
 ghost use Rattle.clap.specs.Words.{app_of, FailsBy, fault_of, HasMatchesOf};
-ghost use Rattle.server_words.specs.App.{bare_app, server_app};
+ghost use Rattle.server_words.specs.App.{bare_server, server_app};
 
 use clap::{ArgMatches, Command, Error};
 use office_words::{option, place};
@@ -9,7 +9,7 @@ use std::alloc::{AllocError, Global};
 
 /// The program, with no words yet.
 fn bare<'a>(alloc: Global) -> Command<'a>
-    ensures app { app_of result ≡ bare_app }
+    ensures app { app_of result ≡ bare_server }
 {
     Command::new(alloc, "serve")
         .no_binary_name(true)

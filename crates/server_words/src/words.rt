@@ -1,7 +1,7 @@
 // The words of the server, read.
 ghost use Rattle.std.specs.Prelude.{◌≡◌, IfOk, IfSome, map, string_bytes};
 ghost use Rattle.clap.specs.Words.{first_value, found_of};
-ghost use Rattle.server_words.specs.Meaning.{ReadsServing, meaning, means, IsInRange};
+ghost use Rattle.server_words.specs.Meaning.{ReadsServing, serving_of, serving_meant, IsServingInRange};
 
 use crate::serving::Serving;
 use crate::table;
@@ -11,8 +11,8 @@ use std::alloc::Global;
 
 /// How to serve by the values that were found.
 fn serving(m: &ArgMatches<'_>) -> Option<Serving>
-    ensures value { result ≡ meaning (first_value (found_of m.now)) }
-    ensures range { IfSome result IsInRange }
+    ensures value { result ≡ serving_of (first_value (found_of m.now)) }
+    ensures range { IfSome result IsServingInRange }
 {
     let port = needed(m, "port", 1, 65_535)?;
     let sessions = optional(m, "sessions", 1, u64::MAX, u64::MAX)?;
@@ -26,8 +26,8 @@ fn serving(m: &ArgMatches<'_>) -> Option<Serving>
 
 /// How to serve by the words. They are refused exactly where they are of no stated form.
 pub fn read_words(alloc: Global, words: &[String]) -> Result<Serving, WordFault>
-    ensures reads { ReadsServing (means (map string_bytes words.now)) result }
-    ensures range { IfOk result IsInRange }
+    ensures reads { ReadsServing (serving_meant (map string_bytes words.now)) result }
+    ensures range { IfOk result IsServingInRange }
 {
     let matches = match table::parse(alloc, words) {
         Ok(matches) => matches,

@@ -10,7 +10,7 @@ use Rattle.road_time.specs.Tolls.{StretchTold}
 use Rattle.keeper.specs.declared.kept.KeepFault.{KeepFault}
 use Rattle.keeper.specs.Calls.{GoesAsPlanned, has_failed}
 use Rattle.settling.specs.Slots.{slot_of}
-use Rattle.settling.specs.Asking.{AskingPlan, PassesCalls, PassesUpTo, FailsAfter, asked_by, requests_of, asked_for}
+use Rattle.settling.specs.Asking.{AskingPlan, PassesCalls, PassesUpTo, FailsAfter, asked_by, requests_of, slot_asked}
 
 -- no call was made
 pub passes_none : (p : AskingPlan) → PassesCalls 0 p p
@@ -84,7 +84,7 @@ asked_more xs x = let both = asked_both xs (x ∷ []) in omega arith
 
 -- a slot asks as its tuple does
 pub asked_slot : (finding : Sight → StretchTold) (before : List Tuple) (x : Tuple) →
-    asked_for (slot_of finding (before, x)).due ≡ asked_by x
+    slot_asked (slot_of finding (before, x)).due ≡ asked_by x
 asked_slot finding before (ReportTuple r) = refl
 asked_slot finding before (BalanceTuple time vid qid) = refl
 asked_slot finding before (SpentTuple time vid xway qid day) = refl

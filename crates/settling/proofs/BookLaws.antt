@@ -8,6 +8,7 @@ use Rattle.std.specs.Ordering.{nat_cmp}
 use Rattle.std.specs.FinMap.{get, empty, get-insert, get-empty}
 use Rattle.std.proofs.lemmas.Bool.{and_from, and_left, eqb-true}
 use Rattle.std.proofs.lemmas.List.Sums.{fold-append}
+use Rattle.road_time.specs.declared.tariff.TheConstants.{GREATEST_TOLL}
 use Rattle.road_time.specs.declared.road.Tuple.{Tuple}
 use Rattle.road_time.specs.declared.road.Tuple.TheVariants.{Report as ReportTuple, Balance as BalanceTuple}
 use Rattle.road_time.specs.declared.road.Tuple.TheVariants.{Spent as SpentTuple, Travel}
@@ -16,7 +17,7 @@ use Rattle.road_time.specs.Sights.{Moment, moments, Sight, sights_of, previous}
 use Rattle.road_time.specs.Stays.{begins, is_told, is_charged, stay_start}
 use Rattle.road_time.specs.Tolls.{StretchTold}
 use Rattle.road_time.specs.Day.{ChargedToll as Owed, toll_told, xway_of, owed_if, owed_by, charges_by, balance_by}
-use Rattle.road_time.specs.Day.{total_by}
+use Rattle.road_time.specs.Day.{total_by, HasFewTolls}
 use Rattle.road_time.proofs.SightLaws.{sights_of_push, sights_of_other, length-moments}
 use Rattle.road_time.proofs.FindingLaws.{outside, still_outside, charged_outside}
 use Rattle.road_time.proofs.AccountLaws.{charges_push}
@@ -24,18 +25,16 @@ use Rattle.crossings.specs.declared.tracked.Charge.TheVariants.{No, Last}
 use Rattle.crossings.specs.Told.{charge_by}
 use Rattle.accounts.specs.Sums.{with_charge, spent_by, account_in, total_in}
 use Rattle.accounts.specs.Books.{Accounts}
-use Rattle.accounts.proofs.SumLaws.{account_by}
-use Rattle.accounts.proofs.SumLaws.{total_by as total_by_sums}
+use Rattle.accounts.proofs.SumLaws.{account_by, total_by as total_by_sums}
 use Rattle.settling.specs.declared.slot.Due.{Due}
 use Rattle.settling.specs.declared.slot.Due.TheVariants.{Nothing, Report, Balance, Spent}
 use Rattle.settling.specs.Slots.{slot_of, found_for}
 use Rattle.settling.specs.Books.{told_last, IsBook, charges_for, charged_with, told_with, charges_in, book_after}
-use Rattle.settling.specs.Books.{WasTold, CanSettle, HasFewTolls}
+use Rattle.settling.specs.Books.{WasTold, CanSettle}
 
 module _ (finding : Sight → StretchTold) where
   last_step : (s : Sight) (older : List Sight) (b : Bool) → begins (previous older) s.1 ≡ b → not (s.1.lane == 4) ≡ true
-      →
-      (outside (previous older) ≡ true → begins (previous older) s.1 ≡ false →
+      → (outside (previous older) ≡ true → begins (previous older) s.1 ≡ false →
       told_last finding older ≡ Some (toll_told finding (stay_start older))) →
       cond (is_told (previous older) s.1) (Some (finding s).toll) (told_last finding older)
       ≡ Some (toll_told finding (cond b (Some s) (stay_start older)))
@@ -229,7 +228,7 @@ made_few finding b before book = let made = book.made in let few = charges_few f
 
 -- the tolls of slots are few
 pub found_few : (finding : Sight → StretchTold) → HasFewTolls finding → (m : Moment) →
-    (found_for finding m).toll ≤ 500000000000
+    (found_for finding m).toll ≤ GREATEST_TOLL
 found_few finding few (before, ReportTuple r) = few (length before, r)
 found_few finding few (before, BalanceTuple time vid qid) = omega arith
 found_few finding few (before, SpentTuple time vid xway qid day) = omega arith

@@ -6,6 +6,7 @@ use Rattle.std.specs.Map.{lookup}
 use Rattle.std.specs.Option.{unwrap_or}
 use Rattle.std.specs.List.{filter_map, cons_option, AllByRecursion}
 use Rattle.std.proofs.lemmas.Bool.{ne_eqb, eq-eqb, cases_eq}
+use Rattle.road_time.specs.declared.tariff.TheConstants.{GREATEST_TOLL}
 use Rattle.road_time.specs.declared.road.Tuple.{Tuple}
 use Rattle.road_time.specs.declared.road.Tuple.TheVariants.{Report as ReportTuple, Balance as BalanceTuple}
 use Rattle.road_time.specs.declared.road.Tuple.TheVariants.{Spent as SpentTuple, Travel}
@@ -13,10 +14,9 @@ use Rattle.road_time.specs.declared.road.Report as road
 use Rattle.road_time.specs.Sights.{moments, moments_after, Sight, sights_of, previous}
 use Rattle.road_time.specs.Stays.{is_told}
 use Rattle.road_time.specs.Tolls.{StretchTold}
-use Rattle.road_time.specs.Day.{told_if, told_sight, given, no_finding}
+use Rattle.road_time.specs.Day.{told_if, told_sight, given, no_finding, HasFewTolls}
 use Rattle.road_time.proofs.EachLaws.{weakened}
 use Rattle.settling.specs.declared.slot.Slot.{Slot}
-use Rattle.settling.specs.Books.{HasFewTolls}
 use Rattle.settling.specs.Slots.{due_of, found_of, slot_of, slots_of}
 
 -- what is looked up is there before it is added, or it is what is added
@@ -31,8 +31,7 @@ lookup_first t [] more h = lookup_none t more h
 lookup_first t (f ∷ fs) more h = ap (cond (t f.0) (Some f.1)) (lookup_first t fs more h)
 
 lookup_new : (t : ℕ → Bool) (found : List (ℕ × StretchTold)) (p : ℕ) (f : StretchTold) → t p ≡ true →
-    lookup t found ≡ None →
-    lookup t (found ++ (p, f) ∷ []) ≡ Some f
+    lookup t found ≡ None → lookup t (found ++ (p, f) ∷ []) ≡ Some f
 lookup_new t [] p f e h = ap (λ b. cond b (Some f) None) e
 lookup_new t (q ∷ qs) p f e h = by_first (t q.0) refl (lookup_new t qs p f e)
   where
@@ -154,12 +153,12 @@ given_none found s ahead =
 
 -- one finding more leaves few tolls, if its own is one
 pub given_few : (found : List (ℕ × StretchTold)) (p : ℕ) (f : StretchTold) → lookup (λ q. q == p) found ≡ None →
-    HasFewTolls (given found) → f.toll ≤ 500000000000 → HasFewTolls (given (found ++ (p, f) ∷ []))
+    HasFewTolls (given found) → f.toll ≤ GREATEST_TOLL → HasFewTolls (given (found ++ (p, f) ∷ []))
 given_few found p f none few toll s =
     ⊎_elim
-    (λ (e : s.0 ≡ p). subst (λ (g : StretchTold). g.toll ≤ 500000000000)
+    (λ (e : s.0 ≡ p). subst (λ (g : StretchTold). g.toll ≤ GREATEST_TOLL)
     (sym (ap (λ o. unwrap_or o no_finding)
     (lookup_new (λ at. at == s.0) found p f (eq-eqb p s.0 (sym e))
     (subst (λ n. lookup (λ at. at == n) found ≡ None) (sym e) none)))) toll)
-    (λ (e : s.0 ≡ p → ⊥). subst (λ (g : StretchTold). g.toll ≤ 500000000000) (sym (given_other found p f s e)) (few s))
+    (λ (e : s.0 ≡ p → ⊥). subst (λ (g : StretchTold). g.toll ≤ GREATEST_TOLL) (sym (given_other found p f s e)) (few s))
     (cases_eq s.0 p)

@@ -1,9 +1,8 @@
 -- Text that is written in pieces.
 use Rattle.std.proofs.Common.{◌≡◌, ℕ, ◌+◌, ◌<◌, ◌≤◌, List, [], ◌∷◌, ◌++◌, length, take, Option, Result, Ok, Err, sym}
-use Rattle.std.proofs.Common.{ap, subst, ◌∙◌, arith, append_assoc, append-nil, length-append}
+use Rattle.std.proofs.Common.{ap, subst, ◌∙◌, arith, append_assoc, append-nil, length-append, ⊎_elim}
 use Rattle.std.proofs.lemmas.List.{take-append-le, take_all}
 use Rattle.std.proofs.lemmas.Bool.{cases_lt}
-use Rattle.std.proofs.Common.{⊎_elim}
 use Rattle.std.proofs.Math.Seq.{take-append_seam}
 use Rattle.std.proofs.lemmas.Grind.{flat_map-append}
 use Rattle.std.specs.Io.KnownBytes.{Appends}
@@ -14,7 +13,7 @@ use Rattle.settling.specs.declared.fault.SettleFault.{SettleFault}
 use Rattle.settling.specs.declared.fault.SettleFault.TheVariants.{KeeperFault, WriteFault, NoMemory}
 use Rattle.settling.specs.declared.printer.Printer.{Printer}
 use Rattle.settling.specs.Levels.{Level, Adds, AddsFront, AddsPieces, FillsUp}
-use Rattle.settling.specs.Printing.{Prints, Holds, IsPrinted, WritesFront, WritesLess, WritesSome, AddsSome, Says}
+use Rattle.settling.specs.Printing.{Prints, HoldsPiece, IsPrinted, WritesFront, WritesLess, WritesSome, AddsSome, Says}
 use Rattle.settling.specs.Printing.{HandsOn}
 use Rattle.settling.proofs.LevelLaws.{fills_after, front_of, some_longer, adds_on}
 
@@ -47,7 +46,7 @@ handed_front p earlier run more old now s =
     subst (λ t. AddsFront t old now) parts (front_of old now s.handed (p.piece.items ++ more) s.wrote)
 
 -- all of it but what is held
-pub handed_pieces : (p : Printer) (earlier run : List ℕ) (old now : Level) → Holds p earlier run old now →
+pub handed_pieces : (p : Printer) (earlier run : List ℕ) (old now : Level) → HoldsPiece p earlier run old now →
     AddsPieces run old now
 handed_pieces p earlier run old now h =
     let s = h.prints in
@@ -96,7 +95,7 @@ says_then (Ok u) p q s w v z ns ms a b =
     let second = b.0 in
     let size = length-append ns ms in (
       omega arith,
-      λ earlier run old h. subst (λ t. Holds s earlier t old z)
+      λ earlier run old h. subst (λ t. HoldsPiece s earlier t old z)
           (append_assoc run (out ns) (out ms) ∙ ap (λ t. run ++ t) (sym (out_both ns ms)))
           (b.1 earlier (run ++ out ns) old (a.1 earlier run old h)),
     )
@@ -115,7 +114,7 @@ says_longer fault p q w v ns ms a =
 
 -- a printer takes none
 pub says_none : (p : Printer) (w : Level) → Says {T = Unit {0}} (Ok tt) p p w w []
-says_none p w = (omega arith, λ earlier run old h. subst (λ t. Holds p earlier t old w) (sym (append-nil run)) h)
+says_none p w = (omega arith, λ earlier run old h. subst (λ t. HoldsPiece p earlier t old w) (sym (append-nil run)) h)
 
 module _ (p q : Printer) (n : Notice) (held : q.piece.items ≡ p.piece.items ++ (notice_text n ++ 10 ∷ []))
     (same : q.digester ≡ p.digester) where

@@ -10,7 +10,7 @@ use Rattle.road_time.specs.declared.road.Tuple.{Tuple}
 use Rattle.road_time.specs.declared.road.Notice.{Notice}
 use Rattle.road_time.specs.Sights.{moments, moments_after, Sight}
 use Rattle.road_time.specs.Tolls.{StretchTold}
-use Rattle.road_time.specs.Day.{owed_by, charges_by, sum_of, total_by}
+use Rattle.road_time.specs.Day.{owed_by, charges_by, sum_of, total_by, HasFewTolls}
 use Rattle.road_time.proofs.BoundLaws.{total_few}
 use Rattle.road_time.specs.Text.{out}
 use Rattle.road_time.proofs.SightLaws.{moments-append, length-moments}
@@ -22,12 +22,12 @@ use Rattle.keeper.specs.Digests.{Took}
 use Rattle.settling.specs.declared.slot.Slot.{Slot}
 use Rattle.settling.specs.declared.settler.Settler.{Settler}
 use Rattle.settling.specs.Slots.{slot_of, slots_of}
-use Rattle.settling.specs.Books.{IsBook, HasFewTolls, charges_in, book_after}
+use Rattle.settling.specs.Books.{IsBook, charges_in, book_after}
 use Rattle.settling.specs.Answers.{PaidHistory, AreNotices, IsSaid}
 use Rattle.settling.specs.Levels.{Level}
 use Rattle.settling.specs.Asking.{AskingPlan, PassesCalls, requests_of}
-use Rattle.settling.specs.Printing.{Holds, HandsOn}
-use Rattle.settling.specs.Runs.{StandsFor, InRun, HasRun, Waits, WritesRun, SettlesSlot, TakesRun}
+use Rattle.settling.specs.Printing.{HoldsPiece, HandsOn}
+use Rattle.settling.specs.Runs.{StandsFor, InRun, HasSettled, Waits, WritesRun, SettlesSlot, TakesRun}
 use Rattle.settling.proofs.LevelLaws.{adds_none}
 use Rattle.settling.proofs.AskLaws.{passes_none, passes_on, asked_more, asked_slot}
 use Rattle.settling.proofs.PrintLaws.{out_both}
@@ -87,17 +87,14 @@ module _ (finding : Sight → StretchTold) (number : ℕ) (history : PaidHistory
   -- a run goes on over one slot
   pub run_more : (s s' : Settler) (before run : List Tuple) (x : Tuple) (old now now' : Level)
       (plan left left' : AskingPlan)
-      (ns : List Notice) → InRun s finding number history before run old now plan left →
-      s'.settled ≡ s.settled + 1 →
+      (ns : List Notice) → InRun s finding number history before run old now plan left → s'.settled ≡ s.settled + 1 →
       s'.book ≡ book_after (slot_of finding (before ++ run, x)).due (slot_of finding (before ++ run, x)).found.toll
-      s.book →
-      map charge_of s'.charges.items ≡ map charge_of s.charges.items ++ charges_in
+      s.book → map charge_of s'.charges.items ≡ map charge_of s.charges.items ++ charges_in
       (slot_of finding (before ++ run, x)).due s.book →
       IsSaid history number (slot_of finding (before ++ run, x)).due (slot_of finding (before ++ run, x)).found s.book
       ns →
       SettlesSlot {T = Unit {0}} (Ok tt) (slot_of finding (before ++ run, x)).due s.printer s'.printer now now' left
-      left' ns →
-      InRun s' finding number history before (run ++ x ∷ []) old now' plan left'
+      left' ns → InRun s' finding number history before (run ++ x ∷ []) old now' plan left'
   run_more s s' before run x old now now' plan left left' ns h count book charges said settles =
       let says = settles.0 in
       let size = length-append (before ++ run) (x ∷ []) in
@@ -113,7 +110,7 @@ module _ (finding : Sight → StretchTold) (number : ℕ) (history : PaidHistory
         told = h.told ++ ns;
         told_are = told_more before run x s h.told ns h.book h.told_are said;
         count = let n = h.count in let m = says.0 in let l = length-append h.told ns in omega arith;
-        holds = subst (λ t. Holds s'.printer (out h.earlier) t old now') (sym (out_both h.told ns))
+        holds = subst (λ t. HoldsPiece s'.printer (out h.earlier) t old now') (sym (out_both h.told ns))
             (says.1 (out h.earlier) (out h.told) old h.holds);
         passed = subst (λ n. PassesCalls n plan left')
             (ap (λ n. requests_of run + n) (asked_slot finding (before ++ run) x)
@@ -141,7 +138,7 @@ module _ (finding : Sight → StretchTold) (number : ℕ) (history : PaidHistory
 
   -- all of a run was written
   pub run_took : (s : Settler) (before run : List Tuple) (old now : Level) (plan left : AskingPlan) →
-      HasRun s finding number history before run old now plan left →
+      HasSettled s finding number history before run old now plan left →
       TakesRun finding number history before run old now plan left
   run_took s before run old now plan left h = (h.told, h.told_are, h.wrote, h.passed)
 
@@ -152,7 +149,7 @@ module _ (finding : Sight → StretchTold) (number : ℕ) (history : PaidHistory
 
   -- a run ends where its charges are listed no more
   pub run_ends : (s s' : Settler) (before run : List Tuple) (old now : Level) (plan left : AskingPlan) →
-      HasRun s finding number history before run old now plan left →
+      HasSettled s finding number history before run old now plan left →
       s'.settled ≡ s.settled → s'.book ≡ s.book → s'.printer ≡ s.printer → s'.charges.items ≡ [] →
       StandsFor s' finding number history (before ++ run)
   run_ends s s' before run old now plan left h count book printer none =
@@ -236,7 +233,7 @@ module _ (finding : Sight → StretchTold) (number : ℕ) (history : PaidHistory
       InRun s finding number history before run old now plan left →
       s'.settled ≡ s.settled → s'.book ≡ s.book → s'.charges ≡ s.charges →
       HandsOn {T = Unit {0}} (Ok tt) s.printer s'.printer now now' →
-      HasRun s' finding number history before run old now' plan left
+      HasSettled s' finding number history before run old now' plan left
   run_flushed s s' before run old now now' plan left h count book charges hands =
       let end = hands.1 (out h.earlier) (out h.told) old h.holds.prints in
       record {

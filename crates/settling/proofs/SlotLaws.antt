@@ -6,7 +6,7 @@ use Rattle.settling.specs.declared.fault.SettleFault.TheVariants.{KeeperFault, W
 use Rattle.settling.specs.declared.printer.Printer.{Printer}
 use Rattle.settling.specs.declared.slot.Due.{Due}
 use Rattle.settling.specs.Levels.{Level}
-use Rattle.settling.specs.Asking.{AskingPlan, PassesCalls, AsksOnce, asked_for}
+use Rattle.settling.specs.Asking.{AskingPlan, PassesCalls, AsksOnce, slot_asked}
 use Rattle.settling.specs.Faults.{keeper_failed}
 use Rattle.settling.specs.Printing.{Says}
 use Rattle.settling.specs.Runs.{SettlesSlot}
@@ -15,19 +15,21 @@ use Rattle.settling.proofs.PrintLaws.{says_no_memory}
 
 -- the keeper was asked as often as the slot asks, and then the notices were said
 pub slot_said : (r : Result (Unit {0}) SettleFault) (due : Due) (p q : Printer) (w v : Level) (plan left : AskingPlan)
-    (ns : List Notice) → keeper_failed r ≡ false → PassesCalls (asked_for due) plan left → Says r p q w v ns →
+    (ns : List Notice) → keeper_failed r ≡ false → PassesCalls (slot_asked due) plan left → Says r p q w v ns →
     SettlesSlot r due p q w v plan left ns
 slot_said (Ok u) due p q w v plan left ns e calls says = (says, calls)
 slot_said (Err KeeperFault) due p q w v plan left ns e calls says = let no : ⊥ = cc in absurd no
-slot_said (Err WriteFault) due p q w v plan left ns e calls says = (says, up_to_all plan left (asked_for due) calls)
-slot_said (Err NoMemory) due p q w v plan left ns e calls says = (says, up_to_all plan left (asked_for due) calls)
+slot_said (Err WriteFault) due p q w v plan left ns e calls says = (says, up_to_all plan left (slot_asked due) calls)
+slot_said (Err NoMemory) due p q w v plan left ns e calls says = (says, up_to_all plan left (slot_asked due) calls)
 
 -- the keeper refused the one call that a slot makes
 pub slot_refused : (fault : SettleFault) (due : Due) (p q : Printer) (w : Level) (plan left : AskingPlan)
-    (ns : List Notice) →
-    asked_for due ≡ 1 → AsksOnce {T = ℕ} (Err fault) plan left →
+    (ns : List Notice) → slot_asked due ≡ 1 → AsksOnce {T = ℕ} (Err fault) plan left →
     SettlesSlot {T = Unit {0}} (Err fault) due p q w w plan left ns
 slot_refused KeeperFault due p q w plan left ns one once = (one, refl, once)
 slot_refused WriteFault due p q w plan left ns one once = absurd once
-slot_refused NoMemory due p q w plan left ns one once =
-    (says_no_memory p q w ns, up_to_all plan left (asked_for due) (subst (λ n. PassesCalls n plan left) (sym one) once))
+slot_refused NoMemory due p q w plan left ns one once = (
+  says_no_memory p q w ns,
+  up_to_all plan left (slot_asked due)
+      (subst (λ n. PassesCalls n plan left) (sym one) once),
+)

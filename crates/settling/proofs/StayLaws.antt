@@ -155,8 +155,7 @@ module _ (f g : Sight → StretchTold) where
 
 -- a settler stands by findings that are the same where its tuples are told
 pub stands_by : (s : Settler) (finding other : Sight → StretchTold) (number : ℕ) (history : PaidHistory)
-    (before : List Tuple) →
-    AllByRecursion (λ t. finding t ≡ other t) (filter_map told_sight (moments before)) →
+    (before : List Tuple) → AllByRecursion (λ t. finding t ≡ other t) (filter_map told_sight (moments before)) →
     StandsFor s finding number history before → StandsFor s other number history before
 stands_by s finding other number history before same h =
     let at = told_agree finding other before same in

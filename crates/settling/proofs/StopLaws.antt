@@ -35,8 +35,7 @@ module _ (finding : Sight → StretchTold) (number : ℕ) (history : PaidHistory
       IsSaid history number (slot_of finding (before ++ run, x)).due (slot_of finding (before ++ run, x)).found s.book
       ns →
       SettlesSlot {T = Unit {0}} (Err fault) (slot_of finding (before ++ run, x)).due s.printer q now now' left left' ns
-      →
-      StopsRun fault finding number history before (run ++ x ∷ []) old now' plan left'
+      → StopsRun fault finding number history before (run ++ x ∷ []) old now' plan left'
   run_stops KeeperFault s q before run x old now now' plan left left' ns h said settles = record {
     done = run;
     request = x;

@@ -11,7 +11,7 @@ use Rattle.road_time.specs.Tolls.{StretchTold}
 use Rattle.road_time.specs.Day.{told_by, balance_by}
 use Rattle.accounts.specs.Sums.{account_in}
 use Rattle.accounts.specs.Books.{Accounts}
-use Rattle.keeper.specs.History.{paid}
+use Rattle.road_time.specs.History.{paid}
 use Rattle.keeper.specs.Office.{Office}
 use Rattle.settling.specs.declared.slot.Found.{Found}
 use Rattle.settling.specs.declared.slot.Due.{Due}

@@ -42,11 +42,11 @@ requests_of [] = 0
 requests_of (x ∷ xs) = asked_by x + requests_of xs
 
 -- and where a slot is
-abbrev pub asked_for : Due → ℕ
-asked_for Nothing = 0
-asked_for (Report time vid charge told) = 0
-asked_for (Balance time vid qid) = 0
-asked_for (Spent time vid qid xway day) = 1
+abbrev pub slot_asked : Due → ℕ
+slot_asked Nothing = 0
+slot_asked (Report time vid charge told) = 0
+slot_asked (Balance time vid qid) = 0
+slot_asked (Spent time vid qid xway day) = 1
 
 -- one call was made, which failed exactly where that is answered
 abbrev pub AsksOnce : {T : Type 0} → Result T SettleFault → AskingPlan → AskingPlan → Type 0

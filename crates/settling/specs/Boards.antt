@@ -18,7 +18,6 @@ posted_if (suc n) charges mark before = option_map (posted_with (Step charges ma
 
 -- one step is published if something was settled, and none otherwise; where settling was stopped none is published
 abbrev pub PublishesStep : {T : Type 0} → Result T SettleFault → ℕ → List ChargedToll → ℕ → Option Posted →
-    Option Posted →
-    Type 0
+    Option Posted → Type 0
 PublishesStep (Ok x) count charges mark before now = now ≡ posted_if count charges mark before
 PublishesStep (Err fault) count charges mark before now = IsRefused (Step charges mark) before now

@@ -26,10 +26,6 @@ pub record IsBook (b : Accounts) (finding : Sight → StretchTold) (before : Lis
   pub spent : b.spent ≡ spent_by (charges_by finding (moments before))
   pub made : b.made ≡ length (charges_by finding (moments before))
 
--- tolls that a book takes
-abbrev pub HasFewTolls : (Sight → StretchTold) → Type 0
-HasFewTolls finding = (s : Sight) → (finding s).toll ≤ 500000000000
-
 -- What a slot does:
 
 -- the charge of the stay that a vehicle leaves, if it leaves one: the toll that it was told last

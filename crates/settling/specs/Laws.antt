@@ -12,11 +12,11 @@ use Rattle.road_time.specs.Tolls.{StretchTold}
 use Rattle.road_time.specs.Day.{told_sight, charges_by, charges_between, notices_by, total_by, given, merged}
 use Rattle.std.specs.Io.KnownBytes.{Appends}
 use Rattle.road_time.specs.Text.{out}
+use Rattle.road_time.specs.Day.{HasFewTolls}
 use Rattle.keeper.specs.Digests.{Took}
 use Rattle.settling.specs.declared.slot.Slot.{Slot}
 use Rattle.settling.specs.declared.settler.Settler.{Settler}
 use Rattle.settling.specs.Answers.{PaidHistory, AreNotices}
-use Rattle.settling.specs.Books.{HasFewTolls}
 use Rattle.settling.specs.Runs.{StandsFor, Waits, WritesRun}
 use Rattle.settling.specs.Slots.{slot_of, slots_of, found_of}
 
@@ -67,8 +67,7 @@ LaterLaw =
 abbrev pub FillLaw : Type 0
 FillLaw =
     (found : List (ℕ × StretchTold)) (finding : StretchTold) (before rest : List Tuple) (at : ℕ) (r : Report)
-    (slot : Slot) →
-    slice_get rest at ≡ Some (ReportTuple r) → lookup (λ q. q == length before + at) found ≡ None →
+    (slot : Slot) → slice_get rest at ≡ Some (ReportTuple r) → lookup (λ q. q == length before + at) found ≡ None →
     slice_get (slots_of (given found) before rest) at ≡ Some slot →
     slots_of (given (found ++ (length before + at, finding) ∷ [])) before rest ≡ slice_set
     (slots_of (given found) before rest) at (record { due = slot.due; found = found_of finding })

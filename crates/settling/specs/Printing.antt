@@ -17,7 +17,7 @@ pub record Prints (p : Printer) (earlier run : List ℕ) (old now : Level) : Typ
   pub wrote : Adds old now handed
 
 -- what is held is less than a piece, and nothing of a shorter text was handed on
-pub record Holds (p : Printer) (earlier run : List ℕ) (old now : Level) : Type 0 where
+pub record HoldsPiece (p : Printer) (earlier run : List ℕ) (old now : Level) : Type 0 where
   pub prints : Prints p earlier run old now
   pub short : length p.piece.items < 65536
   pub none_yet : length run < 65536 → prints.handed ≡ []
@@ -52,8 +52,9 @@ AddsSome NoMemory text old now = AddsFront text old now
 abbrev pub Says : {T : Type 0} → Result T SettleFault → Printer → Printer → Level → Level → List Notice → Type 0
 Says (Ok x) p q before now ns =
     (q.notices ≡ p.notices + length ns)
-    × ((earlier run : List ℕ) (old : Level) → Holds p earlier run old before → Holds q earlier (run ++ out ns) old now)
-Says (Err fault) p q before now ns = (earlier run : List ℕ) (old : Level) → Holds p earlier run old before →
+    × ((earlier run : List ℕ) (old : Level) → HoldsPiece p earlier run old before →
+    HoldsPiece q earlier (run ++ out ns) old now)
+Says (Err fault) p q before now ns = (earlier run : List ℕ) (old : Level) → HoldsPiece p earlier run old before →
     AddsSome fault (run ++ out ns) old now
 
 -- a printer handed on all that it held, or the sink failed

@@ -5,7 +5,7 @@ use Rattle.road_time.specs.declared.road.Tuple.{Tuple}
 use Rattle.road_time.specs.declared.road.Notice.{Notice}
 use Rattle.road_time.specs.Sights.{moments, moments_after, Sight}
 use Rattle.road_time.specs.Tolls.{StretchTold}
-use Rattle.road_time.specs.Day.{charges_by}
+use Rattle.road_time.specs.Day.{charges_by, HasFewTolls}
 use Rattle.road_time.specs.Text.{out}
 use Rattle.accounts.specs.Operations.{charge_of}
 use Rattle.keeper.specs.Digests.{Took}
@@ -13,14 +13,14 @@ use Rattle.settling.specs.declared.slot.Slot.{Slot}
 use Rattle.settling.specs.declared.fault.SettleFault.{SettleFault}
 use Rattle.settling.specs.declared.settler.Settler.{Settler}
 use Rattle.settling.specs.Slots.{slots_of}
-use Rattle.settling.specs.Books.{IsBook, HasFewTolls}
+use Rattle.settling.specs.Books.{IsBook}
 use Rattle.settling.specs.Answers.{PaidHistory, AreNotices}
 use Rattle.settling.specs.declared.fault.SettleFault.TheVariants.{KeeperFault, WriteFault, NoMemory}
 use Rattle.settling.specs.declared.slot.Due.{Due}
 use Rattle.settling.specs.declared.printer.Printer.{Printer}
 use Rattle.settling.specs.Levels.{Level, Adds, AddsFront, AddsPieces, FillsUp}
-use Rattle.settling.specs.Asking.{AskingPlan, PassesCalls, PassesUpTo, FailsAfter, asked_by, requests_of, asked_for}
-use Rattle.settling.specs.Printing.{Holds, WritesSome, Says}
+use Rattle.settling.specs.Asking.{AskingPlan, PassesCalls, PassesUpTo, FailsAfter, asked_by, requests_of, slot_asked}
+use Rattle.settling.specs.Printing.{HoldsPiece, WritesSome, Says}
 
 -- a settler between two runs: its book is that of the tuples that are settled, and it took the text of their notices
 pub record StandsFor (s : Settler) (finding : Sight → StretchTold) (number : ℕ) (history : PaidHistory)
@@ -46,12 +46,12 @@ pub record InRun (s : Settler) (finding : Sight → StretchTold) (number : ℕ) 
   pub told : List Notice
   pub told_are : AreNotices finding number history (moments_after before run) told
   pub count : s.printer.notices ≡ length earlier + length told
-  pub holds : Holds s.printer (out earlier) (out told) old now
+  pub holds : HoldsPiece s.printer (out earlier) (out told) old now
   pub charged : map charge_of s.charges.items ≡ charges_by finding (moments_after before run)
   pub passed : PassesCalls (requests_of run) plan left
 
 -- a settler after a run, whose text was taken whole
-pub record HasRun (s : Settler) (finding : Sight → StretchTold) (number : ℕ) (history : PaidHistory)
+pub record HasSettled (s : Settler) (finding : Sight → StretchTold) (number : ℕ) (history : PaidHistory)
     (before run : List Tuple)
     (old now : Level) (plan left : AskingPlan) : Type 0 where
   pub settled : s.settled ≡ length (before ++ run)
@@ -75,32 +75,29 @@ pub record Waits (slots : List Slot) (finding : Sight → StretchTold) (before r
 
 -- the text of the notices of a run was written
 abbrev pub WritesRun : (Sight → StretchTold) → ℕ → PaidHistory → List Tuple → List Tuple → Option (List ℕ) →
-    Option (List ℕ) →
-    Type 0
+    Option (List ℕ) → Type 0
 WritesRun finding number history before run old now =
     (told : List Notice) × AreNotices finding number history (moments_after before run) told
     × Appends old now (out told)
 
 -- some first bytes of it were written
 abbrev pub WritesSomeOfRun : SettleFault → (Sight → StretchTold) → ℕ → PaidHistory → List Tuple → List Tuple →
-    Option (List ℕ) →
-    Option (List ℕ) → Type 0
+    Option (List ℕ) → Option (List ℕ) → Type 0
 WritesSomeOfRun fault finding number history before run old now =
     (told : List Notice) × AreNotices finding number history (moments_after before run) told
     × WritesSome fault (out told) old now
 
 -- a slot was settled, with these notices, or settling was stopped at it: by the keeper before anything was said
 abbrev pub SettlesSlot : {T : Type 0} → Result T SettleFault → Due → Printer → Printer → Level → Level → AskingPlan →
-    AskingPlan →
-    List Notice → Type 0
+    AskingPlan → List Notice → Type 0
 SettlesSlot (Ok x) due p q before now plan left ns = Says (Ok x) p q before now ns
-    × PassesCalls (asked_for due) plan left
-SettlesSlot (Err KeeperFault) due p q before now plan left ns = (asked_for due ≡ 1) × (now ≡ before)
+    × PassesCalls (slot_asked due) plan left
+SettlesSlot (Err KeeperFault) due p q before now plan left ns = (slot_asked due ≡ 1) × (now ≡ before)
     × FailsAfter 0 plan left
 SettlesSlot (Err WriteFault) due p q before now plan left ns = Says {T = Unit {0}} (Err WriteFault) p q before now ns
-    × PassesUpTo (asked_for due) plan left
+    × PassesUpTo (slot_asked due) plan left
 SettlesSlot (Err NoMemory) due p q before now plan left ns = Says {T = Unit {0}} (Err NoMemory) p q before now ns
-    × PassesUpTo (asked_for due) plan left
+    × PassesUpTo (slot_asked due) plan left
 
 -- the sink took the text of the notices of a run, and the keeper was asked for each request, and planned none of these
 -- calls to fail
@@ -127,8 +124,7 @@ pub record FailsInRun (finding : Sight → StretchTold) (number : ℕ) (history 
 -- where a run was stopped: by the keeper at the call that was planned to fail; by the sink where its room was full; or
 -- for want of memory
 abbrev pub StopsRun : SettleFault → (Sight → StretchTold) → ℕ → PaidHistory → List Tuple → List Tuple → Level → Level →
-    AskingPlan →
-    AskingPlan → Type 0
+    AskingPlan → AskingPlan → Type 0
 StopsRun KeeperFault finding number history before run old now plan left =
     FailsInRun finding number history before run old now plan left
 StopsRun WriteFault finding number history before run old now plan left =

@@ -1,7 +1,6 @@
 //! Laws of what is settled, as contracts of functions that run nothing.
 ghost use Rattle.settling.specs.Laws.{ExactLaw, FedLaw, FeedLaw, SettledFindingLaw, LaterLaw, FillLaw, TotalLaw};
-ghost use Rattle.settling.specs.Laws.{MergedLaw};
-ghost use Rattle.settling.specs.Laws.{WroteLaw};
+ghost use Rattle.settling.specs.Laws.{MergedLaw, WroteLaw};
 
 /// After a history that is told, notices are those of the definitions.
 pub fn exact_law()

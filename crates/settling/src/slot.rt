@@ -8,7 +8,7 @@ ghost use Rattle.road_time.specs.Day.{no_finding};
 ghost use Rattle.road_time.specs.Sights.{Sight};
 ghost use Rattle.road_time.specs.Tolls.{StretchTold};
 ghost use Rattle.road_time.specs.Tuples.{report_of};
-ghost use Rattle.crossings.specs.Laws.{IsTold};
+ghost use Rattle.crossings.specs.Laws.{TellsOfDay};
 ghost use Rattle.settling.specs.Slots.{slot_of, due_of, found_of};
 ghost use Rattle.settling.specs.declared.slot.Due.TheVariants.{Report as ReportDue};
 ghost use Rattle.settling.specs.declared.slot.Slot.{Slot as SlotValue};
@@ -116,7 +116,7 @@ impl Slot {
     /// The slot of a report, by what the tracker told of it.
     #[inline(always)]
     pub fn of_report(report: &Report, tracked: &Tracked) -> Slot
-        ensures { (finding : Sight → StretchTold) (day : List TupleValue) → IsTold tracked.now day report.now
+        ensures { (finding : Sight → StretchTold) (day : List TupleValue) → TellsOfDay tracked.now day report.now
             → finding (length day, report.now) ≡ no_finding
             → result ≡ slot_of finding (day, ReportTuple report.now) }
     {

@@ -1,6 +1,5 @@
 -- What the last day tells of what may be put.
-use Rattle.std.proofs.Common.{◌≡◌, inl, ℕ, ◌≤◌, Option, Some, None, Result, Ok, Err, refl, sym, ap}
-use Rattle.std.proofs.Common.{subst, ◌∙◌, arith}
+use Rattle.std.proofs.Common.{◌≡◌, inl, ℕ, ◌≤◌, Option, Some, None, Result, Ok, Err, refl, sym, ap, subst, ◌∙◌, arith}
 use Rattle.keeper.specs.declared.kept.PastRecord.{PastRecord}
 use Rattle.keeper.specs.declared.kept.KeepFault.{KeepFault}
 use Rattle.keeper.specs.Office.{Office, IsSound, day_before, last_day, last_from}

@@ -1,14 +1,12 @@
 -- the parts of one note more: its filters, its sums, its rings
 use Rattle.std.proofs.Common.{◌≡◌, ℕ, suc, ◌+◌, ◌*◌, ◌≤◌, ◌<◌, ◌==◌, ◌&&◌, not, ⊎_elim, Bool, true, false, cond, []}
-use Rattle.std.proofs.Common.{List, ◌∷◌, ◌++◌, length, map, refl, sym, ap, subst, ◌∙◌, arith, Option, Some}
-use Rattle.std.proofs.Common.{unwrap_or}
+use Rattle.std.proofs.Common.{List, ◌∷◌, ◌++◌, length, map, refl, sym, ap, subst, ◌∙◌, arith, Option, Some, unwrap_or}
 use Rattle.std.specs.List.{filter, sum_by, All, AllByRecursion}
 use Rattle.std.specs.Map.{lookup}
 use Rattle.std.proofs.lemmas.List.{append-nil, length_push}
 use Rattle.std.proofs.lemmas.List.Elements.{filter-append, recursion_from_All}
 use Rattle.std.proofs.lemmas.List.Sums.{sum_by-cons, sum_by_push}
-use Rattle.std.proofs.lemmas.Bool.{cases_Bool, cond_both, cond-true, cond-false, and_left, ne_eqb}
-use Rattle.std.proofs.lemmas.Bool.{eq-eqb}
+use Rattle.std.proofs.lemmas.Bool.{cases_Bool, cond_both, cond-true, cond-false, and_left, ne_eqb, eq-eqb}
 use Rattle.road_time.specs.declared.road.Stretch.{Stretch}
 use Rattle.road_time.specs.Tuples.{same_stretch}
 use Rattle.road_time.specs.Notes.{Note, has, cars, speeds12, is_noted_at, notes_at, notes_of_vehicle}
@@ -18,8 +16,7 @@ use Rattle.speed_stats.specs.declared.this_minute.Car.{Car}
 use Rattle.speed_stats.specs.declared.this_minute.Sum.{Sum}
 use Rattle.speed_stats.specs.declared.window.Flow.{Flow as CodeFlow}
 use Rattle.speed_stats.specs.declared.window.Ring.{Ring}
-use Rattle.speed_stats.specs.Parts.{shown_flow, no_flow, no_sum, more, sum_for, ring_flow, flow_of}
-use Rattle.speed_stats.specs.Parts.{IsSmall, AreSmall}
+use Rattle.speed_stats.specs.Parts.{shown_flow, no_flow, no_sum, more, sum_for, ring_flow, flow_of, IsSmall, AreSmall}
 use Rattle.speed_stats.specs.Stands.{StandsFor}
 
 -- stretches
@@ -149,8 +146,7 @@ ring_small rings small k ring there f m e = subst IsSmall (sym (e ∙ ap (λ o. 
 
 -- small flows stay so where one ring is put among them
 pub small_after : (rings : List (Stretch × Ring)) → AreSmall rings → (k : Stretch) (ring' : Ring) →
-    ((m : ℕ) → IsSmall (ring_flow ring' m)) → (after : List (Stretch × Ring)) →
-    ((j : Stretch) →
+    ((m : ℕ) → IsSmall (ring_flow ring' m)) → (after : List (Stretch × Ring)) → ((j : Stretch) →
     lookup (same_stretch j) after ≡ cond (same_stretch k j) (Some ring') (lookup (same_stretch j) rings)) →
     AreSmall after
 small_after rings small k ring' each after h = λ j m.

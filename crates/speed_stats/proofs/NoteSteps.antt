@@ -1,13 +1,11 @@
 -- one note more, and what is noted stays small
 use Rattle.std.proofs.Common.{◌≡◌, ℕ, ◌+◌, ◌-◌, ◌*◌, ◌≤◌, ◌<◌, ◌==◌, ◌&&◌, not, ⊎_elim, Bool, true, false, cond, []}
-use Rattle.std.proofs.Common.{List, ◌∷◌, ◌++◌, length, map, refl, sym, ap, subst, ◌∙◌, arith, Some}
-use Rattle.std.proofs.Common.{nat_lt}
+use Rattle.std.proofs.Common.{List, ◌∷◌, ◌++◌, length, map, refl, sym, ap, subst, ◌∙◌, arith, Some, nat_lt}
 use Rattle.std.specs.List.{filter, sum_by}
 use Rattle.std.specs.Map.{lookup}
 use Rattle.std.proofs.lemmas.List.{length_push, length-map}
 use Rattle.std.proofs.lemmas.List.Elements.{recursion_from_All, All-push}
-use Rattle.std.proofs.lemmas.Bool.{cases_Bool, and_left, and_parts, eqb-true}
-use Rattle.std.proofs.lemmas.Bool.{eq-eqb}
+use Rattle.std.proofs.lemmas.Bool.{cases_Bool, and_left, and_parts, eqb-true, eq-eqb}
 use Rattle.std.proofs.lemmas.Bool.Decides.{nat_tests}
 use Rattle.road_time.specs.declared.road.Stretch.{Stretch}
 use Rattle.road_time.specs.Tuples.{same_stretch}
@@ -26,8 +24,8 @@ use Rattle.speed_stats.specs.Parts.{shown_flow, no_flow, more, mean12, grown, su
 use Rattle.speed_stats.specs.Parts.{sum_in, flow_in, IsSmall}
 use Rattle.speed_stats.specs.Stands.{StandsFor, CanNote}
 use Rattle.speed_stats.proofs.NoteParts.{none_later, narrow, of_both, slow_sum, flow_made, nothing, more_sum}
-use Rattle.road_time.proofs.SameLaws.{stretch_is}
 use Rattle.speed_stats.proofs.NoteParts.{noted_count, own_push, pick}
+use Rattle.road_time.proofs.SameLaws.{stretch_is}
 
 module _ (s : KeptSpeeds) (notes : List Note) (st : StandsFor s notes) (k : Stretch) (v spd : ℕ) where
   -- the note
@@ -238,8 +236,7 @@ module _ (s : KeptSpeeds) (notes : List Note) (st : StandsFor s notes) (k : Stre
           flows = λ j m h. ap (λ o. shown_flow (flow_of o m)) (rings j) ∙ flows_after j m (rw e at h);
         }
       where
-        after : (j : Stretch) (w : ℕ) →
-            cond (same_stretch k j && v == w) (more (sum_in s.seen car) spd)
+        after : (j : Stretch) (w : ℕ) → cond (same_stretch k j && v == w) (more (sum_in s.seen car) spd)
             (sum_in s.seen (record { stretch = j; vid = w })) ≡ sum_for
             (notes_of_vehicle (notes_at (notes ++ n ∷ []) s.minute j) w)
         after j w =
@@ -265,15 +262,12 @@ module _ (s : KeptSpeeds) (notes : List Note) (st : StandsFor s notes) (k : Stre
 pub noted_as : (s held : KeptSpeeds) → s ≡ held → (notes : List Note) → StandsFor held notes →
     (k : Stretch) (v spd : ℕ) (ring ring' : Ring) → ((m : ℕ) → ring_flow ring m ≡ flow_in s.rings k m) →
     ring_flow ring' s.minute ≡ grown (flow_in s.rings k s.minute) (sum_in s.seen (record { stretch = k; vid = v })) spd
-    →
-    ((m : ℕ) → s.minute < m + 6 → m < s.minute → ring_flow ring' m ≡ ring_flow ring m) →
+    → ((m : ℕ) → s.minute < m + 6 → m < s.minute → ring_flow ring' m ≡ ring_flow ring m) →
     ((m : ℕ) → s.minute < m → ring_flow ring m ≡ no_flow → ring_flow ring' m ≡ no_flow) →
     (t : KeptSpeeds) → t.minute ≡ s.minute → spd ≤ 100 →
-    CanNote notes (record { minute = held.minute; stretch = k; vid = v; spd = spd }) →
-    ((c : Car) →
+    CanNote notes (record { minute = held.minute; stretch = k; vid = v; spd = spd }) → ((c : Car) →
     sum_in t.seen c ≡ cond (same_car (record { stretch = k; vid = v }) c)
-    (more (sum_in s.seen (record { stretch = k; vid = v })) spd) (sum_in s.seen c)) →
-    ((j : Stretch) →
+    (more (sum_in s.seen (record { stretch = k; vid = v })) spd) (sum_in s.seen c)) → ((j : Stretch) →
     lookup (same_stretch j) t.rings ≡ cond (same_stretch k j) (Some ring') (lookup (same_stretch j) s.rings)) →
     StandsFor t (notes ++ record { minute = held.minute; stretch = k; vid = v; spd = spd } ∷ [])
 noted_as s held e notes st k v spd ring ring' was here window later t same slow can sums rings =

@@ -2,5 +2,5 @@ use Rattle.std.specs.Prelude.{ℕ, ◌+◌, ◌*◌}
 use Rattle.speed_stats.specs.declared.this_minute.Car.{Car}
 
 -- the number that a vehicle in a stretch is hashed by
-abbrev pub number_of : Car → ℕ
-number_of c = 256 * (256 * (256 * c.stretch.xway + c.stretch.dir) + c.stretch.seg) * 65536 + c.vid
+abbrev pub hash_number : Car → ℕ
+hash_number c = 256 * (256 * (256 * c.stretch.xway + c.stretch.dir) + c.stretch.seg) * 65536 + c.vid

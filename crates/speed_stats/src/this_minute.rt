@@ -1,7 +1,7 @@
 // What was noted of each vehicle in the current minute.
 ghost use Rattle.std.specs.Prelude.{◌≡◌, ◌≤◌, [], IfOk, OnOk, OnErr, if◌then◌else◌};
 ghost use Rattle.speed_stats.specs.Parts.{mean12 as mean12_of, more as more_of, sum_in, same_car};
-ghost use Rattle.speed_stats.specs.Numbers.{number_of as defined_number_of};
+ghost use Rattle.speed_stats.specs.Numbers.{hash_number as defined_number_of};
 ghost use Rattle.speed_stats.specs.declared.this_minute.Car.{Car as CarValue};
 ghost use Rattle.std.specs.Hash as fed;
 ghost use Rattle.std.specs.Cmp.Rules.{hashing};

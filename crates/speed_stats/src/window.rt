@@ -2,8 +2,7 @@
 ghost use Rattle.std.specs.Prelude.{◌≡◌, ◌≤◌, ◌<◌, ◌+◌, ◌*◌, ◌^◌, ℕ, All, length, map, IfSome};
 ghost use Rattle.road_time.specs.Lav.{lav_of};
 ghost use Rattle.speed_stats.specs.Parts.{mean12 as mean12_of, more as more_of, grown as grown_of, ring_flow};
-ghost use Rattle.speed_stats.specs.Parts.{shown_flow};
-ghost use Rattle.speed_stats.specs.Parts.{no_flow, IsSmall};
+ghost use Rattle.speed_stats.specs.Parts.{shown_flow, no_flow, IsSmall};
 
 use crate::this_minute::{Sum, mean12, more};
 use road_time::Frac;

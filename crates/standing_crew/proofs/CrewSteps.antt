@@ -76,8 +76,7 @@ begun_held count n job place b a was now wide put t =
 
 -- and the others are held as before
 pub begun_others : (count n m : ℕ) (job other : Job) (place : TicketPlace) (b a : Sat)
-    (was now : List (Option TicketPlace)) →
-    IsPut n place was now → IsBegun count n job place b a → m ≢ n
+    (was now : List (Option TicketPlace)) → IsPut n place was now → IsBegun count n job place b a → m ≢ n
     → HoldsJob was b.0 m other → HoldsJob now a.0 m other
 begun_others count n m job other place b a was now put t ne held = (
   held.0,
@@ -104,8 +103,7 @@ ran_not_cell : (places : List (Option TicketPlace)) (n : ℕ) (d : _) → slice_
 ran_not_cell places n d ran is = let same : Ran d ≡ Cell = one_entry places n (Ran d) Cell ran is in absurd (cc same)
 
 own_not_cell : (places : List (Option TicketPlace)) (n : ℕ) (own : Job) →
-    slice_get places n ≡ Some (Some (Unlisted own)) →
-    slice_get places n ≢ Some (Some Cell)
+    slice_get places n ≡ Some (Some (Unlisted own)) → slice_get places n ≢ Some (Some Cell)
 own_not_cell places n own is_own is = let same : Unlisted own ≡ Cell =
     one_entry places n (Unlisted own) Cell is_own is in absurd (cc same)
 
@@ -145,8 +143,7 @@ begun_free count n job place b a was now free put t = record {
 }
 
 answered_free_here : (count n : ℕ) (place : TicketPlace) (b a : Sat) (was now : List (Option TicketPlace)) →
-    AreFree was b.0 count →
-    IsTaken n place was now → IsJobAnswered n place b a → input_of a.0 n ≡ None
+    AreFree was b.0 count → IsTaken n place was now → IsJobAnswered n place b a → input_of a.0 n ≡ None
 answered_free_here count n Cell b a was now free taken t = ap (λ (s : Sat). input_of s.0 n) t ∙ cleared b.0 n
 answered_free_here count n (Ran d) b a was now free taken t = ap (λ (s : Sat). input_of s.0 n) t
     ∙ free.free n (ran_not_cell was n d taken.there)
@@ -154,8 +151,7 @@ answered_free_here count n (Unlisted own) b a was now free taken t = ap (λ (s :
     ∙ free.free n (own_not_cell was n own taken.there)
 
 pub answered_free : (count n : ℕ) (place : TicketPlace) (b a : Sat) (was now : List (Option TicketPlace)) →
-    AreFree was b.0 count →
-    IsTaken n place was now → IsJobAnswered n place b a → AreFree now a.0 count
+    AreFree was b.0 count → IsTaken n place was now → IsJobAnswered n place b a → AreFree now a.0 count
 answered_free count n place b a was now free taken t = record {
   free = λ m no_cell. dite (ℕ_discrete m n)
       (λ e. subst (λ (z : ℕ). input_of a.0 z ≡ None) (sym e)

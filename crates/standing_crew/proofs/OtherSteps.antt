@@ -13,7 +13,7 @@ use Rattle.standing_crew.specs.declared.cells.Parcel.{Parcel}
 use Rattle.standing_crew.specs.declared.cells.View.{View}
 use Rattle.standing_crew.specs.Views.{Sat, with_stop, new_helper}
 use Rattle.standing_crew.specs.Cells.{St, CellRule}
-use Rattle.standing_crew.specs.Steps.{stops, looks, rings}
+use Rattle.standing_crew.specs.Steps.{raises_stop, looks, rings}
 use Rattle.standing_crew.proofs.Takers.{SameTakers, same_set, same_snoc}
 use Rattle.standing_crew.proofs.Keeps.{kept_after, unmoved, crew_stays}
 
@@ -42,7 +42,7 @@ behind s kept i n id v w out at given taken stop stopped =
     }
 
 pub stop_allowed : (slots id : ℕ) (v : View) (held : List (ℕ × Option Parcel))
-    → Allows CellRule slots id (v, held) slots (λ _. 1) (λ _. stops (step slots slots 1 0 none) (v, held) 1)
+    → Allows CellRule slots id (v, held) slots (λ _. 1) (λ _. raises_stop (step slots slots 1 0 none) (v, held) 1)
 stop_allowed slots id v held s kept count at small =
     let is : get_or (set s.words slots 1) (length s.homes) 0 ≡ 1 =
     (let l = kept.words in ap (λ (k : ℕ). get_or (set s.words slots 1) k 0) count
@@ -98,9 +98,9 @@ behind_stop slots id i f v held past s kept count at small =
 
 -- the same, with the number of cells as the caller has it
 pub stop_at : (count slots id : ℕ) (me : Sat) → count ≡ slots →
-    Allows CellRule slots id me count (λ _. 1) (λ _. stops (step slots count 1 0 none) me 1)
+    Allows CellRule slots id me count (λ _. 1) (λ _. raises_stop (step slots count 1 0 none) me 1)
 stop_at count slots id me is =
-    subst (λ (z : ℕ). Allows CellRule slots id me z (λ _. 1) (λ _. stops (step slots z 1 0 none) me 1)) (sym is)
+    subst (λ (z : ℕ). Allows CellRule slots id me z (λ _. 1) (λ _. raises_stop (step slots z 1 0 none) me 1)) (sym is)
     (stop_allowed slots id me.0 me.1)
 
 pub look_at : (count slots id : ℕ) (me : Sat) → count ≡ slots →

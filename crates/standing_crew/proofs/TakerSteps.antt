@@ -100,8 +100,7 @@ take_allowed slots i id v held inside idle s kept count at small = let x : ℕ =
 taken_is : (s : St) (kept : CellRule s) (i id : ℕ) (v : View) (job : Job) → i < length s.homes →
     get_elem? s.views id ≡ some v → v.taken ≡ Some (i, job)
     → (input_of kept.crew i ≡ Some job)
-    × ((seat : ℕ) (u : View) (input : Job) → get_elem? s.views seat ≡ some u → u.taken ≡ Some (i, input) →
-    seat ≡ id)
+    × ((seat : ℕ) (u : View) (input : Job) → get_elem? s.views seat ≡ some u → u.taken ≡ Some (i, input) → seat ≡ id)
 taken_is s kept i id v job below at has = let x : ℕ = get_or s.words i 0 in let c = kept.cells i below in
     dite (ℕ_discrete x 2)
     (λ hit. let t = c.taken hit in

@@ -39,8 +39,7 @@ pub record CellIs (word : ℕ) (home : Home) (input : Option Job) (views : List 
   pub free : word ≡ 0 → (input ≡ None) × (home ≡ some (some None))
   pub ready : word ≡ 1 → (job : Job) × (input ≡ Some job) × (home ≡ some (some (Some (Waiting job)))) × CanBeRun job
   pub taken : word ≡ 2 → (job : Job) × (input ≡ Some job) × (home ≡ some none) × HasOneTaker views cell job
-  pub done : word ≡ 3 →
-      (job : Job) × (done : Done) × (input ≡ Some job) × (home ≡ some (some (Some (Finished done))))
+  pub done : word ≡ 3 → (job : Job) × (done : Done) × (input ≡ Some job) × (home ≡ some (some (Some (Finished done))))
       × IsResultOf job done
   pub opened : word ≡ 4 → (input ≡ None) × (home ≡ some none)
   pub untaken : word ≢ 2 → HasNoTaker views cell

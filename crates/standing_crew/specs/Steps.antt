@@ -51,8 +51,8 @@ abbrev pub shuts : Step S → Sat → ℕ → Sat → Type 0
 shuts st m found n = n ≡ (m.0, rest m.1)
 
 -- the stop is raised
-abbrev pub stops : Step S → Sat → ℕ → Sat → Type 0
-stops st m found n = n ≡ (with_stop m.0, m.1)
+abbrev pub raises_stop : Step S → Sat → ℕ → Sat → Type 0
+raises_stop st m found n = n ≡ (with_stop m.0, m.1)
 
 -- the stop was seen, or was not there; it never falls
 abbrev pub looks : Step S → Sat → ℕ → Sat → Type 0

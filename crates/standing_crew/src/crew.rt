@@ -127,7 +127,7 @@ impl<R: Wait + Drop, G: Gate + Drop> StandingCrew<R, G> {
 impl<R: Wait + Drop, G: Gate + Drop> Crew for StandingCrew<R, G> {
     ghost use Rattle.std.specs.Prelude.{true, None};
     ghost use Rattle.partition_workers.specs.Places.{out_of};
-    ghost use Rattle.partition_workers.specs.Tellings.{told_by};
+    ghost use Rattle.partition_workers.specs.Tellings.{told_by_list};
     ghost use Rattle.standing_crew.specs.Crews.{HoldsJob, is_unlisted};
 
     type Ticket = Ticket;
@@ -146,7 +146,7 @@ impl<R: Wait + Drop, G: Gate + Drop> Crew for StandingCrew<R, G> {
 
     ghost which = { λ s. (s.board, s.hired) };
 
-    ghost jobs = { λ s. told_by is_unlisted s.list s.places };
+    ghost jobs = { λ s. told_by_list is_unlisted s.list s.places };
 
     ghost answers = { λ s. None };
 

@@ -1,7 +1,7 @@
 // What each step at the cells tells. These types are for the proofs alone.
 ghost use Rattle.standing_crew.specs.Views.{new_helper};
-ghost use Rattle.standing_crew.specs.Steps.{opens, announces, takes_job, gives_back, collects, shuts, stops, looks};
-ghost use Rattle.standing_crew.specs.Steps.{rings};
+ghost use Rattle.standing_crew.specs.Steps.{opens, announces, takes_job, gives_back, collects, shuts, raises_stop};
+ghost use Rattle.standing_crew.specs.Steps.{looks, rings};
 
 use crate::cells::{Parcel, View};
 use atomic_table::{Join, Play, Split};
@@ -45,7 +45,7 @@ impl Play<Option<Parcel>, View> for Shuts {
 pub struct StopsCrew;
 
 impl Play<Option<Parcel>, View> for StopsCrew {
-    ghost then = { stops };
+    ghost then = { raises_stop };
 }
 
 pub struct LooksForStop;

@@ -41,7 +41,7 @@ use Rattle.kept_tables.proofs.AskLaws.{asked_changes_nothing, list_days_asks}
 use Rattle.kept_tables.proofs.StepLaws.{kept_same, kept_undone, kept_if_unread}
 use Rattle.kept_tables.proofs.MigrationLaws.{first_made, second_made}
 use Rattle.kept_tables.proofs.QueryLaws.{find_version_plain, no_days, old_days_plain, no_version, no_old_version}
-use Rattle.table_making.specs.Growth.{Ran, IsUnsealed, Stood, IsUnderstood, SaysIf, LacksVersion, CommitsGrown}
+use Rattle.table_making.specs.Growth.{TextRan, IsUnsealed, Stood, IsUnderstood, SaysIf, LacksVersion, CommitsGrown}
 use Rattle.table_making.specs.Growth.{CommitsHere, CommitsOpen, CommitsSame}
 
 -- what follows of what holds where a call went well
@@ -50,8 +50,8 @@ on_ok (Ok x) P Q p f = f p
 on_ok (Err e) P Q p f = tt
 
 -- nothing is kept in tables of version 1 that are new
-pub old_from_nothing : (s0 s1 s2 s3 : State) (o : Office) → HasNothing s0.now o → Ran make_days s0 s1 →
-    Ran make_spent s1 s2 → Ran make_past s2 s3 → HasOld s3.now o
+pub old_from_nothing : (s0 s1 s2 s3 : State) (o : Office) → HasNothing s0.now o → TextRan make_days s0 s1 →
+    TextRan make_spent s1 s2 → TextRan make_past s2 s3 → HasOld s3.now o
 old_from_nothing s0 s1 s2 s3 o none r1 r2 r3 = record {
   records = [];
   rows = [];
@@ -69,8 +69,8 @@ all_sealed [] = tt
 all_sealed (r ∷ records) = (refl, all_sealed records)
 
 -- tables of version 1 and the new ones hold the office, but for its seals
-pub unsealed_from_old : (s0 s1 s2 s3 : State) (o : Office) → HasOld s0.now o → Ran make_day_tariffs s0 s1 →
-    Ran make_tariffs s1 s2 → Ran make_form s2 s3 → IsUnsealed s3.now o
+pub unsealed_from_old : (s0 s1 s2 s3 : State) (o : Office) → HasOld s0.now o → TextRan make_day_tariffs s0 s1 →
+    TextRan make_tariffs s1 s2 → TextRan make_form s2 s3 → IsUnsealed s3.now o
 unsealed_from_old s0 s1 s2 s3 o has r1 r2 r3 = record {
   tables = subst (λ (p : Office). HoldsAs [] s3.now (record (contents_of p) { sealed = [] })) (sym has.office)
       (second_made s0 s1 s2 s3 r1.0 r2.0 r3.0 has.records has.rows has.history has.tables r1.1 r2.1 r3.1);

@@ -14,8 +14,8 @@ use Rattle.kept_tables.specs.Stands.{HoldsAs, HasOld, HasNothing, FitsFields, St
 use Rattle.kept_tables.specs.Steps.{IsTreesOf}
 
 -- a text without parameters ran
-abbrev pub Ran : List ℕ → State → State → Type 0
-Ran sql old new = (count : ℕ) × Executes sql [] old new (Ok count)
+abbrev pub TextRan : List ℕ → State → State → Type 0
+TextRan sql old new = (count : ℕ) × Executes sql [] old new (Ok count)
 
 -- six tables hold an office, but for the seals of its days and the version
 pub record IsUnsealed (db : Database) (o : Office) : Type 0 where

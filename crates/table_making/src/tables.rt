@@ -5,7 +5,7 @@ ghost use Rattle.sqlite.specs.State.{HasCleanDisk, Survives};
 ghost use Rattle.keeper.specs.Office.{Office};
 ghost use Rattle.kept_tables.specs.Stands.{Contents, Holds, HoldsAs, HasOld, HasNothing};
 ghost use Rattle.kept_tables.specs.Steps.{StaysInside};
-ghost use Rattle.table_making.specs.Growth.{Ran, IsUnsealed};
+ghost use Rattle.table_making.specs.Growth.{TextRan, IsUnsealed};
 
 use sqlite::{Alter, Error, Transaction};
 
@@ -14,7 +14,7 @@ pub fn run<S: Alter>(tx: &mut Transaction<'_, S>, sql: &str) -> Result<(), Error
     ensures same_reference { tx.new.conn.ghost_name ≡ tx.old.conn.ghost_name }
     ensures ran { HasCleanDisk (state S.Store tx.new.conn.now)
         → IsTrue (state S.Store tx.old.conn.now).in_transaction
-        → OnOk result (Ran sql.now (state S.Store tx.old.conn.now) (state S.Store tx.new.conn.now)) }
+        → OnOk result (TextRan sql.now (state S.Store tx.old.conn.now) (state S.Store tx.new.conn.now)) }
     ensures inside { HasCleanDisk (state S.Store tx.new.conn.now)
         → IsTrue (state S.Store tx.old.conn.now).in_transaction
         → StaysInside (state S.Store tx.old.conn.now) (state S.Store tx.new.conn.now) result }

@@ -3,7 +3,7 @@ use Rattle.std.specs.Prelude.{◌≡◌, ◌≢◌, ◌⊎◌, ℕ, Bool, List, 
 use Rattle.road_io.specs.Faults.{Rose}
 use Rattle.road_io.specs.Rooms.{Room}
 use Rattle.keeper.specs.declared.kept.DayRecord.{DayRecord}
-use Rattle.keeper.specs.History.{paid}
+use Rattle.road_time.specs.History.{paid}
 use Rattle.keeper.specs.Office.{Office}
 use Rattle.import_once.specs.declared.outcomes.Outcome.{Outcome}
 use Rattle.import_once.specs.declared.outcomes.Outcome.TheVariants.{Stored, Already, Answered, Refused, DayPassed}

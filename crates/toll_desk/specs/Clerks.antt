@@ -13,10 +13,10 @@ abbrev pub ClerkTold : Type 0
 ClerkTold = Option (Option Passed)
 
 -- none was passed, where that is told
-abbrev pub IsFresh : ClerkTold → Type 0
-IsFresh None = Unit {0}
-IsFresh (Some None) = Unit {0}
-IsFresh (Some (Some p)) = ⊥
+abbrev pub NonePassed : ClerkTold → Type 0
+NonePassed None = Unit {0}
+NonePassed (Some None) = Unit {0}
+NonePassed (Some (Some p)) = ⊥
 
 -- a request was passed once, and ended so, where that is told
 abbrev pub PassesRequest : ClerkTold → ClerkTold → Asked → SessionEnd → Type 0

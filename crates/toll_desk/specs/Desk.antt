@@ -18,8 +18,7 @@ LeavesAll o was now old new = (now.told ≡ Some o) × (now.posted ≡ was.poste
 -- a session's end of what is asked of what is kept: the reply of a day or of an amount, which leaves all as it is, or
 -- that of an import
 abbrev pub AnswersKept : WhenRefused → Bool → Asked → Limits → Office → DeskState → DeskState → Wire → Wire →
-    SessionEnd →
-    Type 0
+    SessionEnd → Type 0
 AnswersKept w exact (Day day) limits o was now old new end =
     LeavesAll o was now old new
     × AnswersUnlessFailed (day_reply (record_of o day)) was.faults now.faults old.room old.written new.written end

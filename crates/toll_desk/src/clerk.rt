@@ -4,7 +4,7 @@ ghost use Rattle.road_io.specs.Faults.{Rose};
 ghost use Rattle.toll_requests.specs.Requests.{IsAsked};
 ghost use Rattle.toll_requests.specs.declared.session_end.SessionEnd.TheVariants.{LinkFault};
 ghost use Rattle.toll_desk.specs.Desk.{IsOfKept};
-ghost use Rattle.toll_desk.specs.Clerks.{IsFresh, PassesRequest};
+ghost use Rattle.toll_desk.specs.Clerks.{NonePassed, PassesRequest};
 ghost use Rattle.toll_desk.specs.declared.passed.Passed.{Passed as ThePassed};
 
 use road_io::Link;
@@ -22,7 +22,7 @@ pub trait Clerk {
     fn answer<L: Link>(&mut self, alloc: Global, asked: Asked, link: &mut L) -> SessionEnd
         requires asked { IsAsked asked }
         requires kept { IsOfKept asked }
-        requires fresh { IsFresh (passed self.old) }
+        requires fresh { NonePassed (passed self.old) }
         ensures passed { PassesRequest (passed self.old) (passed self.new) asked result }
         ensures silent { (p : Option ThePassed) → passed self.old ≡ Some p → L.written link.new ≡ L.written link.old }
         ensures cause { result ≡ LinkFault → Rose (L.faults link.old) (L.faults link.new) }

@@ -4,7 +4,7 @@ ghost use Rattle.road_io.specs.Faults.{Rose};
 ghost use Rattle.live_board.specs.Passes.{StartsWith};
 ghost use Rattle.toll_requests.specs.declared.session_end.SessionEnd.TheVariants.{LinkFault};
 ghost use Rattle.toll_desk.specs.Answers.{wire_of};
-ghost use Rattle.toll_desk.specs.Clerks.{IsFresh, Shares};
+ghost use Rattle.toll_desk.specs.Clerks.{NonePassed, Shares};
 
 use crate::clerk::Clerk;
 use crate::live::live_answer;
@@ -21,7 +21,7 @@ pub fn session_shared<L: Link, H: Clerk>(
     reader: &mut BoardReader,
     clerk: &mut H,
 ) -> SessionEnd
-    requires fresh { IsFresh (H.passed clerk.old) }
+    requires fresh { NonePassed (H.passed clerk.old) }
     ensures shares { (bytes : List ℕ) → L.left link.old ≡ Some bytes
         → Shares bytes (H.passed clerk.old) (H.passed clerk.new) reader.old reader.new
         (wire_of (L.left link.old) (L.plan link.old) (L.written link.old) (L.room link.old))

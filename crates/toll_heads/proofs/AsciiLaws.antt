@@ -7,7 +7,7 @@ use Rattle.std.proofs.lemmas.Bool.{and_parts, leb-true}
 use Rattle.std.proofs.lemmas.Str.{IsUtf8-from_ascii}
 use Rattle.std.proofs.lemmas.Str.Ascii.{IsAscii-nil, IsAscii-cons}
 use Rattle.toll_heads.specs.Numbers.{number_in}
-use Rattle.toll_heads.specs.Paths.{parts_of, begins_with, place_of, day_place, live_place, spent_of}
+use Rattle.toll_heads.specs.Paths.{parts_of, begins_with, path_place, day_place, live_place, spent_path}
 use Rattle.toll_heads.specs.declared.place.DeskPlace.{DeskPlace}
 use Rattle.toll_heads.specs.Places.{PlacesAreAscii}
 use Rattle.toll_heads.proofs.PlaceLaws.{spent_parts, place_cases}
@@ -39,7 +39,7 @@ live_ascii text p None is e = absurd (cc e)
 live_ascii text p (Some n) is e = (number_part 0 2147483647 text n is).1
 
 -- a charge: three numbers with slashes between them
-spent_ascii : (text : List ℕ) (p : DeskPlace) → spent_of (parts_of text) ≡ Some p → IsAscii text
+spent_ascii : (text : List ℕ) (p : DeskPlace) → spent_path (parts_of text) ≡ Some p → IsAscii text
 spent_ascii text p e =
     let s = spent_parts (parts_of text) p e in
     let joined : text ≡ s.0 ++ 47 ∷ (s.1 ++ 47 ∷ s.2) = sym (glue_parts text) ∙ ap glued s.3 in
@@ -67,9 +67,9 @@ places_are_ascii path p is = by (bytes_eq path (codes "/live")) refl (begins_wit
     by false a false b false c false d e = absurd (cc e)
 
 -- bytes that are no text name no place
-pub no_text : (path : List ℕ) → (IsUtf8 path → ⊥) → None ≡ place_of path
-no_text path bad = by (place_of path) refl
+pub no_text : (path : List ℕ) → (IsUtf8 path → ⊥) → None ≡ path_place path
+no_text path bad = by (path_place path) refl
   where
-    by : (o : Option DeskPlace) → place_of path ≡ o → None ≡ o
+    by : (o : Option DeskPlace) → path_place path ≡ o → None ≡ o
     by None e = refl
     by (Some p) e = absurd (bad (IsUtf8-from_ascii path (places_are_ascii path p e)))

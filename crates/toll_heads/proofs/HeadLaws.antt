@@ -2,7 +2,7 @@
 use Rattle.std.proofs.Common.{◌<◌, ◌≤◌, ◌⊎◌, inl, inr, [], length, arith}
 use Rattle.std.proofs.lemmas.Bool.{cases_lt}
 use Rattle.httparse.proofs.GrammarLemmas.{request_unique}
-use Rattle.toll_heads.specs.Laws.{IsOneHead, IsOpen, AreApart}
+use Rattle.toll_heads.specs.Laws.{IsOneHead, IsUnjudged, AreApart}
 
 -- what stands first is one head at most, and then it is neither bad nor cut
 pub one_head : IsOneHead
@@ -18,6 +18,6 @@ apart bytes (none, inl long) cut = absurd (omega (arith, long, cut.1))
 apart bytes (none, inr never) (still, short, inr target) = inl target
 apart bytes (none, inr never) (still, short, inl (more, h, reads)) = by (cases_lt 64 (length h.fields))
   where
-    by : (64 < length h.fields) ⊎ (length h.fields ≤ 64) → IsOpen bytes
+    by : (64 < length h.fields) ⊎ (length h.fields ≤ 64) → IsUnjudged bytes
     by (inl many) = inr (more, h, reads, many)
     by (inr few) = absurd (never more h [] (reads, few))

@@ -4,7 +4,7 @@ use Rattle.std.proofs.Common.{None, refl, sym, ap, ◌∙◌, []}
 use Rattle.std.specs.Str.{bytes_eq}
 use Rattle.matchit.specs.Seek.{first}
 use Rattle.toll_heads.specs.Numbers.{number_in}
-use Rattle.toll_heads.specs.Paths.{parts_of, begins_with, place_of, day_place, live_place, spent_place, spent_of}
+use Rattle.toll_heads.specs.Paths.{parts_of, begins_with, path_place, day_place, live_place, spent_place, spent_path}
 use Rattle.toll_heads.specs.declared.place.DeskPlace.{DeskPlace}
 use Rattle.toll_heads.specs.declared.place.DeskPlace.TheVariants.{TotalPlace}
 use Rattle.toll_heads.specs.declared.route.Route.{Route}
@@ -23,7 +23,7 @@ some_inj : (m n : ℕ) → Some m ≡ Some n → m ≡ n
 some_inj m n e = cc e
 
 -- three parts that name a charge
-pub spent_parts : (ls : List (List ℕ)) (p : DeskPlace) → spent_of ls ≡ Some p
+pub spent_parts : (ls : List (List ℕ)) (p : DeskPlace) → spent_path ls ≡ Some p
     → (a : List ℕ) × (b : List ℕ) × (c : List ℕ) × (ls ≡ a ∷ b ∷ c ∷ []) × IsNumber a × IsNumber b × IsNumber c
     × (route_of p ≡ OfSpent)
 spent_parts [] p e = absurd (cc e)
@@ -52,7 +52,7 @@ spent_parts (a ∷ b ∷ c ∷ []) p e =
     )
 
 -- a path of a charge finds the route of charges
-spent_found : (text : List ℕ) (p : DeskPlace) → spent_of (parts_of text) ≡ Some p →
+spent_found : (text : List ℕ) (p : DeskPlace) → spent_path (parts_of text) ≡ Some p →
     first desk_rows (codes "/spent/" ++ text) ≡ Some (key_of (route_of p))
 spent_found text p e =
     let s = spent_parts (parts_of text) p e in
@@ -84,7 +84,7 @@ places_have_routes path p is = by (bytes_eq path (codes "/live")) refl (begins_w
         → cond u (Some TotalPlace)
         (cond v (day_place (number_in 70 1000000 (drop 6 path)))
         (cond w (live_place (number_in 0 2147483647 (drop 6 path)))
-        (cond x (spent_of (parts_of (drop 7 path))) None))) ≡ Some p
+        (cond x (spent_path (parts_of (drop 7 path))) None))) ≡ Some p
         → first desk_rows path ≡ Some (key_of (route_of p))
     by true a v b w c x d e = ap (first desk_rows) (bytes_same path (codes "/live") a) ∙ find_routes.0
         ∙ ap (λ q. Some (key_of (route_of q))) (place_inj _ _ e)
@@ -97,15 +97,15 @@ places_have_routes path p is = by (bytes_eq path (codes "/live")) refl (begins_w
     by false a false b false c false d e = absurd (cc e)
 
 -- a path that finds no route names no place
-pub no_route : (path : List ℕ) → None ≡ first desk_rows path → None ≡ place_of path
-no_route path none = by (place_of path) refl
+pub no_route : (path : List ℕ) → None ≡ first desk_rows path → None ≡ path_place path
+no_route path none = by (path_place path) refl
   where
-    by : (o : Option DeskPlace) → place_of path ≡ o → None ≡ o
+    by : (o : Option DeskPlace) → path_place path ≡ o → None ≡ o
     by None e = refl
     by (Some p) e = absurd (cc (none ∙ places_have_routes path p e))
 
 -- a path that finds one route names no place of another
-other : (path : List ℕ) (r q : Route) (o : Option DeskPlace) → place_of path ≡ o →
+other : (path : List ℕ) (r q : Route) (o : Option DeskPlace) → path_place path ≡ o →
     first desk_rows path ≡ Some (key_of r)
     → ((p : DeskPlace) → o ≡ Some p → route_of p ≡ q) → (key_of r ≡ key_of q → ⊥) → o ≡ None
 other path r q None is found at apart = refl
@@ -123,7 +123,7 @@ live_route p None e = absurd (cc e)
 live_route p (Some n) e = ap route_of (sym (place_inj _ _ e))
 
 -- of a charge
-spent_route : (p : DeskPlace) (ls : List (List ℕ)) → spent_of ls ≡ Some p → route_of p ≡ OfSpent
+spent_route : (p : DeskPlace) (ls : List (List ℕ)) → spent_path ls ≡ Some p → route_of p ≡ OfSpent
 spent_route p ls e = (spent_parts ls p e).7
 
 -- the place that a path names, by what it is and what it begins with
@@ -131,14 +131,14 @@ abbrev pub place_cases : List ℕ → Bool → Bool → Bool → Bool → Option
 place_cases path u v w x =
     cond u (Some TotalPlace)
     (cond v (day_place (number_in 70 1000000 (drop 6 path)))
-    (cond w (live_place (number_in 0 2147483647 (drop 6 path))) (cond x (spent_of (parts_of (drop 7 path))) None)))
+    (cond w (live_place (number_in 0 2147483647 (drop 6 path))) (cond x (spent_path (parts_of (drop 7 path))) None)))
 
 -- the place by a route, by the same
 abbrev route_cases : Route → List ℕ → Bool → Bool → Bool → Bool → Option DeskPlace
 route_cases OfDay path u v w x = cond v (day_place (number_in 70 1000000 (drop 6 path))) None
 route_cases OfLive path u v w x = cond w (live_place (number_in 0 2147483647 (drop 6 path))) None
 route_cases OfTotal path u v w x = cond u (Some TotalPlace) None
-route_cases OfSpent path u v w x = cond x (spent_of (parts_of (drop 7 path))) None
+route_cases OfSpent path u v w x = cond x (spent_path (parts_of (drop 7 path))) None
 
 -- a path is `/live`, or begins with one of the three fronts, or neither
 abbrev one_of : Bool → Bool → Bool → Bool → Bool
@@ -185,33 +185,33 @@ routes_have_places path r found = by r _ _ _ _ (fronts_differ path) found refl �
     at_total : (p : DeskPlace) → Some TotalPlace ≡ Some p → route_of p ≡ OfTotal
     at_total p e = ap route_of (sym (place_inj _ _ e))
 
-    total : (q : Route) → first desk_rows path ≡ Some (key_of q) → place_of path ≡ Some TotalPlace →
+    total : (q : Route) → first desk_rows path ≡ Some (key_of q) → path_place path ≡ Some TotalPlace →
         Some TotalPlace ≡ route_cases q path true false false false
     total OfDay f is = other path OfDay OfTotal _ is f at_total (λ e. cc e)
     total OfLive f is = other path OfLive OfTotal _ is f at_total (λ e. cc e)
     total OfTotal f is = refl
     total OfSpent f is = other path OfSpent OfTotal _ is f at_total (λ e. cc e)
 
-    day : (q : Route) (o : Option ℕ) → first desk_rows path ≡ Some (key_of q) → place_of path ≡ day_place o →
+    day : (q : Route) (o : Option ℕ) → first desk_rows path ≡ Some (key_of q) → path_place path ≡ day_place o →
         number_in 70 1000000 (drop 6 path) ≡ o → day_place o ≡ route_cases q path false true false false
     day OfDay o f is at = ap day_place (sym at)
     day OfLive o f is at = other path OfLive OfDay _ is f (λ p. day_route p o) (λ e. cc e)
     day OfTotal o f is at = other path OfTotal OfDay _ is f (λ p. day_route p o) (λ e. cc e)
     day OfSpent o f is at = other path OfSpent OfDay _ is f (λ p. day_route p o) (λ e. cc e)
 
-    live : (q : Route) (o : Option ℕ) → first desk_rows path ≡ Some (key_of q) → place_of path ≡ live_place o →
+    live : (q : Route) (o : Option ℕ) → first desk_rows path ≡ Some (key_of q) → path_place path ≡ live_place o →
         number_in 0 2147483647 (drop 6 path) ≡ o → live_place o ≡ route_cases q path false false true false
     live OfDay o f is at = other path OfDay OfLive _ is f (λ p. live_route p o) (λ e. cc e)
     live OfLive o f is at = ap live_place (sym at)
     live OfTotal o f is at = other path OfTotal OfLive _ is f (λ p. live_route p o) (λ e. cc e)
     live OfSpent o f is at = other path OfSpent OfLive _ is f (λ p. live_route p o) (λ e. cc e)
 
-    spent : (q : Route) (ls : List (List ℕ)) → first desk_rows path ≡ Some (key_of q) → place_of path ≡ spent_of ls →
-        parts_of (drop 7 path) ≡ ls → spent_of ls ≡ route_cases q path false false false true
+    spent : (q : Route) (ls : List (List ℕ)) → first desk_rows path ≡ Some (key_of q) → path_place path ≡ spent_path ls
+        → parts_of (drop 7 path) ≡ ls → spent_path ls ≡ route_cases q path false false false true
     spent OfDay ls f is at = other path OfDay OfSpent _ is f (λ p. spent_route p ls) (λ e. cc e)
     spent OfLive ls f is at = other path OfLive OfSpent _ is f (λ p. spent_route p ls) (λ e. cc e)
     spent OfTotal ls f is at = other path OfTotal OfSpent _ is f (λ p. spent_route p ls) (λ e. cc e)
-    spent OfSpent ls f is at = ap spent_of (sym at)
+    spent OfSpent ls f is at = ap spent_path (sym at)
 
     none : (q : Route) → None ≡ route_cases q path false false false false
     none OfDay = refl
@@ -220,7 +220,7 @@ routes_have_places path r found = by r _ _ _ _ (fronts_differ path) found refl �
     none OfSpent = refl
 
     by : (q : Route) (u v w x : Bool) → one_of u v w x ≡ true → first desk_rows path ≡ Some (key_of q) →
-        place_of path ≡ place_cases path u v w x
+        path_place path ≡ place_cases path u v w x
         → place_cases path u v w x ≡ route_cases q path u v w x
     by q true true w x e f is = absurd (cc e)
     by q true false true x e f is = absurd (cc e)
@@ -235,5 +235,5 @@ routes_have_places path r found = by r _ _ _ _ (fronts_differ path) found refl �
     by q false false false false e f is = none q
 
 -- a path that finds a route names what it names by that route
-pub by_route : (path : List ℕ) (r : Route) → Some (key_of r) ≡ first desk_rows path → place_by r path ≡ place_of path
+pub by_route : (path : List ℕ) (r : Route) → Some (key_of r) ≡ first desk_rows path → place_by r path ≡ path_place path
 by_route path r found = sym (routes_have_places path r (sym found))

@@ -10,11 +10,11 @@ IsOneHead = (bytes : List ℕ) (h : RequestHead) (rest : List ℕ) → HasHead b
     × (IsBadHead bytes → ⊥) × (IsCutHead bytes → ⊥)
 
 -- what is not looked at: bytes that end in a target, and heads of more than 64 fields
-abbrev pub IsOpen : List ℕ → Type 0
-IsOpen bytes =
+abbrev pub IsUnjudged : List ℕ → Type 0
+IsUnjudged bytes =
     EndsInTarget bytes
     ⊎ ((more : List ℕ) × (h : RequestHead) × ReadsRequest (bytes ++ more) h [] × (64 < length h.fields))
 
 -- bad and cut heads differ, but for what is not looked at
 abbrev pub AreApart : Type 0
-AreApart = (bytes : List ℕ) → IsBadHead bytes → IsCutHead bytes → IsOpen bytes
+AreApart = (bytes : List ℕ) → IsBadHead bytes → IsCutHead bytes → IsUnjudged bytes

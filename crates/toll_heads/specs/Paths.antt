@@ -47,13 +47,13 @@ spent_place (Some day) None vid = None
 spent_place (Some day) (Some xway) None = None
 
 -- a day, an expressway and a vehicle, with a slash between two
-abbrev pub spent_of : List (List ℕ) → Option DeskPlace
-spent_of [] = None
-spent_of (day ∷ []) = None
-spent_of (day ∷ xway ∷ []) = None
-spent_of (day ∷ xway ∷ vid ∷ []) =
+abbrev pub spent_path : List (List ℕ) → Option DeskPlace
+spent_path [] = None
+spent_path (day ∷ []) = None
+spent_path (day ∷ xway ∷ []) = None
+spent_path (day ∷ xway ∷ vid ∷ []) =
     spent_place (number_in 1 1000000 day) (number_in 0 255 xway) (number_in 0 2147483647 vid)
-spent_of (day ∷ xway ∷ vid ∷ more ∷ rest) = None
+spent_path (day ∷ xway ∷ vid ∷ more ∷ rest) = None
 
 -- the numbers of a place are in their ranges
 abbrev pub IsPlace : DeskPlace → Type 0
@@ -80,13 +80,13 @@ total_at path = if bytes_eq path (codes "/live") then Some TotalPlace else None
 
 -- the place of an amount that a path names
 abbrev pub spent_at : List ℕ → Option DeskPlace
-spent_at path = if begins_with path (codes "/spent/") then spent_of (parts_of (drop 7 path)) else None
+spent_at path = if begins_with path (codes "/spent/") then spent_path (parts_of (drop 7 path)) else None
 
 -- the place that a path names: `/live`, or one of three fronts with numbers behind it
-abbrev pub place_of : List ℕ → Option DeskPlace
-place_of path =
+abbrev pub path_place : List ℕ → Option DeskPlace
+path_place path =
     if bytes_eq path (codes "/live") then Some TotalPlace
     else if begins_with path (codes "/days/") then day_place (number_in 70 1000000 (drop 6 path))
     else if begins_with path (codes "/live/") then live_place (number_in 0 2147483647 (drop 6 path))
-    else if begins_with path (codes "/spent/") then spent_of (parts_of (drop 7 path))
+    else if begins_with path (codes "/spent/") then spent_path (parts_of (drop 7 path))
     else None

@@ -2,7 +2,7 @@
 use Rattle.std.specs.Prelude.{◌≡◌, ℕ, List, Option, Some}
 use Rattle.std.specs.Str.{IsAscii}
 use Rattle.matchit.specs.Seek.{first}
-use Rattle.toll_heads.specs.Paths.{place_of, day_at, live_at, total_at, spent_at}
+use Rattle.toll_heads.specs.Paths.{path_place, day_at, live_at, total_at, spent_at}
 use Rattle.toll_heads.specs.Rows.{desk_rows, key_of}
 use Rattle.toll_heads.specs.declared.place.DeskPlace.{DeskPlace}
 use Rattle.toll_heads.specs.declared.place.DeskPlace.TheVariants.{DayPlace, SpentPlace, LivePlace, TotalPlace}
@@ -26,13 +26,13 @@ place_by OfSpent path = spent_at path
 -- a path that names a place finds its route
 abbrev pub PlacesHaveRoutes : Type 0
 PlacesHaveRoutes =
-    (path : List ℕ) (p : DeskPlace) → place_of path ≡ Some p → first desk_rows path ≡ Some (key_of (route_of p))
+    (path : List ℕ) (p : DeskPlace) → path_place path ≡ Some p → first desk_rows path ≡ Some (key_of (route_of p))
 
 -- a path that finds a route names what it names by that route
 abbrev pub RoutesHavePlaces : Type 0
 RoutesHavePlaces =
-    (path : List ℕ) (r : Route) → first desk_rows path ≡ Some (key_of r) → place_of path ≡ place_by r path
+    (path : List ℕ) (r : Route) → first desk_rows path ≡ Some (key_of r) → path_place path ≡ place_by r path
 
 -- a path that names a place is ASCII
 abbrev pub PlacesAreAscii : Type 0
-PlacesAreAscii = (path : List ℕ) (p : DeskPlace) → place_of path ≡ Some p → IsAscii path
+PlacesAreAscii = (path : List ℕ) (p : DeskPlace) → path_place path ≡ Some p → IsAscii path

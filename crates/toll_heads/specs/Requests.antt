@@ -4,8 +4,8 @@ use Rattle.std.specs.Prelude.{if◌then◌else◌, codes}
 use Rattle.std.specs.Str.{bytes_eq, str_eq_ignore_ascii_case}
 use Rattle.httparse.specs.Grammar.{RequestHead}
 use Rattle.httparse.specs.Spans.{name_and_value}
-use Rattle.toll_heads.specs.Numbers.{number_of}
-use Rattle.toll_heads.specs.Paths.{path_of, place_of}
+use Rattle.toll_heads.specs.Numbers.{short_number}
+use Rattle.toll_heads.specs.Paths.{path_of, path_place}
 use Rattle.toll_heads.specs.declared.place.DeskPlace.{DeskPlace}
 use Rattle.toll_heads.specs.declared.place.DeskPlace.TheVariants.{DayPlace, SpentPlace, LivePlace, TotalPlace}
 use Rattle.toll_heads.specs.declared.wanted.Wanted.{Wanted}
@@ -31,8 +31,8 @@ length_by (Some n) false = if nat_le n 4000000000 then Ok n else Err TooLong
 -- the length of a body, by the values of the fields that give it and of those that name a coding
 abbrev pub length_of : List (List ℕ) → List (List ℕ) → Result ℕ Refusal
 length_of [] codings = Err LengthNeeded
-length_of (one ∷ []) [] = length_by (number_of one) false
-length_of (one ∷ []) (coding ∷ codings) = length_by (number_of one) true
+length_of (one ∷ []) [] = length_by (short_number one) false
+length_of (one ∷ []) (coding ∷ codings) = length_by (short_number one) true
 length_of (one ∷ two ∷ rest) codings = Err BadLength
 
 -- the length of a body, by the fields of its head
@@ -60,4 +60,4 @@ asked_at (Some TotalPlace) method fields = only_get method LiveTotal
 
 -- what a head asks for
 abbrev pub wanted_of : RequestHead → Result Wanted Refusal
-wanted_of h = asked_at (place_of (path_of h.target)) h.method (map name_and_value h.fields)
+wanted_of h = asked_at (path_place (path_of h.target)) h.method (map name_and_value h.fields)

@@ -1,6 +1,6 @@
 // Numbers as a request writes them.
 ghost use Rattle.std.specs.Prelude.{◌≡◌, ◌≤◌, ◌<◌, ◌^◌, Some, None, IfSome};
-ghost use Rattle.toll_heads.specs.Numbers.{number_of as number_of_text, number_in as number_in_range};
+ghost use Rattle.toll_heads.specs.Numbers.{short_number as number_of_text, number_in as number_in_range};
 
 /// The number that a text of 1 to 10 digits is.
 pub fn number_of(digits: &[u8]) -> Option<u64>

@@ -1,6 +1,6 @@
 // What a path is, and what is read from one behind each of the fronts.
 ghost use Rattle.std.specs.Prelude.{◌≡◌, option_map, IfSome};
-ghost use Rattle.toll_heads.specs.Paths.{path_of as path_of_target, spent_of, parts_of, CutsAt, IsPlace};
+ghost use Rattle.toll_heads.specs.Paths.{path_of as path_of_target, spent_path, parts_of, CutsAt, IsPlace};
 ghost use Rattle.toll_heads.specs.Paths.{day_at as day_at_path, live_at as live_at_path};
 ghost use Rattle.toll_heads.specs.Paths.{total_at as total_at_path, spent_at as spent_at_path};
 
@@ -27,7 +27,7 @@ pub(crate) fn path_of(target: &[u8]) -> &[u8]
 
 /// The place that a day, an expressway and a vehicle name.
 fn spent_of_text(text: &[u8]) -> Option<DeskPlace>
-    ensures place { result ≡ spent_of (parts_of text.now) }
+    ensures place { result ≡ spent_path (parts_of text.now) }
     ensures within { IfSome result IsPlace }
 {
     let (day, Some(rest)) = cut(b'/', text) else {

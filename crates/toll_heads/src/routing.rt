@@ -3,7 +3,7 @@ ghost use Rattle.std.specs.Prelude.{◌≡◌, Ok, option_map, IfOk, IfSome};
 ghost use Rattle.matchit.specs.Seek.{first};
 ghost use Rattle.matchit.specs.Router.{rename};
 ghost use Rattle.toll_heads.specs.Rows.{desk_rows, key_of, key_at};
-ghost use Rattle.toll_heads.specs.Paths.{place_of as place_of_path, IsPlace};
+ghost use Rattle.toll_heads.specs.Paths.{path_place as place_of_path, IsPlace};
 ghost use Rattle.toll_heads.specs.Places.{place_by as place_by_route};
 
 use crate::paths::{day_at, live_at, spent_at, total_at};

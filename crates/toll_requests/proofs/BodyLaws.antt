@@ -19,11 +19,6 @@ behind_kept k bytes early (Some xs) None h e = absurd e
 behind_kept k bytes early (Some xs) (Some ys) h e =
     λ all is. (ap (λ zs. Some (early ++ zs)) e ∙ (h all is).0, (h all is).1)
 
-pub keeps_none : (before after : Option (List ℕ)) → Consumes before after [] → Keeps before after
-keeps_none None after e = tt
-keeps_none (Some xs) None e = absurd e
-keeps_none (Some xs) (Some ys) e = sym e
-
 drop_front : (t ys : List ℕ) → drop (length t) (t ++ ys) ≡ ys
 drop_front [] ys = refl
 drop_front (b ∷ t) ys = drop_front t ys

@@ -67,8 +67,7 @@ has_body wanted.LiveTotal rest more = tt
 
 -- a refusal that was answered
 pub refused : (bytes : List ℕ) (left old new : Option (List ℕ)) (r : Refusal) (end : SessionEnd) →
-    IsRequestRefused bytes r →
-    Replies (refusal_reply r) old new end → ReadsHeadAsked bytes left old new (Err end)
+    IsRequestRefused bytes r → Replies (refusal_reply r) old new end → ReadsHeadAsked bytes left old new (Err end)
 refused bytes left old new r (Answered s) is (inl sent) = inl (r, is, sent)
 refused bytes left old new r (Answered s) is (inr sent) = inr sent
 refused bytes left old new r Cut is (inl sent) = absurd sent

@@ -1,7 +1,7 @@
 // An average speed against a whole number, and in whole numbers.
 ghost use Rattle.std.specs.Prelude.{◌≡◌, ◌≤◌, IfSome, option_copied};
 ghost use Rattle.road_time.specs.Rates.{is_below, whole_of};
-ghost use Rattle.toll_rule.specs.Averages.{IsAverage};
+ghost use Rattle.road_time.specs.Lav.{IsAverage};
 
 use road_time::Frac;
 

@@ -1,13 +1,11 @@
 // The toll by a tariff.
 ghost use Rattle.std.specs.Prelude.{◌≡◌, ◌≤◌, IfSome, option_copied};
+ghost use Rattle.road_time.specs.declared.tariff.TheConstants.{GREATEST_TOLL};
 ghost use Rattle.road_time.specs.Rates.{IsTariff, is_slow, toll_of};
-ghost use Rattle.toll_rule.specs.Averages.{IsAverage};
+ghost use Rattle.road_time.specs.Lav.{IsAverage};
 
 use crate::averages::below;
-use road_time::{Frac, Tariff};
-
-/// The most that a stretch charges.
-const MOST: u64 = 500_000_000_000;
+use road_time::{Frac, GREATEST_TOLL, Tariff};
 
 /// Whether there is an average, and it is below a speed in miles per hour.
 fn slow(lav: Option<&Frac>, speed: u8) -> bool
@@ -28,11 +26,11 @@ pub fn toll(tariff: &Tariff, cars: u32, lav: Option<&Frac>, blocked: bool) -> u6
     requires cars { cars ≤ 500000 }
     requires average { IfSome lav (λ f. IsAverage f.now) }
     ensures exact { result ≡ toll_of tariff.now cars (option_copied lav.entry) blocked }
-    ensures capped { result ≤ 500000000000 }
+    ensures capped { result ≤ GREATEST_TOLL }
 {
     if cars > tariff.crowd && slow(lav, tariff.speed) && !blocked {
         let over = u64::from(cars - tariff.crowd);
-        MOST.min(u64::from(tariff.factor) * (over * over))
+        GREATEST_TOLL.min(u64::from(tariff.factor) * (over * over))
     } else {
         0
     }

@@ -18,23 +18,20 @@ pub spent_shape : (n : ℕ) → compact_text (object (member (codes "spent") (nu
 unfolding serde_json_on_literals
 spent_shape n = refl
 
-pub passed_shape : (n : ℕ) →
-    compact_text
+pub passed_shape : (n : ℕ) → compact_text
     (object (member (codes "error") (string (codes "passed")) (member (codes "last") (number (unsigned n)) no_members)))
     ≡ passed_body n
 unfolding serde_json_on_literals
 passed_shape n = refl
 
-pub live_shape : (as_of balance day : ℕ) →
-    compact_text
+pub live_shape : (as_of balance day : ℕ) → compact_text
     (object (member (codes "as_of") (number (unsigned as_of))
     (member (codes "balance") (number (unsigned balance)) (member (codes "day") (number (unsigned day)) no_members))))
     ≡ live_body as_of balance day
 unfolding serde_json_on_literals
 live_shape as_of balance day = refl
 
-pub total_shape : (as_of day total : ℕ) →
-    compact_text
+pub total_shape : (as_of day total : ℕ) → compact_text
     (object (member (codes "as_of") (number (unsigned as_of))
     (member (codes "day") (number (unsigned day)) (member (codes "total") (number (unsigned total)) no_members))))
     ≡ total_body as_of day total

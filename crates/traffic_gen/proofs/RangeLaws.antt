@@ -10,11 +10,11 @@ use Rattle.road_time.specs.Fits.{IsReport}
 use Rattle.traffic_gen.specs.declared.plan.GenPlan.{GenPlan}
 use Rattle.traffic_gen.specs.declared.crash.Crash.{Crash}
 use Rattle.traffic_gen.specs.declared.trip.Trip.{Trip}
-use Rattle.traffic_gen.specs.Plans.{first_out, InRange, end_of}
+use Rattle.traffic_gen.specs.Plans.{field_out, InRange, end_of}
 use Rattle.draws.specs.Draws.{drawn}
 use Rattle.traffic_gen.specs.Directions.{direction_of}
-use Rattle.traffic_gen.specs.Reports.{time_at, moved, report_at}
-use Rattle.traffic_gen.specs.Crashes.{drawn_crash, IsCrash, spot_of, crash_report}
+use Rattle.traffic_gen.specs.Reports.{time_at, moved_on, report_at}
+use Rattle.traffic_gen.specs.Crashes.{drawn_crash, IsCrash, crash_position, crash_report}
 use Rattle.traffic_gen.specs.Trips.{drawn_past, drawn_trip, IsTrip, lane_at, trip_report}
 
 -- no field is named, so this one is not
@@ -28,7 +28,7 @@ both a b c d e = let parts = and_parts (nat_le a b) (nat_le c d) (not-false _ e)
     (leb-true a b parts.0, leb-true c d parts.1)
 
 -- where no field is out of its range all are in theirs
-pub in_range : (plan : GenPlan) → first_out plan ≡ None → InRange plan
+pub in_range : (plan : GenPlan) → field_out plan ≡ None → InRange plan
 in_range plan e =
     let vehicles = none_if (not (nat_le 1 plan.vehicles && nat_le plan.vehicles 5000)) 2 _ e in
     let minutes = none_if (not (nat_le 1 plan.minutes && nat_le plan.minutes 1440)) 3 _ vehicles.1 in
@@ -123,31 +123,31 @@ report_fine time vid spd xway lane dir at t v s x l d p = (t, omega (arith, v), 
     mile n h = omega arith
 
 -- a vehicle stays on the road
-on_road : (dir from feet : ℕ) → from + feet ≤ 527999 → moved dir from feet ≤ 527999
+on_road : (dir from feet : ℕ) → from + feet ≤ 527999 → moved_on dir from feet ≤ 527999
 on_road dir from feet h =
     cond_both (dir == 0) (from + feet) (from - feet) (λ n. n ≤ 527999) (λ _. h) (λ _. omega (arith, h))
 
 module _ (c : Crash) (vid start k : ℕ) where
   -- when a crash's vehicle reports
   pub crash_time : (crash_report c vid start k).time ≡ time_at start k
-  crash_time = cond_both (nat_lt k c.stops) (report_at (time_at start k) vid 0 c.xway 2 c.dir (spot_of c)) _
+  crash_time = cond_both (nat_lt k c.stops) (report_at (time_at start k) vid 0 c.xway 2 c.dir (crash_position c)) _
       (λ (r : Report). r.time ≡ time_at start k) (λ _. refl) (λ _. refl)
 
   pub crash_vid : (crash_report c vid start k).vid ≡ vid
-  crash_vid = cond_both (nat_lt k c.stops) (report_at (time_at start k) vid 0 c.xway 2 c.dir (spot_of c)) _
+  crash_vid = cond_both (nat_lt k c.stops) (report_at (time_at start k) vid 0 c.xway 2 c.dir (crash_position c)) _
       (λ (r : Report). r.vid ≡ vid) (λ _. refl) (λ _. refl)
 
   -- its report is in its ranges, before midnight
   pub crash_fine : IsCrash c → vid ≤ 5000 → k < c.stops + 4 → time_at start k ≤ 86399 →
       IsReport (crash_report c vid start k)
   crash_fine is v few t =
-      cond_both (nat_lt k c.stops) (report_at (time_at start k) vid 0 c.xway 2 c.dir (spot_of c)) _ IsReport
-      (λ _. report_fine (time_at start k) vid 0 c.xway 2 c.dir (spot_of c) t v (omega arith) is.xway
+      cond_both (nat_lt k c.stops) (report_at (time_at start k) vid 0 c.xway 2 c.dir (crash_position c)) _ IsReport
+      (λ _. report_fine (time_at start k) vid 0 c.xway 2 c.dir (crash_position c) t v (omega arith) is.xway
       (omega arith) is.dir (omega (arith, is.east)))
       (λ _. report_fine (time_at start k) vid 30 c.xway (cond (nat_lt (k - c.stops + 1) 4) 2 4) c.dir
-      (moved c.dir (spot_of c) (1320 * (k - c.stops + 1))) t v (omega arith) is.xway
+      (moved_on c.dir (crash_position c) (1320 * (k - c.stops + 1))) t v (omega arith) is.xway
       (cond_both (nat_lt (k - c.stops + 1) 4) 2 4 (λ l. l ≤ 4) (λ _. omega arith) (λ _. omega arith)) is.dir
-      (on_road c.dir (spot_of c) (1320 * (k - c.stops + 1)) (omega (arith, is.east, few))))
+      (on_road c.dir (crash_position c) (1320 * (k - c.stops + 1)) (omega (arith, is.east, few))))
 
 -- its lane is one of five
 lane_fine : (t : Trip) (k : ℕ) → lane_at t k ≤ 4
@@ -167,6 +167,6 @@ pub trip_fine : (t : Trip) (k : ℕ) → IsTrip t → k < t.reports → time_at 
 trip_fine t k is few time =
     let feet = far t.speed k is.slow (omega (arith, few, is.few_reports)) in
     report_fine (time_at t.start k) t.vid t.speed t.xway (lane_at t k) t.dir
-    (moved t.dir (5280 * t.seg + 100) (44 * t.speed * k)) time is.vid (omega (arith, is.slow)) is.xway
+    (moved_on t.dir (5280 * t.seg + 100) (44 * t.speed * k)) time is.vid (omega (arith, is.slow)) is.xway
     (lane_fine t k) is.dir
     (on_road t.dir (5280 * t.seg + 100) (44 * t.speed * k) (omega (arith, feet, is.east)))

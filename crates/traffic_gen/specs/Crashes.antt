@@ -6,7 +6,7 @@ use Rattle.traffic_gen.specs.declared.plan.GenPlan.{GenPlan}
 use Rattle.traffic_gen.specs.declared.crash.Crash.{Crash}
 use Rattle.draws.specs.Draws.{drawn}
 use Rattle.traffic_gen.specs.Directions.{direction_of}
-use Rattle.traffic_gen.specs.Reports.{time_at, moved, report_at, reports_before}
+use Rattle.traffic_gen.specs.Reports.{time_at, moved_on, report_at, reports_before}
 
 -- the five draws of a crash, and the generator after them
 abbrev pub drawn_crash : GenPlan → Lcg → Crash × Lcg
@@ -31,17 +31,17 @@ pub record IsCrash (c : Crash) : Type 0 where
   pub few_stops : c.stops ≤ 15
 
 -- the middle of the segment in which the vehicles of a crash stand
-abbrev pub spot_of : Crash → ℕ
-spot_of c = 5280 * c.seg + 2640
+abbrev pub crash_position : Crash → ℕ
+crash_position c = 5280 * c.seg + 2640
 
 -- report k of a vehicle of a crash: it stands, then it drives on and leaves the road with its last report
 abbrev pub crash_report : Crash → ℕ → ℕ → ℕ → Report
 crash_report c vid start k =
-    if nat_lt k c.stops then report_at (time_at start k) vid 0 c.xway 2 c.dir (spot_of c)
+    if nat_lt k c.stops then report_at (time_at start k) vid 0 c.xway 2 c.dir (crash_position c)
     else (
     let j = k - c.stops + 1
     in report_at (time_at start k) vid 30 c.xway (if nat_lt j 4 then 2 else 4) c.dir
-    (moved c.dir (spot_of c) (1320 * j))
+    (moved_on c.dir (crash_position c) (1320 * j))
     )
 
 -- the reports of one of the vehicles of a crash

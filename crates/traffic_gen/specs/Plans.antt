@@ -2,8 +2,8 @@ use Rattle.std.specs.Prelude.{ℕ, ◌*◌, ◌≤◌, ◌&&◌, not, nat_le, Op
 use Rattle.traffic_gen.specs.declared.plan.GenPlan.{GenPlan}
 
 -- the number of the first field that is out of its range, the seed being the first and in its range always
-abbrev pub first_out : GenPlan → Option ℕ
-first_out plan =
+abbrev pub field_out : GenPlan → Option ℕ
+field_out plan =
     if not (nat_le 1 plan.vehicles && nat_le plan.vehicles 5000) then Some 2
     else if not (nat_le 1 plan.minutes && nat_le plan.minutes 1440) then Some 3
     else if not (nat_le 1 plan.xways && nat_le plan.xways 256) then Some 4

@@ -10,8 +10,8 @@ abbrev pub time_at : ℕ → ℕ → ℕ
 time_at start k = start + 30 * k
 
 -- the position so many feet further on, to the east or to the west
-abbrev pub moved : ℕ → ℕ → ℕ → ℕ
-moved dir from feet = if dir == 0 then from + feet else from - feet
+abbrev pub moved_on : ℕ → ℕ → ℕ → ℕ
+moved_on dir from feet = if dir == 0 then from + feet else from - feet
 
 -- a report: its segment is the mile in which its position lies
 abbrev pub report_at : ℕ → ℕ → ℕ → ℕ → ℕ → ℕ → ℕ → Report

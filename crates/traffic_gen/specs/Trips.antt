@@ -8,7 +8,7 @@ use Rattle.traffic_gen.specs.declared.plan.GenPlan.{GenPlan}
 use Rattle.traffic_gen.specs.declared.trip.Trip.{Trip}
 use Rattle.draws.specs.Draws.{drawn}
 use Rattle.traffic_gen.specs.Directions.{direction_of}
-use Rattle.traffic_gen.specs.Reports.{time_at, moved, report_at, reports_before}
+use Rattle.traffic_gen.specs.Reports.{time_at, moved_on, report_at, reports_before}
 use Rattle.traffic_gen.specs.Plans.{end_of}
 
 -- a past day is drawn for each fiftieth vehicle alone
@@ -62,7 +62,7 @@ lane_at t k =
 abbrev pub trip_report : Trip → ℕ → Report
 trip_report t k =
     report_at (time_at t.start k) t.vid t.speed t.xway (lane_at t k) t.dir
-    (moved t.dir (5280 * t.seg + 100) (44 * t.speed * k))
+    (moved_on t.dir (5280 * t.seg + 100) (44 * t.speed * k))
 
 -- requests come a second after report 5
 abbrev pub asking_time : Trip → ℕ

@@ -5,7 +5,7 @@ ghost use Rattle.road_time.specs.Text.{lines_text};
 ghost use Rattle.road_io.specs.Blame.{FaultsByRoom};
 ghost use Rattle.road_io.specs.Rooms.{Takes, Refuses};
 ghost use Rattle.traffic_gen.specs.declared.plan.GenFault.TheVariants.{Size, WriteFault};
-ghost use Rattle.traffic_gen.specs.Plans.{first_out, InRange};
+ghost use Rattle.traffic_gen.specs.Plans.{field_out, InRange};
 ghost use Rattle.traffic_gen.specs.Traffic.{generated, file_of};
 ghost use Rattle.traffic_gen.specs.Endings.{WroteFile};
 
@@ -60,7 +60,7 @@ fn make_file(alloc: Global, plan: &GenPlan) -> Result<FileText, NoMemory>
 /// Writes the file of a plan, and answers its number of lines.
 pub fn generate<O: Sink>(alloc: Global, plan: &GenPlan, sink: &mut O) -> Result<u64, GenFault>
     ensures wrote { WroteFile result plan.now (O.written sink.old) (O.written sink.new) }
-    ensures size { (field : ℕ) → (result ≡ Err (Size field)) ↔ (first_out plan.now ≡ Some field) }
+    ensures size { (field : ℕ) → (result ≡ Err (Size field)) ↔ (field_out plan.now ≡ Some field) }
     ensures took { OnOk result (Takes (O.room sink.old) (O.room sink.new) (length (file_of plan.now))) }
     ensures full { result ≡ Err WriteFault → Refuses (O.room sink.old) (O.room sink.new) (length (file_of plan.now)) }
     ensures sink { FaultsByRoom (O.faults sink.old) (O.faults sink.new) (O.room sink.old) (O.room sink.new)

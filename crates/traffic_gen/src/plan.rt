@@ -1,6 +1,6 @@
 // What is to be generated.
 ghost use Rattle.std.specs.Prelude.{◌≡◌};
-ghost use Rattle.traffic_gen.specs.Plans.{first_out};
+ghost use Rattle.traffic_gen.specs.Plans.{field_out};
 
 /// The seed of the draws, and how many vehicles, minutes from midnight, expressways and crashes there are.
 #[derive(Clone, Copy, Debug, PartialEq, Eq)]
@@ -27,7 +27,7 @@ impl GenPlan {
     /// The number of the first field that is out of its range, if one is: 1 to 5,000 vehicles, 1 to 1,440 minutes, 1 to
     /// 256 expressways, and at most 100 crashes, of two vehicles each.
     pub(crate) fn out_of_range(&self) -> Option<u8>
-        ensures { result ≡ first_out self.now }
+        ensures { result ≡ field_out self.now }
     {
         if self.vehicles < 1 || self.vehicles > 5000 {
             return Some(2);

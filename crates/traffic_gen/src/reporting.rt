@@ -1,7 +1,7 @@
 // Reports of vehicles that come every 30 seconds.
 ghost use Rattle.std.specs.Prelude.{◌≡◌, ◌≤◌, ◌<◌, ◌+◌, ◌*◌, ◌∷◌, [], ◌++◌, nat_lt, OnOk, if◌then◌else◌};
 ghost use Rattle.road_time.specs.declared.road.Tuple.TheVariants.{Report as ReportTuple};
-ghost use Rattle.traffic_gen.specs.Reports.{time_at, moved, report_at};
+ghost use Rattle.traffic_gen.specs.Reports.{time_at, moved_on, report_at};
 
 use road_time::{NoMemory, Report, Tuple};
 
@@ -27,7 +27,7 @@ impl Course {
     pub fn after(&self, from: u32, feet: u32) -> u32
         requires west { feet ≤ from }
         requires east { from + feet < 528000 }
-        ensures value { result ≡ moved self.now.dir from feet }
+        ensures value { result ≡ moved_on self.now.dir from feet }
         ensures on_road { result < 528000 }
     {
         if self.dir == 0 {

@@ -1,21 +1,20 @@
 -- Laws of a field without a sign, which ends at a comma.
 use Rattle.std.proofs.Common.{◌≡◌, ℕ, ◌+◌, ◌<◌, ◌≤◌, ◌==◌, true, not, cond, List, [], ◌∷◌, length, take, drop, get_or}
 use Rattle.std.proofs.Common.{Some, None, Ok, ℤ, pos, negsuc, ◌++◌, inl, inr, subst, refl, sym, ap, ◌∙◌, arith}
-use Rattle.std.specs.List.{list_all}
+use Rattle.std.specs.List.{list_all, cons_option, filter_map}
 use Rattle.std.proofs.lemmas.Bool.{cond-true, cond-false, and_from, le-leb, ne_eqb, cases_lt}
 use Rattle.std.proofs.lemmas.List.{length-take-le, length-take, length-drop, get_or-drop, get_or-take, get_or_past}
 use Rattle.std.proofs.lemmas.List.{drop-drop, drop_more, drop_all, take-append-drop}
 use Rattle.std.proofs.lemmas.Nat.{le_bytes_8}
 use Rattle.std.specs.Int.{w64, from_le_bytes}
 use Rattle.std.specs.Prelude.{is_none}
-use Rattle.std.specs.List.{cons_option, filter_map}
 use Rattle.std.specs.Str.Parse.{digits_value, AllDigits}
 use Rattle.std.proofs.lemmas.Str.Parse.{digit_from_value}
 use Rattle.road_time.specs.Numbers.{number_of, fields_of_text}
 use Rattle.road_time.specs.Form.{Use, From, Unused, ReportLine, uses_of, first_odd, first_out, form, of_fields}
 use Rattle.road_time.specs.Form.{of_numbers, in_ranges}
 use Rattle.road_time.specs.declared.road.Tuple.TheVariants.{Report as ReportTuple}
-use Rattle.tuple_format.specs.Fields.{IsField, odd_from, unused}
+use Rattle.tuple_format.specs.Fields.{IsField, odd_from, unused_text}
 use Rattle.tuple_format.proofs.TextLaws.{is_inner, fields_cut, form_of_fields, are_all}
 
 -- digits have no comma
@@ -61,8 +60,7 @@ none_used = negsuc 0 ∷ negsuc 0 ∷ negsuc 0 ∷ negsuc 0 ∷ negsuc 0 ∷ neg
 
 -- the numbers of a report are in their ranges
 pub report_in_range : (time vid spd xway lane dir seg at : ℕ) → time ≤ 86399 → vid ≤ 2147483647 → spd ≤ 100 → xway ≤ 255
-    → lane ≤ 4 → dir ≤ 1 → seg ≤ 99 → at ≤ 527999 →
-    first_out 2 (uses_of ReportLine)
+    → lane ≤ 4 → dir ≤ 1 → seg ≤ 99 → at ≤ 527999 → first_out 2 (uses_of ReportLine)
     (pos time ∷ pos vid ∷ pos spd ∷ pos xway ∷ pos lane ∷ pos dir ∷ pos seg ∷ pos at ∷ none_used) ≡ None
 report_in_range time vid spd xway lane dir seg at ht hv hs hx hl hd hg hp =
     let u8 = Unused ∷ Unused ∷ Unused ∷ Unused ∷ Unused ∷ Unused ∷ [] in
@@ -92,7 +90,7 @@ report_in_range time vid spd xway lane dir seg at ht hv hs hx hl hd hg hp =
 -- a text of nine fields without a sign, and six that are not used
 pub plain_form : (x0 x1 x2 x3 x4 x5 x6 x7 x8 x9 : List ℕ) (kind time vid spd xway lane dir seg at : ℕ) →
     IsField x0 kind x1 → IsField x1 time x2 → IsField x2 vid x3 → IsField x3 spd x4 → IsField x4 xway x5 →
-    IsField x5 lane x6 → IsField x6 dir x7 → IsField x7 seg x8 → IsField x8 at x9 → x9 ≡ unused → kind ≡ 0
+    IsField x5 lane x6 → IsField x6 dir x7 → IsField x7 seg x8 → IsField x8 at x9 → x9 ≡ unused_text → kind ≡ 0
     → time ≤ 86399 → vid ≤ 2147483647 → spd ≤ 100 → xway ≤ 255 → lane ≤ 4 → dir ≤ 1 → seg ≤ 99 → at ≤ 527999
     → form x0
     ≡ Ok (Some
@@ -131,7 +129,7 @@ fits_taken xs n fits i =
 -- seventeen bytes of two such numbers and a last 1 are the six fields of -1
 pub unused_is : (xs : List ℕ) → length xs ≡ 17 → ((i : ℕ) → get_or xs i 0 < 256) →
     from_le_bytes w64 (take 8 xs) ≡ 3543537071533338925 → from_le_bytes w64 (take 8 (drop 8 xs)) ≡ 3255030700766735660 →
-    get_or xs 16 0 ≡ 49 → xs ≡ unused
+    get_or xs 16 0 ≡ 49 → xs ≡ unused_text
 unused_is xs long fits front back last =
     let size = length-drop 8 xs in
     let one : take 8 xs ≡ 45 ∷ 49 ∷ 44 ∷ 45 ∷ 49 ∷ 44 ∷ 45 ∷ 49 ∷ [] =

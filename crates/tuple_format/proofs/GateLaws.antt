@@ -110,8 +110,7 @@ module _ (g : GateState) (limits : Limits) (late : ℕ) (before : List Tuple) (r
     (seen : List (ℕ × Recent)) where
   -- one vehicle has a report more
   abbrev pub Noted : Type 0
-  Noted = (v : ℕ) →
-      kept_of seen v
+  Noted = (v : ℕ) → kept_of seen v
       ≡ (if nat_eq r.vid v then Some (noted_of (kept_of g.seen r.vid) (minute_of r.time)) else kept_of g.seen v)
 
   -- what is kept after the report
@@ -181,8 +180,7 @@ module _ (g : GateState) (limits : Limits) (late : ℕ) (before : List Tuple) (r
 
 -- and with another tuple
 pub other_step : (g : GateState) (limits : Limits) (late : ℕ) (before : List Tuple) (x : Tuple) → report_of x ≡ None →
-    StandsFor g limits late before →
-    StandsFor
+    StandsFor g limits late before → StandsFor
     (record {
       vehicle_limit = g.vehicle_limit;
       lateness = g.lateness;
@@ -248,12 +246,9 @@ module _ (g : GateState) (limits : Limits) (late : ℕ) (before : List Tuple) (x
 
   -- what is kept goes on
   pub report_admitted : (r : Report) (minute : ℕ) (seen : List (ℕ × Recent)) → StandsFor g limits late before →
-      time ≡ time_of x → g.greatest ≤ time + g.lateness → x ≡ ReportTuple r → minute ≡ minute_of time →
-      ((v : ℕ) →
+      time ≡ time_of x → g.greatest ≤ time + g.lateness → x ≡ ReportTuple r → minute ≡ minute_of time → ((v : ℕ) →
       kept_of seen v ≡ (if nat_eq r.vid v then Some (noted_of (kept_of g.seen r.vid) minute) else kept_of g.seen v))
-      →
-      length seen ≡ length g.seen + (if is_some (kept_of g.seen r.vid) then 0 else 1) →
-      StandsFor
+      → length seen ≡ length g.seen + (if is_some (kept_of g.seen r.vid) then 0 else 1) → StandsFor
       (record {
         vehicle_limit = g.vehicle_limit;
         lateness = g.lateness;

@@ -13,7 +13,7 @@ use Rattle.std.proofs.lemmas.List.Splits.{length-slice_split}
 use Rattle.std.proofs.lemmas.Bool.{cond-true, cond-false, and_parts, and_from, not-true, ne_eqb, eq-eqb, cond_both}
 use Rattle.std.proofs.lemmas.Bool.{le-leb, false_from_ne_true}
 use Rattle.std.proofs.lemmas.List.{take-append-drop, drop_more, drop_all}
-use Rattle.tuple_format.specs.Causes.{numbered, answered}
+use Rattle.tuple_format.specs.Causes.{numbered, reader_answer}
 use Rattle.tuple_format.specs.declared.cause.Cause.{Cause}
 use Rattle.tuple_format.specs.declared.cause.Cause.TheVariants.{Number}
 use Rattle.std.proofs.Math.Nat.{pow-le-pow_right, pow-suc}
@@ -106,7 +106,7 @@ numbered_ok fields None zs e = let same : filter_map (number_of 10) fields ≡ z
 
 -- else the first that is none is its fault
 pub numbered_err : (fields : List (List ℕ)) (odd : Option ℕ) (cause : Cause) →
-    numbered odd (filter_map (number_of 10) fields) ≡ Err cause → answered (of_fields fields odd) ≡ Err cause
+    numbered odd (filter_map (number_of 10) fields) ≡ Err cause → reader_answer (of_fields fields odd) ≡ Err cause
 numbered_err fields None cause e = cc
 numbered_err fields (Some n) cause e = let same : Number n ≡ cause = cc in ap Err same
 

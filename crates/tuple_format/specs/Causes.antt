@@ -28,9 +28,9 @@ cause_text (causes.TooOften vid minute) = codes "too-often " ++ decimal vid ++ c
 cause_text (causes.Vehicles limit) = codes "vehicles " ++ decimal limit
 
 -- what the reader answers
-abbrev pub answered : Result (Option Tuple) Fault → Result (Option Tuple) Cause
-answered (Ok tuple) = Ok tuple
-answered (Err fault) = Err (cause_of fault)
+abbrev pub reader_answer : Result (Option Tuple) Fault → Result (Option Tuple) Cause
+reader_answer (Ok tuple) = Ok tuple
+reader_answer (Err fault) = Err (cause_of fault)
 
 -- the numbers, unless a field is none
 abbrev pub numbered : Option ℕ → List ℤ → Result (List ℤ) Cause

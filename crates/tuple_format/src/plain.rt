@@ -2,7 +2,7 @@
 ghost use Rattle.std.specs.Prelude.{◌≡◌, IfSome, Some, Ok, true};
 ghost use Rattle.road_time.specs.declared.road.Tuple.TheVariants.{Report as ReportTuple};
 ghost use Rattle.road_time.specs.Form.{form};
-ghost use Rattle.tuple_format.specs.Fields.{IsField, unused};
+ghost use Rattle.tuple_format.specs.Fields.{IsField, unused_text};
 
 use crate::ranges::{
     LAST_DIRECTION, LAST_LANE, LAST_NAME, LAST_POSITION, LAST_SECOND, LAST_SEGMENT, LAST_XWAY,
@@ -18,7 +18,7 @@ const BACK: u64 = 0x2d2c_312d_2c31_2d2c;
 /// Whether a text is six fields of -1, by two comparisons of eight bytes.
 #[inline(always)]
 fn is_unused(text: &[u8]) -> bool
-    ensures { result ≡ true → text.now ≡ unused }
+    ensures { result ≡ true → text.now ≡ unused_text }
 {
     if text.len() != 17 || text[16] != b'1' {
         return false;

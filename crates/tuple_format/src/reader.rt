@@ -2,7 +2,7 @@
 ghost use Rattle.std.specs.Prelude.{◌≡◌, ◌≤◌, ◌≢◌, [], ◌==◌, count_by, length};
 ghost use Rattle.road_time.specs.Lines.{without_cr};
 ghost use Rattle.road_time.specs.Form.{form};
-ghost use Rattle.tuple_format.specs.Causes.{answered};
+ghost use Rattle.tuple_format.specs.Causes.{reader_answer};
 
 use crate::cause::Cause;
 use crate::fields::{count_fields, numbers};
@@ -28,7 +28,7 @@ pub fn trimmed(line: &[u8]) -> &[u8]
 #[inline(never)]
 fn read_text(text: &[u8]) -> Result<Option<Tuple>, Cause>
     requires { length text.now ≤ 200 }
-    ensures { result ≡ answered (form text.now) }
+    ensures { result ≡ reader_answer (form text.now) }
 {
     if text.is_empty() {
         return Ok(None);
@@ -46,7 +46,7 @@ fn read_text(text: &[u8]) -> Result<Option<Tuple>, Cause>
 /// The tuple of a line, no tuple for an empty line, or why there is none.
 pub fn read_line(line: &[u8]) -> Result<Option<Tuple>, Cause>
     requires { length line.now ≤ 200 }
-    ensures { result ≡ answered (form (without_cr line.now)) }
+    ensures { result ≡ reader_answer (form (without_cr line.now)) }
 {
     let text = trimmed(line);
     match plain_report(text) {

@@ -3,7 +3,7 @@ ghost use Rattle.std.specs.Prelude.{◌≡◌, ◌+◌, ◌<◌, ◌≤◌, [], 
 ghost use Rattle.std.specs.Prelude.{vec_len, vec_capacity};
 ghost use Rattle.std.specs.Fmt.{signed_decimal};
 ghost use Rattle.road_time.specs.Text.{tuple_text};
-ghost use Rattle.tuple_format.specs.Ends.{fields_then, number_at};
+ghost use Rattle.tuple_format.specs.Ends.{fields_then, field_number};
 
 use crate::ends::{put_byte, put_field};
 use road_time::{NoMemory, Tuple};
@@ -32,7 +32,7 @@ fn put_number(field: Option<u32>, line: &mut [u8], end: usize) -> usize
     requires inside { end ≤ length line.old }
     ensures low { end ≤ result + 21 }
     ensures high { result ≤ end }
-    ensures written { drop result line.new ≡ 44 ∷ (signed_decimal (number_at field) ++ drop end line.old) }
+    ensures written { drop result line.new ≡ 44 ∷ (signed_decimal (field_number field) ++ drop end line.old) }
 {
     match field {
         Some(n) => put_field(u64::from(n), line, end),
@@ -44,7 +44,7 @@ fn put_number(field: Option<u32>, line: &mut [u8], end: usize) -> usize
 fn put_fields(kind: u8, fields: &[Option<u32>; 14], line: &mut [u8; ROOM]) -> usize
     requires { kind < 10 }
     ensures inside { result ≤ length line.new }
-    ensures written { drop result line.new ≡ fields_then (pos kind) (map number_at fields.now) }
+    ensures written { drop result line.new ≡ fields_then (pos kind) (map field_number fields.now) }
 {
     let mut at = put_byte(b'\n', line, ROOM);
     let mut left = 14usize;
@@ -58,7 +58,7 @@ fn put_fields(kind: u8, fields: &[Option<u32>; 14], line: &mut [u8; ROOM]) -> us
 /// The kind of a tuple's line and its fields.
 fn fields_of(tuple: &Tuple) -> (u8, [Option<u32>; 14])
     ensures kind { result.0 < 10 }
-    ensures fields { fields_then (pos result.0) (map number_at result.1) ≡ tuple_text tuple.now ++ 10 ∷ [] }
+    ensures fields { fields_then (pos result.0) (map field_number result.1) ≡ tuple_text tuple.now ++ 10 ∷ [] }
 {
     let mut fields = [None; 14];
     match *tuple {

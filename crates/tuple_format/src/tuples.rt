@@ -1,7 +1,7 @@
 // What the numbers of a line may be, and the tuple that they make.
 ghost use Rattle.std.specs.Prelude.{◌≡◌, ◌+◌, ◌<◌, ◌^◌, length, map, drop, ℤ, pos, ◌≤ℤ◌, ◌<ℤ◌, slice_index_or, ◌∷◌};
 ghost use Rattle.road_time.specs.Form.{is_allowed, first_out as defined_first_out, of_numbers, nat_of};
-ghost use Rattle.tuple_format.specs.Causes.{answered};
+ghost use Rattle.tuple_format.specs.Causes.{reader_answer};
 ghost use Rattle.tuple_format.specs.Uses.{use_of};
 
 use crate::cause::Cause;
@@ -153,7 +153,7 @@ fn small(n: &[i64; 15], i: usize) -> u8
 
 /// The tuple of fifteen numbers, or the first field out of its range.
 pub fn tuple(numbers: &[i64; 15]) -> Result<Option<Tuple>, Cause>
-    ensures { result ≡ answered (of_numbers numbers.now) }
+    ensures { result ≡ reader_answer (of_numbers numbers.now) }
 {
     match numbers[0] {
         0 => report(numbers),
@@ -166,7 +166,7 @@ pub fn tuple(numbers: &[i64; 15]) -> Result<Option<Tuple>, Cause>
 
 /// The report of fifteen numbers.
 fn report(n: &[i64; 15]) -> Result<Option<Tuple>, Cause>
-    ensures { result ≡ answered (of_numbers (pos 0 ∷ drop 1 n.now)) }
+    ensures { result ≡ reader_answer (of_numbers (pos 0 ∷ drop 1 n.now)) }
 {
     match first_out(&REPORT, n) {
         Some(field) => Err(Cause::Range(field)),
@@ -185,7 +185,7 @@ fn report(n: &[i64; 15]) -> Result<Option<Tuple>, Cause>
 
 /// The balance request of fifteen numbers.
 fn balance(n: &[i64; 15]) -> Result<Option<Tuple>, Cause>
-    ensures { result ≡ answered (of_numbers (pos 2 ∷ drop 1 n.now)) }
+    ensures { result ≡ reader_answer (of_numbers (pos 2 ∷ drop 1 n.now)) }
 {
     match first_out(&BALANCE, n) {
         Some(field) => Err(Cause::Range(field)),
@@ -199,7 +199,7 @@ fn balance(n: &[i64; 15]) -> Result<Option<Tuple>, Cause>
 
 /// The expenditure request of fifteen numbers.
 fn spent(n: &[i64; 15]) -> Result<Option<Tuple>, Cause>
-    ensures { result ≡ answered (of_numbers (pos 3 ∷ drop 1 n.now)) }
+    ensures { result ≡ reader_answer (of_numbers (pos 3 ∷ drop 1 n.now)) }
 {
     match first_out(&SPENT, n) {
         Some(field) => Err(Cause::Range(field)),
@@ -215,7 +215,7 @@ fn spent(n: &[i64; 15]) -> Result<Option<Tuple>, Cause>
 
 /// The travel request of fifteen numbers.
 fn travel(n: &[i64; 15]) -> Result<Option<Tuple>, Cause>
-    ensures { result ≡ answered (of_numbers (pos 4 ∷ drop 1 n.now)) }
+    ensures { result ≡ reader_answer (of_numbers (pos 4 ∷ drop 1 n.now)) }
 {
     match first_out(&TRAVEL, n) {
         Some(field) => Err(Cause::Range(field)),

@@ -49,8 +49,7 @@ module _ {V S : Type 0} (m : IndexMap ℕ V S) (at key : ℕ) (value : V) (uniqu
   kept_at = lookup_from_place nat_eq_equiv m.entries at key value unique here
 
   -- a value that is written there is kept of the key from then on, and of other keys what was
-  pub written_at : (written : V) (k : ℕ) →
-      lookup (nat_eq k) (set_value_at m.entries at written)
+  pub written_at : (written : V) (k : ℕ) → lookup (nat_eq k) (set_value_at m.entries at written)
       ≡ (if nat_eq key k then Some written else lookup (nat_eq k) m.entries)
   written_at written k = (updates-with_value_at m at written nat_eq_equiv unique key value here).0 k
 

@@ -13,7 +13,7 @@ use Rattle.road_time.specs.Lav.{CarFlow, flow_at}
 use Rattle.road_time.specs.Tolls.{notes_of}
 use Rattle.road_time.proofs.NoteLaws.{filter-le}
 use Rattle.validator.specs.declared.spots.Spot.{Spot}
-use Rattle.validator.specs.Gathered.{is_of, listed}
+use Rattle.validator.specs.Gathered.{is_of, kept_items}
 use Rattle.validator.specs.declared.halts.Halt.{Halt}
 use Rattle.validator.specs.Halts.{is_in, is_about, is_before}
 
@@ -21,13 +21,13 @@ use Rattle.validator.specs.Halts.{is_in, is_about, is_before}
 pub first_kept : {K X : Type 0} (same : K → K → Bool) → ((a b : K) → same a b ≡ true → a ≡ b) →
     (before after : K → Option (Vec X)) (key : K) (there : Vec X) (x : X) →
     before key ≡ None → there.items ≡ x ∷ [] → ((k : K) → after k ≡ cond (same key k) (Some there) (before k)) →
-    (k : K) → listed (after k) ≡ listed (before k) ++ cond (same key k) (x ∷ []) []
-first_kept {K} {X} same is before after key there x none items now k = ap listed (now k) ∙ step (same key k) refl
+    (k : K) → kept_items (after k) ≡ kept_items (before k) ++ cond (same key k) (x ∷ []) []
+first_kept {K} {X} same is before after key there x none items now k = ap kept_items (now k) ∙ step (same key k) refl
   where
     step : (b : Bool) → same key k ≡ b →
-        listed (cond b (Some there) (before k)) ≡ listed (before k) ++ cond b (x ∷ []) []
-    step true e = items ∙ ap (λ (xs : List X). xs ++ x ∷ []) (sym (ap listed (ap before (sym (is key k e)) ∙ none)))
-    step false e = sym (append-nil (listed (before k)))
+        kept_items (cond b (Some there) (before k)) ≡ kept_items (before k) ++ cond b (x ∷ []) []
+    step true e = items ∙ ap (λ (xs : List X). xs ++ x ∷ []) (sym (ap kept_items (ap before (sym (is key k e)) ∙ none)))
+    step false e = sym (append-nil (kept_items (before k)))
 
 -- halts of a stretch that touch a minute are among those of the stretch
 pub about_in : (start : ℕ) (k : Stretch) (hs : List Halt) →

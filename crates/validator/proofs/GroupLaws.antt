@@ -17,15 +17,15 @@ use Rattle.road_time.specs.Stops.{Stop}
 use Rattle.road_time.specs.Tolls.{stops_at}
 use Rattle.road_time.specs.Log.{place_cmp, accident_on, stands_at, stands_first, ends_at, mishap_if, mishap_at}
 use Rattle.road_time.specs.Log.{places_of, log_of}
-use Rattle.road_time.proofs.StandLaws.{is_among, found, given, any_filter}
+use Rattle.road_time.proofs.StandLaws.{is_among, found, given, any_filter, any_map}
 use Rattle.road_time.proofs.AccidentLaws.{both, any_alike}
+use Rattle.road_time.proofs.PrefixLaws.{range_more}
 use Rattle.std.specs.BTreeSet.{insert_key}
 use Rattle.validator.specs.declared.halts.Halt.{Halt}
 use Rattle.validator.specs.declared.mishaps.Group.{Group}
 use Rattle.validator.specs.Halts.{covers, halting, halts_of, is_at}
 use Rattle.validator.specs.Groups.{shown_group, has_other, stands_with, has_halts, groups_of, mishap_in}
 use Rattle.validator.proofs.HaltLaws.{halts_among}
-use Rattle.road_time.proofs.StandLaws.{any_map}
 
 -- runs
 
@@ -158,11 +158,6 @@ module _ (day : List Tuple) (order : AreTimesInOrder day) (last from : ℕ) wher
       one_group p (filter (is_at p) hs) refl (groups_of hs ps) (filter_map (mishap_at (reports day) last from) ps)
       (begun_is ps)
 
-pub range_more : (a n : ℕ) → range_with_len a (suc n) ≡ range_with_len a n ++ (a + n) ∷ []
-range_more a zero = let e : a ≡ a + 0 = omega arith in ap (λ x. x ∷ []) e
-range_more a (suc n) = let e : a + 1 + n ≡ a + suc n = omega arith in
-    ap (λ xs. a ∷ xs) (range_more (a + 1) n ∙ ap (λ x. range_with_len (a + 1) n ++ x ∷ []) e)
-
 -- one second more
 pub flat_more : {X : Type 0} (f : ℕ → List X) (n : ℕ) →
     flat_map f (range_with_len 0 (n + 1)) ≡ flat_map f (range_with_len 0 n) ++ f n
@@ -179,8 +174,7 @@ flat_same f g h [] = refl
 flat_same f g h (n ∷ ns) = rw (h n, flat_same f g h ns) refl
 
 -- the log is what begins in the groups
-pub log_is : (day : List Tuple) → AreTimesInOrder day →
-    log_of day ≡ flat_map
+pub log_is : (day : List Tuple) → AreTimesInOrder day → log_of day ≡ flat_map
     (λ from. filter_map (mishap_in (greatest_time day) from)
     (groups_of (halts_of (reports day)) (places_of (reports day)))) (range_with_len 0 (greatest_time day + 1))
 log_is day order =

@@ -4,7 +4,6 @@ pub mod OwedLaws
 pub mod OutputLaws
 pub mod SpotLaws
 pub mod VerdictLaws
-pub mod RunLaws
 pub mod HaltLaws
 pub mod MarkLaws
 pub mod AboutLaws

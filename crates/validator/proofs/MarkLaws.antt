@@ -5,11 +5,11 @@ use Rattle.std.proofs.lemmas.List.{append_assoc}
 use Rattle.std.proofs.lemmas.Bool.{eqb-true}
 use Rattle.road_time.specs.declared.road.Report.{Report}
 use Rattle.road_time.specs.Tuples.{place_of}
-use Rattle.road_time.specs.Stops.{stands}
-use Rattle.validator.specs.declared.halts.HaltSeen.{HaltSeen}
+use Rattle.road_time.specs.Stops.{stands, last_seen}
 use Rattle.validator.specs.declared.halts.Mark.{Mark}
 use Rattle.validator.specs.declared.halts.Halt.{Halt}
-use Rattle.validator.specs.Halts.{kept, of_vehicle, marks_of, next_time, halt_if, halts_after}
+use Rattle.road_time.specs.declared.road.LastSeen.{LastSeen}
+use Rattle.validator.specs.Halts.{of_vehicle, marks_of, next_time, halt_if, halts_after}
 use Rattle.road_time.proofs.SightLaws.{newest_first}
 
 -- the marks of one report more
@@ -21,18 +21,18 @@ marks_push ms rs r b e f =
     ∙ ap (λ c. record { report = r; stands = c } ∷ marks_of (reverse rs)) f ∙ sym (ap marks_of (newest_first rs r))
 
 -- the runs after one report more
-pub seen_push : (before after : ℕ → Option HaltSeen) (rs : List Report) (r : Report) →
-    ((v : ℕ) → before v ≡ kept (of_vehicle v (reverse rs))) →
-    kept (r ∷ of_vehicle r.vid (reverse rs)) ≡ after r.vid → ((v : ℕ) → (r.vid == v) ≡ false → after v ≡ before v) →
-    (v : ℕ) → after v ≡ kept (of_vehicle v (reverse (rs ++ r ∷ [])))
+pub seen_push : (before after : ℕ → Option LastSeen) (rs : List Report) (r : Report) →
+    ((v : ℕ) → before v ≡ last_seen (of_vehicle v (reverse rs))) →
+    last_seen (r ∷ of_vehicle r.vid (reverse rs)) ≡ after r.vid → ((v : ℕ) → (r.vid == v) ≡ false → after v ≡ before v)
+    → (v : ℕ) → after v ≡ last_seen (of_vehicle v (reverse (rs ++ r ∷ [])))
 seen_push before after rs r are run others v = step (r.vid == v) refl
-    ∙ sym (ap (λ xs. kept (of_vehicle v xs)) (newest_first rs r))
+    ∙ sym (ap (λ xs. last_seen (of_vehicle v xs)) (newest_first rs r))
   where
     step : (b : Bool) → (r.vid == v) ≡ b →
-        after v ≡ kept (cond b (r ∷ of_vehicle v (reverse rs)) (of_vehicle v (reverse rs)))
+        after v ≡ last_seen (cond b (r ∷ of_vehicle v (reverse rs)) (of_vehicle v (reverse rs)))
     step true e =
         let is : r.vid ≡ v = eqb-true r.vid v e in
-        ap after (sym is) ∙ sym run ∙ ap (λ w. kept (r ∷ of_vehicle w (reverse rs))) is
+        ap after (sym is) ∙ sym run ∙ ap (λ w. last_seen (r ∷ of_vehicle w (reverse rs))) is
     step false e = others v e ∙ are v
 
 -- one mark less to go

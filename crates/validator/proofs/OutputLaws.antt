@@ -4,6 +4,7 @@ use Rattle.std.proofs.Common.{refl, sym, ap, ◌∙◌, arith, Option, Some, Non
 use Rattle.std.proofs.lemmas.List.{append-nil}
 use Rattle.std.proofs.lemmas.List.Concat.{flat_map-append}
 use Rattle.std.proofs.lemmas.Bool.{eqb-true}
+use Rattle.road_time.specs.declared.tariff.TheConstants.{GREATEST_TOLL}
 use Rattle.road_time.specs.declared.road.Tuple.{Tuple}
 use Rattle.road_time.specs.declared.road.Tuple.TheVariants.{Report as ReportTuple}
 use Rattle.road_time.specs.declared.road.Report.{Report}
@@ -13,11 +14,11 @@ use Rattle.road_time.specs.Sights.{Moment, moments, Sight, sights_of, previous}
 use Rattle.road_time.specs.Stays.{is_told, is_charged, stay_start}
 use Rattle.road_time.specs.Tolls.{StretchTold}
 use Rattle.road_time.specs.Day.{ChargedToll, rules, sum_of, charges_to, owed_if, owed_by, told_if, told_by, notices_of}
-use Rattle.road_time.specs.Day.{toll_told, balance_by, answer_by, notices_by, xway_of}
+use Rattle.road_time.specs.Day.{toll_told, balance_by, answer_by, notices_by, xway_of, HasFewTolls}
 use Rattle.road_time.proofs.SightLaws.{moments_push, sights_of_push, sights_of_other}
 use Rattle.road_time.proofs.AccountLaws.{balance_push, told_last, charged_told, toll_if as told_if_is}
 use Rattle.road_time.proofs.EachLaws.{some_is, no_some}
-use Rattle.road_time.proofs.BoundLaws.{Few, rules_few, balance_few}
+use Rattle.road_time.proofs.BoundLaws.{rules_few, balance_few}
 use Rattle.validator.specs.declared.account.Account.{Account}
 use Rattle.validator.specs.declared.found.SpotFound.{SpotFound}
 use Rattle.validator.specs.Findings.{shown_told, shown_found, finding_if}
@@ -158,8 +159,7 @@ module _ (finding : Sight → StretchTold) where
       step (Some a) e f = ap (λ b. owed_if b finding (sights_of before r.vid) r) (ap (λ p. is_charged p r) (sym e))
           ∙ inner (is_charged (Some a.newest) r) refl
         where
-          inner : (b : Bool) → is_charged (Some a.newest) r ≡ b →
-              owed_if b finding (sights_of before r.vid) r
+          inner : (b : Bool) → is_charged (Some a.newest) r ≡ b → owed_if b finding (sights_of before r.vid) r
               ≡ (if b then record { vid = r.vid; xway = a.newest.xway; toll = a.toll } ∷ [] else [])
           inner false g = refl
           inner true g =
@@ -167,12 +167,12 @@ module _ (finding : Sight → StretchTold) where
               (charged_told finding (sights_of before r.vid) r (ap (λ p. is_charged p r) (sym e) ∙ g)
               ∙ sym (last_is (sights_of before r.vid)) ∙ sym f)
 
-  last_few : Few finding → (own : List Sight) → toll_last finding own ≤ 500000000000
+  last_few : HasFewTolls finding → (own : List Sight) → toll_last finding own ≤ GREATEST_TOLL
   last_few few [] = omega arith
   last_few few (s ∷ older) = step (is_told (previous older) s.1) (last_few few older)
     where
-      step : (b : Bool) → toll_last finding older ≤ 500000000000 →
-          toll_if b (finding s) (toll_last finding older) ≤ 500000000000
+      step : (b : Bool) → toll_last finding older ≤ GREATEST_TOLL →
+          toll_if b (finding s) (toll_last finding older) ≤ GREATEST_TOLL
       step true h = few s
       step false h = h
 

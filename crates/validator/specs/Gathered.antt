@@ -28,12 +28,12 @@ is_of s (Spent time vid xway qid day) = false
 is_of s (Travel time) = false
 
 -- what is kept of a key, nothing where the key is not kept
-abbrev pub listed : {X : Type 0} → Option (Vec X) → List X
-listed None = []
-listed (Some there) = there.items
+abbrev pub kept_items : {X : Type 0} → Option (Vec X) → List X
+kept_items None = []
+kept_items (Some there) = there.items
 
 -- what is put together of a day is of its tuples
 pub record IsGathered (gathered : Gathered) : Type 0 where
-  pub by_spot : (s : Spot) → listed (get same_spot gathered.by_spot s) ≡ filter (is_of s) gathered.tuples.now
+  pub by_spot : (s : Spot) → kept_items (get same_spot gathered.by_spot s) ≡ filter (is_of s) gathered.tuples.now
   pub halts : (k : Stretch) →
-      listed (get same_stretch gathered.halts k) ≡ filter (is_in k) (halts_of (reports gathered.tuples.now))
+      kept_items (get same_stretch gathered.halts k) ≡ filter (is_in k) (halts_of (reports gathered.tuples.now))

@@ -1,19 +1,13 @@
-use Rattle.std.specs.Prelude.{ℕ, ◌≤◌, ◌+◌, ◌==◌, ◌&&◌, nat_le, nat_lt, min, Bool, true, false, List, [], ◌∷◌, ◌++◌, map}
+use Rattle.std.specs.Prelude.{ℕ, ◌≤◌, ◌+◌, ◌==◌, ◌&&◌, nat_le, nat_lt, Bool, true, false, List, [], ◌∷◌, ◌++◌, map}
 use Rattle.std.specs.Prelude.{reverse, Option, Some, None, if◌then◌else◌}
 use Rattle.std.specs.List.{filter, AllByRecursion}
 use Rattle.road_time.specs.declared.road.Report.{Report}
 use Rattle.road_time.specs.declared.road.Place.{Place}
 use Rattle.road_time.specs.declared.road.Stretch.{Stretch}
 use Rattle.road_time.specs.Tuples.{place_of, same_place, stretch_around, same_stretch}
-use Rattle.road_time.specs.Stops.{run_at, stands, Stop}
-use Rattle.validator.specs.declared.halts.HaltSeen.{HaltSeen}
+use Rattle.road_time.specs.Stops.{stands, Stop}
 use Rattle.validator.specs.declared.halts.Mark.{Mark}
 use Rattle.validator.specs.declared.halts.Halt.{Halt}
-
--- of a vehicle's reports, the newest first: the place of the newest, and how many of the newest are there, up to four
-abbrev pub kept : List Report → Option HaltSeen
-kept [] = None
-kept (r ∷ older) = Some (record { place = place_of r; run = min 4 (run_at (r ∷ older) (place_of r)) })
 
 -- the reports of a vehicle
 abbrev pub of_vehicle : ℕ → List Report → List Report

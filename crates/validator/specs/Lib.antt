@@ -2,7 +2,6 @@ pub mod Seen
 pub mod Flows
 pub mod Findings
 pub mod Accounts
-pub mod History
 pub mod Outputs
 pub mod Verdicts
 pub mod Halts

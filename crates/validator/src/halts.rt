@@ -3,20 +3,13 @@ ghost use Rattle.std.specs.Prelude.{◌≡◌, ◌∷◌, ◌++◌, ◌==◌, �
 ghost use Rattle.std.specs.HashMap.{get};
 ghost use Rattle.road_time.specs.declared.road.Report.{Report as ReportValue};
 ghost use Rattle.road_time.specs.Tuples.{reports, place_of as defined_place_of};
-ghost use Rattle.road_time.specs.Stops.{stands};
-ghost use Rattle.validator.specs.Halts.{kept, marks_of, halt_if, halts_of, covers as defined_covers};
+ghost use Rattle.road_time.specs.Stops.{last_seen, stands};
+ghost use Rattle.validator.specs.Halts.{marks_of, halt_if, halts_of, covers as defined_covers};
 
 use crate::places::report_of;
-use road_time::{NoMemory, Place, Report, Tuple};
+use road_time::{LastSeen, NoMemory, Place, Report, STOPPED_RUN, Tuple};
 use std::alloc::Global;
 use std::collections::HashMap;
-
-/// Where a vehicle was last, and in how many reports in a row, up to four.
-#[derive(Clone, Copy, Debug, PartialEq, Eq)]
-pub struct HaltSeen {
-    pub place: Place,
-    pub run: u8,
-}
 
 /// A report, and whether its vehicle stands after it.
 #[derive(Clone, Copy, Debug, PartialEq, Eq)]
@@ -35,30 +28,30 @@ pub struct Halt {
 }
 
 /// The run after one more report.
-fn next(last: Option<HaltSeen>, here: Place) -> HaltSeen
-    ensures { (own : List ReportValue) → (r : ReportValue) → kept own ≡ last → defined_place_of r ≡ here
-        → kept (r ∷ own) ≡ Some result }
+fn next(last: Option<LastSeen>, here: Place) -> LastSeen
+    ensures { (own : List ReportValue) → (r : ReportValue) → last_seen own ≡ last → defined_place_of r ≡ here
+        → last_seen (r ∷ own) ≡ Some result }
 {
     match last {
-        None => HaltSeen {
+        None => LastSeen {
             place: here,
             run: 1,
         },
         Some(seen) => {
             if seen.place != here {
-                HaltSeen {
+                LastSeen {
                     place: here,
                     run: 1,
                 }
-            } else if seen.run < 4 {
-                HaltSeen {
+            } else if seen.run < STOPPED_RUN {
+                LastSeen {
                     place: here,
                     run: seen.run + 1,
                 }
             } else {
-                HaltSeen {
+                LastSeen {
                     place: here,
-                    run: 4,
+                    run: STOPPED_RUN,
                 }
             }
         }
@@ -66,23 +59,23 @@ fn next(last: Option<HaltSeen>, here: Place) -> HaltSeen
 }
 
 /// Whether the vehicle stands after its next report.
-fn see(seen: &mut HashMap<u32, HaltSeen>, r: &Report) -> Result<bool, NoMemory>
-    ensures stands { IfOk result (λ b. (own : List ReportValue) → kept own ≡ get nat_eq seen.old r.now.vid
+fn see(seen: &mut HashMap<u32, LastSeen>, r: &Report) -> Result<bool, NoMemory>
+    ensures stands { IfOk result (λ b. (own : List ReportValue) → last_seen own ≡ get nat_eq seen.old r.now.vid
         → b ≡ stands (r.now ∷ own) (defined_place_of r.now)) }
-    ensures run { OnOk result ((own : List ReportValue) → kept own ≡ get nat_eq seen.old r.now.vid
-        → kept (r.now ∷ own) ≡ get nat_eq seen.new r.now.vid) }
+    ensures run { OnOk result ((own : List ReportValue) → last_seen own ≡ get nat_eq seen.old r.now.vid
+        → last_seen (r.now ∷ own) ≡ get nat_eq seen.new r.now.vid) }
     ensures others { OnOk result ((v : ℕ) → (r.now.vid == v) ≡ false → get nat_eq seen.new v ≡ get nat_eq seen.old v) }
 {
     let now = next(seen.get(&r.vid).copied(), r.place());
     seen.insert(r.vid, now)?;
-    Ok(now.run == 4)
+    Ok(now.run == STOPPED_RUN)
 }
 
 /// The reports, each with whether its vehicle stands after it.
 fn marks(alloc: Global, tuples: &[Tuple]) -> Result<Vec<Mark>, NoMemory>
     ensures { IfOk result (λ marks. reverse marks.items ≡ marks_of (reverse (reports tuples.now))) }
 {
-    let mut seen: HashMap<u32, HaltSeen> = HashMap::new(alloc);
+    let mut seen: HashMap<u32, LastSeen> = HashMap::new(alloc);
     let mut marks: Vec<Mark> = Vec::new(alloc);
     for tuple in tuples {
         if let Some(report) = report_of(tuple) {

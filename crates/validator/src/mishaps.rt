@@ -6,12 +6,10 @@ ghost use Rattle.std.specs.BTreeSet.{insert_key};
 ghost use Rattle.road_time.specs.Fits.{IsDay};
 ghost use Rattle.road_time.specs.Order.{greatest_time};
 ghost use Rattle.road_time.specs.Tuples.{reports};
-ghost use Rattle.road_time.specs.Log.{places_of, stands_first, stands_for, ends_at as defined_ends_at};
-ghost use Rattle.road_time.specs.Log.{log_of};
+ghost use Rattle.road_time.specs.Log.{places_of, stands_first, stands_for, ends_at as defined_ends_at, log_of};
 ghost use Rattle.validator.specs.Halts.{is_at as defined_is_at, halts_of};
 ghost use Rattle.validator.specs.Groups.{stands_with as defined_stands_with, has_other as defined_has_other};
-ghost use Rattle.validator.specs.Groups.{shown_group};
-ghost use Rattle.validator.specs.Groups.{groups_of, mishap_in};
+ghost use Rattle.validator.specs.Groups.{shown_group, groups_of, mishap_in};
 
 use crate::halts::{Halt, covers, halts};
 use crate::places::report_of;

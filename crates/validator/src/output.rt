@@ -12,7 +12,7 @@ ghost use Rattle.road_time.specs.Day.{notices as defined_notices, charges as def
 ghost use Rattle.road_time.specs.Sights.{moments};
 ghost use Rattle.validator.specs.Findings.{shown_told, finding_if, KnowsSpots};
 ghost use Rattle.validator.specs.Accounts.{shown_charge, notices_told, owed_kept, toll_kept};
-ghost use Rattle.validator.specs.History.{is_row, paid as defined_paid, KeysDiffer};
+ghost use Rattle.road_time.specs.History.{is_row, paid as defined_paid, KeysDiffer};
 ghost use Rattle.validator.specs.Gathered.{IsGathered};
 ghost use Rattle.validator.specs.Outputs.{IsOutput, StandsAfter};
 

@@ -5,8 +5,7 @@ ghost use Rattle.road_time.specs.Tuples.{reports};
 ghost use Rattle.road_time.specs.Rates.{IsTariff, is_slow as defined_is_slow, toll_of as defined_toll_of};
 ghost use Rattle.road_time.specs.Tolls.{toll_at};
 ghost use Rattle.road_time.specs.Sights.{sight_of as defined_sight_of, sights as defined_sights};
-ghost use Rattle.road_time.specs.Sights.{sights_of as defined_sights_of};
-ghost use Rattle.road_time.specs.Sights.{previous as defined_previous};
+ghost use Rattle.road_time.specs.Sights.{sights_of as defined_sights_of, previous as defined_previous};
 ghost use Rattle.road_time.specs.Stays.{begins as defined_begins, is_charged, stay_start as defined_stay_start};
 ghost use Rattle.road_time.specs.Day.{owed_amount};
 ghost use Rattle.road_time.specs.declared.road.Tuple.{Tuple as TupleValue};
@@ -16,7 +15,9 @@ use crate::cars::plain_cars;
 use crate::flows::plain_lav;
 use crate::near::plain_near;
 use crate::places::report_of;
-use road_time::{EXIT_LANE, Frac, NoMemory, Report, Stretch, Tariff, Tariffs, Tuple, minute};
+use road_time::{
+    EXIT_LANE, Frac, GREATEST_TOLL, NoMemory, Report, Stretch, Tariff, Tariffs, Tuple, minute,
+};
 use std::alloc::Global;
 
 /// The newest of a vehicle's reports.
@@ -73,7 +74,7 @@ pub fn toll_of(tariff: Tariff, count: u32, average: Option<Frac>, blocked: bool)
 {
     if count > tariff.crowd && is_slow(tariff.speed, average) && !blocked {
         let over = u64::from(count - tariff.crowd);
-        (u64::from(tariff.factor) * (over * over)).min(500_000_000_000)
+        (u64::from(tariff.factor) * (over * over)).min(GREATEST_TOLL)
     } else {
         0
     }

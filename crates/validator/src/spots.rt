@@ -2,12 +2,11 @@
 ghost use Rattle.std.specs.Prelude.{◌≡◌, ◌++◌, ◌∷◌, [], IfOk, OnOk, if◌then◌else◌};
 ghost use Rattle.std.specs.HashMap.{get};
 ghost use Rattle.std.specs.List.{filter};
-ghost use Rattle.road_time.specs.Tuples.{reports};
+ghost use Rattle.road_time.specs.Tuples.{reports, same_stretch};
 ghost use Rattle.road_time.specs.declared.road.Stretch.{Stretch as StretchValue};
-ghost use Rattle.road_time.specs.Tuples.{same_stretch};
 ghost use Rattle.validator.specs.declared.spots.Spot.{Spot as SpotValue};
 ghost use Rattle.validator.specs.Halts.{is_in};
-ghost use Rattle.validator.specs.Gathered.{same_spot, spot_of as defined_spot_of, is_of, listed, IsGathered};
+ghost use Rattle.validator.specs.Gathered.{same_spot, spot_of as defined_spot_of, is_of, kept_items, IsGathered};
 
 use crate::halts::{Halt, halts};
 use road_time::{NoMemory, Report, Stretch, Tuple};
@@ -46,8 +45,8 @@ fn add_to(
     spot: Spot,
     tuple: &Tuple,
 ) -> Result<(), NoMemory>
-    ensures { OnOk result ((s : SpotValue) → listed (get same_spot by_spot.new s)
-        ≡ listed (get same_spot by_spot.old s) ++
+    ensures { OnOk result ((s : SpotValue) → kept_items (get same_spot by_spot.new s)
+        ≡ kept_items (get same_spot by_spot.old s) ++
         (if same_spot spot s then tuple.now ∷ [] else [])) }
 {
     match by_spot.get_mut(&spot) {
@@ -63,7 +62,7 @@ fn add_to(
 
 /// The reports of each spot.
 fn reports_by_spot(alloc: Global, tuples: &[Tuple]) -> Result<HashMap<Spot, Vec<Tuple>>, NoMemory>
-    ensures { IfOk result (λ by_spot. (s : SpotValue) → listed (get same_spot by_spot s)
+    ensures { IfOk result (λ by_spot. (s : SpotValue) → kept_items (get same_spot by_spot s)
         ≡ filter (is_of s) tuples.now) }
 {
     let mut by_spot = HashMap::new(alloc);
@@ -82,8 +81,8 @@ fn add_halt_to(
     stretch: Stretch,
     halt: &Halt,
 ) -> Result<(), NoMemory>
-    ensures { OnOk result ((k : StretchValue) → listed (get same_stretch by_stretch.new k)
-        ≡ listed (get same_stretch by_stretch.old k) ++
+    ensures { OnOk result ((k : StretchValue) → kept_items (get same_stretch by_stretch.new k)
+        ≡ kept_items (get same_stretch by_stretch.old k) ++
         (if same_stretch stretch k then halt.now ∷ [] else [])) }
 {
     match by_stretch.get_mut(&stretch) {
@@ -99,7 +98,7 @@ fn add_halt_to(
 
 /// The halts in each stretch.
 fn halts_by_stretch(alloc: Global, halts: &[Halt]) -> Result<HashMap<Stretch, Vec<Halt>>, NoMemory>
-    ensures { IfOk result (λ by_stretch. (k : StretchValue) → listed (get same_stretch by_stretch k)
+    ensures { IfOk result (λ by_stretch. (k : StretchValue) → kept_items (get same_stretch by_stretch k)
         ≡ filter (is_in k) halts.now) }
 {
     let mut by_stretch = HashMap::new(alloc);

@@ -2,7 +2,7 @@
 ghost use Rattle.std.specs.Prelude.{◌≡◌, ◌≤◌, IfOk, true, slice_get};
 ghost use Rattle.road_time.specs.Fits.{IsDay};
 ghost use Rattle.road_time.specs.Day.{notices as defined_notices};
-ghost use Rattle.validator.specs.History.{paid, KeysDiffer};
+ghost use Rattle.road_time.specs.History.{paid, KeysDiffer};
 ghost use Rattle.validator.specs.Verdicts.{IsVerdict};
 
 use crate::output::plain_notices;

@@ -1,8 +1,8 @@
 -- the slots of a day, and the book and the notices that they leave
 use lib.IntN.{pos}
 use Rattle.std.proofs.Common.{◌≡◌, ℕ, ◌+◌, ◌≤◌, ◌<◌, List, [], ◌∷◌, ◌++◌, length, take, get_or, Option, Some, None}
-use Rattle.std.proofs.Common.{refl, sym, ap, subst, ◌∙◌, arith, slice_index_or}
-use Rattle.std.proofs.lemmas.List.{take_more, length-take-le}
+use Rattle.std.proofs.Common.{refl, sym, ap, subst, ◌∙◌, arith}
+use Rattle.std.proofs.lemmas.List.{length-take-le}
 use Rattle.road_time.specs.declared.road.Tuple.{Tuple}
 use Rattle.road_time.specs.declared.road.Tuple.TheVariants.{Report as ReportTuple}
 use Rattle.road_time.specs.declared.road.Report.{Report}
@@ -16,14 +16,14 @@ use Rattle.road_time.specs.Tuples.{reports, place_of}
 use Rattle.road_time.specs.Stays.{begins}
 use Rattle.road_time.specs.Stops.{trail, stands, left_by}
 use Rattle.crossings.specs.Told.{newest, charge_by}
-use Rattle.crossings.specs.Laws.{IsTold}
+use Rattle.crossings.specs.Laws.{TellsOfDay}
 use Rattle.crossings.proofs.DayLaws.{told_is_of_the_day}
 use Rattle.accounts.specs.Books.{Accounts}
 use Rattle.settling.specs.declared.slot.Found.{Found}
 use Rattle.settling.specs.declared.slot.Slot.{Slot}
 use Rattle.settling.specs.Answers.{IsSaid, AreNotices}
-use Rattle.settling.specs.Books.{IsBook, CanSettle, HasFewTolls, book_after}
-use Rattle.settling.specs.Slots.{slot_of, due_of, found_of}
+use Rattle.settling.specs.Books.{IsBook, book_after}
+use Rattle.settling.specs.Slots.{slot_of, found_of}
 use Rattle.settling.proofs.AnswerLaws.{said_is, notices_both, notices_one}
 use Rattle.settling.proofs.BookLaws.{account_is, book_more}
 use Rattle.vehicle_workers.specs.Seen.{tracked_of, tracked_by, tracked_after}
@@ -31,7 +31,7 @@ use Rattle.vehicle_workers.specs.Closing.{IsPlaced}
 use Rattle.vehicle_workers.proofs.RoutingLaws.{same_told, shown_here, no_tuple}
 
 -- what a report tells after a day's tuples is told by them
-told_of_day : (day : List Tuple) (r : Report) → IsTold (tracked_of day r) day r
+told_of_day : (day : List Tuple) (r : Report) → TellsOfDay (tracked_of day r) day r
 told_of_day day r =
     let own = trail (reports day) r.vid in
     let by : Tracked =
@@ -52,17 +52,16 @@ slot_made x y e h = rw (e, h) refl
 
 -- the slot of a report, by what it told and what was found
 pub slot_is : (finding : Sight → StretchTold) (before : List Tuple) (x : Tuple) (r : Report) (t : Tracked)
-    (o : Option Tracked) (found : Found) (slot : Slot) →
-    x ≡ ReportTuple r → o ≡ Some t → o ≡ tracked_by (before, x) →
+    (o : Option Tracked) (found : Found) (slot : Slot) → x ≡ ReportTuple r → o ≡ Some t → o ≡ tracked_by (before, x) →
     ((r : Report) → found ≡ found_of (finding (length before, r))) →
-    ((f : Sight → StretchTold) (day : List Tuple) → IsTold t day r → f (length day, r) ≡ no_finding →
+    ((f : Sight → StretchTold) (day : List Tuple) → TellsOfDay t day r → f (length day, r) ≡ no_finding →
     slot ≡ slot_of f (day, ReportTuple r)) →
     ◌≡◌ {A = Slot} (record { found = found; due = slot.due }) (slot_of finding (before, x))
 slot_is finding before x r t o found slot is some told here slots =
     let same : t ≡ tracked_of before r =
     same_told t (tracked_of before r) (sym some ∙ told ∙ ap (λ y. tracked_by (before, y)) is) in
     let due : slot ≡ slot_of (λ s. no_finding) (before, ReportTuple r) =
-    slots (λ s. no_finding) before (subst (λ u. IsTold u before r) (sym same) (told_of_day before r)) refl in
+    slots (λ s. no_finding) before (subst (λ u. TellsOfDay u before r) (sym same) (told_of_day before r)) refl in
     slot_made slot (slot_of (λ s. no_finding) (before, ReportTuple r)) (here r) (ap (λ (s : Slot). s.due) due)
     ∙ sym (ap (λ y. slot_of finding (before, y)) is)
 

@@ -153,8 +153,7 @@ module _ {S T : Type 0} (out : S → List ℕ) (number : T → ℕ) (holds : S �
       IsFresh tariffs job → HasFound exact answers answered was tariffs done found →
       IsResultShaped job answer → (exact ≡ true → IsResultOf job answer) →
       WhereTold (AnswersFindings answer) (answers was) (answers now) → is_err answer.result ≡ false →
-      more ≡ found ++ answer.findings →
-      HasFound exact answers answered now tariffs (done ++ job ∷ []) more
+      more ≡ found ++ answer.findings → HasFound exact answers answered now tariffs (done ++ job ∷ []) more
   found_more was now done job answer found more fresh h shape run tells ok grown =
       let per : Job → List (ℕ × Told_) = λ j. findings [] j.events tariffs in
       record {
@@ -173,8 +172,7 @@ module _ {S T : Type 0} (out : S → List ℕ) (number : T → ℕ) (holds : S �
   pub finishing_more : (was now : S) (ticket : T) (tickets rest : List T) (whole kept whole' : Bool)
       (found found' : List Finding) (answer : Done) →
       Finishing out number holds gave jobs exact answers answered told tariffs all_jobs was tickets whole found →
-      tickets ≡ ticket ∷ rest →
-      ((before : List (T × Job)) (job : Job) (after : List (T × Job)) →
+      tickets ≡ ticket ∷ rest → ((before : List (T × Job)) (job : Job) (after : List (T × Job)) →
       HasOut out number holds gave was (before ++ (ticket, job) ∷ after) →
       HasOut out number holds gave now (before ++ after)) →
       ((before : List (T × Job)) (job : Job) (after : List (T × Job)) →

@@ -1,18 +1,16 @@
 -- the jobs that are out over a crew, and what their answers make
 use Rattle.std.proofs.Common.{◌≡◌, ℕ, zero, suc, ◌+◌, ◌≤◌, ◌<◌, ◌==◌, ⊎_elim, Bool, true, false, cond, List, [], ◌∷◌}
-use Rattle.std.proofs.Common.{◌++◌, length, map, All, Option, Some, None, refl, sym, ap, subst, ◌∙◌, arith}
-use Rattle.std.proofs.Common.{length-append}
-use Rattle.std.specs.List.{AllByRecursion}
+use Rattle.std.proofs.Common.{◌++◌, length, map, All, Option, Some, refl, sym, ap, ◌∙◌, arith, length-append}
 use Rattle.std.specs.Map.{lookup}
 use Rattle.std.specs.Option.{unwrap_or}
-use Rattle.std.proofs.lemmas.List.{append-nil, append_assoc, map-append, length-map}
-use Rattle.std.proofs.lemmas.Bool.{cases_Bool, cond-true, cond-false}
+use Rattle.std.proofs.lemmas.List.{append-nil, map-append, length-map}
+use Rattle.road_time.specs.declared.tariff.TheConstants.{GREATEST_TOLL}
 use Rattle.road_time.specs.declared.road.Tuple.{Tuple}
 use Rattle.road_time.specs.declared.day.TheConstants.Limits.{DAY}
-use Rattle.road_time.specs.Day.{given, no_finding}
+use Rattle.road_time.specs.Day.{given, no_finding, HasFewTolls}
 use Rattle.road_time.specs.Fits.{IsDay}
 use Rattle.road_time.specs.Rates.{Tariffs}
-use Rattle.road_time.specs.Sights.{Sight, moments_after}
+use Rattle.road_time.specs.Sights.{moments_after}
 use Rattle.road_time.specs.Tolls.{StretchTold as Told_}
 use Rattle.road_time.proofs.EachLaws.{joined}
 use Rattle.road_time.proofs.SightLaws.{length-moments}
@@ -25,13 +23,12 @@ use Rattle.expressway.specs.Ready.{CanRun, IsReady}
 use Rattle.expressway.specs.Results.{IsPossible}
 use Rattle.expressway.proofs.RunLaws.{may_run, carried}
 use Rattle.partition_workers.specs.declared.job_list.Started.{Started}
-use Rattle.partition_workers.specs.Lists.{started}
+use Rattle.partition_workers.specs.Lists.{listing_of}
 use Rattle.partition_workers.specs.Numbers.{IsOneMore}
 use Rattle.partition_workers.specs.Told.{CrewTold, WhereTold, ListsJob}
-use Rattle.partition_workers.specs.Callers.{HasOut, IsListingWhereTold}
+use Rattle.partition_workers.specs.Callers.{HasOut}
 use Rattle.partition_workers.proofs.CallerLaws.{idle}
 use Rattle.partition_workers.proofs.ListingLaws.{where_none, where_started}
-use Rattle.settling.specs.Books.{HasFewTolls}
 use Rattle.vehicle_workers.specs.Seen.{tracked_by, tracked_after}
 use Rattle.vehicle_workers.specs.Jobs.{job_if, starts_of, IsFresh, Running, HasStarted}
 
@@ -39,8 +36,8 @@ use Rattle.vehicle_workers.specs.Jobs.{job_if, starts_of, IsFresh, Running, HasS
 pub tracked_long : (before day : List Tuple) → length (tracked_after before day) ≡ length day
 tracked_long before day = length-map (moments_after before day) tracked_by ∙ length-moments before day
 
-few_at : (b : Bool) (v : Told_) (o : Option Told_) → v.toll ≤ 500000000000 →
-    (unwrap_or o no_finding).toll ≤ 500000000000 → (unwrap_or (cond b (Some v) o) no_finding).toll ≤ 500000000000
+few_at : (b : Bool) (v : Told_) (o : Option Told_) → v.toll ≤ GREATEST_TOLL →
+    (unwrap_or o no_finding).toll ≤ GREATEST_TOLL → (unwrap_or (cond b (Some v) o) no_finding).toll ≤ GREATEST_TOLL
 few_at true v o h g = h
 few_at false v o h g = g
 
@@ -55,11 +52,9 @@ few_tolls (f ∷ fs) h s =
 -- a job more is out
 pub one_started : {S T : Type 0} (out : S → List ℕ) (number : T → ℕ) (holds : S → ℕ → Job → Type 0)
     (gave : S → T → Type 0) (jobs : S → Option CrewTold) (told : Option CrewTold) (was now : S)
-    (tickets later : List T) (todo : List Job) (ticket : T) (job : Job) →
-    IsReady job.carriage [] job.events →
+    (tickets later : List T) (todo : List Job) (ticket : T) (job : Job) → IsReady job.carriage [] job.events →
     Running out number holds gave jobs told was job.carriage.tariffs tickets [] todo false →
-    later ≡ tickets ++ ticket ∷ [] →
-    ((tasks : List (T × Job)) → HasOut out number holds gave was tasks →
+    later ≡ tickets ++ ticket ∷ [] → ((tasks : List (T × Job)) → HasOut out number holds gave was tasks →
     HasOut out number holds gave now (tasks ++ (ticket, job) ∷ [])) →
     IsOneMore (number ticket) (out was) (out now) → WhereTold (ListsJob (number ticket) job) (jobs was) (jobs now) →
     Running out number holds gave jobs told now job.carriage.tariffs later [] (todo ++ job ∷ []) false
@@ -121,23 +116,27 @@ pub next_started : {S T : Type 0} (out : S → List ℕ) (number : T → ℕ) (h
     (tariffs : Tariffs) (tickets later : List T) (day : List Tuple) (width worker : ℕ) (e : LaneEvent)
     (es : List LaneEvent) (job : Job) →
     (h : HasStarted out number holds gave jobs told was tariffs tickets day width worker) →
-    events_for day worker width ≡ e ∷ es →
-    job.worker ≡ worker → job.number ≡ length tickets → job.events ≡ e ∷ es →
+    events_for day worker width ≡ e ∷ es → job.worker ≡ worker → job.number ≡ length tickets → job.events ≡ e ∷ es →
     Running out number holds gave jobs told now tariffs later [] (h.todo ++ job ∷ []) false →
     HasStarted out number holds gave jobs told now tariffs later day width (worker + 1)
 next_started out number holds gave jobs told was now tariffs tickets later day width worker e es job h some is_worker
     is_number is_events runs =
     let many : length tickets ≡ length (starts_of day width worker) = ap length (sym h.runs.tickets_are)
     ∙ length-map h.runs.tasks (λ t. t.0) ∙ sym (length-map h.runs.tasks (λ t. t.1)) ∙ ap length h.runs.jobs_are
-    ∙ sym (length-map h.todo started) ∙ ap length h.are in
-    let one : started job ≡ record { worker = worker; number = length (starts_of day width worker); events = e ∷ es } =
+    ∙ sym (length-map h.todo listing_of) ∙ ap length h.are in
+    let one : listing_of job ≡ record {
+      worker = worker;
+      number = length (starts_of day width worker);
+      events = e ∷
+          es;
+    } =
     started_made is_worker (is_number ∙ many) is_events in
     let same : starts_of day width (worker + 1) ≡ starts_of day width (suc worker) =
     ap (starts_of day width) (one_more worker) in
     record {
       todo = h.todo ++ job ∷ [];
       runs = runs;
-      are = map-append started h.todo (job ∷ []) ∙ ap (λ xs. xs ++ started job ∷ []) h.are
+      are = map-append listing_of h.todo (job ∷ []) ∙ ap (λ xs. xs ++ listing_of job ∷ []) h.are
           ∙ ap (λ x. starts_of day width worker ++ x ∷ []) one
           ∙ sym (ap (λ xs. starts_of day width worker ++ job_if xs worker (length (starts_of day width worker))) some)
           ∙ sym same;
@@ -176,7 +175,7 @@ pub few_started : {S T : Type 0} (out : S → List ℕ) (number : T → ℕ) (ho
     (h : HasStarted out number holds gave jobs told crew tariffs tickets day width worker) → worker < 64 →
     length h.todo < 64
 few_started out number holds gave jobs told crew tariffs tickets day width worker h less =
-    let many : length h.todo ≡ length (starts_of day width worker) = sym (length-map h.todo started)
+    let many : length h.todo ≡ length (starts_of day width worker) = sym (length-map h.todo listing_of)
     ∙ ap length h.are in
     let few = starts_few day width worker in
     omega (arith, many, few, less)
@@ -185,8 +184,7 @@ few_started out number holds gave jobs told crew tariffs tickets day width worke
 pub next_filled : {S T : Type 0} (out : S → List ℕ) (number : T → ℕ) (holds : S → ℕ → Job → Type 0)
     (gave : S → T → Type 0) (jobs : S → Option CrewTold) (told : Option CrewTold) (was now : S)
     (tariffs : Tariffs) (tickets later : List T) (day : List Tuple) (width worker : ℕ) (es : List LaneEvent) (job : Job)
-    →
-    (h : HasStarted out number holds gave jobs told was tariffs tickets day width worker) →
+    → (h : HasStarted out number holds gave jobs told was tariffs tickets day width worker) →
     events_for day worker width ≡ es → 0 < length es →
     job.worker ≡ worker → job.number ≡ length tickets → job.events ≡ es →
     Running out number holds gave jobs told now tariffs later [] (h.todo ++ job ∷ []) false →

@@ -22,7 +22,7 @@ use Rattle.crossings.specs.Stands.{StandsFor}
 use Rattle.crossings.proofs.DayLaws.{told_is_of_the_day}
 use Rattle.vehicle_workers.specs.declared.shard.Shard.{Shard}
 use Rattle.vehicle_workers.specs.Seen.{tracked_of}
-use Rattle.vehicle_workers.specs.Own.{belongs, own_of, told_if, own_tracked, told_after}
+use Rattle.vehicle_workers.specs.Own.{belongs, own_of, own_tracked, told_after}
 
 -- one report more of a shard's vehicles
 pub own_push_yes : (place count : ℕ) (day : List Tuple) (r : Report) → belongs place count r ≡ true →
@@ -156,8 +156,7 @@ took_none place count s = record {
 
 -- one tuple more
 pub took_more : (place count : ℕ) (was now next : Shard) (done : List Tuple) (x : Tuple) → Took place count was now done
-    →
-    ((day : List Tuple) → StandsFor now.tracker (own_of place count (reports day)) →
+    → ((day : List Tuple) → StandsFor now.tracker (own_of place count (reports day)) →
     StandsFor next.tracker (own_of place count (reports (day ++ x ∷ [])))) →
     ((day : List Tuple) → StandsFor now.tracker (own_of place count (reports day)) →
     next.told.items ≡ now.told.items ++ cons_option (own_tracked place count (day, x)) []) →

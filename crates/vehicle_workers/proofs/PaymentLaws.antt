@@ -4,7 +4,7 @@ use Rattle.std.specs.Option.{unwrap_or}
 use Rattle.std.specs.List.{find}
 use Rattle.std.specs.Map.{lookup}
 use Rattle.road_time.specs.declared.day.SpentRow.{SpentRow}
-use Rattle.validator.specs.History.{is_row, tolls_of, paid}
+use Rattle.road_time.specs.History.{is_row, tolls_of, paid}
 use Rattle.vehicle_workers.specs.Payments.{same_key, amounts_of}
 
 -- entries have the amounts that rows say
@@ -19,8 +19,7 @@ three false b c = refl
 -- with the amount of a row put in, they have those with the row in front
 pub pays_more : (es fs : List ((ℕ × ℕ × ℕ) × ℕ)) (r : SpentRow) (rows : List SpentRow) →
     ((q : ℕ × ℕ × ℕ) → lookup (same_key q) fs ≡ cond (same_key (r.day, r.vid, r.xway) q) (Some r.tolls)
-    (lookup (same_key q) es)) →
-    Pays es rows → Pays fs (r ∷ rows)
+    (lookup (same_key q) es)) → Pays es rows → Pays fs (r ∷ rows)
 pays_more es fs r rows more had day vid xway =
     ap (λ o. unwrap_or o 0) (more (day, vid, xway))
     ∙ (ap (λ b. unwrap_or (cond b (Some r.tolls) (lookup (same_key (day, vid, xway)) es)) 0)

@@ -1,16 +1,16 @@
 // The accounts and notices of a day, in one pass at its end.
 ghost use Rattle.std.specs.Prelude.{◌≡◌, ◌≤◌, ◌<◌, ◌-◌, ◌++◌, ◌∷◌, [], ℕ, List, Some, OnOk, IfOk, All, length};
 ghost use Rattle.std.specs.Prelude.{slice_index_or};
+ghost use Rattle.road_time.specs.declared.tariff.TheConstants.{GREATEST_TOLL};
 ghost use Rattle.road_time.specs.declared.road.Tuple.{Tuple as TupleValue};
 ghost use Rattle.road_time.specs.declared.road.Tuple.TheVariants.{Report as ReportTuple};
 ghost use Rattle.road_time.specs.declared.road.Notice.{Notice as NoticeValue};
 ghost use Rattle.road_time.specs.declared.road.Report.{Report};
-ghost use Rattle.road_time.specs.Day.{notices_by, given};
+ghost use Rattle.road_time.specs.Day.{notices_by, given, HasFewTolls};
 ghost use Rattle.road_time.specs.Sights.{Sight, moments};
 ghost use Rattle.road_time.specs.Tolls.{StretchTold as FindingValue};
 ghost use Rattle.settling.specs.Answers.{alert_to, told_notices, IsSaid};
-ghost use Rattle.settling.specs.Books.{WasTold, CanSettle, HasFewTolls, charges_for, charged_with, told_with};
-ghost use Rattle.settling.specs.Books.{book_after};
+ghost use Rattle.settling.specs.Books.{WasTold, CanSettle, charges_for, charged_with, told_with, book_after};
 ghost use Rattle.settling.specs.Slots.{slot_of, found_of};
 ghost use Rattle.vehicle_workers.specs.Seen.{tracked_by, tracked_after};
 ghost use Rattle.vehicle_workers.specs.Closing.{IsPlaced};
@@ -62,7 +62,7 @@ fn tell(
     told: bool,
     found: Found,
 ) -> Result<(), NoMemory>
-    requires { found.toll ≤ 500000000000 }
+    requires { found.toll ≤ GREATEST_TOLL }
     ensures booked { OnOk result (book.new ≡ told_with told vid found.toll book.old) }
     ensures said { OnOk result (notices.new.items ≡ notices.old.items ++ told_notices told time vid found) }
 {
@@ -89,7 +89,7 @@ fn close_slot(
 ) -> Result<(), NoMemory>
     requires told { CanSettle slot.due book.old }
     requires few { book.old.made < 16000000 }
-    requires toll { slot.found.toll ≤ 500000000000 }
+    requires toll { slot.found.toll ≤ GREATEST_TOLL }
     ensures booked { OnOk result (book.new ≡ book_after slot.due slot.found.toll book.old) }
     ensures said { OnOk result ((said : List NoticeValue)
         × IsSaid (Some (amounts_of payments.now.amounts.entries)) number slot.due slot.found book.old said

@@ -1,6 +1,6 @@
 // What vehicles paid on earlier days, looked up.
 ghost use Rattle.std.specs.Prelude.{◌≡◌, ℕ, IfOk};
-ghost use Rattle.validator.specs.History.{paid as defined_paid};
+ghost use Rattle.road_time.specs.History.{paid as defined_paid};
 ghost use Rattle.vehicle_workers.specs.Payments.{amounts_of};
 
 use road_time::{NoMemory, SpentRow};

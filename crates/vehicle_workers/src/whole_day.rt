@@ -5,7 +5,7 @@ ghost use Rattle.road_time.specs.Fits.{IsDay};
 ghost use Rattle.expressway.specs.declared.finding.Finding.{Finding as FindingValue};
 ghost use Rattle.expressway.specs.Findings.{shown};
 ghost use Rattle.expressway.specs.Results.{IsPossible};
-ghost use Rattle.validator.specs.History.{paid, KeysDiffer};
+ghost use Rattle.road_time.specs.History.{paid, KeysDiffer};
 ghost use Rattle.partition_workers.specs.Told.{WhereTold};
 ghost use Rattle.vehicle_workers.specs.Seen.{tracked_after};
 ghost use Rattle.vehicle_workers.specs.Jobs.{StartsAll, StartsFirst, AddsFindings};

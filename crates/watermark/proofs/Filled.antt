@@ -19,7 +19,7 @@ use Rattle.expressway.specs.Findings.{shown, found_at}
 use Rattle.settling.specs.declared.slot.Slot.{Slot}
 use Rattle.settling.specs.declared.slot.Found.{Found as SlotFound}
 use Rattle.watermark.specs.Shares.{State}
-use Rattle.watermark.specs.Sound.{AreFresh, ReportAt, IsSound}
+use Rattle.watermark.specs.Sound.{AreFresh, ReportAt, SoundState}
 use Rattle.settling.specs.Slots.{found_of, due_of, found_for, slot_of, slots_of}
 use Rattle.watermark.proofs.Ones.{given_more, not_given, none_yet}
 
@@ -177,7 +177,7 @@ new_found found fed (Travel time) h = refl
 
 -- the slots after a tuple was fed
 pub slots_fed : (width : ℕ) (limits : Limits) (s : State) (x : Tuple) (slots : List Slot) (new : Slot) →
-    IsSound width limits s → slots ≡ slots_of (given s.found) (take s.settled s.fed) (drop s.settled s.fed) →
+    SoundState width limits s → slots ≡ slots_of (given s.found) (take s.settled s.fed) (drop s.settled s.fed) →
     new.due ≡ due_of (s.fed, x) → new.found ≡ found_of no_finding →
     slots ++ new ∷ [] ≡ slots_of (given s.found) (take s.settled (s.fed ++ x ∷ [])) (drop s.settled (s.fed ++ x ∷ []))
 slots_fed width limits s x slots new sound are due none =

@@ -3,7 +3,7 @@ use Rattle.std.proofs.Common.{◌≡◌, ℕ, ◌<◌, ◌≤◌, ◌==◌, ◌&
 use Rattle.std.proofs.Common.{[], ◌∷◌, ◌++◌, length, reverse, slice_get, slice_set, Option, Some, None, IfSome, Result}
 use Rattle.std.proofs.Common.{Ok, Err, refl, sym, ap, ◌∙◌, arith, subst}
 use Rattle.std.specs.List.{AllByRecursion}
-use Rattle.std.specs.Result.{OnOk, OnErr}
+use Rattle.std.specs.Result.{OnOk}
 use Rattle.std.proofs.lemmas.List.{append_assoc, append-nil}
 use Rattle.std.proofs.lemmas.List.Elements.{recursion_from_All}
 use Rattle.std.proofs.lemmas.Bool.{cases_eq, eq-eqb, ne_eqb}
@@ -44,15 +44,9 @@ set_other (x ∷ xs) zero (suc i) y h = refl
 set_other (x ∷ xs) (suc k) zero y h = refl
 set_other (x ∷ xs) (suc k) (suc i) y h = set_other xs k i y (λ e. h (ap suc e))
 
--- what holds after a refusal
-pub when_err : {T E P : Type 0} (r : Result T E) → P → OnErr r P
-when_err (Ok x) p = tt
-when_err (Err e) p = p
-
 -- a desk that changes as its share does
 pub desk_changed : (desks : List WorkerDesk) (k i : ℕ) (old new : WorkerDesk) (change : Share → Share) → i ≡ k →
-    k < length desks →
-    slice_get desks k ≡ Some old → ((share : Share) → IsDesk old share → IsDesk new (change share)) →
+    k < length desks → slice_get desks k ≡ Some old → ((share : Share) → IsDesk old share → IsDesk new (change share)) →
     (w : ℕ) (share : Share) → IsDeskAt desks w share →
     IsDeskAt (slice_set desks i new) w (cond (w == k) (change share) share)
 desk_changed desks k i old new change same_place high was steps w share st d found =
@@ -116,8 +110,7 @@ module _ (width position : ℕ) (r : Report) (tracked : Tracked) (w : ℕ) (d : 
 
   -- one that leaves a place
   pub put_both : (own other : ℕ) (p : Place) (left : Option Place) → own ≡ worker_for (way_of (stretch_of r)) width →
-      other ≡ worker_for (way_of (stretch_around p)) width → left ≡ Some p →
-      IsDesk d
+      other ≡ worker_for (way_of (stretch_around p)) width → left ≡ Some p → IsDesk d
       (cond (w == own)
       (with_events (seen_event ∷ [])
       (cond (w == other) (with_events (Leave position r.time r.vid p ∷ []) share) share))

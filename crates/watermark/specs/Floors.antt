@@ -7,7 +7,7 @@ use Rattle.expressway.specs.Stands.{StandsFor as CarriageStandsFor}
 use Rattle.watermark.specs.declared.floor.Floor.{Floor}
 use Rattle.watermark.specs.Terms.{AreTerms}
 use Rattle.watermark.specs.Shares.{Share, State, is_empty}
-use Rattle.watermark.specs.Sound.{IsSound}
+use Rattle.watermark.specs.Sound.{SoundState}
 use Rattle.settling.specs.Slots.{slots_of}
 use Rattle.watermark.specs.Desks.{StandFor}
 use Rattle.settling.specs.declared.fault.SettleFault.{SettleFault}
@@ -42,7 +42,7 @@ pub record Setting : Type 0 where
 -- settler for the tuples that are settled
 pub record StandsFor (g : Setting) (f : Floor) (s : State) : Type 0 where
   pub terms : AreTerms (width_of f) (limits_of f)
-  pub sound : IsSound (width_of f) (limits_of f) s
+  pub sound : SoundState (width_of f) (limits_of f) s
   pub inboxes : StandFor f.inboxes s.fed s.share
   pub slots : f.slots.items ≡ slots_of (given s.found) (take s.settled s.fed) (drop s.settled s.fed)
   pub homes_width : vec_len f.homes ≡ width_of f
@@ -52,14 +52,14 @@ pub record StandsFor (g : Setting) (f : Floor) (s : State) : Type 0 where
   pub given_is : f.given ≡ s.given
 
 -- a floor stands for some state
-pub record Serves (f : Floor) : Type 0 where
+pub record StandsForSome (f : Floor) : Type 0 where
   pub setting : Setting
   pub state : State
   pub stands : StandsFor setting f state
 
 -- the text of the notices of the positions from those settled up to n was written
-abbrev pub Writes : Setting → State → ℕ → Option (List ℕ) → Option (List ℕ) → Type 0
-Writes g s n old now =
+abbrev pub WritesText : Setting → State → ℕ → Option (List ℕ) → Option (List ℕ) → Type 0
+WritesText g s n old now =
     WritesRun (given s.found) g.number g.history (take s.settled s.fed) (take (n - s.settled) (drop s.settled s.fed))
     old now
 

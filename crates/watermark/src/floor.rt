@@ -4,19 +4,17 @@ ghost use Rattle.std.specs.Prelude.{IfNone, false};
 ghost use Rattle.expressway.specs.Findings.{shown};
 ghost use Rattle.watermark.specs.Terms.{AreTerms};
 ghost use Rattle.watermark.specs.Shares.{State, start, can_give, mark};
-ghost use Rattle.watermark.specs.Steps.{after_feed, after_give, after_back};
+ghost use Rattle.watermark.specs.Steps.{after_feed, after_give, after_back, after_settle};
 ghost use Rattle.watermark.specs.Sound.{CanFeed};
 ghost use Rattle.watermark.specs.Jobs.{IsNext, MayComeBack};
-ghost use Rattle.watermark.specs.Floors.{Setting, width_of, limits_of, StandsFor, Serves, Writes, WritesSomeSettled};
-ghost use Rattle.watermark.specs.Floors.{TakesSettled};
-ghost use Rattle.watermark.specs.Floors.{StopsSettling};
+ghost use Rattle.watermark.specs.Floors.{Setting, width_of, limits_of, StandsFor, StandsForSome, WritesText};
+ghost use Rattle.watermark.specs.Floors.{WritesSomeSettled, TakesSettled, StopsSettling};
 ghost use Rattle.settling.specs.Answers.{PaidHistory, history_of};
 ghost use Rattle.settling.specs.Boards.{IsAbreast, PublishesStep};
 ghost use Rattle.settling.specs.Closes.{IsClosed};
 ghost use Rattle.road_time.specs.Day.{given, sum_of};
 ghost use Rattle.settling.specs.Faults.{SinkFaults, KeeperFaults};
 ghost use Rattle.watermark.specs.Written.{charged_to, settled_charges};
-ghost use Rattle.watermark.specs.Steps.{after_settle};
 
 use crate::homes::{bring_home, make_homes, take_home};
 use crate::inboxes::Inboxes;
@@ -75,7 +73,7 @@ impl Floor {
 
     /// How many tuples were fed and are not settled.
     pub fn pending(&self) -> u32
-        requires { Serves self.now }
+        requires { StandsForSome self.now }
         ensures { (g : Setting) (s : State) → StandsFor g self.now s → s.settled + result ≡ length s.fed }
     {
         self.slots.len() as u32
@@ -83,7 +81,7 @@ impl Floor {
 
     /// How many more may be fed before any is settled.
     pub fn room(&self) -> u32
-        requires { Serves self.now }
+        requires { StandsForSome self.now }
         ensures { (g : Setting) (s : State) → StandsFor g self.now s
             → length s.fed + result ≡ s.settled + (limits_of self.now).backlog }
     {
@@ -92,7 +90,7 @@ impl Floor {
 
     /// How many tuples were fed.
     fn fed(&self) -> u32
-        requires { Serves self.now }
+        requires { StandsForSome self.now }
         ensures { (g : Setting) (s : State) → StandsFor g self.now s → result ≡ length s.fed }
     {
         self.settled + self.pending()
@@ -122,7 +120,7 @@ impl Floor {
     /// waits.
     pub fn give(&mut self, worker: u8) -> Option<Job>
         requires within { worker < width_of self.old }
-        requires serves { Serves self.old }
+        requires serves { StandsForSome self.old }
         ensures width { width_of self.new ≡ width_of self.old }
         ensures limits { limits_of self.new ≡ limits_of self.old }
         ensures none { IfNone result ((g : Setting) (s : State) → StandsFor g self.old s
@@ -173,7 +171,7 @@ impl Floor {
 
     /// The least, over the workers, of the position of the first event that is not back, and the number of tuples fed.
     pub fn mark(&self) -> u64
-        requires { Serves self.now }
+        requires { StandsForSome self.now }
         ensures { (g : Setting) (s : State) → StandsFor g self.now s → result ≡ mark (width_of self.now) s }
     {
         u64::from(self.inboxes.least(self.fed()))
@@ -198,7 +196,7 @@ impl Floor {
             → g.history ≡ history_of (K.told keeper.old)
             → (n ≡ mark (width_of self.old) s) × StandsFor g self.new (after_settle s n)) }
         ensures wrote { IfOk result (λ n. (g : Setting) (s : State) → StandsFor g self.old s → g.number ≡ day
-            → g.history ≡ history_of (K.told keeper.old) → Writes g s n (O.written sink.old) (O.written sink.new)) }
+            → g.history ≡ history_of (K.told keeper.old) → WritesText g s n (O.written sink.old) (O.written sink.new)) }
         ensures stopped { IfErr result (λ fault. (g : Setting) (s : State) → StandsFor g self.old s → g.number ≡ day
             → g.history ≡ history_of (K.told keeper.old)
             → WritesSomeSettled fault g s (mark (width_of self.old) s) (O.written sink.old) (O.written sink.new)) }

@@ -7,7 +7,7 @@ ghost use Rattle.road_time.specs.declared.day.TheConstants.Limits.{DAY};
 ghost use Rattle.road_time.specs.Reads.{reads};
 ghost use Rattle.road_io.specs.Blame.{FaultsByPlan};
 ghost use Rattle.road_io.specs.Plans.{NeverFails};
-ghost use Rattle.road_io.specs.Cutter.{number_of};
+ghost use Rattle.road_io.specs.Cutter.{line_number};
 ghost use Rattle.day_reading.specs.Lines.{FollowsAfter};
 ghost use Rattle.day_reading.specs.Days.{EndsReading, IsShortDay, LeavesBehind, most_of_day};
 ghost use Rattle.road_io.specs.Within.{ReadsWithin};
@@ -40,7 +40,7 @@ fn look<S: Source, R: Threads>(
         → IfOk result (λ f. GathersOn (answer_of f) reader.new limits late given) }
     ensures read { (lines : ℕ) (bytes : List ℕ) → HasReadOf reader.old lines (S.left source.old) bytes
         → HasReadOf reader.new lines (S.left source.new) bytes }
-    ensures after { IfOk result (λ f. FollowsAfter f (number_of reader.new.cutter)) }
+    ensures after { IfOk result (λ f. FollowsAfter f (line_number reader.new.cutter)) }
     ensures same { S.name source.new ≡ S.name source.old }
     ensures source { FaultsByPlan (S.faults source.old) (S.faults source.new) (S.plan source.old)
         ((HasReaderFailed reader.old → ⊥) × (result ≡ Err ReadFault)) }

@@ -5,7 +5,7 @@ ghost use Rattle.road_time.specs.declared.road.Tuple.{Tuple as TupleValue};
 ghost use Rattle.road_time.specs.declared.day.Limits.{Limits as LimitsValue};
 ghost use Rattle.road_io.specs.Blame.{FaultsByPlan};
 ghost use Rattle.road_io.specs.Plans.{NeverFails};
-ghost use Rattle.road_io.specs.Cutter.{number_of};
+ghost use Rattle.road_io.specs.Cutter.{line_number};
 ghost use Rattle.keeper.specs.Digests.{digest_of};
 ghost use Rattle.day_reading.specs.Readings.{IsReading, IsGathering, IsGivingOut, GivesTuple, GathersOn, HasTaken};
 ghost use Rattle.day_reading.specs.Readings.{HasReadOf, HasReaderFailed, RefusesAfter};
@@ -54,7 +54,7 @@ impl DayReader {
 
     /// The number of lines that were cut, empty ones included.
     pub fn lines(&self) -> u64
-        ensures { result ≡ number_of self.now.cutter }
+        ensures { result ≡ line_number self.now.cutter }
     {
         self.cutter.number()
     }
@@ -87,7 +87,7 @@ impl DayReader {
         ensures gathering { (limits : LimitsValue) (late : ℕ) (given : List TupleValue)
             → IsGathering self.old limits late given → IsGathering self.new limits late given }
         ensures end { self.new.end ≡ result }
-        ensures next { IfNone result (number_of self.new.cutter ≡ number_of self.old.cutter + 1) }
+        ensures next { IfNone result (line_number self.new.cutter ≡ line_number self.old.cutter + 1) }
         ensures limit { self.new.intake.line_limit ≡ self.old.intake.line_limit }
         ensures read { (lines : ℕ) (bytes : List ℕ) → HasReadOf self.old lines (S.left source.old) bytes
             → HasReadOf self.new lines (S.left source.new) bytes }
@@ -184,7 +184,7 @@ impl DayReader {
         ensures gathers { (limits : LimitsValue) (late : ℕ) (given : List TupleValue)
             → IsGathering self.old limits late given → GathersOn result self.new limits late given }
         ensures end { self.new.end ≡ self.old.end }
-        ensures after { RefusesAfter result (number_of self.new.cutter) }
+        ensures after { RefusesAfter result (line_number self.new.cutter) }
         ensures fault { result ≡ Err ReadFault ↔ (stop ≡ ReadFault) }
         ensures read { (lines : ℕ) (left : Option (List ℕ)) (bytes : List ℕ) → HasReadOf self.old lines left bytes
             → HasReadOf self.new lines left bytes }
@@ -208,7 +208,7 @@ impl DayReader {
         ensures gathers { (limits : LimitsValue) (late : ℕ) (given : List TupleValue)
             → IsGathering self.old limits late given → GathersOn result self.new limits late given }
         ensures end { self.new.end ≡ self.old.end }
-        ensures after { RefusesAfter result (number_of self.new.cutter) }
+        ensures after { RefusesAfter result (line_number self.new.cutter) }
         ensures fault { result ≡ Err ReadFault ↔ (end ≡ Stopped ReadFault) }
         ensures read { (lines : ℕ) (left : Option (List ℕ)) (bytes : List ℕ) → HasReadOf self.old lines left bytes
             → HasReadOf self.new lines left bytes }
@@ -235,7 +235,7 @@ impl DayReader {
             → IsGathering self.old limits late given → GathersOn result self.new limits late given }
         ensures read { (lines : ℕ) (bytes : List ℕ) → HasReadOf self.old lines (S.left source.old) bytes
             → HasReadOf self.new lines (S.left source.new) bytes }
-        ensures after { RefusesAfter result (number_of self.new.cutter) }
+        ensures after { RefusesAfter result (line_number self.new.cutter) }
         ensures same { S.name source.new ≡ S.name source.old }
         ensures source { FaultsByPlan (S.faults source.old) (S.faults source.new) (S.plan source.old)
             ((HasReaderFailed self.old → ⊥) × (result ≡ Err ReadFault)) }

@@ -2,10 +2,10 @@
 ghost use Rattle.std.specs.Prelude.{◌≡◌, ◌==◌, ◌&&◌, nat_le, IfOk};
 ghost use Rattle.std.specs.List.{find, filter};
 ghost use Rattle.std.specs.declared.cmp.Ordering.{Ordering};
-ghost use Rattle.keeper.specs.History.{paid};
+ghost use Rattle.road_time.specs.History.{paid};
 ghost use Rattle.keeper.specs.Office.{nothing_kept, key_cmp, RowsRise, record_of, last_day as last_day_of};
 ghost use Rattle.keeper.specs.Office.{rows_between, vehicle_rows_between};
-ghost use Rattle.keeper.specs.Memory.{office_in};
+ghost use Rattle.keeper.specs.Memory.{memory_office};
 
 use super::MemOffice;
 use crate::kept::{DayRecord, PastRecord};
@@ -16,7 +16,7 @@ use std::cmp::Ordering;
 impl MemOffice {
     /// Nothing is kept.
     pub fn new(alloc: Global) -> MemOffice
-        ensures { office_in result ≡ nothing_kept }
+        ensures { memory_office result ≡ nothing_kept }
     {
         MemOffice {
             alloc,
@@ -29,7 +29,7 @@ impl MemOffice {
 
     /// The greatest kept day, else the day before the history's base, else 0.
     pub fn last_day(&self) -> u32
-        ensures { result ≡ last_day_of (office_in self.now) }
+        ensures { result ≡ last_day_of (memory_office self.now) }
     {
         match self.days.split_first() {
             Some((first, rest)) => rest.iter().fold(first.day, |most, kept| most.max(kept.day)),
@@ -42,21 +42,21 @@ impl MemOffice {
 
     /// The record of a day.
     pub fn day(&self, day: u32) -> Option<DayRecord>
-        ensures { result ≡ record_of (office_in self.now) day }
+        ensures { result ≡ record_of (memory_office self.now) day }
     {
         record_in(&self.days, day)
     }
 
     /// The record of the history.
     pub fn past(&self) -> Option<PastRecord>
-        ensures { result ≡ (office_in self.now).past }
+        ensures { result ≡ (memory_office self.now).past }
     {
         self.past
     }
 
     /// The amount of a vehicle on an expressway on a day, by one search.
     pub fn spent(&self, day: u32, vid: u32, xway: u8) -> u64
-        ensures { result ≡ paid (office_in self.now).rows day vid xway }
+        ensures { result ≡ paid (memory_office self.now).rows day vid xway }
     {
         match self
             .rows
@@ -69,7 +69,7 @@ impl MemOffice {
 
     /// The amounts of the days from one to another.
     pub fn rows(&self, from: u32, to: u32) -> Result<Vec<SpentRow>, NoMemory>
-        ensures rows { IfOk result (λ rows. rows.items ≡ rows_between (office_in self.now) from to) }
+        ensures rows { IfOk result (λ rows. rows.items ≡ rows_between (memory_office self.now) from to) }
         ensures rise { IfOk result (λ rows. RowsRise rows.items) }
     {
         let rows = between(self.alloc, &self.rows, from, to)?;
@@ -78,7 +78,7 @@ impl MemOffice {
 
     /// Those of a vehicle.
     pub fn vehicle_rows(&self, vid: u32, from: u32, to: u32) -> Result<Vec<SpentRow>, NoMemory>
-        ensures rows { IfOk result (λ rows. rows.items ≡ vehicle_rows_between (office_in self.now) vid from to) }
+        ensures rows { IfOk result (λ rows. rows.items ≡ vehicle_rows_between (memory_office self.now) vid from to) }
         ensures rise { IfOk result (λ rows. RowsRise rows.items) }
     {
         let rows = of_vehicle(self.alloc, &self.rows, vid, from, to)?;
@@ -87,7 +87,7 @@ impl MemOffice {
 
     /// The tariffs.
     pub fn tariffs(&self) -> Result<Tariffs, NoMemory>
-        ensures { IfOk result (λ tariffs. tariffs ≡ (office_in self.now).tariffs) }
+        ensures { IfOk result (λ tariffs. tariffs ≡ (memory_office self.now).tariffs) }
     {
         self.tariffs.copy()
     }

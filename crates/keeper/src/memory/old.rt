@@ -2,7 +2,7 @@
 ghost use Rattle.std.specs.Prelude.{◌≡◌, map, IfOk};
 ghost use Rattle.keeper.specs.Office.{IsSound};
 ghost use Rattle.keeper.specs.Kept.{sealed, old_office};
-ghost use Rattle.keeper.specs.Memory.{office_in};
+ghost use Rattle.keeper.specs.Memory.{memory_office};
 
 use super::MemOffice;
 use crate::digest::Digest;
@@ -20,7 +20,7 @@ impl MemOffice {
         past: Option<PastRecord>,
     ) -> Result<MemOffice, NoMemory>
         requires { IsSound (old_office days.now rows.now past) }
-        ensures { IfOk result (λ office. office_in office ≡ old_office days.now rows.now past) }
+        ensures { IfOk result (λ office. memory_office office ≡ old_office days.now rows.now past) }
     {
         let tariffs = Tariffs::new(alloc);
         let none = seal(alloc, &tariffs)?;

@@ -2,7 +2,7 @@
 ghost use Rattle.std.specs.Prelude.{◌≡◌, OnOk, OnErr};
 ghost use Rattle.road_time.specs.Rates.{IsTariff};
 ghost use Rattle.keeper.specs.Kept.{IsDayPut, IsPastPut, IsLater, HasNoDays, with_day, with_past, with_tariff_of};
-ghost use Rattle.keeper.specs.Memory.{office_in};
+ghost use Rattle.keeper.specs.Memory.{memory_office};
 
 use super::MemOffice;
 use crate::kept::{DayRecord, PastRecord};
@@ -13,9 +13,9 @@ impl MemOffice {
     /// record cannot be refused any more.
     pub fn put_day(&mut self, kept: &DayRecord, rows: &[SpentRow]) -> Result<(), NoMemory>
         requires fits { IsDayPut kept.now rows.now }
-        requires later { IsLater kept.now.day (office_in self.old) }
-        ensures put { OnOk result (office_in self.new ≡ with_day kept.now rows.now (office_in self.old)) }
-        ensures refused { OnErr result (office_in self.new ≡ office_in self.old) }
+        requires later { IsLater kept.now.day (memory_office self.old) }
+        ensures put { OnOk result (memory_office self.new ≡ with_day kept.now rows.now (memory_office self.old)) }
+        ensures refused { OnErr result (memory_office self.new ≡ memory_office self.old) }
     {
         self.days.reserve(1)?;
         self.rows.extend_from_slice(rows)?;
@@ -28,9 +28,9 @@ impl MemOffice {
     /// Keeps a history where nothing is kept of days.
     pub fn put_past(&mut self, kept: &PastRecord, rows: &[SpentRow]) -> Result<(), NoMemory>
         requires fits { IsPastPut kept.now rows.now }
-        requires first { HasNoDays (office_in self.old) }
-        ensures put { OnOk result (office_in self.new ≡ with_past kept.now rows.now (office_in self.old)) }
-        ensures refused { OnErr result (office_in self.new ≡ office_in self.old) }
+        requires first { HasNoDays (memory_office self.old) }
+        ensures put { OnOk result (memory_office self.new ≡ with_past kept.now rows.now (memory_office self.old)) }
+        ensures refused { OnErr result (memory_office self.new ≡ memory_office self.old) }
     {
         self.rows.extend_from_slice(rows)?;
         self.past = Some(*kept);
@@ -40,8 +40,8 @@ impl MemOffice {
     /// Gives an expressway a tariff.
     pub fn put_tariff(&mut self, xway: u8, tariff: &Tariff) -> Result<(), NoMemory>
         requires valid { IsTariff tariff.now }
-        ensures put { OnOk result (office_in self.new ≡ with_tariff_of xway tariff.now (office_in self.old)) }
-        ensures refused { OnErr result (office_in self.new ≡ office_in self.old) }
+        ensures put { OnOk result (memory_office self.new ≡ with_tariff_of xway tariff.now (memory_office self.old)) }
+        ensures refused { OnErr result (memory_office self.new ≡ memory_office self.old) }
     {
         self.tariffs.set(xway, tariff)
     }

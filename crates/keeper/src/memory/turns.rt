@@ -2,7 +2,7 @@
 ghost use Rattle.std.specs.Prelude.{ℕ, ◌≡◌, ◌+◌, ◌≤◌, ◌==◌, true, IfOk};
 ghost use Rattle.std.specs.List.{list_any};
 ghost use Rattle.road_io.specs.Faults.{Rose};
-ghost use Rattle.keeper.specs.Memory.{plan_in, faults_in};
+ghost use Rattle.keeper.specs.Memory.{planned_in, faults_in};
 ghost use Rattle.road_io.specs.Plans.{planned};
 
 use super::Failing;
@@ -12,7 +12,7 @@ use std::alloc::Global;
 impl Failing {
     /// The calls fail whose numbers from 0 stand in `fails`.
     pub fn new(alloc: Global, fails: &[u32]) -> Result<Failing, NoMemory>
-        ensures plan { IfOk result (λ f. (n : ℕ) → plan_in f n ≡ list_any (λ call. call == n) fails.now) }
+        ensures plan { IfOk result (λ f. (n : ℕ) → planned_in f n ≡ list_any (λ call. call == n) fails.now) }
         ensures faultless { IfOk result (λ f. faults_in f ≡ 0) }
     {
         Ok(Failing {
@@ -24,8 +24,8 @@ impl Failing {
 
     /// Whether the next call fails, which is counted then.
     pub fn turn(&mut self) -> bool
-        ensures fails { result ≡ plan_in self.old 0 }
-        ensures next { (n : ℕ) → plan_in self.new n ≡ plan_in self.old (n + 1) }
+        ensures fails { result ≡ planned_in self.old 0 }
+        ensures next { (n : ℕ) → planned_in self.new n ≡ planned_in self.old (n + 1) }
         ensures later { faults_in self.old ≤ faults_in self.new }
         ensures counted { result ≡ true → Rose (faults_in self.old) (faults_in self.new) }
     {

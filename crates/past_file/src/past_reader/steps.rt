@@ -4,7 +4,7 @@ ghost use Rattle.std.specs.Prelude.{IfSome, IfNone, true};
 ghost use Rattle.road_time.specs.declared.day.Limits.{Limits as LimitsValue};
 ghost use Rattle.road_io.specs.Blame.{FaultsByPlan};
 ghost use Rattle.road_io.specs.Plans.{NeverFails};
-ghost use Rattle.road_io.specs.Cutter.{number_of, fault_of};
+ghost use Rattle.road_io.specs.Cutter.{line_number, fault_of};
 ghost use Rattle.keeper.specs.Kept.{IsPastPut};
 ghost use Rattle.keeper.specs.PastReads.{past_reads, past_kept, past_record};
 ghost use Rattle.past_file.specs.Readings.{GathersRows, IsReadingPast, HasReadPastOf, EndsPast, Steps};
@@ -30,7 +30,7 @@ impl PastReader {
             → IsReadingPast r base limits (Some bytes) bytes) }
         ensures gathers { IfOk result (λ r. (base : ℕ) → GathersRows r.amounts base) }
         ensures read { IfOk result (λ r. (bytes : List ℕ) → HasReadPastOf r (Some bytes) bytes) }
-        ensures none { IfOk result (λ r. number_of r.cutter ≡ 0) }
+        ensures none { IfOk result (λ r. line_number r.cutter ≡ 0) }
         ensures unbroken { IfOk result (λ r. fault_of r.cutter ≡ None) }
     {
         let cutter = LineCutter::new(alloc)?;
@@ -50,7 +50,7 @@ impl PastReader {
         source: &mut S,
     ) -> Result<bool, PastStop>
         requires based { 70 ≤ base }
-        requires few { number_of self.old.cutter ≤ limit }
+        requires few { line_number self.old.cutter ≤ limit }
         requires unbroken { fault_of self.old.cutter ≡ None }
         ensures steps { (limits : LimitsValue) (bytes : List ℕ) → limits.past ≡ limit
             → IsReadingPast self.old base limits (S.left source.old) bytes
@@ -58,10 +58,10 @@ impl PastReader {
         ensures gathers { GathersRows self.old.amounts base → IfOk result (λ more. GathersRows self.new.amounts base) }
         ensures read { (bytes : List ℕ) → HasReadPastOf self.old (S.left source.old) bytes
             → HasReadPastOf self.new (S.left source.new) bytes }
-        ensures bounded { number_of self.new.cutter ≤ limit + 1 }
-        ensures after { IfErr result (λ stop. StopsPastAfter stop (number_of self.new.cutter)) }
-        ensures next { result ≡ Ok true → number_of self.new.cutter ≡ number_of self.old.cutter + 1 }
-        ensures few { IfOk result (λ more. number_of self.new.cutter ≤ limit) }
+        ensures bounded { line_number self.new.cutter ≤ limit + 1 }
+        ensures after { IfErr result (λ stop. StopsPastAfter stop (line_number self.new.cutter)) }
+        ensures next { result ≡ Ok true → line_number self.new.cutter ≡ line_number self.old.cutter + 1 }
+        ensures few { IfOk result (λ more. line_number self.new.cutter ≤ limit) }
         ensures unbroken { IfOk result (λ more. fault_of self.new.cutter ≡ None) }
         ensures same { S.name source.new ≡ S.name source.old }
         ensures source { FaultsByPlan (S.faults source.old) (S.faults source.new) (S.plan source.old)
@@ -92,7 +92,7 @@ impl PastReader {
         source: &mut S,
     ) -> Option<PastStop>
         requires based { 70 ≤ base }
-        requires few { number_of self.old.cutter ≤ limit }
+        requires few { line_number self.old.cutter ≤ limit }
         requires unbroken { fault_of self.old.cutter ≡ None }
         ensures ends { (limits : LimitsValue) (bytes : List ℕ) → limits.past ≡ limit
             → IsReadingPast self.old base limits (S.left source.old) bytes
@@ -100,9 +100,9 @@ impl PastReader {
         ensures gathers { GathersRows self.old.amounts base → IfNone result (GathersRows self.new.amounts base) }
         ensures read { (bytes : List ℕ) → HasReadPastOf self.old (S.left source.old) bytes
             → HasReadPastOf self.new (S.left source.new) bytes }
-        ensures bounded { number_of self.new.cutter ≤ limit + 1 }
-        ensures after { IfSome result (λ stop. StopsPastAfter stop (number_of self.new.cutter)) }
-        ensures few { IfNone result (number_of self.new.cutter ≤ limit) }
+        ensures bounded { line_number self.new.cutter ≤ limit + 1 }
+        ensures after { IfSome result (λ stop. StopsPastAfter stop (line_number self.new.cutter)) }
+        ensures few { IfNone result (line_number self.new.cutter ≤ limit) }
         ensures same { S.name source.new ≡ S.name source.old }
         ensures source { FaultsByPlan (S.faults source.old) (S.faults source.new) (S.plan source.old)
             (result ≡ Some ReadFault) }
@@ -119,7 +119,7 @@ impl PastReader {
     /// What is kept of the lines that were read, their days counted back from a base.
     pub fn kept<R: Threads>(self, rt: &R, base: u32) -> Result<History, PastStop>
         requires based { 70 ≤ base }
-        requires few { number_of self.cutter < 2 ^ 32 }
+        requires few { line_number self.cutter < 2 ^ 32 }
         ensures exact { (limits : LimitsValue) (left : Option (List ℕ)) (bytes : List ℕ)
             → EndsPast self.consumed self.amounts base limits left bytes
             → IfOk result (λ h. (h.past ≡ past_record base bytes (past_reads bytes base limits).rows)

@@ -5,7 +5,7 @@ ghost use Rattle.std.specs.List.{slice_range};
 ghost use Rattle.std.specs.Io.KnownBytes.{ReadConsumes, Consumes, Keeps, IsAtEnd};
 ghost use Rattle.road_io.specs.Faults.{HasCause, Rose};
 ghost use Rattle.road_io.specs.Plans.{AsPlanned, NeverFails};
-ghost use Rattle.road_io.specs.Cutter.{IsCut, Cuts, held, ahead, line_of, number_of, fault_of, rest_of, StandsCut};
+ghost use Rattle.road_io.specs.Cutter.{IsCut, Cuts, held, ahead, line_of, line_number, fault_of, rest_of, StandsCut};
 ghost use Rattle.road_io.specs.declared.cutter.LineFault.{LineFault};
 ghost use Rattle.road_io.specs.declared.cutter.LineFault.TheVariants.{ReadFault};
 ghost use Rattle.road_io.specs.declared.cutter.Cut.TheVariants.{More};
@@ -71,7 +71,7 @@ fn read_behind<S: Source>(
 impl LineCutter {
     /// A cutter before its first line.
     pub fn new(alloc: Global) -> Result<LineCutter, NoMemory>
-        ensures { IfOk result (λ c. (held c ≡ []) × (line_of c ≡ []) × (rest_of c ≡ []) × (number_of c ≡ 0)
+        ensures { IfOk result (λ c. (held c ≡ []) × (line_of c ≡ []) × (rest_of c ≡ []) × (line_number c ≡ 0)
             × (fault_of c ≡ None)) }
     {
         let buf = vec![in alloc; 0u8; 65_536]?;
@@ -103,7 +103,7 @@ impl LineCutter {
 
     /// The number of the current line, from 1.
     pub fn number(&self) -> u64
-        ensures { result ≡ number_of self.now }
+        ensures { result ≡ line_number self.now }
     {
         self.number
     }
@@ -116,7 +116,7 @@ impl LineCutter {
         ensures ahead { Keeps (ahead self.old (S.left source.old)) (ahead self.new (S.left source.new)) }
         ensures more { result ≡ Ok true → length (held self.old) < length (held self.new) }
         ensures ended { result ≡ Ok false → (held self.new ≡ held self.old) × IsAtEnd (S.left source.new) }
-        ensures number { number_of self.new ≡ number_of self.old }
+        ensures number { line_number self.new ≡ line_number self.old }
         ensures fault { fault_of self.new ≡ fault_of self.old }
         ensures none { rest_of self.new ≡ [] }
         ensures sure { NeverFails (S.plan source.old) → IsOk result × NeverFails (S.plan source.new) }
@@ -137,11 +137,11 @@ impl LineCutter {
     /// Takes what stands first in the bytes that are held; none where more bytes are needed.
     #[inline(always)]
     fn cut_held(&mut self) -> Option<Result<bool, LineFault>>
-        requires number { number_of self.old + 1 < 2 ^ 64 }
+        requires number { line_number self.old + 1 < 2 ^ 64 }
         requires open { fault_of self.old ≡ None }
         ensures cuts { IfSome result (λ answer. (left : Option (List ℕ))
             → Cuts answer (ahead self.old left) (ahead self.new left) (line_of self.new)) }
-        ensures stands { IfSome result (λ answer. StandsCut answer (number_of self.old) self.new) }
+        ensures stands { IfSome result (λ answer. StandsCut answer (line_number self.old) self.new) }
         ensures taken { result ≡ Some (Ok true) → (left : Option (List ℕ))
             → Consumes (ahead self.old left) (ahead self.new left) (rest_of self.new) }
         ensures unread { IfSome result (λ answer. answer ≢ Err ReadFault) }
@@ -169,12 +169,12 @@ impl LineCutter {
     /// Takes the bytes that are held as the last line; false where there are none.
     #[cold]
     fn take_last(&mut self) -> bool
-        requires number { number_of self.old + 1 < 2 ^ 64 }
+        requires number { line_number self.old + 1 < 2 ^ 64 }
         requires open { fault_of self.old ≡ None }
         requires short { IsCut More (held self.old) }
         ensures cuts { (left : Option (List ℕ)) → IsAtEnd left
             → Cuts (Ok result) (ahead self.old left) (ahead self.new left) (line_of self.new) }
-        ensures stands { StandsCut (Ok result) (number_of self.old) self.new }
+        ensures stands { StandsCut (Ok result) (line_number self.old) self.new }
         ensures taken { result ≡ true → (left : Option (List ℕ))
             → Consumes (ahead self.old left) (ahead self.new left) (rest_of self.new) }
     {
@@ -191,10 +191,10 @@ impl LineCutter {
     /// Moves to the next line; false at the end.
     #[inline(always)]
     pub fn advance<S: Source>(&mut self, source: &mut S) -> Result<bool, LineFault>
-        requires { number_of self.old + 1 < 2 ^ 64 }
+        requires { line_number self.old + 1 < 2 ^ 64 }
         ensures cuts { fault_of self.old ≡ None
             → Cuts result (ahead self.old (S.left source.old)) (ahead self.new (S.left source.new)) (line_of self.new) }
-        ensures stands { fault_of self.old ≡ None → StandsCut result (number_of self.old) self.new }
+        ensures stands { fault_of self.old ≡ None → StandsCut result (line_number self.old) self.new }
         ensures taken { fault_of self.old ≡ None → result ≡ Ok true
             → Consumes (ahead self.old (S.left source.old)) (ahead self.new (S.left source.new)) (rest_of self.new) }
         ensures stuck { (f : LineFault) → fault_of self.old ≡ Some f

@@ -1,5 +1,6 @@
 // A report is charged, and then told.
 ghost use Rattle.std.specs.Prelude.{◌≡◌, ◌<◌, ◌≤◌, ◌+◌, ◌^◌, ◌++◌, false, map, OnOk};
+ghost use Rattle.road_time.specs.declared.tariff.TheConstants.{GREATEST_TOLL};
 ghost use Rattle.accounts.specs.Operations.{charge_of};
 ghost use Rattle.settling.specs.Answers.{told_notices};
 ghost use Rattle.settling.specs.Books.{WasTold, charges_for, charged_with, told_with};
@@ -23,7 +24,7 @@ impl Settler {
         found: Found,
         sink: &mut O,
     ) -> Result<(), SettleFault>
-        requires toll { found.toll ≤ 500000000000 }
+        requires toll { found.toll ≤ GREATEST_TOLL }
         requires count { self.old.printer.notices + 2 < 2 ^ 64 }
         ensures booked { OnOk result (self.new.book ≡ told_with told vid found.toll self.old.book) }
         ensures says { Says result self.old.printer self.new.printer (O.written sink.old, O.room sink.old)
@@ -55,7 +56,7 @@ impl Settler {
     ) -> Result<(), SettleFault>
         requires told { WasTold charge vid self.old.book }
         requires few { self.old.book.made < 16000000 }
-        requires toll { found.toll ≤ 500000000000 }
+        requires toll { found.toll ≤ GREATEST_TOLL }
         requires count { self.old.printer.notices + 2 < 2 ^ 64 }
         ensures booked { OnOk result (self.new.book
             ≡ told_with told vid found.toll (charged_with (charges_for charge vid self.old.book) self.old.book)) }

@@ -9,7 +9,7 @@ ghost use Rattle.settling.specs.Asking.{AskingPlan};
 ghost use Rattle.settling.specs.Faults.{SinkFaults, KeeperFaults};
 ghost use Rattle.settling.specs.Levels.{Level};
 ghost use Rattle.settling.specs.Slots.{slots_of};
-ghost use Rattle.settling.specs.Runs.{StandsFor, InRun, HasRun, Waits, StopsRun};
+ghost use Rattle.settling.specs.Runs.{StandsFor, InRun, HasSettled, Waits, StopsRun};
 
 use super::Settler;
 use crate::fault::SettleFault;
@@ -117,7 +117,7 @@ impl Settler {
         ensures ok { OnOk result ((finding : Sight → StretchTold) (before rest : List Tuple)
             → StandsFor self.old finding number (history_of (K.told keeper.old)) before
             → Waits slots.old.items finding before rest → count ≤ length rest
-            → HasRun self.new finding number (history_of (K.told keeper.new)) before (take count rest)
+            → HasSettled self.new finding number (history_of (K.told keeper.new)) before (take count rest)
             (O.written sink.old, O.room sink.old) (O.written sink.new, O.room sink.new) (K.plan keeper.old)
             (K.plan keeper.new)
             × Waits slots.new.items finding (before ++ take count rest) (drop count rest)) }

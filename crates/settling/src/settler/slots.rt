@@ -1,6 +1,7 @@
 // One position is settled.
 ghost use Rattle.std.specs.Prelude.{◌≡◌, ◌<◌, ◌≤◌, ◌+◌, ◌^◌, ◌++◌, List, map, OnOk};
 ghost use Rattle.accounts.specs.Operations.{charge_of};
+ghost use Rattle.road_time.specs.declared.tariff.TheConstants.{GREATEST_TOLL};
 ghost use Rattle.road_time.specs.declared.road.Notice.{Notice as NoticeValue};
 ghost use Rattle.settling.specs.Answers.{IsSaid, history_of};
 ghost use Rattle.settling.specs.Books.{CanSettle, charges_in, book_after};
@@ -26,7 +27,7 @@ impl Settler {
     ) -> Result<(), SettleFault>
         requires told { CanSettle slot.due self.old.book }
         requires few { self.old.book.made < 16000000 }
-        requires toll { slot.found.toll ≤ 500000000000 }
+        requires toll { slot.found.toll ≤ GREATEST_TOLL }
         requires count { self.old.printer.notices + 2 < 2 ^ 64 }
         ensures booked { OnOk result (self.new.book ≡ book_after slot.due slot.found.toll self.old.book) }
         ensures listed { OnOk result (map charge_of self.new.charges.items

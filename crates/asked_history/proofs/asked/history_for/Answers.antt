@@ -1,9 +1,9 @@
-use Rattle.std.proofs.Common.{◌≡◌, ◌-◌, ap, ◌∙◌}
+use Rattle.std.proofs.Common.{◌≡◌, ◌-◌, ◌∙◌}
 use Rattle.std.proofs.lemmas.Result.{IfOk-weaker}
 use Rattle.keeper.specs.Office.{rows_between}
-use Rattle.keeper.specs.History.{paid as paid_of}
-use Rattle.validator.specs.History.{paid}
-use Rattle.asked_history.proofs.HistoryLaws.{by_history, by_none, keys_differ}
+use Rattle.road_time.specs.History.{paid}
+use Rattle.keeper.proofs.HistoryLaws.{keys_law}
+use Rattle.asked_history.proofs.HistoryLaws.{by_history, by_none}
 use Rattle.keeper.proofs.CallLaws.{reads_if_ok}
 use Rattle.asked_history.proofs.asked.history_for.Goals as goal
 
@@ -21,9 +21,9 @@ returns-then-asks_any-clause-told g c = λ o told.
 
 pub returns-then-asks_any-clause-keys : goal.returns-then-asks_any-clause-keys
 returns-then-asks_any-clause-keys g c =
-    IfOk-weaker c.rows.result _ _ (λ rows e. keys_differ rows.items e) c.rows.ensures.rise
+    IfOk-weaker c.rows.result _ _ (λ rows e. keys_law rows.items e) c.rows.ensures.rise
 
 pub returns-else-asks_any-clause-told : goal.returns-else-asks_any-clause-told
 returns-else-asks_any-clause-told g c = λ o told tariffs.
-    by_none c.args.number (paid c.new.result.items) (paid_of o.rows) c.args.tuples.now tariffs
+    by_none c.args.number (paid c.new.result.items) (paid o.rows) c.args.tuples.now tariffs
     (cc (c.asks_any.ensures, c.if-asks_any.false))

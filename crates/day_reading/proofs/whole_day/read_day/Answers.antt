@@ -3,7 +3,7 @@ use Rattle.std.proofs.lemmas.Bool.{cond-true}
 use Rattle.road_time.specs.declared.road.Tuple.{Tuple}
 use Rattle.day_reading.specs.declared.ending.ReadEnd.{ReadEnd}
 use Rattle.day_reading.specs.declared.ending.ReadEnd.TheVariants.{Refused, ReadFault}
-use Rattle.road_io.specs.Cutter.{number_of}
+use Rattle.road_io.specs.Cutter.{line_number}
 use Rattle.day_reading.specs.Readings.{IsReading, IsGathering, HasReadOf, GivesTuple, GathersOn}
 use Rattle.day_reading.proofs.BoundLaws.{day_within, stops_soon}
 use Rattle.day_reading.proofs.whole_day.read_day.Goals as goal
@@ -115,5 +115,5 @@ returns-in-Err-Refused-clause-left g c = λ bytes told.
     let res : c.next.result ≡ Err (Refused line c.in-Err-Refused.cause) = cc in
     let after = c.next.ensures.after line c.in-Err-Refused.cause res in
     let read = c.next.ensures.read c.args.limits.now.lines bytes (c.reading.invariant.read bytes told) in
-    stops_soon new.cutter (g.S.Source.left c.next.new.source) new.consumed bytes (number_of new.cutter) line read.1
+    stops_soon new.cutter (g.S.Source.left c.next.new.source) new.consumed bytes (line_number new.cutter) line read.1
     after

@@ -5,7 +5,7 @@ use Rattle.day_reading.proofs.AheadLaws.{ahead_within}
 use Rattle.settling.specs.Closes.{IsClosed}
 use Rattle.day_rounds.specs.declared.day_run.WorkedDay.{WorkedDay}
 use Rattle.day_rounds.specs.Days.{IsOn}
-use Rattle.day_rounds.specs.Outcomes.{task_of, HasRun, HasStopped}
+use Rattle.day_rounds.specs.Outcomes.{task_of, HasImported, HasStopped}
 use Rattle.day_rounds.specs.declared.fault.DayFault.TheVariants.{NoMemory}
 use Rattle.day_rounds.proofs.JobLaws.{nothing_out}
 use Rattle.day_rounds.proofs.ReaderLaws.{nothing_left}
@@ -51,7 +51,7 @@ returns-in-Ok-close-clause-ran g c e late h gathers number history =
     (g.P.Publisher.posted last.publisher) s) (sym v.limits) on in
     let same_gathers = subst (λ m. IsGatheringAhead c.args.ahead m late []) (sym v.limits) gathers in
     let r : WorkedDay = record { closed = c.in-Ok-close.closed; tuples = c.in-Ok.tuples; end = c.end-end.result } in
-    under (λ n m. HasRun (task_of e n m late) k.exact (λ bytes. IsAhead c.args.ahead m late was bytes []) answered
+    under (λ n m. HasImported (task_of e n m late) k.exact (λ bytes. IsAhead c.args.ahead m late was bytes []) answered
     (k.answers last.crew) told (k.jobs last.crew) (g.O.Sink.written c.args.sink.now) (g.O.Sink.written last.sink)
     (g.P.Publisher.posted c.args.publisher.now) (g.P.Publisher.posted last.publisher) r) last.run.floor.inboxes.width
     f.inboxes.width last.run.floor.limits f.limits v.width v.limits

@@ -6,7 +6,7 @@ use Rattle.day_reading.specs.Ahead.{IsAhead, IsGatheringAhead, HasReadAhead}
 use Rattle.settling.specs.Answers.{history_of}
 use Rattle.watermark.specs.Floors.{Setting}
 use Rattle.day_rounds.specs.Faults.{of_reading}
-use Rattle.day_rounds.specs.Outcomes.{Task, task_of, HasRun, HasStopped}
+use Rattle.day_rounds.specs.Outcomes.{Task, task_of, HasImported, HasStopped}
 use Rattle.day_rounds.specs.declared.fault.DayFault.TheVariants.{NoMemory}
 use Rattle.day_rounds.proofs.JobLaws.{begun_runs}
 use Rattle.day_rounds.proofs.OutcomeLaws.{under, seen_run, seen_stopped, none_stopped, why_read}
@@ -87,7 +87,7 @@ returns-in-Ok-run_opened-clause-ran g c =
     (k.jobs c.args.crew.now) (k.jobs last.crew) (g.O.Sink.written c.args.sink.now) (g.O.Sink.written last.sink)
     (g.P.Publisher.posted c.args.publisher.now) (g.P.Publisher.posted last.publisher) (k.answers c.args.crew.now)
     (k.answers last.crew) c.in-Ok-run_opened.left
-    (under (λ n m. HasRun (task_of e n m c.args.late) k.exact (λ bytes. IsAhead ahead m c.args.late left bytes [])
+    (under (λ n m. HasImported (task_of e n m c.args.late) k.exact (λ bytes. IsAhead ahead m c.args.late left bytes [])
     (k.answers c.args.crew.now) (k.answers last.crew) (k.jobs c.args.crew.now) (k.jobs last.crew)
     (g.O.Sink.written c.args.sink.now) (g.O.Sink.written last.sink) (g.P.Publisher.posted c.args.publisher.now)
     (g.P.Publisher.posted last.publisher) c.in-Ok-run_opened.left)

@@ -1,7 +1,7 @@
 use Rattle.std.proofs.Common.{rules, map}
 use Rattle.expressway.specs.Findings.{shown}
 use Rattle.watermark.specs.Steps.{after_back}
-use Rattle.watermark.proofs.Inbox.{when_err}
+use Rattle.expressway.proofs.RunSteps.{on_refusal}
 use Rattle.expressway.proofs.ShapeLaws.{ok_map}
 use Rattle.day_rounds.proofs.FinishLaws.{finish_ready, finish_stopped, finish_may, finish_came, finish_runs, well}
 use Rattle.day_rounds.proofs.finish.finish_one.Goals as goal
@@ -64,7 +64,7 @@ pub returns-clause-stopped : goal.returns-clause-stopped
 returns-clause-stopped g c =
     let k = g.C.Crew in
     let v = c.finish_among-done.ensures in
-    when_err c.back.result
+    on_refusal c.back.result
     (λ e told answered s h day first.
     finish_stopped k.out k.number k.holds k.gave k.exact k.jobs k.answers e told answered c.args.run.now c.args.crew.now
     s h c.args.place c.in-Some.ticket c.requires.within c.in-Some.ensures.value

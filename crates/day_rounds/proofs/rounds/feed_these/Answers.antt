@@ -3,7 +3,7 @@ use Rattle.std.proofs.lemmas.List.{take_all, take_more}
 use Rattle.watermark.specs.Floors.{StandsFor}
 use Rattle.watermark.specs.Sound.{CanFeed}
 use Rattle.watermark.specs.Steps.{after_feed}
-use Rattle.day_rounds.specs.Runs.{fed_all}
+use Rattle.day_rounds.specs.Runs.{after_feeds}
 use Rattle.day_rounds.proofs.FeedLaws.{can_next, fed_push, no_tuple}
 use Rattle.day_rounds.proofs.rounds.feed_these.Goals as goal
 
@@ -14,10 +14,10 @@ feed-requires g c =
     let w = c.args.run.now.floor.inboxes.width in
     let i = c.loop-tuple.tuple-index in (
       e,
-      fed_all w s (take i c.args.these.now),
+      after_feeds w s (take i c.args.these.now),
       inv.fed e s st can,
       subst
-          (λ l. CanFeed l (fed_all w s (take i c.args.these.now)) (slice_index_or c.args.these.now i no_tuple))
+          (λ l. CanFeed l (after_feeds w s (take i c.args.these.now)) (slice_index_or c.args.these.now i no_tuple))
           (sym inv.limits)
           (can_next w c.args.run.now.floor.limits s c.args.these.now i no_tuple can c.loop-tuple-test.true),
     )
@@ -34,17 +34,17 @@ loop-tuple-preserved g c =
       tickets = inv.tickets;
       fed = λ e s st can.
           subst (StandsFor e c.feed.new.self)
-          (sym (ap (fed_all w s) (take_more these i no_tuple c.loop-tuple-test.true)
+          (sym (ap (after_feeds w s) (take_more these i no_tuple c.loop-tuple-test.true)
           ∙ fed_push w s (take i these) (slice_index_or these i no_tuple)))
           (subst (λ n. StandsFor e c.feed.new.self
-          (after_feed n (fed_all w s (take i these)) (slice_index_or these i no_tuple))) inv.width
-          (c.in_ok-feed.ensures.fed e (fed_all w s (take i these)) (inv.fed e s st can)
-          (subst (λ l. CanFeed l (fed_all w s (take i these)) (slice_index_or these i no_tuple)) (sym inv.limits)
+          (after_feed n (after_feeds w s (take i these)) (slice_index_or these i no_tuple))) inv.width
+          (c.in_ok-feed.ensures.fed e (after_feeds w s (take i these)) (inv.fed e s st can)
+          (subst (λ l. CanFeed l (after_feeds w s (take i these)) (slice_index_or these i no_tuple)) (sym inv.limits)
           (can_next w c.args.run.now.floor.limits s these i no_tuple can c.loop-tuple-test.true))));
     }
 
 pub returns-clause-fed : goal.returns-clause-fed
 returns-clause-fed g c e s st can =
-    subst (λ xs. StandsFor e c.loop-tuple.run.floor (fed_all c.args.run.now.floor.inboxes.width s xs))
+    subst (λ xs. StandsFor e c.loop-tuple.run.floor (after_feeds c.args.run.now.floor.inboxes.width s xs))
     (take_all c.loop-tuple.tuple-index c.args.these.now (omega (arith, c.loop-tuple-test.false)))
     (c.loop-tuple.invariant.fed e s st can)

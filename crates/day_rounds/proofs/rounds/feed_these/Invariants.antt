@@ -1,7 +1,7 @@
 use Rattle.std.proofs.Common.{◌≡◌, take}
 use Rattle.watermark.specs.Shares.{State}
 use Rattle.watermark.specs.Floors.{Setting, StandsFor}
-use Rattle.day_rounds.specs.Runs.{CanFeedAll, fed_all}
+use Rattle.day_rounds.specs.Runs.{CanFeedAll, after_feeds}
 use Rattle.day_rounds.proofs.rounds.feed_these.Given as goal
 
 abbrev pub invariant-loop-tuple : goal.invariant-loop-tuple
@@ -10,5 +10,5 @@ invariant-loop-tuple g l = record {
   limits : l.run.floor.limits ≡ l.fn.run.floor.limits;
   tickets : l.run.tickets.items ≡ l.fn.run.tickets.items;
   fed : (e : Setting) (s : State) → StandsFor e l.fn.run.floor s → CanFeedAll l.fn.run.floor.limits s l.these →
-      StandsFor e l.run.floor (fed_all l.fn.run.floor.inboxes.width s (take l.tuple-index l.these));
+      StandsFor e l.run.floor (after_feeds l.fn.run.floor.inboxes.width s (take l.tuple-index l.these));
 }

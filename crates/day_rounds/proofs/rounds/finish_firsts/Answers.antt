@@ -1,5 +1,5 @@
 use Rattle.std.proofs.Common.{refl, sym, ◌∙◌, subst}
-use Rattle.watermark.proofs.Inbox.{when_err}
+use Rattle.expressway.proofs.RunSteps.{on_refusal}
 use Rattle.expressway.specs.Results.{AreFirst}
 use Rattle.day_rounds.specs.Runs.{Stopped}
 use Rattle.day_rounds.proofs.RoundLaws.{later_same, later_then, came_later}
@@ -38,7 +38,7 @@ pub returns-in_err-finish_one-clause-stopped : goal.returns-in_err-finish_one-cl
 returns-in_err-finish_one-clause-stopped g c =
     let k = g.C.Crew in
     let inv = c.loop-run.invariant in
-    when_err c.from_residual.result
+    on_refusal c.from_residual.result
     (λ e told answered s h day first.
     let (mid, later, runs) = inv.came e told answered s h in
     subst (λ n. Stopped k.out k.number k.holds k.gave k.jobs told n c.args.run.now.floor.limits day c.finish_one.new.run

@@ -1,5 +1,5 @@
 use Rattle.std.proofs.Common.{◌≡◌, ◌+◌, suc, ◌∙◌, arith, subst}
-use Rattle.watermark.proofs.Inbox.{when_err}
+use Rattle.expressway.proofs.RunSteps.{on_refusal}
 use Rattle.day_rounds.specs.Runs.{Runs, given_all}
 use Rattle.day_rounds.proofs.rounds.give_all.Goals as goal
 
@@ -10,7 +10,7 @@ give_one-requires-clause-runs g c =
 
 pub returns-in_err-give_one-clause-refused : goal.returns-in_err-give_one-clause-refused
 returns-in_err-give_one-clause-refused g c =
-    when_err c.from_residual.result
+    on_refusal c.from_residual.result
     (λ e told answered s h. (
       c.loop-worker.worker,
       c.in_err-give_one.ensures.refused e told answered (given_all s c.loop-worker.worker)

@@ -1,7 +1,7 @@
 use Rattle.std.proofs.Common.{◌<◌, ◌++◌, refl, sym, ◌∙◌, subst}
-use Rattle.watermark.proofs.Inbox.{when_err}
+use Rattle.expressway.proofs.RunSteps.{on_refusal}
 use Rattle.expressway.specs.Results.{AreFirst}
-use Rattle.day_rounds.specs.Runs.{Stopped, CanFeedAll, IsLater, IsDone, fed_all, given_all}
+use Rattle.day_rounds.specs.Runs.{Stopped, CanFeedAll, OnlyTakesBack, IsDone, after_feeds, given_all}
 use Rattle.day_rounds.proofs.FeedLaws.{fed_runs, fed_are, first_left}
 use Rattle.day_rounds.proofs.RoundLaws.{all_home, stopped_by, round_done, given_fed}
 use Rattle.day_rounds.proofs.rounds.work_round.Goals as goal
@@ -9,7 +9,7 @@ use Rattle.day_rounds.proofs.rounds.work_round.Goals as goal
 pub returns-in_err-feed_these-clause-stopped : goal.returns-in_err-feed_these-clause-stopped
 returns-in_err-feed_these-clause-stopped g c =
     let k = g.C.Crew in
-    when_err c.from_residual.result
+    on_refusal c.from_residual.result
     (λ e told answered s h can day first.
     stopped_by k.out k.number k.holds k.gave k.exact k.jobs k.answers e told answered c.args.run.now c.args.crew.now s h
     c.feed_these.new.run c.in_err-feed_these.ensures.tickets day
@@ -25,7 +25,7 @@ give_all-requires-clause-runs g c =
       e,
       told,
       answered,
-      fed_all c.args.run.now.floor.inboxes.width s these,
+      after_feeds c.args.run.now.floor.inboxes.width s these,
       fed_runs k.out k.number k.holds k.gave k.exact k.jobs k.answers e told answered c.args.run.now c.args.crew.now s h
           c.feed_these.new.run these v.tickets v.width v.limits (v.fed e s h.stands may),
     )
@@ -38,9 +38,9 @@ returns-in_err-give_all-clause-stopped g c =
     let w = c.args.run.now.floor.inboxes.width in
     let these = c.as_slice.result.now in
     let now = c.give_all.new.run in
-    when_err c.from_residual-in_err-give_all.result
+    on_refusal c.from_residual-in_err-give_all.result
     (λ e told answered s h can day first.
-    let fed = fed_all w s these in
+    let fed = after_feeds w s these in
     let may = subst (CanFeedAll c.args.run.now.floor.limits s) (sym c.as_slice.ensures.value) can in
     let front = subst (λ xs. AreFirst (s.fed ++ xs) day) (sym c.as_slice.ensures.value) first in
     let mid =
@@ -62,7 +62,7 @@ finish_firsts-requires g c =
     let these = c.as_slice.result.now in
     let may = subst (CanFeedAll c.args.run.now.floor.limits s) (sym c.as_slice.ensures.value) can in
     let v = c.in_ok-feed_these.ensures in
-    let fed = fed_all c.args.run.now.floor.inboxes.width s these in
+    let fed = after_feeds c.args.run.now.floor.inboxes.width s these in
     record {
       runs = (
         e,
@@ -84,7 +84,7 @@ returns-clause-done g c e told answered s h can =
     let w = c.args.run.now.floor.inboxes.width in
     let these = c.as_slice.result.now in
     let may = subst (CanFeedAll c.args.run.now.floor.limits s) (sym c.as_slice.ensures.value) can in
-    let fed = fed_all w s these in
+    let fed = after_feeds w s these in
     let mid =
     fed_runs k.out k.number k.holds k.gave k.exact k.jobs k.answers e told answered c.args.run.now c.args.crew.now s
     h c.feed_these.new.run these v.tickets v.width v.limits (v.fed e s h.stands may) in
@@ -97,7 +97,7 @@ returns-clause-done g c e told answered s h can =
       subst (λ xs. IsDone w s xs now) c.as_slice.ensures.value
           (round_done k.out k.number k.holds k.gave k.exact k.jobs k.answers e told answered c.args.run.now
           c.args.crew.now s h these home now
-          (subst (λ n. IsLater (given_all fed n) now) c.requires.width later)
+          (subst (λ n. OnlyTakesBack (given_all fed n) now) c.requires.width later)
           (λ u m. all_home k.out k.number k.holds k.gave k.exact k.jobs k.answers e told answered
           c.finish_firsts.new.run c.finish_firsts.new.crew now runs f.none u (subst (λ n. u < n) (sym width) m))),
       runs,
@@ -110,9 +110,9 @@ returns-in_err-finish_firsts-clause-stopped g c =
     let r = c.in_ok-give_all.ensures in
     let w = c.args.run.now.floor.inboxes.width in
     let these = c.as_slice.result.now in
-    when_err c.from_residual-in_err-finish_firsts.result
+    on_refusal c.from_residual-in_err-finish_firsts.result
     (λ e told answered s h can day first.
-    let fed = fed_all w s these in
+    let fed = after_feeds w s these in
     let may = subst (CanFeedAll c.args.run.now.floor.limits s) (sym c.as_slice.ensures.value) can in
     let front = subst (λ xs. AreFirst (s.fed ++ xs) day) (sym c.as_slice.ensures.value) first in
     let mid =

@@ -1,7 +1,7 @@
 use Rattle.std.proofs.Common.{ℕ, suc, ◌≡◌, ◌<◌, ◌≤◌, ◌+◌, ◌-◌, ◌∙◌, length, refl, sym, ap, arith, rules, subst}
 use Rattle.draws.specs.Draws.{drawn, after_draws}
 use Rattle.draws.proofs.DrawLaws.{none_drawn, one_drawn}
-use Rattle.watermark.proofs.Inbox.{when_err}
+use Rattle.expressway.proofs.RunSteps.{on_refusal}
 use Rattle.expressway.specs.Results.{AreFirst}
 use Rattle.day_rounds.specs.Runs.{Stopped}
 use Rattle.day_rounds.specs.Turns.{IsMoved}
@@ -81,7 +81,7 @@ pub returns-in_err-finish_one-clause-stopped : goal.returns-in_err-finish_one-cl
 returns-in_err-finish_one-clause-stopped g c =
     let k = g.C.Crew in
     let inv = c.loop-rng.invariant in
-    when_err c.from_residual.result
+    on_refusal c.from_residual.result
     (λ e told answered s h day first.
     let (mid, n, moved, count, runs) = inv.came e told answered s h in
     subst (λ n. Stopped k.out k.number k.holds k.gave k.jobs told n c.args.run.now.floor.limits day c.finish_one.new.run

@@ -1,5 +1,5 @@
 use Rattle.std.proofs.Common.{◌≡◌, ◌+◌, ◌<◌, ◌∙◌, refl, sym, arith, subst}
-use Rattle.watermark.proofs.Inbox.{when_err}
+use Rattle.expressway.proofs.RunSteps.{on_refusal}
 use Rattle.day_rounds.specs.Turns.{IsGiven}
 use Rattle.day_rounds.proofs.TurnLaws.{given_same, given_then}
 use Rattle.day_rounds.proofs.turning.give_least.Goals as goal
@@ -23,7 +23,7 @@ give_if_none-requires-clause-runs g c =
 
 pub returns-in_err-give_if_none-clause-refused : goal.returns-in_err-give_if_none-clause-refused
 returns-in_err-give_if_none-clause-refused g c =
-    when_err c.from_residual.result
+    on_refusal c.from_residual.result
     (λ e told answered s h.
     let (now, n, given, runs, waits) = c.loop-worker.invariant.given e told answered s h in
     (now, n, given, c.in_err-give_if_none.ensures.refused e told answered now runs))

@@ -1,5 +1,5 @@
 use Rattle.std.proofs.Common.{ℕ, zero, suc, ◌≡◌, ◌+◌, ◌≤◌, ◌<◌, ◌∙◌, length, refl, sym, arith, subst}
-use Rattle.watermark.proofs.Inbox.{when_err}
+use Rattle.expressway.proofs.RunSteps.{on_refusal}
 use Rattle.expressway.specs.Results.{AreFirst}
 use Rattle.day_rounds.specs.Runs.{Stopped}
 use Rattle.day_rounds.specs.Turns.{IsGiven, IsMoved}
@@ -30,7 +30,7 @@ finish_drawn-requires g c =
 pub returns-in_err-give_drawn-clause-stopped : goal.returns-in_err-give_drawn-clause-stopped
 returns-in_err-give_drawn-clause-stopped g c =
     let k = g.C.Crew in
-    when_err c.from_residual.result
+    on_refusal c.from_residual.result
     (λ e told answered s h day first.
     let (now, n, given, runs) = c.give_drawn.ensures.given e told answered s h in
     subst (λ m. Stopped k.out k.number k.holds k.gave k.jobs told m c.args.run.now.floor.limits day c.give_drawn.new.run
@@ -44,7 +44,7 @@ returns-in_err-give_drawn-clause-stopped g c =
 pub returns-in_err-give_least-clause-stopped : goal.returns-in_err-give_least-clause-stopped
 returns-in_err-give_least-clause-stopped g c =
     let k = g.C.Crew in
-    when_err c.from_residual-in_err-give_least.result
+    on_refusal c.from_residual-in_err-give_least.result
     (λ e told answered s h day first.
     let (mid, n, given, runs) = c.give_drawn.ensures.given e told answered s h in
     let (now, m, more, all) = c.in_err-give_least.ensures.refused e told answered mid runs in

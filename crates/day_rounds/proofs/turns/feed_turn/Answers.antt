@@ -1,19 +1,18 @@
 use Rattle.std.proofs.Common.{◌≡◌, length, sym, subst}
-use Rattle.watermark.proofs.Inbox.{when_err}
+use Rattle.expressway.proofs.RunSteps.{on_refusal}
 use Rattle.watermark.specs.Shares.{mark}
 use Rattle.expressway.specs.Results.{AreFirst}
-use Rattle.day_rounds.specs.Runs.{Stopped, fed_all}
+use Rattle.day_rounds.specs.Runs.{Stopped, after_feeds}
 use Rattle.day_rounds.specs.Turns.{IsMoved}
 use Rattle.day_rounds.proofs.FeedLaws.{fed_runs, fed_are, first_left}
-use Rattle.expressway.proofs.ShapeLaws.{err_map}
+use Rattle.expressway.proofs.ShapeLaws.{err_map, ok_map}
 use Rattle.day_rounds.proofs.RoundLaws.{stopped_by}
-use Rattle.expressway.proofs.ShapeLaws.{ok_map}
 use Rattle.day_rounds.proofs.turns.feed_turn.Goals as goal
 
 pub returns-in_err-feed_these-clause-stopped : goal.returns-in_err-feed_these-clause-stopped
 returns-in_err-feed_these-clause-stopped g c =
     let k = g.C.Crew in
-    when_err c.from_residual.result
+    on_refusal c.from_residual.result
     (λ e told answered s h can day first.
     stopped_by k.out k.number k.holds k.gave k.exact k.jobs k.answers e told answered c.args.run.now c.args.crew.now s h
     c.feed_these.new.run c.in_err-feed_these.ensures.tickets day (first_left s.fed c.args.these.now day first))
@@ -28,7 +27,7 @@ work_turn-requires-clause-runs g c =
       e,
       told,
       answered,
-      fed_all w s these,
+      after_feeds w s these,
       fed_runs k.out k.number k.holds k.gave k.exact k.jobs k.answers e told
           answered c.args.run.now c.args.crew.now s h c.feed_these.new.run these v.tickets v.width v.limits
           (v.fed e s h.stands can),
@@ -42,7 +41,7 @@ returns-clause-worked g c =
     let these = c.args.these.now in
     ok_map c.work_turn.result
     (λ worked e told answered s h can.
-    let fed = fed_all w s these in
+    let fed = after_feeds w s these in
     let (mid, j, moved, runs, idle) =
     worked e told answered fed
     (fed_runs k.out k.number k.holds k.gave k.exact k.jobs k.answers e told answered c.args.run.now c.args.crew.now
@@ -71,6 +70,6 @@ returns-clause-stopped g c =
     c.work_turn.new.crew) v.width
     (subst (λ l. Stopped k.out k.number k.holds k.gave k.jobs told c.feed_these.new.run.floor.inboxes.width l day
     c.work_turn.new.run c.work_turn.new.crew) v.limits
-    (stopped e told answered (fed_all w s these) mid day
+    (stopped e told answered (after_feeds w s these) mid day
     (subst (λ ts. AreFirst ts day) (sym (fed_are w s these)) first))))
     c.work_turn.ensures.stopped

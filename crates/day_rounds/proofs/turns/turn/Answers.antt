@@ -6,7 +6,7 @@ use Rattle.settling.specs.Boards.{IsAbreast}
 use Rattle.expressway.specs.Results.{AreFirst}
 use Rattle.watermark.specs.Shares.{mark}
 use Rattle.watermark.specs.Steps.{after_settle}
-use Rattle.watermark.proofs.Inbox.{when_err}
+use Rattle.expressway.proofs.RunSteps.{on_refusal}
 use Rattle.day_rounds.specs.Runs.{Stopped}
 use Rattle.day_rounds.proofs.FeedLaws.{fed_are}
 use Rattle.day_rounds.proofs.FrontLaws.{front_before}
@@ -70,7 +70,7 @@ returns-clause-stopped g c =
     let w = c.args.run.now.floor.inboxes.width in
     let run = c.feed_turn.new.run in
     let crew = c.feed_turn.new.crew in
-    when_err c.settle_done.result
+    on_refusal c.settle_done.result
     (λ e told answered s h can whole first.
     let (mid, j, moved, runs, idle) = v.worked e told answered s h can in
     subst (λ m. Stopped k.out k.number k.holds k.gave k.jobs told m c.args.run.now.floor.limits whole

@@ -4,7 +4,7 @@ use Rattle.road_io.specs.Rooms.{Bound}
 use Rattle.road_io.specs.Fakes.{bytes_of, room_of}
 use Rattle.road_time.specs.Day.{notices}
 use Rattle.road_time.specs.Text.{out}
-use Rattle.keeper.specs.History.{paid}
+use Rattle.road_time.specs.History.{paid}
 use Rattle.keeper.specs.Memory.{kept_by, plan_of}
 use Rattle.settling.specs.Answers.{history_of}
 use Rattle.settling.specs.Asking.{requests_of}

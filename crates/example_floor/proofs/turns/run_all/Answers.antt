@@ -1,5 +1,5 @@
 use Rattle.std.proofs.Common.{◌≡◌, suc, ◌+◌, ◌≤◌, sym, ◌∙◌, arith, subst}
-use Rattle.watermark.specs.Sound.{IsSound, IsTrue}
+use Rattle.watermark.specs.Sound.{SoundState, IsTrue}
 use Rattle.watermark.specs.Written.{settled_charges}
 use Rattle.watermark.specs.Floors.{StandsFor}
 use Rattle.example_floor.specs.Turns.{after_runs}
@@ -49,7 +49,7 @@ returns-clause-answered c = λ g s st home are.
     let now = subst (λ n. StandsFor g c.loop-worker.floor (after_runs g.tariffs s n)) all (inv.ran g s st) in
     let right = inv.right g s st (subst (λ k. IsTrue g.tariffs k s) width are) in
     answered g.tariffs c.args.width c.loop-worker.floor.limits s (subst (λ k. 1 ≤ k) (sym width) st.terms.some) home
-    (subst (λ k. IsSound k c.loop-worker.floor.limits (after_runs g.tariffs s c.args.width))
+    (subst (λ k. SoundState k c.loop-worker.floor.limits (after_runs g.tariffs s c.args.width))
     (inv.width ∙ sym width) now.sound)
     (subst (λ k. IsTrue g.tariffs k (after_runs g.tariffs s c.args.width)) (sym width)
     (subst (λ n. IsTrue g.tariffs c.args.floor.now.inboxes.width (after_runs g.tariffs s n)) all right))

@@ -1,7 +1,7 @@
 use Rattle.std.proofs.Common.{◌≡◌}
 use Rattle.watermark.specs.Shares.{State}
 use Rattle.watermark.specs.Written.{settled_charges}
-use Rattle.watermark.specs.Floors.{Setting, StandsFor, Serves}
+use Rattle.watermark.specs.Floors.{Setting, StandsFor, StandsForSome}
 use Rattle.watermark.specs.Sound.{IsTrue}
 use Rattle.example_floor.specs.Turns.{after_runs}
 use Rattle.example_floor.proofs.turns.run_all.Given as goal
@@ -10,7 +10,7 @@ abbrev pub invariant-loop-worker : goal.invariant-loop-worker
 invariant-loop-worker l = record {
   width : l.floor.inboxes.width ≡ l.fn.floor.inboxes.width;
   limits : l.floor.limits ≡ l.fn.floor.limits;
-  some : Serves l.floor;
+  some : StandsForSome l.floor;
   charged : (g : Setting) (s : State) → StandsFor g l.fn.floor s →
       settled_charges (after_runs g.tariffs s l.worker) ≡ settled_charges s;
   right : (g : Setting) (s : State) → StandsFor g l.fn.floor s → IsTrue g.tariffs l.fn.floor.inboxes.width s →

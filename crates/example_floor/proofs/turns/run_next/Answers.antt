@@ -1,7 +1,7 @@
 use Rattle.watermark.specs.Written.{settled_charges}
 use Rattle.std.proofs.Common.{◌∙◌, ap, rules, sym, subst}
 use Rattle.watermark.specs.Steps.{after_give}
-use Rattle.watermark.specs.Sound.{IsSound, IsTrue}
+use Rattle.watermark.specs.Sound.{SoundState, IsTrue}
 use Rattle.watermark.specs.Floors.{StandsFor}
 use Rattle.example_floor.proofs.RunLaws.{well, ready, may_come, run_is, none_run, run_true, charged_is}
 use Rattle.expressway.proofs.ShapeLaws.{ok_map}
@@ -72,7 +72,7 @@ returns-clause-right c =
     (λ back g s st are.
     let next = c.in-Some.ensures.some g s st in
     let sound =
-    subst (λ n. IsSound n c.give.new.self.limits (after_give s c.args.worker)) c.in-Some.ensures.width
+    subst (λ n. SoundState n c.give.new.self.limits (after_give s c.args.worker)) c.in-Some.ensures.width
     next.1.sound in
     run_true g.tariffs c.args.floor.now.inboxes.width c.give.new.self.limits s c.args.worker c.requires.within
     next.0.may sound are)

@@ -4,7 +4,7 @@ use Rattle.road_time.specs.Reads.{reads}
 use Rattle.road_time.specs.Rates.{Tariffs}
 use Rattle.road_time.specs.Day.{given, notices}
 use Rattle.road_time.specs.Text.{out}
-use Rattle.keeper.specs.History.{paid}
+use Rattle.road_time.specs.History.{paid}
 use Rattle.settling.specs.Answers.{PaidHistory, history_of}
 use Rattle.settling.specs.Closes.{IsClosed}
 use Rattle.day_rounds.specs.Imports.{AreRightFor}
@@ -14,7 +14,7 @@ use Rattle.day_rounds.specs.Faults.{WritesUpTo}
 use Rattle.import_once.proofs.WorkLaws.{right_work}
 use Rattle.import_once.proofs.FinishLaws.{tells_does, does_merges, stops_does, text_answered, where_worked}
 use Rattle.import_once.proofs.FinishLaws.{tells_leaves, stops_leaves}
-use Rattle.import_once.specs.Runs.{HasStarted}
+use Rattle.import_once.specs.Runs.{HasStartedJobs}
 use Rattle.import_once.proofs.JobLaws.{started_all, started_first}
 use Rattle.import_once.proofs.answering.answer_under.Goals as goal
 
@@ -99,7 +99,7 @@ returns-in-Ok-clause-jobs g c = λ bytes left.
     let now = g.C.Crew.jobs c.run_day.new.crew in
     let all =
     started_all width backlog ran.day told now c.finish_answers.result ran.started.0 ran.started.1 ran.started.2 in
-    subst (λ (day : List Tuple). HasStarted width backlog day told now c.finish_answers.result)
+    subst (λ (day : List Tuple). HasStartedJobs width backlog day told now c.finish_answers.result)
     (ran.read bytes left).0 all
 
 pub returns-in-Err-clause-jobs : goal.returns-in-Err-clause-jobs
@@ -110,7 +110,7 @@ returns-in-Err-clause-jobs g c = λ bytes left.
     let width = c.args.plan.now.width in
     let backlog = c.args.limits.now.backlog in
     let day = (reads bytes c.args.limits.now c.args.late).tuples in
-    subst (HasStarted width backlog day told now) (sym c.stopped.ensures.is)
+    subst (HasStartedJobs width backlog day told now) (sym c.stopped.ensures.is)
     (started_first width backlog day told now c.in-Err.fault some.0 some.1 some.2)
 
 pub returns-in-Ok-clause-leaves : goal.returns-in-Ok-clause-leaves

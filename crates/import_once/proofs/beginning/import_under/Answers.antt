@@ -4,7 +4,7 @@ use Rattle.road_time.specs.Reads.{reads}
 use Rattle.road_time.specs.Rates.{Tariffs}
 use Rattle.road_time.specs.Day.{given, notices}
 use Rattle.road_time.specs.Text.{out}
-use Rattle.keeper.specs.History.{paid}
+use Rattle.road_time.specs.History.{paid}
 use Rattle.settling.specs.Answers.{PaidHistory, history_of}
 use Rattle.settling.specs.Closes.{IsClosed}
 use Rattle.day_rounds.specs.Imports.{AreRightFor}
@@ -14,7 +14,7 @@ use Rattle.day_rounds.specs.Faults.{WritesUpTo}
 use Rattle.import_once.proofs.WorkLaws.{run_fits, right_work}
 use Rattle.import_once.proofs.FinishLaws.{finishes_does, does_merges, stops_does, text_worked, where_worked}
 use Rattle.import_once.proofs.FinishLaws.{stops_keeps, whole_unrefused, ends_leaves, stops_leaves}
-use Rattle.import_once.specs.Runs.{HasStarted, HasStepped}
+use Rattle.import_once.specs.Runs.{HasStartedJobs, HasDaySteps}
 use Rattle.import_once.proofs.JobLaws.{started_all, started_first, stepped_all, stepped_some}
 use Rattle.import_once.proofs.beginning.import_under.Goals as goal
 
@@ -110,7 +110,7 @@ returns-in-Ok-clause-jobs g c = λ bytes left.
     let now = g.C.Crew.jobs c.run_day.new.crew in
     let all =
     started_all width backlog ran.day told now c.finish_import.result ran.started.0 ran.started.1 ran.started.2 in
-    subst (λ (day : List Tuple). HasStarted width backlog day told now c.finish_import.result)
+    subst (λ (day : List Tuple). HasStartedJobs width backlog day told now c.finish_import.result)
     (ran.read bytes left).0 all
 
 pub returns-in-Err-clause-jobs : goal.returns-in-Err-clause-jobs
@@ -121,7 +121,7 @@ returns-in-Err-clause-jobs g c = λ bytes left.
     let width = c.args.plan.now.width in
     let backlog = c.args.limits.now.backlog in
     let day = (reads bytes c.args.limits.now c.args.late).tuples in
-    subst (HasStarted width backlog day told now) (sym c.stopped.ensures.is)
+    subst (HasStartedJobs width backlog day told now) (sym c.stopped.ensures.is)
     (started_first width backlog day told now c.in-Err.fault some.0 some.1 some.2)
 
 pub returns-in-Ok-clause-stepped : goal.returns-in-Ok-clause-stepped
@@ -131,7 +131,7 @@ returns-in-Ok-clause-stepped g c = λ exact bytes left.
     let old = g.P.Publisher.posted c.args.publisher.now in
     let now = g.P.Publisher.posted c.run_day.new.publisher in
     let all = stepped_all _ ran.day old now c.finish_import.result (ran.stepped_right exact) in
-    subst (λ (day : List Tuple). HasStepped tariffs day c.args.limits.now.backlog old now c.finish_import.result)
+    subst (λ (day : List Tuple). HasDaySteps tariffs day c.args.limits.now.backlog old now c.finish_import.result)
     (ran.read bytes left).0 all
 
 pub returns-in-Err-clause-stepped : goal.returns-in-Err-clause-stepped
@@ -140,7 +140,7 @@ returns-in-Err-clause-stepped g c = λ exact bytes left.
     let day = (reads bytes c.args.limits.now c.args.late).tuples in
     let old = g.P.Publisher.posted c.args.publisher.now in
     let now = g.P.Publisher.posted c.run_day.new.publisher in
-    subst (HasStepped tariffs day c.args.limits.now.backlog old now) (sym c.stopped.ensures.is)
+    subst (HasDaySteps tariffs day c.args.limits.now.backlog old now) (sym c.stopped.ensures.is)
     (stepped_some tariffs day c.args.limits.now.backlog old now c.in-Err.fault
     (c.in-Err.ensures.stopped.steps exact bytes left))
 

@@ -2,7 +2,7 @@ use Rattle.std.proofs.Common.{Err, ap, sym, subst, arith, ℕ}
 use Rattle.sqlite.specs.Effect.{Database}
 use Rattle.sqlite.specs.Held.{state}
 use Rattle.sqlite.specs.State.{HasCleanDisk}
-use Rattle.keeper.specs.History.{paid}
+use Rattle.road_time.specs.History.{paid}
 use Rattle.kept_tables.specs.Stands.{HasOffice}
 use Rattle.kept_tables.proofs.PutLaws.{survives_both}
 use Rattle.kept_tables.proofs.StepLaws.{kept_then}

@@ -1,6 +1,6 @@
 use Rattle.std.proofs.Common.{Err, ap, sym, subst, ℕ, List}
 use Rattle.sqlite_value.specs.Order.{Row}
-use Rattle.keeper.specs.History.{paid}
+use Rattle.road_time.specs.History.{paid}
 use Rattle.kept_tables.specs.Amounts.{HasAmount}
 use Rattle.kept_tables.proofs.AskLaws.{find_spent_asks}
 use Rattle.keeper_writes.specs.Causes.{WasRefused}

@@ -6,7 +6,7 @@ use Rattle.kept_tables.specs.Stands.{FitsSpent}
 use Rattle.sqlite.specs.Held.{state}
 use Rattle.sqlite.specs.State.{HasCleanDisk}
 use Rattle.sqlite.proofs.StateLemmas.{survives_then}
-use Rattle.kept_tables.specs.Steps.{Adds}
+use Rattle.kept_tables.specs.Steps.{AddsAmounts}
 use Rattle.kept_tables.proofs.SpentWriteLaws.{adds_then}
 use Rattle.kept_tables.proofs.PutLaws.{shows_then}
 use Rattle.keeper_writes.proofs.spent_writes.put_amounts.Goals as goal
@@ -34,7 +34,7 @@ rows-preserved g c =
           (c.in_ok-put_amount.ensures.inside clean (kept.2 (before clean) inside)),
       λ clean inside schema.
           let so_far = kept.4 (before clean) inside schema in
-          subst (Adds old.now new.now) (sym more)
+          subst (AddsAmounts old.now new.now) (sym more)
           (adds_then old.now mid.now new.now _ _ so_far
           (c.in_ok-put_amount.ensures.adds clean (kept.2 (before clean) inside) so_far.schema)),
       subst (AllByRecursion FitsSpent) (sym more)

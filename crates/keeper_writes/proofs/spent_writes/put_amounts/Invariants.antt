@@ -4,7 +4,7 @@ use Rattle.sqlite.specs.Held.{state}
 use Rattle.std.specs.List.{AllByRecursion}
 use Rattle.kept_tables.specs.Stands.{FitsSpent}
 use Rattle.kept_tables.specs.Layout.{all_tables}
-use Rattle.kept_tables.specs.Steps.{Adds}
+use Rattle.kept_tables.specs.Steps.{AddsAmounts}
 use Rattle.keeper_writes.proofs.spent_writes.put_amounts.Given as goal
 
 abbrev pub invariant-rows : goal.invariant-rows
@@ -16,5 +16,5 @@ invariant-rows g l =
     × (HasCleanDisk now → IsTrue old.is_open → IsTrue old.in_transaction →
     Shows old now now.now old.committed old.in_transaction)
     × (HasCleanDisk now → IsTrue old.in_transaction → old.now.schema ≡ all_tables →
-    Adds old.now now.now (take l.row-index l.rows))
+    AddsAmounts old.now now.now (take l.row-index l.rows))
     × AllByRecursion FitsSpent (take l.row-index l.rows)

@@ -1,9 +1,8 @@
 use Rattle.std.proofs.Common.{◌≡◌}
 use Rattle.import_once.specs.declared.outcomes.Outcome.TheVariants.{WriteFault}
 use Rattle.import_once.specs.Imports.{answers_answer}
-use Rattle.office_commands.proofs.OutcomeLaws.{wrote, keeps, by_sink}
+use Rattle.office_commands.proofs.OutcomeLaws.{wrote, keeps, by_sink, did}
 use Rattle.road_time.specs.Reads.{reads}
-use Rattle.office_commands.proofs.OutcomeLaws.{did}
 use Rattle.office_commands.proofs.RestLaws.{answered_to}
 use Rattle.office_commands.proofs.answers.answers.Goals as goal
 

@@ -3,9 +3,8 @@ use Rattle.std.specs.Io.KnownBytes.{prepend_known}
 use Rattle.std.proofs.lemmas.List.{drop_all}
 use Rattle.std.proofs.lemmas.Result.{IfOk-weaker}
 use Rattle.office_commands.specs.Asides.{compared_from}
-use Rattle.office_commands.specs.Entries.{entered}
+use Rattle.office_commands.specs.Entries.{entered, most_compared}
 use Rattle.office_commands.proofs.AsideLaws.{goes_on, parts_at}
-use Rattle.office_commands.specs.Entries.{most_compared}
 use Rattle.office_commands.proofs.BoundLaws.{lines_within}
 use Rattle.office_commands.proofs.aside.compare.Goals as goal
 

@@ -1,6 +1,6 @@
 use Rattle.std.proofs.Common.{◌≡◌, Ok, true, Err, subst}
 use Rattle.road_time.specs.Lines.{lines_of}
-use Rattle.road_io.specs.Cutter.{ahead, line_of, rest_of, number_of, Cuts, StandsCut}
+use Rattle.road_io.specs.Cutter.{ahead, line_of, rest_of, line_number, Cuts, StandsCut}
 use Rattle.road_io.specs.declared.cutter.LineFault.TheVariants.{LongLine}
 use Rattle.office_commands.proofs.BoundLaws.{line_read}
 use Rattle.office_commands.proofs.AsideLaws.{long_entry, first_long}
@@ -23,7 +23,7 @@ returns-then-is_marked-clause-read g c = λ lines bytes s.
     let after = ahead new (g.A.Source.left c.advance.new.source) in
     let res : c.advance.result ≡ Ok true = cc in
     let cuts = subst (λ r. Cuts r before after (line_of new)) res (c.advance.ensures.cuts c.requires.whole) in
-    let stands = subst (λ r. StandsCut r (number_of old) new) res (c.advance.ensures.stands c.requires.whole) in
+    let stands = subst (λ r. StandsCut r (line_number old) new) res (c.advance.ensures.stands c.requires.whole) in
     line_read before after (line_of new) (rest_of new) bytes lines s cuts (c.advance.ensures.taken c.requires.whole res)
     stands.3
 
@@ -35,6 +35,6 @@ returns-else-is_marked-clause-read g c = λ lines bytes s.
     let after = ahead new (g.A.Source.left c.advance.new.source) in
     let res : c.advance.result ≡ Ok true = cc in
     let cuts = subst (λ r. Cuts r before after (line_of new)) res (c.advance.ensures.cuts c.requires.whole) in
-    let stands = subst (λ r. StandsCut r (number_of old) new) res (c.advance.ensures.stands c.requires.whole) in
+    let stands = subst (λ r. StandsCut r (line_number old) new) res (c.advance.ensures.stands c.requires.whole) in
     line_read before after (line_of new) (rest_of new) bytes lines s cuts (c.advance.ensures.taken c.requires.whole res)
     stands.3

@@ -1,11 +1,10 @@
-use Rattle.std.proofs.Common.{[], Some, ap, sym, subst, refl}
+use Rattle.std.proofs.Common.{[], Some, ap, sym, subst, refl, ◌∙◌}
 use Rattle.road_time.specs.Lines.{lines_of}
 use Rattle.office_commands.specs.declared.closing.Closing.{Closing}
 use Rattle.office_commands.specs.Asides.{compared}
 use Rattle.office_commands.specs.Commands.{closed}
 use Rattle.office_commands.specs.Endings.{StandsBefore}
 use Rattle.office_commands.proofs.ClosingLaws.{stands_alone, stops_empty}
-use Rattle.std.proofs.Common.{◌∙◌}
 use Rattle.office_commands.specs.Closings.{status_of}
 use Rattle.office_commands.proofs.RestLaws.{compared_says, stopped_says}
 use Rattle.office_commands.proofs.comparing.compare_notices.Goals as goal

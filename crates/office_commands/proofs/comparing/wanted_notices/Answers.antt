@@ -1,8 +1,7 @@
 use Rattle.std.proofs.Common.{◌∙◌, ap}
 use Rattle.road_time.specs.Day.{notices}
 use Rattle.road_time.specs.Rates.{Tariffs}
-use Rattle.validator.specs.History.{paid}
-use Rattle.keeper.specs.History.{paid as paid_of}
+use Rattle.road_time.specs.History.{paid}
 use Rattle.office_commands.proofs.comparing.wanted_notices.Goals as goal
 
 pub returns-in-Ok-clause-exact : goal.returns-in-Ok-clause-exact
@@ -12,4 +11,4 @@ returns-in-Ok-clause-exact g c = λ right o kept rates.
     c.in-Ok.ensures.exact right
     ∙ ap (λ rows. notices tuples c.args.tariffs.now number (paid rows)) c.as_slice.ensures.value
     ∙ c.in_ok-history.ensures.told o kept c.args.tariffs.now
-    ∙ ap (λ (tariffs : Tariffs). notices tuples tariffs number (paid_of o.rows)) rates
+    ∙ ap (λ (tariffs : Tariffs). notices tuples tariffs number (paid o.rows)) rates

@@ -6,9 +6,8 @@ use Rattle.office_commands.specs.Commands.{office_answer}
 use Rattle.office_commands.specs.Uses.{asked, changes_kept}
 use Rattle.office_commands.specs.Endings.{Wrote, Keeps, Did, HoldsSame, code_of}
 use Rattle.office_commands.specs.Rests.{ReadsAsked, LeavesAsKept}
-use Rattle.office_commands.proofs.EndingLaws.{exact, all_written, read_fault, keeper_fault}
+use Rattle.office_commands.proofs.EndingLaws.{exact, all_written, read_fault, keeper_fault, no_memory, write_fault}
 use Rattle.office_commands.proofs.ClosingLaws.{is_unread, is_unkept}
-use Rattle.office_commands.proofs.EndingLaws.{no_memory, write_fault}
 use Rattle.office_commands.proofs.KeepingLaws.{kept_whole, kept_exact, kept_refused}
 use Rattle.office_commands.proofs.ConcludeLaws.{concluded, concluded_alone, concluded_less}
 use Rattle.office_commands.proofs.StatusLaws.{read_status, rest_status, holds_status, unread_same}

@@ -1,13 +1,11 @@
 use Rattle.std.proofs.Common.{◌≡◌}
 use Rattle.import_once.specs.declared.outcomes.Outcome.TheVariants.{WriteFault}
-use Rattle.import_once.specs.Imports.{import_answer}
-use Rattle.office_commands.proofs.OutcomeLaws.{wrote, keeps, by_sink}
+use Rattle.import_once.specs.Imports.{import_answer, work_by}
+use Rattle.office_commands.proofs.OutcomeLaws.{wrote, keeps, by_sink, did, held}
 use Rattle.road_time.specs.Reads.{reads}
 use Rattle.day_reading.specs.Days.{most_of_day}
 use Rattle.road_io.specs.Within.{ReadsWithin}
 use Rattle.keeper.specs.Office.{record_of}
-use Rattle.import_once.specs.Imports.{work_by}
-use Rattle.office_commands.proofs.OutcomeLaws.{did, held}
 use Rattle.office_commands.proofs.RestLaws.{imported_to, imported_alone, rests}
 use Rattle.office_commands.proofs.imports.import.Goals as goal
 

@@ -6,9 +6,8 @@ use Rattle.office_commands.specs.declared.closing.Closing.{Closing}
 use Rattle.office_words.specs.declared.command.Recomputing.TheVariants.{Plainly}
 use Rattle.office_commands.specs.Days.{recomputed}
 use Rattle.office_commands.specs.Commands.{accidents_command, accidents_of, unless_refused}
-use Rattle.office_commands.specs.Endings.{Wrote}
+use Rattle.office_commands.specs.Endings.{Wrote, code_of}
 use Rattle.office_commands.proofs.ClosingLaws.{wrote_nothing}
-use Rattle.office_commands.specs.Endings.{code_of}
 use Rattle.office_commands.specs.Rests.{HasReadTo}
 use Rattle.office_commands.proofs.RestLaws.{to_by, to_stopped}
 use Rattle.office_commands.proofs.mishaps.accidents.Goals as goal

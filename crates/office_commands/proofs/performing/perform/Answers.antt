@@ -3,8 +3,7 @@ use Rattle.std.proofs.Common.{◌∙◌, Some, Ok, sym, ap, refl}
 use Rattle.road_io.proofs.SinkLaws.{appends_none}
 use Rattle.office_commands.specs.declared.closing.Closing.TheVariants.{ReadFault}
 use Rattle.office_commands.specs.Commands.{accidents_command, history_command, tariff_command, generate_command}
-use Rattle.office_commands.specs.Commands.{rehearse_command}
-use Rattle.office_commands.specs.Commands.{office_answer}
+use Rattle.office_commands.specs.Commands.{rehearse_command, office_answer}
 use Rattle.office_commands.proofs.ReportLaws.{report_office}
 use Rattle.office_commands.proofs.KeepingLaws.{kept_same, closing_same, kept_whole}
 use Rattle.office_commands.proofs.ComparingLaws.{same_log}

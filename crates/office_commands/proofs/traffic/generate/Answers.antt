@@ -3,7 +3,7 @@ use Rattle.std.proofs.lemmas.Option.{none-some}
 use Rattle.traffic_gen.specs.declared.plan.GenPlan.{GenPlan}
 use Rattle.traffic_gen.specs.declared.plan.GenFault.TheVariants.{WriteFault}
 use Rattle.traffic_gen.specs.Traffic.{file_of}
-use Rattle.office_commands.specs.Commands.{told}
+use Rattle.office_commands.specs.Commands.{text_alone}
 use Rattle.office_commands.specs.Endings.{Wrote}
 use Rattle.office_commands.proofs.OutcomeLaws.{by_sink}
 use Rattle.office_commands.proofs.TrafficLaws.{wrote_traffic}
@@ -17,7 +17,7 @@ pub returns-clause-wrote : goal.returns-clause-wrote
 returns-clause-wrote g c = λ o.
     let old = g.O.Sink.written c.args.sink.now in
     let new = g.O.Sink.written c.generate-done.new.sink in
-    subst (λ (p : GenPlan). Wrote (told (file_of p) o) c.generated.result old new) c.plan_for-plan.ensures.plan
+    subst (λ (p : GenPlan). Wrote (text_alone (file_of p) o) c.generated.result old new) c.plan_for-plan.ensures.plan
     (wrote_traffic c.plan_for-plan.result o old new c.generate-done.result c.generated.result c.generated.ensures.ends
     c.generate-done.ensures.wrote)
 

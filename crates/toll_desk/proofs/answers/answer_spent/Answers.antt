@@ -1,5 +1,5 @@
 use Rattle.std.proofs.Common.{◌≡◌, inl, subst, arith}
-use Rattle.keeper.specs.History.{paid}
+use Rattle.road_time.specs.History.{paid}
 use Rattle.toll_texts.specs.Bodies.{spent_body}
 use Rattle.toll_desk.specs.Answers.{AnswersReply, good, spent_reply}
 use Rattle.toll_desk.proofs.SendLaws.{kept_is, failed_rose}

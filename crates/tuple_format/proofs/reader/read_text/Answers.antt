@@ -2,7 +2,7 @@ use Rattle.std.proofs.Common.{◌≡◌, ◌<◌, length, arith, sym, ap, ◌∙
 use Rattle.std.proofs.lemmas.Bool.{eqb-false}
 use Rattle.road_time.specs.Numbers.{fields_of_text}
 use Rattle.road_time.specs.Form.{first_odd}
-use Rattle.tuple_format.specs.Causes.{answered}
+use Rattle.tuple_format.specs.Causes.{reader_answer}
 use Rattle.tuple_format.proofs.TextLaws.{form_of_fields, form_of_count, numbered_ok, numbered_err}
 use Rattle.tuple_format.proofs.reader.read_text.Goals as goal
 
@@ -10,7 +10,7 @@ pub returns-then-count-ne15 : goal.returns-then-count-ne15
 returns-then-count-ne15 c =
     let bs = c.args.text.now in
     let some : 0 < length bs = omega (arith, eqb-false (length bs) 0 (sym c.is_empty.ensures ∙ c.if-is_empty.false)) in
-    sym (ap answered
+    sym (ap reader_answer
     (form_of_count bs c.count_fields-count.result some (sym c.count_fields-count.ensures.count)
     c.if-count-ne15.true))
 
@@ -19,7 +19,7 @@ returns-in-Err c =
     let bs = c.args.text.now in
     let fields = fields_of_text bs in
     let count : length fields ≡ 15 = omega (arith, c.count_fields-count.ensures.count) in
-    sym (ap answered (form_of_fields bs count)
+    sym (ap reader_answer (form_of_fields bs count)
     ∙ numbered_err fields (first_odd fields) c.in-Err.cause (sym c.numbers.ensures ∙ c.in-Err.is))
 
 pub returns-in-Ok : goal.returns-in-Ok
@@ -28,6 +28,6 @@ returns-in-Ok c =
     let fields = fields_of_text bs in
     let count : length fields ≡ 15 = omega (arith, c.count_fields-count.ensures.count) in
     c.tuple.ensures
-    ∙ ap answered
+    ∙ ap reader_answer
     (sym (form_of_fields bs count
     ∙ numbered_ok fields (first_odd fields) c.in-Ok.numbers (sym c.numbers.ensures ∙ c.in-Ok.is)))

@@ -1,5 +1,5 @@
 use Rattle.std.proofs.Common.{◌≡◌, ◌≤◌, ◌+◌, ◌*◌, length, drop, map}
-use Rattle.tuple_format.specs.Ends.{line_end, number_at}
+use Rattle.tuple_format.specs.Ends.{line_end, field_number}
 use Rattle.tuple_format.proofs.tuple_lines.put_fields.Given as goal
 
 abbrev pub invariant-loop-left : goal.invariant-loop-left
@@ -7,7 +7,7 @@ invariant-loop-left l = record {
   few : l.left ≤ 14;
   room : 21 * l.left + 1 ≤ l.at;
   inside : l.at ≤ length l.line;
-  written : drop l.at l.line ≡ line_end (drop l.left (map number_at l.fields));
+  written : drop l.at l.line ≡ line_end (drop l.left (map field_number l.fields));
 }
 
 abbrev pub decreases-loop-left : goal.decreases-loop-left

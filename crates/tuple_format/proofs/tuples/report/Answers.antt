@@ -1,6 +1,6 @@
 use Rattle.std.proofs.Common.{◌≡◌, ◌<◌, ℕ, get_or, drop, Ok, None, arith, refl, sym, ap, ◌∙◌, lit<}
 use Rattle.road_time.specs.Form.{ReportLine, From, Unused, uses_of, first_out, in_ranges, tuple_of}
-use Rattle.tuple_format.specs.Causes.{answered}
+use Rattle.tuple_format.specs.Causes.{reader_answer}
 use Rattle.tuple_format.proofs.UseLaws.{field_below, all_fifteen}
 use Rattle.tuple_format.proofs.tuples.report.Goals as goal
 
@@ -19,6 +19,6 @@ returns-in-None c =
     let dir = c.small-in-None-3.ensures (omega (arith, below 5 0 1 (lit< tt) refl)) in
     let seg = c.small-in-None-4.ensures (omega (arith, below 6 0 99 (lit< tt) refl)) in
     let at = c.natural-in-None-2.ensures (omega (arith, below 7 0 527999 (lit< tt) refl)) in
-    let found = ap (λ o. answered (in_ranges ReportLine (drop 1 ns) o)) e
-    ∙ ap (λ xs. answered (Ok (tuple_of ReportLine (drop 1 xs)))) (all_fifteen ns c.told-n) in
+    let found = ap (λ o. reader_answer (in_ranges ReportLine (drop 1 ns) o)) e
+    ∙ ap (λ xs. reader_answer (Ok (tuple_of ReportLine (drop 1 xs)))) (all_fifteen ns c.told-n) in
     cc

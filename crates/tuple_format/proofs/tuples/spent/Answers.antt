@@ -1,6 +1,6 @@
 use Rattle.std.proofs.Common.{◌≡◌, ◌<◌, ℕ, get_or, drop, Ok, None, arith, refl, sym, ap, ◌∙◌, lit<}
 use Rattle.road_time.specs.Form.{SpentLine, From, Unused, uses_of, first_out, in_ranges, tuple_of}
-use Rattle.tuple_format.specs.Causes.{answered}
+use Rattle.tuple_format.specs.Causes.{reader_answer}
 use Rattle.tuple_format.proofs.UseLaws.{field_below, all_fifteen}
 use Rattle.tuple_format.proofs.tuples.spent.Goals as goal
 
@@ -16,6 +16,6 @@ returns-in-None c =
     let xway = c.small.ensures (omega (arith, below 3 0 255 (lit< tt) refl)) in
     let qid = c.natural-in-None-2.ensures (omega (arith, below 8 0 2147483647 (lit< tt) refl)) in
     let day = c.small-in-None.ensures (omega (arith, below 13 1 69 (lit< tt) refl)) in
-    let found = ap (λ o. answered (in_ranges SpentLine (drop 1 ns) o)) e
-    ∙ ap (λ xs. answered (Ok (tuple_of SpentLine (drop 1 xs)))) (all_fifteen ns c.told-n) in
+    let found = ap (λ o. reader_answer (in_ranges SpentLine (drop 1 ns) o)) e
+    ∙ ap (λ xs. reader_answer (Ok (tuple_of SpentLine (drop 1 xs)))) (all_fifteen ns c.told-n) in
     cc

@@ -1,6 +1,6 @@
 use Rattle.std.proofs.Common.{◌≡◌, ◌<◌, ℕ, get_or, drop, Ok, None, arith, refl, sym, ap, ◌∙◌, lit<}
 use Rattle.road_time.specs.Form.{TravelLine, From, Unused, uses_of, first_out, in_ranges, tuple_of}
-use Rattle.tuple_format.specs.Causes.{answered}
+use Rattle.tuple_format.specs.Causes.{reader_answer}
 use Rattle.tuple_format.proofs.UseLaws.{field_below, all_fifteen}
 use Rattle.tuple_format.proofs.tuples.travel.Goals as goal
 
@@ -12,6 +12,6 @@ returns-in-None c =
     let below = λ (k low high : ℕ) (h : k < 14) (is : get_or us k Unused ≡ From low high). field_below us ns k low high
     e refl c.told-n h is in
     let time = c.natural.ensures (omega (arith, below 0 0 86399 (lit< tt) refl)) in
-    let found = ap (λ o. answered (in_ranges TravelLine (drop 1 ns) o)) e
-    ∙ ap (λ xs. answered (Ok (tuple_of TravelLine (drop 1 xs)))) (all_fifteen ns c.told-n) in
+    let found = ap (λ o. reader_answer (in_ranges TravelLine (drop 1 ns) o)) e
+    ∙ ap (λ xs. reader_answer (Ok (tuple_of TravelLine (drop 1 xs)))) (all_fifteen ns c.told-n) in
     cc

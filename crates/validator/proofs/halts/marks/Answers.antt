@@ -3,7 +3,8 @@ use Rattle.std.specs.HashMap.{get}
 use Rattle.std.specs.List.{cons_option}
 use Rattle.std.proofs.lemmas.List.{append-nil}
 use Rattle.road_time.specs.Tuples.{reports, report_of}
-use Rattle.validator.specs.Halts.{kept, of_vehicle, marks_of}
+use Rattle.road_time.specs.Stops.{last_seen}
+use Rattle.validator.specs.Halts.{of_vehicle, marks_of}
 use Rattle.validator.proofs.SeenLaws.{filter_map_more}
 use Rattle.validator.proofs.MarkLaws.{marks_push, seen_push}
 use Rattle.validator.proofs.halts.marks.Goals as goal
@@ -33,7 +34,7 @@ loop-tuple-preserved c =
                 ∙ seen_push (get nat_eq c.loop-tuple.seen) (get nat_eq w.see.new.seen) rs r c.loop-tuple.invariant.seen
                 (w.in_ok-stands.ensures.run (of_vehicle r.vid (reverse rs)) (sym (c.loop-tuple.invariant.seen r.vid)))
                 w.in_ok-stands.ensures.others v
-                ∙ sym (ap (λ xs. kept (of_vehicle v (reverse xs))) grown);
+                ∙ sym (ap (λ xs. last_seen (of_vehicle v (reverse xs))) grown);
           }
       | in_default w ↦
           let same : reports (take (i + 1) day) ≡ rs = more ∙ ap (λ o. rs ++ cons_option o []) w.in_default.is
@@ -42,6 +43,6 @@ loop-tuple-preserved c =
             made = ap (λ m. reverse m.items) w.marks-is ∙ c.loop-tuple.invariant.made
                 ∙ sym (ap (λ xs. marks_of (reverse xs)) same);
             seen = λ v. ap (λ s. get nat_eq s v) w.seen-is ∙ c.loop-tuple.invariant.seen v
-                ∙ sym (ap (λ xs. kept (of_vehicle v (reverse xs))) same);
+                ∙ sym (ap (λ xs. last_seen (of_vehicle v (reverse xs))) same);
           }
     ]

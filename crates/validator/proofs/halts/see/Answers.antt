@@ -1,6 +1,6 @@
 use Rattle.std.proofs.Common.{◌≡◌, nat_eq, rules, sym, ◌∙◌}
 use Rattle.std.specs.HashMap.{get}
-use Rattle.validator.proofs.RunLaws.{run_stands}
+use Rattle.road_time.proofs.RunLaws.{run_stands}
 use Rattle.validator.proofs.halts.see.Goals as goal
 
 pub returns-clause-stands : goal.returns-clause-stands

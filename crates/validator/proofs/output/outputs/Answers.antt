@@ -1,6 +1,6 @@
 use Rattle.std.proofs.Common.{ℕ, ◌+◌, ◌<◌, List, length, take, get_or, ◌++◌, ◌∷◌, []}
 use Rattle.std.proofs.lemmas.List.{take_more}
-use Rattle.validator.specs.History.{paid}
+use Rattle.road_time.specs.History.{paid}
 use Rattle.validator.specs.Outputs.{IsOutput}
 use Rattle.validator.proofs.output.outputs.Goals as goal
 

@@ -1,5 +1,5 @@
 use Rattle.std.proofs.Common.{take}
-use Rattle.validator.specs.History.{paid}
+use Rattle.road_time.specs.History.{paid}
 use Rattle.validator.specs.Outputs.{IsOutput}
 use Rattle.validator.proofs.output.outputs.Given as goal
 

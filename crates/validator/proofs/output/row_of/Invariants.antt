@@ -1,6 +1,6 @@
 use Rattle.std.proofs.Common.{◌≡◌, length}
 use Rattle.std.specs.List.{find}
-use Rattle.validator.specs.History.{is_row}
+use Rattle.road_time.specs.History.{is_row}
 use Rattle.validator.proofs.output.row_of.Given as goal
 
 abbrev pub invariant-loop-row : goal.invariant-loop-row

@@ -7,7 +7,7 @@ use Rattle.road_time.proofs.AccountLaws.{charges_push}
 use Rattle.road_time.specs.declared.road.Notice.TheVariants.{Balance as BalanceNotice, Spent as SpentNotice}
 use Rattle.road_time.specs.declared.road.Tuple.TheVariants.{Balance, Spent, Travel}
 use Rattle.validator.specs.Accounts.{owed_kept}
-use Rattle.validator.specs.History.{paid}
+use Rattle.road_time.specs.History.{paid}
 use Rattle.validator.specs.Outputs.{IsOutput}
 use Rattle.validator.proofs.OutputLaws.{notices_push, accounts_other, accounts_small}
 use Rattle.validator.proofs.output.take_tuple.Goals as goal

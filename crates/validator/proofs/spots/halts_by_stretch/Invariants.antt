@@ -4,9 +4,9 @@ use Rattle.std.specs.List.{filter}
 use Rattle.road_time.specs.declared.road.Stretch.{Stretch}
 use Rattle.road_time.specs.Tuples.{same_stretch}
 use Rattle.validator.specs.Halts.{is_in}
-use Rattle.validator.specs.Gathered.{listed}
+use Rattle.validator.specs.Gathered.{kept_items}
 use Rattle.validator.proofs.spots.halts_by_stretch.Given as goal
 
 abbrev pub invariant-loop-halt : goal.invariant-loop-halt
 invariant-loop-halt l =
-    (k : Stretch) → listed (get same_stretch l.by_stretch k) ≡ filter (is_in k) (take l.halt-index l.halts)
+    (k : Stretch) → kept_items (get same_stretch l.by_stretch k) ≡ filter (is_in k) (take l.halt-index l.halts)

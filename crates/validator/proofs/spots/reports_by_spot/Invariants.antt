@@ -2,9 +2,9 @@ use Rattle.std.proofs.Common.{◌≡◌, take}
 use Rattle.std.specs.HashMap.{get}
 use Rattle.std.specs.List.{filter}
 use Rattle.validator.specs.declared.spots.Spot.{Spot}
-use Rattle.validator.specs.Gathered.{same_spot, is_of, listed}
+use Rattle.validator.specs.Gathered.{same_spot, is_of, kept_items}
 use Rattle.validator.proofs.spots.reports_by_spot.Given as goal
 
 abbrev pub invariant-loop-tuple : goal.invariant-loop-tuple
 invariant-loop-tuple l =
-    (s : Spot) → listed (get same_spot l.by_spot s) ≡ filter (is_of s) (take l.tuple-index l.tuples)
+    (s : Spot) → kept_items (get same_spot l.by_spot s) ≡ filter (is_of s) (take l.tuple-index l.tuples)

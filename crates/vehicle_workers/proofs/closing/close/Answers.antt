@@ -1,6 +1,6 @@
-use Rattle.std.proofs.Common.{◌≡◌, ℕ, ◌+◌, ◌<◌, ◌≤◌, List, [], Some, length, take, get_or, refl, sym, ap, subst, ◌∙◌}
-use Rattle.std.proofs.Common.{arith}
+use Rattle.std.proofs.Common.{◌≡◌, ℕ, ◌+◌, ◌<◌, ◌≤◌, [], take, get_or, sym, ap, subst, ◌∙◌, arith}
 use Rattle.std.proofs.lemmas.List.{take_all, take_more, length-take-le}
+use Rattle.road_time.specs.declared.tariff.TheConstants.{GREATEST_TOLL}
 use Rattle.road_time.specs.Day.{given, notices_by}
 use Rattle.road_time.specs.Sights.{moments}
 use Rattle.vehicle_workers.specs.Payments.{amounts_of}
@@ -50,7 +50,7 @@ close_slot-requires-clause-toll c =
     let here =
     slot_here found ts c.args.tracked.now c.args.places.now i c.slot_for-slot.result c.requires.tracked placed
     c.requires.places c.loop-at-test.true c.slot_for-slot.ensures in
-    subst (λ (s : Slot). s.found.toll ≤ 500000000000) (sym here)
+    subst (λ (s : Slot). s.found.toll ≤ GREATEST_TOLL) (sym here)
     (found_few (given found) few (take i ts, get_or ts i no_tuple))
 
 pub loop-at-preserved : goal.loop-at-preserved

@@ -1,7 +1,6 @@
 use Rattle.std.proofs.Common.{ℕ, List, take}
-use Rattle.road_time.specs.Day.{given}
+use Rattle.road_time.specs.Day.{given, HasFewTolls}
 use Rattle.road_time.specs.Tolls.{StretchTold}
-use Rattle.settling.specs.Books.{HasFewTolls}
 use Rattle.vehicle_workers.specs.Closing.{IsPlaced}
 use Rattle.vehicle_workers.specs.Payments.{amounts_of}
 use Rattle.vehicle_workers.proofs.ClosingLaws.{AreClosed}

@@ -1,7 +1,6 @@
-use Rattle.std.proofs.Common.{◌≡◌, length}
+use Rattle.std.proofs.Common.{◌≡◌, length, All}
 use Rattle.settling.specs.Slots.{found_of}
 use Rattle.road_time.specs.Day.{no_finding}
-use Rattle.std.proofs.Common.{All}
 use Rattle.vehicle_workers.proofs.placing.new_places.Given as goal
 
 abbrev pub invariant-loop : goal.invariant-loop

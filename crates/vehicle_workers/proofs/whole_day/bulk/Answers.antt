@@ -1,8 +1,7 @@
-use Rattle.std.proofs.Common.{map, ap, ◌∙◌}
+use Rattle.std.proofs.Common.{ap, ◌∙◌}
 use Rattle.road_time.specs.Day.{merged}
-use Rattle.expressway.specs.Findings.{shown}
 use Rattle.expressway.proofs.PartitionLaws.{merge_all as merge_laws}
-use Rattle.validator.specs.History.{paid}
+use Rattle.road_time.specs.History.{paid}
 use Rattle.vehicle_workers.proofs.whole_day.bulk.Goals as goal
 
 pub returns-clause-exact : goal.returns-clause-exact

@@ -1,5 +1,5 @@
 use Rattle.std.proofs.Common.{◌≤◌, subst}
-use Rattle.accidents.specs.Kept.{KeptStops, has_stopped, count_of, spell_of}
+use Rattle.accidents.specs.Kept.{KeptStops, has_stopped, how_many_at, spell_of}
 use Rattle.accidents.specs.Stands.{StandsFor, Stand}
 use Rattle.accidents.proofs.Changes.{stand_later}
 use Rattle.accidents.proofs.stops.Stops.advance.Goals as goal
@@ -15,6 +15,7 @@ returns-clause-kept c = λ es.
       spells = c.self.inside.spells.entries;
     } in
     subst (λ (x : KeptStops). x.second ≤ c.args.second → StandsFor x es →
-    Stand c.args.second (has_stopped f.standing) (count_of f.counts) (spell_of f.spells) es) c.self.view_is
-    (λ le st. stand_later f.second (has_stopped f.standing) (count_of f.counts) (spell_of f.spells) es st c.args.second
+    Stand c.args.second (has_stopped f.standing) (how_many_at f.counts) (spell_of f.spells) es) c.self.view_is
+    (λ le st. stand_later f.second (has_stopped f.standing) (how_many_at f.counts) (spell_of f.spells) es st
+    c.args.second
     le) c.requires

@@ -1,5 +1,5 @@
 use Rattle.std.proofs.Common.{◌∷◌, [], ◌++◌, false, refl, sym, ap, subst, ◌∙◌, ◌-◌, cond, nat_eq}
-use Rattle.accidents.specs.Kept.{KeptStops, has_stopped, count_of, spell_of}
+use Rattle.accidents.specs.Kept.{KeptStops, has_stopped, how_many_at, spell_of}
 use Rattle.accidents.specs.Stands.{StandsFor}
 use Rattle.accidents.proofs.EntryChanges.{stand_leaves}
 use Rattle.accidents.proofs.stops.Stops.leave.Goals as goal
@@ -14,8 +14,7 @@ returns-then-swap_remove-clause-left c = λ es.
           c.self.inside.counts.entries;
       spells = c.self.inside.spells.entries;
     } in
-    subst (λ (x : KeptStops). StandsFor x es →
-    StandsFor
+    subst (λ (x : KeptStops). StandsFor x es → StandsFor
     (record {
       second = f.second;
       standing = c.swap_remove.new.self.keys;
@@ -24,9 +23,9 @@ returns-then-swap_remove-clause-left c = λ es.
       spells = c.end_if.new.spells.entries;
     })
     (es ++ record { second = x.second; vid = c.args.vid; place = c.args.place; stops = false } ∷ [])) c.self.view_is
-    (λ st. stand_leaves f.second (has_stopped f.standing) (count_of f.counts) (spell_of f.spells) es st c.args.vid
+    (λ st. stand_leaves f.second (has_stopped f.standing) (how_many_at f.counts) (spell_of f.spells) es st c.args.vid
     c.args.place false
-    (has_stopped c.swap_remove.new.self.keys) (count_of c.one_less.new.counts.entries)
+    (has_stopped c.swap_remove.new.self.keys) (how_many_at c.one_less.new.counts.entries)
     (spell_of c.end_if.new.spells.entries) c.stretch.result c.stretch.ensures
     (λ p v. c.swap_remove.ensures.updates.0 (record { vid = v; place = p }))
     c.end_if.ensures.others c.end_if.ensures.history refl

@@ -1,7 +1,7 @@
 use Rattle.std.proofs.Common.{◌≡◌, ◌∷◌, [], ◌++◌, true, refl, sym, ap, subst, ◌∙◌, ◌+◌, cond, nat_eq, rules}
 use Rattle.std.proofs.lemmas.Bool.{false≢true}
 use Rattle.road_time.specs.Tuples.{same_place}
-use Rattle.accidents.specs.Kept.{KeptStops, same_stopped, has_stopped, count_of, spell_of}
+use Rattle.accidents.specs.Kept.{KeptStops, same_stopped, has_stopped, how_many_at, spell_of}
 use Rattle.accidents.specs.Stands.{StandsFor}
 use Rattle.accidents.proofs.Changes.{counted_put}
 use Rattle.accidents.proofs.EntryChanges.{stand_idle, stand_stops}
@@ -10,7 +10,8 @@ use Rattle.accidents.proofs.stops.Stops.stop.Goals as goal
 pub returns-then-contains-clause-stopped : goal.returns-then-contains-clause-stopped
 returns-then-contains-clause-stopped c = λ es st.
     let s = c.args.self.now in
-    stand_idle s.second (has_stopped s.standing) (count_of s.counts) (spell_of s.spells) es st c.args.vid c.args.place
+    stand_idle s.second (has_stopped s.standing) (how_many_at s.counts) (spell_of s.spells) es st c.args.vid
+    c.args.place
     true
     (sym (c.contains.ensures ∙ ap (λ (x : KeptStops). has_stopped x.standing c.args.place c.args.vid) c.self.view_is)
     ∙ c.if-contains.true)
@@ -33,9 +34,8 @@ returns-clause-stopped c = λ es.
       spells = c.self.inside.spells.entries;
     } in
     let p0 = c.args.place in
-    let more : c.in_ok-more.more ≡ count_of f.counts p0 + 1 = search rules in
-    subst (λ (x : KeptStops). StandsFor x es →
-    StandsFor
+    let more : c.in_ok-more.more ≡ how_many_at f.counts p0 + 1 = search rules in
+    subst (λ (x : KeptStops). StandsFor x es → StandsFor
     (record {
       second = f.second;
       standing = c.insert-2.new.self.keys;
@@ -44,9 +44,10 @@ returns-clause-stopped c = λ es.
           c.begin_if.new.spells.entries;
     })
     (es ++ record { second = x.second; vid = c.args.vid; place = p0; stops = true } ∷ [])) c.self.view_is
-    (λ st. stand_stops f.second (has_stopped f.standing) (count_of f.counts) (spell_of f.spells) es st c.args.vid p0
+    (λ st. stand_stops f.second (has_stopped f.standing) (how_many_at f.counts) (spell_of f.spells) es st c.args.vid p0
     true
-    (has_stopped c.insert-2.new.self.keys) (count_of c.insert.new.self.entries) (spell_of c.begin_if.new.spells.entries)
+    (has_stopped c.insert-2.new.self.keys) (how_many_at c.insert.new.self.entries)
+    (spell_of c.begin_if.new.spells.entries)
     c.stretch.result c.stretch.ensures
     (λ p v. c.in_ok-insert-2.ensures.updates.0 (record { vid = v; place = p })
     ∙ ap (λ ks. cond (same_stopped (record { vid = c.args.vid; place = p0 }) (record { vid = v; place = p })) true
@@ -54,7 +55,7 @@ returns-clause-stopped c = λ es.
     c.in_ok-begin_if.ensures.others c.in_ok-begin_if.ensures.history refl
     (sym c.contains.ensures ∙ c.if-contains.false)
     (λ p. counted_put (same_place p0 p) c.in_ok-more.more _ _ (c.in_ok-insert.ensures.updates.0 p)
-    ∙ ap (λ es. cond (same_place p0 p) c.in_ok-more.more (count_of es p)) c.reserve-2.ensures.entries
-    ∙ ap (λ n. cond (same_place p0 p) n (count_of f.counts p)) more)
+    ∙ ap (λ es. cond (same_place p0 p) c.in_ok-more.more (how_many_at es p)) c.reserve-2.ensures.entries
+    ∙ ap (λ n. cond (same_place p0 p) n (how_many_at f.counts p)) more)
     (c.in_ok-begin_if.ensures.places
     ∙ ap (λ n. (spell_of f.spells c.stretch.result).places + cond (nat_eq n 1) 1 0) c.count_at-count.ensures))

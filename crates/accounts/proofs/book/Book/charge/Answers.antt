@@ -9,7 +9,7 @@ use Rattle.std.proofs.lemmas.Map.Steps.{set_value_same}
 use Rattle.std.proofs.lemmas.Result.{err_from_is_err_and}
 use Rattle.accounts.specs.declared.vehicle.Vehicle.{Vehicle}
 use Rattle.accounts.specs.Sums.{with_charge}
-use Rattle.accounts.specs.Books.{Accounts, told_of, spent_of}
+use Rattle.accounts.specs.Books.{Accounts, told_of, spent_sums}
 use Rattle.accounts.proofs.BookLaws.{book_made, get_told, told_kept, further_fits, first_fits, sum_fits, spent_charged}
 use Rattle.accounts.proofs.BookLaws.{sound_charged}
 use Rattle.accounts.proofs.book.Book.charge.Goals as goal
@@ -60,8 +60,8 @@ returns-in_err-add_further-clause-refused c =
     let vehicles = c.self.inside.vehicles.entries in
     let same = (c.get_mut.follows.holds c.in-Some.vehicle.now).0
     ∙ set_value_same (nat_eq c.args.vid) vehicles c.in-Some.vehicle.now (sym c.in-Some.ensures.value) in
-    rw p.1 (book_made (ap told_of same) (ap (λ vs. spent_of vs c.add_further.new.sums.entries) same
-    ∙ ap (spent_of vehicles) c.in_err-add_further.ensures.refused) refl ∙ c.self.view_is)
+    rw p.1 (book_made (ap told_of same) (ap (λ vs. spent_sums vs c.add_further.new.sums.entries) same
+    ∙ ap (spent_sums vehicles) c.in_err-add_further.ensures.refused) refl ∙ c.self.view_is)
 
 pub invariant_of-self-2 : goal.invariant_of-self-2
 invariant_of-self-2 c =

@@ -1,5 +1,5 @@
 use Rattle.std.proofs.Common.{◌∙◌, Some, subst, ap}
-use Rattle.road_io.specs.Cutter.{ahead, number_of}
+use Rattle.road_io.specs.Cutter.{ahead, line_number}
 use Rattle.day_reading.specs.declared.ending.Ending.TheVariants.{Stopped}
 use Rattle.day_reading.specs.Readings.{StandsAt}
 use Rattle.day_reading.proofs.day_reader.DayReader.drain_stopped.Goals as goal
@@ -15,7 +15,7 @@ returns-in-None-clause-gives c = λ limits late left bytes given s.
     let is = c.requires ∙ ap (λ e. Some (Stopped e)) c.in-Refused.is in
     let t = c.in-None.ensures.none _ is tt limits late left bytes given s in
     let st = subst
-    (λ o. StandsAt o (ahead self.cutter left) (number_of self.cutter) self.consumed self.intake.gate
+    (λ o. StandsAt o (ahead self.cutter left) (line_number self.cutter) self.consumed self.intake.gate
     self.intake.sorter limits late bytes given) is s.stands in
     (t.1, st.1, t.0)
 

@@ -2,7 +2,7 @@ use Rattle.std.proofs.Common.{◌≡◌, ◌+◌, ◌-◌, ◌≤◌, None, List
 use Rattle.road_time.specs.declared.road.Tuple.{Tuple}
 use Rattle.road_time.specs.declared.day.Limits.{Limits}
 use Rattle.road_io.specs.Plans.{NeverFails}
-use Rattle.road_io.specs.Cutter.{number_of}
+use Rattle.road_io.specs.Cutter.{line_number}
 use Rattle.day_reading.specs.Readings.{IsReading, IsGathering, HasReadOf}
 use Rattle.day_reading.proofs.day_reader.DayReader.next.Given as goal
 
@@ -23,4 +23,4 @@ invariant-loop-tuple g l = record {
 }
 
 abbrev pub decreases-loop-tuple : goal.decreases-loop-tuple
-decreases-loop-tuple g l = l.self.intake.line_limit + 1 - number_of l.self.cutter
+decreases-loop-tuple g l = l.self.intake.line_limit + 1 - line_number l.self.cutter

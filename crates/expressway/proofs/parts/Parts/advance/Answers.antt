@@ -3,13 +3,13 @@ use Rattle.road_time.specs.Tolls.{notes_of}
 use Rattle.accidents.specs.Kept.{KeptStops as Standing}
 use Rattle.expressway.specs.Events.{seen, entries}
 use Rattle.expressway.specs.Kept.{KeptWays}
-use Rattle.expressway.specs.Stands.{IsAt}
+use Rattle.expressway.specs.Stands.{IsUpTo}
 use Rattle.expressway.proofs.KnownLaws.{moved_step}
 use Rattle.expressway.proofs.parts.Parts.advance.Goals as goal
 
 pub returns-clause-at : goal.returns-clause-at
 returns-clause-at c = λ before last at.
-    let was = subst (λ (k : KeptWays). IsAt k last before) (sym c.self.view_is) at in
+    let was = subst (λ (k : KeptWays). IsUpTo k last before) (sym c.self.view_is) at in
     record {
       averages = c.roll.ensures.kept (notes_of (seen before)) was.averages;
       standing = c.advance.ensures.kept (entries before) was.standing;

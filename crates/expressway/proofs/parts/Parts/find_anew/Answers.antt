@@ -4,14 +4,14 @@ use Rattle.road_time.specs.Rates.{toll_of, whole_of}
 use Rattle.road_time.specs.Entries.{standing_at}
 use Rattle.expressway.specs.Events.{seen, entries}
 use Rattle.expressway.specs.Kept.{KeptWays}
-use Rattle.expressway.specs.Stands.{IsAt}
+use Rattle.expressway.specs.Stands.{IsUpTo}
 use Rattle.expressway.proofs.StepLaws.{found_as, found_is}
 use Rattle.expressway.proofs.parts.Parts.find_anew.Goals as goal
 
 pub returns-clause-exact : goal.returns-clause-exact
 returns-clause-exact c = λ before at.
     let r = c.args.report.now in
-    let now = subst (λ (k : KeptWays). IsAt k r.time before) (sym c.self.view_is) at in
+    let now = subst (λ (k : KeptWays). IsUpTo k r.time before) (sym c.self.view_is) at in
     let ns = notes_of (seen before) in
     let toll_is = c.toll.ensures.exact
     ∙ ap (λ v. toll_of c.of-tariff.result c.cars-cars.result v c.is_some.result) c.as_ref-2.ensures.value

@@ -2,7 +2,7 @@ use Rattle.std.proofs.Common.{rules, w16, to_z, of_z, ◌≡◌, All, Some, sym,
 use Rattle.std.proofs.lemmas.List.Elements.{All-set}
 use Rattle.road_time.specs.Clock.{minute_of}
 use Rattle.expressway.specs.Kept.{KeptWays}
-use Rattle.expressway.specs.Known.{found_in, IsTrueIn}
+use Rattle.expressway.specs.Known.{told_now_of, IsTrueIn}
 use Rattle.expressway.proofs.StepLaws.{found_as}
 use Rattle.expressway.proofs.parts.Parts.know.Goals as goal
 
@@ -20,8 +20,8 @@ invariant_of-self c =
           (All-set (IsTrueIn now) c.self.inside.known.items c.place.result (Some _) (
             omega (arith, minute),
             λ e. ap (λ z. (found_as 0 z c.args.finding.toll c.args.finding.alert).1) same
-                ∙ c.requires ∙ ap (found_in c.args.self.now) (sym c.stretch-stretch.ensures)
-                ∙ sym (ap (λ (k : KeptWays). found_in k c.stretch-stretch.result) c.self.view_is),
+                ∙ c.requires ∙ ap (told_now_of c.args.self.now) (sym c.stretch-stretch.ensures)
+                ∙ sym (ap (λ (k : KeptWays). told_now_of k c.stretch-stretch.result) c.self.view_is),
           )
           c.self.invariant.known_ones);
     }

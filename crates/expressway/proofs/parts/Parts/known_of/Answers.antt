@@ -3,7 +3,7 @@ use Rattle.road_time.specs.Clock.{minute_of}
 use Rattle.road_time.specs.Tuples.{same_stretch}
 use Rattle.road_time.proofs.SameLaws.{stretch_is}
 use Rattle.expressway.specs.Kept.{KeptWays}
-use Rattle.expressway.specs.Known.{found_in}
+use Rattle.expressway.specs.Known.{told_now_of}
 use Rattle.expressway.proofs.KnownLaws.{true_at}
 use Rattle.expressway.proofs.parts.Parts.known_of.Goals as goal
 
@@ -23,5 +23,5 @@ returns-then-known-minute c =
     ∙ sym c.self.invariant.minute in
     (true_at now c.self.inside.known.items c.place.result c.in_ok-get.field-0.now q c.self.invariant.known_ones within
     here).1 minute
-    ∙ ap (found_in now) (stretch_is q.stretch c.args.stretch same)
-    ∙ ap (λ (k : KeptWays). found_in k c.args.stretch) c.self.view_is
+    ∙ ap (told_now_of now) (stretch_is q.stretch c.args.stretch same)
+    ∙ ap (λ (k : KeptWays). told_now_of k c.args.stretch) c.self.view_is

@@ -3,7 +3,7 @@ use Rattle.accidents.specs.Stands.{StandsFor as StopsStandFor}
 use Rattle.expressway.specs.declared.lane_event.LaneEvent.TheVariants.{Leave}
 use Rattle.expressway.specs.Events.{entries}
 use Rattle.expressway.specs.Kept.{KeptWays}
-use Rattle.expressway.specs.Stands.{IsAt, last_second}
+use Rattle.expressway.specs.Stands.{IsUpTo, last_second}
 use Rattle.expressway.proofs.StepLaws.{minutes_le, second_le, at_left}
 use Rattle.expressway.proofs.KnownLaws.{noted_step}
 use Rattle.expressway.proofs.parts.Parts.leave.Goals as goal
@@ -19,7 +19,7 @@ advance-requires-clause-second c =
 pub returns-clause-carried : goal.returns-clause-carried
 returns-clause-carried c = λ position before ready.
     let now =
-    subst (λ (k : KeptWays). IsAt k c.args.time before) (sym c.self.view_is)
+    subst (λ (k : KeptWays). IsUpTo k c.args.time before) (sym c.self.view_is)
     (c.advance.ensures.at before (last_second before) ready.stands) in
     let left =
     subst (λ s. StopsStandFor c.leave.new.self

@@ -6,7 +6,7 @@ use Rattle.expressway.specs.declared.lane_event.LaneEvent.TheVariants.{Seen}
 use Rattle.expressway.specs.Events.{seen, entries}
 use Rattle.expressway.specs.Findings.{found_if}
 use Rattle.expressway.specs.Kept.{KeptWays}
-use Rattle.expressway.specs.Stands.{IsAt, last_second}
+use Rattle.expressway.specs.Stands.{IsUpTo, last_second}
 use Rattle.expressway.proofs.JobLaws.{found_now}
 use Rattle.expressway.proofs.StepLaws.{minutes_le, second_le, at_next}
 use Rattle.expressway.proofs.ReadyLaws.{next_valid, next_note}
@@ -37,7 +37,7 @@ note-requires-clause-slow c =
 
 pub note-requires-clause-one : goal.note-requires-clause-one
 note-requires-clause-one c =
-    let at = subst (λ (k : KeptWays). IsAt k c.args.report.now.time c.requires.0)
+    let at = subst (λ (k : KeptWays). IsUpTo k c.args.report.now.time c.requires.0)
     (sym (c.self.view_is ∙ c.tell-finding.ensures.same))
     (c.advance.ensures.at c.requires.0 (last_second c.requires.0) c.requires.1.stands) in (
       notes_of (seen c.requires.0),
@@ -49,7 +49,7 @@ note-requires-clause-one c =
 pub returns-clause-carried : goal.returns-clause-carried
 returns-clause-carried c = λ before ready.
     let r = c.args.report.now in
-    let now = subst (λ (k : KeptWays). IsAt k r.time before) (sym (c.self.view_is ∙ c.tell-finding.ensures.same))
+    let now = subst (λ (k : KeptWays). IsUpTo k r.time before) (sym (c.self.view_is ∙ c.tell-finding.ensures.same))
     (c.advance.ensures.at before (last_second before) ready.stands) in
     let can = next_note before c.args.position r c.args.begins c.args.stopped ready.runs in
     at_next (record { speeds = c.note.new.speeds; stops = c.stop_if.new.stops; tariffs = c.self.inside.tariffs }) before

@@ -2,7 +2,7 @@ use Rattle.std.proofs.Common.{◌≡◌, true, IsTrue, ℕ}
 use Rattle.sqlite.specs.Held.{state}
 use Rattle.sqlite.specs.State.{HasCleanDisk}
 use Rattle.sqlite.proofs.StateLemmas.{clean_if_open}
-use Rattle.keeper.specs.History.{paid}
+use Rattle.road_time.specs.History.{paid}
 use Rattle.kept_tables.proofs.StandLaws.{told_sound}
 use Rattle.keeper_writes.specs.Causes.{WasRefused}
 use Rattle.keeper_proof.proofs.TellLaws.{reads_tell}

@@ -1,6 +1,6 @@
 use Rattle.std.proofs.Common.{◌≡◌, ◌∙◌, Ok, true, false, subst, arith}
 use Rattle.std.specs.Prelude.{IfOk, ◌≤◌, None}
-use Rattle.road_io.specs.Cutter.{number_of, fault_of}
+use Rattle.road_io.specs.Cutter.{line_number, fault_of}
 use Rattle.past_file.specs.Readings.{GathersRows, Steps}
 use Rattle.past_file.proofs.ReadLaws.{ends_whole}
 use Rattle.past_file.proofs.past_reader.PastReader.read_all.Goals as goal
@@ -13,7 +13,7 @@ reading-preserved g c =
     let base = c.args.base in
     let res : c.read_one.result ≡ Ok true = cc in
     record {
-      few = subst (λ r. IfOk r (λ more. number_of new.cutter ≤ c.args.limit)) res c.read_one.ensures.few;
+      few = subst (λ r. IfOk r (λ more. line_number new.cutter ≤ c.args.limit)) res c.read_one.ensures.few;
       unbroken = subst (λ r. IfOk r (λ more. fault_of new.cutter ≡ None)) res c.read_one.ensures.unbroken;
       reading =
           λ limits bytes same s. subst (λ r. Steps r new base limits left bytes) res

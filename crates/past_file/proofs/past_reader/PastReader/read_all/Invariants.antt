@@ -1,13 +1,13 @@
 use Rattle.std.proofs.Common.{◌≡◌, ◌+◌, ◌-◌, ◌≤◌, None, List, ℕ}
 use Rattle.road_time.specs.declared.day.Limits.{Limits}
 use Rattle.road_io.specs.Plans.{NeverFails}
-use Rattle.road_io.specs.Cutter.{number_of, fault_of}
+use Rattle.road_io.specs.Cutter.{line_number, fault_of}
 use Rattle.past_file.specs.Readings.{GathersRows, IsReadingPast, HasReadPastOf}
 use Rattle.past_file.proofs.past_reader.PastReader.read_all.Given as goal
 
 abbrev pub invariant-reading : goal.invariant-reading
 invariant-reading g l = record {
-  few : number_of l.self.cutter ≤ l.limit;
+  few : line_number l.self.cutter ≤ l.limit;
   unbroken : fault_of l.self.cutter ≡ None;
   reading : (limits : Limits) (bytes : List ℕ) → limits.past ≡ l.limit →
       IsReadingPast l.initial.self l.base limits (g.S.Source.left l.initial.source) bytes →
@@ -21,4 +21,4 @@ invariant-reading g l = record {
 }
 
 abbrev pub decreases-reading : goal.decreases-reading
-decreases-reading g l = l.limit + 1 - number_of l.self.cutter
+decreases-reading g l = l.limit + 1 - line_number l.self.cutter

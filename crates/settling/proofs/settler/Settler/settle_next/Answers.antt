@@ -1,4 +1,5 @@
 use Rattle.std.proofs.Common.{◌+◌, ◌≤◌, ◌++◌, ◌∷◌, [], map, Ok, Err, sym, subst, ap, ◌∙◌, arith, length-append}
+use Rattle.road_time.specs.declared.tariff.TheConstants.{GREATEST_TOLL}
 use Rattle.accounts.specs.Operations.{charge_of}
 use Rattle.settling.specs.declared.settler.Settler.{Settler}
 use Rattle.settling.specs.Answers.{history_of, IsSaid}
@@ -30,7 +31,7 @@ settle_slot-requires-clause-toll g c =
     let r = c.requires in
     let here = first_slot r.0 c.args.slots.now.items c.pop_front.new.self.items c.in-Some.slot
     (r.1 ++ r.2) r.3 r.4 c.in-Some.ensures.items r.8.slots_are in
-    subst (λ t. t.found.toll ≤ 500000000000) (sym here.0) (found_few r.0 r.8.few_tolls (r.1 ++ r.2, r.3))
+    subst (λ t. t.found.toll ≤ GREATEST_TOLL) (sym here.0) (found_few r.0 r.8.few_tolls (r.1 ++ r.2, r.3))
 
 pub settle_slot-requires-clause-count : goal.settle_slot-requires-clause-count
 settle_slot-requires-clause-count g c =

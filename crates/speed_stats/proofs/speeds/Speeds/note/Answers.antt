@@ -5,10 +5,8 @@ use Rattle.std.proofs.lemmas.Result.{err_from_is_err_and}
 use Rattle.road_time.specs.Tuples.{same_stretch}
 use Rattle.speed_stats.specs.Kept.{KeptSpeeds}
 use Rattle.speed_stats.specs.Parts.{IsSmall, AreSmall, grown, flow_of, flow_in, sum_in, no_flow}
-use Rattle.speed_stats.proofs.NoteSteps.{total_few, count_few, speeds_few, part_few, cars_few, noted_as}
-use Rattle.speed_stats.proofs.NoteParts.{kept_made}
-use Rattle.speed_stats.proofs.NoteSteps.{grown_small}
-use Rattle.speed_stats.proofs.NoteParts.{small_after, ring_small}
+use Rattle.speed_stats.proofs.NoteSteps.{total_few, count_few, speeds_few, part_few, cars_few, noted_as, grown_small}
+use Rattle.speed_stats.proofs.NoteParts.{kept_made, small_after, ring_small}
 use Rattle.speed_stats.proofs.PastLaws.{past_put}
 use Rattle.speed_stats.proofs.speeds.Speeds.note.Goals as goal
 

@@ -3,7 +3,8 @@ use Rattle.std.specs.Io.KnownBytes.{Consumes, IsAtEnd}
 use Rattle.std.proofs.lemmas.List.{take_all, take-append-le, take-take, length-drop, length-take-le}
 use Rattle.std.proofs.lemmas.Bool.{eqb-false}
 use Rattle.toll_requests.specs.Bodies.{body_left, IsBehind}
-use Rattle.toll_requests.proofs.BodyLaws.{behind_kept, behind_read, behind_early, keeps_none, sure_on, not_sure}
+use Rattle.toll_requests.proofs.BodyLaws.{behind_kept, behind_read, behind_early, sure_on, not_sure}
+use Rattle.toll_heads.proofs.FrontLaws.{keeps_none}
 use Rattle.toll_requests.proofs.BodyLaws.{takes_link, takes_early, empty, rose_from}
 use Rattle.toll_requests.proofs.body.Body.take_some.Goals as goal
 

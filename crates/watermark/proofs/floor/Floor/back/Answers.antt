@@ -9,7 +9,7 @@ use Rattle.expressway.specs.declared.finding.Finding.{Finding}
 use Rattle.expressway.specs.Kept.{KeptWays}
 use Rattle.expressway.specs.Findings.{shown}
 use Rattle.watermark.specs.Steps.{after_back}
-use Rattle.watermark.specs.Sound.{AreFresh, ReportAt, IsSound}
+use Rattle.watermark.specs.Sound.{AreFresh, ReportAt, SoundState}
 use Rattle.settling.specs.Slots.{slots_of}
 use Rattle.watermark.specs.Terms.{AreTerms}
 use Rattle.watermark.specs.Floors.{HomeAt}
@@ -50,7 +50,7 @@ returns-clause-back c = λ g s st may.
     let back : List (Option KeptWays) = c.bring_home.new.homes.items in
     record {
       terms = subst (λ n. AreTerms n f.limits) (sym width) st.terms;
-      sound = subst (λ n. IsSound n f.limits (after_back s worker fs)) (sym width)
+      sound = subst (λ n. SoundState n f.limits (after_back s worker fs)) (sym width)
           (sound_back f.inboxes.width f.limits s worker c.args.done.number fs st.sound may.can);
       inboxes = c.back.ensures.back s.fed s.share st.inboxes;
       slots = subst

@@ -3,13 +3,13 @@ use Rattle.watermark.specs.declared.floor.Floor.{Floor}
 use Rattle.settling.specs.declared.slot.Slot.{Slot}
 use Rattle.watermark.specs.Shares.{State}
 use Rattle.watermark.specs.Steps.{after_feed}
-use Rattle.watermark.specs.Sound.{IsSound}
+use Rattle.watermark.specs.Sound.{SoundState}
 use Rattle.watermark.specs.Terms.{AreTerms}
 use Rattle.watermark.specs.Floors.{Setting, StandsFor}
 use Rattle.road_time.specs.Day.{given}
 use Rattle.settling.specs.Runs.{StandsFor as SettlerStandsFor}
 use Rattle.watermark.proofs.Texts.{first_stay}
-use Rattle.watermark.proofs.Inbox.{when_err}
+use Rattle.expressway.proofs.RunSteps.{on_refusal}
 use Rattle.watermark.proofs.Sound.{sound_feed}
 use Rattle.watermark.proofs.Filled.{slots_fed}
 use Rattle.watermark.proofs.Homed.{home_fed}
@@ -50,10 +50,10 @@ returns-in_err-due-clause-refused c =
     let f = c.args.self.now in
     let g : Floor = record f { inboxes = c.feed.new.self; slots = c.reserve.new.self } in
     let width = c.in_err-due.ensures.width in
-    when_err {P = (e : Setting) (s : State) → StandsFor e f s → StandsFor e g s} c.from_residual-in_err-due.result
+    on_refusal {P = (e : Setting) (s : State) → StandsFor e f s → StandsFor e g s} c.from_residual-in_err-due.result
     (λ e s st. record {
       terms = subst (λ n. AreTerms n f.limits) (sym width) st.terms;
-      sound = subst (λ n. IsSound n f.limits s) (sym width) st.sound;
+      sound = subst (λ n. SoundState n f.limits s) (sym width) st.sound;
       inboxes = c.in_err-due.ensures.refused s.fed s.share st.inboxes;
       slots = c.reserve.ensures.items ∙ st.slots;
       homes_width = st.homes_width ∙ sym width;
@@ -75,7 +75,7 @@ returns-else-is_err-clause-fed c = λ g s st can.
     let items : c.push_back.new.self.items ≡ f.slots.items ++ new ∷ [] = search rules in
     record {
       terms = subst (λ n. AreTerms n f.limits) (sym width) st.terms;
-      sound = subst (λ n. IsSound n f.limits (after_feed f.inboxes.width s x)) (sym width)
+      sound = subst (λ n. SoundState n f.limits (after_feed f.inboxes.width s x)) (sym width)
           (sound_feed f.inboxes.width f.limits s x st.sound can);
       inboxes = c.in_ok-due.ensures.fed s.fed s.share st.inboxes at;
       slots = items ∙ slots_fed f.inboxes.width f.limits s x f.slots.items new st.sound st.slots
