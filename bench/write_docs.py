@@ -1,5 +1,6 @@
 #!/usr/bin/env python3
-"""Writes what the documents have from other files: the kit's name from its KIT-ID, and lists and tables from crates.txt.
+"""Writes what the documents have from other files: the kit's name from its KIT-ID, the trusted libraries and the table of
+crates from crates.txt and the crates' own first sentences, and the table of speed from bench/speed.csv.
 
     python3 bench/write_docs.py [--check] [--kit /opt/rattle/KIT-ID]
 
@@ -7,6 +8,7 @@ A list or table stands between the lines `<!-- NAME, by bench/write_docs.py -->`
 written, and the script ends with status 1 where a document would change.
 """
 import argparse
+import csv
 import pathlib
 import re
 import sys
@@ -26,6 +28,79 @@ def crates():
     return found
 
 
+def layers():
+    """The crates by layer: each stands only on crates of lower layers."""
+    table = crates()
+    found = {}
+
+    def layer(name):
+        if name not in found:
+            found[name] = 1 + max((layer(it) for it in table[name] if it in table), default=-1)
+        return found[name]
+
+    rows = {}
+    for name in table:
+        rows.setdefault(layer(name), []).append(name)
+    return [sorted(rows[i]) for i in sorted(rows)]
+
+
+FAMILIES = {
+    "road": "road_time road_io tuple_format usual_order crossings accidents speed_stats toll_rule accounts validator",
+    "day": "day_reading digest_beside settling watermark day_rounds import_plan import_once past_file asked_history draws "
+           "traffic_gen expressway partition_workers standing_crew vehicle_workers",
+    "keep": "keeper kept_tables keeper_writes table_making keeper_proof keeper_at_path sqlite_keeper shared_keeper "
+            "tree_keeper",
+    "office and server": "office_words office_commands reports toll_office live_board toll_heads toll_texts toll_requests "
+                         "toll_desk lane_loops lane_doors desk_lanes server_words desk_server toll_serve",
+}
+
+
+def groups():
+    """The crates by family: by the heads of crates.txt, if it has any, else by the list above; the others are tests."""
+    table, found, head, waiting = crates(), {}, None, []
+    for line in (TOP / "crates.txt").read_text().splitlines():
+        if line.startswith("#"):
+            head = line.lstrip("# ").split(":")[0].strip()
+        elif line.strip():
+            found.setdefault(head, []).append(line.partition(":")[0].strip())
+    if len(found) > 2:
+        return found
+    named = {family: [it for it in names.split() if it in table] for family, names in FAMILIES.items()}
+    waiting = [it for it in table if not any(it in names for names in named.values())]
+    return {**named, "tests and examples": waiting}
+
+
+def first_sentence(name):
+    """What a crate says of itself first."""
+    folder = TOP / "crates" / name / "src"
+    root = next((folder / it for it in ("lib.rt", "main.rt") if (folder / it).exists()), None)
+    if root is None:
+        return ""
+    words = []
+    for line in root.read_text().splitlines():
+        if not line.startswith("//"):
+            break
+        said = line.lstrip("/!").strip()
+        if not said:
+            break
+        words.append(said)
+    text = " ".join(words)
+    return re.split(r"(?<=[.!]) ", text)[0]
+
+
+def crate_table():
+    """The crates, lowest first, with what each says of itself and what it stands on."""
+    table, rows = crates(), ["| Layer | Crate | What it says of itself | Stands on |", "|---|---|---|---|"]
+    for i, names in enumerate(layers()):
+        for name in names:
+            own = [it for it in table[name] if it in table]
+            kit = [it for it in table[name] if it not in table]
+            few = kit if len(kit) <= 6 else [*kit[:1], f"and {len(kit) - 1} more of the kit"]
+            below = ", ".join([*own, *(f"*{it}*" for it in few)])
+            rows.append(f"| {i} | `{name}` | {first_sentence(name)} | {below} |")
+    return "\n".join(rows)
+
+
 def trusted():
     """The kit's libraries that a crate stands on."""
     table = crates()
@@ -33,7 +108,21 @@ def trusted():
     return textwrap.fill(", ".join(f"`{it}`" for it in libraries), 118, break_on_hyphens=False)
 
 
-PIECES = {"trusted libraries": trusted}
+def speed_table():
+    """The measured runs."""
+    rows = ["| Day | Lines | Command | Processor ns a line | Wall ns a line | Wall, times `sha256sum` | MB |",
+            "|---|---|---|---|---|---|---|"]
+    with open(TOP / "bench" / "speed.csv", newline="") as file:
+        runs = list(csv.DictReader(file))
+    base = {it["day"]: float(it["wall"]) for it in runs if it["command"] == "sha256sum"}
+    for it in runs:
+        times = float(it["wall"]) / base[it["day"]]
+        rows.append(f"| {it['day']} | {int(it['lines']):,} | `{it['command']}` | {it['processor']} | {it['wall']} | {times:.2f} "
+                    f"| {it['megabytes']} |")
+    return "\n".join(rows)
+
+
+PIECES = {"trusted libraries": trusted, "crates": crate_table, "speed": speed_table}
 
 
 def written(text, kit):
