@@ -13,7 +13,7 @@ import pathlib
 import sys
 from html import escape
 
-from write_docs import TOP, groups, layers
+from write_docs import TOP, crates, groups
 
 OUT = TOP / "docs" / "pictures"
 LIGHT = {"page": "#ffffff", "text": "#1f2328", "soft": "#59636e", "line": "#8c959f", "grid": "#e4e8ec",
@@ -253,25 +253,27 @@ def trust():
 
 
 def crate_layers():
-    """The crates in layers, by crates.txt: each stands only on lower ones."""
-    rows = layers()
-    most = max(len(row) for row in rows)
-    wide, high = 132, 34
-    p = Picture(max(920, 40 + most * (wide + 8) + 60), 90 + len(rows) * (high + 16), "The layers of crates")
-    p.text(20, 30, "Each crate stands only on crates of lower rows. Grey: tests and examples.", "text", 14, bold=True)
-    fills = [("blue-box", "blue"), ("green-box", "green"), ("gold-box", "gold"), ("violet-box", "violet"), ("grey-box", "line")]
-    kinds = groups()
-    names = list(kinds)
-    for i, name in enumerate(names):
-        p.box(20 + i * 170, 44, 14, 14, *fills[i % len(fills)], 3)
-        p.text(40 + i * 170, 56, name, "soft", 12)
-    for i, row in enumerate(rows):
-        y = 74 + (len(rows) - 1 - i) * (high + 16)
-        p.text(30, y + 21, str(i), "soft", 12, "middle")
-        for j, name in enumerate(row):
-            fill, colour = fills[next(k for k, it in enumerate(names) if name in kinds[it]) % len(fills)]
-            p.box(50 + j * (wide + 8), y, wide, high, fill, colour)
-            p.text(50 + j * (wide + 8) + wide / 2, y + 21, name, "text", 12, "middle")
+    """The crates in the groups of crates.txt: each stands only on crates below it, or left of it in its group."""
+    kinds, table, across = groups(), crates(), 6
+    rows = {head: [names[i:i + across] for i in range(0, len(names), across)] for head, names in kinds.items()}
+    wide, high = 138, 30
+    p = Picture(60 + across * (wide + 8), 70 + sum(24 + len(it) * (high + 6) + 12 for it in rows.values()), "The layers of crates")
+    p.text(20, 30, f"{len(table)} crates, the lowest group at the bottom. A crate stands only on crates before it.",
+           "text", 14, bold=True)
+    fills = ["blue", "green", "gold", "violet", "red"]
+    y = 48
+    for k, head in reversed(list(enumerate(rows))):
+        tall = 24 + len(rows[head]) * (high + 6) + 4
+        colour = "line" if head.startswith("Tests") else fills[k % len(fills)]
+        fill = "grey-box" if colour == "line" else f"{colour}-box"
+        p.box(20, y, p.width - 40, tall, fill, colour)
+        p.text(30, y + 17, head, "soft", 12)
+        for i, names in enumerate(rows[head]):
+            for j, name in enumerate(names):
+                x = 30 + j * (wide + 8)
+                p.box(x, y + 24 + i * (high + 6), wide, high, "page", colour)
+                p.text(x + wide / 2, y + 43 + i * (high + 6), name, "text", 12, "middle")
+        y += tall + 8
     return p
 
 

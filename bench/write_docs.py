@@ -28,46 +28,15 @@ def crates():
     return found
 
 
-def layers():
-    """The crates by layer: each stands only on crates of lower layers."""
-    table = crates()
-    found = {}
-
-    def layer(name):
-        if name not in found:
-            found[name] = 1 + max((layer(it) for it in table[name] if it in table), default=-1)
-        return found[name]
-
-    rows = {}
-    for name in table:
-        rows.setdefault(layer(name), []).append(name)
-    return [sorted(rows[i]) for i in sorted(rows)]
-
-
-FAMILIES = {
-    "road": "road_time road_io tuple_format usual_order crossings accidents speed_stats toll_rule accounts validator",
-    "day": "day_reading digest_beside settling watermark day_rounds import_plan import_once past_file asked_history draws "
-           "traffic_gen expressway partition_workers standing_crew vehicle_workers",
-    "keep": "keeper kept_tables keeper_writes table_making keeper_proof keeper_at_path sqlite_keeper shared_keeper "
-            "tree_keeper",
-    "office and server": "office_words office_commands reports toll_office live_board toll_heads toll_texts toll_requests "
-                         "toll_desk lane_loops lane_doors desk_lanes server_words desk_server toll_serve",
-}
-
-
 def groups():
-    """The crates by family: by the heads of crates.txt, if it has any, else by the list above; the others are tests."""
-    table, found, head, waiting = crates(), {}, None, []
+    """The crates by the heads of crates.txt, lowest first, each head with its crates in the order of the file."""
+    found, head = {}, "Crates"
     for line in (TOP / "crates.txt").read_text().splitlines():
         if line.startswith("#"):
-            head = line.lstrip("# ").split(":")[0].strip()
+            head = line.lstrip("# ").strip()
         elif line.strip():
             found.setdefault(head, []).append(line.partition(":")[0].strip())
-    if len(found) > 2:
-        return found
-    named = {family: [it for it in names.split() if it in table] for family, names in FAMILIES.items()}
-    waiting = [it for it in table if not any(it in names for names in named.values())]
-    return {**named, "tests and examples": waiting}
+    return found
 
 
 def first_sentence(name):
@@ -90,14 +59,15 @@ def first_sentence(name):
 
 def crate_table():
     """The crates, lowest first, with what each says of itself and what it stands on."""
-    table, rows = crates(), ["| Layer | Crate | What it says of itself | Stands on |", "|---|---|---|---|"]
-    for i, names in enumerate(layers()):
+    table, rows = crates(), ["| Crate | What it says of itself | Stands on |", "|---|---|---|"]
+    for head, names in groups().items():
+        rows.append(f"| **{head}** | | |")
         for name in names:
             own = [it for it in table[name] if it in table]
             kit = [it for it in table[name] if it not in table]
             few = kit if len(kit) <= 6 else [*kit[:1], f"and {len(kit) - 1} more of the kit"]
             below = ", ".join([*own, *(f"*{it}*" for it in few)])
-            rows.append(f"| {i} | `{name}` | {first_sentence(name)} | {below} |")
+            rows.append(f"| `{name}` | {first_sentence(name)} | {below} |")
     return "\n".join(rows)
 
 
