@@ -1,7 +1,7 @@
 #!/usr/bin/env python3
 """Measures the program: makes days, imports and answers them, and prints a table.
 
-    python3 bench/run.py PROGRAM [--days 1000000,classic,greatest] [--workers 1,2,4] [--runs 3] [--folder DAYS]
+    python3 bench/run.py PROGRAM [--days 1000000,classic,greatest] [--workers 1,2,4] [--runs 3] [--folder DAYS] [--csv FILE]
 
 PROGRAM is crates/toll_office/out/toll_office. A day is `classic`, `greatest` or a number of lines; it stays in DAYS and
 is used again. `sha256sum` and `wc -l` of the same file are measured in the same run. Each figure is the least of the
@@ -9,6 +9,7 @@ runs: processor time (user and system) and wall time in nanoseconds a line, both
 greatest memory in megabytes (16 at least, which this script has itself).
 """
 import argparse
+import csv
 import os
 import pathlib
 import shutil
@@ -81,9 +82,11 @@ def main():
     words.add_argument("--workers", default="1,2,4")
     words.add_argument("--runs", type=int, default=3)
     words.add_argument("--folder", type=pathlib.Path, default=pathlib.Path(tempfile.gettempdir()) / "days")
+    words.add_argument("--csv", type=pathlib.Path, help="write the runs to this file too, as bench/write_docs.py reads them")
     given = words.parse_args()
     given.folder.mkdir(parents=True, exist_ok=True)
     program = str(given.program.resolve())
+    written = [["day", "lines", "command", "processor", "wall", "megabytes"]]
     print("| Day | Lines | Command | Processor ns a line | Wall ns a line | Times `sha256sum`, processor | wall | MB |")
     print("|---|---|---|---|---|---|---|---|")
     for day in given.days.split(","):
@@ -102,6 +105,12 @@ def main():
                 f" | {used[0] / base[0]:.2f} | {used[1] / base[1]:.2f} | {used[2]:.0f} |",
                 flush=True,
             )
+            short = name if command[0] != program else f"{command[1]}, {command[-1]} worker{'s' if command[-1] != '1' else ''}"
+            title = "a million" if day == "1000000" else day
+            written.append([title, lines, short.removesuffix(" -"), *(round(it * 1e9 / lines) for it in used[:2]), round(used[2])])
+    if given.csv:
+        with open(given.csv, "w", newline="") as file:
+            csv.writer(file).writerows(written)
 
 
 if __name__ == "__main__":
