@@ -306,11 +306,11 @@ def speed():
     for i, name in enumerate(names):
         points = sorted(series[name])
         colour = colours[i % len(colours)]
-        p.path([(across(n), upward(v)) for n, v in points], colour, 2.5, "6 4" if name in ("sha256sum", "wc -l") else "")
+        p.path([(across(n), upward(v)) for n, v in points], colour, 2.5, "6 4" if name in ("sha256sum", "wc -l") or name.startswith("unproved") else "")
         for n, v in points:
             p.dot(across(n), upward(v), colour, 4)
         at = max(at + 19, upward(points[-1][1]) + 4)
-        p.text(left + wide + 14, at, name, colour, 13, bold=True)
+        p.text(left + wide + 14, at, name.split(", no")[0], colour, 13, bold=True)
     return p
 
 

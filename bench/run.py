@@ -4,12 +4,14 @@
     python3 bench/run.py PROGRAM [--days 1000000,classic,greatest] [--workers 1,2,4] [--runs 3] [--folder DAYS] [--csv FILE]
 
 PROGRAM is crates/toll_office/out/toll_office. A day is `classic`, `greatest` or a number of lines; it stays in DAYS and
-is used again. `sha256sum` and `wc -l` of the same file are measured in the same run. Each figure is the least of the
-runs: processor time (user and system) and wall time in nanoseconds a line, both as multiples of `sha256sum`'s, and the
-greatest memory in megabytes (16 at least, which this script has itself).
+is used again. `sha256sum`, `wc -l` and the unproved program bench/plain.c are measured on the same file in the same run, and
+the notices of the last are compared with those of `answers`. Each figure is the least of the runs: processor time (user and
+system) and wall time in nanoseconds a line, both as multiples of `sha256sum`'s, and the greatest memory in megabytes (16 at
+least, which this script has itself).
 """
 import argparse
 import csv
+import hashlib
 import os
 import pathlib
 import shutil
@@ -35,12 +37,17 @@ def shape_of(day):
     return lines, 500_000, 1, max(10, min(1440, round((lines / 1000) ** 0.5 * 2)))
 
 
+def compiled(folder, name):
+    """A program of this folder's C."""
+    subprocess.run(["cc", "-O2", "-o", folder / name, HERE / f"{name}.c"], check=True)
+    return folder / name
+
+
 def make_day(folder, day):
     """The file of a day, made where it is not there."""
     path = folder / f"{day}.csv"
     if not path.exists():
-        maker = folder / "day"
-        subprocess.run(["cc", "-O2", "-o", maker, HERE / "day.c"], check=True)
+        maker = compiled(folder, "day")
         part = folder / f"{day}.part"
         with open(part, "wb") as out:
             subprocess.run([maker, *map(str, shape_of(day)), SEED], stdout=out, check=True)
@@ -70,6 +77,17 @@ def least(command, source, runs):
     return tuple(map(min, zip(*(measure(command, source) for _ in range(runs)))))
 
 
+def notices_of(command, source):
+    """The digest of the notices that a program writes, without a closing line."""
+    digest = hashlib.sha256()
+    with tempfile.TemporaryDirectory() as room, open(source, "rb") as given:
+        with subprocess.Popen(command, stdin=given, stdout=subprocess.PIPE, cwd=room) as child:
+            for line in child.stdout:
+                if not line.startswith(b"#"):
+                    digest.update(line)
+    return digest.hexdigest()
+
+
 def lines_in(path):
     with open(path, "rb") as file:
         return sum(block.count(b"\n") for block in iter(lambda: file.read(1 << 20), b""))
@@ -93,7 +111,10 @@ def main():
         path = make_day(given.folder, day)
         lines = lines_in(path)
         base = least(["sha256sum", "-"], path, given.runs)
-        commands = [["sha256sum", "-"], ["wc", "-l"]]
+        plain = str(compiled(given.folder, "plain").resolve())
+        if notices_of([plain], path) != notices_of([program, "answers", "100"], path):
+            sys.exit(f"{day}: the notices of bench/plain.c are others than those of the program")
+        commands = [["sha256sum", "-"], ["wc", "-l"], [plain]]
         for what in ("import", "answers"):
             for workers in given.workers.split(","):
                 commands.append([program, what, "100", "--workers", workers])
@@ -105,9 +126,11 @@ def main():
                 f" | {used[0] / base[0]:.2f} | {used[1] / base[1]:.2f} | {used[2]:.0f} |",
                 flush=True,
             )
-            short = name if command[0] != program else f"{command[1]}, {command[-1]} worker{'s' if command[-1] != '1' else ''}"
+            short = name.removesuffix(" -") if command[0] != plain else "unproved C, no digest, no checks"
+            if command[0] == program:
+                short = f"{command[1]}, {command[-1]} worker{'s' if command[-1] != '1' else ''}"
             title = "a million" if day == "1000000" else day
-            written.append([title, lines, short.removesuffix(" -"), *(round(it * 1e9 / lines) for it in used[:2]), round(used[2])])
+            written.append([title, lines, short, *(round(it * 1e9 / lines) for it in used[:2]), round(used[2])])
     if given.csv:
         with open(given.csv, "w", newline="") as file:
             csv.writer(file).writerows(written)
