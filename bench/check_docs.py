@@ -1,0 +1,47 @@
+#!/usr/bin/env python3
+"""Checks the documents: what scripts write is up to date, words are those of the grammar, rows and links are where they say.
+
+    python3 bench/check_docs.py
+
+Looked at are README, CHANGELOG and docs. A link must lead to a file of the repository. A path in backticks that begins with
+`crates/`, `bench/` or `docs/` must be there. No line but of a table, a picture or a block is longer than 128 characters. The
+script ends with status 1 if anything is wrong. It proves nothing and runs no program; bench/try_docs.py does.
+"""
+import pathlib
+import re
+import subprocess
+import sys
+
+from write_docs import PAGES, TOP
+
+OTHERS = [["write_docs.py", "--check"], ["pictures.py", "--check"], ["check_words.py"], ["check_rows.py"]]
+
+
+def main():
+    wrong = []
+    for name, *words in OTHERS:
+        ran = subprocess.run([sys.executable, TOP / "bench" / name, *words], text=True, stdout=subprocess.PIPE,
+                             stderr=subprocess.STDOUT)
+        print(f"{name}: {ran.stdout.strip()}")
+        if ran.returncode:
+            wrong.append(name)
+    for page in [*PAGES, TOP / "CHANGELOG.md"]:
+        where, code = page.relative_to(TOP), False
+        text = page.read_text()
+        for at, line in enumerate(text.splitlines(), 1):
+            code ^= line.startswith("```")
+            if len(line) > 128 and not code and not line.startswith(("|", "!")):
+                wrong.append(f"{where}:{at}: {len(line)} characters")
+            for link in re.findall(r"\]\(([^)#]+)(?:#[^)]*)?\)", line):
+                if "://" not in link and not (page.parent / link).exists():
+                    wrong.append(f"{where}:{at}: no {link}")
+            for path in re.findall(r"`((?:crates|bench|docs)/[\w./]+)`", line):
+                if not (TOP / path).exists() and "/out/" not in path and path != "crates/NAME":
+                    wrong.append(f"{where}:{at}: no {path}")
+    print(*wrong, sep="\n", end="\n" if wrong else "")
+    print(f"{len(wrong)} wrong")
+    sys.exit(1 if wrong else 0)
+
+
+if __name__ == "__main__":
+    main()
