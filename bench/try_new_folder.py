@@ -19,7 +19,7 @@ TOP = pathlib.Path(__file__).resolve().parent.parent
 SCRIPT = TOP / "bench" / "new_folder.sh"
 BASE = 400
 NOT_KEPT = 350
-QUERY = ("SELECT vid, 400 - day, xway, tolls FROM spent WHERE day BETWEEN 331 AND 399 ORDER BY day, vid, xway")
+QUERY = f"SELECT vid, {BASE} - day, xway, tolls FROM spent WHERE day BETWEEN {BASE} - 69 AND {BASE} - 1 ORDER BY day, vid, xway"
 
 STAND_IN = r'''#!/usr/bin/env python3
 import os, sqlite3, sys
