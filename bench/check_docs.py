@@ -14,7 +14,8 @@ import sys
 
 from write_docs import PAGES, TOP
 
-OTHERS = [["write_docs.py", "--check"], ["pictures.py", "--check"], ["check_words.py"], ["check_rows.py"]]
+OTHERS = [["write_docs.py", "--check"], ["pictures.py", "--check"], ["check_words.py"], ["check_rows.py"],
+          ["check_traffic.py"]]
 
 
 def main():
