@@ -1,8 +1,9 @@
 // plain [PAST]: the notices of a day from standard input, without proof: a program to compare speed and notices with.
+// plain charges DAY: what `toll_office export DAY` prints of that day.
 //
 // It reads a right day in the order of Time (lateness 0) under the benchmark's tariffs, in one thread and one pass, and
-// writes the notices that `toll_office answers` writes before its closing line. PAST is a history, as `toll_office past`
-// reads it, whose base is the day. Nothing is checked: a wrong line is not refused, and there is no digest.
+// writes the notices that `toll_office answers` writes before its closing line. PAST is a history, as `toll_office
+// past` reads it, whose base is the day. Nothing is checked: a wrong line is not refused, and there is no digest.
 // It was written from docs/RULES.md and docs/FORMATS.md alone.
 #include <stdint.h>
 #include <stdio.h>
@@ -40,7 +41,9 @@ static int active[STRETCHES], actives;
 static char is_active[STRETCHES];
 static struct { uint32_t vid; int day, xway; uint64_t tolls; } *past;
 static size_t pasts;
-static char out[1 << 16];
+static struct Charge { uint32_t vid; int xway; uint64_t tolls; } *charges;
+static size_t charged, charges_room;
+static char out[1 << 16], silent;
 static size_t filled;
 
 static uint32_t mixed(uint64_t key) { return (uint32_t)((key * 0x9e3779b97f4a7c15u) >> 32); }
@@ -135,6 +138,11 @@ static void note(int s, Vehicle *v, int minute, int speed) {
     v->at[v->reports] = s, v->speeds[v->reports++] = speed;
 }
 
+static void flush(void) {
+    if (!silent) fwrite(out, 1, filled, stdout);
+    filled = 0;
+}
+
 static void put(uint64_t number, int negative, char after) {
     char digits[24];
     int n = 0;
@@ -142,7 +150,11 @@ static void put(uint64_t number, int negative, char after) {
     do digits[n++] = (char)('0' + number % 10); while ((number /= 10));
     while (n) out[filled++] = digits[--n];
     out[filled++] = after;
-    if (filled > sizeof out - 256) fwrite(out, 1, filled, stdout), filled = 0;
+    if (filled > sizeof out - 256) flush();
+}
+
+static void answer(int kind, long time, long asked, uint64_t amount) {
+    put(kind, 0, ','), put(time, 0, ','), put(asked, 0, ','), put(amount, 0, '\n');
 }
 
 static void tell(Vehicle *v, int time, int minute) {
@@ -162,6 +174,27 @@ static void tell(Vehicle *v, int time, int minute) {
     put(busy ? (uint64_t)(num / den) : 1, !busy, ','), put(v->told, 0, '\n');
 }
 
+static void charge(uint32_t vid, int xway, uint64_t tolls) {
+    if (!tolls) return;
+    if (charged == charges_room) charges = realloc(charges, (charges_room = 2 * charged + 64) * sizeof *charges);
+    charges[charged++] = (struct Charge){vid, xway, tolls};
+}
+
+static int in_order(const void *a, const void *b) {
+    const struct Charge *x = a, *y = b;
+    return x->vid != y->vid ? (x->vid > y->vid) - (x->vid < y->vid) : x->xway - y->xway;
+}
+
+static void export(const char *day) {
+    qsort(charges, charged, sizeof *charges, in_order);
+    puts("vid,day,xway,tolls");
+    for (size_t i = 0; i < charged; i++) {
+        uint64_t sum = charges[i].tolls;
+        for (; i + 1 < charged && !in_order(&charges[i], &charges[i + 1]); i++) sum += charges[i + 1].tolls;
+        printf("%u,%s,%d,%llu\n", charges[i].vid, day, charges[i].xway, (unsigned long long)sum);
+    }
+}
+
 static void report(int time, const long *f) {
     int minute = time / 60 + 1;
     Vehicle *v = vehicle((uint32_t)f[2]), now = *v;
@@ -172,7 +205,7 @@ static void report(int time, const long *f) {
     now.run = same ? (v->run < STOPPED ? v->run + 1 : STOPPED) : 1;
     if (!same && v->run == STOPPED) stop(v, -1);
     if (now.run == STOPPED && v->run == STOPPED - 1) stop(&now, 1);
-    if (begins && !first && last_lane != EXIT) now.balance += v->told;
+    if (begins && !first && last_lane != EXIT) now.balance += v->told, charge(v->vid, v->xway, v->told);
     *v = now;
     if (begins && v->lane != EXIT) tell(v, time, minute);
     note(stretch(v->xway, v->dir, v->seg), v, minute, (int)f[3]);
@@ -200,7 +233,9 @@ int main(int count, char **words) {
     long fields[15] = {0}, time = 0;
     int field = 0, negative = 0, digits = 0;
     vehicles = calloc(room, sizeof *vehicles), places = calloc(places_room, sizeof *places);
-    if (count > 1) read_past(words[1]);
+    const char *day = count > 2 && !strcmp(words[1], "charges") ? words[2] : 0;
+    silent = day != 0;
+    if (count > 1 && !day) read_past(words[1]);
     for (size_t n; (n = fread(in, 1, sizeof in, stdin));)
         for (size_t i = 0; i < n; i++) {
             char c = in[i];
@@ -212,11 +247,12 @@ int main(int count, char **words) {
             if (digits) {
                 if (fields[1] > time) pass((int)time, (int)fields[1]), time = fields[1];
                 if (fields[0] == 0) report((int)time, fields);
-                if (fields[0] == 2) put(2, 0, ','), put(time, 0, ','), put(fields[9], 0, ','), put(vehicle((uint32_t)fields[2])->balance, 0, '\n');
-                if (fields[0] == 3) put(3, 0, ','), put(time, 0, ','), put(fields[9], 0, ','), put(paid(fields), 0, '\n');
+                if (fields[0] == 2) answer(2, time, fields[9], vehicle((uint32_t)fields[2])->balance);
+                if (fields[0] == 3) answer(3, time, fields[9], paid(fields));
             }
             fields[0] = 0, field = 0, digits = 0;
         }
-    fwrite(out, 1, filled, stdout);
+    flush();
+    if (day) export(day);
     return fflush(stdout) != 0;
 }
