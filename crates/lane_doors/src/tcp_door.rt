@@ -37,13 +37,13 @@ impl TcpDoor {
 }
 
 /// One more ear.
-fn add(ears: &mut Vec<TcpEar>, listener: TcpListener) -> Result<(), DoorFault>
+fn add(rt: HostRuntime, ears: &mut Vec<TcpEar>, listener: TcpListener) -> Result<(), DoorFault>
     requires fresh { All (λ ear. (accepted_by ear ≡ 0) × (faults_of ear ≡ 0)) ears.old.items }
     ensures count { OnOk result (length ears.new.items ≡ length ears.old.items + 1) }
     ensures fresh { OnOk result (All (λ ear. (accepted_by ear ≡ 0) × (faults_of ear ≡ 0)) ears.new.items) }
     ensures memory { result ≢ Err Failed }
 {
-    match ears.push(TcpEar::new(listener)) {
+    match ears.push(TcpEar::new(rt, listener)) {
         Ok(()) => Ok(()),
         Err(_) => Err(DoorFault::NoMemory),
     }
@@ -64,9 +64,9 @@ fn listen(rt: &HostRuntime, alloc: Global, port: u16, count: u8) -> Result<Ears<
         let Ok(again) = first.try_clone() else {
             return Err(DoorFault::Failed);
         };
-        add(&mut ears, again)?;
+        add(*rt, &mut ears, again)?;
     }
-    add(&mut ears, first)?;
+    add(*rt, &mut ears, first)?;
     Ok(Ears::from_vec(ears))
 }
 

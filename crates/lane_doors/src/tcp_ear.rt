@@ -7,6 +7,7 @@ use lane_loops::Listener;
 use road_io::{Failed, StreamLink};
 use std::io::{self, ErrorKind};
 use std::net::{TcpListener, TcpStream};
+use std::rt::HostRuntime;
 use std::time::Duration;
 
 /// How many seconds a connection may be silent, in a read or a write.
@@ -15,6 +16,7 @@ pub const SILENCE: u64 = 30;
 /// A listener on a port of this machine. It tells nothing of who connects, or of what is said.
 #[derive(Drop)]
 pub struct TcpEar {
+    rt: HostRuntime,
     listener: TcpListener,
     faults: u64,
     accepted: u64,
@@ -22,11 +24,12 @@ pub struct TcpEar {
 
 impl TcpEar {
     /// Has accepted nothing.
-    pub fn new(listener: TcpListener) -> TcpEar
+    pub fn new(rt: HostRuntime, listener: TcpListener) -> TcpEar
         ensures accepted { accepted_by result ≡ 0 }
         ensures faults { faults_of result ≡ 0 }
     {
         TcpEar {
+            rt,
             listener,
             faults: 0,
             accepted: 0,
@@ -68,7 +71,7 @@ impl Listener for TcpEar {
             Ok(stream) => {
                 bound_silence(&stream);
                 self.accepted += 1;
-                Ok(StreamLink::new(stream))
+                Ok(StreamLink::new(self.rt, stream))
             }
             Err(_) => {
                 self.faults = self.faults.saturating_add(1);

@@ -4,15 +4,16 @@ ghost use Rattle.road_io.specs.Portions.{AnyPart};
 ghost use Rattle.road_io.specs.Rooms.{Untold};
 ghost use Rattle.road_io.specs.declared.edges.Opening.TheVariants.{Unopened};
 
+use crate::counting::{count_fault, read_counting, write_counting};
+use crate::ending::{drop_rest, patience};
 use crate::link::Link;
-use crate::retrying::{read_retrying, write_retrying};
 use crate::sink::Writing;
 use crate::source::{Failed, Reading, Source};
 use road_time::NoMemory;
 use std::alloc::Global;
 use std::fs::File;
 use std::io::{Stdin, Stdout};
-use std::net::TcpStream;
+use std::net::{Shutdown, TcpStream};
 use std::rt::HostRuntime;
 
 /// Standard input, read in pieces as large as the caller's buffer: `StdSource::new(rt.stdin())`.
@@ -78,25 +79,27 @@ impl Source for FileSource {
     fn read(&mut self, buf: &mut [u8]) -> Result<usize, Failed> {
         open_once(self.rt, self.path.as_str(), &mut self.opening);
         if let Opening::Opened(file) = &mut self.opening {
-            if let Ok(count) = read_retrying(file, buf) {
-                return Ok(count);
-            }
+            return read_counting(file, buf, &mut self.faults);
         }
-        self.faults = self.faults.saturating_add(1);
-        Err(Failed)
+        Err(count_fault(&mut self.faults))
     }
 }
 
 /// A connection; a write of no byte is a fault.
 #[derive(Drop)]
 pub struct StreamLink {
+    rt: HostRuntime,
     stream: TcpStream,
     faults: u64,
 }
 
 impl StreamLink {
-    pub fn new(stream: TcpStream) -> StreamLink {
-        StreamLink { stream, faults: 0 }
+    pub fn new(rt: HostRuntime, stream: TcpStream) -> StreamLink {
+        StreamLink {
+            rt,
+            stream,
+            faults: 0,
+        }
     }
 }
 
@@ -114,22 +117,18 @@ impl Link for StreamLink {
     ghost most = { λ l. AnyPart };
 
     fn read(&mut self, buf: &mut [u8]) -> Result<usize, Failed> {
-        match read_retrying(&mut self.stream, buf) {
-            Ok(count) => Ok(count),
-            Err(_) => {
-                self.faults = self.faults.saturating_add(1);
-                Err(Failed)
-            }
-        }
+        read_counting(&mut self.stream, buf, &mut self.faults)
     }
 
     fn write(&mut self, piece: &[u8]) -> Result<usize, Failed> {
-        match write_retrying(&mut self.stream, piece) {
-            Ok(count) if count > 0 => Ok(count),
-            _ => {
-                self.faults = self.faults.saturating_add(1);
-                Err(Failed)
-            }
+        write_counting(&mut self.stream, piece, &mut self.faults)
+    }
+
+    fn finish(&mut self) {
+        if self.stream.shutdown(Shutdown::Write).is_ok()
+            && self.stream.set_read_timeout(Some(patience())).is_ok()
+        {
+            drop_rest(&mut self.stream, &self.rt);
         }
     }
 }

@@ -5,8 +5,10 @@
 //! into lines, the same ones however reads are cut, in one buffer of fixed size.
 #![tactic(auto)]
 
+mod counting;
 mod cutter;
 mod edges;
+mod ending;
 mod link;
 mod memory;
 mod retrying;

@@ -3,9 +3,10 @@ ghost use Rattle.std.specs.Prelude.{ℕ, ◌≡◌, Bool, List, Option, ◌<◌,
 ghost use Rattle.std.specs.Io.{ReadsAtMost};
 ghost use Rattle.std.specs.Io.KnownBytes.{ReadConsumes, WriteAppends};
 ghost use Rattle.road_io.specs.Faults.{HasCause};
-ghost use Rattle.road_io.specs.Plans.{AsPlanned};
+ghost use Rattle.road_io.specs.Plans.{AsPlanned, NeverFails};
 ghost use Rattle.road_io.specs.Portions.{Portion, Moves};
 ghost use Rattle.road_io.specs.Rooms.{Room, Takes, Refuses, PutsBytes};
+ghost use Rattle.road_io.specs.Within.{ReadsWithin};
 
 use crate::source::Failed;
 
@@ -49,6 +50,16 @@ pub trait Link {
         ensures unread { left self.new ≡ left self.old }
         ensures plan_kept { plan self.new ≡ plan self.old }
         ensures cause { HasCause (faults self.old) (faults self.new) result };
+
+    /// Ends what is written: shuts the write side, and reads and drops what still comes, up to 1 MiB and 2 seconds.
+    /// Nothing is to be written after it. A failure of it is not counted.
+    fn finish(&mut self)
+        ensures dropped { ReadsWithin 1048576 (left self.old) (left self.new) }
+        ensures sure { NeverFails (plan self.old) → NeverFails (plan self.new) }
+        ensures unwritten { written self.new ≡ written self.old }
+        ensures room_kept { room self.new ≡ room self.old }
+        ensures most_kept { most self.new ≡ most self.old }
+        ensures uncounted { faults self.new ≡ faults self.old };
 }
 
 /// Writes all bytes. After a fault a prefix was written.

@@ -5,7 +5,7 @@ ghost use Rattle.road_io.specs.Faults.{HasCause};
 ghost use Rattle.road_io.specs.Portions.{Portion, AnyPart, Moves};
 ghost use Rattle.road_io.specs.Rooms.{Room, Untold, Takes, Refuses, PutsBytes};
 
-use crate::retrying::write_retrying;
+use crate::counting::write_counting;
 use crate::source::Failed;
 use std::io::Write;
 
@@ -75,12 +75,6 @@ impl<W: Write> Sink for Writing<W> {
     ghost most = { λ s. AnyPart };
 
     fn write(&mut self, piece: &[u8]) -> Result<usize, Failed> {
-        match write_retrying(&mut self.inner, piece) {
-            Ok(count) if count > 0 => Ok(count),
-            _ => {
-                self.faults = self.faults.saturating_add(1);
-                Err(Failed)
-            }
-        }
+        write_counting(&mut self.inner, piece, &mut self.faults)
     }
 }

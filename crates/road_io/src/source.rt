@@ -6,7 +6,7 @@ ghost use Rattle.road_io.specs.Faults.{HasCause};
 ghost use Rattle.road_io.specs.Plans.{AsPlanned};
 ghost use Rattle.road_io.specs.Portions.{Portion, AnyPart, Moves};
 
-use crate::retrying::read_retrying;
+use crate::counting::read_counting;
 use std::io::Read;
 
 /// A read or a write that failed.
@@ -63,12 +63,6 @@ impl<R: Read> Source for Reading<R> {
     ghost name = { λ s. 0 };
 
     fn read(&mut self, buf: &mut [u8]) -> Result<usize, Failed> {
-        match read_retrying(&mut self.inner, buf) {
-            Ok(count) => Ok(count),
-            Err(_) => {
-                self.faults = self.faults.saturating_add(1);
-                Err(Failed)
-            }
-        }
+        read_counting(&mut self.inner, buf, &mut self.faults)
     }
 }

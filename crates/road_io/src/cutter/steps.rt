@@ -205,6 +205,7 @@ impl LineCutter {
         ensures later { S.faults source.old ≤ S.faults source.new }
         ensures cause { fault_of self.old ≡ None → result ≡ Err ReadFault
             → Rose (S.faults source.old) (S.faults source.new) }
+        ensures still { result ≢ Err ReadFault → S.faults source.new ≡ S.faults source.old }
     {
         if let Some(fault) = self.fault {
             return Err(fault);

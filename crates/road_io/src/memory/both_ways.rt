@@ -80,4 +80,6 @@ impl Link for MemLink {
             }
         }
     }
+
+    fn finish(&mut self) {}
 }

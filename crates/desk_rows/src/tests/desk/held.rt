@@ -55,4 +55,8 @@ impl<'a> Link for HeldLink<'a> {
     fn write(&mut self, piece: &[u8]) -> Result<usize, Failed> {
         self.inner.write(piece)
     }
+
+    fn finish(&mut self) {
+        self.inner.finish();
+    }
 }

@@ -6,7 +6,7 @@ use Rattle.road_io.proofs.link.send_all.Given as goal
 abbrev pub invariant-loop-at : goal.invariant-loop-at
 invariant-loop-at g l = record {
   inside : l.at ≤ length l.bytes;
-  later : g.L.Link.faults l.initial.link ≤ g.L.Link.faults l.link;
+  still : g.L.Link.faults l.link ≡ g.L.Link.faults l.initial.link;
   written : Appends (g.L.Link.written l.initial.link) (g.L.Link.written l.link) (take l.at l.bytes);
   took : Takes (g.L.Link.room l.initial.link) (g.L.Link.room l.link) l.at;
   unread : g.L.Link.left l.link ≡ g.L.Link.left l.initial.link;

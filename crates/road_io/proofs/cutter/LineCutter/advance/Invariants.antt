@@ -1,4 +1,4 @@
-use Rattle.std.proofs.Common.{◌≡◌, ◌-◌, ◌≤◌, None, length}
+use Rattle.std.proofs.Common.{◌≡◌, ◌-◌, None, length}
 use Rattle.std.specs.Io.KnownBytes.{Keeps}
 use Rattle.road_io.specs.Plans.{NeverFails}
 use Rattle.road_io.specs.Cutter.{held, ahead, line_number, fault_of}
@@ -11,7 +11,7 @@ invariant-loop-answer g l = record {
   ahead : Keeps (ahead l.initial.self (g.S.Source.left l.initial.source)) (ahead l.self (g.S.Source.left l.source));
   sure : NeverFails (g.S.Source.plan l.initial.source) → NeverFails (g.S.Source.plan l.source);
   same : g.S.Source.name l.source ≡ g.S.Source.name l.initial.source;
-  later : g.S.Source.faults l.initial.source ≤ g.S.Source.faults l.source;
+  still : g.S.Source.faults l.source ≡ g.S.Source.faults l.initial.source;
 }
 
 abbrev pub decreases-loop-answer : goal.decreases-loop-answer
