@@ -74,7 +74,8 @@ abbrev pub Wants : {T : Type 0} → Bool → Result T KeepFault → Type 0
 Wants true r = Unit {0}
 Wants false r = IsOkUnless r Failed
 
--- the count of faults never falls, and rose where the keeper failed
+-- the count of faults never falls, rose where the keeper failed, and stands where it did not
 pub record CountsFaults {T : Type 0} (before now : ℕ) (result : Result T KeepFault) : Type 0 where
   pub later : before ≤ now
   pub failed : has_failed result ≡ true → Rose before now
+  pub still : has_failed result ≡ false → now ≡ before

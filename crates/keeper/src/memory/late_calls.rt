@@ -90,27 +90,30 @@ impl Keeper for LateKeeper {
     }
 
     fn put_day(&mut self, kept: &DayRecord, rows: &[SpentRow]) -> Result<(), KeepFault> {
-        let failing = self.failing.turn();
+        let failing = self.failing.step();
         self.office.put_day(kept, rows)?;
         if failing {
+            self.failing.count();
             return Err(KeepFault::Failed);
         }
         Ok(())
     }
 
     fn put_past(&mut self, kept: &PastRecord, rows: &[SpentRow]) -> Result<(), KeepFault> {
-        let failing = self.failing.turn();
+        let failing = self.failing.step();
         self.office.put_past(kept, rows)?;
         if failing {
+            self.failing.count();
             return Err(KeepFault::Failed);
         }
         Ok(())
     }
 
     fn put_tariff(&mut self, xway: u8, tariff: &Tariff) -> Result<(), KeepFault> {
-        let failing = self.failing.turn();
+        let failing = self.failing.step();
         self.office.put_tariff(xway, tariff)?;
         if failing {
+            self.failing.count();
             return Err(KeepFault::Failed);
         }
         Ok(())

@@ -1,5 +1,5 @@
 // Calls that fail where they are told to.
-ghost use Rattle.std.specs.Prelude.{ℕ, ◌≡◌, ◌+◌, ◌≤◌, ◌==◌, true, IfOk};
+ghost use Rattle.std.specs.Prelude.{ℕ, ◌≡◌, ◌+◌, ◌≤◌, ◌==◌, true, false, IfOk};
 ghost use Rattle.std.specs.List.{list_any};
 ghost use Rattle.road_io.specs.Faults.{Rose};
 ghost use Rattle.keeper.specs.Memory.{planned_in, faults_in};
@@ -22,19 +22,39 @@ impl Failing {
         })
     }
 
+    /// Whether the next call is to fail. Nothing is counted yet.
+    pub fn step(&mut self) -> bool
+        ensures fails { result ≡ planned_in self.old 0 }
+        ensures next { (n : ℕ) → planned_in self.new n ≡ planned_in self.old (n + 1) }
+        ensures still { faults_in self.new ≡ faults_in self.old }
+    {
+        let (failing, next) = turn_of(&self.fails, self.calls);
+        self.calls = next;
+        failing
+    }
+
+    /// Counts a call that failed.
+    pub fn count(&mut self)
+        ensures same { (n : ℕ) → planned_in self.new n ≡ planned_in self.old n }
+        ensures later { faults_in self.old ≤ faults_in self.new }
+        ensures counted { Rose (faults_in self.old) (faults_in self.new) }
+    {
+        self.faults = self.faults.saturating_add(1);
+    }
+
     /// Whether the next call fails, which is counted then.
     pub fn turn(&mut self) -> bool
         ensures fails { result ≡ planned_in self.old 0 }
         ensures next { (n : ℕ) → planned_in self.new n ≡ planned_in self.old (n + 1) }
         ensures later { faults_in self.old ≤ faults_in self.new }
         ensures counted { result ≡ true → Rose (faults_in self.old) (faults_in self.new) }
+        ensures still { result ≡ false → faults_in self.new ≡ faults_in self.old }
     {
-        let (failing, next) = turn_of(&self.fails, self.calls);
-        self.calls = next;
-        if failing {
-            self.faults = self.faults.saturating_add(1);
+        if !self.step() {
+            return false;
         }
-        failing
+        self.count();
+        true
     }
 }
 
