@@ -1,53 +1,22 @@
 // The bytes of the lines that were cut: how many, and their digest.
-ghost use Rattle.std.specs.Prelude.{◌≡◌, ◌+◌, ◌<◌, ◌^◌, ◌++◌, [], ℕ, List, length};
-ghost use Rattle.keeper.specs.Digests.{digest_of};
-ghost use Rattle.day_reading.specs.Readings.{HasTaken};
+ghost use Rattle.std.specs.Prelude.{◌≤◌};
+ghost use Rattle.day_reading.specs.declared.consumed.TheConstants.{GREATEST_CHUNK};
 
 use digest_beside::BesideDigester;
-use keeper::Digest;
-use std::alloc::Global;
-use std::thread::Threads;
 
-/// So many bytes are gathered, at most, before a thread takes them for the digest.
-const CHUNK: usize = 262_144;
+mod steps;
 
-/// The bytes taken so far.
+/// So many bytes are gathered, at most, before the first thread takes them for the digest.
+const FIRST_CHUNK: usize = 262_144;
+
+/// So many bytes are gathered, at most, before any thread takes them: as many as the lines of a round have, so that the
+/// thread is not done before the caller reads again.
+const GREATEST_CHUNK: usize = 4_194_304;
+
+/// The bytes taken so far. Of these no more wait for a thread than a chunk has.
 #[derive(Drop)]
 pub struct Consumed {
     pub digester: BesideDigester,
     pub bytes: u64,
-}
-
-impl Consumed {
-    pub fn new(alloc: Global) -> Self
-        ensures none { HasTaken result [] }
-        ensures empty { result.bytes ≡ 0 }
-    {
-        Consumed {
-            digester: BesideDigester::new(alloc, CHUNK),
-            bytes: 0,
-        }
-    }
-
-    /// Takes a further piece.
-    pub fn add<R: Threads>(&mut self, rt: &R, piece: &[u8])
-        requires { self.old.bytes + length piece.now < 2 ^ 64 }
-        ensures taken { (bytes : List ℕ) → HasTaken self.old bytes → HasTaken self.new (bytes ++ piece.now) }
-        ensures count { self.new.bytes ≡ self.old.bytes + length piece.now }
-    {
-        self.digester.add(rt, piece);
-        self.bytes += piece.len() as u64;
-    }
-
-    /// The digest of the bytes.
-    pub fn digest<R: Threads>(self, rt: &R) -> Digest
-        ensures { (bytes : List ℕ) → HasTaken self bytes → result ≡ digest_of bytes }
-    {
-        self.digester.finish(rt)
-    }
-
-    /// Leaves the bytes, once no thread has a part of them.
-    pub fn close<R: Threads>(self, rt: &R) {
-        self.digester.close(rt);
-    }
+    ghost bounded: { digester.greatest ≤ GREATEST_CHUNK },
 }

@@ -13,3 +13,8 @@ WillHold (There child) bytes =
 -- a digester with a thread beside took these bytes: those that were handed on, and then those that wait
 abbrev pub TookBeside : BesideDigester → List ℕ → Type 0
 TookBeside d bytes = (before : List ℕ) × WillHold d.held before × (bytes ≡ before ++ d.waiting.items)
+
+-- no thread was begun: a thread that has a part of the digester had it before
+abbrev pub BeginsNone : HeldDigest → HeldDigest → Type 0
+BeginsNone old (Here back) = Unit {0}
+BeginsNone old (There child) = old ≡ There child

@@ -23,7 +23,7 @@ fn known_texts_in_pieces(rt: HostRuntime) -> Result<(), NoMemory> {
     let alloc = rt.alloc();
     for (text, wanted) in &TEXTS {
         for (chunk, size) in [(0, 1), (4, 3), (64, 7), (262_144, 64)] {
-            let mut digester = BesideDigester::new(alloc, chunk);
+            let mut digester = BesideDigester::new(alloc, chunk, 262_144);
             for piece in text.as_bytes().chunks(size) {
                 digester.add(&rt, piece);
             }
@@ -31,7 +31,7 @@ fn known_texts_in_pieces(rt: HostRuntime) -> Result<(), NoMemory> {
             assert_eq!(rt; found.as_str(), *wanted, "{chunk} {size}");
         }
     }
-    let mut left = BesideDigester::new(alloc, 0);
+    let mut left = BesideDigester::new(alloc, 0, 0);
     left.add(&rt, b"abc");
     left.close(&rt);
     Ok(())

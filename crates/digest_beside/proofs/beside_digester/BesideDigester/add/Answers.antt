@@ -2,9 +2,9 @@ use Rattle.std.proofs.Common.{◌++◌, ap, sym, ◌∙◌}
 use Rattle.std.proofs.lemmas.List.{append_assoc}
 use Rattle.digest_beside.proofs.beside_digester.BesideDigester.add.Goals as goal
 
-pub returns-in-Ok : goal.returns-in-Ok
-returns-in-Ok g c bytes took =
-    let t = c.make_room.ensures bytes took in (
+pub returns-in-Ok-clause-took : goal.returns-in-Ok-clause-took
+returns-in-Ok-clause-took g c bytes took =
+    let t = c.make_room.ensures.took bytes took in (
       t.0,
       t.1,
       ap (λ xs. xs ++ c.args.piece.now) t.2
@@ -12,7 +12,7 @@ returns-in-Ok g c bytes took =
           ∙ ap (λ xs. t.0 ++ xs) (sym c.in-Ok.ensures.items),
     )
 
-pub returns-in-Err : goal.returns-in-Err
-returns-in-Err g c bytes took =
-    let t = c.make_room.ensures bytes took in
-    c.add_here.ensures bytes (t.0, t.1, t.2 ∙ ap (λ xs. t.0 ++ xs) (sym c.in-Err.ensures.items))
+pub returns-in-Err-clause-took : goal.returns-in-Err-clause-took
+returns-in-Err-clause-took g c bytes took =
+    let t = c.make_room.ensures.took bytes took in
+    c.add_here-in-Err.ensures.took bytes (t.0, t.1, t.2 ∙ ap (λ xs. t.0 ++ xs) (sym c.in-Err.ensures.items))
