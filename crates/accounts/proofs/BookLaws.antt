@@ -1,6 +1,6 @@
 -- a book's entries stay sound, and stand for its maps
 use Rattle.std.proofs.Common.{◌≡◌, ℕ, ◌+◌, ◌*◌, ◌^◌, ◌≤◌, ◌<◌, ◌==◌, ◌&&◌, Bool, true, false, cond, not, List, [], ◌∷◌}
-use Rattle.std.proofs.Common.{map, Option, Some, None, refl, sym, ap, subst, ◌∙◌, arith, nat_eq}
+use Rattle.std.proofs.Common.{map, Option, Some, None, IfSome, refl, sym, ap, subst, ◌∙◌, arith, nat_eq}
 use Rattle.std.specs.Option.{unwrap_or, option_map}
 use Rattle.std.specs.List.{IsDistinct}
 use Rattle.std.specs.Map.{lookup, keys_of}
@@ -13,7 +13,7 @@ use Rattle.accounts.specs.declared.vehicle.First.{First}
 use Rattle.accounts.specs.declared.vehicle.Vehicle.{Vehicle}
 use Rattle.accounts.specs.Sums.{SpentMap, amount_in, account_in, total_in, with_charge, same_owner, sum_at}
 use Rattle.accounts.specs.Entries.{vehicle_at, is_further, sum_of_first, first_sum, first_after, all_sums, looked_up}
-use Rattle.accounts.specs.Books.{Accounts, told_of, spent_sums, IsBalanced}
+use Rattle.accounts.specs.Books.{Accounts, retold, told_of, spent_sums, IsBalanced}
 use Rattle.accounts.proofs.SumLaws.{account_more, total_more, account_none, total_none, account_few, amount_few}
 use Rattle.accounts.proofs.EntryLaws.{get_spent, spent_after, spent_same, all_apart, charged_up, parts_few}
 
@@ -67,6 +67,21 @@ told_kept vs ws vid was is there same h =
     ∙ (ap (option_map (λ x. x.told)) (h q)
     ∙ (same_told (nat_eq vid q) is was (lookup (nat_eq q) vs) same
     (λ e. ap (λ v. lookup (nat_eq v) vs) (sym (eqb-true vid q e)) ∙ sym there) ∙ sym (get_told vs q))))
+
+-- a charge puts the next toll that is told, if there is one
+pub told_after : (next : Option ℕ) (vs ws : List (ℕ × Vehicle)) (vid : ℕ) (was is : Vehicle) →
+    Some was ≡ lookup (nat_eq vid) vs → is.told ≡ unwrap_or next was.told →
+    ((v : ℕ) → lookup (nat_eq v) ws ≡ cond (nat_eq vid v) (Some is) (lookup (nat_eq v) vs)) →
+    told_of ws ≡ retold (told_of vs) vid next
+told_after None vs ws vid was is there same h = told_kept vs ws vid was is there same h
+told_after (Some toll) vs ws vid was is there same h =
+    told_put vs ws vid is h ∙ ap (insert (told_of vs) vid) same
+
+-- and it is a toll, where the one before is
+pub next_few : (next : Option ℕ) (was : ℕ) → was ≤ GREATEST_TOLL → IfSome next (λ toll. toll ≤ GREATEST_TOLL) →
+    unwrap_or next was ≤ GREATEST_TOLL
+next_few None was few next = few
+next_few (Some toll) was few next = next
 
 -- what an entry has, zeros where there is none
 abbrev entry_or : Option Vehicle → Vehicle
@@ -204,7 +219,7 @@ module _ (vs : List (ℕ × Vehicle)) (es : List ((ℕ × ℕ) × ℕ)) (total m
         let b = told_few in
         omega (arith, part, most, b, few)
 
-    module _ (ws : List (ℕ × Vehicle)) (fs : List ((ℕ × ℕ) × ℕ)) (is : Vehicle) (told : is.told ≡ was.told)
+    module _ (ws : List (ℕ × Vehicle)) (fs : List ((ℕ × ℕ) × ℕ)) (is : Vehicle) (told : is.told ≤ GREATEST_TOLL)
         (sum : is.sum ≡ was.sum + was.told) (first : is.first ≡ Some (first_after was.first xway was.told))
         (unique : IsDistinct nat_eq (keys_of ws))
         (vehicles : (v : ℕ) → lookup (nat_eq v) ws ≡ cond (nat_eq vid v) (Some is) (lookup (nat_eq v) vs))
@@ -258,7 +273,7 @@ module _ (vs : List (ℕ × Vehicle)) (es : List ((ℕ × ℕ) × ℕ)) (total m
         unique = unique;
         apart = charged_apart;
         told = each_put vs ws vid is vehicles (λ v e. e.told ≤ GREATEST_TOLL)
-            (subst (λ n. n ≤ GREATEST_TOLL) (sym told) told_few) sound.told;
+            told sound.told;
         account = λ v. sum_each v
             ∙ (sym (account_more (spent_sums vs es) (record { vid = vid; xway = xway; toll = was.told }) v)
             ∙ ap (λ m. account_in m v) (sym spent_charged));

@@ -1,8 +1,8 @@
-use Rattle.std.specs.Prelude.{◌≡◌, ℕ, ◌*◌, ◌≤◌, false, None, nat_eq, List, map, refl}
+use Rattle.std.specs.Prelude.{◌≡◌, ℕ, ◌*◌, ◌≤◌, false, Option, None, Some, nat_eq, List, map, refl}
 use Rattle.std.specs.List.{IsDistinct}
 use Rattle.std.specs.Map.{lookup, keys_of}
 use Rattle.std.specs.Ordering.{nat_cmp}
-use Rattle.std.specs.FinMap.{FinMap, from_entries, code}
+use Rattle.std.specs.FinMap.{FinMap, from_entries, insert, code}
 use Rattle.std.specs.Coded.{Coded, code_by, coded×, coded_ℕ}
 use Rattle.accounts.specs.declared.vehicle.Vehicle.{Vehicle}
 use Rattle.accounts.specs.Sums.{SpentMap, sums_of, account_in, total_in, same_owner}
@@ -21,6 +21,11 @@ accounts_code =
     code_by (FinMap nat_cmp ℕ × (SpentMap × ℕ))
     (coded× (code coded_ℕ coded_ℕ) (coded× (code (coded× coded_ℕ coded_ℕ) coded_ℕ) coded_ℕ))
     (λ b. (b.told, (b.spent, b.made))) (λ p. record { told = p.0; spent = p.1.0; made = p.1.1 }) (λ _. refl)
+
+-- what each vehicle was told last, once one is told a further toll, if there is one
+abbrev pub retold : FinMap nat_cmp ℕ → ℕ → Option ℕ → FinMap nat_cmp ℕ
+retold told vid None = told
+retold told vid (Some toll) = insert told vid toll
 
 -- what the entries of vehicles tell
 abbrev pub told_of : List (ℕ × Vehicle) → FinMap nat_cmp ℕ

@@ -1,7 +1,8 @@
 // The day's accounts.
-ghost use Rattle.std.specs.Prelude.{◌≡◌, ◌≤◌, ◌<◌, ◌+◌, ◌*◌, ◌++◌, ◌∷◌, Some, IsSome, IfOk, OnErr};
+ghost use Rattle.std.specs.Prelude.{◌≡◌, ◌≤◌, ◌<◌, ◌+◌, ◌*◌, ◌++◌, ◌∷◌, Some, IsSome, IfSome, IfOk, OnErr};
 ghost use Rattle.std.specs.FinMap.{empty, get, insert};
 ghost use Rattle.road_time.specs.declared.tariff.TheConstants.{GREATEST_TOLL};
+ghost use Rattle.accounts.specs.Books.{retold};
 ghost use Rattle.accounts.specs.Sums.{account_in, total_in, with_charge, AreRowsOf};
 
 use crate::rows::{list_firsts, list_further, sort_rows};
@@ -66,6 +67,38 @@ impl Book {
         Ok(())
     }
 
+    /// Charges a vehicle the toll that it was told last, on an expressway, and keeps the next toll that it is told, if
+    /// there is one: both by one look-up.
+    #[inline(always)]
+    fn charge_then(&mut self, vid: u32, xway: u8, next: Option<u64>) -> Result<u64, NoMemory>
+        requires told { IsSome (get self.old.told vid) }
+        requires few { self.old.made < 16000000 }
+        requires next { IfSome next (λ toll. toll ≤ GREATEST_TOLL) }
+        ensures toll { IfOk result (λ toll. Some toll ≡ get self.old.told vid) }
+        ensures capped { IfOk result (λ toll. toll ≤ GREATEST_TOLL) }
+        ensures booked { IfOk result (λ toll. self.new
+            ≡ record self.old {
+              told = retold self.old.told vid next;
+              spent = with_charge self.old.spent (record { vid = vid; xway = xway; toll = toll });
+              made = self.old.made + 1;
+            }) }
+        ensures refused { OnErr result (self.new ≡ self.old) }
+    {
+        let Some(vehicle) = self.vehicles.get_mut(&vid) else {
+            unreachable!()
+        };
+        let toll = vehicle.told;
+        add_further(&mut self.further, vehicle.first, (vid, xway), toll)?;
+        *vehicle = Vehicle {
+            told: next.unwrap_or(toll),
+            sum: vehicle.sum + toll,
+            first: Some(first_after(vehicle.first, xway, toll)),
+        };
+        self.total += toll;
+        self.made += 1;
+        Ok(toll)
+    }
+
     /// Charges a vehicle the toll that it was told last, on an expressway, and gives that toll. The one error is want
     /// of memory. It asks that the vehicle was told a toll, and that fewer than 16,000,000 charges were made.
     pub fn charge(&mut self, vid: u32, xway: u8) -> Result<u64, NoMemory>
@@ -80,19 +113,31 @@ impl Book {
             }) }
         ensures refused { OnErr result (self.new ≡ self.old) }
     {
-        let Some(vehicle) = self.vehicles.get_mut(&vid) else {
-            unreachable!()
-        };
-        let toll = vehicle.told;
-        add_further(&mut self.further, vehicle.first, (vid, xway), toll)?;
-        *vehicle = Vehicle {
-            told: toll,
-            sum: vehicle.sum + toll,
-            first: Some(first_after(vehicle.first, xway, toll)),
-        };
-        self.total += toll;
-        self.made += 1;
-        Ok(toll)
+        match self.charge_then(vid, xway, None) {
+            Ok(toll) => Ok(toll),
+            Err(refused) => Err(refused),
+        }
+    }
+
+    /// Charges a vehicle as `charge` does, and then keeps the toll that it is told, as `notify` does.
+    pub fn charge_and_notify(&mut self, vid: u32, xway: u8, next: u64) -> Result<u64, NoMemory>
+        requires told { IsSome (get self.old.told vid) }
+        requires few { self.old.made < 16000000 }
+        requires next { next ≤ GREATEST_TOLL }
+        ensures toll { IfOk result (λ toll. Some toll ≡ get self.old.told vid) }
+        ensures capped { IfOk result (λ toll. toll ≤ GREATEST_TOLL) }
+        ensures booked { IfOk result (λ toll. self.new
+            ≡ record {
+              told = insert self.old.told vid next;
+              spent = with_charge self.old.spent (record { vid = vid; xway = xway; toll = toll });
+              made = self.old.made + 1;
+            }) }
+        ensures refused { OnErr result (self.new ≡ self.old) }
+    {
+        match self.charge_then(vid, xway, Some(next)) {
+            Ok(toll) => Ok(toll),
+            Err(refused) => Err(refused),
+        }
     }
 
     /// A vehicle's account: the sum of what it was charged, 0 for one that never was.

@@ -8,14 +8,14 @@ ghost use Rattle.settling.specs.Faults.{SinkFaults, keeper_failed};
 ghost use Rattle.settling.specs.Printing.{Says};
 
 use super::Settler;
-use crate::booking::charge_stay;
+use crate::booking::book_report;
 use crate::fault::SettleFault;
 use crate::slot::Found;
 use crossings::Charge;
 use road_io::Sink;
 
 impl Settler {
-    /// Tells a report what was found, if it is told.
+    /// Writes what a report is told, if it is told.
     fn tell<O: Sink>(
         &mut self,
         time: u32,
@@ -26,7 +26,7 @@ impl Settler {
     ) -> Result<(), SettleFault>
         requires toll { found.toll ≤ GREATEST_TOLL }
         requires count { self.old.printer.notices + 2 < 2 ^ 64 }
-        ensures booked { OnOk result (self.new.book ≡ told_with told vid found.toll self.old.book) }
+        ensures book { self.new.book ≡ self.old.book }
         ensures says { Says result self.old.printer self.new.printer (O.written sink.old, O.room sink.old)
             (O.written sink.new, O.room sink.new) (told_notices told time vid found) }
         ensures charges { self.new.charges ≡ self.old.charges }
@@ -36,9 +36,6 @@ impl Settler {
     {
         if !told {
             return Ok(());
-        }
-        if self.book.notify(vid, found.toll).is_err() {
-            return Err(SettleFault::NoMemory);
         }
         self.printer.put_told(time, vid, found, sink)
     }
@@ -68,7 +65,16 @@ impl Settler {
         ensures faults { SinkFaults (O.faults sink.old) (O.faults sink.new) (O.room sink.old) (O.room sink.new) result }
         ensures other { keeper_failed result ≡ false }
     {
-        if charge_stay(&mut self.book, &mut self.charges, vid, charge).is_err() {
+        if book_report(
+            &mut self.book,
+            &mut self.charges,
+            vid,
+            charge,
+            told,
+            found.toll,
+        )
+        .is_err()
+        {
             return Err(SettleFault::NoMemory);
         }
         self.tell(time, vid, told, found, sink)

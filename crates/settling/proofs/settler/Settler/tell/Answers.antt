@@ -2,7 +2,7 @@ use Rattle.std.proofs.Common.{◌≡◌, false, Ok, subst, sym, rules}
 use Rattle.settling.specs.Answers.{told_notices}
 use Rattle.settling.specs.Levels.{Level}
 use Rattle.settling.specs.Printing.{Says}
-use Rattle.settling.proofs.PrintLaws.{says_no_memory, says_none}
+use Rattle.settling.proofs.PrintLaws.{says_none}
 use Rattle.settling.proofs.settler.Settler.tell.Goals as goal
 
 pub returns-then-not-told-clause-says : goal.returns-then-not-told-clause-says
@@ -13,9 +13,3 @@ returns-then-not-told-clause-says g c =
     let off : a.told ≡ false = search rules in
     subst (λ told. Says {T = Unit {0}} (Ok tt) p p w w (told_notices told a.time a.vid a.found)) (sym off)
     (says_none p w)
-
-pub returns-then-is_err-clause-says : goal.returns-then-is_err-clause-says
-returns-then-is_err-clause-says g c =
-    let a = c.args in
-    says_no_memory a.self.now.printer a.self.now.printer (g.O.Sink.written a.sink.now, g.O.Sink.room a.sink.now)
-    (told_notices a.told a.time a.vid a.found)

@@ -1,18 +1,19 @@
-use Rattle.std.proofs.Common.{rules, ◌≡◌, ◌+◌, ◌<◌, arith, refl, sym, ap, subst, ◌∙◌, None, Some, IsSome, nat_eq}
+use Rattle.std.proofs.Common.{rules, ◌≡◌, ◌+◌, ◌<◌, ◌≤◌, arith, refl, sym, ap, subst, ◌∙◌, None, Some, IsSome, nat_eq}
 use Rattle.std.specs.Map.{lookup, keys_of}
 use Rattle.std.specs.List.{IsDistinct}
-use Rattle.std.specs.Option.{option_map, option_copied_mut}
+use Rattle.std.specs.Option.{option_map, option_copied_mut, unwrap_or}
 use Rattle.std.specs.FinMap.{get}
 use Rattle.std.proofs.Math.Facts.{Fits-of_lt}
 use Rattle.std.proofs.lemmas.Map.{keys-set_value}
 use Rattle.std.proofs.lemmas.Map.Steps.{set_value_same}
 use Rattle.std.proofs.lemmas.Result.{err_from_is_err_and}
+use Rattle.road_time.specs.declared.tariff.TheConstants.{GREATEST_TOLL}
 use Rattle.accounts.specs.declared.vehicle.Vehicle.{Vehicle}
 use Rattle.accounts.specs.Sums.{with_charge}
-use Rattle.accounts.specs.Books.{Accounts, told_of, spent_sums}
-use Rattle.accounts.proofs.BookLaws.{book_made, get_told, told_kept, further_fits, first_fits, sum_fits, spent_charged}
+use Rattle.accounts.specs.Books.{Accounts, retold, told_of, spent_sums}
+use Rattle.accounts.proofs.BookLaws.{book_made, get_told, told_after, next_few, told_few, further_fits, first_fits, sum_fits, spent_charged}
 use Rattle.accounts.proofs.BookLaws.{sound_charged}
-use Rattle.accounts.proofs.book.Book.charge.Goals as goal
+use Rattle.accounts.proofs.book.Book.charge_then.Goals as goal
 
 pub unreachable-requires : goal.unreachable-requires
 unreachable-requires c =
@@ -70,14 +71,20 @@ invariant_of-self-2 c =
     let vehicles = c.self.inside.vehicles.entries in
     let is : Vehicle =
     record {
-      told = c.in-Some.vehicle.now.told;
+      told = c.unwrap_or.result;
       sum =
           c.in-Some.vehicle.now.sum + c.in-Some.vehicle.now.told;
       first = Some c.first_after.result;
     } in
+    let few_told : c.unwrap_or.result ≤ GREATEST_TOLL =
+    subst (λ n. n ≤ GREATEST_TOLL) (sym c.unwrap_or.ensures)
+    (next_few c.args.next c.in-Some.vehicle.now.told
+    (told_few vehicles c.self.inside.further.entries c.self.inside.total c.self.inside.made c.self.invariant
+    c.args.vid c.in-Some.vehicle.now c.in-Some.ensures.value) c.requires.next) in
     sound_charged vehicles c.self.inside.further.entries c.self.inside.total c.self.inside.made c.self.invariant
     c.args.vid c.in-Some.vehicle.now c.in-Some.ensures.value few c.args.xway
-    (c.get_mut.follows.lender is).entries c.add_further.new.sums.entries is refl refl (ap Some c.first_after.ensures)
+    (c.get_mut.follows.lender is).entries c.add_further.new.sums.entries is few_told
+    refl (ap Some c.first_after.ensures)
     (subst (IsDistinct nat_eq)
     (sym (ap keys_of (c.get_mut.follows.holds is).0 ∙ keys-set_value (nat_eq c.args.vid) vehicles is))
     c.self.invariant.unique)
@@ -97,18 +104,24 @@ returns-clause-booked c =
     let vehicles = c.self.inside.vehicles.entries in
     let is : Vehicle =
     record {
-      told = c.in-Some.vehicle.now.told;
+      told = c.unwrap_or.result;
       sum =
           c.in-Some.vehicle.now.sum + c.in-Some.vehicle.now.told;
       first = Some c.first_after.result;
     } in
+    let few_told : c.unwrap_or.result ≤ GREATEST_TOLL =
+    subst (λ n. n ≤ GREATEST_TOLL) (sym c.unwrap_or.ensures)
+    (next_few c.args.next c.in-Some.vehicle.now.told
+    (told_few vehicles c.self.inside.further.entries c.self.inside.total c.self.inside.made c.self.invariant
+    c.args.vid c.in-Some.vehicle.now c.in-Some.ensures.value) c.requires.next) in
     book_made
-    (told_kept vehicles (c.get_mut.follows.lender is).entries c.args.vid c.in-Some.vehicle.now is
-    c.in-Some.ensures.value refl (λ v. ((c.get_mut.follows.holds is).3 (search rules)).0 v)
-    ∙ ap (λ (s : Accounts). s.told) c.self.view_is)
+    (told_after c.args.next vehicles (c.get_mut.follows.lender is).entries c.args.vid c.in-Some.vehicle.now is
+    c.in-Some.ensures.value c.unwrap_or.ensures (λ v. ((c.get_mut.follows.holds is).3 (search rules)).0 v)
+    ∙ ap (λ (s : Accounts). retold s.told c.args.vid c.args.next) c.self.view_is)
     (spent_charged vehicles c.self.inside.further.entries c.self.inside.total c.self.inside.made c.self.invariant
     c.args.vid c.in-Some.vehicle.now c.in-Some.ensures.value few c.args.xway
-    (c.get_mut.follows.lender is).entries c.add_further.new.sums.entries is refl refl (ap Some c.first_after.ensures)
+    (c.get_mut.follows.lender is).entries c.add_further.new.sums.entries is few_told
+    refl (ap Some c.first_after.ensures)
     (subst (IsDistinct nat_eq)
     (sym (ap keys_of (c.get_mut.follows.holds is).0 ∙ keys-set_value (nat_eq c.args.vid) vehicles is))
     c.self.invariant.unique)
