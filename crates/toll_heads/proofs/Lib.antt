@@ -1,6 +1,7 @@
 pub mod PathLaws
 pub mod PartLaws
 pub mod FieldLaws
+pub mod OriginLaws
 pub mod FrontLaws
 pub mod HeadLaws
 pub mod RouteLaws

@@ -1,5 +1,6 @@
 pub mod Numbers
 pub mod Paths
+pub mod Origins
 pub mod Requests
 pub mod Fields
 pub mod Fronts

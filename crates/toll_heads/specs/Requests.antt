@@ -6,12 +6,14 @@ use Rattle.httparse.specs.Grammar.{RequestHead}
 use Rattle.httparse.specs.Spans.{name_and_value}
 use Rattle.toll_heads.specs.Numbers.{short_number}
 use Rattle.toll_heads.specs.Paths.{path_of, path_place}
+use Rattle.toll_heads.specs.Origins.{is_foreign}
 use Rattle.toll_heads.specs.declared.place.DeskPlace.{DeskPlace}
 use Rattle.toll_heads.specs.declared.place.DeskPlace.TheVariants.{DayPlace, SpentPlace, LivePlace, TotalPlace}
 use Rattle.toll_heads.specs.declared.wanted.Wanted.{Wanted}
 use Rattle.toll_heads.specs.declared.wanted.Wanted.TheVariants.{Day, Import, Spent, Live, LiveTotal}
 use Rattle.toll_heads.specs.declared.wanted.Refusal.{Refusal}
-use Rattle.toll_heads.specs.declared.wanted.Refusal.TheVariants.{NoPath, BadMethod, BadLength, LengthNeeded, TooLong}
+use Rattle.toll_heads.specs.declared.wanted.Refusal.TheVariants.{BadOrigin, NoPath, BadMethod, BadLength}
+use Rattle.toll_heads.specs.declared.wanted.Refusal.TheVariants.{LengthNeeded, TooLong}
 
 -- a value behind others, if its field has the name, whatever the case of its letters
 abbrev pub value_if : List ℕ → List ℕ × List ℕ → List (List ℕ) → List (List ℕ)
@@ -58,6 +60,11 @@ asked_at (Some (SpentPlace day xway vid)) method fields = only_get method (Spent
 asked_at (Some (LivePlace vid)) method fields = only_get method (Live vid)
 asked_at (Some TotalPlace) method fields = only_get method LiveTotal
 
+-- what a target, a method and fields ask for: nothing where a page of the web may have sent them
+abbrev pub asked_by : List ℕ → List ℕ → List (List ℕ × List ℕ) → Result Wanted Refusal
+asked_by target method fields =
+    if is_foreign fields then Err BadOrigin else asked_at (path_place (path_of target)) method fields
+
 -- what a head asks for
 abbrev pub wanted_of : RequestHead → Result Wanted Refusal
-wanted_of h = asked_at (path_place (path_of h.target)) h.method (map name_and_value h.fields)
+wanted_of h = asked_by h.target h.method (map name_and_value h.fields)

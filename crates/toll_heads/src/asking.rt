@@ -1,11 +1,13 @@
 // What a head asks for.
-ghost use Rattle.std.specs.Prelude.{◌≡◌, IfOk};
+ghost use Rattle.std.specs.Prelude.{◌≡◌, IfOk, map};
 ghost use Rattle.httparse.specs.Grammar.{RequestHead};
-ghost use Rattle.httparse.specs.Spans.{IsRequestAt, IsRequestWithin};
-ghost use Rattle.toll_heads.specs.Requests.{wanted_of as wanted_of_head, only_get as only_get_of};
+ghost use Rattle.httparse.specs.Spans.{IsRequestAt, IsRequestWithin, name_and_value};
+ghost use Rattle.toll_heads.specs.Paths.{path_of as path_of_target, path_place};
+ghost use Rattle.toll_heads.specs.Requests.{wanted_of as wanted_of_head, asked_at as asked_at_place, only_get as only_get_of};
 ghost use Rattle.toll_heads.specs.Asks.{IsWanted};
 
 use crate::fields::body_length;
+use crate::origins::is_foreign;
 use crate::paths::path_of;
 use crate::place::DeskPlace;
 use crate::routing::Routes;
@@ -24,15 +26,16 @@ fn only_get(method: &[u8], wanted: Wanted) -> Result<Wanted, Refusal>
     }
 }
 
-/// What a head asks for, or why it is refused.
-pub fn wanted_of(
+/// What is asked for at the place of a head's path.
+fn asked_at(
     routes: &Routes,
     buf: &[u8],
     spans: &RequestSpans,
     headers: &[HeaderSpan],
 ) -> Result<Wanted, Refusal>
     requires { IsRequestWithin buf.now headers.now spans.now }
-    ensures wanted { (h : RequestHead) → IsRequestAt buf.now headers.now spans.now h → result ≡ wanted_of_head h }
+    ensures wanted { (h : RequestHead) → IsRequestAt buf.now headers.now spans.now h
+        → result ≡ asked_at_place (path_place (path_of_target h.target)) h.method (map name_and_value h.fields) }
     ensures ranges { IfOk result IsWanted }
 {
     let method = spans.method.of(buf);
@@ -53,4 +56,21 @@ pub fn wanted_of(
         Some(DeskPlace::LivePlace(vid)) => only_get(method, Wanted::Live(vid)),
         Some(DeskPlace::TotalPlace) => only_get(method, Wanted::LiveTotal),
     }
+}
+
+/// What a head asks for, or why it is refused.
+pub fn wanted_of(
+    routes: &Routes,
+    buf: &[u8],
+    spans: &RequestSpans,
+    headers: &[HeaderSpan],
+) -> Result<Wanted, Refusal>
+    requires { IsRequestWithin buf.now headers.now spans.now }
+    ensures wanted { (h : RequestHead) → IsRequestAt buf.now headers.now spans.now h → result ≡ wanted_of_head h }
+    ensures ranges { IfOk result IsWanted }
+{
+    if is_foreign(buf, &headers[..spans.headers]) {
+        return Err(Refusal::BadOrigin);
+    }
+    asked_at(routes, buf, spans, headers)
 }

@@ -10,7 +10,7 @@ use crate::wanted::Refusal;
 use httparse::spans::{HeaderSpan, Span};
 
 /// Whether a field's name is this one, whatever the case of its letters.
-fn is_named(key: &[u8], name: &[u8]) -> bool
+pub(crate) fn is_named(key: &[u8], name: &[u8]) -> bool
     ensures { result ≡ str_eq_ignore_ascii_case key.now name.now }
 {
     key.eq_ignore_ascii_case(name)

@@ -13,8 +13,8 @@ use Rattle.toll_heads.specs.declared.wanted.Wanted.{Wanted}
 use Rattle.toll_heads.specs.declared.wanted.Wanted.TheVariants as wanted
 use Rattle.road_io.specs.Rooms.{Room, Untold, Bound, Endless, Refuses}
 use Rattle.toll_heads.specs.declared.wanted.Refusal.{Refusal}
-use Rattle.toll_heads.specs.declared.wanted.Refusal.TheVariants.{BadHead, NoPath, BadMethod, BadLength, LengthNeeded}
-use Rattle.toll_heads.specs.declared.wanted.Refusal.TheVariants.{TooLong}
+use Rattle.toll_heads.specs.declared.wanted.Refusal.TheVariants.{BadHead, BadOrigin, NoPath, BadMethod, BadLength}
+use Rattle.toll_heads.specs.declared.wanted.Refusal.TheVariants.{LengthNeeded, TooLong}
 use Rattle.toll_texts.specs.Replies.{Reply, reply_bytes, no_memory_reply}
 use Rattle.toll_requests.specs.Sends.{Replies, HasRoom, HasRoomFor, refusal_reply, refusal_room}
 use Rattle.toll_requests.specs.Requests.{asked_for, wanted_in, Heads, HasBody, IsRequestRefused, ReadsHeadAsked}
@@ -96,6 +96,7 @@ memory_short = omega arith
 refusal_short : (r : Refusal) → length (reply_bytes (refusal_reply r)) ≤ refusal_room
 unfolding digits
 refusal_short BadHead = omega arith
+refusal_short BadOrigin = omega arith
 refusal_short NoPath = omega arith
 refusal_short BadMethod = omega arith
 refusal_short BadLength = omega arith

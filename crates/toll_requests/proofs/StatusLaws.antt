@@ -1,8 +1,8 @@
 -- Laws of the status that is answered.
 use Rattle.std.proofs.Common.{◌≡◌, ◌≢◌, ◌<◌, ℕ, inl, inr, List, Option, sym, subst, arith}
 use Rattle.toll_heads.specs.declared.wanted.Refusal.{Refusal}
-use Rattle.toll_heads.specs.declared.wanted.Refusal.TheVariants.{BadHead, NoPath, BadMethod, BadLength, LengthNeeded}
-use Rattle.toll_heads.specs.declared.wanted.Refusal.TheVariants.{TooLong}
+use Rattle.toll_heads.specs.declared.wanted.Refusal.TheVariants.{BadHead, BadOrigin, NoPath, BadMethod, BadLength}
+use Rattle.toll_heads.specs.declared.wanted.Refusal.TheVariants.{LengthNeeded, TooLong}
 use Rattle.toll_texts.specs.Replies.{Reply, no_memory_reply}
 use Rattle.toll_requests.specs.Sends.{SendsReply, Replies, refusal_reply}
 use Rattle.toll_requests.specs.declared.session_end.SessionEnd.{SessionEnd}
@@ -25,6 +25,7 @@ memory_is_available old new end sent is =
 
 refusal_low : (r : Refusal) → (refusal_reply r).status < 500
 refusal_low BadHead = omega arith
+refusal_low BadOrigin = omega arith
 refusal_low NoPath = omega arith
 refusal_low BadMethod = omega arith
 refusal_low BadLength = omega arith

@@ -3,8 +3,8 @@ use Rattle.std.specs.Prelude.{◌≡◌, ◌⊎◌, ℕ, ◌<◌, ◌≤◌, Lis
 use Rattle.std.specs.Io.KnownBytes.{Appends}
 use Rattle.road_io.specs.Rooms.{Room, Untold, Bound, Endless}
 use Rattle.toll_heads.specs.declared.wanted.Refusal.{Refusal}
-use Rattle.toll_heads.specs.declared.wanted.Refusal.TheVariants.{BadHead, NoPath, BadMethod, BadLength, LengthNeeded}
-use Rattle.toll_heads.specs.declared.wanted.Refusal.TheVariants.{TooLong}
+use Rattle.toll_heads.specs.declared.wanted.Refusal.TheVariants.{BadHead, BadOrigin, NoPath, BadMethod, BadLength}
+use Rattle.toll_heads.specs.declared.wanted.Refusal.TheVariants.{LengthNeeded, TooLong}
 use Rattle.toll_texts.specs.Replies.{Reply, reply_bytes, error_reply, no_memory_reply}
 use Rattle.toll_requests.specs.declared.session_end.SessionEnd.{SessionEnd}
 use Rattle.toll_requests.specs.declared.session_end.SessionEnd.TheVariants.{Answered, Cut, LinkFault}
@@ -26,6 +26,7 @@ Replies r old new end = SendsReply r old new end ⊎ SendsReply no_memory_reply 
 -- the answer of a request that is refused at once
 abbrev pub refusal_reply : Refusal → Reply
 refusal_reply BadHead = error_reply 400 (codes "head")
+refusal_reply BadOrigin = error_reply 403 (codes "origin")
 refusal_reply NoPath = error_reply 404 (codes "no path")
 refusal_reply BadMethod = error_reply 405 (codes "method")
 refusal_reply BadLength = error_reply 400 (codes "length")

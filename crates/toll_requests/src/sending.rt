@@ -94,6 +94,7 @@ pub fn refuse<L: Link>(alloc: Global, link: &mut L, refusal: Refusal) -> Session
 {
     match refusal {
         Refusal::BadHead => send_error(alloc, link, StatusCode::BAD_REQUEST, "head"),
+        Refusal::BadOrigin => send_error(alloc, link, StatusCode::FORBIDDEN, "origin"),
         Refusal::NoPath => send_error(alloc, link, StatusCode::NOT_FOUND, "no path"),
         Refusal::BadMethod => send_error(alloc, link, StatusCode::METHOD_NOT_ALLOWED, "method"),
         Refusal::BadLength => send_error(alloc, link, StatusCode::BAD_REQUEST, "length"),

@@ -137,7 +137,7 @@ fn heads_at_their_limits(rt: HostRuntime) -> Result<(), NoMemory> {
 }
 
 /// A POST without its body.
-const POST: &[u8] = b"POST /days/100?a HTTP/1.1\r\nHost: x\r\nContent-Length: 5\r\n\r\n";
+const POST: &[u8] = b"POST /days/100?a HTTP/1.1\r\nHost: localhost\r\nContent-Length: 5\r\n\r\n";
 
 #[test]
 fn a_head_that_is_cut_is_not_answered(rt: HostRuntime) -> Result<(), NoMemory> {

@@ -6,6 +6,10 @@ pub const BAD_HEAD: &[u8] =
     b"HTTP/1.1 400 Bad Request\r\nContent-Length: 16\r\nContent-Type: application/json\r\nConnection: close\r\n\r\n\
         {\"error\":\"head\"}";
 
+const BAD_ORIGIN: &[u8] =
+    b"HTTP/1.1 403 Forbidden\r\nContent-Length: 18\r\nContent-Type: application/json\r\nConnection: close\r\n\r\n\
+        {\"error\":\"origin\"}";
+
 const NO_PATH: &[u8] =
     b"HTTP/1.1 404 Not Found\r\nContent-Length: 19\r\nContent-Type: application/json\r\nConnection: close\r\n\r\n\
         {\"error\":\"no path\"}";
@@ -27,13 +31,13 @@ const TOO_LONG: &[u8] =
         Connection: close\r\n\r\n{\"error\":\"too long\"}";
 
 /// Requests that are read, and what they ask.
-pub const ASKED: [(&[u8], Came); 24] = [
+pub const ASKED: [(&[u8], Came); 27] = [
     (b"GET /days/100 HTTP/1.1\r\n\r\n", Came::Day(100)),
     (b"GET /days/100 HTTP/1.0\n\n", Came::Day(100)),
     (b"\r\n\r\nGET /days/100 HTTP/1.1\r\n\r\n", Came::Day(100)),
     (b"GET /days/0000000100 HTTP/1.1\r\n\r\n", Came::Day(100)),
     (
-        b"GET /days/70?day=/live&x=%20 HTTP/1.1\r\nHost: x\r\n\r\n",
+        b"GET /days/70?day=/live&x=%20 HTTP/1.1\r\nHost: localhost\r\n\r\n",
         Came::Day(70),
     ),
     (
@@ -74,6 +78,18 @@ pub const ASKED: [(&[u8], Came); 24] = [
         Came::Live(2147483647),
     ),
     (b"GET /live HTTP/1.1\r\n\r\n", Came::Total),
+    (
+        b"GET /live/5 HTTP/1.1\r\nHost: 127.0.0.1:8080\r\n\r\n",
+        Came::Live(5),
+    ),
+    (
+        b"GET /live/5 HTTP/1.1\r\nhost: LocalHost:1\r\nX-Origin: a\r\n\r\n",
+        Came::Live(5),
+    ),
+    (
+        b"GET /live/5 HTTP/1.1\r\nHost: [::1]:65535\r\nHost: localhost:\r\n\r\n",
+        Came::Live(5),
+    ),
     (b"GET /live?x HTTP/1.1\r\n\r\n", Came::Total),
     (b"", Came::Ended(SessionEnd::Cut)),
     (b"GET", Came::Ended(SessionEnd::Cut)),
@@ -94,7 +110,7 @@ pub struct Refused {
     pub requests: &'static [&'static [u8]],
 }
 
-pub const REFUSED: [Refused; 6] = [
+pub const REFUSED: [Refused; 7] = [
     Refused {
         status: 400,
         answer: BAD_HEAD,
@@ -106,6 +122,23 @@ pub const REFUSED: [Refused; 6] = [
             b"GET /days/100 HTTP/1.1\r\nHost: x\r\n more\r\n\r\n",
             b"GET /days/100 HTTP/1.1\r\n: x\r\n\r\n",
             b"G(T /days/100 HTTP/1.1\r\n\r\n",
+        ],
+    },
+    Refused {
+        status: 403,
+        answer: BAD_ORIGIN,
+        requests: &[
+            b"GET /live HTTP/1.1\r\nHost: x\r\n\r\n",
+            b"GET /nothing HTTP/1.1\r\nHost: desk.example:8080\r\n\r\n",
+            b"GET /live HTTP/1.1\r\nHost: 127.0.0.1.example\r\n\r\n",
+            b"GET /live HTTP/1.1\r\nHost: localhost:80.example\r\n\r\n",
+            b"GET /live HTTP/1.1\r\nHost: localhos\r\n\r\n",
+            b"GET /live HTTP/1.1\r\nHost:\r\n\r\n",
+            b"GET /live HTTP/1.1\r\nHost: localhost\r\nHost: x\r\n\r\n",
+            b"DELETE /live HTTP/1.1\r\nOrigin: null\r\n\r\n",
+            b"GET /live HTTP/1.1\r\nHost: localhost\r\norigin: http://localhost\r\n\r\n",
+            b"POST /days/100 HTTP/1.1\r\nOrigin: http://x\r\nContent-Length: 0\r\n\r\n",
+            b"POST /days/100 HTTP/1.1\r\nOrigin: http://x\r\nContent-Length: x\r\n\r\n",
         ],
     },
     Refused {

@@ -1,7 +1,7 @@
 use Rattle.std.proofs.Common.{subst, sym}
 use Rattle.toll_requests.specs.Sends.{Replies, refusal_reply}
-use Rattle.toll_heads.specs.declared.wanted.Refusal.TheVariants.{BadHead, NoPath, BadMethod, BadLength, LengthNeeded}
-use Rattle.toll_heads.specs.declared.wanted.Refusal.TheVariants.{TooLong}
+use Rattle.toll_heads.specs.declared.wanted.Refusal.TheVariants.{BadHead, BadOrigin, NoPath, BadMethod, BadLength}
+use Rattle.toll_heads.specs.declared.wanted.Refusal.TheVariants.{LengthNeeded, TooLong}
 use Rattle.toll_requests.proofs.ReplyLaws.{room_for}
 use Rattle.toll_requests.proofs.sending.refuse.Goals as goal
 
@@ -9,6 +9,12 @@ pub returns-in-BadHead-clause-sent : goal.returns-in-BadHead-clause-sent
 returns-in-BadHead-clause-sent g c =
     subst (λ r. Replies (refusal_reply r) (g.L.Link.written c.args.link.now) (g.L.Link.written c.send_error.new.link)
     c.send_error.result) (sym c.in-BadHead.is) c.send_error.ensures.sent
+
+pub returns-in-BadOrigin-clause-sent : goal.returns-in-BadOrigin-clause-sent
+returns-in-BadOrigin-clause-sent g c =
+    subst (λ r. Replies (refusal_reply r) (g.L.Link.written c.args.link.now)
+    (g.L.Link.written c.send_error-in-BadOrigin.new.link) c.send_error-in-BadOrigin.result)
+    (sym c.in-BadOrigin.is) c.send_error-in-BadOrigin.ensures.sent
 
 pub returns-in-NoPath-clause-sent : goal.returns-in-NoPath-clause-sent
 returns-in-NoPath-clause-sent g c =
@@ -42,6 +48,9 @@ returns-in-TooLong-clause-sent g c =
 
 pub returns-in-BadHead-clause-sure : goal.returns-in-BadHead-clause-sure
 returns-in-BadHead-clause-sure g c = λ has. c.send_error.ensures.sure (room_for _ BadHead has)
+
+pub returns-in-BadOrigin-clause-sure : goal.returns-in-BadOrigin-clause-sure
+returns-in-BadOrigin-clause-sure g c = λ has. c.send_error-in-BadOrigin.ensures.sure (room_for _ BadOrigin has)
 
 pub returns-in-NoPath-clause-sure : goal.returns-in-NoPath-clause-sure
 returns-in-NoPath-clause-sure g c = λ has. c.send_error-in-NoPath.ensures.sure (room_for _ NoPath has)
