@@ -1,5 +1,5 @@
 -- Faults of one call after another.
-use Rattle.std.proofs.Common.{◌≡◌, ℕ, ◌≤◌, Bool, false, Option, Result, Ok, arith}
+use Rattle.std.proofs.Common.{◌≡◌, ℕ, ◌≤◌, Bool, false, Option, Result, Ok, refl, ◌∙◌, arith}
 use Rattle.road_io.specs.Faults.{Rose}
 use Rattle.road_io.specs.Rooms.{Room}
 use Rattle.settling.specs.declared.fault.SettleFault.{SettleFault}
@@ -14,6 +14,7 @@ pub sink_then : {S T : Type 0} (x : S) (a b c : ℕ) (p q r : Room) (result : Re
 sink_then x a b c p q r result h k = record {
   later = let first = h.later in let second = k.later in omega arith;
   cause = λ e. rose_on a b c h.later (k.cause e);
+  still = λ e. k.still e ∙ h.still refl;
   sure = λ endless. k.sure (h.sure endless).1;
 }
 
@@ -23,6 +24,7 @@ pub keeper_then : {S T : Type 0} (x : S) (a b c : ℕ) (p q r : Option (ℕ → 
 keeper_then x a b c p q r result h k = record {
   later = let first = h.later in let second = k.later in omega arith;
   cause = λ e. rose_on a b c h.later (k.cause e);
+  still = λ e. k.still e ∙ h.still refl;
   sure = λ never. k.sure (h.sure never).1;
 }
 
@@ -32,6 +34,7 @@ pub keeper_idle : {T : Type 0} (a : ℕ) (p : Option (ℕ → Bool)) (result : R
 keeper_idle a p result e = record {
   later = omega arith;
   cause = λ bad. let no : ⊥ = cc in absurd no;
+  still = λ fine. refl;
   sure = λ never. (e, never);
 }
 
@@ -41,5 +44,6 @@ pub sink_idle : {T : Type 0} (a : ℕ) (p : Room) (result : Result T SettleFault
 sink_idle a p result e = record {
   later = omega arith;
   cause = λ bad. let no : ⊥ = cc in absurd no;
+  still = λ fine. refl;
   sure = λ endless. (e, endless);
 }

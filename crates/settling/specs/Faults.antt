@@ -28,10 +28,12 @@ abbrev pub keeper_failed : {T : Type 0} → Result T SettleFault → Bool
 keeper_failed (Ok x) = false
 keeper_failed (Err fault) = is_keeping fault
 
--- a sink's count of faults never falls, it rose where the sink failed, and a sink with endless room does not fail
+-- a sink's count of faults never falls, it rose where the sink failed and stands where it did not, and a sink with
+-- endless room does not fail
 pub record SinkFaults {T : Type 0} (before now : ℕ) (room left : Room) (result : Result T SettleFault) : Type 0 where
   pub later : before ≤ now
   pub cause : write_failed result ≡ true → Rose before now
+  pub still : write_failed result ≡ false → now ≡ before
   pub sure : room ≡ Endless → (write_failed result ≡ false) × (left ≡ Endless)
 
 -- the same of a keeper, and one that plans no failing call does not fail
@@ -39,4 +41,5 @@ pub record KeeperFaults {T : Type 0} (before now : ℕ) (plan left : Option (ℕ
     Type 0 where
   pub later : before ≤ now
   pub cause : keeper_failed result ≡ true → Rose before now
+  pub still : keeper_failed result ≡ false → now ≡ before
   pub sure : NeverFails plan → (keeper_failed result ≡ false) × NeverFails left

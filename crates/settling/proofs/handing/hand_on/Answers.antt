@@ -12,7 +12,7 @@ loop-at-preserved g c =
     let wrote = c.in_ok-count.ensures in
     record {
       inside = omega (arith, wrote.prefix.1, ap (λ l. length l) (take_rest bs at), length-drop at bs);
-      later = omega (arith, wrote.cause.later);
+      stands = wrote.cause.passed ∙ c.loop-at.invariant.stands;
       written = appends_on _ _ _ (take at bs) _ (take (at + n) bs) c.loop-at.invariant.written wrote.bytes
           (take_sum bs at n (omega arith) ∙ ap (λ l. take at bs ++ take n l) (sym (take_rest bs at)));
       took = takes_on _ _ _ at n (at + n) c.loop-at.invariant.took wrote.took refl;
