@@ -43,7 +43,7 @@ loop-rest-preserved g c =
           (c.in-Ok.ensures.left (drop (most - c.loop-rest.rest) bytes) (c.loop-rest.invariant.left bytes told));
       sure = λ never. (c.read_some.ensures.sure (c.loop-rest.invariant.sure never)).1;
       same = c.read_some.ensures.same ∙ c.loop-rest.invariant.same;
-      later = omega (arith, c.read_some.ensures.cause.later, c.loop-rest.invariant.later);
+      stands = c.in-Ok.ensures.cause.passed ∙ c.loop-rest.invariant.stands;
     }
 
 pub returns-clause-took : goal.returns-clause-took

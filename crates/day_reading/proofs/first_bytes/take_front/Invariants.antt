@@ -14,7 +14,7 @@ invariant-loop-rest g l = record {
       g.S.Source.left l.source ≡ Some (drop (l.most - l.rest) bytes);
   sure : NeverFails (g.S.Source.plan l.initial.source) → NeverFails (g.S.Source.plan l.source);
   same : g.S.Source.name l.source ≡ g.S.Source.name l.initial.source;
-  later : g.S.Source.faults l.initial.source ≤ g.S.Source.faults l.source;
+  stands : g.S.Source.faults l.source ≡ g.S.Source.faults l.initial.source;
 }
 
 abbrev pub decreases-loop-rest : goal.decreases-loop-rest

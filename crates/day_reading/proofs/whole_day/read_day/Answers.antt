@@ -25,7 +25,7 @@ reading-init g c =
       read = λ bytes told. subst (λ o. HasReadOf r limits.lines o bytes) (sym told) (c.in-Ok.ensures.read bytes);
       unfailed = c.in-Ok.ensures.unfailed;
       same = refl;
-      later = omega arith;
+      stands = refl;
       still = λ never. never;
     }
 
@@ -52,7 +52,7 @@ reading-preserved g c =
       read = λ bytes told. c.next.ensures.read limits.lines bytes (inv.read bytes told);
       unfailed = c.next.ensures.unfailed inv.unfailed (given_no_fault c.next.result x some);
       same = c.next.ensures.same ∙ inv.same;
-      later = omega (arith, c.next.ensures.source.later, inv.later);
+      stands = c.next.ensures.source.still (λ f. given_no_fault c.next.result x some f.1) ∙ inv.stands;
       still = λ never. c.next.ensures.still inv.unfailed (inv.still never);
     }
 

@@ -12,7 +12,7 @@ invariant-reading g l = record {
       HasReadOf l.reader l.limits.lines (g.S.Source.left l.source) bytes;
   unfailed : HasReaderFailed l.reader → ⊥;
   same : g.S.Source.name l.source ≡ g.S.Source.name l.initial.source;
-  later : g.S.Source.faults l.initial.source ≤ g.S.Source.faults l.source;
+  stands : g.S.Source.faults l.source ≡ g.S.Source.faults l.initial.source;
   still : NeverFails (g.S.Source.plan l.initial.source) → NeverFails (g.S.Source.plan l.source);
 }
 

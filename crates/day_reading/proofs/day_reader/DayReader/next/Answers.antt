@@ -13,7 +13,7 @@ loop-tuple-preserved g c =
       read = λ lines bytes s. c.read_one.ensures.read lines bytes
           (c.in_default-next_on.ensures.read lines left bytes (inv.read lines bytes s));
       same = c.read_one.ensures.same ∙ inv.same;
-      later = omega (arith, c.read_one.ensures.source.later, inv.later);
+      stands = c.read_one.ensures.source.still (λ e. let no : ⊥ = cc in no) ∙ inv.stands;
       still = λ never. c.read_one.ensures.still (inv.still never);
     }
 
