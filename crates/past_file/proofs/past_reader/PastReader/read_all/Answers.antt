@@ -1,9 +1,15 @@
-use Rattle.std.proofs.Common.{◌≡◌, ◌∙◌, Ok, true, false, subst, arith}
+use Rattle.std.proofs.Common.{◌≡◌, ◌∙◌, Bool, Result, Ok, Err, true, false, subst, arith}
 use Rattle.std.specs.Prelude.{IfOk, ◌≤◌, None}
 use Rattle.road_io.specs.Cutter.{line_number, fault_of}
+use Rattle.past_file.specs.declared.judging.PastStop.{PastStop}
+use Rattle.past_file.specs.declared.judging.PastStop.TheVariants.{ReadFault}
 use Rattle.past_file.specs.Readings.{GathersRows, Steps}
 use Rattle.past_file.proofs.ReadLaws.{ends_whole}
 use Rattle.past_file.proofs.past_reader.PastReader.read_all.Goals as goal
+
+-- a line that was read is no fault
+more_no_fault : (r : Result Bool PastStop) → r ≡ Ok true → r ≡ Err ReadFault → ⊥
+more_no_fault r e f = cc
 
 pub reading-preserved : goal.reading-preserved
 reading-preserved g c =
@@ -23,7 +29,7 @@ reading-preserved g c =
           (c.read_one.ensures.gathers (inv.gathers h));
       read = λ bytes s. c.read_one.ensures.read bytes (inv.read bytes s);
       same = c.read_one.ensures.same ∙ inv.same;
-      later = omega (arith, c.read_one.ensures.source.later, inv.later);
+      stands = c.read_one.ensures.source.still (more_no_fault c.read_one.result res) ∙ inv.stands;
       still = λ never. c.read_one.ensures.still (inv.still never);
     }
 

@@ -16,7 +16,7 @@ invariant-reading g l = record {
   read : (bytes : List ℕ) → HasReadPastOf l.initial.self (g.S.Source.left l.initial.source) bytes →
       HasReadPastOf l.self (g.S.Source.left l.source) bytes;
   same : g.S.Source.name l.source ≡ g.S.Source.name l.initial.source;
-  later : g.S.Source.faults l.initial.source ≤ g.S.Source.faults l.source;
+  stands : g.S.Source.faults l.source ≡ g.S.Source.faults l.initial.source;
   still : NeverFails (g.S.Source.plan l.initial.source) → NeverFails (g.S.Source.plan l.source);
 }
 
