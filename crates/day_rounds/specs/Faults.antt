@@ -1,5 +1,5 @@
 -- When a day is stopped, and by what.
-use Rattle.std.specs.Prelude.{ℕ, ◌≡◌, ◌≢◌, ◌≤◌, List, Option, Some, Result, Err}
+use Rattle.std.specs.Prelude.{ℕ, ◌≡◌, ◌≢◌, ◌≤◌, List, Option, Some, Result, Err, OnOk}
 use Rattle.road_io.specs.Faults.{Rose}
 use Rattle.road_time.specs.declared.road.Tuple.{Tuple}
 use Rattle.road_time.specs.Day.{notices}
@@ -24,11 +24,22 @@ abbrev pub of_reading : ReadStop → DayFault
 of_reading reading.ReadFault = ReadFault
 of_reading reading.NoMemory = NoMemory
 
--- a count of faults never falls; it rose where this fault is the answer; and over an object that never fails it is not
+-- a count of faults never falls; it rose where this fault is the answer, and stands where it is not; and over an object
+-- that never fails it is not
 pub record IsCounted {T : Type 0} (fault : DayFault) (before now : ℕ) (fine left : Type 0)
     (result : Result T DayFault) : Type 0 where
   pub later : before ≤ now
   pub cause : result ≡ Err fault → Rose before now
+  pub still : result ≢ Err fault → now ≡ before
+  pub sure : fine → (result ≢ Err fault) × left
+
+-- the same of a source that is read ahead: it stands where the call went well; where another object stopped the call, a
+-- read that was made ahead may have failed too
+pub record IsCountedAhead {T : Type 0} (fault : DayFault) (before now : ℕ) (fine left : Type 0)
+    (result : Result T DayFault) : Type 0 where
+  pub later : before ≤ now
+  pub cause : result ≡ Err fault → Rose before now
+  pub passed : OnOk result (now ≡ before)
   pub sure : fine → (result ≢ Err fault) × left
 
 -- some first bytes of a text were written where a day was stopped, and after a write fault not all

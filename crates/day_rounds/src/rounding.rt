@@ -102,6 +102,7 @@ pub fn round<C: Crew, S: Source, K: Keeper, O: Sink, P: Publisher, R: Threads>(
     ensures source_same { S.name source.new ≡ S.name source.old }
     ensures later { S.faults source.old ≤ S.faults source.new }
     ensures cause { IfOk result (λ r. r.stop ≡ Some ReadFault → Rose (S.faults source.old) (S.faults source.new)) }
+    ensures stands { IfOk result (λ r. r.stop ≢ Some ReadFault → S.faults source.new ≡ S.faults source.old) }
     ensures sure { NeverFails (S.plan source.old)
         → IfOk result (λ r. r.stop ≢ Some ReadFault) × NeverFails (S.plan source.new) }
     ensures publisher { P.which publisher.new ≡ P.which publisher.old }

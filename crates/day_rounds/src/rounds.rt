@@ -135,6 +135,7 @@ pub fn work_round<C: Crew, S: Source, R: Threads>(
     ensures source_same { S.name source.new ≡ S.name source.old }
     ensures later { S.faults source.old ≤ S.faults source.new }
     ensures cause { IfOk result (λ stop. stop ≡ Some ReadFault → Rose (S.faults source.old) (S.faults source.new)) }
+    ensures stands { IfOk result (λ stop. stop ≢ Some ReadFault → S.faults source.new ≡ S.faults source.old) }
     ensures sure { NeverFails (S.plan source.old)
         → IfOk result (λ stop. stop ≢ Some ReadFault) × NeverFails (S.plan source.new) }
 {

@@ -31,6 +31,7 @@ pub fn gather<S: Source, R: Threads>(
     ensures unfailed { OnOk result (HasFailedAhead ahead.new → ⊥) }
     ensures later { S.faults source.old ≤ S.faults source.new }
     ensures cause { result ≡ Err ReadFault → Rose (S.faults source.old) (S.faults source.new) }
+    ensures stands { result ≢ Err ReadFault → S.faults source.new ≡ S.faults source.old }
     ensures sure { NeverFails (S.plan source.old) → (result ≢ Err ReadFault) × NeverFails (S.plan source.new) }
 {
     these.clear();
@@ -65,6 +66,7 @@ pub fn read_on<S: Source, R: Threads>(
     ensures source_same { S.name source.new ≡ S.name source.old }
     ensures later { S.faults source.old ≤ S.faults source.new }
     ensures cause { result ≡ Some ReadFault → Rose (S.faults source.old) (S.faults source.new) }
+    ensures stands { result ≢ Some ReadFault → S.faults source.new ≡ S.faults source.old }
     ensures sure { NeverFails (S.plan source.old) → (result ≢ Some ReadFault) × NeverFails (S.plan source.new) }
 {
     if !ahead.more() {

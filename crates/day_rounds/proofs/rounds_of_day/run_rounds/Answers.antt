@@ -56,11 +56,11 @@ day-init g c =
       read = r.read;
       publisher = refl;
       same = refl;
-      source_later = r.later;
+      source_stands = r.stands (λ e. let no : ⊥ = cc in no);
       source_sure = λ never. (r.sure never).1;
-      sink_later = omega arith;
+      sink_stands = refl;
       sink_sure = λ e. e;
-      keeper_later = omega arith;
+      keeper_stands = refl;
       keeper_sure = λ e. e;
       few = omega (arith, room, few);
       ended = r.read_on.ended none
@@ -112,11 +112,11 @@ day-preserved g c =
       read = λ lines bytes h. v.read lines bytes (inv.read lines bytes h);
       publisher = v.publisher ∙ inv.publisher;
       same = v.same ∙ inv.same;
-      source_later = (let a = v.source.later in let b = inv.source_later in omega (arith, a, b));
+      source_stands = v.source.passed ∙ inv.source_stands;
       source_sure = λ e. (v.source.sure (inv.source_sure e)).1;
-      sink_later = (let a = v.sink.later in let b = inv.sink_later in omega (arith, a, b));
+      sink_stands = v.sink.still (λ e. let no : ⊥ = cc in no) ∙ inv.sink_stands;
       sink_sure = λ e. (v.sink.sure (inv.sink_sure e)).1;
-      keeper_later = (let a = v.keeper.later in let b = inv.keeper_later in omega (arith, a, b));
+      keeper_stands = v.keeper.still (λ e. let no : ⊥ = cc in no) ∙ inv.keeper_stands;
       keeper_sure = λ e. (v.keeper.sure (inv.keeper_sure e)).1;
       few = subst (λ l. length next ≤ l.backlog) inv.limits v.few;
       ended = v.ended;

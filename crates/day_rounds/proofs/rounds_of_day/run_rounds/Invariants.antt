@@ -31,11 +31,11 @@ invariant-day g l =
           HasReadAhead l.ahead lines (g.S.Source.left l.source) bytes;
       publisher : g.P.Publisher.which l.publisher ≡ g.P.Publisher.which l.fn.publisher;
       same : g.K.Keeper.told l.keeper ≡ g.K.Keeper.told l.fn.keeper;
-      source_later : g.S.Source.faults l.fn.source ≤ g.S.Source.faults l.source;
+      source_stands : g.S.Source.faults l.source ≡ g.S.Source.faults l.fn.source;
       source_sure : NeverFails (g.S.Source.plan l.fn.source) → NeverFails (g.S.Source.plan l.source);
-      sink_later : g.O.Sink.faults l.fn.sink ≤ g.O.Sink.faults l.sink;
+      sink_stands : g.O.Sink.faults l.sink ≡ g.O.Sink.faults l.fn.sink;
       sink_sure : g.O.Sink.room l.fn.sink ≡ Endless → g.O.Sink.room l.sink ≡ Endless;
-      keeper_later : g.K.Keeper.faults l.fn.keeper ≤ g.K.Keeper.faults l.keeper;
+      keeper_stands : g.K.Keeper.faults l.keeper ≡ g.K.Keeper.faults l.fn.keeper;
       keeper_sure : NeverFails (g.K.Keeper.plan l.fn.keeper) → NeverFails (g.K.Keeper.plan l.keeper);
       few : length l.these.items ≤ l.fn.run.floor.limits.backlog;
       ended : l.these.items ≡ [] → has_more l.ahead ≡ false;

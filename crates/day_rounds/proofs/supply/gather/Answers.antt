@@ -18,7 +18,7 @@ gathering-init g c =
       read = λ lines bytes h. h;
       source_same = refl;
       unfailed = c.requires.unfailed;
-      later = omega arith;
+      stands = refl;
       still = λ never. never;
     }
 
@@ -47,7 +47,7 @@ gathering-preserved g c =
       read = λ lines bytes h. c.next.ensures.read lines bytes (inv.read lines bytes h);
       source_same = c.next.ensures.same ∙ inv.source_same;
       unfailed = c.next.ensures.unfailed inv.unfailed (λ e. let no : ⊥ = cc in no);
-      later = omega (arith, c.next.ensures.source.later, inv.later);
+      stands = c.next.ensures.source.still (λ f. let read = f.1 in let no : ⊥ = cc in no) ∙ inv.stands;
       still = λ never. c.next.ensures.still inv.unfailed (inv.still never);
     }
 

@@ -15,7 +15,7 @@ invariant-gathering g l = record {
   read : (lines : ℕ) (bytes : List ℕ) → HasReadAhead l.fn.ahead lines (g.S.Source.left l.fn.source) bytes →
       HasReadAhead l.ahead lines (g.S.Source.left l.source) bytes;
   unfailed : HasFailedAhead l.ahead → ⊥;
-  later : g.S.Source.faults l.fn.source ≤ g.S.Source.faults l.source;
+  stands : g.S.Source.faults l.source ≡ g.S.Source.faults l.fn.source;
   still : NeverFails (g.S.Source.plan l.fn.source) → NeverFails (g.S.Source.plan l.source);
 }
 
