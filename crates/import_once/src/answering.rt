@@ -6,6 +6,7 @@ ghost use Rattle.road_time.specs.Fits.{IsLimits};
 ghost use Rattle.day_reading.specs.Days.{most_of_day};
 ghost use Rattle.road_io.specs.Within.{ReadsWithin};
 ghost use Rattle.road_io.specs.Blame.{FaultsByPlan, FaultsByRoom};
+ghost use Rattle.import_once.specs.Faults.{FaultsBeside, NamesNoOther};
 ghost use Rattle.import_once.specs.Imports.{answers_answer, answers_found, Does, LeavesRead, IsOfAnswers};
 ghost use Rattle.import_once.specs.Runs.{DoesByCrew, HasStartedJobs};
 ghost use Rattle.import_once.specs.declared.outcomes.Outcome.TheVariants.{ReadFault, WriteFault, KeeperFault};
@@ -61,8 +62,8 @@ fn answer_under<S: Source, O: Sink, K: Keeper, C: Crew, R: Threads>(
     ensures idle { C.out crew.new ≡ [] }
     ensures crew { C.which crew.new ≡ C.which crew.old }
     ensures read_same { S.name source.new ≡ S.name source.old }
-    ensures source { FaultsByPlan (S.faults source.old) (S.faults source.new) (S.plan source.old)
-        (result ≡ ReadFault) }
+    ensures source { FaultsBeside (S.faults source.old) (S.faults source.new) (S.plan source.old)
+        (result ≡ ReadFault) (NamesNoOther result) }
     ensures sink { FaultsByRoom (O.faults sink.old) (O.faults sink.new) (O.room sink.old) (O.room sink.new)
         (result ≡ WriteFault) }
     ensures keeper { FaultsByPlan (K.faults keeper.old) (K.faults keeper.new) (K.plan keeper.old)
@@ -126,8 +127,8 @@ pub fn answers<S: Source, O: Sink, K: Keeper, C: Crew, R: Threads>(
     ensures idle { C.out crew.new ≡ [] }
     ensures crew { C.which crew.new ≡ C.which crew.old }
     ensures read_same { S.name source.new ≡ S.name source.old }
-    ensures source { FaultsByPlan (S.faults source.old) (S.faults source.new) (S.plan source.old)
-        (result ≡ ReadFault) }
+    ensures source { FaultsBeside (S.faults source.old) (S.faults source.new) (S.plan source.old)
+        (result ≡ ReadFault) (NamesNoOther result) }
     ensures sink { FaultsByRoom (O.faults sink.old) (O.faults sink.new) (O.room sink.old) (O.room sink.new)
         (result ≡ WriteFault) }
     ensures keeper { FaultsByPlan (K.faults keeper.old) (K.faults keeper.new) (K.plan keeper.old)

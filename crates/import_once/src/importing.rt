@@ -7,6 +7,7 @@ ghost use Rattle.road_time.specs.Fits.{IsLimits};
 ghost use Rattle.day_reading.specs.Days.{most_of_day};
 ghost use Rattle.road_io.specs.Within.{ReadsWithin};
 ghost use Rattle.road_io.specs.Blame.{FaultsByPlan, FaultsByRoom};
+ghost use Rattle.import_once.specs.Faults.{FaultsBeside, NamesNoOther};
 ghost use Rattle.import_once.specs.Imports.{import_answer, import_found, most_imported, Does, LeavesRest, LeavesAlone};
 ghost use Rattle.import_once.specs.Imports.{LeavesRead, PutsOnce, KeepsAll, IsUncompared};
 ghost use Rattle.import_once.specs.Runs.{DoesByCrew, HasStartedJobs, PublishesDay};
@@ -81,8 +82,8 @@ pub fn import<S: Source, O: Sink, K: Keeper, C: Crew, P: Publisher, R: Threads>(
     ensures crew { C.which crew.new ≡ C.which crew.old }
     ensures publisher { P.which publisher.new ≡ P.which publisher.old }
     ensures read_same { S.name source.new ≡ S.name source.old }
-    ensures source { FaultsByPlan (S.faults source.old) (S.faults source.new) (S.plan source.old)
-        (result ≡ ReadFault) }
+    ensures source { FaultsBeside (S.faults source.old) (S.faults source.new) (S.plan source.old)
+        (result ≡ ReadFault) (NamesNoOther result) }
     ensures sink { FaultsByRoom (O.faults sink.old) (O.faults sink.new) (O.room sink.old) (O.room sink.new)
         (result ≡ WriteFault) }
     ensures keeper { FaultsByPlan (K.faults keeper.old) (K.faults keeper.new) (K.plan keeper.old)
