@@ -3,7 +3,8 @@
 //! hash. Nothing rests on a guess being right.
 #![tactic(auto)]
 
-ghost use Rattle.std.specs.Prelude.{◌≡◌, nat_eq, slice_get, option_copied, Some, None, IfSome, IfNone};
+ghost use Rattle.std.specs.Prelude.{◌≡◌, ◌≤◌, ◌<◌, ◌+◌, ℕ, [], nat_eq, slice_get, option_copied, length, Some, None};
+ghost use Rattle.std.specs.Prelude.{IfSome, IfNone};
 ghost use Rattle.indexmap.specs.IndexMap.{get};
 
 use indexmap::IndexMap;
@@ -18,7 +19,10 @@ pub struct UsualOrder {
 
 impl UsualOrder {
     /// Nothing was looked for. It takes no memory.
-    pub fn new(alloc: Global) -> Self {
+    pub fn new(alloc: Global) -> Self
+        ensures none { result.next.items ≡ [] }
+        ensures first { result.last ≡ 0 }
+    {
         UsualOrder {
             next: Vec::new(alloc),
             last: 0,
@@ -35,9 +39,16 @@ impl UsualOrder {
     }
 
     /// The entry at this place was looked for, which is to be guessed after the last one from now on. Where memory
-    /// runs out it is not.
+    /// runs out it is not. One guess is kept for each entry at most.
     #[inline(always)]
-    pub fn follow(&mut self, at: usize) {
+    pub fn follow(&mut self, at: usize)
+        ensures last { self.new.last ≡ at }
+        ensures most { length self.new.next.items ≤ length self.old.next.items + 1 }
+        ensures again { self.old.last < length self.old.next.items
+            → length self.new.next.items ≡ length self.old.next.items }
+        ensures few { (entries : ℕ) → self.old.last < entries → length self.old.next.items ≤ entries
+            → length self.new.next.items ≤ entries }
+    {
         let short = at.min(u32::MAX as usize) as u32;
         if let Some(next) = self.next.get_mut(self.last) {
             *next = short;
