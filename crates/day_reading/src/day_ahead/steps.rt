@@ -117,6 +117,7 @@ impl DayAhead {
             → IsGatheringAhead self.old limits late given
             → GathersAhead result self.new limits late given }
         ensures some { IfOk result (λ given. is_some given ≡ has_more self.old) }
+        ensures none { IfOk result (λ given. given ≡ None → self.new ≡ self.old) }
         ensures read { (lines : ℕ) (bytes : List ℕ) → HasReadAhead self.old lines (S.left source.old) bytes
             → HasReadAhead self.new lines (S.left source.new) bytes }
         ensures unfailed { (HasFailedAhead self.old → ⊥) → result ≢ Err ReadFault → HasFailedAhead self.new → ⊥ }
