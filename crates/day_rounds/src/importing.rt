@@ -53,5 +53,5 @@ pub fn stop<C: Crew>(run: Import<C::Ticket>, crew: &mut C)
         × WhereTold (ListsFirst since) told (C.jobs crew.new) }
 {
     let Import { tickets, .. } = run;
-    let _whole = finish_all(crew, tickets);
+    finish_all(crew, tickets);
 }

@@ -3,13 +3,13 @@ use Rattle.partition_workers.proofs.ListingLaws.{where_first}
 use Rattle.day_rounds.proofs.JobLaws.{first_started}
 use Rattle.day_rounds.proofs.importing.stop.Goals as goal
 
-pub finish_all-whole-requires : goal.finish_all-whole-requires
-finish_all-whole-requires g c = let (told, width, limits, day, h) = c.requires in (h.tasks, h.tickets, h.held)
+pub finish_all-requires : goal.finish_all-requires
+finish_all-requires g c = let (told, width, limits, day, h) = c.requires in (h.tasks, h.tickets, h.held)
 
 pub returns-clause-jobs : goal.returns-clause-jobs
 returns-clause-jobs g c told width limits day h = (
   h.since,
   first_started width limits h.state day h.since h.sound h.first h.starts,
   where_first told h.since _ _ _
-      (c.finish_all-whole.ensures.told told h.since true h.listing),
+      (c.finish_all.ensures.told told h.since true h.listing),
 )
