@@ -14,4 +14,5 @@ pub mod OutcomeLaws
 pub mod LoopLaws
 pub mod JobLaws
 pub mod TurnLaws
+pub mod DrawnLaws
 pub mod TurnedLaws

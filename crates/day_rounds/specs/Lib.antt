@@ -9,4 +9,5 @@ pub mod Runs
 pub mod Rounds
 pub mod Imports
 pub mod Turns
+pub mod Drawn
 pub mod Outcomes

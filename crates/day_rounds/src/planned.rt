@@ -92,8 +92,7 @@ pub fn run_plan<C: Crew, S: Source, K: Keeper, O: Sink, P: Publisher, R: Threads
         Some(number) => {
             let mut rng = seed(number);
             run_turns(
-                rt, run, crew, plan.width, ahead, source, these, &mut rng, day, keeper, sink,
-                publisher,
+                rt, plan, run, crew, ahead, source, these, &mut rng, day, keeper, sink, publisher,
             )
         }
     }

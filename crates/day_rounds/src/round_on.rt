@@ -1,5 +1,6 @@
 // A round over the next tuples of a day.
-ghost use Rattle.std.specs.Prelude.{false, ◌≡◌, ◌≤◌, ◌++◌, [], ℕ, List, Option, IfOk, IfErr, OnOk, length};
+ghost use Rattle.std.specs.Prelude.{false, ◌≡◌, ◌≤◌, ◌<◌, ◌++◌, [], ℕ, List, Option, IfOk, IfErr, OnOk};
+ghost use Rattle.std.specs.Prelude.{length};
 ghost use Rattle.road_time.specs.declared.day.Limits.{Limits as DayLimits};
 ghost use Rattle.road_time.specs.Day.{sum_of};
 ghost use Rattle.road_io.specs.Plans.{NeverFails};
@@ -30,8 +31,8 @@ use road_io::{Sink, Source};
 use road_time::Tuple;
 use std::thread::Threads;
 
-/// A round over the next tuples of a day, which were read; those after them are read meanwhile, as many as there is
-/// room for. It answers how many are settled.
+/// A round over the next tuples of a day, which were read: as many as there is room for, or all that were left. Those
+/// after them are read meanwhile. It answers how many are settled.
 pub fn next_round<C: Crew, S: Source, K: Keeper, O: Sink, P: Publisher, R: Threads>(
     rt: &R,
     run: &mut Import<C::Ticket>,
@@ -48,6 +49,7 @@ pub fn next_round<C: Crew, S: Source, K: Keeper, O: Sink, P: Publisher, R: Threa
     requires width { width ≡ run.old.floor.inboxes.width }
     requires none { run.old.tickets.items ≡ [] }
     requires unfailed { HasFailedAhead ahead.old → ⊥ }
+    requires full { length these.old.items < run.old.floor.limits.backlog → has_more ahead.old ≡ false }
     requires runs { (e : Setting) × (told : Option CrewTold) × (answered : Option (List Finding)) × (s : State)
         × Runs C.out C.number C.holds C.gave C.exact C.jobs C.answers e told answered run.old crew.old s
         × CanFeedAll run.old.floor.limits s these.old.items
@@ -71,7 +73,7 @@ pub fn next_round<C: Crew, S: Source, K: Keeper, O: Sink, P: Publisher, R: Threa
     ensures given { OnOk result ((limits : DayLimits) (late : ℕ)
         → HasGiven limits late these.new.items ahead.old ahead.new (S.left source.old) (S.left source.new)) }
     ensures few { OnOk result (length these.new.items ≤ run.old.floor.limits.backlog) }
-    ensures ended { OnOk result (these.new.items ≡ [] → has_more ahead.new ≡ false) }
+    ensures full { OnOk result (length these.new.items < run.old.floor.limits.backlog → has_more ahead.new ≡ false) }
     ensures halted { IfErr result (λ fault.
         (e : Setting) (told : Option CrewTold) (answered : Option (List Finding)) (late : ℕ) (s : State)
         → Runs C.out C.number C.holds C.gave C.exact C.jobs C.answers e told answered run.old crew.old s

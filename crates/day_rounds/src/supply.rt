@@ -1,5 +1,5 @@
 // The tuples of the next turn.
-ghost use Rattle.std.specs.Prelude.{◌≡◌, ◌≢◌, ◌≤◌, ℕ, List, Option, true, Err, Some, OnOk, length};
+ghost use Rattle.std.specs.Prelude.{◌≡◌, ◌≢◌, ◌≤◌, ◌<◌, ℕ, List, Option, true, false, Err, Some, OnOk, length};
 ghost use Rattle.road_time.specs.declared.day.Limits.{Limits as DayLimits};
 ghost use Rattle.road_io.specs.Faults.{Rose};
 ghost use Rattle.road_io.specs.Plans.{NeverFails};
@@ -25,6 +25,7 @@ pub fn gather<S: Source, R: Threads>(
         → HasGiven limits late these.new.items ahead.old ahead.new (S.left source.old) (S.left source.new)) }
     ensures few { OnOk result (length these.new.items ≤ count) }
     ensures some { OnOk result (has_more ahead.old ≡ true → 1 ≤ count → 1 ≤ length these.new.items) }
+    ensures full { OnOk result (length these.new.items < count → has_more ahead.new ≡ false) }
     ensures read { (lines : ℕ) (bytes : List ℕ) → HasReadAhead ahead.old lines (S.left source.old) bytes
         → HasReadAhead ahead.new lines (S.left source.new) bytes }
     ensures source_same { S.name source.new ≡ S.name source.old }

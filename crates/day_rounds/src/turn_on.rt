@@ -15,6 +15,7 @@ ghost use Rattle.watermark.specs.Written.{settled_charges};
 ghost use Rattle.watermark.specs.Floors.{Setting};
 ghost use Rattle.day_rounds.specs.Runs.{Runs};
 ghost use Rattle.day_rounds.specs.Turns.{IsTurned};
+ghost use Rattle.day_rounds.specs.Drawn.{DrawsTurn};
 ghost use Rattle.day_rounds.specs.Readers.{HasGiven};
 ghost use Rattle.day_rounds.specs.Halts.{IsHalted};
 ghost use Rattle.day_rounds.specs.Faults.{IsCounted, IsCountedAhead};
@@ -88,7 +89,9 @@ pub fn next_turn<C: Crew, S: Source, K: Keeper, O: Sink, P: Publisher, R: Thread
         × (n ≡ now.settled) × Runs C.out C.number C.holds C.gave C.exact C.jobs C.answers e told answered run.new
         crew.new now
         × IsAbreast (P.posted publisher.new) (sum_of (settled_charges now))
-        × (s.settled ≡ length s.fed → has_more ahead.old ≡ true → 1 ≤ length xs)) }
+        × (s.settled ≡ length s.fed → has_more ahead.old ≡ true → 1 ≤ length xs)
+        × DrawsTurn width run.old.floor.limits.backlog s rng.old rng.new xs (has_more ahead.old)
+        (has_more ahead.new)) }
     ensures halted { IfErr result (λ fault.
         (e : Setting) (told : Option CrewTold) (answered : Option (List Finding)) (late : ℕ) (s : State)
         → Runs C.out C.number C.holds C.gave C.exact C.jobs C.answers e told answered run.old crew.old s

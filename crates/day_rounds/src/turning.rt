@@ -9,6 +9,7 @@ ghost use Rattle.watermark.specs.Shares.{State, mark};
 ghost use Rattle.watermark.specs.Floors.{Setting};
 ghost use Rattle.day_rounds.specs.Runs.{Runs, Stopped};
 ghost use Rattle.day_rounds.specs.Turns.{IsGiven, IsMoved};
+ghost use Rattle.day_rounds.specs.Drawn.{DrawsWork};
 
 use crate::begun::Import;
 use crate::finish::finish_one;
@@ -172,6 +173,7 @@ pub fn work_turn<C: Crew>(
         → (now : State) × (k : ℕ) × IsMoved run.old.floor.inboxes.width k s now
         × Runs C.out C.number C.holds C.gave C.exact C.jobs C.answers e told answered run.new crew.new now
         × (k ≡ 0 → mark run.old.floor.inboxes.width s ≡ length s.fed)) }
+    ensures drawn { OnOk result (DrawsWork width rng.old rng.new) }
     ensures stopped { OnErr result ((e : Setting) (told : Option CrewTold) (answered : Option (List Finding))
         (s : State)
         → Runs C.out C.number C.holds C.gave C.exact C.jobs C.answers e told answered run.old crew.old s

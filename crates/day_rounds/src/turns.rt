@@ -14,6 +14,7 @@ ghost use Rattle.watermark.specs.Written.{settled_charges};
 ghost use Rattle.watermark.specs.Floors.{Setting};
 ghost use Rattle.day_rounds.specs.Runs.{Runs, Stopped, CanFeedAll, after_feeds};
 ghost use Rattle.day_rounds.specs.Turns.{IsMoved, IsTurned};
+ghost use Rattle.day_rounds.specs.Drawn.{DrawsWork};
 ghost use Rattle.day_rounds.specs.Published.{published_of};
 ghost use Rattle.day_rounds.specs.Fronts.{HasText, HasFront};
 
@@ -53,6 +54,7 @@ pub fn feed_turn<C: Crew>(
         × (k ≡ 0
         → mark run.old.floor.inboxes.width (after_feeds run.old.floor.inboxes.width s these.now)
         ≡ length (after_feeds run.old.floor.inboxes.width s these.now).fed)) }
+    ensures drawn { OnOk result (DrawsWork width rng.old rng.new) }
     ensures stopped { OnErr result ((e : Setting) (told : Option CrewTold) (answered : Option (List Finding))
         (s : State)
         → Runs C.out C.number C.holds C.gave C.exact C.jobs C.answers e told answered run.old crew.old s
@@ -98,6 +100,7 @@ pub fn turn<C: Crew, K: Keeper, O: Sink, P: Publisher>(
         × (n ≡ now.settled) × Runs C.out C.number C.holds C.gave C.exact C.jobs C.answers e told answered run.new
         crew.new now
         × IsAbreast (P.posted publisher.new) (sum_of (settled_charges now))) }
+    ensures drawn { OnOk result (DrawsWork width rng.old rng.new) }
     ensures stopped { OnErr result ((e : Setting) (told : Option CrewTold) (answered : Option (List Finding))
         (s : State)
         → Runs C.out C.number C.holds C.gave C.exact C.jobs C.answers e told answered run.old crew.old s

@@ -1,7 +1,8 @@
 // A day in turns as they are drawn.
-ghost use Rattle.std.specs.Prelude.{true, false, ◌≡◌, ◌≤◌, [], ℕ, List, Option, IfOk, IfErr, OnOk, length};
+ghost use Rattle.std.specs.Prelude.{true, false, ◌≡◌, ◌≤◌, [], ℕ, List, Option, Some, IfOk, IfErr, OnOk, length};
 ghost use Rattle.road_io.specs.Plans.{NeverFails};
 ghost use Rattle.road_io.specs.Rooms.{Endless};
+ghost use Rattle.draws.specs.Draws.{seeded};
 ghost use Rattle.day_reading.specs.Ahead.{has_more, IsGatheringAhead, HasReadAhead, HasFailedAhead};
 ghost use Rattle.expressway.specs.declared.finding.Finding.{Finding};
 ghost use Rattle.partition_workers.specs.Told.{CrewTold};
@@ -11,6 +12,7 @@ ghost use Rattle.watermark.specs.Shares.{State, start};
 ghost use Rattle.watermark.specs.Floors.{Setting};
 ghost use Rattle.day_rounds.specs.Runs.{Runs};
 ghost use Rattle.day_rounds.specs.Days.{IsOn};
+ghost use Rattle.day_rounds.specs.Drawn.{TurnMade, AreTurns};
 ghost use Rattle.day_rounds.specs.Halts.{IsCutDay};
 ghost use Rattle.day_rounds.specs.Faults.{IsCounted, IsCountedAhead};
 ghost use Rattle.day_rounds.specs.declared.fault.DayFault.TheVariants.{ReadFault, WriteFault, KeeperFault};
@@ -20,6 +22,7 @@ use crate::fault::DayFault;
 use crate::turn_on::next_turn;
 use accounts::Publisher;
 use day_reading::DayAhead;
+use import_plan::Plan;
 use keeper::Keeper;
 use partition_workers::Crew;
 use rand_pcg::Lcg64Xsh32;
@@ -35,12 +38,13 @@ fn goes_on(more: bool, pending: u32) -> bool
     more || pending > 0
 }
 
-/// Turns over a day, from the start, until no tuple is left and all are settled. It answers how many are.
+/// Turns over a day, from the start, until no tuple is left and all are settled, as the generator of the plan's number
+/// draws them. It answers how many are settled.
 pub fn run_turns<C: Crew, S: Source, K: Keeper, O: Sink, P: Publisher, R: Threads>(
     rt: &R,
+    plan: &Plan,
     run: &mut Import<C::Ticket>,
     crew: &mut C,
-    width: u8,
     ahead: &mut DayAhead,
     source: &mut S,
     these: &mut Vec<Tuple>,
@@ -50,7 +54,8 @@ pub fn run_turns<C: Crew, S: Source, K: Keeper, O: Sink, P: Publisher, R: Thread
     sink: &mut O,
     publisher: &mut P,
 ) -> Result<u64, DayFault>
-    requires width { width ≡ run.old.floor.inboxes.width }
+    requires width { plan.now.width ≡ run.old.floor.inboxes.width }
+    requires seeded { (number : ℕ) → plan.now.turns ≡ Some number → rng.old ≡ seeded number }
     requires none { run.old.tickets.items ≡ [] }
     requires unfailed { HasFailedAhead ahead.old → ⊥ }
     requires runs { (e : Setting) × (told : Option CrewTold) × (answered : Option (List Finding)) × (late : ℕ)
@@ -71,6 +76,13 @@ pub fn run_turns<C: Crew, S: Source, K: Keeper, O: Sink, P: Publisher, R: Thread
         (O.written sink.old) (O.written sink.new) (P.posted publisher.old) (P.posted publisher.new) now
         × (now.settled ≡ length now.fed) × (n ≡ now.settled)
         × Runs C.out C.number C.holds C.gave C.exact C.jobs C.answers e told answered run.new crew.new now) }
+    ensures turned { OnOk result ((e : Setting) (told : Option CrewTold) (answered : Option (List Finding)) (late : ℕ)
+        → Runs C.out C.number C.holds C.gave C.exact C.jobs C.answers e told answered run.old crew.old start
+        → IsGatheringAhead ahead.old run.old.floor.limits late []
+        → e.number ≡ day → e.history ≡ history_of (K.told keeper.old)
+        → (now : State) × (turns : List TurnMade)
+        × Runs C.out C.number C.holds C.gave C.exact C.jobs C.answers e told answered run.new crew.new now
+        × AreTurns plan.now.width run.old.floor.limits.backlog rng.old turns now rng.new false) }
     ensures halted { IfErr result (λ fault.
         (e : Setting) (told : Option CrewTold) (answered : Option (List Finding)) (late : ℕ)
         → Runs C.out C.number C.holds C.gave C.exact C.jobs C.answers e told answered run.old crew.old start
@@ -95,7 +107,7 @@ pub fn run_turns<C: Crew, S: Source, K: Keeper, O: Sink, P: Publisher, R: Thread
     let mut pending = 0;
     'day: while goes_on(ahead.more(), pending) {
         match next_turn(
-            rt, run, crew, width, ahead, source, these, rng, day, keeper, sink, publisher,
+            rt, run, crew, plan.width, ahead, source, these, rng, day, keeper, sink, publisher,
         ) {
             Ok(count) => settled = count,
             Err(fault) => return Err(fault),

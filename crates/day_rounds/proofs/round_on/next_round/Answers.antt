@@ -7,7 +7,6 @@ use Rattle.day_rounds.specs.Published.{HasStepped, HasSteps}
 use Rattle.day_rounds.specs.Runs.{Stopped}
 use Rattle.day_rounds.proofs.FrontLaws.{front_before}
 use Rattle.day_rounds.proofs.HaltLaws.{front_of_settling, front_of_reading, stepped_rules}
-use Rattle.day_rounds.proofs.LoopLaws.{some_room}
 use Rattle.day_rounds.proofs.ReaderLaws.{given_first}
 use Rattle.day_rounds.proofs.RoundLaws.{stopped_by}
 use Rattle.day_rounds.proofs.round_on.next_round.Goals as goal
@@ -25,13 +24,12 @@ returns-in-None-clause-few g c =
     let few = c.in-Ok.ensures.read_on.few none in
     omega (arith, has, all, few)
 
-pub returns-in-None-clause-ended : goal.returns-in-None-clause-ended
-returns-in-None-clause-ended g c =
+pub returns-in-None-clause-full : goal.returns-in-None-clause-full
+returns-in-None-clause-full g c few =
     let (e, told, answered, s, h, can, number, history, abreast, all) = c.requires.runs in
+    let has = c.room-room.ensures e s h.stands in
     let none : c.in-Ok.round.stop ≡ None = cc in
-    c.in-Ok.ensures.read_on.ended none
-    (some_room s s.fed c.room-room.result c.args.run.now.floor.limits.backlog refl all
-    (c.room-room.ensures e s h.stands) h.stands.terms.some_backlog)
+    c.in-Ok.ensures.read_on.full none (omega (arith, has, all, few))
 
 pub returns-in-Some-clause-halted : goal.returns-in-Some-clause-halted
 returns-in-Some-clause-halted g c e told answered late s h can number history =

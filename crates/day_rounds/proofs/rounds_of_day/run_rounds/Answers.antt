@@ -1,6 +1,7 @@
-use Rattle.std.proofs.Common.{◌≡◌, ◌-◌, ◌<◌, ◌≤◌, ◌++◌, ◌∙◌, [], None, length, refl, sym, ap, subst, arith}
-use Rattle.std.proofs.Common.{length-append, rules}
+use Rattle.std.proofs.Common.{◌≡◌, ◌-◌, ◌<◌, ◌≤◌, ◌++◌, ◌∙◌, [], None, false, length, refl, sym, ap, subst}
+use Rattle.std.proofs.Common.{length-append, arith, rules}
 use Rattle.std.proofs.lemmas.List.{append-nil}
+use Rattle.day_reading.specs.Ahead.{has_more}
 use Rattle.settling.specs.Answers.{history_of}
 use Rattle.watermark.specs.Shares.{start}
 use Rattle.day_rounds.specs.Faults.{HasDayFront}
@@ -8,7 +9,7 @@ use Rattle.day_rounds.specs.Readers.{HasGiven}
 use Rattle.day_rounds.proofs.DayLaws.{on_start, cut_at, next_can, fewer_left}
 use Rattle.day_rounds.proofs.FrontLaws.{front_before}
 use Rattle.day_rounds.proofs.HaltLaws.{front_of_reading, stepped_rules}
-use Rattle.day_rounds.proofs.LoopLaws.{no_more, some_room}
+use Rattle.day_rounds.proofs.LoopLaws.{no_more}
 use Rattle.day_rounds.proofs.PublishLaws.{steps_under}
 use Rattle.day_rounds.proofs.ReaderLaws.{given_first, given_more}
 use Rattle.day_rounds.proofs.RoundLaws.{stopped_by}
@@ -63,8 +64,7 @@ day-init g c =
       keeper_stands = refl;
       keeper_sure = λ e. e;
       few = omega (arith, room, few);
-      ended = r.read_on.ended none
-          (some_room start [] c.room-room.result f.limits.backlog refl refl room h.stands.terms.some_backlog);
+      full = λ less. r.read_on.full none (omega (arith, room, less));
       at = λ e told answered late h gathers number history.
           let on = on_start f.limits late e c.args.ahead.now (g.S.Source.left c.args.source.now)
           (g.O.Sink.written c.args.sink.now) (g.P.Publisher.posted c.args.publisher.now) in
@@ -80,6 +80,11 @@ next_round-requires-clause-runs g c =
     next_can c.args.run.now.floor.limits c.day.run.floor.limits inv.limits late s c.day.these.items c.args.ahead.now
     c.day.ahead _ _ given gathers all inv.few in
     (e, told, answered, s, runs, can, number, history ∙ ap history_of (sym inv.same), even, all)
+
+pub next_round-requires-clause-full : goal.next_round-requires-clause-full
+next_round-requires-clause-full g c less =
+    c.day.invariant.full
+    (subst (λ l. length c.day.these.items < l.backlog) c.day.invariant.limits less)
 
 pub returns-in-Err-clause-halted : goal.returns-in-Err-clause-halted
 returns-in-Err-clause-halted g c e told answered late h gathers number history =
@@ -119,7 +124,7 @@ day-preserved g c =
       keeper_stands = v.keeper.still (λ e. let no : ⊥ = cc in no) ∙ inv.keeper_stands;
       keeper_sure = λ e. (v.keeper.sure (inv.keeper_sure e)).1;
       few = subst (λ l. length next ≤ l.backlog) inv.limits v.few;
-      ended = v.ended;
+      full = subst (λ l. length next < l.backlog → has_more c.next_round.new.ahead ≡ false) inv.limits v.full;
       at = λ e told answered late h gathers number history.
           let (s, given, text, steps, all, is, runs, even) = inv.at e told answered late h gathers number history in
           let can =
@@ -165,8 +170,10 @@ day-smaller g c =
 
 pub returns-clause-ended : goal.returns-clause-ended
 returns-clause-ended g c =
+    let (e, told, answered, late, h, gathers, number, history, abreast) = c.requires.runs in
     let empty : length c.day.these.items ≡ 0 = search rules in
-    c.day.invariant.ended (no_more c.day.these.items empty)
+    let some = h.stands.terms.some_backlog in
+    c.day.invariant.full (omega (arith, empty, some))
 
 pub returns-clause-done : goal.returns-clause-done
 returns-clause-done g c e told answered late h gathers number history =

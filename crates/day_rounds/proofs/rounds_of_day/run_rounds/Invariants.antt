@@ -1,4 +1,4 @@
-use Rattle.std.proofs.Common.{◌≡◌, ◌≤◌, ◌-◌, ◌++◌, ℕ, List, [], false, length}
+use Rattle.std.proofs.Common.{◌≡◌, ◌≤◌, ◌<◌, ◌-◌, ◌++◌, ℕ, List, [], false, length}
 use Rattle.std.specs.Prelude.{Option}
 use Rattle.road_time.specs.Day.{sum_of}
 use Rattle.road_io.specs.Plans.{NeverFails}
@@ -38,7 +38,7 @@ invariant-day g l =
       keeper_stands : g.K.Keeper.faults l.keeper ≡ g.K.Keeper.faults l.fn.keeper;
       keeper_sure : NeverFails (g.K.Keeper.plan l.fn.keeper) → NeverFails (g.K.Keeper.plan l.keeper);
       few : length l.these.items ≤ l.fn.run.floor.limits.backlog;
-      ended : l.these.items ≡ [] → has_more l.ahead ≡ false;
+      full : length l.these.items < l.fn.run.floor.limits.backlog → has_more l.ahead ≡ false;
       at : (e : Setting) (told : Option CrewTold) (answered : Option (List Finding)) (late : ℕ) →
           Runs k.out k.number k.holds k.gave k.exact k.jobs k.answers e told answered l.fn.run l.fn.crew start →
           IsGatheringAhead l.fn.ahead l.fn.run.floor.limits late [] →

@@ -1,6 +1,9 @@
-use Rattle.std.proofs.Common.{◌≡◌, ◌∷◌, ◌++◌, [], Some, None, Ok, length, refl, sym, ap, ◌∙◌, subst, arith, rules}
+use Rattle.std.proofs.Common.{◌≡◌, ◌∷◌, ◌++◌, [], Some, None, Ok, false, length, refl, sym, ap, ◌∙◌, subst}
+use Rattle.std.proofs.Common.{arith, rules}
+use Rattle.std.specs.Prelude.{IfOk, is_some}
 use Rattle.std.proofs.lemmas.Bool.{cond-true}
 use Rattle.std.proofs.lemmas.List.{length_push, append-nil}
+use Rattle.day_reading.specs.Ahead.{has_more}
 use Rattle.day_rounds.specs.Readers.{HasGiven}
 use Rattle.day_rounds.proofs.ReaderLaws.{given_none, given_more, given_one}
 use Rattle.day_rounds.proofs.supply.gather.Goals as goal
@@ -76,3 +79,16 @@ returns-in-Ok-None-clause-given g c limits late =
     (given_one limits late c.next.result None c.gathering.ahead new (g.S.Source.left c.gathering.source)
     (g.S.Source.left c.next.new.source) none (c.next.ensures.gathers limits late)
     (c.next.ensures.gives limits late)))
+
+pub returns-in-Ok-None-clause-full : goal.returns-in-Ok-None-clause-full
+returns-in-Ok-None-clause-full g c few =
+    let old = c.gathering.ahead in
+    let new = c.next.new.self in
+    let none : c.next.result ≡ Ok None = cc in
+    let same : new ≡ old = subst (λ r. IfOk r (λ given. given ≡ None → new ≡ old)) none c.next.ensures.none refl in
+    let ended : false ≡ has_more old = subst (λ r. IfOk r (λ given. is_some given ≡ has_more old)) none
+    c.next.ensures.some in
+    ap has_more same ∙ sym ended
+
+pub returns-clause-full : goal.returns-clause-full
+returns-clause-full g c few = absurd (omega (arith, few, c.gathering-test.false))

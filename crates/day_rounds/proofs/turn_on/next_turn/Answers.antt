@@ -1,8 +1,12 @@
-use Rattle.std.proofs.Common.{◌≤◌, ◌∙◌, ◌++◌, [], length, refl, sym, subst, arith}
+use Rattle.std.proofs.Common.{◌≡◌, ◌≤◌, ◌<◌, ◌+◌, ◌-◌, ◌∙◌, ◌++◌, [], length, refl, sym, ap, subst, arith}
 use Rattle.std.proofs.lemmas.List.{append-nil}
 use Rattle.expressway.specs.Results.{AreFirst}
+use Rattle.draws.specs.Draws.{after_draws}
+use Rattle.day_reading.specs.Ahead.{has_more}
+use Rattle.day_rounds.specs.Drawn.{turn_size, after_size, after_finishing}
 use Rattle.day_rounds.specs.Faults.{HasDayFront}
 use Rattle.day_rounds.specs.Readers.{HasGiven}
+use Rattle.day_rounds.proofs.DrawnLaws.{size_drawn}
 use Rattle.day_rounds.proofs.FrontLaws.{front_before}
 use Rattle.day_rounds.proofs.HaltLaws.{front_of_settling, front_of_reading, stepped_rules}
 use Rattle.day_rounds.proofs.LoopLaws.{some_room}
@@ -72,7 +76,19 @@ returns-in-Ok-turn-clause-done g c e told answered late s h gathers number histo
     let has = c.room-room.ensures e s h.stands in
     let can = given_can f.limits late s xs c.args.ahead.now c.gather.new.ahead _ _ c.room-room.result given gathers has
     few in
-    let (now, j, turned, is, runs, abreast) = c.in-Ok-turn.ensures.done e told answered s h can number history in (
+    let (now, j, turned, is, runs, abreast) = c.in-Ok-turn.ensures.done e told answered s h can number history in
+    let low : length xs ≤ c.some_of-count.result =
+    subst (λ ys. length ys ≤ c.some_of-count.result) (sym c.as_slice.ensures.value) c.in-Ok.ensures.few in
+    let room : c.room-room.result ≡ (s.settled + f.limits.backlog) - length s.fed = omega (arith, has) in
+    let some = c.some_of-count.ensures in
+    let sized =
+    subst (λ n. (c.some_of-count.result ≡ turn_size n (has_more c.args.ahead.now) c.args.rng.now)
+    × (c.some_of-count.new.rng ≡ after_size n (has_more c.args.ahead.now) c.args.rng.now)) room
+    (subst (λ b. (c.some_of-count.result ≡ turn_size c.room-room.result b c.args.rng.now)
+    × (c.some_of-count.new.rng ≡ after_size c.room-room.result b c.args.rng.now)) c.more.ensures.exact
+    (size_drawn c.room-room.result c.more.result c.args.rng.now c.some_of-count.new.rng c.some_of-count.result
+    some.drawn some.no_room some.none_left)) in
+    let work = c.in-Ok-turn.ensures.drawn in (
       xs,
       now,
       j,
@@ -86,6 +102,16 @@ returns-in-Ok-turn-clause-done g c e told answered late s h gathers number histo
           (c.some_of-count.ensures.some
           (some_room s s.fed c.room-room.result f.limits.backlog refl all has h.stands.terms.some_backlog)
           (c.more.ensures.exact ∙ more))),
+      record {
+        few = subst (λ n. length xs ≤ n) sized.0 low;
+        full = λ less. c.in-Ok.ensures.full
+            (subst (λ ys. length ys < c.some_of-count.result) c.as_slice.ensures.value
+            (subst (λ n. length xs < n) (sym sized.0) less));
+        work = (
+          work.0,
+          work.1 ∙ ap (λ r. after_finishing work.0 (after_draws c.args.width r)) sized.1,
+        );
+      },
     )
 
 pub returns-in-Err-turn-clause-halted : goal.returns-in-Err-turn-clause-halted

@@ -1,8 +1,10 @@
-use Rattle.std.proofs.Common.{ℕ, zero, suc, ◌≡◌, ◌+◌, ◌≤◌, ◌<◌, ◌∙◌, length, refl, sym, arith, subst}
+use Rattle.std.proofs.Common.{ℕ, zero, suc, ◌≡◌, ◌+◌, ◌≤◌, ◌<◌, ◌∙◌, length, refl, sym, ap, arith, subst}
 use Rattle.expressway.proofs.RunSteps.{on_refusal}
 use Rattle.expressway.specs.Results.{AreFirst}
 use Rattle.day_rounds.specs.Runs.{Stopped}
 use Rattle.day_rounds.specs.Turns.{IsGiven, IsMoved}
+use Rattle.day_rounds.specs.Drawn.{after_finishing}
+use Rattle.day_rounds.proofs.DrawnLaws.{finishing_drawn}
 use Rattle.day_rounds.proofs.FinishLaws.{ok_both}
 use Rattle.expressway.proofs.ShapeLaws.{err_map}
 use Rattle.keeper.proofs.ListFacts.{no_length}
@@ -97,3 +99,15 @@ returns-clause-stopped g c =
     c.finish_drawn.new.run c.finish_drawn.new.crew) (c.give_least.ensures.limits ∙ c.give_drawn.ensures.limits)
     (stopped e told answered now all day (subst (λ ts. AreFirst ts day) (sym (more.fed ∙ given.fed)) first))))
     c.finish_drawn.ensures.stopped
+
+pub returns-clause-drawn : goal.returns-clause-drawn
+returns-clause-drawn g c =
+    let held = length c.give_least.new.run.tickets.items in
+    let left = length c.finish_drawn.new.run.tickets.items in
+    ok_both c.finish_drawn.result
+    (λ none some. (
+      held,
+      finishing_drawn held left c.give_drawn.new.rng c.finish_drawn.new.rng none some
+          ∙ ap (after_finishing held) c.in_ok-give_drawn.ensures.drawn,
+    ))
+    c.finish_drawn.ensures.none c.finish_drawn.ensures.drawn

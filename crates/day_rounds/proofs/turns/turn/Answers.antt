@@ -8,6 +8,7 @@ use Rattle.watermark.specs.Shares.{mark}
 use Rattle.watermark.specs.Steps.{after_settle}
 use Rattle.expressway.proofs.RunSteps.{on_refusal}
 use Rattle.day_rounds.specs.Runs.{Stopped}
+use Rattle.day_rounds.proofs.DrawnLaws.{in_any}
 use Rattle.day_rounds.proofs.FeedLaws.{fed_are}
 use Rattle.day_rounds.proofs.FrontLaws.{front_before}
 use Rattle.day_rounds.proofs.PublishLaws.{steps_under}
@@ -94,3 +95,6 @@ returns-clause-front g c =
     (subst (Fit (s.fed ++ these)) (sym v.limits) can.fit) first
     (text_kept e s mid (turn_text w j s mid these h.stands.sound.settled moved) first _ had))
     c.settle_done.ensures.stopped
+
+pub returns-clause-drawn : goal.returns-clause-drawn
+returns-clause-drawn g c = in_any c.settle_done.result c.in-Ok.ensures.drawn

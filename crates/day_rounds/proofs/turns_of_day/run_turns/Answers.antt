@@ -1,7 +1,10 @@
-use Rattle.std.proofs.Common.{◌≡◌, ◌+◌, ◌-◌, ◌*◌, ◌<◌, ◌≤◌, ◌∙◌, length, refl, sym, ap, subst, arith, length-append}
+use Rattle.std.proofs.Common.{◌≡◌, ◌+◌, ◌-◌, ◌*◌, ◌<◌, ◌≤◌, ◌∙◌, ◌∷◌, [], false, length, refl, sym, ap, subst, arith}
+use Rattle.std.proofs.Common.{length-append}
+use Rattle.day_reading.specs.Ahead.{has_more}
 use Rattle.settling.specs.Answers.{history_of}
 use Rattle.watermark.specs.Shares.{start, mark}
 use Rattle.day_rounds.specs.Tasks.{out_at}
+use Rattle.day_rounds.specs.Drawn.{DrawsTurn, TurnMade, AreTurns}
 use Rattle.day_rounds.proofs.DayLaws.{on_start, on_next, on_gathers, cut_at}
 use Rattle.day_rounds.proofs.TurnedLaws.{some_done, less_left, less_by, tickets_are, given_few, no_ticket, start_mark}
 use Rattle.day_rounds.proofs.TurnedLaws.{must_more}
@@ -33,6 +36,7 @@ day-init g c =
         h,
         c.requires.runs.8,
         refl,
+        ([], refl, refl),
       );
     }
 
@@ -40,7 +44,7 @@ pub next_turn-requires-clause-runs : goal.next_turn-requires-clause-runs
 next_turn-requires-clause-runs g c =
     let inv = c.day.invariant in
     let (e, told, answered, late, h, gathers, number, history, abreast) = c.requires.runs in
-    let (s, on, marked, is, runs, even, waits) = inv.at e told answered late h gathers number history in (
+    let (s, on, marked, is, runs, even, waits, made) = inv.at e told answered late h gathers number history in (
       e,
       told,
       answered,
@@ -60,7 +64,7 @@ returns-in-Err-clause-halted g c e told answered late h gathers number history =
     let inv = c.day.invariant in
     let f = c.args.run.now.floor in
     let d = c.day.run.floor in
-    let (s, on, marked, is, runs, even, waits) = inv.at e told answered late h gathers number history in
+    let (s, on, marked, is, runs, even, waits, made) = inv.at e told answered late h gathers number history in
     cut_at k.out k.number k.holds k.gave k.exact k.jobs c.in-Err.fault e told d.inboxes.width f.inboxes.width d.limits
     f.limits inv.width inv.limits late s s.fed c.args.ahead.now c.day.ahead _ _ _ _ _ _ _ _ c.next_turn.new.run
     c.next_turn.new.crew on.given on.text on.steps
@@ -74,8 +78,8 @@ pending-pending-requires g c =
     let f = c.args.run.now.floor in
     let d = c.day.run.floor in
     let (e, told, answered, late, h, gathers, number, history, abreast) = c.requires.runs in
-    let (s, on, marked, is, runs, even, waits) = inv.at e told answered late h gathers number history in
-    let (xs, now, j, given, turned, count, last, still, some) =
+    let (s, on, marked, is, runs, even, waits, made) = inv.at e told answered late h gathers number history in
+    let (xs, now, j, given, turned, count, last, still, some, draws) =
     c.in-Ok.ensures.done e told answered late s runs
     (on_gathers f.limits d.limits inv.limits late e c.args.ahead.now c.day.ahead _ _ _ _ _ _ s on gathers) number
     (history ∙ ap history_of (sym inv.same)) in
@@ -103,11 +107,12 @@ day-preserved g c =
       keeper_stands = v.keeper.still (λ e. let no : ⊥ = cc in no) ∙ inv.keeper_stands;
       keeper_sure = λ e. (v.keeper.sure (inv.keeper_sure e)).1;
       at = λ e told answered late h gathers number history.
-          let (s, on, marked, is, runs, even, waits) = inv.at e told answered late h gathers number history in
-          let (xs, now, j, given, turned, count, last, still, some) =
+          let (s, on, marked, is, runs, even, waits, made) = inv.at e told answered late h gathers number history in
+          let (xs, now, j, given, turned, count, last, still, some, draws) =
           v.done e told answered late s runs
           (on_gathers f.limits d.limits inv.limits late e c.args.ahead.now c.day.ahead _ _ _ _ _ _ s on gathers)
-          number (history ∙ ap history_of (sym inv.same)) in (
+          number (history ∙ ap history_of (sym inv.same)) in
+          let t : TurnMade = record { before = s; generator = c.day.rng; more = has_more c.day.ahead; xs = xs } in (
             now,
             on_next f.limits d.limits inv.limits late e c.args.ahead.now c.day.ahead c.next_turn.new.ahead _ _ _ _ _ _ _
                 _ _ s now xs on given turned.fed turned.text turned.steps,
@@ -116,6 +121,14 @@ day-preserved g c =
             last,
             still,
             c.pending-pending.ensures e now last.stands,
+            (
+              t ∷ made.0,
+              subst
+                  (λ l. DrawsTurn c.args.plan.now.width l.backlog s c.day.rng c.next_turn.new.rng xs
+                  (has_more c.day.ahead) (has_more c.next_turn.new.ahead)) inv.limits draws,
+              turned.fed,
+              made.1,
+            ),
           );
     }
 
@@ -129,8 +142,8 @@ day-smaller g c =
     let run = c.day.run in
     let after = c.next_turn.new.run in
     let (e, told, answered, late, h, gathers, number, history, abreast) = c.requires.runs in
-    let (s, on, marked, is, runs, even, waits) = inv.at e told answered late h gathers number history in
-    let (xs, now, j, given, turned, count, last, still, some) =
+    let (s, on, marked, is, runs, even, waits, made) = inv.at e told answered late h gathers number history in
+    let (xs, now, j, given, turned, count, last, still, some, draws) =
     v.done e told answered late s runs
     (on_gathers f.limits d.limits inv.limits late e c.args.ahead.now c.day.ahead _ _ _ _ _ _ s on gathers) number
     (history ∙ ap history_of (sym inv.same)) in
@@ -173,7 +186,8 @@ pub returns-clause-none : goal.returns-clause-none
 returns-clause-none g c =
     let k = g.C.Crew in
     let (e, told, answered, late, h, gathers, number, history, abreast) = c.requires.runs in
-    let (s, on, marked, is, runs, even, waits) = c.day.invariant.at e told answered late h gathers number history in
+    let (s, on, marked, is, runs, even, waits, made) =
+    c.day.invariant.at e told answered late h gathers number history in
     let (left, rest) = c.goes_on.ensures.none c.day-test.false in
     no_ticket k.out k.number k.holds k.gave k.exact k.jobs k.answers e told answered c.day.run c.day.crew s runs
     (omega (arith, waits, rest))
@@ -183,9 +197,23 @@ returns-clause-ended g c = sym c.more.ensures.exact ∙ (c.goes_on.ensures.none 
 
 pub returns-clause-done : goal.returns-clause-done
 returns-clause-done g c e told answered late h gathers number history =
-    let (s, on, marked, is, runs, even, waits) = c.day.invariant.at e told answered late h gathers number history in
+    let (s, on, marked, is, runs, even, waits, made) =
+    c.day.invariant.at e told answered late h gathers number history in
     let (left, rest) = c.goes_on.ensures.none c.day-test.false in
     (s, on, omega (arith, waits, rest), is, runs)
+
+pub returns-clause-turned : goal.returns-clause-turned
+returns-clause-turned g c e told answered late h gathers number history =
+    let (s, on, marked, is, runs, even, waits, made) =
+    c.day.invariant.at e told answered late h gathers number history in
+    let (left, rest) = c.goes_on.ensures.none c.day-test.false in
+    let ended : has_more c.day.ahead ≡ false = sym c.more.ensures.exact ∙ left in (
+      s,
+      made.0,
+      runs,
+      subst (AreTurns c.args.plan.now.width c.args.run.now.floor.limits.backlog c.args.rng.now made.0 s c.day.rng) ended
+          made.1,
+    )
 
 pub returns-in-Err-clause-read : goal.returns-in-Err-clause-read
 returns-in-Err-clause-read g c lines bytes h = c.in-Err.ensures.read lines bytes (c.day.invariant.read lines bytes h)

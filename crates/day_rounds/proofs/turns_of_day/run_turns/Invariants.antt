@@ -3,7 +3,7 @@ use Rattle.std.specs.Prelude.{Option}
 use Rattle.road_time.specs.Day.{sum_of}
 use Rattle.road_io.specs.Plans.{NeverFails}
 use Rattle.road_io.specs.Rooms.{Endless}
-use Rattle.day_reading.specs.Ahead.{IsGatheringAhead, HasReadAhead, HasFailedAhead}
+use Rattle.day_reading.specs.Ahead.{has_more, IsGatheringAhead, HasReadAhead, HasFailedAhead}
 use Rattle.expressway.specs.declared.finding.Finding.{Finding}
 use Rattle.partition_workers.specs.Told.{CrewTold}
 use Rattle.settling.specs.Answers.{history_of}
@@ -13,6 +13,7 @@ use Rattle.watermark.specs.Written.{settled_charges}
 use Rattle.watermark.specs.Floors.{Setting}
 use Rattle.day_rounds.specs.Runs.{Runs}
 use Rattle.day_rounds.specs.Days.{IsOn}
+use Rattle.day_rounds.specs.Drawn.{TurnMade, AreTurns}
 use Rattle.day_rounds.proofs.turns_of_day.run_turns.Given as goal
 
 abbrev pub invariant-day : goal.invariant-day
@@ -44,7 +45,9 @@ invariant-day g l =
           × (now.settled ≡ mark l.fn.run.floor.inboxes.width now) × (l.settled ≡ now.settled)
           × Runs k.out k.number k.holds k.gave k.exact k.jobs k.answers e told answered l.run l.crew now
           × IsAbreast (g.P.Publisher.posted l.publisher) (sum_of (settled_charges now))
-          × (now.settled + l.pending ≡ length now.fed);
+          × (now.settled + l.pending ≡ length now.fed)
+          × ((turns : List TurnMade)
+          × AreTurns l.plan.now.width l.fn.run.floor.limits.backlog l.fn.rng turns now l.rng (has_more l.ahead));
     }
 
 abbrev pub decreases-day : goal.decreases-day
