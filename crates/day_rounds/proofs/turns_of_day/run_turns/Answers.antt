@@ -36,7 +36,7 @@ day-init g c =
         h,
         c.requires.runs.8,
         refl,
-        ([], refl, refl),
+        ([], (refl, refl)),
       );
     }
 
@@ -123,11 +123,13 @@ day-preserved g c =
             c.pending-pending.ensures e now last.stands,
             (
               t ∷ made.0,
-              subst
-                  (λ l. DrawsTurn c.args.plan.now.width l.backlog s c.day.rng c.next_turn.new.rng xs
-                  (has_more c.day.ahead) (has_more c.next_turn.new.ahead)) inv.limits draws,
-              turned.fed,
-              made.1,
+              (
+                subst
+                    (λ l. DrawsTurn c.args.plan.now.width l.backlog s c.day.rng c.next_turn.new.rng xs
+                    (has_more c.day.ahead) (has_more c.next_turn.new.ahead)) inv.limits draws,
+                turned.fed,
+                made.1,
+              ),
             ),
           );
     }

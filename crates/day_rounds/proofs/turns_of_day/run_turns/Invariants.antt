@@ -47,7 +47,7 @@ invariant-day g l =
           × IsAbreast (g.P.Publisher.posted l.publisher) (sum_of (settled_charges now))
           × (now.settled + l.pending ≡ length now.fed)
           × ((turns : List TurnMade)
-          × AreTurns l.plan.now.width l.fn.run.floor.limits.backlog l.fn.rng turns now l.rng (has_more l.ahead));
+          × AreTurns l.plan.width l.fn.run.floor.limits.backlog l.fn.rng turns now l.rng (has_more l.ahead));
     }
 
 abbrev pub decreases-day : goal.decreases-day
