@@ -15,7 +15,7 @@ import sys
 from write_docs import PAGES, TOP
 
 OTHERS = [["write_docs.py", "--check"], ["pictures.py", "--check"], ["check_words.py"], ["check_rows.py"],
-          ["check_traffic.py"]]
+          ["check_traffic.py"], ["check_clauses.py"]]
 
 
 def main():
