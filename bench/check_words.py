@@ -4,10 +4,12 @@
     python3 bench/check_words.py
 
 The grammar is the table in `crates/office_words/specs/Table.antt` and, of the server, `crates/server_words/specs/App.antt`.
-The script ends with status 1 and names each word that a page lacks or has too much.
+The script ends with status 1 and names each word that a page lacks or has too much. If groff is there, the manual pages must
+give it no warning.
 """
 import pathlib
 import re
+import shutil
 import subprocess
 import sys
 
@@ -91,6 +93,10 @@ def main():
     same("completion: toll_serve", completed("toll_serve", ""), options)
     same("toll_serve.1", set(re.findall(r"--\w+", plain("docs/toll_serve.1"))), options)
     same("HTTP.md", set(re.findall(r"`(--\w+)`", text("docs/HTTP.md"))), options)
+    if shutil.which("groff"):
+        for page in ("docs/toll_office.1", "docs/toll_serve.1"):
+            ran = subprocess.run(["groff", "-man", "-Tutf8", "-ww", "-z", page], cwd=TOP, text=True, stderr=subprocess.PIPE)
+            wrong += ran.stderr.splitlines()
     print(*wrong, sep="\n", end="\n" if wrong else "")
     print(f"{len(forms)} commands, {len(every)} options, {len(options)} of the server: {len(wrong)} wrong")
     sys.exit(1 if wrong else 0)
