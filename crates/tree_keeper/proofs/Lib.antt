@@ -1,0 +1,17 @@
+pub mod TreeReads
+pub mod EntryLaws
+pub mod Members
+pub mod SpentLaws
+pub mod Premise
+pub mod WalkLaws
+pub mod IndexLaws
+pub mod RowsLaws
+pub mod RiseLaws
+pub mod PastFound
+pub mod WantedLaws
+pub mod DayFound
+pub mod TariffsFound
+pub mod ListLaws
+pub mod ResultLaws
+pub mod ListingLaws
+pub mod LastFound

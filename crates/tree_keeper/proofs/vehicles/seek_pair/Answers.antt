@@ -1,0 +1,18 @@
+use Rattle.std.proofs.Common.{◌≡◌, refl, subst, arith, MatchResult}
+use Rattle.std.proofs.lemmas.Result.{err_from_is_err_and}
+use Rattle.sqlite_pages.specs.Calls.{FailsFor}
+use Rattle.sqlite_value.specs.Order.{Row}
+use Rattle.sqlite_store.specs.Db.{trees_in}
+use Rattle.tree_keeper.specs.Pages.{our_trees}
+use Rattle.tree_keeper.specs.Walks.{StartsAt}
+use Rattle.tree_keeper.proofs.vehicles.seek_pair.Goals as goal
+
+pub returns-clause-done : goal.returns-clause-done
+returns-clause-done g c clean db names =
+    let size = g.P.Pages.size c.args.pages.now in
+    let pages = g.P.Pages.pages c.args.pages.now in
+    subst (λ (k : Row). MatchResult c.first_entry.result
+    (StartsAt (db.layouts 3) size pages
+    (trees_in size our_trees pages 2) k c.first_entry.new.batch c.first_entry.new.entry)
+    (FailsFor g.P.Pages c.args.pages.now c.first_entry.new.pages ⊥)) c.in_ok-set_pair.ensures
+    ((c.first_entry.ensures.done clean) 2 db names refl)
