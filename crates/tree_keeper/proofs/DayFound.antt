@@ -1,5 +1,5 @@
 -- What is found of a day, and of the last one.
-use Rattle.std.proofs.Common.{◌≡◌, ℕ, pos, max, ◌==◌, true, false, List, [], ◌∷◌, ◌++◌, map, filter, find, slice_get}
+use Rattle.std.proofs.Common.{◌≡◌, ℕ, pos, max, ◌==◌, true, false, List, [], ◌∷◌, ◌++◌, map, find, slice_get}
 use Rattle.std.proofs.Common.{Option, Some, None, refl, sym, ap, subst, ◌∙◌, arith, inl, inr, ◌<◌, ◌^◌}
 use Rattle.std.specs.List.{AllByRecursion}
 use Rattle.std.specs.List.Sorted.{IsStrictlySortedBy}
@@ -19,11 +19,11 @@ use Rattle.keeper.specs.declared.kept.OldRecord.{OldRecord}
 use Rattle.keeper.specs.declared.kept.PastRecord.{PastRecord}
 use Rattle.keeper.specs.Kept.{sealed}
 use Rattle.keeper.specs.Office.{greatest_day, last_from}
-use Rattle.kept_tables.specs.Codec.{day_row, seal_row}
+use Rattle.kept_tables.specs.Codec.{day_row}
 use Rattle.kept_tables.specs.Stands.{FitsDay}
 use Rattle.tree_keeper.specs.Days.{IsLastDay, TellsDay}
 use Rattle.tree_keeper.proofs.Members.{of_filter}
-use Rattle.tree_keeper.proofs.ListLaws.{IsHit, is_hit, no_hit}
+use Rattle.tree_keeper.proofs.ListLaws.{is_hit, no_hit}
 
 -- a row is that of a day
 pub record IsDayRow (row : DayRecord → Row) (days : List DayRecord) (day : ℕ) (r : Row) : Type 0 where
@@ -70,6 +70,7 @@ pub record IsTold (kept : Option DayRecord) (old : OldRecord) : Type 0 where
   pub kept_is : kept ≡ Some day
   pub told : sealed day.tariffs old ≡ day
 
+-- a day is told only where one is kept
 pub is_told : (kept : Option DayRecord) (old : OldRecord) → TellsDay kept (Some old) → IsTold kept old
 is_told None old h = absurd h
 is_told (Some r) old h = record { day = r; kept_is = refl; told = h }
@@ -124,6 +125,7 @@ most_is_last d (e ∷ days) (x ∷ before) last up h =
     later : (m n : ℕ) → nat_cmp m n ≡ Less → max m n ≡ n
     later m n less = grind (arith, nat_tests, less)
 
+-- so the last of the days is the last that is kept
 pub last_is : (days : List DayRecord) (past : Option PastRecord) (day : ℕ) →
     IsStrictlySortedBy nat_cmp (map (λ (r : DayRecord). r.day) days) → IsLastDay days (Some day)
     → day ≡ last_from days past

@@ -16,11 +16,13 @@ below_apart Less h = refl
 below_apart Equal h = absurd (cc)
 below_apart Greater h = refl
 
+-- nor is what is above
 above_apart : (o : Ordering) → is_gt o ≡ true → is_eq o ≡ false
 above_apart Less h = refl
 above_apart Equal h = absurd (cc)
 above_apart Greater h = refl
 
+-- what is neither below nor level is above
 neither : (o : Ordering) → is_lt o ≡ false → is_eq o ≡ false → is_gt o ≡ true
 neither Less a b = absurd (cc)
 neither Equal a b = absurd (cc)

@@ -24,6 +24,7 @@ use Rattle.tree_keeper.specs.Rows.{row_key}
 abbrev three : Row → Row
 three c = column c 0 ∷ column c 1 ∷ column c 2 ∷ []
 
+-- an entry begins with the first three columns of its row
 three_of : (t : Row) → take 3 (entry_of (1 ∷ 2 ∷ 3 ∷ []) t) ≡ three (drop 1 t)
 three_of [] = refl
 three_of (x ∷ c) = refl
@@ -48,6 +49,7 @@ last_level Less = refl
 last_level Equal = refl
 last_level Greater = refl
 
+-- keys compare as their amounts do
 pub keyed_so : (a b : SpentRow) → entry_cmp plain (row_key a) (row_key b) ≡ row_cmp a b
 keyed_so a b =
     rw (first_key-plain, by_number a.day b.day, by_number a.vid b.vid, by_number a.xway b.xway)
@@ -61,6 +63,7 @@ cut_level Less b c h so = refl
 cut_level Equal b c h so = so h
 cut_level Greater b c h so = absurd (cc)
 
+-- entries that are cut to their first columns do not fall
 pub cut_short : (n : ℕ) (o : Order) (a b : Row) → entry_cmp o a b ≡ Less
     → is_gt (entry_cmp o (take n a) (take n b)) ≡ false
 cut_short zero o a b h = refl

@@ -1,5 +1,5 @@
 -- What the last row of the table of days tells.
-use Rattle.std.proofs.Common.{◌≡◌, ℕ, ℤ, pos, ◌^◌, ◌-◌, List, [], ◌∷◌, ◌++◌, map, Some, None, refl, sym, ap, ap₂, subst}
+use Rattle.std.proofs.Common.{◌≡◌, ℕ, ℤ, pos, ◌^◌, ◌-◌, List, [], ◌∷◌, ◌++◌, map, None, sym, ap, ap₂}
 use Rattle.std.proofs.Common.{◌∙◌, append_assoc}
 use Rattle.std.proofs.lemmas.List.{map-append}
 use Rattle.sqlite_value.specs.declared.value.Value.TheVariants.{Int}
@@ -30,6 +30,7 @@ module _ {size root : ℕ} {layout : Layout} {raw : List (ℤ × List ℕ)} (pag
   all_parts =
       sym (up_to_most raw (all_fit table)) ∙ ap (λ n. before_cut (up_to_rowid n) raw) (sym most_is) ∙ filled.parts
 
+  -- the days are the rows that the table holds
   shows : map day_row days ≡ map table_row raw
   shows = sym are ∙ table_reads pages laid table
 
@@ -47,6 +48,7 @@ module _ {size root : ℕ} {layout : Layout} {raw : List (ℤ × List ℕ)} (pag
     pub split : days ≡ before ++ last ∷ []
     pub number : rowid_of (taken new).key ≡ pos last.day
 
+  -- such a row is the last of all
   pub last_found : (new : Batch) → left_in pages old ≡ left_in pages new ++ taken new ∷ [] → Last new
   last_found new e =
       let front = filled.front ++ map as_row (left_in pages new) in

@@ -1,8 +1,7 @@
 -- What a search by a number finds among rows that things are kept as.
-use Rattle.std.proofs.Common.{◌≡◌, ℕ, pos, ◌==◌, ◌≤◌, Bool, true, false, List, [], ◌∷◌, map, filter, count_by, refl}
-use Rattle.std.proofs.Common.{sym, ap, ◌∙◌, inl, inr, arith, is_eq}
+use Rattle.std.proofs.Common.{◌≡◌, ℕ, pos, ◌==◌, true, false, List, [], ◌∷◌, map, filter, refl}
+use Rattle.std.proofs.Common.{sym, ap, ◌∙◌, arith, is_eq}
 use Rattle.std.specs.Ordering.{int_cmp}
-use Rattle.std.proofs.lemmas.Bool.{cases_Bool}
 use Rattle.std.proofs.lemmas.Bool.Decides.{nat_tests}
 use Rattle.sqlite_value.specs.declared.value.Value.TheVariants.{Int}
 use Rattle.sqlite_value.specs.Order.{Row, column, value_cmp}
@@ -20,6 +19,7 @@ module _ {X : Type 0} (row : X → Row) (key : X → ℕ) (numbered : (x : X) �
       level : (m k : ℕ) → is_eq (int_cmp (pos m) (pos k)) ≡ (m == k)
       level m k = grind (arith, nat_tests)
 
+  -- the rows of a number are those of what has it
   picked : (n : ℕ) (xs : List X) → filter (has_rowid (pos n)) (map row xs) ≡ map row (filter (λ x. key x == n) xs)
   picked n xs = filter-map (has_rowid (pos n)) row xs ∙ ap (map row) (filter_same _ _ (has_key n) xs)
 
@@ -29,11 +29,13 @@ module _ {X : Type 0} (row : X → Row) (key : X → ℕ) (numbered : (x : X) �
     pub only : filter (λ x. key x == n) xs ≡ hit ∷ []
     pub row_is : r ≡ row hit
 
+  -- where one row is made, one thing is there
   one_of : (xs : List X) (r : Row) → map row xs ≡ r ∷ [] → (x : X) × (xs ≡ x ∷ []) × (r ≡ row x)
   one_of [] r h = absurd (cc)
   one_of (x ∷ []) r h = (x, refl, cc)
   one_of (x ∷ y ∷ xs) r h = absurd (cc)
 
+  -- a row that is found is that of a hit
   pub is_hit : (n : ℕ) (xs : List X) (rows : List Row) (r : Row) → rows ≡ map row xs → Finds rows (pos n) r true
       → IsHit n xs r
   is_hit n xs rows r are finds =
@@ -41,6 +43,7 @@ module _ {X : Type 0} (row : X → Row) (key : X → ℕ) (numbered : (x : X) �
       (sym (picked n xs) ∙ ap (filter (has_rowid (pos n))) (sym are) ∙ finds) in
       record { hit = one.0; only = one.1; row_is = one.2 }
 
+  -- where no row is made, nothing is there
   none_of : (xs : List X) → map row xs ≡ [] → xs ≡ []
   none_of [] h = refl
   none_of (x ∷ xs) h = absurd (cc)

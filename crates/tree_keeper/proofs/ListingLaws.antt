@@ -1,6 +1,6 @@
 -- Where sqlite_schema lists a tree.
-use Rattle.std.proofs.Common.{◌≡◌, ℕ, ℤ, pos, ◌<◌, ◌≤◌, ◌^◌, nat_le, Bool, true, false, List, [], ◌∷◌, filter, length}
-use Rattle.std.proofs.Common.{count_by, refl, sym, ap, subst, ◌∙◌, subst₂, Option, Some, IfSome, inl, inr, arith}
+use Rattle.std.proofs.Common.{◌≡◌, ℕ, ℤ, pos, ◌<◌, ◌≤◌, ◌^◌, nat_le, true, List, [], ◌∷◌, filter, length}
+use Rattle.std.proofs.Common.{refl, sym, ap, subst, ◌∙◌, subst₂, Option, Some, IfSome, inl, inr, arith}
 use Rattle.std.specs.List.{AllByRecursion, list_all}
 use Rattle.std.proofs.lemmas.Bool.{cases_Bool, and_parts, lt-ltb}
 use Rattle.std.proofs.lemmas.Bool.Decides.{nat_tests}
@@ -14,7 +14,7 @@ use Rattle.sqlite_trees.specs.View.{Finds}
 use Rattle.sqlite_trees.specs.Tree.{has_rowid}
 use Rattle.sqlite_keyed.proofs.ListLemmas.{all_from_test}
 use Rattle.sqlite_store.specs.declared.catalog.Wanted.{Wanted}
-use Rattle.sqlite_store.specs.Catalog.{describes, root_in, page_number, is_listed_once, may_stand, fits_shape}
+use Rattle.sqlite_store.specs.Catalog.{describes, root_in, page_number, is_listed_once, may_stand}
 use Rattle.sqlite_store.specs.Db.{IsDb, rows_at}
 use Rattle.tree_keeper.specs.Pages.{our_trees}
 use Rattle.tree_keeper.proofs.Members.{into_filter, of_filter}
@@ -45,9 +45,11 @@ among_all P [] w all at = absurd at
 among_all P (x ∷ ws) w all (inl is) = subst P (sym is) all.0
 among_all P (x ∷ ws) w all (inr more) = among_all P ws w all.1 more
 
+-- a count that is tested to be at most one is
 at_most_one : (n : ℕ) → nat_le n 1 ≡ true → n ≤ 1
 at_most_one n h = grind (arith, nat_tests, h)
 
+-- a number of 32 bits is a page number
 small : (n : ℕ) → n < 2 ^ 32 → page_number (Int (pos n)) ≡ n
 small n h = rw (lt-ltb n (2 ^ 32) h) refl
 

@@ -29,6 +29,7 @@ pub record IsKept (past : Option PastRecord) (row : Row) : Type 0 where
   pub is : past ≡ Some kept
   pub row_is : row ≡ past_row kept
 
+-- such a row is there only where a history is kept
 pub one_kept : (past : Option PastRecord) (rows : List Row) (row : Row) → rows ≡ past_rows past
     → Finds rows (pos 1) row true → IsKept past row
 one_kept None rows row are finds =

@@ -61,6 +61,7 @@ pub table_begins : {size : ℕ} {pages : PageMap} {roots : Roots} → roots_of s
     → Names size our_trees pages 1 Table roots.spent
 table_begins are = record { shape_is = refl; root_is = ap (λ l. slice_index l 1) are }
 
+-- its index begins at the third tree
 pub key_begins : {size : ℕ} {pages : PageMap} {roots : Roots} → roots_of size our_trees pages ≡ root_list roots
     → Names size our_trees pages 2 (Index plain) roots.spent_key
 key_begins are = record { shape_is = refl; root_is = ap (λ l. slice_index l 2) are }
@@ -70,9 +71,11 @@ module _ {size : ℕ} {pages : PageMap} {roots : Roots} {o : Office} (has : Stan
   pub spent_at : Names size our_trees pages 1 Table roots.spent
   spent_at = record { shape_is = refl; root_is = ap (λ l. slice_index l 1) has.roots_are }
 
+  -- the index of the amounts is the third
   pub key_at : Names size our_trees pages 2 (Index plain) roots.spent_key
   key_at = record { shape_is = refl; root_is = ap (λ l. slice_index l 2) has.roots_are }
 
+  -- no two amounts have the same key
   pub differ : KeysDiffer o.rows
   differ = keys_law o.rows has.holds.office.sound.rows_rise
 
@@ -87,6 +90,7 @@ module _ {size : ℕ} {pages : PageMap} {roots : Roots} {o : Office} (has : Stan
       (trees_in size our_trees pages 2) has.holds.office.sound.rows_rise
       (ordered has.holds.db 2) has.holds.office.tables.rows_are has.holds.indexed
 
+  -- the history is in the fourth
   pub past_at : Names size our_trees pages 3 Table roots.past
   past_at = record { shape_is = refl; root_is = ap (λ l. slice_index l 3) has.roots_are }
 
@@ -98,8 +102,10 @@ module _ {size : ℕ} {pages : PageMap} {roots : Roots} {o : Office} (has : Stan
   pub days_at : Names size our_trees pages 0 Table roots.days
   days_at = record { shape_is = refl; root_is = ap (λ l. slice_index l 0) has.roots_are }
 
+  -- the seals are in the fifth
   pub seals_at : Names size our_trees pages 4 Table roots.seals
   seals_at = record { shape_is = refl; root_is = ap (λ l. slice_index l 4) has.roots_are }
 
+  -- the tariffs are in the sixth
   pub tariffs_at : Names size our_trees pages 5 Table roots.tariffs
   tariffs_at = record { shape_is = refl; root_is = ap (λ l. slice_index l 5) has.roots_are }

@@ -13,6 +13,7 @@ pub if_so : {T E : Type 0} (r : Result T E) (P Q : T → Type 0) (F : E → Type
 if_so (Ok x) P Q F h f = f x h
 if_so (Err e) P Q F h f = tt
 
+-- the same from what holds of an answer alone
 pub if_then : {T E : Type 0} (r : Result T E) (P Q : T → Type 0) → IfOk r P → ((x : T) → P x → Q x) → IfOk r Q
 if_then (Ok x) P Q h f = f x h
 if_then (Err e) P Q h f = tt

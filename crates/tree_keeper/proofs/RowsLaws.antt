@@ -1,5 +1,5 @@
 -- How a walk gathers the amounts that are wanted.
-use Rattle.std.proofs.Common.{◌≡◌, ℕ, Bool, true, false, List, [], ◌∷◌, ◌++◌, map, take, filter, refl, sym, ap, ap₂}
+use Rattle.std.proofs.Common.{◌≡◌, ℕ, Bool, true, false, List, [], ◌∷◌, ◌++◌, map, take, filter, refl, sym, ap}
 use Rattle.std.proofs.Common.{subst, ◌∙◌}
 use Rattle.std.proofs.Common.{inl, inr, append_assoc, append-nil, Less, is_lt}
 use Rattle.std.specs.List.{AllByRecursion}
@@ -34,6 +34,7 @@ pub record FirstLeft (entry : Row) (rest : List Row) (left : List SpentRow) : Ty
   pub key : take 3 entry ≡ row_key first
   pub keys : map (take 3) rest ≡ map row_key others
 
+-- what lists one entry and more lists one amount and more
 pub heads : (entry : Row) (rest : List Row) (left : List SpentRow) → map (take 3) (entry ∷ rest) ≡ map row_key left →
     FirstLeft entry rest left
 heads entry rest [] h = absurd (cc)
@@ -95,6 +96,7 @@ pub record Begins (wanted : SpentRow → Bool) (key : Row) (es : List Row) (rows
   pub keys : map (take 3) (from_key plain key es) ≡ map row_key left
   pub none : filter wanted front ≡ []
 
+-- entries and amounts part at the same place
 pub begins_at : (wanted : SpentRow → Bool) (key : Row) (es : List Row) (rows : List SpentRow) →
     map (take 3) es ≡ map row_key rows → AllByRecursion (IsSkipped wanted key) rows → Begins wanted key es rows
 begins_at wanted key [] [] h skipped = record { front = []; left = []; split = refl; keys = refl; none = refl }
@@ -161,6 +163,7 @@ module _ {size : ℕ} {pages : PageMap} {o : Office} {wanted : SpentRow → Bool
   abbrev pub first : FirstLeft entry (rows_after (Index plain) entry (trees_in size our_trees pages 2)) w.left
   first = heads entry (rows_after (Index plain) entry (trees_in size our_trees pages 2)) w.left w.lists
 
+  -- the amounts are those before it, it and the others
   pub whole : o.rows ≡ w.front ++ first.first ∷ first.others
   whole = w.split ∙ ap (λ l. w.front ++ l) first.parts
 

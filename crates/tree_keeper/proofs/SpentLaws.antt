@@ -35,9 +35,11 @@ both_level Less b h = absurd (cc)
 both_level Equal b h = (refl, h)
 both_level Greater b h = absurd (cc)
 
+-- numbers that are level are the same
 level : (m n : ℕ) → is_eq (nat_cmp m n) ≡ true → m ≡ n
 level m n h = grind (arith, nat_tests)
 
+-- a number is level with itself
 level_itself : (n : ℕ) → nat_cmp n n ≡ Equal
 level_itself n = grind (arith, nat_tests)
 
@@ -48,11 +50,13 @@ pub record IsAmountRow (rows : List SpentRow) (t : Row) : Type 0 where
   pub number : Value
   pub is : t ≡ number ∷ spent_row amount
 
+-- a row whose other columns are an amount is a row of it
 with_number : (rows : List SpentRow) (t : Row) (r : SpentRow) → IsIn r rows → drop 1 t ≡ spent_row r
     → IsAmountRow rows t
 with_number rows [] r among h = absurd (cc)
 with_number rows (x ∷ c) r among h = record { amount = r; among = among; number = x; is = ap (λ (l : Row). x ∷ l) h }
 
+-- each row of the table is one
 pub amount_row : (rows : List SpentRow) (table : List Row) (t : Row) → AreAmountRows rows table → IsIn t table
     → IsAmountRow rows t
 amount_row rows table t are at =
@@ -77,6 +81,7 @@ pub record IsEntry (rows : List SpentRow) (table : List Row) (e : Row) : Type 0 
   pub numbered : column row 0 ≡ number
   pub is : e ≡ Int (pos amount.day) ∷ Int (pos amount.vid) ∷ Int (pos amount.xway) ∷ number ∷ []
 
+-- each entry of the index is one
 pub entry_is : (rows : List SpentRow) (table entries : List Row) (e : Row) → AreAmountRows rows table
     → IsIndexOf (1 ∷ 2 ∷ 3 ∷ []) table entries → IsIn e entries → IsEntry rows table e
 entry_is rows table entries e are indexed at =
@@ -125,6 +130,7 @@ paid_of (s ∷ rows) r differ (inr more) =
     all_at (y ∷ xs) z P all (inl e) = subst P (sym e) all.0
     all_at (y ∷ xs) z P all (inr h) = all_at xs z P all.1 h
 
+-- the same by the parts of its key
 pub paid_at : (rows : List SpentRow) (r : SpentRow) (d v x : ℕ) → r.day ≡ d → r.vid ≡ v → r.xway ≡ x → KeysDiffer rows
     → IsIn r rows
     → paid rows d v x ≡ r.tolls
@@ -134,6 +140,7 @@ paid_at rows r d v x a b c differ at = rw (← a, ← b, ← c) (paid_of rows r 
 abbrev pub amount_with : ℕ → ℕ → ℕ → ℕ → SpentRow
 amount_with d v x t = record { day = d; vid = v; xway = x; tolls = t }
 
+-- an amount of the same parts is the same
 pub same_row : (d v x t : ℕ) (s : SpentRow) → d ≡ s.day → v ≡ s.vid → x ≡ s.xway → t ≡ s.tolls
     → amount_with d v x t ≡ s
 same_row d v x t s a b c e = rw (a, b, c, e) refl
@@ -145,6 +152,7 @@ module _ (day vid xway : ℕ) where
       ≡ is_eq (ordering_then (nat_cmp d day) (ordering_then (nat_cmp v vid) (ordering_then (nat_cmp x xway) Equal)))
   key_test d v x z = rw (first_key-plain, by_number d day, by_number v vid, by_number x xway) refl
 
+  -- an amount whose entry begins with the key has it
   key_same : (r : SpentRow) (z : Value)
       → opens_with (amount_key day vid xway) (Int (pos r.day) ∷ Int (pos r.vid) ∷ Int (pos r.xway) ∷ z ∷ []) ≡ true
       → (r.day ≡ day) × (r.vid ≡ vid) × (r.xway ≡ xway)
@@ -154,6 +162,7 @@ module _ (day vid xway : ℕ) where
       let three = both_level _ _ two.1 in
       (level _ _ one.0, level _ _ two.0, level _ _ three.0)
 
+  -- the entry of an amount with the key begins with it
   pub key_begins : (r : SpentRow) (z : Value) → (r.day ≡ day) × (r.vid ≡ vid) × (r.xway ≡ xway)
       → opens_with (amount_key day vid xway) (Int (pos r.day) ∷ Int (pos r.vid) ∷ Int (pos r.xway) ∷ z ∷ []) ≡ true
   key_begins r z same =
@@ -168,18 +177,22 @@ module _ (day vid xway : ℕ) where
       (ap₂ ◌&&◌ (same_numbers r.vid vid)
       (ap (λ b. b && true) (same_numbers r.xway xway) ∙ last_true (r.xway == xway)))
 
+  -- an amount that is asked for has the key
   has_key : (r : SpentRow) → is_row day vid xway r ≡ true → (r.day ≡ day) × (r.vid ≡ vid) × (r.xway ≡ xway)
   has_key r h =
       let one = and_parts (r.day == day) (r.vid == vid && r.xway == xway) h in
       let two = and_parts (r.vid == vid) (r.xway == xway) one.1 in
       (eqb-true r.day day one.0, eqb-true r.vid vid two.0, eqb-true r.xway xway two.1)
 
+  -- an amount with the key is asked for
   of_key : (r : SpentRow) → (r.day ≡ day) × (r.vid ≡ vid) × (r.xway ≡ xway) → is_row day vid xway r ≡ true
   of_key r same = rw (same.0, same.1, same.2, eq-eqb day day refl, eq-eqb vid vid refl, eq-eqb xway xway refl) refl
 
+  -- whether the columns of a row are those of the key
   abbrev test : Row → Bool
   test = passes spent_query.filter (asked day vid xway)
 
+  -- the amount in the columns of a row
   abbrev shows : Row → Row
   shows = shown spent_query.project (asked day vid xway)
 
@@ -218,6 +231,7 @@ module _ (day vid xway : ℕ) where
       pub is : row ≡ column e 3 ∷ spent_row amount
       pub same : (amount.day ≡ day) × (amount.vid ≡ vid) × (amount.xway ≡ xway)
 
+    -- an entry that begins with the key names such a row
     pub row_behind : (e : Row) → HasKey entries (amount_key day vid xway) e true → IsBehind e
     row_behind e has =
         let from =
@@ -262,6 +276,7 @@ module _ (day vid xway : ℕ) where
     nothing [] has none = sym has
     nothing (t ∷ rows) has none = absurd (none t (inl refl))
 
+    -- where no entry begins with the key nothing was paid
     pub none_paid : filter (opens_with (amount_key day vid xway)) entries ≡ [] → 0 ≡ paid o.rows day vid xway
     none_paid none =
         nothing (filter test table) has_amount

@@ -20,7 +20,7 @@ use Rattle.road_time.specs.Tariffs.{IsTariffs, with_tariff}
 use Rattle.kept_tables.specs.Codec.{tariff_row}
 use Rattle.tree_keeper.specs.Own.{tariffs_below}
 use Rattle.tree_keeper.proofs.Members.{of_filter}
-use Rattle.tree_keeper.proofs.ListLaws.{IsHit, is_hit, no_hit}
+use Rattle.tree_keeper.proofs.ListLaws.{is_hit, no_hit}
 
 -- a number that is not one is below it, or not below the next
 next : (m n : ℕ) → (m == n) ≡ false → nat_lt m (n + 1) ≡ nat_lt m n
@@ -40,12 +40,15 @@ stays xway (e ∷ ts) none =
           ]
     ]
 
+-- what is above a number is not below the next
 not_below : (m n : ℕ) → nat_cmp m n ≡ Less → (k : ℕ) → (m == k) ≡ true → nat_lt n (k + 1) ≡ false
 not_below m n less k hit = grind (arith, nat_tests, less, hit)
 
+-- nor below the number itself
 nor_below : (m n : ℕ) → nat_cmp m n ≡ Less → (k : ℕ) → (m == k) ≡ true → nat_lt n k ≡ false
 nor_below m n less k hit = grind (arith, nat_tests, less, hit)
 
+-- a number is below the next alone
 at_one : (m k : ℕ) → (m == k) ≡ true → (nat_lt m k ≡ false) × (nat_lt m (k + 1) ≡ true)
 at_one m k hit = (grind (arith, nat_tests, hit), grind (arith, nat_tests, hit))
 
@@ -91,6 +94,7 @@ at_end (e ∷ ts) xway t before = rw (greater e.0 xway before.0) (ap (λ (l : Ta
     greater : (m n : ℕ) → nat_cmp m n ≡ Less → nat_cmp n m ≡ Greater
     greater m n less = grind (arith, nat_tests, less)
 
+-- the tariffs below an expressway come before it
 all_before : (xway : ℕ) (ts : Tariffs) → AllBefore (tariffs_below xway ts) xway
 all_before xway [] = tt
 all_before xway (e ∷ ts) =
@@ -113,6 +117,7 @@ pub record IsOwnRow (ts : Tariffs) (xway : ℕ) (r : Row) : Type 0 where
   pub valid : IsTariff tariff
   pub set : with_tariff (tariffs_below xway ts) xway tariff ≡ tariffs_below (xway + 1) ts
 
+-- a row that is found is such a row
 pub own_row : (xway : ℕ) (ts : Tariffs) (rows : List Row) (r : Row) → IsTariffs ts → rows ≡ map tariff_row ts
     → Finds rows (pos xway) r true →
     IsOwnRow ts xway r
@@ -148,6 +153,7 @@ none_below (e ∷ ts) = rw (lowest e.0) (none_below ts)
     lowest : (n : ℕ) → nat_lt n 0 ≡ false
     lowest n = grind (arith, nat_tests)
 
+-- each expressway is below 256
 pub all_below : (ts : Tariffs) → AllByRecursion (λ e. e.0 < 2 ^ 8) ts → tariffs_below 256 ts ≡ ts
 all_below ts fit =
     filter_all (λ (e : ℕ × Tariff). nat_lt e.0 256) ts

@@ -30,6 +30,7 @@ key_ends key (e ∷ es) ys h =
       | inr high ↦ ([], rw high at h)
     ]
 
+-- entries behind another end the list as well
 pub after_ends : (mark : Row) (es ys : List Row) → rows_after (Index plain) mark es ≡ ys → (front : List Row)
     × (es ≡ front ++ ys)
 after_ends mark [] ys h = ([], h)

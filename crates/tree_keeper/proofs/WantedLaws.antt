@@ -1,7 +1,7 @@
 -- Which amounts are wanted, by the order of their keys.
-use Rattle.std.proofs.Common.{◌≡◌, ◌⊎◌, ℕ, pos, ◌+◌, ◌<◌, ◌≤◌, ◌==◌, ◌&&◌, nat_le, Bool, true, false, [], ◌∷◌, take}
+use Rattle.std.proofs.Common.{◌≡◌, ◌⊎◌, ℕ, pos, ◌+◌, ◌<◌, ◌≤◌, ◌==◌, ◌&&◌, nat_le, true, false, [], ◌∷◌, take}
 use Rattle.std.proofs.Common.{filter, refl, ap, ap₂, ◌∙◌}
-use Rattle.std.proofs.Common.{sym, length, eq-eqb, inl, inr, arith, Ordering, Less, Equal, Greater, is_gt, is_lt}
+use Rattle.std.proofs.Common.{sym, length, eq-eqb, inl, inr, arith, Ordering, Less, Equal, Greater, is_lt}
 use Rattle.std.specs.Ordering.{nat_cmp, ordering_then}
 use Rattle.std.proofs.lemmas.Bool.{cases_Bool, le-leb}
 use Rattle.std.proofs.lemmas.Bool.Decides.{nat_tests}
@@ -37,6 +37,7 @@ rising r s less =
     no_less (inl below) = omega arith
     no_less (inr level) = let e = level.0 in omega arith
 
+-- what is tested to be less is
 is_less : (o : Ordering) → is_lt o ≡ true → o ≡ Less
 is_less Less h = refl
 is_less Equal h = absurd (cc)
@@ -84,6 +85,7 @@ before_pair day vid e r its low =
 after_all : (from to day : ℕ) → to < day → (nat_le from day && nat_le day to) ≡ false
 after_all from to day far = grind (arith, nat_tests)
 
+-- nor is an earlier day of them
 before_all : (from to day : ℕ) → day < from → (nat_le from day && nat_le day to) ≡ false
 before_all from to day near = grind (arith, nat_tests)
 
@@ -91,6 +93,7 @@ before_all from to day near = grind (arith, nat_tests)
 pub late : (from to : ℕ) (r : SpentRow) → to < r.day → is_within from to r ≡ false
 late from to r far = after_all from to r.day far
 
+-- what is above an amount of a later day is of a later day
 pub later_still : (from to : ℕ) (r s : SpentRow) → to < r.day → row_cmp r s ≡ Less → is_within from to s ≡ false
 later_still from to r s far less =
     elim (rising r s less) [
@@ -120,12 +123,15 @@ not_days : (vid from to : ℕ) (r : SpentRow) → (nat_le from r.day && nat_le r
 not_days vid from to r off = elim
     (cases_Bool (r.vid == vid)) [ inl its ↦ rw (its, off) refl | inr other ↦ rw other refl ]
 
+-- an amount of another vehicle is not wanted
 pub not_it : (vid from to : ℕ) (r : SpentRow) → (r.vid == vid) ≡ false → is_of_vehicle vid from to r ≡ false
 not_it vid from to r other = rw other refl
 
+-- a lesser number is another
 lower : (m n : ℕ) → m < n → (m == n) ≡ false
 lower m n h = grind (arith, nat_tests)
 
+-- so is a greater one
 higher : (m n : ℕ) → n < m → (m == n) ≡ false
 higher m n h = grind (arith, nat_tests)
 
@@ -133,6 +139,7 @@ higher m n h = grind (arith, nat_tests)
 pub late_of : (vid from to : ℕ) (r : SpentRow) → to < r.day → is_of_vehicle vid from to r ≡ false
 late_of vid from to r far = not_days vid from to r (after_all from to r.day far)
 
+-- nor is what is above it
 pub later_of : (vid from to : ℕ) (r s : SpentRow) → to < r.day → row_cmp r s ≡ Less
     → is_of_vehicle vid from to s ≡ false
 later_of vid from to r s far less = not_days vid from to s (later_still from to r s far less)
@@ -141,9 +148,11 @@ later_of vid from to r s far less = not_days vid from to s (later_still from to 
 pub above_of : (vid from to : ℕ) (r : SpentRow) → vid < r.vid → is_of_vehicle vid from to r ≡ false
 above_of vid from to r more = not_it vid from to r (higher r.vid vid more)
 
+-- an amount of a lesser vehicle is not wanted
 pub below_of : (vid from to : ℕ) (r : SpentRow) → r.vid < vid → is_of_vehicle vid from to r ≡ false
 below_of vid from to r less = not_it vid from to r (lower r.vid vid less)
 
+-- what is above a greater vehicle on the last day is not wanted
 pub ends_of : (vid from to : ℕ) (r s : SpentRow) → r.day ≡ to → vid < r.vid → row_cmp r s ≡ Less
     → is_of_vehicle vid from to s ≡ false
 ends_of vid from to r s last more less =
@@ -195,6 +204,7 @@ pub is_under : (vid : ℕ) (e : Row) (r : SpentRow) → take 3 e ≡ row_key r �
     → is_lt (prefix_cmp plain e (pair_key r.day vid)) ≡ true
 is_under vid e r its less = ap is_lt (by_pair r.day vid e r its) ∙ grind (arith, nat_tests, less)
 
+-- and below the key of the next day
 pub is_before : (vid : ℕ) (e : Row) (r : SpentRow) → take 3 e ≡ row_key r
     → is_lt (prefix_cmp plain e (pair_key (r.day + 1) vid)) ≡ true
 is_before vid e r its = ap is_lt (by_pair (r.day + 1) vid e r its) ∙ grind (arith, nat_tests)

@@ -1,4 +1,4 @@
-use Rattle.std.proofs.Common.{subst, arith}
+use Rattle.std.proofs.Common.{subst}
 use Rattle.tree_keeper.specs.Days.{IsLastDay}
 use Rattle.tree_keeper.proofs.DayFound.{last_is}
 use Rattle.tree_keeper.proofs.day_rows.greatest.Goals as goal

@@ -1,5 +1,5 @@
 use Rattle.std.proofs.Common.{rules, ◌≡◌, ℕ, pos, true, false, Some, None, refl, sym, ap, subst, subst₂, ◌∙◌, arith}
-use Rattle.std.proofs.Common.{to_z, of_z, w64, Option, MatchResult}
+use Rattle.std.proofs.Common.{to_z, of_z, w64}
 use Rattle.std.proofs.lemmas.Result.{err_from_is_err_and}
 use Rattle.sqlite_trees.specs.View.{Finds}
 use Rattle.sqlite_pages.specs.PageMap.{PageMap}
@@ -8,13 +8,11 @@ use Rattle.sqlite_trees.specs.declared.store.Shape.TheVariants.{Table}
 use Rattle.sqlite_btree.proofs.Results.{within_limit}
 use Rattle.sqlite_store.specs.Catalog.{reals_at}
 use Rattle.sqlite_store.specs.Db.{IsDb, Names, trees_in}
-use Rattle.keeper.specs.declared.kept.DayRecord.{DayRecord}
-use Rattle.keeper.specs.declared.kept.OldRecord.{OldRecord}
 use Rattle.keeper.specs.Office.{record_of}
-use Rattle.kept_tables.specs.Codec.{day_row, seal_row}
-use Rattle.tree_keeper.specs.Pages.{our_trees, StandForOffice}
+use Rattle.kept_tables.specs.Codec.{seal_row}
+use Rattle.tree_keeper.specs.Pages.{our_trees}
 use Rattle.tree_keeper.specs.Days.{TellsDay}
-use Rattle.tree_keeper.proofs.Premise.{days_at, seals_at, moved}
+use Rattle.tree_keeper.proofs.Premise.{seals_at, moved}
 use Rattle.tree_keeper.proofs.DayFound.{day_row_found, day_row_none, is_told, with_its_seal}
 use Rattle.tree_keeper.proofs.day_rows.record.Goals as goal
 

@@ -1,15 +1,13 @@
-use Rattle.std.proofs.Common.{rules, ◌≡◌, pos, true, false, Some, None, refl, sym, ap, subst, subst₂, ◌∙◌, arith, to_z}
-use Rattle.std.proofs.Common.{of_z, w64, Option, MatchResult}
+use Rattle.std.proofs.Common.{rules, ◌≡◌, pos, true, false, Some, None, refl, sym, subst, subst₂, arith, to_z}
+use Rattle.std.proofs.Common.{of_z, w64, Option}
 use Rattle.std.proofs.lemmas.Result.{err_from_is_err_and}
 use Rattle.sqlite_trees.specs.View.{Finds}
 use Rattle.sqlite_store.specs.Db.{trees_in}
 use Rattle.keeper.specs.declared.kept.DayRecord.{DayRecord}
-use Rattle.keeper.specs.declared.kept.OldRecord.{OldRecord}
-use Rattle.keeper.specs.Office.{record_of}
-use Rattle.kept_tables.specs.Codec.{day_row, seal_row}
-use Rattle.tree_keeper.specs.Pages.{our_trees, StandForOffice}
+use Rattle.kept_tables.specs.Codec.{day_row}
+use Rattle.tree_keeper.specs.Pages.{our_trees}
 use Rattle.tree_keeper.specs.Days.{TellsDay}
-use Rattle.tree_keeper.proofs.Premise.{days_at, seals_at, moved}
+use Rattle.tree_keeper.proofs.Premise.{days_at}
 use Rattle.tree_keeper.proofs.DayFound.{day_row_found, day_row_none}
 use Rattle.tree_keeper.proofs.day_rows.unsealed_day.Goals as goal
 

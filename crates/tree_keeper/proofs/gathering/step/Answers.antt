@@ -1,4 +1,4 @@
-use Rattle.std.proofs.Common.{◌≡◌, ◌<◌, ◌≤◌, sym, subst}
+use Rattle.std.proofs.Common.{◌<◌, ◌≤◌, subst}
 use Rattle.tree_keeper.proofs.Premise.{fitting}
 use Rattle.tree_keeper.proofs.RowsLaws.{first, among, past}
 use Rattle.tree_keeper.proofs.WantedLaws.{key_columns, one_number, late, later_still, one_within}

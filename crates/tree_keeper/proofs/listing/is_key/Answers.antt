@@ -1,7 +1,5 @@
-use Rattle.std.proofs.Common.{◌≡◌, true, refl, sym, ◌∙◌}
-use Rattle.sqlite_value.specs.declared.value.Value.TheVariants.{Null, Text}
-use Rattle.sqlite_value.specs.Order.{column}
-use Rattle.sqlite_store.specs.Catalog.{describes, is_about, same_value}
+use Rattle.std.proofs.Common.{sym, ◌∙◌}
+use Rattle.sqlite_store.specs.Catalog.{describes, is_about}
 use Rattle.tree_keeper.proofs.listing.is_key.Goals as goal
 
 pub returns : goal.returns

@@ -1,4 +1,4 @@
-use Rattle.std.proofs.Common.{◌≡◌, sym, subst, to_z-of_z, to_z, of_z, w64, MatchResult}
+use Rattle.std.proofs.Common.{◌≡◌, subst, to_z-of_z, to_z, of_z, w64, MatchResult}
 use Rattle.sqlite_pages.specs.Calls.{FailsFor}
 use Rattle.sqlite_trees.specs.declared.store.Shape.TheVariants.{Table}
 use Rattle.sqlite_trees.specs.View.{Finds}

@@ -1,8 +1,8 @@
-use Rattle.std.proofs.Common.{◌≡◌, true, refl, subst, inl, inr, arith, to_z, of_z, w64, rules}
+use Rattle.std.proofs.Common.{subst, arith}
 use Rattle.sqlite_trees.specs.declared.store.Shape.TheVariants.{Table}
 use Rattle.sqlite_trees.specs.View.{Finds}
 use Rattle.sqlite_store.specs.Db.{rows_at}
-use Rattle.tree_keeper.specs.Pages.{table_listed, listed_key}
+use Rattle.tree_keeper.specs.Pages.{table_listed}
 use Rattle.tree_keeper.proofs.ListingLaws.{root_is}
 use Rattle.tree_keeper.proofs.listing.table_at.Goals as goal
 

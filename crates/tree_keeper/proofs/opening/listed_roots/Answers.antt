@@ -1,4 +1,4 @@
-use Rattle.std.proofs.Common.{◌≡◌, refl, inl, inr, ◌∙◌, arith, codes}
+use Rattle.std.proofs.Common.{refl, inl, inr, ◌∙◌, arith, codes}
 use Rattle.sqlite_store.specs.Db.{roots_of}
 use Rattle.sqlite_store.proofs.Causes.{Continues-trans}
 use Rattle.kept_tables.specs.Texts.{make_days, make_spent, make_past, make_day_tariffs, make_tariffs, make_form}

@@ -1,8 +1,7 @@
-use Rattle.std.proofs.Common.{rules, ◌≡◌, ◌∙◌, ◌+◌, sym, ap, refl, arith}
+use Rattle.std.proofs.Common.{◌≡◌, ◌∙◌, sym, ap, refl, arith}
 use Rattle.std.proofs.lemmas.Result.{err_from_is_err_and}
 use Rattle.sqlite_btree.proofs.Results.{within_limit}
 use Rattle.sqlite_store.proofs.Causes.{Continues-trans}
-use Rattle.tree_keeper.specs.Pages.{StandForOffice}
 use Rattle.tree_keeper.specs.Own.{tariffs_below}
 use Rattle.tree_keeper.proofs.Premise.{moved}
 use Rattle.tree_keeper.proofs.TariffsFound.{none_below, all_below}

@@ -1,4 +1,4 @@
-use Rattle.std.proofs.Common.{◌≡◌, ℕ, [], true, false, refl, sym, subst, subst₂, ◌∙◌, arith, List}
+use Rattle.std.proofs.Common.{ℕ, [], true, false, refl, sym, subst, subst₂, ◌∙◌, arith, List}
 use Rattle.std.proofs.lemmas.Result.{err_from_is_err_and}
 use Rattle.sqlite_pages.specs.PageMap.{PageMap}
 use Rattle.sqlite_btree.proofs.Results.{within_limit}

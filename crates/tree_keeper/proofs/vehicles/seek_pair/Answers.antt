@@ -1,5 +1,4 @@
-use Rattle.std.proofs.Common.{◌≡◌, refl, subst, arith, MatchResult}
-use Rattle.std.proofs.lemmas.Result.{err_from_is_err_and}
+use Rattle.std.proofs.Common.{refl, subst, MatchResult}
 use Rattle.sqlite_pages.specs.Calls.{FailsFor}
 use Rattle.sqlite_value.specs.Order.{Row}
 use Rattle.sqlite_store.specs.Db.{trees_in}

@@ -1,4 +1,4 @@
-use Rattle.std.proofs.Common.{◌≡◌, ◌<◌, ◌≤◌, ◌+◌, sym, subst, arith, MatchResult}
+use Rattle.std.proofs.Common.{◌≡◌, ◌<◌, ◌≤◌, ◌+◌, subst, arith, MatchResult}
 use Rattle.sqlite_pages.specs.Calls.{FailsFor}
 use Rattle.sqlite_store.specs.Db.{trees_in}
 use Rattle.tree_keeper.specs.Pages.{our_trees}
