@@ -42,7 +42,8 @@ use Rattle.kept_tables.proofs.StepLaws.{kept_same, kept_undone, kept_if_unread}
 use Rattle.kept_tables.proofs.MigrationLaws.{first_made, second_made}
 use Rattle.kept_tables.proofs.QueryLaws.{find_version_plain, no_days, old_days_plain, no_version, no_old_version}
 use Rattle.table_making.specs.Growth.{TextRan, IsUnsealed, Stood, IsUnderstood, SaysIf, LacksVersion, CommitsGrown}
-use Rattle.table_making.specs.Growth.{CommitsHere, CommitsOpen, CommitsSame}
+use Rattle.table_making.specs.Growth.{CommitsListed, CommitsHere, CommitsOpen, CommitsSame}
+use Rattle.table_making.specs.Objects.{Lists, MayBeMade, texts_of}
 
 -- what follows of what holds where a call went well
 pub on_ok : {T E : Type 0} (r : Result T E) (P Q : Type 0) → OnOk r P → (P → Q) → OnOk r Q
@@ -190,16 +191,30 @@ grown_survives g old last end is_old written committed inside wrote =
 -- after it was seen which tables are there
 pub here_survives : (old mid new : State) (is_old : Bool) → (HasCleanDisk mid → IsUnchanged old mid) →
     (HasCleanDisk mid → SaysIf is_old (IsUnderstood (understood old.now.schema list_days))) → Survives old mid (λ _. ⊥)
-    → Survives mid new (CommitsGrown is_old mid) → Survives old new (CommitsHere old)
+    → Survives mid new (CommitsListed is_old mid) → Survives old new (CommitsHere old)
 here_survives old mid new is_old same says first last =
-    survives_then old mid new (λ _. ⊥) (CommitsGrown is_old mid) (CommitsHere old) (λ _ db none. absurd none)
+    survives_then old mid new (λ _. ⊥) (CommitsListed is_old mid) (CommitsHere old) (λ _ db none. absurd none)
     (λ clean db made.
     let early : HasCleanDisk mid = omega (arith, last.clean) in
     let kept = (same early).0 in (
       kept.was_open,
-      λ lacks o stands. made.1 o
+      λ lacks o stands. made.0.1 o
           (subst (λ (d : Database). Stood is_old d o) (sym kept.now_is)
           (stood_by is_old old.now o stands lacks (says early))),
+      (is_old, subst (λ (d : Database). Lists d (texts_of is_old)) kept.now_is made.1),
+    )) first last
+
+-- after the texts that are listed were seen
+pub listed_survives : (old mid new : State) (is_old : Bool) → (HasCleanDisk mid → IsUnchanged old mid) →
+    (HasCleanDisk mid → Lists old.now (texts_of is_old)) → Survives old mid (λ _. ⊥)
+    → Survives mid new (CommitsGrown is_old mid) → Survives old new (CommitsListed is_old old)
+listed_survives old mid new is_old same lists first last =
+    survives_then old mid new (λ _. ⊥) (CommitsGrown is_old mid) (CommitsListed is_old old) (λ _ db none. absurd none)
+    (λ clean db made.
+    let early : HasCleanDisk mid = omega (arith, last.clean) in
+    let kept = (same early).0 in (
+      (kept.was_open, λ o stood. made.1 o (subst (λ (d : Database). Stood is_old d o) (sym kept.now_is) stood)),
+      lists early,
     )) first last
 
 -- the query for all days changes nothing
@@ -268,6 +283,7 @@ open_survives old mid new same lacks first last =
       kept.was_open,
       λ o stands. made.1 (subst LacksVersion (sym kept.now_is) (lacks early)) o
           (subst (λ (d : Database). StandsForOffice d o) (sym kept.now_is) stands),
+      subst MayBeMade kept.now_is made.2,
     )) first last
 
 -- after what was under way was undone
@@ -276,10 +292,12 @@ pub same_survives : (old mid new : State) → (HasCleanDisk mid → IsTrue mid.i
     Survives old new (CommitsSame old.committed)
 same_survives old mid new settled kept first last =
     survives_then old mid new (λ _. ⊥) (CommitsOpen mid) (CommitsSame old.committed) (λ _ db none. absurd none)
-    (λ clean db made o stands.
+    (λ clean db made.
     let early : HasCleanDisk mid = omega (arith, last.clean) in
-    let now = settled early made.0 ∙ (kept early).committed made.0 in
-    made.1 o (subst (λ (d : Database). StandsForOffice d o) (sym now) stands)) first last
+    let now = settled early made.0 ∙ (kept early).committed made.0 in (
+      λ o stands. made.1 o (subst (λ (d : Database). StandsForOffice d o) (sym now) stands),
+      subst MayBeMade now made.2,
+    )) first last
 
 -- a call that keeps what is committed keeps what that stands for
 pub still_stands : (old new : State) (o : Office) → IsTrue new.is_open → StandsForOffice old.committed o →
@@ -293,3 +311,16 @@ pub err_stands : {T E : Type 0} (old new : State) (r : Result T E) (P : Type 0) 
     × OnErr r (StandsForOffice new.committed o)
 err_stands old new (Ok x) P o err here stands kept = absurd (cc)
 err_stands old new (Err e) P o err here stands kept = (tt, still_stands old new o here stands kept)
+
+-- a database that is not to be made stays as it is, also after what was under way was undone
+pub left_there : (old mid new : State) → (IsTrue new.is_open → IsTrue mid.is_open) →
+    (IsTrue mid.is_open → mid.now ≡ mid.committed) → KeepsCommit old mid → (¬ MayBeMade mid.now → KeepsCommit mid new)
+    → ¬ MayBeMade old.committed → KeepsCommit old new
+left_there old mid new before settled kept stays foreign =
+    let same = λ (here : IsTrue new.is_open). settled (before here) ∙ kept.committed (before here) in
+    record {
+      was_open = λ here. kept.was_open (before here);
+      committed =
+          λ here. (stays (λ made. foreign (subst MayBeMade (same here) made))).committed here
+          ∙ kept.committed (before here);
+    }

@@ -1,1 +1,2 @@
 pub mod GrowLaws
+pub mod ObjectLaws

@@ -12,6 +12,7 @@ use Rattle.keeper.specs.Office.{Office, IsSound}
 use Rattle.kept_tables.specs.Texts.{find_version}
 use Rattle.kept_tables.specs.Stands.{HoldsAs, HasOld, HasNothing, FitsFields, StandsForOffice, contents_of}
 use Rattle.kept_tables.specs.Steps.{IsTreesOf}
+use Rattle.table_making.specs.Objects.{Lists, MayBeMade, texts_of}
 
 -- a text without parameters ran
 abbrev pub TextRan : List ℕ → State → State → Type 0
@@ -47,15 +48,19 @@ LacksVersion db = ¬ IsUnderstood (understood db.schema find_version)
 abbrev pub CommitsGrown : Bool → State → Trees → Type 0
 CommitsGrown is_old s trees = IsTrue s.is_open × ((o : Office) → Stood is_old s.now o → IsTreesOf o trees)
 
--- what is committed stands for the office that a database without six tables stood for
+-- the same, where the texts that are listed are those
+abbrev pub CommitsListed : Bool → State → Trees → Type 0
+CommitsListed is_old s trees = CommitsGrown is_old s trees × Lists s.now (texts_of is_old)
+
+-- what is committed stands for the office that a database without six tables stood for, which was one to be made
 abbrev pub CommitsHere : State → Trees → Type 0
 CommitsHere s trees = IsTrue s.is_open
-    × (LacksVersion s.now → (o : Office) → StandsForOffice s.now o → IsTreesOf o trees)
+    × (LacksVersion s.now → (o : Office) → StandsForOffice s.now o → IsTreesOf o trees) × MayBeMade s.now
 
 -- what is committed stands for the office that the database of an open connection stood for
 abbrev pub CommitsOpen : State → Trees → Type 0
-CommitsOpen s trees = IsTrue s.is_open × ((o : Office) → StandsForOffice s.now o → IsTreesOf o trees)
+CommitsOpen s trees = IsTrue s.is_open × ((o : Office) → StandsForOffice s.now o → IsTreesOf o trees) × MayBeMade s.now
 
--- what is committed stands for the office that a database stood for
+-- what is committed stands for the office that a database stood for, which was one to be made
 abbrev pub CommitsSame : Database → Trees → Type 0
-CommitsSame before trees = (o : Office) → StandsForOffice before o → IsTreesOf o trees
+CommitsSame before trees = ((o : Office) → StandsForOffice before o → IsTreesOf o trees) × MayBeMade before

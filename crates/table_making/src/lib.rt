@@ -2,6 +2,7 @@
 #![tactic(auto)]
 
 mod makings;
+mod objects;
 mod seals;
 mod tables;
 

@@ -9,20 +9,24 @@ ghost use Rattle.keeper.specs.Office.{Office};
 ghost use Rattle.kept_tables.specs.Stands.{HasOffice, HasOld, StandsForOffice};
 ghost use Rattle.kept_tables.specs.Steps.{StaysInside};
 ghost use Rattle.table_making.specs.Growth.{Stood, IsUnderstood, SaysIf, LacksVersion, CommitsGrown, CommitsHere};
-ghost use Rattle.table_making.specs.Growth.{CommitsOpen, CommitsSame};
+ghost use Rattle.table_making.specs.Growth.{CommitsListed, CommitsOpen, CommitsSame};
+ghost use Rattle.table_making.specs.Objects.{Lists, MayBeMade, texts_of};
 
+use crate::objects::{are_texts, list_texts};
 use crate::seals::seal_tables;
 use crate::tables::{make_old, make_rest, put_version};
 use keeper_writes::unfinished::settle;
 use sqlite::{Alter, Connection, Error, ErrorCode, Transaction};
 use std::alloc::Global;
 
-/// Makes the tables, where none are there or those of version 1.
+/// Makes the tables, where nothing is listed or version 1 exactly. A database that lists anything else stays as it is.
 pub fn make<S: Alter>(conn: &mut Connection<S>, alloc: Global) -> Result<(), Error>
     ensures stands { HasCleanDisk (state S.Store conn.new) → IsTrue (state S.Store conn.new).is_open → (o : Office)
         → StandsForOffice (state S.Store conn.old).committed o
         → OnOk result (HasOffice (state S.Store conn.new).committed o)
         × OnErr result (StandsForOffice (state S.Store conn.new).committed o) }
+    ensures left { HasCleanDisk (state S.Store conn.new) → ¬ MayBeMade (state S.Store conn.old).committed
+        → KeepsCommit (state S.Store conn.old) (state S.Store conn.new) }
     ensures crash { Survives (state S.Store conn.old) (state S.Store conn.new) (CommitsSame
         (state S.Store conn.old).committed) }
 {
@@ -40,6 +44,8 @@ fn make_here<S: Alter>(conn: &mut Connection<S>, alloc: Global) -> Result<(), Er
         → IsTrue (state S.Store conn.old).is_open }
     ensures refused { HasCleanDisk (state S.Store conn.new)
         → OnErr result (KeepsCommit (state S.Store conn.old) (state S.Store conn.new)) }
+    ensures left { HasCleanDisk (state S.Store conn.new) → ¬ MayBeMade (state S.Store conn.old).now
+        → KeepsCommit (state S.Store conn.old) (state S.Store conn.new) }
     ensures crash { Survives (state S.Store conn.old) (state S.Store conn.new) (CommitsOpen (state S.Store conn.old)) }
 {
     if is_there(conn, "SELECT version FROM form WHERE one = 1")? {
@@ -57,9 +63,31 @@ fn grow_by<S: Alter>(conn: &mut Connection<S>, alloc: Global) -> Result<(), Erro
         → IsTrue (state S.Store conn.old).is_open }
     ensures refused { HasCleanDisk (state S.Store conn.new)
         → OnErr result (KeepsCommit (state S.Store conn.old) (state S.Store conn.new)) }
+    ensures left { HasCleanDisk (state S.Store conn.new) → ¬ MayBeMade (state S.Store conn.old).now
+        → KeepsCommit (state S.Store conn.old) (state S.Store conn.new) }
     ensures crash { Survives (state S.Store conn.old) (state S.Store conn.new) (CommitsHere (state S.Store conn.old)) }
 {
     let is_old = is_there(conn, "SELECT day FROM days ORDER BY day")?;
+    grow_listed(conn, alloc, is_old)
+}
+
+/// Makes them, where the texts that are listed are exactly those of the tables that are there.
+fn grow_listed<S: Alter>(conn: &mut Connection<S>, alloc: Global, is_old: bool) -> Result<(), Error>
+    ensures grown { HasCleanDisk (state S.Store conn.new) → (o : Office)
+        → Stood is_old (state S.Store conn.old).now o → OnOk result (HasOffice (state S.Store conn.new).committed o) }
+    ensures open { HasCleanDisk (state S.Store conn.new) → IsTrue (state S.Store conn.new).is_open
+        → IsTrue (state S.Store conn.old).is_open }
+    ensures refused { HasCleanDisk (state S.Store conn.new)
+        → OnErr result (KeepsCommit (state S.Store conn.old) (state S.Store conn.new)) }
+    ensures left { HasCleanDisk (state S.Store conn.new) → ¬ Lists (state S.Store conn.old).now (texts_of is_old)
+        → KeepsCommit (state S.Store conn.old) (state S.Store conn.new) }
+    ensures crash { Survives (state S.Store conn.old) (state S.Store conn.new) (CommitsListed is_old
+        (state S.Store conn.old)) }
+{
+    let texts = list_texts(conn)?;
+    if !are_texts(is_old, &texts) {
+        return Err(Error::SqliteFailure(ErrorCode::NotADatabase));
+    }
     grow(conn, alloc, is_old)
 }
 

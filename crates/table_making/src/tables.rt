@@ -9,6 +9,22 @@ ghost use Rattle.table_making.specs.Growth.{TextRan, IsUnsealed};
 
 use sqlite::{Alter, Error, Transaction};
 
+/// The text of the table of days.
+pub const DAYS: &str =
+    "CREATE TABLE days (day INTEGER PRIMARY KEY, digest BLOB NOT NULL, bytes INTEGER NOT NULL,
+  tuples INTEGER NOT NULL, notices INTEGER NOT NULL, notices_digest BLOB NOT NULL,
+  total INTEGER NOT NULL) STRICT";
+
+/// That of amounts.
+pub const SPENT: &str =
+    "CREATE TABLE spent (day INTEGER NOT NULL, vid INTEGER NOT NULL, xway INTEGER NOT NULL,
+  tolls INTEGER NOT NULL, PRIMARY KEY (day, vid, xway)) STRICT";
+
+/// That of a history.
+pub const PAST: &str =
+    "CREATE TABLE past (one INTEGER PRIMARY KEY CHECK (one = 1), base INTEGER NOT NULL,
+  digest BLOB NOT NULL, bytes INTEGER NOT NULL, rows_kept INTEGER NOT NULL) STRICT";
+
 /// Runs a text without parameters.
 pub fn run<S: Alter>(tx: &mut Transaction<'_, S>, sql: &str) -> Result<(), Error>
     ensures same_reference { tx.new.conn.ghost_name ≡ tx.old.conn.ghost_name }
@@ -38,22 +54,9 @@ pub fn make_old<S: Alter>(tx: &mut Transaction<'_, S>) -> Result<(), Error>
         → StaysInside (state S.Store tx.old.conn.now) (state S.Store tx.new.conn.now) result }
     ensures survives { Survives (state S.Store tx.old.conn.now) (state S.Store tx.new.conn.now) (λ _. ⊥) }
 {
-    run(
-        tx,
-        "CREATE TABLE days (day INTEGER PRIMARY KEY, digest BLOB NOT NULL, bytes INTEGER NOT NULL,
-  tuples INTEGER NOT NULL, notices INTEGER NOT NULL, notices_digest BLOB NOT NULL,
-  total INTEGER NOT NULL) STRICT",
-    )?;
-    run(
-        tx,
-        "CREATE TABLE spent (day INTEGER NOT NULL, vid INTEGER NOT NULL, xway INTEGER NOT NULL,
-  tolls INTEGER NOT NULL, PRIMARY KEY (day, vid, xway)) STRICT",
-    )?;
-    run(
-        tx,
-        "CREATE TABLE past (one INTEGER PRIMARY KEY CHECK (one = 1), base INTEGER NOT NULL,
-  digest BLOB NOT NULL, bytes INTEGER NOT NULL, rows_kept INTEGER NOT NULL) STRICT",
-    )
+    run(tx, DAYS)?;
+    run(tx, SPENT)?;
+    run(tx, PAST)
 }
 
 /// Makes the tables that version 2 has more.

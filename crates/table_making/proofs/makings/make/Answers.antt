@@ -3,7 +3,7 @@ use Rattle.sqlite.specs.Effect.{Database}
 use Rattle.sqlite.specs.Held.{state}
 use Rattle.sqlite.specs.State.{HasCleanDisk}
 use Rattle.kept_tables.specs.Stands.{StandsForOffice}
-use Rattle.table_making.proofs.GrowLaws.{on_err, err_stands, same_survives}
+use Rattle.table_making.proofs.GrowLaws.{on_err, err_stands, same_survives, left_there}
 use Rattle.table_making.proofs.makings.make.Goals as goal
 
 pub returns-in_err-settle-clause-stands : goal.returns-in_err-settle-clause-stands
@@ -22,6 +22,14 @@ returns-clause-stands g c clean here o stands =
       on_err c.make_here.result _ _ (c.make_here.ensures.refused clean)
           (λ same. subst (λ (d : Database). StandsForOffice d o) (sym (same.committed here ∙ kept)) stands),
     )
+
+pub returns-clause-left : goal.returns-clause-left
+returns-clause-left g c clean foreign =
+    let mid = state g.S.Store c.settle.new.conn in
+    let early : HasCleanDisk mid = omega (arith, c.make_here.ensures.crash.clean) in
+    left_there (state g.S.Store c.args.conn.now) mid (state g.S.Store c.make_here.new.conn)
+    (c.make_here.ensures.open clean) (c.in_ok-settle.ensures.settled early) (c.settle.ensures.kept early)
+    (c.make_here.ensures.left clean) foreign
 
 pub returns-clause-crash : goal.returns-clause-crash
 returns-clause-crash g c =

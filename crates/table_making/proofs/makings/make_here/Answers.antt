@@ -6,6 +6,8 @@ use Rattle.sqlite.specs.State.{HasCleanDisk}
 use Rattle.kept_tables.specs.Stands.{HasOffice, StandsForOffice}
 use Rattle.kept_tables.specs.Texts.{find_version}
 use Rattle.table_making.specs.Growth.{IsUnderstood, SaysIf, LacksVersion}
+use Rattle.kept_tables.proofs.StepLaws.{kept_then}
+use Rattle.table_making.specs.Objects.{MayBeMade}
 use Rattle.table_making.proofs.GrowLaws.{six_there, open_survives}
 use Rattle.table_making.proofs.makings.make_here.Goals as goal
 
@@ -26,6 +28,15 @@ returns-clause-made g c clean same o stands =
     let now = (c.in_ok-is_there.ensures.same early).0.now_is in
     c.grow_by.ensures.grown clean (subst LacksVersion (sym now) lacks) o
     (subst (λ (d : Database). StandsForOffice d o) (sym now) stands)
+
+pub returns-clause-left : goal.returns-clause-left
+returns-clause-left g c clean foreign =
+    let old = state g.S.Store c.args.conn.now in
+    let mid = state g.S.Store c.is_there.new.conn in
+    let early : HasCleanDisk mid = omega (arith, c.grow_by.ensures.crash.clean) in
+    kept_then old mid (state g.S.Store c.grow_by.new.conn) (c.is_there.ensures.kept early)
+    (c.grow_by.ensures.left clean
+    (λ made. foreign (subst MayBeMade (c.in_ok-is_there.ensures.same early).0.now_is made)))
 
 pub returns-clause-crash : goal.returns-clause-crash
 returns-clause-crash g c =
