@@ -1,7 +1,7 @@
 // A keeper on a connection.
 ghost use Rattle.std.specs.Prelude.{◌≡◌, ◌↔◌, true, Some, None, Err, IsOk, IsTrue};
 ghost use Rattle.sqlite.specs.Held.{state};
-ghost use Rattle.sqlite.specs.State.{HasCleanDisk, Survives};
+ghost use Rattle.sqlite.specs.State.{HasCleanDisk, KeepsCommit, Survives};
 ghost use Rattle.sqlite.specs.declared.error.Error.TheVariants.{SqliteFailure};
 ghost use Rattle.sqlite.specs.declared.error.ErrorCode.TheVariants.{OutOfMemory};
 ghost use Rattle.keeper.specs.Office.{Office};
@@ -9,6 +9,7 @@ ghost use Rattle.keeper.specs.declared.kept.KeepFault.TheVariants.{NoMemory};
 ghost use Rattle.kept_tables.specs.Stands.{HasOffice, StandsForOffice};
 ghost use Rattle.kept_tables.specs.Told.{told_in};
 ghost use Rattle.table_making.specs.Growth.{CommitsSame};
+ghost use Rattle.table_making.specs.Objects.{MayBeMade};
 
 use crate::steady::Steady;
 use keeper::KeepFault;
@@ -38,9 +39,9 @@ fn why_unmade(made: Result<(), Error>) -> Option<KeepFault>
 }
 
 impl<S: Steady> ProvedKeeper<S> {
-    /// The keeper on a connection. What is under way in it is undone, and the tables are made where none are there or
-    /// those of version 1. Where that is refused, `unmade` says why, and all calls are refused until the connection is
-    /// adopted anew.
+    /// The keeper on a connection. What is under way in it is undone, and the tables are made where nothing is listed
+    /// or version 1 exactly; a database that lists anything else stays as it is. Where that is refused, `unmade` says
+    /// why, and all calls are refused until the connection is adopted anew.
     pub fn adopt(alloc: Global, connection: Connection<S>) -> ProvedKeeper<S>
         ensures tells { S.Steady.is_steady ≡ true → (o : Office)
             → StandsForOffice (state S.Store connection).committed o
@@ -51,6 +52,8 @@ impl<S: Steady> ProvedKeeper<S> {
         ensures made { HasCleanDisk (state S.Store result.conn) → IsTrue (state S.Store result.conn).is_open
             → result.unmade ≡ None → (o : Office) → StandsForOffice (state S.Store connection).committed o
             → HasOffice (state S.Store result.conn).committed o }
+        ensures left { HasCleanDisk (state S.Store result.conn) → ¬ MayBeMade (state S.Store connection).committed
+            → KeepsCommit (state S.Store connection) (state S.Store result.conn) }
         ensures crash { Survives (state S.Store connection) (state S.Store result.conn) (CommitsSame
             (state S.Store connection).committed) }
         ensures faultless { result.faults ≡ 0 }

@@ -1,15 +1,16 @@
 -- What the making of tables leaves.
 use Rattle.std.proofs.Common.{◌≡◌, ◌⊎◌, IfErr, ◌<◌, ℕ, pos, zero, suc, inl, inr, Bool, true, false, List, [], ◌∷◌}
-use Rattle.std.proofs.Common.{length, get_or, take, map, None, Result, Ok, Err, OnOk, OnErr, IfOk, IsErr, IsTrue, refl}
+use Rattle.std.proofs.Common.{length, get_or, take, map, None, Result, Ok, Err, OnOk, OnErr, IfOk, IsErr, IsTrue}
+use Rattle.std.proofs.Common.{refl}
 use Rattle.std.proofs.Common.{sym, ap, subst, ◌∙◌, arith}
 use Rattle.std.specs.List.{AllByRecursion}
 use Rattle.std.specs.List.Sorted.{IsStrictlySortedBy}
 use Rattle.std.specs.Ordering.{nat_cmp}
 use Rattle.std.specs.declared.cmp.Ordering.TheVariants.{Less}
 use Rattle.std.proofs.lemmas.Bool.Decides.{nat_tests}
-use Rattle.sqlite_trees.specs.declared.store.Store.{Ghosts}
 use Rattle.sqlite_trees.specs.declared.error.StoreError.{StoreError}
-use Rattle.sqlite_trees.specs.declared.error.StoreError.TheVariants.{OutOfMemory, Io, Corrupt, Full, Broken, Unstorable}
+use Rattle.sqlite_trees.specs.declared.error.StoreError.TheVariants.{OutOfMemory, Io, Corrupt, Full, Broken}
+use Rattle.sqlite_trees.specs.declared.error.StoreError.TheVariants.{Unstorable}
 use Rattle.sqlite_value.specs.declared.value.Value.{Value}
 use Rattle.sqlite_value.specs.declared.value.Value.TheVariants.{Int}
 use Rattle.sqlite_value.specs.Order.{Row}
@@ -19,14 +20,12 @@ use Rattle.sqlite_resolve.specs.declared.error.CompileError.{CompileError}
 use Rattle.sqlite.specs.declared.error.Error.{Error}
 use Rattle.sqlite.specs.declared.error.Error.TheVariants.{SqlInputError}
 use Rattle.sqlite.specs.Effect.{Database}
-use Rattle.sqlite.specs.Held.{Held, state}
 use Rattle.sqlite.specs.Listing.{understood}
 use Rattle.sqlite.specs.Steps.{Outlines}
 use Rattle.sqlite.specs.Outline.{Outline}
-use Rattle.sqlite.specs.State.{State, HasCleanDisk, Survives, KeepsCommit, IsUnchanged, IsNotRun, IsTooLate}
+use Rattle.sqlite.specs.State.{State, KeepsCommit, IsUnchanged, IsNotRun, IsTooLate}
 use Rattle.sqlite.specs.State.{FailsToQuery, Shown, store_error}
-use Rattle.sqlite.proofs.Callers.{IsPlain, survives_begin}
-use Rattle.sqlite.proofs.StateLemmas.{survives_then}
+use Rattle.sqlite.proofs.Callers.{IsPlain}
 use Rattle.keeper.specs.declared.kept.DayRecord.{DayRecord}
 use Rattle.keeper.specs.declared.kept.OldRecord.{OldRecord}
 use Rattle.keeper.specs.Kept.{seal_of, sealed}
@@ -36,14 +35,11 @@ use Rattle.kept_tables.specs.Texts.{find_version, list_days, make_days, make_spe
 use Rattle.kept_tables.specs.Texts.{make_tariffs, make_form}
 use Rattle.kept_tables.specs.Shown.{number_columns}
 use Rattle.kept_tables.specs.Stands.{HoldsAs, HasOld, HasNothing, HasOffice, FitsFields, StandsForOffice, contents_of}
-use Rattle.kept_tables.specs.Steps.{StaysInside}
 use Rattle.kept_tables.proofs.AskLaws.{asked_changes_nothing, list_days_asks}
 use Rattle.kept_tables.proofs.StepLaws.{kept_same, kept_undone, kept_if_unread}
 use Rattle.kept_tables.proofs.MigrationLaws.{first_made, second_made}
 use Rattle.kept_tables.proofs.QueryLaws.{find_version_plain, no_days, old_days_plain, no_version, no_old_version}
-use Rattle.table_making.specs.Growth.{TextRan, IsUnsealed, Stood, IsUnderstood, SaysIf, LacksVersion, CommitsGrown}
-use Rattle.table_making.specs.Growth.{CommitsListed, CommitsHere, CommitsOpen, CommitsSame}
-use Rattle.table_making.specs.Objects.{Lists, MayBeMade, texts_of}
+use Rattle.table_making.specs.Growth.{TextRan, IsUnsealed, Stood, IsUnderstood, SaysIf, LacksVersion}
 
 -- what follows of what holds where a call went well
 pub on_ok : {T E : Type 0} (r : Result T E) (P Q : Type 0) → OnOk r P → (P → Q) → OnOk r Q
@@ -173,50 +169,6 @@ six_there db o (inr (inl old)) said =
     absurd (subst IsUnderstood (ap (λ (s : Schema). understood s find_version) old.tables.schema ∙ no_old_version) said)
 six_there db o (inr (inr has)) said = has
 
--- a transaction that wrote the tables and then committed
-pub grown_survives : {S : Type 0} (g : Ghosts S) (old : Held S) (last end : State) (is_old : Bool) →
-    Survives (state g (record old { in_transaction = true })) last (λ _. ⊥) →
-    Survives last end (λ db. db ≡ last.now.trees)
-    → (HasCleanDisk last → StaysInside (state g (record old { in_transaction = true })) last (Ok tt)) →
-    (HasCleanDisk last → (o : Office) → Stood is_old (state g old).now o → HasOffice last.now o)
-    → Survives (state g old) end (CommitsGrown is_old (state g old))
-grown_survives g old last end is_old written committed inside wrote =
-    survives_then (state g old) last end (λ _. ⊥) (λ db. db ≡ last.now.trees) (CommitsGrown is_old (state g old))
-    (λ _ db none. absurd none)
-    (λ clean db is.
-    let late : HasCleanDisk last = omega (arith, committed.clean) in
-    ((inside late).was_open, λ o stood. (last.now, wrote late o stood, is)))
-    (survives_begin g old last _ written) committed
-
--- after it was seen which tables are there
-pub here_survives : (old mid new : State) (is_old : Bool) → (HasCleanDisk mid → IsUnchanged old mid) →
-    (HasCleanDisk mid → SaysIf is_old (IsUnderstood (understood old.now.schema list_days))) → Survives old mid (λ _. ⊥)
-    → Survives mid new (CommitsListed is_old mid) → Survives old new (CommitsHere old)
-here_survives old mid new is_old same says first last =
-    survives_then old mid new (λ _. ⊥) (CommitsListed is_old mid) (CommitsHere old) (λ _ db none. absurd none)
-    (λ clean db made.
-    let early : HasCleanDisk mid = omega (arith, last.clean) in
-    let kept = (same early).0 in (
-      kept.was_open,
-      λ lacks o stands. made.0.1 o
-          (subst (λ (d : Database). Stood is_old d o) (sym kept.now_is)
-          (stood_by is_old old.now o stands lacks (says early))),
-      (is_old, subst (λ (d : Database). Lists d (texts_of is_old)) kept.now_is made.1),
-    )) first last
-
--- after the texts that are listed were seen
-pub listed_survives : (old mid new : State) (is_old : Bool) → (HasCleanDisk mid → IsUnchanged old mid) →
-    (HasCleanDisk mid → Lists old.now (texts_of is_old)) → Survives old mid (λ _. ⊥)
-    → Survives mid new (CommitsGrown is_old mid) → Survives old new (CommitsListed is_old old)
-listed_survives old mid new is_old same lists first last =
-    survives_then old mid new (λ _. ⊥) (CommitsGrown is_old mid) (CommitsListed is_old old) (λ _ db none. absurd none)
-    (λ clean db made.
-    let early : HasCleanDisk mid = omega (arith, last.clean) in
-    let kept = (same early).0 in (
-      (kept.was_open, λ o stood. made.1 o (subst (λ (d : Database). Stood is_old d o) (sym kept.now_is) stood)),
-      lists early,
-    )) first last
-
 -- the query for all days changes nothing
 pub asked_same : {X : Type 0} (rows_in : X → List Row) (old new : State) (r : Result X Error) →
     IfOk r (λ x. Shown list_days [] old new (rows_in x)) → OnOk r (IsUnchanged old new)
@@ -271,34 +223,6 @@ unfolding IsNotRun
 not_run_keeps old new sql params e (inl h) = kept_same old new h.1
 not_run_keeps old new sql params e (inr h) = kept_undone old new h.3
 
--- after it was seen that there are not all six tables
-pub open_survives : (old mid new : State) → (HasCleanDisk mid → IsUnchanged old mid) →
-    (HasCleanDisk mid → LacksVersion old.now) → Survives old mid (λ _. ⊥) → Survives mid new (CommitsHere mid) →
-    Survives old new (CommitsOpen old)
-open_survives old mid new same lacks first last =
-    survives_then old mid new (λ _. ⊥) (CommitsHere mid) (CommitsOpen old) (λ _ db none. absurd none)
-    (λ clean db made.
-    let early : HasCleanDisk mid = omega (arith, last.clean) in
-    let kept = (same early).0 in (
-      kept.was_open,
-      λ o stands. made.1 (subst LacksVersion (sym kept.now_is) (lacks early)) o
-          (subst (λ (d : Database). StandsForOffice d o) (sym kept.now_is) stands),
-      subst MayBeMade kept.now_is made.2,
-    )) first last
-
--- after what was under way was undone
-pub same_survives : (old mid new : State) → (HasCleanDisk mid → IsTrue mid.is_open → mid.now ≡ mid.committed) →
-    (HasCleanDisk mid → KeepsCommit old mid) → Survives old mid (λ _. ⊥) → Survives mid new (CommitsOpen mid) →
-    Survives old new (CommitsSame old.committed)
-same_survives old mid new settled kept first last =
-    survives_then old mid new (λ _. ⊥) (CommitsOpen mid) (CommitsSame old.committed) (λ _ db none. absurd none)
-    (λ clean db made.
-    let early : HasCleanDisk mid = omega (arith, last.clean) in
-    let now = settled early made.0 ∙ (kept early).committed made.0 in (
-      λ o stands. made.1 o (subst (λ (d : Database). StandsForOffice d o) (sym now) stands),
-      subst MayBeMade now made.2,
-    )) first last
-
 -- a call that keeps what is committed keeps what that stands for
 pub still_stands : (old new : State) (o : Office) → IsTrue new.is_open → StandsForOffice old.committed o →
     KeepsCommit old new → StandsForOffice new.committed o
@@ -311,16 +235,3 @@ pub err_stands : {T E : Type 0} (old new : State) (r : Result T E) (P : Type 0) 
     × OnErr r (StandsForOffice new.committed o)
 err_stands old new (Ok x) P o err here stands kept = absurd (cc)
 err_stands old new (Err e) P o err here stands kept = (tt, still_stands old new o here stands kept)
-
--- a database that is not to be made stays as it is, also after what was under way was undone
-pub left_there : (old mid new : State) → (IsTrue new.is_open → IsTrue mid.is_open) →
-    (IsTrue mid.is_open → mid.now ≡ mid.committed) → KeepsCommit old mid → (¬ MayBeMade mid.now → KeepsCommit mid new)
-    → ¬ MayBeMade old.committed → KeepsCommit old new
-left_there old mid new before settled kept stays foreign =
-    let same = λ (here : IsTrue new.is_open). settled (before here) ∙ kept.committed (before here) in
-    record {
-      was_open = λ here. kept.was_open (before here);
-      committed =
-          λ here. (stays (λ made. foreign (subst MayBeMade (same here) made))).committed here
-          ∙ kept.committed (before here);
-    }

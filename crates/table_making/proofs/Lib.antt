@@ -1,2 +1,3 @@
 pub mod GrowLaws
+pub mod LeaveLaws
 pub mod ObjectLaws

@@ -1,6 +1,6 @@
 -- What a look at the texts of a database shows.
-use Rattle.std.proofs.Common.{◌≡◌, ◌≤◌, ◌<◌, true, Result, Ok, Err, IfOk, OnOk, List, [], ◌∷◌, length, get_or, refl, arith}
-use Rattle.std.proofs.Common.{sym, ap, subst, ◌∙◌}
+use Rattle.std.proofs.Common.{◌≡◌, ◌≤◌, ◌<◌, true, Result, Ok, Err, IfOk, OnOk, List, [], ◌∷◌, length, get_or}
+use Rattle.std.proofs.Common.{refl, sym, ap, ◌∙◌, arith}
 use Rattle.sqlite_value.specs.Order.{Row, column}
 use Rattle.sqlite_value.specs.declared.value.Value.{Value}
 use Rattle.sqlite_tied.specs.Compute.{everything}

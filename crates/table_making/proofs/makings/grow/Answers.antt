@@ -2,7 +2,7 @@ use Rattle.std.proofs.Common.{◌≡◌, refl, subst, rules}
 use Rattle.sqlite.specs.Held.{state}
 use Rattle.sqlite.specs.State.{Survives}
 use Rattle.table_making.specs.Growth.{CommitsGrown}
-use Rattle.table_making.proofs.GrowLaws.{grown_survives}
+use Rattle.table_making.proofs.LeaveLaws.{grown_survives}
 use Rattle.table_making.proofs.makings.grow.Goals as goal
 
 pub returns-clause-crash : goal.returns-clause-crash

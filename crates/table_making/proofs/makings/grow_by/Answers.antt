@@ -5,7 +5,8 @@ use Rattle.sqlite.specs.State.{HasCleanDisk}
 use Rattle.kept_tables.proofs.StepLaws.{kept_then}
 use Rattle.table_making.specs.Growth.{Stood}
 use Rattle.table_making.specs.Objects.{Lists, texts_of}
-use Rattle.table_making.proofs.GrowLaws.{on_err, stood_by, here_survives}
+use Rattle.table_making.proofs.GrowLaws.{on_err, stood_by}
+use Rattle.table_making.proofs.LeaveLaws.{here_survives}
 use Rattle.table_making.proofs.makings.grow_by.Goals as goal
 
 pub returns-clause-grown : goal.returns-clause-grown

@@ -5,7 +5,8 @@ use Rattle.sqlite.specs.State.{HasCleanDisk}
 use Rattle.kept_tables.proofs.StepLaws.{kept_then}
 use Rattle.table_making.specs.Growth.{Stood}
 use Rattle.table_making.specs.Objects.{Lists}
-use Rattle.table_making.proofs.GrowLaws.{on_err, listed_survives}
+use Rattle.table_making.proofs.GrowLaws.{on_err}
+use Rattle.table_making.proofs.LeaveLaws.{listed_survives}
 use Rattle.table_making.proofs.makings.grow_listed.Goals as goal
 
 pub returns-clause-grown : goal.returns-clause-grown
@@ -30,7 +31,8 @@ pub returns-clause-left : goal.returns-clause-left
 returns-clause-left g c clean foreign =
     let early : HasCleanDisk (state g.S.Store c.list_texts.new.conn) = omega (arith, c.grow.ensures.crash.clean) in
     absurd (foreign
-    (subst (Lists (state g.S.Store c.args.conn.now).now) (sym c.deref.ensures.value ∙ c.are_texts.ensures c.if-not-are_texts.false)
+    (subst (Lists (state g.S.Store c.args.conn.now).now)
+    (sym c.deref.ensures.value ∙ c.are_texts.ensures c.if-not-are_texts.false)
     (c.in_ok-texts.ensures.lists early)))
 
 pub returns-clause-crash : goal.returns-clause-crash

@@ -3,7 +3,8 @@ use Rattle.sqlite.specs.Effect.{Database}
 use Rattle.sqlite.specs.Held.{state}
 use Rattle.sqlite.specs.State.{HasCleanDisk}
 use Rattle.kept_tables.specs.Stands.{StandsForOffice}
-use Rattle.table_making.proofs.GrowLaws.{on_err, err_stands, same_survives, left_there}
+use Rattle.table_making.proofs.GrowLaws.{on_err, err_stands}
+use Rattle.table_making.proofs.LeaveLaws.{same_survives, left_there}
 use Rattle.table_making.proofs.makings.make.Goals as goal
 
 pub returns-in_err-settle-clause-stands : goal.returns-in_err-settle-clause-stands

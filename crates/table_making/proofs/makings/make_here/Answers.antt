@@ -8,7 +8,8 @@ use Rattle.kept_tables.specs.Texts.{find_version}
 use Rattle.table_making.specs.Growth.{IsUnderstood, SaysIf, LacksVersion}
 use Rattle.kept_tables.proofs.StepLaws.{kept_then}
 use Rattle.table_making.specs.Objects.{MayBeMade}
-use Rattle.table_making.proofs.GrowLaws.{six_there, open_survives}
+use Rattle.table_making.proofs.GrowLaws.{six_there}
+use Rattle.table_making.proofs.LeaveLaws.{open_survives}
 use Rattle.table_making.proofs.makings.make_here.Goals as goal
 
 pub returns-then-branch-clause-made : goal.returns-then-branch-clause-made
