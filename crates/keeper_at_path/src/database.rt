@@ -1,6 +1,9 @@
 // A database that is opened when it is first asked for.
-ghost use Rattle.std.specs.Prelude.{◌≢◌, Some, IfOk};
+ghost use Rattle.std.specs.Prelude.{◌≡◌, ◌≢◌, Some, None, IfOk, IfErr};
+ghost use Rattle.sqlite.specs.Held.{state};
 ghost use Rattle.keeper.specs.declared.kept.KeepFault.TheVariants.{NoMemory};
+ghost use Rattle.keeper_writes.specs.Causes.{WasRefused};
+ghost use Rattle.keeper_at_path.specs.Does.{Asked, IsReady, IsHeld};
 
 use crate::at_path::AtPath;
 use crate::call::Call;
@@ -40,23 +43,34 @@ impl<S: AtPath> Database<S> {
         }
     }
 
-    /// Makes a call.
+    /// Makes a call of the keeper that is held, or of one that is opened for it. A failure lets it go, so that the next
+    /// call opens the file anew.
     pub(crate) fn ask<C: Call + Drop>(&mut self, call: C) -> Result<C::Answer, KeepFault>
         requires { C.fits call }
-        ensures { IfOk result C.answers }
+        ensures answers { IfOk result C.answers }
+        ensures does { Asked self.old.kept self.new.kept (λ k. k.unmade ≢ Some NoMemory)
+            (λ k. state S.Store k.conn) (WasRefused S.Store) C.writes (C.asks call) (C.gives call) (C.next call)
+            result }
     {
-        call.ask(self.ready()?)
+        let mut kept = match self.ready() {
+            Ok(kept) => kept,
+            Err(fault) => return Err(fault),
+        };
+        let answer = call.ask(&mut kept);
+        self.kept = unless_failed(&answer, kept);
+        answer
     }
 
-    /// The keeper on the connection, which is made at the first call, and anew at the next where that was refused.
-    fn ready(&mut self) -> Result<&mut ProvedKeeper<S>, KeepFault> {
-        if self.kept.is_none() {
-            self.kept = Some(self.opened()?);
+    /// Takes the keeper that is held, or opens one.
+    fn ready(&mut self) -> Result<ProvedKeeper<S>, KeepFault>
+        ensures ready { IfOk result (IsReady (λ k. k.unmade ≢ Some NoMemory) self.old.kept) }
+        ensures none { self.new.kept ≡ None }
+        ensures unopened { IfErr result (λ _. self.old.kept ≡ None) }
+    {
+        if let Some(kept) = self.kept.take() {
+            return Ok(kept);
         }
-        match &mut self.kept {
-            Some(kept) => Ok(kept),
-            None => Err(KeepFault::Failed),
-        }
+        self.opened()
     }
 
     /// A keeper on a new connection. Where there was no memory to make its tables, the connection is let go.
@@ -70,4 +84,14 @@ impl<S: AtPath> Database<S> {
             _ => Ok(kept),
         }
     }
+}
+
+/// What is held after an answer: nothing where it is a failure.
+fn unless_failed<A, K: Drop>(answer: &Result<A, KeepFault>, kept: K) -> Option<K>
+    ensures { IsHeld answer.now result kept }
+{
+    if let Err(KeepFault::Failed) = answer {
+        return None;
+    }
+    Some(kept)
 }

@@ -1,5 +1,15 @@
 // The calls of a keeper in a database.
-ghost use Rattle.std.specs.Prelude.{None};
+ghost use Rattle.std.specs.Prelude.{◌≡◌, ◌≢◌, Some, None, IfOk};
+ghost use Rattle.sqlite.specs.Held.{state};
+ghost use Rattle.road_time.specs.History.{paid};
+ghost use Rattle.road_time.specs.Rates.{IsTariff};
+ghost use Rattle.keeper.specs.Office.{RowsRise, last_day as last_day_of, record_of, rows_between, vehicle_rows_between};
+ghost use Rattle.keeper.specs.Kept.{IsDayPut, IsPastPut, IsLater, HasNoDays, with_day, with_past, with_tariff_of};
+ghost use Rattle.keeper.specs.Calls.{CountsFaults};
+ghost use Rattle.keeper.specs.declared.kept.KeepFault.TheVariants.{NoMemory};
+ghost use Rattle.kept_tables.specs.Steps.{FitsAny};
+ghost use Rattle.keeper_writes.specs.Causes.{WasRefused};
+ghost use Rattle.keeper_at_path.specs.Does.{AskedToRead, AskedToPut};
 
 use crate::at_path::AtPath;
 use crate::keeper_in::KeeperIn;
@@ -22,43 +32,98 @@ impl<S: AtPath> Keeper for KeeperIn<S> {
 
     ghost needs_memory = { true };
 
-    fn last_day(&mut self) -> Result<u32, KeepFault> {
+    fn last_day(&mut self) -> Result<u32, KeepFault>
+        ensures cause { CountsFaults self.old.faults self.new.faults result }
+        ensures does { AskedToRead self.old.database.kept self.new.database.kept
+            (λ k. k.unmade ≢ Some NoMemory) (λ k. state S.Store k.conn) (WasRefused S.Store)
+            (λ o last. last ≡ last_day_of o) result }
+    {
         self.ask(LastDay)
     }
 
-    fn day(&mut self, day: u32) -> Result<Option<DayRecord>, KeepFault> {
+    fn day(&mut self, day: u32) -> Result<Option<DayRecord>, KeepFault>
+        ensures cause { CountsFaults self.old.faults self.new.faults result }
+        ensures does { AskedToRead self.old.database.kept self.new.database.kept
+            (λ k. k.unmade ≢ Some NoMemory) (λ k. state S.Store k.conn) (WasRefused S.Store)
+            (λ o kept. kept ≡ record_of o day) result }
+    {
         self.ask(AskedDay { day })
     }
 
-    fn past(&mut self) -> Result<Option<PastRecord>, KeepFault> {
+    fn past(&mut self) -> Result<Option<PastRecord>, KeepFault>
+        ensures cause { CountsFaults self.old.faults self.new.faults result }
+        ensures does { AskedToRead self.old.database.kept self.new.database.kept
+            (λ k. k.unmade ≢ Some NoMemory) (λ k. state S.Store k.conn) (WasRefused S.Store)
+            (λ o past. past ≡ o.past) result }
+    {
         self.ask(Past)
     }
 
-    fn spent(&mut self, day: u32, vid: u32, xway: u8) -> Result<u64, KeepFault> {
+    fn spent(&mut self, day: u32, vid: u32, xway: u8) -> Result<u64, KeepFault>
+        ensures cause { CountsFaults self.old.faults self.new.faults result }
+        ensures does { AskedToRead self.old.database.kept self.new.database.kept
+            (λ k. k.unmade ≢ Some NoMemory) (λ k. state S.Store k.conn) (WasRefused S.Store)
+            (λ o tolls. tolls ≡ paid o.rows day vid xway) result }
+    {
         self.ask(AskedSpent { day, vid, xway })
     }
 
-    fn rows(&mut self, from: u32, to: u32) -> Result<Vec<SpentRow>, KeepFault> {
+    fn rows(&mut self, from: u32, to: u32) -> Result<Vec<SpentRow>, KeepFault>
+        ensures rise { IfOk result (λ rows. RowsRise rows.items) }
+        ensures cause { CountsFaults self.old.faults self.new.faults result }
+        ensures does { AskedToRead self.old.database.kept self.new.database.kept
+            (λ k. k.unmade ≢ Some NoMemory) (λ k. state S.Store k.conn) (WasRefused S.Store)
+            (λ o rows. rows.items ≡ rows_between o from to) result }
+    {
         self.ask(Rows { from, to })
     }
 
-    fn vehicle_rows(&mut self, vid: u32, from: u32, to: u32) -> Result<Vec<SpentRow>, KeepFault> {
+    fn vehicle_rows(&mut self, vid: u32, from: u32, to: u32) -> Result<Vec<SpentRow>, KeepFault>
+        ensures rise { IfOk result (λ rows. RowsRise rows.items) }
+        ensures cause { CountsFaults self.old.faults self.new.faults result }
+        ensures does { AskedToRead self.old.database.kept self.new.database.kept
+            (λ k. k.unmade ≢ Some NoMemory) (λ k. state S.Store k.conn) (WasRefused S.Store)
+            (λ o rows. rows.items ≡ vehicle_rows_between o vid from to) result }
+    {
         self.ask(VehicleRows { vid, from, to })
     }
 
-    fn tariffs(&mut self) -> Result<Tariffs, KeepFault> {
+    fn tariffs(&mut self) -> Result<Tariffs, KeepFault>
+        ensures cause { CountsFaults self.old.faults self.new.faults result }
+        ensures does { AskedToRead self.old.database.kept self.new.database.kept
+            (λ k. k.unmade ≢ Some NoMemory) (λ k. state S.Store k.conn) (WasRefused S.Store)
+            (λ o tariffs. tariffs ≡ o.tariffs) result }
+    {
         self.ask(KeptTariffs)
     }
 
-    fn put_day(&mut self, kept: &DayRecord, rows: &[SpentRow]) -> Result<(), KeepFault> {
+    fn put_day(&mut self, kept: &DayRecord, rows: &[SpentRow]) -> Result<(), KeepFault>
+        requires fits { IsDayPut kept.now rows.now }
+        ensures cause { CountsFaults self.old.faults self.new.faults result }
+        ensures does { AskedToPut self.old.database.kept self.new.database.kept
+            (λ k. k.unmade ≢ Some NoMemory) (λ k. state S.Store k.conn) (WasRefused S.Store)
+            (IsLater kept.now.day) (with_day kept.now rows.now) result }
+    {
         self.ask(PutDay { kept, rows })
     }
 
-    fn put_past(&mut self, kept: &PastRecord, rows: &[SpentRow]) -> Result<(), KeepFault> {
+    fn put_past(&mut self, kept: &PastRecord, rows: &[SpentRow]) -> Result<(), KeepFault>
+        requires fits { IsPastPut kept.now rows.now }
+        ensures cause { CountsFaults self.old.faults self.new.faults result }
+        ensures does { AskedToPut self.old.database.kept self.new.database.kept
+            (λ k. k.unmade ≢ Some NoMemory) (λ k. state S.Store k.conn) (WasRefused S.Store)
+            HasNoDays (with_past kept.now rows.now) result }
+    {
         self.ask(PutPast { kept, rows })
     }
 
-    fn put_tariff(&mut self, xway: u8, tariff: &Tariff) -> Result<(), KeepFault> {
+    fn put_tariff(&mut self, xway: u8, tariff: &Tariff) -> Result<(), KeepFault>
+        requires valid { IsTariff tariff.now }
+        ensures cause { CountsFaults self.old.faults self.new.faults result }
+        ensures does { AskedToPut self.old.database.kept self.new.database.kept
+            (λ k. k.unmade ≢ Some NoMemory) (λ k. state S.Store k.conn) (WasRefused S.Store)
+            FitsAny (with_tariff_of xway tariff.now) result }
+    {
         self.ask(PutTariff { xway, tariff })
     }
 }

@@ -1,7 +1,10 @@
 // A keeper in a database that is opened by a path: it counts the calls that failed.
-ghost use Rattle.std.specs.Prelude.{◌≡◌, None, Err, IfOk};
+ghost use Rattle.std.specs.Prelude.{◌≡◌, ◌≢◌, Some, IfOk};
+ghost use Rattle.sqlite.specs.Held.{state};
 ghost use Rattle.keeper.specs.Calls.{CountsFaults};
-ghost use Rattle.keeper.specs.declared.kept.KeepFault.TheVariants.{Failed};
+ghost use Rattle.keeper.specs.declared.kept.KeepFault.TheVariants.{NoMemory as no_memory};
+ghost use Rattle.keeper_writes.specs.Causes.{WasRefused};
+ghost use Rattle.keeper_at_path.specs.Does.{Asked};
 
 use crate::at_path::AtPath;
 use crate::call::Call;
@@ -45,21 +48,12 @@ impl<S: AtPath> KeeperIn<S> {
     pub fn ask<C: Call + Drop>(&mut self, call: C) -> Result<C::Answer, KeepFault>
         requires { C.fits call }
         ensures answers { IfOk result C.answers }
+        ensures does { Asked self.old.database.kept self.new.database.kept (λ k. k.unmade ≢ Some no_memory)
+            (λ k. state S.Store k.conn) (WasRefused S.Store) C.writes (C.asks call) (C.gives call) (C.next call)
+            result }
         ensures cause { CountsFaults self.old.faults self.new.faults result }
     {
         let answer = self.database.ask(call);
-        self.hand_on(answer)
-    }
-
-    /// Hands an answer on. A failure is counted, and lets the connection go, so that the next call opens the file anew.
-    fn hand_on<T>(&mut self, answer: Result<T, KeepFault>) -> Result<T, KeepFault>
-        ensures same { result ≡ answer }
-        ensures cause { CountsFaults self.old.faults self.new.faults answer }
-        ensures anew { answer ≡ Err Failed → self.new.database.kept ≡ None }
-    {
-        if let Err(KeepFault::Failed) = &answer {
-            self.database.kept = None;
-        }
         count(&mut self.faults, answer)
     }
 }

@@ -13,13 +13,22 @@ pub struct PutDay<'a> {
 }
 
 impl<'a> Call for PutDay<'a> {
-    ghost use Rattle.keeper.specs.Kept.{IsDayPut};
+    ghost use Rattle.std.specs.Prelude.{true};
+    ghost use Rattle.keeper.specs.Kept.{IsDayPut, IsLater, with_day};
 
     type Answer = ();
 
     ghost fits = { λ put. IsDayPut put.kept.now put.rows.now };
 
     ghost answers = { λ _. Unit {0} };
+
+    ghost asks = { λ put. IsLater put.kept.now.day };
+
+    ghost gives = { λ _ _ _. Unit {0} };
+
+    ghost next = { λ put. with_day put.kept.now put.rows.now };
+
+    ghost writes = { true };
 
     fn ask<S: AtPath>(self, kept: &mut ProvedKeeper<S>) -> Result<(), KeepFault> {
         kept.put_day(self.kept, self.rows)
@@ -34,13 +43,22 @@ pub struct PutPast<'a> {
 }
 
 impl<'a> Call for PutPast<'a> {
-    ghost use Rattle.keeper.specs.Kept.{IsPastPut};
+    ghost use Rattle.std.specs.Prelude.{true};
+    ghost use Rattle.keeper.specs.Kept.{IsPastPut, HasNoDays, with_past};
 
     type Answer = ();
 
     ghost fits = { λ put. IsPastPut put.kept.now put.rows.now };
 
     ghost answers = { λ _. Unit {0} };
+
+    ghost asks = { λ put. HasNoDays };
+
+    ghost gives = { λ _ _ _. Unit {0} };
+
+    ghost next = { λ put. with_past put.kept.now put.rows.now };
+
+    ghost writes = { true };
 
     fn ask<S: AtPath>(self, kept: &mut ProvedKeeper<S>) -> Result<(), KeepFault> {
         kept.put_past(self.kept, self.rows)
@@ -55,13 +73,24 @@ pub struct PutTariff<'a> {
 }
 
 impl<'a> Call for PutTariff<'a> {
+    ghost use Rattle.std.specs.Prelude.{true};
     ghost use Rattle.road_time.specs.Rates.{IsTariff};
+    ghost use Rattle.keeper.specs.Kept.{with_tariff_of};
+    ghost use Rattle.kept_tables.specs.Steps.{FitsAny};
 
     type Answer = ();
 
     ghost fits = { λ put. IsTariff put.tariff.now };
 
     ghost answers = { λ _. Unit {0} };
+
+    ghost asks = { λ put. FitsAny };
+
+    ghost gives = { λ _ _ _. Unit {0} };
+
+    ghost next = { λ put. with_tariff_of put.xway put.tariff.now };
+
+    ghost writes = { true };
 
     fn ask<S: AtPath>(self, kept: &mut ProvedKeeper<S>) -> Result<(), KeepFault> {
         kept.put_tariff(self.xway, self.tariff)

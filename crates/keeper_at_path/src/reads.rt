@@ -10,11 +10,23 @@ use road_time::{SpentRow, Tariffs};
 pub struct LastDay;
 
 impl Call for LastDay {
+    ghost use Rattle.std.specs.Prelude.{◌≡◌, false};
+    ghost use Rattle.keeper.specs.Office.{last_day as last_day_of};
+    ghost use Rattle.kept_tables.specs.Steps.{FitsAny};
+
     type Answer = u32;
 
     ghost fits = { λ _. Unit {0} };
 
     ghost answers = { λ _. Unit {0} };
+
+    ghost asks = { λ _. FitsAny };
+
+    ghost gives = { λ _ o last. last ≡ last_day_of o };
+
+    ghost next = { λ _ o. o };
+
+    ghost writes = { false };
 
     fn ask<S: AtPath>(self, kept: &mut ProvedKeeper<S>) -> Result<u32, KeepFault> {
         kept.last_day()
@@ -28,11 +40,23 @@ pub struct AskedDay {
 }
 
 impl Call for AskedDay {
+    ghost use Rattle.std.specs.Prelude.{◌≡◌, false};
+    ghost use Rattle.keeper.specs.Office.{record_of};
+    ghost use Rattle.kept_tables.specs.Steps.{FitsAny};
+
     type Answer = Option<DayRecord>;
 
     ghost fits = { λ _. Unit {0} };
 
     ghost answers = { λ _. Unit {0} };
+
+    ghost asks = { λ _. FitsAny };
+
+    ghost gives = { λ ask o kept. kept ≡ record_of o ask.day };
+
+    ghost next = { λ _ o. o };
+
+    ghost writes = { false };
 
     fn ask<S: AtPath>(self, kept: &mut ProvedKeeper<S>) -> Result<Option<DayRecord>, KeepFault> {
         kept.day(self.day)
@@ -44,11 +68,22 @@ impl Call for AskedDay {
 pub struct Past;
 
 impl Call for Past {
+    ghost use Rattle.std.specs.Prelude.{◌≡◌, false};
+    ghost use Rattle.kept_tables.specs.Steps.{FitsAny};
+
     type Answer = Option<PastRecord>;
 
     ghost fits = { λ _. Unit {0} };
 
     ghost answers = { λ _. Unit {0} };
+
+    ghost asks = { λ _. FitsAny };
+
+    ghost gives = { λ _ o past. past ≡ o.past };
+
+    ghost next = { λ _ o. o };
+
+    ghost writes = { false };
 
     fn ask<S: AtPath>(self, kept: &mut ProvedKeeper<S>) -> Result<Option<PastRecord>, KeepFault> {
         kept.past()
@@ -64,11 +99,23 @@ pub struct AskedSpent {
 }
 
 impl Call for AskedSpent {
+    ghost use Rattle.std.specs.Prelude.{◌≡◌, false};
+    ghost use Rattle.road_time.specs.History.{paid};
+    ghost use Rattle.kept_tables.specs.Steps.{FitsAny};
+
     type Answer = u64;
 
     ghost fits = { λ _. Unit {0} };
 
     ghost answers = { λ _. Unit {0} };
+
+    ghost asks = { λ _. FitsAny };
+
+    ghost gives = { λ ask o tolls. tolls ≡ paid o.rows ask.day ask.vid ask.xway };
+
+    ghost next = { λ _ o. o };
+
+    ghost writes = { false };
 
     fn ask<S: AtPath>(self, kept: &mut ProvedKeeper<S>) -> Result<u64, KeepFault> {
         kept.spent(self.day, self.vid, self.xway)
@@ -83,13 +130,23 @@ pub struct Rows {
 }
 
 impl Call for Rows {
-    ghost use Rattle.keeper.specs.Office.{RowsRise};
+    ghost use Rattle.std.specs.Prelude.{◌≡◌, false};
+    ghost use Rattle.keeper.specs.Office.{RowsRise, rows_between};
+    ghost use Rattle.kept_tables.specs.Steps.{FitsAny};
 
     type Answer = Vec<SpentRow>;
 
     ghost fits = { λ _. Unit {0} };
 
     ghost answers = { λ rows. RowsRise rows.items };
+
+    ghost asks = { λ _. FitsAny };
+
+    ghost gives = { λ ask o rows. rows.items ≡ rows_between o ask.from ask.to };
+
+    ghost next = { λ _ o. o };
+
+    ghost writes = { false };
 
     fn ask<S: AtPath>(self, kept: &mut ProvedKeeper<S>) -> Result<Vec<SpentRow>, KeepFault> {
         kept.rows(self.from, self.to)
@@ -105,13 +162,23 @@ pub struct VehicleRows {
 }
 
 impl Call for VehicleRows {
-    ghost use Rattle.keeper.specs.Office.{RowsRise};
+    ghost use Rattle.std.specs.Prelude.{◌≡◌, false};
+    ghost use Rattle.keeper.specs.Office.{RowsRise, vehicle_rows_between};
+    ghost use Rattle.kept_tables.specs.Steps.{FitsAny};
 
     type Answer = Vec<SpentRow>;
 
     ghost fits = { λ _. Unit {0} };
 
     ghost answers = { λ rows. RowsRise rows.items };
+
+    ghost asks = { λ _. FitsAny };
+
+    ghost gives = { λ ask o rows. rows.items ≡ vehicle_rows_between o ask.vid ask.from ask.to };
+
+    ghost next = { λ _ o. o };
+
+    ghost writes = { false };
 
     fn ask<S: AtPath>(self, kept: &mut ProvedKeeper<S>) -> Result<Vec<SpentRow>, KeepFault> {
         kept.vehicle_rows(self.vid, self.from, self.to)
@@ -123,11 +190,22 @@ impl Call for VehicleRows {
 pub struct KeptTariffs;
 
 impl Call for KeptTariffs {
+    ghost use Rattle.std.specs.Prelude.{◌≡◌, false};
+    ghost use Rattle.kept_tables.specs.Steps.{FitsAny};
+
     type Answer = Tariffs;
 
     ghost fits = { λ _. Unit {0} };
 
     ghost answers = { λ _. Unit {0} };
+
+    ghost asks = { λ _. FitsAny };
+
+    ghost gives = { λ _ o tariffs. tariffs ≡ o.tariffs };
+
+    ghost next = { λ _ o. o };
+
+    ghost writes = { false };
 
     fn ask<S: AtPath>(self, kept: &mut ProvedKeeper<S>) -> Result<Tariffs, KeepFault> {
         kept.tariffs()
