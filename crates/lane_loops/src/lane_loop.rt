@@ -7,13 +7,14 @@ use crate::lane::Lane;
 use crate::listener::Listener;
 use crate::stub::Stub;
 use crate::tickets::{Draws, Tickets, draw};
-use road_io::Failed;
+use road_io::{Failed, Link};
 use std::alloc::Global;
 use std::sync::ledger::Ledger;
 use std::sync::{Mutex, Wait};
 
 impl<N: Listener> Lane<N> {
-    /// Accepts a connection and has it served. Where the listener fails the lane failed.
+    /// Accepts a connection, has it served, and finishes it, so that what was answered reaches the client. Where the
+    /// listener fails the lane failed.
     fn turn<H: Host>(&mut self, alloc: Global, host: &H) -> bool
         requires room { N.accepted self.old.listener < 2 ^ 64 - 1 }
         requires goes { self.old.failed ≡ false }
@@ -27,6 +28,7 @@ impl<N: Listener> Lane<N> {
             Ok(line) => {
                 let mut line = line;
                 host.attend(alloc, &mut line, &mut self.reader);
+                line.finish();
                 true
             }
             Err(Failed) => {
