@@ -48,6 +48,7 @@ pub fn history_for<K: Keeper>(
     ensures same { K.told keeper.new ≡ K.told keeper.old }
     ensures cause { result ≡ Err Failed → Rose (K.faults keeper.old) (K.faults keeper.new) }
     ensures later { K.faults keeper.old ≤ K.faults keeper.new }
+    ensures stands { result ≢ Err Failed → K.faults keeper.new ≡ K.faults keeper.old }
     ensures sure { NeverFails (K.plan keeper.old) → (result ≢ Err Failed) × NeverFails (K.plan keeper.new) }
 {
     if asks_any(tuples) {
