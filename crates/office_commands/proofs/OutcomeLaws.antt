@@ -1,5 +1,5 @@
 -- What a command wrote and kept, from what importing or answering its day did.
-use Rattle.std.proofs.Common.{◌≡◌, ◌≢◌, ◌⊎◌, ◌∙◌, inl, inr, ℕ, List, take, length-take, Option, Some, Result, Ok, Err}
+use Rattle.std.proofs.Common.{◌≡◌, ◌≢◌, ◌⊎◌, ◌∙◌, inl, inr, ℕ, Bool, List, take, length-take, Option, Some, Result, Ok, Err}
 use Rattle.std.proofs.Common.{OnErr, refl, sym, ap, subst, arith, IsErr}
 use Rattle.std.specs.Io.KnownBytes.{Appends}
 use Rattle.road_io.specs.declared.source.Failed.{Failed}
@@ -16,10 +16,13 @@ use Rattle.office_commands.specs.Commands.{closing_by, row_by}
 use Rattle.office_commands.specs.Closings.{status_of}
 use Rattle.office_commands.specs.Endings.{Wrote, Keeps, EndsCommand, Halted, Did, HoldsSame, code_of}
 use Rattle.office_commands.proofs.ClosingLaws.{whole_front}
-use Rattle.road_io.specs.Blame.{FaultsByRoom}
+use Rattle.road_io.specs.Blame.{FaultsByPlan, FaultsByRoom}
 use Rattle.road_io.specs.Rooms.{Room}
 use Rattle.keeper.specs.declared.kept.KeepFault.TheVariants as keeping
 use Rattle.import_once.specs.Imports as day
+use Rattle.import_once.specs.Faults.{FaultsBeside, NamesNoOther}
+use Rattle.office_commands.specs.Faults.{TellsNoOther}
+use Rattle.office_commands.specs.declared.closing.Closing.TheVariants as closings
 
 module _ (w : WhenRefused) (number : ℕ) (a : day.DayAnswer) (was : Office) (old new : Option (List ℕ))
     (now : Option Office) where
@@ -136,10 +139,38 @@ failed_there P (Err x) f e = f
 
 -- so its sink's faults are to blame
 pub by_sink : (P : Type 0) (r : Result (Option Closing) Failed) (before now : ℕ) (room left : Room) → OnErr r P →
-    FaultsByRoom before now room left P → FaultsByRoom before now room left (IsErr r)
-by_sink P r before now room left f s =
+    (P → IsErr r) → FaultsByRoom before now room left P → FaultsByRoom before now room left (IsErr r)
+by_sink P r before now room left f told s =
     record {
       later = s.later;
       cause = λ e. s.cause (failed_there P r f e);
+      still = λ well. s.still (λ p. well (told p));
       sure = λ endless. (let sure = s.sure endless in ((λ e. sure.0 (failed_there P r f e)), sure.1));
+    }
+
+-- and its source's, where no fault of another object is told
+pub by_read : (done : Outcome) (r : Result (Option Closing) Failed) (before now : ℕ) (plan : Option (ℕ → Bool)) →
+    (r ≡ Ok (Some closings.ReadFault) → done ≡ ReadFault) → (done ≡ ReadFault → r ≡ Ok (Some closings.ReadFault)) →
+    (done ≡ WriteFault → IsErr r) → (done ≡ KeeperFault → r ≡ Ok (Some closings.KeeperFault)) →
+    (done ≡ NoMemory → r ≡ Ok (Some closings.NoMemory)) →
+    FaultsBeside before now plan (done ≡ ReadFault) (NamesNoOther done) →
+    FaultsBeside before now plan (r ≡ Ok (Some closings.ReadFault)) (TellsNoOther r)
+by_read done r before now plan here read write keeper memory f =
+    record {
+      later = f.later;
+      cause = λ e. f.cause (here e);
+      still = λ well quiet. f.still (λ e. well (read e))
+          ((λ e. quiet.0 (write e)), (λ e. quiet.1 (keeper e)), (λ e. quiet.2 (memory e)));
+      sure = λ never e. f.sure never (here e);
+    }
+
+-- and its keeper's
+pub by_keeper : (P Q : Type 0) (before now : ℕ) (plan : Option (ℕ → Bool)) → (Q → P) → (P → Q) →
+    FaultsByPlan before now plan P → FaultsByPlan before now plan Q
+by_keeper P Q before now plan here told f =
+    record {
+      later = f.later;
+      cause = λ e. f.cause (here e);
+      still = λ well. f.still (λ p. well (told p));
+      sure = λ never e. f.sure never (here e);
     }

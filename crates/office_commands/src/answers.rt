@@ -5,7 +5,9 @@ ghost use Rattle.road_time.specs.Fits.{IsLimits};
 ghost use Rattle.day_reading.specs.Days.{most_of_day};
 ghost use Rattle.road_io.specs.Within.{ReadsWithin};
 ghost use Rattle.office_words.specs.Meaning.{IsRun};
+ghost use Rattle.import_once.specs.Faults.{FaultsBeside};
 ghost use Rattle.office_commands.specs.Commands.{answers_command};
+ghost use Rattle.office_commands.specs.Faults.{TellsNoOther};
 ghost use Rattle.office_commands.specs.Endings.{Wrote, Keeps, Did, code_of};
 ghost use Rattle.office_commands.specs.Rests.{HasReadDay};
 ghost use Rattle.office_commands.specs.declared.closing.Closing.TheVariants.{ReadFault, KeeperFault, Words};
@@ -51,8 +53,8 @@ pub fn answers<S: Source, O: Sink, K: Keeper, C: Crew, R: Threads>(
     ensures crew { C.which crew.new ≡ C.which crew.old }
     ensures said { result ≢ Ok (Some Words) }
     ensures bounded { ReadsWithin (most_of_day limits.now) (S.left source.old) (S.left source.new) }
-    ensures source { FaultsByPlan (S.faults source.old) (S.faults source.new) (S.plan source.old)
-        (result ≡ Ok (Some ReadFault)) }
+    ensures source { FaultsBeside (S.faults source.old) (S.faults source.new) (S.plan source.old)
+        (result ≡ Ok (Some ReadFault)) (TellsNoOther result) }
     ensures sink { FaultsByRoom (O.faults sink.old) (O.faults sink.new) (O.room sink.old) (O.room sink.new)
         (IsErr result) }
     ensures keeper { FaultsByPlan (K.faults keeper.old) (K.faults keeper.new) (K.plan keeper.old)

@@ -197,7 +197,7 @@ pub fn compare_source<S: Source, A: Source, K: Keeper, C: Crew, R: Threads + Syn
     ensures idle { C.out crew.new ≡ [] }
     ensures crew { C.which crew.new ≡ C.which crew.old }
     ensures read { ReadFaults (S.faults source.old) (S.faults source.new) (A.faults aside.old) (A.faults aside.new)
-        (NeverFails (S.plan source.old)) (NeverFails (A.plan aside.old)) (result ≡ ReadFault) }
+        (NeverFails (S.plan source.old)) (NeverFails (A.plan aside.old)) (result ≡ ReadFault) (Unit {0}) }
     ensures keeper { FaultsByPlan (K.faults keeper.old) (K.faults keeper.new) (K.plan keeper.old)
         (result ≡ KeeperFault) }
 {

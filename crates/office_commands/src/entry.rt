@@ -14,7 +14,8 @@ ghost use Rattle.office_commands.specs.declared.closing.Closing.TheVariants.{Rea
 ghost use Rattle.office_commands.specs.Uses.{asked, IsTold, IsRightCrew, IsRightAside, SourceTells, KeeperTells};
 ghost use Rattle.office_commands.specs.Uses.{uses_crew, uses_source, uses_aside, uses_keeper, changes_kept, AsksPassed};
 ghost use Rattle.office_commands.specs.Uses.{PutsAsked, most_of, most_aside_of};
-ghost use Rattle.office_commands.specs.Faults.{ReadFaults};
+ghost use Rattle.import_once.specs.Faults.{FaultsBeside};
+ghost use Rattle.office_commands.specs.Faults.{ReadFaults, TellsNoOther};
 ghost use Rattle.road_io.specs.Blame.{FaultsByPlan, FaultsByRoom};
 
 use crate::closing::Closing;
@@ -111,7 +112,8 @@ fn run<S: Source, A: Source, O: Sink, K: Keeper, C: Crew, R: Threads + Sync>(
         → ReadsWithin (most_aside_of limits.now bytes o (asked words.now)) (A.left aside.old) (A.left aside.new) }
     ensures read { ReadFaults (S.faults source.old) (S.faults source.new) (A.faults aside.old) (A.faults aside.new)
         (uses_source (asked words.now) ≡ true → NeverFails (S.plan source.old))
-        (uses_aside (asked words.now) ≡ true → NeverFails (A.plan aside.old)) (result ≡ Ok (Some ReadFault)) }
+        (uses_aside (asked words.now) ≡ true → NeverFails (A.plan aside.old)) (result ≡ Ok (Some ReadFault))
+        (TellsNoOther result) }
     ensures sink { FaultsByRoom (O.faults sink.old) (O.faults sink.new) (O.room sink.old) (O.room sink.new)
         (IsErr result) }
     ensures keeper { FaultsByPlan (K.faults keeper.old) (K.faults keeper.new) (K.plan keeper.old)
@@ -184,10 +186,12 @@ pub fn office<S: Source, A: Source, O: Sink, K: Keeper, C: Crew, R: Threads + Sy
         → ReadsWithin (most_aside_of limits.now bytes o (asked words.now)) (A.left aside.old) (A.left aside.new) }
     ensures read { ReadFaults (S.faults source.old) (S.faults source.new) (A.faults aside.old) (A.faults aside.new)
         (uses_source (asked words.now) ≡ true → NeverFails (S.plan source.old))
-        (uses_aside (asked words.now) ≡ true → NeverFails (A.plan aside.old)) (result ≡ 4) }
+        (uses_aside (asked words.now) ≡ true → NeverFails (A.plan aside.old)) (result ≡ 4)
+        ((result ≢ 5) × (result ≢ 6) × (result ≢ 8)) }
     ensures sink { FaultsByRoom (O.faults sink.old) (O.faults sink.new) (O.room sink.old) (O.room sink.new)
         (result ≡ 5) }
-    ensures keeper { FaultsByPlan (K.faults keeper.old) (K.faults keeper.new) (K.plan keeper.old) (result ≡ 6) }
+    ensures keeper { FaultsBeside (K.faults keeper.old) (K.faults keeper.new) (K.plan keeper.old) (result ≡ 6)
+        ((result ≢ 5) × (result ≢ 8)) }
 {
     match run(rt, alloc, words, limits, source, aside, sink, keeper, crew) {
         Ok(Some(closing)) => close(alloc, closing, sink),

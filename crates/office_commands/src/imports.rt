@@ -4,9 +4,11 @@ ghost use Rattle.keeper.specs.Office.{Office, record_of};
 ghost use Rattle.road_time.specs.Fits.{IsLimits};
 ghost use Rattle.day_reading.specs.Days.{most_of_day};
 ghost use Rattle.road_io.specs.Within.{ReadsWithin};
+ghost use Rattle.import_once.specs.Faults.{FaultsBeside};
 ghost use Rattle.import_once.specs.Imports.{most_imported, PutsOnce};
 ghost use Rattle.office_words.specs.Meaning.{IsRun};
 ghost use Rattle.office_commands.specs.Commands.{import_command};
+ghost use Rattle.office_commands.specs.Faults.{TellsNoOther};
 ghost use Rattle.office_commands.specs.Endings.{Wrote, Keeps, Did, HoldsSame, code_of};
 ghost use Rattle.office_commands.specs.Rests.{StopsThere, ReadsUncompared, LeavesOfDay};
 ghost use Rattle.office_commands.specs.declared.closing.Closing.TheVariants.{ReadFault, KeeperFault, Words};
@@ -61,8 +63,8 @@ pub fn import<S: Source, O: Sink, K: Keeper, C: Crew, R: Threads>(
     ensures said { result ≢ Ok (Some Words) }
     ensures bounded { (o : Office) → K.told keeper.old ≡ Some o
         → ReadsWithin (most_imported (record_of o run.day) limits.now) (S.left source.old) (S.left source.new) }
-    ensures source { FaultsByPlan (S.faults source.old) (S.faults source.new) (S.plan source.old)
-        (result ≡ Ok (Some ReadFault)) }
+    ensures source { FaultsBeside (S.faults source.old) (S.faults source.new) (S.plan source.old)
+        (result ≡ Ok (Some ReadFault)) (TellsNoOther result) }
     ensures sink { FaultsByRoom (O.faults sink.old) (O.faults sink.new) (O.room sink.old) (O.room sink.new)
         (IsErr result) }
     ensures keeper { FaultsByPlan (K.faults keeper.old) (K.faults keeper.new) (K.plan keeper.old)

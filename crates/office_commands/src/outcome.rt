@@ -1,9 +1,9 @@
 // How a day that is imported or answered ends, as a command.
-ghost use Rattle.std.specs.Prelude.{◌≡◌, ◌≢◌, Some, Ok, OnErr};
+ghost use Rattle.std.specs.Prelude.{◌≡◌, ◌≢◌, Some, Ok, OnErr, IsErr};
 ghost use Rattle.import_once.specs.declared.outcomes.Outcome.TheVariants as outcome;
 ghost use Rattle.office_commands.specs.Commands.{closing_by};
 ghost use Rattle.office_commands.specs.Endings.{EndsCommand};
-ghost use Rattle.office_commands.specs.declared.closing.Closing.TheVariants.{ReadFault, KeeperFault, Words};
+ghost use Rattle.office_commands.specs.declared.closing.Closing.TheVariants.{ReadFault, KeeperFault, NoMemory, Words};
 
 use crate::closing::Closing;
 use import_once::Outcome;
@@ -16,6 +16,10 @@ pub fn ended(day: u32, done: Outcome) -> Result<Option<Closing>, Failed>
     ensures unread { result ≡ Ok (Some ReadFault) → done ≡ outcome.ReadFault }
     ensures unkept { result ≡ Ok (Some KeeperFault) → done ≡ outcome.KeeperFault }
     ensures failed { OnErr result (done ≡ outcome.WriteFault) }
+    ensures read_told { done ≡ outcome.ReadFault → result ≡ Ok (Some ReadFault) }
+    ensures keeper_told { done ≡ outcome.KeeperFault → result ≡ Ok (Some KeeperFault) }
+    ensures memory_told { done ≡ outcome.NoMemory → result ≡ Ok (Some NoMemory) }
+    ensures write_told { done ≡ outcome.WriteFault → IsErr result }
 {
     let closing = match done {
         Outcome::Stored(kept) => Closing::Stored {

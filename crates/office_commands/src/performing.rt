@@ -12,7 +12,7 @@ ghost use Rattle.office_commands.specs.Uses.{IsTold, IsRightCrew, IsRightAside, 
 ghost use Rattle.office_commands.specs.Uses.{uses_source, uses_aside, uses_keeper, changes_kept, AsksPassed, PutsAsked};
 ghost use Rattle.office_commands.specs.Uses.{most_of, most_aside_of};
 ghost use Rattle.office_commands.specs.Commands.{office_answer};
-ghost use Rattle.office_commands.specs.Faults.{ReadFaults};
+ghost use Rattle.office_commands.specs.Faults.{ReadFaults, TellsNoOther};
 ghost use Rattle.road_io.specs.Blame.{FaultsByPlan, FaultsByRoom};
 
 use crate::answers::answers;
@@ -88,7 +88,8 @@ pub(crate) fn perform<S: Source, A: Source, O: Sink, K: Keeper, C: Crew, R: Thre
         → ReadsWithin (most_aside_of limits.now bytes o (Some command)) (A.left aside.old) (A.left aside.new) }
     ensures read { ReadFaults (S.faults source.old) (S.faults source.new) (A.faults aside.old) (A.faults aside.new)
         (uses_source (Some command) ≡ true → NeverFails (S.plan source.old))
-        (uses_aside (Some command) ≡ true → NeverFails (A.plan aside.old)) (result ≡ Ok (Some ReadFault)) }
+        (uses_aside (Some command) ≡ true → NeverFails (A.plan aside.old)) (result ≡ Ok (Some ReadFault))
+        (TellsNoOther result) }
     ensures sink { FaultsByRoom (O.faults sink.old) (O.faults sink.new) (O.room sink.old) (O.room sink.new)
         (IsErr result) }
     ensures keeper { FaultsByPlan (K.faults keeper.old) (K.faults keeper.new) (K.plan keeper.old)

@@ -20,6 +20,8 @@ fn reported(day: u32, done: Result<(), ReportFault>) -> Result<Option<Closing>, 
     ensures unread { result ≢ Ok (Some ReadFault) }
     ensures unkept { result ≡ Ok (Some KeeperFault) → done ≡ Err report_fault.KeeperFault }
     ensures failed { OnErr result (done ≡ Err report_fault.WriteFault) }
+    ensures keeper_told { done ≡ Err report_fault.KeeperFault → result ≡ Ok (Some KeeperFault) }
+    ensures write_told { done ≡ Err report_fault.WriteFault → IsErr result }
 {
     match done {
         Ok(()) => Ok(None),

@@ -50,6 +50,7 @@ fn generated(done: Result<u64, GenFault>) -> Result<Option<Closing>, Failed>
     ensures unread { result ≢ Ok (Some ReadFault) }
     ensures unasked { result ≢ Ok (Some KeeperFault) }
     ensures failed { OnErr result (done ≡ Err gen_fault.WriteFault) }
+    ensures write_told { done ≡ Err gen_fault.WriteFault → IsErr result }
 {
     match done {
         Ok(_) => Ok(None),

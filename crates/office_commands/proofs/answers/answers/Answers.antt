@@ -1,7 +1,7 @@
 use Rattle.std.proofs.Common.{◌≡◌}
 use Rattle.import_once.specs.declared.outcomes.Outcome.TheVariants.{WriteFault}
 use Rattle.import_once.specs.Imports.{answers_answer}
-use Rattle.office_commands.proofs.OutcomeLaws.{wrote, keeps, by_sink, did}
+use Rattle.office_commands.proofs.OutcomeLaws.{wrote, keeps, by_sink, did, by_read, by_keeper}
 use Rattle.road_time.specs.Reads.{reads}
 use Rattle.office_commands.proofs.RestLaws.{answered_to}
 use Rattle.office_commands.proofs.answers.answers.Goals as goal
@@ -23,7 +23,7 @@ returns-clause-keeps g c = λ right bytes o left told.
 pub returns-clause-sink : goal.returns-clause-sink
 returns-clause-sink g c =
     by_sink (c.answers-done.result ≡ WriteFault) c.ended.result _ _ _ _ c.ended.ensures.failed
-    c.answers-done.ensures.sink
+    c.ended.ensures.write_told c.answers-done.ensures.sink
 
 pub returns-clause-does : goal.returns-clause-does
 returns-clause-does g c = λ right bytes o left told.
@@ -39,3 +39,12 @@ returns-clause-reads g c = record {
       (g.S.Source.left c.answers-done.new.source) c.args.run.day c.answers-done.result c.ended.result
       c.ended.ensures.ends c.answers-done.ensures.own (c.answers-done.ensures.leaves bytes left);
 }
+
+pub returns-clause-source : goal.returns-clause-source
+returns-clause-source g c =
+    by_read c.answers-done.result c.ended.result _ _ _ c.ended.ensures.unread c.ended.ensures.read_told
+    c.ended.ensures.write_told c.ended.ensures.keeper_told c.ended.ensures.memory_told c.answers-done.ensures.source
+
+pub returns-clause-keeper : goal.returns-clause-keeper
+returns-clause-keeper g c = by_keeper _ _ _ _ _ c.ended.ensures.unkept c.ended.ensures.keeper_told
+    c.answers-done.ensures.keeper

@@ -23,7 +23,7 @@ loop-notice-init g c =
         bytes_are = refl;
         few = omega arith;
       };
-      later = omega arith;
+      stands = refl;
       still = λ never. never;
     }
 
@@ -39,7 +39,7 @@ loop-notice-preserved g c =
       told = λ bytes told. goes_on c.args.wanted.now bytes c.loop-notice.notice-index c.loop-notice.line _ inv.line
           (search rules) _ _ (inv.told bytes told) (c.compare_one.ensures.same none);
       read = λ bytes told. c.compare_one.ensures.read c.loop-notice.notice-index bytes (inv.read bytes told);
-      later = omega (arith, inv.later, c.compare_one.ensures.aside.later);
+      stands = c.compare_one.ensures.aside.still (λ e. let no : ⊥ = cc in no) ∙ inv.stands;
       still = λ never. c.compare_one.ensures.still (inv.still never);
     }
 

@@ -14,6 +14,6 @@ invariant-loop-notice g l = record {
       LeftBy l.notice-index l.wanted bytes (ahead l.cutter (g.A.Source.left l.aside));
   read : (bytes : List ℕ) → g.A.Source.left l.initial.aside ≡ Some bytes →
       HasReadEntries (ahead l.cutter (g.A.Source.left l.aside)) l.notice-index bytes;
-  later : g.A.Source.faults l.initial.aside ≤ g.A.Source.faults l.aside;
+  stands : g.A.Source.faults l.aside ≡ g.A.Source.faults l.initial.aside;
   still : NeverFails (g.A.Source.plan l.initial.aside) → NeverFails (g.A.Source.plan l.aside);
 }

@@ -1,7 +1,9 @@
 use Rattle.std.proofs.Common.{◌≡◌, ◌∙◌, ℕ, inl, Option, Some, None, Result, Ok, refl, sym, ap, subst, arith}
+use Rattle.std.proofs.Common.{IsErr}
 use Rattle.road_io.specs.declared.source.Failed.{Failed}
 use Rattle.office_commands.specs.declared.closing.Closing.{Closing}
-use Rattle.office_commands.specs.declared.closing.Closing.TheVariants.{ReadFault, KeeperFault}
+use Rattle.office_commands.specs.declared.closing.Closing.TheVariants.{ReadFault, KeeperFault, NoMemory}
+use Rattle.office_commands.specs.Closings.{status_of}
 use Rattle.office_commands.specs.Commands.{office_answer}
 use Rattle.office_commands.specs.Uses.{asked, changes_kept}
 use Rattle.office_commands.specs.Endings.{Wrote, Keeps, Did, HoldsSame, code_of}
@@ -9,9 +11,17 @@ use Rattle.office_commands.specs.Rests.{ReadsAsked, LeavesAsKept}
 use Rattle.office_commands.proofs.EndingLaws.{exact, all_written, read_fault, keeper_fault, no_memory, write_fault}
 use Rattle.office_commands.proofs.ClosingLaws.{is_unread, is_unkept}
 use Rattle.office_commands.proofs.KeepingLaws.{kept_whole, kept_exact, kept_refused}
-use Rattle.office_commands.proofs.ConcludeLaws.{concluded, concluded_alone, concluded_less}
+use Rattle.office_commands.proofs.ConcludeLaws.{closing_of, concluded, concluded_alone, concluded_less}
 use Rattle.office_commands.proofs.StatusLaws.{read_status, rest_status, holds_status, unread_same}
 use Rattle.office_commands.proofs.entry.office.Goals as goal
+
+-- a run that ends well is no failed one
+no_failure : (r : Result (Option Closing) Failed) (o : Option Closing) → r ≡ Ok o → IsErr r → ⊥
+no_failure r o p e = let no : ⊥ = cc (subst IsErr p e) in no
+
+-- nor has it a closing line, where it ends without one
+no_closing : (r : Result (Option Closing) Failed) (a : Closing) → r ≡ Ok None → r ≡ Ok (Some a) → ⊥
+no_closing r a p q = cc
 
 pub returns-in-Ok-Some-clause-written : goal.returns-in-Ok-Some-clause-written
 returns-in-Ok-Some-clause-written g c = λ bytes lines o told.
@@ -229,7 +239,32 @@ returns-in-Ok-Some-clause-read g c =
       later = f.later;
       aside_later = f.aside_later;
       cause = λ is. f.cause (named is);
+      still = λ well quiet.
+          let at : (k : Closing) → c.run.result ≡ Ok (Some k) → c.close.result ≡ status_of k =
+          λ k e. c.close.ensures.status quiet.0 quiet.2
+          ∙ ap status_of (closing_of c.in-Ok-Some.closing k c.run.result res e) in
+          f.still (λ e. well (at ReadFault e)) (
+            no_failure c.run.result (Some c.in-Ok-Some.closing) res,
+            (λ e. quiet.1 (at KeeperFault e)),
+            (λ e. quiet.2 (at NoMemory e)),
+          );
       sure = λ source aside is. f.sure source aside (named is);
+    }
+
+pub returns-in-Ok-None-clause-read : goal.returns-in-Ok-None-clause-read
+returns-in-Ok-None-clause-read g c =
+    let res : c.run.result ≡ Ok None = cc in
+    let f = c.run.ensures.read in
+    record {
+      later = f.later;
+      aside_later = f.aside_later;
+      cause = λ is. let no : ⊥ = cc in absurd no;
+      still = λ well quiet. f.still (no_closing c.run.result ReadFault res) (
+        no_failure c.run.result None res,
+        no_closing c.run.result KeeperFault res,
+        no_closing c.run.result NoMemory res,
+      );
+      sure = λ source aside is. let no : ⊥ = cc in no;
     }
 
 pub returns-in-Ok-Some-clause-keeper : goal.returns-in-Ok-Some-clause-keeper
@@ -239,4 +274,21 @@ returns-in-Ok-Some-clause-keeper g c =
     let named : c.close.result ≡ 6 → c.run.result ≡ Ok (Some KeeperFault) =
     λ is. (let status = c.close.ensures.status (λ e. omega (arith, is, e)) (λ e. omega (arith, is, e)) in
     res ∙ ap (λ (k : Closing). Ok (Some k)) (is_unkept c.in-Ok-Some.closing (sym status ∙ is))) in
-    record { later = f.later; cause = λ is. f.cause (named is); sure = λ fine is. f.sure fine (named is) }
+    record {
+      later = f.later;
+      cause = λ is. f.cause (named is);
+      still = λ well quiet. f.still (λ e. well (c.close.ensures.status quiet.0 quiet.1
+          ∙ ap status_of (closing_of c.in-Ok-Some.closing KeeperFault c.run.result res e)));
+      sure = λ fine is. f.sure fine (named is);
+    }
+
+pub returns-in-Ok-None-clause-keeper : goal.returns-in-Ok-None-clause-keeper
+returns-in-Ok-None-clause-keeper g c =
+    let res : c.run.result ≡ Ok None = cc in
+    let f = c.run.ensures.keeper in
+    record {
+      later = f.later;
+      cause = λ is. let no : ⊥ = cc in absurd no;
+      still = λ well quiet. f.still (no_closing c.run.result KeeperFault res);
+      sure = λ fine is. let no : ⊥ = cc in no;
+    }

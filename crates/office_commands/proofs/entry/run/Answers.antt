@@ -127,6 +127,7 @@ returns-in-Ok-clause-read g c =
       later = f.later;
       aside_later = f.aside_later;
       cause = f.cause;
+      still = f.still;
       sure = λ source aside. f.sure (λ used. source (ap uses_source is ∙ used))
           (λ used. aside (ap uses_aside is ∙ used));
     }

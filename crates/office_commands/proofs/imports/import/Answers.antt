@@ -1,7 +1,7 @@
 use Rattle.std.proofs.Common.{◌≡◌}
 use Rattle.import_once.specs.declared.outcomes.Outcome.TheVariants.{WriteFault}
 use Rattle.import_once.specs.Imports.{import_answer, work_by}
-use Rattle.office_commands.proofs.OutcomeLaws.{wrote, keeps, by_sink, did, held}
+use Rattle.office_commands.proofs.OutcomeLaws.{wrote, keeps, by_sink, did, held, by_read, by_keeper}
 use Rattle.road_time.specs.Reads.{reads}
 use Rattle.day_reading.specs.Days.{most_of_day}
 use Rattle.road_io.specs.Within.{ReadsWithin}
@@ -25,7 +25,8 @@ returns-clause-keeps g c = λ right bytes o left told.
 
 pub returns-clause-sink : goal.returns-clause-sink
 returns-clause-sink g c =
-    by_sink (c.import-done.result ≡ WriteFault) c.ended.result _ _ _ _ c.ended.ensures.failed c.import-done.ensures.sink
+    by_sink (c.import-done.result ≡ WriteFault) c.ended.result _ _ _ _ c.ended.ensures.failed
+    c.ended.ensures.write_told c.import-done.ensures.sink
 
 pub returns-clause-does : goal.returns-clause-does
 returns-clause-does g c = λ right bytes o left told.
@@ -64,3 +65,12 @@ returns-clause-uncompared g c =
     let after = g.S.Source.left c.import-done.new.source in
     imported_alone c.args.run.day (ReadsWithin (most_of_day c.args.limits.now) before after) c.import-done.result
     c.ended.result c.ended.ensures.ends c.import-done.ensures.uncompared
+
+pub returns-clause-source : goal.returns-clause-source
+returns-clause-source g c =
+    by_read c.import-done.result c.ended.result _ _ _ c.ended.ensures.unread c.ended.ensures.read_told
+    c.ended.ensures.write_told c.ended.ensures.keeper_told c.ended.ensures.memory_told c.import-done.ensures.source
+
+pub returns-clause-keeper : goal.returns-clause-keeper
+returns-clause-keeper g c = by_keeper _ _ _ _ _ c.ended.ensures.unkept c.ended.ensures.keeper_told
+    c.import-done.ensures.keeper

@@ -1,6 +1,7 @@
 -- What each command does, as the table of commands has it.
 use Rattle.std.proofs.Common.{◌∙◌, Some, Ok, sym, ap, refl}
 use Rattle.road_io.proofs.SinkLaws.{appends_none}
+use Rattle.office_commands.specs.declared.closing.Closing.{Closing}
 use Rattle.office_commands.specs.declared.closing.Closing.TheVariants.{ReadFault}
 use Rattle.office_commands.specs.Commands.{accidents_command, history_command, tariff_command, generate_command}
 use Rattle.office_commands.specs.Commands.{rehearse_command, office_answer}
@@ -9,6 +10,7 @@ use Rattle.office_commands.proofs.KeepingLaws.{kept_same, closing_same, kept_who
 use Rattle.office_commands.proofs.ComparingLaws.{same_log}
 use Rattle.office_commands.proofs.ConcludeLaws.{did_unchanged, did_silent, closing_holds, closing_of}
 use Rattle.office_commands.proofs.PerformLaws.{source_of, aside_of, keeper_of, crew_of, wrote_silent, by_source}
+use Rattle.office_commands.proofs.PerformLaws.{beside}
 use Rattle.office_commands.proofs.PerformLaws.{by_both, compare_keeps, compare_did}
 use Rattle.office_commands.proofs.performing.perform.Goals as goal
 
@@ -35,7 +37,8 @@ returns-in-Answers-clause-bounded g c = λ o kept. rw c.in-Answers.is c.answers.
 
 pub returns-in-Answers-clause-read : goal.returns-in-Answers-clause-read
 returns-in-Answers-clause-read g c =
-    by_source _ _ _ _ _ _ _ _ (ap source_of c.in-Answers.is) (λ bad. bad) c.answers.ensures.source
+    by_source _ _ _ _ _ _ _ _ _ _ (ap source_of c.in-Answers.is) (λ bad. bad) (λ bad. bad) (λ calm. calm)
+    c.answers.ensures.source
 
 -- `import DAY`
 pub returns-in-Import-clause-wrote : goal.returns-in-Import-clause-wrote
@@ -68,7 +71,8 @@ returns-in-Import-clause-bounded g c = λ o kept.
 
 pub returns-in-Import-clause-read : goal.returns-in-Import-clause-read
 returns-in-Import-clause-read g c =
-    by_source _ _ _ _ _ _ _ _ (ap source_of c.in-Import.is) (λ bad. bad) c.import.ensures.source
+    by_source _ _ _ _ _ _ _ _ _ _ (ap source_of c.in-Import.is) (λ bad. bad) (λ bad. bad) (λ calm. calm)
+    c.import.ensures.source
 
 -- `validate DAY` and `audit DAY`
 pub returns-in-Compare-clause-wrote : goal.returns-in-Compare-clause-wrote
@@ -112,9 +116,9 @@ returns-in-Compare-clause-crew_unused g c = λ none.
 
 pub returns-in-Compare-clause-read : goal.returns-in-Compare-clause-read
 returns-in-Compare-clause-read g c =
-    by_both _ _ _ _ _ _ _ _ _ _ (ap source_of c.in-Compare.is) (ap aside_of c.in-Compare.is)
+    by_both _ _ _ _ _ _ _ _ _ _ _ (ap source_of c.in-Compare.is) (ap aside_of c.in-Compare.is)
     (closing_of c.compare_source.result ReadFault (Ok (Some c.compare_source.result)) refl)
-    c.compare_source.ensures.read
+    (λ bad. ap (λ (k : Closing). Ok (Some k)) bad) c.compare_source.ensures.read
 
 -- `past BASE`
 pub returns-in-Past-clause-wrote : goal.returns-in-Past-clause-wrote
@@ -151,8 +155,9 @@ pub returns-in-Past-clause-puts : goal.returns-in-Past-clause-puts
 returns-in-Past-clause-puts g c = λ o kept. rw c.in-Past.is (c.past.ensures.puts o kept)
 
 pub returns-in-Past-clause-read : goal.returns-in-Past-clause-read
-returns-in-Past-clause-read g c = by_source _ _ _ _ _ _ _ _ (ap source_of c.in-Past.is)
-    (closing_of c.past.result ReadFault (Ok (Some c.past.result)) refl) c.past.ensures.source
+returns-in-Past-clause-read g c = by_source _ _ _ _ _ _ _ _ (Unit {0}) _ (ap source_of c.in-Past.is)
+    (closing_of c.past.result ReadFault (Ok (Some c.past.result)) refl) (λ bad. ap (λ (k : Closing). Ok (Some k)) bad)
+    (λ calm. tt) (beside _ _ _ _ _ c.past.ensures.source)
 
 -- `day DAY`
 pub returns-in-Day-clause-wrote : goal.returns-in-Day-clause-wrote
@@ -208,7 +213,8 @@ returns-in-Accidents-clause-bounded g c = λ o kept. rw c.in-Accidents.is c.acci
 
 pub returns-in-Accidents-clause-read : goal.returns-in-Accidents-clause-read
 returns-in-Accidents-clause-read g c =
-    by_source _ _ _ _ _ _ _ _ (ap source_of c.in-Accidents.is) (λ bad. bad) c.accidents.ensures.source
+    by_source _ _ _ _ _ _ _ _ (Unit {0}) _ (ap source_of c.in-Accidents.is) (λ bad. bad) (λ bad. bad) (λ calm. tt)
+    (beside _ _ _ _ _ c.accidents.ensures.source)
 
 -- `export DAY`
 pub returns-in-Export-clause-wrote : goal.returns-in-Export-clause-wrote

@@ -3,7 +3,7 @@ use Rattle.reports.specs.Statements.{vehicle_report}
 use Rattle.reports.specs.declared.report_fault.ReportFault.TheVariants.{WriteFault}
 use Rattle.office_commands.specs.Commands.{vehicle_command}
 use Rattle.office_commands.proofs.KeepingLaws.{kept_same}
-use Rattle.office_commands.proofs.OutcomeLaws.{by_sink}
+use Rattle.office_commands.proofs.OutcomeLaws.{by_sink, by_keeper}
 use Rattle.office_commands.proofs.ReportLaws.{stated}
 use Rattle.office_commands.proofs.statements.vehicle.Goals as goal
 
@@ -22,4 +22,8 @@ returns-clause-keeps g c = λ o told.
 pub returns-clause-sink : goal.returns-clause-sink
 returns-clause-sink g c =
     by_sink (c.vehicle_statement-done.result ≡ Err WriteFault) c.reported.result _ _ _ _ c.reported.ensures.failed
-    c.vehicle_statement-done.ensures.sink
+    c.reported.ensures.write_told c.vehicle_statement-done.ensures.sink
+
+pub returns-clause-keeper : goal.returns-clause-keeper
+returns-clause-keeper g c = by_keeper _ _ _ _ _ c.reported.ensures.unkept c.reported.ensures.keeper_told
+    c.vehicle_statement-done.ensures.keeper

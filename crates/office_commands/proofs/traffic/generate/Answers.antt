@@ -24,4 +24,4 @@ returns-clause-wrote g c = λ o.
 pub returns-clause-sink : goal.returns-clause-sink
 returns-clause-sink g c =
     by_sink (c.generate-done.result ≡ Err WriteFault) c.generated.result _ _ _ _ c.generated.ensures.failed
-    c.generate-done.ensures.sink
+    c.generated.ensures.write_told c.generate-done.ensures.sink
