@@ -1,5 +1,5 @@
 -- How much of a source's bytes was read.
-use Rattle.std.proofs.Common.{◌≡◌, ℕ, ◌+◌, ◌-◌, ◌≤◌, true, false, List, [], ◌++◌, length, take, drop, Option, Some}
+use Rattle.std.proofs.Common.{◌≡◌, ◌*◌, ℕ, ◌+◌, ◌-◌, ◌≤◌, true, false, List, [], ◌++◌, length, take, drop, Option, Some}
 use Rattle.std.proofs.Common.{None, Ok, Err, length-take, min, refl, sym, ap, subst, ◌∙◌, append_assoc, arith}
 use Rattle.std.specs.Io.KnownBytes.{Consumes}
 use Rattle.std.proofs.lemmas.List.{length-append, drop-drop}
@@ -161,8 +161,9 @@ lines_fault f before after line bytes consumed number number' s cuts same =
 
 -- a reader that cut no more lines than one that is refused read no more than one buffer behind it
 pub stops_soon : (c : LineCutter) (left : Option (List ℕ)) (consumed : Consumed) (bytes : List ℕ) (number line : ℕ) →
-    HasReadLines (ahead c left) number consumed bytes → number ≤ line → StopsSoon line bytes left
-stops_soon c left consumed bytes number line s few =
+    HasReadLines (ahead c left) number consumed bytes → consumed.bytes ≤ 201 * number → number ≤ line →
+    StopsSoon line bytes left
+stops_soon c left consumed bytes number line s short few =
     let taken = s.0.taken in
     let l = left_is c left s.0.now s.0.ahead_is in
     let whole : bytes ≡ (taken ++ held c) ++ l.0 = s.0.bytes_are ∙ ap (λ xs. taken ++ xs) l.2
@@ -175,6 +176,7 @@ stops_soon c left consumed bytes number line s few =
       count,
       l.1 ∙ ap (λ xs. Some xs) (sym (ap (drop count) whole ∙ drop-append_seam (taken ++ held c) l.0)),
       omega (arith, front, s.1, few),
+      omega (arith, length-append taken (held c), held_few c, s.0.count, short, few),
     )
 
 -- where all was taken, nothing is left

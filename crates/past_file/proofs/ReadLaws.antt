@@ -193,7 +193,7 @@ past_within r limits left bytes s few =
 pub past_soon : (stop : PastStop) (r : PastReader) (left : Option (List ℕ)) (bytes : List ℕ) →
     HasReadPastOf r left bytes → StopsPastAfter stop (line_number r.cutter) → StopsSoonAt stop bytes left
 past_soon (Row line cause) r left bytes s after =
-    stops_soon r.cutter left r.consumed bytes (line_number r.cutter) line s after
+    stops_soon r.cutter left r.consumed bytes (line_number r.cutter) line s r.few_bytes after
 past_soon ReadFault r left bytes s after = tt
 past_soon NoMemory r left bytes s after = tt
 

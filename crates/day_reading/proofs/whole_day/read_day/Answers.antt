@@ -116,4 +116,4 @@ returns-in-Err-Refused-clause-left g c = λ bytes told.
     let after = c.next.ensures.after line c.in-Err-Refused.cause res in
     let read = c.next.ensures.read c.args.limits.now.lines bytes (c.reading.invariant.read bytes told) in
     stops_soon new.cutter (g.S.Source.left c.next.new.source) new.consumed bytes (line_number new.cutter) line read.1
-    after
+    new.few_bytes after
