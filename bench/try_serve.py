@@ -4,11 +4,12 @@
     python3 bench/try_serve.py PROGRAM [--lines 100000] [--asks 1000] [--folder DAYS]
 
 PROGRAM is the executable `toll_serve`. The server runs in a new folder, on a free port of this machine. Asked are: every
-path and every refusal, with the whole answer; a day of so many lines, posted while four clients read the live board; so
-many kept days one after another; a slow client and a silent one beside three that work; a POST whose body comes a byte a
-second, and one whose body is held back, beside clients that ask for what is kept. The server then ends by its sessions, and
-Python's `sqlite3` reads what it kept. The script ends with status 1 at the first answer that is not the expected one, or
-that comes late.
+path and every refusal, with the whole answer; refused requests with bodies that nobody reads; requests as a page of the web
+sends them; a day of so many lines, posted while four clients read the live board; so many kept days one after another; a
+slow client and a silent one beside three that work; a POST whose body comes a byte a second, and one whose body is held
+back, beside clients that ask for what is kept; clients that vanish; a kill -9 at moments of a POST. The server then ends by
+its sessions, and Python's `sqlite3` reads what it kept. The script ends with status 1 at the first answer that is not the
+expected one, or that comes late.
 """
 import argparse
 import http.client
@@ -32,6 +33,8 @@ LATE = (b"0,10,1,30,0,1,0,10,52800,-1,-1,-1,-1,-1,-1\n"
         b"0,9,3,30,0,1,0,10,52800,-1,-1,-1,-1,-1,-1\n")
 SILENCE = 30
 AT_ONCE = 1.0
+REFUSED_BODY = 5_000_000
+KILLS = 50
 
 
 def fail(text):
@@ -120,6 +123,7 @@ class Server:
         while self.left > 0:
             with self.connect() as wire:
                 wire.sendall(b"\0")
+                wire.shutdown(socket.SHUT_WR)
                 all_of(wire)
         out, err = self.child.communicate(timeout=60)
         return self.child.returncode, out + err
@@ -128,10 +132,7 @@ class Server:
 def all_of(wire):
     taken = b""
     while True:
-        try:
-            piece = wire.recv(65536)
-        except ConnectionResetError:
-            return taken
+        piece = wire.recv(65536)
         if not piece:
             return taken
         taken += piece
@@ -151,6 +152,88 @@ def try_words(program):
     expect("files after wrong words", list(pathlib.Path(folder).iterdir()), [])
     shutil.rmtree(folder)
     print("words of no stated form: status 1, nothing printed, no file")
+
+
+FOREIGN = (403, "Forbidden", '{"error":"origin"}')
+
+
+def try_bodies(program, folder):
+    """Refused requests whose bodies nobody reads, and a body that waits for `100 Continue`: each sees its status."""
+    server = Server(program, folder, 60)
+    body = b"a" * REFUSED_BODY
+    head = f"Content-Length: {len(body)}\r\n\r\n".encode()
+    refused = [
+        (b"POST /nothing HTTP/1.1\r\n" + head, b"404"),
+        (b"DELETE /days/100 HTTP/1.1\r\n" + head, b"405"),
+        (b"POST /days/100 HTTP/1.1\r\nTransfer-Encoding: chunked\r\n\r\n", b"411"),
+        (b"POST /days/100 HTTP/1.1\r\nContent-Length: 4000000001\r\n\r\n", b"413"),
+        (b"GET /live HTTP/1.1\r\n" + head, b"200"),
+    ]
+    for sent, status in refused * 4:
+        with server.connect() as wire:
+            sender = threading.Thread(target=push, args=(wire, sent + body[:900_000]))
+            sender.start()
+            taken = all_of(wire)
+            sender.join()
+        expect(f"{sent[:40]!r} with a body", taken.split(b" ")[1:2], [status])
+    curled = 0
+    if shutil.which("curl"):
+        lines = LATE[:42] + b"\n" * 1_500_000
+        expect("curl with Expect", server.curl("POST", "/days/100", lines)[0], 422)
+        curled = 1
+    for field in ("Host: desk.example", "Origin: null", "Host: localhost\r\nOrigin: http://localhost"):
+        sent = f"POST /days/100 HTTP/1.1\r\n{field}\r\nContent-Length: 0\r\n\r\n".encode()
+        expect(f"a page's request with {field}", server.raw(sent), answer_bytes(*FOREIGN))
+    expect("a day that a page posted", server.ask("GET", "/days/100")[0], 404)
+    expect("the end", server.end(), (0, b""))
+    print(f"{len(refused) * 4} requests with a body that nobody reads: each saw its status; {curled} body of curl with Expect;"
+          " three requests as a page sends them: 403, nothing stored")
+
+
+def push(wire, sent):
+    """Sends bytes whose reader may have answered and gone."""
+    try:
+        wire.sendall(sent)
+    except OSError:
+        pass
+
+
+def try_kills(program, day, kills):
+    """A kill -9 at moments of a POST: what was answered is kept, and what was not is kept whole or not at all."""
+    with open(day, "rb") as body:
+        lines = body.read()
+    stored, none = 0, 0
+    for at in range(kills):
+        folder = tempfile.mkdtemp()
+        server = Server(program, folder, 1000)
+        server.ask("GET", "/live")
+        answers = []
+        posting = threading.Thread(target=post_quietly, args=(server, lines, answers))
+        posting.start()
+        time.sleep(0.02 * at)
+        server.child.kill()
+        server.child.wait()
+        posting.join()
+        again = Server(program, folder, 1000)
+        status, _, text = again.ask("GET", "/days/200")
+        if status == 200:
+            stored += 1
+            expect("a day that was kept", json.loads(again.ask("POST", "/days/200", lines)[2]), {**json.loads(text), "outcome": "already"})
+        else:
+            none += 1
+            expect("a day that was answered", answers, [])
+            expect("the day again", again.ask("POST", "/days/200", lines)[0], 200)
+        again.child.kill()
+        again.child.wait()
+        shutil.rmtree(folder)
+    print(f"{kills} moments of a POST at which the server was killed: {stored} days kept whole, {none} not at all, none answered and lost")
+
+
+def post_quietly(server, lines, answers):
+    try:
+        answers.append(server.ask("POST", "/days/200", lines)[0])
+    except (OSError, http.client.HTTPException):
+        pass
 
 
 def try_answers(program, folder):
@@ -337,6 +420,10 @@ def trickle(wire, piece):
 def try_slow(server):
     """A client that sends one byte a second, and one that is silent, beside three that work; a body that is held back."""
     silent = server.connect(SILENCE * 3)
+    vanished = [server.connect() for _ in range(20)]
+    for at, wire in enumerate(vanished):
+        wire.sendall(b"POST /days/201 HTTP/1.1\r\nContent-Length: 9\r\n\r\n"[: 3 * at])
+        wire.close()
     slow = server.connect()
     workers = work(server, ["/days/200"] * 3, 6)
     trickle(slow, b"GET /live HTTP/1.1\r\n\r\n"[:6])
@@ -416,6 +503,7 @@ def main():
     words.add_argument("program", type=pathlib.Path)
     words.add_argument("--lines", type=int, default=100_000)
     words.add_argument("--asks", type=int, default=1000)
+    words.add_argument("--kills", type=int, default=KILLS)
     words.add_argument("--folder", type=pathlib.Path, default=pathlib.Path(tempfile.gettempdir()) / "days")
     given = words.parse_args()
     given.folder.mkdir(parents=True, exist_ok=True)
@@ -424,6 +512,10 @@ def main():
     folder = tempfile.mkdtemp()
     try_words(program)
     try_answers(program, folder)
+    own = tempfile.mkdtemp()
+    try_bodies(program, own)
+    shutil.rmtree(own)
+    try_kills(program, path, given.kills)
     server, day = try_day(program, folder, path)
     try_asks(server, given.asks)
     try_slow(server)
