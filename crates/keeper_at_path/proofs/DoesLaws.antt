@@ -1,6 +1,5 @@
 -- What the clauses of a proved keeper say of a call.
-use Rattle.std.proofs.Common.{◌≡◌, Bool, true, false, true≢false, Result, Ok, Err, IfOk, OnOk, OnErr, IsTrue, Option}
-use Rattle.std.proofs.Common.{Some, None, refl, sym, subst, inr}
+use Rattle.std.proofs.Common.{◌≡◌, true, false, true≢false, Result, Ok, Err, IfOk, OnOk, OnErr, IsTrue, refl, inr}
 use Rattle.sqlite.specs.State.{State, HasCleanDisk, KeepsCommit, Survives}
 use Rattle.sqlite.proofs.StateLemmas.{survives_weaker}
 use Rattle.keeper.specs.declared.kept.KeepFault.{KeepFault}
@@ -12,7 +11,7 @@ use Rattle.table_making.proofs.GrowLaws.{still_stands}
 use Rattle.keeper_proof.specs.Gives.{GivesUnless}
 use Rattle.keeper_proof.specs.Looks.{CommitsFrom}
 use Rattle.keeper_proof.proofs.StandLaws.{ok_gives}
-use Rattle.keeper_at_path.specs.Does.{Does, CommitsIf, IsReady}
+use Rattle.keeper_at_path.specs.Does.{Does, CommitsIf}
 
 -- what holds anyway holds of either end
 either : {T : Type 0} (r : Result T KeepFault) (P : Type 0) → P → OnOk r P × OnErr r P
@@ -73,9 +72,3 @@ put_does R asks next old new r put because survives = record {
       survives_weaker old new (CommitsFrom asks next old.committed) (CommitsIf true asks next old.committed)
       (λ _ db commits. (refl, commits)) survives;
 }
-
--- what was opened where nothing is held is ready
-pub opened_ready : {K : Type 0} (opened : K → Type 0) (old : Option K) (r : Result K KeepFault) → old ≡ None →
-    IfOk r opened → IfOk r (IsReady opened old)
-opened_ready opened old (Ok k) none h = subst (λ (o : Option _). IsReady opened o k) (sym none) h
-opened_ready opened old (Err e) none h = tt

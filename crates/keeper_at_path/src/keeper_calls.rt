@@ -5,7 +5,7 @@ ghost use Rattle.road_time.specs.History.{paid};
 ghost use Rattle.road_time.specs.Rates.{IsTariff};
 ghost use Rattle.keeper.specs.Office.{RowsRise, last_day as last_day_of, record_of, rows_between, vehicle_rows_between};
 ghost use Rattle.keeper.specs.Kept.{IsDayPut, IsPastPut, IsLater, HasNoDays, with_day, with_past, with_tariff_of};
-ghost use Rattle.keeper.specs.Calls.{CountsFaults};
+ghost use Rattle.keeper.specs.Calls.{CountsFaults, IfTold};
 ghost use Rattle.keeper.specs.declared.kept.KeepFault.TheVariants.{NoMemory};
 ghost use Rattle.kept_tables.specs.Steps.{FitsAny};
 ghost use Rattle.keeper_writes.specs.Causes.{WasRefused};
@@ -99,6 +99,7 @@ impl<S: AtPath> Keeper for KeeperIn<S> {
 
     fn put_day(&mut self, kept: &DayRecord, rows: &[SpentRow]) -> Result<(), KeepFault>
         requires fits { IsDayPut kept.now rows.now }
+        requires later { IfTold None (λ o. IsLater kept.now.day o) }
         ensures cause { CountsFaults self.old.faults self.new.faults result }
         ensures does { AskedToPut self.old.database.kept self.new.database.kept
             (λ k. k.unmade ≢ Some NoMemory) (λ k. state S.Store k.conn) (WasRefused S.Store)
@@ -109,6 +110,7 @@ impl<S: AtPath> Keeper for KeeperIn<S> {
 
     fn put_past(&mut self, kept: &PastRecord, rows: &[SpentRow]) -> Result<(), KeepFault>
         requires fits { IsPastPut kept.now rows.now }
+        requires first { IfTold None HasNoDays }
         ensures cause { CountsFaults self.old.faults self.new.faults result }
         ensures does { AskedToPut self.old.database.kept self.new.database.kept
             (λ k. k.unmade ≢ Some NoMemory) (λ k. state S.Store k.conn) (WasRefused S.Store)

@@ -1,15 +1,17 @@
 // A keeper in a SQLite file.
-ghost use Rattle.std.specs.Prelude.{◌≡◌, None, IfOk};
+ghost use Rattle.std.specs.Prelude.{◌≡◌, ◌≢◌, Some, IfOk};
+ghost use Rattle.sqlite.specs.Held.{state};
 ghost use Rattle.keeper.specs.Calls.{CountsFaults};
+ghost use Rattle.keeper.specs.declared.kept.KeepFault.TheVariants.{NoMemory as no_memory};
+ghost use Rattle.keeper_writes.specs.Causes.{WasRefused};
+ghost use Rattle.keeper_at_path.specs.Does.{Asked};
 
-use keeper::{DayRecord, KeepFault, Keeper, PastRecord};
-use keeper_at_path::{
-    AskedDay, AskedSpent, Call, KeeperIn, KeptStore, KeptTariffs, LastDay, Past, PutDay, PutPast,
-    PutTariff, Rows, VehicleRows,
-};
+use keeper::KeepFault;
+use keeper_at_path::{Call, KeeperIn, KeptStore};
 use keeper_writes::refusals::refusal;
-use road_time::{NoMemory, SpentRow, Tariff, Tariffs};
+use road_time::NoMemory;
 use sqlite::Connection;
+use sqlite_trees::store::Store;
 use std::alloc::Global;
 use std::rt::HostRuntime;
 
@@ -44,9 +46,12 @@ impl SqliteKeeper {
     }
 
     /// Makes a call. It alone hands one on to the store of files, which a check takes longest at.
-    fn ask<C: Call + Drop>(&mut self, call: C) -> Result<C::Answer, KeepFault>
+    pub(crate) fn ask<C: Call + Drop>(&mut self, call: C) -> Result<C::Answer, KeepFault>
         requires { C.fits call }
         ensures answers { IfOk result C.answers }
+        ensures does { Asked self.old.in_file.database.kept self.new.in_file.database.kept
+            (λ k. k.unmade ≢ Some no_memory) (λ k. state ⟦<KeptStore as Store>⟧ k.conn)
+            (WasRefused ⟦<KeptStore as Store>⟧) C.writes (C.asks call) (C.gives call) (C.next call) result }
         ensures cause { CountsFaults self.old.in_file.faults self.new.in_file.faults result }
     {
         self.in_file.ask(call)
@@ -58,60 +63,5 @@ fn shut(conn: Connection<KeptStore>) -> Result<(), KeepFault> {
     match conn.close() {
         Ok(()) => Ok(()),
         Err(error) => Err(refusal(error)),
-    }
-}
-
-impl Keeper for SqliteKeeper {
-    ghost use Rattle.std.specs.Prelude.{true};
-    ghost use Rattle.keeper.specs.Calls.{AllOrNothing};
-
-    ghost told = { λ k. None };
-
-    ghost faults = { λ k. k.in_file.faults };
-
-    ghost plan = { λ k. None };
-
-    ghost refuses = { AllOrNothing };
-
-    ghost needs_memory = { true };
-
-    fn last_day(&mut self) -> Result<u32, KeepFault> {
-        self.ask(LastDay)
-    }
-
-    fn day(&mut self, day: u32) -> Result<Option<DayRecord>, KeepFault> {
-        self.ask(AskedDay { day })
-    }
-
-    fn past(&mut self) -> Result<Option<PastRecord>, KeepFault> {
-        self.ask(Past)
-    }
-
-    fn spent(&mut self, day: u32, vid: u32, xway: u8) -> Result<u64, KeepFault> {
-        self.ask(AskedSpent { day, vid, xway })
-    }
-
-    fn rows(&mut self, from: u32, to: u32) -> Result<Vec<SpentRow>, KeepFault> {
-        self.ask(Rows { from, to })
-    }
-
-    fn vehicle_rows(&mut self, vid: u32, from: u32, to: u32) -> Result<Vec<SpentRow>, KeepFault> {
-        self.ask(VehicleRows { vid, from, to })
-    }
-
-    fn tariffs(&mut self) -> Result<Tariffs, KeepFault> {
-        self.ask(KeptTariffs)
-    }
-
-    fn put_day(&mut self, kept: &DayRecord, rows: &[SpentRow]) -> Result<(), KeepFault> {
-        self.ask(PutDay { kept, rows })
-    }
-
-    fn put_past(&mut self, kept: &PastRecord, rows: &[SpentRow]) -> Result<(), KeepFault> {
-        self.ask(PutPast { kept, rows })
-    }
-
-    fn put_tariff(&mut self, xway: u8, tariff: &Tariff) -> Result<(), KeepFault> {
-        self.ask(PutTariff { xway, tariff })
     }
 }

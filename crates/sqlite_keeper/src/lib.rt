@@ -5,6 +5,7 @@
 //! another hand's until it is read: it tells nothing of it.
 #![tactic(auto)]
 
+mod file_calls;
 mod kept_file;
 
 pub use kept_file::{KEPT_FILE, SqliteKeeper};

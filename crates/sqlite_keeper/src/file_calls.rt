@@ -1,0 +1,143 @@
+// The calls of a keeper in a SQLite file.
+ghost use Rattle.std.specs.Prelude.{◌≡◌, ◌≢◌, Some, None, IfOk};
+ghost use Rattle.sqlite.specs.Held.{state};
+ghost use Rattle.road_time.specs.History.{paid};
+ghost use Rattle.road_time.specs.Rates.{IsTariff};
+ghost use Rattle.keeper.specs.Office.{RowsRise, last_day as last_day_of, record_of, rows_between, vehicle_rows_between};
+ghost use Rattle.keeper.specs.Kept.{IsDayPut, IsPastPut, IsLater, HasNoDays, with_day, with_past, with_tariff_of};
+ghost use Rattle.keeper.specs.Calls.{CountsFaults, IfTold};
+ghost use Rattle.keeper.specs.declared.kept.KeepFault.TheVariants.{NoMemory};
+ghost use Rattle.kept_tables.specs.Steps.{FitsAny};
+ghost use Rattle.keeper_writes.specs.Causes.{WasRefused};
+ghost use Rattle.keeper_at_path.specs.Does.{AskedToRead, AskedToPut};
+
+use crate::kept_file::SqliteKeeper;
+use keeper::{DayRecord, KeepFault, Keeper, PastRecord};
+use keeper_at_path::{
+    AskedDay, AskedSpent, KeptStore, KeptTariffs, LastDay, Past, PutDay, PutPast, PutTariff, Rows,
+    VehicleRows,
+};
+use road_time::{SpentRow, Tariff, Tariffs};
+use sqlite_trees::store::Store;
+
+impl Keeper for SqliteKeeper {
+    ghost use Rattle.std.specs.Prelude.{true};
+    ghost use Rattle.keeper.specs.Calls.{AllOrNothing};
+
+    ghost told = { λ k. None };
+
+    ghost faults = { λ k. k.in_file.faults };
+
+    ghost plan = { λ k. None };
+
+    ghost refuses = { AllOrNothing };
+
+    ghost needs_memory = { true };
+
+    fn last_day(&mut self) -> Result<u32, KeepFault>
+        ensures cause { CountsFaults self.old.in_file.faults self.new.in_file.faults result }
+        ensures does { AskedToRead self.old.in_file.database.kept self.new.in_file.database.kept
+            (λ k. k.unmade ≢ Some NoMemory) (λ k. state ⟦<KeptStore as Store>⟧ k.conn)
+            (WasRefused ⟦<KeptStore as Store>⟧)
+            (λ o last. last ≡ last_day_of o) result }
+    {
+        self.ask(LastDay)
+    }
+
+    fn day(&mut self, day: u32) -> Result<Option<DayRecord>, KeepFault>
+        ensures cause { CountsFaults self.old.in_file.faults self.new.in_file.faults result }
+        ensures does { AskedToRead self.old.in_file.database.kept self.new.in_file.database.kept
+            (λ k. k.unmade ≢ Some NoMemory) (λ k. state ⟦<KeptStore as Store>⟧ k.conn)
+            (WasRefused ⟦<KeptStore as Store>⟧)
+            (λ o kept. kept ≡ record_of o day) result }
+    {
+        self.ask(AskedDay { day })
+    }
+
+    fn past(&mut self) -> Result<Option<PastRecord>, KeepFault>
+        ensures cause { CountsFaults self.old.in_file.faults self.new.in_file.faults result }
+        ensures does { AskedToRead self.old.in_file.database.kept self.new.in_file.database.kept
+            (λ k. k.unmade ≢ Some NoMemory) (λ k. state ⟦<KeptStore as Store>⟧ k.conn)
+            (WasRefused ⟦<KeptStore as Store>⟧)
+            (λ o past. past ≡ o.past) result }
+    {
+        self.ask(Past)
+    }
+
+    fn spent(&mut self, day: u32, vid: u32, xway: u8) -> Result<u64, KeepFault>
+        ensures cause { CountsFaults self.old.in_file.faults self.new.in_file.faults result }
+        ensures does { AskedToRead self.old.in_file.database.kept self.new.in_file.database.kept
+            (λ k. k.unmade ≢ Some NoMemory) (λ k. state ⟦<KeptStore as Store>⟧ k.conn)
+            (WasRefused ⟦<KeptStore as Store>⟧)
+            (λ o tolls. tolls ≡ paid o.rows day vid xway) result }
+    {
+        self.ask(AskedSpent { day, vid, xway })
+    }
+
+    fn rows(&mut self, from: u32, to: u32) -> Result<Vec<SpentRow>, KeepFault>
+        ensures rise { IfOk result (λ rows. RowsRise rows.items) }
+        ensures cause { CountsFaults self.old.in_file.faults self.new.in_file.faults result }
+        ensures does { AskedToRead self.old.in_file.database.kept self.new.in_file.database.kept
+            (λ k. k.unmade ≢ Some NoMemory) (λ k. state ⟦<KeptStore as Store>⟧ k.conn)
+            (WasRefused ⟦<KeptStore as Store>⟧)
+            (λ o rows. rows.items ≡ rows_between o from to) result }
+    {
+        self.ask(Rows { from, to })
+    }
+
+    fn vehicle_rows(&mut self, vid: u32, from: u32, to: u32) -> Result<Vec<SpentRow>, KeepFault>
+        ensures rise { IfOk result (λ rows. RowsRise rows.items) }
+        ensures cause { CountsFaults self.old.in_file.faults self.new.in_file.faults result }
+        ensures does { AskedToRead self.old.in_file.database.kept self.new.in_file.database.kept
+            (λ k. k.unmade ≢ Some NoMemory) (λ k. state ⟦<KeptStore as Store>⟧ k.conn)
+            (WasRefused ⟦<KeptStore as Store>⟧)
+            (λ o rows. rows.items ≡ vehicle_rows_between o vid from to) result }
+    {
+        self.ask(VehicleRows { vid, from, to })
+    }
+
+    fn tariffs(&mut self) -> Result<Tariffs, KeepFault>
+        ensures cause { CountsFaults self.old.in_file.faults self.new.in_file.faults result }
+        ensures does { AskedToRead self.old.in_file.database.kept self.new.in_file.database.kept
+            (λ k. k.unmade ≢ Some NoMemory) (λ k. state ⟦<KeptStore as Store>⟧ k.conn)
+            (WasRefused ⟦<KeptStore as Store>⟧)
+            (λ o tariffs. tariffs ≡ o.tariffs) result }
+    {
+        self.ask(KeptTariffs)
+    }
+
+    fn put_day(&mut self, kept: &DayRecord, rows: &[SpentRow]) -> Result<(), KeepFault>
+        requires fits { IsDayPut kept.now rows.now }
+        requires later { IfTold None (λ o. IsLater kept.now.day o) }
+        ensures cause { CountsFaults self.old.in_file.faults self.new.in_file.faults result }
+        ensures does { AskedToPut self.old.in_file.database.kept self.new.in_file.database.kept
+            (λ k. k.unmade ≢ Some NoMemory) (λ k. state ⟦<KeptStore as Store>⟧ k.conn)
+            (WasRefused ⟦<KeptStore as Store>⟧)
+            (IsLater kept.now.day) (with_day kept.now rows.now) result }
+    {
+        self.ask(PutDay { kept, rows })
+    }
+
+    fn put_past(&mut self, kept: &PastRecord, rows: &[SpentRow]) -> Result<(), KeepFault>
+        requires fits { IsPastPut kept.now rows.now }
+        requires first { IfTold None HasNoDays }
+        ensures cause { CountsFaults self.old.in_file.faults self.new.in_file.faults result }
+        ensures does { AskedToPut self.old.in_file.database.kept self.new.in_file.database.kept
+            (λ k. k.unmade ≢ Some NoMemory) (λ k. state ⟦<KeptStore as Store>⟧ k.conn)
+            (WasRefused ⟦<KeptStore as Store>⟧)
+            HasNoDays (with_past kept.now rows.now) result }
+    {
+        self.ask(PutPast { kept, rows })
+    }
+
+    fn put_tariff(&mut self, xway: u8, tariff: &Tariff) -> Result<(), KeepFault>
+        requires valid { IsTariff tariff.now }
+        ensures cause { CountsFaults self.old.in_file.faults self.new.in_file.faults result }
+        ensures does { AskedToPut self.old.in_file.database.kept self.new.in_file.database.kept
+            (λ k. k.unmade ≢ Some NoMemory) (λ k. state ⟦<KeptStore as Store>⟧ k.conn)
+            (WasRefused ⟦<KeptStore as Store>⟧)
+            FitsAny (with_tariff_of xway tariff.now) result }
+    {
+        self.ask(PutTariff { xway, tariff })
+    }
+}
