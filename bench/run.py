@@ -1,7 +1,7 @@
 #!/usr/bin/env python3
 """Measures the program: makes days, imports and answers them, and prints a table.
 
-    python3 bench/run.py PROGRAM [--days 1000000,classic,greatest] [--workers 1,2,4] [--runs 3] [--folder DAYS]
+    python3 bench/run.py PROGRAM [--days 1000000,classic,greatest] [--workers 1,2,4] [--runs 3] [--folder DAYS] [--csv FILE]
 
 PROGRAM is crates/toll_office/out/toll_office. A day is `classic`, `greatest` or a number of lines; it stays in DAYS and
 is used again. `sha256sum` and `wc -l` of the same file are measured in the same run, and `plain_office.c`, a program of the
@@ -11,6 +11,7 @@ system) and wall time in nanoseconds a line, both as multiples of `sha256sum`'s,
 (16 at least, which this script has itself).
 """
 import argparse
+import csv
 import os
 import pathlib
 import shutil
@@ -94,6 +95,13 @@ def least(commands, source, runs):
     return [tuple(map(min, zip(*runs_of_one))) for runs_of_one in zip(*rounds)]
 
 
+def short_name(command, program, plain, lacks):
+    """A command as the documents name it."""
+    if command[0] == program:
+        return f"{command[1]}, {command[-1]} worker{'' if command[-1] == '1' else 's'}"
+    return f"unproved, {command[1]}{lacks}" if command[0] == plain else " ".join(it for it in command if it != "-")
+
+
 def lines_in(path):
     with open(path, "rb") as file:
         return sum(block.count(b"\n") for block in iter(lambda: file.read(1 << 20), b""))
@@ -106,10 +114,12 @@ def main():
     words.add_argument("--workers", default="1,2,4")
     words.add_argument("--runs", type=int, default=3)
     words.add_argument("--folder", type=pathlib.Path, default=pathlib.Path(tempfile.gettempdir()) / "days")
+    words.add_argument("--csv", type=pathlib.Path, help="write the runs to this file too, as bench/write_docs.py reads them")
     given = words.parse_args()
     given.folder.mkdir(parents=True, exist_ok=True)
     program = str(given.program.resolve())
     plain, lacks = make_plain(given.folder)
+    written = [["day", "lines", "command", "processor", "wall", "megabytes"]]
     print("| Day | Lines | Command | Processor ns a line | Wall ns a line | Times `sha256sum`, processor | wall | MB |")
     print("|---|---|---|---|---|---|---|---|")
     for day in given.days.split(","):
@@ -131,6 +141,12 @@ def main():
                 f" | {used[0] / base[0]:.2f} | {used[1] / base[1]:.2f} | {used[2]:.0f} |",
                 flush=True,
             )
+            title = "a million" if day == "1000000" else day
+            of_line = [round(it * 1e9 / lines) for it in used[:2]]
+            written.append([title, lines, short_name(command, program, plain, lacks), *of_line, round(used[2])])
+    if given.csv:
+        with open(given.csv, "w", newline="") as file:
+            csv.writer(file, lineterminator="\n").writerows(written)
 
 
 if __name__ == "__main__":
