@@ -23,8 +23,8 @@ IsShortDay (Refused line cause) = Unit {0}
 abbrev pub most_of_day : Limits → ℕ
 most_of_day limits = 201 * (limits.lines + 1) + 65536
 
--- so many bytes of a source were read, and but for one buffer they are no more than its first so many lines, and no more
--- than 201 bytes for each of these: of a longer line no more is read
+-- so many bytes of a source were read, and but for one buffer they are no more than its first so many lines, and no
+-- more than 201 bytes for each of these: of a longer line no more is read
 abbrev pub StopsSoon : ℕ → List ℕ → Option (List ℕ) → Type 0
 StopsSoon line bytes left = (count : ℕ) × (left ≡ Some (drop count bytes))
     × (length (lines_of (take (count - 65536) bytes)) ≤ line) × (count ≤ 201 * line + 65536)

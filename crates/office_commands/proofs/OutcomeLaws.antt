@@ -1,6 +1,6 @@
 -- What a command wrote and kept, from what importing or answering its day did.
-use Rattle.std.proofs.Common.{◌≡◌, ◌≢◌, ◌⊎◌, ◌∙◌, inl, inr, ℕ, Bool, List, take, length-take, Option, Some, Result, Ok, Err}
-use Rattle.std.proofs.Common.{OnErr, refl, sym, ap, subst, arith, IsErr}
+use Rattle.std.proofs.Common.{◌≡◌, ◌≢◌, ◌⊎◌, ◌∙◌, inl, inr, ℕ, Bool, List, take, length-take, Option, Some, Result}
+use Rattle.std.proofs.Common.{Ok, Err, OnErr, refl, sym, ap, subst, arith, IsErr}
 use Rattle.std.specs.Io.KnownBytes.{Appends}
 use Rattle.road_io.specs.declared.source.Failed.{Failed}
 use Rattle.keeper.specs.declared.kept.KeepFault.{KeepFault}

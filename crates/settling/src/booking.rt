@@ -47,8 +47,8 @@ fn charge(book: &mut Book, vid: u32, xway: u8, told: bool, toll: u64) -> Result<
     }
 }
 
-/// Charges the stay that a report leaves, if it leaves one, the toll that was told last, and lists the charge; only then
-/// the toll that the report is told is kept, if it is told one.
+/// Charges the stay that a report leaves, if it leaves one, the toll that was told last, and lists the charge. Only
+/// then the toll that the report is told is kept, if it is told one.
 pub fn book_report(
     book: &mut Book,
     charges: &mut Vec<Charged>,

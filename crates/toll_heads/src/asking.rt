@@ -3,7 +3,8 @@ ghost use Rattle.std.specs.Prelude.{◌≡◌, IfOk, map};
 ghost use Rattle.httparse.specs.Grammar.{RequestHead};
 ghost use Rattle.httparse.specs.Spans.{IsRequestAt, IsRequestWithin, name_and_value};
 ghost use Rattle.toll_heads.specs.Paths.{path_of as path_of_target, path_place};
-ghost use Rattle.toll_heads.specs.Requests.{wanted_of as wanted_of_head, asked_at as asked_at_place, only_get as only_get_of};
+ghost use Rattle.toll_heads.specs.Requests.{wanted_of as wanted_of_head, asked_at as asked_at_place};
+ghost use Rattle.toll_heads.specs.Requests.{only_get as only_get_of};
 ghost use Rattle.toll_heads.specs.Asks.{IsWanted};
 
 use crate::fields::body_length;

@@ -11,8 +11,8 @@ use Rattle.road_time.specs.declared.tariff.TheConstants.{GREATEST_TOLL}
 use Rattle.accounts.specs.declared.vehicle.Vehicle.{Vehicle}
 use Rattle.accounts.specs.Sums.{with_charge}
 use Rattle.accounts.specs.Books.{Accounts, retold, told_of, spent_sums}
-use Rattle.accounts.proofs.BookLaws.{book_made, get_told, told_after, next_few, told_few, further_fits, first_fits, sum_fits, spent_charged}
-use Rattle.accounts.proofs.BookLaws.{sound_charged}
+use Rattle.accounts.proofs.BookLaws.{book_made, get_told, told_after, next_few, told_few}
+use Rattle.accounts.proofs.BookLaws.{further_fits, first_fits, sum_fits, spent_charged, sound_charged}
 use Rattle.accounts.proofs.book.Book.charge_then.Goals as goal
 
 pub unreachable-requires : goal.unreachable-requires
