@@ -1,3 +1,4 @@
+-- Laws of generated traffic, which no code runs.
 use Rattle.std.specs.Prelude.{ℕ, ◌≡◌, ◌≤◌, None, length}
 use Rattle.road_time.specs.declared.day.TheConstants.Limits.{DAY}
 use Rattle.road_time.specs.Fits.{IsDay}

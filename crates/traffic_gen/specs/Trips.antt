@@ -1,3 +1,4 @@
+-- Trips: how one is drawn, the reports of its vehicle from entry to exit, and what the vehicle asks.
 use Rattle.std.specs.Prelude.{ℕ, ◌+◌, ◌*◌, ◌%◌, ◌==◌, ◌≤◌, ◌<◌, ◌&&◌, nat_lt, Bool, List, [], ◌∷◌, ◌++◌, Option, Some}
 use Rattle.std.specs.Prelude.{None, IfSome, if◌then◌else◌}
 use Rattle.rand_pcg.specs.Lcg.{Lcg}
