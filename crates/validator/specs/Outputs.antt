@@ -1,3 +1,4 @@
+-- What is made of a day's first tuples: findings, accounts, charges and notices.
 use Rattle.std.specs.Prelude.{◌≡◌, ℕ, ◌≤◌, nat_eq, List, length, map}
 use Rattle.std.specs.HashMap.{get}
 use Rattle.road_time.specs.declared.road.Tuple.{Tuple}
