@@ -1,3 +1,4 @@
+-- Laws of boards and books, which no code runs.
 use Rattle.std.specs.Prelude.{◌≡◌, ℕ, ◌≤◌, List, ◌++◌, take, length}
 use Rattle.road_time.specs.declared.road.Tuple.{Tuple}
 use Rattle.road_time.specs.Order.{AreTimesInOrder}

@@ -1,3 +1,4 @@
+-- The events that a day's tuples cause, the worker that each is for, and what events say of reports and stops.
 use Rattle.std.specs.Prelude.{ℕ, ◌==◌, true, false, List, [], ◌∷◌, ◌++◌, length, Option, Some, None}
 use Rattle.std.specs.List.{filter, filter_map, flat_map}
 use Rattle.road_time.specs.declared.road.Tuple.{Tuple}

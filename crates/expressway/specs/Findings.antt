@@ -1,3 +1,4 @@
+-- What is found for the reports that a worker's events tell.
 use Rattle.std.specs.Prelude.{ℕ, ◌==◌, ◌&&◌, not, Bool, true, false, List, ◌++◌, Option, Some, None}
 use Rattle.std.specs.List.{filter, filter_map}
 use Rattle.road_time.specs.declared.road.Report.{Report}

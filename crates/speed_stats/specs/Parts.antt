@@ -1,3 +1,4 @@
+-- What one more note makes of sums and flows, and the flow of a stretch in a minute out of its ring of six.
 use Rattle.std.specs.Prelude.{ℕ, ◌≤◌, ◌+◌, ◌-◌, ◌*◌, ◌/◌, ◌%◌, ◌==◌, ◌&&◌, Bool, List, length, sum_by, Option, Some}
 use Rattle.std.specs.Prelude.{None, unwrap_or, slice_index_or, if◌then◌else◌}
 use Rattle.std.specs.Map.{lookup}
