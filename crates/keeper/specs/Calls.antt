@@ -1,3 +1,4 @@
+-- What a keeper's calls answer, what they leave of the office where they fail, and which of them fail.
 use Rattle.std.specs.Prelude.{◌≡◌, ◌⊎◌, ℕ, ◌+◌, ◌≤◌, Bool, true, false, is_err, Option, Some, None, Result, Ok, Err}
 use Rattle.std.specs.Prelude.{IfOk, IsOkUnless}
 use Rattle.road_io.specs.Faults.{Rose}

@@ -1,3 +1,4 @@
+-- What may be put, and the office afterwards: a day, a history or a tariff more.
 use Rattle.std.specs.Prelude.{◌≡◌, ℕ, ◌+◌, ◌^◌, ◌<◌, ◌≤◌, List, [], ◌∷◌, ◌++◌, map, length, take, Option, Some, None}
 use Rattle.std.specs.List.{AllByRecursion}
 use Rattle.road_time.specs.declared.day.SpentRow.{SpentRow}

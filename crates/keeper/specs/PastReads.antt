@@ -1,3 +1,4 @@
+-- How bytes are read as a history: which line is refused first and why, and what is kept of it.
 use Rattle.std.specs.Prelude.{ℕ, ◌-◌, ◌+◌, ◌==◌, nat_lt, nat_le, List, [], ◌∷◌, ◌++◌, length, Option, Some, None}
 use Rattle.std.specs.Prelude.{Result, Ok, Err, ℤ, pos, if◌then◌else◌}
 use Rattle.std.specs.List.{filter, filter_map, fold, list_any}

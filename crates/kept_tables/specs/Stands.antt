@@ -1,3 +1,4 @@
+-- Which database stands for which office: one with no tables, with those of version 1, or with all in version 2.
 use Rattle.std.specs.Prelude.{◌≡◌, ◌⊎◌, ◌<◌, ◌^◌, ℕ, List, [], ◌∷◌, ◌++◌, map, drop, length, Option, Some, None, IfSome}
 use Rattle.std.specs.Prelude.{IsPermutation}
 use Rattle.std.specs.List.{AllByRecursion}
@@ -33,11 +34,11 @@ pub record FitsDay (r : DayRecord) : Type 0 where
   pub told : IsWholeDigest r.notices_digest
   pub seal : IsWholeDigest r.tariffs
 
--- those of an amount
+-- the numbers of an amount fit its fields
 abbrev pub FitsSpent : SpentRow → Type 0
 FitsSpent r = (r.day < 2 ^ 32) × (r.vid < 2 ^ 32) × (r.xway < 2 ^ 8) × (r.tolls < 2 ^ 63)
 
--- those of a history
+-- the numbers and the digest of a history fit its fields
 abbrev pub FitsPast : PastRecord → Type 0
 FitsPast p = (p.base < 2 ^ 32) × (p.bytes < 2 ^ 63) × (p.rows < 2 ^ 63) × IsWholeDigest p.digest
 
@@ -83,7 +84,7 @@ pub record Contents : Type 0 where
   pub past : Option PastRecord
   pub tariffs : Tariffs
 
--- with one record of a day more, one seal more, a history, and more amounts
+-- with one record of a day more
 abbrev pub with_record : DayRecord → Contents → Contents
 with_record r c = record c { days = c.days ++ r ∷ [] }
 

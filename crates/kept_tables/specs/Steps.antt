@@ -1,3 +1,4 @@
+-- What a step of a transaction leaves, and which office is committed.
 use Rattle.std.specs.Prelude.{◌≡◌, ℕ, List, ◌++◌, IsTrue, Result, Ok, Err}
 use Rattle.road_time.specs.declared.day.SpentRow.{SpentRow}
 use Rattle.kept_tables.specs.Layout.{all_tables, spent_table, spent_key}
