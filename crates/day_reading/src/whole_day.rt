@@ -1,4 +1,4 @@
-// A day, read whole.
+// The tuples of a day in one list, read to the end of its bytes or to the first line that is refused.
 ghost use Rattle.std.specs.Prelude.{◌≡◌, ◌≤◌, List, ℕ, Option, Some, None, Err, IfOk};
 ghost use Rattle.road_time.specs.Fits.{Fit, IsLimits};
 ghost use Rattle.road_time.specs.Reads.{reads};
