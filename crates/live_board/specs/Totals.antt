@@ -1,3 +1,4 @@
+-- The totals that are kept of a board, in 64 bits.
 use Rattle.std.specs.Prelude.{◌≡◌, ℕ, ◌+◌, ◌%◌, ◌^◌, nat_eq, Bool, false, List, Option, is_some, refl}
 use Rattle.std.specs.Option.{unwrap_or}
 use Rattle.std.specs.List.{fold}
