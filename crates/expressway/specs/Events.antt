@@ -53,7 +53,7 @@ abbrev pub time_told : LaneEvent → ℕ
 time_told (Seen position r begins stopped) = r.time
 time_told (Leave position time vid place) = time
 
--- those for a worker, of so many
+-- the events for a worker, of so many
 abbrev pub told_to : ℕ → ℕ → List LaneEvent → List LaneEvent
 told_to worker width es = filter (λ e. worker_for (way_told e) width == worker) es
 

@@ -32,6 +32,6 @@ abbrev pub findings : List LaneEvent → List LaneEvent → Tariffs → List (�
 findings before es tariffs =
     filter_map (finding_of (notes_of (seen (before ++ es))) (standing_at (entries (before ++ es))) tariffs) es
 
--- those at a position
+-- the findings at a position
 abbrev pub found_at : ℕ → List (ℕ × StretchTold) → List (ℕ × StretchTold)
 found_at position found = filter (λ f. f.0 == position) found

@@ -10,7 +10,7 @@ use Rattle.expressway.specs.Findings.{shown, findings}
 use Rattle.expressway.specs.Stands.{StandsFor}
 use Rattle.expressway.specs.Ready.{IsReady}
 
--- some are the first of all
+-- some items are the first of all
 abbrev pub AreFirst : {X : Type 0} → List X → List X → Type 0
 AreFirst {X} some all = (rest : List X) × (all ≡ some ++ rest)
 
