@@ -83,6 +83,7 @@ pub fn read_day<S: Source, R: Threads>(
     let Ok(mut reader) = DayReader::new(alloc, limits, late) else {
         return Err(ReadStop::NoMemory);
     };
+    // Read for the proof alone: it is a number of 32 bits.
     let _lines = limits.lines;
     let mut tuples = Vec::new(alloc);
     'reading: loop {
