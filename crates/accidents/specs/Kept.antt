@@ -1,3 +1,4 @@
+-- What is kept of those that stand: who stands where, how many at each place, and the accidents of each stretch.
 use Rattle.std.specs.Prelude.{ℕ, ◌==◌, ◌&&◌, List, Bool, unwrap_or}
 use Rattle.std.specs.List.{list_any}
 use Rattle.std.specs.Map.{lookup}

@@ -1,3 +1,4 @@
+-- The nearest accident ahead of a stretch, by what is kept.
 use Rattle.std.specs.Prelude.{ℕ, Bool, Option}
 use Rattle.std.specs.List.{find}
 use Rattle.road_time.specs.declared.road.Stretch.{Stretch}

@@ -1,3 +1,4 @@
+-- Which stops and leaves were taken, by what is kept of them.
 use Rattle.std.specs.Prelude.{◌≡◌, ℕ, ◌≤◌, ◌&&◌, nat_eq, nat_le, List, Bool, All}
 use Rattle.road_time.specs.declared.road.Stretch.{Stretch}
 use Rattle.road_time.specs.declared.road.Place.{Place}
@@ -14,9 +15,8 @@ abbrev pub is_crowded : (Place → ℕ) → Stretch → Place → Bool
 is_crowded count k p = same_stretch (stretch_around p) k && nat_le 2 (count p)
 
 -- what is kept is that of the entries: none is later than the current second; who stands is who stands after them;
--- each place has as many vehicles as are kept for it,
--- and each stretch as many places with two or more; and of each stretch the seconds before the current one at which an
--- accident stood are kept
+-- each place has as many vehicles as are kept for it, and each stretch as many places with two or more; and of each
+-- stretch the seconds before the current one at which an accident stood are kept
 pub record Stand (second : ℕ) (has : Place → ℕ → Bool) (count : Place → ℕ) (spell : Stretch → Spell)
     (entries : List StopEntry) : Type 0 where
   pub none_after : All (λ e. e.second ≤ second) entries

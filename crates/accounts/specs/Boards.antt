@@ -1,3 +1,4 @@
+-- What a board shows of the operations that were published: the day that began last, and its accounts up to a mark.
 use Rattle.std.specs.Prelude.{◌≡◌, ℕ, ◌≤◌, ◌<◌, ◌^◌, List, [], ◌∷◌, ◌++◌, length, Option, Some, None}
 use Rattle.std.specs.List.{fold}
 use Rattle.road_time.specs.declared.road.Tuple.{Tuple}
@@ -15,7 +16,7 @@ pub record BoardState : Type 0 where
 abbrev pub blank : BoardState
 blank = record { number = 0; mark = 0; charged = [] }
 
--- with one operation more
+-- a board after one operation more
 abbrev pub board_with : BoardState → Operation → BoardState
 board_with b (Begin number) = record { number = number; mark = 0; charged = [] }
 board_with b (Step charges mark) = record { number = b.number; mark = mark; charged = b.charged ++ charges }
@@ -24,11 +25,11 @@ board_with b (Step charges mark) = record { number = b.number; mark = mark; char
 abbrev pub board_after : List Operation → BoardState
 board_after ops = fold board_with blank ops
 
--- a vehicle's account on it
+-- a vehicle's account on a board
 abbrev pub account : BoardState → ℕ → ℕ
 account b vid = sum_of (charges_to vid b.charged)
 
--- and what all vehicles owe
+-- what all vehicles owe on a board
 abbrev pub all_accounts : BoardState → ℕ
 all_accounts b = sum_of b.charged
 

@@ -1,3 +1,4 @@
+-- What a book of accounts holds of each vehicle, and how its entries balance.
 use Rattle.std.specs.Prelude.{◌≡◌, ℕ, ◌*◌, ◌≤◌, false, Option, None, Some, nat_eq, List, map, refl}
 use Rattle.std.specs.List.{IsDistinct}
 use Rattle.std.specs.Map.{lookup, keys_of}

@@ -1,3 +1,4 @@
+-- The entry of a vehicle, which holds the sum of its first expressway, and the entries of further ones.
 use Rattle.std.specs.Prelude.{ℕ, ◌+◌, ◌==◌, Option, Bool, false, not, Some, None, List, [], ◌∷◌, ◌++◌, nat_eq}
 use Rattle.std.specs.Prelude.{if◌then◌else◌}
 use Rattle.std.specs.Option.{unwrap_or}

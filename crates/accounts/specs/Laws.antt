@@ -1,3 +1,4 @@
+-- Laws of boards and books, which no code runs.
 use Rattle.std.specs.Prelude.{◌≡◌, ℕ, ◌≤◌, List, ◌++◌, take, length}
 use Rattle.road_time.specs.declared.road.Tuple.{Tuple}
 use Rattle.road_time.specs.Order.{AreTimesInOrder}
@@ -19,7 +20,7 @@ LiveLaw =
     × ((vid : ℕ) → account (shown_after ops) vid ≡ balance day tariffs vid (take (shown_after ops).mark day))
     × (all_accounts (shown_after ops) ≡ total day tariffs (take (shown_after ops).mark day))
 
--- and it still shows those of the day when more tuples follow
+-- steps of a day that were published are steps of the day with more tuples behind it too
 abbrev pub GrowLaw : Type 0
 GrowLaw =
     (day later : List Tuple) → AreTimesInOrder (day ++ later) →

@@ -1,3 +1,4 @@
+-- What is published of a day, and what waits to be published.
 use Rattle.std.specs.Prelude.{◌≡◌, ℕ, ◌⊎◌, List, [], ◌∷◌, ◌++◌, Option}
 use Rattle.std.specs.Option.{option_map}
 use Rattle.road_time.specs.Day.{ChargedToll}
@@ -17,11 +18,11 @@ pub record Posted : Type 0 where
   pub published : List Operation
   pub queued : List Operation
 
--- with one operation more: what waited is published, and then the operation
+-- after one operation more that is published: what waited is published first
 abbrev pub posted_with : Operation → Posted → Posted
 posted_with o p = record { published = p.published ++ (p.queued ++ o ∷ []); queued = [] }
 
--- with one operation more that waits
+-- after one operation more that waits
 abbrev pub queued_with : Operation → Posted → Posted
 queued_with o p = record { published = p.published; queued = p.queued ++ o ∷ [] }
 

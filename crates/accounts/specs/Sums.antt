@@ -1,3 +1,4 @@
+-- Charges added up by vehicle and expressway: the sums of a vehicle and of all, and the rows of a day.
 use Rattle.std.specs.Prelude.{◌≡◌, ℕ, ◌+◌, ◌<◌, ◌==◌, ◌&&◌, nat_lt, Bool, List, [], ◌∷◌, if◌then◌else◌}
 use Rattle.std.specs.Option.{unwrap_or}
 use Rattle.std.specs.Map.{lookup}
@@ -33,7 +34,7 @@ account_in spent vid = sum_by (λ e. e.1) (filter (λ e. e.0.0 == vid) (entries 
 abbrev pub total_in : SpentMap → ℕ
 total_in spent = sum_by (λ e. e.1) (entries spent)
 
--- with one charge more
+-- the sums with one charge more
 abbrev pub with_charge : SpentMap → ChargedToll → SpentMap
 with_charge spent c = insert spent (c.vid, c.xway) (amount_in spent c.vid c.xway + c.toll)
 

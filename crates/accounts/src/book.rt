@@ -1,4 +1,4 @@
-// The day's accounts.
+// A day's book of accounts: what each vehicle was told last, and what it was charged on each expressway.
 ghost use Rattle.std.specs.Prelude.{◌≡◌, ◌≤◌, ◌<◌, ◌+◌, ◌*◌, ◌++◌, ◌∷◌, Some, IsSome, IfSome, IfOk, OnErr};
 ghost use Rattle.std.specs.FinMap.{empty, get, insert};
 ghost use Rattle.road_time.specs.declared.tariff.TheConstants.{GREATEST_TOLL};

@@ -1,4 +1,4 @@
-// A day, read whole.
+// The tuples of a day in one list, read to the end of its bytes or to the first line that is refused.
 ghost use Rattle.std.specs.Prelude.{◌≡◌, ◌≤◌, List, ℕ, Option, Some, None, Err, IfOk};
 ghost use Rattle.road_time.specs.Fits.{Fit, IsLimits};
 ghost use Rattle.road_time.specs.Reads.{reads};
@@ -83,6 +83,7 @@ pub fn read_day<S: Source, R: Threads>(
     let Ok(mut reader) = DayReader::new(alloc, limits, late) else {
         return Err(ReadStop::NoMemory);
     };
+    // Read for the proof alone: it is a number of 32 bits.
     let _lines = limits.lines;
     let mut tuples = Vec::new(alloc);
     'reading: loop {

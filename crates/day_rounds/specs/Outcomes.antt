@@ -38,7 +38,7 @@ pub record Task : Type 0 where
   pub number : ℕ
   pub history : PaidHistory
 
--- that of a setting
+-- the task of importing a day in this setting
 abbrev pub task_of : Setting → ℕ → Limits → ℕ → Task
 task_of e width limits late =
     record { width = width; limits = limits; late = late; tariffs = e.tariffs; number = e.number; history = e.history }
@@ -55,7 +55,7 @@ abbrev pub HasStartedAll : Task → List Tuple → Option CrewTold → Option Cr
 HasStartedAll t day jobs listed = (since : List Job) × HaveAllStarted t.width t.limits.backlog day since
     × WhereTold (ListsAll since) jobs listed
 
--- or they are the first of each worker's, and the first of them are listed
+-- jobs that were started are the first of each worker's, and the first of them are listed
 abbrev pub HasStartedFirst : Task → List Tuple → Option CrewTold → Option CrewTold → Type 0
 HasStartedFirst t day jobs listed = (since : List Job) × HaveFirstStarted t.width t.limits.backlog day since
     × WhereTold (ListsFirst since) jobs listed

@@ -22,7 +22,7 @@ AreStepsBy finding day backlog mark last (Step charges next ∷ ops) =
 abbrev pub settled_between : State → ℕ → ℕ → List ChargedToll
 settled_between s a b = charges_between (given s.found) (take s.settled s.fed) a b
 
--- with some operations more
+-- what is published, with some operations more
 abbrev pub posted_more : List Operation → Posted → Posted
 posted_more ops p = record { published = p.published ++ ops; queued = p.queued }
 

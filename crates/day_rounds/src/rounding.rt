@@ -1,4 +1,4 @@
-// Rounds that settle.
+// A round of a day: tuples are fed and worked on while the next ones are read, and then all is settled.
 ghost use Rattle.std.specs.Prelude.{true, ◌≡◌, ◌≢◌, ◌++◌, ◌+◌, ◌≤◌, [], ℕ, List, Option, Some, IfOk, IfErr, OnOk};
 ghost use Rattle.std.specs.Prelude.{OnErr};
 ghost use Rattle.road_time.specs.declared.road.Tuple.{Tuple as RoadTuple};

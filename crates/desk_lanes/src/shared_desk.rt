@@ -28,7 +28,7 @@ impl<K: Keeper, C: Crew, R: Wait + Threads + Drop + Copy> SharedDesk<K, C, R> {
         }
     }
 
-    /// Takes both out.
+    /// Takes the keeper and the part that imports out of their locks.
     pub(crate) fn into_parts(self) -> (K, ImportDesk<C, R>) {
         let SharedDesk {
             rt: _,

@@ -5,7 +5,7 @@ use Rattle.server_words.specs.declared.serving.Serving.{Serving}
 use Rattle.desk_server.specs.declared.ending.ServerEnd.{ServerEnd}
 use Rattle.desk_server.specs.declared.ending.ServerEnd.TheVariants.{Served, Words, Refused, EarFault, NoMemory}
 
--- its exit status
+-- the exit status of a run, by how it ended
 abbrev pub status_of : ServerEnd → ℕ
 status_of Served = 0
 status_of Words = 1

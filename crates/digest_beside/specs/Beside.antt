@@ -1,3 +1,4 @@
+-- Which bytes a digester has taken that may be with a thread.
 use Rattle.std.specs.Prelude.{ℕ, List, ◌≡◌, ◌++◌}
 use Rattle.keeper.specs.Digests.{Took}
 use Rattle.digest_beside.specs.declared.held.HeldDigest.{HeldDigest}

@@ -19,7 +19,7 @@ after_run tariffs s worker =
     if can_give (s.share worker) then after_back (after_give s worker) worker
     (findings (s.share worker).back (s.share worker).waiting tariffs) else s
 
--- and so the jobs of the first so many workers
+-- the jobs of the first so many workers are given and taken back so
 abbrev pub after_runs : Tariffs → State → ℕ → State
 after_runs tariffs s zero = s
 after_runs tariffs s (suc worker) = after_run tariffs (after_runs tariffs s worker) worker

@@ -49,7 +49,7 @@ fn spoiled_files<S: AtPath>(rt: HostRuntime) -> anyhow::Result<()> {
     Ok(())
 }
 
-/// The files that are none.
+/// Paths at which no database can be opened.
 fn odd_files<S: AtPath>(rt: HostRuntime) -> anyhow::Result<()> {
     std::fs::write(&rt, "text.db", "kept days")?;
     let text = refused::is_fault::<S>(rt, "text.db");

@@ -1,3 +1,4 @@
+-- Tests of whether events can be run on a new carriage.
 use Rattle.std.specs.Prelude.{ℕ, ◌==◌, ◌&&◌, nat_le, Bool, true, List, [], ◌∷◌, ◌++◌, length, map}
 use Rattle.std.specs.List.{list_all, count_by}
 use Rattle.road_time.specs.declared.road.Report.{Report}

@@ -1,3 +1,4 @@
+-- The events that a day's tuples cause, the worker that each is for, and what events say of reports and stops.
 use Rattle.std.specs.Prelude.{ℕ, ◌==◌, true, false, List, [], ◌∷◌, ◌++◌, length, Option, Some, None}
 use Rattle.std.specs.List.{filter, filter_map, flat_map}
 use Rattle.road_time.specs.declared.road.Tuple.{Tuple}
@@ -52,7 +53,7 @@ abbrev pub time_told : LaneEvent → ℕ
 time_told (Seen position r begins stopped) = r.time
 time_told (Leave position time vid place) = time
 
--- those for a worker, of so many
+-- the events for a worker, of so many
 abbrev pub told_to : ℕ → ℕ → List LaneEvent → List LaneEvent
 told_to worker width es = filter (λ e. worker_for (way_told e) width == worker) es
 

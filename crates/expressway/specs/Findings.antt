@@ -1,3 +1,4 @@
+-- What is found for the reports that a worker's events tell.
 use Rattle.std.specs.Prelude.{ℕ, ◌==◌, ◌&&◌, not, Bool, true, false, List, ◌++◌, Option, Some, None}
 use Rattle.std.specs.List.{filter, filter_map}
 use Rattle.road_time.specs.declared.road.Report.{Report}
@@ -31,6 +32,6 @@ abbrev pub findings : List LaneEvent → List LaneEvent → Tariffs → List (�
 findings before es tariffs =
     filter_map (finding_of (notes_of (seen (before ++ es))) (standing_at (entries (before ++ es))) tariffs) es
 
--- those at a position
+-- the findings at a position
 abbrev pub found_at : ℕ → List (ℕ × StretchTold) → List (ℕ × StretchTold)
 found_at position found = filter (λ f. f.0 == position) found

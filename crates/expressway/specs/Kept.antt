@@ -1,3 +1,4 @@
+-- What a carriage keeps of its worker's ways.
 use Rattle.road_time.specs.Rates.{Tariffs}
 use Rattle.speed_stats.specs.Kept.{KeptSpeeds as Averages}
 use Rattle.accidents.specs.Kept.{KeptStops as Standing}

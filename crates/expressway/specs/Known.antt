@@ -1,3 +1,4 @@
+-- What a carriage told last of its stretches, and when it may tell that again.
 use Rattle.std.specs.Prelude.{◌≡◌, ◌≤◌, List, All, Option, Some, None, is_some}
 use Rattle.road_time.specs.Clock.{minute_of}
 use Rattle.road_time.specs.declared.road.Stretch.{Stretch}

@@ -1,3 +1,4 @@
+-- Laws of events, jobs and findings, which no code runs: whatever the number of workers, they find what the rules find.
 use Rattle.std.specs.Prelude.{◌≡◌, ℕ, ◌≤◌, ◌<◌, take, map, ◌==◌, true, List, [], ◌∷◌, ◌++◌, length}
 use Rattle.std.specs.List.{AllByRecursion, filter, filter_map, flat_map, range_with_len}
 use Rattle.road_time.specs.declared.road.Tuple.{Tuple}

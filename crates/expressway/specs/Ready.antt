@@ -1,3 +1,4 @@
+-- Which events can be run on a carriage.
 use Rattle.std.specs.Prelude.{List, ◌++◌, map}
 use Rattle.road_time.specs.declared.road.Tuple.TheVariants.{Report as ReportTuple}
 use Rattle.road_time.specs.Fits.{IsDay}

@@ -1,3 +1,4 @@
+-- What is the result of a job, and what has only the shape of one.
 use Rattle.std.specs.Prelude.{◌≡◌, ℕ, ◌≤◌, true, List, ◌++◌, map, All, IfSome, OnOk, OnErr}
 use Rattle.road_time.specs.declared.tariff.TheConstants.{GREATEST_TOLL}
 use Rattle.road_time.specs.Text.{is_lav}
@@ -9,7 +10,7 @@ use Rattle.expressway.specs.Findings.{shown, findings}
 use Rattle.expressway.specs.Stands.{StandsFor}
 use Rattle.expressway.specs.Ready.{IsReady}
 
--- some are the first of all
+-- some items are the first of all
 abbrev pub AreFirst : {X : Type 0} → List X → List X → Type 0
 AreFirst {X} some all = (rest : List X) × (all ≡ some ++ rest)
 
@@ -38,10 +39,11 @@ pub record IsPossible (f : Finding) : Type 0 where
   pub toll : f.toll ≤ GREATEST_TOLL
   pub alert : IfSome f.alert (λ s. s ≤ 99)
 
--- the positions of findings, and those of what is found for the job's events
+-- the positions of findings
 abbrev pub positions : List Finding → List ℕ
 positions fs = map (λ f. f.position) fs
 
+-- the positions of what is found for the job's events, after earlier ones
 abbrev pub positions_for : List LaneEvent → Job → List ℕ
 positions_for before job = map (λ f. f.0) (findings before job.events job.carriage.tariffs)
 

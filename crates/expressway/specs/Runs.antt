@@ -1,3 +1,4 @@
+-- In which order events may come.
 use Rattle.std.specs.Prelude.{◌≡◌, ℕ, ◌≤◌, true, List, [], ◌∷◌, ◌++◌}
 use Rattle.std.specs.List.{AllByRecursion}
 use Rattle.road_time.specs.Entries.{is_standing}

@@ -1,3 +1,4 @@
+-- Which events were run on a carriage, by what it keeps.
 use Rattle.std.specs.Prelude.{◌≡◌, ℕ, List}
 use Rattle.std.specs.List.{fold}
 use Rattle.road_time.specs.Clock.{minute_of}

@@ -85,7 +85,7 @@ import_worked work number bytes day None o =
 import_worked work number bytes day (Some (line, fault)) o =
     record { outcome = Refused line (cause_of fault); text = out work.told; office = o }
 
--- the same, and nothing is kept
+-- the output of all tuples of a day that is answered, or of those before the first refused line; nothing is kept
 abbrev pub answers_worked : Work → ℕ → List ℕ → List Tuple → Option (ℕ × Fault) → Office → DayAnswer
 answers_worked work number bytes day None o =
     record { outcome = Answered (worked_record work number bytes day o); text = out work.told; office = o }
@@ -119,7 +119,7 @@ unless_kept read number bytes o = unless_recorded (record_of o number) read numb
 abbrev pub import_read : ℕ → List ℕ → List Tuple → Option (ℕ × Fault) → Office → DayAnswer
 import_read number bytes day refused o = import_worked (work_of number day o) number bytes day refused o
 
--- and answering it
+-- answering a day that was read
 abbrev pub answers_read : ℕ → List ℕ → List Tuple → Option (ℕ × Fault) → Office → DayAnswer
 answers_read number bytes day refused o = answers_worked (work_of number day o) number bytes day refused o
 
@@ -132,7 +132,7 @@ new_import number late limits bytes o =
 abbrev pub import_answer : ℕ → ℕ → Limits → List ℕ → Office → DayAnswer
 import_answer number late limits bytes o = unless_kept (new_import number late limits bytes o) number bytes o
 
--- and answering one
+-- answering a day of these bytes
 abbrev pub answers_answer : ℕ → ℕ → Limits → List ℕ → Office → DayAnswer
 answers_answer number late limits bytes o =
     answers_read number bytes (reads bytes limits late).tuples (reads bytes limits late).refused o
@@ -143,7 +143,7 @@ answers_answer number late limits bytes o =
 abbrev pub import_merged : List (ℕ × StretchTold) → ℕ → List ℕ → List Tuple → Option (ℕ × Fault) → Office → DayAnswer
 import_merged found number bytes day refused o = import_worked (work_by found number day o) number bytes day refused o
 
--- and answering it
+-- answering a day that was read, by these findings
 abbrev pub answers_merged : List (ℕ × StretchTold) → ℕ → List ℕ → List Tuple → Option (ℕ × Fault) → Office → DayAnswer
 answers_merged found number bytes day refused o = answers_worked (work_by found number day o) number bytes day refused o
 
@@ -157,7 +157,7 @@ abbrev pub import_found : List (ℕ × StretchTold) → ℕ → ℕ → Limits �
 import_found found number late limits bytes o =
     unless_kept (new_import_found found number late limits bytes o) number bytes o
 
--- and answering one
+-- answering a day of these bytes, by these findings
 abbrev pub answers_found : List (ℕ × StretchTold) → ℕ → ℕ → Limits → List ℕ → Office → DayAnswer
 answers_found found number late limits bytes o =
     answers_merged found number bytes (reads bytes limits late).tuples (reads bytes limits late).refused o

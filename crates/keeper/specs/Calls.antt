@@ -1,3 +1,4 @@
+-- What a keeper's calls answer, what they leave of the office where they fail, and which of them fail.
 use Rattle.std.specs.Prelude.{◌≡◌, ◌⊎◌, ℕ, ◌+◌, ◌≤◌, Bool, true, false, is_err, Option, Some, None, Result, Ok, Err}
 use Rattle.std.specs.Prelude.{IfOk, IsOkUnless}
 use Rattle.road_io.specs.Faults.{Rose}
@@ -69,7 +70,7 @@ PutsAsPlanned PutsNothing before after r = GoesAsPlanned before after r
 PutsAsPlanned FailsLate before after r = IsRefusedAsPlanned before after r
 PutsAsPlanned AllOrNothing before after r = GoesAsPlanned before after r
 
--- a call that takes no memory finds no want of it
+-- a call that takes memory may find none; one that takes none is refused only as the keeper failed
 abbrev pub Wants : {T : Type 0} → Bool → Result T KeepFault → Type 0
 Wants true r = Unit {0}
 Wants false r = IsOkUnless r Failed

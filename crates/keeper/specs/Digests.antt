@@ -1,3 +1,4 @@
+-- The digest of bytes, which is their SHA-256.
 use Rattle.std.specs.Prelude.{ℕ, List}
 use Rattle.sha2.specs.Sha256.{sha256}
 use Rattle.sha2.specs.Hashers.{Holds256}

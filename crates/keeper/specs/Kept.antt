@@ -1,3 +1,4 @@
+-- What may be put, and the office afterwards: a day, a history or a tariff more.
 use Rattle.std.specs.Prelude.{◌≡◌, ℕ, ◌+◌, ◌^◌, ◌<◌, ◌≤◌, List, [], ◌∷◌, ◌++◌, map, length, take, Option, Some, None}
 use Rattle.std.specs.List.{AllByRecursion}
 use Rattle.road_time.specs.declared.day.SpentRow.{SpentRow}
@@ -39,15 +40,15 @@ sealed tariffs r =
 abbrev pub old_office : List OldRecord → List SpentRow → Option PastRecord → Office
 old_office days rows past = record { days = map (sealed (seal_of [])) days; rows = rows; past = past; tariffs = [] }
 
--- with one day more and its amounts
+-- an office with one day more and its amounts
 abbrev pub with_day : DayRecord → List SpentRow → Office → Office
 with_day kept rows o = record { days = o.days ++ kept ∷ []; rows = o.rows ++ rows; past = o.past; tariffs = o.tariffs }
 
--- with a history and its amounts
+-- an office with a history and its amounts
 abbrev pub with_past : PastRecord → List SpentRow → Office → Office
 with_past kept rows o = record { days = o.days; rows = o.rows ++ rows; past = Some kept; tariffs = o.tariffs }
 
--- with a tariff for an expressway
+-- an office with a tariff for an expressway
 abbrev pub with_tariff_of : ℕ → Tariff → Office → Office
 with_tariff_of xway tariff o =
     record { days = o.days; rows = o.rows; past = o.past; tariffs = with_tariff o.tariffs xway tariff }

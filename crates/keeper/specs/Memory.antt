@@ -1,3 +1,4 @@
+-- What the keepers in memory keep, and which of their calls fail.
 use Rattle.std.specs.Prelude.{ℕ, Bool}
 use Rattle.road_io.specs.Plans.{planned}
 use Rattle.keeper.specs.declared.memory.MemOffice.{MemOffice}

@@ -1,3 +1,4 @@
+-- An office: what it keeps, what is found in it, and when all of it fits together.
 use Rattle.std.specs.Prelude.{◌≡◌, ℕ, ◌+◌, ◌-◌, ◌<◌, ◌≤◌, ◌==◌, ◌&&◌, nat_le, not, max, Bool, List, [], ◌∷◌, map}
 use Rattle.std.specs.Prelude.{length, Option, Some, None}
 use Rattle.std.specs.List.{filter, find, fold, list_any, sum_by, AllByRecursion}
@@ -22,7 +23,7 @@ pub record Office : Type 0 where
 abbrev pub nothing_kept : Office
 nothing_kept = record { days = []; rows = []; past = None; tariffs = [] }
 
--- how a row stands to a day, a vehicle and an expressway
+-- how the key of a row stands to a day, a vehicle and an expressway
 abbrev pub key_cmp : ℕ → ℕ → ℕ → SpentRow → Ordering
 key_cmp day vid xway r = ordering_then (nat_cmp r.day day) (ordering_then (nat_cmp r.vid vid) (nat_cmp r.xway xway))
 
@@ -51,7 +52,7 @@ day_before (Some p) = p.base - 1
 abbrev pub greatest_day : ℕ → List DayRecord → ℕ
 greatest_day before days = fold (λ most r. max most r.day) before days
 
--- the greatest of these days, and for none the day before the history's
+-- the greatest of these days, and for none the day before the base of the history
 abbrev pub last_from : List DayRecord → Option PastRecord → ℕ
 last_from [] past = day_before past
 last_from (r ∷ rs) past = greatest_day r.day rs
@@ -76,7 +77,7 @@ rows_off days rows = filter (λ r. not (is_kept days r.day)) rows
 abbrev pub rows_between : Office → ℕ → ℕ → List SpentRow
 rows_between o from to = filter (λ r. nat_le from r.day && nat_le r.day to) o.rows
 
--- those of a vehicle
+-- the amounts of a vehicle on the days from one to another, both included
 abbrev pub vehicle_rows_between : Office → ℕ → ℕ → ℕ → List SpentRow
 vehicle_rows_between o vid from to = filter (λ r. r.vid == vid && (nat_le from r.day && nat_le r.day to)) o.rows
 

@@ -1,3 +1,4 @@
+-- How bytes are read as a history: which line is refused first and why, and what is kept of it.
 use Rattle.std.specs.Prelude.{ℕ, ◌-◌, ◌+◌, ◌==◌, nat_lt, nat_le, List, [], ◌∷◌, ◌++◌, length, Option, Some, None}
 use Rattle.std.specs.Prelude.{Result, Ok, Err, ℤ, pos, if◌then◌else◌}
 use Rattle.std.specs.List.{filter, filter_map, fold, list_any}
@@ -90,7 +91,7 @@ past_after base limits before (l ∷ ls) =
 abbrev pub past_reads : List ℕ → ℕ → Limits → PastReading
 past_reads bytes base limits = past_after base limits [] (lines_of bytes)
 
--- with one row more in the order of rows
+-- the amounts with one more, in the order of rows
 abbrev pub with_row : List SpentRow → SpentRow → List SpentRow
 with_row [] r = r ∷ []
 with_row (s ∷ ss) r = match_ordering (row_cmp r s) (r ∷ s ∷ ss) (r ∷ s ∷ ss) (s ∷ with_row ss r)

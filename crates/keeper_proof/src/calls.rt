@@ -98,7 +98,7 @@ pub fn rows<S: Alter>(
     reads::rows(conn, alloc, from, to)
 }
 
-/// Those of a vehicle.
+/// The amounts of a vehicle on the days from one to another.
 pub fn vehicle_rows<S: Alter>(
     conn: &mut Connection<S>,
     alloc: Global,

@@ -117,7 +117,7 @@ pub fn rows<S: Alter>(
     amounts_of(alloc, &found)
 }
 
-/// Those of a vehicle.
+/// The amounts of a vehicle on the days from one to another.
 pub fn vehicle_rows<S: Alter>(
     conn: &mut Connection<S>,
     alloc: Global,

@@ -105,7 +105,7 @@ pub fn put_tariff<K: Keeper>(keeper: &mut K) -> Result<(), KeepFault> {
     keeper.put_tariff(3, &tariff)
 }
 
-/// Takes it away.
+/// Takes expressway 3's own tariff away.
 pub fn take_tariff<K: Keeper>(keeper: &mut K) -> Result<(), KeepFault> {
     keeper.put_tariff(3, &Tariff::BENCHMARK)
 }

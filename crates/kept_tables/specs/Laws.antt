@@ -1,3 +1,4 @@
+-- Laws of which database stands for which office, which no code runs.
 use Rattle.std.specs.Prelude.{◌≡◌, ◌↔◌, Some}
 use Rattle.sqlite.specs.Effect.{Database}
 use Rattle.keeper.specs.Office.{Office, IsSound}

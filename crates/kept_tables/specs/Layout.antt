@@ -1,3 +1,4 @@
+-- The tables of an office, in version 1 and in version 2.
 use Rattle.std.specs.Prelude.{ℕ, Bool, true, false, List, [], ◌∷◌, Some, None, codes, pos}
 use Rattle.sqlite_value.specs.declared.value.Value.TheVariants.{Null, Int}
 use Rattle.sqlite_value.specs.declared.keys.Collation.TheVariants.{Binary}
@@ -22,7 +23,7 @@ column_of name kind required = record {
   collation = Binary;
 }
 
--- a column that is the key, of numbers, and of bytes
+-- a column of numbers that is the key
 abbrev pub key_column : List ℕ → Column
 key_column name = column_of name Integer false
 

@@ -1,3 +1,4 @@
+-- Whether two values are the same, by a test.
 use base.Stored.{Gv, gnil, gnum, gcons}
 use Rattle.std.specs.Prelude.{◌==◌, ◌&&◌, Bool, true, false}
 use Rattle.std.specs.Coded.{Coded}

@@ -1,3 +1,4 @@
+-- What the texts of statements are understood as: queries, and rows that are put or taken away.
 use Rattle.std.specs.Prelude.{ℕ, Bool, true, false, List, [], ◌∷◌, None, pos, negsuc, codes}
 use Rattle.std.specs.List.{list_all}
 use Rattle.sqlite_value.specs.declared.value.Value.TheVariants.{Int, Null}
@@ -27,27 +28,27 @@ plain table tests shown order = record {
   offset = lit (Int (pos 0));
 }
 
--- a row passes
+-- a row passes all tests
 abbrev pub passes : List Term → Row → Row → Bool
 passes tests params row = list_all (holds (params ∷ row ∷ [])) tests
 
--- a place of the row, and a parameter
+-- a column of the row
 abbrev pub place : ℕ → Term
 place at = col 1 at
 
--- a parameter
+-- a parameter of the statement
 abbrev pub param_at : ℕ → Term
 param_at at = col 0 at
 
--- a place is what a parameter is, or stands to it so
+-- a column stands so to a parameter
 abbrev pub stands_to : CompareOp → ℕ → ℕ → Term
 stands_to how at param = op2 (Compare how Binary) (place at) (param_at param)
 
--- rising, by a place
+-- rising, by a column
 abbrev pub rising : ℕ → Term × Key
 rising at = (place at, record { collation = Binary; descending = false })
 
--- falling, by a place
+-- falling, by a column
 abbrev pub falling : ℕ → Term × Key
 falling at = (place at, record { collation = Binary; descending = true })
 
@@ -59,21 +60,21 @@ topmost table shown order = record (plain table [] shown order) { limit = lit (I
 abbrev pub is_one : Term
 is_one = op2 (Compare Eq Binary) (place 0) (lit (Int (pos 1)))
 
--- what the texts are understood as
+-- the query for an amount
 abbrev pub spent_query : Query
 spent_query = plain 1 (stands_to Eq 1 0 ∷ stands_to Eq 2 1 ∷ stands_to Eq 3 2 ∷ []) (place 4 ∷ []) []
 
--- the amounts of some days
+-- the query for the amounts of some days
 abbrev pub rows_query : Query
 rows_query =
     plain 1 (stands_to Ge 1 0 ∷ stands_to Le 1 1 ∷ []) (place 1 ∷ place 2 ∷ place 3 ∷ place 4 ∷ []) (rising 1 ∷
     rising 2 ∷ rising 3 ∷ [])
 
--- all tariffs
+-- the query for all tariffs
 abbrev pub tariffs_query : Query
 tariffs_query = plain 5 [] (place 0 ∷ place 2 ∷ place 3 ∷ place 4 ∷ []) (rising 0 ∷ [])
 
--- the numbers of the rows of an expressway
+-- the query for the numbers of the rows of an expressway's tariff
 abbrev pub tariff_ids : Query
 tariff_ids = plain 5 (stands_to Eq 0 0 ∷ []) (place 0 ∷ []) []
 
@@ -81,16 +82,16 @@ tariff_ids = plain 5 (stands_to Eq 0 0 ∷ []) (place 0 ∷ []) []
 abbrev pub tariff_values : List Term
 tariff_values = param_at 0 ∷ lit Null ∷ param_at 1 ∷ param_at 2 ∷ param_at 3 ∷ []
 
--- the query for an amount
+-- the statement that asks for an amount
 abbrev pub spent_compiled : Command
 spent_compiled = Select (record { lets = []; body = spent_query }) (codes "tolls" ∷ [])
 
--- the query for amounts
+-- the statement that asks for the amounts of some days
 abbrev pub rows_compiled : Command
 rows_compiled =
     Select (record { lets = []; body = rows_query }) (codes "day" ∷ codes "vid" ∷ codes "xway" ∷ codes "tolls" ∷ [])
 
--- the query for the tariffs
+-- the statement that asks for all tariffs
 abbrev pub tariffs_compiled : Command
 tariffs_compiled =
     Select (record { lets = []; body = tariffs_query })
@@ -104,33 +105,33 @@ drop_compiled = Delete 4 (record { lets = []; body = tariff_ids })
 abbrev pub put_compiled : Command
 put_compiled = Insert 4 (Values tariff_values 5)
 
--- the amounts of a vehicle
+-- the query for the amounts of a vehicle on some days
 abbrev pub vehicle_query : Query
 vehicle_query =
     plain 1 (stands_to Eq 2 0 ∷ stands_to Ge 1 1 ∷ stands_to Le 1 2 ∷ []) (place 1 ∷ place 2 ∷ place 3 ∷ place 4 ∷
     []) (rising 1 ∷ rising 2 ∷ rising 3 ∷ [])
 
--- the last day
+-- the query for the last day
 abbrev pub last_query : Query
 last_query = topmost 0 (place 0 ∷ []) (falling 0 ∷ [])
 
--- a day
+-- the query for a day
 abbrev pub day_query : Query
 day_query = plain 0 (stands_to Eq 0 0 ∷ []) (place 2 ∷ place 3 ∷ place 4 ∷ place 5 ∷ place 6 ∷ place 7 ∷ []) []
 
--- the seal of a day
+-- the query for the seal of a day
 abbrev pub seal_query : Query
 seal_query = plain 4 (stands_to Eq 0 0 ∷ []) (place 2 ∷ []) []
 
--- the history
+-- the query for the history
 abbrev pub past_query : Query
 past_query = plain 3 (is_one ∷ []) (place 2 ∷ place 3 ∷ place 4 ∷ place 5 ∷ []) []
 
--- all days
+-- the query for all days
 abbrev pub days_query : Query
 days_query = plain 0 [] (place 0 ∷ []) (rising 0 ∷ [])
 
--- the version
+-- the query for the version
 abbrev pub version_query : Query
 version_query = plain 6 (is_one ∷ []) (place 2 ∷ []) []
 

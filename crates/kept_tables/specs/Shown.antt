@@ -16,7 +16,7 @@ day_columns r =
     Blob r.digest.bytes ∷ Int (pos r.bytes) ∷ Int (pos r.tuples) ∷ Int (pos r.notices) ∷
     Blob r.notices_digest.bytes ∷ Int (pos r.total) ∷ []
 
--- what it shows of a seal
+-- what a query shows of the seal of a day
 abbrev pub seal_columns : DayRecord → Row
 seal_columns r = Blob r.tariffs.bytes ∷ []
 

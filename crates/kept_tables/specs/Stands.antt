@@ -1,3 +1,4 @@
+-- Which database stands for which office: one with no tables, with those of version 1, or with all in version 2.
 use Rattle.std.specs.Prelude.{◌≡◌, ◌⊎◌, ◌<◌, ◌^◌, ℕ, List, [], ◌∷◌, ◌++◌, map, drop, length, Option, Some, None, IfSome}
 use Rattle.std.specs.Prelude.{IsPermutation}
 use Rattle.std.specs.List.{AllByRecursion}
@@ -33,11 +34,11 @@ pub record FitsDay (r : DayRecord) : Type 0 where
   pub told : IsWholeDigest r.notices_digest
   pub seal : IsWholeDigest r.tariffs
 
--- those of an amount
+-- the numbers of an amount fit its fields
 abbrev pub FitsSpent : SpentRow → Type 0
 FitsSpent r = (r.day < 2 ^ 32) × (r.vid < 2 ^ 32) × (r.xway < 2 ^ 8) × (r.tolls < 2 ^ 63)
 
--- those of a history
+-- the numbers and the digest of a history fit its fields
 abbrev pub FitsPast : PastRecord → Type 0
 FitsPast p = (p.base < 2 ^ 32) × (p.bytes < 2 ^ 63) × (p.rows < 2 ^ 63) × IsWholeDigest p.digest
 
@@ -65,7 +66,7 @@ pub record HoldsOld (db : Database) (records : List OldRecord) (rows : List Spen
   pub rows_are : AreAmountRows rows (db.trees spent_table.tree)
   pub past_is : db.trees past_table.tree ≡ past_rows history
 
--- they hold what an office was before tariffs were, which fits its fields and is sound
+-- the tables of version 1 hold what an office was before tariffs were, which fits its fields and is sound
 pub record HasOld (db : Database) (o : Office) : Type 0 where
   pub records : List OldRecord
   pub rows : List SpentRow
@@ -83,19 +84,19 @@ pub record Contents : Type 0 where
   pub past : Option PastRecord
   pub tariffs : Tariffs
 
--- with one record of a day more, one seal more, a history, and more amounts
+-- what tables hold, with one record of a day more
 abbrev pub with_record : DayRecord → Contents → Contents
 with_record r c = record c { days = c.days ++ r ∷ [] }
 
--- with one seal more
+-- what tables hold, with one seal more
 abbrev pub with_seal : DayRecord → Contents → Contents
 with_seal r c = record c { sealed = c.sealed ++ r ∷ [] }
 
--- with a history
+-- what tables hold, with a history
 abbrev pub with_history : PastRecord → Contents → Contents
 with_history p c = record c { past = Some p }
 
--- with more amounts
+-- what tables hold, with more amounts
 abbrev pub with_rows : List SpentRow → Contents → Contents
 with_rows rows c = record c { rows = c.rows ++ rows }
 
@@ -119,7 +120,7 @@ pub record HoldsAs (version_is : List Row) (db : Database) (c : Contents) : Type
   pub tariffs_are : db.trees tariffs_table.tree ≡ map tariff_row c.tariffs
   pub version : db.trees form_table.tree ≡ version_is
 
--- they are there in version 2
+-- all six tables are there in version 2, and hold this
 abbrev pub Holds : Database → Contents → Type 0
 Holds db c = HoldsAs (version_row ∷ []) db c
 
@@ -151,7 +152,7 @@ HasNothing db o = (db.schema ≡ no_tables) × (o ≡ nothing_kept)
 abbrev pub StandsForOffice : Database → Office → Type 0
 StandsForOffice db o = HasNothing db o ⊎ (HasOld db o ⊎ HasOffice db o)
 
--- it stands for none
+-- a database stands for no office
 abbrev pub StandsForNone : Database → Type 0
 StandsForNone db = (o : Office) → ¬ StandsForOffice db o
 

@@ -1,3 +1,4 @@
+-- What a step of a transaction leaves, and which office is committed.
 use Rattle.std.specs.Prelude.{◌≡◌, ℕ, List, ◌++◌, IsTrue, Result, Ok, Err}
 use Rattle.road_time.specs.declared.day.SpentRow.{SpentRow}
 use Rattle.kept_tables.specs.Layout.{all_tables, spent_table, spent_key}
@@ -21,7 +22,7 @@ IsTreesOf o trees = (db : Database) × HasOffice db o × (trees ≡ db.trees)
 abbrev pub CommitsFor : (Office → Type 0) → (Office → Office) → Database → Trees → Type 0
 CommitsFor fits next before trees = (o : Office) → HasOffice before o → fits o → IsTreesOf (next o) trees
 
--- the same, of a connection that is open
+-- a connection is open, and what is committed stands for the office that comes next
 abbrev pub CommitsNow : (Office → Type 0) → (Office → Office) → State → Trees → Type 0
 CommitsNow fits next s trees = IsTrue s.is_open × CommitsFor fits next s.now trees
 

@@ -1,3 +1,4 @@
+-- Whether an office is sound and fits its fields, by a test.
 use Rattle.std.specs.Prelude.{◌+◌, ◌^◌, ◌==◌, ◌&&◌, nat_le, nat_lt, not, Bool, true, List, [], ◌∷◌, map, length, Option}
 use Rattle.std.specs.Prelude.{Some, None}
 use Rattle.std.specs.List.{list_all}
@@ -47,7 +48,7 @@ is_sound o =
     && (list_all (λ r. sum_of_rows (rows_on r.day o.rows) == r.total) o.days && (past_fits o.past o.days o.rows
     && are_tariffs o.tariffs)))))
 
--- and fits its fields
+-- a digest has 32 bytes
 abbrev pub is_whole : Digest → Bool
 is_whole d = (length d.bytes == 32) && list_all (λ b. nat_lt b 256) d.bytes
 
@@ -57,17 +58,17 @@ fits_day r =
     nat_lt r.day (2 ^ 32) && (nat_lt r.bytes (2 ^ 63) && (nat_lt r.tuples (2 ^ 63) && (nat_lt r.notices (2 ^ 63)
     && (nat_lt r.total (2 ^ 63) && (is_whole r.digest && (is_whole r.notices_digest && is_whole r.tariffs))))))
 
--- so does an amount
+-- an amount fits its fields
 abbrev pub fits_spent : SpentRow → Bool
 fits_spent r = nat_lt r.day (2 ^ 32) && (nat_lt r.vid (2 ^ 32) && (nat_lt r.xway (2 ^ 8) && nat_lt r.tolls (2 ^ 63)))
 
--- so does a history
+-- a history fits its fields, if there is one
 abbrev pub fits_past : Option PastRecord → Bool
 fits_past None = true
 fits_past (Some p) =
     nat_lt p.base (2 ^ 32) && (nat_lt p.bytes (2 ^ 63) && (nat_lt p.rows (2 ^ 63) && is_whole p.digest))
 
--- so does all that an office keeps
+-- all that an office keeps fits its fields
 abbrev pub fits_fields : Office → Bool
 fits_fields o =
     list_all fits_day o.days && (list_all fits_spent o.rows && (fits_past o.past

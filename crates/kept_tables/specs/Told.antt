@@ -1,3 +1,4 @@
+-- The office that a database stands for, read from its tables.
 use Rattle.std.specs.Prelude.{◌&&◌, Bool, true, false, if◌then◌else◌, List, [], ◌∷◌, map, drop, Option, Some, None}
 use Rattle.std.specs.Coded.{coded_list}
 use Rattle.sqlite_value.specs.Order.{Row}

@@ -1,4 +1,4 @@
-// Lanes.
+// The lanes of a server in a list, one for each of its loops.
 ghost use Rattle.std.specs.Prelude.{◌≡◌};
 
 use crate::lane::Lane;

@@ -1,4 +1,4 @@
-// The tickets of a call.
+// Tickets, one for each connection that a call may accept in all: loops draw one before they accept.
 ghost use Rattle.std.specs.Prelude.{◌≡◌, ℕ, ◌+◌, ◌^◌, ◌<◌, ◌≤◌, true, false};
 
 use crate::stub::Stub;

@@ -1,3 +1,4 @@
+-- What a change does to the totals on a page, and the operation that it is.
 use Rattle.std.specs.Prelude.{ℕ, true, List, [], ◌∷◌, map, if◌then◌else◌}
 use Rattle.std.specs.FinMap.{empty}
 use Rattle.accounts.specs.Operations.{Operation, Begin, Step, Posted, charge_of}

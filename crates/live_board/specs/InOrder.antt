@@ -1,3 +1,4 @@
+-- The rule of a board: its page shows a beginning of the history that its writer and readers know.
 use Rattle.std.specs.Prelude.{◌≡◌, ℕ, ◌^◌, ◌<◌, List, Option, Some}
 use mathlib.Core.Option.{some}
 use lib.ListN.{get_elem?}

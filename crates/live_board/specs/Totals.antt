@@ -1,3 +1,4 @@
+-- The totals that are kept of a board, in 64 bits.
 use Rattle.std.specs.Prelude.{◌≡◌, ℕ, ◌+◌, ◌%◌, ◌^◌, nat_eq, Bool, false, List, Option, is_some, refl}
 use Rattle.std.specs.Option.{unwrap_or}
 use Rattle.std.specs.List.{fold}
@@ -18,7 +19,7 @@ pub record Totals : Type 0 where
   pub sums : FinMap nat_cmp ℕ
   pub whole : ℕ
 
--- it is stored as its parts
+-- totals are stored as their parts
 abbrev pub totals_code : Coded Totals
 totals_code =
     code_by (Bool × (ℕ × (ℕ × (FinMap nat_cmp ℕ × ℕ))))
@@ -46,7 +47,7 @@ owed_in sums vid = unwrap_or (get sums vid) 0
 abbrev pub with_charged : FinMap nat_cmp ℕ → Charged → FinMap nat_cmp ℕ
 with_charged sums c = insert sums c.vid (added (owed_in sums c.vid) c.toll)
 
--- and with some charges more
+-- sums with some charges more
 abbrev pub with_charges : FinMap nat_cmp ℕ → List Charged → FinMap nat_cmp ℕ
 with_charges sums cs = fold with_charged sums cs
 

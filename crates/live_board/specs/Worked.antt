@@ -1,3 +1,4 @@
+-- What the calls in `src/worked.rt` publish: a toll of day 100, and the begin of day 101.
 use Rattle.std.specs.Prelude.{List, [], ◌∷◌}
 use Rattle.accounts.specs.Operations.{Operation, Begin, Step}
 

@@ -42,7 +42,7 @@ pub fn open_history() -> (Head, Beginning)
 }
 
 impl Beginning {
-    /// The same again.
+    /// The same beginning, to be had twice.
     pub fn again(&self) -> Beginning
         ensures { result ≡ self.now }
     {

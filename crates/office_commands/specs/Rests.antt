@@ -76,7 +76,7 @@ abbrev pub LeavesOfDay : Option DayRecord → List ℕ → Option (List ℕ) →
 LeavesOfDay None bytes left = left ≡ Some []
 LeavesOfDay (Some kept) bytes left = left ≡ Some (drop (kept.bytes + 1) bytes)
 
--- and what a history leaves of its source
+-- what a history leaves of its source: nothing, or of that of a kept one all behind one byte more than it had
 abbrev pub LeavesOfPast : Option PastRecord → List ℕ → Option (List ℕ) → Type 0
 LeavesOfPast None bytes left = left ≡ Some []
 LeavesOfPast (Some kept) bytes left = left ≡ Some (drop (kept.bytes + 1) bytes)

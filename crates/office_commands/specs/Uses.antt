@@ -50,23 +50,23 @@ uses (Some (command.Generate seed size)) = nothing
 uses (Some (command.Rehearse seed size run)) = record nothing { crew = true }
 uses None = nothing
 
--- whether it has one for the source
+-- whether a command has a use for the source
 abbrev pub uses_source : Option Command → Bool
 uses_source meant = (uses meant).source
 
--- and for the aside
+-- whether a command has a use for the aside
 abbrev pub uses_aside : Option Command → Bool
 uses_aside meant = (uses meant).aside
 
--- and for the keeper
+-- whether a command has a use for the keeper
 abbrev pub uses_keeper : Option Command → Bool
 uses_keeper meant = (uses meant).keeper
 
--- and for the crew
+-- whether a command has a use for the crew
 abbrev pub uses_crew : Option Command → Bool
 uses_crew meant = (uses meant).crew
 
--- whether it is to change what is kept
+-- whether a command is to change what is kept
 abbrev pub changes_kept : Option Command → Bool
 changes_kept meant = (uses meant).changes
 
@@ -74,7 +74,7 @@ changes_kept meant = (uses meant).changes
 abbrev pub IsRightCrew : Option Command → Bool → Type 0
 IsRightCrew meant exact = uses_crew meant ≡ true → exact ≡ true
 
--- and where the aside is used too
+-- where crew and aside are both used, the crew answers what is found by the rules
 abbrev pub IsRightAside : Option Command → Bool → Type 0
 IsRightAside meant exact = uses_aside meant ≡ true → IsRightCrew meant exact
 
@@ -82,11 +82,11 @@ IsRightAside meant exact = uses_aside meant ≡ true → IsRightCrew meant exact
 abbrev pub SourceTells : Option Command → Option (List ℕ) → List ℕ → Type 0
 SourceTells meant left bytes = uses_source meant ≡ true → left ≡ Some bytes
 
--- and an aside
+-- an aside tells its bytes, where it is used
 abbrev pub AsideTells : Option Command → Option (List ℕ) → List ℕ → Type 0
 AsideTells meant left bytes = uses_aside meant ≡ true → left ≡ Some bytes
 
--- and a keeper what it keeps
+-- a keeper tells what it keeps, where it is used
 abbrev pub KeeperTells : Option Command → Option Office → Office → Type 0
 KeeperTells meant kept o = uses_keeper meant ≡ true → kept ≡ Some o
 
@@ -130,7 +130,7 @@ most_of limits o (Some (command.Past base)) = most_kept o.past limits
 most_of limits o (Some (command.Accidents late)) = most_of_day (recomputed Plainly limits)
 most_of limits o _ = 0
 
--- and of the aside
+-- the most that words have read of the aside
 abbrev pub most_aside_of : Limits → List ℕ → Office → Option Command → ℕ
 most_aside_of limits bytes o (Some (command.Compare asked)) =
     most_noticed asked.day (compared_tuples limits asked bytes) o

@@ -1,4 +1,4 @@
-// A day, read whole.
+// A day that a command recomputes: it is read whole, and may have fewer lines than one that is imported.
 ghost use Rattle.std.specs.Prelude.{◌≡◌, ◌≤◌, List, ℕ, Some, Err, IfOk};
 ghost use Rattle.road_time.specs.Fits.{Fit, IsLimits};
 ghost use Rattle.road_time.specs.Reads.{reads};

@@ -103,7 +103,7 @@ fn with_days<'a>(alloc: Global, top: Command<'a>) -> Result<Command<'a>, AllocEr
     with(alloc, top, "past", &["base"], &[])
 }
 
-/// The reports.
+/// The commands that report what is kept or what a day shows.
 fn with_reports<'a>(alloc: Global, top: Command<'a>) -> Result<Command<'a>, AllocError>
     ensures { IfOk result (λ c. app_of c ≡ with_forms (app_of top.entry) (take 4 (drop 5 forms))) }
 {
@@ -113,7 +113,7 @@ fn with_reports<'a>(alloc: Global, top: Command<'a>) -> Result<Command<'a>, Allo
     with(alloc, top, "export", &["day"], &[])
 }
 
-/// The tariffs.
+/// The commands that put a tariff and list all.
 fn with_tariffs<'a>(alloc: Global, top: Command<'a>) -> Result<Command<'a>, AllocError>
     ensures { IfOk result (λ c. app_of c ≡ with_forms (app_of top.entry) (take 2 (drop 9 forms))) }
 {
@@ -127,7 +127,7 @@ fn with_tariffs<'a>(alloc: Global, top: Command<'a>) -> Result<Command<'a>, Allo
     with(alloc, top, "tariffs", &[], &[])
 }
 
-/// The traffic that a seed makes.
+/// The commands over traffic that a seed makes.
 fn with_traffic<'a>(alloc: Global, top: Command<'a>) -> Result<Command<'a>, AllocError>
     ensures { IfOk result (λ c. app_of c ≡ with_forms (app_of top.entry) (take 2 (drop 11 forms))) }
 {

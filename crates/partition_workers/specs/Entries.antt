@@ -1,3 +1,4 @@
+-- What is kept of a job that is out: the job itself, or what was done of it.
 use Rattle.std.specs.Prelude.{◌≡◌, Bool, true, false, List}
 use Rattle.expressway.specs.declared.lane_event.LaneEvent.{LaneEvent}
 use Rattle.expressway.specs.Ready.{IsReady}

@@ -1,3 +1,4 @@
+-- What a crew tells of its jobs, by its list and its places.
 use Rattle.std.specs.Prelude.{Bool, false, List, Option, Some, None, slice_get}
 use Rattle.partition_workers.specs.declared.job_list.Started.{Started}
 use Rattle.partition_workers.specs.declared.job_list.JobList.{JobList}

@@ -1,3 +1,4 @@
+-- Lines cut from a source's bytes: what the cutter holds, and what `advance` finds of the bytes that lie ahead.
 use Rattle.std.specs.Prelude.{ℕ, ◌≡◌, ◌+◌, ◌<◌, ◌≤◌, Bool, true, false, List, [], ◌∷◌, ◌++◌, length, take, drop, Option}
 use Rattle.std.specs.Prelude.{Some, None, Result, Ok, Err}
 use Rattle.std.specs.List.{slice_range}
@@ -21,9 +22,11 @@ line_of c = slice_range c.buf.items c.from c.to
 abbrev pub rest_of : LineCutter → List ℕ
 rest_of c = slice_range c.buf.items c.from c.start
 
+-- the number of the current line, from 1: how many lines were cut
 abbrev pub line_number : LineCutter → ℕ
 line_number c = c.number
 
+-- the fault that stopped the cutter, if one did
 abbrev pub fault_of : LineCutter → Option LineFault
 fault_of c = c.fault
 

@@ -1,3 +1,4 @@
+-- What sources and sinks in memory hold, how much they move at once, and which of their calls fail.
 use Rattle.std.specs.Prelude.{ℕ, Bool, List, drop}
 use Rattle.road_io.specs.declared.memory.MemSource.{MemSource}
 use Rattle.road_io.specs.declared.memory.MemSink.{MemSink}

@@ -1,3 +1,4 @@
+-- How many of the bytes that a call is offered it moves.
 use Rattle.std.specs.Prelude.{ℕ, ◌≡◌, ◌≤◌}
 
 -- how many of the bytes that a call is offered it moves, where that is told: at most so many, or all

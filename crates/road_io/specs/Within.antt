@@ -1,3 +1,4 @@
+-- Reading no more than so many bytes.
 use Rattle.std.specs.Prelude.{ℕ, ◌≡◌, ◌≤◌, List, drop, Option, Some}
 
 -- of the bytes that a source or a link had, at most the first so many were read

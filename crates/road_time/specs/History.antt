@@ -1,3 +1,4 @@
+-- What a vehicle paid on an expressway on an earlier day, by the rows that are kept.
 use Rattle.std.specs.Prelude.{◌≡◌, ℕ, ◌==◌, ◌&&◌, Bool, false, List, [], ◌∷◌, Option, Some, None}
 use Rattle.std.specs.List.{find, AllByRecursion}
 use Rattle.road_time.specs.declared.day.SpentRow.{SpentRow}

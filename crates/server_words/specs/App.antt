@@ -14,6 +14,7 @@ bare_shape = record (new_shape (codes "serve")) {
   disable_version_flag = true;
 }
 
+-- the program with no words, as an app without commands
 abbrev pub bare_server : App
 bare_server = record { top = bare_shape; subs = [] }
 

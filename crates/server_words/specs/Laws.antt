@@ -10,6 +10,6 @@ use Rattle.server_words.specs.Meaning.{server_form, said_by_words}
 abbrev pub FindsWhatIsSaid : List Text → Type 0
 FindsWhatIsSaid words = AllText words → server_found words ≡ option_map (map row_said) (said_by_words words)
 
--- it is said exactly where the words are spelled so
+-- words of the server say exactly what they are spelled to say
 abbrev pub IsServingSaidOnlySo : List Text → Type 0
 IsServingSaidOnlySo words = (said : Said) → said_by_words words ≡ Some said ↔ Spells server_form words said

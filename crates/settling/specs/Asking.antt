@@ -36,12 +36,12 @@ asked_by (BalanceTuple time vid qid) = 0
 asked_by (SpentTuple time vid xway qid day) = 1
 asked_by (Travel time) = 0
 
--- and where several are
+-- how often a keeper is asked where several tuples are settled
 abbrev pub requests_of : List Tuple → ℕ
 requests_of [] = 0
 requests_of (x ∷ xs) = asked_by x + requests_of xs
 
--- and where a slot is
+-- how often a keeper is asked where a slot is settled
 abbrev pub slot_asked : Due → ℕ
 slot_asked Nothing = 0
 slot_asked (Report time vid charge told) = 0

@@ -56,14 +56,15 @@ abbrev pub TotalLaw : Type 0
 TotalLaw = (finding : Sight → StretchTold) (before : List Tuple) → HasFewTolls finding → length before ≤ 16000000 →
     total_by finding before < 2 ^ 63
 
--- so it does when further findings are given back, all of them for positions that are not settled
+-- a settler stands for its tuples also when further findings are given back, all of them for positions that are not
+-- settled
 abbrev pub LaterLaw : Type 0
 LaterLaw =
     (s : Settler) (found more : List (ℕ × StretchTold)) (number : ℕ) (history : PaidHistory) (before : List Tuple) →
     AllByRecursion (λ q. length before ≤ q.0) more →
     StandsFor s (given found) number history before → StandsFor s (given (found ++ more)) number history before
 
--- and one that is given for a report that waits, and for which none was given, is put into its slot
+-- a finding that is given for a report that waits, and for which none was given, is put into its slot
 abbrev pub FillLaw : Type 0
 FillLaw =
     (found : List (ℕ × StretchTold)) (finding : StretchTold) (before rest : List Tuple) (at : ℕ) (r : Report)

@@ -1,3 +1,4 @@
+-- What is kept of speeds: sums in the current minute, and the flows of the minutes before it.
 use Rattle.std.specs.Prelude.{ℕ, List}
 use Rattle.road_time.specs.declared.road.Stretch.{Stretch}
 use Rattle.speed_stats.specs.declared.this_minute.Car.{Car}

@@ -1,3 +1,4 @@
+-- The number by which a vehicle in a stretch is looked up.
 use Rattle.std.specs.Prelude.{ℕ, ◌+◌, ◌*◌}
 use Rattle.speed_stats.specs.declared.this_minute.Car.{Car}
 

@@ -1,3 +1,4 @@
+-- What one more note makes of sums and flows, and the flow of a stretch in a minute out of its ring of six.
 use Rattle.std.specs.Prelude.{ℕ, ◌≤◌, ◌+◌, ◌-◌, ◌*◌, ◌/◌, ◌%◌, ◌==◌, ◌&&◌, Bool, List, length, sum_by, Option, Some}
 use Rattle.std.specs.Prelude.{None, unwrap_or, slice_index_or, if◌then◌else◌}
 use Rattle.std.specs.Map.{lookup}
@@ -52,7 +53,7 @@ slot_flow s m = if s.minute == m then s.flow else no_flow
 abbrev pub ring_flow : Ring → ℕ → CodeFlow
 ring_flow r m = slot_flow (slice_index_or r.slots (m % 6) (record { minute = 0; flow = no_flow })) m
 
--- of a ring or none
+-- what a ring keeps of a minute, or none does
 abbrev pub flow_of : Option Ring → ℕ → CodeFlow
 flow_of None m = no_flow
 flow_of (Some r) m = ring_flow r m
@@ -74,6 +75,6 @@ pub record IsSmall (f : CodeFlow) : Type 0 where
   pub few : f.cars ≤ 500000
   pub slow : f.speeds12 ≤ 1200 * f.cars
 
--- all flows that are kept are so
+-- all flows that are kept are those of a day
 abbrev pub AreSmall : List (Stretch × Ring) → Type 0
 AreSmall rings = (k : Stretch) (m : ℕ) → IsSmall (flow_in rings k m)

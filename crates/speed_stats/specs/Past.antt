@@ -1,3 +1,4 @@
+-- The cars and the average speed of the minutes before, by what is kept.
 use Rattle.std.specs.Prelude.{ℕ, ◌-◌, [], ◌∷◌, map, Option}
 use Rattle.road_time.specs.declared.road.Stretch.{Stretch}
 use Rattle.road_time.specs.declared.road.Frac.{Frac}

@@ -6,6 +6,7 @@ use Rattle.atomic_table.specs.Table.{rest}
 use Rattle.standing_crew.specs.declared.cells.Parcel.{Parcel}
 use Rattle.standing_crew.specs.declared.cells.View.{View}
 
+-- a seat at a table of cells, which hold parcels
 abbrev pub CellSeat : Type 0
 CellSeat = Seat (Option Parcel) View
 

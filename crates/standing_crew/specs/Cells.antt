@@ -12,6 +12,7 @@ use Rattle.standing_crew.specs.declared.cells.Parcel.TheVariants.{Waiting, Finis
 use Rattle.standing_crew.specs.declared.cells.View.{View}
 use Rattle.standing_crew.specs.Views.{input_of, CanBeRun}
 
+-- the state of the table, with what each seat knows
 abbrev pub St : Type 0
 St = State (Option Parcel) View
 

@@ -8,6 +8,7 @@ use Rattle.standing_crew.specs.declared.cells.Parcel.{Parcel}
 use Rattle.standing_crew.specs.declared.cells.Parcel.TheVariants.{Waiting, Finished}
 use Rattle.standing_crew.specs.Views.{Sat, input_of, with_input, with_taken, with_stop, CanBeRun, job_in}
 
+-- what lies in a slot: a parcel, or nothing
 abbrev S : Type 0
 S = Option Parcel
 

@@ -24,12 +24,15 @@ new_crew count = record { given = replicate count None; taken = None; stopped = 
 abbrev pub new_helper : View
 new_helper = record { given = []; taken = None; stopped = false }
 
+-- a view with another input for a cell
 abbrev pub with_input : View → ℕ → Option Job → View
 with_input v cell input = record { given = slice_set v.given cell input; taken = v.taken; stopped = v.stopped }
 
+-- a view with another cell taken
 abbrev pub with_taken : View → Option (ℕ × Job) → View
 with_taken v taken = record { given = v.given; taken = taken; stopped = v.stopped }
 
+-- a view that knows of the stop
 abbrev pub with_stop : View → View
 with_stop v = record { given = v.given; taken = v.taken; stopped = true }
 

@@ -1,4 +1,4 @@
-// The crew.
+// A crew whose helpers take its jobs out of cells, and how each of its calls goes.
 ghost use Rattle.std.specs.Prelude.{◌≡◌, ◌≢◌, ◌≤◌, ℕ, [], length, true, None, IfSome, IfNone};
 ghost use Rattle.expressway.specs.declared.job.Job.{Job as TheJob};
 ghost use Rattle.partition_workers.specs.Told.{TellsNone};

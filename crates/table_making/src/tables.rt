@@ -15,12 +15,12 @@ pub const DAYS: &str =
   tuples INTEGER NOT NULL, notices INTEGER NOT NULL, notices_digest BLOB NOT NULL,
   total INTEGER NOT NULL) STRICT";
 
-/// That of amounts.
+/// The text of the table of amounts.
 pub const SPENT: &str =
     "CREATE TABLE spent (day INTEGER NOT NULL, vid INTEGER NOT NULL, xway INTEGER NOT NULL,
   tolls INTEGER NOT NULL, PRIMARY KEY (day, vid, xway)) STRICT";
 
-/// That of a history.
+/// The text of the table of the history.
 pub const PAST: &str =
     "CREATE TABLE past (one INTEGER PRIMARY KEY CHECK (one = 1), base INTEGER NOT NULL,
   digest BLOB NOT NULL, bytes INTEGER NOT NULL, rows_kept INTEGER NOT NULL) STRICT";

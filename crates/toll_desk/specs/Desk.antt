@@ -42,7 +42,7 @@ AnswersRead (Import day count early) o told before now room old new end = Unit {
 AnswersRead (Live vid) o told before now room old new end = Unit {0}
 AnswersRead LiveTotal o told before now room old new end = Unit {0}
 
--- it is asked of what is kept, and not of the live board
+-- a request asks for what is kept, and not for the live board
 abbrev pub IsOfKept : Asked → Type 0
 IsOfKept (Day day) = Unit {0}
 IsOfKept (Spent day xway vid) = Unit {0}

@@ -11,7 +11,7 @@ use Rattle.toll_requests.specs.declared.asked.Asked.TheVariants.{Day, Import, Sp
 use Rattle.toll_requests.specs.declared.session_end.SessionEnd.{SessionEnd}
 use Rattle.toll_desk.specs.Answers.{Wire, AnswersReply, good}
 
--- whom it is asked of: a vehicle, or all
+-- whom a request of the live board is about: a vehicle, or all
 abbrev pub asked_of : Asked → Option ℕ
 asked_of (Live vid) = Some vid
 asked_of LiveTotal = None
@@ -19,7 +19,7 @@ asked_of (Day day) = None
 asked_of (Spent day xway vid) = None
 asked_of (Import day count early) = None
 
--- it is asked of the live board
+-- a request asks for the live board
 abbrev pub IsOfLive : Asked → Type 0
 IsOfLive (Live vid) = Unit {0}
 IsOfLive LiveTotal = Unit {0}

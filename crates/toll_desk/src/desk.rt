@@ -1,4 +1,4 @@
-// The desk.
+// A desk that is not shared: it answers what is asked of its keeper, and imports the days that are posted.
 ghost use Rattle.std.specs.Prelude.{◌≡◌, ◌≢◌, ◌≤◌, [], Some};
 ghost use Rattle.road_io.specs.Faults.{Rose};
 ghost use Rattle.road_io.specs.Plans.{NeverFails};

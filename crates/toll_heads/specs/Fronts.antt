@@ -27,8 +27,7 @@ abbrev pub IsBadHead : List ℕ → Type 0
 IsBadHead front = HasNoHead front × ((length front ≡ head_room) ⊎ NeverHasHead front)
 
 -- bytes may follow that complete a head; or the bytes end in a target, or the head has more than 64 fields, where this
--- is
--- not looked at
+-- is not looked at
 abbrev pub MayGoOn : List ℕ → Type 0
 MayGoOn bytes = ((more : List ℕ) × (h : RequestHead) × ReadsRequest (bytes ++ more) h []) ⊎ EndsInTarget bytes
 

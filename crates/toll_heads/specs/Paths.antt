@@ -34,12 +34,12 @@ abbrev pub day_place : Option ℕ → Option DeskPlace
 day_place None = None
 day_place (Some day) = Some (DayPlace day)
 
--- of a vehicle's account
+-- the place of a vehicle's account, if its number is one
 abbrev pub live_place : Option ℕ → Option DeskPlace
 live_place None = None
 live_place (Some vid) = Some (LivePlace vid)
 
--- and of a charge
+-- the place of a charge, if its three numbers are numbers
 abbrev pub spent_place : Option ℕ → Option ℕ → Option ℕ → Option DeskPlace
 spent_place (Some day) (Some xway) (Some vid) = Some (SpentPlace day xway vid)
 spent_place None xway vid = None

@@ -46,8 +46,7 @@ EndsBody left faults cut Cut = cut ≡ true
 EndsBody left faults cut LinkFault = (0 < faults) × (cut ≡ false)
 
 -- what is left of a link after a body of so many of its bytes: the body was there, and no more was read; or the bytes
--- end
--- before the body; or the link failed
+-- end before the body; or the link failed
 abbrev pub LeavesBody : ℕ → List ℕ → Option (List ℕ) → BodyEnd → Type 0
 LeavesBody count all left Whole = (count ≤ length all) × (left ≡ Some (drop count all))
 LeavesBody count all left Cut = length all < count

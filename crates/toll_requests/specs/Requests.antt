@@ -58,8 +58,7 @@ IsRequestRefused bytes r =
     ⊎ ((h : RequestHead) × (after : List ℕ) × Heads bytes h after × (wanted_of h ≡ Err r))
 
 -- an answer of the reading: what is asked; or the request was refused, with its answer, or for want of memory; or the
--- bytes
--- end before the head; or the link failed
+-- bytes end before the head; or the link failed
 abbrev pub ReadsHeadAsked : List ℕ → Option (List ℕ) → Option (List ℕ) → Option (List ℕ) → Result Asked SessionEnd →
     Type 0
 ReadsHeadAsked bytes left old new (Ok asked) =

@@ -1,3 +1,4 @@
+-- Crashes: how one is drawn, and the reports of the two vehicles that stand at one place.
 use Rattle.std.specs.Prelude.{ℕ, ◌+◌, ◌-◌, ◌*◌, ◌≤◌, ◌<◌, nat_lt, List, ◌++◌, if◌then◌else◌}
 use Rattle.rand_pcg.specs.Lcg.{Lcg}
 use Rattle.road_time.specs.declared.road.Tuple.{Tuple}

@@ -1,3 +1,4 @@
+-- Which way a vehicle goes.
 use Rattle.std.specs.Prelude.{ℕ, ◌==◌, if◌then◌else◌}
 
 -- one vehicle in four goes west

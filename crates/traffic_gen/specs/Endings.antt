@@ -1,3 +1,4 @@
+-- What was written of a plan's file, by how the generation ended.
 use Rattle.std.specs.Prelude.{ℕ, ◌≡◌, ◌<◌, List, length, take, Option, Result, Ok, Err}
 use Rattle.std.specs.Io.KnownBytes.{Appends}
 use Rattle.traffic_gen.specs.declared.plan.GenPlan.{GenPlan}

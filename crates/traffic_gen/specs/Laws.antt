@@ -1,3 +1,4 @@
+-- Laws of generated traffic, which no code runs.
 use Rattle.std.specs.Prelude.{ℕ, ◌≡◌, ◌≤◌, None, length}
 use Rattle.road_time.specs.declared.day.TheConstants.Limits.{DAY}
 use Rattle.road_time.specs.Fits.{IsDay}
@@ -13,11 +14,11 @@ AcceptedLaw =
     (plan : GenPlan) → field_out plan ≡ None → IsDay (generated plan)
     × ((late : ℕ) → reads (file_of plan) DAY late ≡ record { tuples = generated plan; refused = None })
 
--- its lines stand in the order of Time, vehicle and type, no two alike
+-- the lines of a generated file stand in the order of Time, vehicle and type, no two alike
 abbrev pub LineOrderLaw : Type 0
 LineOrderLaw = (plan : GenPlan) → field_out plan ≡ None → InLineOrder (generated plan)
 
--- and it is of bounded size
+-- a generated file is of bounded size
 abbrev pub SizeLaw : Type 0
 SizeLaw = (plan : GenPlan) → field_out plan ≡ None → (length (generated plan) ≤ 200000)
     × (length (file_of plan) ≤ 40000000)

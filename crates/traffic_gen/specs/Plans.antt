@@ -1,3 +1,4 @@
+-- What a plan may ask for, and when its traffic ends.
 use Rattle.std.specs.Prelude.{ℕ, ◌*◌, ◌≤◌, ◌&&◌, not, nat_le, Option, Some, None, if◌then◌else◌}
 use Rattle.traffic_gen.specs.declared.plan.GenPlan.{GenPlan}
 

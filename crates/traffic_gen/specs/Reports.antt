@@ -1,3 +1,4 @@
+-- The reports of a vehicle, one every 30 seconds up to the end of the traffic.
 use Rattle.std.specs.Prelude.{ℕ, ◌+◌, ◌-◌, ◌*◌, ◌/◌, ◌==◌, nat_lt, List, map, filter, if◌then◌else◌}
 use Rattle.std.specs.List.{range_with_len}
 use Rattle.road_time.specs.declared.road.Tuple.{Tuple}

@@ -1,3 +1,4 @@
+-- The traffic of a plan: all its crashes and trips, and the file of their tuples.
 use Rattle.std.specs.Prelude.{ℕ, zero, suc, ◌+◌, ◌-◌, ◌*◌, List, ◌++◌}
 use Rattle.std.specs.List.{flat_map, range_with_len}
 use Rattle.rand_pcg.specs.Lcg.{Lcg}

@@ -1,3 +1,4 @@
+-- Trips: how one is drawn, the reports of its vehicle from entry to exit, and what the vehicle asks.
 use Rattle.std.specs.Prelude.{ℕ, ◌+◌, ◌*◌, ◌%◌, ◌==◌, ◌≤◌, ◌<◌, ◌&&◌, nat_lt, Bool, List, [], ◌∷◌, ◌++◌, Option, Some}
 use Rattle.std.specs.Prelude.{None, IfSome, if◌then◌else◌}
 use Rattle.rand_pcg.specs.Lcg.{Lcg}
@@ -51,7 +52,7 @@ pub record IsTrip (t : Trip) : Type 0 where
   pub slow : t.speed ≤ 50
   pub past : IfSome t.past (λ day. (1 ≤ day) × (day ≤ 69))
 
--- it enters by lane 0, leaves by lane 4 and keeps to a lane of its own between
+-- the lane of report k: a trip enters by lane 0, leaves by lane 4 and keeps to a lane of its own between
 abbrev pub lane_at : Trip → ℕ → ℕ
 lane_at t k =
     if k == 0 then 0
@@ -72,15 +73,15 @@ asking_time t = time_at t.start 5 + 1
 abbrev pub asks : ℕ → Trip → Bool
 asks end t = t.vid % 10 == 0 && (nat_lt 5 t.reports && nat_lt (asking_time t) end)
 
--- with a past day it also asks what it spent on that day on its expressway
+-- the second request of a trip with a past day: what was spent on that day on its expressway
 abbrev pub spent_request : Trip → Option ℕ → List Tuple
 spent_request t None = []
 spent_request t (Some day) = Spent (asking_time t) t.vid t.xway t.vid day ∷ []
 
--- its requests, under its own number
+-- the requests of a trip, under its vehicle's own number
 abbrev pub requests : ℕ → Trip → List Tuple
 requests end t = if asks end t then Balance (asking_time t) t.vid t.vid ∷ spent_request t t.past else []
 
--- its reports and requests
+-- the reports and requests of a trip
 abbrev pub trip_tuples : ℕ → Trip → List Tuple
 trip_tuples end t = reports_before end (trip_report t) t.reports ++ requests end t

@@ -1,3 +1,4 @@
+-- The order of a file's lines: by Time, then by vehicle, then by type.
 use Rattle.std.specs.Prelude.{◌≡◌, ℕ, ◌<◌, ◌⊎◌, List, [], ◌∷◌}
 use Rattle.std.specs.List.{AllByRecursion}
 use Rattle.road_time.specs.declared.road.Tuple.{Tuple}

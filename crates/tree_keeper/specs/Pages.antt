@@ -50,7 +50,7 @@ pub record HoldOffice (size : ℕ) (pages : PageMap) (o : Office) : Type 0 where
   pub office : HasOffice (database_in size pages) o
   pub indexed : IsIndexOf (1 ∷ 2 ∷ 3 ∷ []) (trees_in size our_trees pages 1) (trees_in size our_trees pages 2)
 
--- and these are the pages that the trees begin at
+-- pages hold an office, and these are the pages that its trees begin at
 pub record StandForOffice (size : ℕ) (pages : PageMap) (roots : Roots) (o : Office) : Type 0 where
   pub holds : HoldOffice size pages o
   pub roots_are : roots_of size our_trees pages ≡ root_list roots

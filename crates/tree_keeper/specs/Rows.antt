@@ -22,7 +22,7 @@ row_key r = amount_key r.day r.vid r.xway
 abbrev pub is_within : ℕ → ℕ → SpentRow → Bool
 is_within from to r = nat_le from r.day && nat_le r.day to
 
--- and of this vehicle
+-- an amount is of this vehicle and of these days
 abbrev pub is_of_vehicle : ℕ → ℕ → ℕ → SpentRow → Bool
 is_of_vehicle vid from to r = r.vid == vid && (nat_le from r.day && nat_le r.day to)
 
@@ -39,7 +39,7 @@ pub record Walking (size : ℕ) (pages : PageMap) (o : Office) (wanted : SpentRo
   pub lists : map (take 3) (entry ∷ rows_after (Index plain) entry (trees_in size our_trees pages 2)) ≡ map row_key left
   pub ahead : HasAhead (db.layouts 3) size pages (trees_in size our_trees pages 2) batch entry
 
--- it stands at an entry, or has gathered all
+-- a walk stands at an entry, or has gathered all
 abbrev pub IsWalkedTo : ℕ → PageMap → Office → (SpentRow → Bool) → Batch → Row → List SpentRow → Bool → Type 0
 IsWalkedTo size pages o wanted batch entry rows true = Walking size pages o wanted batch entry rows
 IsWalkedTo size pages o wanted batch entry rows false = rows ≡ filter wanted o.rows

@@ -1,3 +1,4 @@
+-- What may be read of a line before it is known to be a notice: right wherever the line is a notice's text.
 use Rattle.std.specs.Prelude.{ℕ, ℤ, ◌≡◌, ◌<◌, ◌^◌, ◌==◌, nat_le, List, Option, None, true, if◌then◌else◌}
 use Rattle.std.specs.Fmt.{decimal, signed_decimal}
 use Rattle.road_time.specs.declared.road.Notice.{Notice}

@@ -1,3 +1,4 @@
+-- Why a line is refused, as the code says it, and what is printed of it.
 use Rattle.std.specs.Prelude.{ℕ, ℤ, List, ◌++◌, codes, Option, Some, None, Result, Ok, Err}
 use Rattle.std.specs.Fmt.{decimal}
 use Rattle.road_time.specs.declared.road.Tuple.{Tuple}

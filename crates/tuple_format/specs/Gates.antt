@@ -1,3 +1,4 @@
+-- What a gatekeeper keeps of the tuples that it let in, and how it judges the next one.
 use Rattle.std.specs.Prelude.{ℕ, ◌≡◌, ◌+◌, ◌≤◌, nat_eq, nat_le, is_some, List, length, Option, Some, None, Result, Ok}
 use Rattle.std.specs.Prelude.{Err, if◌then◌else◌}
 use Rattle.std.specs.Map.{lookup}

@@ -1,3 +1,4 @@
+-- A vehicle's reports in the newest of its minutes and in the two before, counted.
 use Rattle.std.specs.Prelude.{ℕ, ◌+◌, ◌==◌, nat_lt, if◌then◌else◌}
 use Rattle.tuple_format.specs.declared.recent.Recent.{Recent}
 

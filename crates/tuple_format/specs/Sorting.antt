@@ -1,3 +1,4 @@
+-- What a sorter keeps of the tuples that were put and not yet taken in the order of Time.
 use Rattle.std.specs.Prelude.{◌≡◌, ℕ, ◌≤◌, ◌+◌, Bool, false, List, length, take, drop}
 use Rattle.std.specs.List.{AllByRecursion}
 use Rattle.road_time.specs.declared.road.Tuple.{Tuple}

@@ -1,3 +1,4 @@
+-- How tuples wait for their turn: by Time, and those of one second in the order in which they came.
 use Rattle.std.specs.Prelude.{◌≡◌, ℕ, ◌<◌, List, [], ◌∷◌, Option, Some, None}
 use Rattle.std.specs.List.{AllByRecursion}
 use Rattle.std.specs.Map.{values_of}

@@ -1,3 +1,4 @@
+-- What a field may hold, as the code says it.
 use Rattle.road_time.specs.Form.{Use, From, Unused}
 use Rattle.tuple_format.specs.declared.tuples.Use.{Use as CodeUse}
 use Rattle.tuple_format.specs.declared.tuples.Use.TheVariants as uses

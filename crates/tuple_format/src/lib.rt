@@ -1,4 +1,4 @@
-// The texts of lines and notices: read, written, and refused with a cause.
+//! The texts of lines and notices: read, written, and refused with a cause.
 #![tactic(auto)]
 
 mod cause;

@@ -8,7 +8,7 @@ ghost use Rattle.tuple_format.specs.Ends.{fields_then};
 use crate::ends::{put_byte, put_field, put_signed};
 use road_time::{NoMemory, Notice};
 
-// The bytes that hold the longest line.
+/// The bytes that hold the longest line.
 pub const ROOM: usize = 96;
 
 /// The line of a kind and three numbers.

@@ -1,3 +1,4 @@
+-- What is kept of each vehicle while a day is recomputed: its newest report, the toll told last, and what it owes.
 use Rattle.std.specs.Prelude.{◌≡◌, ℕ, ◌+◌, Bool, true, false, List, [], ◌∷◌, ◌++◌, Option, Some, None, if◌then◌else◌}
 use Rattle.road_time.specs.declared.road.Report.{Report}
 use Rattle.road_time.specs.declared.road.Tuple.{Tuple}
@@ -16,12 +17,12 @@ abbrev pub newest_of : Option Account → Option Report
 newest_of None = None
 newest_of (Some a) = Some a.newest
 
--- the toll that its vehicle was told last
+-- the toll that the vehicle of an account was told last, 0 for none
 abbrev pub toll_kept : Option Account → ℕ
 toll_kept None = 0
 toll_kept (Some a) = a.toll
 
--- what it owes
+-- what the vehicle of an account owes, 0 for none
 abbrev pub owed_kept : Option Account → ℕ
 owed_kept None = 0
 owed_kept (Some a) = a.owed

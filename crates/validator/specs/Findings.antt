@@ -1,3 +1,4 @@
+-- What is found for a stretch in a minute, and the table of what was found already.
 use Rattle.std.specs.Prelude.{◌≡◌, ℕ, ◌≤◌, ◌*◌, Bool, true, false, List, Option, Some, None}
 use Rattle.std.specs.HashMap.{get, HashMap}
 use Rattle.road_time.specs.declared.road.Report.{Report}

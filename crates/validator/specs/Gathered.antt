@@ -1,3 +1,4 @@
+-- A day's tuples by stretch and minute, and its halts by stretch.
 use Rattle.std.specs.Prelude.{◌≡◌, ◌==◌, ◌&&◌, Bool, false, List, [], Option, Some, None}
 use Rattle.std.specs.Global.{Vec}
 use Rattle.std.specs.HashMap.{get}

@@ -1,3 +1,4 @@
+-- Halts by place: who stands there together, and the accidents that begin there.
 use Rattle.std.specs.Prelude.{ℕ, ◌==◌, ◌&&◌, not, Bool, true, false, List, [], ◌∷◌, map, Option}
 use Rattle.std.specs.List.{filter, list_any}
 use Rattle.road_time.specs.declared.road.Place.{Place}

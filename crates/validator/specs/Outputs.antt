@@ -1,3 +1,4 @@
+-- What is made of a day's first tuples: findings, accounts, charges and notices.
 use Rattle.std.specs.Prelude.{◌≡◌, ℕ, ◌≤◌, nat_eq, List, length, map}
 use Rattle.std.specs.HashMap.{get}
 use Rattle.road_time.specs.declared.road.Tuple.{Tuple}
@@ -17,7 +18,7 @@ pub record IsOutput (day : List Tuple) (tariffs : Tariffs) (number : ℕ) (kept 
   pub charges : map shown_charge o.charges.items ≡ charges_by (rules day tariffs) (moments before)
   pub notices : o.notices.items ≡ notices_by (rules day tariffs) number kept (moments before)
 
--- it is what it is after some tuples, fewer than a day may have
+-- what is kept and made is that after some tuples, no more than a day may have
 abbrev pub StandsAfter : List Tuple → Tariffs → ℕ → (ℕ → ℕ → ℕ → ℕ) → Output → Type 0
 StandsAfter day tariffs number kept o = (before : List Tuple) × (length before ≤ 16000000)
     × IsOutput day tariffs number kept o before

@@ -1,3 +1,4 @@
+-- A vehicle's row of an expressway, and whether it is listed.
 use Rattle.std.specs.Prelude.{ℕ, nat_lt, Bool, List}
 use Rattle.road_time.specs.declared.day.SpentRow.{SpentRow}
 use Rattle.road_time.specs.Day.{ChargedToll, sum_of}

@@ -1,3 +1,4 @@
+-- Whether the notices found are those wanted, or where they part first.
 use Rattle.std.specs.Prelude.{◌≡◌, ◌≤◌, ◌-◌, List, take, slice_get}
 use Rattle.road_time.specs.declared.road.Notice.{Notice}
 use Rattle.validator.specs.declared.verdict.Verdict.{Verdict}

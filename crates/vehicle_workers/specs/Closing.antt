@@ -1,3 +1,4 @@
+-- What was found for a day, put at the positions for which it was found.
 use Rattle.std.specs.Prelude.{◌≡◌, ℕ, ◌<◌, List, length, slice_index_or}
 use Rattle.road_time.specs.declared.road.Report.{Report}
 use Rattle.road_time.specs.Day.{given}

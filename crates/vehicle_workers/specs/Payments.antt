@@ -1,3 +1,4 @@
+-- What vehicles paid on earlier days, as entries that are looked up.
 use Rattle.std.specs.Prelude.{ℕ, ◌==◌, ◌&&◌, Bool, List}
 use Rattle.std.specs.Option.{unwrap_or}
 use Rattle.std.specs.Map.{lookup}

@@ -1,3 +1,4 @@
+-- Which state a floor stands for, and what it writes and takes as it settles.
 use Rattle.std.specs.Prelude.{◌≡◌, ℕ, ◌-◌, true, false, List, Option, Some, None, slice_get, vec_len, take, drop}
 use Rattle.road_time.specs.declared.day.Limits.{Limits}
 use Rattle.road_time.specs.Rates.{Tariffs}
@@ -21,13 +22,15 @@ abbrev pub IsHome : Tariffs → Option KeptWays → Share → Type 0
 IsHome tariffs None share = is_empty share.out ≡ false
 IsHome tariffs (Some c) share = (is_empty share.out ≡ true) × CarriageStandsFor c share.back × (c.tariffs ≡ tariffs)
 
+-- what lies at the home of the worker with this number, if there is one, is so
 abbrev pub HomeAt : Tariffs → List (Option KeptWays) → ℕ → Share → Type 0
 HomeAt tariffs homes w share = (home : Option KeptWays) → slice_get homes w ≡ Some home → IsHome tariffs home share
 
--- how many workers a floor has, and its limits
+-- how many workers a floor has
 abbrev pub width_of : Floor → ℕ
 width_of f = f.inboxes.width
 
+-- the limits of a floor
 abbrev pub limits_of : Floor → Limits
 limits_of f = f.limits
 
@@ -38,8 +41,7 @@ pub record Setting : Type 0 where
   pub history : PaidHistory
 
 -- a floor stands for a state, in a setting: its inboxes for the tuples fed, its slots for those that wait with what
--- was found for them, its homes for the shares, and its
--- settler for the tuples that are settled
+-- was found for them, its homes for the shares, and its settler for the tuples that are settled
 pub record StandsFor (g : Setting) (f : Floor) (s : State) : Type 0 where
   pub terms : AreTerms (width_of f) (limits_of f)
   pub sound : SoundState (width_of f) (limits_of f) s
@@ -63,7 +65,7 @@ WritesText g s n old now =
     WritesRun (given s.found) g.number g.history (take s.settled s.fed) (take (n - s.settled) (drop s.settled s.fed))
     old now
 
--- or some first bytes of it
+-- some first bytes of that text were written, where settling was stopped
 abbrev pub WritesSomeSettled : SettleFault → Setting → State → ℕ → Option (List ℕ) → Option (List ℕ) → Type 0
 WritesSomeSettled fault g s n old now = WritesSomeOfRun fault (given s.found) g.number g.history (take s.settled s.fed)
     (take (n - s.settled) (drop s.settled s.fed)) old now

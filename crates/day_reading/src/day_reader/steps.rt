@@ -96,6 +96,7 @@ impl DayReader {
             (result ≡ Some (Stopped ReadFault)) }
         ensures still { NeverFails (S.plan source.old) → NeverFails (S.plan source.new) }
     {
+        // Read for the proof alone: it is a number of 32 bits.
         let _limit = self.intake.line_limit;
         match self.cutter.advance(source) {
             Ok(true) => {
@@ -141,6 +142,7 @@ impl DayReader {
         ensures read { (lines : ℕ) (left : Option (List ℕ)) (bytes : List ℕ) → HasReadOf self.old lines left bytes
             → HasReadOf self.new lines left bytes }
     {
+        // Read for the proof alone: it is a number of 32 bits.
         let _limit = self.intake.line_limit;
         match self.intake.sorter.end() {
             Some(tuple) => {
@@ -165,6 +167,7 @@ impl DayReader {
         ensures read { (lines : ℕ) (left : Option (List ℕ)) (bytes : List ℕ) → HasReadOf self.old lines left bytes
             → HasReadOf self.new lines left bytes }
     {
+        // Read for the proof alone: it is a number of 32 bits.
         let _limit = self.intake.line_limit;
         match self.intake.sorter.take() {
             Some(tuple) => {

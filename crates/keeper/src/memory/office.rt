@@ -76,7 +76,7 @@ impl MemOffice {
         Ok(rows)
     }
 
-    /// Those of a vehicle.
+    /// The amounts of a vehicle on the days from one to another.
     pub fn vehicle_rows(&self, vid: u32, from: u32, to: u32) -> Result<Vec<SpentRow>, NoMemory>
         ensures rows { IfOk result (λ rows. rows.items ≡ vehicle_rows_between (memory_office self.now) vid from to) }
         ensures rise { IfOk result (λ rows. RowsRise rows.items) }
@@ -128,7 +128,7 @@ fn between(alloc: Global, rows: &[SpentRow], from: u32, to: u32) -> Result<Vec<S
     Ok(some)
 }
 
-/// Those of a vehicle.
+/// The rows of a vehicle on the days from one to another.
 fn of_vehicle(
     alloc: Global,
     rows: &[SpentRow],
