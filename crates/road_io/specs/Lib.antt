@@ -7,3 +7,5 @@ pub mod Within
 pub mod Fakes
 pub mod Links
 pub mod Cutter
+pub mod Late
+pub mod Streams

@@ -1,14 +1,13 @@
 // The standard streams, files and connections. They tell nothing of what they give or take.
-ghost use Rattle.std.specs.Prelude.{◌≡◌, ◌≢◌, None};
-ghost use Rattle.road_io.specs.Portions.{AnyPart};
-ghost use Rattle.road_io.specs.Rooms.{Untold};
-ghost use Rattle.road_io.specs.declared.edges.Opening.TheVariants.{Unopened};
+ghost use Rattle.std.specs.Prelude.{None, refl};
+ghost use Rattle.road_io.specs.Streams.{with_stream};
 
-use crate::counting::{count_fault, read_counting, write_counting};
-use crate::ending::{drop_rest, patience};
-use crate::link::Link;
+use crate::ending::patience;
+use crate::ends::TwoEnds;
+use crate::late::{LateSource, Opens};
+use crate::linking::Linking;
 use crate::sink::Writing;
-use crate::source::{Failed, Reading, Source};
+use crate::source::Reading;
 use road_time::NoMemory;
 use std::alloc::Global;
 use std::fs::File;
@@ -22,113 +21,80 @@ pub type StdSource = Reading<Stdin>;
 /// Standard output, written at once: `StdSink::new(rt.stdout())`.
 pub type StdSink = Writing<Stdout>;
 
-/// Whether a file was opened, and what came of it.
+/// The path of a file.
 #[derive(Drop)]
-enum Opening {
-    Unopened,
-    Opened(File),
-    Refused,
+pub struct FilePath {
+    rt: HostRuntime,
+    path: String,
+}
+
+impl Opens for FilePath {
+    type Opened = File;
+
+    ghost holds = { λ p. None };
+
+    fn open(&self) -> Option<File> {
+        std::fs::open(&self.rt, self.path.as_str()).ok()
+    }
 }
 
 /// A file, opened at its first read. A file that cannot be opened is a counted fault at each read, and not tried again.
-#[derive(Drop)]
-pub struct FileSource {
-    rt: HostRuntime,
-    path: String,
-    opening: Opening,
-    faults: u64,
-}
+pub type FileSource = LateSource<FilePath>;
 
-impl FileSource {
+impl LateSource<FilePath> {
     /// The file at a path, which may not be there.
     pub fn at(alloc: Global, rt: HostRuntime, path: &str) -> Result<FileSource, NoMemory> {
         let path = String::from_str(alloc, path)?;
-        Ok(FileSource {
-            rt,
-            path,
-            opening: Opening::Unopened,
-            faults: 0,
-        })
+        Ok(LateSource::new(FilePath { rt, path }))
     }
 }
 
-/// Opens a file where that was not tried yet.
-fn open_once(rt: HostRuntime, path: &str, opening: &mut Opening)
-    ensures tried { opening.new ≢ Unopened }
-    ensures once { opening.old ≢ Unopened → opening.new ≡ opening.old }
-{
-    if matches!(opening, Opening::Unopened) {
-        *opening = match std::fs::open(&rt, path) {
-            Ok(file) => Opening::Opened(file),
-            Err(_) => Opening::Refused,
-        };
-    }
+/// The ends of a connection, which are one.
+#[derive(Drop)]
+pub struct TcpEnds {
+    stream: TcpStream,
 }
 
-impl Source for FileSource {
-    ghost left = { λ s. None };
+impl TwoEnds for TcpEnds {
+    type In = TcpStream;
 
-    ghost faults = { λ s. s.faults };
+    type Out = TcpStream;
 
-    ghost plan = { λ s. None };
+    ghost inward = { λ e. e.stream };
 
-    ghost most = { λ s. AnyPart };
+    ghost outward = { λ e. e.stream };
 
-    ghost name = { λ s. 0 };
+    ghost with_inward = { with_stream };
 
-    fn read(&mut self, buf: &mut [u8]) -> Result<usize, Failed> {
-        open_once(self.rt, self.path.as_str(), &mut self.opening);
-        if let Opening::Opened(file) = &mut self.opening {
-            return read_counting(file, buf, &mut self.faults);
-        }
-        Err(count_fault(&mut self.faults))
+    ghost with_outward = { with_stream };
+
+    ghost in_is = { λ s end. refl };
+
+    ghost in_keeps = { λ s end. refl };
+
+    ghost out_is = { λ s end. refl };
+
+    ghost out_keeps = { λ s end. refl };
+
+    fn inward(&mut self) -> &mut TcpStream {
+        &mut self.stream
+    }
+
+    fn outward(&mut self) -> &mut TcpStream {
+        &mut self.stream
+    }
+
+    fn shut(&mut self) -> bool {
+        self.stream.shutdown(Shutdown::Write).is_ok()
+            && self.stream.set_read_timeout(Some(patience())).is_ok()
     }
 }
 
 /// A connection; a write of no byte is a fault.
-#[derive(Drop)]
-pub struct StreamLink {
-    rt: HostRuntime,
-    stream: TcpStream,
-    faults: u64,
-}
+pub type StreamLink = Linking<TcpEnds>;
 
-impl StreamLink {
+impl Linking<TcpEnds> {
     pub fn new(rt: HostRuntime, stream: TcpStream) -> StreamLink {
-        StreamLink {
-            rt,
-            stream,
-            faults: 0,
-        }
-    }
-}
-
-impl Link for StreamLink {
-    ghost left = { λ l. None };
-
-    ghost plan = { λ l. None };
-
-    ghost written = { λ l. None };
-
-    ghost room = { λ l. Untold };
-
-    ghost faults = { λ l. l.faults };
-
-    ghost most = { λ l. AnyPart };
-
-    fn read(&mut self, buf: &mut [u8]) -> Result<usize, Failed> {
-        read_counting(&mut self.stream, buf, &mut self.faults)
-    }
-
-    fn write(&mut self, piece: &[u8]) -> Result<usize, Failed> {
-        write_counting(&mut self.stream, piece, &mut self.faults)
-    }
-
-    fn finish(&mut self) {
-        if self.stream.shutdown(Shutdown::Write).is_ok()
-            && self.stream.set_read_timeout(Some(patience())).is_ok()
-        {
-            drop_rest(&mut self.stream, &self.rt);
-        }
+        Linking::over(rt, TcpEnds { stream })
     }
 }
