@@ -1,5 +1,5 @@
 // Crews that are asked as a caller asks them.
-ghost use Rattle.std.specs.Prelude.{◌≡◌, [], true, List, IfOk, map};
+ghost use Rattle.std.specs.Prelude.{◌≡◌, ◌≤◌, [], true, List, IfOk, map};
 ghost use Rattle.expressway.specs.Checks.{can_be_run};
 ghost use Rattle.expressway.specs.declared.job.Job.{Job as TheJob};
 ghost use Rattle.expressway.specs.declared.lane_event.LaneEvent.{LaneEvent as Event};
@@ -103,26 +103,36 @@ fn are_answered<C: Crew>(alloc: Global, crew: &mut C, toll: u64) -> Result<bool,
     Ok(is_right(&first, 0, 0, toll) && is_right(&second, 1, 1, toll))
 }
 
-/// Starts 64 jobs, by the numbers 0 to 63.
-fn start_all<C: Crew>(alloc: Global, crew: &mut C) -> Result<VecDeque<C::Ticket>, NoMemory>
-    requires { C.out crew.old ≡ [] }
+/// Starts so many jobs, by the numbers from 0.
+pub(super) fn start_all<C: Crew>(
+    alloc: Global,
+    crew: &mut C,
+    count: u32,
+) -> Result<VecDeque<C::Ticket>, NoMemory>
+    requires room { count ≤ 64 }
+    requires idle { C.out crew.old ≡ [] }
     ensures { IfOk result (λ tickets. (tasks : List (C.Ticket × TheJob)) × (map (λ t. t.0) tasks ≡ tickets.items)
         × HasOut C.out C.number C.holds C.gave crew.new tasks) }
 {
     let mut tickets = VecDeque::new(alloc);
-    for number in 0..64 {
+    for number in 0..count {
         let job = one_report(alloc, 3, number)?;
         tickets.push_back(start_beside(crew, job))?;
     }
     Ok(tickets)
 }
 
-/// Finishes them in the order of their starts: whether they were 64, each answered with its own findings.
-fn finish_each<C: Crew>(crew: &mut C, mut tickets: VecDeque<C::Ticket>, toll: u64) -> bool
+/// Finishes so many of them in the order of their starts: whether each was answered with its own findings.
+pub(super) fn finish_each<C: Crew>(
+    crew: &mut C,
+    mut tickets: VecDeque<C::Ticket>,
+    count: u32,
+    toll: u64,
+) -> bool
     requires { (tasks : List (C.Ticket × TheJob)) × (map (λ t. t.0) tasks ≡ tickets.items)
         × HasOut C.out C.number C.holds C.gave crew.old tasks }
 {
-    for number in 0..64 {
+    for number in 0..count {
         let Some(ticket) = tickets.pop_front() else {
             return false;
         };
@@ -139,8 +149,8 @@ fn serves<C: Crew + Drop>(alloc: Global, mut crew: C, toll: u64) -> Result<bool,
     requires { C.out crew ≡ [] }
 {
     let two = are_answered(alloc, &mut crew, toll)?;
-    let tickets = start_all(alloc, &mut crew)?;
-    Ok(two && finish_each(&mut crew, tickets, toll))
+    let tickets = start_all(alloc, &mut crew, 64)?;
+    Ok(two && finish_each(&mut crew, tickets, 64, toll))
 }
 
 /// Each crew answers each job with its own findings, in whatever order they are finished, with as many as 64 out.

@@ -4,6 +4,8 @@ ghost use Rattle.expressway.specs.Checks.{can_be_run};
 ghost use Rattle.expressway.specs.declared.lane_event.LaneEvent.{LaneEvent as Event};
 ghost use Rattle.expressway.specs.Ready.{IsReady};
 
+mod held;
+
 use expressway::{Carriage, Done, Events, Finding, Job, LaneEvent};
 use partition_workers::{Crew, Gate, NoGate, finish_among, run_both, start_beside};
 use road_time::{NoMemory, Report, Tariffs};

@@ -1,0 +1,32 @@
+// What is printed of an outcome.
+use import_once::Outcome;
+use keeper::DayRecord;
+use std::io;
+use std::rt::HostRuntime;
+
+/// A record in figures, and the digests of its lines and of its notices.
+fn show_record(rt: HostRuntime, word: &str, record: &DayRecord) -> io::Result<()> {
+    let tuples = record.tuples;
+    let bytes = record.bytes;
+    let notices = record.notices;
+    let total = record.total;
+    println!(rt; "{word}: {tuples} tuples, {bytes} bytes, {notices} notices, {total} charged")?;
+    let (Ok(read), Ok(told)) = (
+        record.digest.text(rt.alloc()),
+        record.notices_digest.text(rt.alloc()),
+    ) else {
+        return println!(rt; "no memory for the digests");
+    };
+    println!(rt; "lines {read}")?;
+    println!(rt; "notices {told}")
+}
+
+/// An outcome.
+pub(crate) fn show(rt: HostRuntime, outcome: &Outcome) -> io::Result<()> {
+    match outcome {
+        Outcome::Answered(record) => show_record(rt, "answered", record),
+        Outcome::Stored(record) => show_record(rt, "stored", record),
+        Outcome::Already(record) => show_record(rt, "already", record),
+        other => println!(rt; "{other:?}"),
+    }
+}
