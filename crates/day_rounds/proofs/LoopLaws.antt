@@ -1,7 +1,9 @@
 -- rounds over the tuples of a day
-use Rattle.std.proofs.Common.{◌≡◌, ℕ, ◌+◌, ◌≤◌, List, [], ◌∷◌, length, refl, ap, arith}
+use Rattle.std.proofs.Common.{◌≡◌, ◌≢◌, ℕ, ◌+◌, ◌≤◌, List, [], ◌∷◌, length, Result, Ok, Err, OnOk, refl, ap, arith}
 use Rattle.road_time.specs.declared.road.Tuple.{Tuple}
 use Rattle.watermark.specs.Shares.{State}
+use Rattle.day_rounds.specs.declared.fault.DayFault.{DayFault}
+use Rattle.day_rounds.specs.Faults.{IsCounted, IsCountedAhead}
 
 -- there is room where all that was fed is settled
 pub some_room : (s : State) (fed : List Tuple) (room backlog : ℕ) → s.fed ≡ fed → s.settled ≡ length fed →
@@ -12,3 +14,14 @@ some_room s fed room backlog is all has some = let l = ap length is in omega (ar
 pub no_more : (xs : List Tuple) → length xs ≡ 0 → xs ≡ []
 no_more [] e = refl
 no_more (x ∷ xs) e = absurd (omega (arith, e))
+
+-- what holds of each answer but one holds where all went well
+on_passed : {T : Type 0} (fault : DayFault) (P : Type 0) (r : Result T DayFault) → (r ≢ Err fault → P) → OnOk r P
+on_passed fault P (Ok x) f = f (λ e. let no : ⊥ = cc in no)
+on_passed fault P (Err e) f = tt
+
+-- a source that reads nothing ahead is counted as one that does
+pub counted_ahead : {T : Type 0} (fault : DayFault) (before now : ℕ) (fine left : Type 0) (r : Result T DayFault) →
+    IsCounted fault before now fine left r → IsCountedAhead fault before now fine left r
+counted_ahead fault before now fine left r h =
+    record { later = h.later; cause = h.cause; passed = on_passed fault (now ≡ before) r h.still; sure = h.sure }

@@ -14,7 +14,7 @@ ghost use Rattle.day_rounds.specs.Runs.{Runs};
 ghost use Rattle.day_rounds.specs.Days.{IsOn};
 ghost use Rattle.day_rounds.specs.Drawn.{TurnMade, AreTurns};
 ghost use Rattle.day_rounds.specs.Halts.{IsCutDay};
-ghost use Rattle.day_rounds.specs.Faults.{IsCounted, IsCountedAhead};
+ghost use Rattle.day_rounds.specs.Faults.{IsCounted};
 ghost use Rattle.day_rounds.specs.declared.fault.DayFault.TheVariants.{ReadFault, WriteFault, KeeperFault};
 
 use crate::begun::Import;
@@ -96,7 +96,7 @@ pub fn run_turns<C: Crew, S: Source, K: Keeper, O: Sink, P: Publisher, R: Thread
     ensures source_same { S.name source.new ≡ S.name source.old }
     ensures publisher { P.which publisher.new ≡ P.which publisher.old }
     ensures same { K.told keeper.new ≡ K.told keeper.old }
-    ensures source { IsCountedAhead ReadFault (S.faults source.old) (S.faults source.new)
+    ensures source { IsCounted ReadFault (S.faults source.old) (S.faults source.new)
         (NeverFails (S.plan source.old)) (NeverFails (S.plan source.new)) result }
     ensures sink { IsCounted WriteFault (O.faults sink.old) (O.faults sink.new) (O.room sink.old ≡ Endless)
         (O.room sink.new ≡ Endless) result }

@@ -22,7 +22,7 @@ use Rattle.import_once.specs.declared.outcomes.Outcome.{Outcome}
 use Rattle.import_once.specs.declared.outcomes.Outcome.TheVariants.{Stored, Answered, Refused}
 use Rattle.import_once.specs.Imports.{IsOfKeptDay}
 use Rattle.import_once.specs.Runs.{stopped_outcome, refused_outcome, WhereWorked, HasStartedJobs, HasDaySteps}
-use Rattle.import_once.specs.Runs.{PublishesDay}
+use Rattle.import_once.specs.Runs.{PublishesDay, PublishesUnderSome}
 use Rattle.import_once.proofs.FinishLaws.{where_worked}
 use Rattle.day_rounds.specs.declared.fault.DayFault.TheVariants as stop
 use Rattle.keeper.specs.declared.kept.KeepFault.TheVariants as keeping
@@ -33,7 +33,7 @@ stops_unworked stop.ReadFault P = tt
 stops_unworked _ P = tt
 
 -- nor one whose keeper refused
-refused_unworked : (fault : KeepFault) (P : Type 0) → WhereWorked (refused_outcome fault) P
+pub refused_unworked : (fault : KeepFault) (P : Type 0) → WhereWorked (refused_outcome fault) P
 refused_unworked keeping.Failed P = tt
 refused_unworked keeping.NoMemory P = tt
 
@@ -165,3 +165,16 @@ pub refused_published : (number : ℕ) (was : Posted) (old now : Option Posted) 
 refused_published number was old now e (inl same) = ap published_of (same ∙ e)
 refused_published number was old now e (inr queued) =
     ap published_of (queued ∙ ap (option_map (queued_with (Begin number))) e)
+
+-- nor did one that was not worked and whose publisher stands as it was
+pub none_published : (day : List Tuple) (number backlog : ℕ) (was : Posted) (now : Option Posted) (outcome : Outcome) →
+    now ≡ Some was → WhereWorked outcome ⊥ → PublishesUnderSome day number backlog was now outcome
+none_published day number backlog was now outcome is unworked = ([], inr (ap published_of is, unworked))
+
+-- as where a keeper refused
+pub refused_none : (day : List Tuple) (number backlog : ℕ) (was : Posted) (now : Option Posted) (fault : KeepFault)
+    (outcome : Outcome) → outcome ≡ refused_outcome fault → now ≡ Some was →
+    PublishesUnderSome day number backlog was now outcome
+refused_none day number backlog was now fault outcome is same =
+    none_published day number backlog was now outcome same
+    (subst (λ (o : Outcome). WhereWorked o ⊥) (sym is) (refused_unworked fault ⊥))

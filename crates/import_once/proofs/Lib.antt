@@ -2,3 +2,4 @@ mod WorkLaws
 mod FinishLaws
 mod JobLaws
 mod RepeatLaws
+mod BlameLaws

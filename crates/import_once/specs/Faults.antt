@@ -1,5 +1,5 @@
 -- Whose fault stops an import.
-use Rattle.std.specs.Prelude.{ℕ, ◌≡◌, ◌≢◌, ◌≤◌, Bool, Option}
+use Rattle.std.specs.Prelude.{ℕ, ◌≡◌, ◌≢◌, ◌≤◌, Bool, true, Option, Some, None}
 use Rattle.road_io.specs.Faults.{Rose}
 use Rattle.road_io.specs.Plans.{NeverFails}
 use Rattle.import_once.specs.declared.outcomes.Outcome.{Outcome}
@@ -16,3 +16,8 @@ pub record FaultsBeside (before now : ℕ) (plan : Option (ℕ → Bool)) (faile
 -- neither the sink nor the keeper failed, and memory sufficed
 abbrev pub NamesNoOther : Outcome → Type 0
 NamesNoOther result = (result ≢ WriteFault) × (result ≢ KeeperFault) × (result ≢ NoMemory)
+
+-- the next call to a keeper is planned to fail
+abbrev pub FailsNext : Option (ℕ → Bool) → Type 0
+FailsNext None = ⊥
+FailsNext (Some p) = p 0 ≡ true

@@ -85,3 +85,8 @@ abbrev pub PublishesDay : Tariffs → List Tuple → ℕ → ℕ → Posted → 
 PublishesDay tariffs day number backlog was now outcome =
     HasPublished tariffs day number backlog was now outcome
     ⊎ ((published_of now ≡ Some was.published) × WhereWorked outcome ⊥)
+
+-- the same under some tariffs, as of an import whose keeper does not tell them
+abbrev pub PublishesUnderSome : List Tuple → ℕ → ℕ → Posted → Option Posted → Outcome → Type 0
+PublishesUnderSome day number backlog was now outcome =
+    (tariffs : Tariffs) × PublishesDay tariffs day number backlog was now outcome

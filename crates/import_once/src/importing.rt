@@ -7,10 +7,10 @@ ghost use Rattle.road_time.specs.Fits.{IsLimits};
 ghost use Rattle.day_reading.specs.Days.{most_of_day};
 ghost use Rattle.road_io.specs.Within.{ReadsWithin};
 ghost use Rattle.road_io.specs.Blame.{FaultsByPlan, FaultsByRoom};
-ghost use Rattle.import_once.specs.Faults.{FaultsBeside, NamesNoOther};
+ghost use Rattle.import_once.specs.Faults.{FaultsBeside, NamesNoOther, FailsNext};
 ghost use Rattle.import_once.specs.Imports.{import_answer, import_found, most_imported, Does, LeavesRest, LeavesAlone};
 ghost use Rattle.import_once.specs.Imports.{LeavesRead, PutsOnce, KeepsAll, IsUncompared};
-ghost use Rattle.import_once.specs.Runs.{DoesByCrew, HasStartedJobs, PublishesDay};
+ghost use Rattle.import_once.specs.Runs.{DoesByCrew, HasStartedJobs, PublishesDay, PublishesUnderSome};
 ghost use Rattle.accounts.specs.Operations.{Posted};
 ghost use Rattle.import_once.specs.declared.outcomes.Outcome.TheVariants.{Stored, ReadFault, WriteFault, KeeperFault};
 
@@ -62,6 +62,10 @@ pub fn import<S: Source, O: Sink, K: Keeper, C: Crew, P: Publisher, R: Threads>(
         → P.posted publisher.old ≡ Some was
         → PublishesDay o.tariffs (reads bytes limits.now late).tuples day limits.now.backlog was
         (P.posted publisher.new) result }
+    ensures published_by { C.exact ≡ true → (bytes : List ℕ) (was : Posted) → S.left source.old ≡ Some bytes
+        → P.posted publisher.old ≡ Some was
+        → PublishesUnderSome (reads bytes limits.now late).tuples day limits.now.backlog was (P.posted publisher.new)
+        result }
     ensures puts { (o : Office) → K.told keeper.old ≡ Some o → PutsOnce day o (K.told keeper.new) }
     ensures keeps { KeepsAll result (K.told keeper.new ≡ K.told keeper.old) }
     ensures whole { (bytes : List ℕ) (kept : DayRecord) → S.left source.old ≡ Some bytes → result ≡ Stored kept
@@ -86,6 +90,7 @@ pub fn import<S: Source, O: Sink, K: Keeper, C: Crew, P: Publisher, R: Threads>(
         (result ≡ ReadFault) (NamesNoOther result) }
     ensures sink { FaultsByRoom (O.faults sink.old) (O.faults sink.new) (O.room sink.old) (O.room sink.new)
         (result ≡ WriteFault) }
+    ensures asked_first { FailsNext (K.plan keeper.old) → result ≡ KeeperFault }
     ensures keeper { FaultsByPlan (K.faults keeper.old) (K.faults keeper.new) (K.plan keeper.old)
         (result ≡ KeeperFault) }
 {

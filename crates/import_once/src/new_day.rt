@@ -12,7 +12,7 @@ ghost use Rattle.road_io.specs.Blame.{FaultsByPlan, FaultsByRoom};
 ghost use Rattle.import_once.specs.Faults.{FaultsBeside, NamesNoOther};
 ghost use Rattle.import_once.specs.Imports.{new_import, new_import_found, unless_passed, Does, LeavesAlone, LeavesRead};
 ghost use Rattle.import_once.specs.Imports.{PutsOnce, KeepsAll, IsOfNewDay};
-ghost use Rattle.import_once.specs.Runs.{DoesByCrew, HasStartedJobs, PublishesDay};
+ghost use Rattle.import_once.specs.Runs.{DoesByCrew, HasStartedJobs, PublishesDay, PublishesUnderSome};
 ghost use Rattle.accounts.specs.Operations.{Posted};
 ghost use Rattle.import_once.specs.declared.outcomes.Outcome.TheVariants.{Stored, ReadFault, WriteFault, KeeperFault};
 
@@ -63,6 +63,10 @@ fn import_later<S: Source, O: Sink, K: Keeper, C: Crew, P: Publisher, R: Threads
         → P.posted publisher.old ≡ Some was
         → PublishesDay o.tariffs (reads bytes limits.now late).tuples number limits.now.backlog was
         (P.posted publisher.new) result }
+    ensures published_by { C.exact ≡ true → (bytes : List ℕ) (was : Posted) → S.left source.old ≡ Some bytes
+        → P.posted publisher.old ≡ Some was
+        → PublishesUnderSome (reads bytes limits.now late).tuples number limits.now.backlog was (P.posted publisher.new)
+        result }
     ensures puts { (o : Office) → K.told keeper.old ≡ Some o → PutsOnce number o (K.told keeper.new) }
     ensures keeps { KeepsAll result (K.told keeper.new ≡ K.told keeper.old) }
     ensures whole { (bytes : List ℕ) (kept : DayRecord) → S.left source.old ≡ Some bytes → result ≡ Stored kept
@@ -127,6 +131,10 @@ pub(crate) fn import_new<S: Source, O: Sink, K: Keeper, C: Crew, P: Publisher, R
         → P.posted publisher.old ≡ Some was
         → PublishesDay o.tariffs (reads bytes limits.now late).tuples number limits.now.backlog was
         (P.posted publisher.new) result }
+    ensures published_by { C.exact ≡ true → (bytes : List ℕ) (was : Posted) → S.left source.old ≡ Some bytes
+        → P.posted publisher.old ≡ Some was
+        → PublishesUnderSome (reads bytes limits.now late).tuples number limits.now.backlog was (P.posted publisher.new)
+        result }
     ensures puts { (o : Office) → K.told keeper.old ≡ Some o → PutsOnce number o (K.told keeper.new) }
     ensures keeps { KeepsAll result (K.told keeper.new ≡ K.told keeper.old) }
     ensures whole { (bytes : List ℕ) (kept : DayRecord) → S.left source.old ≡ Some bytes → result ≡ Stored kept

@@ -17,3 +17,4 @@ pub mod RestLaws
 pub mod StatusLaws
 pub mod ShownLaws
 pub mod PerformLaws
+pub mod StartLaws

@@ -154,7 +154,7 @@ IsAgain (Differs kept found) = Unit {0}
 IsAgain _ = ⊥
 
 -- and that of one that is not, unless it is stopped
-abbrev IsNew : Outcome → Type 0
+abbrev pub IsNew : Outcome → Type 0
 IsNew (Stored kept) = Unit {0}
 IsNew (Refused line cause) = Unit {0}
 IsNew (DayPassed last) = Unit {0}
@@ -169,8 +169,8 @@ is_again kept found = go (bytes_eq found.bytes kept.digest.bytes)
     go false = tt
 
 -- that of a day that is read is one
-is_new : (work : Work) (number : ℕ) (bytes : List ℕ) (tuples : List Tuple) (refused : Option (ℕ × Fault)) (o : Office)
-    → IsNew (unless_passed (import_worked work number bytes tuples refused o) number o).outcome
+pub is_new : (work : Work) (number : ℕ) (bytes : List ℕ) (tuples : List Tuple) (refused : Option (ℕ × Fault))
+    (o : Office) → IsNew (unless_passed (import_worked work number bytes tuples refused o) number o).outcome
 is_new work number bytes tuples refused o = go (nat_le number (last_day o)) refused
   where
     go : (b : Bool) (r : Option (ℕ × Fault)) →

@@ -25,7 +25,7 @@ use Rattle.traffic_gen.specs.declared.plan.GenFault.{GenFault}
 use Rattle.traffic_gen.specs.declared.plan.GenFault.TheVariants as traffic
 use Rattle.traffic_gen.specs.Endings as generation
 use Rattle.traffic_gen.specs.Plans.{field_out}
-use Rattle.traffic_gen.specs.Traffic.{file_of}
+use Rattle.traffic_gen.specs.Traffic.{file_of, generated}
 use Rattle.traffic_gen.proofs.FileLaws.{accepted}
 use Rattle.traffic_gen.proofs.RangeLaws.{in_range}
 use Rattle.office_commands.specs.declared.closing.Closing.{Closing}
@@ -131,3 +131,8 @@ module _ (plan : GenPlan) (late : ℕ) (file : List ℕ) (ranged : field_out pla
   pub alone_is : (day : ℕ) → alone day file late ≡ rehearsed_record day plan
   alone_is day = ap (λ bytes. alone day bytes late) same
       ∙ ap (λ r. kept_record day (file_of plan) r.tuples nothing_kept) (accepted plan (in_range plan ranged) late)
+
+  -- and its tuples are those that were generated
+  pub whole_tuples : (reads file DAY late).tuples ≡ generated plan
+  whole_tuples = ap (λ bytes. (reads bytes DAY late).tuples) same
+      ∙ ap (λ r. r.tuples) (accepted plan (in_range plan ranged) late)

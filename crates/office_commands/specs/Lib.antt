@@ -8,3 +8,4 @@ pub mod Uses
 pub mod Faults
 pub mod Endings
 pub mod Rests
+pub mod Starts

@@ -2,6 +2,7 @@
 ghost use Rattle.std.specs.Prelude.{◌≡◌, ◌≢◌, ℕ, List, [], Some, Ok, true, IsErr};
 ghost use Rattle.keeper.specs.Office.{Office};
 ghost use Rattle.road_time.specs.Fits.{IsLimits};
+ghost use Rattle.road_time.specs.Reads.{reads};
 ghost use Rattle.day_reading.specs.Days.{most_of_day};
 ghost use Rattle.road_io.specs.Within.{ReadsWithin};
 ghost use Rattle.office_words.specs.Meaning.{IsRun};
@@ -10,6 +11,7 @@ ghost use Rattle.office_commands.specs.Commands.{answers_command};
 ghost use Rattle.office_commands.specs.Faults.{TellsNoOther};
 ghost use Rattle.office_commands.specs.Endings.{Wrote, Keeps, Did, code_of};
 ghost use Rattle.office_commands.specs.Rests.{HasReadDay};
+ghost use Rattle.office_commands.specs.Starts.{StartsDay, SaysWorked};
 ghost use Rattle.office_commands.specs.declared.closing.Closing.TheVariants.{ReadFault, KeeperFault, Words};
 ghost use Rattle.road_io.specs.Blame.{FaultsByPlan, FaultsByRoom};
 
@@ -49,6 +51,9 @@ pub fn answers<S: Source, O: Sink, K: Keeper, C: Crew, R: Threads>(
         (K.told keeper.new) result }
     ensures reads { HasReadDay limits.now run.late (code_of result) (S.left source.old) (S.left source.new) }
     ensures kept { K.told keeper.new ≡ K.told keeper.old }
+    ensures jobs { (bytes : List ℕ) → S.left source.old ≡ Some bytes
+        → StartsDay run limits.now.backlog (reads bytes limits.now run.late).tuples
+        (SaysWorked (code_of result)) (C.jobs crew.old) (C.jobs crew.new) }
     ensures idle { C.out crew.new ≡ [] }
     ensures crew { C.which crew.new ≡ C.which crew.old }
     ensures said { result ≢ Ok (Some Words) }

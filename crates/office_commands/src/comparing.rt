@@ -1,5 +1,5 @@
 // The commands `validate DAY` and `audit DAY`: notices compared with those of the rules.
-ghost use Rattle.std.specs.Prelude.{◌≡◌, ◌≢◌, [], ℕ, List, Some, None, Err, IfOk, false, length};
+ghost use Rattle.std.specs.Prelude.{◌≡◌, ◌≢◌, [], ℕ, List, Some, None, Err, IfOk, IsOk, false, length};
 ghost use Rattle.road_time.specs.Day.{notices};
 ghost use Rattle.road_time.specs.Fits.{IsDay, IsLimits};
 ghost use Rattle.road_time.specs.Lines.{lines_of};
@@ -20,6 +20,7 @@ ghost use Rattle.office_commands.specs.Endings.{StandsBefore};
 ghost use Rattle.office_commands.specs.Rests.{HasReadDay, SaysBy};
 ghost use Rattle.office_commands.specs.declared.closing.Closing.TheVariants.{ReadFault, KeeperFault, Words};
 ghost use Rattle.office_commands.specs.Uses.{most_noticed};
+ghost use Rattle.office_commands.specs.Starts.{StartsBulk, SaysCompared};
 ghost use Rattle.office_commands.specs.Faults.{ReadFaults};
 ghost use Rattle.road_io.specs.Blame.{FaultsByPlan};
 
@@ -55,6 +56,7 @@ fn recompute<C: Crew, R: Threads + Sync>(
     ensures exact { IsRightFor asked.how C.exact
         → IfOk result (λ all. all ≡ notices tuples.now tariffs.now asked.day (paid history.now)) }
     ensures unused { in_bulk asked.how ≡ false → crew.new ≡ crew.old }
+    ensures jobs { StartsBulk asked.how tuples.now (IsOk result) (C.jobs crew.old) (C.jobs crew.new) }
     ensures idle { C.out crew.new ≡ [] }
     ensures crew { C.which crew.new ≡ C.which crew.old }
 {
@@ -86,6 +88,7 @@ fn wanted_notices<K: Keeper, C: Crew, R: Threads + Sync>(
         → IfOk result (λ all. all ≡ notices_of_day asked.day tuples.now o) }
     ensures kept { K.told keeper.new ≡ K.told keeper.old }
     ensures unused { in_bulk asked.how ≡ false → crew.new ≡ crew.old }
+    ensures jobs { StartsBulk asked.how tuples.now (IsOk result) (C.jobs crew.old) (C.jobs crew.new) }
     ensures idle { C.out crew.new ≡ [] }
     ensures crew { C.which crew.new ≡ C.which crew.old }
     ensures keeper { FaultsByPlan (K.faults keeper.old) (K.faults keeper.new) (K.plan keeper.old)
@@ -139,6 +142,8 @@ fn compare_day<A: Source, K: Keeper, C: Crew, R: Threads + Sync>(
         → tariffs.now ≡ o.tariffs
         → ReadsWithin (most_noticed asked.day day.now.tuples.items o) (A.left aside.old) (A.left aside.new) }
     ensures unused { in_bulk asked.how ≡ false → crew.new ≡ crew.old }
+    ensures jobs { StartsBulk asked.how day.now.tuples.items (SaysCompared (status_of result)) (C.jobs crew.old)
+        (C.jobs crew.new) }
     ensures idle { C.out crew.new ≡ [] }
     ensures crew { C.which crew.new ≡ C.which crew.old }
     ensures aside { FaultsByPlan (A.faults aside.old) (A.faults aside.new) (A.plan aside.old) (result ≡ ReadFault) }
@@ -194,6 +199,9 @@ pub fn compare_source<S: Source, A: Source, K: Keeper, C: Crew, R: Threads + Syn
         → ReadsWithin (most_noticed asked.day (compared_tuples limits.now asked bytes) o)
         (A.left aside.old) (A.left aside.new) }
     ensures unused { in_bulk asked.how ≡ false → crew.new ≡ crew.old }
+    ensures jobs { (bytes : List ℕ) → S.left source.old ≡ Some bytes
+        → StartsBulk asked.how (compared_tuples limits.now asked bytes) (SaysCompared (status_of result))
+        (C.jobs crew.old) (C.jobs crew.new) }
     ensures idle { C.out crew.new ≡ [] }
     ensures crew { C.which crew.new ≡ C.which crew.old }
     ensures read { ReadFaults (S.faults source.old) (S.faults source.new) (A.faults aside.old) (A.faults aside.new)

@@ -14,6 +14,7 @@ ghost use Rattle.office_commands.specs.declared.closing.Closing.TheVariants.{Rea
 ghost use Rattle.office_commands.specs.Uses.{asked, IsTold, IsRightCrew, IsRightAside, SourceTells, KeeperTells};
 ghost use Rattle.office_commands.specs.Uses.{uses_crew, uses_source, uses_aside, uses_keeper, changes_kept, AsksPassed};
 ghost use Rattle.office_commands.specs.Uses.{PutsAsked, most_of, most_aside_of};
+ghost use Rattle.office_commands.specs.Starts.{StartsAsked};
 ghost use Rattle.import_once.specs.Faults.{FaultsBeside};
 ghost use Rattle.office_commands.specs.Faults.{ReadFaults, TellsNoOther};
 ghost use Rattle.road_io.specs.Blame.{FaultsByPlan, FaultsByRoom};
@@ -95,6 +96,10 @@ fn run<S: Source, A: Source, O: Sink, K: Keeper, C: Crew, R: Threads + Sync>(
     ensures aside_unused { uses_aside (asked words.now) ≡ false → aside.new ≡ aside.old }
     ensures keeper_unused { uses_keeper (asked words.now) ≡ false → keeper.new ≡ keeper.old }
     ensures crew_unused { uses_crew (asked words.now) ≡ false → crew.new ≡ crew.old }
+    ensures jobs { (bytes : List ℕ) → uses_crew (asked words.now) ≡ true
+        → SourceTells (asked words.now) (S.left source.old) bytes
+        → StartsAsked limits.now (asked words.now) bytes (K.told keeper.old) (code_of result) (C.jobs crew.old)
+        (C.jobs crew.new) }
     ensures idle { C.out crew.new ≡ [] }
     ensures crew { C.which crew.new ≡ C.which crew.old }
     ensures reads { uses_source (asked words.now) ≡ true
@@ -169,6 +174,10 @@ pub fn office<S: Source, A: Source, O: Sink, K: Keeper, C: Crew, R: Threads + Sy
     ensures aside_unused { uses_aside (asked words.now) ≡ false → aside.new ≡ aside.old }
     ensures keeper_unused { uses_keeper (asked words.now) ≡ false → keeper.new ≡ keeper.old }
     ensures crew_unused { uses_crew (asked words.now) ≡ false → crew.new ≡ crew.old }
+    ensures jobs { (bytes : List ℕ) → uses_crew (asked words.now) ≡ true
+        → SourceTells (asked words.now) (S.left source.old) bytes
+        → StartsAsked limits.now (asked words.now) bytes (K.told keeper.old) result (C.jobs crew.old)
+        (C.jobs crew.new) }
     ensures idle { C.out crew.new ≡ [] }
     ensures crew { C.which crew.new ≡ C.which crew.old }
     ensures reads { uses_source (asked words.now) ≡ true

@@ -2,6 +2,7 @@
 ghost use Rattle.std.specs.Prelude.{◌≡◌, ◌≢◌, ℕ, List, [], Some, Ok, true, IsErr};
 ghost use Rattle.keeper.specs.Office.{Office, record_of};
 ghost use Rattle.road_time.specs.Fits.{IsLimits};
+ghost use Rattle.road_time.specs.Reads.{reads};
 ghost use Rattle.day_reading.specs.Days.{most_of_day};
 ghost use Rattle.road_io.specs.Within.{ReadsWithin};
 ghost use Rattle.import_once.specs.Faults.{FaultsBeside};
@@ -13,6 +14,7 @@ ghost use Rattle.office_commands.specs.Endings.{Wrote, Keeps, Did, HoldsSame, co
 ghost use Rattle.office_commands.specs.Rests.{StopsThere, ReadsUncompared, LeavesOfDay};
 ghost use Rattle.office_commands.specs.declared.closing.Closing.TheVariants.{ReadFault, KeeperFault, Words};
 ghost use Rattle.office_commands.specs.Uses.{IsPassed};
+ghost use Rattle.office_commands.specs.Starts.{StartsDay, SaysImported};
 ghost use Rattle.road_io.specs.Blame.{FaultsByPlan, FaultsByRoom};
 
 use crate::closing::Closing;
@@ -58,6 +60,9 @@ pub fn import<S: Source, O: Sink, K: Keeper, C: Crew, R: Threads>(
     ensures held { HoldsSame (code_of result) (K.told keeper.new ≡ K.told keeper.old) }
     ensures puts { (o : Office) → K.told keeper.old ≡ Some o → PutsOnce run.day o (K.told keeper.new) }
     ensures unread { (o : Office) → K.told keeper.old ≡ Some o → IsPassed run.day o → source.new ≡ source.old }
+    ensures jobs { (bytes : List ℕ) → S.left source.old ≡ Some bytes
+        → StartsDay run limits.now.backlog (reads bytes limits.now run.late).tuples
+        (SaysImported run.day (K.told keeper.old) (code_of result)) (C.jobs crew.old) (C.jobs crew.new) }
     ensures idle { C.out crew.new ≡ [] }
     ensures crew { C.which crew.new ≡ C.which crew.old }
     ensures said { result ≢ Ok (Some Words) }

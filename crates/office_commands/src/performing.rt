@@ -11,6 +11,7 @@ ghost use Rattle.office_commands.specs.declared.closing.Closing.TheVariants.{Rea
 ghost use Rattle.office_commands.specs.Uses.{IsTold, IsRightCrew, IsRightAside, SourceTells, KeeperTells, uses_crew};
 ghost use Rattle.office_commands.specs.Uses.{uses_source, uses_aside, uses_keeper, changes_kept, AsksPassed, PutsAsked};
 ghost use Rattle.office_commands.specs.Uses.{most_of, most_aside_of};
+ghost use Rattle.office_commands.specs.Starts.{StartsAsked};
 ghost use Rattle.office_commands.specs.Commands.{office_answer};
 ghost use Rattle.office_commands.specs.Faults.{ReadFaults, TellsNoOther};
 ghost use Rattle.road_io.specs.Blame.{FaultsByPlan, FaultsByRoom};
@@ -71,6 +72,10 @@ pub(crate) fn perform<S: Source, A: Source, O: Sink, K: Keeper, C: Crew, R: Thre
     ensures aside_unused { uses_aside (Some command) ≡ false → aside.new ≡ aside.old }
     ensures keeper_unused { uses_keeper (Some command) ≡ false → keeper.new ≡ keeper.old }
     ensures crew_unused { uses_crew (Some command) ≡ false → crew.new ≡ crew.old }
+    ensures jobs { (bytes : List ℕ) → uses_crew (Some command) ≡ true
+        → SourceTells (Some command) (S.left source.old) bytes
+        → StartsAsked limits.now (Some command) bytes (K.told keeper.old) (code_of result) (C.jobs crew.old)
+        (C.jobs crew.new) }
     ensures idle { C.out crew.new ≡ [] }
     ensures crew { C.which crew.new ≡ C.which crew.old }
     ensures reads { uses_source (Some command) ≡ true

@@ -1,5 +1,5 @@
 // The commands `generate SEED` and `rehearse SEED`: the traffic that a seed makes.
-ghost use Rattle.std.specs.Prelude.{◌≡◌, ◌≢◌, [], ℕ, true, Some, None, Ok, Err, IfOk, OnErr, IsErr};
+ghost use Rattle.std.specs.Prelude.{◌≡◌, ◌≢◌, [], ℕ, true, Some, None, Ok, Err, IfOk, IsOk, OnErr, IsErr};
 ghost use Rattle.road_time.specs.declared.day.TheConstants.Limits.{DAY};
 ghost use Rattle.road_time.specs.Reads.{reads};
 ghost use Rattle.road_io.specs.Fakes.{bytes_of};
@@ -7,10 +7,12 @@ ghost use Rattle.keeper.specs.Kept.{kept_record};
 ghost use Rattle.keeper.specs.Office.{Office, nothing_kept};
 ghost use Rattle.traffic_gen.specs.declared.plan.GenFault.TheVariants as gen_fault;
 ghost use Rattle.traffic_gen.specs.Plans.{field_out};
-ghost use Rattle.traffic_gen.specs.Traffic.{file_of};
+ghost use Rattle.traffic_gen.specs.Traffic.{file_of, generated};
 ghost use Rattle.office_words.specs.Meaning.{IsRun, IsSize};
 ghost use Rattle.office_commands.specs.Commands.{generate_command, rehearse_command};
+ghost use Rattle.office_commands.specs.Closings.{status_of};
 ghost use Rattle.office_commands.specs.Endings.{StandsBefore, Wrote};
+ghost use Rattle.office_commands.specs.Starts.{StartsDay};
 ghost use Rattle.office_commands.specs.Traffic.{plan_from_seed, rehearsed_record, rehearsed, EndsTraffic};
 ghost use Rattle.office_commands.specs.declared.closing.Closing.TheVariants.{ReadFault, KeeperFault, Words};
 ghost use Rattle.road_io.specs.Blame.{FaultsByRoom};
@@ -108,6 +110,8 @@ fn kept_alone<C: Crew, R: Threads>(
     requires idle { C.out crew.old ≡ [] }
     ensures kept { C.exact ≡ true
         → IfOk result (λ r. r ≡ kept_record run.day file.now (reads file.now DAY run.late).tuples nothing_kept) }
+    ensures jobs { StartsDay run DAY.backlog (reads file.now DAY run.late).tuples (IsOk result)
+        (C.jobs crew.old) (C.jobs crew.new) }
     ensures idle { C.out crew.new ≡ [] }
     ensures crew { C.which crew.new ≡ C.which crew.old }
 {
@@ -146,6 +150,8 @@ fn rehearse_plan<C: Crew, R: Threads>(
     requires range { IsRun run }
     requires idle { C.out crew.old ≡ [] }
     ensures kept { C.exact ≡ true → IfOk result (λ r. r ≡ rehearsed_record run.day plan.now) }
+    ensures jobs { StartsDay run DAY.backlog (generated plan.now) (IsOk result) (C.jobs crew.old)
+        (C.jobs crew.new) }
     ensures idle { C.out crew.new ≡ [] }
     ensures crew { C.which crew.new ≡ C.which crew.old }
 {
@@ -180,6 +186,8 @@ pub fn rehearse<C: Crew, R: Threads>(
     requires range { IsRun run }
     requires idle { C.out crew.old ≡ [] }
     ensures exact { C.exact ≡ true → (o : Office) → StandsBefore (rehearse_command seed size run o) result [] }
+    ensures jobs { StartsDay run DAY.backlog (generated (plan_from_seed seed size)) (status_of result ≡ 0)
+        (C.jobs crew.old) (C.jobs crew.new) }
     ensures idle { C.out crew.new ≡ [] }
     ensures crew { C.which crew.new ≡ C.which crew.old }
     ensures said { result ≢ Words }

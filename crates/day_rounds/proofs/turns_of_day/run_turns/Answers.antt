@@ -100,7 +100,7 @@ day-preserved g c =
       read = λ lines bytes h. v.read lines bytes (inv.read lines bytes h);
       publisher = v.publisher ∙ inv.publisher;
       same = v.same ∙ inv.same;
-      source_stands = v.source.passed ∙ inv.source_stands;
+      source_stands = v.source.still (λ e. let no : ⊥ = cc in no) ∙ inv.source_stands;
       source_sure = λ e. (v.source.sure (inv.source_sure e)).1;
       sink_stands = v.sink.still (λ e. let no : ⊥ = cc in no) ∙ inv.sink_stands;
       sink_sure = λ e. (v.sink.sure (inv.sink_sure e)).1;

@@ -1,6 +1,7 @@
-use Rattle.std.proofs.Common.{◌≡◌, ◌∙◌, Some}
+use Rattle.std.proofs.Common.{◌≡◌, ◌∙◌, Some, Ok, Err}
 use Rattle.keeper.proofs.CallLaws.{reads_same, reads_ok}
 use Rattle.import_once.proofs.JobLaws.{refused_started}
+use Rattle.import_once.proofs.BlameLaws.{fails_next, fails_outcome, fails_only}
 use Rattle.import_once.proofs.answering.answers.Goals as goal
 
 pub returns-in-Ok-clause-does : goal.returns-in-Ok-clause-does
@@ -26,3 +27,15 @@ returns-in-Ok-clause-merged g c = λ bytes o left told.
 pub returns-in-Err-clause-jobs : goal.returns-in-Err-clause-jobs
 returns-in-Err-clause-jobs g c =
     λ bytes left. refused_started _ _ _ _ c.in-Err.fault c.refused.result c.refused.ensures
+
+pub returns-in-Ok-clause-asked_first : goal.returns-in-Ok-clause-asked_first
+returns-in-Ok-clause-asked_first g c = λ fails.
+    let ok : c.tariffs.result ≡ Ok c.in-Ok.tariffs = cc in
+    absurd (fails_only c.tariffs.result c.in-Ok.tariffs ok (fails_next _ _ c.tariffs.result c.tariffs.ensures.planned
+    fails))
+
+pub returns-in-Err-clause-asked_first : goal.returns-in-Err-clause-asked_first
+returns-in-Err-clause-asked_first g c = λ fails.
+    let here : c.tariffs.result ≡ Err c.in-Err.fault = cc in
+    fails_outcome c.tariffs.result c.in-Err.fault c.refused.result c.refused.ensures here
+    (fails_next _ _ c.tariffs.result c.tariffs.ensures.planned fails)

@@ -1,11 +1,12 @@
-use Rattle.std.proofs.Common.{◌≡◌, ◌∙◌, Option, Some, None, Ok, refl, subst}
+use Rattle.std.proofs.Common.{◌≡◌, ◌∙◌, Option, Some, None, Ok, Err, refl, subst}
 use Rattle.road_time.specs.Reads.{reads}
 use Rattle.keeper.specs.declared.kept.DayRecord.{DayRecord}
 use Rattle.keeper.specs.Office.{record_of}
 use Rattle.import_once.specs.Imports.{import_read, import_merged, unless_recorded, Does, Merges}
 use Rattle.import_once.proofs.FinishLaws.{kept_alone, kept_leaves}
 use Rattle.keeper.proofs.CallLaws.{reads_same, reads_ok}
-use Rattle.import_once.proofs.JobLaws.{refused_started, none_started, kept_unworked}
+use Rattle.import_once.proofs.JobLaws.{refused_started, none_started, kept_unworked, refused_none, none_published}
+use Rattle.import_once.proofs.BlameLaws.{fails_next, fails_outcome, fails_only}
 use Rattle.import_once.proofs.importing.import.Goals as goal
 
 pub returns-in-Ok-Some-clause-alone : goal.returns-in-Ok-Some-clause-alone
@@ -63,3 +64,31 @@ pub returns-in-Ok-Some-clause-leaves : goal.returns-in-Ok-Some-clause-leaves
 returns-in-Ok-Some-clause-leaves g c = λ bytes left.
     kept_leaves c.compare.result (reads bytes c.args.limits.now c.args.late).refused bytes
     (g.S.Source.left c.compare.new.source) c.compare.ensures.kept_day
+
+pub returns-in-Ok-Some-clause-published_by : goal.returns-in-Ok-Some-clause-published_by
+returns-in-Ok-Some-clause-published_by g c = λ exact bytes was left posted.
+    none_published _ _ _ was _ c.compare.result posted (kept_unworked c.compare.result ⊥ c.compare.ensures.kept_day)
+
+pub returns-in-Ok-None-clause-published_by : goal.returns-in-Ok-None-clause-published_by
+returns-in-Ok-None-clause-published_by g c = λ exact bytes was left posted.
+    c.import_new.ensures.published_by exact bytes was left posted
+
+pub returns-in-Err-clause-published_by : goal.returns-in-Err-clause-published_by
+returns-in-Err-clause-published_by g c = λ exact bytes was left posted.
+    refused_none _ _ _ was _ c.in-Err.fault c.refused.result c.refused.ensures posted
+
+pub returns-in-Ok-Some-clause-asked_first : goal.returns-in-Ok-Some-clause-asked_first
+returns-in-Ok-Some-clause-asked_first g c = λ fails.
+    let ok : c.day.result ≡ Ok (Some c.in-Ok-Some.kept) = cc in
+    absurd (fails_only c.day.result (Some c.in-Ok-Some.kept) ok (fails_next _ _ c.day.result c.day.ensures.planned fails))
+
+pub returns-in-Ok-None-clause-asked_first : goal.returns-in-Ok-None-clause-asked_first
+returns-in-Ok-None-clause-asked_first g c = λ fails.
+    let ok : c.day.result ≡ Ok None = cc in
+    absurd (fails_only c.day.result None ok (fails_next _ _ c.day.result c.day.ensures.planned fails))
+
+pub returns-in-Err-clause-asked_first : goal.returns-in-Err-clause-asked_first
+returns-in-Err-clause-asked_first g c = λ fails.
+    let here : c.day.result ≡ Err c.in-Err.fault = cc in
+    fails_outcome c.day.result c.in-Err.fault c.refused.result c.refused.ensures here
+    (fails_next _ _ c.day.result c.day.ensures.planned fails)

@@ -4,7 +4,7 @@ use Rattle.keeper.specs.Office.{last_day}
 use Rattle.import_once.specs.Imports.{DayAnswer, import_read, import_merged, Does, Merges}
 use Rattle.import_once.proofs.FinishLaws.{new_is_read}
 use Rattle.keeper.proofs.CallLaws.{reads_same, reads_ok}
-use Rattle.import_once.proofs.JobLaws.{refused_started, none_started}
+use Rattle.import_once.proofs.JobLaws.{refused_started, none_started, refused_none, none_published}
 use Rattle.import_once.proofs.new_day.import_new.Goals as goal
 
 pub returns-else-last-number-clause-does : goal.returns-else-last-number-clause-does
@@ -62,3 +62,15 @@ returns-then-last-number-clause-jobs g c = λ bytes left. none_started _ _ _ _ _
 pub returns-in-Err-clause-jobs : goal.returns-in-Err-clause-jobs
 returns-in-Err-clause-jobs g c =
     λ bytes left. refused_started _ _ _ _ c.in-Err.fault c.refused.result c.refused.ensures
+
+pub returns-else-last-number-clause-published_by : goal.returns-else-last-number-clause-published_by
+returns-else-last-number-clause-published_by g c = λ exact bytes was left posted.
+    c.import_later.ensures.published_by exact bytes was left posted
+
+pub returns-then-last-number-clause-published_by : goal.returns-then-last-number-clause-published_by
+returns-then-last-number-clause-published_by g c = λ exact bytes was left posted.
+    none_published _ _ _ was _ _ posted tt
+
+pub returns-in-Err-clause-published_by : goal.returns-in-Err-clause-published_by
+returns-in-Err-clause-published_by g c = λ exact bytes was left posted.
+    refused_none _ _ _ was _ c.in-Err.fault c.refused.result c.refused.ensures posted

@@ -3,6 +3,7 @@ use Rattle.import_once.specs.declared.outcomes.Outcome.TheVariants.{WriteFault}
 use Rattle.import_once.specs.Imports.{answers_answer}
 use Rattle.office_commands.proofs.OutcomeLaws.{wrote, keeps, by_sink, did, by_read, by_keeper}
 use Rattle.road_time.specs.Reads.{reads}
+use Rattle.office_commands.proofs.StartLaws.{answered_worked}
 use Rattle.office_commands.proofs.RestLaws.{answered_to}
 use Rattle.office_commands.proofs.answers.answers.Goals as goal
 
@@ -48,3 +49,11 @@ returns-clause-source g c =
 pub returns-clause-keeper : goal.returns-clause-keeper
 returns-clause-keeper g c = by_keeper _ _ _ _ _ c.ended.ensures.unkept c.ended.ensures.keeper_told
     c.answers-done.ensures.keeper
+
+pub returns-clause-jobs : goal.returns-clause-jobs
+returns-clause-jobs g c = λ bytes left. record {
+  outcome = c.answers-done.result;
+  jobs = c.answers-done.ensures.jobs bytes left;
+  whole = λ said. answered_worked c.args.run.day c.answers-done.result c.ended.result c.ended.ensures.ends
+      c.answers-done.ensures.own said;
+}

@@ -1,4 +1,4 @@
-use Rattle.std.proofs.Common.{◌≡◌, ◌∙◌, ℕ, List, length, [], Option, Some, None, refl, sym, ap, subst}
+use Rattle.std.proofs.Common.{◌≡◌, ◌∙◌, ℕ, List, IsOk, length, [], Option, Some, None, refl, sym, ap, subst}
 use Rattle.road_time.specs.declared.road.Notice.{Notice}
 use Rattle.road_time.specs.Lines.{lines_of}
 use Rattle.tuple_format.specs.declared.cause.Cause.{Cause}
@@ -12,6 +12,9 @@ use Rattle.office_commands.specs.Entries.{most_compared}
 use Rattle.office_commands.specs.Rests.{SaysBy}
 use Rattle.office_commands.proofs.ClosingLaws.{refuses_empty}
 use Rattle.office_commands.proofs.RestLaws.{refused_says}
+use Rattle.road_time.specs.declared.road.Tuple.{Tuple}
+use Rattle.office_commands.specs.Starts.{StartsBulk, SaysCompared}
+use Rattle.office_commands.proofs.StartLaws.{bulk_none, bulk_weaker, refused_compared, named_compared}
 use Rattle.office_commands.proofs.comparing.compare_day.Goals as goal
 
 pub returns-in-Ok-clause-exact : goal.returns-in-Ok-clause-exact
@@ -64,3 +67,23 @@ returns-in-Ok-clause-says g c =
     let none : c.args.day.now.refused ≡ None = cc in
     subst (λ (r : Option (ℕ × Cause)). SaysBy r (status_of c.compare_notices.result)) (sym none)
     c.compare_notices.ensures.unnamed
+
+pub returns-in-Some-clause-jobs : goal.returns-in-Some-clause-jobs
+returns-in-Some-clause-jobs g c =
+    bulk_none c.args.asked.how c.args.day.now.tuples.items (SaysCompared 2) _ named_compared
+
+pub returns-in-Err-clause-jobs : goal.returns-in-Err-clause-jobs
+returns-in-Err-clause-jobs g c =
+    subst (λ (ts : List Tuple). StartsBulk c.args.asked.how ts (SaysCompared (status_of c.refused.result))
+    (g.C.Crew.jobs c.args.crew.now) (g.C.Crew.jobs c.wanted_notices.new.crew)) c.as_slice.ensures.value
+    (bulk_weaker c.args.asked.how c.as_slice.result.now (IsOk c.wanted_notices.result) _ _ _
+    (λ said. absurd (refused_compared c.in-Err.fault (subst (λ (k : Closing). SaysCompared (status_of k))
+    c.refused.ensures said))) c.wanted_notices.ensures.jobs)
+
+pub returns-in-Ok-clause-jobs : goal.returns-in-Ok-clause-jobs
+returns-in-Ok-clause-jobs g c =
+    let ok : IsOk c.wanted_notices.result = subst IsOk (sym c.in-Ok.is) refl in
+    subst (λ (ts : List Tuple). StartsBulk c.args.asked.how ts (SaysCompared (status_of c.compare_notices.result))
+    (g.C.Crew.jobs c.args.crew.now) (g.C.Crew.jobs c.wanted_notices.new.crew)) c.as_slice.ensures.value
+    (bulk_weaker c.args.asked.how c.as_slice.result.now (IsOk c.wanted_notices.result) _ _ _ (λ said. ok)
+    c.wanted_notices.ensures.jobs)

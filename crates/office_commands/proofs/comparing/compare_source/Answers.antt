@@ -6,7 +6,7 @@ use Rattle.tuple_format.specs.declared.cause.Cause.{Cause}
 use Rattle.keeper.proofs.CallLaws.{reads_same, reads_ok}
 use Rattle.office_commands.specs.declared.closing.Closing.{Closing}
 use Rattle.office_commands.specs.Days.{recomputed}
-use Rattle.office_commands.specs.Commands.{compare_command, comparison_of, unless_refused}
+use Rattle.office_commands.specs.Commands.{compare_command, comparison_of, unless_refused, compared_tuples}
 use Rattle.office_commands.specs.Endings.{StandsBefore}
 use Rattle.office_commands.proofs.ClosingLaws.{refuses_empty, stops_empty}
 use Rattle.road_io.specs.Within.{ReadsWithin}
@@ -14,6 +14,8 @@ use Rattle.office_commands.specs.Closings.{status_of}
 use Rattle.office_commands.specs.Rests.{HasReadTo}
 use Rattle.office_commands.proofs.RestLaws.{to_by, to_stopped, to_refused, says_refused, ends_there}
 use Rattle.day_reading.proofs.BoundLaws.{nothing_read}
+use Rattle.office_commands.specs.Starts.{StartsBulk, SaysCompared}
+use Rattle.office_commands.proofs.StartLaws.{bulk_none, refused_compared, stopped_compared}
 use Rattle.day_reading.specs.Days.{most_of_day}
 use Rattle.office_commands.specs.Uses.{most_noticed}
 use Rattle.office_commands.proofs.comparing.compare_source.Goals as goal
@@ -106,3 +108,23 @@ returns-in-Ok-read_day-clause-source_first g c = λ bytes left more.
     c.compare_day.ensures.source_first
     (ends_there refused bytes (g.S.Source.left c.read_day.new.source) c.in-Ok-read_day.read.refused
     (c.in-Ok-read_day.ensures.ends bytes left) more)
+
+pub returns-in-Err-clause-jobs : goal.returns-in-Err-clause-jobs
+returns-in-Err-clause-jobs g c = λ bytes left.
+    bulk_none c.args.asked.how (compared_tuples c.args.limits.now c.args.asked bytes)
+    (SaysCompared (status_of c.refused.result)) _
+    (λ said. refused_compared c.in-Err.fault (subst (λ (k : Closing). SaysCompared (status_of k)) c.refused.ensures
+    said))
+
+pub returns-clause-jobs : goal.returns-clause-jobs
+returns-clause-jobs g c = λ bytes left.
+    bulk_none c.args.asked.how (compared_tuples c.args.limits.now c.args.asked bytes)
+    (SaysCompared (status_of c.stopped.result)) _
+    (λ said. stopped_compared c.in-Err-read_day.stop (subst (λ (k : Closing). SaysCompared (status_of k))
+    c.stopped.ensures said))
+
+pub returns-in-Ok-read_day-clause-jobs : goal.returns-in-Ok-read_day-clause-jobs
+returns-in-Ok-read_day-clause-jobs g c = λ bytes left.
+    subst (λ (ts : List Tuple). StartsBulk c.args.asked.how ts (SaysCompared (status_of c.compare_day.result))
+    (g.C.Crew.jobs c.args.crew.now) (g.C.Crew.jobs c.compare_day.new.crew))
+    (c.in-Ok-read_day.ensures.tuples bytes left) c.compare_day.ensures.jobs

@@ -13,6 +13,8 @@ use Rattle.office_commands.proofs.ClosingLaws.{is_unread, is_unkept}
 use Rattle.office_commands.proofs.KeepingLaws.{kept_whole, kept_exact, kept_refused}
 use Rattle.office_commands.proofs.ConcludeLaws.{closing_of, concluded, concluded_alone, concluded_less}
 use Rattle.office_commands.proofs.StatusLaws.{read_status, rest_status, holds_status, unread_same}
+use Rattle.office_commands.specs.Starts.{StartsAsked}
+use Rattle.office_commands.proofs.StartLaws.{starts_status}
 use Rattle.office_commands.proofs.entry.office.Goals as goal
 
 -- a run that ends well is no failed one
@@ -292,3 +294,25 @@ returns-in-Ok-None-clause-keeper g c =
       still = λ well quiet. f.still (no_closing c.run.result KeeperFault res);
       sure = λ fine is. let no : ⊥ = cc in no;
     }
+
+pub returns-in-Ok-Some-clause-jobs : goal.returns-in-Ok-Some-clause-jobs
+returns-in-Ok-Some-clause-jobs g c = λ bytes used told.
+    let res : c.run.result ≡ Ok (Some c.in-Ok-Some.closing) = cc in
+    starts_status c.close.result (code_of c.run.result)
+    (λ unbroken room. c.close.ensures.status unbroken room ∙ sym (ap code_of res)) c.args.limits.now
+    (asked c.args.words.now) bytes (g.K.Keeper.told c.args.keeper.now) (g.C.Crew.jobs c.args.crew.now)
+    (g.C.Crew.jobs c.run.new.crew) (c.run.ensures.jobs bytes used told)
+
+pub returns-in-Ok-None-clause-jobs : goal.returns-in-Ok-None-clause-jobs
+returns-in-Ok-None-clause-jobs g c = λ bytes used told.
+    let res : c.run.result ≡ Ok None = cc in
+    subst (λ (code : ℕ). StartsAsked c.args.limits.now (asked c.args.words.now) bytes
+    (g.K.Keeper.told c.args.keeper.now) code (g.C.Crew.jobs c.args.crew.now) (g.C.Crew.jobs c.run.new.crew))
+    (ap code_of res) (c.run.ensures.jobs bytes used told)
+
+pub returns-in-Err-clause-jobs : goal.returns-in-Err-clause-jobs
+returns-in-Err-clause-jobs g c = λ bytes used told.
+    let res = c.in-Err.is in
+    subst (λ (code : ℕ). StartsAsked c.args.limits.now (asked c.args.words.now) bytes
+    (g.K.Keeper.told c.args.keeper.now) code (g.C.Crew.jobs c.args.crew.now) (g.C.Crew.jobs c.run.new.crew))
+    (ap code_of res) (c.run.ensures.jobs bytes used told)

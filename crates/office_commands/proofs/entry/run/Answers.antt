@@ -13,6 +13,8 @@ use Rattle.office_commands.proofs.WordLaws.{meant, meant_none}
 use Rattle.office_commands.proofs.PutLaws.{puts_same}
 use Rattle.office_commands.proofs.StatusLaws.{read_other, rest_other}
 use Rattle.office_commands.proofs.entry.run.Goals as goal
+use Rattle.office_commands.specs.Starts.{StartsAsked}
+use Rattle.office_commands.proofs.StartLaws.{starts_other}
 
 pub returns-in-Ok-clause-wrote : goal.returns-in-Ok-clause-wrote
 returns-in-Ok-clause-wrote g c = λ bytes lines o told.
@@ -203,3 +205,20 @@ pub returns-in-Err-NoMemory-clause-rest : goal.returns-in-Err-NoMemory-clause-re
 returns-in-Err-NoMemory-clause-rest g c = λ bytes o changes told kept.
     rest_other c.args.limits.now (asked c.args.words.now) 8 o bytes (g.S.Source.left c.args.source.now)
     (λ s. omega (arith, s)) (λ s. omega (arith, s))
+
+pub returns-in-Ok-clause-jobs : goal.returns-in-Ok-clause-jobs
+returns-in-Ok-clause-jobs g c = λ bytes used told.
+    let is = meant _ c.in-Ok.command c.read_words.result c.read_words.ensures.reads c.in-Ok.is in
+    subst (λ (m : Option Command). StartsAsked c.args.limits.now m bytes (g.K.Keeper.told c.args.keeper.now)
+    (code_of c.perform.result) (g.C.Crew.jobs c.args.crew.now) (g.C.Crew.jobs c.perform.new.crew)) (sym is)
+    (c.perform.ensures.jobs bytes (sym (ap uses_crew is) ∙ used) (λ need. told (ap uses_source is ∙ need)))
+
+pub returns-in-Err-Words-clause-jobs : goal.returns-in-Err-Words-clause-jobs
+returns-in-Err-Words-clause-jobs g c = λ bytes used told.
+    starts_other 1 (λ s. omega (arith, s)) (λ s. omega (arith, s)) (λ s. omega (arith, s)) c.args.limits.now
+    (asked c.args.words.now) bytes (g.K.Keeper.told c.args.keeper.now) (g.C.Crew.jobs c.args.crew.now)
+
+pub returns-in-Err-NoMemory-clause-jobs : goal.returns-in-Err-NoMemory-clause-jobs
+returns-in-Err-NoMemory-clause-jobs g c = λ bytes used told.
+    starts_other 8 (λ s. omega (arith, s)) (λ s. omega (arith, s)) (λ s. omega (arith, s)) c.args.limits.now
+    (asked c.args.words.now) bytes (g.K.Keeper.told c.args.keeper.now) (g.C.Crew.jobs c.args.crew.now)

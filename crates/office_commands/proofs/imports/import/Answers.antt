@@ -1,11 +1,13 @@
-use Rattle.std.proofs.Common.{◌≡◌}
+use Rattle.std.proofs.Common.{◌≡◌, Option, subst}
 use Rattle.import_once.specs.declared.outcomes.Outcome.TheVariants.{WriteFault}
-use Rattle.import_once.specs.Imports.{import_answer, work_by}
+use Rattle.import_once.specs.Imports.{import_answer, work_by, import_worked, unless_recorded, Merges}
 use Rattle.office_commands.proofs.OutcomeLaws.{wrote, keeps, by_sink, did, held, by_read, by_keeper}
 use Rattle.road_time.specs.Reads.{reads}
 use Rattle.day_reading.specs.Days.{most_of_day}
 use Rattle.road_io.specs.Within.{ReadsWithin}
 use Rattle.keeper.specs.Office.{record_of}
+use Rattle.keeper.specs.declared.kept.DayRecord.{DayRecord}
+use Rattle.office_commands.proofs.StartLaws.{stored_worked, imported_worked}
 use Rattle.office_commands.proofs.RestLaws.{imported_to, imported_alone, rests}
 use Rattle.office_commands.proofs.imports.import.Goals as goal
 
@@ -74,3 +76,24 @@ returns-clause-source g c =
 pub returns-clause-keeper : goal.returns-clause-keeper
 returns-clause-keeper g c = by_keeper _ _ _ _ _ c.ended.ensures.unkept c.ended.ensures.keeper_told
     c.import-done.ensures.keeper
+
+pub returns-clause-jobs : goal.returns-clause-jobs
+returns-clause-jobs g c = λ bytes left. record {
+  outcome = c.import-done.result;
+  jobs = c.import-done.ensures.jobs bytes left;
+  whole =
+      let number = c.args.run.day in
+      let read = reads bytes c.args.limits.now c.args.run.late in
+      let old = g.O.Sink.written c.args.sink.now in
+      let new = g.O.Sink.written c.import-done.new.sink in
+      let now = g.K.Keeper.told c.import-done.new.keeper in
+      let done = c.import-done.result in
+      imported_worked number done c.ended.result (g.K.Keeper.told c.args.keeper.now) c.ended.ensures.ends
+      (λ o told none well.
+      let merged = c.import-done.ensures.merged bytes o left told in
+      let work = work_by merged.found number read.tuples o in
+      stored_worked g.K.Keeper.refuses work number bytes read.tuples read.refused o old new now done c.ended.result
+      (subst (λ (r : Option DayRecord). Merges g.K.Keeper.refuses
+      (unless_recorded r (import_worked work number bytes read.tuples read.refused o) number bytes o) o old new now
+      done) none merged.merges) c.ended.ensures.ends well);
+}

@@ -304,3 +304,19 @@ returns-in-Rehearse-clause-does g c = λ bytes lines o told kept.
     (rw c.in-Rehearse.is refl)
     (rw c.in-Rehearse.is (c.rehearse.ensures.exact (told.right (ap crew_of c.in-Rehearse.is)) o))
     (returns-in-Rehearse-clause-keeps g c bytes lines o told.right told.source_is kept) (appends_none _)
+
+-- the jobs that are started
+pub returns-in-Answers-clause-jobs : goal.returns-in-Answers-clause-jobs
+returns-in-Answers-clause-jobs g c = λ bytes used told.
+    rw c.in-Answers.is (c.answers.ensures.jobs bytes (told (ap source_of c.in-Answers.is)))
+
+pub returns-in-Import-clause-jobs : goal.returns-in-Import-clause-jobs
+returns-in-Import-clause-jobs g c = λ bytes used told.
+    rw c.in-Import.is (c.import.ensures.jobs bytes (told (ap source_of c.in-Import.is)))
+
+pub returns-in-Compare-clause-jobs : goal.returns-in-Compare-clause-jobs
+returns-in-Compare-clause-jobs g c = λ bytes used told.
+    rw c.in-Compare.is (c.compare_source.ensures.jobs bytes (told (ap source_of c.in-Compare.is)))
+
+pub returns-in-Rehearse-clause-jobs : goal.returns-in-Rehearse-clause-jobs
+returns-in-Rehearse-clause-jobs g c = λ bytes used told. rw c.in-Rehearse.is c.rehearse.ensures.jobs

@@ -1,6 +1,10 @@
-use Rattle.std.proofs.Common.{ap, refl, subst, Some}
+use Rattle.std.proofs.Common.{ap, refl, subst, sym, Some}
+use Rattle.std.proofs.lemmas.Result.{err_from_is_err_and}
 use Rattle.road_time.specs.declared.day.TheConstants.Limits.{DAY}
 use Rattle.keeper.specs.Calls.{PutsNothing}
+use Rattle.road_time.specs.Reads.{reads}
+use Rattle.office_commands.specs.Starts.{WasWorked}
+use Rattle.office_commands.proofs.StartLaws.{day_none, not_ok}
 use Rattle.keeper.specs.Office.{nothing_kept}
 use Rattle.import_once.specs.Imports.{import_answer, import_found}
 use Rattle.office_commands.proofs.TrafficLaws.{Stores, alone, alone_stored, found_stored, stores, stores_found}
@@ -31,3 +35,33 @@ unreachable-requires g c =
     c.import.result by.merges (c.import.ensures.source.sure (λ n. c.in_ok-source.ensures.plan n))
     (c.import.ensures.sink.sure refl).0 (c.import.ensures.keeper.sure (λ n. c.in_ok-keeper.ensures.plan n)) in
     none_else _ c.import.result stored c.in_default.not-Stored c.in_default.not-NoMemory
+
+pub returns-in-Stored-clause-jobs : goal.returns-in-Stored-clause-jobs
+returns-in-Stored-clause-jobs g c =
+    let file = c.args.file.now in
+    record {
+      outcome = c.import.result;
+      jobs = c.import.ensures.jobs file (ap (λ x. Some x) c.in_ok-source.ensures.left);
+      whole = λ ok. subst WasWorked (sym c.in-Stored.is) tt;
+    }
+
+pub returns-in-NoMemory-clause-jobs : goal.returns-in-NoMemory-clause-jobs
+returns-in-NoMemory-clause-jobs g c =
+    let file = c.args.file.now in
+    record {
+      outcome = c.import.result;
+      jobs = c.import.ensures.jobs file (ap (λ x. Some x) c.in_ok-source.ensures.left);
+      whole = λ ok. absurd (cc ok);
+    }
+
+pub returns-in_err-source-clause-jobs : goal.returns-in_err-source-clause-jobs
+returns-in_err-source-clause-jobs g c =
+    let p = err_from_is_err_and c.from_residual.result c.from_residual.ensures.1 in
+    day_none c.args.run DAY.backlog (reads c.args.file.now DAY c.args.run.late).tuples _ _
+    (not_ok c.from_residual.result p.0 p.1)
+
+pub returns-in_err-keeper-clause-jobs : goal.returns-in_err-keeper-clause-jobs
+returns-in_err-keeper-clause-jobs g c =
+    let p = err_from_is_err_and c.from_residual-in_err-keeper.result c.from_residual-in_err-keeper.ensures.1 in
+    day_none c.args.run DAY.backlog (reads c.args.file.now DAY c.args.run.late).tuples _ _
+    (not_ok c.from_residual-in_err-keeper.result p.0 p.1)
