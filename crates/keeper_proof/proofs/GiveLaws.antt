@@ -1,6 +1,7 @@
 -- What follows of answers that give.
 use Rattle.std.proofs.Common.{◌≡◌, ◌<◌, ◌≤◌, get_or, ◌^◌, ◌==◌, ℕ, pos, max, true, inl, inr, List, [], ◌∷◌, length}
-use Rattle.std.proofs.Common.{find, Option, Some, None, IfSome, arith, Result, Ok, Err, IsErrAnd, refl, sym, subst}
+use Rattle.std.proofs.Common.{find, Option, Some, None, IfSome, arith, Result, Ok, Err, IfErr, IsErrAnd, refl, sym, ap, subst}
+use Rattle.std.proofs.Common.{◌≢◌, ◌∙◌}
 use Rattle.std.specs.List.{AllByRecursion}
 use Rattle.std.proofs.lemmas.Bool.{cases_Bool}
 use Rattle.std.proofs.lemmas.Bool.Decides.{nat_tests}
@@ -80,3 +81,35 @@ pub past_based : (past : Option PastRecord) (days : List DayRecord) (rows : List
     ((p : PastRecord) → past ≡ Some p → IsPast p days rows) → IfSome past FitsBased
 past_based None days rows fits sound = tt
 past_based (Some p) days rows fits sound = (fits, (sound p refl).based)
+
+-- what is given unless for one cause is given unless for another that it has
+pub gives_weaker : {T X : Type 0} (P Q : Type 0) (see : T → X) (r : Result T KeepFault) (y : X) → (P → Q) →
+    GivesUnless P see r y → GivesUnless Q see r y
+gives_weaker P Q see (Ok t) y f h = h
+gives_weaker P Q see (Err NoMemory) y f h = tt
+gives_weaker P Q see (Err Failed) y f h = f h
+
+-- a failure of an answer has the cause
+pub cause_given : {T X : Type 0} (R : Type 0) (see : T → X) (r : Result T KeepFault) (y : X) → GivesUnless R see r y →
+    r ≡ Err Failed → R
+cause_given R see (Ok t) y h failed = absurd (cc)
+cause_given R see (Err NoMemory) y h failed = absurd (cc)
+cause_given R see (Err Failed) y h failed = h
+
+-- an error of a reader that wants no memory is none of another's
+pub pure_handed : {T U : Type 0} (r : Result T KeepFault) (e : KeepFault) → IsErrAnd r (λ f. f ≡ e) →
+    ◌≢◌ {A = Result U KeepFault} (Err e) (Err NoMemory) → r ≢ Err NoMemory
+pure_handed (Ok t) e same pure is = absurd same
+pure_handed (Err f) e same pure is = let it : f ≡ NoMemory = cc in pure (ap Err (sym same ∙ it))
+
+-- a fault that is neither a failure nor want of memory is none
+pub no_fault : {T : Type 0} (r : Result T KeepFault) (P : KeepFault → Type 0) → r ≢ Err Failed → r ≢ Err NoMemory →
+    IfErr r P
+no_fault (Ok t) P failed memory = tt
+no_fault (Err Failed) P failed memory = absurd (failed refl)
+no_fault (Err NoMemory) P failed memory = absurd (memory refl)
+
+-- a call that gives what is there hands no error on
+pub no_error : {T U X : Type 0} (see : U → X) (e : KeepFault) (s : Result U KeepFault) (y : X) (x : T) →
+    ◌≡◌ {A = Result T KeepFault} (Err e) (Ok x) → Gives see s y
+no_error see e s y x is = absurd (cc)

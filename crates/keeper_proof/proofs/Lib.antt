@@ -1,3 +1,4 @@
+pub mod CauseSteps
 pub mod GatherLaws
 pub mod GiveLaws
 pub mod LookLaws

@@ -98,3 +98,8 @@ gives_no_failure see (Ok u) e x same h failed = absurd same
 gives_no_failure see (Err f) NoMemory x same h failed = let it : f ≡ Failed = cc in let clash : NoMemory ≡ Failed =
     sym same ∙ it in absurd (cc)
 gives_no_failure see (Err f) Failed x same h failed = absurd h
+
+-- a call that ends open where it is done is done, whatever asks that it be open
+pub done_open : {T E : Type 0} (r : Result T E) (A P Q : Type 0) → OnOk r A → (A → OnOk r P × Q) → OnOk r P
+done_open (Ok x) A P Q a f = (f a).0
+done_open (Err e) A P Q a f = tt

@@ -1,10 +1,12 @@
 // What the rows of an answer are.
-ghost use Rattle.std.specs.Prelude.{◌≡◌, ◌<◌, ◌^◌, ℕ, List, [], ◌∷◌, Option, Some, map, IfOk, IfSome};
+ghost use Rattle.std.specs.Prelude.{◌≡◌, ◌≢◌, ◌<◌, ◌≤◌, ◌^◌, ℕ, List, [], ◌∷◌, Option, Some, None, map, length};
+ghost use Rattle.std.specs.Prelude.{Ok, Err, IfOk, IfSome, IsSome, OnOk};
 ghost use Rattle.std.specs.List.{AllByRecursion};
 ghost use Rattle.road_time.specs.declared.day.SpentRow.{SpentRow};
 ghost use Rattle.road_time.specs.Rates.{Tariffs};
 ghost use Rattle.road_time.specs.Tariffs.{IsTariffs};
 ghost use Rattle.keeper.specs.declared.kept.DayRecord.{DayRecord};
+ghost use Rattle.keeper.specs.declared.kept.KeepFault.TheVariants.{NoMemory};
 ghost use Rattle.keeper.specs.declared.kept.PastRecord.{PastRecord};
 ghost use Rattle.keeper.specs.Office.{RowsRise, last_from, day_before};
 ghost use Rattle.kept_tables.specs.Codec.{spent_row, past_values};
@@ -63,8 +65,10 @@ pub fn tariffs_of(alloc: Global, found: &[Row]) -> Result<Tariffs, KeepFault>
 
 /// The history that an answer has, if any.
 pub fn past_of(found: &[Row]) -> Result<Option<PastRecord>, KeepFault>
-    ensures { (p : Option PastRecord) → IfSome p FitsBased → found.now ≡ row_if_any past_values p
+    ensures gives { (p : Option PastRecord) → IfSome p FitsBased → found.now ≡ row_if_any past_values p
         → Gives (λ x. x) result p }
+    ensures few { OnOk result (length found.now < 2) }
+    ensures based { IfOk result (λ p. IfSome p (λ q. 70 ≤ q.base)) }
 {
     match found {
         [] => Ok(None),
@@ -78,9 +82,11 @@ pub fn past_of(found: &[Row]) -> Result<Option<PastRecord>, KeepFault>
 
 /// The day that two answers have, if any.
 pub fn day_of(day: u32, found: &[Row], seals: &[Row]) -> Result<Option<DayRecord>, KeepFault>
-    ensures { (kept : Option DayRecord) → IfSome kept (λ r. FitsDay r × (r.day ≡ day))
+    ensures gives { (kept : Option DayRecord) → IfSome kept (λ r. FitsDay r × (r.day ≡ day))
         → found.now ≡ row_if_any day_columns kept → seals.now ≡ row_if_any seal_columns kept →
         Gives (λ x. x) result kept }
+    ensures none { result ≡ Ok None → length found.now ≡ 0 }
+    ensures sealed { IfOk result (λ kept. IfSome kept (λ r. (length found.now ≡ 1) × (length seals.now ≡ 1))) }
 {
     match found {
         [] => Ok(None),
@@ -91,8 +97,9 @@ pub fn day_of(day: u32, found: &[Row], seals: &[Row]) -> Result<Option<DayRecord
 
 /// The day that a row and its seal are.
 fn sealed_day(day: u32, row: &Row, seals: &[Row]) -> Result<Option<DayRecord>, KeepFault>
-    ensures { (r : DayRecord) → FitsDay r → r.day ≡ day → row.now ≡ day_columns r → seals.now ≡ seal_columns r ∷ []
-        → Gives (λ x. x) result (Some r) }
+    ensures gives { (r : DayRecord) → FitsDay r → r.day ≡ day → row.now ≡ day_columns r
+        → seals.now ≡ seal_columns r ∷ [] → Gives (λ x. x) result (Some r) }
+    ensures sealed { IfOk result (λ kept. IsSome kept × (length seals.now ≡ 1)) }
 {
     match seals {
         [seal] => {
@@ -105,7 +112,9 @@ fn sealed_day(day: u32, row: &Row, seals: &[Row]) -> Result<Option<DayRecord>, K
 
 /// The amount that an answer has, 0 for none.
 pub fn amount_in(found: &[Row]) -> Result<u64, KeepFault>
-    ensures { (tolls : ℕ) → HasAmount found.now tolls → Gives (λ x. x) result tolls }
+    ensures gives { (tolls : ℕ) → HasAmount found.now tolls → Gives (λ x. x) result tolls }
+    ensures few { OnOk result (length found.now < 2) }
+    ensures pure { result ≢ Err NoMemory }
 {
     match found {
         [] => Ok(0),

@@ -1,5 +1,5 @@
 // The calls on a database that stands for an office.
-ghost use Rattle.std.specs.Prelude.{◌≡◌, Err, IsTrue, IfOk, OnOk, OnErr};
+ghost use Rattle.std.specs.Prelude.{◌≡◌, ◌≤◌, Err, IsTrue, IfOk, IfErr, IfSome, OnOk, OnErr};
 ghost use Rattle.sqlite.specs.Held.{state};
 ghost use Rattle.sqlite.specs.State.{HasCleanDisk, KeepsCommit, Survives};
 ghost use Rattle.road_time.specs.Rates.{IsTariff};
@@ -7,12 +7,12 @@ ghost use Rattle.keeper.specs.Office.{Office, RowsRise, last_day as last_day_of,
 ghost use Rattle.keeper.specs.Office.{vehicle_rows_between};
 ghost use Rattle.road_time.specs.History.{paid};
 ghost use Rattle.keeper.specs.Kept.{IsDayPut, IsPastPut, IsLater, HasNoDays, with_day, with_past, with_tariff_of};
-ghost use Rattle.keeper.specs.declared.kept.KeepFault.TheVariants.{Failed};
+ghost use Rattle.keeper.specs.declared.kept.KeepFault.TheVariants.{NoMemory};
 ghost use Rattle.kept_tables.specs.Stands.{HasOffice, StandsForOffice};
 ghost use Rattle.kept_tables.specs.Steps.{FitsAny};
-ghost use Rattle.keeper_writes.specs.Causes.{WasRefused};
+ghost use Rattle.keeper_writes.specs.Causes.{WasRefusedIn, HasCause, LackedMemory};
 ghost use Rattle.keeper_proof.specs.Gives.{GivesUnless};
-ghost use Rattle.keeper_proof.specs.Looks.{CommitsFrom};
+ghost use Rattle.keeper_proof.specs.Looks.{CommitsFrom, HasSecond, IsSealed};
 
 use crate::reads;
 use crate::versions::ready;
@@ -28,7 +28,9 @@ pub fn last_day<S: Alter>(conn: &mut Connection<S>) -> Result<u32, KeepFault>
         → KeepsCommit (state S.Store conn.old) (state S.Store conn.new) }
     ensures gives { HasCleanDisk (state S.Store conn.new) → (o : Office)
         → StandsForOffice (state S.Store conn.old).committed o
-        → GivesUnless (WasRefused S.Store) (λ x. x) result (last_day_of o) }
+        → GivesUnless (WasRefusedIn S.Store conn.old conn.new) (λ x. x) result (last_day_of o) }
+    ensures version { HasCleanDisk (state S.Store conn.new) → OnOk result (HasSecond S.Store conn.old) }
+    ensures open { HasCleanDisk (state S.Store conn.new) → OnOk result (IsTrue (state S.Store conn.new).is_open) }
     ensures survives { Survives (state S.Store conn.old) (state S.Store conn.new) (λ _. ⊥) }
 {
     ready(conn)?;
@@ -41,7 +43,11 @@ pub fn day<S: Alter>(conn: &mut Connection<S>, day: u32) -> Result<Option<DayRec
         → KeepsCommit (state S.Store conn.old) (state S.Store conn.new) }
     ensures gives { HasCleanDisk (state S.Store conn.new) → (o : Office)
         → StandsForOffice (state S.Store conn.old).committed o
-        → GivesUnless (WasRefused S.Store) (λ x. x) result (record_of o day) }
+        → GivesUnless (WasRefusedIn S.Store conn.old conn.new) (λ x. x) result (record_of o day) }
+    ensures sealed { HasCleanDisk (state S.Store conn.new)
+        → IfOk result (λ kept. IfSome kept (λ r. IsSealed S.Store day conn.old)) }
+    ensures version { HasCleanDisk (state S.Store conn.new) → OnOk result (HasSecond S.Store conn.old) }
+    ensures open { HasCleanDisk (state S.Store conn.new) → OnOk result (IsTrue (state S.Store conn.new).is_open) }
     ensures survives { Survives (state S.Store conn.old) (state S.Store conn.new) (λ _. ⊥) }
 {
     ready(conn)?;
@@ -54,7 +60,10 @@ pub fn past<S: Alter>(conn: &mut Connection<S>) -> Result<Option<PastRecord>, Ke
         → KeepsCommit (state S.Store conn.old) (state S.Store conn.new) }
     ensures gives { HasCleanDisk (state S.Store conn.new) → (o : Office)
         → StandsForOffice (state S.Store conn.old).committed o
-        → GivesUnless (WasRefused S.Store) (λ x. x) result o.past }
+        → GivesUnless (WasRefusedIn S.Store conn.old conn.new) (λ x. x) result o.past }
+    ensures based { IfOk result (λ p. IfSome p (λ q. 70 ≤ q.base)) }
+    ensures version { HasCleanDisk (state S.Store conn.new) → OnOk result (HasSecond S.Store conn.old) }
+    ensures open { HasCleanDisk (state S.Store conn.new) → OnOk result (IsTrue (state S.Store conn.new).is_open) }
     ensures survives { Survives (state S.Store conn.old) (state S.Store conn.new) (λ _. ⊥) }
 {
     ready(conn)?;
@@ -72,7 +81,12 @@ pub fn spent<S: Alter>(
         → KeepsCommit (state S.Store conn.old) (state S.Store conn.new) }
     ensures gives { HasCleanDisk (state S.Store conn.new) → (o : Office)
         → StandsForOffice (state S.Store conn.old).committed o
-        → GivesUnless (WasRefused S.Store) (λ x. x) result (paid o.rows day vid xway) }
+        → GivesUnless (WasRefusedIn S.Store conn.old conn.new) (λ x. x) result (paid o.rows day vid xway) }
+    ensures memory { HasCleanDisk (state S.Store conn.new) → (o : Office)
+        → StandsForOffice (state S.Store conn.old).committed o → result ≡ Err NoMemory
+        → LackedMemory S.Store conn.old conn.new }
+    ensures version { HasCleanDisk (state S.Store conn.new) → OnOk result (HasSecond S.Store conn.old) }
+    ensures open { HasCleanDisk (state S.Store conn.new) → OnOk result (IsTrue (state S.Store conn.new).is_open) }
     ensures survives { Survives (state S.Store conn.old) (state S.Store conn.new) (λ _. ⊥) }
 {
     ready(conn)?;
@@ -90,8 +104,10 @@ pub fn rows<S: Alter>(
         → KeepsCommit (state S.Store conn.old) (state S.Store conn.new) }
     ensures gives { HasCleanDisk (state S.Store conn.new) → (o : Office)
         → StandsForOffice (state S.Store conn.old).committed o
-        → GivesUnless (WasRefused S.Store) (λ v. v.items) result (rows_between o from to) }
+        → GivesUnless (WasRefusedIn S.Store conn.old conn.new) (λ v. v.items) result (rows_between o from to) }
     ensures rise { IfOk result (λ v. RowsRise v.items) }
+    ensures version { HasCleanDisk (state S.Store conn.new) → OnOk result (HasSecond S.Store conn.old) }
+    ensures open { HasCleanDisk (state S.Store conn.new) → OnOk result (IsTrue (state S.Store conn.new).is_open) }
     ensures survives { Survives (state S.Store conn.old) (state S.Store conn.new) (λ _. ⊥) }
 {
     ready(conn)?;
@@ -110,8 +126,10 @@ pub fn vehicle_rows<S: Alter>(
         → KeepsCommit (state S.Store conn.old) (state S.Store conn.new) }
     ensures gives { HasCleanDisk (state S.Store conn.new) → (o : Office)
         → StandsForOffice (state S.Store conn.old).committed o
-        → GivesUnless (WasRefused S.Store) (λ v. v.items) result (vehicle_rows_between o vid from to) }
+        → GivesUnless (WasRefusedIn S.Store conn.old conn.new) (λ v. v.items) result (vehicle_rows_between o vid from to) }
     ensures rise { IfOk result (λ v. RowsRise v.items) }
+    ensures version { HasCleanDisk (state S.Store conn.new) → OnOk result (HasSecond S.Store conn.old) }
+    ensures open { HasCleanDisk (state S.Store conn.new) → OnOk result (IsTrue (state S.Store conn.new).is_open) }
     ensures survives { Survives (state S.Store conn.old) (state S.Store conn.new) (λ _. ⊥) }
 {
     ready(conn)?;
@@ -124,7 +142,9 @@ pub fn tariffs<S: Alter>(conn: &mut Connection<S>, alloc: Global) -> Result<Tari
         → KeepsCommit (state S.Store conn.old) (state S.Store conn.new) }
     ensures gives { HasCleanDisk (state S.Store conn.new) → (o : Office)
         → StandsForOffice (state S.Store conn.old).committed o
-        → GivesUnless (WasRefused S.Store) (λ x. x) result o.tariffs }
+        → GivesUnless (WasRefusedIn S.Store conn.old conn.new) (λ x. x) result o.tariffs }
+    ensures version { HasCleanDisk (state S.Store conn.new) → OnOk result (HasSecond S.Store conn.old) }
+    ensures open { HasCleanDisk (state S.Store conn.new) → OnOk result (IsTrue (state S.Store conn.new).is_open) }
     ensures survives { Survives (state S.Store conn.old) (state S.Store conn.new) (λ _. ⊥) }
 {
     ready(conn)?;
@@ -142,8 +162,10 @@ pub fn put_day<S: Alter>(
         → StandsForOffice (state S.Store conn.old).committed o → IsLater kept.now.day o
         → OnOk result (HasOffice (state S.Store conn.new).committed (with_day kept.now rows.now o))
         × OnErr result (StandsForOffice (state S.Store conn.new).committed o) }
-    ensures because { HasCleanDisk (state S.Store conn.new) → (o : Office)
-        → StandsForOffice (state S.Store conn.old).committed o → result ≡ Err Failed → WasRefused S.Store }
+    ensures version { HasCleanDisk (state S.Store conn.new) → OnOk result (HasSecond S.Store conn.old) }
+    ensures open { HasCleanDisk (state S.Store conn.new) → OnOk result (IsTrue (state S.Store conn.new).is_open) }
+    ensures why { HasCleanDisk (state S.Store conn.new) → (o : Office)
+        → StandsForOffice (state S.Store conn.old).committed o → IfErr result (HasCause S.Store conn.old conn.new) }
     ensures crash { Survives (state S.Store conn.old) (state S.Store conn.new) (CommitsFrom (IsLater kept.now.day)
         (with_day kept.now rows.now) (state S.Store conn.old).committed) }
 {
@@ -162,8 +184,10 @@ pub fn put_past<S: Alter>(
         → StandsForOffice (state S.Store conn.old).committed o → HasNoDays o
         → OnOk result (HasOffice (state S.Store conn.new).committed (with_past kept.now rows.now o))
         × OnErr result (StandsForOffice (state S.Store conn.new).committed o) }
-    ensures because { HasCleanDisk (state S.Store conn.new) → (o : Office)
-        → StandsForOffice (state S.Store conn.old).committed o → result ≡ Err Failed → WasRefused S.Store }
+    ensures version { HasCleanDisk (state S.Store conn.new) → OnOk result (HasSecond S.Store conn.old) }
+    ensures open { HasCleanDisk (state S.Store conn.new) → OnOk result (IsTrue (state S.Store conn.new).is_open) }
+    ensures why { HasCleanDisk (state S.Store conn.new) → (o : Office)
+        → StandsForOffice (state S.Store conn.old).committed o → IfErr result (HasCause S.Store conn.old conn.new) }
     ensures crash { Survives (state S.Store conn.old) (state S.Store conn.new) (CommitsFrom HasNoDays
         (with_past kept.now rows.now) (state S.Store conn.old).committed) }
 {
@@ -182,8 +206,10 @@ pub fn put_tariff<S: Alter>(
         → StandsForOffice (state S.Store conn.old).committed o
         → OnOk result (HasOffice (state S.Store conn.new).committed (with_tariff_of xway tariff.now o))
         × OnErr result (StandsForOffice (state S.Store conn.new).committed o) }
-    ensures because { HasCleanDisk (state S.Store conn.new) → (o : Office)
-        → StandsForOffice (state S.Store conn.old).committed o → result ≡ Err Failed → WasRefused S.Store }
+    ensures version { HasCleanDisk (state S.Store conn.new) → OnOk result (HasSecond S.Store conn.old) }
+    ensures open { HasCleanDisk (state S.Store conn.new) → OnOk result (IsTrue (state S.Store conn.new).is_open) }
+    ensures why { HasCleanDisk (state S.Store conn.new) → (o : Office)
+        → StandsForOffice (state S.Store conn.old).committed o → IfErr result (HasCause S.Store conn.old conn.new) }
     ensures crash { Survives (state S.Store conn.old) (state S.Store conn.new) (CommitsFrom FitsAny
         (with_tariff_of xway tariff.now) (state S.Store conn.old).committed) }
 {

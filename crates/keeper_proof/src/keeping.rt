@@ -1,5 +1,5 @@
 // The calls of a keeper on any store.
-ghost use Rattle.std.specs.Prelude.{◌≡◌, ◌⊎◌, Err, IsTrue, IfOk, OnOk, OnErr};
+ghost use Rattle.std.specs.Prelude.{◌≡◌, ◌≤◌, ◌⊎◌, Err, IsTrue, IfOk, IfErr, IfSome, OnOk, OnErr};
 ghost use Rattle.sqlite.specs.Held.{state};
 ghost use Rattle.sqlite.specs.State.{HasCleanDisk, KeepsCommit, Survives};
 ghost use Rattle.road_time.specs.Rates.{IsTariff};
@@ -8,14 +8,14 @@ ghost use Rattle.keeper.specs.Office.{vehicle_rows_between};
 ghost use Rattle.road_time.specs.History.{paid};
 ghost use Rattle.keeper.specs.Kept.{IsDayPut, IsPastPut, IsLater, HasNoDays, with_day, with_past, with_tariff_of};
 ghost use Rattle.keeper.specs.Calls.{SoundIfTold, IfTold, Reads, Puts, AllOrNothing, CountsFaults};
-ghost use Rattle.keeper.specs.declared.kept.KeepFault.TheVariants.{Failed};
+ghost use Rattle.keeper.specs.declared.kept.KeepFault.TheVariants.{Failed, NoMemory};
 ghost use Rattle.kept_tables.specs.Stands.{HasOffice, StandsForOffice, StandsForNone};
 ghost use Rattle.kept_tables.specs.Steps.{FitsAny};
 ghost use Rattle.kept_tables.specs.Told.{told_in};
-ghost use Rattle.keeper_writes.specs.Causes.{WasRefused};
+ghost use Rattle.keeper_writes.specs.Causes.{WasRefused, WasRefusedIn, HasCause, LackedMemory};
 ghost use Rattle.keeper_writes.specs.Counts.{faults_after};
 ghost use Rattle.keeper_proof.specs.Gives.{GivesUnless};
-ghost use Rattle.keeper_proof.specs.Looks.{CommitsFrom};
+ghost use Rattle.keeper_proof.specs.Looks.{CommitsFrom, HasSecond, IsSealed};
 
 use crate::calls;
 use crate::proved::ProvedKeeper;
@@ -53,6 +53,13 @@ impl<S: Steady> Keeper for ProvedKeeper<S> {
         ensures gives { HasCleanDisk (state S.Store self.new.conn) → (o : Office)
             → StandsForOffice (state S.Store self.old.conn).committed o
             → GivesUnless (WasRefused S.Store) (λ x. x) result (last_day_of o) }
+        ensures version { HasCleanDisk (state S.Store self.new.conn)
+            → OnOk result (HasSecond S.Store self.old.conn) }
+        ensures open { HasCleanDisk (state S.Store self.new.conn)
+            → OnOk result (IsTrue (state S.Store self.new.conn).is_open) }
+        ensures why { HasCleanDisk (state S.Store self.new.conn) → (o : Office)
+            → StandsForOffice (state S.Store self.old.conn).committed o → result ≡ Err Failed
+            → WasRefusedIn S.Store self.old.conn self.new.conn }
         ensures crash { Survives (state S.Store self.old.conn) (state S.Store self.new.conn) (λ _. ⊥) }
     {
         let answer = calls::last_day(&mut self.conn);
@@ -72,6 +79,15 @@ impl<S: Steady> Keeper for ProvedKeeper<S> {
         ensures gives { HasCleanDisk (state S.Store self.new.conn) → (o : Office)
             → StandsForOffice (state S.Store self.old.conn).committed o
             → GivesUnless (WasRefused S.Store) (λ x. x) result (record_of o day) }
+        ensures sealed { HasCleanDisk (state S.Store self.new.conn)
+            → IfOk result (λ kept. IfSome kept (λ r. IsSealed S.Store day self.old.conn)) }
+        ensures version { HasCleanDisk (state S.Store self.new.conn)
+            → OnOk result (HasSecond S.Store self.old.conn) }
+        ensures open { HasCleanDisk (state S.Store self.new.conn)
+            → OnOk result (IsTrue (state S.Store self.new.conn).is_open) }
+        ensures why { HasCleanDisk (state S.Store self.new.conn) → (o : Office)
+            → StandsForOffice (state S.Store self.old.conn).committed o → result ≡ Err Failed
+            → WasRefusedIn S.Store self.old.conn self.new.conn }
         ensures crash { Survives (state S.Store self.old.conn) (state S.Store self.new.conn) (λ _. ⊥) }
     {
         let answer = calls::day(&mut self.conn, day);
@@ -90,6 +106,14 @@ impl<S: Steady> Keeper for ProvedKeeper<S> {
         ensures gives { HasCleanDisk (state S.Store self.new.conn) → (o : Office)
             → StandsForOffice (state S.Store self.old.conn).committed o
             → GivesUnless (WasRefused S.Store) (λ x. x) result o.past }
+        ensures based { IfOk result (λ p. IfSome p (λ q. 70 ≤ q.base)) }
+        ensures version { HasCleanDisk (state S.Store self.new.conn)
+            → OnOk result (HasSecond S.Store self.old.conn) }
+        ensures open { HasCleanDisk (state S.Store self.new.conn)
+            → OnOk result (IsTrue (state S.Store self.new.conn).is_open) }
+        ensures why { HasCleanDisk (state S.Store self.new.conn) → (o : Office)
+            → StandsForOffice (state S.Store self.old.conn).committed o → result ≡ Err Failed
+            → WasRefusedIn S.Store self.old.conn self.new.conn }
         ensures crash { Survives (state S.Store self.old.conn) (state S.Store self.new.conn) (λ _. ⊥) }
     {
         let answer = calls::past(&mut self.conn);
@@ -109,6 +133,16 @@ impl<S: Steady> Keeper for ProvedKeeper<S> {
         ensures gives { HasCleanDisk (state S.Store self.new.conn) → (o : Office)
             → StandsForOffice (state S.Store self.old.conn).committed o
             → GivesUnless (WasRefused S.Store) (λ x. x) result (paid o.rows day vid xway) }
+        ensures version { HasCleanDisk (state S.Store self.new.conn)
+            → OnOk result (HasSecond S.Store self.old.conn) }
+        ensures open { HasCleanDisk (state S.Store self.new.conn)
+            → OnOk result (IsTrue (state S.Store self.new.conn).is_open) }
+        ensures why { HasCleanDisk (state S.Store self.new.conn) → (o : Office)
+            → StandsForOffice (state S.Store self.old.conn).committed o → result ≡ Err Failed
+            → WasRefusedIn S.Store self.old.conn self.new.conn }
+        ensures memory { HasCleanDisk (state S.Store self.new.conn) → (o : Office)
+            → StandsForOffice (state S.Store self.old.conn).committed o → result ≡ Err NoMemory
+            → LackedMemory S.Store self.old.conn self.new.conn }
         ensures crash { Survives (state S.Store self.old.conn) (state S.Store self.new.conn) (λ _. ⊥) }
     {
         let answer = calls::spent(&mut self.conn, day, vid, xway);
@@ -129,6 +163,13 @@ impl<S: Steady> Keeper for ProvedKeeper<S> {
         ensures gives { HasCleanDisk (state S.Store self.new.conn) → (o : Office)
             → StandsForOffice (state S.Store self.old.conn).committed o
             → GivesUnless (WasRefused S.Store) (λ v. v.items) result (rows_between o from to) }
+        ensures version { HasCleanDisk (state S.Store self.new.conn)
+            → OnOk result (HasSecond S.Store self.old.conn) }
+        ensures open { HasCleanDisk (state S.Store self.new.conn)
+            → OnOk result (IsTrue (state S.Store self.new.conn).is_open) }
+        ensures why { HasCleanDisk (state S.Store self.new.conn) → (o : Office)
+            → StandsForOffice (state S.Store self.old.conn).committed o → result ≡ Err Failed
+            → WasRefusedIn S.Store self.old.conn self.new.conn }
         ensures crash { Survives (state S.Store self.old.conn) (state S.Store self.new.conn) (λ _. ⊥) }
     {
         let answer = calls::rows(&mut self.conn, self.alloc, from, to);
@@ -149,6 +190,13 @@ impl<S: Steady> Keeper for ProvedKeeper<S> {
         ensures gives { HasCleanDisk (state S.Store self.new.conn) → (o : Office)
             → StandsForOffice (state S.Store self.old.conn).committed o
             → GivesUnless (WasRefused S.Store) (λ v. v.items) result (vehicle_rows_between o vid from to) }
+        ensures version { HasCleanDisk (state S.Store self.new.conn)
+            → OnOk result (HasSecond S.Store self.old.conn) }
+        ensures open { HasCleanDisk (state S.Store self.new.conn)
+            → OnOk result (IsTrue (state S.Store self.new.conn).is_open) }
+        ensures why { HasCleanDisk (state S.Store self.new.conn) → (o : Office)
+            → StandsForOffice (state S.Store self.old.conn).committed o → result ≡ Err Failed
+            → WasRefusedIn S.Store self.old.conn self.new.conn }
         ensures crash { Survives (state S.Store self.old.conn) (state S.Store self.new.conn) (λ _. ⊥) }
     {
         let answer = calls::vehicle_rows(&mut self.conn, self.alloc, vid, from, to);
@@ -168,6 +216,13 @@ impl<S: Steady> Keeper for ProvedKeeper<S> {
         ensures gives { HasCleanDisk (state S.Store self.new.conn) → (o : Office)
             → StandsForOffice (state S.Store self.old.conn).committed o
             → GivesUnless (WasRefused S.Store) (λ x. x) result o.tariffs }
+        ensures version { HasCleanDisk (state S.Store self.new.conn)
+            → OnOk result (HasSecond S.Store self.old.conn) }
+        ensures open { HasCleanDisk (state S.Store self.new.conn)
+            → OnOk result (IsTrue (state S.Store self.new.conn).is_open) }
+        ensures why { HasCleanDisk (state S.Store self.new.conn) → (o : Office)
+            → StandsForOffice (state S.Store self.old.conn).committed o → result ≡ Err Failed
+            → WasRefusedIn S.Store self.old.conn self.new.conn }
         ensures crash { Survives (state S.Store self.old.conn) (state S.Store self.new.conn) (λ _. ⊥) }
     {
         let answer = calls::tariffs(&mut self.conn, self.alloc);
@@ -188,6 +243,16 @@ impl<S: Steady> Keeper for ProvedKeeper<S> {
             → (o : Office) → StandsForOffice (state S.Store self.old.conn).committed o → IsLater kept.now.day o
             → OnOk result (HasOffice (state S.Store self.new.conn).committed (with_day kept.now rows.now o))
             × OnErr result (StandsForOffice (state S.Store self.new.conn).committed o) }
+        ensures version { HasCleanDisk (state S.Store self.new.conn)
+            → OnOk result (HasSecond S.Store self.old.conn) }
+        ensures open { HasCleanDisk (state S.Store self.new.conn)
+            → OnOk result (IsTrue (state S.Store self.new.conn).is_open) }
+        ensures done { HasCleanDisk (state S.Store self.new.conn) → (o : Office)
+            → StandsForOffice (state S.Store self.old.conn).committed o → IsLater kept.now.day o
+            → OnOk result (HasOffice (state S.Store self.new.conn).committed (with_day kept.now rows.now o)) }
+        ensures why { HasCleanDisk (state S.Store self.new.conn) → (o : Office)
+            → StandsForOffice (state S.Store self.old.conn).committed o
+            → IfErr result (HasCause S.Store self.old.conn self.new.conn) }
         ensures because { HasCleanDisk (state S.Store self.new.conn) → (o : Office)
             → StandsForOffice (state S.Store self.old.conn).committed o → result ≡ Err Failed → WasRefused S.Store }
         ensures crash { Survives (state S.Store self.old.conn) (state S.Store self.new.conn) (CommitsFrom
@@ -210,6 +275,16 @@ impl<S: Steady> Keeper for ProvedKeeper<S> {
             → (o : Office) → StandsForOffice (state S.Store self.old.conn).committed o → HasNoDays o
             → OnOk result (HasOffice (state S.Store self.new.conn).committed (with_past kept.now rows.now o))
             × OnErr result (StandsForOffice (state S.Store self.new.conn).committed o) }
+        ensures version { HasCleanDisk (state S.Store self.new.conn)
+            → OnOk result (HasSecond S.Store self.old.conn) }
+        ensures open { HasCleanDisk (state S.Store self.new.conn)
+            → OnOk result (IsTrue (state S.Store self.new.conn).is_open) }
+        ensures done { HasCleanDisk (state S.Store self.new.conn) → (o : Office)
+            → StandsForOffice (state S.Store self.old.conn).committed o → HasNoDays o
+            → OnOk result (HasOffice (state S.Store self.new.conn).committed (with_past kept.now rows.now o)) }
+        ensures why { HasCleanDisk (state S.Store self.new.conn) → (o : Office)
+            → StandsForOffice (state S.Store self.old.conn).committed o
+            → IfErr result (HasCause S.Store self.old.conn self.new.conn) }
         ensures because { HasCleanDisk (state S.Store self.new.conn) → (o : Office)
             → StandsForOffice (state S.Store self.old.conn).committed o → result ≡ Err Failed → WasRefused S.Store }
         ensures crash { Survives (state S.Store self.old.conn) (state S.Store self.new.conn) (CommitsFrom HasNoDays
@@ -232,6 +307,16 @@ impl<S: Steady> Keeper for ProvedKeeper<S> {
             → (o : Office) → StandsForOffice (state S.Store self.old.conn).committed o
             → OnOk result (HasOffice (state S.Store self.new.conn).committed (with_tariff_of xway tariff.now o))
             × OnErr result (StandsForOffice (state S.Store self.new.conn).committed o) }
+        ensures version { HasCleanDisk (state S.Store self.new.conn)
+            → OnOk result (HasSecond S.Store self.old.conn) }
+        ensures open { HasCleanDisk (state S.Store self.new.conn)
+            → OnOk result (IsTrue (state S.Store self.new.conn).is_open) }
+        ensures done { HasCleanDisk (state S.Store self.new.conn) → (o : Office)
+            → StandsForOffice (state S.Store self.old.conn).committed o
+            → OnOk result (HasOffice (state S.Store self.new.conn).committed (with_tariff_of xway tariff.now o)) }
+        ensures why { HasCleanDisk (state S.Store self.new.conn) → (o : Office)
+            → StandsForOffice (state S.Store self.old.conn).committed o
+            → IfErr result (HasCause S.Store self.old.conn self.new.conn) }
         ensures because { HasCleanDisk (state S.Store self.new.conn) → (o : Office)
             → StandsForOffice (state S.Store self.old.conn).committed o → result ≡ Err Failed → WasRefused S.Store }
         ensures crash { Survives (state S.Store self.old.conn) (state S.Store self.new.conn) (CommitsFrom FitsAny

@@ -1,13 +1,10 @@
 // A query of what was committed.
-ghost use Rattle.std.specs.Prelude.{◌≡◌, true, Err, IfOk};
-ghost use Rattle.sqlite_resolve.specs.Compile.{first};
+ghost use Rattle.std.specs.Prelude.{IfOk, IfErr};
 ghost use Rattle.sqlite.specs.Values.{bound};
 ghost use Rattle.sqlite.specs.Held.{state};
 ghost use Rattle.sqlite.specs.State.{HasCleanDisk, KeepsCommit, Survives};
-ghost use Rattle.keeper.specs.declared.kept.KeepFault.TheVariants.{Failed};
-ghost use Rattle.kept_tables.specs.Asks.{is_ask_text};
-ghost use Rattle.keeper_writes.specs.Causes.{WasRefused};
-ghost use Rattle.keeper_proof.specs.Looks.{ShowsCommitted};
+ghost use Rattle.keeper_writes.specs.Causes.{HasCause};
+ghost use Rattle.keeper_proof.specs.Looks.{IsQuery, ShowsCommitted};
 
 use keeper::KeepFault;
 use keeper_writes::refusals::refusal;
@@ -21,12 +18,12 @@ pub fn look<S: Alter>(
     sql: &str,
     params: &[ValueRef<'_>],
 ) -> Result<Vec<Row>, KeepFault>
-    requires { is_ask_text (first sql.now) ≡ true }
+    requires { IsQuery sql.now }
     ensures kept { HasCleanDisk (state S.Store conn.new)
         → KeepsCommit (state S.Store conn.old) (state S.Store conn.new) }
     ensures shown { HasCleanDisk (state S.Store conn.new)
         → IfOk result (λ rows. ShowsCommitted S.Store sql.now (bound params.now) conn.old conn.new rows.items) }
-    ensures because { HasCleanDisk (state S.Store conn.new) → result ≡ Err Failed → WasRefused S.Store }
+    ensures why { HasCleanDisk (state S.Store conn.new) → IfErr result (HasCause S.Store conn.old conn.new) }
     ensures survives { Survives (state S.Store conn.old) (state S.Store conn.new) (λ _. ⊥) }
 {
     if let Err(error) = settle(conn) {

@@ -1,13 +1,15 @@
 // What is read of the tables.
-ghost use Rattle.std.specs.Prelude.{◌≡◌, [], ◌∷◌, pos, IfOk, OnOk};
+ghost use Rattle.std.specs.Prelude.{◌≡◌, ◌≤◌, [], ◌∷◌, pos, Err, IsTrue, IfOk, IfSome, OnOk};
 ghost use Rattle.sqlite.specs.Held.{state};
 ghost use Rattle.sqlite.specs.State.{HasCleanDisk, KeepsCommit, Survives};
 ghost use Rattle.keeper.specs.Office.{Office, RowsRise, last_day as last_day_of, record_of, rows_between};
 ghost use Rattle.keeper.specs.Office.{vehicle_rows_between};
 ghost use Rattle.road_time.specs.History.{paid};
+ghost use Rattle.keeper.specs.declared.kept.KeepFault.TheVariants.{NoMemory};
 ghost use Rattle.kept_tables.specs.Stands.{HasOffice};
-ghost use Rattle.keeper_writes.specs.Causes.{WasRefused};
+ghost use Rattle.keeper_writes.specs.Causes.{WasRefusedIn, LackedMemory};
 ghost use Rattle.keeper_proof.specs.Gives.{GivesUnless};
+ghost use Rattle.keeper_proof.specs.Looks.{IsSealed};
 
 use crate::answers::{amount_in, amounts_of, day_of, last_of, past_of, tariffs_of};
 use crate::looks::look;
@@ -22,7 +24,8 @@ pub fn last_day<S: Alter>(conn: &mut Connection<S>) -> Result<u32, KeepFault>
         → KeepsCommit (state S.Store conn.old) (state S.Store conn.new) }
     ensures gives { HasCleanDisk (state S.Store conn.new) → (o : Office)
         → HasOffice (state S.Store conn.old).committed o
-        → GivesUnless (WasRefused S.Store) (λ x. x) result (last_day_of o) }
+        → GivesUnless (WasRefusedIn S.Store conn.old conn.new) (λ x. x) result (last_day_of o) }
+    ensures open { HasCleanDisk (state S.Store conn.new) → OnOk result (IsTrue (state S.Store conn.new).is_open) }
     ensures survives { Survives (state S.Store conn.old) (state S.Store conn.new) (λ _. ⊥) }
 {
     let days = look(conn, "SELECT day FROM days ORDER BY day DESC LIMIT 1", &[])?;
@@ -40,7 +43,10 @@ pub fn day<S: Alter>(conn: &mut Connection<S>, day: u32) -> Result<Option<DayRec
         → KeepsCommit (state S.Store conn.old) (state S.Store conn.new) }
     ensures gives { HasCleanDisk (state S.Store conn.new) → (o : Office)
         → HasOffice (state S.Store conn.old).committed o
-        → GivesUnless (WasRefused S.Store) (λ x. x) result (record_of o day) }
+        → GivesUnless (WasRefusedIn S.Store conn.old conn.new) (λ x. x) result (record_of o day) }
+    ensures sealed { HasCleanDisk (state S.Store conn.new)
+        → IfOk result (λ kept. IfSome kept (λ r. IsSealed S.Store day conn.old)) }
+    ensures open { HasCleanDisk (state S.Store conn.new) → OnOk result (IsTrue (state S.Store conn.new).is_open) }
     ensures survives { Survives (state S.Store conn.old) (state S.Store conn.new) (λ _. ⊥) }
 {
     let found = look(
@@ -61,7 +67,10 @@ pub fn past<S: Alter>(conn: &mut Connection<S>) -> Result<Option<PastRecord>, Ke
     ensures kept { HasCleanDisk (state S.Store conn.new)
         → KeepsCommit (state S.Store conn.old) (state S.Store conn.new) }
     ensures gives { HasCleanDisk (state S.Store conn.new) → (o : Office)
-        → HasOffice (state S.Store conn.old).committed o → GivesUnless (WasRefused S.Store) (λ x. x) result o.past }
+        → HasOffice (state S.Store conn.old).committed o
+        → GivesUnless (WasRefusedIn S.Store conn.old conn.new) (λ x. x) result o.past }
+    ensures based { IfOk result (λ p. IfSome p (λ q. 70 ≤ q.base)) }
+    ensures open { HasCleanDisk (state S.Store conn.new) → OnOk result (IsTrue (state S.Store conn.new).is_open) }
     ensures survives { Survives (state S.Store conn.old) (state S.Store conn.new) (λ _. ⊥) }
 {
     let found = look(
@@ -83,7 +92,10 @@ pub fn spent<S: Alter>(
         → KeepsCommit (state S.Store conn.old) (state S.Store conn.new) }
     ensures gives { HasCleanDisk (state S.Store conn.new) → (o : Office)
         → HasOffice (state S.Store conn.old).committed o
-        → GivesUnless (WasRefused S.Store) (λ x. x) result (paid o.rows day vid xway) }
+        → GivesUnless (WasRefusedIn S.Store conn.old conn.new) (λ x. x) result (paid o.rows day vid xway) }
+    ensures memory { HasCleanDisk (state S.Store conn.new) → result ≡ Err NoMemory
+        → LackedMemory S.Store conn.old conn.new }
+    ensures open { HasCleanDisk (state S.Store conn.new) → OnOk result (IsTrue (state S.Store conn.new).is_open) }
     ensures survives { Survives (state S.Store conn.old) (state S.Store conn.new) (λ _. ⊥) }
 {
     let found = look(
@@ -105,8 +117,9 @@ pub fn rows<S: Alter>(
         → KeepsCommit (state S.Store conn.old) (state S.Store conn.new) }
     ensures gives { HasCleanDisk (state S.Store conn.new) → (o : Office)
         → HasOffice (state S.Store conn.old).committed o
-        → GivesUnless (WasRefused S.Store) (λ v. v.items) result (rows_between o from to) }
+        → GivesUnless (WasRefusedIn S.Store conn.old conn.new) (λ v. v.items) result (rows_between o from to) }
     ensures rise { IfOk result (λ v. RowsRise v.items) }
+    ensures open { HasCleanDisk (state S.Store conn.new) → OnOk result (IsTrue (state S.Store conn.new).is_open) }
     ensures survives { Survives (state S.Store conn.old) (state S.Store conn.new) (λ _. ⊥) }
 {
     let found = look(
@@ -129,8 +142,9 @@ pub fn vehicle_rows<S: Alter>(
         → KeepsCommit (state S.Store conn.old) (state S.Store conn.new) }
     ensures gives { HasCleanDisk (state S.Store conn.new) → (o : Office)
         → HasOffice (state S.Store conn.old).committed o
-        → GivesUnless (WasRefused S.Store) (λ v. v.items) result (vehicle_rows_between o vid from to) }
+        → GivesUnless (WasRefusedIn S.Store conn.old conn.new) (λ v. v.items) result (vehicle_rows_between o vid from to) }
     ensures rise { IfOk result (λ v. RowsRise v.items) }
+    ensures open { HasCleanDisk (state S.Store conn.new) → OnOk result (IsTrue (state S.Store conn.new).is_open) }
     ensures survives { Survives (state S.Store conn.old) (state S.Store conn.new) (λ _. ⊥) }
 {
     let found = look(
@@ -146,7 +160,9 @@ pub fn tariffs<S: Alter>(conn: &mut Connection<S>, alloc: Global) -> Result<Tari
     ensures kept { HasCleanDisk (state S.Store conn.new)
         → KeepsCommit (state S.Store conn.old) (state S.Store conn.new) }
     ensures gives { HasCleanDisk (state S.Store conn.new) → (o : Office)
-        → HasOffice (state S.Store conn.old).committed o → GivesUnless (WasRefused S.Store) (λ x. x) result o.tariffs }
+        → HasOffice (state S.Store conn.old).committed o
+        → GivesUnless (WasRefusedIn S.Store conn.old conn.new) (λ x. x) result o.tariffs }
+    ensures open { HasCleanDisk (state S.Store conn.new) → OnOk result (IsTrue (state S.Store conn.new).is_open) }
     ensures survives { Survives (state S.Store conn.old) (state S.Store conn.new) (λ _. ⊥) }
 {
     let found = look(

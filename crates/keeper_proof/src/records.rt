@@ -1,11 +1,12 @@
 // What a row is: an amount, a history, a day, a tariff.
-ghost use Rattle.std.specs.Prelude.{◌≡◌, ◌<◌, ◌^◌, ℕ, pos, IfOk};
+ghost use Rattle.std.specs.Prelude.{◌≡◌, ◌≢◌, ◌<◌, ◌≤◌, ◌^◌, ℕ, pos, Err, IfOk};
 ghost use Rattle.sqlite_value.specs.Order.{column};
 ghost use Rattle.sqlite_value.specs.declared.value.Value.TheVariants.{Int, Blob};
 ghost use Rattle.road_time.specs.declared.day.SpentRow.{SpentRow};
 ghost use Rattle.road_time.specs.declared.tariff.Tariff.{Tariff};
 ghost use Rattle.road_time.specs.Rates.{IsTariff};
 ghost use Rattle.keeper.specs.declared.kept.DayRecord.{DayRecord};
+ghost use Rattle.keeper.specs.declared.kept.KeepFault.TheVariants.{NoMemory};
 ghost use Rattle.keeper.specs.declared.kept.PastRecord.{PastRecord};
 ghost use Rattle.kept_tables.specs.Codec.{spent_row, past_values};
 ghost use Rattle.kept_tables.specs.Shown.{day_columns, seal_columns, tariff_columns};
@@ -30,6 +31,7 @@ pub fn amount_of(row: &Row) -> Result<SpentRow, KeepFault>
     ensures gives { (r : SpentRow) → FitsSpent r → row.now ≡ spent_row r → Gives (λ x. x) result r }
     ensures exact { IfOk result (λ r. (column row.now 0 ≡ Int (pos r.day)) × (column row.now 1 ≡ Int (pos r.vid))
         × (column row.now 2 ≡ Int (pos r.xway)) × (column row.now 3 ≡ Int (pos r.tolls))) }
+    ensures pure { result ≢ Err NoMemory }
 {
     let day = number_32(row, 0)?;
     let vid = number_32(row, 1)?;
@@ -48,6 +50,7 @@ pub fn history_of(row: &Row) -> Result<PastRecord, KeepFault>
     ensures gives { (p : PastRecord) → FitsBased p → row.now ≡ past_values p → Gives (λ x. x) result p }
     ensures exact { IfOk result (λ p. (column row.now 0 ≡ Int (pos p.base)) × (column row.now 1 ≡ Blob p.digest.bytes)
         × (column row.now 2 ≡ Int (pos p.bytes)) × (column row.now 3 ≡ Int (pos p.rows))) }
+    ensures based { IfOk result (λ p. 70 ≤ p.base) }
 {
     let base = number_32(row, 0)?;
     let digest = digest_at(row, 1)?;
@@ -99,6 +102,7 @@ pub fn tariff_of(row: &Row) -> Result<OwnTariff, KeepFault>
     ensures exact { IfOk result (λ own. (column row.now 0 ≡ Int (pos own.xway))
         × (column row.now 1 ≡ Int (pos own.tariff.crowd)) × (column row.now 2 ≡ Int (pos own.tariff.speed))
         × (column row.now 3 ≡ Int (pos own.tariff.factor))) }
+    ensures pure { result ≢ Err NoMemory }
 {
     let xway = number_8(row, 0)?;
     let crowd = number_32(row, 1)?;

@@ -1,12 +1,14 @@
 // Whether the tables are there, in version 2.
-ghost use Rattle.std.specs.Prelude.{◌≡◌, ◌≢◌, [], ◌∷◌, pos, Err, IsTrue, OnOk};
+ghost use Rattle.std.specs.Prelude.{◌≡◌, ◌≢◌, [], ◌∷◌, pos, Err, IsTrue, IfErr, OnOk};
+ghost use Rattle.sqlite_value.specs.Order.{column};
 ghost use Rattle.sqlite_value.specs.declared.value.Value.TheVariants.{Int};
 ghost use Rattle.sqlite.specs.Held.{state};
 ghost use Rattle.sqlite.specs.State.{HasCleanDisk, KeepsCommit, Survives};
 ghost use Rattle.keeper.specs.Office.{Office};
-ghost use Rattle.keeper.specs.declared.kept.KeepFault.TheVariants.{Failed};
+ghost use Rattle.keeper.specs.declared.kept.KeepFault.TheVariants.{Failed, NoMemory};
 ghost use Rattle.kept_tables.specs.Stands.{HasOffice, StandsForOffice};
-ghost use Rattle.keeper_writes.specs.Causes.{WasRefused};
+ghost use Rattle.keeper_writes.specs.Causes.{HasCause};
+ghost use Rattle.keeper_proof.specs.Looks.{IsSecond, ShowsSecond};
 
 use crate::looks::look;
 use crate::values::number_63;
@@ -20,8 +22,9 @@ pub fn ready<S: Alter>(conn: &mut Connection<S>) -> Result<(), KeepFault>
     ensures stands { HasCleanDisk (state S.Store conn.new) → (o : Office)
         → StandsForOffice (state S.Store conn.old).committed o
         → OnOk result (IsTrue (state S.Store conn.new).is_open × HasOffice (state S.Store conn.old).committed o) }
-    ensures because { HasCleanDisk (state S.Store conn.new) → (o : Office)
-        → StandsForOffice (state S.Store conn.old).committed o → result ≡ Err Failed → WasRefused S.Store }
+    ensures version { HasCleanDisk (state S.Store conn.new) → OnOk result (ShowsSecond S.Store conn.old conn.new) }
+    ensures why { HasCleanDisk (state S.Store conn.new) → (o : Office)
+        → StandsForOffice (state S.Store conn.old).committed o → IfErr result (HasCause S.Store conn.old conn.new) }
     ensures survives { Survives (state S.Store conn.old) (state S.Store conn.new) (λ _. ⊥) }
 {
     let found = look(conn, "SELECT version FROM form WHERE one = 1", &[])?;
@@ -30,7 +33,9 @@ pub fn ready<S: Alter>(conn: &mut Connection<S>) -> Result<(), KeepFault>
 
 /// Whether an answer has version 2; refused where it has not.
 fn is_second(found: &[Row]) -> Result<(), KeepFault>
-    ensures { found.now ≡ (Int (pos 2) ∷ []) ∷ [] → result ≢ Err Failed }
+    ensures there { found.now ≡ (Int (pos 2) ∷ []) ∷ [] → result ≢ Err Failed }
+    ensures second { OnOk result (IsSecond found.now) }
+    ensures pure { result ≢ Err NoMemory }
 {
     match found {
         [row] => is_two(row),
@@ -40,7 +45,9 @@ fn is_second(found: &[Row]) -> Result<(), KeepFault>
 
 /// Whether a row has version 2.
 fn is_two(row: &Row) -> Result<(), KeepFault>
-    ensures { row.now ≡ Int (pos 2) ∷ [] → result ≢ Err Failed }
+    ensures there { row.now ≡ Int (pos 2) ∷ [] → result ≢ Err Failed }
+    ensures two { OnOk result (column row.now 0 ≡ Int (pos 2)) }
+    ensures pure { result ≢ Err NoMemory }
 {
     let version = number_63(row, 0)?;
     if version == 2 {

@@ -1,36 +1,98 @@
-use Rattle.std.specs.Prelude.{◌≢◌, ◌⊎◌, ℕ, List, Err}
+-- Why a call of a keeper failed.
+use Rattle.std.specs.Prelude.{◌≡◌, ◌≢◌, ◌⊎◌, ℕ, List, [], ◌∷◌, Some, slice_get, Err, IsTrue}
 use Rattle.sqlite_value.specs.Order.{Row}
 use Rattle.sqlite_trees.specs.declared.store.Store.{Ghosts}
 use Rattle.sqlite.specs.declared.error.Error.{Error}
 use Rattle.sqlite.specs.declared.error.Error.TheVariants.{SqliteFailure}
 use Rattle.sqlite.specs.declared.error.ErrorCode.TheVariants.{OutOfMemory}
-use Rattle.sqlite.specs.State.{State, Executes, ExecutesInside, FailsToQuery}
+use Rattle.sqlite.specs.State.{State, Executes, ExecutesInside, FailsToQuery, KeepsCommit, Survives}
 use Rattle.sqlite.specs.Steps.{FailsToCommit}
 use Rattle.sqlite.specs.Held.{Held, state}
 use Rattle.sqlite.specs.Effect.{Database}
+use Rattle.keeper.specs.declared.kept.KeepFault.{KeepFault}
+use Rattle.keeper.specs.declared.kept.KeepFault.TheVariants.{Failed, NoMemory}
 use Rattle.keeper.specs.Office.{Office}
 use Rattle.kept_tables.specs.Stands.{HasOffice}
+use Rattle.kept_tables.specs.Texts.{undo, find_version, find_last, find_past, find_day, find_seal, find_spent}
+use Rattle.kept_tables.specs.Texts.{list_spent, list_vehicle, find_tariffs, put_day, put_seal, put_spent, put_past}
+use Rattle.kept_tables.specs.Texts.{drop_tariff, put_tariff}
 
--- a statement, a query or a commit was refused with this error
-abbrev pub RefusesStatement : List ℕ → Row → State → State → Error → Type 0
-RefusesStatement sql params before after e =
-    Executes sql params before after (Err e)
-    ⊎ (ExecutesInside 0 sql params before after (Err e)
-    ⊎ (FailsToQuery sql params before after e ⊎ FailsToCommit before after e))
+-- all that a keeper asks of its tables
+abbrev pub asked_texts : List (List ℕ)
+asked_texts =
+    find_version ∷ find_last ∷ find_past ∷ find_day ∷ find_seal ∷ find_spent ∷ list_spent ∷ list_vehicle ∷
+    find_tariffs ∷ []
 
--- the database refused something with this error
-pub record Refused {S : Type 0} (g : Ghosts S) (error : Error) : Type 0 where
+-- all that it writes into them
+abbrev pub written_texts : List (List ℕ)
+written_texts = put_day ∷ put_seal ∷ put_spent ∷ put_past ∷ drop_tariff ∷ put_tariff ∷ []
+
+-- a text is one of these
+abbrev pub IsOneOf : List (List ℕ) → List ℕ → Type 0
+IsOneOf texts sql = (at : ℕ) × (slice_get texts at ≡ Some sql)
+
+-- a text is a keeper's own
+abbrev pub IsKeptText : List ℕ → Type 0
+IsKeptText sql = (sql ≡ undo) ⊎ (IsOneOf asked_texts sql ⊎ IsOneOf written_texts sql)
+
+-- what ends a transaction that someone left was refused with this error
+abbrev pub RefusesUndo : List ℕ → Row → State → State → Error → Type 0
+RefusesUndo sql params before after e =
+    (sql ≡ undo) × IsTrue before.in_transaction × Executes sql params before after (Err e)
+
+-- so was a query of what is committed
+abbrev pub RefusesQuery : List ℕ → Row → State → State → Error → Type 0
+RefusesQuery sql params before after e =
+    IsOneOf asked_texts sql × (IsTrue before.is_open → before.now ≡ before.committed)
+    × FailsToQuery sql params before after e
+
+-- so was a text that writes within a transaction
+abbrev pub RefusesWrite : List ℕ → Row → State → State → Error → Type 0
+RefusesWrite sql params before after e =
+    IsOneOf written_texts sql × IsTrue before.in_transaction × ExecutesInside 0 sql params before after (Err e)
+
+-- so was the commit of a transaction
+abbrev pub RefusesCommit : State → State → Error → Type 0
+RefusesCommit before after e = IsTrue before.in_transaction × FailsToCommit before after e
+
+-- one of them was
+abbrev pub RefusesStep : List ℕ → Row → State → State → Error → Type 0
+RefusesStep sql params before after e =
+    RefusesUndo sql params before after e ⊎ (RefusesQuery sql params before after e
+    ⊎ (RefusesWrite sql params before after e ⊎ RefusesCommit before after e))
+
+-- the database refused a step of a call with this error: up to the step nothing was committed, and the call ends with what
+-- the step left
+pub record RefusedIn {S : Type 0} (g : Ghosts S) (old new : Held S) (error : Error) : Type 0 where
   pub sql : List ℕ
   pub params : Row
   pub before : Held S
   pub after : Held S
-  pub refused : RefusesStatement sql params (state g before) (state g after) error
+  pub refused : RefusesStep sql params (state g before) (state g after) error
+  pub begun : KeepsCommit (state g old) (state g before)
+  pub reached : Survives (state g old) (state g before) (λ _. ⊥)
+  pub left : Survives (state g after) (state g new) (λ _. ⊥)
 
 -- and not for want of memory
-pub record WasRefused {S : Type 0} (g : Ghosts S) : Type 0 where
+pub record WasRefusedIn {S : Type 0} (g : Ghosts S) (old new : Held S) : Type 0 where
   pub error : Error
   pub cause : error ≢ SqliteFailure OutOfMemory
-  pub refused : Refused g error
+  pub refused : RefusedIn g old new error
+
+-- the database had no memory for a step of a call
+abbrev pub LackedMemory : {S : Type 0} → Ghosts S → Held S → Held S → Type 0
+LackedMemory g old new = RefusedIn g old new (SqliteFailure OutOfMemory)
+
+-- the step of some call was refused, and not for want of memory
+pub record WasRefused {S : Type 0} (g : Ghosts S) : Type 0 where
+  pub old : Held S
+  pub new : Held S
+  pub refused : WasRefusedIn g old new
+
+-- a fault has its own cause: a failure that a step was refused, want of memory that the database had none
+abbrev pub HasCause : {S : Type 0} → Ghosts S → Held S → Held S → KeepFault → Type 0
+HasCause g old new Failed = WasRefusedIn g old new
+HasCause g old new NoMemory = LackedMemory g old new
 
 -- six tables hold no office
 abbrev pub HasNoOffice : Database → Type 0

@@ -9,7 +9,7 @@ ghost use Rattle.keeper.specs.Office.{Office};
 ghost use Rattle.keeper.specs.Kept.{IsDayPut, IsLater, with_day};
 ghost use Rattle.kept_tables.specs.Stands.{Contents, Holds, HoldsAs, HasOffice, IsWholeDigest, with_record, with_seal};
 ghost use Rattle.kept_tables.specs.Steps.{StaysInside};
-ghost use Rattle.keeper_writes.specs.Causes.{Refused};
+ghost use Rattle.keeper_writes.specs.Causes.{RefusedIn};
 
 use crate::columns::{bytes_of, column};
 use crate::spent_writes::put_amounts;
@@ -33,7 +33,8 @@ pub fn write_day<S: Alter>(
         → IsTrue (state S.Store tx.old.conn.now).in_transaction
         → StaysInside (state S.Store tx.old.conn.now) (state S.Store tx.new.conn.now) result }
     ensures refused { HasCleanDisk (state S.Store tx.new.conn.now)
-        → IsTrue (state S.Store tx.old.conn.now).in_transaction → IfErr result (Refused S.Store) }
+        → IsTrue (state S.Store tx.old.conn.now).in_transaction
+        → IfErr result (RefusedIn S.Store tx.old.conn.now tx.new.conn.now) }
     ensures survives { Survives (state S.Store tx.old.conn.now) (state S.Store tx.new.conn.now) (λ _. ⊥) }
 {
     put_record(tx, kept)?;
@@ -60,7 +61,8 @@ pub fn put_record<S: Alter>(tx: &mut Transaction<'_, S>, kept: &DayRecord) -> Re
         → IsTrue (state S.Store tx.old.conn.now).in_transaction
         → StaysInside (state S.Store tx.old.conn.now) (state S.Store tx.new.conn.now) result }
     ensures refused { HasCleanDisk (state S.Store tx.new.conn.now)
-        → IsTrue (state S.Store tx.old.conn.now).in_transaction → IfErr result (Refused S.Store) }
+        → IsTrue (state S.Store tx.old.conn.now).in_transaction
+        → IfErr result (RefusedIn S.Store tx.old.conn.now tx.new.conn.now) }
     ensures survives { Survives (state S.Store tx.old.conn.now) (state S.Store tx.new.conn.now) (λ _. ⊥) }
 {
     let day = kept.day;
@@ -92,7 +94,8 @@ pub fn put_seal<S: Alter>(tx: &mut Transaction<'_, S>, day: u32, seal: &Digest) 
         → IsTrue (state S.Store tx.old.conn.now).in_transaction
         → StaysInside (state S.Store tx.old.conn.now) (state S.Store tx.new.conn.now) result }
     ensures refused { HasCleanDisk (state S.Store tx.new.conn.now)
-        → IsTrue (state S.Store tx.old.conn.now).in_transaction → IfErr result (Refused S.Store) }
+        → IsTrue (state S.Store tx.old.conn.now).in_transaction
+        → IfErr result (RefusedIn S.Store tx.old.conn.now tx.new.conn.now) }
     ensures survives { Survives (state S.Store tx.old.conn.now) (state S.Store tx.new.conn.now) (λ _. ⊥) }
 {
     let bytes = bytes_of(&seal.bytes);

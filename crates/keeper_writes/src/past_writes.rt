@@ -6,7 +6,7 @@ ghost use Rattle.keeper.specs.Office.{Office};
 ghost use Rattle.keeper.specs.Kept.{IsPastPut, HasNoDays, with_past};
 ghost use Rattle.kept_tables.specs.Stands.{Contents, Holds, HasOffice, FitsPast, with_history};
 ghost use Rattle.kept_tables.specs.Steps.{StaysInside};
-ghost use Rattle.keeper_writes.specs.Causes.{Refused};
+ghost use Rattle.keeper_writes.specs.Causes.{RefusedIn};
 
 use crate::columns::{bytes_of, column};
 use crate::spent_writes::put_amounts;
@@ -30,7 +30,8 @@ pub fn write_past<S: Alter>(
         → IsTrue (state S.Store tx.old.conn.now).in_transaction
         → StaysInside (state S.Store tx.old.conn.now) (state S.Store tx.new.conn.now) result }
     ensures refused { HasCleanDisk (state S.Store tx.new.conn.now)
-        → IsTrue (state S.Store tx.old.conn.now).in_transaction → IfErr result (Refused S.Store) }
+        → IsTrue (state S.Store tx.old.conn.now).in_transaction
+        → IfErr result (RefusedIn S.Store tx.old.conn.now tx.new.conn.now) }
     ensures survives { Survives (state S.Store tx.old.conn.now) (state S.Store tx.new.conn.now) (λ _. ⊥) }
 {
     put_history(tx, kept)?;
@@ -51,7 +52,8 @@ fn put_history<S: Alter>(tx: &mut Transaction<'_, S>, kept: &PastRecord) -> Resu
         → IsTrue (state S.Store tx.old.conn.now).in_transaction
         → StaysInside (state S.Store tx.old.conn.now) (state S.Store tx.new.conn.now) result }
     ensures refused { HasCleanDisk (state S.Store tx.new.conn.now)
-        → IsTrue (state S.Store tx.old.conn.now).in_transaction → IfErr result (Refused S.Store) }
+        → IsTrue (state S.Store tx.old.conn.now).in_transaction
+        → IfErr result (RefusedIn S.Store tx.old.conn.now tx.new.conn.now) }
     ensures survives { Survives (state S.Store tx.old.conn.now) (state S.Store tx.new.conn.now) (λ _. ⊥) }
 {
     let base = kept.base;

@@ -1,14 +1,13 @@
 // What is put into the tables, each put in one transaction.
-ghost use Rattle.std.specs.Prelude.{◌≡◌, ◌⊎◌, Err, IsTrue, IfErr, OnOk, OnErr};
+ghost use Rattle.std.specs.Prelude.{◌⊎◌, IsTrue, IfErr, OnOk, OnErr};
 ghost use Rattle.sqlite.specs.Held.{state};
 ghost use Rattle.sqlite.specs.State.{HasCleanDisk, KeepsCommit, Survives};
 ghost use Rattle.road_time.specs.Rates.{IsTariff};
 ghost use Rattle.keeper.specs.Office.{Office};
 ghost use Rattle.keeper.specs.Kept.{IsDayPut, IsPastPut, IsLater, HasNoDays, with_day, with_past, with_tariff_of};
-ghost use Rattle.keeper.specs.declared.kept.KeepFault.TheVariants.{Failed};
 ghost use Rattle.kept_tables.specs.Stands.{HasOffice};
 ghost use Rattle.kept_tables.specs.Steps.{CommitsFor, CommitsNow, FitsAny};
-ghost use Rattle.keeper_writes.specs.Causes.{Refused, WasRefused};
+ghost use Rattle.keeper_writes.specs.Causes.{RefusedIn, HasCause};
 
 use crate::day_writes::write_day;
 use crate::past_writes::write_past;
@@ -26,12 +25,13 @@ pub fn put_day<S: Alter>(
     rows: &[SpentRow],
 ) -> Result<(), KeepFault>
     requires { IsDayPut kept.now rows.now }
-    ensures put { HasCleanDisk (state S.Store conn.new) → IsTrue (state S.Store conn.new).is_open → (o : Office)
+    ensures put { HasCleanDisk (state S.Store conn.new) → (o : Office)
         → HasOffice (state S.Store conn.old).committed o → IsLater kept.now.day o
         → OnOk result (HasOffice (state S.Store conn.new).committed (with_day kept.now rows.now o)) }
+    ensures open { HasCleanDisk (state S.Store conn.new) → OnOk result (IsTrue (state S.Store conn.new).is_open) }
     ensures refused { HasCleanDisk (state S.Store conn.new)
         → OnErr result (KeepsCommit (state S.Store conn.old) (state S.Store conn.new)) }
-    ensures because { HasCleanDisk (state S.Store conn.new) → result ≡ Err Failed → WasRefused S.Store }
+    ensures why { HasCleanDisk (state S.Store conn.new) → IfErr result (HasCause S.Store conn.old conn.new) }
     ensures crash { Survives (state S.Store conn.old) (state S.Store conn.new) (CommitsFor (IsLater kept.now.day)
         (with_day kept.now rows.now) (state S.Store conn.old).committed) }
 {
@@ -54,12 +54,13 @@ fn keep_day<S: Alter>(
     ensures put { HasCleanDisk (state S.Store conn.new) → (o : Office) → HasOffice (state S.Store conn.old).now o
         → IsLater kept.now.day o → OnOk result (HasOffice (state S.Store conn.new).committed
         (with_day kept.now rows.now o)) }
-    ensures open { HasCleanDisk (state S.Store conn.new) → IsTrue (state S.Store conn.new).is_open
-        → IsTrue (state S.Store conn.old).is_open }
+    ensures open { HasCleanDisk (state S.Store conn.new)
+        → OnOk result (IsTrue (state S.Store conn.old).is_open × IsTrue (state S.Store conn.new).is_open) }
     ensures refused { HasCleanDisk (state S.Store conn.new)
         → OnErr result (KeepsCommit (state S.Store conn.old) (state S.Store conn.new)) }
     ensures because { HasCleanDisk (state S.Store conn.new)
-        → IfErr result (λ e. IsTrue (state S.Store conn.old).in_transaction ⊎ Refused S.Store e) }
+        → IfErr result (λ e. IsTrue (state S.Store conn.old).in_transaction
+        ⊎ RefusedIn S.Store conn.old conn.new e) }
     ensures crash { Survives (state S.Store conn.old) (state S.Store conn.new) (CommitsNow (IsLater kept.now.day)
         (with_day kept.now rows.now) (state S.Store conn.old)) }
 {
@@ -78,12 +79,13 @@ pub fn put_past<S: Alter>(
     rows: &[SpentRow],
 ) -> Result<(), KeepFault>
     requires { IsPastPut kept.now rows.now }
-    ensures put { HasCleanDisk (state S.Store conn.new) → IsTrue (state S.Store conn.new).is_open → (o : Office)
+    ensures put { HasCleanDisk (state S.Store conn.new) → (o : Office)
         → HasOffice (state S.Store conn.old).committed o → HasNoDays o
         → OnOk result (HasOffice (state S.Store conn.new).committed (with_past kept.now rows.now o)) }
+    ensures open { HasCleanDisk (state S.Store conn.new) → OnOk result (IsTrue (state S.Store conn.new).is_open) }
     ensures refused { HasCleanDisk (state S.Store conn.new)
         → OnErr result (KeepsCommit (state S.Store conn.old) (state S.Store conn.new)) }
-    ensures because { HasCleanDisk (state S.Store conn.new) → result ≡ Err Failed → WasRefused S.Store }
+    ensures why { HasCleanDisk (state S.Store conn.new) → IfErr result (HasCause S.Store conn.old conn.new) }
     ensures crash { Survives (state S.Store conn.old) (state S.Store conn.new) (CommitsFor HasNoDays
         (with_past kept.now rows.now) (state S.Store conn.old).committed) }
 {
@@ -105,12 +107,13 @@ fn keep_past<S: Alter>(
     requires { IsPastPut kept.now rows.now }
     ensures put { HasCleanDisk (state S.Store conn.new) → (o : Office) → HasOffice (state S.Store conn.old).now o
         → HasNoDays o → OnOk result (HasOffice (state S.Store conn.new).committed (with_past kept.now rows.now o)) }
-    ensures open { HasCleanDisk (state S.Store conn.new) → IsTrue (state S.Store conn.new).is_open
-        → IsTrue (state S.Store conn.old).is_open }
+    ensures open { HasCleanDisk (state S.Store conn.new)
+        → OnOk result (IsTrue (state S.Store conn.old).is_open × IsTrue (state S.Store conn.new).is_open) }
     ensures refused { HasCleanDisk (state S.Store conn.new)
         → OnErr result (KeepsCommit (state S.Store conn.old) (state S.Store conn.new)) }
     ensures because { HasCleanDisk (state S.Store conn.new)
-        → IfErr result (λ e. IsTrue (state S.Store conn.old).in_transaction ⊎ Refused S.Store e) }
+        → IfErr result (λ e. IsTrue (state S.Store conn.old).in_transaction
+        ⊎ RefusedIn S.Store conn.old conn.new e) }
     ensures crash { Survives (state S.Store conn.old) (state S.Store conn.new) (CommitsNow HasNoDays
         (with_past kept.now rows.now) (state S.Store conn.old)) }
 {
@@ -129,12 +132,13 @@ pub fn put_tariff<S: Alter>(
     tariff: &Tariff,
 ) -> Result<(), KeepFault>
     requires { IsTariff tariff.now }
-    ensures put { HasCleanDisk (state S.Store conn.new) → IsTrue (state S.Store conn.new).is_open → (o : Office)
+    ensures put { HasCleanDisk (state S.Store conn.new) → (o : Office)
         → HasOffice (state S.Store conn.old).committed o
         → OnOk result (HasOffice (state S.Store conn.new).committed (with_tariff_of xway tariff.now o)) }
+    ensures open { HasCleanDisk (state S.Store conn.new) → OnOk result (IsTrue (state S.Store conn.new).is_open) }
     ensures refused { HasCleanDisk (state S.Store conn.new)
         → OnErr result (KeepsCommit (state S.Store conn.old) (state S.Store conn.new)) }
-    ensures because { HasCleanDisk (state S.Store conn.new) → result ≡ Err Failed → WasRefused S.Store }
+    ensures why { HasCleanDisk (state S.Store conn.new) → IfErr result (HasCause S.Store conn.old conn.new) }
     ensures crash { Survives (state S.Store conn.old) (state S.Store conn.new) (CommitsFor FitsAny
         (with_tariff_of xway tariff.now) (state S.Store conn.old).committed) }
 {
@@ -152,12 +156,13 @@ fn replace<S: Alter>(conn: &mut Connection<S>, xway: u8, tariff: &Tariff) -> Res
     requires { IsTariff tariff.now }
     ensures put { HasCleanDisk (state S.Store conn.new) → (o : Office) → HasOffice (state S.Store conn.old).now o
         → OnOk result (HasOffice (state S.Store conn.new).committed (with_tariff_of xway tariff.now o)) }
-    ensures open { HasCleanDisk (state S.Store conn.new) → IsTrue (state S.Store conn.new).is_open
-        → IsTrue (state S.Store conn.old).is_open }
+    ensures open { HasCleanDisk (state S.Store conn.new)
+        → OnOk result (IsTrue (state S.Store conn.old).is_open × IsTrue (state S.Store conn.new).is_open) }
     ensures refused { HasCleanDisk (state S.Store conn.new)
         → OnErr result (KeepsCommit (state S.Store conn.old) (state S.Store conn.new)) }
     ensures because { HasCleanDisk (state S.Store conn.new)
-        → IfErr result (λ e. IsTrue (state S.Store conn.old).in_transaction ⊎ Refused S.Store e) }
+        → IfErr result (λ e. IsTrue (state S.Store conn.old).in_transaction
+        ⊎ RefusedIn S.Store conn.old conn.new e) }
     ensures crash { Survives (state S.Store conn.old) (state S.Store conn.new) (CommitsNow FitsAny
         (with_tariff_of xway tariff.now) (state S.Store conn.old)) }
 {

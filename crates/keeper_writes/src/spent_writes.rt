@@ -6,7 +6,7 @@ ghost use Rattle.sqlite.specs.State.{HasCleanDisk, Survives};
 ghost use Rattle.kept_tables.specs.Layout.{all_tables};
 ghost use Rattle.kept_tables.specs.Stands.{FitsSpent};
 ghost use Rattle.kept_tables.specs.Steps.{StaysInside, AddsAmounts};
-ghost use Rattle.keeper_writes.specs.Causes.{Refused};
+ghost use Rattle.keeper_writes.specs.Causes.{RefusedIn};
 
 use crate::columns::column;
 use road_time::SpentRow;
@@ -31,7 +31,8 @@ pub fn put_amount<S: Alter>(
         → IsTrue (state S.Store tx.old.conn.now).in_transaction
         → StaysInside (state S.Store tx.old.conn.now) (state S.Store tx.new.conn.now) result }
     ensures refused { HasCleanDisk (state S.Store tx.new.conn.now)
-        → IsTrue (state S.Store tx.old.conn.now).in_transaction → IfErr result (Refused S.Store) }
+        → IsTrue (state S.Store tx.old.conn.now).in_transaction
+        → IfErr result (RefusedIn S.Store tx.old.conn.now tx.new.conn.now) }
     ensures survives { Survives (state S.Store tx.old.conn.now) (state S.Store tx.new.conn.now) (λ _. ⊥) }
 {
     let day = row.day;
@@ -59,7 +60,8 @@ pub fn put_amounts<S: Alter>(tx: &mut Transaction<'_, S>, rows: &[SpentRow]) -> 
         → IsTrue (state S.Store tx.old.conn.now).in_transaction
         → StaysInside (state S.Store tx.old.conn.now) (state S.Store tx.new.conn.now) result }
     ensures refused { HasCleanDisk (state S.Store tx.new.conn.now)
-        → IsTrue (state S.Store tx.old.conn.now).in_transaction → IfErr result (Refused S.Store) }
+        → IsTrue (state S.Store tx.old.conn.now).in_transaction
+        → IfErr result (RefusedIn S.Store tx.old.conn.now tx.new.conn.now) }
     ensures survives { Survives (state S.Store tx.old.conn.now) (state S.Store tx.new.conn.now) (λ _. ⊥) }
 {
     'rows: for row in rows {

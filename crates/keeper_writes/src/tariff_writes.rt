@@ -8,7 +8,7 @@ ghost use Rattle.keeper.specs.Office.{Office};
 ghost use Rattle.keeper.specs.Kept.{with_tariff_of};
 ghost use Rattle.kept_tables.specs.Stands.{HasOffice};
 ghost use Rattle.kept_tables.specs.Steps.{StaysInside};
-ghost use Rattle.keeper_writes.specs.Causes.{Refused};
+ghost use Rattle.keeper_writes.specs.Causes.{RefusedIn};
 
 use road_time::Tariff;
 use sqlite::{Alter, Error, Transaction, params};
@@ -25,7 +25,8 @@ pub fn write<S: Alter>(tx: &mut Transaction<'_, S>, xway: u8, tariff: &Tariff) -
         → IsTrue (state S.Store tx.old.conn.now).in_transaction
         → StaysInside (state S.Store tx.old.conn.now) (state S.Store tx.new.conn.now) result }
     ensures refused { HasCleanDisk (state S.Store tx.new.conn.now)
-        → IsTrue (state S.Store tx.old.conn.now).in_transaction → IfErr result (Refused S.Store) }
+        → IsTrue (state S.Store tx.old.conn.now).in_transaction
+        → IfErr result (RefusedIn S.Store tx.old.conn.now tx.new.conn.now) }
     ensures survives { Survives (state S.Store tx.old.conn.now) (state S.Store tx.new.conn.now) (λ _. ⊥) }
 {
     take(tx, xway)?;
@@ -46,7 +47,8 @@ fn take<S: Alter>(tx: &mut Transaction<'_, S>, xway: u8) -> Result<(), Error>
         → IsTrue (state S.Store tx.old.conn.now).in_transaction
         → StaysInside (state S.Store tx.old.conn.now) (state S.Store tx.new.conn.now) result }
     ensures refused { HasCleanDisk (state S.Store tx.new.conn.now)
-        → IsTrue (state S.Store tx.old.conn.now).in_transaction → IfErr result (Refused S.Store) }
+        → IsTrue (state S.Store tx.old.conn.now).in_transaction
+        → IfErr result (RefusedIn S.Store tx.old.conn.now tx.new.conn.now) }
     ensures survives { Survives (state S.Store tx.old.conn.now) (state S.Store tx.new.conn.now) (λ _. ⊥) }
 {
     match tx.execute(
@@ -71,7 +73,8 @@ fn give<S: Alter>(tx: &mut Transaction<'_, S>, xway: u8, tariff: &Tariff) -> Res
         → IsTrue (state S.Store tx.old.conn.now).in_transaction
         → StaysInside (state S.Store tx.old.conn.now) (state S.Store tx.new.conn.now) result }
     ensures refused { HasCleanDisk (state S.Store tx.new.conn.now)
-        → IsTrue (state S.Store tx.old.conn.now).in_transaction → IfErr result (Refused S.Store) }
+        → IsTrue (state S.Store tx.old.conn.now).in_transaction
+        → IfErr result (RefusedIn S.Store tx.old.conn.now tx.new.conn.now) }
     ensures survives { Survives (state S.Store tx.old.conn.now) (state S.Store tx.new.conn.now) (λ _. ⊥) }
 {
     match tx.execute(

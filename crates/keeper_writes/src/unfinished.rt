@@ -1,8 +1,8 @@
 // Undoes what is under way.
-ghost use Rattle.std.specs.Prelude.{◌≡◌, [], false, Err, IsTrue, IfErr, OnOk};
+ghost use Rattle.std.specs.Prelude.{◌≡◌, false, IsTrue, IfErr, OnOk};
 ghost use Rattle.sqlite.specs.Held.{state};
-ghost use Rattle.sqlite.specs.State.{HasCleanDisk, KeepsCommit, Survives, Executes};
-ghost use Rattle.kept_tables.specs.Texts.{undo};
+ghost use Rattle.sqlite.specs.State.{HasCleanDisk, KeepsCommit, Survives};
+ghost use Rattle.keeper_writes.specs.Causes.{RefusedIn};
 
 use sqlite::{Alter, Connection, Error};
 
@@ -15,7 +15,7 @@ pub fn settle<S: Alter>(conn: &mut Connection<S>) -> Result<(), Error>
     ensures kept { HasCleanDisk (state S.Store conn.new)
         → KeepsCommit (state S.Store conn.old) (state S.Store conn.new) }
     ensures refused { HasCleanDisk (state S.Store conn.new)
-        → IfErr result (λ e. Executes undo [] (state S.Store conn.old) (state S.Store conn.new) (Err e)) }
+        → IfErr result (RefusedIn S.Store conn.old conn.new) }
     ensures survives { Survives (state S.Store conn.old) (state S.Store conn.new) (λ _. ⊥) }
 {
     if conn.is_autocommit() {

@@ -6,7 +6,9 @@ use Rattle.keeper.specs.Kept.{with_tariff_of}
 use Rattle.kept_tables.specs.Stands.{HasOffice}
 use Rattle.kept_tables.specs.Steps.{FitsAny}
 use Rattle.table_making.proofs.GrowLaws.{err_stands}
-use Rattle.keeper_proof.proofs.StandLaws.{put_stands, put_lasts, not_failed}
+use Rattle.keeper_proof.proofs.StandLaws.{put_stands, put_lasts, always}
+use Rattle.keeper_proof.proofs.CauseSteps.{causes_after}
+use Rattle.keeper_writes.proofs.CauseLaws.{err_handed}
 use Rattle.keeper_proof.proofs.calls.put_tariff.Goals as goal
 
 pub returns-in_err-ready-clause-put : goal.returns-in_err-ready-clause-put
@@ -14,10 +16,10 @@ returns-in_err-ready-clause-put g c clean here o stands =
     err_stands (state g.S.Store c.args.conn.now) (state g.S.Store c.ready.new.conn) c.from_residual.result _ o
     c.from_residual.ensures.0 here stands (c.in_err-ready.ensures.kept clean)
 
-pub returns-in_err-ready-clause-because : goal.returns-in_err-ready-clause-because
-returns-in_err-ready-clause-because g c clean o stands failed =
-    c.in_err-ready.ensures.because clean o stands
-    (not_failed c.from_residual.result c.in_err-ready.field-0.0 c.from_residual.ensures.1 failed)
+pub returns-in_err-ready-clause-why : goal.returns-in_err-ready-clause-why
+returns-in_err-ready-clause-why g c clean o stands =
+    err_handed c.from_residual.result c.in_err-ready.field-0.0 _ c.from_residual.ensures.1
+    (c.in_err-ready.ensures.why clean o stands)
 
 pub returns-clause-put : goal.returns-clause-put
 returns-clause-put g c clean here o stands =
@@ -27,11 +29,14 @@ returns-clause-put g c clean here o stands =
     let kept = (c.ready.ensures.kept early).committed there.0 in
     put_stands (state g.S.Store c.args.conn.now) mid (state g.S.Store c.put_tariff.new.conn) c.put_tariff.result _ o
     here kept stands
-    (c.put_tariff.ensures.put clean here o (subst (λ (db : Database). HasOffice db o) (sym kept) there.1))
+    (c.put_tariff.ensures.put clean o (subst (λ (db : Database). HasOffice db o) (sym kept) there.1))
     (c.put_tariff.ensures.refused clean)
 
-pub returns-clause-because : goal.returns-clause-because
-returns-clause-because g c clean o stands failed = c.put_tariff.ensures.because clean failed
+pub returns-clause-why : goal.returns-clause-why
+returns-clause-why g c clean o stands =
+    causes_after g.S.Store c.args.conn.now c.ready.new.conn c.put_tariff.new.conn
+    (c.ready.ensures.kept (omega (arith, c.put_tariff.ensures.crash.clean))) c.ready.ensures.survives c.put_tariff.result
+    (c.put_tariff.ensures.why clean)
 
 pub returns-clause-crash : goal.returns-clause-crash
 returns-clause-crash g c =
@@ -39,3 +44,11 @@ returns-clause-crash g c =
     (state g.S.Store c.put_tariff.new.conn) FitsAny (with_tariff_of c.args.xway c.args.tariff.now)
     (λ early o stands. c.in_ok-ready.ensures.stands early o stands) c.ready.ensures.kept c.ready.ensures.survives
     c.put_tariff.ensures.crash
+
+pub returns-clause-version : goal.returns-clause-version
+returns-clause-version g c clean =
+    always c.put_tariff.result _
+    (record {
+      now = c.ready.new.conn;
+      shows = c.in_ok-ready.ensures.version (omega (arith, c.put_tariff.ensures.crash.clean));
+    })

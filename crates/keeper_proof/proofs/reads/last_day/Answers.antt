@@ -1,4 +1,4 @@
-use Rattle.std.proofs.Common.{Err, ap, ◌∙◌, sym, subst, arith, ℕ}
+use Rattle.std.proofs.Common.{◌∙◌, sym, subst, arith, ℕ, refl}
 use Rattle.sqlite.specs.Effect.{Database}
 use Rattle.sqlite.specs.Held.{state}
 use Rattle.sqlite.specs.State.{HasCleanDisk}
@@ -7,26 +7,30 @@ use Rattle.kept_tables.specs.Stands.{HasOffice}
 use Rattle.kept_tables.proofs.AskLaws.{find_last_asks, find_past_asks}
 use Rattle.kept_tables.proofs.PutLaws.{survives_both}
 use Rattle.kept_tables.proofs.StepLaws.{kept_then}
-use Rattle.keeper_writes.specs.Causes.{WasRefused}
+use Rattle.keeper_writes.specs.Causes.{WasRefusedIn}
 use Rattle.keeper_proof.proofs.GiveLaws.{gives_so, refused_so, past_based}
 use Rattle.keeper_proof.proofs.LookLaws.{last_looks, past_looks}
+use Rattle.keeper_proof.proofs.CauseSteps.{failure_is, failure_after}
+use Rattle.keeper_proof.proofs.StandLaws.{always}
 use Rattle.keeper_proof.proofs.reads.last_day.Goals as goal
 
 pub look-requires : goal.look-requires
-look-requires g c = find_last_asks
+look-requires g c = (find_last_asks, (1, refl))
 
 pub look-requires-2 : goal.look-requires-2
-look-requires-2 g c = find_past_asks
+look-requires-2 g c = (find_past_asks, (2, refl))
 
 pub returns-in_err-days-clause-gives : goal.returns-in_err-days-clause-gives
 returns-in_err-days-clause-gives g c clean o has =
-    refused_so (WasRefused g.S.Store) (λ (x : ℕ). x) c.from_residual.result c.in_err-days.field-0.0
-    (last_day o) c.from_residual.ensures.1 (λ is. c.in_err-days.ensures.because clean (ap Err is))
+    refused_so (WasRefusedIn g.S.Store c.args.conn.now c.look.new.conn) (λ (x : ℕ). x) c.from_residual.result c.in_err-days.field-0.0
+    (last_day o) c.from_residual.ensures.1 (λ is. failure_is g.S.Store c.args.conn.now c.look.new.conn _ (c.in_err-days.ensures.why clean) is)
 
 pub returns-in_err-found-clause-gives : goal.returns-in_err-found-clause-gives
 returns-in_err-found-clause-gives g c clean o has =
-    refused_so (WasRefused g.S.Store) (λ (x : ℕ). x) c.from_residual-in_err-found.result c.in_err-found.field-0.0
-    (last_day o) c.from_residual-in_err-found.ensures.1 (λ is. c.in_err-found.ensures.because clean (ap Err is))
+    refused_so (WasRefusedIn g.S.Store c.args.conn.now c.look-2.new.conn) (λ (x : ℕ). x) c.from_residual-in_err-found.result c.in_err-found.field-0.0
+    (last_day o) c.from_residual-in_err-found.ensures.1 (λ is. failure_after g.S.Store c.args.conn.now c.look.new.conn c.look-2.new.conn
+    (c.look.ensures.kept (omega (arith, c.look-2.ensures.survives.clean))) c.look.ensures.survives
+    (failure_is g.S.Store c.look.new.conn c.look-2.new.conn _ (c.in_err-found.ensures.why clean) is))
 
 pub returns-in_err-found-clause-kept : goal.returns-in_err-found-clause-kept
 returns-in_err-found-clause-kept g c clean =
@@ -59,7 +63,7 @@ returns-clause-gives g c clean o has =
     ∙ last_looks g.S.Store c.args.conn.now c.look.new.conn o has c.in_ok-days.days.items one in
     let second = c.deref-2.ensures.value
     ∙ past_looks g.S.Store c.look.new.conn c.look-2.new.conn o still c.in_ok-found.found.items two in
-    gives_so (WasRefused g.S.Store) (λ (x : ℕ). x) c.last_of.result (last_day o)
+    gives_so (WasRefusedIn g.S.Store c.args.conn.now c.look-2.new.conn) (λ (x : ℕ). x) c.last_of.result (last_day o)
     (c.last_of.ensures o.days o.past has.fits.days (past_based o.past o.days o.rows has.fits.past has.sound.past)
     first second)
 
@@ -67,3 +71,6 @@ pub returns-clause-survives : goal.returns-clause-survives
 returns-clause-survives g c =
     survives_both (state g.S.Store c.args.conn.now) (state g.S.Store c.look.new.conn)
     (state g.S.Store c.look-2.new.conn) c.look.ensures.survives c.look-2.ensures.survives
+
+pub returns-clause-open : goal.returns-clause-open
+returns-clause-open g c clean = always c.last_of.result _ (c.in_ok-found.ensures.shown clean).is_open

@@ -1,22 +1,27 @@
-use Rattle.std.proofs.Common.{Err, ap, ◌∙◌, Option}
+use Rattle.std.proofs.Common.{◌∙◌, Option, refl}
 use Rattle.keeper.specs.declared.kept.PastRecord.{PastRecord}
 use Rattle.kept_tables.proofs.AskLaws.{find_past_asks}
-use Rattle.keeper_writes.specs.Causes.{WasRefused}
+use Rattle.keeper_writes.specs.Causes.{WasRefusedIn}
 use Rattle.keeper_proof.proofs.GiveLaws.{gives_so, refused_so, past_based}
 use Rattle.keeper_proof.proofs.LookLaws.{past_looks}
+use Rattle.keeper_proof.proofs.CauseSteps.{failure_is}
+use Rattle.keeper_proof.proofs.StandLaws.{always}
 use Rattle.keeper_proof.proofs.reads.past.Goals as goal
 
 pub look-requires : goal.look-requires
-look-requires g c = find_past_asks
+look-requires g c = (find_past_asks, (2, refl))
 
 pub returns-in_err-found-clause-gives : goal.returns-in_err-found-clause-gives
 returns-in_err-found-clause-gives g c clean o has =
-    refused_so (WasRefused g.S.Store) (λ (x : Option PastRecord). x) c.from_residual.result c.in_err-found.field-0.0
-    o.past c.from_residual.ensures.1 (λ is. c.in_err-found.ensures.because clean (ap Err is))
+    refused_so (WasRefusedIn g.S.Store c.args.conn.now c.look.new.conn) (λ (x : Option PastRecord). x) c.from_residual.result c.in_err-found.field-0.0
+    o.past c.from_residual.ensures.1 (λ is. failure_is g.S.Store c.args.conn.now c.look.new.conn _ (c.in_err-found.ensures.why clean) is)
 
 pub returns-clause-gives : goal.returns-clause-gives
 returns-clause-gives g c clean o has =
-    gives_so (WasRefused g.S.Store) (λ (x : Option PastRecord). x) c.past_of.result o.past
-    (c.past_of.ensures o.past (past_based o.past o.days o.rows has.fits.past has.sound.past)
+    gives_so (WasRefusedIn g.S.Store c.args.conn.now c.look.new.conn) (λ (x : Option PastRecord). x) c.past_of.result o.past
+    (c.past_of.ensures.gives o.past (past_based o.past o.days o.rows has.fits.past has.sound.past)
     (c.deref.ensures.value ∙ past_looks g.S.Store c.args.conn.now c.look.new.conn o has c.in_ok-found.found.items
     (c.in_ok-found.ensures.shown clean)))
+
+pub returns-clause-open : goal.returns-clause-open
+returns-clause-open g c clean = always c.past_of.result _ (c.in_ok-found.ensures.shown clean).is_open

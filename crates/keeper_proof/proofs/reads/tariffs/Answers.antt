@@ -1,22 +1,27 @@
-use Rattle.std.proofs.Common.{Err, ap, ◌∙◌}
+use Rattle.std.proofs.Common.{◌∙◌, refl}
 use Rattle.road_time.specs.Rates.{Tariffs}
 use Rattle.kept_tables.proofs.AskLaws.{find_tariffs_asks}
-use Rattle.keeper_writes.specs.Causes.{WasRefused}
+use Rattle.keeper_writes.specs.Causes.{WasRefusedIn}
 use Rattle.keeper_proof.proofs.GiveLaws.{gives_so, refused_so}
 use Rattle.keeper_proof.proofs.LookLaws.{tariffs_look}
+use Rattle.keeper_proof.proofs.CauseSteps.{failure_is}
+use Rattle.keeper_proof.proofs.StandLaws.{always}
 use Rattle.keeper_proof.proofs.reads.tariffs.Goals as goal
 
 pub look-requires : goal.look-requires
-look-requires g c = find_tariffs_asks
+look-requires g c = (find_tariffs_asks, (8, refl))
 
 pub returns-in_err-found-clause-gives : goal.returns-in_err-found-clause-gives
 returns-in_err-found-clause-gives g c clean o has =
-    refused_so (WasRefused g.S.Store) (λ (x : Tariffs). x) c.from_residual.result c.in_err-found.field-0.0 o.tariffs
-    c.from_residual.ensures.1 (λ is. c.in_err-found.ensures.because clean (ap Err is))
+    refused_so (WasRefusedIn g.S.Store c.args.conn.now c.look.new.conn) (λ (x : Tariffs). x) c.from_residual.result c.in_err-found.field-0.0 o.tariffs
+    c.from_residual.ensures.1 (λ is. failure_is g.S.Store c.args.conn.now c.look.new.conn _ (c.in_err-found.ensures.why clean) is)
 
 pub returns-clause-gives : goal.returns-clause-gives
 returns-clause-gives g c clean o has =
-    gives_so (WasRefused g.S.Store) (λ (x : Tariffs). x) c.tariffs_of.result o.tariffs
+    gives_so (WasRefusedIn g.S.Store c.args.conn.now c.look.new.conn) (λ (x : Tariffs). x) c.tariffs_of.result o.tariffs
     (c.tariffs_of.ensures o.tariffs has.sound.tariffs has.fits.tariffs
     (c.deref.ensures.value ∙ tariffs_look g.S.Store c.args.conn.now c.look.new.conn o has c.in_ok-found.found.items
     (c.in_ok-found.ensures.shown clean)))
+
+pub returns-clause-open : goal.returns-clause-open
+returns-clause-open g c clean = always c.tariffs_of.result _ (c.in_ok-found.ensures.shown clean).is_open

@@ -1,27 +1,29 @@
-use Rattle.std.proofs.Common.{Err, ap, ◌∙◌, ◌&&◌, ◌==◌, nat_le, Vec, Global}
+use Rattle.std.proofs.Common.{◌∙◌, ◌&&◌, ◌==◌, nat_le, Vec, Global, refl}
 use Rattle.std.proofs.lemmas.List.Kept.{IsStrictlySortedBy-filter}
 use Rattle.sqlite_keyed.proofs.ListLemmas.{all-filter}
 use Rattle.road_time.specs.declared.day.SpentRow.{SpentRow}
 use Rattle.keeper.specs.Office.{row_cmp, vehicle_rows_between}
 use Rattle.kept_tables.specs.Stands.{FitsSpent}
 use Rattle.kept_tables.proofs.AskLaws.{list_vehicle_asks}
-use Rattle.keeper_writes.specs.Causes.{WasRefused}
+use Rattle.keeper_writes.specs.Causes.{WasRefusedIn}
 use Rattle.keeper_proof.proofs.GiveLaws.{gives_so, refused_so}
 use Rattle.keeper_proof.proofs.LookLaws.{vehicle_rows_look}
+use Rattle.keeper_proof.proofs.CauseSteps.{failure_is}
+use Rattle.keeper_proof.proofs.StandLaws.{always}
 use Rattle.keeper_proof.proofs.reads.vehicle_rows.Goals as goal
 
 pub look-requires : goal.look-requires
-look-requires g c = list_vehicle_asks
+look-requires g c = (list_vehicle_asks, (7, refl))
 
 pub returns-in_err-found-clause-gives : goal.returns-in_err-found-clause-gives
 returns-in_err-found-clause-gives g c clean o has =
-    refused_so (WasRefused g.S.Store) (λ (v : Vec SpentRow Global). v.items) c.from_residual.result
+    refused_so (WasRefusedIn g.S.Store c.args.conn.now c.look.new.conn) (λ (v : Vec SpentRow Global). v.items) c.from_residual.result
     c.in_err-found.field-0.0 (vehicle_rows_between o c.args.vid c.args.from c.args.to) c.from_residual.ensures.1
-    (λ is. c.in_err-found.ensures.because clean (ap Err is))
+    (λ is. failure_is g.S.Store c.args.conn.now c.look.new.conn _ (c.in_err-found.ensures.why clean) is)
 
 pub returns-clause-gives : goal.returns-clause-gives
 returns-clause-gives g c clean o has =
-    gives_so (WasRefused g.S.Store) (λ (v : Vec SpentRow Global). v.items) c.amounts_of.result
+    gives_so (WasRefusedIn g.S.Store c.args.conn.now c.look.new.conn) (λ (v : Vec SpentRow Global). v.items) c.amounts_of.result
     (vehicle_rows_between o c.args.vid c.args.from c.args.to)
     (c.amounts_of.ensures.gives (vehicle_rows_between o c.args.vid c.args.from c.args.to)
     (all-filter FitsSpent (λ r. r.vid == c.args.vid && (nat_le c.args.from r.day && nat_le r.day c.args.to)) o.rows
@@ -33,3 +35,6 @@ returns-clause-gives g c clean o has =
     c.args.from c.args.to
     (rw (c.params-to_sql.ensures, c.params-to_sql-2.ensures, c.params-to_sql-3.ensures) at
     (c.in_ok-found.ensures.shown clean))))
+
+pub returns-clause-open : goal.returns-clause-open
+returns-clause-open g c clean = always c.amounts_of.result _ (c.in_ok-found.ensures.shown clean).is_open

@@ -1,7 +1,7 @@
 use Rattle.std.proofs.Common.{ℕ, ap, arith}
 use Rattle.sqlite_value.specs.Order.{column}
 use Rattle.keeper_proof.specs.declared.records.OwnTariff.{OwnTariff}
-use Rattle.keeper_proof.proofs.GiveLaws.{err_as}
+use Rattle.keeper_proof.proofs.GiveLaws.{err_as, pure_handed}
 use Rattle.keeper_proof.proofs.records.tariff_of.Goals as goal
 
 pub returns-in_err-xway-clause-gives : goal.returns-in_err-xway-clause-gives
@@ -27,3 +27,19 @@ returns-in_err-factor-clause-gives c e low valid is =
     err_as (λ (n : ℕ). n) (λ (own : OwnTariff). (own.xway, own.tariff)) c.from_residual-in_err-factor.result
     c.in_err-factor.field-0.0 e.1.factor e c.from_residual-in_err-factor.ensures.1
     (c.in_err-factor.ensures.gives e.1.factor (rw is (omega arith)) (omega (arith, valid.2)) (ap (λ l. column l 3) is))
+
+pub returns-in_err-xway-clause-pure : goal.returns-in_err-xway-clause-pure
+returns-in_err-xway-clause-pure c =
+    pure_handed c.from_residual.result c.in_err-xway.field-0.0 c.from_residual.ensures.1 c.in_err-xway.ensures.pure
+
+pub returns-in_err-crowd-clause-pure : goal.returns-in_err-crowd-clause-pure
+returns-in_err-crowd-clause-pure c =
+    pure_handed c.from_residual-in_err-crowd.result c.in_err-crowd.field-0.0 c.from_residual-in_err-crowd.ensures.1 c.in_err-crowd.ensures.pure
+
+pub returns-in_err-speed-clause-pure : goal.returns-in_err-speed-clause-pure
+returns-in_err-speed-clause-pure c =
+    pure_handed c.from_residual-in_err-speed.result c.in_err-speed.field-0.0 c.from_residual-in_err-speed.ensures.1 c.in_err-speed.ensures.pure
+
+pub returns-in_err-factor-clause-pure : goal.returns-in_err-factor-clause-pure
+returns-in_err-factor-clause-pure c =
+    pure_handed c.from_residual-in_err-factor.result c.in_err-factor.field-0.0 c.from_residual-in_err-factor.ensures.1 c.in_err-factor.ensures.pure

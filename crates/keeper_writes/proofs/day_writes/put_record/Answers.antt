@@ -1,8 +1,9 @@
-use Rattle.std.proofs.Common.{◌≡◌, to_z, of_z, w64, rules, inl, inr}
+use Rattle.std.proofs.Common.{◌≡◌, to_z, of_z, w64, rules, inl, inr, refl}
 use Rattle.sqlite.specs.Held.{state}
 use Rattle.kept_tables.specs.Texts.{put_day}
 use Rattle.kept_tables.proofs.DayWriteLaws.{day_puts}
 use Rattle.kept_tables.proofs.PutLaws.{whole_by}
+use Rattle.keeper_writes.proofs.CauseLaws.{refused_now}
 use Rattle.keeper_writes.proofs.day_writes.put_record.Goals as goal
 
 pub returns-in-Ok-clause-puts : goal.returns-in-Ok-clause-puts
@@ -37,14 +38,8 @@ returns-in-Ok-clause-puts g c clean inside contents holds later =
 
 pub returns-in-Err-clause-refused : goal.returns-in-Err-clause-refused
 returns-in-Err-clause-refused g c clean inside =
-    record {
-      sql = put_day;
-      params = _;
-      before = c.args.tx.now.conn.now;
-      after = c.execute.new.self.conn.now;
-      refused =
-          inr (inl (c.in-Err.ensures.runs clean inside));
-    }
+    refused_now g.S.Store c.args.tx.now.conn.now c.execute.new.self.conn.now put_day _ c.in-Err.error
+    (inr (inr (inl ((0, refl), inside, c.in-Err.ensures.runs clean inside))))
 
 pub returns-in-Ok-clause-digest : goal.returns-in-Ok-clause-digest
 returns-in-Ok-clause-digest g c =

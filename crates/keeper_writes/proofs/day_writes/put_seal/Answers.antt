@@ -1,4 +1,4 @@
-use Rattle.std.proofs.Common.{ℕ, Ok, pos, [], ◌∷◌, sym, subst₂, inl, inr}
+use Rattle.std.proofs.Common.{ℕ, Ok, pos, [], ◌∷◌, sym, subst₂, inl, inr, refl}
 use Rattle.sqlite_value.specs.declared.value.Value.TheVariants.{Int, Blob}
 use Rattle.sqlite.specs.Held.{state}
 use Rattle.sqlite.specs.State.{Executes}
@@ -6,6 +6,7 @@ use Rattle.keeper.specs.declared.digest.Digest.{Digest}
 use Rattle.kept_tables.specs.Texts.{put_seal}
 use Rattle.kept_tables.proofs.DayWriteLaws.{seal_puts}
 use Rattle.kept_tables.proofs.PutLaws.{whole_by}
+use Rattle.keeper_writes.proofs.CauseLaws.{refused_now}
 use Rattle.keeper_writes.proofs.day_writes.put_seal.Goals as goal
 
 pub returns-in-Ok-clause-puts : goal.returns-in-Ok-clause-puts
@@ -21,14 +22,8 @@ returns-in-Ok-clause-puts g c clean inside version contents holds r day seal lat
 
 pub returns-in-Err-clause-refused : goal.returns-in-Err-clause-refused
 returns-in-Err-clause-refused g c clean inside =
-    record {
-      sql = put_seal;
-      params = _;
-      before = c.args.tx.now.conn.now;
-      after = c.execute.new.self.conn.now;
-      refused =
-          inr (inl (c.in-Err.ensures.runs clean inside));
-    }
+    refused_now g.S.Store c.args.tx.now.conn.now c.execute.new.self.conn.now put_seal _ c.in-Err.error
+    (inr (inr (inl ((1, refl), inside, c.in-Err.ensures.runs clean inside))))
 
 pub returns-in-Ok-clause-fits : goal.returns-in-Ok-clause-fits
 returns-in-Ok-clause-fits g c = whole_by c.args.seal.now c.bytes_of-bytes.ensures.long c.bytes_of-bytes.ensures.each

@@ -1,35 +1,27 @@
-use Rattle.std.proofs.Common.{[], sym, subst, ◌∙◌, arith, inl, inr}
+use Rattle.std.proofs.Common.{sym, subst, ◌∙◌, arith, inl, inr}
 use Rattle.sqlite.specs.Held.{state}
 use Rattle.sqlite.specs.Effect.{Database}
 use Rattle.sqlite.specs.State.{HasCleanDisk}
 use Rattle.kept_tables.proofs.CrashLaws.{put_survives}
 use Rattle.keeper.specs.Kept.{IsLater, with_day}
 use Rattle.kept_tables.specs.Stands.{HasOffice}
-use Rattle.kept_tables.specs.Texts.{undo}
-use Rattle.keeper_writes.proofs.CauseLaws.{not_memory}
+use Rattle.keeper_writes.proofs.CauseLaws.{cause_of, refused_after}
 use Rattle.kept_tables.proofs.StepLaws.{kept_then}
 use Rattle.keeper_writes.proofs.puts.put_day.Goals as goal
 
-pub returns-in-Err-clause-because : goal.returns-in-Err-clause-because
-returns-in-Err-clause-because g c clean failed = record {
-  error = c.in-Err.error;
-  cause = not_memory c.refusal.result c.in-Err.error c.refusal.ensures failed;
-  refused =
-      record {
-        sql = undo;
-        params = [];
-        before = c.args.conn.now;
-        after = c.settle.new.conn;
-        refused =
-            inl (c.in-Err.ensures.refused clean);
-      };
-}
+pub returns-in-Err-clause-why : goal.returns-in-Err-clause-why
+returns-in-Err-clause-why g c clean =
+    cause_of g.S.Store c.args.conn.now c.settle.new.conn c.refusal.result c.in-Err.error c.refusal.ensures
+    (c.in-Err.ensures.refused clean)
+
+pub returns-in-Ok-clause-open : goal.returns-in-Ok-clause-open
+returns-in-Ok-clause-open g c clean = (c.in-Ok.ensures.open clean).1
 
 pub returns-in-Ok-clause-put : goal.returns-in-Ok-clause-put
-returns-in-Ok-clause-put g c clean still o has fit =
+returns-in-Ok-clause-put g c clean o has fit =
     let mid = state g.S.Store c.settle.new.conn in
     let early : HasCleanDisk mid = omega (arith, c.keep_day.ensures.crash.clean) in
-    let before = c.in-Ok.ensures.open clean still in
+    let before = (c.in-Ok.ensures.open clean).0 in
     let now = c.in_default.ensures.settled early before ∙ (c.settle.ensures.kept early).committed before in
     c.in-Ok.ensures.put clean o (subst (λ (db : Database). HasOffice db o) (sym now) has) fit
 
@@ -53,18 +45,15 @@ returns-in-Err-keep_day-clause-refused g c clean =
     (state g.S.Store c.keep_day.new.conn) (c.settle.ensures.kept (omega (arith, c.keep_day.ensures.crash.clean)))
     (c.in-Err-keep_day.ensures.refused clean)
 
-pub returns-in-Err-keep_day-clause-because : goal.returns-in-Err-keep_day-clause-because
-returns-in-Err-keep_day-clause-because g c clean failed =
+pub returns-in-Err-keep_day-clause-why : goal.returns-in-Err-keep_day-clause-why
+returns-in-Err-keep_day-clause-why g c clean =
     let mid = state g.S.Store c.settle.new.conn in
     let early : HasCleanDisk mid = omega (arith, c.keep_day.ensures.crash.clean) in
     let calm = c.in_default.ensures.calm early in
     elim (c.in-Err-keep_day.ensures.because clean) [
       | inl inside ↦ absurd (let e = sym calm ∙ inside in cc)
-      | inr refused ↦ record {
-        error = c.in-Err-keep_day.error;
-        cause =
-            not_memory c.refusal-in-Err-keep_day.result c.in-Err-keep_day.error c.refusal-in-Err-keep_day.ensures
-            failed;
-        refused = refused;
-      }
+      | inr refused ↦ cause_of g.S.Store c.args.conn.now c.keep_day.new.conn c.refusal-in-Err-keep_day.result
+          c.in-Err-keep_day.error c.refusal-in-Err-keep_day.ensures
+          (refused_after g.S.Store c.args.conn.now c.settle.new.conn c.keep_day.new.conn _ (c.settle.ensures.kept early)
+          c.settle.ensures.survives refused)
     ]

@@ -1,4 +1,4 @@
-use Rattle.std.proofs.Common.{[], sym, subst, ◌∙◌, arith, inl, inr}
+use Rattle.std.proofs.Common.{sym, subst, ◌∙◌, arith, inl, inr}
 use Rattle.sqlite.specs.Held.{state}
 use Rattle.sqlite.specs.Effect.{Database}
 use Rattle.sqlite.specs.State.{HasCleanDisk}
@@ -6,31 +6,23 @@ use Rattle.kept_tables.specs.Steps.{FitsAny}
 use Rattle.kept_tables.proofs.CrashLaws.{put_survives}
 use Rattle.keeper.specs.Kept.{with_tariff_of}
 use Rattle.kept_tables.specs.Stands.{HasOffice}
-use Rattle.kept_tables.specs.Texts.{undo}
-use Rattle.keeper_writes.proofs.CauseLaws.{not_memory}
+use Rattle.keeper_writes.proofs.CauseLaws.{cause_of, refused_after}
 use Rattle.kept_tables.proofs.StepLaws.{kept_then}
 use Rattle.keeper_writes.proofs.puts.put_tariff.Goals as goal
 
-pub returns-in-Err-clause-because : goal.returns-in-Err-clause-because
-returns-in-Err-clause-because g c clean failed = record {
-  error = c.in-Err.error;
-  cause = not_memory c.refusal.result c.in-Err.error c.refusal.ensures failed;
-  refused =
-      record {
-        sql = undo;
-        params = [];
-        before = c.args.conn.now;
-        after = c.settle.new.conn;
-        refused =
-            inl (c.in-Err.ensures.refused clean);
-      };
-}
+pub returns-in-Err-clause-why : goal.returns-in-Err-clause-why
+returns-in-Err-clause-why g c clean =
+    cause_of g.S.Store c.args.conn.now c.settle.new.conn c.refusal.result c.in-Err.error c.refusal.ensures
+    (c.in-Err.ensures.refused clean)
+
+pub returns-in-Ok-clause-open : goal.returns-in-Ok-clause-open
+returns-in-Ok-clause-open g c clean = (c.in-Ok.ensures.open clean).1
 
 pub returns-in-Ok-clause-put : goal.returns-in-Ok-clause-put
-returns-in-Ok-clause-put g c clean still o has =
+returns-in-Ok-clause-put g c clean o has =
     let mid = state g.S.Store c.settle.new.conn in
     let early : HasCleanDisk mid = omega (arith, c.replace.ensures.crash.clean) in
-    let before = c.in-Ok.ensures.open clean still in
+    let before = (c.in-Ok.ensures.open clean).0 in
     let now = c.in_default.ensures.settled early before ∙ (c.settle.ensures.kept early).committed before in
     c.in-Ok.ensures.put clean o (subst (λ (db : Database). HasOffice db o) (sym now) has)
 
@@ -53,17 +45,15 @@ returns-in-Err-replace-clause-refused g c clean =
     kept_then (state g.S.Store c.args.conn.now) (state g.S.Store c.settle.new.conn) (state g.S.Store c.replace.new.conn)
     (c.settle.ensures.kept (omega (arith, c.replace.ensures.crash.clean))) (c.in-Err-replace.ensures.refused clean)
 
-pub returns-in-Err-replace-clause-because : goal.returns-in-Err-replace-clause-because
-returns-in-Err-replace-clause-because g c clean failed =
+pub returns-in-Err-replace-clause-why : goal.returns-in-Err-replace-clause-why
+returns-in-Err-replace-clause-why g c clean =
     let mid = state g.S.Store c.settle.new.conn in
     let early : HasCleanDisk mid = omega (arith, c.replace.ensures.crash.clean) in
     let calm = c.in_default.ensures.calm early in
     elim (c.in-Err-replace.ensures.because clean) [
       | inl inside ↦ absurd (let e = sym calm ∙ inside in cc)
-      | inr refused ↦ record {
-        error = c.in-Err-replace.error;
-        cause =
-            not_memory c.refusal-in-Err-replace.result c.in-Err-replace.error c.refusal-in-Err-replace.ensures failed;
-        refused = refused;
-      }
+      | inr refused ↦ cause_of g.S.Store c.args.conn.now c.replace.new.conn c.refusal-in-Err-replace.result
+          c.in-Err-replace.error c.refusal-in-Err-replace.ensures
+          (refused_after g.S.Store c.args.conn.now c.settle.new.conn c.replace.new.conn _ (c.settle.ensures.kept early)
+          c.settle.ensures.survives refused)
     ]

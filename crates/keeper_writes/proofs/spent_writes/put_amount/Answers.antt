@@ -1,7 +1,8 @@
-use Rattle.std.proofs.Common.{◌≡◌, to_z, of_z, w64, rules, inl, inr}
+use Rattle.std.proofs.Common.{◌≡◌, to_z, of_z, w64, rules, inl, inr, refl}
 use Rattle.sqlite.specs.Held.{state}
 use Rattle.kept_tables.specs.Texts.{put_spent}
 use Rattle.kept_tables.proofs.SpentWriteLaws.{spent_edit, spent_put}
+use Rattle.keeper_writes.proofs.CauseLaws.{refused_now}
 use Rattle.keeper_writes.proofs.spent_writes.put_amount.Goals as goal
 
 pub returns-in-Ok-clause-adds : goal.returns-in-Ok-clause-adds
@@ -29,14 +30,8 @@ returns-in-Ok-clause-adds g c clean inside schema =
 
 pub returns-in-Err-clause-refused : goal.returns-in-Err-clause-refused
 returns-in-Err-clause-refused g c clean inside =
-    record {
-      sql = put_spent;
-      params = _;
-      before = c.args.tx.now.conn.now;
-      after =
-          c.execute.new.self.conn.now;
-      refused = inr (inl (c.in-Err.ensures.runs clean inside));
-    }
+    refused_now g.S.Store c.args.tx.now.conn.now c.execute.new.self.conn.now put_spent _ c.in-Err.error
+    (inr (inr (inl ((2, refl), inside, c.in-Err.ensures.runs clean inside))))
 
 pub returns-in-Ok-clause-fits : goal.returns-in-Ok-clause-fits
 returns-in-Ok-clause-fits g c = (search rules, search rules, search rules, c.requires.small)

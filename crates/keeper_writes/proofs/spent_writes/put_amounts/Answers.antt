@@ -9,6 +9,8 @@ use Rattle.sqlite.proofs.StateLemmas.{survives_then}
 use Rattle.kept_tables.specs.Steps.{AddsAmounts}
 use Rattle.kept_tables.proofs.SpentWriteLaws.{adds_then}
 use Rattle.kept_tables.proofs.PutLaws.{shows_then}
+use Rattle.kept_tables.proofs.StepLaws.{kept_then}
+use Rattle.keeper_writes.proofs.CauseLaws.{err_handed, kept_inside, refused_after}
 use Rattle.keeper_writes.proofs.spent_writes.put_amounts.Goals as goal
 
 pub rows-preserved : goal.rows-preserved
@@ -40,4 +42,15 @@ rows-preserved g c =
       subst (AllByRecursion FitsSpent) (sym more)
           (all-append FitsSpent (take c.rows.row-index c.args.rows.now)
           (get_or c.args.rows.now c.rows.row-index (record { day = 0; vid = 0; xway = 0; tolls = 0 }) ∷ []) kept.5 one),
+      λ clean inside. kept_then old mid new (kept.6 (before clean) inside)
+          (kept_inside mid new (c.in_ok-put_amount.ensures.inside clean (kept.2 (before clean) inside))),
     )
+
+pub returns-in_err-put_amount-clause-refused : goal.returns-in_err-put_amount-clause-refused
+returns-in_err-put_amount-clause-refused g c clean inside =
+    let mid = state g.S.Store c.rows.tx.conn.now in
+    let kept = c.rows.invariant in
+    let early : HasCleanDisk mid = omega (arith, c.put_amount.ensures.survives.clean) in
+    err_handed c.from_residual.result c.in_err-put_amount.field-0.0 _ c.from_residual.ensures.1
+    (refused_after g.S.Store c.args.tx.now.conn.now c.rows.tx.conn.now c.put_amount.new.tx.conn.now _
+    (kept.6 early inside) kept.1 (c.in_err-put_amount.ensures.refused clean (kept.2 early inside)))

@@ -1,5 +1,5 @@
 use Rattle.std.proofs.Common.{◌≡◌, take, IsTrue}
-use Rattle.sqlite.specs.State.{HasCleanDisk, Survives, Shows}
+use Rattle.sqlite.specs.State.{HasCleanDisk, Survives, Shows, KeepsCommit}
 use Rattle.sqlite.specs.Held.{state}
 use Rattle.std.specs.List.{AllByRecursion}
 use Rattle.kept_tables.specs.Stands.{FitsSpent}
@@ -18,3 +18,4 @@ invariant-rows g l =
     × (HasCleanDisk now → IsTrue old.in_transaction → old.now.schema ≡ all_tables →
     AddsAmounts old.now now.now (take l.row-index l.rows))
     × AllByRecursion FitsSpent (take l.row-index l.rows)
+    × (HasCleanDisk now → IsTrue old.in_transaction → KeepsCommit old now)

@@ -1,7 +1,8 @@
-use Rattle.std.proofs.Common.{inl, inr}
+use Rattle.std.proofs.Common.{inl, inr, refl}
 use Rattle.sqlite.specs.Held.{state}
 use Rattle.kept_tables.specs.Texts.{put_tariff}
 use Rattle.kept_tables.proofs.TariffWriteLaws.{put_writes}
+use Rattle.keeper_writes.proofs.CauseLaws.{refused_now}
 use Rattle.keeper_writes.proofs.tariff_writes.give.Goals as goal
 
 pub returns-in-Ok-clause-gave : goal.returns-in-Ok-clause-gave
@@ -20,11 +21,5 @@ returns-in-Ok-clause-gave g c clean inside o has own =
 
 pub returns-in-Err-clause-refused : goal.returns-in-Err-clause-refused
 returns-in-Err-clause-refused g c clean inside =
-    record {
-      sql = put_tariff;
-      params = _;
-      before = c.args.tx.now.conn.now;
-      after =
-          c.execute.new.self.conn.now;
-      refused = inr (inl (c.in-Err.ensures.runs clean inside));
-    }
+    refused_now g.S.Store c.args.tx.now.conn.now c.execute.new.self.conn.now put_tariff _ c.in-Err.error
+    (inr (inr (inl ((5, refl), inside, c.in-Err.ensures.runs clean inside))))

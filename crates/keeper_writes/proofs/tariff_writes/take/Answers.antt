@@ -1,7 +1,8 @@
-use Rattle.std.proofs.Common.{inl, inr}
+use Rattle.std.proofs.Common.{inl, inr, refl}
 use Rattle.sqlite.specs.Held.{state}
 use Rattle.kept_tables.specs.Texts.{drop_tariff}
 use Rattle.kept_tables.proofs.TariffWriteLaws.{drop_writes}
+use Rattle.keeper_writes.proofs.CauseLaws.{refused_now}
 use Rattle.keeper_writes.proofs.tariff_writes.take.Goals as goal
 
 pub returns-in-Ok-clause-took : goal.returns-in-Ok-clause-took
@@ -11,11 +12,5 @@ returns-in-Ok-clause-took g c clean inside o has =
 
 pub returns-in-Err-clause-refused : goal.returns-in-Err-clause-refused
 returns-in-Err-clause-refused g c clean inside =
-    record {
-      sql = drop_tariff;
-      params = _;
-      before = c.args.tx.now.conn.now;
-      after =
-          c.execute.new.self.conn.now;
-      refused = inr (inl (c.in-Err.ensures.runs clean inside));
-    }
+    refused_now g.S.Store c.args.tx.now.conn.now c.execute.new.self.conn.now drop_tariff _ c.in-Err.error
+    (inr (inr (inl ((4, refl), inside, c.in-Err.ensures.runs clean inside))))

@@ -6,6 +6,7 @@ use Rattle.keeper.specs.Kept.{with_tariff_of}
 use Rattle.keeper.specs.Office.{Office}
 use Rattle.kept_tables.specs.Stands.{HasOffice}
 use Rattle.kept_tables.proofs.TariffWriteLaws.{set_after_taken}
+use Rattle.keeper_writes.proofs.CauseLaws.{err_handed, errs_after}
 use Rattle.keeper_writes.proofs.tariff_writes.write.Goals as goal
 
 pub returns-clause-wrote : goal.returns-clause-wrote
@@ -20,3 +21,16 @@ returns-clause-wrote g c clean inside o has =
     let gave = c.give.ensures.gave clean still between took own in
     subst (λ (p : Office). OnOk c.give.result (HasOffice new.now p))
     (set_after_taken c.args.xway c.args.tariff.now o has.sound.tariffs own) gave
+
+pub returns-in_err-take-clause-refused : goal.returns-in_err-take-clause-refused
+returns-in_err-take-clause-refused g c clean inside =
+    err_handed c.from_residual.result c.in_err-take.field-0.0 _ c.from_residual.ensures.1
+    (c.in_err-take.ensures.refused clean inside)
+
+pub returns-clause-refused : goal.returns-clause-refused
+returns-clause-refused g c clean inside =
+    let mid = state g.S.Store c.take.new.tx.conn.now in
+    let early : HasCleanDisk mid = omega (arith, c.give.ensures.survives.clean) in
+    let one = c.in_ok-take.ensures.inside early inside in
+    errs_after g.S.Store c.args.tx.now.conn.now c.take.new.tx.conn.now c.give.new.tx.conn.now c.give.result one
+    c.take.ensures.survives (c.give.ensures.refused clean (one.mode ∙ inside))

@@ -1,7 +1,9 @@
-use Rattle.std.proofs.Common.{sym, ◌∙◌}
+use Rattle.std.proofs.Common.{refl, sym, ◌∙◌, inl, rules}
 use Rattle.sqlite.specs.Held.{state}
 use Rattle.sqlite.proofs.StateLemmas.{survives_weaker}
 use Rattle.kept_tables.proofs.StepLaws.{kept_undone, kept_if_refused, undone, undo_commits_nothing}
+use Rattle.kept_tables.specs.Texts.{undo}
+use Rattle.keeper_writes.proofs.CauseLaws.{refused_now}
 use Rattle.keeper_writes.proofs.unfinished.settle.Goals as goal
 
 pub returns-in-Ok-clause-settled : goal.returns-in-Ok-clause-settled
@@ -34,3 +36,8 @@ pub returns-in-Ok-clause-calm : goal.returns-in-Ok-clause-calm
 returns-in-Ok-clause-calm g c clean =
     (undone (state g.S.Store c.args.conn.now) (state g.S.Store c.execute.new.self) _
     (c.in-Ok.ensures.runs clean)).autocommit
+
+pub returns-in-Err-clause-refused : goal.returns-in-Err-clause-refused
+returns-in-Err-clause-refused g c clean =
+    refused_now g.S.Store c.args.conn.now c.execute.new.self undo _ c.in-Err.error
+    (inl (refl, search rules, c.in-Err.ensures.runs clean))

@@ -5,6 +5,8 @@ use Rattle.sqlite.proofs.StateLemmas.{clean_if_open}
 use Rattle.keeper.specs.Kept.{IsLater, with_day}
 use Rattle.kept_tables.proofs.StandLaws.{told_sound}
 use Rattle.keeper_proof.proofs.TellLaws.{puts_tell}
+use Rattle.keeper_writes.proofs.CauseLaws.{was_refused, failure_of}
+use Rattle.keeper_proof.proofs.StandLaws.{done_open}
 use Rattle.keeper_proof.proofs.keeping.ProvedKeeperKeeper.put_day.Goals as goal
 
 pub returns-clause-state : goal.returns-clause-state
@@ -28,6 +30,22 @@ pub returns-clause-put : goal.returns-clause-put
 returns-clause-put g c clean here o stands fit =
     rw c.count.ensures.same (c.put_day-answer.ensures.put clean here o stands fit)
 
+pub returns-clause-open : goal.returns-clause-open
+returns-clause-open g c clean = rw c.count.ensures.same (c.put_day-answer.ensures.open clean)
+
+pub returns-clause-done : goal.returns-clause-done
+returns-clause-done g c clean o stands fit =
+    rw c.count.ensures.same
+    (done_open c.put_day-answer.result _ _ _ (c.put_day-answer.ensures.open clean)
+    (λ here. c.put_day-answer.ensures.put clean here o stands fit))
+
+pub returns-clause-why : goal.returns-clause-why
+returns-clause-why g c clean o stands = rw c.count.ensures.same (c.put_day-answer.ensures.why clean o stands)
+
 pub returns-clause-because : goal.returns-clause-because
 returns-clause-because g c clean o stands failed =
-    c.put_day-answer.ensures.because clean o stands (sym c.count.ensures.same ∙ failed)
+    was_refused g.S.Store c.args.self.now.conn c.put_day-answer.new.conn
+    (failure_of g.S.Store c.args.self.now.conn c.put_day-answer.new.conn c.put_day-answer.result (c.put_day-answer.ensures.why clean o stands) (sym c.count.ensures.same ∙ failed))
+
+pub returns-clause-version : goal.returns-clause-version
+returns-clause-version g c clean = rw c.count.ensures.same (c.put_day-answer.ensures.version clean)

@@ -6,6 +6,8 @@ use Rattle.keeper.specs.Kept.{with_tariff_of}
 use Rattle.kept_tables.specs.Steps.{FitsAny}
 use Rattle.kept_tables.proofs.StandLaws.{told_sound}
 use Rattle.keeper_proof.proofs.TellLaws.{puts_tell, any_fits}
+use Rattle.keeper_writes.proofs.CauseLaws.{was_refused, failure_of}
+use Rattle.keeper_proof.proofs.StandLaws.{done_open}
 use Rattle.keeper_proof.proofs.keeping.ProvedKeeperKeeper.put_tariff.Goals as goal
 
 pub returns-clause-state : goal.returns-clause-state
@@ -29,6 +31,22 @@ pub returns-clause-put : goal.returns-clause-put
 returns-clause-put g c clean here o stands =
     rw c.count.ensures.same (c.put_tariff-answer.ensures.put clean here o stands)
 
+pub returns-clause-open : goal.returns-clause-open
+returns-clause-open g c clean = rw c.count.ensures.same (c.put_tariff-answer.ensures.open clean)
+
+pub returns-clause-done : goal.returns-clause-done
+returns-clause-done g c clean o stands =
+    rw c.count.ensures.same
+    (done_open c.put_tariff-answer.result _ _ _ (c.put_tariff-answer.ensures.open clean)
+    (λ here. c.put_tariff-answer.ensures.put clean here o stands))
+
+pub returns-clause-why : goal.returns-clause-why
+returns-clause-why g c clean o stands = rw c.count.ensures.same (c.put_tariff-answer.ensures.why clean o stands)
+
 pub returns-clause-because : goal.returns-clause-because
 returns-clause-because g c clean o stands failed =
-    c.put_tariff-answer.ensures.because clean o stands (sym c.count.ensures.same ∙ failed)
+    was_refused g.S.Store c.args.self.now.conn c.put_tariff-answer.new.conn
+    (failure_of g.S.Store c.args.self.now.conn c.put_tariff-answer.new.conn c.put_tariff-answer.result (c.put_tariff-answer.ensures.why clean o stands) (sym c.count.ensures.same ∙ failed))
+
+pub returns-clause-version : goal.returns-clause-version
+returns-clause-version g c clean = rw c.count.ensures.same (c.put_tariff-answer.ensures.version clean)

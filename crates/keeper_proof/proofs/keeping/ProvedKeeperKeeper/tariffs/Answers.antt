@@ -1,10 +1,12 @@
-use Rattle.std.proofs.Common.{◌≡◌, true, IsTrue}
+use Rattle.std.proofs.Common.{◌≡◌, true, IsTrue, sym, ◌∙◌}
 use Rattle.sqlite.specs.Held.{state}
 use Rattle.sqlite.specs.State.{HasCleanDisk}
 use Rattle.sqlite.proofs.StateLemmas.{clean_if_open}
 use Rattle.road_time.specs.Rates.{Tariffs}
 use Rattle.kept_tables.proofs.StandLaws.{told_sound}
-use Rattle.keeper_writes.specs.Causes.{WasRefused}
+use Rattle.keeper_writes.specs.Causes.{WasRefused, WasRefusedIn}
+use Rattle.keeper_writes.proofs.CauseLaws.{was_refused}
+use Rattle.keeper_proof.proofs.GiveLaws.{gives_weaker, cause_given}
 use Rattle.keeper_proof.proofs.TellLaws.{reads_tell}
 use Rattle.keeper_proof.proofs.keeping.ProvedKeeperKeeper.tariffs.Goals as goal
 
@@ -18,11 +20,25 @@ returns-clause-state g c =
     clean_if_open (g.S.Store.view c.tariffs-answer.new.conn.store)
     (g.met.S.Store.shut_if_dirty c.tariffs-answer.new.conn.store) (opens is) in h in
     rw c.count.ensures.same
-    (reads_tell g.S.Steady.is_steady old new (WasRefused g.S.Store) (λ (x : Tariffs). x) c.tariffs-answer.result
+    (reads_tell g.S.Steady.is_steady old new (WasRefusedIn g.S.Store c.args.self.now.conn c.tariffs-answer.new.conn) (λ (x : Tariffs). x) c.tariffs-answer.result
     (λ o. o.tariffs) opens clean c.tariffs-answer.ensures.kept c.tariffs-answer.ensures.gives)
 
 pub returns-clause-sound : goal.returns-clause-sound
 returns-clause-sound g c = told_sound _ _
 
 pub returns-clause-gives : goal.returns-clause-gives
-returns-clause-gives g c clean o stands = rw c.count.ensures.same (c.tariffs-answer.ensures.gives clean o stands)
+returns-clause-gives g c clean o stands =
+    rw c.count.ensures.same
+    (gives_weaker (WasRefusedIn g.S.Store c.args.self.now.conn c.tariffs-answer.new.conn) (WasRefused g.S.Store) (λ (x : Tariffs). x) c.tariffs-answer.result o.tariffs
+    (was_refused g.S.Store c.args.self.now.conn c.tariffs-answer.new.conn) (c.tariffs-answer.ensures.gives clean o stands))
+
+pub returns-clause-open : goal.returns-clause-open
+returns-clause-open g c clean = rw c.count.ensures.same (c.tariffs-answer.ensures.open clean)
+
+pub returns-clause-why : goal.returns-clause-why
+returns-clause-why g c clean o stands failed =
+    cause_given (WasRefusedIn g.S.Store c.args.self.now.conn c.tariffs-answer.new.conn) (λ (x : Tariffs). x) c.tariffs-answer.result o.tariffs
+    (c.tariffs-answer.ensures.gives clean o stands) (sym c.count.ensures.same ∙ failed)
+
+pub returns-clause-version : goal.returns-clause-version
+returns-clause-version g c clean = rw c.count.ensures.same (c.tariffs-answer.ensures.version clean)

@@ -1,0 +1,51 @@
+-- What a failure of the second of two steps says of both.
+use Rattle.std.proofs.Common.{◌≡◌, Err, Ok, Result, IfErr, IsErrAnd}
+use Rattle.sqlite_trees.specs.declared.store.Store.{Ghosts}
+use Rattle.sqlite.specs.Held.{Held, state}
+use Rattle.sqlite.specs.State.{KeepsCommit, Survives}
+use Rattle.keeper.specs.declared.kept.KeepFault.{KeepFault}
+use Rattle.keeper.specs.declared.kept.KeepFault.TheVariants.{Failed, NoMemory}
+use Rattle.keeper_writes.specs.Causes.{WasRefusedIn, HasCause, LackedMemory}
+use Rattle.keeper_writes.proofs.CauseLaws.{refused_after, err_handed}
+
+module _ {S : Type 0} (g : Ghosts S) (old mid new : Held S) (kept : KeepsCommit (state g old) (state g mid))
+    (survives : Survives (state g old) (state g mid) (λ _. ⊥)) where
+  -- a failure of the second is one of both
+  pub failure_after : WasRefusedIn g mid new → WasRefusedIn g old new
+  failure_after h = record {
+    error = h.error;
+    cause = h.cause;
+    refused = refused_after g old mid new h.error kept survives h.refused;
+  }
+
+  -- so is its want of memory
+  pub memory_after : LackedMemory g mid new → LackedMemory g old new
+  memory_after h = refused_after g old mid new _ kept survives h
+
+  -- so is each fault's cause
+  pub cause_after : (f : KeepFault) → HasCause g mid new f → HasCause g old new f
+  cause_after Failed h = failure_after h
+  cause_after NoMemory h = memory_after h
+
+  -- and each error's
+  pub causes_after : {T : Type 0} (r : Result T KeepFault) → IfErr r (HasCause g mid new) → IfErr r (HasCause g old new)
+  causes_after (Ok x) h = h
+  causes_after (Err f) h = cause_after f h
+
+module _ {S : Type 0} (g : Ghosts S) (old new : Held S) where
+  -- want of memory that has its cause
+  pub memory_of : {T : Type 0} (r : Result T KeepFault) → IfErr r (HasCause g old new) → r ≡ Err NoMemory →
+      LackedMemory g old new
+  memory_of (Ok x) h none = absurd (cc)
+  memory_of (Err Failed) h none = absurd (cc)
+  memory_of (Err NoMemory) h none = h
+
+  -- so does one that is handed on
+  pub memory_handed : {U : Type 0} (r : Result U KeepFault) (f : KeepFault) → IsErrAnd r (λ e. e ≡ f) →
+      HasCause g old new f → r ≡ Err NoMemory → LackedMemory g old new
+  memory_handed r f same h none = memory_of r (err_handed r f (HasCause g old new) same h) none
+
+  -- a failure that is told has its cause
+  pub failure_is : (f : KeepFault) → HasCause g old new f → f ≡ Failed → WasRefusedIn g old new
+  failure_is Failed h is = h
+  failure_is NoMemory h is = absurd (cc)
