@@ -1,6 +1,6 @@
 #!/usr/bin/env python3
 """Writes what the documents have from other files: the kit's name from its KIT-ID, the trusted libraries and the table of
-crates from crates.txt and the crates' own first sentences, and the table of speed from bench/speed.csv.
+crates from crates.txt and the crates' own first sentences, the table of speed from bench/speed.csv, and the index of tests.
 
     python3 bench/write_docs.py [--check] [--kit /opt/rattle/KIT-ID]
 
@@ -13,6 +13,8 @@ import pathlib
 import re
 import sys
 import textwrap
+
+from rows import index
 
 TOP = pathlib.Path(__file__).resolve().parent.parent
 PAGES = [TOP / "README.md", *sorted((TOP / "docs").glob("*.md"))]
@@ -92,7 +94,7 @@ def speed_table():
     return "\n".join(rows)
 
 
-PIECES = {"trusted libraries": trusted, "crates": crate_table, "speed": speed_table}
+PIECES = {"trusted libraries": trusted, "crates": crate_table, "speed": speed_table, "tests": index}
 
 
 def written(text, kit):
