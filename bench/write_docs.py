@@ -80,12 +80,31 @@ def trusted():
     return textwrap.fill(", ".join(f"`{it}`" for it in libraries), 118, break_on_hyphens=False)
 
 
+def speeds():
+    """The measured runs, and the line that says where and when."""
+    with open(TOP / "bench" / "speed.csv", newline="") as file:
+        return list(csv.DictReader(file)), (TOP / "bench" / "speed.txt").read_text().strip()
+
+
+def speed_figure():
+    """The one figure of speed that README has: an import of the greatest day that is not called the greatest."""
+    runs, where = speeds()
+    imports = [it for it in runs if it["command"] == "import, 1 worker" and it["day"] != "greatest"]
+    it = max(imports, key=lambda it: int(it["lines"]))
+    base = next(float(of["wall"]) for of in runs if of["day"] == it["day"] and of["command"] == "sha256sum")
+    seconds, date = int(it["lines"]) * float(it["wall"]) / 1e9, re.search(r"\d{4}-\d\d-\d\d", where)[0]
+    said = (f"When last measured ({date}), `import` of a day of {int(it['lines']):,} lines took {seconds:.0f} seconds and "
+            f"{it['megabytes']} MB, {float(it['wall']) / base:.1f} times as long as `sha256sum` of the same file. This is one "
+            f"machine's figure, and nothing of it is proved; [PERFORMANCE](docs/PERFORMANCE.md) has the method.")
+    return textwrap.fill(said, 120, break_on_hyphens=False, break_long_words=False)
+
+
 def speed_table():
     """The measured runs."""
-    rows = ["| Day | Lines | Command | Processor ns a line | Wall ns a line | Wall, times `sha256sum` | MB |",
+    runs, where = speeds()
+    rows = [textwrap.fill(where, 120, break_on_hyphens=False), "",
+            "| Day | Lines | Command | Processor ns a line | Wall ns a line | Wall, times `sha256sum` | MB |",
             "|---|---|---|---|---|---|---|"]
-    with open(TOP / "bench" / "speed.csv", newline="") as file:
-        runs = list(csv.DictReader(file))
     base = {it["day"]: float(it["wall"]) for it in runs if it["command"] == "sha256sum"}
     for it in runs:
         times = float(it["wall"]) / base[it["day"]]
@@ -94,7 +113,7 @@ def speed_table():
     return "\n".join(rows)
 
 
-PIECES = {"trusted libraries": trusted, "crates": crate_table, "speed": speed_table, "tests": index}
+PIECES = {"trusted libraries": trusted, "crates": crate_table, "speed": speed_table, "figure": speed_figure, "tests": index}
 
 
 def written(text, kit):
