@@ -126,7 +126,8 @@ def written(text, kit):
             _, end, after = rest.partition("<!-- end -->")
             if not end:
                 sys.exit(f"no end of {name}")
-            text = before + mark + "\n" + piece() + "\n\n" + end + after
+            gap = "" if name == "figure" else "\n"
+            text = before + mark + gap + piece() + "\n" + gap + end + after
     return text
 
 
