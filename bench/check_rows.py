@@ -3,10 +3,10 @@
 
     python3 bench/check_rows.py [--list]
 
-Each row must name a test, a theorem or a line of a test program that is there (bench/rows.py says how), and each test must be named
-by a row; each path, file of the crates and crate that the page names must be there, and each row in quotes must stand in a test.
-With --list each row is printed with the places that it names. If there is a C compiler, bench/plain.c is run on each row whose input
-is written in reports and requests, in fifty-one or in the pair. The script ends with status 1 and names what is wrong.
+Each row must name a test, a theorem or a line of a test program that is there (bench/rows.py says how), and each test must be
+named by a row; each path and file of the crates that the page names must be there, and each row in quotes must stand in a test.
+With --list each row is printed with the places that it names. If there is a C compiler, bench/plain.c is run on each row whose
+input is written in reports and requests, in fifty-one or in the pair. The script ends with status 1 and names what is wrong.
 """
 import pathlib
 import re
@@ -76,7 +76,8 @@ def differing():
                 continue
             asked += 1
             wanted = re.findall(r"`(\d,[-\d,]+)`", out)
-            found = subprocess.run([program], input=given[0], text=True, capture_output=True, check=True).stdout.split()[given[1]:]
+            ran = subprocess.run([program], input=given[0], text=True, capture_output=True, check=True)
+            found = ran.stdout.split()[given[1]:]
             if found != wanted and not ("at the end" in out and wanted and found[-len(wanted):] == wanted):
                 wrong.append(f"docs/ROWS.md:{at}: bench/plain.c gives {found}")
     return asked, wrong

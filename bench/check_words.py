@@ -1,11 +1,11 @@
 #!/usr/bin/env python3
-"""Compares the words of the documents with the grammar: the manual pages, the completion for bash, README and FORMATS; and counts
-how long the pages for newcomers take to read.
+"""Compares the words of the documents with the grammar: the manual pages, the completion for bash, README and FORMATS; and
+counts how long the pages for newcomers take to read.
 
     python3 bench/check_words.py
 
-A word of a page is what stands between blanks and has a letter or a digit, in sentences, tables and blocks alike; 200 of them are a
-minute. All pages that README sends a newcomer to may take 60 minutes. The grammar is the table in `crates/office_words/specs/Table.antt` and, of the server, `crates/server_words/specs/App.antt`.
+A word of a page is what stands between blanks and has a letter or a digit, in sentences, tables and blocks alike; 200 of them
+are a minute. All pages that README sends a newcomer to may take 60 minutes. The grammar is the table in `crates/office_words/specs/Table.antt` and, of the server, `crates/server_words/specs/App.antt`.
 The script ends with status 1 and names each word that a page lacks or has too much. If groff is there, the manual pages must
 give it no warning.
 """
