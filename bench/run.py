@@ -109,9 +109,7 @@ def machine(runs):
     facts = {name.strip(): value.strip() for name, value in said.items()}
     name = facts.get("model name", "a processor").replace("(R)", "")
     speed = "" if "@" in name else f" at {float(facts.get('cpu MHz', 0)) / 1000:.2f} GHz"
-    digests = "with" if "sha_ni" in facts.get("flags", "").split() else "without"
-    return (f"{name}{speed}, {os.cpu_count()} virtual processors {digests} instructions for SHA-256; the least of {runs} runs; "
-            f"{time.strftime('%Y-%m-%d')}.")
+    return f"{name}{speed}, {os.cpu_count()} virtual processors; the least of {runs} runs; {time.strftime('%Y-%m-%d')}."
 
 
 def lines_in(path):

@@ -49,12 +49,6 @@ INLINE = {
     "source docs/toll_office.bash": [
         ('source "$OLD/docs/toll_office.bash" && COMP_WORDS=(toll_office va) COMP_CWORD=1 && _toll_office && echo "${COMPREPLY[@]}"',
          "validate")],
-    "toll_office export 100 > d.csv || { tail -n 1 d.csv >&2; rm d.csv; }": [
-        ("toll_office import 100 < day.csv | tail -n 1", ".. day 100 tuples 1137 notices 341 total 16416"),
-        ("toll_office export 100 > d.csv || { tail -n 1 d.csv >&2; rm d.csv; }", ""),
-        ("head -n 1 d.csv", "vid,day,xway,tolls"),
-        ("toll_office export 99 > e.csv || { tail -n 1 e.csv >&2; rm e.csv; }", "# no day 99"),
-        ("ls e.csv 2> /dev/null | wc -l", "0")],
     "set -o pipefail": [("(set -o pipefail; toll_office export 99 | tail -n 1; echo $?)", "# no day 99\n3")],
     "pv day.csv | toll_office import 100": [
         ("(if command -v pv > /dev/null; then pv -q day.csv; else cat day.csv; fi) | toll_office import 100 | tail -n 1",
