@@ -29,6 +29,9 @@ GATE = "rt ci"
 FIRST = 'mkdir -p "$OLD/office_of_page" && cp "$OLD"/crates/example_office/data/*.csv "$OLD/office_of_page" && cd "$OLD/office_of_page"'
 DAY = "# stored day 100 tuples 1137 notices 341 total 16416"
 
+# what a command prints of which the page says only what it does
+PRINTS = {"(cd crates/toll_office && rt run -- answers 100 < ../example_office/data/day.csv)": "..# answered day 100 tuples 1137 notices 341.."}
+
 # what comes before a page's commands: README shows a run before it says how to build. $OLD is the top of the copy
 BEGIN = {
     "README.md": [('export PATH="$OLD/crates/toll_office/out:$PATH"', "")],
@@ -111,7 +114,7 @@ def commands(page):
                 command, _, said = line.partition("  # ")
                 if re.match(r"(toll_|mkdir|export|cd |cp |python3|curl|rt |\()", command):
                     found.append((at, command.strip(), [said] if said.startswith(("#", "{", "total")) else None))
-    return [(at, command, None if said is None else "\n".join(said).rstrip("\n")) for at, command, said in found]
+    return [(at, command, PRINTS.get(command) if said is None else "\n".join(said).rstrip("\n")) for at, command, said in found]
 
 
 def inline(page):
