@@ -17,10 +17,12 @@ import os
 import pathlib
 import re
 import shutil
+import signal
 import socket
 import subprocess
 import sys
 import tempfile
+import threading
 
 TOP = pathlib.Path(__file__).resolve().parent.parent
 PAGES = ["README.md", "docs/USE.md", "docs/HTTP.md", "docs/FORMATS.md", "docs/PROOF.md", "docs/RULES.md"]
@@ -155,29 +157,38 @@ class Shell:
     def __init__(self, top):
         env = {**os.environ, "OLD": str(top), "SOURCE": str(TOP), "MANPAGER": "cat"}
         self.child = subprocess.Popen(["bash"], cwd=top, text=True, bufsize=1, stdin=subprocess.PIPE, stdout=subprocess.PIPE,
-                                      stderr=subprocess.STDOUT, env=env)
+                                      stderr=subprocess.STDOUT, env=env, start_new_session=True)
 
-    def run(self, command):
-        """What a command prints, and its status."""
-        self.child.stdin.write(f"{command}\nended=$?\necho\necho '{MARK}' $ended\n")
-        self.child.stdin.flush()
-        found = []
-        for line in self.child.stdout:
-            if line.startswith(MARK):
-                return "".join(found)[:-1].rstrip("\n"), int(line.split()[-1])
-            found.append(line)
-        sys.exit(f"the shell ended at: {command}")
+    def run(self, command, seconds):
+        """What a command prints, and its status; the shell and what it started are ended if that takes too long."""
+        clock = threading.Timer(seconds, os.killpg, (self.child.pid, signal.SIGKILL))
+        clock.start()
+        try:
+            self.child.stdin.write(f"{command}\nended=$?\necho\necho '{MARK}' $ended\n")
+            self.child.stdin.flush()
+            found = []
+            for line in self.child.stdout:
+                if line.startswith(MARK):
+                    return "".join(found)[:-1].rstrip("\n"), int(line.split()[-1])
+                found.append(line)
+            sys.exit(f"no end within {seconds} seconds: {command}\n{''.join(found)}")
+        finally:
+            clock.cancel()
 
     def end(self):
         self.child.stdin.close()
         self.child.wait(timeout=60)
 
 
+def needs_kit(command):
+    return re.search(r"(^|[( ;&])rt ", command) is not None
+
+
 def passed_over(command, given):
     """Whether a command needs what is not there: the kit, hours, or the server."""
     if command.startswith("rt version"):
         return not shutil.which("rt")
-    if re.search(r"(^|[( ;&])rt ", command):
+    if needs_kit(command):
         return not given.kit or command.startswith(GATE)
     return not (given.serve or given.kit) and re.search(r"toll_serve (8080|0)|curl|\bask\b", command) is not None
 
@@ -200,7 +211,7 @@ def tried(page, name, given):
                 print(f"{page.name}:{at}: not run: {command}")
                 continue
             run += 1
-            text, status = shell.run(command.replace("8080", port))
+            text, status = shell.run(command.replace("8080", port), 14400 if needs_kit(command) else 300)
             if given.loud:
                 print(f"{page.name}:{at}: {command}\n{text}")
             if status > 8 if wanted is None else not fits(text, wanted.replace("8080", port)):
