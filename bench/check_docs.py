@@ -4,22 +4,48 @@
     python3 bench/check_docs.py
 
 Looked at are README, CHANGELOG and docs. A link must lead to a file of the repository. A path in backticks that begins with
-`crates/`, `bench/` or `docs/` must be there. No line but of a table, a picture or a block is longer than 128 characters. The
-script ends with status 1 if anything is wrong. It proves nothing and runs no program; bench/try_docs.py does.
+`crates/`, `bench/` or `docs/` must be there. The code that PROOF shows must stand in the file that it names, and the tables of
+FORMATS in the definitions. No line but of a table, a picture or a block is longer than 128 characters. The script ends with
+status 1 if anything is wrong. It proves nothing and runs no program; bench/try_docs.py does.
 """
 import pathlib
 import re
 import subprocess
 import sys
 
+from try_new_folder import tables
 from write_docs import PAGES, TOP
 
 OTHERS = [["write_docs.py", "--check"], ["pictures.py", "--check"], ["check_words.py"], ["check_rows.py"],
           ["check_traffic.py"], ["check_clauses.py"]]
 
 
+def shown():
+    """Lines of code in PROOF that are not in the file named before them, or, where they are new, in no edit of its crate."""
+    wrong, path, code = [], None, False
+    for at, line in enumerate((TOP / "docs/PROOF.md").read_text().splitlines(), 1):
+        if line.startswith("```"):
+            code = line == "```text"
+        elif not code:
+            named = [TOP / it for it in re.findall(r"`(crates/[\w./]+\.(?:antt|rt))`", line)]
+            path = named[-1] if named else path
+        elif line.startswith("+"):
+            edits = (path.parent.parent / "must-fail").glob("*.edit")
+            if not any("new: " + line[1:] in it.read_text() for it in edits):
+                wrong.append(f"docs/PROOF.md:{at}: no edit has {line}")
+        elif line.lstrip("-").strip() not in {it.strip() for it in path.read_text().splitlines()}:
+            wrong.append(f"docs/PROOF.md:{at}: {path.name} has not {line}")
+    return wrong
+
+
+def tables_differ():
+    """Whether the tables' texts in FORMATS are others than those of the definitions."""
+    block = re.search(r"^```\n(CREATE TABLE.*?)^```", (TOP / "docs/FORMATS.md").read_text(), re.S | re.M)
+    return [] if block and block[1].splitlines() == "\n".join(tables()).splitlines() else ["docs/FORMATS.md: other tables"]
+
+
 def main():
-    wrong = []
+    wrong = shown() + tables_differ()
     for name, *words in OTHERS:
         ran = subprocess.run([sys.executable, TOP / "bench" / name, *words], text=True, stdout=subprocess.PIPE,
                              stderr=subprocess.STDOUT)

@@ -1,12 +1,12 @@
 #!/usr/bin/env python3
-"""Looks whether each row of docs/ROWS.md is where the page says, and whether an unproved program gives the same notices.
+"""Looks whether each row of docs/ROWS.md is in a test, whether each test is named, and whether an unproved program agrees.
 
-    python3 bench/check_rows.py
+    python3 bench/check_rows.py [--list]
 
-In each entry "Has it", and in each table's column of that name, a path must be a file, a name of a file must be a file of the
-crates, and any other name in backticks must stand in a file that the entry names, or in one of the same folder, or in a test or
-proof. A row in quotes must stand in a test. If there is a C compiler, bench/plain.c is run on each row whose input is written
-in reports and requests, in fifty-one or in the pair. The script ends with status 1 and names each that is not there, or differs.
+Each row must name a test, a theorem or a line of a test program that is there (bench/rows.py says how), and each test must be
+named by a row; each path and file of the crates that the page names must be there, and each row in quotes must stand in a test.
+With --list each row is printed with the places that it names. If there is a C compiler, bench/plain.c is run on each row whose
+input is written in reports and requests, in fifty-one or in the pair. The script ends with status 1 and names what is wrong.
 """
 import pathlib
 import re
@@ -15,40 +15,29 @@ import subprocess
 import sys
 import tempfile
 
-TOP = pathlib.Path(__file__).resolve().parent.parent
+from rows import INDEX, PAGE, TOP, Places, rows
 
 
-def files():
-    """The tests, the programs that are tests, and the proofs."""
-    found = {}
-    for path in sorted(TOP.glob("crates/*/**/*")):
-        where = path.relative_to(TOP).as_posix()
-        if path.suffix in (".rt", ".antt") and "/out/" not in where:
-            found[where] = path.read_text()
-    return found
-
-
-def entries():
-    """Each entry with the number of its line."""
-    lines = (TOP / "docs/ROWS.md").read_text().splitlines()
-    at, column = 0, None
-    while at < len(lines):
-        line = lines[at]
-        if line.startswith("- **Has it:**"):
-            said, first = [line], at + 1
-            while at + 1 < len(lines) and lines[at + 1].startswith("  "):
-                at += 1
-                said.append(lines[at])
-            yield first, " ".join(said)
-        elif line.startswith("|"):
-            cells = [it.strip() for it in re.split(r"(?<!\\)\|", line)[1:-1]]
-            if "Has it" in cells:
-                column = cells.index("Has it")
-            elif column is not None and not set(line) <= set("|- ") and column < len(cells):
-                yield at + 1, cells[column]
-        else:
-            column = None
-        at += 1
+def named(places):
+    """What the page names and is not there."""
+    wrong, part = [], ""
+    for at, line in enumerate(PAGE.read_text().splitlines(), 1):
+        part = line[3:] if line.startswith("## ") else part
+        has = line.rsplit(" | ", 1)[-1] if line.startswith("|") else line
+        for word in re.findall(r"`([\w/.]+)`", has):
+            if "/" in word and re.match(r"(crates|bench|docs)/", word):
+                good = (TOP / word).exists()
+            elif word.endswith((".rt", ".antt")):
+                good = any(it.endswith("/" + word) for it in places.every)
+            else:
+                good = True
+            if not good:
+                wrong.append(f"docs/ROWS.md:{at}: no {word}")
+        for name, quoted, crate in re.findall(r'(?:`(\w+)`|"([^"]+)") in `(\w+)`', has):
+            texts = [text for it, text in places.every.items() if it.startswith(f"crates/{crate}/")]
+            if texts and not any((name or quoted).lower() in text.lower() for text in texts):
+                wrong.append(f"docs/ROWS.md:{at}: {name or quoted} is not in {crate}")
+    return wrong
 
 
 def lines_of(said):
@@ -77,50 +66,41 @@ def differing():
     """How many rows the unproved program was asked, and those of which it gives other notices."""
     if not shutil.which("cc"):
         return 0, []
-    text, asked, wrong = (TOP / "docs/ROWS.md").read_text(), 0, []
+    asked, wrong = 0, []
     with tempfile.TemporaryDirectory() as folder:
         program = pathlib.Path(folder) / "plain"
         subprocess.run(["cc", "-O2", "-o", program, TOP / "bench/plain.c"], check=True)
-        for name, said, out in re.findall(r"^### (.*?)\n\n- \*\*In:\*\*(.*?)\n- \*\*Out:\*\*(.*?)\n- \*\*Shows", text, re.S | re.M):
-            given, out = lines_of(" ".join(said.split())), re.split(r"The log|The one row|; by", " ".join(out.split()))[0]
+        for at, _, cells, _ in rows():
+            given, out = lines_of(cells.get("In", "")), re.split(r"The log|The one row|; by", cells.get("Out", ""))[0]
             if not given or "refused" in out:
                 continue
             asked += 1
             wanted = re.findall(r"`(\d,[-\d,]+)`", out)
-            found = subprocess.run([program], input=given[0], text=True, capture_output=True, check=True).stdout.split()[given[1]:]
+            ran = subprocess.run([program], input=given[0], text=True, capture_output=True, check=True)
+            found = ran.stdout.split()[given[1]:]
             if found != wanted and not ("at the end" in out and wanted and found[-len(wanted):] == wanted):
-                wrong.append(f"docs/ROWS.md: {name}: bench/plain.c gives {found}")
+                wrong.append(f"docs/ROWS.md:{at}: bench/plain.c gives {found}")
     return asked, wrong
 
 
 def main():
-    every, wrong, count = files(), [], 0
-    tests = {name: text for name, text in every.items() if re.search(r"/tests|/proofs/|_rows/|example_|kept_in_memory", name)}
-    for at, said in entries():
+    places, count, have = Places(), 0, set()
+    wrong = named(places)
+    for at, part, name, found in places.of_rows():
         count += 1
-        for word in re.findall(r"`([^`]+)`", said):
-            if "/" in word:
-                good = (TOP / word).exists() or any(it.endswith(word) for it in every)
-            elif word.endswith((".rt", ".antt")):
-                good = any(it.endswith("/" + word) for it in every)
-            elif re.fullmatch(r"[a-z][a-z0-9_]*", word):
-                good = (TOP / "crates" / word).is_dir() or any(f"/{word}" in it for it in every) or \
-                    any(re.search(rf"\b{word}\b", text) for text in tests.values())
-            else:
-                continue
-            if not good:
-                wrong.append(f"docs/ROWS.md:{at}: no {word}")
-        for name, quoted, crate in re.findall(r'(?:`(\w+)`|"([^"]+)") in `(\w+)`', said):
-            texts = [text for it, text in every.items() if it.startswith(f"crates/{crate}/")]
-            if texts and not any((name or quoted).lower() in text.lower() for text in texts):
-                wrong.append(f"docs/ROWS.md:{at}: {name or quoted} is not in {crate}")
-        for row in re.findall(r'"([^"]+)"', said):
-            if not any(row.lower() in text.lower() for text in tests.values()):
-                wrong.append(f'docs/ROWS.md:{at}: no row "{row}"')
+        have.update(found)
+        if not found:
+            wrong.append(f"docs/ROWS.md:{at}: {part}: no test has {name}")
+        if "--list" in sys.argv[1:]:
+            print(f"{at}: {part}: {name}", *(f"    {where} {of}" for where, of in found), sep="\n")
+    tests = [(where, name) for where, names in places.tests.items() for name in names]
+    wrong += [f"{where}: {name}: docs/ROWS.md has no row of it" for where, name in tests if (where, name) not in have]
+    if f"## {INDEX}" not in PAGE.read_text():
+        wrong.append(f"docs/ROWS.md: no part {INDEX}")
     asked, others = differing()
-    print(*wrong, *others, sep="\n", end="\n" if wrong or others else "")
-    print(f"{count} entries, {len(wrong)} that are not where the page says; {asked} rows run by bench/plain.c, {len(others)} differ")
     wrong += others
+    print(*wrong, sep="\n", end="\n" if wrong else "")
+    print(f"{count} rows, {len(tests)} tests; {asked} rows run by bench/plain.c; {len(wrong)} wrong")
     sys.exit(1 if wrong else 0)
 
 

@@ -35,7 +35,7 @@ def rules(colours):
 
 
 class Picture:
-    """Shapes with classes for colours, and the SVG that has them."""
+    """Shapes with classes for colours, and the SVG that has them. A text that may be wider than the picture is refused."""
 
     def __init__(self, width, height, title):
         self.width, self.height, self.title = width, height, title
@@ -65,6 +65,10 @@ class Picture:
         self.shapes.append(f'<circle cx="{x:.1f}" cy="{y:.1f}" r="{size:g}" class="f-{colour}"/>')
 
     def text(self, x, y, said, colour="text", size=13, anchor="start", bold=False):
+        long = len(said) * size * (0.57 if bold else 0.53)
+        left = x - {"start": 0, "middle": long / 2, "end": long}[anchor]
+        if left < 0 or left + long > self.width:
+            sys.exit(f"{self.title}: no room for: {said}")
         weight = ' font-weight="600"' if bold else ""
         self.shapes.append(f'<text x="{x:g}" y="{y:g}" class="t-{colour}" font-size="{size:g}" '
                            f'text-anchor="{anchor}"{weight}>{escape(said)}</text>')
@@ -165,11 +169,12 @@ def pipeline():
     """A day from bytes to notices, with the threads that do it."""
     p = Picture(960, 420, "From bytes to notices, with the threads that do it")
     p.text(20, 30, "import: from the lines of a day to its notices", "text", 14, bold=True)
+    p.text(20, 50, "What is written and kept is the same for every number of workers, in whatever order they work.", "soft", 13)
     for i, (name, fill, colour) in enumerate([("the program's own thread", "blue-box", "blue"),
                                               ("a helper thread, or its own", "green-box", "green"),
                                               ("a thread for the digest, or its own", "violet-box", "violet")]):
-        p.box(330 + i * 205, 16, 18, 18, fill, colour, 3)
-        p.text(354 + i * 205, 30, name, "soft", 12)
+        p.box(20 + i * 240, 384, 18, 18, fill, colour, 3)
+        p.text(46 + i * 240, 398, name, "soft", 12)
     blue = [(30, 80, 120, ["standard input", "bytes"]), (180, 80, 120, ["cut", "lines, numbered"]),
             (330, 80, 140, ["read and check", "tuples, or a refusal"]), (500, 80, 130, ["put in order", "late lines wait"]),
             (660, 80, 130, ["number", "the floor"]),
@@ -189,8 +194,9 @@ def pipeline():
     p.line(790, 120, 850, 158, "line", 1.5, arrow=True)
     p.text(800, 112, "events", "soft", 12)
     p.line(820, 235, 745, 298, "line", 1.5, arrow=True)
-    p.text(700, 240, "findings", "soft", 12)
+    p.text(734, 262, "findings", "soft", 12)
     p.line(725, 140, 725, 298, "line", 1.2, dash="4 4")
+    p.text(718, 180, "their order", "soft", 12, "end")
     p.card(180, 190, 120, 54, ["digest", "SHA-256"], "violet-box", "violet")
     p.line(240, 140, 240, 188, "line", 1.5, arrow=True)
     p.card(500, 190, 130, 54, ["accounts", "who was told what"], "blue-box", "blue")
@@ -199,7 +205,6 @@ def pipeline():
     p.line(240, 246, 240, 298, "line", 1.5, arrow=True)
     p.path([(500, 225), (400, 262), (340, 294)], "line", 1.5)
     p.line(340, 294, 302, 312, "line", 1.5, arrow=True)
-    p.text(20, 400, "What is written and kept is the same for every number of workers, in whatever order they work.", "soft", 13)
     return p
 
 
@@ -243,11 +248,11 @@ def trust():
     p.text(70, 118, "A few lines of code at each edge, which keep the same contract about their own failures", "soft", 13)
     p.box(90, 140, 720, 180, "green-box", "green", 10)
     p.text(110, 168, "Proved: everything between the edges", "text", 14, bold=True)
-    texts = ["the notices are those of the rules, and the charges too", "a refused line is the first, with its cause",
-             "a day is kept once and whole", "every failure that is told came from the part that is named",
-             "workers, their order and threads change nothing", "no index out of range, no sum that wraps"]
+    texts = ["notices and charges are those of the rules", "a refused line is the first, with its cause",
+             "a day is kept once and whole", "a failure is told of the part that failed",
+             "workers and their order change nothing", "no index out of range, no sum that wraps"]
     for i, said in enumerate(texts):
-        p.text(120 + (i % 2) * 340, 200 + (i // 2) * 28, "· " + said, "text", 13)
+        p.text(120 + (i % 2) * 350, 200 + (i // 2) * 28, "· " + said, "text", 13)
     p.text(110, 302, "Premise: the edges give back what they hold. Memory may run out at any time.", "soft", 13)
     return p
 
@@ -297,20 +302,28 @@ def speed():
         p.text(left - 8, upward(v) + 4, str(v), "soft", 12, "end")
     for n in lines:
         p.line(across(n), top + high, across(n), top + high + 5)
-        p.text(across(n), top + high + 20, f"{n // 1_000_000} million", "soft", 12, "middle")
+        p.text(across(n), top + high + 20, f"{n / 1e6:g} million", "soft", 12, "middle")
     p.text(left, top + high + 46, "Lines of the day. The greatest day has 256 expressways and 500,000 vehicles, the others one expressway.",
            "soft", 12)
-    colours = ["red", "blue", "violet", "green", "gold", "soft"]
-    names = sorted(series, key=lambda name: -series[name][-1][1])
-    at = top - 8.0
-    for i, name in enumerate(names):
+    colours = [("import", "blue"), ("answers", "green"), ("unproved", "gold"), ("sha256sum", "violet"), ("wc", "soft")]
+    names = sorted(series, key=lambda name: -sorted(series[name])[-1][1])
+    below = [upward(sorted(series[name])[-1][1]) + 4 for name in names]
+    for i in range(1, len(below)):
+        below[i] = max(below[i], below[i - 1] + 18)
+    least = top + high + 4
+    for i in reversed(range(len(below))):
+        below[i] = min(below[i], least)
+        least = below[i] - 18
+    for name, at in zip(names, below):
         points = sorted(series[name])
-        colour = colours[i % len(colours)]
-        p.path([(across(n), upward(v)) for n, v in points], colour, 2.5, "6 4" if name in ("sha256sum", "wc -l") or name.startswith("unproved") else "")
+        colour = next((it for start, it in colours if name.startswith(start)), "red")
+        fine = "2 4" if name.startswith("unproved, answers") else "7 4" if "4 workers" in name else ""
+        p.path([(across(n), upward(v)) for n, v in points], colour, 2.5, fine)
         for n, v in points:
             p.dot(across(n), upward(v), colour, 4)
-        at = max(at + 19, upward(points[-1][1]) + 4)
-        p.text(left + wide + 14, at, name.split(", no")[0], colour, 13, bold=True)
+        end = upward(points[-1][1])
+        p.line(left + wide + 6, end, left + wide + 18, at - 4, "line", 0.8)
+        p.text(left + wide + 22, at, name.split(", no")[0], colour, 13, bold=True)
     return p
 
 

@@ -6,7 +6,8 @@
 PROGRAM is crates/toll_office/out/toll_office. A day is `classic`, `greatest` or a number of lines; it stays in DAYS and
 is used again. `sha256sum` and `wc -l` of the same file are measured in the same run, and `plain_office.c`, a program of the
 same work with nothing proved, whose output must be the same byte for byte; where sqlite3's header is not there, it
-keeps no day. The commands of a day run in turn, and each figure is the least of the runs: processor time (user and
+keeps no day. With --csv the machine, the date and the number of runs are written beside FILE, with the ending `.txt`. The
+commands of a day run in turn, and each figure is the least of the runs: processor time (user and
 system) and wall time in nanoseconds a line, both as multiples of `sha256sum`'s, and the greatest memory in megabytes
 (16 at least, which this script has itself).
 """
@@ -102,6 +103,15 @@ def short_name(command, program, plain, lacks):
     return f"unproved, {command[1]}{lacks}" if command[0] == plain else " ".join(it for it in command if it != "-")
 
 
+def machine(runs):
+    """Where and when the figures were measured, in a line for the documents."""
+    said = dict(line.split(":", 1) for line in pathlib.Path("/proc/cpuinfo").read_text().splitlines() if ":" in line)
+    facts = {name.strip(): value.strip() for name, value in said.items()}
+    name = facts.get("model name", "a processor").replace("(R)", "")
+    speed = "" if "@" in name else f" at {float(facts.get('cpu MHz', 0)) / 1000:.2f} GHz"
+    return f"{name}{speed}, {os.cpu_count()} virtual processors; the least of {runs} runs; {time.strftime('%Y-%m-%d')}."
+
+
 def lines_in(path):
     with open(path, "rb") as file:
         return sum(block.count(b"\n") for block in iter(lambda: file.read(1 << 20), b""))
@@ -147,6 +157,7 @@ def main():
     if given.csv:
         with open(given.csv, "w", newline="") as file:
             csv.writer(file, lineterminator="\n").writerows(written)
+        given.csv.with_suffix(".txt").write_text(machine(given.runs) + "\n")
 
 
 if __name__ == "__main__":

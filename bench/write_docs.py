@@ -1,6 +1,6 @@
 #!/usr/bin/env python3
 """Writes what the documents have from other files: the kit's name from its KIT-ID, the trusted libraries and the table of
-crates from crates.txt and the crates' own first sentences, and the table of speed from bench/speed.csv.
+crates from crates.txt and the crates' own first sentences, the table of speed from bench/speed.csv, and the index of tests.
 
     python3 bench/write_docs.py [--check] [--kit /opt/rattle/KIT-ID]
 
@@ -13,6 +13,8 @@ import pathlib
 import re
 import sys
 import textwrap
+
+from rows import index
 
 TOP = pathlib.Path(__file__).resolve().parent.parent
 PAGES = [TOP / "README.md", *sorted((TOP / "docs").glob("*.md"))]
@@ -78,21 +80,45 @@ def trusted():
     return textwrap.fill(", ".join(f"`{it}`" for it in libraries), 118, break_on_hyphens=False)
 
 
+def speeds():
+    """The measured runs, and the line that says where and when."""
+    with open(TOP / "bench" / "speed.csv", newline="") as file:
+        return list(csv.DictReader(file)), (TOP / "bench" / "speed.txt").read_text().strip()
+
+
+def speed_figure():
+    """The one figure of speed that README has: an import of the greatest day that is not called the greatest."""
+    runs, where = speeds()
+    imports = [it for it in runs if it["command"] == "import, 1 worker" and it["day"] != "greatest"]
+    it = max(imports, key=lambda it: int(it["lines"]))
+    base = next(float(of["wall"]) for of in runs if of["day"] == it["day"] and of["command"] == "sha256sum")
+    seconds, date = int(it["lines"]) * float(it["wall"]) / 1e9, re.search(r"\d{4}-\d\d-\d\d", where)[0]
+    said = (f"When last measured ({date}), `import` of a day of {int(it['lines']):,} lines took {seconds:.0f} seconds and "
+            f"{it['megabytes']} MB, {float(it['wall']) / base:.1f} times as long as `sha256sum` of the same file. This is one "
+            f"machine's figure, and nothing of it is proved; [PERFORMANCE](docs/PERFORMANCE.md) has the method.")
+    return textwrap.fill(said, 120, break_on_hyphens=False, break_long_words=False)
+
+
 def speed_table():
     """The measured runs."""
-    rows = ["| Day | Lines | Command | Processor ns a line | Wall ns a line | Wall, times `sha256sum` | MB |",
+    runs, where = speeds()
+    rows = [textwrap.fill(where, 120, break_on_hyphens=False), "",
+            "| Day | Lines | Command | Processor ns a line | Wall ns a line | Wall, times `sha256sum` | MB |",
             "|---|---|---|---|---|---|---|"]
-    with open(TOP / "bench" / "speed.csv", newline="") as file:
-        runs = list(csv.DictReader(file))
     base = {it["day"]: float(it["wall"]) for it in runs if it["command"] == "sha256sum"}
+    plain = {it["day"]: float(it["wall"]) for it in runs if it["command"].startswith("unproved, import")}
+    beside = [f"{float(it['wall']) / plain[it['day']]:.2f} ({it['day']})" for it in runs
+              if it["command"] == "import, 1 worker" and it["day"] in plain]
     for it in runs:
         times = float(it["wall"]) / base[it["day"]]
         rows.append(f"| {it['day']} | {int(it['lines']):,} | `{it['command']}` | {it['processor']} | {it['wall']} | {times:.2f} "
                     f"| {it['megabytes']} |")
+    if beside:
+        rows += ["", f"Wall time of `import` with one worker, times that of the unproved program: {', '.join(beside)}."]
     return "\n".join(rows)
 
 
-PIECES = {"trusted libraries": trusted, "crates": crate_table, "speed": speed_table}
+PIECES = {"trusted libraries": trusted, "crates": crate_table, "speed": speed_table, "figure": speed_figure, "tests": index}
 
 
 def written(text, kit):
@@ -105,7 +131,8 @@ def written(text, kit):
             _, end, after = rest.partition("<!-- end -->")
             if not end:
                 sys.exit(f"no end of {name}")
-            text = before + mark + "\n" + piece() + "\n\n" + end + after
+            gap = "" if name == "figure" else "\n"
+            text = before + mark + gap + piece() + "\n" + gap + end + after
     return text
 
 
