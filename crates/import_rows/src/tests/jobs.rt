@@ -1,13 +1,14 @@
 // The jobs that an import starts, as its crew tells them.
 ghost use Rattle.std.specs.Prelude.{◌≡◌, ◌≤◌, []};
 
+use super::counted_crew::CountedCrew;
 use super::days::{STOPPED_ON_ANOTHER_WAY, STOPPED_TOLD};
 use accounts::NoPublisher;
 use expressway::LaneEvent;
 use import_once::{Outcome, import};
 use import_plan::Plan;
 use keeper::MemKeeper;
-use partition_workers::{Crew, InlineCrew, LateCrew, NoGate, Started};
+use partition_workers::{Crew, InlineCrew, LateCrew, NoGate, Started, ThreadCrew};
 use road_io::{MemSink, MemSource};
 use road_time::{Limits, NoMemory};
 use standing_crew::{Crewed, beside, standing};
@@ -226,6 +227,23 @@ fn starts_these_beside<R: Threads + Wait + Sync + Copy + Drop>(
     Ok(stored && are_jobs(crew.jobs(), rows))
 }
 
+/// The same by one that runs jobs in threads of their own: it starts as many, and each is finished.
+fn starts_these_in_threads<R: Threads + Sync + Copy + Drop>(
+    rt: R,
+    alloc: Global,
+    width: u8,
+    backlog: u32,
+    rows: &[Row],
+) -> Result<bool, NoMemory>
+    requires few { (1 ≤ width) × (width ≤ 64) }
+    requires some { (1 ≤ backlog) × (backlog ≤ 65536) }
+{
+    let mut crew = CountedCrew::new(ThreadCrew::new(rt, alloc, NoGate));
+    let stored = is_stored_by(&rt, alloc, width, backlog, None, &mut crew)?;
+    let count = rows.len() as u64;
+    Ok(stored && (crew.started, crew.finished) == (count, count))
+}
+
 /// The same in turns that a number draws, whatever the jobs.
 fn is_stored_in_turns<R: Threads>(
     rt: &R,
@@ -255,6 +273,7 @@ fn an_import_starts_the_jobs_of_its_rounds(rt: HostRuntime) -> Result<(), NoMemo
         let soon = starts_these(&rt, alloc, width, backlog, jobs)?;
         let late = starts_these_late(&rt, alloc, width, backlog, jobs)?;
         let beside_helpers = starts_these_beside(rt, alloc, width, backlog, jobs)?;
+        let in_threads = starts_these_in_threads(rt, alloc, width, backlog, jobs)?;
         let turned = is_stored_in_turns(&rt, alloc, width, backlog, 1)?;
         assert!(rt; soon, "{width} workers, {backlog} lines");
         assert!(rt; late, "{width} workers, {backlog} lines, late");
@@ -262,6 +281,7 @@ fn an_import_starts_the_jobs_of_its_rounds(rt: HostRuntime) -> Result<(), NoMemo
             beside_helpers,
             "{width} workers, {backlog} lines, beside helpers"
         );
+        assert!(rt; in_threads, "{width} workers, {backlog} lines, in threads");
         assert!(rt; turned, "{width} workers, {backlog} lines, in turns");
     }
     Ok(())
