@@ -13,10 +13,10 @@ use Rattle.expressway.specs.Results.{AreFirst}
 use Rattle.expressway.specs.declared.job.Job.{Job}
 use Rattle.expressway.specs.declared.finding.Finding.{Finding}
 use Rattle.partition_workers.specs.Told.{CrewTold}
-use Rattle.watermark.specs.Shares.{State}
+use Rattle.watermark.specs.Shares.{JobStart, State}
 use Rattle.watermark.specs.Steps.{after_feed}
 use Rattle.watermark.specs.Sound.{CanFeed, IsTrue}
-use Rattle.watermark.specs.Starts.{JobStart, HaveStarted}
+use Rattle.watermark.specs.Starts.{HaveStarted}
 use Rattle.watermark.specs.Floors.{Setting, StandsFor}
 use Rattle.day_rounds.specs.Tasks.{AreOpen}
 use Rattle.day_rounds.specs.Runs.{Runs, HasAnswered, CanFeedAll, after_feeds, start_of}
@@ -69,7 +69,7 @@ module _ (width : ℕ) where
   starts_fed of backlog s [] starts h = h
   starts_fed of backlog s (x ∷ xs) starts h =
       starts_fed of backlog (after_feed width s x) xs starts
-      (record { count = h.count; numbered = h.numbered; each = h.each; whole = h.whole })
+      (record { are = h.are; count = h.count; numbered = h.numbered; each = h.each; whole = h.whole })
 
   true_fed : (tariffs : Tariffs) (of : ℕ) (s : State) (xs : List Tuple) → IsTrue tariffs of s →
       IsTrue tariffs of (after_feeds width s xs)

@@ -124,7 +124,7 @@ module _ {S T : Type 0} (out : S → List ℕ) (number : T → ℕ) (holds : S �
     open' = open_start e.tariffs run.floor.inboxes.width;
     right = λ x. true_start e.tariffs run.floor.inboxes.width;
     since = [];
-    starts = record { count = refl; numbered = tt; each = tt; whole = λ w k. refl };
+    starts = record { are = refl; count = refl; numbered = tt; each = tt; whole = λ w k. refl };
     listing = where_none (jobs crew) (out crew) false;
     answers_are = none_answered (answers crew);
   }
@@ -153,6 +153,11 @@ module _ {S T : Type 0} (out : S → List ℕ) (number : T → ℕ) (holds : S �
         where_all told h.since (jobs crew)
             (subst (λ o. IsListingWhereTold told h.since o false (jobs crew)) (nothing_out none) h.listing),
       )
+
+      -- those that were started since
+      pub runs_listed : run.tickets.items ≡ [] → WhereTold (ListsAll h.since) told (jobs crew)
+      runs_listed none = where_all told h.since (jobs crew)
+          (subst (λ o. IsListingWhereTold told h.since o false (jobs crew)) (nothing_out none) h.listing)
 
       pub runs_first : (since : List Job)
           × HaveFirstStarted run.floor.inboxes.width run.floor.limits.backlog s.fed since

@@ -1,7 +1,9 @@
 -- rounds over the tuples of a day
-use Rattle.std.proofs.Common.{◌≡◌, ◌≢◌, ℕ, ◌+◌, ◌≤◌, List, [], ◌∷◌, length, Result, Ok, Err, OnOk, refl, ap, arith}
+use Rattle.std.proofs.Common.{◌≡◌, ◌≢◌, ℕ, ◌+◌, ◌≤◌, true, List, [], ◌∷◌, length, Result, Ok, Err, OnOk, refl, ap}
+use Rattle.std.proofs.Common.{arith}
 use Rattle.road_time.specs.declared.road.Tuple.{Tuple}
 use Rattle.watermark.specs.Shares.{State}
+use Rattle.day_rounds.specs.Planned.{are_left}
 use Rattle.day_rounds.specs.declared.fault.DayFault.{DayFault}
 use Rattle.day_rounds.specs.Faults.{IsCounted, IsCountedAhead}
 
@@ -14,6 +16,11 @@ some_room s fed room backlog is all has some = let l = ap length is in omega (ar
 pub no_more : (xs : List Tuple) → length xs ≡ 0 → xs ≡ []
 no_more [] e = refl
 no_more (x ∷ xs) e = absurd (omega (arith, e))
+
+-- and one is where there are some
+pub some_left : (xs : List Tuple) → 1 ≤ length xs → are_left xs ≡ true
+some_left [] some = absurd (omega (arith, some))
+some_left (x ∷ xs) some = refl
 
 -- what holds of each answer but one holds where all went well
 on_passed : {T : Type 0} (fault : DayFault) (P : Type 0) (r : Result T DayFault) → (r ≢ Err fault → P) → OnOk r P

@@ -37,11 +37,12 @@ use Rattle.day_rounds.specs.Imports.{HaveFirstStarted}
 use Rattle.day_rounds.specs.Published.{AreStepsBy, posted_more, published_of}
 use Rattle.day_rounds.specs.Runs.{Runs}
 use Rattle.day_rounds.specs.Faults.{of_reading, WritesUpTo}
+use Rattle.day_rounds.specs.Planned.{IsPlanned, HasPlannedJobs}
 use Rattle.day_rounds.specs.Outcomes.{Task, task_of, HasStepsBy, HasImported, HasStopped}
 use Rattle.day_rounds.proofs.FrontLaws.{front_before}
 use Rattle.day_rounds.proofs.GrowLaws.{front_grows, steps_grow, started_grows}
 use Rattle.day_rounds.proofs.HaltLaws.{steps_rules, stepped_rules}
-use Rattle.day_rounds.proofs.JobLaws.{none_first, runs_all, runs_first, runs_merged, runs_exact, runs_right}
+use Rattle.day_rounds.proofs.JobLaws.{none_first, runs_all, runs_listed, runs_first, runs_merged, runs_exact, runs_right}
 use Rattle.day_rounds.proofs.ReaderLaws.{given_first}
 
 -- the list of a publisher that has published some operations more
@@ -115,6 +116,19 @@ module _ {S T : Type 0} (out : S → List ℕ) (number : T → ℕ) (holds : S �
     stepped = stepped_by;
     stepped_right = stepped_rules_of;
     started = runs_all out number holds gave exact jobs answers e told answered run crew s h all none;
+  }
+
+  -- the jobs of its plan
+  pub whole_planned : (turns : Option ℕ) → run.tickets.items ≡ [] → IsPlanned turns w l.backlog s →
+      (bytes : List ℕ) → IsAhead a l late was bytes [] →
+      HasPlannedJobs turns w l.backlog (reads bytes l late).tuples told (jobs crew)
+  whole_planned turns none planned bytes is = record {
+    last = s;
+    planned = planned;
+    fed = ahead_all b l late left bytes s.fed ended (on.given.reads bytes [] is);
+    since = h.since;
+    are = h.starts.are;
+    listed = runs_listed out number holds gave exact jobs answers e told answered run crew s h all none;
   }
 
   -- or whose closing was stopped

@@ -5,6 +5,7 @@ use Rattle.std.specs.Prelude.{Option}
 use Rattle.std.proofs.lemmas.Bool.{cases_eq}
 use Rattle.road_time.specs.declared.road.Tuple.{Tuple}
 use Rattle.road_time.specs.Day.{given, charges_by, charges_between, merged}
+use Rattle.road_time.specs.Tolls.{StretchTold}
 use Rattle.road_time.proofs.FindingLaws.{charges_same_between, told_agree}
 use Rattle.road_time.specs.Text.{out as text_out}
 use Rattle.road_time.specs.Sights.{moments}
@@ -15,7 +16,7 @@ use Rattle.expressway.specs.declared.lane_event.LaneEvent.{LaneEvent}
 use Rattle.expressway.specs.declared.finding.Finding.{Finding}
 use Rattle.partition_workers.specs.Told.{CrewTold}
 use Rattle.watermark.specs.Shares.{State, can_give}
-use Rattle.watermark.specs.Steps.{given_out, taken_back, after_give}
+use Rattle.watermark.specs.Steps.{given_out, taken_back, after_give, after_back}
 use Rattle.watermark.specs.Written.{settled_text, settled_charges}
 use Rattle.watermark.specs.Sound.{SoundState}
 use Rattle.watermark.specs.Floors.{Setting}
@@ -24,6 +25,7 @@ use Rattle.watermark.proofs.Marks.{all_back}
 use Rattle.watermark.proofs.Texts.{same_told, merged_same, charged_same, not_settled, long_first}
 use Rattle.day_rounds.specs.Published.{settled_between}
 use Rattle.day_rounds.specs.Runs.{Runs, Stopped, CameBack, OnlyTakesBack, IsDone, after_feeds, given_all}
+use Rattle.day_rounds.specs.Runs.{after_backs}
 use Rattle.day_rounds.specs.declared.begun.Import.{Import}
 use Rattle.day_rounds.proofs.OpenLaws.{out_none}
 use Rattle.day_rounds.proofs.FeedLaws.{fed_are, fed_settled, fed_found, fed_out, fed_first}
@@ -40,7 +42,15 @@ later_same s =
       charges = refl;
       between =
           λ a b. refl;
+      backs = [];
+      is = refl;
     }
+
+-- those that came back later stand before those that came back first
+backs_joined : (s : State) (late first : List (ℕ × List (ℕ × StretchTold))) →
+    after_backs (after_backs s first) late ≡ after_backs s (late ++ first)
+backs_joined s [] first = refl
+backs_joined s (b ∷ late) first = ap (λ m. after_back m b.0 b.1) (backs_joined s late first)
 
 pub later_then : (s mid now : State) → OnlyTakesBack s mid → OnlyTakesBack mid now → OnlyTakesBack s now
 later_then s mid now a b = record {
@@ -50,6 +60,8 @@ later_then s mid now a b = record {
   text = λ d k. b.text d k ∙ a.text d k;
   charges = b.charges ∙ a.charges;
   between = λ n m. b.between n m ∙ a.between n m;
+  backs = b.backs ++ a.backs;
+  is = b.is ∙ (ap (λ m. after_backs m b.backs) a.is ∙ backs_joined s b.backs a.backs);
 }
 
 -- one that came back
@@ -71,6 +83,8 @@ came_later width limits s now sound came =
           (charges_same_between (given s.found) (given (s.found ++ came.found)) first
           (told_agree (given s.found) (given (s.found ++ came.found)) first
           (same_told s.found came.found s.settled low first long)) a b);
+      backs = (came.worker, came.found) ∷ [];
+      is = refl;
     })
 
 -- a job is given where it may be
@@ -212,4 +226,6 @@ module _ {S T : Type 0} (out : S → List ℕ) (number : T → ℕ) (holds : S �
           done = all_back w now (λ v k.
               ap (λ es. es ++ (now.share v).waiting) (none v k)
               ∙ (later.waiting v ∙ given_waits fed w (λ u m. fed_out w s xs u ∙ home u m) v k));
+          backs = later.backs;
+          is = later.is;
         }

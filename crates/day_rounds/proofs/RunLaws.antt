@@ -13,11 +13,11 @@ use Rattle.partition_workers.specs.Numbers.{IsOneMore}
 use Rattle.partition_workers.specs.Told.{CrewTold, WhereTold, ListsJob}
 use Rattle.partition_workers.specs.Callers.{HasOut}
 use Rattle.partition_workers.proofs.ListingLaws.{where_started}
-use Rattle.watermark.specs.Shares.{State, can_give}
+use Rattle.watermark.specs.Shares.{JobStart, State, can_give}
 use Rattle.watermark.specs.Steps.{after_give}
 use Rattle.watermark.specs.Sound.{IsTrue}
 use Rattle.watermark.specs.Jobs.{IsNext}
-use Rattle.watermark.specs.Starts.{JobStart, next_start, HaveStarted}
+use Rattle.watermark.specs.Starts.{next_start, HaveStarted}
 use Rattle.watermark.specs.Floors.{Setting, StandsFor}
 use Rattle.watermark.proofs.Jobs.{next_ready}
 use Rattle.watermark.proofs.Starts.{starts_give}

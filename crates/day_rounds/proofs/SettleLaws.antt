@@ -27,7 +27,7 @@ use Rattle.day_rounds.specs.Fronts.{HasText}
 use Rattle.day_rounds.specs.Published.{HasStepped}
 use Rattle.day_rounds.proofs.PublishLaws.{stepped_moved}
 use Rattle.day_rounds.specs.Tasks.{AreOpen}
-use Rattle.day_rounds.specs.Runs.{Runs, IsDone, start_of}
+use Rattle.day_rounds.specs.Runs.{Runs, IsDone, start_of, settled_all}
 use Rattle.day_rounds.specs.Rounds.{IsSettled}
 use Rattle.day_rounds.specs.declared.begun.Import.{Import}
 use Rattle.day_rounds.proofs.OpenLaws.{open_settle}
@@ -80,12 +80,14 @@ pub round_settled : (width backlog : ℕ) (e : Setting) (s mid : State) (xs : Li
     ((first : Option (List ℕ)) → HasText e mid first old → HasText e (after_settle mid n) first new) →
     ((before : Option Posted) → HasStepped backlog mid before was →
     HasStepped backlog (after_settle mid n) before posted) →
-    IsSettled backlog e s xs old new was posted (after_settle mid n)
+    IsSettled width backlog e s xs old new was posted (after_settle mid n)
 round_settled width backlog e s mid xs n old new was posted done is text steps = record {
   fed = done.fed;
   settled = is ∙ done.done;
   text = λ first had. text first (text_kept e s mid done.text first old had);
   steps = λ before have. steps before (stepped_moved backlog s mid before was done.settled done.between have);
+  backs = done.backs;
+  is = ap (λ m. after_settle mid m) is ∙ ap (settled_all width) done.is;
 }
 
 module _ {S T : Type 0} (out : S → List ℕ) (number : T → ℕ) (holds : S → ℕ → Job → Type 0) (gave : S → T → Type 0)
@@ -112,6 +114,7 @@ module _ {S T : Type 0} (out : S → List ℕ) (number : T → ℕ) (holds : S �
         starts = subst (λ m. HaveStarted m now.floor.limits.backlog t (map start_of h.since)) (sym width)
             (subst (λ l. HaveStarted w l.backlog t (map start_of h.since)) (sym limits)
             (record {
+              are = h.starts.are;
               count = h.starts.count;
               numbered = h.starts.numbered;
               each = h.starts.each;

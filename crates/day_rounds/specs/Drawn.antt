@@ -3,7 +3,10 @@ use Rattle.std.specs.Prelude.{◌≡◌, ℕ, zero, suc, ◌+◌, ◌-◌, ◌�
 use Rattle.rand_pcg.specs.Lcg.{Lcg}
 use Rattle.draws.specs.Draws.{drawn, after_draws}
 use Rattle.road_time.specs.declared.road.Tuple.{Tuple}
+use Rattle.road_time.specs.Tolls.{StretchTold}
 use Rattle.watermark.specs.Shares.{State, start}
+use Rattle.day_rounds.specs.Runs.{given_if, after_feeds, after_backs, settled_all}
+use Rattle.day_rounds.specs.Tasks.{out_at}
 
 -- how many tuples may be fed
 abbrev pub room_left : ℕ → State → ℕ
@@ -37,17 +40,46 @@ pub record DrawsTurn (width backlog : ℕ) (s : State) (g left : Lcg) (xs : List
   pub full : length xs < turn_size (room_left backlog s) more g → still ≡ false
   pub work : DrawsWork width (after_size (room_left backlog s) more g) left
 
--- a turn that was made: the state before it, its generator, whether a tuple was left, and what it fed
+-- so many times a worker is drawn and given its next job, if there is one
+abbrev pub given_drawn : ℕ → ℕ → Lcg → State → State
+given_drawn zero width g s = s
+given_drawn (suc n) width g s = given_if (given_drawn n width g s) (drawn width (after_draws n g)).0
+
+-- where so many jobs are out, and none is, a worker is given its next job, if there is one
+abbrev pub given_where : ℕ → State → ℕ → State
+given_where zero s worker = given_if s worker
+given_where (suc held) s worker = s
+
+-- the first so many workers, one after another, each where no job is out
+abbrev pub given_least : ℕ → ℕ → State → State
+given_least width zero s = s
+given_least width (suc worker) s =
+    given_where (out_at (given_least width worker s).share width) (given_least width worker s) worker
+
+-- the jobs of a turn were given: as often as there are workers one is drawn, and then the least has its job, where none
+-- is out
+abbrev pub after_giving : ℕ → Lcg → State → State
+after_giving width g s = given_least width width (given_drawn width width g s)
+
+-- a turn that was made: the state before it, its generator, whether a tuple was left, what it fed, and the jobs that
+-- came back
 pub record TurnMade : Type 0 where
   pub before : State
   pub generator : Lcg
   pub more : Bool
   pub xs : List Tuple
+  pub backs : List (ℕ × List (ℕ × StretchTold))
+
+-- the state after it
+abbrev pub after_turn : ℕ → ℕ → TurnMade → State
+after_turn width backlog t = settled_all width (after_backs
+    (after_giving width (after_size (room_left backlog t.before) t.more t.generator) (after_feeds width t.before t.xs))
+    t.backs)
 
 -- the turns of a day since its start and a first generator, the last one first: each draws from what the one before
--- left, and feeds what comes next
+-- left, feeds what comes next, and gives the jobs that are drawn
 abbrev pub AreTurns : ℕ → ℕ → Lcg → List TurnMade → State → Lcg → Bool → Type 0
 AreTurns width backlog first [] s g more = (s ≡ start) × (g ≡ first)
 AreTurns width backlog first (t ∷ turns) s g more =
     DrawsTurn width backlog t.before t.generator g t.xs t.more more × (s.fed ≡ t.before.fed ++ t.xs)
-    × AreTurns width backlog first turns t.before t.generator t.more
+    × (s ≡ after_turn width backlog t) × AreTurns width backlog first turns t.before t.generator t.more

@@ -10,4 +10,5 @@ pub mod Rounds
 pub mod Imports
 pub mod Turns
 pub mod Drawn
+pub mod Planned
 pub mod Outcomes

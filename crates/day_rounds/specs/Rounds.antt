@@ -4,14 +4,18 @@ use Rattle.road_time.specs.declared.road.Tuple.{Tuple}
 use Rattle.accounts.specs.Operations.{Posted}
 use Rattle.watermark.specs.Shares.{State}
 use Rattle.watermark.specs.Floors.{Setting}
+use Rattle.road_time.specs.Tolls.{StretchTold}
 use Rattle.day_rounds.specs.Published.{HasStepped}
+use Rattle.day_rounds.specs.Runs.{after_feeds, given_all, after_backs, settled_all}
 use Rattle.day_rounds.specs.Fronts.{HasText}
 
 -- some tuples were fed and all that was fed is settled; the text and the steps go on from what was written and
 -- published
-pub record IsSettled (backlog : ℕ) (e : Setting) (s : State) (xs : List Tuple) (old new : Option (List ℕ))
+pub record IsSettled (width backlog : ℕ) (e : Setting) (s : State) (xs : List Tuple) (old new : Option (List ℕ))
     (was posted : Option Posted) (now : State) : Type 0 where
   pub fed : now.fed ≡ s.fed ++ xs
   pub settled : now.settled ≡ length now.fed
   pub text : (first : Option (List ℕ)) → HasText e s first old → HasText e now first new
   pub steps : (before : Option Posted) → HasStepped backlog s before was → HasStepped backlog now before posted
+  pub backs : List (ℕ × List (ℕ × StretchTold))
+  pub is : now ≡ settled_all width (after_backs (given_all (after_feeds width s xs) width) backs)

@@ -8,14 +8,14 @@ use Rattle.expressway.specs.declared.finding.Finding.{Finding}
 use Rattle.expressway.specs.Findings.{shown}
 use Rattle.partition_workers.specs.Told.{CrewTold}
 use Rattle.partition_workers.specs.Callers.{HasOut, IsListingWhereTold}
-use Rattle.watermark.specs.Shares.{State, can_give, mark}
-use Rattle.watermark.specs.Steps.{after_feed, after_give, after_back}
+use Rattle.watermark.specs.Shares.{JobStart, State, can_give, mark}
+use Rattle.watermark.specs.Steps.{after_feed, after_give, after_back, after_settle}
 use Rattle.watermark.specs.Written.{settled_text, settled_charges}
 use Rattle.expressway.specs.Results.{AreFirst}
 use Rattle.road_time.specs.declared.day.Limits.{Limits}
 use Rattle.road_time.specs.Fits.{Fit}
 use Rattle.watermark.specs.Sound.{CanBack, SoundState, IsTrue}
-use Rattle.watermark.specs.Starts.{JobStart, HaveStarted}
+use Rattle.watermark.specs.Starts.{HaveStarted}
 use Rattle.watermark.specs.Floors.{Setting, StandsFor}
 use Rattle.day_rounds.specs.Tasks.{AreOpen}
 use Rattle.day_rounds.specs.Published.{settled_between}
@@ -87,7 +87,16 @@ abbrev pub after_feeds : ℕ → State → List Tuple → State
 after_feeds width s [] = s
 after_feeds width s (x ∷ xs) = after_feeds width (after_feed width s x) xs
 
--- nothing was fed, given or settled from one state to a later one
+-- some jobs came back, the last one first, each with its worker and its findings
+abbrev pub after_backs : State → List (ℕ × List (ℕ × RoadFinding)) → State
+after_backs s [] = s
+after_backs s (b ∷ bs) = after_back (after_backs s bs) b.0 b.1
+
+-- what can be is settled
+abbrev pub settled_all : ℕ → State → State
+settled_all width s = after_settle s (mark width s)
+
+-- nothing was fed, given or settled from one state to a later one: some jobs came back
 pub record OnlyTakesBack (s now : State) : Type 0 where
   pub fed : now.fed ≡ s.fed
   pub settled : now.settled ≡ s.settled
@@ -95,13 +104,15 @@ pub record OnlyTakesBack (s now : State) : Type 0 where
   pub text : (day : ℕ) (kept : ℕ → ℕ → ℕ → ℕ) → settled_text day kept now ≡ settled_text day kept s
   pub charges : settled_charges now ≡ settled_charges s
   pub between : (a b : ℕ) → settled_between now a b ≡ settled_between s a b
+  pub backs : List (ℕ × List (ℕ × RoadFinding))
+  pub is : now ≡ after_backs s backs
 
 -- some tuples may be fed, one after another
 pub record CanFeedAll (limits : Limits) (s : State) (xs : List Tuple) : Type 0 where
   pub fit : Fit (s.fed ++ xs) limits
   pub room : length s.fed + length xs ≤ s.settled + limits.backlog
 
--- some tuples were fed, and all that was fed is done; what was settled stays
+-- some tuples were fed, each worker was given its next job, and all that was fed is done; what was settled stays
 pub record IsDone (width : ℕ) (s : State) (xs : List Tuple) (now : State) : Type 0 where
   pub fed : now.fed ≡ s.fed ++ xs
   pub settled : now.settled ≡ s.settled
@@ -109,3 +120,5 @@ pub record IsDone (width : ℕ) (s : State) (xs : List Tuple) (now : State) : Ty
   pub charges : settled_charges now ≡ settled_charges s
   pub between : (a b : ℕ) → settled_between now a b ≡ settled_between s a b
   pub done : mark width now ≡ length now.fed
+  pub backs : List (ℕ × List (ℕ × RoadFinding))
+  pub is : now ≡ after_backs (given_all (after_feeds width s xs) width) backs

@@ -10,6 +10,7 @@ ghost use Rattle.settling.specs.Boards.{IsAbreast};
 ghost use Rattle.watermark.specs.Shares.{start};
 ghost use Rattle.watermark.specs.Floors.{Setting};
 ghost use Rattle.day_rounds.specs.Runs.{Runs};
+ghost use Rattle.day_rounds.specs.Planned.{HasPlannedJobs};
 ghost use Rattle.day_rounds.specs.Faults.{IsCounted, IsCountedAhead};
 ghost use Rattle.day_rounds.specs.Outcomes.{task_of, HasImported, HasStopped};
 ghost use Rattle.day_rounds.specs.declared.fault.DayFault.TheVariants.{ReadFault, WriteFault, KeeperFault};
@@ -86,6 +87,13 @@ pub fn run_opened<C: Crew, S: Source, K: Keeper, O: Sink, P: Publisher, R: Threa
         → (bytes : List ℕ) → IsAhead ahead run.floor.limits late (S.left source.old) bytes []
         → HasReadAhead ahead run.floor.limits.lines (S.left source.old) bytes
         → LeavesBehind r.end bytes (S.left source.new)) }
+    ensures planned { OnOk result ((e : Setting) (late : ℕ)
+        → Runs C.out C.number C.holds C.gave C.exact C.jobs C.answers e (C.jobs crew.old) (C.answers crew.old) run
+        crew.old start
+        → IsGatheringAhead ahead run.floor.limits late [] → e.number ≡ day → e.history ≡ history_of (K.told keeper.old)
+        → (bytes : List ℕ) → IsAhead ahead run.floor.limits late (S.left source.old) bytes []
+        → HasPlannedJobs plan.now.turns run.floor.inboxes.width run.floor.limits.backlog
+        (reads bytes run.floor.limits late).tuples (C.jobs crew.old) (C.jobs crew.new)) }
     ensures rest { OnOk result ((e : Setting) (late : ℕ)
         → Runs C.out C.number C.holds C.gave C.exact C.jobs C.answers e (C.jobs crew.old) (C.answers crew.old) run
         crew.old start

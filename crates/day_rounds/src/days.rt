@@ -10,6 +10,7 @@ ghost use Rattle.settling.specs.Boards.{IsAbreast};
 ghost use Rattle.watermark.specs.Terms.{AreTerms};
 ghost use Rattle.day_rounds.specs.Faults.{IsCounted, IsCountedAhead};
 ghost use Rattle.day_rounds.specs.Outcomes.{HasImported, HasStopped};
+ghost use Rattle.day_rounds.specs.Planned.{HasPlannedJobs};
 ghost use Rattle.day_rounds.specs.declared.fault.DayFault.TheVariants.{ReadFault, WriteFault, KeeperFault};
 
 use crate::day_run::{WorkedDay, run_opened};
@@ -74,6 +75,9 @@ pub fn run_day<C: Crew, S: Source, K: Keeper, O: Sink, P: Publisher, R: Threads>
     ensures bounded { ReadsWithin (most_of_day limits.now) (S.left source.old) (S.left source.new) }
     ensures leaves { IfOk result (λ run. (bytes : List ℕ) → S.left source.old ≡ Some bytes
         → LeavesBehind run.end bytes (S.left source.new)) }
+    ensures planned { OnOk result ((bytes : List ℕ) → S.left source.old ≡ Some bytes
+        → HasPlannedJobs plan.now.turns plan.now.width limits.now.backlog (reads bytes limits.now late).tuples
+        (C.jobs crew.old) (C.jobs crew.new)) }
     ensures rest { OnOk result ((bytes : List ℕ) → S.left source.old ≡ Some bytes
         → (reads bytes limits.now late).refused ≡ None → S.left source.new ≡ Some []) }
     ensures source_same { S.name source.new ≡ S.name source.old }

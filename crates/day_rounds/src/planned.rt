@@ -11,6 +11,7 @@ ghost use Rattle.watermark.specs.Shares.{State, start};
 ghost use Rattle.watermark.specs.Floors.{Setting};
 ghost use Rattle.day_rounds.specs.Runs.{Runs};
 ghost use Rattle.day_rounds.specs.Days.{IsOn};
+ghost use Rattle.day_rounds.specs.Planned.{IsPlanned};
 ghost use Rattle.day_rounds.specs.Halts.{IsCutDay};
 ghost use Rattle.day_rounds.specs.Faults.{IsCounted, IsCountedAhead};
 ghost use Rattle.day_rounds.specs.declared.fault.DayFault.TheVariants.{ReadFault, WriteFault, KeeperFault};
@@ -64,7 +65,8 @@ pub fn run_plan<C: Crew, S: Source, K: Keeper, O: Sink, P: Publisher, R: Threads
         → (now : State) × IsOn run.old.floor.limits late e ahead.old ahead.new (S.left source.old) (S.left source.new)
         (O.written sink.old) (O.written sink.new) (P.posted publisher.old) (P.posted publisher.new) now
         × (now.settled ≡ length now.fed) × (n ≡ now.settled)
-        × Runs C.out C.number C.holds C.gave C.exact C.jobs C.answers e told answered run.new crew.new now) }
+        × Runs C.out C.number C.holds C.gave C.exact C.jobs C.answers e told answered run.new crew.new now
+        × IsPlanned plan.now.turns run.old.floor.inboxes.width run.old.floor.limits.backlog now) }
     ensures halted { IfErr result (λ fault.
         (e : Setting) (told : Option CrewTold) (answered : Option (List Finding)) (late : ℕ)
         → Runs C.out C.number C.holds C.gave C.exact C.jobs C.answers e told answered run.old crew.old start

@@ -65,7 +65,8 @@ pub fn next_round<C: Crew, S: Source, K: Keeper, O: Sink, P: Publisher, R: Threa
         → CanFeedAll run.old.floor.limits s these.old.items
         → e.number ≡ day → e.history ≡ history_of (K.told keeper.old)
         → (now : State)
-        × IsSettled run.old.floor.limits.backlog e s these.old.items (O.written sink.old) (O.written sink.new)
+        × IsSettled run.old.floor.inboxes.width run.old.floor.limits.backlog e s these.old.items (O.written sink.old)
+        (O.written sink.new)
         (P.posted publisher.old) (P.posted publisher.new) now
         × (n ≡ now.settled) × Runs C.out C.number C.holds C.gave C.exact C.jobs C.answers e told answered run.new
         crew.new now
@@ -73,6 +74,7 @@ pub fn next_round<C: Crew, S: Source, K: Keeper, O: Sink, P: Publisher, R: Threa
     ensures given { OnOk result ((limits : DayLimits) (late : ℕ)
         → HasGiven limits late these.new.items ahead.old ahead.new (S.left source.old) (S.left source.new)) }
     ensures few { OnOk result (length these.new.items ≤ run.old.floor.limits.backlog) }
+    ensures ended { OnOk result (has_more ahead.old ≡ false → these.new.items ≡ []) }
     ensures full { OnOk result (length these.new.items < run.old.floor.limits.backlog → has_more ahead.new ≡ false) }
     ensures halted { IfErr result (λ fault.
         (e : Setting) (told : Option CrewTold) (answered : Option (List Finding)) (late : ℕ) (s : State)

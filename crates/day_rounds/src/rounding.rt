@@ -75,7 +75,8 @@ pub fn round<C: Crew, S: Source, K: Keeper, O: Sink, P: Publisher, R: Threads>(
         → CanFeedAll run.old.floor.limits s these.old.items
         → e.number ≡ day → e.history ≡ history_of (K.told keeper.old)
         → (now : State)
-        × IsSettled run.old.floor.limits.backlog e s these.old.items (O.written sink.old) (O.written sink.new)
+        × IsSettled run.old.floor.inboxes.width run.old.floor.limits.backlog e s these.old.items (O.written sink.old)
+        (O.written sink.new)
         (P.posted publisher.old) (P.posted publisher.new) now
         × (r.settled ≡ now.settled)
         × Runs C.out C.number C.holds C.gave C.exact C.jobs C.answers e told answered run.new crew.new now

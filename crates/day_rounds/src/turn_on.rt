@@ -2,6 +2,7 @@
 ghost use Rattle.std.specs.Prelude.{true, false, ◌≡◌, ◌≤◌, ◌+◌, [], ℕ, List, Option, IfOk, IfErr, OnOk, length};
 ghost use Rattle.road_time.specs.declared.road.Tuple.{Tuple as RoadTuple};
 ghost use Rattle.road_time.specs.Day.{sum_of};
+ghost use Rattle.road_time.specs.Tolls.{StretchTold as RoadFinding};
 ghost use Rattle.road_io.specs.Plans.{NeverFails};
 ghost use Rattle.road_io.specs.Rooms.{Endless};
 ghost use Rattle.day_reading.specs.Ahead.{has_more, IsGatheringAhead, HasReadAhead, HasFailedAhead};
@@ -15,7 +16,7 @@ ghost use Rattle.watermark.specs.Written.{settled_charges};
 ghost use Rattle.watermark.specs.Floors.{Setting};
 ghost use Rattle.day_rounds.specs.Runs.{Runs};
 ghost use Rattle.day_rounds.specs.Turns.{IsTurned};
-ghost use Rattle.day_rounds.specs.Drawn.{DrawsTurn};
+ghost use Rattle.day_rounds.specs.Drawn.{DrawsTurn, after_turn};
 ghost use Rattle.day_rounds.specs.Readers.{HasGiven};
 ghost use Rattle.day_rounds.specs.Halts.{IsHalted};
 ghost use Rattle.day_rounds.specs.Faults.{IsCounted};
@@ -91,7 +92,9 @@ pub fn next_turn<C: Crew, S: Source, K: Keeper, O: Sink, P: Publisher, R: Thread
         × IsAbreast (P.posted publisher.new) (sum_of (settled_charges now))
         × (s.settled ≡ length s.fed → has_more ahead.old ≡ true → 1 ≤ length xs)
         × DrawsTurn width run.old.floor.limits.backlog s rng.old rng.new xs (has_more ahead.old)
-        (has_more ahead.new)) }
+        (has_more ahead.new)
+        × ((backs : List (ℕ × List (ℕ × RoadFinding))) × (now ≡ after_turn width run.old.floor.limits.backlog
+        (record { before = s; generator = rng.old; more = has_more ahead.old; xs = xs; backs = backs })))) }
     ensures halted { IfErr result (λ fault.
         (e : Setting) (told : Option CrewTold) (answered : Option (List Finding)) (late : ℕ) (s : State)
         → Runs C.out C.number C.holds C.gave C.exact C.jobs C.answers e told answered run.old crew.old s

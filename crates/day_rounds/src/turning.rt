@@ -1,15 +1,17 @@
 // What is given and finished in a turn, as a generator draws it.
 ghost use Rattle.std.specs.Prelude.{◌≡◌, ◌≤◌, ◌<◌, ◌+◌, [], ℕ, List, Option, OnOk, OnErr, length};
 ghost use Rattle.road_time.specs.declared.road.Tuple.{Tuple as RoadTuple};
+ghost use Rattle.road_time.specs.Tolls.{StretchTold as RoadFinding};
 ghost use Rattle.draws.specs.Draws.{drawn, after_draws};
 ghost use Rattle.expressway.specs.Results.{AreFirst};
 ghost use Rattle.expressway.specs.declared.finding.Finding.{Finding};
 ghost use Rattle.partition_workers.specs.Told.{CrewTold};
 ghost use Rattle.watermark.specs.Shares.{State, mark};
 ghost use Rattle.watermark.specs.Floors.{Setting};
-ghost use Rattle.day_rounds.specs.Runs.{Runs, Stopped};
+ghost use Rattle.day_rounds.specs.Runs.{Runs, Stopped, after_backs};
 ghost use Rattle.day_rounds.specs.Turns.{IsGiven, IsMoved};
-ghost use Rattle.day_rounds.specs.Drawn.{DrawsWork};
+ghost use Rattle.day_rounds.specs.Tasks.{out_at};
+ghost use Rattle.day_rounds.specs.Drawn.{DrawsWork, given_drawn, given_where, given_least, after_giving};
 
 use crate::begun::Import;
 use crate::finish::finish_one;
@@ -44,7 +46,8 @@ pub fn give_drawn<C: Crew>(
     ensures given { (e : Setting) (told : Option CrewTold) (answered : Option (List Finding)) (s : State)
         → Runs C.out C.number C.holds C.gave C.exact C.jobs C.answers e told answered run.old crew.old s
         → (now : State) × (k : ℕ) × IsGiven run.old.floor.inboxes.width k s now
-        × Runs C.out C.number C.holds C.gave C.exact C.jobs C.answers e told answered run.new crew.new now }
+        × Runs C.out C.number C.holds C.gave C.exact C.jobs C.answers e told answered run.new crew.new now
+        × OnOk result (now ≡ given_drawn width width rng.old s) }
     ensures drawn { OnOk result (rng.new ≡ after_draws width rng.old) }
 {
     for _count in 0..width {
@@ -71,7 +74,8 @@ fn give_if_none<C: Crew>(
         → (now : State) × (k : ℕ) × IsGiven run.old.floor.inboxes.width k s now
         × Runs C.out C.number C.holds C.gave C.exact C.jobs C.answers e told answered run.new crew.new now
         × (((run.old.tickets.items ≡ []) → (v : ℕ) → v < worker → (s.share v).waiting ≡ []) → run.new.tickets.items ≡ []
-        → (v : ℕ) → v < worker + 1 → (now.share v).waiting ≡ [])) }
+        → (v : ℕ) → v < worker + 1 → (now.share v).waiting ≡ [])
+        × (now ≡ given_where (out_at s.share run.old.floor.inboxes.width) s worker)) }
     ensures refused { OnErr result ((e : Setting) (told : Option CrewTold) (answered : Option (List Finding))
         (s : State)
         → Runs C.out C.number C.holds C.gave C.exact C.jobs C.answers e told answered run.old crew.old s
@@ -99,7 +103,8 @@ pub fn give_least<C: Crew>(
         → Runs C.out C.number C.holds C.gave C.exact C.jobs C.answers e told answered run.old crew.old s
         → (now : State) × (k : ℕ) × IsGiven run.old.floor.inboxes.width k s now
         × Runs C.out C.number C.holds C.gave C.exact C.jobs C.answers e told answered run.new crew.new now
-        × (run.new.tickets.items ≡ [] → (worker : ℕ) → worker < width → (now.share worker).waiting ≡ [])) }
+        × (run.new.tickets.items ≡ [] → (worker : ℕ) → worker < width → (now.share worker).waiting ≡ [])
+        × (now ≡ given_least run.old.floor.inboxes.width width s)) }
     ensures refused { OnErr result ((e : Setting) (told : Option CrewTold) (answered : Option (List Finding))
         (s : State)
         → Runs C.out C.number C.holds C.gave C.exact C.jobs C.answers e told answered run.old crew.old s
@@ -127,7 +132,8 @@ pub fn finish_drawn<C: Crew>(
         → Runs C.out C.number C.holds C.gave C.exact C.jobs C.answers e told answered run.old crew.old s
         → (now : State) × (k : ℕ) × IsMoved run.old.floor.inboxes.width k s now
         × (length run.new.tickets.items + k ≡ length run.old.tickets.items)
-        × Runs C.out C.number C.holds C.gave C.exact C.jobs C.answers e told answered run.new crew.new now) }
+        × Runs C.out C.number C.holds C.gave C.exact C.jobs C.answers e told answered run.new crew.new now
+        × ((backs : List (ℕ × List (ℕ × RoadFinding))) × (now ≡ after_backs s backs))) }
     ensures some { OnOk result (1 ≤ length run.old.tickets.items
         → length run.new.tickets.items + 1 ≤ length run.old.tickets.items) }
     ensures stopped { OnErr result ((e : Setting) (told : Option CrewTold) (answered : Option (List Finding))
@@ -172,7 +178,8 @@ pub fn work_turn<C: Crew>(
         → Runs C.out C.number C.holds C.gave C.exact C.jobs C.answers e told answered run.old crew.old s
         → (now : State) × (k : ℕ) × IsMoved run.old.floor.inboxes.width k s now
         × Runs C.out C.number C.holds C.gave C.exact C.jobs C.answers e told answered run.new crew.new now
-        × (k ≡ 0 → mark run.old.floor.inboxes.width s ≡ length s.fed)) }
+        × (k ≡ 0 → mark run.old.floor.inboxes.width s ≡ length s.fed)
+        × ((backs : List (ℕ × List (ℕ × RoadFinding))) × (now ≡ after_backs (after_giving width rng.old s) backs))) }
     ensures drawn { OnOk result (DrawsWork width rng.old rng.new) }
     ensures stopped { OnErr result ((e : Setting) (told : Option CrewTold) (answered : Option (List Finding))
         (s : State)

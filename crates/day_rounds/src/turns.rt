@@ -3,6 +3,7 @@ ghost use Rattle.std.specs.Prelude.{true, false, ◌≡◌, ◌++◌, ◌+◌, �
 ghost use Rattle.std.specs.Prelude.{length};
 ghost use Rattle.road_time.specs.declared.road.Tuple.{Tuple as RoadTuple};
 ghost use Rattle.road_time.specs.Day.{sum_of};
+ghost use Rattle.road_time.specs.Tolls.{StretchTold as RoadFinding};
 ghost use Rattle.expressway.specs.Results.{AreFirst};
 ghost use Rattle.expressway.specs.declared.finding.Finding.{Finding};
 ghost use Rattle.partition_workers.specs.Told.{CrewTold};
@@ -12,9 +13,9 @@ ghost use Rattle.settling.specs.Faults.{SinkFaults, KeeperFaults};
 ghost use Rattle.watermark.specs.Shares.{State, mark};
 ghost use Rattle.watermark.specs.Written.{settled_charges};
 ghost use Rattle.watermark.specs.Floors.{Setting};
-ghost use Rattle.day_rounds.specs.Runs.{Runs, Stopped, CanFeedAll, after_feeds};
+ghost use Rattle.day_rounds.specs.Runs.{Runs, Stopped, CanFeedAll, after_feeds, after_backs, settled_all};
 ghost use Rattle.day_rounds.specs.Turns.{IsMoved, IsTurned};
-ghost use Rattle.day_rounds.specs.Drawn.{DrawsWork};
+ghost use Rattle.day_rounds.specs.Drawn.{DrawsWork, after_giving};
 ghost use Rattle.day_rounds.specs.Published.{published_of};
 ghost use Rattle.day_rounds.specs.Fronts.{HasText, HasFront};
 
@@ -53,7 +54,9 @@ pub fn feed_turn<C: Crew>(
         × Runs C.out C.number C.holds C.gave C.exact C.jobs C.answers e told answered run.new crew.new now
         × (k ≡ 0
         → mark run.old.floor.inboxes.width (after_feeds run.old.floor.inboxes.width s these.now)
-        ≡ length (after_feeds run.old.floor.inboxes.width s these.now).fed)) }
+        ≡ length (after_feeds run.old.floor.inboxes.width s these.now).fed)
+        × ((backs : List (ℕ × List (ℕ × RoadFinding))) × (now ≡ after_backs (after_giving width rng.old
+        (after_feeds run.old.floor.inboxes.width s these.now)) backs))) }
     ensures drawn { OnOk result (DrawsWork width rng.old rng.new) }
     ensures stopped { OnErr result ((e : Setting) (told : Option CrewTold) (answered : Option (List Finding))
         (s : State)
@@ -99,7 +102,9 @@ pub fn turn<C: Crew, K: Keeper, O: Sink, P: Publisher>(
         (O.written sink.new) (P.posted publisher.old) (P.posted publisher.new) now
         × (n ≡ now.settled) × Runs C.out C.number C.holds C.gave C.exact C.jobs C.answers e told answered run.new
         crew.new now
-        × IsAbreast (P.posted publisher.new) (sum_of (settled_charges now))) }
+        × IsAbreast (P.posted publisher.new) (sum_of (settled_charges now))
+        × ((backs : List (ℕ × List (ℕ × RoadFinding))) × (now ≡ settled_all run.old.floor.inboxes.width (after_backs
+        (after_giving width rng.old (after_feeds run.old.floor.inboxes.width s these.now)) backs)))) }
     ensures drawn { OnOk result (DrawsWork width rng.old rng.new) }
     ensures stopped { OnErr result ((e : Setting) (told : Option CrewTold) (answered : Option (List Finding))
         (s : State)

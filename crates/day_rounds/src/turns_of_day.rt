@@ -75,7 +75,9 @@ pub fn run_turns<C: Crew, S: Source, K: Keeper, O: Sink, P: Publisher, R: Thread
         → (now : State) × IsOn run.old.floor.limits late e ahead.old ahead.new (S.left source.old) (S.left source.new)
         (O.written sink.old) (O.written sink.new) (P.posted publisher.old) (P.posted publisher.new) now
         × (now.settled ≡ length now.fed) × (n ≡ now.settled)
-        × Runs C.out C.number C.holds C.gave C.exact C.jobs C.answers e told answered run.new crew.new now) }
+        × Runs C.out C.number C.holds C.gave C.exact C.jobs C.answers e told answered run.new crew.new now
+        × ((turns : List TurnMade)
+        × AreTurns plan.now.width run.old.floor.limits.backlog rng.old turns now rng.new false)) }
     ensures turned { OnOk result ((e : Setting) (told : Option CrewTold) (answered : Option (List Finding)) (late : ℕ)
         → Runs C.out C.number C.holds C.gave C.exact C.jobs C.answers e told answered run.old crew.old start
         → IsGatheringAhead ahead.old run.old.floor.limits late []

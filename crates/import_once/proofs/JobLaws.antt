@@ -23,6 +23,8 @@ use Rattle.import_once.specs.declared.outcomes.Outcome.TheVariants.{Stored, Answ
 use Rattle.import_once.specs.Imports.{IsOfKeptDay}
 use Rattle.import_once.specs.Runs.{stopped_outcome, refused_outcome, WhereWorked, HasStartedJobs, HasDaySteps}
 use Rattle.import_once.specs.Runs.{PublishesDay, PublishesUnderSome}
+use Rattle.import_plan.specs.declared.Plan.{Plan}
+use Rattle.import_once.specs.Planned.{StartsPlanned}
 use Rattle.import_once.proofs.FinishLaws.{where_worked}
 use Rattle.day_rounds.specs.declared.fault.DayFault.TheVariants as stop
 use Rattle.keeper.specs.declared.kept.KeepFault.TheVariants as keeping
@@ -106,6 +108,12 @@ pub refused_started : (width backlog : ℕ) (day : List Tuple) (told : Option Cr
 refused_started width backlog day told fault outcome is =
     subst (HasStartedJobs width backlog day told told) (sym is)
     (none_started width backlog day told (refused_outcome fault) (refused_unworked fault _))
+
+-- and none is due by a plan
+pub refused_planned : (plan : Plan) (backlog : ℕ) (day : List Tuple) (told now : Option CrewTold) (fault : KeepFault)
+    (outcome : Outcome) → outcome ≡ refused_outcome fault → StartsPlanned plan backlog day told now outcome
+refused_planned plan backlog day told now fault outcome is =
+    subst (StartsPlanned plan backlog day told now) (sym is) (refused_unworked fault _)
 
 -- the steps of a day that was worked
 pub stepped_all : (t : Task) (day : List Tuple) (old now : Option Posted) (outcome : Outcome) →

@@ -3,3 +3,4 @@ pub mod Imports
 pub mod Runs
 pub mod Stages
 pub mod Laws
+pub mod Planned

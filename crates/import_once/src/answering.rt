@@ -9,6 +9,7 @@ ghost use Rattle.road_io.specs.Blame.{FaultsByPlan, FaultsByRoom};
 ghost use Rattle.import_once.specs.Faults.{FaultsBeside, NamesNoOther, FailsNext};
 ghost use Rattle.import_once.specs.Imports.{answers_answer, answers_found, Does, LeavesRead, IsOfAnswers};
 ghost use Rattle.import_once.specs.Runs.{DoesByCrew, HasStartedJobs};
+ghost use Rattle.import_once.specs.Planned.{StartsPlanned};
 ghost use Rattle.import_once.specs.declared.outcomes.Outcome.TheVariants.{ReadFault, WriteFault, KeeperFault};
 
 use crate::keeping::finish_answers;
@@ -53,6 +54,9 @@ fn answer_under<S: Source, O: Sink, K: Keeper, C: Crew, R: Threads>(
         (C.answers crew.new) (O.written sink.old) (O.written sink.new) (K.told keeper.new) result }
     ensures jobs { (bytes : List ℕ) → S.left source.old ≡ Some bytes
         → HasStartedJobs plan.now.width limits.now.backlog (reads bytes limits.now late).tuples (C.jobs crew.old)
+        (C.jobs crew.new) result }
+    ensures planned { (bytes : List ℕ) → S.left source.old ≡ Some bytes
+        → StartsPlanned plan.now limits.now.backlog (reads bytes limits.now late).tuples (C.jobs crew.old)
         (C.jobs crew.new) result }
     ensures kept { K.told keeper.new ≡ K.told keeper.old }
     ensures own { IsOfAnswers result }
@@ -118,6 +122,9 @@ pub fn answers<S: Source, O: Sink, K: Keeper, C: Crew, R: Threads>(
         (C.answers crew.new) (O.written sink.old) (O.written sink.new) (K.told keeper.new) result }
     ensures jobs { (bytes : List ℕ) → S.left source.old ≡ Some bytes
         → HasStartedJobs plan.now.width limits.now.backlog (reads bytes limits.now late).tuples (C.jobs crew.old)
+        (C.jobs crew.new) result }
+    ensures planned { (bytes : List ℕ) → S.left source.old ≡ Some bytes
+        → StartsPlanned plan.now limits.now.backlog (reads bytes limits.now late).tuples (C.jobs crew.old)
         (C.jobs crew.new) result }
     ensures kept { K.told keeper.new ≡ K.told keeper.old }
     ensures own { IsOfAnswers result }

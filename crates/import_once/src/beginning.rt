@@ -14,6 +14,7 @@ ghost use Rattle.import_once.specs.Faults.{FaultsBeside, NamesNoOther};
 ghost use Rattle.import_once.specs.Imports.{new_import, new_import_found, Does, LeavesRead, PutsOnce, KeepsAll};
 ghost use Rattle.import_once.specs.Imports.{IsOfNewDay};
 ghost use Rattle.import_once.specs.Runs.{DoesByCrew, HasStartedJobs, HasDaySteps, PublishesDay};
+ghost use Rattle.import_once.specs.Planned.{StartsPlanned};
 ghost use Rattle.accounts.specs.Operations.{Posted};
 ghost use Rattle.import_once.specs.declared.outcomes.Outcome.TheVariants.{Stored, ReadFault, WriteFault, KeeperFault};
 
@@ -62,6 +63,9 @@ fn import_under<S: Source, O: Sink, K: Keeper, C: Crew, P: Publisher, R: Threads
         (C.answers crew.new) (O.written sink.old) (O.written sink.new) (K.told keeper.new) result }
     ensures jobs { (bytes : List ℕ) → S.left source.old ≡ Some bytes
         → HasStartedJobs plan.now.width limits.now.backlog (reads bytes limits.now late).tuples (C.jobs crew.old)
+        (C.jobs crew.new) result }
+    ensures planned { (bytes : List ℕ) → S.left source.old ≡ Some bytes
+        → StartsPlanned plan.now limits.now.backlog (reads bytes limits.now late).tuples (C.jobs crew.old)
         (C.jobs crew.new) result }
     ensures stepped { C.exact ≡ true → (bytes : List ℕ) → S.left source.old ≡ Some bytes
         → HasDaySteps tariffs.now (reads bytes limits.now late).tuples limits.now.backlog (P.posted publisher.old)
@@ -125,6 +129,9 @@ pub(crate) fn import_begun<S: Source, O: Sink, K: Keeper, C: Crew, P: Publisher,
         (C.answers crew.new) (O.written sink.old) (O.written sink.new) (K.told keeper.new) result }
     ensures jobs { (bytes : List ℕ) → S.left source.old ≡ Some bytes
         → HasStartedJobs plan.now.width limits.now.backlog (reads bytes limits.now late).tuples (C.jobs crew.old)
+        (C.jobs crew.new) result }
+    ensures planned { (bytes : List ℕ) → S.left source.old ≡ Some bytes
+        → StartsPlanned plan.now limits.now.backlog (reads bytes limits.now late).tuples (C.jobs crew.old)
         (C.jobs crew.new) result }
     ensures published { C.exact ≡ true → (bytes : List ℕ) (was : Posted) → S.left source.old ≡ Some bytes
         → P.posted publisher.old ≡ Some was

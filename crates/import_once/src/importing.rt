@@ -11,6 +11,7 @@ ghost use Rattle.import_once.specs.Faults.{FaultsBeside, NamesNoOther, FailsNext
 ghost use Rattle.import_once.specs.Imports.{import_answer, import_found, most_imported, Does, LeavesRest, LeavesAlone};
 ghost use Rattle.import_once.specs.Imports.{LeavesRead, PutsOnce, KeepsAll, IsUncompared};
 ghost use Rattle.import_once.specs.Runs.{DoesByCrew, HasStartedJobs, PublishesDay, PublishesUnderSome};
+ghost use Rattle.import_once.specs.Planned.{StartsPlanned};
 ghost use Rattle.accounts.specs.Operations.{Posted};
 ghost use Rattle.import_once.specs.declared.outcomes.Outcome.TheVariants.{Stored, ReadFault, WriteFault, KeeperFault};
 
@@ -56,6 +57,9 @@ pub fn import<S: Source, O: Sink, K: Keeper, C: Crew, P: Publisher, R: Threads>(
         (C.answers crew.new) (O.written sink.old) (O.written sink.new) (K.told keeper.new) result }
     ensures jobs { (bytes : List ℕ) → S.left source.old ≡ Some bytes
         → HasStartedJobs plan.now.width limits.now.backlog (reads bytes limits.now late).tuples (C.jobs crew.old)
+        (C.jobs crew.new) result }
+    ensures planned { (bytes : List ℕ) → S.left source.old ≡ Some bytes
+        → StartsPlanned plan.now limits.now.backlog (reads bytes limits.now late).tuples (C.jobs crew.old)
         (C.jobs crew.new) result }
     ensures published { C.exact ≡ true → (bytes : List ℕ) (o : Office) (was : Posted) → S.left source.old ≡ Some bytes
         → K.told keeper.old ≡ Some o

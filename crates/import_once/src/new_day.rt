@@ -13,6 +13,7 @@ ghost use Rattle.import_once.specs.Faults.{FaultsBeside, NamesNoOther};
 ghost use Rattle.import_once.specs.Imports.{new_import, new_import_found, unless_passed, Does, LeavesAlone, LeavesRead};
 ghost use Rattle.import_once.specs.Imports.{PutsOnce, KeepsAll, IsOfNewDay};
 ghost use Rattle.import_once.specs.Runs.{DoesByCrew, HasStartedJobs, PublishesDay, PublishesUnderSome};
+ghost use Rattle.import_once.specs.Planned.{StartsPlanned};
 ghost use Rattle.accounts.specs.Operations.{Posted};
 ghost use Rattle.import_once.specs.declared.outcomes.Outcome.TheVariants.{Stored, ReadFault, WriteFault, KeeperFault};
 
@@ -57,6 +58,9 @@ fn import_later<S: Source, O: Sink, K: Keeper, C: Crew, P: Publisher, R: Threads
         (C.answers crew.new) (O.written sink.old) (O.written sink.new) (K.told keeper.new) result }
     ensures jobs { (bytes : List ℕ) → S.left source.old ≡ Some bytes
         → HasStartedJobs plan.now.width limits.now.backlog (reads bytes limits.now late).tuples (C.jobs crew.old)
+        (C.jobs crew.new) result }
+    ensures planned { (bytes : List ℕ) → S.left source.old ≡ Some bytes
+        → StartsPlanned plan.now limits.now.backlog (reads bytes limits.now late).tuples (C.jobs crew.old)
         (C.jobs crew.new) result }
     ensures published { C.exact ≡ true → (bytes : List ℕ) (o : Office) (was : Posted) → S.left source.old ≡ Some bytes
         → K.told keeper.old ≡ Some o
@@ -125,6 +129,9 @@ pub(crate) fn import_new<S: Source, O: Sink, K: Keeper, C: Crew, P: Publisher, R
     ensures unread { (o : Office) → K.told keeper.old ≡ Some o → number ≤ last_day o → source.new ≡ source.old }
     ensures jobs { (bytes : List ℕ) → S.left source.old ≡ Some bytes
         → HasStartedJobs plan.now.width limits.now.backlog (reads bytes limits.now late).tuples (C.jobs crew.old)
+        (C.jobs crew.new) result }
+    ensures planned { (bytes : List ℕ) → S.left source.old ≡ Some bytes
+        → StartsPlanned plan.now limits.now.backlog (reads bytes limits.now late).tuples (C.jobs crew.old)
         (C.jobs crew.new) result }
     ensures published { C.exact ≡ true → (bytes : List ℕ) (o : Office) (was : Posted) → S.left source.old ≡ Some bytes
         → K.told keeper.old ≡ Some o

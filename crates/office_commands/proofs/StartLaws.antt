@@ -111,6 +111,7 @@ pub day_none : (run' : DayRun) (backlog : ℕ) (day : List Tuple) (worked : Type
 day_none run' backlog day worked told bad = record {
   outcome = NoMemory;
   jobs = none_started run'.plan.width backlog day told;
+  planned = tt;
   whole = λ w. absurd (bad w);
 }
 
@@ -118,7 +119,7 @@ day_none run' backlog day worked told bad = record {
 pub day_weaker : (run' : DayRun) (backlog : ℕ) (day : List Tuple) (worked less : Type 0) (told now : Option CrewTold) →
     (less → worked) → StartsDay run' backlog day worked told now → StartsDay run' backlog day less told now
 day_weaker run' backlog day worked less told now f h =
-    record { outcome = h.outcome; jobs = h.jobs; whole = λ q. h.whole (f q) }
+    record { outcome = h.outcome; jobs = h.jobs; planned = h.planned; whole = λ q. h.whole (f q) }
 
 -- a crew that started no job was told the first
 no_first : (day : List Tuple) (width : ℕ) (told : Option CrewTold) → WhereTold (StartsFirst day width) told told

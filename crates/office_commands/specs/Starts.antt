@@ -1,4 +1,4 @@
--- The jobs that a command starts, over as many workers as its words name.
+-- The jobs that a command starts, by the plan that its words name.
 use Rattle.std.specs.Prelude.{ℕ, ◌≡◌, ◌⊎◌, List, Option, Some, None}
 use Rattle.road_time.specs.declared.day.Limits.{Limits}
 use Rattle.road_time.specs.declared.day.TheConstants.Limits.{DAY}
@@ -6,6 +6,7 @@ use Rattle.road_time.specs.declared.road.Tuple.{Tuple}
 use Rattle.road_time.specs.Reads.{reads}
 use Rattle.partition_workers.specs.Told.{CrewTold, WhereTold}
 use Rattle.keeper.specs.Office.{Office, record_of}
+use Rattle.import_once.specs.Planned.{StartsPlanned}
 use Rattle.import_once.specs.Runs.{HasStartedJobs}
 use Rattle.import_once.specs.declared.outcomes.Outcome.{Outcome}
 use Rattle.import_once.specs.declared.outcomes.Outcome.TheVariants.{Stored, Answered, Refused}
@@ -26,12 +27,13 @@ WasWorked (Answered kept) = Unit {0}
 WasWorked (Refused line cause) = Unit {0}
 WasWorked _ = ⊥
 
--- the jobs of a day over as many workers as its run names: the crew tells the first of each worker's, and all where the
--- day was worked
+-- the jobs of a day by the plan of its run: the crew tells the first of each worker's, and where the day was worked all
+-- of them, in the order in which the plan starts them
 pub record StartsDay (run : DayRun) (backlog : ℕ) (day : List Tuple) (worked : Type 0)
     (told now : Option CrewTold) : Type 0 where
   pub outcome : Outcome
   pub jobs : HasStartedJobs run.plan.width backlog day told now outcome
+  pub planned : StartsPlanned run.plan backlog day told now outcome
   pub whole : worked → WasWorked outcome
 
 -- the status says that a day was answered, or names its refused line

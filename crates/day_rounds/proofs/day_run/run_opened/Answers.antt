@@ -4,12 +4,14 @@ use Rattle.road_time.specs.Day.{given}
 use Rattle.day_reading.proofs.AheadLaws.{ahead_within}
 use Rattle.settling.specs.Closes.{IsClosed}
 use Rattle.day_rounds.specs.declared.day_run.WorkedDay.{WorkedDay}
+use Rattle.road_time.specs.Reads.{reads}
 use Rattle.day_rounds.specs.Days.{IsOn}
+use Rattle.day_rounds.specs.Planned.{IsPlanned, HasPlannedJobs}
 use Rattle.day_rounds.specs.Outcomes.{task_of, HasImported, HasStopped}
 use Rattle.day_rounds.specs.declared.fault.DayFault.TheVariants.{NoMemory}
 use Rattle.day_rounds.proofs.JobLaws.{nothing_out}
 use Rattle.day_rounds.proofs.ReaderLaws.{nothing_left}
-use Rattle.day_rounds.proofs.OutcomeLaws.{whole_run, whole_stopped, cut_stopped, under}
+use Rattle.day_rounds.proofs.OutcomeLaws.{whole_run, whole_planned, whole_stopped, cut_stopped, under}
 use Rattle.day_rounds.proofs.day_run.run_opened.Goals as goal
 
 pub run_plan-requires-clause-runs : goal.run_plan-requires-clause-runs
@@ -22,7 +24,7 @@ pub close-requires : goal.close-requires
 close-requires g c =
     let k = g.C.Crew in
     let (e, late, h, gathers, number, history, abreast) = c.requires.runs in
-    let (s, on, all, is, runs) =
+    let (s, on, all, is, runs, plan) =
     c.in-Ok.ensures.done e (k.jobs c.args.crew.now) (k.answers c.args.crew.now) late h gathers number history in
     (e, s, runs.stands, all)
 
@@ -44,7 +46,7 @@ returns-in-Ok-close-clause-ran g c e late h gathers number history =
     let v = c.in-Ok.ensures in
     let last = c.run_plan.new in
     let was = g.S.Source.left c.args.source.now in
-    let (s, on, all, is, runs) = v.done e told answered late h gathers number history in
+    let (s, on, all, is, runs, plan) = v.done e told answered late h gathers number history in
     let same_on =
     subst (λ m. IsOn m late e c.args.ahead last.ahead was (g.S.Source.left last.source)
     (g.O.Sink.written c.args.sink.now) (g.O.Sink.written last.sink) (g.P.Publisher.posted c.args.publisher.now)
@@ -72,7 +74,7 @@ returns-in_default-clause-stopped g c e late h gathers number history =
     let v = c.in-Ok.ensures in
     let last = c.run_plan.new in
     let was = g.S.Source.left c.args.source.now in
-    let (s, on, all, is, runs) = v.done e told answered late h gathers number history in
+    let (s, on, all, is, runs, plan) = v.done e told answered late h gathers number history in
     let same_on =
     subst (λ m. IsOn m late e c.args.ahead last.ahead was (g.S.Source.left last.source)
     (g.O.Sink.written c.args.sink.now) (g.O.Sink.written last.sink) (g.P.Publisher.posted c.args.publisher.now)
@@ -100,7 +102,7 @@ pub returns-in-Ok-close-clause-idle : goal.returns-in-Ok-close-clause-idle
 returns-in-Ok-close-clause-idle g c =
     let k = g.C.Crew in
     let (e, late, h, gathers, number, history, abreast) = c.requires.runs in
-    let (s, on, all, is, runs) =
+    let (s, on, all, is, runs, plan) =
     c.in-Ok.ensures.done e (k.jobs c.args.crew.now) (k.answers c.args.crew.now) late h gathers number history in
     nothing_out k.out k.number k.holds k.gave k.exact k.jobs k.answers e (k.jobs c.args.crew.now)
     (k.answers c.args.crew.now) c.run_plan.new.run c.run_plan.new.crew s runs c.in-Ok.ensures.none
@@ -109,7 +111,7 @@ pub returns-in_default-clause-idle : goal.returns-in_default-clause-idle
 returns-in_default-clause-idle g c =
     let k = g.C.Crew in
     let (e, late, h, gathers, number, history, abreast) = c.requires.runs in
-    let (s, on, all, is, runs) =
+    let (s, on, all, is, runs, plan) =
     c.in-Ok.ensures.done e (k.jobs c.args.crew.now) (k.answers c.args.crew.now) late h gathers number history in
     nothing_out k.out k.number k.holds k.gave k.exact k.jobs k.answers e (k.jobs c.args.crew.now)
     (k.answers c.args.crew.now) c.run_plan.new.run c.run_plan.new.crew s runs c.in-Ok.ensures.none
@@ -135,7 +137,7 @@ returns-in-Ok-close-clause-rest g c e late h gathers number history bytes is rea
     let f = c.args.run.floor in
     let v = c.in-Ok.ensures in
     let last = c.run_plan.new in
-    let (s, on, all, count, runs) =
+    let (s, on, all, count, runs, plan) =
     v.done e (k.jobs c.args.crew.now) (k.answers c.args.crew.now) late h gathers number history in
     nothing_left last.ahead f.limits late (g.S.Source.left last.source) bytes s.fed f.limits.lines v.ended none
     (on.given.reads bytes [] is) (v.read f.limits.lines bytes read)
@@ -145,7 +147,29 @@ returns-in-Ok-close-clause-leaves g c e late h gathers number history bytes is r
     let k = g.C.Crew in
     let f = c.args.run.floor in
     let v = c.in-Ok.ensures in
-    let (s, on, all, count, runs) =
+    let (s, on, all, count, runs, plan) =
     v.done e (k.jobs c.args.crew.now) (k.answers c.args.crew.now) late h gathers number history in
     c.end-end.ensures.left f.limits late (g.S.Source.left c.run_plan.new.source) bytes s.fed
     (on.given.reads bytes [] is) (v.read f.limits.lines bytes read)
+
+pub returns-in-Ok-close-clause-planned : goal.returns-in-Ok-close-clause-planned
+returns-in-Ok-close-clause-planned g c e late h gathers number history bytes =
+    let k = g.C.Crew in
+    let told = k.jobs c.args.crew.now in
+    let answered = k.answers c.args.crew.now in
+    let f = c.args.run.floor in
+    let v = c.in-Ok.ensures in
+    let last = c.run_plan.new in
+    let was = g.S.Source.left c.args.source.now in
+    let (s, on, all, is, runs, plan) = v.done e told answered late h gathers number history in
+    let same_on =
+    subst (λ m. IsOn m late e c.args.ahead last.ahead was (g.S.Source.left last.source)
+    (g.O.Sink.written c.args.sink.now) (g.O.Sink.written last.sink) (g.P.Publisher.posted c.args.publisher.now)
+    (g.P.Publisher.posted last.publisher) s) (sym v.limits) on in
+    let same_gathers = subst (λ m. IsGatheringAhead c.args.ahead m late []) (sym v.limits) gathers in
+    under (λ n m. IsPlanned c.args.plan.now.turns n m.backlog s → IsAhead c.args.ahead m late was bytes [] →
+    HasPlannedJobs c.args.plan.now.turns n m.backlog (reads bytes m late).tuples told (k.jobs last.crew))
+    last.run.floor.inboxes.width f.inboxes.width last.run.floor.limits f.limits v.width v.limits
+    (λ planned ahead. whole_planned k.out k.number k.holds k.gave k.exact k.jobs k.answers e told answered last.run
+    last.crew s runs f.limits late c.args.ahead last.ahead _ _ _ _ _ _ same_on all v.ended same_gathers
+    c.args.plan.now.turns v.none planned bytes ahead) plan

@@ -6,6 +6,7 @@ use Rattle.day_reading.specs.Ahead.{IsAhead, IsGatheringAhead, HasReadAhead}
 use Rattle.settling.specs.Answers.{history_of}
 use Rattle.watermark.specs.Floors.{Setting}
 use Rattle.day_rounds.specs.Faults.{of_reading}
+use Rattle.day_rounds.specs.Planned.{HasPlannedJobs}
 use Rattle.day_rounds.specs.Outcomes.{Task, task_of, HasImported, HasStopped}
 use Rattle.day_rounds.specs.declared.fault.DayFault.TheVariants.{NoMemory}
 use Rattle.day_rounds.proofs.JobLaws.{begun_runs}
@@ -184,3 +185,24 @@ returns-in-Ok-run_opened-clause-leaves g c bytes told =
     (c.in-Ok-open.ensures.ahead bytes told))
     (subst (λ l. HasReadAhead ahead l.lines left bytes) (sym c.in-Ok.ensures.limits)
     (c.in-Ok-open.ensures.read bytes told))
+
+pub returns-in-Ok-run_opened-clause-planned : goal.returns-in-Ok-run_opened-clause-planned
+returns-in-Ok-run_opened-clause-planned g c bytes told =
+    let k = g.C.Crew in
+    let limits = c.args.limits.now in
+    let run = c.in-Ok.run' in
+    let ahead = c.in-Ok-open.ahead in
+    let history = history_of (g.K.Keeper.told c.args.keeper.now) in
+    let e : Setting = record { tariffs = c.args.tariffs.now; number = c.args.day; history = history } in
+    let h = begun_runs k.out k.number k.holds k.gave k.exact k.jobs k.answers e run c.args.crew.now
+    (c.in-Ok.ensures.stands c.args.day history) c.in-Ok.ensures.tickets c.requires.idle in
+    let gathers : IsGatheringAhead ahead run.floor.limits c.args.late [] =
+    subst (λ l. IsGatheringAhead ahead l c.args.late []) (sym c.in-Ok.ensures.limits)
+    c.in-Ok-open.ensures.gathering in
+    let left = g.S.Source.left c.open.new.source in
+    under (λ n m. HasPlannedJobs c.args.plan.now.turns n m.backlog (reads bytes m c.args.late).tuples
+    (k.jobs c.args.crew.now) (k.jobs c.run_opened.new.crew)) run.floor.inboxes.width c.args.plan.now.width
+    run.floor.limits limits c.in-Ok.ensures.width c.in-Ok.ensures.limits
+    (c.in-Ok-run_opened.ensures.planned e c.args.late h gathers refl refl bytes
+    (subst (λ l. IsAhead ahead l c.args.late left bytes []) (sym c.in-Ok.ensures.limits)
+    (c.in-Ok-open.ensures.ahead bytes told)))

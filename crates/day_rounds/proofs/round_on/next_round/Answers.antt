@@ -85,3 +85,8 @@ returns-in-Err-clause-halted g c e told answered late s h can number history =
       steps = λ exact before have. stepped_rules f.inboxes.width f.limits e s h.stands.terms.some h.stands.sound
           (h.right exact) fed (xs, refl) can.fit before _ _ have v.published;
     }
+
+pub returns-in-None-clause-ended : goal.returns-in-None-clause-ended
+returns-in-None-clause-ended g c more =
+    let none : c.in-Ok.round.stop ≡ None = cc in
+    c.in-Ok.ensures.read_on.ended none more

@@ -1,4 +1,4 @@
-use Rattle.std.proofs.Common.{◌≡◌, ◌-◌, ◌<◌, ◌≤◌, ◌++◌, ◌∙◌, [], None, false, length, refl, sym, ap, subst}
+use Rattle.std.proofs.Common.{◌≡◌, ◌-◌, ◌<◌, ◌≤◌, ◌++◌, ◌∙◌, ◌∷◌, [], None, false, length, refl, sym, ap, subst}
 use Rattle.std.proofs.Common.{length-append, arith, rules}
 use Rattle.std.proofs.lemmas.List.{append-nil}
 use Rattle.day_reading.specs.Ahead.{has_more}
@@ -6,10 +6,11 @@ use Rattle.settling.specs.Answers.{history_of}
 use Rattle.watermark.specs.Shares.{start}
 use Rattle.day_rounds.specs.Faults.{HasDayFront}
 use Rattle.day_rounds.specs.Readers.{HasGiven}
+use Rattle.day_rounds.specs.Planned.{AreRounds, after_round, are_left}
 use Rattle.day_rounds.proofs.DayLaws.{on_start, cut_at, next_can, fewer_left}
 use Rattle.day_rounds.proofs.FrontLaws.{front_before}
 use Rattle.day_rounds.proofs.HaltLaws.{front_of_reading, stepped_rules}
-use Rattle.day_rounds.proofs.LoopLaws.{no_more}
+use Rattle.day_rounds.proofs.LoopLaws.{no_more, some_left}
 use Rattle.day_rounds.proofs.PublishLaws.{steps_under}
 use Rattle.day_rounds.proofs.ReaderLaws.{given_first, given_more}
 use Rattle.day_rounds.proofs.RoundLaws.{stopped_by}
@@ -68,14 +69,14 @@ day-init g c =
       at = λ e told answered late h gathers number history.
           let on = on_start f.limits late e c.args.ahead.now (g.S.Source.left c.args.source.now)
           (g.O.Sink.written c.args.sink.now) (g.P.Publisher.posted c.args.publisher.now) in
-          (start, r.read_on.given none f.limits late, on.text, on.steps, refl, refl, h, c.requires.runs.8);
+          (start, r.read_on.given none f.limits late, on.text, on.steps, refl, refl, h, c.requires.runs.8, ([], refl));
     }
 
 pub next_round-requires-clause-runs : goal.next_round-requires-clause-runs
 next_round-requires-clause-runs g c =
     let inv = c.day.invariant in
     let (e, told, answered, late, h, gathers, number, history, abreast) = c.requires.runs in
-    let (s, given, text, steps, all, is, runs, even) = inv.at e told answered late h gathers number history in
+    let (s, given, text, steps, all, is, runs, even, made) = inv.at e told answered late h gathers number history in
     let can =
     next_can c.args.run.now.floor.limits c.day.run.floor.limits inv.limits late s c.day.these.items c.args.ahead.now
     c.day.ahead _ _ given gathers all inv.few in
@@ -92,7 +93,7 @@ returns-in-Err-clause-halted g c e told answered late h gathers number history =
     let inv = c.day.invariant in
     let f = c.args.run.now.floor in
     let d = c.day.run.floor in
-    let (s, given, text, steps, all, is, runs, even) = inv.at e told answered late h gathers number history in
+    let (s, given, text, steps, all, is, runs, even, made) = inv.at e told answered late h gathers number history in
     let can = next_can f.limits d.limits inv.limits late s c.day.these.items c.args.ahead.now c.day.ahead _ _ given
     gathers all inv.few in
     cut_at k.out k.number k.holds k.gave k.exact k.jobs c.in-Err.fault e told d.inboxes.width f.inboxes.width d.limits
@@ -126,7 +127,7 @@ day-preserved g c =
       few = subst (λ l. length next ≤ l.backlog) inv.limits v.few;
       full = subst (λ l. length next < l.backlog → has_more c.next_round.new.ahead ≡ false) inv.limits v.full;
       at = λ e told answered late h gathers number history.
-          let (s, given, text, steps, all, is, runs, even) = inv.at e told answered late h gathers number history in
+          let (s, given, text, steps, all, is, runs, even, made) = inv.at e told answered late h gathers number history in
           let can =
           next_can f.limits d.limits inv.limits late s c.day.these.items c.args.ahead.now c.day.ahead _ _ given
           gathers all inv.few in
@@ -143,6 +144,18 @@ day-preserved g c =
             count,
             last,
             still,
+            (
+              record { before = s; xs = c.day.these.items; backs = settled.backs } ∷ made.0,
+              (
+                inv.few,
+                λ less. ap are_left (v.ended (inv.full less)),
+                settled.fed,
+                subst (λ w. now ≡ after_round w
+                    (record { before = s; xs = c.day.these.items; backs = settled.backs })) inv.width settled.is,
+                subst (AreRounds f.inboxes.width f.limits.backlog made.0 s)
+                    (some_left c.day.these.items (search rules)) made.1,
+              ),
+            ),
           );
     }
 
@@ -154,7 +167,7 @@ day-smaller g c =
     let d = c.day.run.floor in
     let xs = c.day.these.items in
     let (e, told, answered, late, h, gathers, number, history, abreast) = c.requires.runs in
-    let (s, given, text, steps, all, is, runs, even) = inv.at e told answered late h gathers number history in
+    let (s, given, text, steps, all, is, runs, even, made) = inv.at e told answered late h gathers number history in
     let can =
     next_can f.limits d.limits inv.limits late s xs c.args.ahead.now c.day.ahead _ _ given gathers all inv.few in
     let (now, settled, count, last, still) =
@@ -177,7 +190,7 @@ returns-clause-ended g c =
 
 pub returns-clause-done : goal.returns-clause-done
 returns-clause-done g c e told answered late h gathers number history =
-    let (s, given, text, steps, all, is, runs, even) =
+    let (s, given, text, steps, all, is, runs, even, made) =
     c.day.invariant.at e told answered late h gathers number history in
     let empty : length c.day.these.items ≡ 0 = search rules in
     let none = ap (λ xs. s.fed ++ xs) (no_more c.day.these.items empty) ∙ append-nil s.fed in (
@@ -193,6 +206,11 @@ returns-clause-done g c e told answered late h gathers number history =
       all,
       is,
       runs,
+      (
+        made.0,
+        subst (λ xs. AreRounds c.args.run.now.floor.inboxes.width c.args.run.now.floor.limits.backlog made.0 s
+            (are_left xs)) (no_more c.day.these.items empty) made.1,
+      ),
     )
 
 pub returns-in-Err-clause-read : goal.returns-in-Err-clause-read

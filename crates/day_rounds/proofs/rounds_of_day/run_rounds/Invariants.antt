@@ -15,6 +15,7 @@ use Rattle.day_rounds.specs.Runs.{Runs}
 use Rattle.day_rounds.specs.Fronts.{HasText}
 use Rattle.day_rounds.specs.Published.{HasStepped}
 use Rattle.day_rounds.specs.Readers.{HasGiven}
+use Rattle.day_rounds.specs.Planned.{RoundMade, AreRounds, are_left}
 use Rattle.day_rounds.proofs.rounds_of_day.run_rounds.Given as goal
 
 abbrev pub invariant-day : goal.invariant-day
@@ -50,7 +51,9 @@ invariant-day g l =
           (g.P.Publisher.posted l.publisher)
           × (now.settled ≡ length now.fed) × (l.settled ≡ now.settled)
           × Runs k.out k.number k.holds k.gave k.exact k.jobs k.answers e told answered l.run l.crew now
-          × IsAbreast (g.P.Publisher.posted l.publisher) (sum_of (settled_charges now));
+          × IsAbreast (g.P.Publisher.posted l.publisher) (sum_of (settled_charges now))
+          × ((rounds : List RoundMade) × AreRounds l.fn.run.floor.inboxes.width l.fn.run.floor.limits.backlog rounds now
+          (are_left l.these.items));
     }
 
 abbrev pub decreases-day : goal.decreases-day

@@ -3,7 +3,8 @@ use Rattle.std.proofs.lemmas.List.{append-nil}
 use Rattle.expressway.specs.Results.{AreFirst}
 use Rattle.draws.specs.Draws.{after_draws}
 use Rattle.day_reading.specs.Ahead.{has_more}
-use Rattle.day_rounds.specs.Drawn.{turn_size, after_size, after_finishing}
+use Rattle.day_rounds.specs.Runs.{after_feeds, after_backs, settled_all}
+use Rattle.day_rounds.specs.Drawn.{turn_size, after_size, after_finishing, after_giving}
 use Rattle.day_rounds.specs.Faults.{HasDayFront}
 use Rattle.day_rounds.specs.Readers.{HasGiven}
 use Rattle.day_rounds.proofs.DrawnLaws.{size_drawn}
@@ -76,7 +77,7 @@ returns-in-Ok-turn-clause-done g c e told answered late s h gathers number histo
     let has = c.room-room.ensures e s h.stands in
     let can = given_can f.limits late s xs c.args.ahead.now c.gather.new.ahead _ _ c.room-room.result given gathers has
     few in
-    let (now, j, turned, is, runs, abreast) = c.in-Ok-turn.ensures.done e told answered s h can number history in
+    let (now, j, turned, is, runs, abreast, backs) = c.in-Ok-turn.ensures.done e told answered s h can number history in
     let low : length xs ≤ c.some_of-count.result =
     subst (λ ys. length ys ≤ c.some_of-count.result) (sym c.as_slice.ensures.value) c.in-Ok.ensures.few in
     let room : c.room-room.result ≡ (s.settled + f.limits.backlog) - length s.fed = omega (arith, has) in
@@ -112,6 +113,13 @@ returns-in-Ok-turn-clause-done g c e told answered late s h gathers number histo
           work.1 ∙ ap (λ r. after_finishing work.0 (after_draws c.args.width r)) sized.1,
         );
       },
+      (
+        backs.0,
+        subst (λ m. now ≡ settled_all m (after_backs (after_giving c.args.width c.some_of-count.new.rng
+            (after_feeds m s xs)) backs.0)) (sym c.requires.width) backs.1
+            ∙ ap (λ r. settled_all c.args.width (after_backs (after_giving c.args.width r
+            (after_feeds c.args.width s xs)) backs.0)) sized.1,
+      ),
     )
 
 pub returns-in-Err-turn-clause-halted : goal.returns-in-Err-turn-clause-halted

@@ -1,8 +1,9 @@
-use Rattle.std.proofs.Common.{ℕ, suc, ◌≡◌, ◌<◌, ◌≤◌, ◌+◌, ◌-◌, ◌∙◌, length, refl, sym, ap, arith, rules, subst}
+use Rattle.std.proofs.Common.{ℕ, suc, [], ◌∷◌, ◌≡◌, ◌<◌, ◌≤◌, ◌+◌, ◌-◌, ◌∙◌, length, refl, sym, ap, arith, rules, subst}
 use Rattle.draws.specs.Draws.{drawn, after_draws}
 use Rattle.draws.proofs.DrawLaws.{none_drawn, one_drawn}
 use Rattle.expressway.proofs.RunSteps.{on_refusal}
 use Rattle.expressway.specs.Results.{AreFirst}
+use Rattle.watermark.specs.Steps.{after_back}
 use Rattle.day_rounds.specs.Runs.{Stopped}
 use Rattle.day_rounds.specs.Turns.{IsMoved}
 use Rattle.day_rounds.proofs.TurnLaws.{moved_same, moved_then, came_moved}
@@ -29,14 +30,20 @@ loop-rng-init g c =
           ∙ (ap (λ r. (drawn c.len-held.result r).1) (sym (none_drawn c.args.rng.now))
           ∙ (one_drawn c.len-held.result 0 c.args.rng.now ∙ ap (λ m. after_draws m c.args.rng.now) (sym one)));
       fewer = omega arith;
-      came = λ e told answered s h.
-          (s, 0, moved_same c.args.run.now.floor.inboxes.width s, none_more (length c.args.run.now.tickets.items), h);
+      came = λ e told answered s h. (
+        s,
+        0,
+        moved_same c.args.run.now.floor.inboxes.width s,
+        none_more (length c.args.run.now.tickets.items),
+        h,
+        ([], refl),
+      );
     }
 
 pub finish_one-requires-clause-runs : goal.finish_one-requires-clause-runs
 finish_one-requires-clause-runs g c =
     let (e, told, answered, s, h) = c.requires.runs in
-    let (now, n, moved, count, runs) = c.loop-rng.invariant.came e told answered s h in
+    let (now, n, moved, count, runs, backs) = c.loop-rng.invariant.came e told answered s h in
     (e, told, answered, now, runs)
 
 pub loop-rng-preserved : goal.loop-rng-preserved
@@ -64,7 +71,7 @@ loop-rng-preserved g c =
           c.args.rng.now ∙ ap (λ m. after_draws m c.args.rng.now) further));
       fewer = omega (arith, one, few);
       came = λ e told answered s h.
-          let (mid, n, moved, count, runs) = inv.came e told answered s h in
+          let (mid, n, moved, count, runs, backs) = inv.came e told answered s h in
           let (now, came, all) = v.came e told answered mid runs in (
             now,
             n + 1,
@@ -74,6 +81,10 @@ loop-rng-preserved g c =
                 came)),
             omega (arith, one, count),
             all,
+            (
+              (came.worker, came.found) ∷ backs.0,
+              came.is ∙ ap (λ m. after_back m came.worker came.found) backs.1,
+            ),
           );
     }
 
@@ -83,7 +94,7 @@ returns-in_err-finish_one-clause-stopped g c =
     let inv = c.loop-rng.invariant in
     on_refusal c.from_residual.result
     (λ e told answered s h day first.
-    let (mid, n, moved, count, runs) = inv.came e told answered s h in
+    let (mid, n, moved, count, runs, backs) = inv.came e told answered s h in
     subst (λ n. Stopped k.out k.number k.holds k.gave k.jobs told n c.args.run.now.floor.limits day c.finish_one.new.run
     c.finish_one.new.crew) inv.width
     (subst (λ l. Stopped k.out k.number k.holds k.gave k.jobs told c.loop-rng.run.floor.inboxes.width l day

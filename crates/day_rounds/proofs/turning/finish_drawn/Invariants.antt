@@ -1,11 +1,12 @@
 use Rattle.std.proofs.Common.{◌≡◌, ◌≤◌, ◌<◌, ◌+◌, ◌-◌, ℕ, List, length}
 use Rattle.std.specs.Prelude.{Option}
+use Rattle.road_time.specs.Tolls.{StretchTold as RoadFinding}
 use Rattle.draws.specs.Draws.{drawn, after_draws}
 use Rattle.expressway.specs.declared.finding.Finding.{Finding}
 use Rattle.partition_workers.specs.Told.{CrewTold}
 use Rattle.watermark.specs.Shares.{State}
 use Rattle.watermark.specs.Floors.{Setting}
-use Rattle.day_rounds.specs.Runs.{Runs}
+use Rattle.day_rounds.specs.Runs.{Runs, after_backs}
 use Rattle.day_rounds.specs.Turns.{IsMoved}
 use Rattle.day_rounds.proofs.turning.finish_drawn.Given as goal
 
@@ -26,7 +27,8 @@ invariant-loop-rng g l =
           Runs k.out k.number k.holds k.gave k.exact k.jobs k.answers e told answered l.fn.run l.fn.crew s →
           (now : State) × (n : ℕ) × IsMoved l.fn.run.floor.inboxes.width n s now
           × (length l.run.tickets.items + n ≡ length l.fn.run.tickets.items)
-          × Runs k.out k.number k.holds k.gave k.exact k.jobs k.answers e told answered l.run l.crew now;
+          × Runs k.out k.number k.holds k.gave k.exact k.jobs k.answers e told answered l.run l.crew now
+          × ((backs : List (ℕ × List (ℕ × RoadFinding))) × (now ≡ after_backs s backs));
     }
 
 abbrev pub decreases-loop-rng : goal.decreases-loop-rng

@@ -7,6 +7,7 @@ use Rattle.watermark.specs.Shares.{State}
 use Rattle.watermark.specs.Floors.{Setting}
 use Rattle.day_rounds.specs.Runs.{Runs}
 use Rattle.day_rounds.specs.Turns.{IsGiven}
+use Rattle.day_rounds.specs.Drawn.{given_drawn}
 use Rattle.day_rounds.proofs.turning.give_drawn.Given as goal
 
 abbrev pub invariant-loop-count : goal.invariant-loop-count
@@ -20,5 +21,6 @@ invariant-loop-count g l =
       given : (e : Setting) (told : Option CrewTold) (answered : Option (List Finding)) (s : State) →
           Runs k.out k.number k.holds k.gave k.exact k.jobs k.answers e told answered l.fn.run l.fn.crew s →
           (now : State) × (n : ℕ) × IsGiven l.fn.run.floor.inboxes.width n s now
-          × Runs k.out k.number k.holds k.gave k.exact k.jobs k.answers e told answered l.run l.crew now;
+          × Runs k.out k.number k.holds k.gave k.exact k.jobs k.answers e told answered l.run l.crew now
+          × (now ≡ given_drawn l._count l.width l.fn.rng s);
     }

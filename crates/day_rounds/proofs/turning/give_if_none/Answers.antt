@@ -1,21 +1,28 @@
-use Rattle.std.proofs.Common.{◌≡◌, [], rules}
+use Rattle.std.proofs.Common.{◌≡◌, ◌∙◌, [], length, sym, ap, rules}
 use Rattle.expressway.proofs.ShapeLaws.{ok_map}
 use Rattle.day_rounds.specs.Runs.{given_if}
 use Rattle.day_rounds.proofs.RoundLaws.{all_home}
 use Rattle.day_rounds.proofs.FinishLaws.{some_items}
 use Rattle.keeper.proofs.ListFacts.{no_length}
+use Rattle.day_rounds.specs.Tasks.{out_at}
+use Rattle.day_rounds.proofs.DrawnLaws.{where_some, where_none}
 use Rattle.day_rounds.proofs.TurnLaws.{given_same, given_one, least_waits}
+use Rattle.day_rounds.proofs.TurnedLaws.{tickets_are}
 use Rattle.day_rounds.proofs.turning.give_if_none.Goals as goal
 
 pub returns-then-not-is_empty-clause-given : goal.returns-then-not-is_empty-clause-given
-returns-then-not-is_empty-clause-given g c e told answered s h = (
-  s,
-  0,
-  given_same c.args.run.now.floor.inboxes.width s,
-  h,
-  λ before none v k. some_items
-      c.args.run.now.tickets.items ((s.share v).waiting ≡ []) (search rules) none,
-)
+returns-then-not-is_empty-clause-given g c e told answered s h =
+    let k = g.C.Crew in
+    let some : length c.args.run.now.tickets.items ≡ 0 → ⊥ = search rules in (
+      s,
+      0,
+      given_same c.args.run.now.floor.inboxes.width s,
+      h,
+      λ before none v k. some_items c.args.run.now.tickets.items ((s.share v).waiting ≡ []) some none,
+      where_some (out_at s.share c.args.run.now.floor.inboxes.width) s c.args.worker
+          (λ z. some (tickets_are k.out k.number k.holds k.gave k.exact k.jobs k.answers e told answered
+          c.args.run.now c.args.crew.now s h ∙ z)),
+    )
 
 pub returns-clause-given : goal.returns-clause-given
 returns-clause-given g c =
@@ -35,5 +42,8 @@ returns-clause-given g c =
       given e told answered s h,
       λ before none. least_waits s worker
           (home worker c.requires.within) (before items),
+      where_none (out_at s.share w) s worker
+          (sym (tickets_are k.out k.number k.holds k.gave k.exact k.jobs k.answers e told answered c.args.run.now
+          c.args.crew.now s h) ∙ ap length items),
     ))
     c.give_one.ensures.given

@@ -6,6 +6,7 @@ use Rattle.watermark.specs.Shares.{State}
 use Rattle.watermark.specs.Floors.{Setting}
 use Rattle.day_rounds.specs.Runs.{Runs}
 use Rattle.day_rounds.specs.Turns.{IsGiven}
+use Rattle.day_rounds.specs.Drawn.{given_least}
 use Rattle.day_rounds.proofs.turning.give_least.Given as goal
 
 abbrev pub invariant-loop-worker : goal.invariant-loop-worker
@@ -19,5 +20,6 @@ invariant-loop-worker g l =
           Runs k.out k.number k.holds k.gave k.exact k.jobs k.answers e told answered l.fn.run l.fn.crew s →
           (now : State) × (n : ℕ) × IsGiven l.fn.run.floor.inboxes.width n s now
           × Runs k.out k.number k.holds k.gave k.exact k.jobs k.answers e told answered l.run l.crew now
-          × (l.run.tickets.items ≡ [] → (v : ℕ) → v < l.worker → (now.share v).waiting ≡ []);
+          × (l.run.tickets.items ≡ [] → (v : ℕ) → v < l.worker → (now.share v).waiting ≡ [])
+          × (now ≡ given_least l.fn.run.floor.inboxes.width l.worker s);
     }

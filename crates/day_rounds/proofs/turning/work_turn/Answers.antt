@@ -1,9 +1,9 @@
 use Rattle.std.proofs.Common.{ℕ, zero, suc, ◌≡◌, ◌+◌, ◌≤◌, ◌<◌, ◌∙◌, length, refl, sym, ap, arith, subst}
 use Rattle.expressway.proofs.RunSteps.{on_refusal}
 use Rattle.expressway.specs.Results.{AreFirst}
-use Rattle.day_rounds.specs.Runs.{Stopped}
+use Rattle.day_rounds.specs.Runs.{Stopped, after_backs}
 use Rattle.day_rounds.specs.Turns.{IsGiven, IsMoved}
-use Rattle.day_rounds.specs.Drawn.{after_finishing}
+use Rattle.day_rounds.specs.Drawn.{after_finishing, given_least}
 use Rattle.day_rounds.proofs.DrawnLaws.{finishing_drawn}
 use Rattle.day_rounds.proofs.FinishLaws.{ok_both}
 use Rattle.expressway.proofs.ShapeLaws.{err_map}
@@ -19,14 +19,14 @@ no_steps a b k (suc n) new h e some = let less = some (omega arith) in absurd (o
 pub give_least-requires-clause-runs : goal.give_least-requires-clause-runs
 give_least-requires-clause-runs g c =
     let (e, told, answered, s, h) = c.requires.runs in
-    let (now, n, given, runs) = c.give_drawn.ensures.given e told answered s h in
+    let (now, n, given, runs, is) = c.give_drawn.ensures.given e told answered s h in
     (e, told, answered, now, runs)
 
 pub finish_drawn-requires : goal.finish_drawn-requires
 finish_drawn-requires g c =
     let (e, told, answered, s, h) = c.requires.runs in
-    let (mid, n, given, runs) = c.give_drawn.ensures.given e told answered s h in
-    let (now, m, more, all, waits) = c.in_ok-give_least.ensures.given e told answered mid runs in
+    let (mid, n, given, runs, is) = c.give_drawn.ensures.given e told answered s h in
+    let (now, m, more, all, waits, so) = c.in_ok-give_least.ensures.given e told answered mid runs in
     record { runs = (e, told, answered, now, all) }
 
 pub returns-in_err-give_drawn-clause-stopped : goal.returns-in_err-give_drawn-clause-stopped
@@ -34,7 +34,7 @@ returns-in_err-give_drawn-clause-stopped g c =
     let k = g.C.Crew in
     on_refusal c.from_residual.result
     (λ e told answered s h day first.
-    let (now, n, given, runs) = c.give_drawn.ensures.given e told answered s h in
+    let (now, n, given, runs, is) = c.give_drawn.ensures.given e told answered s h in
     subst (λ m. Stopped k.out k.number k.holds k.gave k.jobs told m c.args.run.now.floor.limits day c.give_drawn.new.run
     c.give_drawn.new.crew) (c.give_drawn.ensures.width)
     (subst (λ l. Stopped k.out k.number k.holds k.gave k.jobs told c.give_drawn.new.run.floor.inboxes.width l day
@@ -48,7 +48,7 @@ returns-in_err-give_least-clause-stopped g c =
     let k = g.C.Crew in
     on_refusal c.from_residual-in_err-give_least.result
     (λ e told answered s h day first.
-    let (mid, n, given, runs) = c.give_drawn.ensures.given e told answered s h in
+    let (mid, n, given, runs, is) = c.give_drawn.ensures.given e told answered s h in
     let (now, m, more, all) = c.in_err-give_least.ensures.refused e told answered mid runs in
     subst (λ m. Stopped k.out k.number k.holds k.gave k.jobs told m c.args.run.now.floor.limits day c.give_least.new.run
     c.give_least.new.crew) (c.give_least.ensures.width ∙ c.give_drawn.ensures.width)
@@ -66,10 +66,10 @@ returns-clause-worked g c =
     let two = c.give_least.ensures.width ∙ one in
     ok_both c.finish_drawn.result
     (λ came some e told answered s h.
-    let (first, a, given, runs) = c.give_drawn.ensures.given e told answered s h in
-    let (mid, b, more, all, waits) = c.in_ok-give_least.ensures.given e told answered first runs in
+    let (first, a, given, runs, is) = c.in_ok-give_drawn.ensures.given e told answered s h in
+    let (mid, b, more, all, waits, so) = c.in_ok-give_least.ensures.given e told answered first runs in
     let both = given_then w a b s first mid given (subst (λ n. IsGiven n b first mid) one more) in
-    let (now, d, moved, count, last) = came e told answered mid all in (
+    let (now, d, moved, count, last, backs) = came e told answered mid all in (
       now,
       (a + b) + d,
       moved_then w (a + b) d s mid now (moved_given w (a + b) s mid both) (subst (λ n. IsMoved n d mid now) two moved),
@@ -83,6 +83,12 @@ returns-clause-worked g c =
           (λ v m. all_home k.out k.number k.holds k.gave k.exact k.jobs k.answers e told answered c.give_least.new.run
           c.give_least.new.crew mid all empty v (subst (λ n. v < n) (sym two) m))
           (λ v m. waits empty v (subst (λ n. v < n) (sym c.requires.width) m)),
+      (
+        backs.0,
+        backs.1 ∙ ap (λ u. after_backs u backs.0)
+            (subst (λ n. mid ≡ given_least n c.args.width first) (one ∙ sym c.requires.width) so
+            ∙ ap (λ u. given_least c.args.width c.args.width u) is),
+      ),
     ))
     c.finish_drawn.ensures.came c.finish_drawn.ensures.some
 
@@ -91,8 +97,8 @@ returns-clause-stopped g c =
     let k = g.C.Crew in
     err_map c.finish_drawn.result
     (λ stopped e told answered s h day first.
-    let (mid, a, given, runs) = c.give_drawn.ensures.given e told answered s h in
-    let (now, b, more, all, waits) = c.in_ok-give_least.ensures.given e told answered mid runs in
+    let (mid, a, given, runs, is) = c.give_drawn.ensures.given e told answered s h in
+    let (now, b, more, all, waits, so) = c.in_ok-give_least.ensures.given e told answered mid runs in
     subst (λ m. Stopped k.out k.number k.holds k.gave k.jobs told m c.args.run.now.floor.limits day
     c.finish_drawn.new.run c.finish_drawn.new.crew) (c.give_least.ensures.width ∙ c.give_drawn.ensures.width)
     (subst (λ l. Stopped k.out k.number k.holds k.gave k.jobs told c.give_least.new.run.floor.inboxes.width l day

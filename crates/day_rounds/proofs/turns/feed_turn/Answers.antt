@@ -42,7 +42,7 @@ returns-clause-worked g c =
     ok_map c.work_turn.result
     (λ worked e told answered s h can.
     let fed = after_feeds w s these in
-    let (mid, j, moved, runs, idle) =
+    let (mid, j, moved, runs, idle, backs) =
     worked e told answered fed
     (fed_runs k.out k.number k.holds k.gave k.exact k.jobs k.answers e told answered c.args.run.now c.args.crew.now
     s h c.feed_these.new.run these v.tickets v.width v.limits (v.fed e s h.stands can)) in (
@@ -52,6 +52,7 @@ returns-clause-worked g c =
       runs,
       subst (λ m. j ≡ 0 → mark m fed ≡ length fed.fed)
           v.width idle,
+      backs,
     ))
     c.work_turn.ensures.worked
 

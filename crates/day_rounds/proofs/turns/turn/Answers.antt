@@ -7,7 +7,7 @@ use Rattle.expressway.specs.Results.{AreFirst}
 use Rattle.watermark.specs.Shares.{mark}
 use Rattle.watermark.specs.Steps.{after_settle}
 use Rattle.expressway.proofs.RunSteps.{on_refusal}
-use Rattle.day_rounds.specs.Runs.{Stopped}
+use Rattle.day_rounds.specs.Runs.{Stopped, settled_all}
 use Rattle.day_rounds.proofs.DrawnLaws.{in_any}
 use Rattle.day_rounds.proofs.FeedLaws.{fed_are}
 use Rattle.day_rounds.proofs.FrontLaws.{front_before}
@@ -29,7 +29,7 @@ settle_done-requires g c =
     let w = c.args.run.now.floor.inboxes.width in
     let these = c.args.these.now in
     let (e, told, answered, s, h, can, number, history, abreast) = c.requires.runs in
-    let (mid, n, moved, runs, idle) = c.in-Ok.ensures.worked e told answered s h can in (
+    let (mid, n, moved, runs, idle, backs) = c.in-Ok.ensures.worked e told answered s h can in (
       e,
       mid,
       runs.stands,
@@ -49,7 +49,7 @@ returns-clause-done g c =
     let f = c.args.run.now.floor in
     if_ok c.settle_done.result
     (λ n settled e told answered s h can number history.
-    let (mid, j, moved, runs, idle) = v.worked e told answered s h can in
+    let (mid, j, moved, runs, idle, backs) = v.worked e told answered s h can in
     let (is, stands, text, steps, abreast) = settled e mid runs.stands number history in (
       after_settle mid n,
       j,
@@ -61,6 +61,11 @@ returns-clause-done g c =
           (record { floor = c.settle_done.new.floor; tickets = run.tickets }) n refl c.settle_done.ensures.width
           c.settle_done.ensures.limits stands,
       abreast,
+      (
+        backs.0,
+        ap (λ m. after_settle mid m) (is ∙ ap (λ m. mark m mid) v.width)
+            ∙ ap (λ u. settled_all f.inboxes.width u) backs.1,
+      ),
     ))
     c.settle_done.ensures.settled
 
@@ -73,7 +78,7 @@ returns-clause-stopped g c =
     let crew = c.feed_turn.new.crew in
     on_refusal c.settle_done.result
     (λ e told answered s h can whole first.
-    let (mid, j, moved, runs, idle) = v.worked e told answered s h can in
+    let (mid, j, moved, runs, idle, backs) = v.worked e told answered s h can in
     subst (λ m. Stopped k.out k.number k.holds k.gave k.jobs told m c.args.run.now.floor.limits whole
     (record { floor = c.settle_done.new.floor; tickets = run.tickets }) crew) v.width
     (subst (λ l. Stopped k.out k.number k.holds k.gave k.jobs told run.floor.inboxes.width l whole
@@ -89,7 +94,7 @@ returns-clause-front g c =
     let these = c.args.these.now in
     if_fault c.settle_done.result
     (λ fault some e told answered s h can number history exact first had.
-    let (mid, j, moved, runs, idle) = v.worked e told answered s h can in
+    let (mid, j, moved, runs, idle, backs) = v.worked e told answered s h can in
     some e mid runs.stands number history (runs.right exact) (s.fed ++ these)
     ([], sym (moved.fed ∙ fed_are w s these) ∙ sym (append-nil mid.fed))
     (subst (Fit (s.fed ++ these)) (sym v.limits) can.fit) first

@@ -4,7 +4,7 @@ use Rattle.day_reading.specs.Ahead.{has_more}
 use Rattle.settling.specs.Answers.{history_of}
 use Rattle.watermark.specs.Shares.{start, mark}
 use Rattle.day_rounds.specs.Tasks.{out_at}
-use Rattle.day_rounds.specs.Drawn.{DrawsTurn, TurnMade, AreTurns}
+use Rattle.day_rounds.specs.Drawn.{DrawsTurn, TurnMade, AreTurns, after_turn}
 use Rattle.day_rounds.proofs.DayLaws.{on_start, on_next, on_gathers, cut_at}
 use Rattle.day_rounds.proofs.TurnedLaws.{some_done, less_left, less_by, tickets_are, given_few, no_ticket, start_mark}
 use Rattle.day_rounds.proofs.TurnedLaws.{must_more}
@@ -79,7 +79,7 @@ pending-pending-requires g c =
     let d = c.day.run.floor in
     let (e, told, answered, late, h, gathers, number, history, abreast) = c.requires.runs in
     let (s, on, marked, is, runs, even, waits, made) = inv.at e told answered late h gathers number history in
-    let (xs, now, j, given, turned, count, last, still, some, draws) =
+    let (xs, now, j, given, turned, count, last, still, some, draws, backs) =
     c.in-Ok.ensures.done e told answered late s runs
     (on_gathers f.limits d.limits inv.limits late e c.args.ahead.now c.day.ahead _ _ _ _ _ _ s on gathers) number
     (history ∙ ap history_of (sym inv.same)) in
@@ -108,11 +108,12 @@ day-preserved g c =
       keeper_sure = λ e. (v.keeper.sure (inv.keeper_sure e)).1;
       at = λ e told answered late h gathers number history.
           let (s, on, marked, is, runs, even, waits, made) = inv.at e told answered late h gathers number history in
-          let (xs, now, j, given, turned, count, last, still, some, draws) =
+          let (xs, now, j, given, turned, count, last, still, some, draws, backs) =
           v.done e told answered late s runs
           (on_gathers f.limits d.limits inv.limits late e c.args.ahead.now c.day.ahead _ _ _ _ _ _ s on gathers)
           number (history ∙ ap history_of (sym inv.same)) in
-          let t : TurnMade = record { before = s; generator = c.day.rng; more = has_more c.day.ahead; xs = xs } in (
+          let t : TurnMade =
+          record { before = s; generator = c.day.rng; more = has_more c.day.ahead; xs = xs; backs = backs.0 } in (
             now,
             on_next f.limits d.limits inv.limits late e c.args.ahead.now c.day.ahead c.next_turn.new.ahead _ _ _ _ _ _ _
                 _ _ s now xs on given turned.fed turned.text turned.steps,
@@ -128,6 +129,7 @@ day-preserved g c =
                     (λ l. DrawsTurn c.args.plan.now.width l.backlog s c.day.rng c.next_turn.new.rng xs
                     (has_more c.day.ahead) (has_more c.next_turn.new.ahead)) inv.limits draws,
                 turned.fed,
+                subst (λ l. now ≡ after_turn c.args.plan.now.width l.backlog t) inv.limits backs.1,
                 made.1,
               ),
             ),
@@ -145,7 +147,7 @@ day-smaller g c =
     let after = c.next_turn.new.run in
     let (e, told, answered, late, h, gathers, number, history, abreast) = c.requires.runs in
     let (s, on, marked, is, runs, even, waits, made) = inv.at e told answered late h gathers number history in
-    let (xs, now, j, given, turned, count, last, still, some, draws) =
+    let (xs, now, j, given, turned, count, last, still, some, draws, backs) =
     v.done e told answered late s runs
     (on_gathers f.limits d.limits inv.limits late e c.args.ahead.now c.day.ahead _ _ _ _ _ _ s on gathers) number
     (history ∙ ap history_of (sym inv.same)) in
@@ -202,7 +204,18 @@ returns-clause-done g c e told answered late h gathers number history =
     let (s, on, marked, is, runs, even, waits, made) =
     c.day.invariant.at e told answered late h gathers number history in
     let (left, rest) = c.goes_on.ensures.none c.day-test.false in
-    (s, on, omega (arith, waits, rest), is, runs)
+    let ended : has_more c.day.ahead ≡ false = sym c.more.ensures.exact ∙ left in (
+      s,
+      on,
+      omega (arith, waits, rest),
+      is,
+      runs,
+      (
+        made.0,
+        subst (AreTurns c.args.plan.now.width c.args.run.now.floor.limits.backlog c.args.rng.now made.0 s c.day.rng)
+            ended made.1,
+      ),
+    )
 
 pub returns-clause-turned : goal.returns-clause-turned
 returns-clause-turned g c e told answered late h gathers number history =

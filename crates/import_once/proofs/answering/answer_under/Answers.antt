@@ -16,6 +16,8 @@ use Rattle.import_once.proofs.FinishLaws.{tells_does, does_merges, stops_does, t
 use Rattle.import_once.proofs.FinishLaws.{tells_leaves, stops_leaves}
 use Rattle.import_once.specs.Runs.{HasStartedJobs}
 use Rattle.import_once.proofs.JobLaws.{started_all, started_first}
+use Rattle.import_once.specs.Planned.{StartsPlanned}
+use Rattle.import_once.proofs.JobLaws.{stops_unworked}
 use Rattle.import_once.proofs.answering.answer_under.Goals as goal
 
 pub returns-in-Ok-clause-does : goal.returns-in-Ok-clause-does
@@ -127,3 +129,13 @@ returns-in-Err-clause-leaves g c = λ bytes left.
     let rest = g.S.Source.left c.run_day.new.source in
     subst (λ (r : Outcome). LeavesRead r refused bytes rest) (sym c.stopped.ensures.is)
     (stops_leaves c.in-Err.fault refused bytes rest)
+
+pub returns-in-Ok-clause-planned : goal.returns-in-Ok-clause-planned
+returns-in-Ok-clause-planned g c = λ bytes left.
+    where_worked c.finish_answers.result _ (c.in-Ok.ensures.planned bytes left)
+
+pub returns-in-Err-clause-planned : goal.returns-in-Err-clause-planned
+returns-in-Err-clause-planned g c = λ bytes left.
+    subst (StartsPlanned c.args.plan.now c.args.limits.now.backlog (reads bytes c.args.limits.now c.args.late).tuples
+    (g.C.Crew.jobs c.args.crew.now) (g.C.Crew.jobs c.run_day.new.crew)) (sym c.stopped.ensures.is)
+    (stops_unworked c.in-Err.fault _)

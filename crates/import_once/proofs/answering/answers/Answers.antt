@@ -1,6 +1,6 @@
 use Rattle.std.proofs.Common.{◌≡◌, ◌∙◌, Some, Ok, Err}
 use Rattle.keeper.proofs.CallLaws.{reads_same, reads_ok}
-use Rattle.import_once.proofs.JobLaws.{refused_started}
+use Rattle.import_once.proofs.JobLaws.{refused_started, refused_planned}
 use Rattle.import_once.proofs.BlameLaws.{fails_next, fails_outcome, fails_only}
 use Rattle.import_once.proofs.answering.answers.Goals as goal
 
@@ -39,3 +39,7 @@ returns-in-Err-clause-asked_first g c = λ fails.
     let here : c.tariffs.result ≡ Err c.in-Err.fault = cc in
     fails_outcome c.tariffs.result c.in-Err.fault c.refused.result c.refused.ensures here
     (fails_next _ _ c.tariffs.result c.tariffs.ensures.planned fails)
+
+pub returns-in-Err-clause-planned : goal.returns-in-Err-clause-planned
+returns-in-Err-clause-planned g c = λ bytes left.
+    refused_planned _ _ _ _ _ c.in-Err.fault c.refused.result c.refused.ensures

@@ -13,3 +13,6 @@ returns-in-Err-clause-published g c =
 
 pub returns-in-Err-clause-jobs : goal.returns-in-Err-clause-jobs
 returns-in-Err-clause-jobs g c = λ bytes left. none_started _ _ _ _ _ tt
+
+pub returns-in-Err-clause-planned : goal.returns-in-Err-clause-planned
+returns-in-Err-clause-planned g c = λ bytes left. tt

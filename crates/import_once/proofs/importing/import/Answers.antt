@@ -5,7 +5,7 @@ use Rattle.keeper.specs.Office.{record_of}
 use Rattle.import_once.specs.Imports.{import_read, import_merged, unless_recorded, Does, Merges}
 use Rattle.import_once.proofs.FinishLaws.{kept_alone, kept_leaves}
 use Rattle.keeper.proofs.CallLaws.{reads_same, reads_ok}
-use Rattle.import_once.proofs.JobLaws.{refused_started, none_started, kept_unworked, refused_none, none_published}
+use Rattle.import_once.proofs.JobLaws.{refused_started, refused_planned, none_started, kept_unworked, refused_none, none_published}
 use Rattle.import_once.proofs.BlameLaws.{fails_next, fails_outcome, fails_only}
 use Rattle.import_once.proofs.importing.import.Goals as goal
 
@@ -92,3 +92,11 @@ returns-in-Err-clause-asked_first g c = λ fails.
     let here : c.day.result ≡ Err c.in-Err.fault = cc in
     fails_outcome c.day.result c.in-Err.fault c.refused.result c.refused.ensures here
     (fails_next _ _ c.day.result c.day.ensures.planned fails)
+
+pub returns-in-Ok-Some-clause-planned : goal.returns-in-Ok-Some-clause-planned
+returns-in-Ok-Some-clause-planned g c = λ bytes left.
+    kept_unworked c.compare.result _ c.compare.ensures.kept_day
+
+pub returns-in-Err-clause-planned : goal.returns-in-Err-clause-planned
+returns-in-Err-clause-planned g c = λ bytes left.
+    refused_planned _ _ _ _ _ c.in-Err.fault c.refused.result c.refused.ensures

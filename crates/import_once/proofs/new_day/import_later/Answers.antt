@@ -1,6 +1,6 @@
 use Rattle.std.proofs.Common.{◌≡◌, ◌∙◌, Some}
 use Rattle.keeper.proofs.CallLaws.{reads_same, reads_ok}
-use Rattle.import_once.proofs.JobLaws.{refused_started, refused_none}
+use Rattle.import_once.proofs.JobLaws.{refused_started, refused_planned, refused_none}
 use Rattle.import_once.proofs.new_day.import_later.Goals as goal
 
 pub returns-in-Ok-clause-merged : goal.returns-in-Ok-clause-merged
@@ -34,3 +34,7 @@ returns-in-Ok-clause-published_by g c = λ exact bytes was left posted.
 pub returns-in-Err-clause-published_by : goal.returns-in-Err-clause-published_by
 returns-in-Err-clause-published_by g c = λ exact bytes was left posted.
     refused_none _ _ _ was _ c.in-Err.fault c.refused.result c.refused.ensures posted
+
+pub returns-in-Err-clause-planned : goal.returns-in-Err-clause-planned
+returns-in-Err-clause-planned g c = λ bytes left.
+    refused_planned _ _ _ _ _ c.in-Err.fault c.refused.result c.refused.ensures

@@ -4,7 +4,7 @@ use Rattle.keeper.specs.Office.{last_day}
 use Rattle.import_once.specs.Imports.{DayAnswer, import_read, import_merged, Does, Merges}
 use Rattle.import_once.proofs.FinishLaws.{new_is_read}
 use Rattle.keeper.proofs.CallLaws.{reads_same, reads_ok}
-use Rattle.import_once.proofs.JobLaws.{refused_started, none_started, refused_none, none_published}
+use Rattle.import_once.proofs.JobLaws.{refused_started, refused_planned, none_started, refused_none, none_published}
 use Rattle.import_once.proofs.new_day.import_new.Goals as goal
 
 pub returns-else-last-number-clause-does : goal.returns-else-last-number-clause-does
@@ -74,3 +74,10 @@ returns-then-last-number-clause-published_by g c = λ exact bytes was left poste
 pub returns-in-Err-clause-published_by : goal.returns-in-Err-clause-published_by
 returns-in-Err-clause-published_by g c = λ exact bytes was left posted.
     refused_none _ _ _ was _ c.in-Err.fault c.refused.result c.refused.ensures posted
+
+pub returns-then-last-number-clause-planned : goal.returns-then-last-number-clause-planned
+returns-then-last-number-clause-planned g c = λ bytes left. tt
+
+pub returns-in-Err-clause-planned : goal.returns-in-Err-clause-planned
+returns-in-Err-clause-planned g c = λ bytes left.
+    refused_planned _ _ _ _ _ c.in-Err.fault c.refused.result c.refused.ensures

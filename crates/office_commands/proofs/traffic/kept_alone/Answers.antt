@@ -42,6 +42,7 @@ returns-in-Stored-clause-jobs g c =
     record {
       outcome = c.import.result;
       jobs = c.import.ensures.jobs file (ap (λ x. Some x) c.in_ok-source.ensures.left);
+      planned = c.import.ensures.planned file (ap (λ x. Some x) c.in_ok-source.ensures.left);
       whole = λ ok. subst WasWorked (sym c.in-Stored.is) tt;
     }
 
@@ -51,6 +52,7 @@ returns-in-NoMemory-clause-jobs g c =
     record {
       outcome = c.import.result;
       jobs = c.import.ensures.jobs file (ap (λ x. Some x) c.in_ok-source.ensures.left);
+      planned = c.import.ensures.planned file (ap (λ x. Some x) c.in_ok-source.ensures.left);
       whole = λ ok. absurd (cc ok);
     }
 

@@ -1,0 +1,51 @@
+-- The jobs that a plan starts.
+use Rattle.std.specs.Prelude.{ℕ, ◌≡◌, ◌≤◌, ◌<◌, ◌++◌, Bool, true, false, List, [], ◌∷◌, length, map, Option, Some, None}
+use Rattle.rand_pcg.specs.Lcg.{Lcg}
+use Rattle.draws.specs.Draws.{seeded}
+use Rattle.road_time.specs.declared.road.Tuple.{Tuple}
+use Rattle.expressway.specs.declared.job.Job.{Job}
+use Rattle.partition_workers.specs.Told.{CrewTold, WhereTold}
+use Rattle.partition_workers.specs.Callers.{ListsAll}
+use Rattle.road_time.specs.Tolls.{StretchTold}
+use Rattle.watermark.specs.Shares.{State, start}
+use Rattle.day_rounds.specs.Drawn.{TurnMade, AreTurns}
+use Rattle.day_rounds.specs.Runs.{start_of, after_feeds, given_all, after_backs, settled_all}
+
+-- a round that was made: the state before it, what it fed, and the jobs that came back
+pub record RoundMade : Type 0 where
+  pub before : State
+  pub xs : List Tuple
+  pub backs : List (ℕ × List (ℕ × StretchTold))
+
+-- the state after it: each worker was given its next job, in their order, and all is settled
+abbrev pub after_round : ℕ → RoundMade → State
+after_round width r =
+    settled_all width (after_backs (given_all (after_feeds width r.before r.xs) width) r.backs)
+
+-- whether tuples are left
+abbrev pub are_left : List Tuple → Bool
+are_left [] = false
+are_left (x ∷ xs) = true
+
+-- the rounds of a day since its start, the last one first: each feeds as many tuples as there is room for, or all that
+-- are left
+abbrev pub AreRounds : ℕ → ℕ → List RoundMade → State → Bool → Type 0
+AreRounds width backlog [] s more = s ≡ start
+AreRounds width backlog (r ∷ rounds) s more = (length r.xs ≤ backlog) × (length r.xs < backlog → more ≡ false)
+    × (s.fed ≡ r.before.fed ++ r.xs) × (s ≡ after_round width r) × AreRounds width backlog rounds r.before true
+
+-- a state is that after the rounds of a day, or after the turns that a plan's number draws, where it has one
+abbrev pub IsPlanned : Option ℕ → ℕ → ℕ → State → Type 0
+IsPlanned None width backlog now = (rounds : List RoundMade) × AreRounds width backlog rounds now false
+IsPlanned (Some number) width backlog now = (turns : List TurnMade) × (last : Lcg)
+    × AreTurns width backlog (seeded number) turns now last false
+
+-- the jobs that were started on a day are those of its plan, in the order of their starts, and are listed
+pub record HasPlannedJobs (turns : Option ℕ) (width backlog : ℕ) (day : List Tuple) (told now : Option CrewTold) : Type
+    0 where
+  pub last : State
+  pub planned : IsPlanned turns width backlog last
+  pub fed : last.fed ≡ day
+  pub since : List Job
+  pub are : map start_of since ≡ last.starts
+  pub listed : WhereTold (ListsAll since) told now
