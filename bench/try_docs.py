@@ -197,7 +197,7 @@ def passed_over(command, given):
         return not shutil.which("rt")
     if needs_kit(command):
         return not given.kit or command.startswith(GATE)
-    return not (given.serve or given.kit) and re.search(r"toll_serve 0|curl", command) is not None
+    return not (given.serve or given.kit) and re.search(r"toll_serve 0|out/toll_serve|curl", command) is not None
 
 
 def tried(page, name, given):
