@@ -13,6 +13,7 @@ system) and wall time in nanoseconds a line, both as multiples of `sha256sum`'s,
 """
 import argparse
 import csv
+import filecmp
 import os
 import pathlib
 import shutil
@@ -61,16 +62,16 @@ def make_plain(folder):
     return str(program), ", no database"
 
 
-def output_of(command, source):
-    """What a command writes in an empty folder."""
-    with tempfile.TemporaryDirectory() as room, open(source, "rb") as given:
-        return subprocess.run(command, stdin=given, stdout=subprocess.PIPE, cwd=room, check=True).stdout
-
-
 def check_same(ours, theirs, source):
-    """Ends the run where two commands write different bytes."""
-    if output_of(ours, source) != output_of(theirs, source):
-        sys.exit(f"{ours} and {theirs} differ on {source}")
+    """Ends the run where two commands write different bytes, each in an empty folder."""
+    with tempfile.TemporaryDirectory() as kept:
+        outs = []
+        for name, command in (("ours", ours), ("theirs", theirs)):
+            outs.append(os.path.join(kept, name))
+            with tempfile.TemporaryDirectory() as room, open(source, "rb") as given, open(outs[-1], "wb") as taken:
+                subprocess.run(command, stdin=given, stdout=taken, cwd=room, check=True)
+        if not filecmp.cmp(*outs, shallow=False):
+            sys.exit(f"{ours} and {theirs} differ on {source}")
 
 
 def measure(command, source):

@@ -28,11 +28,14 @@ TOP = pathlib.Path(__file__).resolve().parent.parent
 PAGES = ["README.md", "docs/USE.md", "docs/HTTP.md", "docs/FORMATS.md", "docs/PROOF.md", "docs/RULES.md"]
 MARK = "--- the end of a command ---"
 GATE = "rt ci"
-FIRST = 'mkdir -p "$OLD/office_of_page" && cp "$OLD"/crates/example_office/data/*.csv "$OLD/office_of_page" && cd "$OLD/office_of_page"'
+FIRST = 'mkdir "$OLD/room" && cp "$OLD"/crates/example_office/data/*.csv "$OLD/room" && cd "$OLD/room"'
 DAY = "# stored day 100 tuples 1137 notices 341 total 16416"
 
 # what a command prints of which the page says only what it does
-PRINTS = {"(cd crates/toll_office && rt run -- answers 100 < ../example_office/data/day.csv)": "..# answered day 100 tuples 1137 notices 341.."}
+PRINTS = {
+    "(cd crates/toll_office && rt run -- answers 100 < ../example_office/data/day.csv)":
+        "..# answered day 100 tuples 1137 notices 341..",
+}
 
 # what comes before a page's commands: README shows a run before it says how to build. $OLD is the top of the copy
 BEGIN = {
@@ -48,12 +51,13 @@ INLINE = {
     "rt ci": None, "rt try": None, "rt run": None, "rt check": None, "rt doc": None,
     "rt version": [("rt version | grep -c rattle-kit-", "1")],
     "(cd crates/toll_serve && rt run)": [
-        ('(cd "$OLD/crates/toll_serve" && rt run > "$OLD/serve.out"); echo $?; grep -v "^rt: " "$OLD/serve.out" | grep -c "^#"', "1\n0")],
+        ('(cd "$OLD/crates/toll_serve" && rt run > "$OLD/serve.out"); echo $?; grep -c "^#" "$OLD/serve.out"', "..1\n0"),
+        ('test -x "$OLD/crates/toll_serve/out/toll_serve" && echo built', "built")],
     "toll_serve PORT": None, "toll_serve PORT [--sessions N] [--readers N]": None,
     "man -l docs/toll_office.1": [('man -l "$OLD/docs/toll_office.1" | grep -m 1 -c "toll_office import DAY"', "1")],
     "source docs/toll_office.bash": [
-        ('source "$OLD/docs/toll_office.bash" && COMP_WORDS=(toll_office va) COMP_CWORD=1 && _toll_office && echo "${COMPREPLY[@]}"',
-         "validate")],
+        ('source "$OLD/docs/toll_office.bash" && COMP_WORDS=(toll_office va) COMP_CWORD=1', ""),
+        ('_toll_office && echo "${COMPREPLY[@]}"', "validate")],
     "set -o pipefail": [("(set -o pipefail; toll_office export 99 | tail -n 1; echo $?)", "# no day 99\n3")],
     "pv day.csv | toll_office import 100": [
         ("(if command -v pv > /dev/null; then pv -q day.csv; else cat day.csv; fi) | toll_office import 100 | tail -n 1",
@@ -63,24 +67,27 @@ INLINE = {
     "sed -n Np day.csv": [("printf '%s\\n' '' 'x,y' > bad.csv; toll_office answers 101 < bad.csv", "# refused line 2 fields 2"),
                           ("sed -n 2p bad.csv", "x,y")],
     "bench/new_folder.sh PROGRAM OLD NEW BASE": [
-        ('rm -rf kept && mkdir kept && toll_office generate 5 --minutes 5 > kept/day.csv; (cd kept && for d in $(seq 131 199); do '
-         'toll_office import $d < day.csv > /dev/null || echo $d; done; toll_office tariff 3 40 45 3)',
+        ("mkdir kept && toll_office generate 5 --minutes 5 > kept/day.csv", ""),
+        ("(cd kept && for d in $(seq 131 199); do toll_office import $d < day.csv > /dev/null || echo $d; done)", ""),
+        ("(cd kept && toll_office tariff 3 40 45 3)",
          "# tariff xway 3 crowd 40 speed 45 factor 3"),
-        ('rm -rf new && "$OLD/bench/new_folder.sh" "$(command -v toll_office)" kept new 200', "# past base 200 rows .."),
+        ('"$OLD/bench/new_folder.sh" "$(command -v toll_office)" kept new 200', "# past base 200 rows .."),
         ("cd new && toll_office tariffs && cd ..", "3,40,45,3")],
     "git log": [("git -C \"$SOURCE\" log -1 --format=%ae | grep -c @", "1")],
     "git rev-parse HEAD": [("git -C \"$SOURCE\" rev-parse HEAD | tr -d '\\n' | wc -c", "40")],
     "curl --data-binary @FILE": None,
-    "import 100 < day.csv | head": [
-        ("toll_office generate 1 > long.csv; toll_office import 200 < long.csv | head -n 1 > /dev/null; echo ${PIPESTATUS[0]}", "5"),
-        ("toll_office day 200", "# no day 200"),
-        ("toll_office import 200 < long.csv | tail -n 1", "# stored day 200 ..")],
     "head -c": [
         ("toll_office import 100 < day.csv | tail -n 1", DAY),
-        ("cat day.csv day.csv > twice_as_long.csv; toll_office import 100 < twice_as_long.csv | cut -d ' ' -f 7 > found", ""),
+        ("cat day.csv day.csv > twice_as_long.csv; toll_office import 100 < twice_as_long.csv | cut -d ' ' -f 8 > found", ""),
         ('head -c $(($(wc -c < day.csv) + 1)) twice_as_long.csv | sha256sum | cut -c-64 | diff - found', "")],
+    "import 100 < day.csv | head": [
+        ("toll_office generate 1 > long.csv", ""),
+        ("toll_office import 200 < long.csv | head -n 1 > /dev/null; echo ${PIPESTATUS[0]}", "5"),
+        ("toll_office day 200", "# no day 200"),
+        ("toll_office import 200 < long.csv | tail -n 1", "# stored day 200 ..")],
 }
-PROGRAMS = r"(toll_office|toll_serve|rt|curl|man|source|set|sed|head|tail|pv|git|sqlite3|sha256sum|python3|bench/\w+\.(sh|py)|\(?cd|cp)"
+PROGRAMS = (r"(toll_office|toll_serve|rt|curl|man|source|set|sed|head|tail|pv|git|sqlite3|sha256sum|python3|"
+            r"bench/\w+\.(sh|py)|\(?cd|cp)")
 
 
 def fits(found, wanted):
@@ -190,7 +197,7 @@ def passed_over(command, given):
         return not shutil.which("rt")
     if needs_kit(command):
         return not given.kit or command.startswith(GATE)
-    return not (given.serve or given.kit) and re.search(r"toll_serve (8080|0)|curl|\bask\b", command) is not None
+    return not (given.serve or given.kit) and re.search(r"toll_serve 0|out/toll_serve|curl", command) is not None
 
 
 def tried(page, name, given):
@@ -206,8 +213,10 @@ def tried(page, name, given):
     with tempfile.TemporaryDirectory() as folder:
         top = room(pathlib.Path(folder), given.office, given.serve, given.kit)
         shell = Shell(top)
+        beside = False
         for at, command, wanted in todo:
-            if passed_over(command, given):
+            beside = command.startswith("toll_serve 8080") or beside and command != "wait"
+            if passed_over(command, given) or beside and not (given.serve or given.kit):
                 print(f"{page.name}:{at}: not run: {command}")
                 continue
             run += 1
