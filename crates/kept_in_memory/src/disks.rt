@@ -1,7 +1,7 @@
 // Disks in memory, and databases on them.
 use keeper::KeepFault;
 use sqlite::{Connection, FileStore, Files};
-use sqlite_disk::{Disk, Fuse, Memory};
+use sqlite_disk::{Crash, Disk, Fuse, Memory};
 use sqlite_pager::Options;
 use std::alloc::Global;
 
@@ -10,13 +10,33 @@ pub fn open<D: Disk + Drop>(
     alloc: Global,
     disks: Files<D>,
 ) -> Result<Connection<FileStore<D>>, Files<D>> {
+    open_with(alloc, disks, Options::new(1))
+}
+
+/// The same, where the log is copied into the file once it has so many pages.
+pub fn open_copying<D: Disk + Drop>(
+    alloc: Global,
+    disks: Files<D>,
+    pages: usize,
+) -> Result<Connection<FileStore<D>>, Files<D>> {
+    let mut options = Options::new(1);
+    options.checkpoint_frames = pages;
+    open_with(alloc, disks, options)
+}
+
+/// The same with options.
+fn open_with<D: Disk + Drop>(
+    alloc: Global,
+    disks: Files<D>,
+    options: Options,
+) -> Result<Connection<FileStore<D>>, Files<D>> {
     if !disks.log.may_be_used() {
         return Err(disks);
     }
     if !disks.db.may_be_used() {
         return Err(disks);
     }
-    match Connection::open_files(alloc, disks, Options::new(1)) {
+    match Connection::open_files(alloc, disks, options) {
         Ok(conn) => Ok(conn),
         Err((_, left)) => Err(left.into_files()),
     }
@@ -37,6 +57,9 @@ pub trait Stopping: Disk + Drop {
 
     /// What it holds.
     fn held(&self) -> &Memory;
+
+    /// Loses what was not synced.
+    fn lose(&mut self);
 }
 
 impl Stopping for Fuse<Memory> {
@@ -46,6 +69,10 @@ impl Stopping for Fuse<Memory> {
 
     fn held(&self) -> &Memory {
         self.inner()
+    }
+
+    fn lose(&mut self) {
+        self.crash();
     }
 }
 
@@ -59,8 +86,13 @@ pub fn empty_disks<D: Stopping>(alloc: Global) -> Files<D> {
 
 /// A disk with the bytes of another.
 fn copy(alloc: Global, from: &Memory) -> Result<Memory, KeepFault> {
+    with_bytes(alloc, from.bytes())
+}
+
+/// A disk with these bytes, which are synced.
+pub fn with_bytes(alloc: Global, bytes: &[u8]) -> Result<Memory, KeepFault> {
     let mut disk = Memory::new(alloc);
-    if disk.write_at(0, from.bytes()).is_err() {
+    if disk.write_at(0, bytes).is_err() {
         return Err(KeepFault::NoMemory);
     }
     if disk.sync().is_err() {
@@ -81,5 +113,13 @@ pub fn copied<D: Stopping>(
     Ok(Files {
         log: D::over(log, of_log),
         db: D::over(db, of_file),
+    })
+}
+
+/// What disks hold now.
+pub fn held_by<D: Stopping>(alloc: Global, disks: &Files<D>) -> Result<Files<Memory>, KeepFault> {
+    Ok(Files {
+        log: copy(alloc, disks.log.held())?,
+        db: copy(alloc, disks.db.held())?,
     })
 }

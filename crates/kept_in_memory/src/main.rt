@@ -6,9 +6,12 @@
 //! is kept, and whether each run left nothing of the day or all of it, and all of it where it was told as put.
 #![tactic(auto)]
 
+mod changes;
 mod days;
 mod disks;
+mod losses;
 mod old;
+mod power;
 mod same;
 mod stops;
 mod tables;
@@ -51,5 +54,6 @@ fn over_memory(rt: HostRuntime) -> io::Result<()> {
 
 fn main(rt: HostRuntime) -> io::Result<()> {
     over_memory(rt)?;
-    stops::both_stop::<Fuse<Memory>>(rt)
+    stops::both_stop::<Fuse<Memory>>(rt)?;
+    power::power_is_lost::<Fuse<Memory>>(rt)
 }

@@ -21,7 +21,7 @@ INSERT INTO spent VALUES (99, 7, 0, 5), (31, 7, 0, 28);
 INSERT INTO past VALUES (1, 100, x'e3b0c44298fc1c149afbf4c8996fb92427ae41e4649b934ca495991b7852b855', 18, 2)";
 
 /// A connection to a database without tables, once it has those.
-fn with_old<S: Steady>(conn: Connection<S>) -> Result<Connection<S>, KeepFault> {
+pub fn with_old<S: Steady>(conn: Connection<S>) -> Result<Connection<S>, KeepFault> {
     let mut conn = conn;
     match conn.execute_batch(OLD) {
         Ok(()) => Ok(conn),
@@ -30,7 +30,7 @@ fn with_old<S: Steady>(conn: Connection<S>) -> Result<Connection<S>, KeepFault> 
 }
 
 /// Whether a keeper has day 100 under the seal of no tariffs.
-fn has_day<K: Keeper>(keeper: &mut K) -> Result<bool, KeepFault> {
+pub fn has_day<K: Keeper>(keeper: &mut K) -> Result<bool, KeepFault> {
     let digest = Digester::new().finish();
     let wanted = DayRecord {
         day: 100,
@@ -46,7 +46,7 @@ fn has_day<K: Keeper>(keeper: &mut K) -> Result<bool, KeepFault> {
 }
 
 /// Whether a keeper has the history, and no tariff.
-fn has_history<K: Keeper>(keeper: &mut K) -> Result<bool, KeepFault> {
+pub fn has_history<K: Keeper>(keeper: &mut K) -> Result<bool, KeepFault> {
     let digest = Digester::new().finish();
     let past = keeper.past()? == Some(history(digest));
     let rows = keeper.rows(0, 100)?.as_slice() == [row(31, 28), row(99, 5)].as_slice();

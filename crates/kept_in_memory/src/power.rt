@@ -1,0 +1,143 @@
+// Changes in whose midst the power is lost.
+use crate::changes::{Change, Which, before, changed, found};
+use crate::disks::{Stopping, copied, empty_disks, held_by, open, open_copying, shut};
+use crate::losses::{LOSSES, disks_left};
+use keeper::KeepFault;
+use keeper_proof::{ProvedKeeper, Steady};
+use sqlite::{Connection, Files};
+use std::alloc::Global;
+use std::io;
+use std::rt::HostRuntime;
+
+/// How many losses left the office before, and how many the one after.
+#[derive(Clone, Copy, Debug, PartialEq, Eq)]
+struct Tally {
+    before: u64,
+    after: u64,
+}
+
+/// Closed disks whose database is as it is before a change.
+fn disks_before<D: Stopping>(alloc: Global, change: Change) -> Result<Files<D>, KeepFault> {
+    let Ok(conn) = open(alloc, empty_disks(alloc)) else {
+        return Err(KeepFault::Failed);
+    };
+    match shut(before(alloc, change, conn)?) {
+        (true, disks) => Ok(disks),
+        _ => Err(KeepFault::Failed),
+    }
+}
+
+/// Makes a change over disks, and closes them; whether no call failed, and the disks then.
+fn change_over<D: Stopping>(
+    alloc: Global,
+    change: Change,
+    pages: usize,
+    disks: Files<D>,
+) -> (bool, Files<D>) {
+    let conn = match open_copying(alloc, disks, pages) {
+        Ok(conn) => conn,
+        Err(left) => return (false, left),
+    };
+    let (done, conn) = changed(alloc, change, conn);
+    let (closed, left) = shut(conn);
+    (done && closed, left)
+}
+
+/// Which office a database holds.
+fn found_in<S: Steady>(
+    alloc: Global,
+    change: Change,
+    conn: Connection<S>,
+) -> Result<Which, KeepFault> {
+    let mut keeper = ProvedKeeper::adopt(alloc, conn);
+    found(&mut keeper, change)
+}
+
+/// Which office the next open finds on disks.
+fn found_on<D: Stopping>(
+    alloc: Global,
+    change: Change,
+    disks: Files<D>,
+) -> Result<Which, KeepFault> {
+    let Ok(conn) = open(alloc, disks) else {
+        return Ok(Which::Neither);
+    };
+    found_in(alloc, change, conn)
+}
+
+/// Counts what each loss leaves of disks; none where one leaves neither office.
+fn lose<D: Stopping>(
+    alloc: Global,
+    change: Change,
+    disks: Files<D>,
+    tally: Tally,
+) -> Result<Option<Tally>, KeepFault> {
+    let written = held_by(alloc, &disks)?;
+    let mut stopped = disks;
+    stopped.log.lose();
+    stopped.db.lose();
+    let synced = held_by(alloc, &stopped)?;
+    let mut sum = tally;
+    for loss in LOSSES {
+        let left = disks_left::<D>(alloc, loss, &written, &synced)?;
+        match found_on(alloc, change, left)? {
+            Which::Before => sum.before = sum.before.saturating_add(1),
+            Which::After => sum.after = sum.after.saturating_add(1),
+            Which::Neither => return Ok(None),
+        }
+    }
+    Ok(Some(sum))
+}
+
+/// How many runs stopped where a disk does so at each of its calls, how many losses left which office, and whether each
+/// left one of them. The calls of the log are counted, or those of the file.
+fn stops<D: Stopping>(
+    alloc: Global,
+    change: Change,
+    pages: usize,
+    of_log: bool,
+) -> Result<(u64, Tally, bool), KeepFault> {
+    let disks = disks_before::<D>(alloc, change)?;
+    let mut tally = Tally {
+        before: 0,
+        after: 0,
+    };
+    for calls in 0..10_000u64 {
+        let run = if of_log {
+            copied(alloc, &disks, calls, u64::MAX)?
+        } else {
+            copied(alloc, &disks, u64::MAX, calls)?
+        };
+        let (done, left) = change_over(alloc, change, pages, run);
+        let Some(sum) = lose(alloc, change, left, tally)? else {
+            return Ok((calls, tally, false));
+        };
+        tally = sum;
+        if done {
+            return Ok((calls, tally, true));
+        }
+    }
+    Err(KeepFault::Failed)
+}
+
+/// A line for a change of which the log stops at each call, and one where the file does.
+fn tell<D: Stopping>(rt: HostRuntime, change: Change, pages: usize) -> io::Result<()> {
+    let log = stops::<D>(rt.alloc(), change, pages, true);
+    println!(rt; "power is lost, {change:?}, the log of {pages} pages: {log:?}")?;
+    let file = stops::<D>(rt.alloc(), change, pages, false);
+    println!(rt; "power is lost, {change:?}, the file beside {pages} pages: {file:?}")
+}
+
+/// Lines for each change, and for a day whose log is copied within its put.
+pub fn power_is_lost<D: Stopping>(rt: HostRuntime) -> io::Result<()> {
+    for change in [
+        Change::Tables,
+        Change::TakenOver,
+        Change::History,
+        Change::Day,
+        Change::Tariff,
+    ] {
+        tell::<D>(rt, change, 1000)?;
+    }
+    tell::<D>(rt, Change::Day, 1)
+}
