@@ -1,0 +1,20 @@
+-- How long a connection is waited for, in nanoseconds.
+use Rattle.std.specs.Prelude.{ℕ, ◌-◌, ◌*◌, ◌^◌}
+use Rattle.std.specs.Duration.{as_nanos}
+use Rattle.waiting_room.specs.declared.patience.Patience.{Patience}
+
+-- what a connection has for its head: 10 seconds
+abbrev pub head_time : ℕ
+head_time = 10 * 10 ^ 9
+
+-- what a connection has for each portion of 64 KiB: 30 seconds
+abbrev pub portion_time : ℕ
+portion_time = 30 * 10 ^ 9
+
+-- the bytes of a portion
+abbrev pub portion : ℕ
+portion = 65536
+
+-- what is left for the portion that comes
+abbrev pub left_of : Patience → ℕ
+left_of p = portion_time - as_nanos p.waited
