@@ -7,7 +7,7 @@ PROGRAM is the executable `toll_serve`. The server runs in a new folder, on a fr
 path and every refusal, with the whole answer; refused requests with bodies that nobody reads; requests as a page of the web
 sends them; a day of so many lines, posted while four clients read the live board; so many kept days one after another; a
 slow client and a silent one beside three that work; a thousand silent ones, and fifty whose heads come a byte a second; more
-connections than there are file handles; a POST whose body comes a byte a second, and one whose body is held
+connections than there are file handles; POSTs in line behind one; a POST whose body comes a byte a second, and one whose body is held
 back, beside clients that ask for what is kept; clients that vanish; a kill -9 at moments of a POST. The server then ends by
 its sessions, and Python's `sqlite3` reads what it kept. The script ends with status 1 at the first answer that is not the
 expected one, or that comes late.
@@ -481,13 +481,13 @@ def try_trickle(server):
 class Posts(threading.Thread):
     """Posts a day that is passed."""
 
-    def __init__(self, server):
+    def __init__(self, server, day=99):
         super().__init__()
-        self.server, self.answer, self.took = server, None, 0.0
+        self.server, self.day, self.answer, self.took = server, day, None, 0.0
 
     def run(self):
         begin = time.monotonic()
-        self.answer = self.server.ask("POST", "/days/99", b"")
+        self.answer = self.server.ask("POST", f"/days/{self.day}", b"")
         self.took = time.monotonic() - begin
 
 
@@ -577,6 +577,34 @@ def try_handles(program, folder):
     server.end()
 
 
+def try_line(program, folder):
+    """One reader: ten POSTs wait behind one whose body is held back, two of whose clients vanish, beside clients that ask."""
+    server = Server(program, folder, 3_000, readers=1)
+    expect("the first day", server.ask("POST", "/days/10", b"")[0], 200)
+    wire = server.connect()
+    wire.sendall(b"POST /days/11 HTTP/1.1\r\nContent-Length: %d\r\n\r\n" % len(LATE) + LATE[:-1])
+    time.sleep(0.2)
+    line = [Posts(server, 9) for _ in range(10)]
+    for post in line:
+        post.start()
+    gone = [server.connect() for _ in range(2)]
+    for each in gone:
+        each.sendall(b"POST /days/12 HTTP/1.1\r\nContent-Length: 9\r\n\r\n")
+        each.close()
+    answers, most = slowest(work(server, ["/live", "/days/10", "/spent/10/0/1"], 3))
+    wire.sendall(LATE[-1:])
+    expect("the POST that was held", all_of(wire).split(b"\r\n")[0], b"HTTP/1.1 422 Unprocessable Entity")
+    wire.close()
+    begin = time.monotonic()
+    for post in line:
+        post.join()
+    expect("the POSTs in line", {post.answer for post in line}, {(409, "Conflict", '{"error":"passed","last":10}')})
+    expect("the day of those that vanished", server.ask("GET", "/days/12")[0], 404)
+    print(f"one reader, a POST that is held back and ten behind it: {answers} answers meanwhile, the slowest {most:.1f} ms;"
+          f" the ten were answered within {time.monotonic() - begin:.2f} s after it")
+    server.end()
+
+
 def try_kept(folder, day):
     """What was kept, by another reader of the file: once the server has ended, the file alone has all."""
     alone = tempfile.mkdtemp()
@@ -609,7 +637,7 @@ def main():
     own = tempfile.mkdtemp()
     try_bodies(program, own)
     shutil.rmtree(own)
-    for attempt in (try_silent, try_handles):
+    for attempt in (try_silent, try_handles, try_line):
         own = tempfile.mkdtemp()
         attempt(program, own)
         shutil.rmtree(own)

@@ -122,12 +122,7 @@ impl<R: Wait + Copy + Drop + Send + Sync> Door for TcpDoor<R> {
 
     ghost accepted = { accepted_at };
 
-    fn open(
-        &mut self,
-        alloc: Global,
-        port: u16,
-        ears: u8,
-    ) -> Result<Ears<TcpEar<R>>, DoorFault>
+    fn open(&mut self, alloc: Global, port: u16, ears: u8) -> Result<Ears<TcpEar<R>>, DoorFault>
         requires some { 1 ≤ ears }
         requires few { ears ≤ 64 }
         ensures count { IfOk result (λ opened. length opened ≡ ears) }

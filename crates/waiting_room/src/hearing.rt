@@ -1,4 +1,5 @@
 // What happens to connections in their seats.
+use crate::pass::may_leave;
 use crate::seat::Seat;
 use mio::Events;
 use std::time::Instant;
@@ -35,13 +36,13 @@ fn is_before(since: Instant, other: Option<Instant>) -> bool {
     }
 }
 
-/// The seat of the connection that is to wait no more and has waited longest.
-pub(crate) fn first_called(seats: &[Option<Seat>]) -> Option<usize> {
+/// The seat of the connection that has waited longest of those that may leave.
+pub(crate) fn first_called(seats: &[Option<Seat>], posting: bool) -> Option<usize> {
     let mut first = None;
     let mut oldest = None;
     for (at, place) in seats.iter().enumerate() {
         if let Some(seat) = place {
-            if seat.called && is_before(seat.since, oldest) {
+            if may_leave(seat, posting) && is_before(seat.since, oldest) {
                 first = Some(at);
                 oldest = Some(seat.since);
             }

@@ -1,5 +1,6 @@
 // Where connections wait for their head.
 use crate::hearing::{first_called, hear_ready, is_empty, judge_all};
+use crate::pass::{is_out, pass_of};
 use crate::room_link::RoomLink;
 use crate::seat::Seat;
 use crate::seating::{Gate, fill};
@@ -10,6 +11,8 @@ use std::alloc::{AllocError, Global};
 use std::io;
 use std::net::{self, SocketAddr};
 use std::rt::HostRuntime;
+use std::sync::Arc;
+use std::sync::atomic::AtomicBool;
 use std::time::{Duration, Instant};
 
 /// How many connections wait at once.
@@ -38,6 +41,7 @@ pub struct WaitingRoom {
     poll: Poll,
     events: Events,
     seats: Vec<Option<Seat>>,
+    posting: Arc<AtomicBool, Global>,
 }
 
 /// Seats of nobody.
@@ -76,6 +80,9 @@ impl WaitingRoom {
         let Ok(events) = Events::with_capacity(alloc, EVENTS) else {
             return Err(RoomFault::NoMemory);
         };
+        let Ok(posting) = Arc::new(alloc, AtomicBool::new(false)) else {
+            return Err(RoomFault::NoMemory);
+        };
         let Ok((listener, poll)) = listen(&rt, port) else {
             return Err(RoomFault::Failed);
         };
@@ -85,6 +92,7 @@ impl WaitingRoom {
             poll,
             events,
             seats,
+            posting,
         })
     }
 
@@ -96,9 +104,9 @@ impl WaitingRoom {
         }
     }
 
-    /// Takes the connection that is to wait no more and has waited longest.
+    /// Takes the connection that has waited longest of those that may leave. A POST may leave while no other is out.
     fn take(&mut self) -> Option<RoomLink> {
-        let at = first_called(self.seats.as_slice())?;
+        let at = first_called(self.seats.as_slice(), is_out(&self.posting))?;
         let seat = self.seats.get_mut(at)?.take()?;
         let Seat {
             stream,
@@ -108,8 +116,9 @@ impl WaitingRoom {
             late,
         } = seat;
         let mut stream = stream;
+        let pass = pass_of(&self.posting, held.as_slice());
         let _ = self.poll.registry().deregister(&mut stream);
-        Some(RoomLink::new(self.rt, net::TcpStream::from(stream), held, late))
+        Some(RoomLink::new(self.rt, net::TcpStream::from(stream), held, late, pass))
     }
 
     /// Waits for what connections send, and hears it.
@@ -124,7 +133,8 @@ impl WaitingRoom {
         Ok(())
     }
 
-    /// Waits for the next connection whose head is whole, or that ended, or whose time is over. It fails where the
+    /// Waits for the next connection whose head is whole, or that ended, or whose time is over, and gives it; a POST
+    /// while no other is out. It fails where the
     /// listener cannot hear any more.
     pub fn next(&mut self, alloc: Global) -> Result<RoomLink, Failed> {
         for _ in 0..u64::MAX {

@@ -4,6 +4,7 @@ ghost use Rattle.std.specs.Io.{ReadsAtMost};
 ghost use Rattle.road_io.specs.Portions.{AnyPart};
 ghost use Rattle.road_io.specs.Rooms.{Untold};
 
+use crate::pass::Pass;
 use crate::patience::{PORTION_SECONDS, Patience};
 use road_io::{Failed, Link, StreamLink};
 use std::io::{self, ErrorKind, Read, Write};
@@ -12,7 +13,7 @@ use std::rt::HostRuntime;
 use std::time::{Duration, Instant};
 
 /// A connection that waited for its head: what it sent meanwhile is read first. Reads then wait for it 30 seconds for
-/// each 64 KiB, and a write as long.
+/// each 64 KiB, and a write as long. A POST is out until it is finished or let go.
 #[derive(Drop)]
 pub struct RoomLink {
     rt: HostRuntime,
@@ -21,12 +22,19 @@ pub struct RoomLink {
     at: usize,
     patience: Patience,
     late: bool,
+    pass: Option<Pass>,
     faults: u64,
 }
 
 impl RoomLink {
     /// Of a late connection nothing is read but what it sent.
-    pub(crate) fn new(rt: HostRuntime, stream: TcpStream, front: Vec<u8>, late: bool) -> RoomLink {
+    pub(crate) fn new(
+        rt: HostRuntime,
+        stream: TcpStream,
+        front: Vec<u8>,
+        late: bool,
+        pass: Option<Pass>,
+    ) -> RoomLink {
         let _ = stream.set_nonblocking(false);
         let _ = stream.set_write_timeout(Some(Duration::from_secs(PORTION_SECONDS)));
         RoomLink {
@@ -36,6 +44,7 @@ impl RoomLink {
             at: 0,
             patience: Patience::whole(),
             late,
+            pass,
             faults: 0,
         }
     }
@@ -119,6 +128,7 @@ impl Link for RoomLink {
     }
 
     fn finish(&mut self) {
+        self.pass = None;
         if self.faults == 0 {
             if let Some(stream) = self.stream.take() {
                 StreamLink::new(self.rt, stream).finish();

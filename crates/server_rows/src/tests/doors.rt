@@ -143,8 +143,8 @@ fn hear_one_another<R: Wait>(client: &mut TcpStream, ear: &mut TcpEar<R>) -> io:
     };
     let mut line = line;
     let mut asked = [0u8; 32];
-    let came =
-        matches!(line.read(&mut asked), Ok(18)) && asked.starts_with(b"GET / HTTP/1.1\r\n\r\n");
+    let came = matches!(line.read(&mut asked), Ok(18))
+        && asked.starts_with(b"GET / HTTP/1.1\r\n\r\n");
     let went = line.write(b"told").is_ok();
     let mut told = [0u8; 4];
     client.read_exact(&mut told)?;
