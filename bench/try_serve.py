@@ -580,26 +580,26 @@ def try_handles(program, folder):
 def try_line(program, folder):
     """One reader: ten POSTs wait behind one whose body is held back, two of whose clients vanish, beside clients that ask."""
     server = Server(program, folder, 3_000, readers=1)
-    expect("the first day", server.ask("POST", "/days/10", b"")[0], 200)
+    expect("the first day", server.ask("POST", "/days/100", b"")[0], 200)
     wire = server.connect()
-    wire.sendall(b"POST /days/11 HTTP/1.1\r\nContent-Length: %d\r\n\r\n" % len(LATE) + LATE[:-1])
+    wire.sendall(b"POST /days/101 HTTP/1.1\r\nContent-Length: %d\r\n\r\n" % len(LATE) + LATE[:-1])
     time.sleep(0.2)
-    line = [Posts(server, 9) for _ in range(10)]
+    line = [Posts(server, 99) for _ in range(10)]
     for post in line:
         post.start()
     gone = [server.connect() for _ in range(2)]
     for each in gone:
-        each.sendall(b"POST /days/12 HTTP/1.1\r\nContent-Length: 9\r\n\r\n")
+        each.sendall(b"POST /days/102 HTTP/1.1\r\nContent-Length: 9\r\n\r\n")
         each.close()
-    answers, most = slowest(work(server, ["/live", "/days/10", "/spent/10/0/1"], 3))
+    answers, most = slowest(work(server, ["/live", "/days/100", "/spent/100/0/1"], 3))
     wire.sendall(LATE[-1:])
     expect("the POST that was held", all_of(wire).split(b"\r\n")[0], b"HTTP/1.1 422 Unprocessable Entity")
     wire.close()
     begin = time.monotonic()
     for post in line:
         post.join()
-    expect("the POSTs in line", {post.answer for post in line}, {(409, "Conflict", '{"error":"passed","last":10}')})
-    expect("the day of those that vanished", server.ask("GET", "/days/12")[0], 404)
+    expect("the POSTs in line", {post.answer for post in line}, {(409, "Conflict", '{"error":"passed","last":100}')})
+    expect("the day of those that vanished", server.ask("GET", "/days/102")[0], 404)
     print(f"one reader, a POST that is held back and ten behind it: {answers} answers meanwhile, the slowest {most:.1f} ms;"
           f" the ten were answered within {time.monotonic() - begin:.2f} s after it")
     server.end()
