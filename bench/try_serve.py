@@ -6,7 +6,8 @@
 PROGRAM is the executable `toll_serve`. The server runs in a new folder, on a free port of this machine. Asked are: every
 path and every refusal, with the whole answer; refused requests with bodies that nobody reads; requests as a page of the web
 sends them; a day of so many lines, posted while four clients read the live board; so many kept days one after another; a
-slow client and a silent one beside three that work; a POST whose body comes a byte a second, and one whose body is held
+slow client and a silent one beside three that work; a thousand silent ones, and fifty whose heads come a byte a second; more
+connections than there are file handles; POSTs in line behind one; a POST whose body comes a byte a second, and one whose body is held
 back, beside clients that ask for what is kept; clients that vanish; a kill -9 at moments of a POST. The server then ends by
 its sessions, and Python's `sqlite3` reads what it kept. The script ends with status 1 at the first answer that is not the
 expected one, or that comes late.
@@ -15,6 +16,7 @@ import argparse
 import http.client
 import json
 import pathlib
+import resource
 import shutil
 import socket
 import sqlite3
@@ -34,6 +36,10 @@ LATE = (b"0,10,1,30,0,1,0,10,52800,-1,-1,-1,-1,-1,-1\n"
 SILENCE = 30
 AT_ONCE = 1.0
 REFUSED_BODY = 5_000_000
+HEAD_SECONDS = 10
+SILENT = 1000
+TRICKLING = 50
+FEW_HANDLES = 40
 KILLS = 50
 
 
@@ -62,11 +68,13 @@ def charged_day():
 class Server:
     """The program in a folder, which ends after so many connections."""
 
-    def __init__(self, program, folder, sessions, readers=4):
+    def __init__(self, program, folder, sessions, readers=4, handles=None):
         with socket.socket() as probe:
             probe.bind(("127.0.0.1", 0))
             self.port = probe.getsockname()[1]
         words = [program, str(self.port), "--sessions", str(sessions), "--readers", str(readers)]
+        if handles is not None:
+            words = ["sh", "-c", f'ulimit -n {handles} && exec "$0" "$@"', *words]
         self.child = subprocess.Popen(words, cwd=folder, stdin=subprocess.DEVNULL, stdout=subprocess.PIPE, stderr=subprocess.PIPE)
         self.left = sessions
         self.lock = threading.Lock()
@@ -473,14 +481,128 @@ def try_trickle(server):
 class Posts(threading.Thread):
     """Posts a day that is passed."""
 
-    def __init__(self, server):
+    def __init__(self, server, day=99):
         super().__init__()
-        self.server, self.answer, self.took = server, None, 0.0
+        self.server, self.day, self.answer, self.took = server, day, None, 0.0
 
     def run(self):
         begin = time.monotonic()
-        self.answer = self.server.ask("POST", "/days/99", b"")
+        self.answer = self.server.ask("POST", f"/days/{self.day}", b"")
         self.took = time.monotonic() - begin
+
+
+def rest_of(wire):
+    """What still comes; a reset is an end, where the client sent more than was heard."""
+    try:
+        return all_of(wire)
+    except ConnectionResetError:
+        return b""
+
+
+class Trickler(threading.Thread):
+    """Sends a head of a byte a second, until the server lets it go."""
+
+    def __init__(self, server):
+        super().__init__()
+        self.wire, self.begin, self.lasted = server.connect(), time.monotonic(), 0.0
+
+    def run(self):
+        try:
+            for byte in b"GET /live HTTP/1.1\r\nHost: localhost\r\n\r\n":
+                self.wire.sendall(bytes([byte]))
+                self.wire.settimeout(1)
+                try:
+                    if not self.wire.recv(1):
+                        break
+                except socket.timeout:
+                    pass
+        except OSError:
+            pass
+        self.lasted = time.monotonic() - self.begin
+
+
+def try_silent(program, folder):
+    """A thousand clients that connect and are silent, and fifty that send a byte a second, beside one that asks."""
+    hard = resource.getrlimit(resource.RLIMIT_NOFILE)[1]
+    resource.setrlimit(resource.RLIMIT_NOFILE, (min(4096, hard), hard))
+    server = Server(program, folder, 2_500)
+    server.ask("GET", "/live")
+    tricklers = [Trickler(server) for _ in range(TRICKLING)]
+    for trickler in tricklers:
+        trickler.start()
+    begin = time.monotonic()
+    silent = [server.connect() for _ in range(SILENT - TRICKLING)]
+    times = []
+    for _ in range(SILENT):
+        asked = time.monotonic()
+        expect("GET /live beside silent clients", server.ask("GET", "/live")[0], 200)
+        times.append(time.monotonic() - asked)
+    times.sort()
+    taken = [rest_of(wire) for wire in silent]
+    lasted = time.monotonic() - begin
+    for wire in silent:
+        wire.close()
+    for trickler in tricklers:
+        trickler.join()
+        trickler.wire.close()
+    expect("the silent clients", [each for each in taken if each], [])
+    slow = [trickler.lasted for trickler in tricklers]
+    if lasted > HEAD_SECONDS + 5 or max(slow) > HEAD_SECONDS + 5 or min(slow) < HEAD_SECONDS - 2:
+        fail(f"silent clients were let go after {lasted:.1f} s, those of a byte a second after {min(slow):.1f} to {max(slow):.1f} s")
+    most = times[int(0.99 * (len(times) - 1))]
+    if most > 0.05:
+        fail(f"beside silent clients the 99th percentile of live answers is {most * 1000:.1f} ms")
+    print(f"{SILENT - TRICKLING} silent clients and {TRICKLING} of a byte a second: {len(times)} live totals meanwhile,"
+          f" 99th percentile {most * 1000:.1f} ms; all were let go within {max(lasted, *slow):.1f} s")
+    server.end()
+
+
+def try_handles(program, folder):
+    """Too few file handles: connections that cannot be accepted wait, and all are answered once others end."""
+    server = Server(program, folder, 3_000, handles=FEW_HANDLES)
+    server.ask("GET", "/live")
+    silent = [server.connect() for _ in range(2 * FEW_HANDLES)]
+    time.sleep(2)
+    begin = time.monotonic()
+    for wire in silent:
+        wire.close()
+    workers = work(server, ["/live"] * 8, 2)
+    for worker in workers:
+        worker.join()
+    expect("clients behind a lack of file handles", [worker.error for worker in workers if worker.error], [])
+    first = max(worker.took[0] for worker in workers)
+    expect("the server behind a lack of file handles", server.child.poll(), None)
+    print(f"{2 * FEW_HANDLES} connections with {FEW_HANDLES} file handles: the first answers came {first * 1000:.0f} ms after they ended,"
+          f" {sum(len(worker.took) for worker in workers)} in {time.monotonic() - begin:.1f} s")
+    server.end()
+
+
+def try_line(program, folder):
+    """One reader: ten POSTs wait behind one whose body is held back, two of whose clients vanish, beside clients that ask."""
+    server = Server(program, folder, 3_000, readers=1)
+    expect("the first day", server.ask("POST", "/days/100", b"")[0], 200)
+    wire = server.connect()
+    wire.sendall(b"POST /days/101 HTTP/1.1\r\nContent-Length: %d\r\n\r\n" % len(LATE) + LATE[:-1])
+    time.sleep(0.2)
+    line = [Posts(server, 99) for _ in range(10)]
+    for post in line:
+        post.start()
+    gone = [server.connect() for _ in range(2)]
+    for each in gone:
+        each.sendall(b"POST /days/102 HTTP/1.1\r\nContent-Length: 9\r\n\r\n")
+        each.close()
+    answers, most = slowest(work(server, ["/live", "/days/100", "/spent/100/0/1"], 3))
+    wire.sendall(LATE[-1:])
+    expect("the POST that was held", all_of(wire).split(b"\r\n")[0], b"HTTP/1.1 422 Unprocessable Entity")
+    wire.close()
+    begin = time.monotonic()
+    for post in line:
+        post.join()
+    expect("the POSTs in line", {post.answer for post in line}, {(409, "Conflict", '{"error":"passed","last":100}')})
+    expect("the day of those that vanished", server.ask("GET", "/days/102")[0], 404)
+    print(f"one reader, a POST that is held back and ten behind it: {answers} answers meanwhile, the slowest {most:.1f} ms;"
+          f" the ten were answered within {time.monotonic() - begin:.2f} s after it")
+    server.end()
 
 
 def try_kept(folder, day):
@@ -515,6 +637,10 @@ def main():
     own = tempfile.mkdtemp()
     try_bodies(program, own)
     shutil.rmtree(own)
+    for attempt in (try_silent, try_handles, try_line):
+        own = tempfile.mkdtemp()
+        attempt(program, own)
+        shutil.rmtree(own)
     try_kills(program, path, given.kills)
     server, day = try_day(program, folder, path)
     try_asks(server, given.asks)

@@ -13,7 +13,7 @@ pub enum ServerEnd {
     Refused,
     /// A listener failed.
     EarFault,
-    /// Memory ran out.
+    /// Memory ran out, or threads for the lanes could not be had.
     NoMemory,
 }
 

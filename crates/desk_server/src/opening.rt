@@ -1,11 +1,12 @@
 // Serving over an open door.
-ghost use Rattle.std.specs.Prelude.{◌≡◌, ◌≤◌, ◌<◌, ◌^◌, [], All, length, vec_len, vec_capacity, true};
+ghost use Rattle.std.specs.Prelude.{◌≡◌, ◌≤◌, ◌<◌, ◌^◌, [], All, length, max, vec_len, vec_capacity, true};
 ghost use Rattle.road_time.specs.Fits.{IsLimits};
 ghost use Rattle.lane_loops.specs.declared.serve_end.ServeEnd.TheVariants.{Served, ListenFault};
 ghost use Rattle.lane_doors.specs.Doors.{accepted_in, has_fault};
 ghost use Rattle.desk_server.specs.Endings.{counts_of, EndsServing};
 
 use crate::ending::ServerEnd;
+use crate::standing::can_stand;
 use desk_lanes::{DeskCrew, serve};
 use import_plan::Plan;
 use lane_doors::{Door, DoorFault, Ears, rise, seat};
@@ -66,7 +67,14 @@ fn serve_over<
     (end, rise(room, lanes), keeper)
 }
 
-/// Opens a door, serves over it, and closes it.
+/// How many lanes serve for so many readers: two at least, so that one is free while a POST is answered.
+fn lanes_for(readers: u8) -> u8
+    ensures exact { result ≡ max readers 2 }
+{
+    readers.max(2)
+}
+
+/// Opens a door for so many lanes, serves over it, and closes it.
 fn serve_behind<
     D: Door,
     K,
@@ -76,6 +84,7 @@ fn serve_behind<
     rt: R,
     alloc: Global,
     serving: &Serving,
+    count: u8,
     limits: &Limits,
     door: &mut D,
     board: Board<R>,
@@ -84,15 +93,15 @@ fn serve_behind<
     keeper: K,
     crew: C,
 ) -> (ServerEnd, K)
-    requires some { 1 ≤ serving.now.readers }
-    requires few { serving.now.readers ≤ 64 }
-    requires readers { length board.readers ≡ serving.now.readers }
+    requires some { 1 ≤ count }
+    requires few { count ≤ 64 }
+    requires readers { length board.readers ≡ count }
     requires no_lanes { lanes.items ≡ [] }
     requires none_yet { vec_len lanes ≡ 0 }
-    requires for_lanes { serving.now.readers ≤ vec_capacity lanes }
+    requires for_lanes { count ≤ vec_capacity lanes }
     requires no_ears { room.items ≡ [] }
     requires none_back { vec_len room ≡ 0 }
-    requires for_ears { serving.now.readers ≤ vec_capacity room }
+    requires for_ears { count ≤ vec_capacity room }
     requires within { IsLimits limits.now }
     requires idle { C.out crew ≡ [] }
     requires unused { D.accepted door.old ≡ 0 }
@@ -101,7 +110,7 @@ fn serve_behind<
     ensures refused { D.refused door.old ≤ D.refused door.new }
     ensures faults { D.faults door.old ≤ D.faults door.new }
 {
-    match door.open(alloc, serving.port, serving.readers) {
+    match door.open(alloc, serving.port, count) {
         Err(DoorFault::Failed) => (ServerEnd::Refused, keeper),
         Err(DoorFault::NoMemory) => (ServerEnd::NoMemory, keeper),
         Ok(ears) => {
@@ -126,7 +135,8 @@ fn serve_behind<
     }
 }
 
-/// Serves as told: makes the board and room for the lanes, and then serves behind the door.
+/// Serves as told: sees that a thread can be had for each lane, makes the board and room for the lanes, and then serves
+/// behind the door.
 pub fn serve_as<
     D: Door,
     K,
@@ -151,16 +161,20 @@ pub fn serve_as<
     ensures refused { D.refused door.old ≤ D.refused door.new }
     ensures faults { D.faults door.old ≤ D.faults door.new }
 {
-    let Ok(lanes) = Vec::with_capacity(alloc, serving.readers as usize) else {
+    let count = lanes_for(serving.readers);
+    let Ok(true) = can_stand(&rt, alloc, count) else {
         return (ServerEnd::NoMemory, keeper);
     };
-    let Ok(room) = Vec::with_capacity(alloc, serving.readers as usize) else {
+    let Ok(lanes) = Vec::with_capacity(alloc, count as usize) else {
         return (ServerEnd::NoMemory, keeper);
     };
-    let Ok(board) = board(rt, alloc, serving.readers) else {
+    let Ok(room) = Vec::with_capacity(alloc, count as usize) else {
+        return (ServerEnd::NoMemory, keeper);
+    };
+    let Ok(board) = board(rt, alloc, count) else {
         return (ServerEnd::NoMemory, keeper);
     };
     serve_behind(
-        rt, alloc, serving, limits, door, board, lanes, room, keeper, crew,
+        rt, alloc, serving, count, limits, door, board, lanes, room, keeper, crew,
     )
 }

@@ -4,21 +4,21 @@ use Rattle.lane_doors.specs.declared.tcp_door.TcpDoor.{TcpDoor}
 use Rattle.lane_doors.specs.declared.tcp_ear.TcpEar.{TcpEar}
 
 -- the connections that an ear accepted
-abbrev pub accepted_by : TcpEar → ℕ
+abbrev pub accepted_by : {R : Type 0} → TcpEar R → ℕ
 accepted_by e = e.accepted
 
 -- its calls that failed
-abbrev pub faults_of : TcpEar → ℕ
+abbrev pub faults_of : {R : Type 0} → TcpEar R → ℕ
 faults_of e = e.faults
 
 -- the openings that the door refused
-abbrev pub refused_by : TcpDoor → ℕ
+abbrev pub refused_by : {R : Type 0} → TcpDoor R → ℕ
 refused_by d = d.refused
 
 -- the closings of ears of which one had failed
-abbrev pub faults_at : TcpDoor → ℕ
+abbrev pub faults_at : {R : Type 0} → TcpDoor R → ℕ
 faults_at d = d.faults
 
 -- the connections that its ears accepted
-abbrev pub accepted_at : TcpDoor → ℕ
+abbrev pub accepted_at : {R : Type 0} → TcpDoor R → ℕ
 accepted_at d = d.accepted

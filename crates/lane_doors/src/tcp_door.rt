@@ -5,29 +5,32 @@ ghost use Rattle.lane_doors.specs.Doors.{accepted_in, has_fault, counted_where};
 ghost use Rattle.lane_doors.specs.TcpDoors.{accepted_by, faults_of, refused_by, faults_at, accepted_at};
 ghost use Rattle.lane_doors.specs.declared.door.DoorFault.TheVariants.{Failed};
 
-use crate::counting::{accepted_by_all, any_failed, counted};
+use crate::counting::counted;
 use crate::door::{Door, DoorFault};
 use crate::ears::Ears;
 use crate::tcp_ear::TcpEar;
 use std::alloc::Global;
-use std::net::{SocketAddr, TcpListener};
 use std::rt::HostRuntime;
+use std::sync::{Arc, Mutex, Wait};
+use waiting_room::{RoomFault, WaitingRoom};
 
-/// Hears on a port of 127.0.0.1, which only this machine reaches.
+/// Hears on a port of 127.0.0.1, which only this machine reaches. All its ears hear in one waiting room.
 #[derive(Drop)]
-pub struct TcpDoor {
-    rt: HostRuntime,
+pub struct TcpDoor<R> {
+    host: HostRuntime,
+    rt: R,
     refused: u64,
     faults: u64,
     accepted: u64,
 }
 
-impl TcpDoor {
+impl<R> TcpDoor<R> {
     /// Nothing is open.
-    pub fn new(rt: HostRuntime) -> TcpDoor
+    pub fn new(host: HostRuntime, rt: R) -> TcpDoor<R>
         ensures { (refused_by result ≡ 0) × (faults_at result ≡ 0) × (accepted_at result ≡ 0) }
     {
         TcpDoor {
+            host,
             rt,
             refused: 0,
             faults: 0,
@@ -37,41 +40,81 @@ impl TcpDoor {
 }
 
 /// One more ear.
-fn add(rt: HostRuntime, ears: &mut Vec<TcpEar>, listener: TcpListener) -> Result<(), DoorFault>
+fn add<R: Drop>(ears: &mut Vec<TcpEar<R>>, ear: TcpEar<R>) -> Result<(), DoorFault>
     requires fresh { All (λ ear. (accepted_by ear ≡ 0) × (faults_of ear ≡ 0)) ears.old.items }
+    requires unused { (accepted_by ear ≡ 0) × (faults_of ear ≡ 0) }
     ensures count { OnOk result (length ears.new.items ≡ length ears.old.items + 1) }
     ensures fresh { OnOk result (All (λ ear. (accepted_by ear ≡ 0) × (faults_of ear ≡ 0)) ears.new.items) }
     ensures memory { result ≢ Err Failed }
 {
-    match ears.push(TcpEar::new(rt, listener)) {
+    match ears.push(ear) {
         Ok(()) => Ok(()),
         Err(_) => Err(DoorFault::NoMemory),
     }
 }
 
-/// Ears on one port, all of one socket.
-fn listen(rt: &HostRuntime, alloc: Global, port: u16, count: u8) -> Result<Ears<TcpEar>, DoorFault>
+/// A room on a port, which many ears may share.
+fn open_room(
+    host: HostRuntime,
+    alloc: Global,
+    port: u16,
+) -> Result<Arc<Mutex<WaitingRoom>, Global>, DoorFault> {
+    let room = match WaitingRoom::open(host, alloc, port) {
+        Ok(room) => room,
+        Err(RoomFault::Failed) => return Err(DoorFault::Failed),
+        Err(RoomFault::NoMemory) => return Err(DoorFault::NoMemory),
+    };
+    match Arc::new(alloc, Mutex::new(room)) {
+        Ok(room) => Ok(room),
+        Err(_) => Err(DoorFault::NoMemory),
+    }
+}
+
+/// Ears on one port, all in one room.
+fn listen<R: Copy + Drop>(
+    host: HostRuntime,
+    rt: R,
+    alloc: Global,
+    port: u16,
+    count: u8,
+) -> Result<Ears<TcpEar<R>>, DoorFault>
     requires { 1 ≤ count }
     ensures count { IfOk result (λ opened. length opened ≡ count) }
     ensures fresh { IfOk result (All (λ ear. (accepted_by ear ≡ 0) × (faults_of ear ≡ 0))) }
 {
-    let address = SocketAddr::from(([127, 0, 0, 1], port));
-    let Ok(first) = TcpListener::bind(rt, address) else {
-        return Err(DoorFault::Failed);
-    };
+    let room = open_room(host, alloc, port)?;
     let mut ears = Vec::new(alloc);
     for _ in 1..count {
-        let Ok(again) = first.try_clone() else {
-            return Err(DoorFault::Failed);
+        let Ok(again) = Arc::try_clone(&room) else {
+            return Err(DoorFault::NoMemory);
         };
-        add(*rt, &mut ears, again)?;
+        add(&mut ears, TcpEar::new(rt, alloc, again))?;
     }
-    add(*rt, &mut ears, first)?;
+    add(&mut ears, TcpEar::new(rt, alloc, room))?;
     Ok(Ears::from_vec(ears))
 }
 
-impl Door for TcpDoor {
-    type Ear = TcpEar;
+/// How many connections ears accepted in all.
+fn accepted_by_all<R>(ears: &[TcpEar<R>]) -> u64
+    requires { accepted_in accepted_by ears.now < 2 ^ 64 }
+    ensures { result ≡ accepted_in accepted_by ears.now }
+{
+    let mut accepted = 0;
+    for ear in ears {
+        accepted += ear.accepted;
+    }
+    accepted
+}
+
+/// Whether an ear failed.
+fn any_failed<R>(ears: &[TcpEar<R>]) -> bool
+    ensures { result ≡ has_fault faults_of ears.now }
+{
+    ears.iter().any(|ear| ear.faults > 0)
+}
+
+impl<R: Wait + Copy + Drop + Send + Sync> Door for TcpDoor<R> {
+    type Ear = TcpEar<R>;
 
     ghost refused = { refused_by };
 
@@ -79,7 +122,7 @@ impl Door for TcpDoor {
 
     ghost accepted = { accepted_at };
 
-    fn open(&mut self, alloc: Global, port: u16, ears: u8) -> Result<Ears<TcpEar>, DoorFault>
+    fn open(&mut self, alloc: Global, port: u16, ears: u8) -> Result<Ears<TcpEar<R>>, DoorFault>
         requires some { 1 ≤ ears }
         requires few { ears ≤ 64 }
         ensures count { IfOk result (λ opened. length opened ≡ ears) }
@@ -89,7 +132,7 @@ impl Door for TcpDoor {
         ensures faults { faults_at self.new ≡ faults_at self.old }
         ensures accepted { accepted_at self.new ≡ accepted_at self.old }
     {
-        match listen(&self.rt, alloc, port, ears) {
+        match listen(self.host, self.rt, alloc, port, ears) {
             Ok(opened) => Ok(opened),
             Err(DoorFault::Failed) => {
                 self.refused = counted(self.refused, true);
@@ -99,7 +142,7 @@ impl Door for TcpDoor {
         }
     }
 
-    fn close(&mut self, ears: Ears<TcpEar>)
+    fn close(&mut self, ears: Ears<TcpEar<R>>)
         requires room { accepted_at self.old + accepted_in accepted_by ears < 2 ^ 64 }
         ensures accepted { accepted_at self.new ≡ accepted_at self.old + accepted_in accepted_by ears }
         ensures faults { faults_at self.new ≡ counted_where (has_fault faults_of ears) (faults_at self.old) }

@@ -4,76 +4,57 @@ ghost use Rattle.lane_doors.specs.TcpDoors.{accepted_by, faults_of};
 
 use crate::ear::Ear;
 use lane_loops::Listener;
-use road_io::{Failed, StreamLink};
-use std::io::{self, ErrorKind};
-use std::net::{TcpListener, TcpStream};
-use std::rt::HostRuntime;
-use std::time::Duration;
+use road_io::Failed;
+use std::alloc::Global;
+use std::sync::{Arc, Mutex, Wait};
+use waiting_room::{RoomLink, WaitingRoom};
 
-/// How many seconds a connection may be silent, in a read or a write.
-pub const SILENCE: u64 = 30;
-
-/// A listener on a port of this machine. It tells nothing of who connects, or of what is said.
+/// One of the ears of a waiting room. It tells nothing of who connects, or of what is said.
 #[derive(Drop)]
-pub struct TcpEar {
-    rt: HostRuntime,
-    listener: TcpListener,
-    faults: u64,
-    accepted: u64,
+pub struct TcpEar<R> {
+    pub(crate) rt: R,
+    pub(crate) room: Arc<Mutex<WaitingRoom>, Global>,
+    pub(crate) alloc: Global,
+    pub(crate) faults: u64,
+    pub(crate) accepted: u64,
 }
 
-impl TcpEar {
+impl<R> TcpEar<R> {
     /// Has accepted nothing.
-    pub fn new(rt: HostRuntime, listener: TcpListener) -> TcpEar
+    pub fn new(rt: R, alloc: Global, room: Arc<Mutex<WaitingRoom>, Global>) -> TcpEar<R>
         ensures accepted { accepted_by result ≡ 0 }
         ensures faults { faults_of result ≡ 0 }
     {
         TcpEar {
             rt,
-            listener,
+            room,
+            alloc,
             faults: 0,
             accepted: 0,
         }
     }
 }
 
-/// Accepts once, again where a client went away before.
-fn accept_retrying(listener: &TcpListener) -> io::Result<TcpStream> {
-    for _ in 0..u64::MAX {
-        match listener.accept() {
-            Ok((stream, _)) => return Ok(stream),
-            Err(fault) => {
-                if fault.kind() != ErrorKind::ConnectionAborted {
-                    return Err(fault);
-                }
-            }
-        }
-    }
-    Err(io::Error::from(ErrorKind::TimedOut))
+/// The next connection of a room that is to wait there no more. While one ear waits for it the others wait for the room.
+fn next<R: Wait>(rt: &R, alloc: Global, room: &Mutex<WaitingRoom>) -> Result<RoomLink, Failed> {
+    let mut room = room.lock(rt);
+    room.next(alloc)
 }
 
-/// Has a read or a write fail that waits for longer than a client may be silent. One that cannot be told so waits on.
-fn bound_silence(stream: &TcpStream) {
-    let silence = Some(Duration::from_secs(SILENCE));
-    let _ = stream.set_read_timeout(silence);
-    let _ = stream.set_write_timeout(silence);
-}
-
-impl Listener for TcpEar {
-    type Line = StreamLink;
+impl<R: Wait> Listener for TcpEar<R> {
+    type Line = RoomLink;
 
     ghost faults = { faults_of };
 
     ghost accepted = { accepted_by };
 
-    fn accept(&mut self) -> Result<StreamLink, Failed> {
-        match accept_retrying(&self.listener) {
-            Ok(stream) => {
-                bound_silence(&stream);
+    fn accept(&mut self) -> Result<RoomLink, Failed> {
+        match next(&self.rt, self.alloc, &self.room) {
+            Ok(line) => {
                 self.accepted += 1;
-                Ok(StreamLink::new(self.rt, stream))
+                Ok(line)
             }
-            Err(_) => {
+            Err(Failed) => {
                 self.faults = self.faults.saturating_add(1);
                 Err(Failed)
             }
@@ -81,7 +62,7 @@ impl Listener for TcpEar {
     }
 }
 
-impl Ear for TcpEar {
+impl<R: Wait> Ear for TcpEar<R> {
     fn accepted(&self) -> u64 {
         self.accepted
     }

@@ -41,7 +41,7 @@ fn main(rt: HostRuntime) -> ExitCode {
     let Ok(keeper) = SqliteKeeper::at(rt.alloc(), rt, KEPT_FILE) else {
         return ExitCode::from(ServerEnd::NoMemory.status());
     };
-    let mut door = TcpDoor::new(rt);
+    let mut door = TcpDoor::new(rt, rt);
     let (status, keeper) = serve_in_threads(
         rt,
         rt.alloc(),

@@ -12,6 +12,7 @@ use std::alloc::{AllocError, Global};
 use std::io;
 use std::io::{Read, Write};
 use std::net::{SocketAddr, TcpListener, TcpStream};
+use std::sync::Wait;
 
 /// A listener with one connection.
 fn listener_of(alloc: Global) -> Result<MemListener, NoMemory>
@@ -131,18 +132,19 @@ fn a_door_gives_its_ears(rt: HostRuntime) -> Result<(), NoMemory> {
     Ok(())
 }
 
-/// Whether a client and the connection that an ear accepts of it hear one another.
-fn hear_one_another(client: &mut TcpStream, ear: &mut TcpEar) -> io::Result<bool>
-    requires { ⟦<TcpEar as Listener>⟧.accepted ear.old ≡ 0 }
-    ensures { ⟦<TcpEar as Listener>⟧.accepted ear.new ≤ 1 }
+/// Whether a client and the connection that an ear accepts of it hear one another, once what it asks is whole.
+fn hear_one_another<R: Wait>(client: &mut TcpStream, ear: &mut TcpEar<R>) -> io::Result<bool>
+    requires { ⟦<TcpEar<R> as Listener>⟧.accepted ear.old ≡ 0 }
+    ensures { ⟦<TcpEar<R> as Listener>⟧.accepted ear.new ≤ 1 }
 {
-    client.write_all(b"ask")?;
+    client.write_all(b"GET / HTTP/1.1\r\n\r\n")?;
     let Ok(line) = ear.accept() else {
         return Ok(false);
     };
     let mut line = line;
-    let mut asked = [0u8; 8];
-    let came = matches!(line.read(&mut asked), Ok(3)) && asked.starts_with(b"ask");
+    let mut asked = [0u8; 32];
+    let came = matches!(line.read(&mut asked), Ok(18))
+        && asked.starts_with(b"GET / HTTP/1.1\r\n\r\n");
     let went = line.write(b"told").is_ok();
     let mut told = [0u8; 4];
     client.read_exact(&mut told)?;
@@ -155,7 +157,7 @@ fn a_door_hears_on_a_free_port(rt: HostRuntime) -> io::Result<()> {
     let alloc = rt.alloc();
     let holder = TcpListener::bind(&rt, "127.0.0.1:0")?;
     let address = holder.local_addr()?;
-    let mut door = TcpDoor::new(rt);
+    let mut door = TcpDoor::new(rt, rt);
     let taken = refusal(door.open(alloc, address.port(), 1));
     drop(holder);
     assert_eq!(rt; taken, Some(DoorFault::Failed));

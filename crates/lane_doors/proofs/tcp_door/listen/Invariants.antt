@@ -4,7 +4,7 @@ use Rattle.lane_doors.specs.TcpDoors.{accepted_by, faults_of}
 use Rattle.lane_doors.proofs.tcp_door.listen.Given as goal
 
 abbrev pub invariant-loop : goal.invariant-loop
-invariant-loop l = record {
+invariant-loop g l = record {
   count : length l.ears.items + 1 ≡ l.counter;
   fresh : All (λ ear. (accepted_by ear ≡ 0) × (faults_of ear ≡ 0)) l.ears.items;
 }
