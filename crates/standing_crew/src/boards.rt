@@ -6,7 +6,7 @@ ghost use Rattle.standing_crew.specs.Views.{new_crew};
 
 use crate::board::CellBoard;
 use crate::cells::{CellSeat, CellTable};
-use crate::moves::{BELL, SLEEPERS, ring};
+use crate::moves::{SLEEPERS, StopRaised, ring, wake_all, wake_one};
 use atomic_table::Table;
 use road_time::NoMemory;
 use std::alloc::Global;
@@ -54,19 +54,17 @@ impl CellBoard {
         ensures { KeepsSeat seat.old seat.new }
     {
         let cells = self.cells();
-        ring(cells, seat, self.count);
-        if cells.peek(self.count + SLEEPERS) != 0 {
-            cells.wake_one(self.count + BELL);
-        }
+        let rung = ring(cells, seat, self.count);
+        wake_one(cells, rung, self.count + SLEEPERS);
     }
 
-    /// Rings for all helpers.
-    pub(crate) fn call_all(&self, seat: &mut CellSeat)
+    /// Rings for all helpers, once the stop is raised.
+    pub(crate) fn call_all(&self, seat: &mut CellSeat, stop: StopRaised)
         requires { IsAt (board_id self.now) seat.old }
         ensures { KeepsSeat seat.old seat.new }
     {
         let cells = self.cells();
-        ring(cells, seat, self.count);
-        cells.wake_all(self.count + BELL);
+        let rung = ring(cells, seat, self.count);
+        wake_all(cells, rung, stop);
     }
 }

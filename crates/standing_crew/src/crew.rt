@@ -96,8 +96,8 @@ impl<R: Wait + Drop, G: Gate + Drop> StandingCrew<R, G> {
         ensures jobs { ⟦<StandingCrew<R, G> as Crew>⟧.jobs self.new ≡ ⟦<StandingCrew<R, G> as Crew>⟧.jobs self.old }
     {
         let count = self.board.count;
-        raise_stop(self.board.cells(), &mut self.seat, count);
-        self.board.call_all(&mut self.seat);
+        let stop = raise_stop(self.board.cells(), &mut self.seat, count);
+        self.board.call_all(&mut self.seat, stop);
         self.stopped = true;
     }
 

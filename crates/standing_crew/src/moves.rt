@@ -1,5 +1,5 @@
 // The steps on a cell, each as one call.
-ghost use Rattle.std.specs.Prelude.{◌≡◌, ◌<◌, ◌≤◌, Some, None, IfSome, IfNone, OnOk, IfErr, MatchBool};
+ghost use Rattle.std.specs.Prelude.{◌≡◌, ◌<◌, ◌≤◌, ◌+◌, Some, None, IfSome, IfNone, OnOk, IfErr, MatchBool};
 ghost use Rattle.atomic_table.specs.Table.{rest};
 ghost use Rattle.expressway.specs.Results.{IsResultOf};
 ghost use Rattle.expressway.specs.declared.job.Job.{Job as TheJob};
@@ -7,6 +7,7 @@ ghost use Rattle.standing_crew.specs.Steps.{IsOfInput};
 ghost use Rattle.standing_crew.specs.Views.{CanBeRun, input_of, with_taken};
 ghost use Rattle.standing_crew.specs.Views.{after_announce, after_take, after_collect, after_stop};
 ghost use Rattle.standing_crew.specs.Calls.{IsAt, IsSame, KeepsSeat, HasTurn};
+ghost use Rattle.standing_crew.specs.declared.moves.TheConstants.{BELL};
 
 use crate::cells::{CellSeat, CellTable, Parcel};
 use crate::plays::{
@@ -107,14 +108,24 @@ pub(crate) fn collect(cells: &CellTable, seat: &mut CellSeat, cell: usize) -> Op
     }
 }
 
+/// A stop that was raised, of which no helper was told yet. It cannot be dropped: `wake_all` ends it.
+pub(crate) struct StopRaised(());
+
+/// A bell that was rung, and the word that helpers sleep at, where none was woken yet. It cannot be dropped: a wake
+/// ends it.
+pub(crate) struct Rung {
+    word: usize,
+}
+
 /// Raises the stop.
-pub(crate) fn raise_stop(cells: &CellTable, seat: &mut CellSeat, count: usize)
+pub(crate) fn raise_stop(cells: &CellTable, seat: &mut CellSeat, count: usize) -> StopRaised
     requires seat { IsAt cells.now.table_id seat.old }
     requires count { count ≡ cells.now.table_id.slots }
     ensures same { IsSame seat.old seat.new }
     ensures stopped { seat.new.me ≡ after_stop seat.old.me }
 {
     cells.store::<StopsCrew>(seat, count, 1);
+    StopRaised(())
 }
 
 /// Whether the stop was raised.
@@ -128,12 +139,35 @@ pub(crate) fn sees_stop(cells: &CellTable, seat: &mut CellSeat, count: usize) ->
 }
 
 /// Rings the bell, for helpers that wait.
-pub(crate) fn ring(cells: &CellTable, seat: &mut CellSeat, count: usize)
+pub(crate) fn ring(cells: &CellTable, seat: &mut CellSeat, count: usize) -> Rung
     requires seat { IsAt cells.now.table_id seat.old }
     requires count { (count ≡ cells.now.table_id.slots) × (count ≤ 64) }
-    ensures { KeepsSeat seat.old seat.new }
+    ensures kept { KeepsSeat seat.old seat.new }
+    ensures word { result.word ≡ count + BELL }
 {
-    cells.fetch_add::<Rings>(seat, count + BELL, 1);
+    let word = count + BELL;
+    cells.fetch_add::<Rings>(seat, word, 1);
+    Rung { word }
+}
+
+/// Wakes one of those that sleep at the bell that was rung, if the word says that there are some.
+pub(crate) fn wake_one(cells: &CellTable, rung: Rung, sleepers: usize)
+    requires bell { rung.word < cells.now.table_id.words }
+    requires sleepers { sleepers < cells.now.table_id.words }
+{
+    let Rung { word } = rung;
+    if cells.peek(sleepers) != 0 {
+        cells.wake_one(word);
+    }
+}
+
+/// Wakes all that sleep at the bell that was rung for a stop.
+pub(crate) fn wake_all(cells: &CellTable, rung: Rung, stop: StopRaised)
+    requires { rung.word < cells.now.table_id.words }
+{
+    let Rung { word } = rung;
+    let StopRaised(()) = stop;
+    cells.wake_all(word);
 }
 
 /// Says of a helper that it is about to sleep.
