@@ -1,7 +1,7 @@
 // What a keeper in a file keeps: the answers of the keeper in memory, a file of version 1, files that are spoiled, and
 // calls that are refused. It prints a line for each row.
 use crate::spoiled::{Spoiled, answered, is_made};
-use crate::{old, refused, sequence};
+use crate::{by_trees, old, refused, sequence};
 use keeper_at_path::AtPath;
 use std::rt::HostRuntime;
 
@@ -80,6 +80,25 @@ fn closed_file<S: AtPath>(rt: HostRuntime) -> anyhow::Result<()> {
     Ok(())
 }
 
+/// The files of the commands, each by its trees and whole, and a file with a spoiled page.
+fn files_by_trees<S: AtPath>(rt: HostRuntime) -> anyhow::Result<()> {
+    for path in [
+        "example.db",
+        "empty.db",
+        "history.db",
+        "tariffs.db",
+        "kept.db",
+        "theirs.db",
+        "key_twice.db",
+    ] {
+        let same = by_trees::both::<S>(rt, path);
+        println!(rt; "{path} by its trees and whole the same: {same:?}")?;
+    }
+    let [last, spent, day, rows] = by_trees::spoiled_page::<S>(rt, "spoiled_page.db")?;
+    println!(rt; "a spoiled page, last day: {last:?}, amount: {spent:?}, day: {day:?}, amounts: {rows:?}")?;
+    Ok(())
+}
+
 /// All rows.
 pub fn rows<S: AtPath>(rt: HostRuntime) -> anyhow::Result<()> {
     last_days::<S>(rt)?;
@@ -93,5 +112,6 @@ pub fn rows<S: AtPath>(rt: HostRuntime) -> anyhow::Result<()> {
     refusals::<S>(rt)?;
     let alone = old::with_one_table::<S>(rt);
     println!(rt; "one of the tables alone is a fault: {alone:?}")?;
-    closed_file::<S>(rt)
+    closed_file::<S>(rt)?;
+    files_by_trees::<S>(rt)
 }

@@ -8,6 +8,7 @@
 
 ghost use Rattle.road_time.specs.Fits.{IsLimits};
 
+mod by_trees;
 mod files;
 mod old;
 mod refused;

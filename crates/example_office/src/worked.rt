@@ -77,7 +77,9 @@ pub fn put_day<S: AtPath>(rt: HostRuntime, path: &str) -> Result<(), KeepFault> 
 
 /// Runs statements on the file at a path, as another hand may.
 pub fn by_hand<S: AtPath>(rt: HostRuntime, path: &str, text: &str) -> Result<(), KeepFault> {
-    let mut conn = S::open(&rt, path)?;
+    let Ok(mut conn) = S::open(&rt, path) else {
+        return Err(KeepFault::Failed);
+    };
     match conn.execute_batch(text) {
         Ok(()) => Ok(()),
         Err(_) => Err(KeepFault::Failed),

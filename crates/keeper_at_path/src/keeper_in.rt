@@ -4,11 +4,13 @@ ghost use Rattle.sqlite.specs.Held.{state};
 ghost use Rattle.keeper.specs.Calls.{CountsFaults};
 ghost use Rattle.keeper.specs.declared.kept.KeepFault.TheVariants.{NoMemory as no_memory};
 ghost use Rattle.keeper_writes.specs.Causes.{WasRefused};
-ghost use Rattle.keeper_at_path.specs.Does.{Asked};
+ghost use Rattle.keeper_at_path.specs.Asked.{AskedToRead, AskedToPut};
+ghost use Rattle.keeper_at_path.specs.Looks.{AreFound, Looks};
 
 use crate::at_path::AtPath;
-use crate::call::Call;
+use crate::call::{Putting, Reading};
 use crate::database::Database;
+use crate::kept::Kept;
 use keeper::KeepFault;
 use keeper_writes::refusals::count;
 use road_time::NoMemory;
@@ -35,8 +37,8 @@ impl<S: AtPath> KeeperIn<S> {
         })
     }
 
-    /// The connection, if the database is open.
-    pub fn give_up(self) -> Option<Connection<S>> {
+    /// The pages or the connection, if the database is open.
+    pub fn give_up(self) -> Option<Kept<S::Pages, Connection<S>>> {
         let KeeperIn {
             database,
             faults: _,
@@ -44,16 +46,26 @@ impl<S: AtPath> KeeperIn<S> {
         database.give_up()
     }
 
-    /// Makes a call, and counts it where it failed.
-    pub fn ask<C: Call + Drop>(&mut self, call: C) -> Result<C::Answer, KeepFault>
-        requires { C.fits call }
+    /// Makes a call that reads, and counts it where it failed.
+    pub fn read<C: Reading + Drop>(&mut self, call: C) -> Result<C::Answer, KeepFault>
         ensures answers { IfOk result C.answers }
-        ensures does { Asked self.old.database.kept self.new.database.kept (λ k. k.unmade ≢ Some no_memory)
-            (λ k. state S.Store k.conn) (WasRefused S.Store) C.writes (C.asks call) (C.gives call) (C.next call)
-            result }
+        ensures does { AskedToRead self.old.database.kept self.new.database.kept (AreFound S.Pages.Pages)
+            (Looks S.Pages.Pages) (λ k. k.unmade ≢ Some no_memory) (λ k. state S.Store k.conn) (WasRefused S.Store)
+            (C.gives call) result }
         ensures cause { CountsFaults self.old.faults self.new.faults result }
     {
-        let answer = self.database.ask(call);
+        let answer = self.database.read(call);
+        count(&mut self.faults, answer)
+    }
+
+    /// Makes a call that puts, and counts it where it failed.
+    pub fn put<C: Putting + Drop>(&mut self, call: C) -> Result<(), KeepFault>
+        requires { C.fits call }
+        ensures does { AskedToPut self.old.database.kept self.new.database.kept (λ k. k.unmade ≢ Some no_memory)
+            (λ k. state S.Store k.conn) (WasRefused S.Store) (C.asks call) (C.next call) result }
+        ensures cause { CountsFaults self.old.faults self.new.faults result }
+    {
+        let answer = self.database.put(call);
         count(&mut self.faults, answer)
     }
 }

@@ -10,11 +10,14 @@ mod call;
 mod database;
 mod keeper_calls;
 mod keeper_in;
+mod kept;
+mod page_files;
 mod puts;
 mod reads;
 
-pub use at_path::{AtPath, KeptStore};
-pub use call::Call;
+pub use at_path::{AtPath, KeptPages, KeptStore};
+pub use call::{Putting, Reading};
 pub use keeper_in::KeeperIn;
+pub use kept::Kept;
 pub use puts::{PutDay, PutPast, PutTariff};
 pub use reads::{AskedDay, AskedSpent, KeptTariffs, LastDay, Past, Rows, VehicleRows};
