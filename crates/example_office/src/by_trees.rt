@@ -1,7 +1,7 @@
 // The same file by its trees and whole, call by call, and a file with a spoiled page.
 use crate::worked::put_day;
 use keeper::{DayRecord, KeepFault, Keeper, PastRecord};
-use keeper_at_path::{AtPath, Kept, KeeperIn};
+use keeper_at_path::{AtPath, Kept, KeeperIn, open_to_read, open_whole};
 use keeper_proof::ProvedKeeper;
 use road_time::{SpentRow, Tariff};
 use sqlite_keeper::SqliteKeeper;
@@ -68,8 +68,8 @@ fn of_keeper<K: Keeper>(keeper: &mut K, day: u32) -> Result<Answers, KeepFault> 
 }
 
 /// What the trees of the file at a path answer; none where it is not exactly ours.
-fn by_trees<S: AtPath>(rt: HostRuntime, path: &str) -> Result<Option<Answers>, KeepFault> {
-    match S::open_to_read(&rt, path) {
+fn by_trees<D: AtPath>(rt: HostRuntime, path: &str) -> Result<Option<Answers>, KeepFault> {
+    match open_to_read::<D>(&rt, path) {
         Ok(Kept::Trees(mut trees)) => match of_trees(rt.alloc(), &mut trees, 100) {
             Ok(answers) => Ok(Some(answers)),
             Err(fault) => Err(fault),
@@ -80,8 +80,8 @@ fn by_trees<S: AtPath>(rt: HostRuntime, path: &str) -> Result<Option<Answers>, K
 }
 
 /// What a keeper on the whole file answers.
-fn whole<S: AtPath>(rt: HostRuntime, path: &str) -> Result<Answers, KeepFault> {
-    match S::open(&rt, path) {
+fn whole<D: AtPath>(rt: HostRuntime, path: &str) -> Result<Answers, KeepFault> {
+    match open_whole::<D>(&rt, path) {
         Ok(conn) => {
             let mut keeper = ProvedKeeper::adopt(rt.alloc(), conn);
             of_keeper(&mut keeper, 100)
@@ -92,9 +92,9 @@ fn whole<S: AtPath>(rt: HostRuntime, path: &str) -> Result<Answers, KeepFault> {
 
 /// Whether each of the seven calls answers the same by the trees of a file and on the whole of it; none where the file
 /// is not exactly ours.
-pub fn both<S: AtPath>(rt: HostRuntime, path: &str) -> Result<Option<[bool; 7]>, KeepFault> {
-    match by_trees::<S>(rt, path)? {
-        Some(trees) => Ok(Some(trees.are_those(&whole::<S>(rt, path)?))),
+pub fn both<D: AtPath>(rt: HostRuntime, path: &str) -> Result<Option<[bool; 7]>, KeepFault> {
+    match by_trees::<D>(rt, path)? {
+        Some(trees) => Ok(Some(trees.are_those(&whole::<D>(rt, path)?))),
         None => Ok(None),
     }
 }
@@ -112,12 +112,12 @@ fn spoil(rt: HostRuntime, path: &str, page: usize) -> anyhow::Result<()> {
 
 /// A file with a day whose index of amounts has a spoiled page: what the calls that do not come upon it answer, and
 /// those that do, in one opening of it and the next.
-pub fn spoiled_page<S: AtPath>(rt: HostRuntime, path: &str) -> anyhow::Result<[Result<bool, KeepFault>; 4]> {
-    let _ = put_day::<S>(rt, path);
+pub fn spoiled_page<D: AtPath>(rt: HostRuntime, path: &str) -> anyhow::Result<[Result<bool, KeepFault>; 4]> {
+    let _ = put_day::<D>(rt, path);
     let closed = SqliteKeeper::at(rt.alloc(), rt, path)?;
     let _ = closed.close();
     spoil(rt, path, 4)?;
-    let mut file = KeeperIn::<S>::at(rt.alloc(), rt, path)?;
+    let mut file = KeeperIn::<D>::at(rt.alloc(), rt, path)?;
     let last = file.last_day().map(|last| last == 100);
     let spent = file.spent(100, 7, 0).map(|tolls| tolls == 3);
     let day = file.day(100).map(|day| day.is_some());

@@ -6,9 +6,9 @@ ghost use Rattle.keeper_writes.specs.Causes.{WasRefused};
 ghost use Rattle.keeper_at_path.specs.Does.{Does};
 ghost use Rattle.keeper_at_path.specs.Looks.{Looks};
 
-use crate::at_path::AtPath;
+use crate::shuts::Shuts;
 use keeper::KeepFault;
-use keeper_proof::ProvedKeeper;
+use keeper_proof::{ProvedKeeper, Steady};
 use sqlite_pages::Pages;
 use std::alloc::Global;
 use tree_keeper::PageTrees;
@@ -25,7 +25,7 @@ pub trait Reading {
     ghost gives: { Self → Office → Self.Answer → Type 0 };
 
     /// Makes the call of a keeper on a whole file.
-    fn ask<S: AtPath>(self, kept: &mut ProvedKeeper<S>) -> Result<Self::Answer, KeepFault>
+    fn ask<S: Steady>(self, kept: &mut ProvedKeeper<S>) -> Result<Self::Answer, KeepFault>
         ensures answers { IfOk result answers }
         ensures does { Does (WasRefused S.Store) false FitsAny (gives self) (λ o. o)
             (state S.Store kept.old.conn) (state S.Store kept.new.conn) result };
@@ -52,7 +52,7 @@ pub trait Putting {
     ghost next: { Self → Office → Office };
 
     /// Makes the call.
-    fn put<S: AtPath>(self, kept: &mut ProvedKeeper<S>) -> Result<(), KeepFault>
+    fn put<S: Shuts>(self, kept: &mut ProvedKeeper<S>) -> Result<(), KeepFault>
         requires { fits self }
         ensures { Does (WasRefused S.Store) true (asks self) (λ o u. Unit {0}) (next self)
             (state S.Store kept.old.conn) (state S.Store kept.new.conn) result };

@@ -9,25 +9,29 @@ ghost use Rattle.keeper_at_path.specs.Looks.{AreFound, Looks};
 use crate::at_path::AtPath;
 use crate::call::{Putting, Reading};
 use crate::kept::Kept;
+use crate::page_files::{make_whole, open_to_read, open_whole};
 use keeper::KeepFault;
 use keeper_proof::ProvedKeeper;
 use keeper_writes::refusals::refusal;
-use sqlite::Connection;
+use sqlite::{Connection, FileStore};
+use sqlite_pages::Pages;
+use sqlite_pool::Pool;
+use sqlite_trees::store::Store;
 use std::alloc::Global;
 use std::rt::HostRuntime;
 use tree_keeper::PageTrees;
 
 /// A database that is opened when it is first asked for: by its trees for a call that reads, whole for one that puts.
 #[derive(Drop)]
-pub struct Database<S: AtPath> {
+pub struct Database<D: AtPath> {
     rt: HostRuntime,
     path: String,
-    pub(crate) kept: Option<Kept<PageTrees<S::Pages>, ProvedKeeper<S>>>,
+    pub(crate) kept: Option<Kept<PageTrees<Pool<D>>, ProvedKeeper<FileStore<D>>>>,
 }
 
-impl<S: AtPath> Database<S> {
+impl<D: AtPath> Database<D> {
     /// The database at a path, which is not open.
-    pub(crate) fn new(rt: HostRuntime, path: String) -> Database<S> {
+    pub(crate) fn new(rt: HostRuntime, path: String) -> Database<D> {
         Database {
             rt,
             path,
@@ -36,7 +40,7 @@ impl<S: AtPath> Database<S> {
     }
 
     /// The pages or the connection, if it is open.
-    pub(crate) fn give_up(self) -> Option<Kept<S::Pages, Connection<S>>> {
+    pub(crate) fn give_up(self) -> Option<Kept<Pool<D>, Connection<FileStore<D>>>> {
         let Database {
             rt: _,
             path: _,
@@ -53,8 +57,8 @@ impl<S: AtPath> Database<S> {
     /// call opens the file anew.
     pub(crate) fn read<C: Reading + Drop>(&mut self, call: C) -> Result<C::Answer, KeepFault>
         ensures answers { IfOk result C.answers }
-        ensures does { AskedToRead self.old.kept self.new.kept (AreFound S.Pages.Pages) (Looks S.Pages.Pages)
-            (λ k. k.unmade ≢ Some NoMemory) (λ k. state S.Store k.conn) (WasRefused S.Store) (C.gives call) result }
+        ensures does { AskedToRead self.old.kept self.new.kept (AreFound ⟦<Pool<D> as Pages>⟧) (Looks ⟦<Pool<D> as Pages>⟧)
+            (λ k. k.unmade ≢ Some NoMemory) (λ k. state ⟦<FileStore<D> as Store>⟧ k.conn) (WasRefused ⟦<FileStore<D> as Store>⟧) (C.gives call) result }
     {
         let ready = match self.ready_to_read() {
             Ok(ready) => ready,
@@ -77,7 +81,7 @@ impl<S: AtPath> Database<S> {
     pub(crate) fn put<C: Putting + Drop>(&mut self, call: C) -> Result<(), KeepFault>
         requires { C.fits call }
         ensures { AskedToPut self.old.kept self.new.kept (λ k. k.unmade ≢ Some NoMemory)
-            (λ k. state S.Store k.conn) (WasRefused S.Store) (C.asks call) (C.next call) result }
+            (λ k. state ⟦<FileStore<D> as Store>⟧ k.conn) (WasRefused ⟦<FileStore<D> as Store>⟧) (C.asks call) (C.next call) result }
     {
         let mut kept = match self.ready_to_put() {
             Ok(kept) => kept,
@@ -89,8 +93,10 @@ impl<S: AtPath> Database<S> {
     }
 
     /// Takes what is held, or opens it.
-    fn ready_to_read(&mut self) -> Result<Kept<PageTrees<S::Pages>, ProvedKeeper<S>>, KeepFault>
-        ensures ready { IfOk result (IsReadyToRead (AreFound S.Pages.Pages) (λ k. k.unmade ≢ Some NoMemory) self.old.kept) }
+    fn ready_to_read(
+        &mut self,
+    ) -> Result<Kept<PageTrees<Pool<D>>, ProvedKeeper<FileStore<D>>>, KeepFault>
+        ensures ready { IfOk result (IsReadyToRead (AreFound ⟦<Pool<D> as Pages>⟧) (λ k. k.unmade ≢ Some NoMemory) self.old.kept) }
         ensures none { self.new.kept ≡ None }
         ensures unopened { IfErr result (λ _. self.old.kept ≡ None) }
     {
@@ -101,7 +107,7 @@ impl<S: AtPath> Database<S> {
     }
 
     /// Takes the keeper that is held, or makes one of what is held, or opens one.
-    fn ready_to_put(&mut self) -> Result<ProvedKeeper<S>, KeepFault>
+    fn ready_to_put(&mut self) -> Result<ProvedKeeper<FileStore<D>>, KeepFault>
         ensures ready { IfOk result (IsReady (λ k. k.unmade ≢ Some NoMemory) self.old.kept) }
         ensures none { self.new.kept ≡ None }
         ensures unopened { IfErr result (λ _. IsNotWhole self.old.kept) }
@@ -115,10 +121,12 @@ impl<S: AtPath> Database<S> {
     }
 
     /// The trees of the file, or a keeper on a new connection.
-    fn opened_to_read(&self) -> Result<Kept<PageTrees<S::Pages>, ProvedKeeper<S>>, KeepFault>
-        ensures { IfOk result (IsReadyToRead (AreFound S.Pages.Pages) (λ k. k.unmade ≢ Some NoMemory) None) }
+    fn opened_to_read(
+        &self,
+    ) -> Result<Kept<PageTrees<Pool<D>>, ProvedKeeper<FileStore<D>>>, KeepFault>
+        ensures { IfOk result (IsReadyToRead (AreFound ⟦<Pool<D> as Pages>⟧) (λ k. k.unmade ≢ Some NoMemory) None) }
     {
-        let conn = match S::open_to_read(&self.rt, self.path.as_str()) {
+        let conn = match open_to_read::<D>(&self.rt, self.path.as_str()) {
             Ok(Kept::Trees(trees)) => return Ok(Kept::Trees(trees)),
             Ok(Kept::Whole(conn)) => conn,
             Err(error) => return Err(refusal(error)),
@@ -130,20 +138,20 @@ impl<S: AtPath> Database<S> {
     }
 
     /// A keeper on a new connection to the file of some trees, which nobody else opens in between.
-    fn made_whole(&self, trees: PageTrees<S::Pages>) -> Result<ProvedKeeper<S>, KeepFault>
+    fn made_whole(&self, trees: PageTrees<Pool<D>>) -> Result<ProvedKeeper<FileStore<D>>, KeepFault>
         ensures { IfOk result (λ kept. kept.unmade ≢ Some NoMemory) }
     {
-        match S::whole(&self.rt, trees.give_up()) {
+        match make_whole(&self.rt, trees.give_up()) {
             Ok(conn) => adopted(self.rt.alloc(), conn),
             Err(error) => Err(refusal(error)),
         }
     }
 
     /// A keeper on a new connection.
-    fn opened(&self) -> Result<ProvedKeeper<S>, KeepFault>
+    fn opened(&self) -> Result<ProvedKeeper<FileStore<D>>, KeepFault>
         ensures { IfOk result (λ kept. kept.unmade ≢ Some NoMemory) }
     {
-        match S::open(&self.rt, self.path.as_str()) {
+        match open_whole::<D>(&self.rt, self.path.as_str()) {
             Ok(conn) => adopted(self.rt.alloc(), conn),
             Err(error) => Err(refusal(error)),
         }
@@ -151,7 +159,10 @@ impl<S: AtPath> Database<S> {
 }
 
 /// The keeper on a connection. Where there was no memory to make its tables, the connection is let go.
-fn adopted<S: AtPath>(alloc: Global, conn: Connection<S>) -> Result<ProvedKeeper<S>, KeepFault>
+fn adopted<D: AtPath>(
+    alloc: Global,
+    conn: Connection<FileStore<D>>,
+) -> Result<ProvedKeeper<FileStore<D>>, KeepFault>
     ensures { IfOk result (λ kept. kept.unmade ≢ Some NoMemory) }
 {
     let kept = ProvedKeeper::adopt(alloc, conn);

@@ -18,8 +18,12 @@ use crate::puts::{PutDay, PutPast, PutTariff};
 use crate::reads::{AskedDay, AskedSpent, KeptTariffs, LastDay, Past, Rows, VehicleRows};
 use keeper::{DayRecord, KeepFault, Keeper, PastRecord};
 use road_time::{SpentRow, Tariff, Tariffs};
+use sqlite::FileStore;
+use sqlite_pages::Pages;
+use sqlite_pool::Pool;
+use sqlite_trees::store::Store;
 
-impl<S: AtPath> Keeper for KeeperIn<S> {
+impl<D: AtPath> Keeper for KeeperIn<D> {
     ghost use Rattle.std.specs.Prelude.{true};
     ghost use Rattle.keeper.specs.Calls.{AllOrNothing};
 
@@ -36,7 +40,9 @@ impl<S: AtPath> Keeper for KeeperIn<S> {
     fn last_day(&mut self) -> Result<u32, KeepFault>
         ensures cause { CountsFaults self.old.faults self.new.faults result }
         ensures does { AskedToRead self.old.database.kept self.new.database.kept
-            (AreFound S.Pages.Pages) (Looks S.Pages.Pages) (λ k. k.unmade ≢ Some NoMemory) (λ k. state S.Store k.conn) (WasRefused S.Store)
+            (AreFound ⟦<Pool<D> as Pages>⟧) (Looks ⟦<Pool<D> as Pages>⟧)
+            (λ k. k.unmade ≢ Some NoMemory) (λ k. state ⟦<FileStore<D> as Store>⟧ k.conn)
+            (WasRefused ⟦<FileStore<D> as Store>⟧)
             (λ o last. last ≡ last_day_of o) result }
     {
         self.read(LastDay)
@@ -45,7 +51,9 @@ impl<S: AtPath> Keeper for KeeperIn<S> {
     fn day(&mut self, day: u32) -> Result<Option<DayRecord>, KeepFault>
         ensures cause { CountsFaults self.old.faults self.new.faults result }
         ensures does { AskedToRead self.old.database.kept self.new.database.kept
-            (AreFound S.Pages.Pages) (Looks S.Pages.Pages) (λ k. k.unmade ≢ Some NoMemory) (λ k. state S.Store k.conn) (WasRefused S.Store)
+            (AreFound ⟦<Pool<D> as Pages>⟧) (Looks ⟦<Pool<D> as Pages>⟧)
+            (λ k. k.unmade ≢ Some NoMemory) (λ k. state ⟦<FileStore<D> as Store>⟧ k.conn)
+            (WasRefused ⟦<FileStore<D> as Store>⟧)
             (λ o kept. kept ≡ record_of o day) result }
     {
         self.read(AskedDay { day })
@@ -54,7 +62,9 @@ impl<S: AtPath> Keeper for KeeperIn<S> {
     fn past(&mut self) -> Result<Option<PastRecord>, KeepFault>
         ensures cause { CountsFaults self.old.faults self.new.faults result }
         ensures does { AskedToRead self.old.database.kept self.new.database.kept
-            (AreFound S.Pages.Pages) (Looks S.Pages.Pages) (λ k. k.unmade ≢ Some NoMemory) (λ k. state S.Store k.conn) (WasRefused S.Store)
+            (AreFound ⟦<Pool<D> as Pages>⟧) (Looks ⟦<Pool<D> as Pages>⟧)
+            (λ k. k.unmade ≢ Some NoMemory) (λ k. state ⟦<FileStore<D> as Store>⟧ k.conn)
+            (WasRefused ⟦<FileStore<D> as Store>⟧)
             (λ o past. past ≡ o.past) result }
     {
         self.read(Past)
@@ -63,7 +73,9 @@ impl<S: AtPath> Keeper for KeeperIn<S> {
     fn spent(&mut self, day: u32, vid: u32, xway: u8) -> Result<u64, KeepFault>
         ensures cause { CountsFaults self.old.faults self.new.faults result }
         ensures does { AskedToRead self.old.database.kept self.new.database.kept
-            (AreFound S.Pages.Pages) (Looks S.Pages.Pages) (λ k. k.unmade ≢ Some NoMemory) (λ k. state S.Store k.conn) (WasRefused S.Store)
+            (AreFound ⟦<Pool<D> as Pages>⟧) (Looks ⟦<Pool<D> as Pages>⟧)
+            (λ k. k.unmade ≢ Some NoMemory) (λ k. state ⟦<FileStore<D> as Store>⟧ k.conn)
+            (WasRefused ⟦<FileStore<D> as Store>⟧)
             (λ o tolls. tolls ≡ paid o.rows day vid xway) result }
     {
         self.read(AskedSpent { day, vid, xway })
@@ -73,7 +85,9 @@ impl<S: AtPath> Keeper for KeeperIn<S> {
         ensures rise { IfOk result (λ rows. RowsRise rows.items) }
         ensures cause { CountsFaults self.old.faults self.new.faults result }
         ensures does { AskedToRead self.old.database.kept self.new.database.kept
-            (AreFound S.Pages.Pages) (Looks S.Pages.Pages) (λ k. k.unmade ≢ Some NoMemory) (λ k. state S.Store k.conn) (WasRefused S.Store)
+            (AreFound ⟦<Pool<D> as Pages>⟧) (Looks ⟦<Pool<D> as Pages>⟧)
+            (λ k. k.unmade ≢ Some NoMemory) (λ k. state ⟦<FileStore<D> as Store>⟧ k.conn)
+            (WasRefused ⟦<FileStore<D> as Store>⟧)
             (λ o rows. rows.items ≡ rows_between o from to) result }
     {
         self.read(Rows { from, to })
@@ -83,7 +97,9 @@ impl<S: AtPath> Keeper for KeeperIn<S> {
         ensures rise { IfOk result (λ rows. RowsRise rows.items) }
         ensures cause { CountsFaults self.old.faults self.new.faults result }
         ensures does { AskedToRead self.old.database.kept self.new.database.kept
-            (AreFound S.Pages.Pages) (Looks S.Pages.Pages) (λ k. k.unmade ≢ Some NoMemory) (λ k. state S.Store k.conn) (WasRefused S.Store)
+            (AreFound ⟦<Pool<D> as Pages>⟧) (Looks ⟦<Pool<D> as Pages>⟧)
+            (λ k. k.unmade ≢ Some NoMemory) (λ k. state ⟦<FileStore<D> as Store>⟧ k.conn)
+            (WasRefused ⟦<FileStore<D> as Store>⟧)
             (λ o rows. rows.items ≡ vehicle_rows_between o vid from to) result }
     {
         self.read(VehicleRows { vid, from, to })
@@ -92,7 +108,9 @@ impl<S: AtPath> Keeper for KeeperIn<S> {
     fn tariffs(&mut self) -> Result<Tariffs, KeepFault>
         ensures cause { CountsFaults self.old.faults self.new.faults result }
         ensures does { AskedToRead self.old.database.kept self.new.database.kept
-            (AreFound S.Pages.Pages) (Looks S.Pages.Pages) (λ k. k.unmade ≢ Some NoMemory) (λ k. state S.Store k.conn) (WasRefused S.Store)
+            (AreFound ⟦<Pool<D> as Pages>⟧) (Looks ⟦<Pool<D> as Pages>⟧)
+            (λ k. k.unmade ≢ Some NoMemory) (λ k. state ⟦<FileStore<D> as Store>⟧ k.conn)
+            (WasRefused ⟦<FileStore<D> as Store>⟧)
             (λ o tariffs. tariffs ≡ o.tariffs) result }
     {
         self.read(KeptTariffs)
@@ -103,7 +121,8 @@ impl<S: AtPath> Keeper for KeeperIn<S> {
         requires later { IfTold None (λ o. IsLater kept.now.day o) }
         ensures cause { CountsFaults self.old.faults self.new.faults result }
         ensures does { AskedToPut self.old.database.kept self.new.database.kept
-            (λ k. k.unmade ≢ Some NoMemory) (λ k. state S.Store k.conn) (WasRefused S.Store)
+            (λ k. k.unmade ≢ Some NoMemory) (λ k. state ⟦<FileStore<D> as Store>⟧ k.conn)
+            (WasRefused ⟦<FileStore<D> as Store>⟧)
             (IsLater kept.now.day) (with_day kept.now rows.now) result }
     {
         self.put(PutDay { kept, rows })
@@ -114,7 +133,8 @@ impl<S: AtPath> Keeper for KeeperIn<S> {
         requires first { IfTold None HasNoDays }
         ensures cause { CountsFaults self.old.faults self.new.faults result }
         ensures does { AskedToPut self.old.database.kept self.new.database.kept
-            (λ k. k.unmade ≢ Some NoMemory) (λ k. state S.Store k.conn) (WasRefused S.Store)
+            (λ k. k.unmade ≢ Some NoMemory) (λ k. state ⟦<FileStore<D> as Store>⟧ k.conn)
+            (WasRefused ⟦<FileStore<D> as Store>⟧)
             HasNoDays (with_past kept.now rows.now) result }
     {
         self.put(PutPast { kept, rows })
@@ -124,7 +144,8 @@ impl<S: AtPath> Keeper for KeeperIn<S> {
         requires valid { IsTariff tariff.now }
         ensures cause { CountsFaults self.old.faults self.new.faults result }
         ensures does { AskedToPut self.old.database.kept self.new.database.kept
-            (λ k. k.unmade ≢ Some NoMemory) (λ k. state S.Store k.conn) (WasRefused S.Store)
+            (λ k. k.unmade ≢ Some NoMemory) (λ k. state ⟦<FileStore<D> as Store>⟧ k.conn)
+            (WasRefused ⟦<FileStore<D> as Store>⟧)
             FitsAny (with_tariff_of xway tariff.now) result }
     {
         self.put(PutTariff { xway, tariff })

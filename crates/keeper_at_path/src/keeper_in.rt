@@ -14,20 +14,23 @@ use crate::kept::Kept;
 use keeper::KeepFault;
 use keeper_writes::refusals::count;
 use road_time::NoMemory;
-use sqlite::Connection;
+use sqlite::{Connection, FileStore};
+use sqlite_pages::Pages;
+use sqlite_pool::Pool;
+use sqlite_trees::store::Store;
 use std::alloc::Global;
 use std::rt::HostRuntime;
 
 /// A database that counts the calls that failed.
 #[derive(Drop)]
-pub struct KeeperIn<S: AtPath> {
-    database: Database<S>,
+pub struct KeeperIn<D: AtPath> {
+    database: Database<D>,
     faults: u64,
 }
 
-impl<S: AtPath> KeeperIn<S> {
+impl<D: AtPath> KeeperIn<D> {
     /// The keeper in the file at a path.
-    pub fn at(alloc: Global, rt: HostRuntime, path: &str) -> Result<KeeperIn<S>, NoMemory>
+    pub fn at(alloc: Global, rt: HostRuntime, path: &str) -> Result<KeeperIn<D>, NoMemory>
         ensures { IfOk result (λ keeper. keeper.faults ≡ 0) }
     {
         let path = String::from_str(alloc, path)?;
@@ -38,7 +41,7 @@ impl<S: AtPath> KeeperIn<S> {
     }
 
     /// The pages or the connection, if the database is open.
-    pub fn give_up(self) -> Option<Kept<S::Pages, Connection<S>>> {
+    pub fn give_up(self) -> Option<Kept<Pool<D>, Connection<FileStore<D>>>> {
         let KeeperIn {
             database,
             faults: _,
@@ -49,8 +52,8 @@ impl<S: AtPath> KeeperIn<S> {
     /// Makes a call that reads, and counts it where it failed.
     pub fn read<C: Reading + Drop>(&mut self, call: C) -> Result<C::Answer, KeepFault>
         ensures answers { IfOk result C.answers }
-        ensures does { AskedToRead self.old.database.kept self.new.database.kept (AreFound S.Pages.Pages)
-            (Looks S.Pages.Pages) (λ k. k.unmade ≢ Some no_memory) (λ k. state S.Store k.conn) (WasRefused S.Store)
+        ensures does { AskedToRead self.old.database.kept self.new.database.kept (AreFound ⟦<Pool<D> as Pages>⟧)
+            (Looks ⟦<Pool<D> as Pages>⟧) (λ k. k.unmade ≢ Some no_memory) (λ k. state ⟦<FileStore<D> as Store>⟧ k.conn) (WasRefused ⟦<FileStore<D> as Store>⟧)
             (C.gives call) result }
         ensures cause { CountsFaults self.old.faults self.new.faults result }
     {
@@ -62,7 +65,7 @@ impl<S: AtPath> KeeperIn<S> {
     pub fn put<C: Putting + Drop>(&mut self, call: C) -> Result<(), KeepFault>
         requires { C.fits call }
         ensures does { AskedToPut self.old.database.kept self.new.database.kept (λ k. k.unmade ≢ Some no_memory)
-            (λ k. state S.Store k.conn) (WasRefused S.Store) (C.asks call) (C.next call) result }
+            (λ k. state ⟦<FileStore<D> as Store>⟧ k.conn) (WasRefused ⟦<FileStore<D> as Store>⟧) (C.asks call) (C.next call) result }
         ensures cause { CountsFaults self.old.faults self.new.faults result }
     {
         let answer = self.database.put(call);

@@ -3,6 +3,7 @@ ghost use Rattle.std.specs.Prelude.{IsTrue, IfOk};
 ghost use Rattle.sqlite_pool.specs.Opening.{AreUsable};
 ghost use Rattle.keeper_at_path.specs.Looks.{AreFound, FindsTrees};
 
+use crate::at_path::AtPath;
 use crate::kept::Kept;
 use sqlite::{Connection, Error, ErrorCode, FileStore, Files, Options};
 use sqlite_disk::Disk;
@@ -11,6 +12,8 @@ use sqlite_pages::{Error as PageError, Pages};
 use sqlite_pool::Pool;
 use sqlite_wal::{PageSize, probe_first_page, probe_page_size};
 use std::alloc::Global;
+use std::hash::{BuildHasher, RandomState};
+use std::rt::HostRuntime;
 use tree_keeper::{PageTrees, recovered};
 
 /// The page size of a file that the programs made.
@@ -125,16 +128,47 @@ pub fn shut<D: Disk + Drop>(mut pool: Pool<D>) -> Result<(), Error> {
     }
 }
 
-/// The trees of files where they are exactly ours, or else the files whole.
-pub fn found<D: Disk + Drop>(
+/// A random number.
+fn seed(rt: &HostRuntime) -> Result<u64, Error> {
+    match RandomState::new(rt) {
+        Ok(random) => Ok(random.hash_one(&0u8)),
+        Err(_) => Err(Error::SqliteFailure(ErrorCode::CannotOpen)),
+    }
+}
+
+/// The file at a path, whole.
+pub fn open_whole<D: AtPath>(
     rt: &HostRuntime,
-    files: Files<D>,
-    seed: u64,
+    path: &str,
+) -> Result<Connection<FileStore<D>>, Error> {
+    let seed = seed(rt)?;
+    let files = D::open(rt, path)?;
+    connected(rt, files, seed)
+}
+
+/// The file of some pages, whole. Nobody else opens it in between.
+pub fn make_whole<D: AtPath>(
+    rt: &HostRuntime,
+    pool: Pool<D>,
+) -> Result<Connection<FileStore<D>>, Error> {
+    let seed = seed(rt)?;
+    connected(rt, pool.close(), seed)
+}
+
+/// The trees of the file at a path where it is exactly ours, or else the file whole.
+pub fn open_to_read<D: AtPath>(
+    rt: &HostRuntime,
+    path: &str,
 ) -> Result<Kept<PageTrees<Pool<D>>, Connection<FileStore<D>>>, Error>
-    requires log { IsTrue (D.Disk.is_usable files.log) }
-    requires db { IsTrue (D.Disk.is_usable files.db) }
     ensures { IfOk result (FindsTrees ⟦<Pool<D> as Pages>⟧) }
 {
+    let Ok(seed) = seed(rt) else {
+        return Err(Error::SqliteFailure(ErrorCode::CannotOpen));
+    };
+    let files = match D::open(rt, path) {
+        Ok(files) => files,
+        Err(error) => return Err(error),
+    };
     let files = match trees_of(rt.alloc(), files, seed) {
         Ok(trees) => return Ok(Kept::Trees(trees)),
         Err(files) => files,

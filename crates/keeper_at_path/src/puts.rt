@@ -1,6 +1,6 @@
 // The calls of a keeper that put.
-use crate::at_path::AtPath;
 use crate::call::Putting;
+use crate::shuts::Shuts;
 use keeper::{DayRecord, KeepFault, Keeper, PastRecord};
 use keeper_proof::ProvedKeeper;
 use road_time::{SpentRow, Tariff};
@@ -21,7 +21,7 @@ impl<'a> Putting for PutDay<'a> {
 
     ghost next = { λ put. with_day put.kept.now put.rows.now };
 
-    fn put<S: AtPath>(self, kept: &mut ProvedKeeper<S>) -> Result<(), KeepFault> {
+    fn put<S: Shuts>(self, kept: &mut ProvedKeeper<S>) -> Result<(), KeepFault> {
         kept.put_day(self.kept, self.rows)
     }
 }
@@ -42,7 +42,7 @@ impl<'a> Putting for PutPast<'a> {
 
     ghost next = { λ put. with_past put.kept.now put.rows.now };
 
-    fn put<S: AtPath>(self, kept: &mut ProvedKeeper<S>) -> Result<(), KeepFault> {
+    fn put<S: Shuts>(self, kept: &mut ProvedKeeper<S>) -> Result<(), KeepFault> {
         kept.put_past(self.kept, self.rows)
     }
 }
@@ -65,7 +65,7 @@ impl<'a> Putting for PutTariff<'a> {
 
     ghost next = { λ put. with_tariff_of put.xway put.tariff.now };
 
-    fn put<S: AtPath>(self, kept: &mut ProvedKeeper<S>) -> Result<(), KeepFault> {
+    fn put<S: Shuts>(self, kept: &mut ProvedKeeper<S>) -> Result<(), KeepFault> {
         kept.put_tariff(self.xway, self.tariff)
     }
 }

@@ -1,8 +1,7 @@
 // The calls of a keeper that read.
-use crate::at_path::AtPath;
 use crate::call::Reading;
 use keeper::{DayRecord, KeepFault, Keeper, PastRecord};
-use keeper_proof::ProvedKeeper;
+use keeper_proof::{ProvedKeeper, Steady};
 use road_time::{SpentRow, Tariffs};
 use sqlite_pages::Pages;
 use std::alloc::Global;
@@ -22,7 +21,7 @@ impl Reading for LastDay {
 
     ghost gives = { λ _ o last. last ≡ last_day_of o };
 
-    fn ask<S: AtPath>(self, kept: &mut ProvedKeeper<S>) -> Result<u32, KeepFault> {
+    fn ask<S: Steady>(self, kept: &mut ProvedKeeper<S>) -> Result<u32, KeepFault> {
         kept.last_day()
     }
 
@@ -47,7 +46,7 @@ impl Reading for AskedDay {
 
     ghost gives = { λ ask o kept. kept ≡ record_of o ask.day };
 
-    fn ask<S: AtPath>(self, kept: &mut ProvedKeeper<S>) -> Result<Option<DayRecord>, KeepFault> {
+    fn ask<S: Steady>(self, kept: &mut ProvedKeeper<S>) -> Result<Option<DayRecord>, KeepFault> {
         kept.day(self.day)
     }
 
@@ -73,7 +72,7 @@ impl Reading for Past {
 
     ghost gives = { λ _ o past. past ≡ o.past };
 
-    fn ask<S: AtPath>(self, kept: &mut ProvedKeeper<S>) -> Result<Option<PastRecord>, KeepFault> {
+    fn ask<S: Steady>(self, kept: &mut ProvedKeeper<S>) -> Result<Option<PastRecord>, KeepFault> {
         kept.past()
     }
 
@@ -104,7 +103,7 @@ impl Reading for AskedSpent {
 
     ghost gives = { λ ask o tolls. tolls ≡ paid o.rows ask.day ask.vid ask.xway };
 
-    fn ask<S: AtPath>(self, kept: &mut ProvedKeeper<S>) -> Result<u64, KeepFault> {
+    fn ask<S: Steady>(self, kept: &mut ProvedKeeper<S>) -> Result<u64, KeepFault> {
         kept.spent(self.day, self.vid, self.xway)
     }
 
@@ -130,7 +129,7 @@ impl Reading for Rows {
 
     ghost gives = { λ ask o rows. rows.items ≡ rows_between o ask.from ask.to };
 
-    fn ask<S: AtPath>(self, kept: &mut ProvedKeeper<S>) -> Result<Vec<SpentRow>, KeepFault> {
+    fn ask<S: Steady>(self, kept: &mut ProvedKeeper<S>) -> Result<Vec<SpentRow>, KeepFault> {
         kept.rows(self.from, self.to)
     }
 
@@ -161,7 +160,7 @@ impl Reading for VehicleRows {
 
     ghost gives = { λ ask o rows. rows.items ≡ vehicle_rows_between o ask.vid ask.from ask.to };
 
-    fn ask<S: AtPath>(self, kept: &mut ProvedKeeper<S>) -> Result<Vec<SpentRow>, KeepFault> {
+    fn ask<S: Steady>(self, kept: &mut ProvedKeeper<S>) -> Result<Vec<SpentRow>, KeepFault> {
         kept.vehicle_rows(self.vid, self.from, self.to)
     }
 
@@ -187,7 +186,7 @@ impl Reading for KeptTariffs {
 
     ghost gives = { λ _ o tariffs. tariffs ≡ o.tariffs };
 
-    fn ask<S: AtPath>(self, kept: &mut ProvedKeeper<S>) -> Result<Tariffs, KeepFault> {
+    fn ask<S: Steady>(self, kept: &mut ProvedKeeper<S>) -> Result<Tariffs, KeepFault> {
         kept.tariffs()
     }
 

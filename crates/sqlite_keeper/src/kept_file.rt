@@ -8,7 +8,7 @@ ghost use Rattle.keeper_at_path.specs.Asked.{AskedToRead, AskedToPut};
 ghost use Rattle.keeper_at_path.specs.Looks.{AreFound, Looks};
 
 use keeper::KeepFault;
-use keeper_at_path::{AtPath, Kept, KeeperIn, KeptPages, KeptStore, Putting, Reading};
+use keeper_at_path::{Kept, KeeperIn, KeptDisk, KeptPages, KeptStore, Putting, Reading, shut as shut_pool};
 use keeper_writes::refusals::refusal;
 use road_time::NoMemory;
 use sqlite::Connection;
@@ -25,7 +25,7 @@ pub const KEPT_FILE: &str = "tolls.db";
 /// database behind it.
 #[derive(Drop)]
 pub struct SqliteKeeper {
-    in_file: KeeperIn<KeptStore>,
+    in_file: KeeperIn<KeptDisk>,
 }
 
 impl SqliteKeeper {
@@ -82,7 +82,7 @@ fn shut(conn: Connection<KeptStore>) -> Result<(), KeepFault> {
 
 /// Closes the file of pages.
 fn shut_pages(pages: KeptPages) -> Result<(), KeepFault> {
-    match <KeptStore as AtPath>::shut(pages) {
+    match shut_pool(pages) {
         Ok(()) => Ok(()),
         Err(error) => Err(refusal(error)),
     }

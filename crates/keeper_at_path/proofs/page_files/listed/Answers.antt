@@ -9,5 +9,5 @@ returns-in-Ok g c = λ clean o holds.
     let size : _ = c.in-Ok.ensures.same.0.same_size in
     let pages : _ = c.in-Ok.ensures.same.1 in
     c.in-Ok.ensures.found clean o
-        (subst (λ (n : ℕ). HoldOffice n (g.P.Pages.pages c.args.pages) o) size
-        (subst (λ (m : PageMap). HoldOffice (g.P.Pages.size c.in-Ok.trees.pages) m o) pages holds))
+    (subst (λ (n : ℕ). HoldOffice n (g.P.Pages.pages c.args.pages) o) size
+    (subst (λ (m : PageMap). HoldOffice (g.P.Pages.size c.in-Ok.trees.pages) m o) pages holds))

@@ -1,7 +1,5 @@
-use Rattle.std.proofs.Common.{inl, inr, ◌≢◌, Some, subst}
-use Rattle.keeper.specs.declared.kept.KeepFault.TheVariants.{NoMemory}
+use Rattle.std.proofs.Common.{inl, inr, subst}
 use Rattle.keeper_at_path.specs.Asked.{IsReadyToRead}
-use Rattle.keeper_at_path.specs.Looks.{AreFound}
 use Rattle.keeper_at_path.proofs.database.Database.read.Goals as goal
 
 -- a call of a whole file
@@ -13,7 +11,7 @@ returns-in-Whole-clause-does g c =
       before = c.in-Whole.kept;
       after = c.ask-answer.new.kept;
       ready =
-          subst (IsReadyToRead (AreFound g.S.Pages.Pages) (λ k. k.unmade ≢ Some NoMemory) c.args.self.now.kept)
+          subst (IsReadyToRead _ _ c.args.self.now.kept)
           c.in-Whole.is c.in-Ok.ensures.ready;
       does = c.ask-answer.ensures.does;
       kept = c.unless_failed.ensures;
@@ -27,7 +25,7 @@ returns-clause-does g c =
       before = c.in-Trees.trees;
       after = c.look-answer.new.trees;
       ready =
-          subst (IsReadyToRead (AreFound g.S.Pages.Pages) (λ k. k.unmade ≢ Some NoMemory) c.args.self.now.kept)
+          subst (IsReadyToRead _ _ c.args.self.now.kept)
           c.in-Trees.is c.in-Ok.ensures.ready;
       looks = c.look-answer.ensures.looks;
       kept = c.unless_failed-2.ensures;

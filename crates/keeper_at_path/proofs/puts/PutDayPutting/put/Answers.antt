@@ -6,7 +6,7 @@ use Rattle.keeper_at_path.proofs.DoesLaws.{put_does}
 use Rattle.keeper_at_path.proofs.puts.PutDayPutting.put.Goals as goal
 
 pub put_day-requires : goal.put_day-requires
-put_day-requires g c = record { fits = c.requires; later = untold_fits g.S.Steady.is_steady g.met.S.AtPath.shuts _ _ }
+put_day-requires g c = record { fits = c.requires; later = untold_fits g.S.Steady.is_steady g.met.S.Shuts.shuts _ _ }
 
 pub returns : goal.returns
 returns g c =

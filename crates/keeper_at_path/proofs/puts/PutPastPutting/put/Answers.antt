@@ -6,7 +6,7 @@ use Rattle.keeper_at_path.proofs.DoesLaws.{put_does}
 use Rattle.keeper_at_path.proofs.puts.PutPastPutting.put.Goals as goal
 
 pub put_past-requires : goal.put_past-requires
-put_past-requires g c = record { fits = c.requires; first = untold_fits g.S.Steady.is_steady g.met.S.AtPath.shuts _ _ }
+put_past-requires g c = record { fits = c.requires; first = untold_fits g.S.Steady.is_steady g.met.S.Shuts.shuts _ _ }
 
 pub returns : goal.returns
 returns g c =
