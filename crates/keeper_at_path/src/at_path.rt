@@ -27,7 +27,8 @@ const CANNOT_OPEN: Error = Error::SqliteFailure(ErrorCode::CannotOpen);
 pub trait AtPath: Disk + Drop {
     /// The two files at a path. Nobody else opens them until they are let go.
     fn open(rt: &HostRuntime, path: &str) -> Result<Files<Self>, Error>
-        ensures { IfOk result (λ files. IsTrue (Self.Disk.is_usable files.log) × IsTrue (Self.Disk.is_usable files.db)) };
+        ensures { IfOk result (λ files. IsTrue (Self.Disk.is_usable files.log)
+            × IsTrue (Self.Disk.is_usable files.db)) };
 }
 
 impl AtPath for KeptDisk {

@@ -11,7 +11,7 @@ use crate::call::{Putting, Reading};
 use crate::kept::Kept;
 use crate::page_files::{make_whole, open_to_read, open_whole};
 use keeper::KeepFault;
-use keeper_proof::ProvedKeeper;
+use keeper_proof::{ProvedKeeper, Steady};
 use keeper_writes::refusals::refusal;
 use sqlite::{Connection, FileStore};
 use sqlite_pages::Pages;
@@ -57,8 +57,10 @@ impl<D: AtPath> Database<D> {
     /// call opens the file anew.
     pub(crate) fn read<C: Reading + Drop>(&mut self, call: C) -> Result<C::Answer, KeepFault>
         ensures answers { IfOk result C.answers }
-        ensures does { AskedToRead self.old.kept self.new.kept (AreFound ⟦<Pool<D> as Pages>⟧) (Looks ⟦<Pool<D> as Pages>⟧)
-            (λ k. k.unmade ≢ Some NoMemory) (λ k. state ⟦<FileStore<D> as Store>⟧ k.conn) (WasRefused ⟦<FileStore<D> as Store>⟧) (C.gives call) result }
+        ensures does { AskedToRead self.old.kept self.new.kept
+            (AreFound ⟦<Pool<D> as Pages>⟧) (Looks ⟦<Pool<D> as Pages>⟧)
+            (λ k. k.unmade ≢ Some NoMemory) (λ k. state ⟦<FileStore<D> as Store>⟧ k.conn)
+            (WasRefused ⟦<FileStore<D> as Store>⟧) (C.gives call) result }
     {
         let ready = match self.ready_to_read() {
             Ok(ready) => ready,
@@ -81,7 +83,8 @@ impl<D: AtPath> Database<D> {
     pub(crate) fn put<C: Putting + Drop>(&mut self, call: C) -> Result<(), KeepFault>
         requires { C.fits call }
         ensures { AskedToPut self.old.kept self.new.kept (λ k. k.unmade ≢ Some NoMemory)
-            (λ k. state ⟦<FileStore<D> as Store>⟧ k.conn) (WasRefused ⟦<FileStore<D> as Store>⟧) (C.asks call) (C.next call) result }
+            (λ k. state ⟦<FileStore<D> as Store>⟧ k.conn) (WasRefused ⟦<FileStore<D> as Store>⟧)
+            (C.asks call) (C.next call) result }
     {
         let mut kept = match self.ready_to_put() {
             Ok(kept) => kept,
@@ -96,7 +99,8 @@ impl<D: AtPath> Database<D> {
     fn ready_to_read(
         &mut self,
     ) -> Result<Kept<PageTrees<Pool<D>>, ProvedKeeper<FileStore<D>>>, KeepFault>
-        ensures ready { IfOk result (IsReadyToRead (AreFound ⟦<Pool<D> as Pages>⟧) (λ k. k.unmade ≢ Some NoMemory) self.old.kept) }
+        ensures ready { IfOk result (IsReadyToRead (AreFound ⟦<Pool<D> as Pages>⟧)
+            (λ k. k.unmade ≢ Some NoMemory) self.old.kept) }
         ensures none { self.new.kept ≡ None }
         ensures unopened { IfErr result (λ _. self.old.kept ≡ None) }
     {
@@ -159,10 +163,7 @@ impl<D: AtPath> Database<D> {
 }
 
 /// The keeper on a connection. Where there was no memory to make its tables, the connection is let go.
-fn adopted<D: AtPath>(
-    alloc: Global,
-    conn: Connection<FileStore<D>>,
-) -> Result<ProvedKeeper<FileStore<D>>, KeepFault>
+fn adopted<S: Steady>(alloc: Global, conn: Connection<S>) -> Result<ProvedKeeper<S>, KeepFault>
     ensures { IfOk result (λ kept. kept.unmade ≢ Some NoMemory) }
 {
     let kept = ProvedKeeper::adopt(alloc, conn);

@@ -52,9 +52,10 @@ impl<D: AtPath> KeeperIn<D> {
     /// Makes a call that reads, and counts it where it failed.
     pub fn read<C: Reading + Drop>(&mut self, call: C) -> Result<C::Answer, KeepFault>
         ensures answers { IfOk result C.answers }
-        ensures does { AskedToRead self.old.database.kept self.new.database.kept (AreFound ⟦<Pool<D> as Pages>⟧)
-            (Looks ⟦<Pool<D> as Pages>⟧) (λ k. k.unmade ≢ Some no_memory) (λ k. state ⟦<FileStore<D> as Store>⟧ k.conn) (WasRefused ⟦<FileStore<D> as Store>⟧)
-            (C.gives call) result }
+        ensures does { AskedToRead self.old.database.kept self.new.database.kept
+            (AreFound ⟦<Pool<D> as Pages>⟧) (Looks ⟦<Pool<D> as Pages>⟧)
+            (λ k. k.unmade ≢ Some no_memory) (λ k. state ⟦<FileStore<D> as Store>⟧ k.conn)
+            (WasRefused ⟦<FileStore<D> as Store>⟧) (C.gives call) result }
         ensures cause { CountsFaults self.old.faults self.new.faults result }
     {
         let answer = self.database.read(call);
@@ -65,7 +66,8 @@ impl<D: AtPath> KeeperIn<D> {
     pub fn put<C: Putting + Drop>(&mut self, call: C) -> Result<(), KeepFault>
         requires { C.fits call }
         ensures does { AskedToPut self.old.database.kept self.new.database.kept (λ k. k.unmade ≢ Some no_memory)
-            (λ k. state ⟦<FileStore<D> as Store>⟧ k.conn) (WasRefused ⟦<FileStore<D> as Store>⟧) (C.asks call) (C.next call) result }
+            (λ k. state ⟦<FileStore<D> as Store>⟧ k.conn) (WasRefused ⟦<FileStore<D> as Store>⟧)
+            (C.asks call) (C.next call) result }
         ensures cause { CountsFaults self.old.faults self.new.faults result }
     {
         let answer = self.database.put(call);
