@@ -8,6 +8,7 @@
 
 ghost use Rattle.road_time.specs.Fits.{IsLimits};
 
+mod by_trees;
 mod files;
 mod old;
 mod refused;
@@ -16,7 +17,7 @@ mod spoiled;
 mod worked;
 
 use keeper::{Keeper, MemKeeper};
-use keeper_at_path::KeptStore;
+use keeper_at_path::KeptDisk;
 use office_commands::{ASIDE_FILE, office};
 use partition_workers::{NoGate, ThreadCrew};
 use road_io::{FileSource, MemSink};
@@ -262,7 +263,7 @@ fn all<R: Threads + Sync + Copy>(rt: HostRuntime, threads: R) -> anyhow::Result<
     over_both(rt, threads, "ten.db", &ROOM_OF_10)?;
     over_both(rt, threads, "line.db", &ONE_LINE)?;
     over_file(rt, threads, "old.db", &OF_VERSION_1)?;
-    files::rows::<KeptStore>(rt)
+    files::rows::<KeptDisk>(rt)
 }
 
 fn main(rt: HostRuntime) -> anyhow::Result<()> {

@@ -22,7 +22,7 @@ INSERT INTO spent VALUES (99, 7, 0, 5), (31, 7, 0, 28);
 INSERT INTO past VALUES (1, 100, x'e3b0c44298fc1c149afbf4c8996fb92427ae41e4649b934ca495991b7852b855', 18, 2)";
 
 /// Whether the file, which is opened anew, has day 100 under the seal of no tariffs.
-fn has_day<S: AtPath>(rt: HostRuntime) -> Result<bool, KeepFault> {
+fn has_day<D: AtPath>(rt: HostRuntime) -> Result<bool, KeepFault> {
     let digest = Digester::new().finish();
     let wanted = DayRecord {
         day: 100,
@@ -34,14 +34,14 @@ fn has_day<S: AtPath>(rt: HostRuntime) -> Result<bool, KeepFault> {
         tariffs: digest,
         total: 0,
     };
-    let mut file = KeeperIn::<S>::at(rt.alloc(), rt, FILE)?;
+    let mut file = KeeperIn::<D>::at(rt.alloc(), rt, FILE)?;
     Ok(file.day(100)? == Some(wanted))
 }
 
 /// Whether the file, which is opened anew, has the history, and no tariff.
-fn has_history<S: AtPath>(rt: HostRuntime) -> Result<bool, KeepFault> {
+fn has_history<D: AtPath>(rt: HostRuntime) -> Result<bool, KeepFault> {
     let digest = Digester::new().finish();
-    let mut file = KeeperIn::<S>::at(rt.alloc(), rt, FILE)?;
+    let mut file = KeeperIn::<D>::at(rt.alloc(), rt, FILE)?;
     let past = file.past()? == Some(history(digest));
     let rows = file.rows(0, 100)?.as_slice() == [row(31, 28), row(99, 5)].as_slice();
     let tariff = file.tariffs()?.of(0) == Tariff::BENCHMARK;
@@ -49,23 +49,23 @@ fn has_history<S: AtPath>(rt: HostRuntime) -> Result<bool, KeepFault> {
 }
 
 /// Whether a file in which another hand made one of the tables is a fault.
-pub fn with_one_table<S: AtPath>(rt: HostRuntime) -> Result<bool, KeepFault> {
+pub fn with_one_table<D: AtPath>(rt: HostRuntime) -> Result<bool, KeepFault> {
     let path = "sealed.db";
-    by_hand::<S>(
+    by_hand::<D>(
         rt,
         path,
         "CREATE TABLE day_tariffs (day INTEGER PRIMARY KEY, digest BLOB NOT NULL) STRICT;
 INSERT INTO day_tariffs VALUES (100, x'00')",
     )?;
-    Ok(put_day::<S>(rt, path) == Err(KeepFault::Failed))
+    Ok(put_day::<D>(rt, path) == Err(KeepFault::Failed))
 }
 
 /// Whether a file of version 1 can be made, and has its day and its history each of the times that it is opened.
-pub fn taken_over<S: AtPath>(rt: HostRuntime) -> Result<[bool; 5], KeepFault> {
-    let made = by_hand::<S>(rt, FILE, OLD).is_ok();
-    let day = has_day::<S>(rt)?;
-    let history = has_history::<S>(rt)?;
-    let day_again = has_day::<S>(rt)?;
-    let history_again = has_history::<S>(rt)?;
+pub fn taken_over<D: AtPath>(rt: HostRuntime) -> Result<[bool; 5], KeepFault> {
+    let made = by_hand::<D>(rt, FILE, OLD).is_ok();
+    let day = has_day::<D>(rt)?;
+    let history = has_history::<D>(rt)?;
+    let day_again = has_day::<D>(rt)?;
+    let history_again = has_history::<D>(rt)?;
     Ok([made, day, history, day_again, history_again])
 }

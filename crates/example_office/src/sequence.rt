@@ -42,12 +42,12 @@ fn same_tariffs<K: Keeper, L: Keeper>(one: &mut K, other: &mut L) -> Result<bool
 }
 
 /// The last day of the file at a path, which is opened anew, and whether it says the same as the keeper in memory.
-fn agree<S: AtPath>(
+fn agree<D: AtPath>(
     rt: HostRuntime,
     path: &str,
     memory: &mut MemKeeper,
 ) -> Result<(u32, bool), KeepFault> {
-    let mut file = KeeperIn::<S>::at(rt.alloc(), rt, path)?;
+    let mut file = KeeperIn::<D>::at(rt.alloc(), rt, path)?;
     let days = same_days(&mut file, memory)?;
     let amounts = same_amounts(&mut file, memory)?;
     let rows = same_rows(&mut file, memory)?;
@@ -56,9 +56,9 @@ fn agree<S: AtPath>(
 }
 
 /// Puts the history into the file.
-fn file_history<S: AtPath>(rt: HostRuntime) -> Result<(), KeepFault> {
+fn file_history<D: AtPath>(rt: HostRuntime) -> Result<(), KeepFault> {
     let digest = Digester::new().finish();
-    let mut file = KeeperIn::<S>::at(rt.alloc(), rt, FILE)?;
+    let mut file = KeeperIn::<D>::at(rt.alloc(), rt, FILE)?;
     file.put_past(&history(digest), &[row(31, 28), row(99, 5)])
 }
 
@@ -80,7 +80,7 @@ fn memory_day(memory: &mut MemKeeper) -> Result<(), KeepFault> {
 }
 
 /// Puts a tariff into the file.
-fn file_tariff<S: AtPath>(rt: HostRuntime, factor: u8) -> Result<(), KeepFault>
+fn file_tariff<D: AtPath>(rt: HostRuntime, factor: u8) -> Result<(), KeepFault>
     requires { factor ≤ 20 }
 {
     let tariff = Tariff {
@@ -88,7 +88,7 @@ fn file_tariff<S: AtPath>(rt: HostRuntime, factor: u8) -> Result<(), KeepFault>
         speed: 40,
         factor,
     };
-    let mut file = KeeperIn::<S>::at(rt.alloc(), rt, FILE)?;
+    let mut file = KeeperIn::<D>::at(rt.alloc(), rt, FILE)?;
     file.put_tariff(3, &tariff)
 }
 
@@ -114,44 +114,44 @@ fn memory_tariff(rt: HostRuntime, factor: u8) -> Result<MemKeeper, KeepFault>
 }
 
 /// What both say at first.
-pub fn at_first<S: AtPath>(rt: HostRuntime) -> Result<(u32, bool), KeepFault> {
+pub fn at_first<D: AtPath>(rt: HostRuntime) -> Result<(u32, bool), KeepFault> {
     let mut memory = MemKeeper::new(rt.alloc(), &[])?;
-    agree::<S>(rt, FILE, &mut memory)
+    agree::<D>(rt, FILE, &mut memory)
 }
 
 /// What both say after the history.
-pub fn after_history<S: AtPath>(rt: HostRuntime) -> Result<(u32, bool), KeepFault> {
-    file_history::<S>(rt)?;
+pub fn after_history<D: AtPath>(rt: HostRuntime) -> Result<(u32, bool), KeepFault> {
+    file_history::<D>(rt)?;
     let mut memory = memory_history(rt)?;
-    agree::<S>(rt, FILE, &mut memory)
+    agree::<D>(rt, FILE, &mut memory)
 }
 
 /// What both say after the day besides.
-pub fn after_day<S: AtPath>(rt: HostRuntime) -> Result<(u32, bool), KeepFault> {
-    put_day::<S>(rt, FILE)?;
+pub fn after_day<D: AtPath>(rt: HostRuntime) -> Result<(u32, bool), KeepFault> {
+    put_day::<D>(rt, FILE)?;
     let mut memory = memory_both(rt)?;
-    agree::<S>(rt, FILE, &mut memory)
+    agree::<D>(rt, FILE, &mut memory)
 }
 
 /// What both say with a tariff besides.
-pub fn with_tariff<S: AtPath>(rt: HostRuntime, factor: u8) -> Result<(u32, bool), KeepFault>
+pub fn with_tariff<D: AtPath>(rt: HostRuntime, factor: u8) -> Result<(u32, bool), KeepFault>
     requires { factor ≤ 20 }
 {
-    file_tariff::<S>(rt, factor)?;
+    file_tariff::<D>(rt, factor)?;
     let mut memory = memory_tariff(rt, factor)?;
-    agree::<S>(rt, FILE, &mut memory)
+    agree::<D>(rt, FILE, &mut memory)
 }
 
 /// What both say after the day is refused where it is kept.
-pub fn after_refusal<S: AtPath>(rt: HostRuntime) -> Result<(u32, bool), KeepFault> {
-    let refused = put_day::<S>(rt, FILE) == Err(KeepFault::Failed);
+pub fn after_refusal<D: AtPath>(rt: HostRuntime) -> Result<(u32, bool), KeepFault> {
+    let refused = put_day::<D>(rt, FILE) == Err(KeepFault::Failed);
     let mut memory = memory_tariff(rt, 5)?;
-    let (last, same) = agree::<S>(rt, FILE, &mut memory)?;
+    let (last, same) = agree::<D>(rt, FILE, &mut memory)?;
     Ok((last, same && refused))
 }
 
 /// What both say of the file at a path, in which another hand put the history, the day and the tariff.
-pub fn of_another<S: AtPath>(rt: HostRuntime, path: &str) -> Result<(u32, bool), KeepFault> {
+pub fn of_another<D: AtPath>(rt: HostRuntime, path: &str) -> Result<(u32, bool), KeepFault> {
     let mut memory = memory_tariff(rt, 5)?;
-    agree::<S>(rt, path, &mut memory)
+    agree::<D>(rt, path, &mut memory)
 }

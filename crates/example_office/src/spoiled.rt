@@ -59,7 +59,7 @@ INSERT INTO spent VALUES (100, 7, 0, 5), (100, 7, 0, 6)",
     }
 
     /// Whether the call that comes upon it is answered as if it were not there.
-    fn is_answered<S: AtPath>(self, file: &mut KeeperIn<S>) -> Result<bool, KeepFault> {
+    fn is_answered<D: AtPath>(self, file: &mut KeeperIn<D>) -> Result<bool, KeepFault> {
         match self {
             Spoiled::ShortDigest | Spoiled::NegativeNumber | Spoiled::NoSeal => Ok(
                 file.day(100)?.is_some(),
@@ -77,13 +77,13 @@ INSERT INTO spent VALUES (100, 7, 0, 5), (100, 7, 0, 6)",
 }
 
 /// What is answered of a file that is spoiled: a fault, or whether it is as if it were not.
-pub fn answered<S: AtPath>(rt: HostRuntime, spoiled: Spoiled) -> Result<bool, KeepFault> {
-    let mut file = KeeperIn::<S>::at(rt.alloc(), rt, spoiled.path())?;
+pub fn answered<D: AtPath>(rt: HostRuntime, spoiled: Spoiled) -> Result<bool, KeepFault> {
+    let mut file = KeeperIn::<D>::at(rt.alloc(), rt, spoiled.path())?;
     spoiled.is_answered(&mut file)
 }
 
 /// Whether day 100 can be put into a file, and the file be spoiled then.
-pub fn is_made<S: AtPath>(rt: HostRuntime, spoiled: Spoiled) -> Result<bool, KeepFault> {
-    put_day::<S>(rt, spoiled.path())?;
-    Ok(by_hand::<S>(rt, spoiled.path(), spoiled.text()).is_ok())
+pub fn is_made<D: AtPath>(rt: HostRuntime, spoiled: Spoiled) -> Result<bool, KeepFault> {
+    put_day::<D>(rt, spoiled.path())?;
+    Ok(by_hand::<D>(rt, spoiled.path(), spoiled.text()).is_ok())
 }

@@ -2,7 +2,7 @@
 ghost use Rattle.std.specs.Prelude.{◌≡◌};
 
 use keeper::{DayRecord, Digest, Digester, KeepFault, Keeper, PastRecord};
-use keeper_at_path::{AtPath, KeeperIn};
+use keeper_at_path::{AtPath, KeeperIn, open_whole};
 use road_time::SpentRow;
 use std::rt::HostRuntime;
 
@@ -69,15 +69,17 @@ pub fn day(digest: Digest, total: u64) -> DayRecord
 }
 
 /// Puts the day into the file at a path, which is opened anew.
-pub fn put_day<S: AtPath>(rt: HostRuntime, path: &str) -> Result<(), KeepFault> {
+pub fn put_day<D: AtPath>(rt: HostRuntime, path: &str) -> Result<(), KeepFault> {
     let digest = Digester::new().finish();
-    let mut file = KeeperIn::<S>::at(rt.alloc(), rt, path)?;
+    let mut file = KeeperIn::<D>::at(rt.alloc(), rt, path)?;
     file.put_day(&day(digest, 5), &[row(100, 3), other_row()])
 }
 
 /// Runs statements on the file at a path, as another hand may.
-pub fn by_hand<S: AtPath>(rt: HostRuntime, path: &str, text: &str) -> Result<(), KeepFault> {
-    let mut conn = S::open(&rt, path)?;
+pub fn by_hand<D: AtPath>(rt: HostRuntime, path: &str, text: &str) -> Result<(), KeepFault> {
+    let Ok(mut conn) = open_whole::<D>(&rt, path) else {
+        return Err(KeepFault::Failed);
+    };
     match conn.execute_batch(text) {
         Ok(()) => Ok(()),
         Err(_) => Err(KeepFault::Failed),

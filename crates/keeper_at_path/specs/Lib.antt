@@ -1,1 +1,3 @@
 pub mod Does
+pub mod Looks
+pub mod Asked

@@ -1,33 +1,55 @@
-// Stores that are opened by the path of their file.
-use keeper::KeepFault;
-use keeper_proof::Steady;
-use keeper_writes::refusals::refusal;
-use sqlite::{Connection, FileFrom, FileStore, Wary};
+// Files that are opened by a path.
+ghost use Rattle.std.specs.Prelude.{IfOk, IsTrue};
+ghost use Rattle.sqlite_std_file.specs.File.{file_is_usable};
+
+use sqlite::{Error, ErrorCode, FileFrom, FileStore, Files, Start, Wary};
+use sqlite_disk::Disk;
+use sqlite_pool::Pool;
+use sqlite_std_file::OpenError;
+use std::io::ErrorKind;
 use std::rt::HostRuntime;
 
-/// A store in a file. What a crash leaves of it is said without the hypothesis that a torn write leaves each byte old
-/// or new.
-pub type KeptStore = FileStore<FileFrom<Wary>>;
+/// A file of the machine. What a crash leaves of it is said without the hypothesis that a torn write leaves each byte
+/// old or new.
+pub type KeptDisk = FileFrom<Wary>;
 
-/// A store that is opened by the path of its file, and may shut at a fault.
-pub trait AtPath: Steady {
-    ghost use Rattle.std.specs.Prelude.{◌≡◌, false};
+/// A store in such a file.
+pub type KeptStore = FileStore<KeptDisk>;
 
-    /// The file at a path.
-    fn open(rt: &HostRuntime, path: &str) -> Result<Connection<Self>, KeepFault>;
+/// The pages of such a file.
+pub type KeptPages = Pool<KeptDisk>;
 
-    ghost shuts: { Self.Steady.is_steady ≡ false };
+const NO_MEMORY: Error = Error::SqliteFailure(ErrorCode::OutOfMemory);
+
+const CANNOT_OPEN: Error = Error::SqliteFailure(ErrorCode::CannotOpen);
+
+/// Files that are opened by a path: the database and its log.
+pub trait AtPath: Disk + Drop {
+    /// The two files at a path. Nobody else opens them until they are let go.
+    fn open(rt: &HostRuntime, path: &str) -> Result<Files<Self>, Error>
+        ensures { IfOk result (λ files. IsTrue (Self.Disk.is_usable files.log)
+            × IsTrue (Self.Disk.is_usable files.db)) };
 }
 
-impl AtPath for KeptStore {
-    ghost use Rattle.std.specs.Prelude.{refl};
+impl AtPath for KeptDisk {
+    fn open(rt: &HostRuntime, path: &str) -> Result<Files<KeptDisk>, Error> {
+        opened(rt, path, Wary)
+    }
+}
 
-    ghost shuts = { refl };
-
-    fn open(rt: &HostRuntime, path: &str) -> Result<Connection<KeptStore>, KeepFault> {
-        match Connection::open_from(rt, path, false, Wary) {
-            Ok(conn) => Ok(conn),
-            Err((error, _)) => Err(refusal(error)),
-        }
+/// The two files at a path.
+fn opened<S: Start>(rt: &HostRuntime, path: &str, start: S) -> Result<Files<FileFrom<S>>, Error>
+    ensures { IfOk result (λ files. IsTrue (file_is_usable S.Start files.log)
+        × IsTrue (file_is_usable S.Start files.db)) }
+{
+    if path == ":memory:" || path.starts_with("file:") {
+        return Err(CANNOT_OPEN);
+    }
+    match sqlite_std_file::open(rt, path, start) {
+        Ok(files) => Ok(files),
+        Err(OpenError::OutOfMemory) => Err(NO_MEMORY),
+        Err(OpenError::Busy) => Err(Error::SqliteFailure(ErrorCode::DatabaseBusy)),
+        Err(OpenError::Io(error)) if error.kind() == ErrorKind::OutOfMemory => Err(NO_MEMORY),
+        Err(_) => Err(CANNOT_OPEN),
     }
 }

@@ -1,38 +1,59 @@
 // The calls of a keeper as values, so that one function hands on each.
-ghost use Rattle.std.specs.Prelude.{IfOk};
+ghost use Rattle.std.specs.Prelude.{true, false, IfOk};
 ghost use Rattle.sqlite.specs.Held.{state};
+ghost use Rattle.kept_tables.specs.Steps.{FitsAny};
 ghost use Rattle.keeper_writes.specs.Causes.{WasRefused};
 ghost use Rattle.keeper_at_path.specs.Does.{Does};
+ghost use Rattle.keeper_at_path.specs.Looks.{Looks};
 
-use crate::at_path::AtPath;
+use crate::shuts::Shuts;
 use keeper::KeepFault;
-use keeper_proof::ProvedKeeper;
+use keeper_proof::{ProvedKeeper, Steady};
+use sqlite_pages::Pages;
+use std::alloc::Global;
+use tree_keeper::PageTrees;
 
-/// A call of a keeper, with what it is handed. `fits` is what may be handed in, `answers` what holds of each answer.
-/// Of an office that is kept, `asks` is what is asked, `gives` what is answered and `next` what is kept then; `writes`
-/// says whether the call may write.
-pub trait Call {
-    ghost use Rattle.std.specs.Prelude.{Bool};
+/// A call of a keeper that reads, with what it is handed. `answers` is what holds of each answer, `gives` what is
+/// answered of an office that is kept.
+pub trait Reading {
     ghost use Rattle.keeper.specs.Office.{Office};
 
     type Answer;
 
-    ghost fits: { Self → Type 0 };
-
     ghost answers: { Self.Answer → Type 0 };
-
-    ghost asks: { Self → Office → Type 0 };
 
     ghost gives: { Self → Office → Self.Answer → Type 0 };
 
+    /// Makes the call of a keeper on a whole file.
+    fn ask<S: Steady>(self, kept: &mut ProvedKeeper<S>) -> Result<Self::Answer, KeepFault>
+        ensures answers { IfOk result answers }
+        ensures does { Does (WasRefused S.Store) false FitsAny (gives self) (λ o. o)
+            (state S.Store kept.old.conn) (state S.Store kept.new.conn) result };
+
+    /// Makes the call of the trees of a file.
+    fn look<P: Pages>(
+        self,
+        alloc: Global,
+        trees: &mut PageTrees<P>,
+    ) -> Result<Self::Answer, KeepFault>
+        ensures answers { IfOk result answers }
+        ensures looks { Looks P.Pages (gives self) trees.old trees.new result };
+}
+
+/// A call of a keeper that puts, with what it is handed. `fits` is what may be handed in. Of an office that is kept,
+/// `asks` is what is asked and `next` what is kept then.
+pub trait Putting {
+    ghost use Rattle.keeper.specs.Office.{Office};
+
+    ghost fits: { Self → Type 0 };
+
+    ghost asks: { Self → Office → Type 0 };
+
     ghost next: { Self → Office → Office };
 
-    ghost writes: { Bool };
-
     /// Makes the call.
-    fn ask<S: AtPath>(self, kept: &mut ProvedKeeper<S>) -> Result<Self::Answer, KeepFault>
+    fn put<S: Shuts>(self, kept: &mut ProvedKeeper<S>) -> Result<(), KeepFault>
         requires { fits self }
-        ensures answers { IfOk result answers }
-        ensures does { Does (WasRefused S.Store) writes (asks self) (gives self) (next self)
+        ensures { Does (WasRefused S.Store) true (asks self) (λ o u. Unit {0}) (next self)
             (state S.Store kept.old.conn) (state S.Store kept.new.conn) result };
 }

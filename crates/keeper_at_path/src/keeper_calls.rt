@@ -9,7 +9,8 @@ ghost use Rattle.keeper.specs.Calls.{CountsFaults, IfTold};
 ghost use Rattle.keeper.specs.declared.kept.KeepFault.TheVariants.{NoMemory};
 ghost use Rattle.kept_tables.specs.Steps.{FitsAny};
 ghost use Rattle.keeper_writes.specs.Causes.{WasRefused};
-ghost use Rattle.keeper_at_path.specs.Does.{AskedToRead, AskedToPut};
+ghost use Rattle.keeper_at_path.specs.Asked.{AskedToRead, AskedToPut};
+ghost use Rattle.keeper_at_path.specs.Looks.{AreFound, Looks};
 
 use crate::at_path::AtPath;
 use crate::keeper_in::KeeperIn;
@@ -17,8 +18,12 @@ use crate::puts::{PutDay, PutPast, PutTariff};
 use crate::reads::{AskedDay, AskedSpent, KeptTariffs, LastDay, Past, Rows, VehicleRows};
 use keeper::{DayRecord, KeepFault, Keeper, PastRecord};
 use road_time::{SpentRow, Tariff, Tariffs};
+use sqlite::FileStore;
+use sqlite_pages::Pages;
+use sqlite_pool::Pool;
+use sqlite_trees::store::Store;
 
-impl<S: AtPath> Keeper for KeeperIn<S> {
+impl<D: AtPath> Keeper for KeeperIn<D> {
     ghost use Rattle.std.specs.Prelude.{true};
     ghost use Rattle.keeper.specs.Calls.{AllOrNothing};
 
@@ -35,66 +40,80 @@ impl<S: AtPath> Keeper for KeeperIn<S> {
     fn last_day(&mut self) -> Result<u32, KeepFault>
         ensures cause { CountsFaults self.old.faults self.new.faults result }
         ensures does { AskedToRead self.old.database.kept self.new.database.kept
-            (λ k. k.unmade ≢ Some NoMemory) (λ k. state S.Store k.conn) (WasRefused S.Store)
+            (AreFound ⟦<Pool<D> as Pages>⟧) (Looks ⟦<Pool<D> as Pages>⟧)
+            (λ k. k.unmade ≢ Some NoMemory) (λ k. state ⟦<FileStore<D> as Store>⟧ k.conn)
+            (WasRefused ⟦<FileStore<D> as Store>⟧)
             (λ o last. last ≡ last_day_of o) result }
     {
-        self.ask(LastDay)
+        self.read(LastDay)
     }
 
     fn day(&mut self, day: u32) -> Result<Option<DayRecord>, KeepFault>
         ensures cause { CountsFaults self.old.faults self.new.faults result }
         ensures does { AskedToRead self.old.database.kept self.new.database.kept
-            (λ k. k.unmade ≢ Some NoMemory) (λ k. state S.Store k.conn) (WasRefused S.Store)
+            (AreFound ⟦<Pool<D> as Pages>⟧) (Looks ⟦<Pool<D> as Pages>⟧)
+            (λ k. k.unmade ≢ Some NoMemory) (λ k. state ⟦<FileStore<D> as Store>⟧ k.conn)
+            (WasRefused ⟦<FileStore<D> as Store>⟧)
             (λ o kept. kept ≡ record_of o day) result }
     {
-        self.ask(AskedDay { day })
+        self.read(AskedDay { day })
     }
 
     fn past(&mut self) -> Result<Option<PastRecord>, KeepFault>
         ensures cause { CountsFaults self.old.faults self.new.faults result }
         ensures does { AskedToRead self.old.database.kept self.new.database.kept
-            (λ k. k.unmade ≢ Some NoMemory) (λ k. state S.Store k.conn) (WasRefused S.Store)
+            (AreFound ⟦<Pool<D> as Pages>⟧) (Looks ⟦<Pool<D> as Pages>⟧)
+            (λ k. k.unmade ≢ Some NoMemory) (λ k. state ⟦<FileStore<D> as Store>⟧ k.conn)
+            (WasRefused ⟦<FileStore<D> as Store>⟧)
             (λ o past. past ≡ o.past) result }
     {
-        self.ask(Past)
+        self.read(Past)
     }
 
     fn spent(&mut self, day: u32, vid: u32, xway: u8) -> Result<u64, KeepFault>
         ensures cause { CountsFaults self.old.faults self.new.faults result }
         ensures does { AskedToRead self.old.database.kept self.new.database.kept
-            (λ k. k.unmade ≢ Some NoMemory) (λ k. state S.Store k.conn) (WasRefused S.Store)
+            (AreFound ⟦<Pool<D> as Pages>⟧) (Looks ⟦<Pool<D> as Pages>⟧)
+            (λ k. k.unmade ≢ Some NoMemory) (λ k. state ⟦<FileStore<D> as Store>⟧ k.conn)
+            (WasRefused ⟦<FileStore<D> as Store>⟧)
             (λ o tolls. tolls ≡ paid o.rows day vid xway) result }
     {
-        self.ask(AskedSpent { day, vid, xway })
+        self.read(AskedSpent { day, vid, xway })
     }
 
     fn rows(&mut self, from: u32, to: u32) -> Result<Vec<SpentRow>, KeepFault>
         ensures rise { IfOk result (λ rows. RowsRise rows.items) }
         ensures cause { CountsFaults self.old.faults self.new.faults result }
         ensures does { AskedToRead self.old.database.kept self.new.database.kept
-            (λ k. k.unmade ≢ Some NoMemory) (λ k. state S.Store k.conn) (WasRefused S.Store)
+            (AreFound ⟦<Pool<D> as Pages>⟧) (Looks ⟦<Pool<D> as Pages>⟧)
+            (λ k. k.unmade ≢ Some NoMemory) (λ k. state ⟦<FileStore<D> as Store>⟧ k.conn)
+            (WasRefused ⟦<FileStore<D> as Store>⟧)
             (λ o rows. rows.items ≡ rows_between o from to) result }
     {
-        self.ask(Rows { from, to })
+        self.read(Rows { from, to })
     }
 
     fn vehicle_rows(&mut self, vid: u32, from: u32, to: u32) -> Result<Vec<SpentRow>, KeepFault>
         ensures rise { IfOk result (λ rows. RowsRise rows.items) }
         ensures cause { CountsFaults self.old.faults self.new.faults result }
         ensures does { AskedToRead self.old.database.kept self.new.database.kept
-            (λ k. k.unmade ≢ Some NoMemory) (λ k. state S.Store k.conn) (WasRefused S.Store)
+            (AreFound ⟦<Pool<D> as Pages>⟧) (Looks ⟦<Pool<D> as Pages>⟧)
+            (λ k. k.unmade ≢ Some NoMemory) (λ k. state ⟦<FileStore<D> as Store>⟧ k.conn)
+            (WasRefused ⟦<FileStore<D> as Store>⟧)
             (λ o rows. rows.items ≡ vehicle_rows_between o vid from to) result }
     {
-        self.ask(VehicleRows { vid, from, to })
+        self.read(VehicleRows { vid, from, to })
     }
 
     fn tariffs(&mut self) -> Result<Tariffs, KeepFault>
         ensures cause { CountsFaults self.old.faults self.new.faults result }
         ensures does { AskedToRead self.old.database.kept self.new.database.kept
-            (λ k. k.unmade ≢ Some NoMemory) (λ k. state S.Store k.conn) (WasRefused S.Store)
+            (AreFound ⟦<Pool<D> as Pages>⟧) (Looks ⟦<Pool<D> as Pages>⟧)
+            (λ k. k.unmade ≢ Some NoMemory) (λ k. state ⟦<FileStore<D> as Store>⟧ k.conn)
+            (WasRefused ⟦<FileStore<D> as Store>⟧)
             (λ o tariffs. tariffs ≡ o.tariffs) result }
     {
-        self.ask(KeptTariffs)
+        self.read(KeptTariffs)
     }
 
     fn put_day(&mut self, kept: &DayRecord, rows: &[SpentRow]) -> Result<(), KeepFault>
@@ -102,10 +121,11 @@ impl<S: AtPath> Keeper for KeeperIn<S> {
         requires later { IfTold None (λ o. IsLater kept.now.day o) }
         ensures cause { CountsFaults self.old.faults self.new.faults result }
         ensures does { AskedToPut self.old.database.kept self.new.database.kept
-            (λ k. k.unmade ≢ Some NoMemory) (λ k. state S.Store k.conn) (WasRefused S.Store)
+            (λ k. k.unmade ≢ Some NoMemory) (λ k. state ⟦<FileStore<D> as Store>⟧ k.conn)
+            (WasRefused ⟦<FileStore<D> as Store>⟧)
             (IsLater kept.now.day) (with_day kept.now rows.now) result }
     {
-        self.ask(PutDay { kept, rows })
+        self.put(PutDay { kept, rows })
     }
 
     fn put_past(&mut self, kept: &PastRecord, rows: &[SpentRow]) -> Result<(), KeepFault>
@@ -113,19 +133,21 @@ impl<S: AtPath> Keeper for KeeperIn<S> {
         requires first { IfTold None HasNoDays }
         ensures cause { CountsFaults self.old.faults self.new.faults result }
         ensures does { AskedToPut self.old.database.kept self.new.database.kept
-            (λ k. k.unmade ≢ Some NoMemory) (λ k. state S.Store k.conn) (WasRefused S.Store)
+            (λ k. k.unmade ≢ Some NoMemory) (λ k. state ⟦<FileStore<D> as Store>⟧ k.conn)
+            (WasRefused ⟦<FileStore<D> as Store>⟧)
             HasNoDays (with_past kept.now rows.now) result }
     {
-        self.ask(PutPast { kept, rows })
+        self.put(PutPast { kept, rows })
     }
 
     fn put_tariff(&mut self, xway: u8, tariff: &Tariff) -> Result<(), KeepFault>
         requires valid { IsTariff tariff.now }
         ensures cause { CountsFaults self.old.faults self.new.faults result }
         ensures does { AskedToPut self.old.database.kept self.new.database.kept
-            (λ k. k.unmade ≢ Some NoMemory) (λ k. state S.Store k.conn) (WasRefused S.Store)
+            (λ k. k.unmade ≢ Some NoMemory) (λ k. state ⟦<FileStore<D> as Store>⟧ k.conn)
+            (WasRefused ⟦<FileStore<D> as Store>⟧)
             FitsAny (with_tariff_of xway tariff.now) result }
     {
-        self.ask(PutTariff { xway, tariff })
+        self.put(PutTariff { xway, tariff })
     }
 }

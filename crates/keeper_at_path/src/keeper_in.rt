@@ -4,28 +4,33 @@ ghost use Rattle.sqlite.specs.Held.{state};
 ghost use Rattle.keeper.specs.Calls.{CountsFaults};
 ghost use Rattle.keeper.specs.declared.kept.KeepFault.TheVariants.{NoMemory as no_memory};
 ghost use Rattle.keeper_writes.specs.Causes.{WasRefused};
-ghost use Rattle.keeper_at_path.specs.Does.{Asked};
+ghost use Rattle.keeper_at_path.specs.Asked.{AskedToRead, AskedToPut};
+ghost use Rattle.keeper_at_path.specs.Looks.{AreFound, Looks};
 
 use crate::at_path::AtPath;
-use crate::call::Call;
+use crate::call::{Putting, Reading};
 use crate::database::Database;
+use crate::kept::Kept;
 use keeper::KeepFault;
 use keeper_writes::refusals::count;
 use road_time::NoMemory;
-use sqlite::Connection;
+use sqlite::{Connection, FileStore};
+use sqlite_pages::Pages;
+use sqlite_pool::Pool;
+use sqlite_trees::store::Store;
 use std::alloc::Global;
 use std::rt::HostRuntime;
 
 /// A database that counts the calls that failed.
 #[derive(Drop)]
-pub struct KeeperIn<S: AtPath> {
-    database: Database<S>,
+pub struct KeeperIn<D: AtPath> {
+    database: Database<D>,
     faults: u64,
 }
 
-impl<S: AtPath> KeeperIn<S> {
+impl<D: AtPath> KeeperIn<D> {
     /// The keeper in the file at a path.
-    pub fn at(alloc: Global, rt: HostRuntime, path: &str) -> Result<KeeperIn<S>, NoMemory>
+    pub fn at(alloc: Global, rt: HostRuntime, path: &str) -> Result<KeeperIn<D>, NoMemory>
         ensures { IfOk result (λ keeper. keeper.faults ≡ 0) }
     {
         let path = String::from_str(alloc, path)?;
@@ -35,8 +40,8 @@ impl<S: AtPath> KeeperIn<S> {
         })
     }
 
-    /// The connection, if the database is open.
-    pub fn give_up(self) -> Option<Connection<S>> {
+    /// The pages or the connection, if the database is open.
+    pub fn give_up(self) -> Option<Kept<Pool<D>, Connection<FileStore<D>>>> {
         let KeeperIn {
             database,
             faults: _,
@@ -44,16 +49,28 @@ impl<S: AtPath> KeeperIn<S> {
         database.give_up()
     }
 
-    /// Makes a call, and counts it where it failed.
-    pub fn ask<C: Call + Drop>(&mut self, call: C) -> Result<C::Answer, KeepFault>
-        requires { C.fits call }
+    /// Makes a call that reads, and counts it where it failed.
+    pub fn read<C: Reading + Drop>(&mut self, call: C) -> Result<C::Answer, KeepFault>
         ensures answers { IfOk result C.answers }
-        ensures does { Asked self.old.database.kept self.new.database.kept (λ k. k.unmade ≢ Some no_memory)
-            (λ k. state S.Store k.conn) (WasRefused S.Store) C.writes (C.asks call) (C.gives call) (C.next call)
-            result }
+        ensures does { AskedToRead self.old.database.kept self.new.database.kept
+            (AreFound ⟦<Pool<D> as Pages>⟧) (Looks ⟦<Pool<D> as Pages>⟧)
+            (λ k. k.unmade ≢ Some no_memory) (λ k. state ⟦<FileStore<D> as Store>⟧ k.conn)
+            (WasRefused ⟦<FileStore<D> as Store>⟧) (C.gives call) result }
         ensures cause { CountsFaults self.old.faults self.new.faults result }
     {
-        let answer = self.database.ask(call);
+        let answer = self.database.read(call);
+        count(&mut self.faults, answer)
+    }
+
+    /// Makes a call that puts, and counts it where it failed.
+    pub fn put<C: Putting + Drop>(&mut self, call: C) -> Result<(), KeepFault>
+        requires { C.fits call }
+        ensures does { AskedToPut self.old.database.kept self.new.database.kept (λ k. k.unmade ≢ Some no_memory)
+            (λ k. state ⟦<FileStore<D> as Store>⟧ k.conn) (WasRefused ⟦<FileStore<D> as Store>⟧)
+            (C.asks call) (C.next call) result }
+        ensures cause { CountsFaults self.old.faults self.new.faults result }
+    {
+        let answer = self.database.put(call);
         count(&mut self.faults, answer)
     }
 }

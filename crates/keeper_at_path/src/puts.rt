@@ -1,6 +1,6 @@
 // The calls of a keeper that put.
-use crate::at_path::AtPath;
-use crate::call::Call;
+use crate::call::Putting;
+use crate::shuts::Shuts;
 use keeper::{DayRecord, KeepFault, Keeper, PastRecord};
 use keeper_proof::ProvedKeeper;
 use road_time::{SpentRow, Tariff};
@@ -12,25 +12,16 @@ pub struct PutDay<'a> {
     pub rows: &'a [SpentRow],
 }
 
-impl<'a> Call for PutDay<'a> {
-    ghost use Rattle.std.specs.Prelude.{true};
+impl<'a> Putting for PutDay<'a> {
     ghost use Rattle.keeper.specs.Kept.{IsDayPut, IsLater, with_day};
-
-    type Answer = ();
 
     ghost fits = { λ put. IsDayPut put.kept.now put.rows.now };
 
-    ghost answers = { λ _. Unit {0} };
-
     ghost asks = { λ put. IsLater put.kept.now.day };
-
-    ghost gives = { λ _ _ _. Unit {0} };
 
     ghost next = { λ put. with_day put.kept.now put.rows.now };
 
-    ghost writes = { true };
-
-    fn ask<S: AtPath>(self, kept: &mut ProvedKeeper<S>) -> Result<(), KeepFault> {
+    fn put<S: Shuts>(self, kept: &mut ProvedKeeper<S>) -> Result<(), KeepFault> {
         kept.put_day(self.kept, self.rows)
     }
 }
@@ -42,25 +33,16 @@ pub struct PutPast<'a> {
     pub rows: &'a [SpentRow],
 }
 
-impl<'a> Call for PutPast<'a> {
-    ghost use Rattle.std.specs.Prelude.{true};
+impl<'a> Putting for PutPast<'a> {
     ghost use Rattle.keeper.specs.Kept.{IsPastPut, HasNoDays, with_past};
-
-    type Answer = ();
 
     ghost fits = { λ put. IsPastPut put.kept.now put.rows.now };
 
-    ghost answers = { λ _. Unit {0} };
-
     ghost asks = { λ put. HasNoDays };
-
-    ghost gives = { λ _ _ _. Unit {0} };
 
     ghost next = { λ put. with_past put.kept.now put.rows.now };
 
-    ghost writes = { true };
-
-    fn ask<S: AtPath>(self, kept: &mut ProvedKeeper<S>) -> Result<(), KeepFault> {
+    fn put<S: Shuts>(self, kept: &mut ProvedKeeper<S>) -> Result<(), KeepFault> {
         kept.put_past(self.kept, self.rows)
     }
 }
@@ -72,27 +54,18 @@ pub struct PutTariff<'a> {
     pub tariff: &'a Tariff,
 }
 
-impl<'a> Call for PutTariff<'a> {
-    ghost use Rattle.std.specs.Prelude.{true};
+impl<'a> Putting for PutTariff<'a> {
     ghost use Rattle.road_time.specs.Rates.{IsTariff};
     ghost use Rattle.keeper.specs.Kept.{with_tariff_of};
     ghost use Rattle.kept_tables.specs.Steps.{FitsAny};
 
-    type Answer = ();
-
     ghost fits = { λ put. IsTariff put.tariff.now };
-
-    ghost answers = { λ _. Unit {0} };
 
     ghost asks = { λ put. FitsAny };
 
-    ghost gives = { λ _ _ _. Unit {0} };
-
     ghost next = { λ put. with_tariff_of put.xway put.tariff.now };
 
-    ghost writes = { true };
-
-    fn ask<S: AtPath>(self, kept: &mut ProvedKeeper<S>) -> Result<(), KeepFault> {
+    fn put<S: Shuts>(self, kept: &mut ProvedKeeper<S>) -> Result<(), KeepFault> {
         kept.put_tariff(self.xway, self.tariff)
     }
 }

@@ -1,35 +1,32 @@
 // The calls of a keeper that read.
-use crate::at_path::AtPath;
-use crate::call::Call;
+use crate::call::Reading;
 use keeper::{DayRecord, KeepFault, Keeper, PastRecord};
-use keeper_proof::ProvedKeeper;
+use keeper_proof::{ProvedKeeper, Steady};
 use road_time::{SpentRow, Tariffs};
+use sqlite_pages::Pages;
+use std::alloc::Global;
+use tree_keeper::PageTrees;
 
 /// Asks for the last day.
 #[derive(Clone, Copy)]
 pub struct LastDay;
 
-impl Call for LastDay {
-    ghost use Rattle.std.specs.Prelude.{◌≡◌, false};
+impl Reading for LastDay {
+    ghost use Rattle.std.specs.Prelude.{◌≡◌};
     ghost use Rattle.keeper.specs.Office.{last_day as last_day_of};
-    ghost use Rattle.kept_tables.specs.Steps.{FitsAny};
 
     type Answer = u32;
 
-    ghost fits = { λ _. Unit {0} };
-
     ghost answers = { λ _. Unit {0} };
-
-    ghost asks = { λ _. FitsAny };
 
     ghost gives = { λ _ o last. last ≡ last_day_of o };
 
-    ghost next = { λ _ o. o };
-
-    ghost writes = { false };
-
-    fn ask<S: AtPath>(self, kept: &mut ProvedKeeper<S>) -> Result<u32, KeepFault> {
+    fn ask<S: Steady>(self, kept: &mut ProvedKeeper<S>) -> Result<u32, KeepFault> {
         kept.last_day()
+    }
+
+    fn look<P: Pages>(self, _alloc: Global, trees: &mut PageTrees<P>) -> Result<u32, KeepFault> {
+        trees.last_day()
     }
 }
 
@@ -39,27 +36,26 @@ pub struct AskedDay {
     pub day: u32,
 }
 
-impl Call for AskedDay {
-    ghost use Rattle.std.specs.Prelude.{◌≡◌, false};
+impl Reading for AskedDay {
+    ghost use Rattle.std.specs.Prelude.{◌≡◌};
     ghost use Rattle.keeper.specs.Office.{record_of};
-    ghost use Rattle.kept_tables.specs.Steps.{FitsAny};
 
     type Answer = Option<DayRecord>;
 
-    ghost fits = { λ _. Unit {0} };
-
     ghost answers = { λ _. Unit {0} };
-
-    ghost asks = { λ _. FitsAny };
 
     ghost gives = { λ ask o kept. kept ≡ record_of o ask.day };
 
-    ghost next = { λ _ o. o };
-
-    ghost writes = { false };
-
-    fn ask<S: AtPath>(self, kept: &mut ProvedKeeper<S>) -> Result<Option<DayRecord>, KeepFault> {
+    fn ask<S: Steady>(self, kept: &mut ProvedKeeper<S>) -> Result<Option<DayRecord>, KeepFault> {
         kept.day(self.day)
+    }
+
+    fn look<P: Pages>(
+        self,
+        _alloc: Global,
+        trees: &mut PageTrees<P>,
+    ) -> Result<Option<DayRecord>, KeepFault> {
+        trees.day(self.day)
     }
 }
 
@@ -67,26 +63,25 @@ impl Call for AskedDay {
 #[derive(Clone, Copy)]
 pub struct Past;
 
-impl Call for Past {
-    ghost use Rattle.std.specs.Prelude.{◌≡◌, false};
-    ghost use Rattle.kept_tables.specs.Steps.{FitsAny};
+impl Reading for Past {
+    ghost use Rattle.std.specs.Prelude.{◌≡◌};
 
     type Answer = Option<PastRecord>;
 
-    ghost fits = { λ _. Unit {0} };
-
     ghost answers = { λ _. Unit {0} };
-
-    ghost asks = { λ _. FitsAny };
 
     ghost gives = { λ _ o past. past ≡ o.past };
 
-    ghost next = { λ _ o. o };
-
-    ghost writes = { false };
-
-    fn ask<S: AtPath>(self, kept: &mut ProvedKeeper<S>) -> Result<Option<PastRecord>, KeepFault> {
+    fn ask<S: Steady>(self, kept: &mut ProvedKeeper<S>) -> Result<Option<PastRecord>, KeepFault> {
         kept.past()
+    }
+
+    fn look<P: Pages>(
+        self,
+        _alloc: Global,
+        trees: &mut PageTrees<P>,
+    ) -> Result<Option<PastRecord>, KeepFault> {
+        trees.past()
     }
 }
 
@@ -98,27 +93,22 @@ pub struct AskedSpent {
     pub xway: u8,
 }
 
-impl Call for AskedSpent {
-    ghost use Rattle.std.specs.Prelude.{◌≡◌, false};
+impl Reading for AskedSpent {
+    ghost use Rattle.std.specs.Prelude.{◌≡◌};
     ghost use Rattle.road_time.specs.History.{paid};
-    ghost use Rattle.kept_tables.specs.Steps.{FitsAny};
 
     type Answer = u64;
 
-    ghost fits = { λ _. Unit {0} };
-
     ghost answers = { λ _. Unit {0} };
-
-    ghost asks = { λ _. FitsAny };
 
     ghost gives = { λ ask o tolls. tolls ≡ paid o.rows ask.day ask.vid ask.xway };
 
-    ghost next = { λ _ o. o };
-
-    ghost writes = { false };
-
-    fn ask<S: AtPath>(self, kept: &mut ProvedKeeper<S>) -> Result<u64, KeepFault> {
+    fn ask<S: Steady>(self, kept: &mut ProvedKeeper<S>) -> Result<u64, KeepFault> {
         kept.spent(self.day, self.vid, self.xway)
+    }
+
+    fn look<P: Pages>(self, _alloc: Global, trees: &mut PageTrees<P>) -> Result<u64, KeepFault> {
+        trees.spent(self.day, self.vid, self.xway)
     }
 }
 
@@ -129,27 +119,26 @@ pub struct Rows {
     pub to: u32,
 }
 
-impl Call for Rows {
-    ghost use Rattle.std.specs.Prelude.{◌≡◌, false};
+impl Reading for Rows {
+    ghost use Rattle.std.specs.Prelude.{◌≡◌};
     ghost use Rattle.keeper.specs.Office.{RowsRise, rows_between};
-    ghost use Rattle.kept_tables.specs.Steps.{FitsAny};
 
     type Answer = Vec<SpentRow>;
 
-    ghost fits = { λ _. Unit {0} };
-
     ghost answers = { λ rows. RowsRise rows.items };
-
-    ghost asks = { λ _. FitsAny };
 
     ghost gives = { λ ask o rows. rows.items ≡ rows_between o ask.from ask.to };
 
-    ghost next = { λ _ o. o };
-
-    ghost writes = { false };
-
-    fn ask<S: AtPath>(self, kept: &mut ProvedKeeper<S>) -> Result<Vec<SpentRow>, KeepFault> {
+    fn ask<S: Steady>(self, kept: &mut ProvedKeeper<S>) -> Result<Vec<SpentRow>, KeepFault> {
         kept.rows(self.from, self.to)
+    }
+
+    fn look<P: Pages>(
+        self,
+        alloc: Global,
+        trees: &mut PageTrees<P>,
+    ) -> Result<Vec<SpentRow>, KeepFault> {
+        trees.rows(alloc, self.from, self.to)
     }
 }
 
@@ -161,27 +150,26 @@ pub struct VehicleRows {
     pub to: u32,
 }
 
-impl Call for VehicleRows {
-    ghost use Rattle.std.specs.Prelude.{◌≡◌, false};
+impl Reading for VehicleRows {
+    ghost use Rattle.std.specs.Prelude.{◌≡◌};
     ghost use Rattle.keeper.specs.Office.{RowsRise, vehicle_rows_between};
-    ghost use Rattle.kept_tables.specs.Steps.{FitsAny};
 
     type Answer = Vec<SpentRow>;
 
-    ghost fits = { λ _. Unit {0} };
-
     ghost answers = { λ rows. RowsRise rows.items };
-
-    ghost asks = { λ _. FitsAny };
 
     ghost gives = { λ ask o rows. rows.items ≡ vehicle_rows_between o ask.vid ask.from ask.to };
 
-    ghost next = { λ _ o. o };
-
-    ghost writes = { false };
-
-    fn ask<S: AtPath>(self, kept: &mut ProvedKeeper<S>) -> Result<Vec<SpentRow>, KeepFault> {
+    fn ask<S: Steady>(self, kept: &mut ProvedKeeper<S>) -> Result<Vec<SpentRow>, KeepFault> {
         kept.vehicle_rows(self.vid, self.from, self.to)
+    }
+
+    fn look<P: Pages>(
+        self,
+        alloc: Global,
+        trees: &mut PageTrees<P>,
+    ) -> Result<Vec<SpentRow>, KeepFault> {
+        trees.vehicle_rows(alloc, self.vid, self.from, self.to)
     }
 }
 
@@ -189,25 +177,20 @@ impl Call for VehicleRows {
 #[derive(Clone, Copy)]
 pub struct KeptTariffs;
 
-impl Call for KeptTariffs {
-    ghost use Rattle.std.specs.Prelude.{◌≡◌, false};
-    ghost use Rattle.kept_tables.specs.Steps.{FitsAny};
+impl Reading for KeptTariffs {
+    ghost use Rattle.std.specs.Prelude.{◌≡◌};
 
     type Answer = Tariffs;
 
-    ghost fits = { λ _. Unit {0} };
-
     ghost answers = { λ _. Unit {0} };
-
-    ghost asks = { λ _. FitsAny };
 
     ghost gives = { λ _ o tariffs. tariffs ≡ o.tariffs };
 
-    ghost next = { λ _ o. o };
-
-    ghost writes = { false };
-
-    fn ask<S: AtPath>(self, kept: &mut ProvedKeeper<S>) -> Result<Tariffs, KeepFault> {
+    fn ask<S: Steady>(self, kept: &mut ProvedKeeper<S>) -> Result<Tariffs, KeepFault> {
         kept.tariffs()
+    }
+
+    fn look<P: Pages>(self, alloc: Global, trees: &mut PageTrees<P>) -> Result<Tariffs, KeepFault> {
+        trees.tariffs(alloc)
     }
 }

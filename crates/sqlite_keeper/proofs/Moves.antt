@@ -11,9 +11,6 @@ use Rattle.sqlite.below.sqlite_disk.specs.contracts.start.WaryStart.TheImpl as W
 use Rattle.sqlite.below.sqlite_disk.specs.contracts.modelled.Modelled as Modelled
 use Rattle.sqlite.below.sqlite_disk.specs.contracts.modelled.ModelledDisk.TheImpl as ModelledDisk
 use Rattle.sqlite.below.sqlite_disk.proofs.modelled.Modelled.TheSendSync as ModelledMoves
-use Rattle.sqlite.specs.contracts.FileStore as FileStore
-use Rattle.sqlite.below.sqlite_store.specs.contracts.store.FileStoreStore.TheImpl as FileStoreStore
-use Rattle.sqlite.proofs.FileStore.TheSendSync as FileStoreMoves
 use Rattle.keeper_at_path.proofs.keeper_in.KeeperIn.TheSendSync as KeeperInMoves
 use Rattle.sqlite_keeper.specs.contracts.kept_file.SqliteKeeper.{the_row, the_type}
 
@@ -31,8 +28,7 @@ keeper_moves =
     let disk = ModelledDisk.ghosts Host.the_row Wary.the_row HostCalls.ghosts ModelledDisk.no_dict
     WaryStart.ghosts ModelledDisk.no_dict ModelledDisk.no_dict in
     declared_send the_type (
-      KeeperInMoves.the_send (FileStore.the_row file disk) (FileStoreStore.ghosts file disk FileStoreStore.no_dict)
-          (FileStoreMoves.the_send file disk
-          (ModelledMoves.the_send Host.the_row Wary.the_row HostCalls.ghosts WaryStart.ghosts host_moves)),
+      KeeperInMoves.the_send file disk
+          (ModelledMoves.the_send Host.the_row Wary.the_row HostCalls.ghosts WaryStart.ghosts host_moves),
       tt,
     )

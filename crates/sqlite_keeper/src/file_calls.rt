@@ -9,15 +9,17 @@ ghost use Rattle.keeper.specs.Calls.{CountsFaults, IfTold};
 ghost use Rattle.keeper.specs.declared.kept.KeepFault.TheVariants.{NoMemory};
 ghost use Rattle.kept_tables.specs.Steps.{FitsAny};
 ghost use Rattle.keeper_writes.specs.Causes.{WasRefused};
-ghost use Rattle.keeper_at_path.specs.Does.{AskedToRead, AskedToPut};
+ghost use Rattle.keeper_at_path.specs.Asked.{AskedToRead, AskedToPut};
+ghost use Rattle.keeper_at_path.specs.Looks.{AreFound, Looks};
 
 use crate::kept_file::SqliteKeeper;
 use keeper::{DayRecord, KeepFault, Keeper, PastRecord};
 use keeper_at_path::{
-    AskedDay, AskedSpent, KeptStore, KeptTariffs, LastDay, Past, PutDay, PutPast, PutTariff, Rows,
+    AskedDay, AskedSpent, KeptPages, KeptStore, KeptTariffs, LastDay, Past, PutDay, PutPast, PutTariff, Rows,
     VehicleRows,
 };
 use road_time::{SpentRow, Tariff, Tariffs};
+use sqlite_pages::Pages;
 use sqlite_trees::store::Store;
 
 impl Keeper for SqliteKeeper {
@@ -37,73 +39,80 @@ impl Keeper for SqliteKeeper {
     fn last_day(&mut self) -> Result<u32, KeepFault>
         ensures cause { CountsFaults self.old.in_file.faults self.new.in_file.faults result }
         ensures does { AskedToRead self.old.in_file.database.kept self.new.in_file.database.kept
+            (AreFound ⟦<KeptPages as Pages>⟧) (Looks ⟦<KeptPages as Pages>⟧)
             (λ k. k.unmade ≢ Some NoMemory) (λ k. state ⟦<KeptStore as Store>⟧ k.conn)
             (WasRefused ⟦<KeptStore as Store>⟧)
             (λ o last. last ≡ last_day_of o) result }
     {
-        self.ask(LastDay)
+        self.read(LastDay)
     }
 
     fn day(&mut self, day: u32) -> Result<Option<DayRecord>, KeepFault>
         ensures cause { CountsFaults self.old.in_file.faults self.new.in_file.faults result }
         ensures does { AskedToRead self.old.in_file.database.kept self.new.in_file.database.kept
+            (AreFound ⟦<KeptPages as Pages>⟧) (Looks ⟦<KeptPages as Pages>⟧)
             (λ k. k.unmade ≢ Some NoMemory) (λ k. state ⟦<KeptStore as Store>⟧ k.conn)
             (WasRefused ⟦<KeptStore as Store>⟧)
             (λ o kept. kept ≡ record_of o day) result }
     {
-        self.ask(AskedDay { day })
+        self.read(AskedDay { day })
     }
 
     fn past(&mut self) -> Result<Option<PastRecord>, KeepFault>
         ensures cause { CountsFaults self.old.in_file.faults self.new.in_file.faults result }
         ensures does { AskedToRead self.old.in_file.database.kept self.new.in_file.database.kept
+            (AreFound ⟦<KeptPages as Pages>⟧) (Looks ⟦<KeptPages as Pages>⟧)
             (λ k. k.unmade ≢ Some NoMemory) (λ k. state ⟦<KeptStore as Store>⟧ k.conn)
             (WasRefused ⟦<KeptStore as Store>⟧)
             (λ o past. past ≡ o.past) result }
     {
-        self.ask(Past)
+        self.read(Past)
     }
 
     fn spent(&mut self, day: u32, vid: u32, xway: u8) -> Result<u64, KeepFault>
         ensures cause { CountsFaults self.old.in_file.faults self.new.in_file.faults result }
         ensures does { AskedToRead self.old.in_file.database.kept self.new.in_file.database.kept
+            (AreFound ⟦<KeptPages as Pages>⟧) (Looks ⟦<KeptPages as Pages>⟧)
             (λ k. k.unmade ≢ Some NoMemory) (λ k. state ⟦<KeptStore as Store>⟧ k.conn)
             (WasRefused ⟦<KeptStore as Store>⟧)
             (λ o tolls. tolls ≡ paid o.rows day vid xway) result }
     {
-        self.ask(AskedSpent { day, vid, xway })
+        self.read(AskedSpent { day, vid, xway })
     }
 
     fn rows(&mut self, from: u32, to: u32) -> Result<Vec<SpentRow>, KeepFault>
         ensures rise { IfOk result (λ rows. RowsRise rows.items) }
         ensures cause { CountsFaults self.old.in_file.faults self.new.in_file.faults result }
         ensures does { AskedToRead self.old.in_file.database.kept self.new.in_file.database.kept
+            (AreFound ⟦<KeptPages as Pages>⟧) (Looks ⟦<KeptPages as Pages>⟧)
             (λ k. k.unmade ≢ Some NoMemory) (λ k. state ⟦<KeptStore as Store>⟧ k.conn)
             (WasRefused ⟦<KeptStore as Store>⟧)
             (λ o rows. rows.items ≡ rows_between o from to) result }
     {
-        self.ask(Rows { from, to })
+        self.read(Rows { from, to })
     }
 
     fn vehicle_rows(&mut self, vid: u32, from: u32, to: u32) -> Result<Vec<SpentRow>, KeepFault>
         ensures rise { IfOk result (λ rows. RowsRise rows.items) }
         ensures cause { CountsFaults self.old.in_file.faults self.new.in_file.faults result }
         ensures does { AskedToRead self.old.in_file.database.kept self.new.in_file.database.kept
+            (AreFound ⟦<KeptPages as Pages>⟧) (Looks ⟦<KeptPages as Pages>⟧)
             (λ k. k.unmade ≢ Some NoMemory) (λ k. state ⟦<KeptStore as Store>⟧ k.conn)
             (WasRefused ⟦<KeptStore as Store>⟧)
             (λ o rows. rows.items ≡ vehicle_rows_between o vid from to) result }
     {
-        self.ask(VehicleRows { vid, from, to })
+        self.read(VehicleRows { vid, from, to })
     }
 
     fn tariffs(&mut self) -> Result<Tariffs, KeepFault>
         ensures cause { CountsFaults self.old.in_file.faults self.new.in_file.faults result }
         ensures does { AskedToRead self.old.in_file.database.kept self.new.in_file.database.kept
+            (AreFound ⟦<KeptPages as Pages>⟧) (Looks ⟦<KeptPages as Pages>⟧)
             (λ k. k.unmade ≢ Some NoMemory) (λ k. state ⟦<KeptStore as Store>⟧ k.conn)
             (WasRefused ⟦<KeptStore as Store>⟧)
             (λ o tariffs. tariffs ≡ o.tariffs) result }
     {
-        self.ask(KeptTariffs)
+        self.read(KeptTariffs)
     }
 
     fn put_day(&mut self, kept: &DayRecord, rows: &[SpentRow]) -> Result<(), KeepFault>
@@ -115,7 +124,7 @@ impl Keeper for SqliteKeeper {
             (WasRefused ⟦<KeptStore as Store>⟧)
             (IsLater kept.now.day) (with_day kept.now rows.now) result }
     {
-        self.ask(PutDay { kept, rows })
+        self.put(PutDay { kept, rows })
     }
 
     fn put_past(&mut self, kept: &PastRecord, rows: &[SpentRow]) -> Result<(), KeepFault>
@@ -127,7 +136,7 @@ impl Keeper for SqliteKeeper {
             (WasRefused ⟦<KeptStore as Store>⟧)
             HasNoDays (with_past kept.now rows.now) result }
     {
-        self.ask(PutPast { kept, rows })
+        self.put(PutPast { kept, rows })
     }
 
     fn put_tariff(&mut self, xway: u8, tariff: &Tariff) -> Result<(), KeepFault>
@@ -138,6 +147,6 @@ impl Keeper for SqliteKeeper {
             (WasRefused ⟦<KeptStore as Store>⟧)
             FitsAny (with_tariff_of xway tariff.now) result }
     {
-        self.ask(PutTariff { xway, tariff })
+        self.put(PutTariff { xway, tariff })
     }
 }

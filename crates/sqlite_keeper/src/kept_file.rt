@@ -4,13 +4,15 @@ ghost use Rattle.sqlite.specs.Held.{state};
 ghost use Rattle.keeper.specs.Calls.{CountsFaults};
 ghost use Rattle.keeper.specs.declared.kept.KeepFault.TheVariants.{NoMemory as no_memory};
 ghost use Rattle.keeper_writes.specs.Causes.{WasRefused};
-ghost use Rattle.keeper_at_path.specs.Does.{Asked};
+ghost use Rattle.keeper_at_path.specs.Asked.{AskedToRead, AskedToPut};
+ghost use Rattle.keeper_at_path.specs.Looks.{AreFound, Looks};
 
 use keeper::KeepFault;
-use keeper_at_path::{Call, KeeperIn, KeptStore};
+use keeper_at_path::{Kept, KeeperIn, KeptDisk, KeptPages, KeptStore, Putting, Reading, shut as shut_pool};
 use keeper_writes::refusals::refusal;
 use road_time::NoMemory;
 use sqlite::Connection;
+use sqlite_pages::Pages;
 use sqlite_trees::store::Store;
 use std::alloc::Global;
 use std::rt::HostRuntime;
@@ -23,7 +25,7 @@ pub const KEPT_FILE: &str = "tolls.db";
 /// database behind it.
 #[derive(Drop)]
 pub struct SqliteKeeper {
-    in_file: KeeperIn<KeptStore>,
+    in_file: KeeperIn<KeptDisk>,
 }
 
 impl SqliteKeeper {
@@ -40,27 +42,47 @@ impl SqliteKeeper {
     pub fn close(self) -> Result<(), KeepFault> {
         let SqliteKeeper { in_file } = self;
         match in_file.give_up() {
-            Some(conn) => shut(conn),
+            Some(Kept::Trees(pages)) => shut_pages(pages),
+            Some(Kept::Whole(conn)) => shut(conn),
             None => Ok(()),
         }
     }
 
-    /// Makes a call. It alone hands one on to the store of files, which a check takes longest at.
-    pub(crate) fn ask<C: Call + Drop>(&mut self, call: C) -> Result<C::Answer, KeepFault>
-        requires { C.fits call }
+    /// Makes a call that reads. It and `put` alone hand calls on to the store of files, which a check takes longest at.
+    pub(crate) fn read<C: Reading + Drop>(&mut self, call: C) -> Result<C::Answer, KeepFault>
         ensures answers { IfOk result C.answers }
-        ensures does { Asked self.old.in_file.database.kept self.new.in_file.database.kept
+        ensures does { AskedToRead self.old.in_file.database.kept self.new.in_file.database.kept
+            (AreFound ⟦<KeptPages as Pages>⟧) (Looks ⟦<KeptPages as Pages>⟧)
             (λ k. k.unmade ≢ Some no_memory) (λ k. state ⟦<KeptStore as Store>⟧ k.conn)
-            (WasRefused ⟦<KeptStore as Store>⟧) C.writes (C.asks call) (C.gives call) (C.next call) result }
+            (WasRefused ⟦<KeptStore as Store>⟧) (C.gives call) result }
         ensures cause { CountsFaults self.old.in_file.faults self.new.in_file.faults result }
     {
-        self.in_file.ask(call)
+        self.in_file.read(call)
+    }
+
+    /// Makes a call that puts.
+    pub(crate) fn put<C: Putting + Drop>(&mut self, call: C) -> Result<(), KeepFault>
+        requires { C.fits call }
+        ensures does { AskedToPut self.old.in_file.database.kept self.new.in_file.database.kept
+            (λ k. k.unmade ≢ Some no_memory) (λ k. state ⟦<KeptStore as Store>⟧ k.conn)
+            (WasRefused ⟦<KeptStore as Store>⟧) (C.asks call) (C.next call) result }
+        ensures cause { CountsFaults self.old.in_file.faults self.new.in_file.faults result }
+    {
+        self.in_file.put(call)
     }
 }
 
 /// Closes the file of a connection.
 fn shut(conn: Connection<KeptStore>) -> Result<(), KeepFault> {
     match conn.close() {
+        Ok(()) => Ok(()),
+        Err(error) => Err(refusal(error)),
+    }
+}
+
+/// Closes the file of pages.
+fn shut_pages(pages: KeptPages) -> Result<(), KeepFault> {
+    match shut_pool(pages) {
         Ok(()) => Ok(()),
         Err(error) => Err(refusal(error)),
     }

@@ -1,0 +1,4 @@
+use Rattle.keeper_at_path.proofs.keeper_in.KeeperIn.put.Goals as goal
+
+pub returns-clause-does : goal.returns-clause-does
+returns-clause-does g c = rw c.count.ensures.same c.put-answer.ensures

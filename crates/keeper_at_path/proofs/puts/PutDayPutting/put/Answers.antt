@@ -1,0 +1,17 @@
+use Rattle.sqlite.specs.Held.{state}
+use Rattle.keeper.specs.Kept.{IsLater, with_day}
+use Rattle.keeper_writes.specs.Causes.{WasRefused}
+use Rattle.keeper_proof.proofs.TellLaws.{untold_fits}
+use Rattle.keeper_at_path.proofs.DoesLaws.{put_does}
+use Rattle.keeper_at_path.proofs.puts.PutDayPutting.put.Goals as goal
+
+pub put_day-requires : goal.put_day-requires
+put_day-requires g c = record { fits = c.requires; later = untold_fits g.S.Steady.is_steady g.met.S.Shuts.shuts _ _ }
+
+pub returns : goal.returns
+returns g c =
+    put_does (WasRefused g.S.Store)
+    (IsLater c.args.self.kept.now.day) (with_day c.args.self.kept.now c.args.self.rows.now)
+    (state g.S.Store c.args.kept.now.conn) (state g.S.Store c.put_day.new.self.conn)
+    c.put_day.result c.put_day.ensures.put
+    c.put_day.ensures.because c.put_day.ensures.crash

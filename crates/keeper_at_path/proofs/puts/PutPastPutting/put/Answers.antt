@@ -1,0 +1,17 @@
+use Rattle.sqlite.specs.Held.{state}
+use Rattle.keeper.specs.Kept.{HasNoDays, with_past}
+use Rattle.keeper_writes.specs.Causes.{WasRefused}
+use Rattle.keeper_proof.proofs.TellLaws.{untold_fits}
+use Rattle.keeper_at_path.proofs.DoesLaws.{put_does}
+use Rattle.keeper_at_path.proofs.puts.PutPastPutting.put.Goals as goal
+
+pub put_past-requires : goal.put_past-requires
+put_past-requires g c = record { fits = c.requires; first = untold_fits g.S.Steady.is_steady g.met.S.Shuts.shuts _ _ }
+
+pub returns : goal.returns
+returns g c =
+    put_does (WasRefused g.S.Store) HasNoDays
+    (with_past c.args.self.kept.now c.args.self.rows.now)
+    (state g.S.Store c.args.kept.now.conn) (state g.S.Store c.put_past.new.self.conn)
+    c.put_past.result c.put_past.ensures.put
+    c.put_past.ensures.because c.put_past.ensures.crash

@@ -1,0 +1,73 @@
+-- What is held of a file, and how a call of it is made.
+use Rattle.std.specs.Prelude.{◌≡◌, ◌⊎◌, Bool, true, false, Option, Some, None, Result, Ok, Err, IsErr}
+use Rattle.sqlite.specs.State.{State}
+use Rattle.keeper.specs.declared.kept.KeepFault.{KeepFault}
+use Rattle.keeper.specs.declared.kept.KeepFault.TheVariants.{Failed, NoMemory}
+use Rattle.keeper.specs.Office.{Office}
+use Rattle.kept_tables.specs.Steps.{FitsAny}
+use Rattle.keeper_at_path.specs.declared.kept.Kept.{Kept}
+use Rattle.keeper_at_path.specs.declared.kept.Kept.TheVariants.{Trees, Whole}
+use Rattle.keeper_at_path.specs.Does.{Does}
+
+-- the keeper that is called is the one that is held, or one that was opened for the call
+abbrev pub IsReady : {T K : Type 0} → (K → Type 0) → Option (Kept T K) → K → Type 0
+IsReady opened None before = opened before
+IsReady opened (Some (Trees trees)) before = opened before
+IsReady opened (Some (Whole kept)) before = before ≡ kept
+
+-- trees or a keeper were found in a file
+abbrev pub IsFound : {T K : Type 0} → (T → Type 0) → (K → Type 0) → Kept T K → Type 0
+IsFound found opened (Trees trees) = found trees
+IsFound found opened (Whole kept) = opened kept
+
+-- what a call reads is what is held, or what was found for the call
+abbrev pub IsReadyToRead : {T K : Type 0} → (T → Type 0) → (K → Type 0) → Option (Kept T K) → Kept T K → Type 0
+IsReadyToRead found opened None before = IsFound found opened before
+IsReadyToRead found opened (Some kept) before = before ≡ kept
+
+-- no keeper is held
+abbrev pub IsNotWhole : {T K : Type 0} → Option (Kept T K) → Type 0
+IsNotWhole None = Unit {0}
+IsNotWhole (Some (Trees trees)) = Unit {0}
+IsNotWhole (Some (Whole kept)) = ⊥
+
+-- it is held afterwards, and where the call failed it is let go
+abbrev pub IsHeld : {A K : Type 0} → Result A KeepFault → Option K → K → Type 0
+IsHeld (Ok x) held after = held ≡ Some after
+IsHeld (Err NoMemory) held after = held ≡ Some after
+IsHeld (Err Failed) held after = held ≡ None
+
+-- a call was made of a keeper
+pub record IsMade {T K A : Type 0} (may : K → Type 0) (view : K → State) (cause : Type 0) (writes : Bool)
+    (asks : Office → Type 0) (gives : Office → A → Type 0) (next : Office → Office) (held : Option (Kept T K))
+    (result : Result A KeepFault) : Type 0 where
+  pub before : K
+  pub after : K
+  pub ready : may before
+  pub does : Does cause writes asks gives next (view before) (view after) result
+  pub kept : IsHeld result held (Whole after)
+
+-- a call was made of trees
+pub record IsLooked {T K A : Type 0} (may : T → Type 0) (see : T → T → Result A KeepFault → Type 0)
+    (held : Option (Kept T K)) (result : Result A KeepFault) : Type 0 where
+  pub before : T
+  pub after : T
+  pub ready : may before
+  pub looks : see before after result
+  pub kept : IsHeld result held (Trees after)
+
+-- a call that reads was made of trees or of a keeper, or nothing was held and nothing could be opened
+abbrev pub AskedToRead : {T K A : Type 0} → Option (Kept T K) → Option (Kept T K) → (T → Type 0) →
+    ((Office → A → Type 0) → T → T → Result A KeepFault → Type 0) → (K → Type 0) → (K → State) → Type 0 →
+    (Office → A → Type 0) → Result A KeepFault → Type 0
+AskedToRead old held found looks opened view cause gives result =
+    IsLooked (λ t. IsReadyToRead found opened old (Trees t)) (looks gives) held result
+    ⊎ (IsMade (λ k. IsReadyToRead found opened old (Whole k)) view cause false FitsAny gives (λ o. o) held result
+    ⊎ ((old ≡ None) × (held ≡ None) × IsErr result))
+
+-- a call that puts was made of a keeper, or no keeper was held and none could be opened
+abbrev pub AskedToPut : {T K : Type 0} → Option (Kept T K) → Option (Kept T K) → (K → Type 0) → (K → State) →
+    Type 0 → (Office → Type 0) → (Office → Office) → Result (Unit {0}) KeepFault → Type 0
+AskedToPut old held opened view cause asks next result =
+    IsMade (IsReady opened old) view cause true asks (λ o u. Unit {0}) next held result
+    ⊎ (IsNotWhole old × (held ≡ None) × IsErr result)
