@@ -1,7 +1,7 @@
 // The same file by its trees and whole, call by call, and a file with a spoiled page.
 use crate::worked::put_day;
 use keeper::{DayRecord, KeepFault, Keeper, PastRecord};
-use keeper_at_path::{AtPath, Kept, KeeperIn, open_to_read, open_whole};
+use keeper_at_path::{AtPath, KeeperIn, Kept, open_to_read, open_whole};
 use keeper_proof::ProvedKeeper;
 use road_time::{SpentRow, Tariff};
 use sqlite_keeper::SqliteKeeper;
@@ -11,6 +11,7 @@ use std::rt::HostRuntime;
 use tree_keeper::PageTrees;
 
 /// What the seven calls that read answer of a file.
+#[derive(Drop)]
 struct Answers {
     last: u32,
     day: Option<DayRecord>,
@@ -38,7 +39,11 @@ impl Answers {
 }
 
 /// What the trees of a file answer.
-fn of_trees<P: Pages>(alloc: Global, trees: &mut PageTrees<P>, day: u32) -> Result<Answers, KeepFault> {
+fn of_trees<P: Pages>(
+    alloc: Global,
+    trees: &mut PageTrees<P>,
+    day: u32,
+) -> Result<Answers, KeepFault> {
     let tariffs = trees.tariffs(alloc)?;
     Ok(Answers {
         last: trees.last_day()?,
@@ -112,7 +117,10 @@ fn spoil(rt: HostRuntime, path: &str, page: usize) -> anyhow::Result<()> {
 
 /// A file with a day whose index of amounts has a spoiled page: what the calls that do not come upon it answer, and
 /// those that do, in one opening of it and the next.
-pub fn spoiled_page<D: AtPath>(rt: HostRuntime, path: &str) -> anyhow::Result<[Result<bool, KeepFault>; 4]> {
+pub fn spoiled_page<D: AtPath>(
+    rt: HostRuntime,
+    path: &str,
+) -> anyhow::Result<[Result<bool, KeepFault>; 4]> {
     let _ = put_day::<D>(rt, path);
     let closed = SqliteKeeper::at(rt.alloc(), rt, path)?;
     let _ = closed.close();

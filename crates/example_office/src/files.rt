@@ -95,7 +95,9 @@ fn files_by_trees<D: AtPath>(rt: HostRuntime) -> anyhow::Result<()> {
         println!(rt; "{path} by its trees and whole the same: {same:?}")?;
     }
     let [last, spent, day, rows] = by_trees::spoiled_page::<D>(rt, "spoiled_page.db")?;
-    println!(rt; "a spoiled page, last day: {last:?}, amount: {spent:?}, day: {day:?}, amounts: {rows:?}")?;
+    println!(rt;
+        "a spoiled page, last day: {last:?}, amount: {spent:?}, day: {day:?}, amounts: {rows:?}"
+    )?;
     Ok(())
 }
 

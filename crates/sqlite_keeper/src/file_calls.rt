@@ -15,8 +15,8 @@ ghost use Rattle.keeper_at_path.specs.Looks.{AreFound, Looks};
 use crate::kept_file::SqliteKeeper;
 use keeper::{DayRecord, KeepFault, Keeper, PastRecord};
 use keeper_at_path::{
-    AskedDay, AskedSpent, KeptPages, KeptStore, KeptTariffs, LastDay, Past, PutDay, PutPast, PutTariff, Rows,
-    VehicleRows,
+    AskedDay, AskedSpent, KeptPages, KeptStore, KeptTariffs, LastDay, Past, PutDay, PutPast,
+    PutTariff, Rows, VehicleRows,
 };
 use road_time::{SpentRow, Tariff, Tariffs};
 use sqlite_pages::Pages;

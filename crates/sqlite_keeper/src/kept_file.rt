@@ -8,7 +8,9 @@ ghost use Rattle.keeper_at_path.specs.Asked.{AskedToRead, AskedToPut};
 ghost use Rattle.keeper_at_path.specs.Looks.{AreFound, Looks};
 
 use keeper::KeepFault;
-use keeper_at_path::{Kept, KeeperIn, KeptDisk, KeptPages, KeptStore, Putting, Reading, shut as shut_pool};
+use keeper_at_path::{
+    KeeperIn, Kept, KeptDisk, KeptPages, KeptStore, Putting, Reading, shut as shut_pool,
+};
 use keeper_writes::refusals::refusal;
 use road_time::NoMemory;
 use sqlite::Connection;
