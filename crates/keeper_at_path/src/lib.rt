@@ -3,8 +3,8 @@
 //! `KeeperIn` opens its database at the first call, and anew after a call that failed. A call that reads is made of the
 //! trees of the file, where that lists exactly our tables: no more is read than the answer needs. A call that puts is
 //! made by a `ProvedKeeper` on a connection, which reads and checks the file whole; it takes the files over from the
-//! trees, and is held from then on. A file that is not exactly ours is opened whole for each call. Each call is a
-//! value, a `Reading` or a `Putting`. What the file holds is another hand's until it is read: it tells nothing of it.
+//! trees, and is held from then on. A file that is not exactly ours is opened whole. Each call is a value, a `Reading`
+//! or a `Putting`. What the file holds is another hand's until it is read: it tells nothing of it.
 #![tactic(auto)]
 
 mod at_path;

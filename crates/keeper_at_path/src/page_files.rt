@@ -19,6 +19,9 @@ use tree_keeper::{PageTrees, recovered};
 /// The page size of a file that the programs made.
 const PAGE_SIZE: usize = 4096;
 
+/// Bytes 20 to 23 of the first page where no byte of a page is set aside, as it would be for a sum.
+const NO_SUMS: u32 = 0x0040_2020;
+
 /// The size of the pages of files, where it is ours and the first page is that of a database whose pages have no sums.
 /// Nothing is written.
 fn our_page_size<D: Disk>(alloc: Global, files: &mut Files<D>) -> Option<PageSize>
@@ -33,10 +36,13 @@ fn our_page_size<D: Disk>(alloc: Global, files: &mut Files<D>) -> Option<PageSiz
     if size.bytes() != PAGE_SIZE {
         return None;
     }
-    match probe_first_page(alloc, files, size) {
-        Ok((b'S', 0)) => Some(size),
-        _ => None,
+    let Ok(head) = probe_first_page(alloc, files, size) else {
+        return None;
+    };
+    if head.0 != b'S' || head.1 != NO_SUMS {
+        return None;
     }
+    Some(size)
 }
 
 /// The pages of files, of which nothing is read yet.
