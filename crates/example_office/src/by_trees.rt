@@ -122,7 +122,8 @@ pub fn spoiled_page<D: AtPath>(
     path: &str,
 ) -> anyhow::Result<[Result<bool, KeepFault>; 4]> {
     let _ = put_day::<D>(rt, path);
-    let closed = SqliteKeeper::at(rt.alloc(), rt, path)?;
+    let mut closed = SqliteKeeper::at(rt.alloc(), rt, path)?;
+    let _ = closed.last_day();
     let _ = closed.close();
     spoil(rt, path, 4)?;
     let mut file = KeeperIn::<D>::at(rt.alloc(), rt, path)?;
