@@ -1,3 +1,4 @@
+-- What a source holds that is opened at its first read.
 use Rattle.std.specs.Prelude.{ℕ, List, Option}
 use Rattle.road_io.specs.declared.late.Opening.{Opening}
 use Rattle.road_io.specs.declared.late.Opening.TheVariants.{Unopened, Opened, Refused}

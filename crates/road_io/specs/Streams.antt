@@ -1,3 +1,4 @@
+-- The ends of a connection.
 use Rattle.std.specs.declared.net.tcp.TcpStream.{TcpStream}
 use Rattle.road_io.specs.declared.edges.TcpEnds.{TcpEnds}
 

@@ -33,7 +33,8 @@ pub trait TwoEnds {
     fn shut(&mut self) -> bool
         ensures { self.new ≡ self.old };
 
-    ghost in_is: { (s : Self) (end : Self.In) → Self.In.remaining (inward (with_inward s end)) ≡ Self.In.remaining end };
+    ghost in_is: { (s : Self) (end : Self.In)
+        → Self.In.remaining (inward (with_inward s end)) ≡ Self.In.remaining end };
 
     ghost in_keeps: { (s : Self) (end : Self.In)
         → Self.Out.contents (outward (with_inward s end)) ≡ Self.Out.contents (outward s) };

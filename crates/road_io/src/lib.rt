@@ -20,7 +20,9 @@ mod source;
 
 pub use cutter::{LineCutter, LineFault};
 pub use edges::{FileSource, StdSink, StdSource, StreamLink};
+pub use ends::TwoEnds;
 pub use link::{Link, send_all};
+pub use linking::Linking;
 pub use memory::{MemLink, MemSink, MemSource};
 pub use sink::{Sink, VoidSink, Writing, put_all};
 pub use source::{Failed, Reading, Source};

@@ -24,7 +24,7 @@ pub struct Linking<E> {
 
 impl<E> Linking<E> {
     /// A link over these ends.
-    pub(crate) fn over(rt: HostRuntime, ends: E) -> Linking<E> {
+    pub fn over(rt: HostRuntime, ends: E) -> Linking<E> {
         Linking {
             rt,
             ends,
