@@ -1,20 +1,23 @@
 #!/usr/bin/env python3
 """Tries the server as a new user would, and prints what was seen.
 
-    python3 bench/try_serve.py PROGRAM [--lines 100000] [--asks 1000] [--folder DAYS]
+    python3 bench/try_serve.py PROGRAM [--lines 100000] [--beside 1000000] [--asks 1000] [--folder DAYS]
 
 PROGRAM is the executable `toll_serve`. The server runs in a new folder, on a free port of this machine. Asked are: every
 path and every refusal, with the whole answer; refused requests with bodies that nobody reads; requests as a page of the web
 sends them; a day of so many lines, posted while four clients read the live board; so many kept days one after another; a
 slow client and a silent one beside three that work; a thousand silent ones, and fifty whose heads come a byte a second; more
-connections than there are file handles; POSTs in line behind one; a POST whose body comes a byte a second, and one whose body is held
-back, beside clients that ask for what is kept; clients that vanish; a kill -9 at moments of a POST. The server then ends by
-its sessions, and Python's `sqlite3` reads what it kept. The script ends with status 1 at the first answer that is not the
-expected one, or that comes late.
+connections than there are file handles; 200 faults of accept, and threads that cannot be had; POSTs in line behind one, of
+which some clients leave; a day of so many lines again, posted beside a thousand silent clients and ten POSTs in line, while
+others ask for live totals and kept amounts; clients that are answered and go on sending; a POST whose body comes a byte a second,
+and one whose body is held back, beside clients that ask for what is kept; clients that vanish; a kill -9 at moments of a POST. The
+server then ends by its sessions, and Python's `sqlite3` reads what it kept. The script ends with status 1 at the first answer
+that is not the expected one, or that comes late. The faults of accept are made by `bench/fail_accept.c`, built by `cc`.
 """
 import argparse
 import http.client
 import json
+import os
 import pathlib
 import resource
 import shutil
@@ -41,6 +44,9 @@ SILENT = 1000
 TRICKLING = 50
 FEW_HANDLES = 40
 KILLS = 50
+ACCEPT_FAULTS = 200
+AT_MOST = 0.05
+HERE = pathlib.Path(__file__).resolve().parent
 
 
 def fail(text):
@@ -65,17 +71,22 @@ def charged_day():
     return report(crowd) + report(path) + away
 
 
+def free_port():
+    with socket.socket() as probe:
+        probe.bind(("127.0.0.1", 0))
+        return probe.getsockname()[1]
+
+
 class Server:
     """The program in a folder, which ends after so many connections."""
 
-    def __init__(self, program, folder, sessions, readers=4, handles=None):
-        with socket.socket() as probe:
-            probe.bind(("127.0.0.1", 0))
-            self.port = probe.getsockname()[1]
+    def __init__(self, program, folder, sessions, readers=4, handles=None, environment=None):
+        self.port = free_port()
         words = [program, str(self.port), "--sessions", str(sessions), "--readers", str(readers)]
         if handles is not None:
             words = ["sh", "-c", f'ulimit -n {handles} && exec "$0" "$@"', *words]
-        self.child = subprocess.Popen(words, cwd=folder, stdin=subprocess.DEVNULL, stdout=subprocess.PIPE, stderr=subprocess.PIPE)
+        self.child = subprocess.Popen(words, cwd=folder, stdin=subprocess.DEVNULL, stdout=subprocess.PIPE, stderr=subprocess.PIPE,
+                                      env={**os.environ, **(environment or {})})
         self.left = sessions
         self.lock = threading.Lock()
         self.started = time.monotonic()
@@ -578,7 +589,8 @@ def try_handles(program, folder):
 
 
 def try_line(program, folder):
-    """One reader: ten POSTs wait behind one whose body is held back, two of whose clients vanish, beside clients that ask."""
+    """One reader: ten POSTs wait behind one whose body is held back, beside clients that ask. Of two more in line the clients
+    vanish, one with its whole day sent: nothing of theirs is kept. Those that are refused at once do not wait."""
     server = Server(program, folder, 3_000, readers=1)
     expect("the first day", server.ask("POST", "/days/100", b"")[0], 200)
     wire = server.connect()
@@ -587,10 +599,15 @@ def try_line(program, folder):
     line = [Posts(server, 99) for _ in range(10)]
     for post in line:
         post.start()
-    gone = [server.connect() for _ in range(2)]
-    for each in gone:
-        each.sendall(b"POST /days/102 HTTP/1.1\r\nContent-Length: 9\r\n\r\n")
+    for whole in (b"POST /days/102 HTTP/1.1\r\nContent-Length: 0\r\n\r\n", b"POST /days/102 HTTP/1.1\r\nContent-Length: 9\r\n\r\n"):
+        each = server.connect()
+        each.sendall(whole)
         each.close()
+    begin = time.monotonic()
+    expect("a POST to no path beside the line", server.ask("POST", "/nothing", b"")[0], 404)
+    expect("a POST to a live path beside the line", server.ask("POST", "/live", b"")[0], 405)
+    if time.monotonic() - begin > AT_ONCE:
+        fail("POSTs that are refused at once waited in line")
     answers, most = slowest(work(server, ["/live", "/days/100", "/spent/100/0/1"], 3))
     wire.sendall(LATE[-1:])
     expect("the POST that was held", all_of(wire).split(b"\r\n")[0], b"HTTP/1.1 422 Unprocessable Entity")
@@ -598,10 +615,141 @@ def try_line(program, folder):
     begin = time.monotonic()
     for post in line:
         post.join()
+    lasted = time.monotonic() - begin
+    if lasted > 0.5:
+        fail(f"ten POSTs in line took {lasted:.2f} s after the one before them")
     expect("the POSTs in line", {post.answer for post in line}, {(409, "Conflict", '{"error":"passed","last":100}')})
     expect("the day of those that vanished", server.ask("GET", "/days/102")[0], 404)
     print(f"one reader, a POST that is held back and ten behind it: {answers} answers meanwhile, the slowest {most:.1f} ms;"
-          f" the ten were answered within {time.monotonic() - begin:.2f} s after it")
+          f" the ten were answered within {lasted * 1000:.0f} ms after it; what two sent that vanished in line is not kept")
+    server.end()
+
+
+def percentile(times):
+    times = sorted(times)
+    return times[int(0.99 * (len(times) - 1))]
+
+
+class Asker(threading.Thread):
+    """Asks for a path so many times, and notes how long each answer took."""
+
+    def __init__(self, server, path, count):
+        super().__init__()
+        self.server, self.path, self.count, self.took, self.error = server, path, count, [], None
+
+    def run(self):
+        try:
+            for _ in range(self.count):
+                begin = time.monotonic()
+                expect(f"GET {self.path} beside a POST", self.server.ask("GET", self.path)[0], 200)
+                self.took.append(time.monotonic() - begin)
+        except (OSError, SystemExit, http.client.HTTPException) as error:
+            self.error = repr(error)
+
+
+def try_beside(program, folder, path):
+    """A thousand silent clients and ten POSTs in line beside a POST of a whole day: live totals and kept amounts at once."""
+    lines = lines_in(path)
+    server = Server(program, folder, 5_000)
+    expect("the first day", server.ask("POST", "/days/100", charged_day())[0], 200)
+    silent = [server.connect(SILENCE * 3) for _ in range(SILENT)]
+    answers, line = [], [Posts(server, 99) for _ in range(10)]
+    with open(path, "rb") as body:
+        posting = threading.Thread(target=post_quietly, args=(server, body.read(), answers))
+    begin = time.monotonic()
+    posting.start()
+    time.sleep(0.1)
+    for post in line:
+        post.start()
+    askers = [Asker(server, "/live", SILENT), Asker(server, "/spent/100/0/100", SILENT)]
+    for asker in askers:
+        asker.start()
+    for asker in askers:
+        asker.join()
+    asked = time.monotonic() - begin
+    posting.join()
+    took = time.monotonic() - begin
+    for post in line:
+        post.join()
+    expect("those who asked beside a POST", [asker.error for asker in askers if asker.error], [])
+    expect("the POST of the day", answers, [200])
+    expect("the POSTs in line", {post.answer[0] for post in line}, {409})
+    for wire in silent:
+        wire.close()
+    live, kept = (percentile(asker.took) for asker in askers)
+    if max(live, kept) > AT_MOST:
+        fail(f"beside a POST the 99th percentiles are {live * 1000:.1f} ms (live) and {kept * 1000:.1f} ms (kept)")
+    print(f"{SILENT} silent clients and ten POSTs in line beside a POST of {lines} lines, which took {took:.2f} s: {SILENT} live totals,"
+          f" 99th percentile {live * 1000:.1f} ms, and {SILENT} kept amounts, {kept * 1000:.1f} ms, within {asked:.2f} s; nothing is lost")
+    server.end()
+
+
+def shim():
+    """`bench/fail_accept.c` as a library, where there is a compiler."""
+    if not shutil.which("cc"):
+        return None
+    built = pathlib.Path(tempfile.mkdtemp()) / "fail_accept.so"
+    subprocess.run(["cc", "-O1", "-shared", "-fPIC", "-o", built, HERE / "fail_accept.c", "-ldl"], check=True)
+    return str(built)
+
+
+def try_faults(program, folder):
+    """Two hundred faults of accept, after which all lanes answer."""
+    library = shim()
+    if library is None:
+        print("no compiler: faults of accept were not tried")
+        return
+    server = Server(program, folder, 3_000, environment={"LD_PRELOAD": library, "FAIL_ACCEPTS": str(ACCEPT_FAULTS)})
+    begin = time.monotonic()
+    expect("GET /live after faults of accept", server.ask("GET", "/live")[0], 200)
+    waited = time.monotonic() - begin
+    if waited < 1:
+        fail(f"{ACCEPT_FAULTS} faults of accept passed within {waited:.2f} s: none was waited for, or none came")
+    answers, most = slowest(work(server, ["/live"] * 8, 2))
+    expect("the server after faults of accept", server.child.poll(), None)
+    print(f"{ACCEPT_FAULTS} faults of accept: passed within {waited:.1f} s; {answers} answers over all lanes after them, the slowest {most:.1f} ms")
+    server.end()
+
+
+def try_threads(program, folder):
+    """Where a thread cannot be had for a lane the server ends with status 4, and does not go on with fewer lanes."""
+    library = shim()
+    if library is None:
+        print("no compiler: a lack of threads was not tried")
+        return
+    took = []
+    for had in range(4):
+        environment = {**os.environ, "LD_PRELOAD": library, "NO_THREAD_FROM": str(had)}
+        begin = time.monotonic()
+        done = subprocess.run([program, str(free_port()), "--readers", "5"], cwd=folder, capture_output=True, timeout=60, env=environment)
+        took.append(time.monotonic() - begin)
+        expect(f"the status where {had} threads can be had", (done.returncode, done.stdout, done.stderr), (4, b"", b""))
+    print(f"0 to 3 threads for five lanes: status 4 each time, after {max(took):.1f} s at most")
+
+
+def try_drains(program, folder):
+    """Clients that are answered and neither close nor end what they send: no lane waits for them."""
+    server = Server(program, folder, 3_000, readers=2)
+    server.ask("GET", "/live")
+    held = [server.connect() for _ in range(100)]
+    for wire in held:
+        wire.sendall(b"GET /live HTTP/1.1\r\n\r\n" + b"a" * 20_000)
+    taken = [all_of(wire) for wire in held]
+    expect("answers to clients that stay", {each.split(b" ")[1] for each in taken}, {b"200"})
+    answers, most = slowest(work(server, ["/live"] * 4, 2))
+    time.sleep(1)
+    gone = 0
+    for wire in held:
+        try:
+            wire.sendall(b"a")
+            time.sleep(0.001)
+            wire.sendall(b"a")
+        except OSError:
+            gone += 1
+        wire.close()
+    expect("clients that stayed and were let go after two seconds", gone, len(held))
+    print(f"{len(held)} clients that are answered and stay: {answers} answers over two lanes meanwhile, the slowest {most:.1f} ms;"
+          " each was let go")
     server.end()
 
 
@@ -624,6 +772,7 @@ def main():
     words = argparse.ArgumentParser(description=__doc__, formatter_class=argparse.RawDescriptionHelpFormatter)
     words.add_argument("program", type=pathlib.Path)
     words.add_argument("--lines", type=int, default=100_000)
+    words.add_argument("--beside", type=int, default=1_000_000)
     words.add_argument("--asks", type=int, default=1000)
     words.add_argument("--kills", type=int, default=KILLS)
     words.add_argument("--folder", type=pathlib.Path, default=pathlib.Path(tempfile.gettempdir()) / "days")
@@ -637,10 +786,13 @@ def main():
     own = tempfile.mkdtemp()
     try_bodies(program, own)
     shutil.rmtree(own)
-    for attempt in (try_silent, try_handles, try_line):
+    for attempt in (try_silent, try_handles, try_faults, try_threads, try_drains, try_line):
         own = tempfile.mkdtemp()
         attempt(program, own)
         shutil.rmtree(own)
+    own = tempfile.mkdtemp()
+    try_beside(program, own, make_day(given.folder, str(given.beside)))
+    shutil.rmtree(own)
     try_kills(program, path, given.kills)
     server, day = try_day(program, folder, path)
     try_asks(server, given.asks)

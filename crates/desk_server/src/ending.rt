@@ -11,9 +11,9 @@ pub enum ServerEnd {
     Words,
     /// The door was not opened.
     Refused,
-    /// A listener failed.
+    /// A listener failed, or gave up, as no thread could be had for a lane.
     EarFault,
-    /// Memory ran out, or threads for the lanes could not be had.
+    /// Memory ran out.
     NoMemory,
 }
 

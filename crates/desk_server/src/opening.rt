@@ -1,12 +1,11 @@
 // Serving over an open door.
-ghost use Rattle.std.specs.Prelude.{◌≡◌, ◌≤◌, ◌<◌, ◌^◌, [], All, length, max, vec_len, vec_capacity, true};
+ghost use Rattle.std.specs.Prelude.{◌≡◌, ◌≤◌, ◌<◌, ◌^◌, [], All, length, vec_len, vec_capacity, true};
 ghost use Rattle.road_time.specs.Fits.{IsLimits};
 ghost use Rattle.lane_loops.specs.declared.serve_end.ServeEnd.TheVariants.{Served, ListenFault};
 ghost use Rattle.lane_doors.specs.Doors.{accepted_in, has_fault};
 ghost use Rattle.desk_server.specs.Endings.{counts_of, EndsServing};
 
 use crate::ending::ServerEnd;
-use crate::standing::can_stand;
 use desk_lanes::{DeskCrew, serve};
 use import_plan::Plan;
 use lane_doors::{Door, DoorFault, Ears, rise, seat};
@@ -65,13 +64,6 @@ fn serve_over<
     let end = serve(&rt, alloc, &mut lanes, &desk, sessions);
     let keeper = C::end(desk);
     (end, rise(room, lanes), keeper)
-}
-
-/// How many lanes serve for so many readers: two at least, so that one is free while a POST is answered.
-fn lanes_for(readers: u8) -> u8
-    ensures exact { result ≡ max readers 2 }
-{
-    readers.max(2)
 }
 
 /// Opens a door for so many lanes, serves over it, and closes it.
@@ -135,8 +127,8 @@ fn serve_behind<
     }
 }
 
-/// Serves as told: sees that a thread can be had for each lane, makes the board and room for the lanes, and then serves
-/// behind the door.
+/// Serves as told, over as many lanes as the door has for the readers: makes the board and room for the lanes, and then
+/// serves behind the door.
 pub fn serve_as<
     D: Door,
     K,
@@ -161,10 +153,7 @@ pub fn serve_as<
     ensures refused { D.refused door.old ≤ D.refused door.new }
     ensures faults { D.faults door.old ≤ D.faults door.new }
 {
-    let count = lanes_for(serving.readers);
-    let Ok(true) = can_stand(&rt, alloc, count) else {
-        return (ServerEnd::NoMemory, keeper);
-    };
+    let count = door.lanes(serving.readers);
     let Ok(lanes) = Vec::with_capacity(alloc, count as usize) else {
         return (ServerEnd::NoMemory, keeper);
     };

@@ -19,6 +19,7 @@ pub enum DoorFault {
 
 /// Opens ears on a port, and closes them. `refused` counts the openings that were refused, `faults` the closings of
 /// ears of which one had failed, and `accepted` the connections that closed ears had accepted. None of them falls.
+/// `lanes_for` is how many ears serve so many readers, and `hears` what is so of an ear on a port.
 pub trait Door {
     type Ear: Listener + Send + Drop;
 
@@ -28,12 +29,25 @@ pub trait Door {
 
     ghost accepted: { Self → ℕ };
 
+    ghost lanes_for: { ℕ → ℕ };
+
+    ghost hears: { Self.Ear → ℕ → Type 0 };
+
+    /// How many ears are opened for so many readers.
+    fn lanes(&self, readers: u8) -> u8
+        requires some { 1 ≤ readers }
+        requires few { readers ≤ 64 }
+        ensures exact { result ≡ lanes_for readers }
+        ensures enough { readers ≤ result }
+        ensures few { result ≤ 64 };
+
     /// Opens 1 to 64 ears on a port, which have accepted nothing.
     fn open(&mut self, alloc: Global, port: u16, ears: u8) -> Result<Ears<Self::Ear>, DoorFault>
         requires some { 1 ≤ ears }
         requires few { ears ≤ 64 }
         ensures count { IfOk result (λ opened. length opened ≡ ears) }
         ensures fresh { IfOk result (All (λ ear. (Self.Ear.accepted ear ≡ 0) × (Self.Ear.faults ear ≡ 0))) }
+        ensures hears { IfOk result (All (λ ear. hears ear port)) }
         ensures cause { result ≡ Err Failed → Rose (refused self.old) (refused self.new) }
         ensures later { refused self.old ≤ refused self.new }
         ensures faults { faults self.new ≡ faults self.old }

@@ -12,6 +12,7 @@ mod ears;
 mod mem_calls;
 mod mem_door;
 mod seats;
+mod shared_room;
 mod tcp_door;
 mod tcp_ear;
 

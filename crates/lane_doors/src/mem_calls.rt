@@ -42,9 +42,18 @@ impl Door for MemDoor {
 
     ghost accepted = { accepted_at };
 
+    ghost lanes_for = { λ readers. readers };
+
+    ghost hears = { λ ear port. Unit {0} };
+
+    fn lanes(&self, readers: u8) -> u8 {
+        readers
+    }
+
     fn open(&mut self, _alloc: Global, _port: u16, ears: u8) -> Result<Ears<MemListener>, DoorFault>
         ensures count { IfOk result (λ opened. length opened ≡ ears) }
         ensures fresh { IfOk result (All (λ ear. (accepted_by ear ≡ 0) × (faults_of ear ≡ 0))) }
+        ensures hears { IfOk result (All (λ ear. Unit {0})) }
         ensures cause { result ≡ Err Failed → Rose (refused_by self.old) (refused_by self.new) }
         ensures later { refused_by self.old ≤ refused_by self.new }
         ensures faults { faults_at self.new ≡ faults_at self.old }

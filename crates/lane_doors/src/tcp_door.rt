@@ -1,17 +1,19 @@
 // A door on a port of this machine.
-ghost use Rattle.std.specs.Prelude.{◌≡◌, ◌≢◌, ◌≤◌, ◌<◌, ◌^◌, ◌+◌, All, Err, IfOk, OnOk, length};
+ghost use Rattle.std.specs.Prelude.{◌≡◌, ◌≢◌, ◌≤◌, ◌<◌, ◌^◌, ◌+◌, All, Err, IfOk, OnOk, length, max};
 ghost use Rattle.road_io.specs.Faults.{Rose};
+ghost use Rattle.waiting_room.specs.OwnPorts.{IsOwnPort};
 ghost use Rattle.lane_doors.specs.Doors.{accepted_in, has_fault, counted_where};
-ghost use Rattle.lane_doors.specs.TcpDoors.{accepted_by, faults_of, refused_by, faults_at, accepted_at};
+ghost use Rattle.lane_doors.specs.TcpDoors.{accepted_by, faults_of, HearsAt, refused_by, faults_at, accepted_at};
 ghost use Rattle.lane_doors.specs.declared.door.DoorFault.TheVariants.{Failed};
 
 use crate::counting::counted;
 use crate::door::{Door, DoorFault};
 use crate::ears::Ears;
+use crate::shared_room::SharedRoom;
 use crate::tcp_ear::TcpEar;
 use std::alloc::Global;
 use std::rt::HostRuntime;
-use std::sync::{Arc, Mutex, Wait};
+use std::sync::Wait;
 use waiting_room::{RoomFault, WaitingRoom};
 
 /// Hears on a port of 127.0.0.1, which only this machine reaches. All its ears hear in one waiting room.
@@ -40,11 +42,14 @@ impl<R> TcpDoor<R> {
 }
 
 /// One more ear.
-fn add<R: Drop>(ears: &mut Vec<TcpEar<R>>, ear: TcpEar<R>) -> Result<(), DoorFault>
+fn add<R: Drop>(ears: &mut Vec<TcpEar<R>>, ear: TcpEar<R>, port: u16) -> Result<(), DoorFault>
     requires fresh { All (λ ear. (accepted_by ear ≡ 0) × (faults_of ear ≡ 0)) ears.old.items }
     requires unused { (accepted_by ear ≡ 0) × (faults_of ear ≡ 0) }
+    requires hears { All (λ ear. HearsAt ear port) ears.old.items }
+    requires own { HearsAt ear port }
     ensures count { OnOk result (length ears.new.items ≡ length ears.old.items + 1) }
     ensures fresh { OnOk result (All (λ ear. (accepted_by ear ≡ 0) × (faults_of ear ≡ 0)) ears.new.items) }
+    ensures hears { OnOk result (All (λ ear. HearsAt ear port) ears.new.items) }
     ensures memory { result ≢ Err Failed }
 {
     match ears.push(ear) {
@@ -54,18 +59,16 @@ fn add<R: Drop>(ears: &mut Vec<TcpEar<R>>, ear: TcpEar<R>) -> Result<(), DoorFau
 }
 
 /// A room on a port, which many ears may share.
-fn open_room(
-    host: HostRuntime,
-    alloc: Global,
-    port: u16,
-) -> Result<Arc<Mutex<WaitingRoom>, Global>, DoorFault> {
+fn open_room(host: HostRuntime, alloc: Global, port: u16) -> Result<SharedRoom, DoorFault>
+    ensures { IfOk result (λ shared. IsOwnPort shared.at port) }
+{
     let room = match WaitingRoom::open(host, alloc, port) {
         Ok(room) => room,
         Err(RoomFault::Failed) => return Err(DoorFault::Failed),
         Err(RoomFault::NoMemory) => return Err(DoorFault::NoMemory),
     };
-    match Arc::new(alloc, Mutex::new(room)) {
-        Ok(room) => Ok(room),
+    match SharedRoom::new(alloc, room) {
+        Ok(shared) => Ok(shared),
         Err(_) => Err(DoorFault::NoMemory),
     }
 }
@@ -81,16 +84,17 @@ fn listen<R: Copy + Drop>(
     requires { 1 ≤ count }
     ensures count { IfOk result (λ opened. length opened ≡ count) }
     ensures fresh { IfOk result (All (λ ear. (accepted_by ear ≡ 0) × (faults_of ear ≡ 0))) }
+    ensures hears { IfOk result (All (λ ear. HearsAt ear port)) }
 {
     let room = open_room(host, alloc, port)?;
     let mut ears = Vec::new(alloc);
     for _ in 1..count {
-        let Ok(again) = Arc::try_clone(&room) else {
+        let Ok(again) = room.again() else {
             return Err(DoorFault::NoMemory);
         };
-        add(&mut ears, TcpEar::new(rt, alloc, again))?;
+        add(&mut ears, TcpEar::new(rt, alloc, again), port)?;
     }
-    add(&mut ears, TcpEar::new(rt, alloc, room))?;
+    add(&mut ears, TcpEar::new(rt, alloc, room), port)?;
     Ok(Ears::from_vec(ears))
 }
 
@@ -122,11 +126,21 @@ impl<R: Wait + Copy + Drop + Send + Sync> Door for TcpDoor<R> {
 
     ghost accepted = { accepted_at };
 
+    ghost lanes_for = { λ readers. max readers 2 };
+
+    ghost hears = { HearsAt };
+
+    /// Two at least, so that one is free while a day is posted.
+    fn lanes(&self, readers: u8) -> u8 {
+        readers.max(2)
+    }
+
     fn open(&mut self, alloc: Global, port: u16, ears: u8) -> Result<Ears<TcpEar<R>>, DoorFault>
         requires some { 1 ≤ ears }
         requires few { ears ≤ 64 }
         ensures count { IfOk result (λ opened. length opened ≡ ears) }
         ensures fresh { IfOk result (All (λ ear. (accepted_by ear ≡ 0) × (faults_of ear ≡ 0))) }
+        ensures hears { IfOk result (All (λ ear. HearsAt ear port)) }
         ensures cause { result ≡ Err Failed → Rose (refused_by self.old) (refused_by self.new) }
         ensures later { refused_by self.old ≤ refused_by self.new }
         ensures faults { faults_at self.new ≡ faults_at self.old }

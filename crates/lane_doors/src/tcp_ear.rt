@@ -1,19 +1,21 @@
 // A listener on a port of this machine.
 ghost use Rattle.std.specs.Prelude.{◌≡◌};
-ghost use Rattle.lane_doors.specs.TcpDoors.{accepted_by, faults_of};
+ghost use Rattle.lane_doors.specs.TcpDoors.{accepted_by, faults_of, address_of};
 
 use crate::ear::Ear;
+use crate::shared_room::SharedRoom;
 use lane_loops::Listener;
 use road_io::Failed;
 use std::alloc::Global;
-use std::sync::{Arc, Mutex, Wait};
-use waiting_room::{RoomLink, WaitingRoom};
+use std::sync::Wait;
+use waiting_room::RoomLink;
 
-/// One of the ears of a waiting room. It tells nothing of who connects, or of what is said.
+/// One of the ears of a waiting room. It tells nothing of who connects, or of what is said. Where it gives up no ear of
+/// the room hears any more.
 #[derive(Drop)]
 pub struct TcpEar<R> {
     pub(crate) rt: R,
-    pub(crate) room: Arc<Mutex<WaitingRoom>, Global>,
+    pub(crate) room: SharedRoom,
     pub(crate) alloc: Global,
     pub(crate) faults: u64,
     pub(crate) accepted: u64,
@@ -21,9 +23,10 @@ pub struct TcpEar<R> {
 
 impl<R> TcpEar<R> {
     /// Has accepted nothing.
-    pub fn new(rt: R, alloc: Global, room: Arc<Mutex<WaitingRoom>, Global>) -> TcpEar<R>
+    pub fn new(rt: R, alloc: Global, room: SharedRoom) -> TcpEar<R>
         ensures accepted { accepted_by result ≡ 0 }
         ensures faults { faults_of result ≡ 0 }
+        ensures address { address_of result ≡ room.at }
     {
         TcpEar {
             rt,
@@ -35,12 +38,6 @@ impl<R> TcpEar<R> {
     }
 }
 
-/// The next connection of a room that is to wait there no more. While one ear waits for it the others wait for the room.
-fn next<R: Wait>(rt: &R, alloc: Global, room: &Mutex<WaitingRoom>) -> Result<RoomLink, Failed> {
-    let mut room = room.lock(rt);
-    room.next(alloc)
-}
-
 impl<R: Wait> Listener for TcpEar<R> {
     type Line = RoomLink;
 
@@ -49,7 +46,7 @@ impl<R: Wait> Listener for TcpEar<R> {
     ghost accepted = { accepted_by };
 
     fn accept(&mut self) -> Result<RoomLink, Failed> {
-        match next(&self.rt, self.alloc, &self.room) {
+        match self.room.next(&self.rt, self.alloc) {
             Ok(line) => {
                 self.accepted += 1;
                 Ok(line)
@@ -59,6 +56,15 @@ impl<R: Wait> Listener for TcpEar<R> {
                 Err(Failed)
             }
         }
+    }
+
+    fn end(&mut self, line: RoomLink) {
+        self.room.end(&self.rt, line);
+    }
+
+    fn give_up(&mut self) {
+        self.room.close();
+        self.faults = self.faults.saturating_add(1);
     }
 }
 

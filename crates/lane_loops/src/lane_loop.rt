@@ -7,15 +7,16 @@ use crate::lane::Lane;
 use crate::listener::Listener;
 use crate::stub::Stub;
 use crate::tickets::{Draws, Tickets, draw};
-use road_io::{Failed, Link};
+use road_io::Failed;
 use std::alloc::Global;
+use std::sync::atomic::{AtomicBool, Ordering};
 use std::sync::ledger::Ledger;
 use std::sync::{Mutex, Wait};
 
 impl<N: Listener> Lane<N> {
-    /// Accepts a connection, has it served, and finishes it, so that what was answered reaches the client. Where the
-    /// listener fails the lane failed.
-    fn turn<H: Host>(&mut self, alloc: Global, host: &H) -> bool
+    /// Accepts a connection, has it served, and gives it back, so that what was answered reaches the client. Where the
+    /// listener fails the lane failed; so it does where all loops are to stop.
+    fn turn<H: Host>(&mut self, alloc: Global, host: &H, stop: &AtomicBool) -> bool
         requires room { N.accepted self.old.listener < 2 ^ 64 - 1 }
         requires goes { self.old.failed ≡ false }
         ensures serves { LaneServes N.faults self.old self.new }
@@ -24,11 +25,16 @@ impl<N: Listener> Lane<N> {
         ensures failed { self.new.failed ≡ true → result ≡ false }
         ensures goes { self.new.failed ≡ false → result ≡ true }
     {
+        if stop.load(Ordering::SeqCst) {
+            self.listener.give_up();
+            self.failed = true;
+            return false;
+        }
         match self.listener.accept() {
             Ok(line) => {
                 let mut line = line;
                 host.attend(alloc, &mut line, &mut self.reader);
-                line.finish();
+                self.listener.end(line);
                 true
             }
             Err(Failed) => {
@@ -38,12 +44,13 @@ impl<N: Listener> Lane<N> {
         }
     }
 
-    /// Turns, until no ticket is left or the listener fails.
+    /// Turns, until no ticket is left, the listener fails or all loops are to stop.
     pub fn run<H: Host, D: Draws, E: Ledger, R: Wait>(
         &mut self,
         rt: &R,
         alloc: Global,
         host: &H,
+        stop: &AtomicBool,
         tickets: &Mutex<Tickets<D, E>>,
         stub: &mut Stub<D, E>,
     )
@@ -59,7 +66,7 @@ impl<N: Listener> Lane<N> {
     {
         self.failed = false;
         while draw(rt, tickets, stub) {
-            if !self.turn(alloc, host) {
+            if !self.turn(alloc, host, stop) {
                 return;
             }
         }

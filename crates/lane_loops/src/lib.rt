@@ -4,9 +4,11 @@
 //! runs a loop for each of the `Lanes`. Each turn of a loop draws a ticket, accepts a connection, and has a `Host`
 //! serve it. Each ticket is drawn once, by whichever loop comes first: what the lanes drew is counted by a ledger,
 //! whose shares they hold. A second ledger counts the loops that found no ticket left. So where no listener failed,
-//! the listeners accepted as many connections in all as there were tickets.
+//! the listeners accepted as many connections in all as there were tickets. A connection is given back to the listener
+//! that it came from, and to nobody else. Where no thread can be had for a loop, all of them stop.
 #![tactic(auto)]
 
+mod begun;
 mod host;
 mod lane;
 mod lane_loop;

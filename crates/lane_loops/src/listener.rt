@@ -1,12 +1,13 @@
 // What connections come from.
-ghost use Rattle.std.specs.Prelude.{ℕ, ◌≡◌, ◌+◌, ◌-◌, ◌^◌, ◌<◌, OnOk, OnErr};
-ghost use Rattle.road_io.specs.Faults.{HasCause};
+ghost use Rattle.std.specs.Prelude.{ℕ, ◌≡◌, ◌≤◌, ◌+◌, ◌-◌, ◌^◌, ◌<◌, OnOk, OnErr};
+ghost use Rattle.road_io.specs.Faults.{HasCause, Rose};
 
 use road_io::{Failed, Link};
 
-/// Gives connections, one after another. `accepted` counts those that it gave, `faults` the calls that failed.
+/// Gives connections, one after another, and takes each back that was served. `accepted` counts those that it gave,
+/// `faults` the calls that failed. A connection cannot be let go but by `end`.
 pub trait Listener {
-    type Line: Link + Drop + Send;
+    type Line: Link + Send;
 
     ghost faults: { Self → ℕ };
 
@@ -18,4 +19,15 @@ pub trait Listener {
         ensures accepts { OnOk result (accepted self.new ≡ accepted self.old + 1) }
         ensures refuses { OnErr result (accepted self.new ≡ accepted self.old) }
         ensures cause { HasCause (faults self.old) (faults self.new) result };
+
+    /// Takes a connection back, and ends it, so that what was answered reaches the client.
+    fn end(&mut self, line: Self::Line)
+        ensures accepted { accepted self.new ≡ accepted self.old }
+        ensures faults { faults self.new ≡ faults self.old };
+
+    /// Hears no more, which counts as a call that failed. Where others hear with it, their calls fail from then on.
+    fn give_up(&mut self)
+        ensures accepted { accepted self.new ≡ accepted self.old }
+        ensures later { faults self.old ≤ faults self.new }
+        ensures cause { Rose (faults self.old) (faults self.new) };
 }

@@ -1,13 +1,13 @@
 // A listener in memory.
-ghost use Rattle.std.specs.Prelude.{◌≡◌, ◌⊎◌, ◌↔◌, ◌∷◌, ◌+◌, ◌<◌, ◌-◌, ◌^◌, ◌==◌, ℕ, [], true};
+ghost use Rattle.std.specs.Prelude.{◌≡◌, ◌⊎◌, ◌↔◌, ◌∷◌, ◌+◌, ◌<◌, ◌≤◌, ◌-◌, ◌^◌, ◌==◌, ℕ, [], true};
 ghost use Rattle.std.specs.Prelude.{IsErr, IsNone, IfOk, IfSome, IfNone, OnOk, OnErr};
 ghost use Rattle.std.specs.List.{list_any};
-ghost use Rattle.road_io.specs.Faults.{HasCause};
+ghost use Rattle.road_io.specs.Faults.{HasCause, Rose};
 ghost use Rattle.road_io.specs.Plans.{planned};
 ghost use Rattle.lane_loops.specs.MemListeners.{links_of, plan_of, accepted_by, faults_of};
 
 use crate::listener::Listener;
-use road_io::{Failed, MemLink};
+use road_io::{Failed, Link, MemLink};
 use road_time::NoMemory;
 use std::alloc::Global;
 
@@ -109,5 +109,23 @@ impl Listener for MemListener {
                 Err(Failed)
             }
         }
+    }
+
+    fn end(&mut self, line: MemLink)
+        ensures accepted { accepted_by self.new ≡ accepted_by self.old }
+        ensures faults { faults_of self.new ≡ faults_of self.old }
+        ensures same { self.new ≡ self.old }
+    {
+        let mut line = line;
+        line.finish();
+    }
+
+    fn give_up(&mut self)
+        ensures accepted { accepted_by self.new ≡ accepted_by self.old }
+        ensures later { faults_of self.old ≤ faults_of self.new }
+        ensures cause { Rose (faults_of self.old) (faults_of self.new) }
+        ensures links { links_of self.new ≡ links_of self.old }
+    {
+        self.faults = self.faults.saturating_add(1);
     }
 }

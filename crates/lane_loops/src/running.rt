@@ -3,12 +3,14 @@ ghost use Rattle.std.specs.Prelude.{◌≡◌, ◌≤◌, ◌<◌, ◌+◌, ◌+
 ghost use denote.Param.Send.{IsSync, IsSend};
 ghost use Rattle.lane_loops.specs.Lanes.{LaneRan, RanAll};
 
+use crate::begun::heed;
 use crate::host::Host;
 use crate::lane::Lane;
 use crate::listener::Listener;
 use crate::stub::Stub;
 use crate::tickets::{Draws, Tickets};
 use std::alloc::Global;
+use std::sync::atomic::{AtomicBool, Ordering};
 use std::sync::ledger::Ledger;
 use std::sync::{Mutex, Wait};
 use std::thread::{Threads, join};
@@ -18,6 +20,7 @@ fn run_lane<N: Listener, H: Host, D: Draws, E: Ledger, R: Wait>(
     rt: &R,
     alloc: Global,
     host: &H,
+    stop: &AtomicBool,
     tickets: &Mutex<Tickets<D, E>>,
     lane: Lane<N>,
     stub: Stub<D, E>,
@@ -32,7 +35,7 @@ fn run_lane<N: Listener, H: Host, D: Draws, E: Ledger, R: Wait>(
 {
     let mut lane = lane;
     let mut stub = stub;
-    lane.run(rt, alloc, host, tickets, &mut stub);
+    lane.run(rt, alloc, host, stop, tickets, &mut stub);
     (lane, stub)
 }
 
@@ -60,7 +63,8 @@ fn put_behind<N: Listener, D: Ledger, E: Ledger>(
     }
 }
 
-/// Runs the loop of the last lane in a thread of its own, where one can be had, and beside it the loops of the others.
+/// Runs the loop of the last lane in a thread of its own, and beside it the loops of the others. Where that thread
+/// cannot be had all loops stop.
 #[cycle(lanes)]
 fn run_beside<
     N: Listener + Drop + Send,
@@ -72,6 +76,7 @@ fn run_beside<
     rt: &R,
     alloc: Global,
     host: &H,
+    stop: &AtomicBool,
     tickets: &Mutex<Tickets<D, E>>,
     lanes: Vec<Lane<N>>,
     stub: Stub<D, E>,
@@ -92,6 +97,8 @@ fn run_beside<
     ensures ends { result.1.ends.parts ≡ stub.ends.parts + 1 }
     ensures room { vec_capacity lanes ≤ vec_capacity result.0 }
 {
+    let begun = AtomicBool::new(false);
+    let begun = &begun;
     let ((last, own), (lanes, stub)) = join(
         rt,
         move || -> (Lane<N>, Stub<D, E>)
@@ -99,7 +106,10 @@ fn run_beside<
                 × (N.accepted last.listener ≡ 0) }
             ensures ran { LaneRan N.faults N.accepted last result.0 result.1.drawn.amount result.1.ends.amount }
             ensures parts { (result.1.drawn.parts ≡ 1) × (result.1.ends.parts ≡ 1) }
-        { run_lane(rt, alloc, host, tickets, last, own) },
+        {
+            begun.store(true, Ordering::SeqCst);
+            run_lane(rt, alloc, host, stop, tickets, last, own)
+        },
         move || -> (Vec<Lane<N>>, Stub<D, E>)
             requires bounds { IsSync R.row × IsSync H.row × IsSend N.row × IsSend N.Line.row
                 × IsSend D.row × IsSend E.row × IsSync D.row × IsSync E.row }
@@ -113,13 +123,15 @@ fn run_beside<
             ensures drawn { result.1.drawn.parts ≡ stub.drawn.parts }
             ensures ends { result.1.ends.parts ≡ stub.ends.parts }
             ensures room { vec_capacity lanes ≤ vec_capacity result.0 }
-        { run_all(rt, alloc, host, tickets, lanes, stub) },
+        {
+            heed(begun, stop, lanes.len());
+            run_all(rt, alloc, host, stop, tickets, lanes, stub)
+        },
     );
     put_behind(lanes, stub, last, own)
 }
 
-/// Runs the loops of lanes that accepted nothing, each in a thread of its own where one can be had. The stub has a part
-/// for each.
+/// Runs the loops of lanes that accepted nothing, each in a thread of its own. The stub has a part for each.
 #[cycle(lanes)]
 pub fn run_all<
     N: Listener + Drop + Send,
@@ -131,6 +143,7 @@ pub fn run_all<
     rt: &R,
     alloc: Global,
     host: &H,
+    stop: &AtomicBool,
     tickets: &Mutex<Tickets<D, E>>,
     lanes: Vec<Lane<N>>,
     stub: Stub<D, E>,
@@ -151,5 +164,5 @@ pub fn run_all<
         return (lanes, stub);
     };
     let own = stub.part();
-    run_beside(rt, alloc, host, tickets, lanes, stub, last, own)
+    run_beside(rt, alloc, host, stop, tickets, lanes, stub, last, own)
 }

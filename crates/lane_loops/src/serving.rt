@@ -14,6 +14,7 @@ use crate::stub::Stub;
 use crate::tickets::{Draws, Tickets};
 use std::alloc::Global;
 use std::marker::Brand;
+use std::sync::atomic::AtomicBool;
 use std::sync::ledger::{Blank, Ledger};
 use std::sync::{Mutex, Wait};
 use std::thread::Threads;
@@ -57,7 +58,8 @@ fn run_over<
         drawn: of_drawn,
         ends: of_ends,
     };
-    let (lanes, stub) = run_all(rt, alloc, host, &tickets, lanes, stub);
+    let stop = AtomicBool::new(false);
+    let (lanes, stub) = run_all(rt, alloc, host, &stop, &tickets, lanes, stub);
     let mut stub = stub;
     tickets.into_inner().settle(&mut stub);
     lanes
@@ -71,8 +73,8 @@ fn has_failed<N>(lanes: &[Lane<N>]) -> bool
 }
 
 /// Serves `sessions` connections over 1 to 64 lanes, whose listeners have accepted none: a loop for each lane, in a
-/// thread of its own where one can be had, with the host on each connection. A loop ends where no connection is left to
-/// accept, or where its listener fails. It waits.
+/// thread of its own, with the host on each connection. A loop ends where no connection is left to accept, or where its
+/// listener fails. Where a thread cannot be had all listeners give up. It waits.
 pub fn serve<N: Listener + Drop + Send, H: Host + Sync, R: Threads + Wait + Sync>(
     rt: &R,
     alloc: Global,

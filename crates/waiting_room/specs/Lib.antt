@@ -1,3 +1,9 @@
+pub mod Addresses
+pub mod Fronts
 pub mod Heads
+pub mod Judged
+pub mod OwnPorts
 pub mod Passing
+pub mod Posts
+pub mod Streams
 pub mod Times

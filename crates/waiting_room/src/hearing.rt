@@ -1,52 +1,102 @@
 // What happens to connections in their seats.
-use crate::pass::may_leave;
+ghost use Rattle.std.specs.Prelude.{length};
+ghost use Rattle.std.specs.List.{AllZip};
+ghost use Rattle.waiting_room.specs.Judged.{IsJudged};
+
+use crate::draining::Drain;
 use crate::seat::Seat;
 use mio::Events;
 use std::time::Instant;
 
+/// How many connections wait at once.
+pub(crate) const SEATS: usize = 1024;
+
+/// How many connections that were answered are drained at once.
+pub(crate) const DRAINS: usize = 1024;
+
+/// The first token of a connection that is drained, behind those of the seats, of the listener and of the waker.
+pub(crate) const FIRST_DRAIN: usize = SEATS + 2;
+
+/// Hears a connection in a seat, and notes where its end is heard.
+fn hear_seat(seats: &mut [Option<Seat>], at: usize, ends: bool, now: Instant) {
+    if let Some(Some(seat)) = seats.get_mut(at) {
+        seat.hear();
+        if ends {
+            seat.note_end(now);
+        }
+    }
+}
+
+/// Hears a connection that is drained, and says whether more is to come.
+fn goes_on(place: &mut Option<Drain>) -> bool {
+    match place {
+        Some(drain) => drain.hear(),
+        None => false,
+    }
+}
+
+/// Hears a connection that is drained, and lets it go where no more is to come.
+fn hear_drain(drains: &mut [Option<Drain>], at: usize) {
+    if let Some(place) = drains.get_mut(at) {
+        if !goes_on(place) {
+            *place = None;
+        }
+    }
+}
+
 /// Hears the connections that are ready.
-pub(crate) fn hear_ready(events: &Events, seats: &mut [Option<Seat>]) {
+pub(crate) fn hear_ready(
+    events: &Events,
+    seats: &mut [Option<Seat>],
+    drains: &mut [Option<Drain>],
+    now: Instant,
+) {
     for event in events.iter() {
         let at = event.token().0;
-        if let Some(Some(seat)) = seats.get_mut(at) {
-            seat.hear();
+        match at.checked_sub(FIRST_DRAIN) {
+            Some(drain) => hear_drain(drains, drain),
+            None => hear_seat(seats, at, event.is_read_closed(), now),
         }
     }
 }
 
-/// Calls the connections whose time is over.
-pub(crate) fn judge_all(seats: &mut [Option<Seat>], now: Instant) {
+/// Calls a connection whose time for its head is over, and lets go of what one sent that has gone.
+fn judge_place(place: &mut Option<Seat>, now: Instant)
+    ensures { IsJudged now place.old place.new }
+{
+    if let Some(seat) = place {
+        seat.judge(now);
+        seat.judge_line(now);
+    }
+}
+
+/// Calls the connections whose time is over, and lets go of what those sent who have gone.
+pub(crate) fn judge_all(seats: &mut [Option<Seat>], now: Instant)
+    ensures { AllZip (IsJudged now) seats.old seats.new }
+{
     for place in seats.iter_mut() {
-        if let Some(seat) = place {
-            seat.judge(now);
+        judge_place(place, now);
+    }
+}
+
+/// Whether a connection was drained long enough.
+fn is_over(place: &Option<Drain>, now: Instant) -> bool {
+    match place {
+        Some(drain) => drain.is_over(now),
+        None => false,
+    }
+}
+
+/// Lets the connections go that were drained long enough.
+pub(crate) fn end_drains(drains: &mut [Option<Drain>], now: Instant) {
+    for place in drains.iter_mut() {
+        if is_over(place, now) {
+            *place = None;
         }
     }
 }
 
-/// Whether no connection waits.
-pub(crate) fn is_empty(seats: &[Option<Seat>]) -> bool {
-    seats.iter().all(|place| place.is_none())
-}
-
-/// Whether the first of two connections was accepted before the second, if there is a second.
-fn is_before(since: Instant, other: Option<Instant>) -> bool {
-    match other {
-        Some(other) => since < other,
-        None => true,
-    }
-}
-
-/// The seat of the connection that has waited longest of those that may leave.
-pub(crate) fn first_called(seats: &[Option<Seat>], posting: bool) -> Option<usize> {
-    let mut first = None;
-    let mut oldest = None;
-    for (at, place) in seats.iter().enumerate() {
-        if let Some(seat) = place {
-            if may_leave(seat, posting) && is_before(seat.since, oldest) {
-                first = Some(at);
-                oldest = Some(seat.since);
-            }
-        }
-    }
-    first
+/// Whether no place is taken.
+pub(crate) fn is_empty<T>(places: &[Option<T>]) -> bool {
+    places.iter().all(|place| place.is_none())
 }

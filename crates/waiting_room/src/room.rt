@@ -1,28 +1,35 @@
 // Where connections wait for their head.
-use crate::hearing::{first_called, hear_ready, is_empty, judge_all};
-use crate::pass::{is_out, pass_of};
-use crate::room_link::RoomLink;
+ghost use Rattle.std.specs.Prelude.{◌≡◌, true, Some, IfOk, IfSome, IsSome, slice_get};
+ghost use Rattle.waiting_room.specs.Addresses.{address_of};
+ghost use Rattle.waiting_room.specs.OwnPorts.{IsOwnPort};
+ghost use Rattle.waiting_room.specs.Posts.{posts};
+
+use crate::draining::Drain;
+use crate::heard::Heard;
+use crate::hearing::{DRAINS, SEATS, end_drains, hear_ready, is_empty, judge_all};
+use crate::posts::{first_called, is_post};
+use crate::room_link::{Pass, RoomLink, link_to};
 use crate::seat::Seat;
-use crate::seating::{Gate, fill};
+use crate::seating::{Gate, drain, fill};
+use crate::threshold::Threshold;
 use mio::net::TcpListener;
-use mio::{Events, Interest, Poll, Token};
+use mio::{Events, Interest, Poll, Registry, Token, Waker};
 use road_io::Failed;
 use std::alloc::{AllocError, Global};
 use std::io;
 use std::net::{self, SocketAddr};
 use std::rt::HostRuntime;
-use std::sync::Arc;
-use std::sync::atomic::AtomicBool;
+use std::sync::{Arc, Wait};
 use std::time::{Duration, Instant};
-
-/// How many connections wait at once.
-const SEATS: usize = 1024;
 
 /// How many connections are heard after one wait at most.
 const EVENTS: usize = 256;
 
 /// How many milliseconds pass at most until it is looked again whose time is over and what is to be accepted.
 const TICK: u64 = 100;
+
+/// How many connections come back at once at most for which room is kept.
+const BACK: usize = 64;
 
 /// Why a room was not opened.
 #[derive(Clone, Copy, Debug, PartialEq, Eq)]
@@ -33,67 +40,135 @@ pub enum RoomFault {
     NoMemory,
 }
 
-/// Connections that wait for their head, and the listener that they come from.
+/// Connections that wait for their head, those that are drained, and the listener that they come from. It has the one
+/// pass, unless a connection that posts a day is out with it.
 #[derive(Drop)]
 pub struct WaitingRoom {
     rt: HostRuntime,
-    listener: TcpListener,
+    heard: Heard,
     poll: Poll,
     events: Events,
     seats: Vec<Option<Seat>>,
-    posting: Arc<AtomicBool, Global>,
+    drains: Vec<Option<Drain>>,
+    pass: Option<Pass>,
+    threshold: Arc<Threshold, Global>,
 }
 
-/// Seats of nobody.
-fn empty_seats(alloc: Global) -> Result<Vec<Option<Seat>>, AllocError> {
-    let mut seats = Vec::with_capacity(alloc, SEATS)?;
-    for _ in 0..SEATS {
-        seats.push(None)?;
+/// Places of nobody.
+fn empty_places<T: Drop>(alloc: Global, count: usize) -> Result<Vec<Option<T>>, AllocError> {
+    let mut places = Vec::with_capacity(alloc, count)?;
+    for _ in 0..count {
+        places.push(None)?;
     }
-    Ok(seats)
+    Ok(places)
 }
 
-/// A listener on a port of 127.0.0.1, and the poll that it is registered with.
-fn listen(rt: &HostRuntime, port: u16) -> io::Result<(TcpListener, Poll)> {
-    let mut listener = TcpListener::bind(rt, SocketAddr::from(([127, 0, 0, 1], port)))?;
+/// A listener on a port of 127.0.0.1, the poll that it is registered with, and what ends a wait of that.
+fn listen(rt: &HostRuntime, port: u16) -> Result<(Heard, Poll, Waker), Failed>
+    ensures { IfOk result (λ opened. IsOwnPort opened.0.at port) }
+{
+    let Ok(mut heard) = Heard::own(rt, port) else {
+        return Err(Failed);
+    };
+    let Ok((poll, waker)) = watch(rt, &mut heard.listener) else {
+        return Err(Failed);
+    };
+    Ok((heard, poll, waker))
+}
+
+/// A poll of a listener, and what ends its wait.
+fn watch(rt: &HostRuntime, listener: &mut TcpListener) -> io::Result<(Poll, Waker)> {
     let poll = Poll::new(rt)?;
     poll.registry()
-        .register(&mut listener, Token(SEATS), Interest::READABLE)?;
-    Ok((listener, poll))
+        .register(listener, Token(SEATS), Interest::READABLE)?;
+    let waker = Waker::new(poll.registry(), Token(SEATS + 1))?;
+    Ok((poll, waker))
 }
 
 /// How long to wait for what connections send: without end where nobody waits and nothing is to pass.
-fn patience(seats: &[Option<Seat>], gate: Gate) -> Option<Duration> {
-    if gate == Gate::Clear && is_empty(seats) {
+fn patience(seats: &[Option<Seat>], drains: &[Option<Drain>], gate: Gate) -> Option<Duration> {
+    if gate == Gate::Clear && is_empty(seats) && is_empty(drains) {
         None
     } else {
         Some(Duration::from_millis(TICK))
     }
 }
 
+/// Takes the connection out of a seat, if one sits there.
+fn take_at(seats: &mut [Option<Seat>], at: usize) -> Option<Seat>
+    ensures { IfSome result (λ seat. slice_get seats.old at ≡ Some (Some seat)) }
+{
+    seats.get_mut(at)?.take()
+}
+
+/// Has a connection leave its seat; one that posts a day takes the pass.
+fn let_out(rt: HostRuntime, registry: &Registry, seat: Seat, pass: &mut Option<Pass>) -> RoomLink
+    ensures front { result.front ≡ seat.held }
+    ensures pass { posts seat.held.items ≡ true → result.keep.pass ≡ pass.old }
+{
+    let Seat {
+        stream,
+        held,
+        since: _,
+        called: _,
+        late,
+        ended: _,
+    } = seat;
+    let mut stream = stream;
+    let _ = registry.deregister(&mut stream);
+    let own = if is_post(held.as_slice()) {
+        pass.take()
+    } else {
+        None
+    };
+    link_to(rt, net::TcpStream::from(stream), held, late, own)
+}
+
 impl WaitingRoom {
     /// Listens on a port of 127.0.0.1, which only this machine reaches. Nobody waits.
-    pub fn open(rt: HostRuntime, alloc: Global, port: u16) -> Result<WaitingRoom, RoomFault> {
-        let Ok(seats) = empty_seats(alloc) else {
+    pub fn open(rt: HostRuntime, alloc: Global, port: u16) -> Result<WaitingRoom, RoomFault>
+        ensures { IfOk result (λ room. IsOwnPort (address_of room) port) }
+    {
+        let Ok(seats) = empty_places(alloc, SEATS) else {
+            return Err(RoomFault::NoMemory);
+        };
+        let Ok(drains) = empty_places(alloc, DRAINS) else {
             return Err(RoomFault::NoMemory);
         };
         let Ok(events) = Events::with_capacity(alloc, EVENTS) else {
             return Err(RoomFault::NoMemory);
         };
-        let Ok(posting) = Arc::new(alloc, AtomicBool::new(false)) else {
+        let Ok(back) = Vec::with_capacity(alloc, BACK) else {
             return Err(RoomFault::NoMemory);
         };
-        let Ok((listener, poll)) = listen(&rt, port) else {
+        let Ok((heard, poll, waker)) = listen(&rt, port) else {
             return Err(RoomFault::Failed);
+        };
+        let Ok(threshold) = Arc::new(alloc, Threshold::new(back, waker)) else {
+            return Err(RoomFault::NoMemory);
         };
         Ok(WaitingRoom {
             rt,
-            listener,
+            heard,
             poll,
             events,
             seats,
-            posting,
+            drains,
+            pass: Some(Pass::of_new_room()),
+            threshold,
         })
+    }
+
+    /// The address at which it was opened.
+    pub fn address(&self) -> SocketAddr
+        ensures { result ≡ address_of self.now }
+    {
+        self.heard.at
+    }
+
+    /// Where connections come back that left the room.
+    pub fn threshold(&self) -> Result<Arc<Threshold, Global>, AllocError> {
+        Arc::try_clone(&self.threshold)
     }
 
     /// The moment.
@@ -104,45 +179,66 @@ impl WaitingRoom {
         }
     }
 
-    /// Takes the connection that has waited longest of those that may leave. A POST may leave while no other is out.
-    fn take(&mut self) -> Option<RoomLink> {
-        let at = first_called(self.seats.as_slice(), is_out(&self.posting))?;
-        let seat = self.seats.get_mut(at)?.take()?;
-        let Seat {
-            stream,
-            held,
-            since: _,
-            called: _,
-            late,
-        } = seat;
-        let mut stream = stream;
-        let pass = pass_of(&self.posting, held.as_slice());
-        let _ = self.poll.registry().deregister(&mut stream);
-        Some(RoomLink::new(self.rt, net::TcpStream::from(stream), held, late, pass))
+    /// Takes what came back: connections, which are drained, and the pass.
+    fn take_back<R: Wait>(&mut self, rt: &R, now: Instant) {
+        for _ in 0..DRAINS {
+            let Some(stream) = self.threshold.next_stream(rt) else {
+                break;
+            };
+            drain(
+                self.poll.registry(),
+                self.drains.as_mut_slice(),
+                stream,
+                now,
+            );
+        }
+        if let Some(pass) = self.threshold.next_pass(rt) {
+            self.pass = Some(pass);
+        }
+    }
+
+    /// Takes the connection that was accepted first of those that may leave. One that posts a day may leave while the
+    /// pass is there, and takes it with it.
+    fn take(&mut self) -> Option<RoomLink>
+        ensures pass { IfSome result (λ line. posts line.front.items ≡ true → IsSome line.keep.pass) }
+    {
+        let at = first_called(self.seats.as_slice(), self.pass.is_none())?;
+        let seat = take_at(self.seats.as_mut_slice(), at)?;
+        Some(let_out(self.rt, self.poll.registry(), seat, &mut self.pass))
     }
 
     /// Waits for what connections send, and hears it.
     fn wait(&mut self, gate: Gate) -> Result<(), Failed> {
-        let patience = patience(self.seats.as_slice(), gate);
+        let patience = patience(self.seats.as_slice(), self.drains.as_slice(), gate);
         if self.poll.poll(&mut self.events, patience).is_err() {
             return Err(Failed);
         }
-        hear_ready(&self.events, self.seats.as_mut_slice());
         let now = self.now()?;
+        hear_ready(
+            &self.events,
+            self.seats.as_mut_slice(),
+            self.drains.as_mut_slice(),
+            now,
+        );
         judge_all(self.seats.as_mut_slice(), now);
+        end_drains(self.drains.as_mut_slice(), now);
         Ok(())
     }
 
-    /// Waits for the next connection whose head is whole, or that ended, or whose time is over, and gives it; a POST
-    /// while no other is out. It fails where the
-    /// listener cannot hear any more.
-    pub fn next(&mut self, alloc: Global) -> Result<RoomLink, Failed> {
+    /// Waits for the next connection that is to wait no more, and gives it: its head is whole, or it ended, or its time
+    /// is over. One that posts a day waits while another is out. It fails where the listener cannot hear any more, and
+    /// where the room is closed.
+    pub fn next<R: Wait>(&mut self, rt: &R, alloc: Global) -> Result<RoomLink, Failed> {
         for _ in 0..u64::MAX {
+            if self.threshold.is_closed() {
+                return Err(Failed);
+            }
             let now = self.now()?;
+            self.take_back(rt, now);
             let gate = fill(
                 alloc,
                 self.poll.registry(),
-                &self.listener,
+                &self.heard.listener,
                 self.seats.as_mut_slice(),
                 now,
             )?;

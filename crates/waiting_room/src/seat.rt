@@ -1,9 +1,11 @@
 // A connection that waits for its head.
-ghost use Rattle.std.specs.Prelude.{◌≡◌, ◌≤◌, ◌<◌, ◌+◌, ◌-◌, true, length, vec_len};
+ghost use Rattle.std.specs.Prelude.{◌≡◌, ◌≤◌, ◌<◌, ◌+◌, ◌-◌, ◌≢◌, true, false, [], None, Some, length, vec_len};
 ghost use Rattle.std.specs.Time.{instant_nanos};
-ghost use Rattle.waiting_room.specs.Times.{head_time};
+ghost use Rattle.waiting_room.specs.Posts.{posts};
+ghost use Rattle.waiting_room.specs.Times.{head_time, has_gone};
 
 use crate::front::{FRONT, is_told};
+use crate::posts::is_post;
 use mio::net::TcpStream;
 use std::alloc::Global;
 use std::io::{ErrorKind, Read};
@@ -12,8 +14,11 @@ use std::time::{Duration, Instant};
 /// How many seconds a connection has for its head.
 const HEAD_SECONDS: u64 = 10;
 
-/// A connection that waits for its head: what it sent so far, when it was accepted, whether it is to wait no more, and
-/// whether nothing more is to be read of it.
+/// How many seconds after its end was heard a connection is taken to have gone.
+const GONE_SECONDS: u64 = 1;
+
+/// A connection that waits: what it sent so far, when it was accepted, whether it is to wait no more for its head,
+/// whether nothing more is to be read of it, and when its end was first heard.
 #[derive(Drop)]
 pub(crate) struct Seat {
     pub(crate) stream: TcpStream,
@@ -21,6 +26,7 @@ pub(crate) struct Seat {
     pub(crate) since: Instant,
     pub(crate) called: bool,
     pub(crate) late: bool,
+    pub(crate) ended: Option<Instant>,
 }
 
 /// What a read comes to.
@@ -59,6 +65,16 @@ fn hear_once(stream: &mut TcpStream, held: &mut Vec<u8>, piece: &mut [u8]) -> He
     }
 }
 
+/// Whether the end of what a client sends was heard long enough ago.
+fn has_gone(ended: Option<Instant>, now: Instant) -> bool
+    ensures { result ≡ has_gone ended now }
+{
+    match ended {
+        Some(ended) => now.duration_since(ended) >= Duration::from_secs(GONE_SECONDS),
+        None => false,
+    }
+}
+
 impl Seat {
     /// Has sent nothing.
     pub(crate) fn new(alloc: Global, stream: TcpStream, since: Instant) -> Seat {
@@ -68,6 +84,7 @@ impl Seat {
             since,
             called: false,
             late: false,
+            ended: None,
         }
     }
 
@@ -91,6 +108,33 @@ impl Seat {
             return;
         }
         if now.duration_since(self.since) >= Duration::from_secs(HEAD_SECONDS) {
+            self.call_late();
+        }
+    }
+
+    /// Notes that the end of what the client sends was heard.
+    pub(crate) fn note_end(&mut self, now: Instant)
+        ensures first { self.old.ended ≡ None → self.new ≡ record self.old { ended = Some now } }
+        ensures again { self.old.ended ≢ None → self.new ≡ self.old }
+    {
+        if self.ended.is_none() {
+            self.ended = Some(now);
+        }
+    }
+
+    /// Lets go of what a connection that waits in line sent, where its client has gone: its end was heard a second ago.
+    /// Nothing of it is served then.
+    pub(crate) fn judge_line(&mut self, now: Instant)
+        ensures gone { posts self.old.held.items ≡ true → has_gone self.old.ended now ≡ true
+            → (self.new.held.items ≡ []) × (self.new.late ≡ true) × (self.new.called ≡ true) }
+        ensures waits { has_gone self.old.ended now ≡ false → self.new ≡ self.old }
+        ensures answered { posts self.old.held.items ≡ false → self.new ≡ self.old }
+    {
+        if !is_post(self.held.as_slice()) {
+            return;
+        }
+        if has_gone(self.ended, now) {
+            self.held.clear();
             self.call_late();
         }
     }

@@ -64,7 +64,9 @@ fn count_next<N: Ear>(ear: &mut N) -> (u64, u64)
     requires { N.Listener.accepted ear.old < 9 }
     ensures { N.Listener.accepted ear.new ≤ N.Listener.accepted ear.old + 1 }
 {
-    let _line = ear.accept();
+    if let Ok(line) = ear.accept() {
+        ear.end(line);
+    }
     (ear.accepted(), ear.faults())
 }
 
@@ -147,7 +149,9 @@ fn hear_one_another<R: Wait>(client: &mut TcpStream, ear: &mut TcpEar<R>) -> io:
         && asked.starts_with(b"GET / HTTP/1.1\r\n\r\n");
     let went = line.write(b"told").is_ok();
     let mut told = [0u8; 4];
-    client.read_exact(&mut told)?;
+    let heard = client.read_exact(&mut told);
+    ear.end(line);
+    heard?;
     Ok(came && went && told == *b"told")
 }
 

@@ -1,6 +1,5 @@
 // Whole runs of the server over a door in memory.
 ghost use Rattle.std.specs.Prelude.{◌≡◌, IfOk};
-ghost use Rattle.lane_loops.specs.MemListeners.{accepted_by, faults_of};
 ghost use Rattle.lane_doors.specs.MemDoors.{accepted_at};
 
 use desk_server::serve_words;
@@ -19,7 +18,7 @@ const EMPTY_DAY: &[u8] = b"POST /days/100 HTTP/1.1\r\nContent-Length: 0\r\n\r\n"
 /// Words, whether the door refuses, the exit status, and whether the posted day is kept then.
 const ROWS: [(&str, bool, u8, bool); 8] = [
     ("8080 --sessions 1 --readers 1", false, 0, true),
-    ("8080 --sessions 3 --readers 1", false, 4, true),
+    ("8080 --sessions 2 --readers 1", false, 4, true),
     ("8080 --sessions 1 --readers 1", true, 2, false),
     ("8080 --sessions 1", false, 2, false),
     ("0", false, 1, false),
@@ -36,22 +35,14 @@ fn words_of(alloc: Global, line: &str) -> Result<Vec<String>, NoMemory> {
     Ok(words)
 }
 
-/// A listener with one connection: the POST of an empty day.
-fn listener_of(alloc: Global) -> Result<MemListener, NoMemory>
-    ensures { IfOk result (λ l. (accepted_by l ≡ 0) × (faults_of l ≡ 0)) }
-{
-    let mut links = Vec::new(alloc);
-    links.push(MemLink::new(alloc, EMPTY_DAY, 7, 1000, &[])?)?;
-    MemListener::new(alloc, links, &[])
-}
-
-/// A door with two such listeners, as many as one reader has.
+/// A door with one listener, which has one connection: the POST of an empty day.
 fn door_of(alloc: Global, refuses: bool) -> Result<MemDoor, NoMemory>
     ensures { IfOk result (λ door. accepted_at door ≡ 0) }
 {
+    let mut links = Vec::new(alloc);
+    links.push(MemLink::new(alloc, EMPTY_DAY, 7, 1000, &[])?)?;
     let mut ears = Vec::new(alloc);
-    ears.push(listener_of(alloc)?)?;
-    ears.push(listener_of(alloc)?)?;
+    ears.push(MemListener::new(alloc, links, &[])?)?;
     Ok(MemDoor::new(ears, refuses))
 }
 

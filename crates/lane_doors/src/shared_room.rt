@@ -1,0 +1,70 @@
+// A waiting room that many ears hear in.
+ghost use Rattle.std.specs.Prelude.{◌≡◌, IfOk};
+ghost use Rattle.waiting_room.specs.Addresses.{address_of};
+
+use road_io::Failed;
+use road_time::NoMemory;
+use std::alloc::Global;
+use std::net::SocketAddr;
+use std::sync::{Arc, Mutex, Wait};
+use waiting_room::{RoomLink, Threshold, WaitingRoom};
+
+/// A waiting room under a lock, and its threshold beside it: who gives a connection back does not wait for the lock.
+#[derive(Drop)]
+pub struct SharedRoom {
+    room: Arc<Mutex<WaitingRoom>, Global>,
+    threshold: Arc<Threshold, Global>,
+    pub(crate) at: SocketAddr,
+}
+
+impl SharedRoom {
+    pub(crate) fn new(alloc: Global, room: WaitingRoom) -> Result<SharedRoom, NoMemory>
+        ensures { IfOk result (λ shared. shared.at ≡ address_of room) }
+    {
+        let at = room.address();
+        let Ok(threshold) = room.threshold() else {
+            return Err(NoMemory);
+        };
+        let Ok(room) = Arc::new(alloc, Mutex::new(room)) else {
+            return Err(NoMemory);
+        };
+        Ok(SharedRoom {
+            room,
+            threshold,
+            at,
+        })
+    }
+
+    /// The same room, for another ear.
+    pub(crate) fn again(&self) -> Result<SharedRoom, NoMemory>
+        ensures { IfOk result (λ shared. shared.at ≡ self.now.at) }
+    {
+        let Ok(room) = Arc::try_clone(&self.room) else {
+            return Err(NoMemory);
+        };
+        let Ok(threshold) = Arc::try_clone(&self.threshold) else {
+            return Err(NoMemory);
+        };
+        Ok(SharedRoom {
+            room,
+            threshold,
+            at: self.at,
+        })
+    }
+
+    /// The next connection that is to wait no more. While one ear waits for it the others wait for the room.
+    pub(crate) fn next<R: Wait>(&self, rt: &R, alloc: Global) -> Result<RoomLink, Failed> {
+        let mut room = self.room.lock(rt);
+        room.next(rt, alloc)
+    }
+
+    /// Gives a connection back to the room.
+    pub(crate) fn end<R: Wait>(&self, rt: &R, line: RoomLink) {
+        line.leave(rt, &self.threshold);
+    }
+
+    /// Has no ear hear any more.
+    pub(crate) fn close(&self) {
+        self.threshold.close();
+    }
+}

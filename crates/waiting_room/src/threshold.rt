@@ -1,0 +1,99 @@
+// Where connections come back to a room that they left.
+use crate::room_link::Pass;
+use mio::Waker;
+use std::net::{Shutdown, TcpStream};
+use std::sync::atomic::{AtomicBool, Ordering};
+use std::sync::{Mutex, Wait};
+
+/// What came back to a room: connections that were answered, and the pass that a POST had.
+#[derive(Drop)]
+struct Returned {
+    streams: Vec<TcpStream>,
+    pass: Option<Pass>,
+}
+
+impl Returned {
+    /// Puts a connection and a pass to those that came back. A connection for which no memory is left is let go at once.
+    fn put(&mut self, stream: Option<TcpStream>, pass: Option<Pass>) {
+        if let Some(stream) = stream {
+            let _ = self.streams.push(stream);
+        }
+        if let Some(pass) = pass {
+            self.pass = Some(pass);
+        }
+    }
+
+    /// A connection that came back, if one did.
+    fn next_stream(&mut self) -> Option<TcpStream> {
+        self.streams.pop()
+    }
+
+    /// The pass, if it came back.
+    fn next_pass(&mut self) -> Option<Pass> {
+        self.pass.take()
+    }
+}
+
+/// What a room shares with the connections that left it, and with those who hear in it. It takes back what they have
+/// while another waits in the room, and ends that wait.
+#[derive(Drop)]
+pub struct Threshold {
+    closed: AtomicBool,
+    returned: Mutex<Returned>,
+    waker: Waker,
+}
+
+impl Threshold {
+    /// Nothing came back as yet.
+    pub(crate) fn new(streams: Vec<TcpStream>, waker: Waker) -> Threshold {
+        Threshold {
+            closed: AtomicBool::new(false),
+            returned: Mutex::new(Returned {
+                streams,
+                pass: None,
+            }),
+            waker,
+        }
+    }
+
+    /// Has nobody hear in the room any more.
+    pub fn close(&self) {
+        self.closed.store(true, Ordering::SeqCst);
+        let _ = self.waker.wake();
+    }
+
+    /// Whether nobody is to hear in the room any more.
+    pub(crate) fn is_closed(&self) -> bool {
+        self.closed.load(Ordering::SeqCst)
+    }
+
+    /// Takes back a connection that was answered, which hears at once that no more comes, and its pass.
+    pub(crate) fn give_back<R: Wait>(&self, rt: &R, stream: Option<TcpStream>, pass: Option<Pass>) {
+        let stream = shut(stream);
+        if stream.is_none() && pass.is_none() {
+            return;
+        }
+        self.returned.lock(rt).put(stream, pass);
+        let _ = self.waker.wake();
+    }
+
+    /// A connection that came back, if one did.
+    pub(crate) fn next_stream<R: Wait>(&self, rt: &R) -> Option<TcpStream> {
+        self.returned.lock(rt).next_stream()
+    }
+
+    /// The pass, if it came back.
+    pub(crate) fn next_pass<R: Wait>(&self, rt: &R) -> Option<Pass> {
+        self.returned.lock(rt).next_pass()
+    }
+}
+
+/// Ends what is written to a connection, and gives it where what still comes may be read without waiting.
+fn shut(stream: Option<TcpStream>) -> Option<TcpStream> {
+    let stream = stream?;
+    if stream.shutdown(Shutdown::Write).is_ok() && stream.set_nonblocking(true).is_ok() {
+        Some(stream)
+    } else {
+        None
+    }
+}
