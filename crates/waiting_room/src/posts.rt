@@ -1,5 +1,6 @@
 // Who leaves the room first.
-ghost use Rattle.std.specs.Prelude.{◌≡◌, ◌<◌, ◌+◌, ℕ, None, false, IfSome, Some, length, slice_get};
+ghost use Rattle.std.specs.Prelude.{◌≡◌, ◌<◌, ◌≤◌, ◌+◌, None, true, false, IfSome, length};
+ghost use Rattle.std.specs.Time.{instant_nanos};
 ghost use Rattle.waiting_room.specs.Posts.{ends_line, posts, may_leave, IsFirst, IsFirstBelow, HasNone};
 ghost use Rattle.waiting_room.specs.declared.seat.Seat.{Seat as TheSeat};
 
@@ -32,6 +33,14 @@ pub(crate) fn may_leave(seat: &Seat, forbidden: bool) -> bool
     seat.called && (!forbidden || !is_post(seat.held.as_slice()))
 }
 
+/// Whether a moment is not after another.
+fn is_not_after(one: Instant, other: Instant) -> bool
+    ensures before { result ≡ true → instant_nanos one ≤ instant_nanos other }
+    ensures behind { result ≡ false → instant_nanos other ≤ instant_nanos one }
+{
+    one.duration_since(other).is_zero()
+}
+
 /// The connection that leaves first of those below a place and the one in it, with the moment of its accept.
 fn with_next(
     seats: &[Option<Seat>],
@@ -46,16 +55,16 @@ fn with_next(
     let Some(seat) = &seats[at] else {
         return first;
     };
-    if !may_leave(seat, forbidden) {
-        return first;
-    }
-    let Some(before) = first else {
+    if may_leave(seat, forbidden) {
+        let Some(before) = first else {
+            return Some((at, seat.since));
+        };
+        if is_not_after(before.1, seat.since) {
+            return first;
+        }
         return Some((at, seat.since));
-    };
-    if before.1 <= seat.since {
-        return first;
     }
-    Some((at, seat.since))
+    first
 }
 
 /// The seat of the connection that was accepted first of those that may leave.
@@ -67,6 +76,8 @@ pub(crate) fn first_called(seats: &[Option<Seat>], forbidden: bool) -> Option<us
     for at in 0..seats.len() {
         first = with_next(seats, at, forbidden, first);
     }
-    let (at, _) = first?;
-    Some(at)
+    let Some(found) = first else {
+        return None;
+    };
+    Some(found.0)
 }

@@ -1,5 +1,5 @@
 // Where connections wait for their head.
-ghost use Rattle.std.specs.Prelude.{◌≡◌, true, Some, IfOk, IfSome, IsSome, slice_get};
+ghost use Rattle.std.specs.Prelude.{◌≡◌, true, false, None, Some, IfOk, IfSome, IsSome, slice_get};
 ghost use Rattle.waiting_room.specs.Addresses.{address_of};
 ghost use Rattle.waiting_room.specs.OwnPorts.{IsOwnPort};
 ghost use Rattle.waiting_room.specs.Posts.{posts};
@@ -101,6 +101,17 @@ fn take_at(seats: &mut [Option<Seat>], at: usize) -> Option<Seat>
     seats.get_mut(at)?.take()
 }
 
+/// The pass, for a connection that posts a day.
+fn pass_for(held: &[u8], pass: &mut Option<Pass>) -> Option<Pass>
+    ensures posts { posts held.now ≡ true → (result ≡ pass.old) × (pass.new ≡ None) }
+    ensures others { posts held.now ≡ false → (result ≡ None) × (pass.new ≡ pass.old) }
+{
+    if is_post(held) {
+        return pass.take();
+    }
+    None
+}
+
 /// Has a connection leave its seat; one that posts a day takes the pass.
 fn let_out(rt: HostRuntime, registry: &Registry, seat: Seat, pass: &mut Option<Pass>) -> RoomLink
     ensures front { result.front ≡ seat.held }
@@ -116,11 +127,7 @@ fn let_out(rt: HostRuntime, registry: &Registry, seat: Seat, pass: &mut Option<P
     } = seat;
     let mut stream = stream;
     let _ = registry.deregister(&mut stream);
-    let own = if is_post(held.as_slice()) {
-        pass.take()
-    } else {
-        None
-    };
+    let own = pass_for(held.as_slice(), pass);
     link_to(rt, net::TcpStream::from(stream), held, late, own)
 }
 

@@ -1,5 +1,5 @@
 // A connection that waited.
-ghost use Rattle.std.specs.Prelude.{refl};
+ghost use Rattle.std.specs.Prelude.{◌≡◌, refl};
 ghost use Rattle.waiting_room.specs.Streams.{with_stream};
 
 use crate::front_link::FrontLink;
@@ -85,7 +85,11 @@ pub(crate) fn link_to(
     front: Vec<u8>,
     late: bool,
     pass: Option<Pass>,
-) -> RoomLink {
+) -> RoomLink
+    ensures front { result.front ≡ front }
+    ensures at { result.at ≡ 0 }
+    ensures pass { result.keep.pass ≡ pass }
+{
     let _ = stream.set_nonblocking(false);
     let _ = stream.set_write_timeout(Some(Duration::from_secs(PORTION_SECONDS)));
     let again = if late { None } else { stream.try_clone().ok() };

@@ -93,6 +93,7 @@ impl Seat {
         ensures called { self.new.called ≡ true }
         ensures late { self.new.late ≡ true }
         ensures held { self.new.held ≡ self.old.held }
+        ensures ended { self.new.ended ≡ self.old.ended }
     {
         self.called = true;
         self.late = true;
@@ -103,6 +104,8 @@ impl Seat {
         ensures over { head_time ≤ instant_nanos now - instant_nanos self.old.since → self.new.called ≡ true }
         ensures young { instant_nanos now - instant_nanos self.old.since < head_time → self.new ≡ self.old }
         ensures called { self.old.called ≡ true → self.new ≡ self.old }
+        ensures held { self.new.held ≡ self.old.held }
+        ensures ended { self.new.ended ≡ self.old.ended }
     {
         if self.called {
             return;
@@ -129,6 +132,7 @@ impl Seat {
             → (self.new.held.items ≡ []) × (self.new.late ≡ true) × (self.new.called ≡ true) }
         ensures waits { has_gone self.old.ended now ≡ false → self.new ≡ self.old }
         ensures answered { posts self.old.held.items ≡ false → self.new ≡ self.old }
+        ensures called { self.old.called ≡ true → self.new.called ≡ true }
     {
         if !is_post(self.held.as_slice()) {
             return;
