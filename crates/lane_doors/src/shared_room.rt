@@ -63,6 +63,12 @@ impl SharedRoom {
         line.leave(rt, &self.threshold);
     }
 
+    /// Drops what still comes of the connections that were answered, for as long as their time is not over.
+    pub(crate) fn drain_all<R: Wait>(&self, rt: &R) {
+        let mut room = self.room.lock(rt);
+        room.drain_all(rt);
+    }
+
     /// Has no ear hear any more.
     pub(crate) fn close(&self) {
         self.threshold.close();

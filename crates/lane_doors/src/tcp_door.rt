@@ -117,6 +117,13 @@ fn any_failed<R>(ears: &[TcpEar<R>]) -> bool
     ears.iter().any(|ear| ear.faults > 0)
 }
 
+/// Drops what still comes of the connections that ears gave back, so that the last answers reach their clients too.
+fn drain_all<R: Wait>(ears: &[TcpEar<R>]) {
+    if let Some(ear) = ears.first() {
+        ear.room.drain_all(&ear.rt);
+    }
+}
+
 impl<R: Wait + Copy + Drop + Send + Sync> Door for TcpDoor<R> {
     type Ear = TcpEar<R>;
 
@@ -165,5 +172,6 @@ impl<R: Wait + Copy + Drop + Send + Sync> Door for TcpDoor<R> {
     {
         self.accepted += accepted_by_all(ears.items());
         self.faults = counted(self.faults, any_failed(ears.items()));
+        drain_all(ears.items());
     }
 }

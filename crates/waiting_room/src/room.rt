@@ -232,6 +232,21 @@ impl WaitingRoom {
         Ok(())
     }
 
+    /// Drops what still comes of the connections that were answered, until they end or their time is over. Nobody else is
+    /// heard any more.
+    pub fn drain_all<R: Wait>(&mut self, rt: &R) {
+        for _ in 0..u64::MAX {
+            let Ok(now) = self.now() else {
+                return;
+            };
+            self.take_back(rt, now);
+            end_drains(self.drains.as_mut_slice(), now);
+            if is_empty(self.drains.as_slice()) || self.wait(Gate::Faulty).is_err() {
+                return;
+            }
+        }
+    }
+
     /// Waits for the next connection that is to wait no more, and gives it: its head is whole, or it ended, or its time
     /// is over. One that posts a day waits while another is out. It fails where the listener cannot hear any more, and
     /// where the room is closed.
