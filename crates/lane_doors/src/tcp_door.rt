@@ -52,10 +52,10 @@ fn add<R: Drop>(ears: &mut Vec<TcpEar<R>>, ear: TcpEar<R>, port: u16) -> Result<
     ensures hears { OnOk result (All (λ ear. HearsAt ear port) ears.new.items) }
     ensures memory { result ≢ Err Failed }
 {
-    match ears.push(ear) {
-        Ok(()) => Ok(()),
-        Err(_) => Err(DoorFault::NoMemory),
-    }
+    let Ok(()) = ears.push(ear) else {
+        return Err(DoorFault::NoMemory);
+    };
+    Ok(())
 }
 
 /// A room on a port, which many ears may share.
