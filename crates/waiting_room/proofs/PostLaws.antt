@@ -112,7 +112,8 @@ overtakes forbidden seats at first next (seat, since, leaves) here may earlier =
 )
 
 -- the first below all places is the first of all
-pub whole : (forbidden : Bool) (seats : List (Option Seat)) (below : ℕ) (first : Option (ℕ × Instant)) (found : ℕ × Instant)
+pub whole : (forbidden : Bool) (seats : List (Option Seat)) (below : ℕ) (first : Option (ℕ × Instant))
+    (found : ℕ × Instant)
     → IsFirstBelow forbidden seats below first → first ≡ Some found → below ≡ length seats →
     (seat : Seat) × IsFirst forbidden seats found.0 seat
 whole forbidden seats below first found h is end =

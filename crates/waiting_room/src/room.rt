@@ -232,8 +232,8 @@ impl WaitingRoom {
         Ok(())
     }
 
-    /// Drops what still comes of the connections that were answered, until they end or their time is over. Nobody else is
-    /// heard any more.
+    /// Drops what still comes of the connections that were answered, until they end or their time is over. Nobody else
+    /// is served any more.
     pub fn drain_all<R: Wait>(&mut self, rt: &R) {
         for _ in 0..u64::MAX {
             let Ok(now) = self.now() else {

@@ -13,7 +13,7 @@ struct Returned {
 }
 
 impl Returned {
-    /// Puts a connection and a pass to those that came back. A connection for which no memory is left is let go at once.
+    /// Puts a connection and a pass to those that came back. One for which no memory is left is let go at once.
     fn put(&mut self, stream: Option<TcpStream>, pass: Option<Pass>) {
         if let Some(stream) = stream {
             let _ = self.streams.push(stream);
