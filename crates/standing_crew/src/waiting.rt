@@ -6,8 +6,10 @@ ghost use Rattle.standing_crew.specs.Views.{after_collect, after_stop, input_of}
 ghost use Rattle.standing_crew.specs.Calls.{IsAt, IsSame, KeepsSeat};
 
 use crate::cells::{CellSeat, CellTable};
-use crate::moves::{BELL, CREW_WAITS, Heard, collect, crew_lies_down, crew_rises, hear, lie_down, own};
-use crate::moves::{rise, sees_stop, sleep_at_bell, sleep_at_cell, wake_crew};
+use crate::moves::{
+    BELL, CREW_WAITS, Heard, collect, crew_lies_down, crew_rises, hear, lie_down, own, rise,
+    sees_stop, sleep_at_bell, sleep_at_cell, wake_crew,
+};
 use crate::work::run_at;
 use expressway::Done;
 use partition_workers::Gate;
