@@ -1,4 +1,4 @@
-use Rattle.std.proofs.Common.{◌≡◌, Ok, Err, sym, subst}
+use Rattle.std.proofs.Common.{◌≡◌, Err, sym, subst}
 use Rattle.import_once.specs.Asked.{AsksBy}
 use Rattle.import_once.specs.declared.outcomes.Outcome.{Outcome}
 use Rattle.import_once.proofs.AskedLaws.{put_passed, put_refused}
@@ -6,8 +6,7 @@ use Rattle.import_once.proofs.keeping.store.Goals as goal
 
 pub returns-in-Ok-clause-asked : goal.returns-in-Ok-clause-asked
 returns-in-Ok-clause-asked g c =
-    let ok : c.put_day.result ≡ Ok tt = cc in
-    (0, put_passed g.K.Keeper.refuses _ _ c.put_day.result tt c.put_day.ensures.planned ok)
+    (0, put_passed g.K.Keeper.refuses _ _ c.put_day.result _ c.put_day.ensures.planned c.in-Ok.is)
 
 pub returns-in-Err-clause-asked : goal.returns-in-Err-clause-asked
 returns-in-Err-clause-asked g c =
