@@ -13,8 +13,8 @@ const FIRST_CHUNK: usize = 262_144;
 /// thread is not done before the caller reads again.
 const GREATEST_CHUNK: usize = 4_194_304;
 
-/// The bytes taken so far. Of these no more wait for a thread than a chunk has.
-#[derive(Drop)]
+/// The bytes taken so far. Of these no more wait for a thread than a chunk has. They cannot be dropped: `digest` and
+/// `close` end them, once no thread has a part of them.
 pub struct Consumed {
     pub digester: BesideDigester,
     pub bytes: u64,

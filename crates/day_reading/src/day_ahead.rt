@@ -19,8 +19,8 @@ pub enum Following {
     Stops { line: u64, cause: Cause },
 }
 
-/// Reads the tuples of a day in the order of Time, one ahead of what it gives.
-#[derive(Drop)]
+/// Reads the tuples of a day in the order of Time, one ahead of what it gives. It cannot be dropped: `end` and `close`
+/// end it, once no thread has a part of its bytes.
 pub struct DayAhead {
     reader: DayReader,
     following: Following,

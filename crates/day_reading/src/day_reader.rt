@@ -10,8 +10,8 @@ use road_io::LineCutter;
 
 mod steps;
 
-/// Reads the tuples of a day one by one, in the order of Time.
-#[derive(Drop)]
+/// Reads the tuples of a day one by one, in the order of Time. It cannot be dropped: `digest` and `close` end it, once
+/// no thread has a part of its bytes.
 pub struct DayReader {
     cutter: LineCutter,
     intake: Intake,

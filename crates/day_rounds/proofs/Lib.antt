@@ -16,3 +16,5 @@ pub mod JobLaws
 pub mod TurnLaws
 pub mod DrawnLaws
 pub mod TurnedLaws
+pub mod AskedLaws
+pub mod StoppedLaws

@@ -31,4 +31,10 @@ on_passed fault P (Err e) f = tt
 pub counted_ahead : {T : Type 0} (fault : DayFault) (before now : ℕ) (fine left : Type 0) (r : Result T DayFault) →
     IsCounted fault before now fine left r → IsCountedAhead fault before now fine left r
 counted_ahead fault before now fine left r h =
-    record { later = h.later; cause = h.cause; passed = on_passed fault (now ≡ before) r h.still; sure = h.sure }
+    record {
+      later = h.later;
+      cause = h.cause;
+      passed = on_passed fault (now ≡ before) r h.still;
+      still = λ other write keeper. h.still other;
+      sure = h.sure;
+    }

@@ -1,5 +1,5 @@
 -- When a day is stopped, and by what.
-use Rattle.std.specs.Prelude.{ℕ, ◌≡◌, ◌≢◌, ◌≤◌, List, Option, Some, Result, Err, OnOk}
+use Rattle.std.specs.Prelude.{ℕ, ◌≡◌, ◌≢◌, ◌≤◌, List, Option, Some, None, Result, Err, OnOk}
 use Rattle.road_io.specs.Faults.{Rose}
 use Rattle.road_time.specs.declared.road.Tuple.{Tuple}
 use Rattle.road_time.specs.Day.{notices}
@@ -24,6 +24,13 @@ abbrev pub of_reading : ReadStop → DayFault
 of_reading reading.ReadFault = ReadFault
 of_reading reading.NoMemory = NoMemory
 
+-- the fault of a round whose settling was stopped: a read that failed before memory ran out is not called want of it
+abbrev pub of_round : SettleFault → Option ReadStop → DayFault
+of_round settle.KeeperFault stop = KeeperFault
+of_round settle.WriteFault stop = WriteFault
+of_round settle.NoMemory None = NoMemory
+of_round settle.NoMemory (Some stop) = of_reading stop
+
 -- a count of faults never falls; it rose where this fault is the answer, and stands where it is not; and over an object
 -- that never fails it is not
 pub record IsCounted {T : Type 0} (fault : DayFault) (before now : ℕ) (fine left : Type 0)
@@ -33,13 +40,14 @@ pub record IsCounted {T : Type 0} (fault : DayFault) (before now : ℕ) (fine le
   pub still : result ≢ Err fault → now ≡ before
   pub sure : fine → (result ≢ Err fault) × left
 
--- the same of a source that is read ahead: it stands where the call went well; where another object stopped the call, a
--- read that was made ahead may have failed too
+-- the same of a source that is read ahead: it stands where the call went well or memory ran out; where the sink or the
+-- keeper stopped the call, a read that was made ahead may have failed too
 pub record IsCountedAhead {T : Type 0} (fault : DayFault) (before now : ℕ) (fine left : Type 0)
     (result : Result T DayFault) : Type 0 where
   pub later : before ≤ now
   pub cause : result ≡ Err fault → Rose before now
   pub passed : OnOk result (now ≡ before)
+  pub still : result ≢ Err fault → result ≢ Err WriteFault → result ≢ Err KeeperFault → now ≡ before
   pub sure : fine → (result ≢ Err fault) × left
 
 -- some first bytes of a text were written where a day was stopped, and after a write fault not all

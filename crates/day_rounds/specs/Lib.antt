@@ -2,6 +2,7 @@ pub mod Tasks
 pub mod Published
 pub mod Fronts
 pub mod Faults
+pub mod Asked
 pub mod Readers
 pub mod Halts
 pub mod Days

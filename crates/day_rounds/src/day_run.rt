@@ -12,6 +12,7 @@ ghost use Rattle.watermark.specs.Floors.{Setting};
 ghost use Rattle.day_rounds.specs.Runs.{Runs};
 ghost use Rattle.day_rounds.specs.Planned.{HasPlannedJobs};
 ghost use Rattle.day_rounds.specs.Faults.{IsCounted, IsCountedAhead};
+ghost use Rattle.day_rounds.specs.Asked.{AsksUntil, keeper_stopped};
 ghost use Rattle.day_rounds.specs.Outcomes.{task_of, HasImported, HasStopped};
 ghost use Rattle.day_rounds.specs.declared.fault.DayFault.TheVariants.{ReadFault, WriteFault, KeeperFault};
 
@@ -110,6 +111,7 @@ pub fn run_opened<C: Crew, S: Source, K: Keeper, O: Sink, P: Publisher, R: Threa
         (O.room sink.new ≡ Endless) result }
     ensures keeper { IsCounted KeeperFault (K.faults keeper.old) (K.faults keeper.new) (NeverFails (K.plan keeper.old))
         (NeverFails (K.plan keeper.new)) result }
+    ensures asked { AsksUntil (keeper_stopped result) (K.plan keeper.old) (K.plan keeper.new) }
 {
     match run_plan(
         rt, plan, &mut run, crew, &mut ahead, source, &mut these, day, keeper, sink, publisher,

@@ -9,6 +9,7 @@ ghost use Rattle.settling.specs.Answers.{history_of};
 ghost use Rattle.settling.specs.Boards.{IsAbreast};
 ghost use Rattle.watermark.specs.Terms.{AreTerms};
 ghost use Rattle.day_rounds.specs.Faults.{IsCounted, IsCountedAhead};
+ghost use Rattle.day_rounds.specs.Asked.{AsksUntil, keeper_stopped};
 ghost use Rattle.day_rounds.specs.Outcomes.{HasImported, HasStopped};
 ghost use Rattle.day_rounds.specs.Planned.{HasPlannedJobs};
 ghost use Rattle.day_rounds.specs.declared.fault.DayFault.TheVariants.{ReadFault, WriteFault, KeeperFault};
@@ -89,6 +90,7 @@ pub fn run_day<C: Crew, S: Source, K: Keeper, O: Sink, P: Publisher, R: Threads>
         (O.room sink.new ≡ Endless) result }
     ensures keeper { IsCounted KeeperFault (K.faults keeper.old) (K.faults keeper.new) (NeverFails (K.plan keeper.old))
         (NeverFails (K.plan keeper.new)) result }
+    ensures asked { AsksUntil (keeper_stopped result) (K.plan keeper.old) (K.plan keeper.new) }
 {
     let Ok(run) = begin(alloc, plan.width, limits, tariffs) else {
         return Err(DayFault::NoMemory);

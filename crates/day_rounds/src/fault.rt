@@ -1,6 +1,6 @@
 // Why a day is stopped.
 ghost use Rattle.std.specs.Prelude.{◌≡◌};
-ghost use Rattle.day_rounds.specs.Faults.{of_settling, of_reading};
+ghost use Rattle.day_rounds.specs.Faults.{of_settling, of_reading, of_round};
 
 use day_reading::ReadStop;
 use settling::SettleFault;
@@ -35,5 +35,19 @@ pub(crate) fn reading_stopped(stop: ReadStop) -> DayFault
     match stop {
         ReadStop::ReadFault => DayFault::ReadFault,
         ReadStop::NoMemory => DayFault::NoMemory,
+    }
+}
+
+/// A round was stopped by its settling. Where memory ran out after a read had failed, the read is to blame.
+pub(crate) fn round_stopped(fault: SettleFault, stop: Option<ReadStop>) -> DayFault
+    ensures { result ≡ of_round fault stop }
+{
+    match fault {
+        SettleFault::KeeperFault => DayFault::KeeperFault,
+        SettleFault::WriteFault => DayFault::WriteFault,
+        SettleFault::NoMemory => match stop {
+            Some(stop) => reading_stopped(stop),
+            None => DayFault::NoMemory,
+        },
     }
 }

@@ -18,10 +18,11 @@ ghost use Rattle.day_rounds.specs.Rounds.{IsSettled};
 ghost use Rattle.day_rounds.specs.Readers.{HasGiven};
 ghost use Rattle.day_rounds.specs.Halts.{IsHalted};
 ghost use Rattle.day_rounds.specs.Faults.{IsCounted, IsCountedAhead};
+ghost use Rattle.day_rounds.specs.Asked.{AsksUntil, keeper_stopped};
 ghost use Rattle.day_rounds.specs.declared.fault.DayFault.TheVariants.{ReadFault, WriteFault, KeeperFault};
 
 use crate::begun::Import;
-use crate::fault::{DayFault, reading_stopped, settling_stopped};
+use crate::fault::{DayFault, reading_stopped, round_stopped};
 use crate::rounding::round;
 use accounts::Publisher;
 use day_reading::DayAhead;
@@ -32,7 +33,8 @@ use road_time::Tuple;
 use std::thread::Threads;
 
 /// A round over the next tuples of a day, which were read: as many as there is room for, or all that were left. Those
-/// after them are read meanwhile. It answers how many are settled.
+/// after them are read meanwhile. It answers how many are settled. Where a read failed and memory ran out, the read is
+/// to blame.
 pub fn next_round<C: Crew, S: Source, K: Keeper, O: Sink, P: Publisher, R: Threads>(
     rt: &R,
     run: &mut Import<C::Ticket>,
@@ -96,14 +98,16 @@ pub fn next_round<C: Crew, S: Source, K: Keeper, O: Sink, P: Publisher, R: Threa
         (O.room sink.new ≡ Endless) result }
     ensures keeper { IsCounted KeeperFault (K.faults keeper.old) (K.faults keeper.new) (NeverFails (K.plan keeper.old))
         (NeverFails (K.plan keeper.new)) result }
+    ensures asked { AsksUntil (keeper_stopped result) (K.plan keeper.old) (K.plan keeper.new) }
 {
     let room = run.floor.room() as usize;
+    let mut stop = None;
     match round(
-        rt, run, crew, width, ahead, source, room, these, day, keeper, sink, publisher,
+        rt, run, crew, width, ahead, source, room, these, &mut stop, day, keeper, sink, publisher,
     ) {
-        Err(fault) => Err(settling_stopped(fault)),
-        Ok(round) => match round.stop {
-            None => Ok(round.settled),
+        Err(fault) => Err(round_stopped(fault, stop)),
+        Ok(settled) => match stop {
+            None => Ok(settled),
             Some(stop) => Err(reading_stopped(stop)),
         },
     }

@@ -1,5 +1,5 @@
 // A round of a day: tuples are fed and worked on while the next ones are read, and then all is settled.
-ghost use Rattle.std.specs.Prelude.{true, ◌≡◌, ◌≢◌, ◌++◌, ◌+◌, ◌≤◌, [], ℕ, List, Option, Some, IfOk, IfErr, OnOk};
+ghost use Rattle.std.specs.Prelude.{true, ◌≡◌, ◌≢◌, ◌++◌, ◌+◌, ◌≤◌, [], ℕ, List, Option, Some, None, IfOk, IfErr, OnOk};
 ghost use Rattle.std.specs.Prelude.{OnErr};
 ghost use Rattle.road_time.specs.declared.road.Tuple.{Tuple as RoadTuple};
 ghost use Rattle.road_time.specs.Day.{sum_of};
@@ -12,7 +12,7 @@ ghost use Rattle.expressway.specs.declared.finding.Finding.{Finding};
 ghost use Rattle.partition_workers.specs.Told.{CrewTold};
 ghost use Rattle.settling.specs.Answers.{history_of};
 ghost use Rattle.settling.specs.Boards.{IsAbreast};
-ghost use Rattle.settling.specs.Faults.{SinkFaults, KeeperFaults};
+ghost use Rattle.settling.specs.Faults.{SinkFaults, KeeperFaults, keeper_failed};
 ghost use Rattle.watermark.specs.Shares.{State};
 ghost use Rattle.watermark.specs.Written.{settled_charges};
 ghost use Rattle.watermark.specs.Floors.{Setting};
@@ -21,6 +21,7 @@ ghost use Rattle.day_rounds.specs.Readers.{HasReadOn};
 ghost use Rattle.day_rounds.specs.Rounds.{IsSettled};
 ghost use Rattle.day_rounds.specs.Published.{published_of};
 ghost use Rattle.day_rounds.specs.Fronts.{HasText, HasFront};
+ghost use Rattle.day_rounds.specs.Asked.{AsksUntil};
 
 use crate::begun::Import;
 use crate::rounds::work_round;
@@ -34,15 +35,9 @@ use road_time::Tuple;
 use settling::SettleFault;
 use std::thread::Threads;
 
-/// What a round leaves: how many are settled, and why reading stopped, if it did.
-#[derive(Clone, Copy, Debug, PartialEq, Eq)]
-pub struct Rounded {
-    pub settled: u64,
-    pub stop: Option<ReadStop>,
-}
-
 /// A round over some tuples: they are fed, each worker's job is done while the next ones are read in their place, and
-/// all is settled.
+/// all is settled. It answers how many are settled, and says why reading stopped, if it did, also where the round is
+/// stopped after that.
 pub fn round<C: Crew, S: Source, K: Keeper, O: Sink, P: Publisher, R: Threads>(
     rt: &R,
     run: &mut Import<C::Ticket>,
@@ -52,14 +47,16 @@ pub fn round<C: Crew, S: Source, K: Keeper, O: Sink, P: Publisher, R: Threads>(
     source: &mut S,
     count: usize,
     these: &mut Vec<Tuple>,
+    stop: &mut Option<ReadStop>,
     day: u32,
     keeper: &mut K,
     sink: &mut O,
     publisher: &mut P,
-) -> Result<Rounded, SettleFault>
+) -> Result<u64, SettleFault>
     requires width { width ≡ run.old.floor.inboxes.width }
     requires none { run.old.tickets.items ≡ [] }
     requires unfailed { HasFailedAhead ahead.old → ⊥ }
+    requires unstopped { stop.old ≡ None }
     requires runs { (e : Setting) × (told : Option CrewTold) × (answered : Option (List Finding)) × (s : State)
         × Runs C.out C.number C.holds C.gave C.exact C.jobs C.answers e told answered run.old crew.old s
         × CanFeedAll run.old.floor.limits s these.old.items
@@ -69,7 +66,7 @@ pub fn round<C: Crew, S: Source, K: Keeper, O: Sink, P: Publisher, R: Threads>(
     ensures limits { run.new.floor.limits ≡ run.old.floor.limits }
     ensures crew { C.which crew.new ≡ C.which crew.old }
     ensures none { OnOk result (run.new.tickets.items ≡ []) }
-    ensures done { IfOk result (λ r. (e : Setting) (told : Option CrewTold) (answered : Option (List Finding))
+    ensures done { IfOk result (λ n. (e : Setting) (told : Option CrewTold) (answered : Option (List Finding))
         (s : State)
         → Runs C.out C.number C.holds C.gave C.exact C.jobs C.answers e told answered run.old crew.old s
         → CanFeedAll run.old.floor.limits s these.old.items
@@ -78,7 +75,7 @@ pub fn round<C: Crew, S: Source, K: Keeper, O: Sink, P: Publisher, R: Threads>(
         × IsSettled run.old.floor.inboxes.width run.old.floor.limits.backlog e s these.old.items (O.written sink.old)
         (O.written sink.new)
         (P.posted publisher.old) (P.posted publisher.new) now
-        × (r.settled ≡ now.settled)
+        × (n ≡ now.settled)
         × Runs C.out C.number C.holds C.gave C.exact C.jobs C.answers e told answered run.new crew.new now
         × IsAbreast (P.posted publisher.new) (sum_of (settled_charges now))) }
     ensures stopped { OnErr result ((e : Setting) (told : Option CrewTold) (answered : Option (List Finding))
@@ -96,27 +93,27 @@ pub fn round<C: Crew, S: Source, K: Keeper, O: Sink, P: Publisher, R: Threads>(
         → (first : Option (List ℕ)) → HasText e s first (O.written sink.old)
         → HasFront fault e (s.fed ++ these.old.items) first (O.written sink.new)) }
     ensures published { OnErr result (published_of (P.posted publisher.new) ≡ published_of (P.posted publisher.old)) }
-    ensures read_on { IfOk result (λ r. HasReadOn r.stop count these.new.items ahead.old ahead.new
+    ensures read_on { OnOk result (HasReadOn stop.new count these.new.items ahead.old ahead.new
         (S.left source.old) (S.left source.new)) }
     ensures read { (lines : ℕ) (bytes : List ℕ) → HasReadAhead ahead.old lines (S.left source.old) bytes
         → HasReadAhead ahead.new lines (S.left source.new) bytes }
     ensures source_same { S.name source.new ≡ S.name source.old }
     ensures later { S.faults source.old ≤ S.faults source.new }
-    ensures cause { IfOk result (λ r. r.stop ≡ Some ReadFault → Rose (S.faults source.old) (S.faults source.new)) }
-    ensures stands { IfOk result (λ r. r.stop ≢ Some ReadFault → S.faults source.new ≡ S.faults source.old) }
-    ensures sure { NeverFails (S.plan source.old)
-        → IfOk result (λ r. r.stop ≢ Some ReadFault) × NeverFails (S.plan source.new) }
+    ensures cause { stop.new ≡ Some ReadFault → Rose (S.faults source.old) (S.faults source.new) }
+    ensures stands { stop.new ≢ Some ReadFault → S.faults source.new ≡ S.faults source.old }
+    ensures sure { NeverFails (S.plan source.old) → (stop.new ≢ Some ReadFault) × NeverFails (S.plan source.new) }
     ensures publisher { P.which publisher.new ≡ P.which publisher.old }
     ensures same { K.told keeper.new ≡ K.told keeper.old }
     ensures sink { SinkFaults (O.faults sink.old) (O.faults sink.new) (O.room sink.old) (O.room sink.new) result }
     ensures keeper { KeeperFaults (K.faults keeper.old) (K.faults keeper.new) (K.plan keeper.old) (K.plan keeper.new)
         result }
+    ensures asked { AsksUntil (keeper_failed result) (K.plan keeper.old) (K.plan keeper.new) }
 {
-    let Ok(stop) = work_round(rt, run, crew, width, ahead, source, count, these) else {
+    let Ok(()) = work_round(rt, run, crew, width, ahead, source, count, these, stop) else {
         return Err(SettleFault::NoMemory);
     };
     match settle_done(&mut run.floor, day, keeper, sink, publisher) {
-        Ok(settled) => Ok(Rounded { settled, stop }),
+        Ok(settled) => Ok(settled),
         Err(fault) => Err(fault),
     }
 }

@@ -1,5 +1,5 @@
 // The rounds of an import.
-ghost use Rattle.std.specs.Prelude.{◌≡◌, ◌≢◌, ◌≤◌, ◌<◌, ◌++◌, [], ℕ, List, Option, Some, OnOk, OnErr, IfOk, length};
+ghost use Rattle.std.specs.Prelude.{◌≡◌, ◌≢◌, ◌≤◌, ◌<◌, ◌++◌, [], ℕ, List, Option, Some, None, OnOk, OnErr, length};
 ghost use Rattle.road_time.specs.declared.road.Tuple.{Tuple as RoadTuple};
 ghost use Rattle.road_io.specs.Faults.{Rose};
 ghost use Rattle.road_io.specs.Plans.{NeverFails};
@@ -95,7 +95,7 @@ pub fn finish_firsts<C: Crew>(run: &mut Import<C::Ticket>, crew: &mut C) -> Resu
 
 /// Feeds some tuples, gives each worker its job, reads the next tuples in their place while the jobs are out, and
 /// finishes all in the order of their starts: nothing is out or waits then, where nothing was out before. It says why
-/// reading stopped, if it did.
+/// reading stopped, if it did, also where memory ran out after that.
 pub fn work_round<C: Crew, S: Source, R: Threads>(
     rt: &R,
     run: &mut Import<C::Ticket>,
@@ -105,13 +105,15 @@ pub fn work_round<C: Crew, S: Source, R: Threads>(
     source: &mut S,
     count: usize,
     these: &mut Vec<Tuple>,
-) -> Result<Option<ReadStop>, NoMemory>
+    stop: &mut Option<ReadStop>,
+) -> Result<(), NoMemory>
     requires width { width ≡ run.old.floor.inboxes.width }
     requires runs { (e : Setting) × (told : Option CrewTold) × (answered : Option (List Finding)) × (s : State)
         × Runs C.out C.number C.holds C.gave C.exact C.jobs C.answers e told answered run.old crew.old s
         × CanFeedAll run.old.floor.limits s these.old.items }
     requires none { run.old.tickets.items ≡ [] }
     requires unfailed { HasFailedAhead ahead.old → ⊥ }
+    requires unstopped { stop.old ≡ None }
     ensures width { run.new.floor.inboxes.width ≡ run.old.floor.inboxes.width }
     ensures limits { run.new.floor.limits ≡ run.old.floor.limits }
     ensures which { C.which crew.new ≡ C.which crew.old }
@@ -128,20 +130,19 @@ pub fn work_round<C: Crew, S: Source, R: Threads>(
         → (day : List RoadTuple) → AreFirst (s.fed ++ these.old.items) day
         → Stopped C.out C.number C.holds C.gave C.jobs told run.old.floor.inboxes.width run.old.floor.limits day run.new
         crew.new) }
-    ensures read_on { IfOk result (λ stop. HasReadOn stop count these.new.items ahead.old ahead.new
+    ensures read_on { OnOk result (HasReadOn stop.new count these.new.items ahead.old ahead.new
         (S.left source.old) (S.left source.new)) }
     ensures read { (lines : ℕ) (bytes : List ℕ) → HasReadAhead ahead.old lines (S.left source.old) bytes
         → HasReadAhead ahead.new lines (S.left source.new) bytes }
     ensures source_same { S.name source.new ≡ S.name source.old }
     ensures later { S.faults source.old ≤ S.faults source.new }
-    ensures cause { IfOk result (λ stop. stop ≡ Some ReadFault → Rose (S.faults source.old) (S.faults source.new)) }
-    ensures stands { IfOk result (λ stop. stop ≢ Some ReadFault → S.faults source.new ≡ S.faults source.old) }
-    ensures sure { NeverFails (S.plan source.old)
-        → IfOk result (λ stop. stop ≢ Some ReadFault) × NeverFails (S.plan source.new) }
+    ensures cause { stop.new ≡ Some ReadFault → Rose (S.faults source.old) (S.faults source.new) }
+    ensures stands { stop.new ≢ Some ReadFault → S.faults source.new ≡ S.faults source.old }
+    ensures sure { NeverFails (S.plan source.old) → (stop.new ≢ Some ReadFault) × NeverFails (S.plan source.new) }
 {
     feed_these(run, these.as_slice())?;
     give_all(run, crew, width)?;
-    let stop = read_on(rt, ahead, source, count, these);
+    *stop = read_on(rt, ahead, source, count, these);
     finish_firsts(run, crew)?;
-    Ok(stop)
+    Ok(())
 }

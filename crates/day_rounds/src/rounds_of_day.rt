@@ -14,6 +14,7 @@ ghost use Rattle.day_rounds.specs.Days.{IsOn};
 ghost use Rattle.day_rounds.specs.Planned.{RoundMade, AreRounds};
 ghost use Rattle.day_rounds.specs.Halts.{IsCutDay};
 ghost use Rattle.day_rounds.specs.Faults.{IsCounted, IsCountedAhead};
+ghost use Rattle.day_rounds.specs.Asked.{AsksUntil, keeper_stopped};
 ghost use Rattle.day_rounds.specs.declared.fault.DayFault.TheVariants.{ReadFault, WriteFault, KeeperFault};
 
 use crate::begun::Import;
@@ -85,6 +86,7 @@ pub fn run_rounds<C: Crew, S: Source, K: Keeper, O: Sink, P: Publisher, R: Threa
         (O.room sink.new ≡ Endless) result }
     ensures keeper { IsCounted KeeperFault (K.faults keeper.old) (K.faults keeper.new) (NeverFails (K.plan keeper.old))
         (NeverFails (K.plan keeper.new)) result }
+    ensures asked { AsksUntil (keeper_stopped result) (K.plan keeper.old) (K.plan keeper.new) }
 {
     let room = run.floor.room() as usize;
     if let Some(stop) = read_on(rt, ahead, source, room, these) {

@@ -7,7 +7,7 @@ ghost use Rattle.accounts.specs.Operations.{Posted};
 ghost use Rattle.expressway.specs.Results.{AreFirst};
 ghost use Rattle.settling.specs.Answers.{history_of};
 ghost use Rattle.settling.specs.Boards.{IsAbreast};
-ghost use Rattle.settling.specs.Faults.{SinkFaults, KeeperFaults};
+ghost use Rattle.settling.specs.Faults.{SinkFaults, KeeperFaults, keeper_failed};
 ghost use Rattle.watermark.specs.Shares.{State, mark};
 ghost use Rattle.watermark.specs.Steps.{after_settle};
 ghost use Rattle.watermark.specs.Sound.{IsTrue};
@@ -15,6 +15,7 @@ ghost use Rattle.watermark.specs.Written.{settled_charges};
 ghost use Rattle.watermark.specs.Floors.{Setting, StandsFor};
 ghost use Rattle.day_rounds.specs.Published.{HasStepped, published_of};
 ghost use Rattle.day_rounds.specs.Fronts.{HasText, HasFront};
+ghost use Rattle.day_rounds.specs.Asked.{AsksUntil};
 
 use accounts::Publisher;
 use keeper::Keeper;
@@ -57,6 +58,7 @@ pub fn settle_done<K: Keeper, O: Sink, P: Publisher>(
     ensures sink { SinkFaults (O.faults sink.old) (O.faults sink.new) (O.room sink.old) (O.room sink.new) result }
     ensures keeper { KeeperFaults (K.faults keeper.old) (K.faults keeper.new) (K.plan keeper.old) (K.plan keeper.new)
         result }
+    ensures asked { AsksUntil (keeper_failed result) (K.plan keeper.old) (K.plan keeper.new) }
 {
     floor.settle(day, keeper, sink, publisher)
 }

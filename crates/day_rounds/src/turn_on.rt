@@ -20,6 +20,7 @@ ghost use Rattle.day_rounds.specs.Drawn.{DrawsTurn, after_turn};
 ghost use Rattle.day_rounds.specs.Readers.{HasGiven};
 ghost use Rattle.day_rounds.specs.Halts.{IsHalted};
 ghost use Rattle.day_rounds.specs.Faults.{IsCounted};
+ghost use Rattle.day_rounds.specs.Asked.{AsksUntil, keeper_stopped};
 ghost use Rattle.day_rounds.specs.declared.fault.DayFault.TheVariants.{ReadFault, WriteFault, KeeperFault};
 
 use crate::begun::Import;
@@ -115,6 +116,7 @@ pub fn next_turn<C: Crew, S: Source, K: Keeper, O: Sink, P: Publisher, R: Thread
         (O.room sink.new ≡ Endless) result }
     ensures keeper { IsCounted KeeperFault (K.faults keeper.old) (K.faults keeper.new) (NeverFails (K.plan keeper.old))
         (NeverFails (K.plan keeper.new)) result }
+    ensures asked { AsksUntil (keeper_stopped result) (K.plan keeper.old) (K.plan keeper.new) }
 {
     let room = run.floor.room();
     let count = some_of(room, ahead.more(), rng) as usize;

@@ -9,7 +9,7 @@ ghost use Rattle.expressway.specs.declared.finding.Finding.{Finding};
 ghost use Rattle.partition_workers.specs.Told.{CrewTold};
 ghost use Rattle.settling.specs.Answers.{history_of};
 ghost use Rattle.settling.specs.Boards.{IsAbreast};
-ghost use Rattle.settling.specs.Faults.{SinkFaults, KeeperFaults};
+ghost use Rattle.settling.specs.Faults.{SinkFaults, KeeperFaults, keeper_failed};
 ghost use Rattle.watermark.specs.Shares.{State, mark};
 ghost use Rattle.watermark.specs.Written.{settled_charges};
 ghost use Rattle.watermark.specs.Floors.{Setting};
@@ -18,6 +18,7 @@ ghost use Rattle.day_rounds.specs.Turns.{IsMoved, IsTurned};
 ghost use Rattle.day_rounds.specs.Drawn.{DrawsWork, after_giving};
 ghost use Rattle.day_rounds.specs.Published.{published_of};
 ghost use Rattle.day_rounds.specs.Fronts.{HasText, HasFront};
+ghost use Rattle.day_rounds.specs.Asked.{AsksUntil};
 
 use crate::begun::Import;
 use crate::rounds::feed_these;
@@ -126,6 +127,7 @@ pub fn turn<C: Crew, K: Keeper, O: Sink, P: Publisher>(
     ensures sink { SinkFaults (O.faults sink.old) (O.faults sink.new) (O.room sink.old) (O.room sink.new) result }
     ensures keeper { KeeperFaults (K.faults keeper.old) (K.faults keeper.new) (K.plan keeper.old) (K.plan keeper.new)
         result }
+    ensures asked { AsksUntil (keeper_failed result) (K.plan keeper.old) (K.plan keeper.new) }
 {
     let Ok(()) = feed_turn(run, crew, width, these, rng) else {
         return Err(SettleFault::NoMemory);

@@ -7,8 +7,8 @@ use std::alloc::Global;
 mod steps;
 
 /// Takes the digest of bytes that come in pieces, a chunk at a time in a thread. A chunk is twice as large as the one
-/// before it, up to the greatest. What waits is never more than a chunk.
-#[derive(Drop)]
+/// before it, up to the greatest. What waits is never more than a chunk. It cannot be dropped: `finish` and `close` end
+/// it, once no thread has a part of it.
 pub struct BesideDigester {
     held: HeldDigest,
     waiting: Vec<u8>,

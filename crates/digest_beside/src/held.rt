@@ -30,8 +30,7 @@ impl Promise<Back> for DigestsPiece {
         → Took back.digester (bytes ++ p.piece.value.items) };
 }
 
-/// A digester that is here, or the thread that has it.
-#[derive(Drop)]
+/// A digester that is here, or the thread that has it. It cannot be dropped: `end` alone takes it.
 pub enum HeldDigest {
     Here(Back),
     There(PromisedHandle<Back, DigestsPiece>),

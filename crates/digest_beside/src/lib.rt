@@ -2,7 +2,7 @@
 //!
 //! Pieces are gathered, and each full chunk is handed to a thread, one at a time. The digest is that of all bytes in
 //! their order, as one thread takes it, whether a thread could be had or not. A digester is ended by `finish` or by
-//! `close`, which wait for its thread; one that is dropped leaves its thread's chunk behind.
+//! `close`, which wait for its thread: the compiler refuses to drop one.
 #![tactic(auto)]
 
 mod beside_digester;

@@ -3,3 +3,4 @@ mod FinishLaws
 mod JobLaws
 mod RepeatLaws
 mod BlameLaws
+mod AskedLaws

@@ -7,6 +7,7 @@ ghost use Rattle.day_reading.specs.Days.{most_of_day};
 ghost use Rattle.road_io.specs.Within.{ReadsWithin};
 ghost use Rattle.road_io.specs.Blame.{FaultsByPlan, FaultsByRoom};
 ghost use Rattle.import_once.specs.Faults.{FaultsBeside, NamesNoOther, FailsNext};
+ghost use Rattle.import_once.specs.Asked.{AsksBy};
 ghost use Rattle.import_once.specs.Imports.{answers_answer, answers_found, Does, LeavesRead, IsOfAnswers};
 ghost use Rattle.import_once.specs.Runs.{DoesByCrew, HasStartedJobs};
 ghost use Rattle.import_once.specs.Planned.{StartsPlanned};
@@ -72,6 +73,7 @@ fn answer_under<S: Source, O: Sink, K: Keeper, C: Crew, R: Threads>(
         (result ≡ WriteFault) }
     ensures keeper { FaultsByPlan (K.faults keeper.old) (K.faults keeper.new) (K.plan keeper.old)
         (result ≡ KeeperFault) }
+    ensures asked { AsksBy 0 result (K.plan keeper.old) (K.plan keeper.new) }
 {
     let mut publisher = NoPublisher;
     match run_day(
@@ -141,6 +143,7 @@ pub fn answers<S: Source, O: Sink, K: Keeper, C: Crew, R: Threads>(
     ensures asked_first { FailsNext (K.plan keeper.old) → result ≡ KeeperFault }
     ensures keeper { FaultsByPlan (K.faults keeper.old) (K.faults keeper.new) (K.plan keeper.old)
         (result ≡ KeeperFault) }
+    ensures asked { AsksBy 1 result (K.plan keeper.old) (K.plan keeper.new) }
 {
     match keeper.tariffs() {
         Ok(tariffs) => answer_under(

@@ -11,6 +11,7 @@ ghost use Rattle.day_reading.specs.Days.{most_of_day};
 ghost use Rattle.road_io.specs.Within.{ReadsWithin};
 ghost use Rattle.road_io.specs.Blame.{FaultsByPlan, FaultsByRoom};
 ghost use Rattle.import_once.specs.Faults.{FaultsBeside, NamesNoOther};
+ghost use Rattle.import_once.specs.Asked.{AsksBy};
 ghost use Rattle.import_once.specs.Imports.{new_import, new_import_found, Does, LeavesRead, PutsOnce, KeepsAll};
 ghost use Rattle.import_once.specs.Imports.{IsOfNewDay};
 ghost use Rattle.import_once.specs.Runs.{DoesByCrew, HasStartedJobs, HasDaySteps, PublishesDay};
@@ -88,6 +89,7 @@ fn import_under<S: Source, O: Sink, K: Keeper, C: Crew, P: Publisher, R: Threads
         (result ≡ WriteFault) }
     ensures keeper { FaultsByPlan (K.faults keeper.old) (K.faults keeper.new) (K.plan keeper.old)
         (result ≡ KeeperFault) }
+    ensures asked { AsksBy 0 result (K.plan keeper.old) (K.plan keeper.new) }
 {
     match run_day(
         rt, alloc, plan, limits, late, tariffs, number, source, keeper, sink, crew, publisher,
@@ -155,6 +157,7 @@ pub(crate) fn import_begun<S: Source, O: Sink, K: Keeper, C: Crew, P: Publisher,
         (result ≡ WriteFault) }
     ensures keeper { FaultsByPlan (K.faults keeper.old) (K.faults keeper.new) (K.plan keeper.old)
         (result ≡ KeeperFault) }
+    ensures asked { AsksBy 0 result (K.plan keeper.old) (K.plan keeper.new) }
 {
     match publisher.begin(number) {
         Ok(()) => import_under(

@@ -8,6 +8,7 @@ ghost use Rattle.day_reading.specs.Days.{most_of_day};
 ghost use Rattle.road_io.specs.Within.{ReadsWithin};
 ghost use Rattle.road_io.specs.Blame.{FaultsByPlan, FaultsByRoom};
 ghost use Rattle.import_once.specs.Faults.{FaultsBeside, NamesNoOther, FailsNext};
+ghost use Rattle.import_once.specs.Asked.{AsksBy};
 ghost use Rattle.import_once.specs.Imports.{import_answer, import_found, most_imported, Does, LeavesRest, LeavesAlone};
 ghost use Rattle.import_once.specs.Imports.{LeavesRead, PutsOnce, KeepsAll, IsUncompared};
 ghost use Rattle.import_once.specs.Runs.{DoesByCrew, HasStartedJobs, PublishesDay, PublishesUnderSome};
@@ -97,6 +98,7 @@ pub fn import<S: Source, O: Sink, K: Keeper, C: Crew, P: Publisher, R: Threads>(
     ensures asked_first { FailsNext (K.plan keeper.old) → result ≡ KeeperFault }
     ensures keeper { FaultsByPlan (K.faults keeper.old) (K.faults keeper.new) (K.plan keeper.old)
         (result ≡ KeeperFault) }
+    ensures asked { AsksBy 3 result (K.plan keeper.old) (K.plan keeper.new) }
 {
     match keeper.day(day) {
         Ok(Some(kept)) => compare(alloc, &kept, source),

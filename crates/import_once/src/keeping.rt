@@ -7,6 +7,7 @@ ghost use Rattle.keeper.specs.declared.kept.DayRecord.{DayRecord as DayRecordVal
 ghost use Rattle.keeper.specs.declared.digest.Digest.{Digest as DigestValue};
 ghost use Rattle.day_reading.specs.declared.whole_day.DayEnd.TheVariants.{Whole};
 ghost use Rattle.road_io.specs.Blame.{FaultsByPlan};
+ghost use Rattle.import_once.specs.Asked.{AsksBy};
 ghost use Rattle.import_once.specs.Imports.{IsOfNewDay, IsOfAnswers, PutsOnce, KeepsAll};
 ghost use Rattle.import_once.specs.Stages.{run_record, CanPut, Stores, Finishes, Tells, IsReadWhole, IsOfEnd};
 ghost use Rattle.import_once.specs.declared.outcomes.Outcome.TheVariants.{Stored, ReadFault, WriteFault, KeeperFault};
@@ -56,6 +57,7 @@ fn store<K: Keeper>(kept: &DayRecord, rows: &[SpentRow], keeper: &mut K) -> Outc
     ensures unwritten { result ≢ WriteFault }
     ensures keeper { FaultsByPlan (K.faults keeper.old) (K.faults keeper.new) (K.plan keeper.old)
         (result ≡ KeeperFault) }
+    ensures asked { AsksBy 0 result (K.plan keeper.old) (K.plan keeper.new) }
 {
     match keeper.put_day(kept, rows) {
         Ok(()) => Outcome::Stored(*kept),
@@ -84,6 +86,7 @@ pub fn finish_import<K: Keeper>(
     ensures unwritten { result ≢ WriteFault }
     ensures keeper { FaultsByPlan (K.faults keeper.old) (K.faults keeper.new) (K.plan keeper.old)
         (result ≡ KeeperFault) }
+    ensures asked { AsksBy 0 result (K.plan keeper.old) (K.plan keeper.new) }
 {
     match run.end {
         DayEnd::Refused { line, cause } => Outcome::Refused { line, cause },

@@ -10,6 +10,7 @@ ghost use Rattle.day_reading.specs.Days.{most_of_day};
 ghost use Rattle.road_io.specs.Within.{ReadsWithin};
 ghost use Rattle.road_io.specs.Blame.{FaultsByPlan, FaultsByRoom};
 ghost use Rattle.import_once.specs.Faults.{FaultsBeside, NamesNoOther};
+ghost use Rattle.import_once.specs.Asked.{AsksBy};
 ghost use Rattle.import_once.specs.Imports.{new_import, new_import_found, unless_passed, Does, LeavesAlone, LeavesRead};
 ghost use Rattle.import_once.specs.Imports.{PutsOnce, KeepsAll, IsOfNewDay};
 ghost use Rattle.import_once.specs.Runs.{DoesByCrew, HasStartedJobs, PublishesDay, PublishesUnderSome};
@@ -89,6 +90,7 @@ fn import_later<S: Source, O: Sink, K: Keeper, C: Crew, P: Publisher, R: Threads
         (result ≡ WriteFault) }
     ensures keeper { FaultsByPlan (K.faults keeper.old) (K.faults keeper.new) (K.plan keeper.old)
         (result ≡ KeeperFault) }
+    ensures asked { AsksBy 1 result (K.plan keeper.old) (K.plan keeper.new) }
 {
     match keeper.tariffs() {
         Ok(tariffs) => import_begun(
@@ -161,6 +163,7 @@ pub(crate) fn import_new<S: Source, O: Sink, K: Keeper, C: Crew, P: Publisher, R
         (result ≡ WriteFault) }
     ensures keeper { FaultsByPlan (K.faults keeper.old) (K.faults keeper.new) (K.plan keeper.old)
         (result ≡ KeeperFault) }
+    ensures asked { AsksBy 2 result (K.plan keeper.old) (K.plan keeper.new) }
 {
     match keeper.last_day() {
         Ok(last) => {

@@ -152,15 +152,14 @@ by_sink P r before now room left f told s =
 pub by_read : (done : Outcome) (r : Result (Option Closing) Failed) (before now : ℕ) (plan : Option (ℕ → Bool)) →
     (r ≡ Ok (Some closings.ReadFault) → done ≡ ReadFault) → (done ≡ ReadFault → r ≡ Ok (Some closings.ReadFault)) →
     (done ≡ WriteFault → IsErr r) → (done ≡ KeeperFault → r ≡ Ok (Some closings.KeeperFault)) →
-    (done ≡ NoMemory → r ≡ Ok (Some closings.NoMemory)) →
     FaultsBeside before now plan (done ≡ ReadFault) (NamesNoOther done) →
     FaultsBeside before now plan (r ≡ Ok (Some closings.ReadFault)) (TellsNoOther r)
-by_read done r before now plan here read write keeper memory f =
+by_read done r before now plan here read write keeper f =
     record {
       later = f.later;
       cause = λ e. f.cause (here e);
       still = λ well quiet. f.still (λ e. well (read e))
-          ((λ e. quiet.0 (write e)), (λ e. quiet.1 (keeper e)), (λ e. quiet.2 (memory e)));
+          ((λ e. quiet.0 (write e)), (λ e. quiet.1 (keeper e)));
       sure = λ never e. f.sure never (here e);
     }
 

@@ -3,7 +3,7 @@ use Rattle.std.specs.Prelude.{ℕ, ◌≡◌, ◌≢◌, ◌≤◌, ◌⊎◌, O
 use Rattle.road_io.specs.declared.source.Failed.{Failed}
 use Rattle.road_io.specs.Faults.{Rose}
 use Rattle.office_commands.specs.declared.closing.Closing.{Closing}
-use Rattle.office_commands.specs.declared.closing.Closing.TheVariants.{KeeperFault, NoMemory}
+use Rattle.office_commands.specs.declared.closing.Closing.TheVariants.{KeeperFault}
 
 -- the counts of faults of a source and of an aside never fall, one of them rose where reading failed, and it does not
 -- fail where neither does; both stand where reading did not fail and no fault of another object is told
@@ -14,6 +14,6 @@ pub record ReadFaults (before now aside_before aside_now : ℕ) (fine aside_fine
   pub still : (failed → ⊥) → quiet → (now ≡ before) × (aside_now ≡ aside_before)
   pub sure : fine → aside_fine → failed → ⊥
 
--- neither the sink nor the keeper failed, and memory sufficed
+-- neither the sink nor the keeper failed
 abbrev pub TellsNoOther : Result (Option Closing) Failed → Type 0
-TellsNoOther r = (IsErr r → ⊥) × (r ≢ Ok (Some KeeperFault)) × (r ≢ Ok (Some NoMemory))
+TellsNoOther r = (IsErr r → ⊥) × (r ≢ Ok (Some KeeperFault))

@@ -56,6 +56,11 @@ StartsBulk Plainly day compared told now = Unit {0}
 StartsBulk (InBulk shards width) day compared told now =
     WhereTold (StartsFirst day width) told now × (compared → WhereTold (StartsAll day width) told now)
 
+-- by how many shards of the vehicles a day is recomputed: by none in the plain way
+abbrev pub shards_of : Recomputing → ℕ
+shards_of Plainly = 0
+shards_of (InBulk shards width) = shards
+
 -- the jobs that words start, by the command that they ask for: over as many workers as they name
 abbrev pub StartsAsked : Limits → Option Command → List ℕ → Option Office → ℕ → Option CrewTold → Option CrewTold →
     Type 0

@@ -20,7 +20,7 @@ ghost use Rattle.office_commands.specs.Endings.{StandsBefore};
 ghost use Rattle.office_commands.specs.Rests.{HasReadDay, SaysBy};
 ghost use Rattle.office_commands.specs.declared.closing.Closing.TheVariants.{ReadFault, KeeperFault, Words};
 ghost use Rattle.office_commands.specs.Uses.{most_noticed};
-ghost use Rattle.office_commands.specs.Starts.{StartsBulk, SaysCompared};
+ghost use Rattle.office_commands.specs.Starts.{shards_of, StartsBulk, SaysCompared};
 ghost use Rattle.office_commands.specs.Faults.{ReadFaults};
 ghost use Rattle.road_io.specs.Blame.{FaultsByPlan};
 
@@ -54,7 +54,8 @@ fn recompute<C: Crew, R: Threads + Sync>(
     requires keys { KeysDiffer history.now }
     requires idle { C.out crew.old ≡ [] }
     ensures exact { IsRightFor asked.how C.exact
-        → IfOk result (λ all. all ≡ notices tuples.now tariffs.now asked.day (paid history.now)) }
+        → IfOk result (λ all. all.list ≡ notices tuples.now tariffs.now asked.day (paid history.now)) }
+    ensures by { IfOk result (λ all. all.shards ≡ shards_of asked.how) }
     ensures unused { in_bulk asked.how ≡ false → crew.new ≡ crew.old }
     ensures jobs { StartsBulk asked.how tuples.now (IsOk result) (C.jobs crew.old) (C.jobs crew.new) }
     ensures idle { C.out crew.new ≡ [] }
@@ -63,7 +64,7 @@ fn recompute<C: Crew, R: Threads + Sync>(
     match asked.how {
         Recomputing::Plainly => {
             let all = plain_notices(alloc, tuples, tariffs, asked.day, history)?;
-            Ok(NoticeList::from_vec(all))
+            Ok(NoticeList::from_vec(all, 0))
         }
         Recomputing::InBulk { shards, width } => bulk(
             rt, alloc, tuples, tariffs, asked.day, history, shards, width, crew,
@@ -85,7 +86,8 @@ fn wanted_notices<K: Keeper, C: Crew, R: Threads + Sync>(
     requires range { IsComparing asked }
     requires idle { C.out crew.old ≡ [] }
     ensures exact { IsRightFor asked.how C.exact → (o : Office) → K.told keeper.old ≡ Some o → tariffs.now ≡ o.tariffs
-        → IfOk result (λ all. all ≡ notices_of_day asked.day tuples.now o) }
+        → IfOk result (λ all. all.list ≡ notices_of_day asked.day tuples.now o) }
+    ensures by { IfOk result (λ all. all.shards ≡ shards_of asked.how) }
     ensures kept { K.told keeper.new ≡ K.told keeper.old }
     ensures unused { in_bulk asked.how ≡ false → crew.new ≡ crew.old }
     ensures jobs { StartsBulk asked.how tuples.now (IsOk result) (C.jobs crew.old) (C.jobs crew.new) }

@@ -8,8 +8,8 @@ use road_io::LineCutter;
 
 mod steps;
 
-/// Reads the lines of a history one by one, and keeps their amounts.
-#[derive(Drop)]
+/// Reads the lines of a history one by one, and keeps their amounts. It cannot be dropped: `kept` and `close` end it,
+/// once no thread has a part of its bytes.
 pub struct PastReader {
     cutter: LineCutter,
     consumed: Consumed,

@@ -14,6 +14,7 @@ use crate::plays::{
     Announces, Collects, GivesBack, LooksForStop, Opens, Rings, Shuts, StopsCrew, TakesJob,
 };
 use expressway::{Done, Job};
+use std::sync::Wait;
 
 const FREE: u64 = 0;
 
@@ -75,17 +76,46 @@ pub(crate) fn take(cells: &CellTable, seat: &mut CellSeat, cell: usize) -> Optio
     }
 }
 
+/// A job that was given back in a cell, of which the crew was not told yet. It cannot be dropped: `wake_crew` ends it,
+/// or `own`.
+pub(crate) struct GivenBack {
+    cell: usize,
+}
+
 /// Gives back what was done of the job that was taken.
-pub(crate) fn give_back(cells: &CellTable, seat: &mut CellSeat, cell: usize, done: Done)
+pub(crate) fn give_back(
+    cells: &CellTable,
+    seat: &mut CellSeat,
+    cell: usize,
+    done: Done,
+) -> GivenBack
     requires seat { IsAt cells.now.table_id seat.old }
     requires cell { cell < cells.now.table_id.slots }
     requires turn { HasTurn seat.old cell }
     requires result { (job : TheJob) × (seat.old.me.0.taken ≡ Some (cell, job)) × IsResultOf job done }
     ensures same { IsSame seat.old seat.new }
     ensures given { seat.new.me ≡ (with_taken seat.old.me.0 None, rest seat.old.me.1) }
+    ensures cell { result.cell ≡ cell }
 {
     cells.exchange(seat, cell, Some(Parcel::Finished(done)));
     cells.store::<GivesBack>(seat, cell, DONE);
+    GivenBack { cell }
+}
+
+/// Wakes the crew at the cell where a job was given back, if the word says that it is about to sleep.
+pub(crate) fn wake_crew(cells: &CellTable, given: GivenBack, waits: usize)
+    requires cell { given.cell < cells.now.table_id.words }
+    requires waits { waits < cells.now.table_id.words }
+{
+    let GivenBack { cell } = given;
+    if cells.peek(waits) != 0 {
+        cells.wake_all(cell);
+    }
+}
+
+/// The crew gave a job back itself, and need not be told.
+pub(crate) fn own(given: GivenBack) {
+    let GivenBack { cell: _ } = given;
 }
 
 /// The crew takes what was done of a cell's job, if it is done.
@@ -170,29 +200,92 @@ pub(crate) fn wake_all(cells: &CellTable, rung: Rung, stop: StopRaised)
     cells.wake_all(word);
 }
 
+/// What the bell's word was before a helper looked at the cells.
+#[derive(Drop)]
+pub(crate) struct Heard {
+    rung: u64,
+}
+
+/// A helper that said that it is about to sleep. It cannot be dropped: `rise` ends it.
+pub(crate) struct Lying(());
+
+/// A crew that said that it is about to sleep. It cannot be dropped: `crew_rises` ends it.
+pub(crate) struct CrewLies(());
+
+/// Looks at the bell.
+pub(crate) fn hear(cells: &CellTable, bell: usize) -> Heard
+    requires { bell < cells.now.table_id.words }
+{
+    Heard {
+        rung: cells.peek(bell),
+    }
+}
+
+/// A helper that said so sleeps until the bell is rung, if it was not since it was heard.
+pub(crate) fn sleep_at_bell<R: Wait>(
+    rt: &R,
+    cells: &CellTable,
+    _lying: &Lying,
+    heard: &Heard,
+    bell: usize,
+)
+    requires { bell < cells.now.table_id.words }
+{
+    cells.park(rt, bell, (heard.rung & 0xffff_ffff) as u32);
+}
+
+/// A crew that said so sleeps while a cell's job is taken.
+pub(crate) fn sleep_at_cell<R: Wait>(rt: &R, cells: &CellTable, _lies: &CrewLies, cell: usize)
+    requires { cell < cells.now.table_id.words }
+{
+    cells.park(rt, cell, TAKEN as u32);
+}
+
 /// Says of a helper that it is about to sleep.
-pub(crate) fn lie_down(cells: &CellTable, seat: &mut CellSeat, count: usize)
+pub(crate) fn lie_down(cells: &CellTable, seat: &mut CellSeat, count: usize) -> Lying
     requires seat { IsAt cells.now.table_id seat.old }
     requires count { (count ≡ cells.now.table_id.slots) × (count ≤ 64) }
     ensures { KeepsSeat seat.old seat.new }
 {
     cells.fetch_add::<Rings>(seat, count + SLEEPERS, 1);
+    Lying(())
 }
 
 /// Says of a helper that it sleeps no more.
-pub(crate) fn rise(cells: &CellTable, seat: &mut CellSeat, count: usize)
+pub(crate) fn rise(cells: &CellTable, seat: &mut CellSeat, count: usize, lying: Lying)
     requires seat { IsAt cells.now.table_id seat.old }
     requires count { (count ≡ cells.now.table_id.slots) × (count ≤ 64) }
     ensures { KeepsSeat seat.old seat.new }
 {
     cells.fetch_sub::<Rings>(seat, count + SLEEPERS, 1);
+    let Lying(()) = lying;
 }
 
 /// Says whether the crew is about to sleep.
-pub(crate) fn set_waits(cells: &CellTable, seat: &mut CellSeat, count: usize, waits: u64)
+fn set_waits(cells: &CellTable, seat: &mut CellSeat, count: usize, waits: u64)
     requires seat { IsAt cells.now.table_id seat.old }
     requires count { (count ≡ cells.now.table_id.slots) × (count ≤ 64) }
     ensures { KeepsSeat seat.old seat.new }
 {
     cells.store::<Rings>(seat, count + CREW_WAITS, waits);
+}
+
+/// Says of the crew that it is about to sleep.
+pub(crate) fn crew_lies_down(cells: &CellTable, seat: &mut CellSeat, count: usize) -> CrewLies
+    requires seat { IsAt cells.now.table_id seat.old }
+    requires count { (count ≡ cells.now.table_id.slots) × (count ≤ 64) }
+    ensures { KeepsSeat seat.old seat.new }
+{
+    set_waits(cells, seat, count, 1);
+    CrewLies(())
+}
+
+/// Says of the crew that it sleeps no more.
+pub(crate) fn crew_rises(cells: &CellTable, seat: &mut CellSeat, count: usize, lies: CrewLies)
+    requires seat { IsAt cells.now.table_id seat.old }
+    requires count { (count ≡ cells.now.table_id.slots) × (count ≤ 64) }
+    ensures { KeepsSeat seat.old seat.new }
+{
+    set_waits(cells, seat, count, 0);
+    let CrewLies(()) = lies;
 }

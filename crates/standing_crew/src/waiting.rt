@@ -6,20 +6,25 @@ ghost use Rattle.standing_crew.specs.Views.{after_collect, after_stop, input_of}
 ghost use Rattle.standing_crew.specs.Calls.{IsAt, IsSame, KeepsSeat};
 
 use crate::cells::{CellSeat, CellTable};
-use crate::moves::{BELL, CREW_WAITS, collect, lie_down, rise, sees_stop, set_waits};
+use crate::moves::{
+    BELL, CREW_WAITS, Heard, collect, crew_lies_down, crew_rises, hear, lie_down, own, rise,
+    sees_stop, sleep_at_bell, sleep_at_cell, wake_crew,
+};
 use crate::work::run_at;
 use expressway::Done;
 use partition_workers::Gate;
 use std::alloc::Global;
 use std::sync::Wait;
 
-/// Runs the ready jobs of all cells once over, for the crew if it sleeps too, and says whether there was one.
+/// Runs the ready jobs of all cells once over, after the bell was heard, and wakes the crew if it sleeps at one. Says
+/// whether there was one.
 fn help_once<G: Gate>(
     alloc: Global,
     cells: &CellTable,
     seat: &mut CellSeat,
     gate: &G,
     count: usize,
+    _heard: &Heard,
 ) -> bool
     requires seat { IsAt cells.now.table_id seat.old }
     requires count { (count ≡ cells.now.table_id.slots) × (count ≤ 64) }
@@ -28,25 +33,26 @@ fn help_once<G: Gate>(
 {
     let mut any = false;
     for cell in 0..count {
-        if run_at(alloc, cells, seat, gate, cell) {
-            any = true;
-            if cells.peek(count + CREW_WAITS) != 0 {
-                cells.wake_all(cell);
+        match run_at(alloc, cells, seat, gate, cell) {
+            None => {}
+            Some(given) => {
+                any = true;
+                wake_crew(cells, given, count + CREW_WAITS);
             }
         }
     }
     any
 }
 
-/// Sleeps until the bell is rung, if it was not since it was looked at.
-fn sleep<R: Wait>(rt: &R, cells: &CellTable, seat: &mut CellSeat, count: usize, rung: u64)
+/// Sleeps until the bell is rung, if it was not since it was heard.
+fn sleep<R: Wait>(rt: &R, cells: &CellTable, seat: &mut CellSeat, count: usize, heard: &Heard)
     requires seat { IsAt cells.now.table_id seat.old }
     requires count { (count ≡ cells.now.table_id.slots) × (count ≤ 64) }
     ensures { KeepsSeat seat.old seat.new }
 {
-    lie_down(cells, seat, count);
-    cells.park(rt, count + BELL, (rung & 0xffff_ffff) as u32);
-    rise(cells, seat, count);
+    let lying = lie_down(cells, seat, count);
+    sleep_at_bell(rt, cells, &lying, heard, count + BELL);
+    rise(cells, seat, count, lying);
 }
 
 /// Runs ready jobs until the stop was seen, and sleeps where no cell is ready.
@@ -65,15 +71,37 @@ pub(crate) fn help_at<R: Wait, G: Gate>(
     ensures stopped { seat.new.me ≡ after_stop seat.old.me }
 {
     for _ in rt.forever() {
-        let rung = cells.peek(count + BELL);
-        if !help_once(alloc, cells, seat, gate, count) {
+        let heard = hear(cells, count + BELL);
+        if !help_once(alloc, cells, seat, gate, count, &heard) {
             if sees_stop(cells, seat, count) {
                 return;
             }
-            sleep(rt, cells, seat, count, rung);
+            sleep(rt, cells, seat, count, &heard);
         }
     }
     unreachable!()
+}
+
+/// The crew runs the job of a cell if it is ready, and says whether it was.
+fn run_own<G: Gate>(
+    alloc: Global,
+    cells: &CellTable,
+    seat: &mut CellSeat,
+    gate: &G,
+    cell: usize,
+) -> bool
+    requires seat { IsAt cells.now.table_id seat.old }
+    requires cell { cell < cells.now.table_id.slots }
+    requires idle { seat.old.me.0.taken ≡ None }
+    ensures { KeepsSeat seat.old seat.new }
+{
+    match run_at(alloc, cells, seat, gate, cell) {
+        None => false,
+        Some(given) => {
+            own(given);
+            true
+        }
+    }
 }
 
 /// Runs one ready job of some cell, and says whether there was one.
@@ -90,7 +118,7 @@ fn run_one<G: Gate>(
     ensures { KeepsSeat seat.old seat.new }
 {
     for cell in 0..count {
-        if run_at(alloc, cells, seat, gate, cell) {
+        if run_own(alloc, cells, seat, gate, cell) {
             return true;
         }
     }
@@ -105,9 +133,9 @@ fn sleep_at<R: Wait>(rt: &R, cells: &CellTable, seat: &mut CellSeat, count: usiz
     requires cell { cell < count }
     ensures { KeepsSeat seat.old seat.new }
 {
-    set_waits(cells, seat, count, 1);
-    cells.park(rt, cell, 2);
-    set_waits(cells, seat, count, 0);
+    let lies = crew_lies_down(cells, seat, count);
+    sleep_at_cell(rt, cells, &lies, cell);
+    crew_rises(cells, seat, count, lies);
 }
 
 /// What was done of a cell's job. While it is not done, it runs ready jobs, that of the cell first, and
@@ -133,7 +161,7 @@ pub(crate) fn await_done<R: Wait, G: Gate>(
         match collect(cells, seat, cell) {
             Some(done) => return done,
             None => {
-                if !run_at(alloc, cells, seat, gate, cell)
+                if !run_own(alloc, cells, seat, gate, cell)
                     && !run_one(alloc, cells, seat, gate, count)
                 {
                     sleep_at(rt, cells, seat, count, cell);

@@ -1,11 +1,11 @@
 // A ready job is taken, run and given back.
-ghost use Rattle.std.specs.Prelude.{◌≡◌, ◌<◌, None};
+ghost use Rattle.std.specs.Prelude.{◌≡◌, ◌<◌, None, IfSome};
 ghost use Rattle.expressway.specs.Results.{IsResultOf};
 ghost use Rattle.standing_crew.specs.Calls.{IsAt, KeepsSeat};
 ghost use Rattle.standing_crew.specs.Views.{CanBeRun};
 
 use crate::cells::{CellSeat, CellTable};
-use crate::moves::{give_back, take};
+use crate::moves::{GivenBack, give_back, take};
 use expressway::{Done, Job, run};
 use partition_workers::Gate;
 use std::alloc::Global;
@@ -19,25 +19,25 @@ pub(crate) fn run_past<G: Gate>(alloc: Global, gate: &G, job: Job) -> Done
     run(alloc, job)
 }
 
-/// Takes the job of a cell if it is ready, passes the gate, runs it and gives it back. Says whether it did.
+/// Takes the job of a cell if it is ready, passes the gate, runs it and gives it back.
 pub(crate) fn run_at<G: Gate>(
     alloc: Global,
     cells: &CellTable,
     seat: &mut CellSeat,
     gate: &G,
     cell: usize,
-) -> bool
+) -> Option<GivenBack>
     requires seat { IsAt cells.now.table_id seat.old }
     requires cell { cell < cells.now.table_id.slots }
     requires idle { seat.old.me.0.taken ≡ None }
-    ensures { KeepsSeat seat.old seat.new }
+    ensures kept { KeepsSeat seat.old seat.new }
+    ensures cell { IfSome result (λ given. given.cell ≡ cell) }
 {
     match take(cells, seat, cell) {
-        None => false,
+        None => None,
         Some(job) => {
             let done = run_past(alloc, gate, job);
-            give_back(cells, seat, cell, done);
-            true
+            Some(give_back(cells, seat, cell, done))
         }
     }
 }

@@ -1,3 +1,4 @@
+pub mod Counted
 pub mod Seen
 pub mod Own
 pub mod Stands

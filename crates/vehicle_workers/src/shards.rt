@@ -158,11 +158,13 @@ impl Shards {
         tuples: &[Tuple],
     ) -> Result<TrackedList, NoMemory>
         ensures told { IfOk result (λ list. (given : List TupleValue) → HaveSeen self.old given
-            → list ≡ tracked_after given tuples.now) }
+            → list.list ≡ tracked_after given tuples.now) }
+        ensures by { IfOk result (λ list. list.shards ≡ length self.old) }
         ensures seen { OnOk result ((given : List TupleValue) → HaveSeen self.old given
             → HaveSeen self.new (given ++ tuples.now)) }
     {
+        let count = self.shards.len();
         let list = see_by(rt, self.alloc, self.shards.as_mut_slice(), tuples)?;
-        Ok(TrackedList::from_vec(list))
+        Ok(TrackedList::from_vec(list, count))
     }
 }

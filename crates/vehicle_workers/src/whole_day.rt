@@ -33,18 +33,21 @@ fn see_day<R: Threads + Sync>(
 ) -> Result<TrackedList, NoMemory>
     requires some { 1 ≤ shards }
     requires few { shards ≤ 64 }
-    ensures { IfOk result (λ list. list ≡ tracked_after [] tuples.now) }
+    ensures told { IfOk result (λ list. list.list ≡ tracked_after [] tuples.now) }
+    ensures by { IfOk result (λ list. list.shards ≡ shards) }
 {
     let mut all = Shards::new(alloc, shards)?;
     let list = all.see_all(rt, tuples)?;
     Ok(list)
 }
 
-/// The notices of a day, by what its tuples tell and what was found. The findings are let go before notices are made.
+/// The notices of a day, by what its tuples tell to so many shards and what was found. The findings are let go before
+/// notices are made.
 fn merge_all(
     alloc: Global,
     tuples: &[Tuple],
     tracked: &[Option<Tracked>],
+    shards: usize,
     found: Vec<Finding>,
     day: u32,
     history: &[SpentRow],
@@ -52,12 +55,13 @@ fn merge_all(
     requires fit { IsDay tuples.now }
     requires tracked { tracked.now ≡ tracked_after [] tuples.now }
     requires possible { All IsPossible found.items }
-    ensures { IfOk result (λ all. all ≡ merged tuples.now (map shown found.items) day (paid history.now)) }
+    ensures merged { IfOk result (λ all. all.list ≡ merged tuples.now (map shown found.items) day (paid history.now)) }
+    ensures by { IfOk result (λ all. all.shards ≡ shards) }
 {
     let payments = Payments::of(alloc, history)?;
     let places = place_found(alloc, tuples.len(), found)?;
     let notices = close(alloc, tuples, tracked, places.as_slice(), day, &payments)?;
-    Ok(NoticeList::from_vec(notices))
+    Ok(NoticeList::from_vec(notices, shards))
 }
 
 /// The notices of a day, recomputed from its list: what its reports tell by shards of vehicles at work at once, what
@@ -85,10 +89,11 @@ pub fn bulk<R: Threads + Sync, C: Crew>(
     requires wide { 1 ≤ width }
     requires narrow { width ≤ 64 }
     requires idle { C.out crew.old ≡ [] }
-    ensures exact { C.exact ≡ true → IfOk result (λ all. all ≡ notices tuples.now tariffs.now day (paid history.now)) }
+    ensures exact { C.exact ≡ true → IfOk result (λ all. all.list ≡ notices tuples.now tariffs.now day (paid history.now)) }
     ensures merged { IfOk result (λ all. (found : List FindingValue)
         × WhereTold (AddsFindings found) (C.answers crew.old) (C.answers crew.new)
-        × (all ≡ merged tuples.now (map shown found) day (paid history.now))) }
+        × (all.list ≡ merged tuples.now (map shown found) day (paid history.now))) }
+    ensures by { IfOk result (λ all. all.shards ≡ shards) }
     ensures jobs { OnOk result (WhereTold (StartsAll tuples.now width) (C.jobs crew.old) (C.jobs crew.new)) }
     ensures first { OnErr result (WhereTold (StartsFirst tuples.now width) (C.jobs crew.old) (C.jobs crew.new)) }
     ensures idle { C.out crew.new ≡ [] }
@@ -96,6 +101,14 @@ pub fn bulk<R: Threads + Sync, C: Crew>(
 {
     let tracked = see_day(rt, alloc, tuples, shards)?;
     let found = find_all(alloc, crew, tuples, tracked.items(), tariffs, width)?;
-    let all = merge_all(alloc, tuples, tracked.items(), found, day, history)?;
+    let all = merge_all(
+        alloc,
+        tuples,
+        tracked.items(),
+        tracked.shards(),
+        found,
+        day,
+        history,
+    )?;
     Ok(all)
 }

@@ -34,11 +34,13 @@ impl Consumed {
     pub fn digest<R: Threads>(self, rt: &R) -> Digest
         ensures { (bytes : List ℕ) → HasTaken self bytes → result ≡ digest_of bytes }
     {
-        self.digester.finish(rt)
+        let Consumed { digester, bytes: _ } = self;
+        digester.finish(rt)
     }
 
     /// Leaves the bytes, once no thread has a part of them.
     pub fn close<R: Threads>(self, rt: &R) {
-        self.digester.close(rt);
+        let Consumed { digester, bytes: _ } = self;
+        digester.close(rt);
     }
 }

@@ -153,17 +153,22 @@ impl DayAhead {
             → IsGatheringAhead self limits late given
             → limits.lines ≤ DAY.lines → IsShortDay result }
     {
-        match self.following {
+        let DayAhead { reader, following } = self;
+        match following {
             Following::Stops { line, cause } => {
-                self.reader.close(rt);
+                reader.close(rt);
                 DayEnd::Refused { line, cause }
             }
-            Following::Waits(_) | Following::Ends => whole(rt, self.reader),
+            Following::Waits(_) | Following::Ends => whole(rt, reader),
         }
     }
 
     /// Leaves the day, once no thread has a part of its bytes.
     pub fn close<R: Threads>(self, rt: &R) {
-        self.reader.close(rt);
+        let DayAhead {
+            reader,
+            following: _,
+        } = self;
+        reader.close(rt);
     }
 }

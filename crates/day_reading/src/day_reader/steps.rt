@@ -70,12 +70,26 @@ impl DayReader {
     pub fn digest<R: Threads>(self, rt: &R) -> Digest
         ensures { (bytes : List ℕ) → HasTaken self.consumed bytes → result ≡ digest_of bytes }
     {
-        self.consumed.digest(rt)
+        let DayReader {
+            cutter: _,
+            intake: _,
+            consumed,
+            given: _,
+            end: _,
+        } = self;
+        consumed.digest(rt)
     }
 
     /// Leaves the day, once no thread has a part of its bytes.
     pub fn close<R: Threads>(self, rt: &R) {
-        self.consumed.close(rt);
+        let DayReader {
+            cutter: _,
+            intake: _,
+            consumed,
+            given: _,
+            end: _,
+        } = self;
+        consumed.close(rt);
     }
 
     /// Reads one line more, or says how the reading of lines ends.

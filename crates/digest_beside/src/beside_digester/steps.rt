@@ -42,6 +42,16 @@ impl BesideDigester {
         end(rt, mem::replace(&mut self.held, fresh))
     }
 
+    /// Holds the digester here, or in a thread, in place of the one that stood there since it came back.
+    fn hold<R: Threads>(&mut self, rt: &R, held: HeldDigest)
+        ensures held { self.new.held ≡ held }
+        ensures waiting { self.new.waiting ≡ self.old.waiting }
+        ensures greatest { self.new.greatest ≡ self.old.greatest }
+    {
+        let fresh = mem::replace(&mut self.held, held);
+        drop(end(rt, fresh));
+    }
+
     /// Hands what waits to a thread, once the one before is done.
     fn hand_on<R: Threads>(&mut self, rt: &R)
         ensures took { (bytes : List ℕ) → TookBeside self.old bytes → TookBeside self.new bytes }
@@ -51,7 +61,7 @@ impl BesideDigester {
         let mut empty = back.chunk;
         empty.clear();
         let full = mem::replace(&mut self.waiting, empty);
-        self.held = begin(rt, back.digester, full);
+        self.hold(rt, begin(rt, back.digester, full));
         self.chunk = self.chunk.saturating_mul(2).min(self.greatest);
     }
 
@@ -85,7 +95,7 @@ impl BesideDigester {
         back.digester.add(&self.waiting);
         back.digester.add(piece);
         self.waiting.clear();
-        self.held = HeldDigest::Here(back);
+        self.hold(rt, HeldDigest::Here(back));
     }
 
     /// Takes a further piece. No thread is begun for one that there is room for.
@@ -109,7 +119,13 @@ impl BesideDigester {
     pub fn finish<R: Threads>(self, rt: &R) -> Digest
         ensures { (bytes : List ℕ) → TookBeside self bytes → result ≡ digest_of bytes }
     {
-        let BesideDigester { held, waiting, .. } = self;
+        let BesideDigester {
+            held,
+            waiting,
+            chunk: _,
+            greatest: _,
+            alloc: _,
+        } = self;
         let mut digester = end(rt, held).digester;
         digester.add(&waiting);
         digester.finish()
@@ -117,7 +133,13 @@ impl BesideDigester {
 
     /// Leaves the digest, once no thread has a part of it.
     pub fn close<R: Threads>(self, rt: &R) {
-        let BesideDigester { held, .. } = self;
+        let BesideDigester {
+            held,
+            waiting: _,
+            chunk: _,
+            greatest: _,
+            alloc: _,
+        } = self;
         drop(end(rt, held));
     }
 }

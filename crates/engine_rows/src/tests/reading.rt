@@ -40,6 +40,23 @@ struct Day {
     digest: Digest,
 }
 
+/// Reads on to the end of a day: why it ended before that, if it did.
+fn read_on<R: Threads>(
+    rt: &R,
+    reader: &mut DayReader,
+    source: &mut MemSource,
+    tuples: &mut Vec<Tuple>,
+) -> Result<Result<(), ReadEnd>, NoMemory> {
+    for _ in 0..1000u32 {
+        match reader.next(rt, source) {
+            Ok(Some(tuple)) => tuples.push(tuple)?,
+            Ok(None) => return Ok(Ok(())),
+            Err(stop) => return Ok(Err(stop)),
+        }
+    }
+    Ok(Ok(()))
+}
+
 fn read_day<R: Threads>(
     rt: &R,
     alloc: Global,
@@ -51,17 +68,10 @@ fn read_day<R: Threads>(
     let mut source = MemSource::new(alloc, input.as_bytes(), reads.piece.max(1), reads.fails)?;
     let mut reader = DayReader::new(alloc, limits, late.min(120))?;
     let mut tuples = Vec::new(alloc);
-    let mut end = Ok(());
-    for _ in 0..1000u32 {
-        match reader.next(rt, &mut source) {
-            Ok(Some(tuple)) => tuples.push(tuple)?,
-            Ok(None) => break,
-            Err(stop) => {
-                end = Err(stop);
-                break;
-            }
-        }
-    }
+    let Ok(end) = read_on(rt, &mut reader, &mut source, &mut tuples) else {
+        reader.close(rt);
+        return Err(NoMemory);
+    };
     Ok(Day {
         tuples,
         end,

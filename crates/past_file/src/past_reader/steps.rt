@@ -128,21 +128,31 @@ impl PastReader {
         ensures based { IfOk result (λ h. h.past.base ≡ base) }
         ensures stops { IfErr result (λ stop. stop ≡ OutOfMemory) }
     {
-        let Ok(rows) = self.amounts.kept() else {
-            self.consumed.close(rt);
+        let PastReader {
+            cutter: _,
+            consumed,
+            amounts,
+        } = self;
+        let Ok(rows) = amounts.kept() else {
+            consumed.close(rt);
             return Err(PastStop::NoMemory);
         };
         let past = PastRecord {
             base,
-            bytes: self.consumed.bytes,
+            bytes: consumed.bytes,
             rows: rows.len() as u64,
-            digest: self.consumed.digest(rt),
+            digest: consumed.digest(rt),
         };
         Ok(History { past, rows })
     }
 
     /// Leaves the history, once no thread has a part of its bytes.
     pub fn close<R: Threads>(self, rt: &R) {
-        self.consumed.close(rt);
+        let PastReader {
+            cutter: _,
+            consumed,
+            amounts: _,
+        } = self;
+        consumed.close(rt);
     }
 }

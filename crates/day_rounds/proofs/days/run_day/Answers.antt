@@ -1,14 +1,16 @@
-use Rattle.std.proofs.Common.{◌≡◌, ◌≤◌, [], inr, refl, sym, subst, arith}
+use Rattle.std.proofs.Common.{◌≡◌, ◌≤◌, ◌∙◌, [], inr, refl, sym, ap, subst, arith}
 use Rattle.std.specs.Prelude.{Some, None}
 use Rattle.road_time.specs.Reads.{reads}
 use Rattle.day_reading.specs.Days.{most_of_day}
 use Rattle.day_reading.specs.Ahead.{IsAhead, IsGatheringAhead, HasReadAhead}
 use Rattle.settling.specs.Answers.{history_of}
 use Rattle.watermark.specs.Floors.{Setting}
+use Rattle.day_rounds.specs.Asked.{AsksUntil, is_keepers}
 use Rattle.day_rounds.specs.Faults.{of_reading}
 use Rattle.day_rounds.specs.Planned.{HasPlannedJobs}
 use Rattle.day_rounds.specs.Outcomes.{Task, task_of, HasImported, HasStopped}
 use Rattle.day_rounds.specs.declared.fault.DayFault.TheVariants.{NoMemory}
+use Rattle.day_rounds.proofs.AskedLaws.{none_asked, none_reading}
 use Rattle.day_rounds.proofs.JobLaws.{begun_runs}
 use Rattle.day_rounds.proofs.OutcomeLaws.{under, seen_run, seen_stopped, none_stopped, why_read}
 use Rattle.day_rounds.proofs.days.run_day.Goals as goal
@@ -206,3 +208,12 @@ returns-in-Ok-run_opened-clause-planned g c bytes told =
     (c.in-Ok-run_opened.ensures.planned e c.args.late h gathers refl refl bytes
     (subst (λ l. IsAhead ahead l c.args.late left bytes []) (sym c.in-Ok.ensures.limits)
     (c.in-Ok-open.ensures.ahead bytes told)))
+
+pub returns-in_default-clause-asked : goal.returns-in_default-clause-asked
+returns-in_default-clause-asked g c = none_asked (g.K.Keeper.plan c.args.keeper.now)
+
+pub returns-in-Err-clause-asked : goal.returns-in-Err-clause-asked
+returns-in-Err-clause-asked g c =
+    let plan = g.K.Keeper.plan c.args.keeper.now in
+    subst (λ b. AsksUntil b plan plan)
+    (sym (ap is_keepers c.reading_stopped.ensures ∙ none_reading c.in-Err.stop)) (none_asked plan)

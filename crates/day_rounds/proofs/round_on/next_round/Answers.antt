@@ -1,12 +1,15 @@
-use Rattle.std.proofs.Common.{◌≡◌, ◌++◌, ◌∙◌, [], None, refl, sym, subst, arith}
+use Rattle.std.proofs.Common.{◌≡◌, ◌++◌, ◌∙◌, [], None, Err, refl, sym, ap, subst, arith}
 use Rattle.std.proofs.lemmas.List.{append-nil}
 use Rattle.road_time.specs.Fits.{Fit}
 use Rattle.expressway.specs.Results.{AreFirst}
+use Rattle.day_rounds.specs.Asked.{AsksUntil, is_keepers}
 use Rattle.day_rounds.specs.Faults.{HasDayFront}
 use Rattle.day_rounds.specs.Published.{HasStepped, HasSteps}
 use Rattle.day_rounds.specs.Runs.{Stopped}
 use Rattle.day_rounds.proofs.FrontLaws.{front_before}
-use Rattle.day_rounds.proofs.HaltLaws.{front_of_settling, front_of_reading, stepped_rules}
+use Rattle.day_rounds.proofs.AskedLaws.{same_round, none_reading}
+use Rattle.day_rounds.proofs.HaltLaws.{front_of_reading, stepped_rules}
+use Rattle.day_rounds.proofs.StoppedLaws.{front_of_round, round_source, round_sink, round_keeper}
 use Rattle.day_rounds.proofs.ReaderLaws.{given_first}
 use Rattle.day_rounds.proofs.RoundLaws.{stopped_by}
 use Rattle.day_rounds.proofs.round_on.next_round.Goals as goal
@@ -20,7 +23,7 @@ pub returns-in-None-clause-few : goal.returns-in-None-clause-few
 returns-in-None-clause-few g c =
     let (e, told, answered, s, h, can, number, history, abreast, all) = c.requires.runs in
     let has = c.room-room.ensures e s h.stands in
-    let none : c.in-Ok.round.stop ≡ None = cc in
+    let none : c.round.new.stop ≡ None = cc in
     let few = c.in-Ok.ensures.read_on.few none in
     omega (arith, has, all, few)
 
@@ -28,7 +31,7 @@ pub returns-in-None-clause-full : goal.returns-in-None-clause-full
 returns-in-None-clause-full g c few =
     let (e, told, answered, s, h, can, number, history, abreast, all) = c.requires.runs in
     let has = c.room-room.ensures e s h.stands in
-    let none : c.in-Ok.round.stop ≡ None = cc in
+    let none : c.round.new.stop ≡ None = cc in
     c.in-Ok.ensures.read_on.full none (omega (arith, has, all, few))
 
 pub returns-in-Some-clause-halted : goal.returns-in-Some-clause-halted
@@ -79,8 +82,8 @@ returns-in-Err-clause-halted g c e told answered late s h can number history =
           ahead;
       stopped = v.stopped e told answered s h can fed ([], sym (append-nil fed));
       front = λ exact begin had. subst (λ x. HasDayFront x e fed begin (g.O.Sink.written c.round.new.sink))
-          (sym c.settling_stopped.ensures)
-          (front_of_settling c.in-Err.fault e fed begin _
+          (sym c.round_stopped.ensures)
+          (front_of_round c.in-Err.fault c.round.new.stop e fed begin _
           (v.front e told answered s h can number history exact begin had));
       steps = λ exact before have. stepped_rules f.inboxes.width f.limits e s h.stands.terms.some h.stands.sound
           (h.right exact) fed (xs, refl) can.fit before _ _ have v.published;
@@ -88,5 +91,30 @@ returns-in-Err-clause-halted g c e told answered late s h can number history =
 
 pub returns-in-None-clause-ended : goal.returns-in-None-clause-ended
 returns-in-None-clause-ended g c more =
-    let none : c.in-Ok.round.stop ≡ None = cc in
+    let none : c.round.new.stop ≡ None = cc in
     c.in-Ok.ensures.read_on.ended none more
+
+pub returns-in-Err-clause-source : goal.returns-in-Err-clause-source
+returns-in-Err-clause-source g c =
+    let v = c.in-Err.ensures in
+    round_source c.in-Err.fault c.round.new.stop _ (ap Err c.round_stopped.ensures) _ _ _ _ v.later v.cause v.stands
+    v.sure
+
+pub returns-in-Err-clause-sink : goal.returns-in-Err-clause-sink
+returns-in-Err-clause-sink g c =
+    round_sink c.in-Err.fault c.round.new.stop _ (ap Err c.round_stopped.ensures) _ _ _ _ _ refl c.in-Err.ensures.sink
+
+pub returns-in-Err-clause-keeper : goal.returns-in-Err-clause-keeper
+returns-in-Err-clause-keeper g c =
+    round_keeper c.in-Err.fault c.round.new.stop _ (ap Err c.round_stopped.ensures) _ _ _ _ _ refl
+    c.in-Err.ensures.keeper
+
+pub returns-in-Err-clause-asked : goal.returns-in-Err-clause-asked
+returns-in-Err-clause-asked g c =
+    subst (λ b. AsksUntil b (g.K.Keeper.plan c.args.keeper.now) (g.K.Keeper.plan c.round.new.keeper))
+    (sym (ap is_keepers c.round_stopped.ensures ∙ same_round c.in-Err.fault c.round.new.stop)) c.in-Err.ensures.asked
+
+pub returns-in-Some-clause-asked : goal.returns-in-Some-clause-asked
+returns-in-Some-clause-asked g c =
+    subst (λ b. AsksUntil b (g.K.Keeper.plan c.args.keeper.now) (g.K.Keeper.plan c.round.new.keeper))
+    (sym (ap is_keepers c.reading_stopped.ensures ∙ none_reading c.in-Some.stop)) c.in-Ok.ensures.asked

@@ -7,6 +7,7 @@ use Rattle.expressway.specs.Results.{AreFirst}
 use Rattle.watermark.specs.Shares.{mark}
 use Rattle.watermark.specs.Steps.{after_settle}
 use Rattle.day_rounds.specs.Runs.{Stopped}
+use Rattle.day_rounds.proofs.AskedLaws.{none_asked}
 use Rattle.day_rounds.proofs.FrontLaws.{front_before}
 use Rattle.day_rounds.proofs.PublishLaws.{steps_under}
 use Rattle.day_rounds.proofs.RoundLaws.{stopped_by}
@@ -78,3 +79,6 @@ returns-in-Err-clause-front g c e told answered s h can number history exact fir
     c.in-Err.ensures.stopped e mid runs.stands number history (runs.right exact) later
     ([], sym done.fed ∙ sym (append-nil mid.fed)) (subst (Fit later) (sym v.limits) can.fit) first
     (text_kept e s mid done.text first _ had)
+
+pub returns-in_default-clause-asked : goal.returns-in_default-clause-asked
+returns-in_default-clause-asked g c = none_asked (g.K.Keeper.plan c.args.keeper.now)

@@ -7,6 +7,8 @@ use Rattle.watermark.specs.Shares.{start}
 use Rattle.day_rounds.specs.Faults.{HasDayFront}
 use Rattle.day_rounds.specs.Readers.{HasGiven}
 use Rattle.day_rounds.specs.Planned.{AreRounds, after_round, are_left}
+use Rattle.day_rounds.specs.Asked.{AsksUntil, is_keepers}
+use Rattle.day_rounds.proofs.AskedLaws.{none_asked, asked_on, none_reading}
 use Rattle.day_rounds.proofs.DayLaws.{on_start, cut_at, next_can, fewer_left}
 use Rattle.day_rounds.proofs.FrontLaws.{front_before}
 use Rattle.day_rounds.proofs.HaltLaws.{front_of_reading, stepped_rules}
@@ -64,6 +66,7 @@ day-init g c =
       sink_sure = λ e. e;
       keeper_stands = refl;
       keeper_sure = λ e. e;
+      asked = none_asked (g.K.Keeper.plan c.args.keeper.now);
       few = omega (arith, room, few);
       full = λ less. r.read_on.full none (omega (arith, room, less));
       at = λ e told answered late h gathers number history.
@@ -124,6 +127,7 @@ day-preserved g c =
       sink_sure = λ e. (v.sink.sure (inv.sink_sure e)).1;
       keeper_stands = v.keeper.still (λ e. let no : ⊥ = cc in no) ∙ inv.keeper_stands;
       keeper_sure = λ e. (v.keeper.sure (inv.keeper_sure e)).1;
+      asked = asked_on false _ _ _ inv.asked v.asked;
       few = subst (λ l. length next ≤ l.backlog) inv.limits v.few;
       full = subst (λ l. length next < l.backlog → has_more c.next_round.new.ahead ≡ false) inv.limits v.full;
       at = λ e told answered late h gathers number history.
@@ -215,3 +219,13 @@ returns-clause-done g c e told answered late h gathers number history =
 
 pub returns-in-Err-clause-read : goal.returns-in-Err-clause-read
 returns-in-Err-clause-read g c lines bytes h = c.in-Err.ensures.read lines bytes (c.day.invariant.read lines bytes h)
+
+pub returns-in-Some-clause-asked : goal.returns-in-Some-clause-asked
+returns-in-Some-clause-asked g c =
+    let plan = g.K.Keeper.plan c.args.keeper.now in
+    subst (λ b. AsksUntil b plan plan)
+    (sym (ap is_keepers c.reading_stopped.ensures ∙ none_reading c.in-Some.stop)) (none_asked plan)
+
+pub returns-in-Err-clause-asked : goal.returns-in-Err-clause-asked
+returns-in-Err-clause-asked g c =
+    asked_on (is_keepers c.in-Err.fault) _ _ _ c.day.invariant.asked c.in-Err.ensures.asked

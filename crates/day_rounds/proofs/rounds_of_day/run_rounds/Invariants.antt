@@ -11,6 +11,7 @@ use Rattle.settling.specs.Boards.{IsAbreast}
 use Rattle.watermark.specs.Shares.{State, start}
 use Rattle.watermark.specs.Written.{settled_charges}
 use Rattle.watermark.specs.Floors.{Setting}
+use Rattle.day_rounds.specs.Asked.{PassesSome}
 use Rattle.day_rounds.specs.Runs.{Runs}
 use Rattle.day_rounds.specs.Fronts.{HasText}
 use Rattle.day_rounds.specs.Published.{HasStepped}
@@ -38,6 +39,7 @@ invariant-day g l =
       sink_sure : g.O.Sink.room l.fn.sink ≡ Endless → g.O.Sink.room l.sink ≡ Endless;
       keeper_stands : g.K.Keeper.faults l.keeper ≡ g.K.Keeper.faults l.fn.keeper;
       keeper_sure : NeverFails (g.K.Keeper.plan l.fn.keeper) → NeverFails (g.K.Keeper.plan l.keeper);
+      asked : PassesSome (g.K.Keeper.plan l.fn.keeper) (g.K.Keeper.plan l.keeper);
       few : length l.these.items ≤ l.fn.run.floor.limits.backlog;
       full : length l.these.items < l.fn.run.floor.limits.backlog → has_more l.ahead ≡ false;
       at : (e : Setting) (told : Option CrewTold) (answered : Option (List Finding)) (late : ℕ) →

@@ -1,10 +1,13 @@
-use Rattle.std.proofs.Common.{◌≡◌, ◌-◌, ◌≤◌, ◌∙◌, length, sym, ap, arith}
+use Rattle.std.proofs.Common.{◌≡◌, ◌-◌, ◌≤◌, ◌∙◌, length, take, drop, sym, ap, arith}
 use Rattle.settling.specs.Answers.{history_of}
+use Rattle.settling.specs.Asking.{requests_of}
 use Rattle.settling.specs.Boards.{posted_if}
 use Rattle.watermark.specs.Shares.{State, mark}
 use Rattle.watermark.specs.Written.{charged_to}
 use Rattle.watermark.specs.Floors.{Setting, StandsFor}
 use Rattle.watermark.proofs.Marks.{is_mark, settled_le}
+use Rattle.watermark.proofs.Settled.{if_ok}
+use Rattle.day_rounds.proofs.AskedLaws.{settled_asked, stopped_asked}
 use Rattle.day_rounds.proofs.SettleLaws.{if_four, if_fault, text_more}
 use Rattle.day_rounds.proofs.PublishLaws.{posted_ok, posted_err, stepped_settled}
 use Rattle.day_rounds.proofs.FrontLaws.{front_settled}
@@ -52,3 +55,22 @@ returns-clause-published g c =
     let (e, s, st, number, history, abreast) = c.requires in
     posted_err c.settle.result (mark f.inboxes.width s - s.settled) (mark f.inboxes.width s)
     (charged_to s (mark f.inboxes.width s)) _ _ (c.settle.ensures.published e s st number history)
+
+pub returns-clause-asked : goal.returns-clause-asked
+returns-clause-asked g c =
+    let f = c.args.floor.now in
+    let plan = g.K.Keeper.plan c.args.keeper.now in
+    let left = g.K.Keeper.plan c.settle.new.keeper in
+    let (e, s, st, number, history, abreast) = c.requires in
+    settled_asked c.settle.result plan left
+    (if_ok c.settle.result
+    (λ n took. (
+      requests_of (take (n - s.settled) (drop s.settled s.fed)),
+      (took e s st number history).3,
+    ))
+    c.settle.ensures.took)
+    (if_fault c.settle.result
+    (λ fault some. stopped_asked fault e s (mark f.inboxes.width s)
+    (g.O.Sink.written c.args.sink.now, g.O.Sink.room c.args.sink.now)
+    (g.O.Sink.written c.settle.new.sink, g.O.Sink.room c.settle.new.sink) plan left (some e s st number history))
+    c.settle.ensures.where_stopped)

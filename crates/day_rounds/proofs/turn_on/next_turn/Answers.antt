@@ -5,8 +5,10 @@ use Rattle.draws.specs.Draws.{after_draws}
 use Rattle.day_reading.specs.Ahead.{has_more}
 use Rattle.day_rounds.specs.Runs.{after_feeds, after_backs, settled_all}
 use Rattle.day_rounds.specs.Drawn.{turn_size, after_size, after_finishing, after_giving}
+use Rattle.day_rounds.specs.Asked.{AsksUntil, is_keepers}
 use Rattle.day_rounds.specs.Faults.{HasDayFront}
 use Rattle.day_rounds.specs.Readers.{HasGiven}
+use Rattle.day_rounds.proofs.AskedLaws.{none_asked, same_settling, none_reading}
 use Rattle.day_rounds.proofs.DrawnLaws.{size_drawn}
 use Rattle.day_rounds.proofs.FrontLaws.{front_before}
 use Rattle.day_rounds.proofs.HaltLaws.{front_of_settling, front_of_reading, stepped_rules}
@@ -151,3 +153,14 @@ returns-in-Err-turn-clause-halted g c e told answered late s h gathers number hi
       steps = λ exact before have. stepped_rules f.inboxes.width f.limits e s h.stands.terms.some h.stands.sound
           (h.right exact) fed (xs, refl) can.fit before _ _ have v.published;
     }
+
+pub returns-in-Err-clause-asked : goal.returns-in-Err-clause-asked
+returns-in-Err-clause-asked g c =
+    let plan = g.K.Keeper.plan c.args.keeper.now in
+    subst (λ b. AsksUntil b plan plan)
+    (sym (ap is_keepers c.reading_stopped.ensures ∙ none_reading c.in-Err.stop)) (none_asked plan)
+
+pub returns-in-Err-turn-clause-asked : goal.returns-in-Err-turn-clause-asked
+returns-in-Err-turn-clause-asked g c =
+    subst (λ b. AsksUntil b (g.K.Keeper.plan c.args.keeper.now) (g.K.Keeper.plan c.turn.new.keeper))
+    (sym (ap is_keepers c.settling_stopped.ensures ∙ same_settling c.in-Err-turn.fault)) c.in-Err-turn.ensures.asked

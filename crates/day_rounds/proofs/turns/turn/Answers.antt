@@ -10,6 +10,7 @@ use Rattle.expressway.proofs.RunSteps.{on_refusal}
 use Rattle.day_rounds.specs.Runs.{Stopped, settled_all}
 use Rattle.day_rounds.proofs.DrawnLaws.{in_any}
 use Rattle.day_rounds.proofs.FeedLaws.{fed_are}
+use Rattle.day_rounds.proofs.AskedLaws.{none_asked}
 use Rattle.day_rounds.proofs.FrontLaws.{front_before}
 use Rattle.day_rounds.proofs.PublishLaws.{steps_under}
 use Rattle.day_rounds.proofs.RoundLaws.{stopped_by}
@@ -103,3 +104,6 @@ returns-clause-front g c =
 
 pub returns-clause-drawn : goal.returns-clause-drawn
 returns-clause-drawn g c = in_any c.settle_done.result c.in-Ok.ensures.drawn
+
+pub returns-in_default-clause-asked : goal.returns-in_default-clause-asked
+returns-in_default-clause-asked g c = none_asked (g.K.Keeper.plan c.args.keeper.now)

@@ -5,6 +5,8 @@ use Rattle.settling.specs.Answers.{history_of}
 use Rattle.watermark.specs.Shares.{start, mark}
 use Rattle.day_rounds.specs.Tasks.{out_at}
 use Rattle.day_rounds.specs.Drawn.{DrawsTurn, TurnMade, AreTurns, after_turn}
+use Rattle.day_rounds.specs.Asked.{is_keepers}
+use Rattle.day_rounds.proofs.AskedLaws.{none_asked, asked_on}
 use Rattle.day_rounds.proofs.DayLaws.{on_start, on_next, on_gathers, cut_at}
 use Rattle.day_rounds.proofs.TurnedLaws.{some_done, less_left, less_by, tickets_are, given_few, no_ticket, start_mark}
 use Rattle.day_rounds.proofs.TurnedLaws.{must_more}
@@ -27,6 +29,7 @@ day-init g c =
       sink_sure = λ e. e;
       keeper_stands = refl;
       keeper_sure = λ e. e;
+      asked = none_asked (g.K.Keeper.plan c.args.keeper.now);
       at = λ e told answered late h gathers number history. (
         start,
         on_start c.args.run.now.floor.limits late e c.args.ahead.now (g.S.Source.left c.args.source.now)
@@ -106,6 +109,7 @@ day-preserved g c =
       sink_sure = λ e. (v.sink.sure (inv.sink_sure e)).1;
       keeper_stands = v.keeper.still (λ e. let no : ⊥ = cc in no) ∙ inv.keeper_stands;
       keeper_sure = λ e. (v.keeper.sure (inv.keeper_sure e)).1;
+      asked = asked_on false _ _ _ inv.asked v.asked;
       at = λ e told answered late h gathers number history.
           let (s, on, marked, is, runs, even, waits, made) = inv.at e told answered late h gathers number history in
           let (xs, now, j, given, turned, count, last, still, some, draws, backs) =
@@ -232,3 +236,7 @@ returns-clause-turned g c e told answered late h gathers number history =
 
 pub returns-in-Err-clause-read : goal.returns-in-Err-clause-read
 returns-in-Err-clause-read g c lines bytes h = c.in-Err.ensures.read lines bytes (c.day.invariant.read lines bytes h)
+
+pub returns-in-Err-clause-asked : goal.returns-in-Err-clause-asked
+returns-in-Err-clause-asked g c =
+    asked_on (is_keepers c.in-Err.fault) _ _ _ c.day.invariant.asked c.in-Err.ensures.asked

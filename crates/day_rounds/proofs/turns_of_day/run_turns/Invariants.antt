@@ -11,6 +11,7 @@ use Rattle.settling.specs.Boards.{IsAbreast}
 use Rattle.watermark.specs.Shares.{State, start, mark}
 use Rattle.watermark.specs.Written.{settled_charges}
 use Rattle.watermark.specs.Floors.{Setting}
+use Rattle.day_rounds.specs.Asked.{PassesSome}
 use Rattle.day_rounds.specs.Runs.{Runs}
 use Rattle.day_rounds.specs.Days.{IsOn}
 use Rattle.day_rounds.specs.Drawn.{TurnMade, AreTurns}
@@ -35,6 +36,7 @@ invariant-day g l =
       sink_sure : g.O.Sink.room l.fn.sink ≡ Endless → g.O.Sink.room l.sink ≡ Endless;
       keeper_stands : g.K.Keeper.faults l.keeper ≡ g.K.Keeper.faults l.fn.keeper;
       keeper_sure : NeverFails (g.K.Keeper.plan l.fn.keeper) → NeverFails (g.K.Keeper.plan l.keeper);
+      asked : PassesSome (g.K.Keeper.plan l.fn.keeper) (g.K.Keeper.plan l.keeper);
       at : (e : Setting) (told : Option CrewTold) (answered : Option (List Finding)) (late : ℕ) →
           Runs k.out k.number k.holds k.gave k.exact k.jobs k.answers e told answered l.fn.run l.fn.crew start →
           IsGatheringAhead l.fn.ahead l.fn.run.floor.limits late [] →

@@ -1,4 +1,4 @@
-use Rattle.std.proofs.Common.{◌≡◌, ◌∙◌, ℕ, List, Some, sym, ap, subst}
+use Rattle.std.proofs.Common.{◌≡◌, ◌∙◌, ℕ, List, Some, refl, sym, ap, subst}
 use Rattle.road_time.specs.declared.road.Tuple.{Tuple}
 use Rattle.road_time.specs.Reads.{reads}
 use Rattle.road_time.specs.Rates.{Tariffs}
@@ -18,6 +18,9 @@ use Rattle.import_once.specs.Runs.{HasStartedJobs}
 use Rattle.import_once.proofs.JobLaws.{started_all, started_first}
 use Rattle.import_once.specs.Planned.{StartsPlanned}
 use Rattle.import_once.proofs.JobLaws.{stops_unworked}
+use Rattle.import_once.specs.Asked.{AsksBy}
+use Rattle.import_once.proofs.AskedLaws.{told_asked, stopped_asked}
+use Rattle.import_once.proofs.BlameLaws.{source_stopped}
 use Rattle.import_once.proofs.answering.answer_under.Goals as goal
 
 pub returns-in-Ok-clause-does : goal.returns-in-Ok-clause-does
@@ -139,3 +142,17 @@ returns-in-Err-clause-planned g c = λ bytes left.
     subst (StartsPlanned c.args.plan.now c.args.limits.now.backlog (reads bytes c.args.limits.now c.args.late).tuples
     (g.C.Crew.jobs c.args.crew.now) (g.C.Crew.jobs c.run_day.new.crew)) (sym c.stopped.ensures.is)
     (stops_unworked c.in-Err.fault _)
+
+pub returns-in-Err-clause-source : goal.returns-in-Err-clause-source
+returns-in-Err-clause-source g c =
+    source_stopped c.in-Err.fault _ _ _ _ _ _ c.stopped.ensures.is refl c.in-Err.ensures.source
+
+pub returns-in-Ok-clause-asked : goal.returns-in-Ok-clause-asked
+returns-in-Ok-clause-asked g c =
+    told_asked c.finish_answers.result _ _ c.finish_answers.ensures.own c.finish_answers.ensures.unasked
+    c.in-Ok.ensures.asked
+
+pub returns-in-Err-clause-asked : goal.returns-in-Err-clause-asked
+returns-in-Err-clause-asked g c =
+    subst (λ (o : Outcome). AsksBy 0 o (g.K.Keeper.plan c.args.keeper.now) (g.K.Keeper.plan c.run_day.new.keeper))
+    (sym c.stopped.ensures.is) (stopped_asked c.in-Err.fault _ _ c.in-Err.ensures.asked)

@@ -1,7 +1,10 @@
-use Rattle.std.proofs.Common.{◌≡◌, ◌∙◌, Some, Ok, Err}
+use Rattle.std.proofs.Common.{◌≡◌, ◌∙◌, Some, Ok, Err, sym, subst}
 use Rattle.keeper.proofs.CallLaws.{reads_same, reads_ok}
 use Rattle.import_once.proofs.JobLaws.{refused_started, refused_planned}
 use Rattle.import_once.proofs.BlameLaws.{fails_next, fails_outcome, fails_only}
+use Rattle.import_once.specs.Asked.{AsksBy}
+use Rattle.import_once.specs.declared.outcomes.Outcome.{Outcome}
+use Rattle.import_once.proofs.AskedLaws.{tariffs_before, call_passed, call_refused}
 use Rattle.import_once.proofs.answering.answers.Goals as goal
 
 pub returns-in-Ok-clause-does : goal.returns-in-Ok-clause-does
@@ -43,3 +46,15 @@ returns-in-Err-clause-asked_first g c = λ fails.
 pub returns-in-Err-clause-planned : goal.returns-in-Err-clause-planned
 returns-in-Err-clause-planned g c = λ bytes left.
     refused_planned _ _ _ _ _ c.in-Err.fault c.refused.result c.refused.ensures
+
+pub returns-in-Ok-clause-asked : goal.returns-in-Ok-clause-asked
+returns-in-Ok-clause-asked g c =
+    let ok : c.tariffs.result ≡ Ok c.in-Ok.tariffs = cc in
+    tariffs_before c.answer_under.result _ _ _ c.answer_under.ensures.own
+    (call_passed _ _ c.tariffs.result c.in-Ok.tariffs c.tariffs.ensures.planned ok) c.answer_under.ensures.asked
+
+pub returns-in-Err-clause-asked : goal.returns-in-Err-clause-asked
+returns-in-Err-clause-asked g c =
+    let here : c.tariffs.result ≡ Err c.in-Err.fault = cc in
+    subst (λ (o : Outcome). AsksBy 1 o (g.K.Keeper.plan c.args.keeper.now) (g.K.Keeper.plan c.tariffs.new.self))
+    (sym c.refused.ensures) (call_refused 1 _ _ c.tariffs.result c.in-Err.fault c.tariffs.ensures.planned here)

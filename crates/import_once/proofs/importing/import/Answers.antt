@@ -1,12 +1,16 @@
-use Rattle.std.proofs.Common.{◌≡◌, ◌∙◌, Option, Some, None, Ok, Err, refl, subst}
+use Rattle.std.proofs.Common.{◌≡◌, ◌∙◌, Option, Some, None, Ok, Err, refl, sym, subst}
 use Rattle.road_time.specs.Reads.{reads}
 use Rattle.keeper.specs.declared.kept.DayRecord.{DayRecord}
 use Rattle.keeper.specs.Office.{record_of}
 use Rattle.import_once.specs.Imports.{import_read, import_merged, unless_recorded, Does, Merges}
 use Rattle.import_once.proofs.FinishLaws.{kept_alone, kept_leaves}
 use Rattle.keeper.proofs.CallLaws.{reads_same, reads_ok}
-use Rattle.import_once.proofs.JobLaws.{refused_started, refused_planned, none_started, kept_unworked, refused_none, none_published}
+use Rattle.import_once.proofs.JobLaws.{refused_started, refused_planned, none_started, kept_unworked, refused_none}
+use Rattle.import_once.proofs.JobLaws.{none_published}
 use Rattle.import_once.proofs.BlameLaws.{fails_next, fails_outcome, fails_only}
+use Rattle.import_once.specs.Asked.{AsksBy}
+use Rattle.import_once.specs.declared.outcomes.Outcome.{Outcome}
+use Rattle.import_once.proofs.AskedLaws.{day_before, kept_asked, call_passed, call_refused}
 use Rattle.import_once.proofs.importing.import.Goals as goal
 
 pub returns-in-Ok-Some-clause-alone : goal.returns-in-Ok-Some-clause-alone
@@ -100,3 +104,21 @@ returns-in-Ok-Some-clause-planned g c = λ bytes left.
 pub returns-in-Err-clause-planned : goal.returns-in-Err-clause-planned
 returns-in-Err-clause-planned g c = λ bytes left.
     refused_planned _ _ _ _ _ c.in-Err.fault c.refused.result c.refused.ensures
+
+pub returns-in-Ok-Some-clause-asked : goal.returns-in-Ok-Some-clause-asked
+returns-in-Ok-Some-clause-asked g c =
+    let ok : c.day.result ≡ Ok (Some c.in-Ok-Some.kept) = cc in
+    kept_asked c.compare.result _ _ c.compare.ensures.kept_day
+    (call_passed _ _ c.day.result (Some c.in-Ok-Some.kept) c.day.ensures.planned ok)
+
+pub returns-in-Ok-None-clause-asked : goal.returns-in-Ok-None-clause-asked
+returns-in-Ok-None-clause-asked g c =
+    let ok : c.day.result ≡ Ok None = cc in
+    day_before c.import_new.result _ _ _ (call_passed _ _ c.day.result None c.day.ensures.planned ok)
+    c.import_new.ensures.asked
+
+pub returns-in-Err-clause-asked : goal.returns-in-Err-clause-asked
+returns-in-Err-clause-asked g c =
+    let here : c.day.result ≡ Err c.in-Err.fault = cc in
+    subst (λ (o : Outcome). AsksBy 3 o (g.K.Keeper.plan c.args.keeper.now) (g.K.Keeper.plan c.day.new.self))
+    (sym c.refused.ensures) (call_refused 3 _ _ c.day.result c.in-Err.fault c.day.ensures.planned here)

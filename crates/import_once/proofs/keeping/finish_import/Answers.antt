@@ -2,6 +2,7 @@ use Rattle.std.proofs.Common.{◌≡◌, sym, subst}
 use Rattle.day_reading.specs.declared.whole_day.DayEnd.{DayEnd}
 use Rattle.day_reading.specs.declared.whole_day.DayEnd.TheVariants.{Whole}
 use Rattle.import_once.specs.Stages.{IsOfEnd}
+use Rattle.settling.proofs.AskLaws.{passes_none}
 use Rattle.import_once.proofs.keeping.finish_import.Goals as goal
 
 pub returns-in-Ok-clause-of_end : goal.returns-in-Ok-clause-of_end
@@ -9,3 +10,6 @@ returns-in-Ok-clause-of_end g c =
     let is : c.args.run.now.end ≡ Whole c.in-Whole.bytes c.in-Whole.digest = cc in
     subst (λ (e : DayEnd). IsOfEnd e c.store.result) (sym is)
     (c.store.ensures.of_end c.in-Whole.bytes c.in-Whole.digest)
+
+pub returns-in-Refused-clause-asked : goal.returns-in-Refused-clause-asked
+returns-in-Refused-clause-asked g c = (0, passes_none (g.K.Keeper.plan c.args.keeper.now))

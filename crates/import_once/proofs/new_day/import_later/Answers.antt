@@ -1,6 +1,9 @@
-use Rattle.std.proofs.Common.{◌≡◌, ◌∙◌, Some}
+use Rattle.std.proofs.Common.{◌≡◌, ◌∙◌, Some, Ok, Err, sym, subst}
 use Rattle.keeper.proofs.CallLaws.{reads_same, reads_ok}
 use Rattle.import_once.proofs.JobLaws.{refused_started, refused_planned, refused_none}
+use Rattle.import_once.specs.Asked.{AsksBy}
+use Rattle.import_once.specs.declared.outcomes.Outcome.{Outcome}
+use Rattle.import_once.proofs.AskedLaws.{one_before, call_passed, call_refused}
 use Rattle.import_once.proofs.new_day.import_later.Goals as goal
 
 pub returns-in-Ok-clause-merged : goal.returns-in-Ok-clause-merged
@@ -38,3 +41,15 @@ returns-in-Err-clause-published_by g c = λ exact bytes was left posted.
 pub returns-in-Err-clause-planned : goal.returns-in-Err-clause-planned
 returns-in-Err-clause-planned g c = λ bytes left.
     refused_planned _ _ _ _ _ c.in-Err.fault c.refused.result c.refused.ensures
+
+pub returns-in-Ok-clause-asked : goal.returns-in-Ok-clause-asked
+returns-in-Ok-clause-asked g c =
+    let ok : c.tariffs.result ≡ Ok c.in-Ok.tariffs = cc in
+    one_before 0 c.import_begun.result _ _ _ c.import_begun.ensures.new_day
+    (call_passed _ _ c.tariffs.result c.in-Ok.tariffs c.tariffs.ensures.planned ok) c.import_begun.ensures.asked
+
+pub returns-in-Err-clause-asked : goal.returns-in-Err-clause-asked
+returns-in-Err-clause-asked g c =
+    let here : c.tariffs.result ≡ Err c.in-Err.fault = cc in
+    subst (λ (o : Outcome). AsksBy 1 o (g.K.Keeper.plan c.args.keeper.now) (g.K.Keeper.plan c.tariffs.new.self))
+    (sym c.refused.ensures) (call_refused 1 _ _ c.tariffs.result c.in-Err.fault c.tariffs.ensures.planned here)

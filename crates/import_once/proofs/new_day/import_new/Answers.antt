@@ -1,10 +1,13 @@
-use Rattle.std.proofs.Common.{◌≡◌, ◌∙◌, Some, Ok, sym, subst, arith}
+use Rattle.std.proofs.Common.{◌≡◌, ◌∙◌, Some, Ok, Err, sym, subst, arith}
 use Rattle.road_time.specs.Reads.{reads}
 use Rattle.keeper.specs.Office.{last_day}
 use Rattle.import_once.specs.Imports.{DayAnswer, import_read, import_merged, Does, Merges}
 use Rattle.import_once.proofs.FinishLaws.{new_is_read}
 use Rattle.keeper.proofs.CallLaws.{reads_same, reads_ok}
 use Rattle.import_once.proofs.JobLaws.{refused_started, refused_planned, none_started, refused_none, none_published}
+use Rattle.import_once.specs.Asked.{AsksBy}
+use Rattle.import_once.specs.declared.outcomes.Outcome.{Outcome}
+use Rattle.import_once.proofs.AskedLaws.{one_before, call_passed, call_refused}
 use Rattle.import_once.proofs.new_day.import_new.Goals as goal
 
 pub returns-else-last-number-clause-does : goal.returns-else-last-number-clause-does
@@ -81,3 +84,20 @@ returns-then-last-number-clause-planned g c = λ bytes left. tt
 pub returns-in-Err-clause-planned : goal.returns-in-Err-clause-planned
 returns-in-Err-clause-planned g c = λ bytes left.
     refused_planned _ _ _ _ _ c.in-Err.fault c.refused.result c.refused.ensures
+
+pub returns-else-last-number-clause-asked : goal.returns-else-last-number-clause-asked
+returns-else-last-number-clause-asked g c =
+    let ok : c.last_day.result ≡ Ok c.in-Ok.last = cc in
+    one_before 1 c.import_later.result _ _ _ c.import_later.ensures.new_day
+    (call_passed _ _ c.last_day.result c.in-Ok.last c.last_day.ensures.planned ok) c.import_later.ensures.asked
+
+pub returns-then-last-number-clause-asked : goal.returns-then-last-number-clause-asked
+returns-then-last-number-clause-asked g c =
+    let ok : c.last_day.result ≡ Ok c.in-Ok.last = cc in
+    call_passed _ _ c.last_day.result c.in-Ok.last c.last_day.ensures.planned ok
+
+pub returns-in-Err-clause-asked : goal.returns-in-Err-clause-asked
+returns-in-Err-clause-asked g c =
+    let here : c.last_day.result ≡ Err c.in-Err.fault = cc in
+    subst (λ (o : Outcome). AsksBy 2 o (g.K.Keeper.plan c.args.keeper.now) (g.K.Keeper.plan c.last_day.new.self))
+    (sym c.refused.ensures) (call_refused 2 _ _ c.last_day.result c.in-Err.fault c.last_day.ensures.planned here)

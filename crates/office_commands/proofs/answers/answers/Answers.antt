@@ -44,7 +44,7 @@ returns-clause-reads g c = record {
 pub returns-clause-source : goal.returns-clause-source
 returns-clause-source g c =
     by_read c.answers-done.result c.ended.result _ _ _ c.ended.ensures.unread c.ended.ensures.read_told
-    c.ended.ensures.write_told c.ended.ensures.keeper_told c.ended.ensures.memory_told c.answers-done.ensures.source
+    c.ended.ensures.write_told c.ended.ensures.keeper_told c.answers-done.ensures.source
 
 pub returns-clause-keeper : goal.returns-clause-keeper
 returns-clause-keeper g c = by_keeper _ _ _ _ _ c.ended.ensures.unkept c.ended.ensures.keeper_told

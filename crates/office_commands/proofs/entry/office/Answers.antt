@@ -2,7 +2,7 @@ use Rattle.std.proofs.Common.{◌≡◌, ◌∙◌, ℕ, inl, Option, Some, None
 use Rattle.std.proofs.Common.{IsErr}
 use Rattle.road_io.specs.declared.source.Failed.{Failed}
 use Rattle.office_commands.specs.declared.closing.Closing.{Closing}
-use Rattle.office_commands.specs.declared.closing.Closing.TheVariants.{ReadFault, KeeperFault, NoMemory}
+use Rattle.office_commands.specs.declared.closing.Closing.TheVariants.{ReadFault, KeeperFault}
 use Rattle.office_commands.specs.Closings.{status_of}
 use Rattle.office_commands.specs.Commands.{office_answer}
 use Rattle.office_commands.specs.Uses.{asked, changes_kept}
@@ -248,7 +248,6 @@ returns-in-Ok-Some-clause-read g c =
           f.still (λ e. well (at ReadFault e)) (
             no_failure c.run.result (Some c.in-Ok-Some.closing) res,
             (λ e. quiet.1 (at KeeperFault e)),
-            (λ e. quiet.2 (at NoMemory e)),
           );
       sure = λ source aside is. f.sure source aside (named is);
     }
@@ -264,7 +263,6 @@ returns-in-Ok-None-clause-read g c =
       still = λ well quiet. f.still (no_closing c.run.result ReadFault res) (
         no_failure c.run.result None res,
         no_closing c.run.result KeeperFault res,
-        no_closing c.run.result NoMemory res,
       );
       sure = λ source aside is. let no : ⊥ = cc in no;
     }

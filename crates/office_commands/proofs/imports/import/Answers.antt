@@ -71,7 +71,7 @@ returns-clause-uncompared g c =
 pub returns-clause-source : goal.returns-clause-source
 returns-clause-source g c =
     by_read c.import-done.result c.ended.result _ _ _ c.ended.ensures.unread c.ended.ensures.read_told
-    c.ended.ensures.write_told c.ended.ensures.keeper_told c.ended.ensures.memory_told c.import-done.ensures.source
+    c.ended.ensures.write_told c.ended.ensures.keeper_told c.import-done.ensures.source
 
 pub returns-clause-keeper : goal.returns-clause-keeper
 returns-clause-keeper g c = by_keeper _ _ _ _ _ c.ended.ensures.unkept c.ended.ensures.keeper_told

@@ -17,11 +17,11 @@ close-requires-clause-found c =
       few_tolls c.args.found.items c.requires.possible,
     )
 
-pub returns : goal.returns
-returns c =
+pub returns-clause-merged : goal.returns-clause-merged
+returns-clause-merged c =
     let fs = map shown c.args.found.items in
     let placed = subst (λ ps. IsPlaced ps fs) (sym c.as_slice.ensures.value) c.in_ok-places.ensures.placed in
-    c.from_vec.ensures
+    c.from_vec.ensures.list
     ∙ (c.in_ok-notices.ensures fs placed (few_tolls c.args.found.items c.requires.possible)
     ∙ ap (λ kept. notices_by (given fs) c.args.day kept (moments c.args.tuples.now))
     (λ i day vid xway. c.in_ok-payments.ensures day vid xway i))
