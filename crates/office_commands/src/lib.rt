@@ -11,6 +11,7 @@ mod closing;
 mod comparing;
 mod day;
 mod day_lines;
+mod days;
 mod entry;
 mod entry_text;
 mod imports;

@@ -19,10 +19,11 @@ ghost use Rattle.road_io.specs.Blame.{FaultsByPlan, FaultsByRoom};
 use crate::answers::answers;
 use crate::closing::Closing;
 use crate::comparing::compare_source;
+use crate::days::days;
 use crate::imports::import;
 use crate::mishaps::accidents;
 use crate::past::past;
-use crate::statements::{day, export, vehicle};
+use crate::statements::{charges, day, export, vehicle};
 use crate::tariffs::{tariff, tariffs};
 use crate::traffic::{generate, rehearse};
 use keeper::Keeper;
@@ -122,5 +123,7 @@ pub(crate) fn perform<S: Source, A: Source, O: Sink, K: Keeper, C: Crew, R: Thre
         Command::Rehearse { seed, size, run } => Ok(Some(rehearse(
             rt, alloc, seed, size, run, crew,
         ))),
+        Command::Days => days(alloc, sink, keeper),
+        Command::Charges { from, to } => charges(alloc, from, to, sink, keeper),
     }
 }

@@ -138,6 +138,12 @@ abbrev pub rehearse_in : Values → Option Command
 rehearse_in value = with (seed_in value) (λ seed. with (size_in value) (λ size. with (run_in 100 value) (λ run.
     Some (command.Rehearse seed size run))))
 
+-- the command `charges FROM TO`, whose first day is not after its last
+abbrev pub charges_in : Values → Option Command
+charges_in value = with (needed 1 1000000 (value (codes "from"))) (λ from.
+    with (needed 1 1000000 (value (codes "to"))) (λ to.
+    if nat_le from to then Some (command.Charges from to) else None))
+
 -- the command of a name, with the values of its names
 abbrev pub meaning : Text → Values → Option Command
 meaning name value =
@@ -154,7 +160,9 @@ meaning name value =
     else (if bytes_eq name (codes "tariffs") then Some command.Tariffs
     else (if bytes_eq name (codes "generate") then generate_in value
     else (if bytes_eq name (codes "rehearse") then rehearse_in value
-    else None))))))))))))
+    else (if bytes_eq name (codes "days") then Some command.Days
+    else (if bytes_eq name (codes "charges") then charges_in value
+    else None))))))))))))))
 
 -- the value that was said of a name
 abbrev pub value_of : Said → Values
@@ -220,3 +228,5 @@ IsInRange (command.Tariff xway crowd speed factor) = (crowd ≤ 500000) × (spee
 IsInRange command.Tariffs = Unit {0}
 IsInRange (command.Generate seed size) = IsSize size
 IsInRange (command.Rehearse seed size run) = IsSize size × IsRun run
+IsInRange command.Days = Unit {0}
+IsInRange (command.Charges from to) = (1 ≤ from) × (from ≤ to) × (to ≤ 1000000)

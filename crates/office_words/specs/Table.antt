@@ -33,4 +33,6 @@ forms = stated_form (codes "answers") (codes "day" ∷ []) runs
     ∷ stated_form (codes "tariffs") [] []
     ∷ stated_form (codes "generate") (codes "seed" ∷ []) sizes
     ∷ stated_form (codes "rehearse") (codes "seed" ∷ []) (sizes ++ runs)
+    ∷ stated_form (codes "days") [] []
+    ∷ stated_form (codes "charges") (codes "from" ∷ codes "to" ∷ []) []
     ∷ []

@@ -89,6 +89,13 @@ pub enum Command {
         size: Size,
         run: DayRun,
     },
+    /// Lists the kept days.
+    Days,
+    /// Exports what all vehicles were charged on the days `from` to `to`, both included, 1 to 1,000,000.
+    Charges {
+        from: u32,
+        to: u32,
+    },
 }
 
 /// Why there is no command.

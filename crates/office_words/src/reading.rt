@@ -2,7 +2,7 @@
 ghost use Rattle.std.specs.Prelude.{◌≡◌, ◌≤◌, IfSome, codes};
 ghost use Rattle.clap.specs.Words.{first_value, found_of};
 ghost use Rattle.office_words.specs.Meaning.{day_in, late_in, width_in, plan_in, run_in, answers_in, import_in};
-ghost use Rattle.office_words.specs.Meaning.{bulk_in, validate_in, audit_in, past_in, vehicle_in, tariff_in};
+ghost use Rattle.office_words.specs.Meaning.{bulk_in, validate_in, audit_in, past_in, vehicle_in, tariff_in, charges_in};
 ghost use Rattle.office_words.specs.Meaning.{meaning, seed_in, size_in, generate_in, rehearse_in, IsInRange, IsPlan};
 ghost use Rattle.office_words.specs.Meaning.{IsRecomputing, IsRun, IsSize};
 
@@ -129,6 +129,21 @@ fn vehicle(m: &ArgMatches<'_>) -> Option<Command>
     })
 }
 
+fn charges(m: &ArgMatches<'_>) -> Option<Command>
+    ensures value { result ≡ charges_in (first_value (found_of m.now)) }
+    ensures range { IfSome result IsInRange }
+{
+    let from = needed(m, "from", 1, 1_000_000)?;
+    let to = needed(m, "to", 1, 1_000_000)?;
+    if from > to {
+        return None;
+    }
+    Some(Command::Charges {
+        from: from as u32,
+        to: to as u32,
+    })
+}
+
 fn tariff(m: &ArgMatches<'_>) -> Option<Command>
     ensures value { result ≡ tariff_in (first_value (found_of m.now)) }
     ensures range { IfSome result IsInRange }
@@ -208,6 +223,8 @@ pub fn command(name: &str, m: &ArgMatches<'_>) -> Option<Command>
         "tariffs" => Some(Command::Tariffs),
         "generate" => generate(m),
         "rehearse" => rehearse(m),
+        "days" => Some(Command::Days),
+        "charges" => charges(m),
         _ => None,
     }
 }

@@ -149,6 +149,14 @@ fn with_traffic<'a>(alloc: Global, top: Command<'a>) -> Result<Command<'a>, Allo
     )
 }
 
+/// The commands that list all days and what they charge.
+fn with_listings<'a>(alloc: Global, top: Command<'a>) -> Result<Command<'a>, AllocError>
+    ensures { IfOk result (λ c. app_of c ≡ with_forms (app_of top.entry) (take 2 (drop 13 forms))) }
+{
+    let top = with(alloc, top, "days", &[], &[])?;
+    with(alloc, top, "charges", &["from", "to"], &[])
+}
+
 /// The whole table.
 fn office<'a>(alloc: Global) -> Result<Command<'a>, AllocError>
     ensures { IfOk result (λ c. app_of c ≡ app_of_forms forms) }
@@ -156,7 +164,8 @@ fn office<'a>(alloc: Global) -> Result<Command<'a>, AllocError>
     let top = with_days(alloc, bare(alloc))?;
     let top = with_reports(alloc, top)?;
     let top = with_tariffs(alloc, top)?;
-    with_traffic(alloc, top)
+    let top = with_traffic(alloc, top)?;
+    with_listings(alloc, top)
 }
 
 /// What clap makes of the words.

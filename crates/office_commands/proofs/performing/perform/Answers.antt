@@ -320,3 +320,33 @@ returns-in-Compare-clause-jobs g c = λ bytes used told.
 
 pub returns-in-Rehearse-clause-jobs : goal.returns-in-Rehearse-clause-jobs
 returns-in-Rehearse-clause-jobs g c = λ bytes used told. rw c.in-Rehearse.is c.rehearse.ensures.jobs
+
+-- `days`
+pub returns-in-Days-clause-wrote : goal.returns-in-Days-clause-wrote
+returns-in-Days-clause-wrote g c = λ bytes lines o told.
+    rw c.in-Days.is (c.days.ensures.wrote o (told.kept_is (ap keeper_of c.in-Days.is)))
+
+pub returns-in-Days-clause-keeps : goal.returns-in-Days-clause-keeps
+returns-in-Days-clause-keeps g c = λ bytes lines o right told kept.
+    rw c.in-Days.is (c.days.ensures.keeps o kept)
+
+pub returns-in-Days-clause-does : goal.returns-in-Days-clause-does
+returns-in-Days-clause-does g c = λ bytes lines o told kept.
+    did_unchanged _ (office_answer c.args.limits.now bytes lines o (Some c.args.command)) o _ _ _ _
+    (rw c.in-Days.is refl) (returns-in-Days-clause-wrote g c bytes lines o told)
+    (returns-in-Days-clause-keeps g c bytes lines o told.right told.source_is kept)
+
+-- `charges FROM TO`
+pub returns-in-Charges-clause-wrote : goal.returns-in-Charges-clause-wrote
+returns-in-Charges-clause-wrote g c = λ bytes lines o told.
+    rw c.in-Charges.is (c.charges.ensures.wrote o (told.kept_is (ap keeper_of c.in-Charges.is)))
+
+pub returns-in-Charges-clause-keeps : goal.returns-in-Charges-clause-keeps
+returns-in-Charges-clause-keeps g c = λ bytes lines o right told kept.
+    rw c.in-Charges.is (c.charges.ensures.keeps o kept)
+
+pub returns-in-Charges-clause-does : goal.returns-in-Charges-clause-does
+returns-in-Charges-clause-does g c = λ bytes lines o told kept.
+    did_unchanged _ (office_answer c.args.limits.now bytes lines o (Some c.args.command)) o _ _ _ _
+    (rw c.in-Charges.is refl) (returns-in-Charges-clause-wrote g c bytes lines o told)
+    (returns-in-Charges-clause-keeps g c bytes lines o told.right told.source_is kept)

@@ -87,7 +87,7 @@ pub const NO_COMMANDS: [&[&str]; 15] = [
 ];
 
 /// Words of the commands on kept state.
-pub const ON_KEPT_STATE: [Row; 9] = [
+pub const ON_KEPT_STATE: [Row; 11] = [
     (
         &["import", "100"],
         Ok(Command::Import(run!(100, 0, 1, None))),
@@ -121,10 +121,18 @@ pub const ON_KEPT_STATE: [Row; 9] = [
         }),
     ),
     (&["tariffs"], Ok(Command::Tariffs)),
+    (&["days"], Ok(Command::Days)),
+    (
+        &["charges", "--", "1", "1000000"],
+        Ok(Command::Charges {
+            from: 1,
+            to: 1_000_000,
+        }),
+    ),
 ];
 
 /// And such of no stated form.
-pub const NOT_ON_KEPT_STATE: [&[&str]; 15] = [
+pub const NOT_ON_KEPT_STATE: [&[&str]; 21] = [
     &["import"],
     &["past"],
     &["past", "69"],
@@ -140,6 +148,12 @@ pub const NOT_ON_KEPT_STATE: [&[&str]; 15] = [
     &["tariff", "0", "500001", "40", "2"],
     &["tariff", "0", "50", "40", "21"],
     &["tariffs", "0"],
+    &["days", "100"],
+    &["charges"],
+    &["charges", "100"],
+    &["charges", "0", "100"],
+    &["charges", "101", "100"],
+    &["charges", "100", "1000001"],
 ];
 
 /// Words of the commands on made traffic.
