@@ -82,23 +82,23 @@ module _ {X : Type 0} (day : X → ℕ) where
       ⊎_elim
       (λ (out : d < from).
       cond-false _ _ _ (before from (n + 1) d out) ∙ rest
-      ∙ sym (ap₂ (λ as bs. as ++ bs) (cond-false _ _ _ (before from n d out)) (cond-false _ _ _ (earlier n d under))))
+      ∙ sym (ap₂ (λ fs gs. fs ++ gs) (cond-false _ _ _ (before from n d out)) (cond-false _ _ _ (earlier n d under))))
       (λ (since : from ≤ d).
       cond-true _ _ _ (within from (n + 1) d since (omega (arith, under))) ∙ ap (λ ys. x ∷ ys) rest
-      ∙ sym (ap₂ (λ as bs. as ++ bs) (cond-true _ _ _ (within from n d since under))
+      ∙ sym (ap₂ (λ fs gs. fs ++ gs) (cond-true _ _ _ (within from n d since under))
       (cond-false _ _ _ (earlier n d under))))
       (cases_lt d from))
       (λ (least : n ≤ d).
       ⊎_elim
       (λ (over : n < d).
       cond-false _ _ _ (behind from (n + 1) d (omega (arith, over))) ∙ rest
-      ∙ sym (ap₂ (λ as bs. as ++ bs) (cond-false _ _ _ (behind from n d least)) (cond-false _ _ _ (later n d over))))
+      ∙ sym (ap₂ (λ fs gs. fs ++ gs) (cond-false _ _ _ (behind from n d least)) (cond-false _ _ _ (later n d over))))
       (λ (most : d ≤ n).
       let none = none_below from n xs (weakened (λ y. d ≤ day y) (λ y. n ≤ day y)
       (λ y h. omega (arith, h, least)) xs rise.0) in
       cond-true _ _ _ (within from (n + 1) d (omega (arith, low, least)) (omega (arith, most)))
-      ∙ ap (λ ys. x ∷ ys) (rest ∙ ap (λ as. as ++ on_day day n xs) none)
-      ∙ sym (ap₂ (λ as bs. as ++ bs) (cond-false _ _ _ (behind from n d least) ∙ none)
+      ∙ ap (λ ys. x ∷ ys) (rest ∙ ap (λ fs. fs ++ on_day day n xs) none)
+      ∙ sym (ap₂ (λ fs gs. fs ++ gs) (cond-false _ _ _ (behind from n d least) ∙ none)
       (cond-true _ _ _ (here n d most least))))
       (cases_lt n d))
       (cases_lt d n)

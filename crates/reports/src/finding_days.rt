@@ -1,5 +1,5 @@
 // The records of all kept days, found by the calls of a keeper.
-ghost use Rattle.std.specs.Prelude.{◌≡◌, ◌≢◌, ◌++◌, ◌≤◌, ◌<◌, ◌^◌, Err, IfOk, OnOk};
+ghost use Rattle.std.specs.Prelude.{◌≡◌, ◌≢◌, [], ◌++◌, ◌≤◌, Some, Err, IfOk, OnOk};
 ghost use Rattle.std.specs.List.{AllByRecursion, cons_option};
 ghost use Rattle.road_io.specs.Blame.{FaultsByPlan};
 ghost use Rattle.road_io.specs.Plans.{NeverFails};

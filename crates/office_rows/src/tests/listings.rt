@@ -46,9 +46,23 @@ fn kept<R: Threads + Sync>(rt: &R, alloc: Global, fails: &[u32]) -> Result<MemKe
     let past = run_on(rt, alloc, &Limits::DAY, &["past", "100"], ends, &mut keeper)?;
     let input = day(alloc, &FIFTY_ONE, &[&LEAVES])?;
     let ends = Ends::of(input.as_slice(), b"");
-    let first = run_on(rt, alloc, &Limits::DAY, &["import", "100"], ends, &mut keeper)?;
+    let first = run_on(
+        rt,
+        alloc,
+        &Limits::DAY,
+        &["import", "100"],
+        ends,
+        &mut keeper,
+    )?;
     let ends = Ends::of(ONE.as_bytes(), b"");
-    let second = run_on(rt, alloc, &Limits::DAY, &["import", "102"], ends, &mut keeper)?;
+    let second = run_on(
+        rt,
+        alloc,
+        &Limits::DAY,
+        &["import", "102"],
+        ends,
+        &mut keeper,
+    )?;
     if (past.1, first.1, second.1) != (0, 0, 0) {
         return Err(Fail);
     }
@@ -60,11 +74,35 @@ fn kept<R: Threads + Sync>(rt: &R, alloc: Global, fails: &[u32]) -> Result<MemKe
 fn days_that_are_kept(rt: HostRuntime) -> Result<(), Fail> {
     let none = Ends::of(b"", b"");
     let mut empty = MemKeeper::new(rt.alloc(), &[])?;
-    writes(&rt, rt.alloc(), DAYS, none, &mut empty, b"# days 0 last 0\n", 0)?;
+    writes(
+        &rt,
+        rt.alloc(),
+        DAYS,
+        none,
+        &mut empty,
+        b"# days 0 last 0\n",
+        0,
+    )?;
     let past = Ends::of(SEVERAL.as_bytes(), b"");
     let stored: &[u8] = b"# past base 100 rows 6\n";
-    writes(&rt, rt.alloc(), &["past", "100"], past, &mut empty, stored, 0)?;
-    writes(&rt, rt.alloc(), DAYS, none, &mut empty, b"# days 0 last 99\n", 0)?;
+    writes(
+        &rt,
+        rt.alloc(),
+        &["past", "100"],
+        past,
+        &mut empty,
+        stored,
+        0,
+    )?;
+    writes(
+        &rt,
+        rt.alloc(),
+        DAYS,
+        none,
+        &mut empty,
+        b"# days 0 last 99\n",
+        0,
+    )?;
     let mut keeper = kept(&rt, rt.alloc(), &[])?;
     let text = LISTED;
     writes(&rt, rt.alloc(), DAYS, none, &mut keeper, text.as_bytes(), 0)
@@ -76,10 +114,26 @@ fn charges_of_some_days(rt: HostRuntime) -> Result<(), Fail> {
     let none = Ends::of(b"", b"");
     let all: &[&str] = &["charges", "1", "1000000"];
     let mut empty = MemKeeper::new(rt.alloc(), &[])?;
-    writes(&rt, rt.alloc(), all, none, &mut empty, b"vid,xway,tolls\n", 0)?;
+    writes(
+        &rt,
+        rt.alloc(),
+        all,
+        none,
+        &mut empty,
+        b"vid,xway,tolls\n",
+        0,
+    )?;
     let mut keeper = kept(&rt, rt.alloc(), &[])?;
     for (words, text) in CHARGED {
-        writes(&rt, rt.alloc(), words, none, &mut keeper, text.as_bytes(), 0)?;
+        writes(
+            &rt,
+            rt.alloc(),
+            words,
+            none,
+            &mut keeper,
+            text.as_bytes(),
+            0,
+        )?;
     }
     Ok(())
 }
