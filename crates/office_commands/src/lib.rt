@@ -21,6 +21,7 @@ mod past;
 mod past_lines;
 mod performing;
 mod refusal;
+mod run_limits;
 mod statements;
 mod tariffs;
 mod traffic;

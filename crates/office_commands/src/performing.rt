@@ -23,6 +23,7 @@ use crate::days::days;
 use crate::imports::import;
 use crate::mishaps::accidents;
 use crate::past::past;
+use crate::run_limits::run_limits;
 use crate::statements::{charges, day, export, vehicle};
 use crate::tariffs::{tariff, tariffs};
 use crate::traffic::{generate, rehearse};
@@ -102,8 +103,14 @@ pub(crate) fn perform<S: Source, A: Source, O: Sink, K: Keeper, C: Crew, R: Thre
         (result ≡ Ok (Some KeeperFault)) }
 {
     match command {
-        Command::Answers(run) => answers(rt, alloc, run, limits, source, sink, keeper, crew),
-        Command::Import(run) => import(rt, alloc, run, limits, source, sink, keeper, crew),
+        Command::Answers(run) => {
+            let own = run_limits(&run, limits);
+            answers(rt, alloc, run, &own, source, sink, keeper, crew)
+        }
+        Command::Import(run) => {
+            let own = run_limits(&run, limits);
+            import(rt, alloc, run, &own, source, sink, keeper, crew)
+        }
         Command::Compare(asked) => Ok(Some(compare_source(
             rt, alloc, asked, limits, source, aside, keeper, crew,
         ))),

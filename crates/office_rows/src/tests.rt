@@ -7,3 +7,4 @@ mod listings;
 mod road;
 mod runs;
 mod traffic;
+mod waiting;

@@ -32,7 +32,7 @@ sound_found (g ∷ fs) word f all e = go (bytes_eq g.name word) refl (sound_foun
 -- the options are read as they are written
 runs_plain : AllPlainly runs
 unfolding look
-runs_plain = ((refl, λ v. refl), ((refl, λ v. refl), ((refl, λ v. refl), tt)))
+runs_plain = ((refl, λ v. refl), ((refl, λ v. refl), ((refl, λ v. refl), ((refl, λ v. refl), tt))))
 
 sizes_plain : AllPlainly sizes
 unfolding look

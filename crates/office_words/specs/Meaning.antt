@@ -68,10 +68,14 @@ plan_in value = with (width_in value) (λ width.
     with (chosen 0 (2 ^ 64 - 1) (value (codes "turns"))) (λ turns.
     Some (record { width = width; turns = turns })))
 
+-- how many tuples of a day may wait
+abbrev pub backlog_in : Values → Option ℕ
+backlog_in value = optional 1 65536 65536 (value (codes "backlog"))
+
 -- what the run of a day is told
 abbrev pub run_in : ℕ → Values → Option DayRun
-run_in day value = with (late_in value) (λ late. with (plan_in value) (λ plan.
-    Some (record { day = day; late = late; plan = plan })))
+run_in day value = with (late_in value) (λ late. with (plan_in value) (λ plan. with (backlog_in value) (λ backlog.
+    Some (record { day = day; late = late; plan = plan; backlog = backlog }))))
 
 -- the command `answers DAY`
 abbrev pub answers_in : Values → Option Command
@@ -213,6 +217,8 @@ pub record IsRun (run : DayRun) : Type 0 where
   pub high : run.day ≤ 1000000
   pub soon : run.late ≤ 120
   pub plan : IsPlan run.plan
+  pub some_backlog : 1 ≤ run.backlog
+  pub few_backlog : run.backlog ≤ 65536
 
 -- a command's numbers are in their ranges
 abbrev pub IsInRange : Command → Type 0

@@ -12,7 +12,7 @@ sizes = codes "vehicles" ∷ codes "minutes" ∷ codes "xways" ∷ codes "crashe
 
 -- the options of the commands that run a day
 abbrev pub runs : List Text
-runs = codes "late" ∷ codes "workers" ∷ codes "turns" ∷ []
+runs = codes "late" ∷ codes "workers" ∷ codes "turns" ∷ codes "backlog" ∷ []
 
 -- the options of the command that recomputes a day in bulk
 abbrev pub audits : List Text

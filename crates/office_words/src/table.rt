@@ -83,14 +83,14 @@ fn with_days<'a>(alloc: Global, top: Command<'a>) -> Result<Command<'a>, AllocEr
         top,
         "answers",
         &["day"],
-        &["late", "workers", "turns"],
+        &["late", "workers", "turns", "backlog"],
     )?;
     let top = with(
         alloc,
         top,
         "import",
         &["day"],
-        &["late", "workers", "turns"],
+        &["late", "workers", "turns", "backlog"],
     )?;
     let top = with(alloc, top, "validate", &["day"], &["late"])?;
     let top = with(
@@ -144,7 +144,7 @@ fn with_traffic<'a>(alloc: Global, top: Command<'a>) -> Result<Command<'a>, Allo
         "rehearse",
         &["seed"],
         &[
-            "vehicles", "minutes", "xways", "crashes", "late", "workers", "turns",
+            "vehicles", "minutes", "xways", "crashes", "late", "workers", "turns", "backlog",
         ],
     )
 }
