@@ -40,7 +40,11 @@ const CHARGED: [(&[&str], &str); 8] = [
 ];
 
 /// A keeper of the history and of the two days, made by its calls 0 to 10, of which these fail.
-fn kept<R: Threads + Sync>(rt: &R, alloc: Global, fails: &[u32]) -> Result<MemKeeper, Fail> {
+fn kept<R: Abort + Threads + Sync>(
+    rt: &R,
+    alloc: Global,
+    fails: &[u32],
+) -> Result<MemKeeper, Fail> {
     let mut keeper = MemKeeper::new(alloc, fails)?;
     let ends = Ends::of(SEVERAL.as_bytes(), b"");
     let past = run_on(rt, alloc, &Limits::DAY, &["past", "100"], ends, &mut keeper)?;
@@ -63,9 +67,7 @@ fn kept<R: Threads + Sync>(rt: &R, alloc: Global, fails: &[u32]) -> Result<MemKe
         ends,
         &mut keeper,
     )?;
-    if (past.1, first.1, second.1) != (0, 0, 0) {
-        return Err(Fail);
-    }
+    assert!(rt; past.1 == 0 && first.1 == 0 && second.1 == 0);
     Ok(keeper)
 }
 

@@ -38,10 +38,12 @@ fn told_before_a_read_fault(rt: HostRuntime) -> Result<(), Fail> {
     for command in ["answers", "import"] {
         let (text, status) = cut_short(&rt, rt.alloc(), &[command, "100", "--backlog", "1"])?;
         assert_eq!(rt; status, 4);
-        assert!(rt; text.starts_with(first.as_slice()) && text.ends_with(b"\n# read fault\n"));
+        assert!(rt;
+            text.starts_with(first.as_slice()) && text.ends_with(b"\n# read fault\n".as_slice())
+        );
         let (text, status) = cut_short(&rt, rt.alloc(), &[command, "100"])?;
         assert_eq!(rt; status, 4);
-        assert!(rt; text.as_slice() == b"# read fault\n");
+        assert!(rt; text.as_slice() == b"# read fault\n".as_slice());
     }
     Ok(())
 }
