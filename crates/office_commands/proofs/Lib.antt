@@ -18,3 +18,5 @@ pub mod StatusLaws
 pub mod ShownLaws
 pub mod PerformLaws
 pub mod StartLaws
+pub mod LimitLaws
+pub mod RunLaws

@@ -31,7 +31,7 @@ use Rattle.office_commands.specs.Closings.{status_of}
 use Rattle.office_commands.specs.Commands.{closing_by, compared_tuples}
 use Rattle.office_commands.specs.Endings.{EndsCommand, code_of, stopping, refusing}
 use Rattle.office_commands.specs.Starts.{WasWorked, StartsDay, SaysWorked, SaysImported, SaysCompared, StartsBulk}
-use Rattle.office_commands.specs.Starts.{StartsAsked}
+use Rattle.office_commands.specs.Starts.{StartsAsked, backlog_of}
 use Rattle.office_commands.specs.Traffic.{plan_from_seed}
 use Rattle.office_commands.proofs.OutcomeLaws.{code_is}
 use Rattle.office_commands.proofs.RestLaws.{IsNew, is_new}
@@ -204,16 +204,16 @@ module _ (status code : ℕ) (same : status ≢ 5 → status ≢ 8 → status �
       (told now : Option CrewTold) → StartsAsked limits m bytes kept code told now →
       StartsAsked limits m bytes kept status told now
   starts_status limits (Some (command.Answers run')) bytes kept told now h =
-      day_weaker run' limits.backlog (reads bytes limits run'.late).tuples (SaysWorked code)
+      day_weaker run' (backlog_of run' limits) (reads bytes limits run'.late).tuples (SaysWorked code)
       (SaysWorked status) told now worked h
   starts_status limits (Some (command.Import run')) bytes kept told now h =
-      day_weaker run' limits.backlog (reads bytes limits run'.late).tuples
+      day_weaker run' (backlog_of run' limits) (reads bytes limits run'.late).tuples
       (SaysImported run'.day kept code) (SaysImported run'.day kept status) told now (imported run'.day kept) h
   starts_status limits (Some (command.Compare asked)) bytes kept told now h =
       bulk_weaker asked.how (compared_tuples limits asked bytes) (SaysCompared code) (SaysCompared status) told now
       compared h
   starts_status limits (Some (command.Rehearse seed size run')) bytes kept told now h =
-      day_weaker run' DAY.backlog (generated (plan_from_seed seed size)) (code ≡ 0) (status ≡ 0) told now
+      day_weaker run' (backlog_of run' DAY) (generated (plan_from_seed seed size)) (code ≡ 0) (status ≡ 0) told now
       zero h
   starts_status limits _ bytes kept told now h = tt
 
@@ -234,12 +234,12 @@ module _ (code : ℕ) (well : code ≢ 0) (parted : code ≢ 7) (named : code �
   pub starts_other : (limits : Limits) (m : Option Command) (bytes : List ℕ) (kept : Option Office)
       (told : Option CrewTold) → StartsAsked limits m bytes kept code told told
   starts_other limits (Some (command.Answers run')) bytes kept told =
-      day_none run' limits.backlog (reads bytes limits run'.late).tuples (SaysWorked code) told unworked
+      day_none run' (backlog_of run' limits) (reads bytes limits run'.late).tuples (SaysWorked code) told unworked
   starts_other limits (Some (command.Import run')) bytes kept told =
-      day_none run' limits.backlog (reads bytes limits run'.late).tuples (SaysImported run'.day kept code)
+      day_none run' (backlog_of run' limits) (reads bytes limits run'.late).tuples (SaysImported run'.day kept code)
       told (unimported run'.day kept)
   starts_other limits (Some (command.Compare asked)) bytes kept told =
       bulk_none asked.how (compared_tuples limits asked bytes) (SaysCompared code) told uncompared
   starts_other limits (Some (command.Rehearse seed size run')) bytes kept told =
-      day_none run' DAY.backlog (generated (plan_from_seed seed size)) (code ≡ 0) told well
+      day_none run' (backlog_of run' DAY) (generated (plan_from_seed seed size)) (code ≡ 0) told well
   starts_other limits _ bytes kept told = tt

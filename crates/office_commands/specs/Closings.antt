@@ -13,6 +13,7 @@ use Rattle.office_commands.specs.declared.closing.Closing.TheVariants.{PastStore
 use Rattle.office_commands.specs.declared.closing.Closing.TheVariants.{PastRefused, DayPassed, DiffersDay, NoDay}
 use Rattle.office_commands.specs.declared.closing.Closing.TheVariants.{PastLate, PastKept, DiffersPast, ReadFault}
 use Rattle.office_commands.specs.declared.closing.Closing.TheVariants.{KeeperFault, DiffersLine, NoMemory, Rehearsed}
+use Rattle.office_commands.specs.declared.closing.Closing.TheVariants.{Listed}
 
 -- how a line of notices is named
 abbrev pub entry_text : EntryText → List ℕ
@@ -105,6 +106,7 @@ closing_line NoMemory = codes "# no memory\n"
 closing_line (Rehearsed bytes digest tuples notices notices_digest total) =
     rehearsed_line bytes (encode_lower digest.bytes) tuples
     (rehearsed_end notices (encode_lower notices_digest.bytes) total)
+closing_line (Listed days last) = codes "# days " ++ (decimal days ++ (codes " last " ++ (decimal last ++ codes "\n")))
 
 -- the status that a closing line goes with
 abbrev pub status_of : Closing → ℕ
@@ -129,3 +131,4 @@ status_of KeeperFault = 6
 status_of (DiffersLine line wanted found) = 7
 status_of NoMemory = 8
 status_of (Rehearsed bytes digest tuples notices notices_digest total) = 0
+status_of (Listed days last) = 0

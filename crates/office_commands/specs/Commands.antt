@@ -1,5 +1,5 @@
 -- The table of commands: what each is to write, how it ends, and what is kept then.
-use Rattle.std.specs.Prelude.{ℕ, List, [], Option, Some, None}
+use Rattle.std.specs.Prelude.{ℕ, List, [], length, Option, Some, None}
 use Rattle.road_time.specs.declared.road.Tuple.{Tuple}
 use Rattle.road_time.specs.declared.road.Notice.{Notice}
 use Rattle.road_time.specs.declared.day.Limits.{Limits}
@@ -11,8 +11,10 @@ use Rattle.road_time.specs.Tariffs.{tariffs_text}
 use Rattle.reports.specs.AccidentLog.{log_text}
 use Rattle.reports.specs.Statements.{day_report, vehicle_report}
 use Rattle.reports.specs.Exports.{export_report}
+use Rattle.reports.specs.DayLists.{list_text}
+use Rattle.reports.specs.Charges.{charges_report}
 use Rattle.road_time.specs.History.{paid}
-use Rattle.keeper.specs.Office.{Office}
+use Rattle.keeper.specs.Office.{Office, last_day}
 use Rattle.keeper.specs.Kept.{with_tariff_of}
 use Rattle.import_once.specs.Imports.{import_answer, answers_answer}
 use Rattle.import_once.specs.Imports as day
@@ -29,6 +31,7 @@ use Rattle.office_commands.specs.declared.closing.Closing.TheVariants.{Answered,
 use Rattle.office_commands.specs.declared.closing.Closing.TheVariants.{PastAlready, Words, Refused, PastRefused}
 use Rattle.office_commands.specs.declared.closing.Closing.TheVariants.{DayPassed, DiffersDay, NoDay, PastLate, PastKept}
 use Rattle.office_commands.specs.declared.closing.Closing.TheVariants.{DiffersPast, ReadFault, KeeperFault, NoMemory}
+use Rattle.office_commands.specs.declared.closing.Closing.TheVariants.{Listed}
 use Rattle.office_words.specs.declared.command.Comparison.{Comparison}
 use Rattle.office_words.specs.declared.command.DayRun.{DayRun}
 use Rattle.office_words.specs.declared.command.Recomputing.TheVariants.{Plainly}
@@ -167,6 +170,14 @@ generate_command seed size o = text_alone (file_of (plan_from_seed seed size)) o
 abbrev pub rehearse_command : ℕ → Size → DayRun → Office → Answer
 rehearse_command seed size run o = closed (rehearsed (rehearsed_record run.day (plan_from_seed seed size))) o
 
+-- the command `days`
+abbrev pub days_command : Office → Answer
+days_command o = record { text = list_text o.days; closing = Some (Listed (length o.days) (last_day o)); office = o }
+
+-- the command `charges FROM TO`
+abbrev pub charges_command : ℕ → ℕ → Office → Answer
+charges_command from to o = text_alone (charges_report from to o) o
+
 -- what words ask, by the command that they mean, over the bytes of the source, those of the aside, and what is kept
 abbrev pub office_answer : Limits → List ℕ → List ℕ → Office → Option Command → Answer
 office_answer limits bytes aside o None = closed Words o
@@ -183,3 +194,5 @@ office_answer limits bytes aside o (Some (command.Tariff xway crowd speed factor
 office_answer limits bytes aside o (Some command.Tariffs) = tariffs_command o
 office_answer limits bytes aside o (Some (command.Generate seed size)) = generate_command seed size o
 office_answer limits bytes aside o (Some (command.Rehearse seed size run)) = rehearse_command seed size run o
+office_answer limits bytes aside o (Some command.Days) = days_command o
+office_answer limits bytes aside o (Some (command.Charges from to)) = charges_command from to o

@@ -1,5 +1,5 @@
 -- The jobs that a command starts, by the plan that its words name.
-use Rattle.std.specs.Prelude.{ℕ, ◌≡◌, ◌⊎◌, List, Option, Some, None}
+use Rattle.std.specs.Prelude.{ℕ, ◌≡◌, ◌⊎◌, min, List, Option, Some, None}
 use Rattle.road_time.specs.declared.day.Limits.{Limits}
 use Rattle.road_time.specs.declared.day.TheConstants.Limits.{DAY}
 use Rattle.road_time.specs.declared.road.Tuple.{Tuple}
@@ -19,6 +19,10 @@ use Rattle.office_words.specs.declared.command.Recomputing.{Recomputing}
 use Rattle.office_words.specs.declared.command.Recomputing.TheVariants.{Plainly, InBulk}
 use Rattle.office_commands.specs.Commands.{compared_tuples}
 use Rattle.office_commands.specs.Traffic.{plan_from_seed}
+
+-- how many tuples may wait in the run of a day: as many as its words name, and no more than the limits allow
+abbrev pub backlog_of : DayRun → Limits → ℕ
+backlog_of run limits = min limits.backlog run.backlog
 
 -- a day was worked to its end or to its first refused line
 abbrev pub WasWorked : Outcome → Type 0
@@ -65,12 +69,12 @@ shards_of (InBulk shards width) = shards
 abbrev pub StartsAsked : Limits → Option Command → List ℕ → Option Office → ℕ → Option CrewTold → Option CrewTold →
     Type 0
 StartsAsked limits (Some (command.Answers run)) bytes kept status told now =
-    StartsDay run limits.backlog (reads bytes limits run.late).tuples (SaysWorked status) told now
+    StartsDay run (backlog_of run limits) (reads bytes limits run.late).tuples (SaysWorked status) told now
 StartsAsked limits (Some (command.Import run)) bytes kept status told now =
-    StartsDay run limits.backlog (reads bytes limits run.late).tuples (SaysImported run.day kept status)
+    StartsDay run (backlog_of run limits) (reads bytes limits run.late).tuples (SaysImported run.day kept status)
     told now
 StartsAsked limits (Some (command.Compare asked)) bytes kept status told now =
     StartsBulk asked.how (compared_tuples limits asked bytes) (SaysCompared status) told now
 StartsAsked limits (Some (command.Rehearse seed size run)) bytes kept status told now =
-    StartsDay run DAY.backlog (generated (plan_from_seed seed size)) (status ≡ 0) told now
+    StartsDay run (backlog_of run DAY) (generated (plan_from_seed seed size)) (status ≡ 0) told now
 StartsAsked limits _ bytes kept status told now = Unit {0}

@@ -48,6 +48,8 @@ uses (Some (command.Tariff xway crowd speed factor)) = record nothing { keeper =
 uses (Some command.Tariffs) = record nothing { keeper = true }
 uses (Some (command.Generate seed size)) = nothing
 uses (Some (command.Rehearse seed size run)) = record nothing { crew = true }
+uses (Some command.Days) = record nothing { keeper = true }
+uses (Some (command.Charges from to)) = record nothing { keeper = true }
 uses None = nothing
 
 -- whether a command has a use for the source

@@ -3,7 +3,7 @@ ghost use Rattle.std.specs.Prelude.{◌≡◌, IfOk};
 ghost use Rattle.std.specs.String.{string_bytes};
 ghost use Rattle.office_commands.specs.Closings.{closing_line, status_of};
 
-use crate::day_lines::{already_line, differs_day, rehearsal, stored_line, tariff_line};
+use crate::day_lines::{already_line, days_line, differs_day, rehearsal, stored_line, tariff_line};
 use crate::entry_text::EntryText;
 use crate::past_lines::{
     differs_past, past_already, past_kept, past_late, past_refused, past_stored,
@@ -120,6 +120,11 @@ pub enum Closing {
         notices_digest: Digest,
         total: u64,
     },
+    /// So many days are kept, and this is the last that is, or the day before the history's base if none is.
+    Listed {
+        days: u64,
+        last: u32,
+    },
 }
 
 impl Closing {
@@ -149,6 +154,7 @@ impl Closing {
             Closing::DiffersLine { .. } => 7,
             Closing::NoMemory => 8,
             Closing::Rehearsed { .. } => 0,
+            Closing::Listed { .. } => 0,
         }
     }
 
@@ -226,6 +232,7 @@ impl Closing {
                     total,
                 );
             }
+            Closing::Listed { days, last } => return days_line(alloc, days, last),
         };
         Ok(line)
     }

@@ -3,7 +3,7 @@ ghost use Rattle.std.specs.Prelude.{◌≡◌, IfOk};
 ghost use Rattle.std.specs.String.{string_bytes};
 ghost use Rattle.office_commands.specs.Closings.{closing_line, stored_line, already_line, tariff_kept_line};
 ghost use Rattle.office_commands.specs.Closings.{differs_line, rehearsed_end, rehearsed_line};
-ghost use Rattle.office_commands.specs.declared.closing.Closing.TheVariants.{DiffersDay, Rehearsed};
+ghost use Rattle.office_commands.specs.declared.closing.Closing.TheVariants.{DiffersDay, Rehearsed, Listed};
 
 use keeper::Digest;
 use road_time::NoMemory;
@@ -81,6 +81,14 @@ pub(crate) fn differs_day(
     let kept_text = kept.text(alloc)?;
     let found_text = found.text(alloc)?;
     differs_line(alloc, day, kept_text.as_str(), found_text.as_str())
+}
+
+/// The line of the kept days.
+pub(crate) fn days_line(alloc: Global, days: u64, last: u32) -> Result<String, NoMemory>
+    ensures { IfOk result (λ line. string_bytes line ≡ closing_line (Listed days last)) }
+{
+    let line = format!(in alloc; "# days {days} last {last}\n")?;
+    Ok(line)
 }
 
 /// The end of the line of a rehearsal, with the text of the digest of its notices.

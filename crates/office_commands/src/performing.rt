@@ -19,10 +19,12 @@ ghost use Rattle.road_io.specs.Blame.{FaultsByPlan, FaultsByRoom};
 use crate::answers::answers;
 use crate::closing::Closing;
 use crate::comparing::compare_source;
+use crate::days::days;
 use crate::imports::import;
 use crate::mishaps::accidents;
 use crate::past::past;
-use crate::statements::{day, export, vehicle};
+use crate::run_limits::run_limits;
+use crate::statements::{charges, day, export, vehicle};
 use crate::tariffs::{tariff, tariffs};
 use crate::traffic::{generate, rehearse};
 use keeper::Keeper;
@@ -101,8 +103,14 @@ pub(crate) fn perform<S: Source, A: Source, O: Sink, K: Keeper, C: Crew, R: Thre
         (result ≡ Ok (Some KeeperFault)) }
 {
     match command {
-        Command::Answers(run) => answers(rt, alloc, run, limits, source, sink, keeper, crew),
-        Command::Import(run) => import(rt, alloc, run, limits, source, sink, keeper, crew),
+        Command::Answers(run) => {
+            let own = run_limits(&run, limits);
+            answers(rt, alloc, run, &own, source, sink, keeper, crew)
+        }
+        Command::Import(run) => {
+            let own = run_limits(&run, limits);
+            import(rt, alloc, run, &own, source, sink, keeper, crew)
+        }
         Command::Compare(asked) => Ok(Some(compare_source(
             rt, alloc, asked, limits, source, aside, keeper, crew,
         ))),
@@ -122,5 +130,7 @@ pub(crate) fn perform<S: Source, A: Source, O: Sink, K: Keeper, C: Crew, R: Thre
         Command::Rehearse { seed, size, run } => Ok(Some(rehearse(
             rt, alloc, seed, size, run, crew,
         ))),
+        Command::Days => days(alloc, sink, keeper),
+        Command::Charges { from, to } => charges(alloc, from, to, sink, keeper),
     }
 }

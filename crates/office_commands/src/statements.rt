@@ -1,15 +1,15 @@
-// The commands `day DAY`, `vehicle VID FROM TO` and `export DAY`: what is kept, as texts.
+// The commands `day DAY`, `vehicle VID FROM TO`, `export DAY` and `charges FROM TO`: what is kept, as texts.
 ghost use Rattle.std.specs.Prelude.{◌≡◌, ◌≢◌, Some, Ok, Err, OnErr, IsErr};
 ghost use Rattle.keeper.specs.Office.{Office};
 ghost use Rattle.reports.specs.declared.report_fault.ReportFault.TheVariants as report_fault;
-ghost use Rattle.office_commands.specs.Commands.{day_command, vehicle_command, export_command};
+ghost use Rattle.office_commands.specs.Commands.{day_command, vehicle_command, export_command, charges_command};
 ghost use Rattle.office_commands.specs.Endings.{Wrote, Keeps, EndsReport};
 ghost use Rattle.office_commands.specs.declared.closing.Closing.TheVariants.{ReadFault, KeeperFault, Words};
 ghost use Rattle.road_io.specs.Blame.{FaultsByPlan, FaultsByRoom};
 
 use crate::closing::Closing;
 use keeper::Keeper;
-use reports::{ReportFault, day_statement, export_csv, vehicle_statement};
+use reports::{ReportFault, charges_csv, day_statement, export_csv, vehicle_statement};
 use road_io::{Failed, Sink};
 use std::alloc::Global;
 
@@ -101,4 +101,28 @@ pub fn export<O: Sink, K: Keeper>(
 {
     let done = export_csv(alloc, day, keeper, sink);
     reported(day, done)
+}
+
+/// Exports what all vehicles were charged on the days `from` to `to`, both included.
+pub fn charges<O: Sink, K: Keeper>(
+    alloc: Global,
+    from: u32,
+    to: u32,
+    sink: &mut O,
+    keeper: &mut K,
+) -> Result<Option<Closing>, Failed>
+    ensures wrote { (o : Office) → K.told keeper.old ≡ Some o
+        → Wrote (charges_command from to o) result (O.written sink.old) (O.written sink.new) }
+    ensures keeps { (o : Office) → K.told keeper.old ≡ Some o
+        → Keeps K.refuses (charges_command from to o) o (K.told keeper.new) result }
+    ensures kept { K.told keeper.new ≡ K.told keeper.old }
+    ensures said { result ≢ Ok (Some Words) }
+    ensures unread { result ≢ Ok (Some ReadFault) }
+    ensures sink { FaultsByRoom (O.faults sink.old) (O.faults sink.new) (O.room sink.old) (O.room sink.new)
+        (IsErr result) }
+    ensures keeper { FaultsByPlan (K.faults keeper.old) (K.faults keeper.new) (K.plan keeper.old)
+        (result ≡ Ok (Some KeeperFault)) }
+{
+    let done = charges_csv(alloc, from, to, keeper, sink);
+    reported(from, done)
 }

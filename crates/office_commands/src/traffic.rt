@@ -12,12 +12,13 @@ ghost use Rattle.office_words.specs.Meaning.{IsRun, IsSize};
 ghost use Rattle.office_commands.specs.Commands.{generate_command, rehearse_command};
 ghost use Rattle.office_commands.specs.Closings.{status_of};
 ghost use Rattle.office_commands.specs.Endings.{StandsBefore, Wrote};
-ghost use Rattle.office_commands.specs.Starts.{StartsDay};
+ghost use Rattle.office_commands.specs.Starts.{StartsDay, backlog_of};
 ghost use Rattle.office_commands.specs.Traffic.{plan_from_seed, rehearsed_record, rehearsed, EndsTraffic};
 ghost use Rattle.office_commands.specs.declared.closing.Closing.TheVariants.{ReadFault, KeeperFault, Words};
 ghost use Rattle.road_io.specs.Blame.{FaultsByRoom};
 
 use crate::closing::Closing;
+use crate::run_limits::run_limits;
 use accounts::NoPublisher;
 use import_once::Outcome;
 use keeper::{DayRecord, MemKeeper};
@@ -110,7 +111,7 @@ fn kept_alone<C: Crew, R: Threads>(
     requires idle { C.out crew.old ≡ [] }
     ensures kept { C.exact ≡ true
         → IfOk result (λ r. r ≡ kept_record run.day file.now (reads file.now DAY run.late).tuples nothing_kept) }
-    ensures jobs { StartsDay run DAY.backlog (reads file.now DAY run.late).tuples (IsOk result)
+    ensures jobs { StartsDay run (backlog_of run DAY) (reads file.now DAY run.late).tuples (IsOk result)
         (C.jobs crew.old) (C.jobs crew.new) }
     ensures idle { C.out crew.new ≡ [] }
     ensures crew { C.which crew.new ≡ C.which crew.old }
@@ -119,13 +120,14 @@ fn kept_alone<C: Crew, R: Threads>(
     let mut keeper = MemKeeper::new(alloc, &[])?;
     let mut sink = VoidSink;
     let mut publisher = NoPublisher;
+    let own = run_limits(&run, &Limits::DAY);
     match import_once::import(
         rt,
         alloc,
         run.day,
         &run.plan,
         run.late,
-        &Limits::DAY,
+        &own,
         &mut source,
         &mut sink,
         &mut keeper,
@@ -150,7 +152,7 @@ fn rehearse_plan<C: Crew, R: Threads>(
     requires range { IsRun run }
     requires idle { C.out crew.old ≡ [] }
     ensures kept { C.exact ≡ true → IfOk result (λ r. r ≡ rehearsed_record run.day plan.now) }
-    ensures jobs { StartsDay run DAY.backlog (generated plan.now) (IsOk result) (C.jobs crew.old)
+    ensures jobs { StartsDay run (backlog_of run DAY) (generated plan.now) (IsOk result) (C.jobs crew.old)
         (C.jobs crew.new) }
     ensures idle { C.out crew.new ≡ [] }
     ensures crew { C.which crew.new ≡ C.which crew.old }
@@ -186,7 +188,7 @@ pub fn rehearse<C: Crew, R: Threads>(
     requires range { IsRun run }
     requires idle { C.out crew.old ≡ [] }
     ensures exact { C.exact ≡ true → (o : Office) → StandsBefore (rehearse_command seed size run o) result [] }
-    ensures jobs { StartsDay run DAY.backlog (generated (plan_from_seed seed size)) (status_of result ≡ 0)
+    ensures jobs { StartsDay run (backlog_of run DAY) (generated (plan_from_seed seed size)) (status_of result ≡ 0)
         (C.jobs crew.old) (C.jobs crew.new) }
     ensures idle { C.out crew.new ≡ [] }
     ensures crew { C.which crew.new ≡ C.which crew.old }

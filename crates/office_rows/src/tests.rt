@@ -3,6 +3,8 @@ mod audits;
 mod days;
 mod faults;
 mod input;
+mod listings;
 mod road;
 mod runs;
 mod traffic;
+mod waiting;

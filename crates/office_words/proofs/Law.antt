@@ -196,7 +196,16 @@ ready = (
                         (refl, (as_place 2 refl, (refl, (as_place 3 refl, (refl, (as_place 4 refl, refl)))))),
                       ),
                     ),
-                    (refl, ((refl, (as_place 1 refl, refl)), ((refl, (as_place 1 refl, refl)), tt))),
+                    (
+                      refl,
+                      (
+                        (refl, (as_place 1 refl, refl)),
+                        (
+                          (refl, (as_place 1 refl, refl)),
+                          (refl, ((refl, (as_place 1 refl, (refl, (as_place 2 refl, refl)))), tt)),
+                        ),
+                      ),
+                    ),
                   ),
                 ),
               ),

@@ -32,7 +32,7 @@ sound_found (g ∷ fs) word f all e = go (bytes_eq g.name word) refl (sound_foun
 -- the options are read as they are written
 runs_plain : AllPlainly runs
 unfolding look
-runs_plain = ((refl, λ v. refl), ((refl, λ v. refl), ((refl, λ v. refl), tt)))
+runs_plain = ((refl, λ v. refl), ((refl, λ v. refl), ((refl, λ v. refl), ((refl, λ v. refl), tt))))
 
 sizes_plain : AllPlainly sizes
 unfolding look
@@ -86,7 +86,7 @@ all_sound = (
                         (sizes_plain, (refl, refl, refl, refl, tt)),
                         (
                           (plain_both sizes runs sizes_plain runs_plain, (refl, refl, refl, refl, tt)),
-                          tt,
+                          ((tt, tt), ((tt, (refl, refl, refl, refl, (refl, refl, refl, refl, tt))), tt)),
                         ),
                       ),
                     ),

@@ -68,10 +68,14 @@ plan_in value = with (width_in value) (λ width.
     with (chosen 0 (2 ^ 64 - 1) (value (codes "turns"))) (λ turns.
     Some (record { width = width; turns = turns })))
 
+-- how many tuples of a day may wait
+abbrev pub backlog_in : Values → Option ℕ
+backlog_in value = optional 1 65536 65536 (value (codes "backlog"))
+
 -- what the run of a day is told
 abbrev pub run_in : ℕ → Values → Option DayRun
-run_in day value = with (late_in value) (λ late. with (plan_in value) (λ plan.
-    Some (record { day = day; late = late; plan = plan })))
+run_in day value = with (late_in value) (λ late. with (plan_in value) (λ plan. with (backlog_in value) (λ backlog.
+    Some (record { day = day; late = late; plan = plan; backlog = backlog }))))
 
 -- the command `answers DAY`
 abbrev pub answers_in : Values → Option Command
@@ -138,6 +142,12 @@ abbrev pub rehearse_in : Values → Option Command
 rehearse_in value = with (seed_in value) (λ seed. with (size_in value) (λ size. with (run_in 100 value) (λ run.
     Some (command.Rehearse seed size run))))
 
+-- the command `charges FROM TO`, whose first day is not after its last
+abbrev pub charges_in : Values → Option Command
+charges_in value = with (needed 1 1000000 (value (codes "from"))) (λ from.
+    with (needed 1 1000000 (value (codes "to"))) (λ to.
+    if nat_le from to then Some (command.Charges from to) else None))
+
 -- the command of a name, with the values of its names
 abbrev pub meaning : Text → Values → Option Command
 meaning name value =
@@ -154,7 +164,9 @@ meaning name value =
     else (if bytes_eq name (codes "tariffs") then Some command.Tariffs
     else (if bytes_eq name (codes "generate") then generate_in value
     else (if bytes_eq name (codes "rehearse") then rehearse_in value
-    else None))))))))))))
+    else (if bytes_eq name (codes "days") then Some command.Days
+    else (if bytes_eq name (codes "charges") then charges_in value
+    else None))))))))))))))
 
 -- the value that was said of a name
 abbrev pub value_of : Said → Values
@@ -205,6 +217,8 @@ pub record IsRun (run : DayRun) : Type 0 where
   pub high : run.day ≤ 1000000
   pub soon : run.late ≤ 120
   pub plan : IsPlan run.plan
+  pub some_backlog : 1 ≤ run.backlog
+  pub few_backlog : run.backlog ≤ 65536
 
 -- a command's numbers are in their ranges
 abbrev pub IsInRange : Command → Type 0
@@ -220,3 +234,5 @@ IsInRange (command.Tariff xway crowd speed factor) = (crowd ≤ 500000) × (spee
 IsInRange command.Tariffs = Unit {0}
 IsInRange (command.Generate seed size) = IsSize size
 IsInRange (command.Rehearse seed size run) = IsSize size × IsRun run
+IsInRange command.Days = Unit {0}
+IsInRange (command.Charges from to) = (1 ≤ from) × (from ≤ to) × (to ≤ 1000000)

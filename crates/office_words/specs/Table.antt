@@ -12,7 +12,7 @@ sizes = codes "vehicles" ∷ codes "minutes" ∷ codes "xways" ∷ codes "crashe
 
 -- the options of the commands that run a day
 abbrev pub runs : List Text
-runs = codes "late" ∷ codes "workers" ∷ codes "turns" ∷ []
+runs = codes "late" ∷ codes "workers" ∷ codes "turns" ∷ codes "backlog" ∷ []
 
 -- the options of the command that recomputes a day in bulk
 abbrev pub audits : List Text
@@ -33,4 +33,6 @@ forms = stated_form (codes "answers") (codes "day" ∷ []) runs
     ∷ stated_form (codes "tariffs") [] []
     ∷ stated_form (codes "generate") (codes "seed" ∷ []) sizes
     ∷ stated_form (codes "rehearse") (codes "seed" ∷ []) (sizes ++ runs)
+    ∷ stated_form (codes "days") [] []
+    ∷ stated_form (codes "charges") (codes "from" ∷ codes "to" ∷ []) []
     ∷ []

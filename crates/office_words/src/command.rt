@@ -12,13 +12,14 @@ pub struct Size {
     pub crashes: u32,
 }
 
-/// What a day's run is told: the day, 70 to 1,000,000, by how many seconds its lines may come late, 0 to 120, and how
-/// its work is done.
+/// What a day's run is told: the day, 70 to 1,000,000, by how many seconds its lines may come late, 0 to 120, how its
+/// work is done, and how many tuples may wait between being read and being answered, 1 to 65,536.
 #[derive(Clone, Copy, Debug, PartialEq)]
 pub struct DayRun {
     pub day: u32,
     pub late: u8,
     pub plan: Plan,
+    pub backlog: u32,
 }
 
 /// How the notices of a day are recomputed: by the plain rules, or in bulk, by 1 to 64 shards of vehicles and over 1
@@ -88,6 +89,13 @@ pub enum Command {
         seed: u64,
         size: Size,
         run: DayRun,
+    },
+    /// Lists the kept days.
+    Days,
+    /// Exports what all vehicles were charged on the days `from` to `to`, both included, 1 to 1,000,000.
+    Charges {
+        from: u32,
+        to: u32,
     },
 }
 

@@ -2,9 +2,9 @@
 ghost use Rattle.std.specs.Prelude.{◌≡◌, ◌≤◌, IfSome, codes};
 ghost use Rattle.clap.specs.Words.{first_value, found_of};
 ghost use Rattle.office_words.specs.Meaning.{day_in, late_in, width_in, plan_in, run_in, answers_in, import_in};
-ghost use Rattle.office_words.specs.Meaning.{bulk_in, validate_in, audit_in, past_in, vehicle_in, tariff_in};
+ghost use Rattle.office_words.specs.Meaning.{bulk_in, validate_in, audit_in, past_in, vehicle_in, tariff_in, charges_in};
 ghost use Rattle.office_words.specs.Meaning.{meaning, seed_in, size_in, generate_in, rehearse_in, IsInRange, IsPlan};
-ghost use Rattle.office_words.specs.Meaning.{IsRecomputing, IsRun, IsSize};
+ghost use Rattle.office_words.specs.Meaning.{IsRecomputing, IsRun, IsSize, backlog_in};
 
 use crate::command::{Command, Comparison, DayRun, Recomputing, Size};
 use crate::numbers::{chosen, needed, optional};
@@ -56,6 +56,14 @@ fn in_bulk(m: &ArgMatches<'_>) -> Option<Recomputing>
     })
 }
 
+fn backlog(m: &ArgMatches<'_>) -> Option<u32>
+    ensures value { result ≡ backlog_in (first_value (found_of m.now)) }
+    ensures range { IfSome result (λ n. (1 ≤ n) × (n ≤ 65536)) }
+{
+    let n = optional(m, "backlog", 1, 65_536, 65_536)?;
+    Some(n as u32)
+}
+
 /// What the run of this day is told.
 fn run(m: &ArgMatches<'_>, day: u32) -> Option<DayRun>
     requires low { 70 ≤ day }
@@ -65,7 +73,13 @@ fn run(m: &ArgMatches<'_>, day: u32) -> Option<DayRun>
 {
     let late = late(m)?;
     let plan = plan(m)?;
-    Some(DayRun { day, late, plan })
+    let backlog = backlog(m)?;
+    Some(DayRun {
+        day,
+        late,
+        plan,
+        backlog,
+    })
 }
 
 fn answers(m: &ArgMatches<'_>) -> Option<Command>
@@ -124,6 +138,21 @@ fn vehicle(m: &ArgMatches<'_>) -> Option<Command>
     }
     Some(Command::Vehicle {
         vid: vid as u32,
+        from: from as u32,
+        to: to as u32,
+    })
+}
+
+fn charges(m: &ArgMatches<'_>) -> Option<Command>
+    ensures value { result ≡ charges_in (first_value (found_of m.now)) }
+    ensures range { IfSome result IsInRange }
+{
+    let from = needed(m, "from", 1, 1_000_000)?;
+    let to = needed(m, "to", 1, 1_000_000)?;
+    if from > to {
+        return None;
+    }
+    Some(Command::Charges {
         from: from as u32,
         to: to as u32,
     })
@@ -208,6 +237,8 @@ pub fn command(name: &str, m: &ArgMatches<'_>) -> Option<Command>
         "tariffs" => Some(Command::Tariffs),
         "generate" => generate(m),
         "rehearse" => rehearse(m),
+        "days" => Some(Command::Days),
+        "charges" => charges(m),
         _ => None,
     }
 }

@@ -83,14 +83,14 @@ fn with_days<'a>(alloc: Global, top: Command<'a>) -> Result<Command<'a>, AllocEr
         top,
         "answers",
         &["day"],
-        &["late", "workers", "turns"],
+        &["late", "workers", "turns", "backlog"],
     )?;
     let top = with(
         alloc,
         top,
         "import",
         &["day"],
-        &["late", "workers", "turns"],
+        &["late", "workers", "turns", "backlog"],
     )?;
     let top = with(alloc, top, "validate", &["day"], &["late"])?;
     let top = with(
@@ -144,9 +144,17 @@ fn with_traffic<'a>(alloc: Global, top: Command<'a>) -> Result<Command<'a>, Allo
         "rehearse",
         &["seed"],
         &[
-            "vehicles", "minutes", "xways", "crashes", "late", "workers", "turns",
+            "vehicles", "minutes", "xways", "crashes", "late", "workers", "turns", "backlog",
         ],
     )
+}
+
+/// The commands that list all days and what they charge.
+fn with_listings<'a>(alloc: Global, top: Command<'a>) -> Result<Command<'a>, AllocError>
+    ensures { IfOk result (λ c. app_of c ≡ with_forms (app_of top.entry) (take 2 (drop 13 forms))) }
+{
+    let top = with(alloc, top, "days", &[], &[])?;
+    with(alloc, top, "charges", &["from", "to"], &[])
 }
 
 /// The whole table.
@@ -156,7 +164,8 @@ fn office<'a>(alloc: Global) -> Result<Command<'a>, AllocError>
     let top = with_days(alloc, bare(alloc))?;
     let top = with_reports(alloc, top)?;
     let top = with_tariffs(alloc, top)?;
-    with_traffic(alloc, top)
+    let top = with_traffic(alloc, top)?;
+    with_listings(alloc, top)
 }
 
 /// What clap makes of the words.

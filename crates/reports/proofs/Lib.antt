@@ -3,3 +3,4 @@ pub mod WayLaws
 pub mod EndingLaws
 pub mod ExportLaws
 pub mod WorkedLaws
+pub mod SpanLaws

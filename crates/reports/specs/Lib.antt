@@ -1,4 +1,7 @@
 pub mod AccidentLog
+pub mod Charges
+pub mod DayLists
 pub mod Endings
 pub mod Exports
+pub mod Spans
 pub mod Statements

@@ -210,7 +210,7 @@ fn one_line<R: Abort + Threads + Sync>(
 }
 
 /// Commands that ask a keeper first.
-const COMMANDS: [&[&str]; 8] = [
+const COMMANDS: [&[&str]; 10] = [
     IMPORT,
     DAY,
     &["answers", "100"],
@@ -219,6 +219,8 @@ const COMMANDS: [&[&str]; 8] = [
     &["export", "100"],
     &["tariff", "0", "50", "40", "5"],
     &["tariffs"],
+    &["days"],
+    &["charges", "31", "99"],
 ];
 
 /// One line by a command, where these reads and calls fail.

@@ -1,5 +1,5 @@
 -- What each command does, as the table of commands has it.
-use Rattle.std.proofs.Common.{◌∙◌, Some, Ok, sym, ap, refl}
+use Rattle.std.proofs.Common.{◌∙◌, Some, Ok, sym, ap, refl, subst}
 use Rattle.road_io.proofs.SinkLaws.{appends_none}
 use Rattle.office_commands.specs.declared.closing.Closing.{Closing}
 use Rattle.office_commands.specs.declared.closing.Closing.TheVariants.{ReadFault}
@@ -12,28 +12,53 @@ use Rattle.office_commands.proofs.ConcludeLaws.{did_unchanged, did_silent, closi
 use Rattle.office_commands.proofs.PerformLaws.{source_of, aside_of, keeper_of, crew_of, wrote_silent, by_source}
 use Rattle.office_commands.proofs.PerformLaws.{beside}
 use Rattle.office_commands.proofs.PerformLaws.{by_both, compare_keeps, compare_did}
+use Rattle.keeper.specs.Office.{record_of}
+use Rattle.office_commands.specs.Commands.{Answer}
+use Rattle.office_commands.specs.Endings.{Wrote, Keeps, Did}
+use Rattle.office_commands.proofs.RunLaws.{answers_same, import_same, within_same, imported_same, day_same, stops_same}
+use Rattle.office_commands.proofs.RunLaws.{uncompared_same, jobs_same}
 use Rattle.office_commands.proofs.performing.perform.Goals as goal
 
 -- `answers DAY`
 pub returns-in-Answers-clause-wrote : goal.returns-in-Answers-clause-wrote
 returns-in-Answers-clause-wrote g c = λ bytes lines o told.
-    rw c.in-Answers.is (c.answers.ensures.wrote (told.right (ap crew_of c.in-Answers.is)) bytes o
-    (told.source_is (ap source_of c.in-Answers.is)) (told.kept_is (ap keeper_of c.in-Answers.is)))
+    let own = c.run_limits-own in
+    let same = answers_same c.in-Answers.run' own.result c.args.limits.now own.ensures.same own.ensures.lines
+    own.ensures.backlog bytes o in
+    rw c.in-Answers.is (subst (λ (a : Answer). Wrote a c.answers.result (g.O.Sink.written c.args.sink.now)
+    (g.O.Sink.written c.answers.new.sink)) same (c.answers.ensures.wrote (told.right (ap crew_of c.in-Answers.is)) bytes
+    o (told.source_is (ap source_of c.in-Answers.is)) (told.kept_is (ap keeper_of c.in-Answers.is))))
 
 pub returns-in-Answers-clause-keeps : goal.returns-in-Answers-clause-keeps
-returns-in-Answers-clause-keeps g c = λ bytes lines o right told kept. rw c.in-Answers.is
-    (c.answers.ensures.keeps (right (ap crew_of c.in-Answers.is)) bytes o (told (ap source_of c.in-Answers.is)) kept)
+returns-in-Answers-clause-keeps g c = λ bytes lines o right told kept.
+    let own = c.run_limits-own in
+    let same = answers_same c.in-Answers.run' own.result c.args.limits.now own.ensures.same own.ensures.lines
+    own.ensures.backlog bytes o in
+    rw c.in-Answers.is (subst (λ (a : Answer). Keeps g.K.Keeper.refuses a o (g.K.Keeper.told c.answers.new.keeper)
+    c.answers.result) same
+    (c.answers.ensures.keeps (right (ap crew_of c.in-Answers.is)) bytes o (told (ap source_of c.in-Answers.is)) kept))
 
 pub returns-in-Answers-clause-does : goal.returns-in-Answers-clause-does
 returns-in-Answers-clause-does g c = λ bytes lines o told kept.
-    rw c.in-Answers.is (c.answers.ensures.does (told.right (ap crew_of c.in-Answers.is)) bytes o
-    (told.source_is (ap source_of c.in-Answers.is)) kept)
+    let own = c.run_limits-own in
+    let same = answers_same c.in-Answers.run' own.result c.args.limits.now own.ensures.same own.ensures.lines
+    own.ensures.backlog bytes o in
+    rw c.in-Answers.is (subst (λ (a : Answer). Did g.K.Keeper.refuses a o (g.O.Sink.written c.args.sink.now)
+    (g.O.Sink.written c.answers.new.sink) (g.K.Keeper.told c.answers.new.keeper) c.answers.result) same
+    (c.answers.ensures.does (told.right (ap crew_of c.in-Answers.is)) bytes o
+    (told.source_is (ap source_of c.in-Answers.is)) kept))
 
 pub returns-in-Answers-clause-reads : goal.returns-in-Answers-clause-reads
-returns-in-Answers-clause-reads g c = λ used. rw c.in-Answers.is c.answers.ensures.reads
+returns-in-Answers-clause-reads g c = λ used.
+    let own = c.run_limits-own in
+    rw c.in-Answers.is (day_same c.in-Answers.run' own.result c.args.limits.now own.ensures.same own.ensures.lines
+    own.ensures.backlog _ _ _ c.answers.ensures.reads)
 
 pub returns-in-Answers-clause-bounded : goal.returns-in-Answers-clause-bounded
-returns-in-Answers-clause-bounded g c = λ o kept. rw c.in-Answers.is c.answers.ensures.bounded
+returns-in-Answers-clause-bounded g c = λ o kept.
+    let own = c.run_limits-own in
+    rw c.in-Answers.is (within_same c.in-Answers.run' own.result c.args.limits.now own.ensures.same own.ensures.lines
+    own.ensures.backlog _ _ c.answers.ensures.bounded)
 
 pub returns-in-Answers-clause-read : goal.returns-in-Answers-clause-read
 returns-in-Answers-clause-read g c =
@@ -43,20 +68,41 @@ returns-in-Answers-clause-read g c =
 -- `import DAY`
 pub returns-in-Import-clause-wrote : goal.returns-in-Import-clause-wrote
 returns-in-Import-clause-wrote g c = λ bytes lines o told.
-    rw c.in-Import.is (c.import.ensures.wrote (told.right (ap crew_of c.in-Import.is)) bytes o
-    (told.source_is (ap source_of c.in-Import.is)) (told.kept_is (ap keeper_of c.in-Import.is)))
+    let own = c.run_limits-own-in-Import in
+    let same = import_same c.in-Import.run' own.result c.args.limits.now own.ensures.same own.ensures.lines
+    own.ensures.backlog bytes o in
+    rw c.in-Import.is (subst (λ (a : Answer). Wrote a c.import.result (g.O.Sink.written c.args.sink.now)
+    (g.O.Sink.written c.import.new.sink)) same (c.import.ensures.wrote (told.right (ap crew_of c.in-Import.is)) bytes
+    o (told.source_is (ap source_of c.in-Import.is)) (told.kept_is (ap keeper_of c.in-Import.is))))
 
 pub returns-in-Import-clause-keeps : goal.returns-in-Import-clause-keeps
-returns-in-Import-clause-keeps g c = λ bytes lines o right told kept. rw c.in-Import.is
-    (c.import.ensures.keeps (right (ap crew_of c.in-Import.is)) bytes o (told (ap source_of c.in-Import.is)) kept)
+returns-in-Import-clause-keeps g c = λ bytes lines o right told kept.
+    let own = c.run_limits-own-in-Import in
+    let same = import_same c.in-Import.run' own.result c.args.limits.now own.ensures.same own.ensures.lines
+    own.ensures.backlog bytes o in
+    rw c.in-Import.is (subst (λ (a : Answer). Keeps g.K.Keeper.refuses a o (g.K.Keeper.told c.import.new.keeper)
+    c.import.result) same
+    (c.import.ensures.keeps (right (ap crew_of c.in-Import.is)) bytes o (told (ap source_of c.in-Import.is)) kept))
 
 pub returns-in-Import-clause-does : goal.returns-in-Import-clause-does
 returns-in-Import-clause-does g c = λ bytes lines o told kept.
-    rw c.in-Import.is (c.import.ensures.does (told.right (ap crew_of c.in-Import.is)) bytes o
-    (told.source_is (ap source_of c.in-Import.is)) kept)
+    let own = c.run_limits-own-in-Import in
+    let same = import_same c.in-Import.run' own.result c.args.limits.now own.ensures.same own.ensures.lines
+    own.ensures.backlog bytes o in
+    rw c.in-Import.is (subst (λ (a : Answer). Did g.K.Keeper.refuses a o (g.O.Sink.written c.args.sink.now)
+    (g.O.Sink.written c.import.new.sink) (g.K.Keeper.told c.import.new.keeper) c.import.result) same
+    (c.import.ensures.does (told.right (ap crew_of c.in-Import.is)) bytes o
+    (told.source_is (ap source_of c.in-Import.is)) kept))
 
 pub returns-in-Import-clause-reads : goal.returns-in-Import-clause-reads
-returns-in-Import-clause-reads g c = λ used. rw c.in-Import.is (c.import.ensures.stops, c.import.ensures.uncompared)
+returns-in-Import-clause-reads g c = λ used.
+    let own = c.run_limits-own-in-Import in
+    rw c.in-Import.is (
+      stops_same c.in-Import.run' own.result c.args.limits.now own.ensures.same own.ensures.lines own.ensures.backlog _ _
+          _ c.import.ensures.stops,
+      uncompared_same c.in-Import.run' own.result c.args.limits.now own.ensures.same own.ensures.lines
+          own.ensures.backlog _ _ _ c.import.ensures.uncompared,
+    )
 
 pub returns-in-Import-clause-rest : goal.returns-in-Import-clause-rest
 returns-in-Import-clause-rest g c = λ bytes o changes told kept.
@@ -67,7 +113,10 @@ returns-in-Import-clause-held g c = λ o kept changes well failed room. c.import
 
 pub returns-in-Import-clause-bounded : goal.returns-in-Import-clause-bounded
 returns-in-Import-clause-bounded g c = λ o kept.
-    rw c.in-Import.is (c.import.ensures.bounded o (kept (ap keeper_of c.in-Import.is)))
+    let own = c.run_limits-own-in-Import in
+    rw c.in-Import.is (imported_same c.in-Import.run' own.result c.args.limits.now own.ensures.same own.ensures.lines
+    own.ensures.backlog _ _ (record_of o c.in-Import.run'.day)
+    (c.import.ensures.bounded o (kept (ap keeper_of c.in-Import.is))))
 
 pub returns-in-Import-clause-read : goal.returns-in-Import-clause-read
 returns-in-Import-clause-read g c =
@@ -308,11 +357,15 @@ returns-in-Rehearse-clause-does g c = λ bytes lines o told kept.
 -- the jobs that are started
 pub returns-in-Answers-clause-jobs : goal.returns-in-Answers-clause-jobs
 returns-in-Answers-clause-jobs g c = λ bytes used told.
-    rw c.in-Answers.is (c.answers.ensures.jobs bytes (told (ap source_of c.in-Answers.is)))
+    let own = c.run_limits-own in
+    rw c.in-Answers.is (jobs_same c.in-Answers.run' own.result c.args.limits.now own.ensures.same own.ensures.lines
+    own.ensures.backlog bytes _ _ _ (c.answers.ensures.jobs bytes (told (ap source_of c.in-Answers.is))))
 
 pub returns-in-Import-clause-jobs : goal.returns-in-Import-clause-jobs
 returns-in-Import-clause-jobs g c = λ bytes used told.
-    rw c.in-Import.is (c.import.ensures.jobs bytes (told (ap source_of c.in-Import.is)))
+    let own = c.run_limits-own-in-Import in
+    rw c.in-Import.is (jobs_same c.in-Import.run' own.result c.args.limits.now own.ensures.same own.ensures.lines
+    own.ensures.backlog bytes _ _ _ (c.import.ensures.jobs bytes (told (ap source_of c.in-Import.is))))
 
 pub returns-in-Compare-clause-jobs : goal.returns-in-Compare-clause-jobs
 returns-in-Compare-clause-jobs g c = λ bytes used told.
@@ -320,3 +373,33 @@ returns-in-Compare-clause-jobs g c = λ bytes used told.
 
 pub returns-in-Rehearse-clause-jobs : goal.returns-in-Rehearse-clause-jobs
 returns-in-Rehearse-clause-jobs g c = λ bytes used told. rw c.in-Rehearse.is c.rehearse.ensures.jobs
+
+-- `days`
+pub returns-in-Days-clause-wrote : goal.returns-in-Days-clause-wrote
+returns-in-Days-clause-wrote g c = λ bytes lines o told.
+    rw c.in-Days.is (c.days.ensures.wrote o (told.kept_is (ap keeper_of c.in-Days.is)))
+
+pub returns-in-Days-clause-keeps : goal.returns-in-Days-clause-keeps
+returns-in-Days-clause-keeps g c = λ bytes lines o right told kept.
+    rw c.in-Days.is (c.days.ensures.keeps o kept)
+
+pub returns-in-Days-clause-does : goal.returns-in-Days-clause-does
+returns-in-Days-clause-does g c = λ bytes lines o told kept.
+    did_unchanged _ (office_answer c.args.limits.now bytes lines o (Some c.args.command)) o _ _ _ _
+    (rw c.in-Days.is refl) (returns-in-Days-clause-wrote g c bytes lines o told)
+    (returns-in-Days-clause-keeps g c bytes lines o told.right told.source_is kept)
+
+-- `charges FROM TO`
+pub returns-in-Charges-clause-wrote : goal.returns-in-Charges-clause-wrote
+returns-in-Charges-clause-wrote g c = λ bytes lines o told.
+    rw c.in-Charges.is (c.charges.ensures.wrote o (told.kept_is (ap keeper_of c.in-Charges.is)))
+
+pub returns-in-Charges-clause-keeps : goal.returns-in-Charges-clause-keeps
+returns-in-Charges-clause-keeps g c = λ bytes lines o right told kept.
+    rw c.in-Charges.is (c.charges.ensures.keeps o kept)
+
+pub returns-in-Charges-clause-does : goal.returns-in-Charges-clause-does
+returns-in-Charges-clause-does g c = λ bytes lines o told kept.
+    did_unchanged _ (office_answer c.args.limits.now bytes lines o (Some c.args.command)) o _ _ _ _
+    (rw c.in-Charges.is refl) (returns-in-Charges-clause-wrote g c bytes lines o told)
+    (returns-in-Charges-clause-keeps g c bytes lines o told.right told.source_is kept)

@@ -7,7 +7,7 @@ use Rattle.traffic_gen.specs.declared.plan.GenPlan.{GenPlan}
 use Rattle.traffic_gen.specs.Traffic.{generated}
 use Rattle.office_commands.specs.declared.closing.Closing.TheVariants.{NoMemory}
 use Rattle.office_commands.specs.Closings.{status_of}
-use Rattle.office_commands.specs.Starts.{StartsDay}
+use Rattle.office_commands.specs.Starts.{StartsDay, backlog_of}
 use Rattle.office_commands.proofs.StartLaws.{day_weaker}
 use Rattle.office_commands.specs.Traffic.{rehearsed, rehearsed_record}
 use Rattle.office_commands.proofs.traffic.rehearse.Goals as goal
@@ -24,14 +24,14 @@ returns-in-Ok-clause-exact g c = λ right o.
 pub returns-in-Ok-clause-jobs : goal.returns-in-Ok-clause-jobs
 returns-in-Ok-clause-jobs g c =
     let ok : IsOk c.rehearse_plan.result = subst IsOk (sym c.in-Ok.is) refl in
-    subst (λ (p : GenPlan). StartsDay c.args.run DAY.backlog (generated p) (status_of c.closing_of.result ≡ 0)
+    subst (λ (p : GenPlan). StartsDay c.args.run (backlog_of c.args.run DAY) (generated p) (status_of c.closing_of.result ≡ 0)
     (g.C.Crew.jobs c.args.crew.now) (g.C.Crew.jobs c.rehearse_plan.new.crew)) c.plan_for-plan.ensures.plan
-    (day_weaker c.args.run DAY.backlog (generated c.plan_for-plan.result) (IsOk c.rehearse_plan.result)
+    (day_weaker c.args.run (backlog_of c.args.run DAY) (generated c.plan_for-plan.result) (IsOk c.rehearse_plan.result)
     (status_of c.closing_of.result ≡ 0) _ _ (λ zero. ok) c.rehearse_plan.ensures.jobs)
 
 pub returns-in-Err-clause-jobs : goal.returns-in-Err-clause-jobs
 returns-in-Err-clause-jobs g c =
-    subst (λ (p : GenPlan). StartsDay c.args.run DAY.backlog (generated p) (status_of NoMemory ≡ 0)
+    subst (λ (p : GenPlan). StartsDay c.args.run (backlog_of c.args.run DAY) (generated p) (status_of NoMemory ≡ 0)
     (g.C.Crew.jobs c.args.crew.now) (g.C.Crew.jobs c.rehearse_plan.new.crew)) c.plan_for-plan.ensures.plan
-    (day_weaker c.args.run DAY.backlog (generated c.plan_for-plan.result) (IsOk c.rehearse_plan.result)
+    (day_weaker c.args.run (backlog_of c.args.run DAY) (generated c.plan_for-plan.result) (IsOk c.rehearse_plan.result)
     (status_of NoMemory ≡ 0) _ _ (λ zero. absurd (omega (arith, zero))) c.rehearse_plan.ensures.jobs)

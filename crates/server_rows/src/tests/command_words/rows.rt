@@ -2,9 +2,9 @@
 use import_plan::Plan;
 use office_words::{Command, Comparison, DayRun, Recomputing, Size, WordFault};
 
-/// A day's work by so many workers, in turns or none.
-macro_rules! run {
-    ($day:expr, $late:expr, $width:expr, $turns:expr) => {
+/// A day's work by so many workers, in turns or none, where so many tuples may wait.
+macro_rules! waiting {
+    ($day:expr, $late:expr, $width:expr, $turns:expr, $backlog:expr) => {
         DayRun {
             day: $day,
             late: $late,
@@ -12,7 +12,15 @@ macro_rules! run {
                 width: $width,
                 turns: $turns,
             },
+            backlog: $backlog,
         }
+    };
+}
+
+/// The same, where as many may wait as ever.
+macro_rules! run {
+    ($day:expr, $late:expr, $width:expr, $turns:expr) => {
+        waiting!($day, $late, $width, $turns, 65_536)
     };
 }
 
@@ -87,7 +95,7 @@ pub const NO_COMMANDS: [&[&str]; 15] = [
 ];
 
 /// Words of the commands on kept state.
-pub const ON_KEPT_STATE: [Row; 9] = [
+pub const ON_KEPT_STATE: [Row; 11] = [
     (
         &["import", "100"],
         Ok(Command::Import(run!(100, 0, 1, None))),
@@ -121,10 +129,18 @@ pub const ON_KEPT_STATE: [Row; 9] = [
         }),
     ),
     (&["tariffs"], Ok(Command::Tariffs)),
+    (&["days"], Ok(Command::Days)),
+    (
+        &["charges", "--", "1", "1000000"],
+        Ok(Command::Charges {
+            from: 1,
+            to: 1_000_000,
+        }),
+    ),
 ];
 
 /// And such of no stated form.
-pub const NOT_ON_KEPT_STATE: [&[&str]; 15] = [
+pub const NOT_ON_KEPT_STATE: [&[&str]; 21] = [
     &["import"],
     &["past"],
     &["past", "69"],
@@ -140,10 +156,16 @@ pub const NOT_ON_KEPT_STATE: [&[&str]; 15] = [
     &["tariff", "0", "500001", "40", "2"],
     &["tariff", "0", "50", "40", "21"],
     &["tariffs", "0"],
+    &["days", "100"],
+    &["charges"],
+    &["charges", "100"],
+    &["charges", "0", "100"],
+    &["charges", "101", "100"],
+    &["charges", "100", "1000001"],
 ];
 
 /// Words of the commands on made traffic.
-pub const ON_TRAFFIC: [Row; 3] = [
+pub const ON_TRAFFIC: [Row; 4] = [
     (
         &["generate", "1"],
         Ok(Command::Generate {
@@ -195,6 +217,19 @@ pub const ON_TRAFFIC: [Row; 3] = [
             run: run!(100, 0, 1, None),
         }),
     ),
+    (
+        &["rehearse", "--backlog", "7", "1"],
+        Ok(Command::Rehearse {
+            seed: 1,
+            size: Size {
+                vehicles: 1000,
+                minutes: 60,
+                xways: 1,
+                crashes: 0,
+            },
+            run: waiting!(100, 0, 1, None, 7),
+        }),
+    ),
 ];
 
 /// And such of no stated form.
@@ -214,7 +249,7 @@ pub const NOT_ON_TRAFFIC: [&[&str]; 12] = [
 ];
 
 /// Words by how many workers, and in which turns.
-pub const ON_WORKERS: [Row; 8] = [
+pub const ON_WORKERS: [Row; 11] = [
     (
         &["answers", "100", "--workers", "3"],
         Ok(Command::Answers(run!(100, 0, 3, None))),
@@ -247,10 +282,22 @@ pub const ON_WORKERS: [Row; 8] = [
         &["import", "--turns", "5", "100", "--late=9", "--workers=3"],
         Ok(Command::Import(run!(100, 9, 3, Some(5)))),
     ),
+    (
+        &["answers", "100", "--backlog", "1"],
+        Ok(Command::Answers(waiting!(100, 0, 1, None, 1))),
+    ),
+    (
+        &["import", "--backlog=65536", "100", "--workers=2"],
+        Ok(Command::Import(waiting!(100, 0, 2, None, 65_536))),
+    ),
+    (
+        &["answers", "100", "--backlog=00100", "--turns", "1"],
+        Ok(Command::Answers(waiting!(100, 0, 1, Some(1), 100))),
+    ),
 ];
 
 /// And such of no stated form.
-pub const NOT_ON_WORKERS: [&[&str]; 15] = [
+pub const NOT_ON_WORKERS: [&[&str]; 21] = [
     &["import", "100", "--workers", "0"],
     &["import", "100", "--workers", "65"],
     &["import", "100", "--workers", "2", "--workers", "2"],
@@ -266,6 +313,12 @@ pub const NOT_ON_WORKERS: [&[&str]; 15] = [
     &["validate", "100", "--turns", "1"],
     &["accidents", "--workers", "1"],
     &["past", "100", "--workers", "1"],
+    &["answers", "100", "--backlog", "0"],
+    &["answers", "100", "--backlog", "65537"],
+    &["import", "100", "--backlog"],
+    &["import", "100", "--backlog=2", "--backlog=2"],
+    &["validate", "100", "--backlog", "1"],
+    &["audit", "100", "--backlog", "1"],
 ];
 
 /// Words of a day that is recomputed.
