@@ -201,17 +201,17 @@ named_by_route path p is = by (bytes_eq path (codes "/live")) refl (begins_with 
         subst (λ q. place_by (route_of q) path ≡ Some q) (place_inj _ _ e)
         (cond-true (bytes_eq path (codes "/live")) (Some TotalPlace) None a)
     by false a true b w c x d y f z g t h e =
-        subst (λ r. place_by r path ≡ Some p) (sym (day_route p _ e))
-        (cond-true (begins_with path (codes "/days/")) _ _ b ∙ e)
+        subst (λ r. place_by r path ≡ Some p) (sym (day_route p (number_in 70 1000000 (drop 6 path)) e))
+        (cond-true (begins_with path (codes "/days/")) (day_place (number_in 70 1000000 (drop 6 path))) None b ∙ e)
     by false a false b true c x d y f z g t h e =
-        subst (λ r. place_by r path ≡ Some p) (sym (live_route p _ e))
-        (cond-true (begins_with path (codes "/live/")) _ _ c ∙ e)
+        subst (λ r. place_by r path ≡ Some p) (sym (live_route p (number_in 0 2147483647 (drop 6 path)) e))
+        (cond-true (begins_with path (codes "/live/")) (live_place (number_in 0 2147483647 (drop 6 path))) None c ∙ e)
     by false a false b false c true d y f z g t h e =
-        subst (λ r. place_by r path ≡ Some p) (sym (spent_route p _ e))
-        (cond-true (begins_with path (codes "/spent/")) _ _ d ∙ e)
+        subst (λ r. place_by r path ≡ Some p) (sym (spent_route p (parts_of (drop 7 path)) e))
+        (cond-true (begins_with path (codes "/spent/")) (spent_path (parts_of (drop 7 path))) None d ∙ e)
     by false a false b false c false d true f z g t h e =
-        subst (λ r. place_by r path ≡ Some p) (sym (vehicle_route p _ e))
-        (cond-true (begins_with path (codes "/vehicles/")) _ _ f ∙ e)
+        subst (λ r. place_by r path ≡ Some p) (sym (vehicle_route p (parts_of (drop 10 path)) e))
+        (cond-true (begins_with path (codes "/vehicles/")) (vehicle_path (parts_of (drop 10 path))) None f ∙ e)
     by false a false b false c false d false f true g t h e =
         subst (λ q. place_by (route_of q) path ≡ Some q) (place_inj _ _ e)
         (cond-true (bytes_eq path (codes "/days")) (Some DaysPlace) None g)
@@ -252,7 +252,7 @@ named_at_all OfDays path p e = by_path (codes "/days") path _ p refl e
 named_at_all OfPage path p e = by_path (codes "/") path _ p refl e
 
 -- the route of a number
-route_at : ℕ → Route
+abbrev route_at : ℕ → Route
 route_at zero = OfDay
 route_at (suc zero) = OfLive
 route_at (suc (suc zero)) = OfTotal
