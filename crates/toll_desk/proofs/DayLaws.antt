@@ -12,7 +12,7 @@ use Rattle.keeper.specs.declared.kept.DayRecord.{DayRecord}
 use Rattle.keeper.specs.declared.kept.PastRecord.{PastRecord}
 use Rattle.keeper.specs.declared.kept.KeepFault.{KeepFault}
 use Rattle.keeper.specs.declared.kept.KeepFault.TheVariants.{Failed, NoMemory}
-use Rattle.keeper.specs.Calls.{CountsFaults}
+use Rattle.keeper.specs.Calls.{CountsFaults, SoundIfTold}
 use Rattle.keeper.specs.Office.{Office, greatest_day, last_from, IsSound}
 use Rattle.toll_desk.specs.Days.{first_day, days_below, as_list}
 
@@ -137,3 +137,19 @@ pub risen_failed : {T : Type 0} (before now : ℕ) (fault : KeepFault) → Count
     before < now → fault ≡ Failed
 risen_failed before now Failed h less = refl
 risen_failed before now NoMemory h less = absurd (omega (arith, h.still refl, less))
+
+-- so does one after which a result is made that is no failure of the keeper
+pub counts_quiet : {S T : Type 0} (before now : ℕ) (x : S) (r : Result T KeepFault) →
+    CountsFaults {T = S} before now (Ok x) → (r ≡ Err Failed → ⊥) → CountsFaults before now r
+counts_quiet before now x (Ok y) h quiet = counts_ok before now x y h
+counts_quiet before now x (Err Failed) h quiet = absurd (quiet refl)
+counts_quiet before now x (Err NoMemory) h quiet = counts_memory before now x h
+
+-- where the count stands, something was answered
+pub counts_still : {T : Type 0} (before now : ℕ) (x : T) → now ≡ before → CountsFaults {T = T} before now (Ok x)
+counts_still before now x e = record { later = omega (arith, e); failed = λ f. absurd (cc f); still = λ f. e }
+
+-- an office that is told is sound, where what is told is
+pub sound_is : (told : Option Office) (o : Office) → told ≡ Some o → SoundIfTold told → IsSound o
+sound_is None o e h = absurd (cc e)
+sound_is (Some p) o e h = (let same : p ≡ o = cc e in subst (λ q. IsSound q) same h)

@@ -1,12 +1,23 @@
 // All kept days, by the calls of a keeper.
-ghost use Rattle.std.specs.Prelude.{◌≡◌, ◌≤◌, ◌++◌, Some, IfOk, OnOk};
+ghost use Rattle.std.specs.Prelude.{◌≡◌, ◌≢◌, ◌≤◌, ◌++◌, Some, Err, IfOk, OnOk};
 ghost use Rattle.std.specs.List.{AllByRecursion};
 ghost use Rattle.keeper.specs.Calls.{SoundIfTold, CountsFaults};
 ghost use Rattle.keeper.specs.Office.{Office, record_of};
+ghost use Rattle.keeper.specs.declared.kept.KeepFault.TheVariants.{Failed};
 ghost use Rattle.toll_desk.specs.Days.{first_day as first_of_past, as_list};
 
-use keeper::{DayRecord, KeepFault, Keeper};
+use keeper::{DayRecord, KeepFault, Keeper, PastRecord};
 use std::alloc::Global;
+
+/// The first day that may be kept, by the record of a history.
+fn first_of(past: Option<PastRecord>) -> u32
+    ensures { result ≡ first_of_past past }
+{
+    match past {
+        Some(past) => past.base,
+        None => 1,
+    }
+}
 
 /// The first day that may be kept: the base of the history, else 1.
 fn first_day<K: Keeper>(keeper: &mut K) -> Result<u32, KeepFault>
@@ -16,9 +27,22 @@ fn first_day<K: Keeper>(keeper: &mut K) -> Result<u32, KeepFault>
     ensures cause { CountsFaults (K.faults keeper.old) (K.faults keeper.new) result }
 {
     match keeper.past() {
-        Ok(Some(past)) => Ok(past.base),
-        Ok(None) => Ok(1),
+        Ok(past) => Ok(first_of(past)),
         Err(fault) => Err(fault),
+    }
+}
+
+/// Adds a record, if there is one.
+fn add(kept: Option<DayRecord>, days: &mut Vec<DayRecord>) -> Result<(), KeepFault>
+    ensures added { OnOk result (days.new.items ≡ days.old.items ++ as_list kept) }
+    ensures memory { result ≢ Err Failed }
+{
+    match kept {
+        Some(kept) => match days.push(kept) {
+            Ok(()) => Ok(()),
+            Err(_) => Err(KeepFault::NoMemory),
+        },
+        None => Ok(()),
     }
 }
 
@@ -35,11 +59,7 @@ fn add_day<K: Keeper>(
     ensures cause { CountsFaults (K.faults keeper.old) (K.faults keeper.new) result }
 {
     match keeper.day(day) {
-        Ok(Some(kept)) => match days.push(kept) {
-            Ok(()) => Ok(()),
-            Err(_) => Err(KeepFault::NoMemory),
-        },
-        Ok(None) => Ok(()),
+        Ok(kept) => add(kept, days),
         Err(fault) => Err(fault),
     }
 }
@@ -67,6 +87,23 @@ fn days_from<K: Keeper>(
     Ok(days)
 }
 
+/// The records of the kept days up to one, in the order of days.
+fn days_to<K: Keeper>(
+    alloc: Global,
+    last: u32,
+    keeper: &mut K,
+) -> Result<Vec<DayRecord>, KeepFault>
+    ensures told { (o : Office) → K.told keeper.old ≡ Some o → K.told keeper.new ≡ Some o }
+    ensures found { (o : Office) → K.told keeper.old ≡ Some o → AllByRecursion (λ r. r.day ≤ last) o.days
+        → IfOk result (λ days. days.items ≡ o.days) }
+    ensures cause { CountsFaults (K.faults keeper.old) (K.faults keeper.new) result }
+{
+    match first_day(keeper) {
+        Ok(first) => days_from(alloc, first, last, keeper),
+        Err(fault) => Err(fault),
+    }
+}
+
 /// The records of all kept days, in the order of days: each day up to the last that is kept is looked for.
 pub fn kept_days<K: Keeper>(
     alloc: Global,
@@ -76,13 +113,8 @@ pub fn kept_days<K: Keeper>(
     ensures found { (o : Office) → K.told keeper.old ≡ Some o → IfOk result (λ days. days.items ≡ o.days) }
     ensures cause { CountsFaults (K.faults keeper.old) (K.faults keeper.new) result }
 {
-    let last = match keeper.last_day() {
-        Ok(last) => last,
-        Err(fault) => return Err(fault),
-    };
-    let first = match first_day(keeper) {
-        Ok(first) => first,
-        Err(fault) => return Err(fault),
-    };
-    days_from(alloc, first, last, keeper)
+    match keeper.last_day() {
+        Ok(last) => days_to(alloc, last, keeper),
+        Err(fault) => Err(fault),
+    }
 }

@@ -8,11 +8,11 @@ use Rattle.toll_texts.specs.declared.page.style.TheConstants.{STYLE}
 
 -- the page, up to its script
 unfoldable pub page_front : List ℕ
-page_front = FRONT ++ (STYLE ++ BODY)
+page_front = FRONT.now ++ (STYLE.now ++ BODY.now)
 
 -- the page: the constants of the program, one behind the other
 unfoldable pub whole_page : List ℕ
-whole_page = page_front ++ (ASKING ++ (SHOWING ++ END))
+whole_page = page_front ++ (ASKING.now ++ (SHOWING.now ++ END.now))
 
 -- the answer that has a page: its status line, three fields, an empty line and the page
 abbrev pub page_reply : List ℕ → List ℕ

@@ -25,7 +25,7 @@ fn page_front(alloc: Global) -> Result<String, NoMemory>
 
 /// The page.
 fn whole_page(alloc: Global) -> Result<String, NoMemory>
-    ensures { IfOk result (λ s. string_bytes s ≡ pages.page) }
+    ensures { IfOk result (λ s. string_bytes s ≡ pages.whole_page) }
 {
     let front = page_front(alloc)?;
     Ok(format!(in alloc; "{front}{ASKING}{SHOWING}{END}")?)

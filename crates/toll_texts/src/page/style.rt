@@ -56,6 +56,7 @@ input { width: 9rem; } input, button { font: inherit; padding: .3rem .6rem; colo
 p { margin: 0 0 .6rem; } .soft { color: var(--soft); } [hidden] { display: none; }
 @media (max-width: 48rem) {
   main { grid-template-columns: minmax(0, 1fr); padding: .6rem; } svg { height: 10rem; }
-  dd { font-size: 1.2rem; } dl { gap: .4rem 1.2rem; } td.bar { width: 25%; min-width: 4rem; }
+  dd { font-size: 1.2rem; } dl { gap: .4rem 1.2rem; } td.bar { width: 25%; min-width: 3rem; }
+  #days th:nth-child(3), #days td:nth-child(3) { display: none; }
 }
 ";
