@@ -5,7 +5,8 @@
 
 Without `--server` the page is served by a small stand-in in this script, which answers `/`, `/live`, `/live/{vid}` and
 `/days` as the server does; the page is taken from the constants of `crates/toll_texts/src/page`. Pictures are made of an
-empty office, of a day that is going on, of ten kept days, of a server that has stopped, in the dark and on a narrow window.
+empty office, of a day that is going on (also in the dark and on a narrow window), of ten kept days, of a database that
+cannot be read, and of a server that has stopped.
 With `--server` one picture is made of what that server shows. Needs `chromium` (`apt-get install chromium`). The script ends
 with status 1 if the page does not show what the stand-in told, in the page as Chromium has built it.
 """
@@ -50,9 +51,13 @@ class Office:
         self.asked += 1
         if self.state == "empty":
             return {"as_of": 0, "day": 0, "total": 0}
-        if self.state == "going":
+        if self.state in ("going", "lost"):
             return {"as_of": 2400 * self.asked, "day": 111, "total": int(180 * self.asked ** 1.4)}
         return {"as_of": 1203456, "day": 110, "total": 9876543210}
+
+    def is_lost(self):
+        """Whether nothing is answered any more."""
+        return self.state == "lost" and self.asked >= 10
 
     def account(self, vid):
         self.asked -= 1
@@ -74,6 +79,10 @@ def handler_of(office, page):
             path = self.path.split("?")[0]
             if path == "/":
                 self.answer(200, page, "text/html; charset=utf-8")
+            elif office.is_lost():
+                self.close_connection = True
+            elif office.state == "broken" and path == "/days":
+                self.answer(503, {"error": "keeper"})
             elif path == "/live":
                 self.answer(200, office.live())
             elif path.startswith("/live/"):
@@ -147,16 +156,18 @@ def main():
         sys.exit(f"the page has {len(page)} bytes, or others than ASCII")
     print(f"the page has {len(page)} bytes")
     states = [("empty", ["No day has been imported", "None is kept."]), ("going", ["<dd id=\"day\">111</dd>"]),
-              ("kept", ["1 203 456", "9 876 543 210", "<td>105</td>"])]
+              ("kept", ["1 203 456", "9 876 543 210", "<td>105</td>"]),
+              ("broken", ["cannot read its database"]), ("lost", ["The server does not answer.", "<td>105</td>"])]
     for state, wanted in states:
         office = Office(state)
         server = http.server.ThreadingHTTPServer(("127.0.0.1", 0), handler_of(office, page))
         threading.Thread(target=server.serve_forever, daemon=True).start()
         url = f"http://127.0.0.1:{server.server_port}/"
-        text = shown(asked.chromium, url, 8)
+        text = shown(asked.chromium, url, 20)
         for each in wanted:
             expect(state, text, each)
-        picture(asked.chromium, url, out / f"page_{state}.png", wide, False, 30 if state == "going" else 6)
+        office.asked = 0
+        picture(asked.chromium, url, out / f"page_{state}.png", wide, False, 30 if state in ("going", "lost") else 6)
         if state == "going":
             picture(asked.chromium, url, out / "page_dark.png", wide, True, 30)
             picture(asked.chromium, url, out / "page_narrow.png", narrow, False, 30)
