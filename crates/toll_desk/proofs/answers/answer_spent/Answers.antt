@@ -10,10 +10,13 @@ pub returns-in-Ok-clause-sent : goal.returns-in-Ok-clause-sent
 returns-in-Ok-clause-sent g c = λ o told.
     let found = kept_is _ _ o c.in-Ok.amount (λ o tolls. tolls ≡ paid o.rows c.args.day c.args.vid c.args.xway) told
     c.in-Ok.ensures.state in
-    inl (c.in-Ok.ensures.cause.still refl, subst
-    (λ n. AnswersReply (good (spent_body n)) (g.L.Link.room c.args.link.now) (g.L.Link.written c.args.link.now)
-    (g.L.Link.written c.send_made.new.link) c.send_made.result) found
-    (c.send_made.ensures.sent (spent_body c.in-Ok.amount) c.spent_body.ensures))
+    inl (
+      c.in-Ok.ensures.cause.still refl,
+      subst
+          (λ n. AnswersReply (good (spent_body n)) (g.L.Link.room c.args.link.now) (g.L.Link.written c.args.link.now)
+          (g.L.Link.written c.send_made.new.link) c.send_made.result) found
+          (c.send_made.ensures.sent (spent_body c.in-Ok.amount) c.spent_body.ensures),
+    )
 
 pub returns-in-Ok-clause-unavailable : goal.returns-in-Ok-clause-unavailable
 returns-in-Ok-clause-unavailable g c =

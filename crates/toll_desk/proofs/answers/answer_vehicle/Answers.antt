@@ -13,11 +13,14 @@ returns-in-Ok-clause-sent g c = λ o told.
     let to = c.args.to in
     let found = kept_is _ _ o c.in-Ok.rows (λ o rows. rows.items ≡ vehicle_rows_between o vid from to) told
     c.in-Ok.ensures.state in
-    inl (c.in-Ok.ensures.cause.still refl, subst
-    (λ rows. AnswersReply (good (vehicle_body vid from to rows)) (g.L.Link.room c.args.link.now)
-    (g.L.Link.written c.args.link.now) (g.L.Link.written c.send_made.new.link) c.send_made.result)
-    (c.as_slice.ensures.value ∙ found)
-    (c.send_made.ensures.sent (vehicle_body vid from to c.as_slice.result.now) c.vehicle_body-body.ensures))
+    inl (
+      c.in-Ok.ensures.cause.still refl,
+      subst
+          (λ rows. AnswersReply (good (vehicle_body vid from to rows)) (g.L.Link.room c.args.link.now)
+          (g.L.Link.written c.args.link.now) (g.L.Link.written c.send_made.new.link) c.send_made.result)
+          (c.as_slice.ensures.value ∙ found)
+          (c.send_made.ensures.sent (vehicle_body vid from to c.as_slice.result.now) c.vehicle_body-body.ensures),
+    )
 
 pub returns-in-Ok-clause-unavailable : goal.returns-in-Ok-clause-unavailable
 returns-in-Ok-clause-unavailable g c =

@@ -20,10 +20,11 @@ pub returns-in-None-clause-sent : goal.returns-in-None-clause-sent
 returns-in-None-clause-sent g c =
     let old = g.L.Link.written c.args.link.now in
     let new = g.L.Link.written c.send_bytes.new.link in
-    subst (λ k. AnswersReply (day_reply k) (g.L.Link.room c.args.link.now) old new c.send_bytes.result) (sym c.in-None.is)
-    (inl (subst (λ t. Sends 404 t old new c.send_bytes.result) c.no_day_text.ensures c.send_bytes.ensures.sent),
-    λ has. c.send_bytes.ensures.sure
-    (subst (λ t. HasRoom (g.L.Link.room c.args.link.now) (length t)) (sym c.no_day_text.ensures) has.0))
+    subst (λ k. AnswersReply (day_reply k) (g.L.Link.room c.args.link.now) old new c.send_bytes.result) (sym c.in-None.is) (
+      inl (subst (λ t. Sends 404 t old new c.send_bytes.result) c.no_day_text.ensures c.send_bytes.ensures.sent),
+      λ has. c.send_bytes.ensures.sure
+          (subst (λ t. HasRoom (g.L.Link.room c.args.link.now) (length t)) (sym c.no_day_text.ensures) has.0),
+    )
 
 pub returns-in-None-clause-unavailable : goal.returns-in-None-clause-unavailable
 returns-in-None-clause-unavailable g c = λ is. not_sent_503 404 _ _ _ _ c.send_bytes.ensures.sent

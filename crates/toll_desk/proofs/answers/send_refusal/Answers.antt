@@ -10,8 +10,10 @@ returns-in-Failed-clause-sent g c =
 
 pub returns-in-NoMemory-clause-sent : goal.returns-in-NoMemory-clause-sent
 returns-in-NoMemory-clause-sent g c = λ reply before now rose still.
-    inl (still c.in-NoMemory.is,
-    memory_answers reply _ _ _ _ c.send_no_memory.ensures.sent c.send_no_memory.ensures.sure)
+    inl (
+      still c.in-NoMemory.is,
+      memory_answers reply _ _ _ _ c.send_no_memory.ensures.sent c.send_no_memory.ensures.sure,
+    )
 
 pub returns-in-NoMemory-clause-unavailable : goal.returns-in-NoMemory-clause-unavailable
 returns-in-NoMemory-clause-unavailable g c =

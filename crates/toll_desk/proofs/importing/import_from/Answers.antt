@@ -24,4 +24,6 @@ returns-clause-stored g c = λ all kept is stored cut.
     omega (arith, none, off.0, c.drain-end.ensures.fewer)
 
 pub returns-clause-posted : goal.returns-clause-posted
-returns-clause-posted g c = λ kept is. not_answered c.import-outcome.result kept c.import-outcome.ensures.alone is
+returns-clause-posted g c = λ kept is.
+    let i = c.import-outcome in
+    not_answered i.result kept (alone_as i.result (λ _. tt) (λ _. tt) i.ensures.alone) is

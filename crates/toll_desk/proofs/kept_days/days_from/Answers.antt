@@ -1,9 +1,8 @@
-use Rattle.std.proofs.Common.{◌≡◌, ◌≤◌, ◌<◌, ◌++◌, Err, refl, sym, ap, subst, ◌∙◌, arith}
+use Rattle.std.proofs.Common.{◌≡◌, ◌≤◌, ◌<◌, ◌++◌, refl, sym, ap, ◌∙◌, arith}
 use Rattle.road_time.proofs.EachLaws.{weakened}
-use Rattle.keeper.specs.Calls.{CountsFaults}
 use Rattle.keeper.specs.Office.{record_of}
 use Rattle.toll_desk.specs.Days.{as_list}
-use Rattle.toll_desk.proofs.DayLaws.{below_none, below_all, below_more, counts_still, counts_err, sound_is}
+use Rattle.toll_desk.proofs.DayLaws.{below_none, below_all, below_more, counts_still, counts_later, sound_is}
 use Rattle.toll_desk.proofs.kept_days.days_from.Goals as goal
 
 pub loop-day-init : goal.loop-day-init
@@ -11,7 +10,7 @@ loop-day-init g c = record {
   few = omega (arith, c.from-day.ensures, c.ranges.first.fits);
   told = λ o told. told;
   found = λ o told first.
-      sym (below_none c.from-day.result o.days
+      c.new-days.ensures.items ∙ sym (below_none c.from-day.result o.days
       (weakened (λ r. c.args.first ≤ r.day) (λ r. c.from-day.result ≤ r.day) (λ r h. omega (arith, h, c.from-day.ensures))
       o.days first));
   still = refl;
@@ -44,6 +43,4 @@ returns-clause-cause g c = counts_still _ _ c.loop-day.days c.loop-day.invariant
 
 pub returns-in-Err-clause-cause : goal.returns-in-Err-clause-cause
 returns-in-Err-clause-cause g c =
-    let after = g.K.Keeper.faults c.add_day.new.keeper in
-    subst (λ before. CountsFaults before after (Err c.in-Err.fault)) c.loop-day.invariant.still
-    (counts_err _ _ c.in-Err.fault c.in-Err.ensures.cause)
+    counts_later _ _ _ c.in-Err.fault c.loop-day.invariant.still c.in-Err.ensures.cause
