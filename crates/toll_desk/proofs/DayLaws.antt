@@ -5,7 +5,7 @@ use Rattle.std.specs.List.{AllByRecursion, find}
 use Rattle.std.specs.List.Sorted.{IsStrictlySortedBy}
 use Rattle.std.specs.Ordering.{nat_cmp}
 use Rattle.std.specs.declared.cmp.Ordering.TheVariants.{Less}
-use Rattle.std.proofs.lemmas.Bool.{lt-ltb, ne_eqb, eqb-true, cond-true, cond-false}
+use Rattle.std.proofs.lemmas.Bool.{lt-ltb, ltb-true, ltb-false, ne_eqb, eqb-true, cond-true, cond-false}
 use Rattle.std.proofs.lemmas.Cmp.{ranked}
 use Rattle.road_time.proofs.EachLaws.{weakened}
 use Rattle.keeper.specs.declared.kept.DayRecord.{DayRecord}
@@ -59,9 +59,9 @@ below_more n (r ∷ rs) h = by (nat_lt r.day n) refl (r.day == n) refl (below_mo
         days_below n rs ++ as_list (find (λ r. r.day == n) rs) ≡ days_below (n + 1) rs →
         cond u (r ∷ days_below n rs) (days_below n rs) ++ as_list (cond v (Some r) (find (λ r. r.day == n) rs))
         ≡ days_below (n + 1) (r ∷ rs)
-    by true a true b more = absurd (omega (arith, a, eqb-true r.day n b))
+    by true a true b more = absurd (omega (arith, ltb-true r.day n a, eqb-true r.day n b))
     by true a false b more =
-        let low : r.day < n + 1 = omega (arith, a) in
+        let low : r.day < n + 1 = omega (arith, ltb-true r.day n a) in
         ap (λ l. r ∷ l) more ∙ sym (cond-true (nat_lt r.day (n + 1)) _ _ (lt-ltb r.day (n + 1) low))
     by false a true b more =
         let same = eqb-true r.day n b in
@@ -74,9 +74,10 @@ below_more n (r ∷ rs) h = by (nat_lt r.day n) refl (r.day == n) refl (below_mo
         (cond-true (nat_lt r.day (n + 1)) _ _ (lt-ltb r.day (n + 1) low)
         ∙ ap (λ l. r ∷ l) (below_none (n + 1) rs after))
     by false a false b more =
+        let least : n ≤ r.day = ltb-false r.day n a in
         let high : nat_lt r.day (n + 1) ≡ false = grind (arith, a, b) in
         let after : AllByRecursion (λ s. n + 1 ≤ s.day) rs =
-        weakened (λ s. r.day + 1 ≤ s.day) (λ s. n + 1 ≤ s.day) (λ s k. omega (arith, k, a)) rs (later r.day rs h.0) in
+        weakened (λ s. r.day + 1 ≤ s.day) (λ s. n + 1 ≤ s.day) (λ s k. omega (arith, k, least)) rs (later r.day rs h.0) in
         ap (λ l. l ++ as_list (find (λ r. r.day == n) rs))
         (below_none n rs (weakened (λ s. n + 1 ≤ s.day) (λ s. n ≤ s.day) (λ s k. omega (arith, k)) rs after))
         ∙ ap as_list (find_none n rs after)

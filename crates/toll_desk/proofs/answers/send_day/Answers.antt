@@ -1,4 +1,4 @@
-use Rattle.std.proofs.Common.{◌≡◌, None, inl, length, sym, subst, arith}
+use Rattle.std.proofs.Common.{◌≡◌, inl, length, sym, subst, arith}
 use Rattle.toll_texts.specs.Bodies.{day_body}
 use Rattle.toll_desk.specs.Answers.{AnswersReply, day_reply}
 use Rattle.toll_requests.specs.Sends.{Sends, HasRoom}

@@ -1,7 +1,5 @@
 use Rattle.std.proofs.Common.{length, sym, subst}
-use Rattle.toll_texts.specs.Replies.{reply_bytes}
 use Rattle.toll_requests.specs.Sends.{Sends, HasRoom}
-use Rattle.toll_desk.specs.Answers.{keeper_reply}
 use Rattle.toll_desk.proofs.SendLaws.{endless_room, fault_told}
 use Rattle.toll_desk.proofs.answers.send_keeper_fault.Goals as goal
 

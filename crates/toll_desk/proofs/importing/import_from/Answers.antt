@@ -1,4 +1,4 @@
-use Rattle.std.proofs.Common.{subst, sym, ap, ◌∙◌, arith}
+use Rattle.std.proofs.Common.{subst, ap, ◌∙◌, arith}
 use Rattle.toll_requests.specs.Bodies.{EndsBody}
 use Rattle.toll_requests.proofs.BodyLaws.{body_told, none_left}
 use Rattle.toll_desk.proofs.ImportLaws.{alone_as, not_answered}
