@@ -1,5 +1,6 @@
 -- Laws of a day that is imported from a body.
-use Rattle.std.proofs.Common.{◌≡◌, ℕ, ◌≤◌, List, [], ◌∷◌, length, take, zero, suc, refl, ap, arith}
+use Rattle.std.proofs.Common.{◌≡◌, ℕ, ◌≤◌, List, [], ◌∷◌, length, take, zero, suc, refl, ap, subst, arith}
+use Rattle.keeper.specs.declared.kept.DayRecord.{DayRecord}
 use Rattle.import_once.specs.declared.outcomes.Outcome.{Outcome}
 use Rattle.import_once.specs.declared.outcomes.Outcome.TheVariants.{Stored, Already, Answered, Refused, DayPassed}
 use Rattle.import_once.specs.declared.outcomes.Outcome.TheVariants.{Differs, ReadFault, WriteFault, KeeperFault}
@@ -26,3 +27,21 @@ alone_as ReadFault f g h = tt
 alone_as WriteFault f g h = tt
 alone_as KeeperFault f g h = tt
 alone_as NoMemory f g h = tt
+
+-- an outcome that cannot be another is that the keeper failed
+pub keeper_failed : (outcome : Outcome) → ((outcome ≡ KeeperFault → ⊥) → ⊥) → outcome ≡ KeeperFault
+keeper_failed (Stored kept) h = absurd (h (λ e. cc e))
+keeper_failed (Already kept) h = absurd (h (λ e. cc e))
+keeper_failed (Answered kept) h = absurd (h (λ e. cc e))
+keeper_failed (Refused line cause) h = absurd (h (λ e. cc e))
+keeper_failed (DayPassed last) h = absurd (h (λ e. cc e))
+keeper_failed (Differs kept found) h = absurd (h (λ e. cc e))
+keeper_failed ReadFault h = absurd (h (λ e. cc e))
+keeper_failed WriteFault h = absurd (h (λ e. cc e))
+keeper_failed KeeperFault h = refl
+keeper_failed NoMemory h = absurd (h (λ e. cc e))
+
+-- an import that leaves what it should alone answered no day
+pub not_answered : (outcome : Outcome) (kept : DayRecord) → LeavesAlone outcome (Unit {0}) (Unit {0}) →
+    outcome ≡ Answered kept → ⊥
+not_answered outcome kept h e = subst (λ o. LeavesAlone o (Unit {0}) (Unit {0})) e h

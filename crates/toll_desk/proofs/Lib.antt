@@ -1,3 +1,4 @@
 pub mod SendLaws
+pub mod DayLaws
 pub mod ImportLaws
 pub mod LiveLaws

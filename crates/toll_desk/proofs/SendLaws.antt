@@ -1,20 +1,39 @@
 -- Laws of what is sent.
-use Rattle.std.proofs.Common.{◌≡◌, ◌≢◌, ℕ, inr, List, Option, Some, None, Ok, sym, subst, Err, refl}
+use Rattle.std.proofs.Common.{◌≡◌, ◌≢◌, ◌<◌, ℕ, inr, List, Option, Some, None, Ok, sym, subst, Err, refl, arith}
 use Rattle.road_io.specs.Rooms.{Room, Endless}
 use Rattle.keeper.specs.declared.kept.KeepFault.{KeepFault}
 use Rattle.keeper.specs.Calls.{Reads, CountsFaults}
 use Rattle.keeper.specs.Office.{Office}
 use Rattle.toll_texts.specs.Replies.{Reply, no_memory_reply}
-use Rattle.toll_requests.specs.Sends.{SendsReply, HasRoomFor}
+use Rattle.toll_requests.specs.Sends.{Sends, SendsReply, HasRoom, HasRoomFor, HasRoomForPage}
 use Rattle.toll_requests.specs.declared.session_end.SessionEnd.{SessionEnd}
-use Rattle.toll_requests.specs.declared.session_end.SessionEnd.TheVariants.{LinkFault}
-use Rattle.toll_desk.specs.Answers.{AnswersReply}
+use Rattle.toll_requests.specs.declared.session_end.SessionEnd.TheVariants.{Answered, Cut, LinkFault}
+use Rattle.toll_desk.specs.Answers.{AnswersReply, TellsFault}
 use Rattle.road_io.specs.Faults.{Rose}
 use Rattle.keeper.specs.declared.kept.KeepFault.TheVariants.{Failed}
+
+-- a link with endless room has room for so many bytes
+pub endless_room : (room : Room) (n : ℕ) → room ≡ Endless → HasRoom room n
+endless_room room n e = subst (λ o. HasRoom o n) (sym e) tt
+
+-- what was sent with status 503 tells of a failed keeper
+pub fault_told : (text : List ℕ) (old new : Option (List ℕ)) (end : SessionEnd) → Sends 503 text old new end →
+    TellsFault end
+fault_told text old new (Answered status) sent = sent.0
+fault_told text old new Cut sent = absurd sent
+fault_told text old new LinkFault sent = tt
+
+-- a count that stands did not rise
+pub not_risen : {P : Type 0} (before now : ℕ) → now ≡ before → before < now → P
+not_risen before now same less = absurd (omega (arith, same, less))
 
 -- a link with endless room has room for each answer
 pub endless_has : (room : Room) (r : Reply) → room ≡ Endless → HasRoomFor room r
 endless_has room r e = subst (λ o. HasRoomFor o r) (sym e) (tt, tt)
+
+-- and for the page
+pub endless_page : (room : Room) → room ≡ Endless → HasRoomForPage room
+endless_page room e = subst (λ o. HasRoomForPage o) (sym e) (tt, tt)
 
 -- want of memory answers in place of each reply
 pub memory_answers : (r : Reply) (room : Room) (old new : Option (List ℕ)) (end : SessionEnd) →

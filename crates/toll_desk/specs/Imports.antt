@@ -15,7 +15,7 @@ use Rattle.import_once.specs.Runs.{PublishesDay}
 use Rattle.toll_requests.specs.Bodies.{filled}
 use Rattle.toll_requests.specs.declared.session_end.SessionEnd.{SessionEnd}
 use Rattle.toll_requests.specs.declared.session_end.SessionEnd.TheVariants.{Cut, LinkFault}
-use Rattle.toll_desk.specs.Answers.{Wire, AnswersReply, outcome_reply}
+use Rattle.toll_desk.specs.Answers.{Wire, AnswersOutcome}
 
 -- what a desk keeps, where it tells that: its office, the faults that its keeper counted, and what it published and
 -- queued
@@ -55,7 +55,7 @@ FailsInBody old new end = (end ≡ LinkFault) × (new.written ≡ old.written) �
 abbrev pub AnswersBody : ℕ → List ℕ → Outcome → Wire → Wire → SessionEnd → Type 0
 AnswersBody count all outcome old new end =
     (count ≤ length all) × (new.left ≡ Some (drop count all)) × IsOfBody outcome
-    × AnswersReply (outcome_reply outcome) old.room old.written new.written end
+    × AnswersOutcome outcome old.room old.written new.written end
 
 -- a day is imported from a body of so many bytes; one that is cut or failed in counts as one that goes on with zeros
 abbrev pub ImportsDay : WhenRefused → Bool → ℕ → Limits → ℕ → List ℕ → Office → DeskState → DeskState → Wire → Wire →

@@ -1,4 +1,6 @@
 pub mod Answers
+pub mod Days
+pub mod Pages
 pub mod Imports
 pub mod Desk
 pub mod Live

@@ -7,7 +7,7 @@ use Rattle.live_board.specs.Passes.{Pass, Sees, balance_on, total_on}
 use Rattle.toll_texts.specs.Bodies.{live_body, total_body}
 use Rattle.toll_texts.specs.Replies.{Reply, no_memory_reply}
 use Rattle.toll_requests.specs.declared.asked.Asked.{Asked}
-use Rattle.toll_requests.specs.declared.asked.Asked.TheVariants.{Day, Import, Spent, Live, LiveTotal}
+use Rattle.toll_requests.specs.declared.asked.Asked.TheVariants.{Day, Import, Spent, Live, LiveTotal, Vehicle, Days, Page}
 use Rattle.toll_requests.specs.declared.session_end.SessionEnd.{SessionEnd}
 use Rattle.toll_desk.specs.Answers.{Wire, AnswersReply, good}
 
@@ -18,6 +18,9 @@ asked_of LiveTotal = None
 asked_of (Day day) = None
 asked_of (Spent day xway vid) = None
 asked_of (Import day count early) = None
+asked_of (Vehicle vid from to) = None
+asked_of Days = None
+asked_of Page = None
 
 -- a request asks for the live board
 abbrev pub IsOfLive : Asked → Type 0
@@ -26,6 +29,9 @@ IsOfLive LiveTotal = Unit {0}
 IsOfLive (Day day) = ⊥
 IsOfLive (Spent day xway vid) = ⊥
 IsOfLive (Import day count early) = ⊥
+IsOfLive (Vehicle vid from to) = ⊥
+IsOfLive Days = ⊥
+IsOfLive Page = ⊥
 
 -- a vehicle's account on a board, or what all owe
 abbrev pub live_of : Option ℕ → BoardState → Shown

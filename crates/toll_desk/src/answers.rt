@@ -1,20 +1,23 @@
 // Answers of what is kept.
-ghost use Rattle.std.specs.Prelude.{◌≡◌, ◌≢◌, ◌≤◌, ℕ, List, Some, IfOk, string_bytes};
+ghost use Rattle.std.specs.Prelude.{◌≡◌, ◌≢◌, ◌≤◌, ◌<◌, ℕ, List, Some, IfOk, string_bytes};
 ghost use Rattle.road_io.specs.Faults.{Rose};
 ghost use Rattle.road_io.specs.Rooms.{Endless};
-ghost use Rattle.keeper.specs.declared.kept.KeepFault.TheVariants.{Failed};
+ghost use Rattle.keeper.specs.declared.kept.KeepFault.TheVariants as keep_fault;
 ghost use Rattle.keeper.specs.Office.{Office, record_of};
 ghost use Rattle.toll_texts.specs.Replies.{Reply as ReplyValue};
 ghost use Rattle.toll_requests.specs.declared.session_end.SessionEnd.TheVariants.{Answered, LinkFault};
 ghost use Rattle.toll_desk.specs.Answers.{AnswersReply, AnswersUnlessFailed, day_reply, spent_reply, keeper_reply};
+ghost use Rattle.toll_desk.specs.Answers.{days_reply, vehicle_reply, AnswersExactly, TellsFault};
+ghost use Rattle.toll_desk.specs.Pages.{AnswersPage};
 
+use crate::kept_days::kept_days;
 use http::StatusCode;
 use keeper::{DayRecord, KeepFault, Keeper};
 use road_io::Link;
 use road_time::NoMemory;
 use std::alloc::Global;
-use toll_requests::{SessionEnd, send_error, send_no_memory, send_reply};
-use toll_texts::{day_body, spent_body};
+use toll_requests::{SessionEnd, send_bytes, send_no_memory, send_page, send_reply};
+use toll_texts::{day_body, days_body, keeper_text, no_day_text, spent_body, vehicle_body};
 
 /// Sends an answer whose body may have found no memory.
 pub fn send_made<L: Link>(
@@ -39,28 +42,31 @@ pub fn send_made<L: Link>(
 }
 
 /// Answers that the keeper failed.
-pub fn send_keeper_fault<L: Link>(alloc: Global, link: &mut L) -> SessionEnd
-    ensures sent { AnswersReply keeper_reply (L.room link.old) (L.written link.old) (L.written link.new) result }
+pub fn send_keeper_fault<L: Link>(link: &mut L) -> SessionEnd
+    ensures sent { AnswersExactly keeper_reply (L.room link.old) (L.written link.old) (L.written link.new) result }
+    ensures told { TellsFault result }
     ensures unread { L.left link.new ≡ L.left link.old }
     ensures sure { L.room link.old ≡ Endless → result ≢ LinkFault }
     ensures cause { result ≡ LinkFault → Rose (L.faults link.old) (L.faults link.new) }
     ensures later { L.faults link.old ≤ L.faults link.new }
 {
-    send_error(alloc, link, StatusCode::SERVICE_UNAVAILABLE, "keeper")
+    send_bytes(link, 503, keeper_text())
 }
 
 /// Answers that the keeper failed, or that it found no memory.
-fn send_refusal<L: Link>(alloc: Global, fault: KeepFault, link: &mut L) -> SessionEnd
-    ensures sent { (reply : ReplyValue) (before now : ℕ) → (fault ≡ Failed → Rose before now)
+fn send_refusal<L: Link>(fault: KeepFault, link: &mut L) -> SessionEnd
+    ensures sent { (reply : ReplyValue) (before now : ℕ) → (fault ≡ keep_fault.Failed → Rose before now)
+        → (fault ≡ keep_fault.NoMemory → now ≡ before)
         → AnswersUnlessFailed reply before now (L.room link.old) (L.written link.old) (L.written link.new) result }
-    ensures unavailable { result ≡ Answered 503 → fault ≡ Failed }
+    ensures unavailable { result ≡ Answered 503 → fault ≡ keep_fault.Failed }
+    ensures told { fault ≡ keep_fault.Failed → TellsFault result }
     ensures unread { L.left link.new ≡ L.left link.old }
     ensures sure { L.room link.old ≡ Endless → result ≢ LinkFault }
     ensures cause { result ≡ LinkFault → Rose (L.faults link.old) (L.faults link.new) }
     ensures later { L.faults link.old ≤ L.faults link.new }
 {
     match fault {
-        KeepFault::Failed => send_keeper_fault(alloc, link),
+        KeepFault::Failed => send_keeper_fault(link),
         KeepFault::NoMemory => send_no_memory(link),
     }
 }
@@ -76,7 +82,7 @@ fn send_day<L: Link>(alloc: Global, kept: Option<DayRecord>, link: &mut L) -> Se
 {
     match kept {
         Some(kept) => send_made(alloc, link, StatusCode::OK, day_body(alloc, &kept)),
-        None => send_error(alloc, link, StatusCode::NOT_FOUND, "no day"),
+        None => send_bytes(link, 404, no_day_text()),
     }
 }
 
@@ -91,6 +97,7 @@ pub fn answer_day<L: Link, K: Keeper>(
         (K.faults keeper.old) (K.faults keeper.new) (L.room link.old) (L.written link.old) (L.written link.new) result }
     ensures told { (o : Office) → K.told keeper.old ≡ Some o → K.told keeper.new ≡ Some o }
     ensures unavailable { result ≡ Answered 503 → Rose (K.faults keeper.old) (K.faults keeper.new) }
+    ensures failed { K.faults keeper.old < K.faults keeper.new → TellsFault result }
     ensures unread { L.left link.new ≡ L.left link.old }
     ensures sure { L.room link.old ≡ Endless → result ≢ LinkFault }
     ensures cause { result ≡ LinkFault → Rose (L.faults link.old) (L.faults link.new) }
@@ -99,7 +106,7 @@ pub fn answer_day<L: Link, K: Keeper>(
 {
     match keeper.day(day) {
         Ok(kept) => send_day(alloc, kept, link),
-        Err(fault) => send_refusal(alloc, fault, link),
+        Err(fault) => send_refusal(fault, link),
     }
 }
 
@@ -116,6 +123,7 @@ pub fn answer_spent<L: Link, K: Keeper>(
         (K.faults keeper.old) (K.faults keeper.new) (L.room link.old) (L.written link.old) (L.written link.new) result }
     ensures told { (o : Office) → K.told keeper.old ≡ Some o → K.told keeper.new ≡ Some o }
     ensures unavailable { result ≡ Answered 503 → Rose (K.faults keeper.old) (K.faults keeper.new) }
+    ensures failed { K.faults keeper.old < K.faults keeper.new → TellsFault result }
     ensures unread { L.left link.new ≡ L.left link.old }
     ensures sure { L.room link.old ≡ Endless → result ≢ LinkFault }
     ensures cause { result ≡ LinkFault → Rose (L.faults link.old) (L.faults link.new) }
@@ -124,6 +132,71 @@ pub fn answer_spent<L: Link, K: Keeper>(
 {
     match keeper.spent(day, vid, xway) {
         Ok(amount) => send_made(alloc, link, StatusCode::OK, spent_body(alloc, amount)),
-        Err(fault) => send_refusal(alloc, fault, link),
+        Err(fault) => send_refusal(fault, link),
     }
+}
+
+/// Answers all kept days.
+pub fn answer_days<L: Link, K: Keeper>(alloc: Global, keeper: &mut K, link: &mut L) -> SessionEnd
+    ensures sent { (o : Office) → K.told keeper.old ≡ Some o → AnswersUnlessFailed (days_reply o)
+        (K.faults keeper.old) (K.faults keeper.new) (L.room link.old) (L.written link.old) (L.written link.new) result }
+    ensures told { (o : Office) → K.told keeper.old ≡ Some o → K.told keeper.new ≡ Some o }
+    ensures unavailable { result ≡ Answered 503 → Rose (K.faults keeper.old) (K.faults keeper.new) }
+    ensures failed { K.faults keeper.old < K.faults keeper.new → TellsFault result }
+    ensures unread { L.left link.new ≡ L.left link.old }
+    ensures sure { L.room link.old ≡ Endless → result ≢ LinkFault }
+    ensures cause { result ≡ LinkFault → Rose (L.faults link.old) (L.faults link.new) }
+    ensures later { L.faults link.old ≤ L.faults link.new }
+    ensures keeper_later { K.faults keeper.old ≤ K.faults keeper.new }
+{
+    match kept_days(alloc, keeper) {
+        Ok(days) => send_made(
+            alloc,
+            link,
+            StatusCode::OK,
+            days_body(alloc, days.as_slice()),
+        ),
+        Err(fault) => send_refusal(fault, link),
+    }
+}
+
+/// Answers what a vehicle was charged on the days `from` to `to`, both included.
+pub fn answer_vehicle<L: Link, K: Keeper>(
+    alloc: Global,
+    vid: u32,
+    from: u32,
+    to: u32,
+    keeper: &mut K,
+    link: &mut L,
+) -> SessionEnd
+    ensures sent { (o : Office) → K.told keeper.old ≡ Some o → AnswersUnlessFailed (vehicle_reply o vid from to)
+        (K.faults keeper.old) (K.faults keeper.new) (L.room link.old) (L.written link.old) (L.written link.new) result }
+    ensures told { (o : Office) → K.told keeper.old ≡ Some o → K.told keeper.new ≡ Some o }
+    ensures unavailable { result ≡ Answered 503 → Rose (K.faults keeper.old) (K.faults keeper.new) }
+    ensures failed { K.faults keeper.old < K.faults keeper.new → TellsFault result }
+    ensures unread { L.left link.new ≡ L.left link.old }
+    ensures sure { L.room link.old ≡ Endless → result ≢ LinkFault }
+    ensures cause { result ≡ LinkFault → Rose (L.faults link.old) (L.faults link.new) }
+    ensures later { L.faults link.old ≤ L.faults link.new }
+    ensures keeper_later { K.faults keeper.old ≤ K.faults keeper.new }
+{
+    match keeper.vehicle_rows(vid, from, to) {
+        Ok(rows) => {
+            let body = vehicle_body(alloc, vid, from, to, rows.as_slice());
+            send_made(alloc, link, StatusCode::OK, body)
+        }
+        Err(fault) => send_refusal(fault, link),
+    }
+}
+
+/// Answers the page to watch the day by.
+pub fn answer_page<L: Link>(alloc: Global, link: &mut L) -> SessionEnd
+    ensures sent { AnswersPage (L.room link.old) (L.written link.old) (L.written link.new) result }
+    ensures unavailable { result ≢ Answered 503 }
+    ensures unread { L.left link.new ≡ L.left link.old }
+    ensures sure { L.room link.old ≡ Endless → result ≢ LinkFault }
+    ensures cause { result ≡ LinkFault → Rose (L.faults link.old) (L.faults link.new) }
+    ensures later { L.faults link.old ≤ L.faults link.new }
+{
+    send_page(alloc, link)
 }

@@ -1,5 +1,5 @@
 // A desk that is not shared: it answers what is asked of its keeper, and imports the days that are posted.
-ghost use Rattle.std.specs.Prelude.{◌≡◌, ◌≢◌, ◌≤◌, [], Some};
+ghost use Rattle.std.specs.Prelude.{◌≡◌, ◌≢◌, ◌≤◌, ◌<◌, [], Some};
 ghost use Rattle.road_io.specs.Faults.{Rose};
 ghost use Rattle.road_io.specs.Plans.{NeverFails};
 ghost use Rattle.road_io.specs.Rooms.{Endless};
@@ -7,11 +7,11 @@ ghost use Rattle.road_time.specs.Fits.{IsLimits};
 ghost use Rattle.keeper.specs.Office.{Office};
 ghost use Rattle.toll_requests.specs.Requests.{IsAsked};
 ghost use Rattle.toll_requests.specs.declared.session_end.SessionEnd.TheVariants.{Answered, LinkFault};
-ghost use Rattle.toll_desk.specs.Answers.{wire_of};
+ghost use Rattle.toll_desk.specs.Answers.{wire_of, TellsFault};
 ghost use Rattle.toll_desk.specs.Imports.{state_of};
 ghost use Rattle.toll_desk.specs.Desk.{AnswersKept, IsOfKept};
 
-use crate::answers::{answer_day, answer_spent};
+use crate::answers::{answer_day, answer_days, answer_page, answer_spent, answer_vehicle};
 use crate::import_desk::ImportDesk;
 use crate::posting::answer_import;
 use import_plan::Plan;
@@ -53,6 +53,7 @@ impl<K: Keeper, C: Crew, R: Wait + Threads + Drop> Desk<K, C, R> {
             (wire_of (L.left link.old) (L.plan link.old) (L.written link.old) (L.room link.old))
             (wire_of (L.left link.new) (L.plan link.new) (L.written link.new) (L.room link.new)) result }
         ensures unavailable { result ≡ Answered 503 → Rose (K.faults self.old.keeper) (K.faults self.new.keeper) }
+        ensures failed { K.faults self.old.keeper < K.faults self.new.keeper → TellsFault result }
         ensures plan { self.new.plan ≡ self.old.plan }
         ensures limits { self.new.limits ≡ self.old.limits }
         ensures crew { C.which self.new.crew ≡ C.which self.old.crew }
@@ -67,6 +68,11 @@ impl<K: Keeper, C: Crew, R: Wait + Threads + Drop> Desk<K, C, R> {
             Asked::Spent { day, xway, vid } => {
                 answer_spent(alloc, *day, *xway, *vid, &mut self.keeper, link)
             }
+            Asked::Vehicle { vid, from, to } => {
+                answer_vehicle(alloc, *vid, *from, *to, &mut self.keeper, link)
+            }
+            Asked::Days => answer_days(alloc, &mut self.keeper, link),
+            Asked::Page => answer_page(alloc, link),
             Asked::Import { day, length, early } => {
                 let plan = self.plan;
                 let limits = self.limits;

@@ -1,5 +1,5 @@
 // The part of a desk that imports.
-ghost use Rattle.std.specs.Prelude.{◌≡◌, ◌≢◌, ◌≤◌, ℕ, List, [], Some, length};
+ghost use Rattle.std.specs.Prelude.{◌≡◌, ◌≢◌, ◌≤◌, ◌<◌, ℕ, List, [], Some, length};
 ghost use Rattle.std.specs.Io.KnownBytes.{prepend_known};
 ghost use Rattle.road_io.specs.Faults.{Rose};
 ghost use Rattle.road_io.specs.Plans.{NeverFails};
@@ -7,7 +7,7 @@ ghost use Rattle.road_io.specs.Rooms.{Endless};
 ghost use Rattle.road_time.specs.Fits.{IsLimits};
 ghost use Rattle.keeper.specs.Office.{Office};
 ghost use Rattle.toll_requests.specs.declared.session_end.SessionEnd.TheVariants.{Answered, LinkFault};
-ghost use Rattle.toll_desk.specs.Answers.{wire_of};
+ghost use Rattle.toll_desk.specs.Answers.{wire_of, TellsFault};
 ghost use Rattle.toll_desk.specs.Imports.{state_of, ImportsDay};
 
 use crate::posting::answer_import;
@@ -61,6 +61,7 @@ impl<C: Crew, R: Wait + Threads + Drop> ImportDesk<C, R> {
         ensures crew { C.which self.new.crew ≡ C.which self.old.crew }
         ensures board { self.new.writer.board ≡ self.old.writer.board }
         ensures unavailable { result ≡ Answered 503 → Rose (K.faults keeper.old) (K.faults keeper.new) }
+        ensures failed { K.faults keeper.old < K.faults keeper.new → TellsFault result }
         ensures sure { NeverFails (L.plan link.old) → L.room link.old ≡ Endless → result ≢ LinkFault }
         ensures cause { result ≡ LinkFault → Rose (L.faults link.old) (L.faults link.new) }
         ensures later { L.faults link.old ≤ L.faults link.new }

@@ -7,6 +7,7 @@ ghost use Rattle.accounts.specs.Operations.{Posted};
 ghost use Rattle.keeper.specs.Office.{Office};
 ghost use Rattle.keeper.specs.declared.kept.DayRecord.{DayRecord};
 ghost use Rattle.import_once.specs.declared.outcomes.Outcome.TheVariants.{Stored, ReadFault, WriteFault, KeeperFault};
+ghost use Rattle.import_once.specs.declared.outcomes.Outcome.TheVariants as outcomes;
 ghost use Rattle.toll_requests.specs.Bodies.{filled, LeavesBody, HasEndCause};
 ghost use Rattle.toll_requests.specs.declared.body_end.BodyEnd.TheVariants.{Whole, Cut};
 ghost use Rattle.toll_desk.specs.Imports.{Imports};
@@ -63,6 +64,7 @@ fn import_from<L: Link, K: Keeper, C: Crew, P: Publisher, R: Threads, N: Start>(
     ensures link_cause { HasEndCause N.plan N.faults (L.faults link.new) result.1 }
     ensures link_later { N.faults ≤ L.faults link.new }
     ensures unfailed { result.0 ≢ WriteFault }
+    ensures posted { (kept : DayRecord) → result.0 ≢ outcomes.Answered kept }
     ensures keeper { FaultsByPlan (K.faults keeper.old) (K.faults keeper.new) (K.plan keeper.old)
         (result.0 ≡ KeeperFault) }
 {
@@ -127,6 +129,7 @@ pub fn import_body<L: Link, K: Keeper, C: Crew, P: Publisher, R: Threads>(
     ensures link_cause { HasEndCause (L.plan link.old) (L.faults link.old) (L.faults link.new) result.1 }
     ensures link_later { L.faults link.old ≤ L.faults link.new }
     ensures unfailed { result.0 ≢ WriteFault }
+    ensures posted { (kept : DayRecord) → result.0 ≢ outcomes.Answered kept }
     ensures keeper { FaultsByPlan (K.faults keeper.old) (K.faults keeper.new) (K.plan keeper.old)
         (result.0 ≡ KeeperFault) }
 {

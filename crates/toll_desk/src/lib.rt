@@ -12,6 +12,7 @@ mod clerk;
 mod desk;
 mod import_desk;
 mod importing;
+mod kept_days;
 mod live;
 mod locked;
 mod one_clerk;

@@ -111,5 +111,8 @@ pub fn live_answer<L: Link>(
         Asked::Day(_) => unreachable!(),
         Asked::Spent { .. } => unreachable!(),
         Asked::Import { .. } => unreachable!(),
+        Asked::Vehicle { .. } => unreachable!(),
+        Asked::Days => unreachable!(),
+        Asked::Page => unreachable!(),
     }
 }

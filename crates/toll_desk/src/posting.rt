@@ -1,14 +1,16 @@
 // Answers of imports.
-ghost use Rattle.std.specs.Prelude.{◌≡◌, ◌≢◌, ◌≤◌, ℕ, List, [], Some, length};
+ghost use Rattle.std.specs.Prelude.{◌≡◌, ◌≢◌, ◌≤◌, ◌<◌, ℕ, List, [], Some, length};
 ghost use Rattle.std.specs.Io.KnownBytes.{prepend_known};
 ghost use Rattle.road_io.specs.Faults.{Rose};
 ghost use Rattle.road_io.specs.Plans.{NeverFails};
 ghost use Rattle.road_io.specs.Rooms.{Endless};
 ghost use Rattle.road_time.specs.Fits.{IsLimits};
 ghost use Rattle.keeper.specs.Office.{Office};
-ghost use Rattle.import_once.specs.declared.outcomes.Outcome.TheVariants.{KeeperFault};
+ghost use Rattle.keeper.specs.declared.kept.DayRecord.{DayRecord};
+ghost use Rattle.import_once.specs.declared.outcomes.Outcome.TheVariants as outcomes;
+ghost use Rattle.import_once.specs.declared.outcomes.Outcome.TheVariants.{ReadFault, WriteFault, KeeperFault};
 ghost use Rattle.toll_requests.specs.declared.session_end.SessionEnd.TheVariants.{Answered, LinkFault};
-ghost use Rattle.toll_desk.specs.Answers.{AnswersReply, wire_of, outcome_reply};
+ghost use Rattle.toll_desk.specs.Answers.{AnswersOutcome, TellsFault, wire_of};
 ghost use Rattle.toll_desk.specs.Imports.{state_of, ImportsDay};
 
 use crate::answers::{send_keeper_fault, send_made};
@@ -29,9 +31,12 @@ use toll_texts::{differs_body, imported_body, passed_body, refused_body};
 
 /// Answers how an import ended.
 fn send_outcome<L: Link>(alloc: Global, link: &mut L, outcome: Outcome) -> SessionEnd
-    ensures sent { AnswersReply (outcome_reply outcome) (L.room link.old) (L.written link.old)
-        (L.written link.new) result }
+    requires read { outcome ≢ ReadFault }
+    requires written { outcome ≢ WriteFault }
+    requires kept { (kept : DayRecord) → outcome ≢ outcomes.Answered kept }
+    ensures sent { AnswersOutcome outcome (L.room link.old) (L.written link.old) (L.written link.new) result }
     ensures unavailable { result ≡ Answered 503 → outcome ≡ KeeperFault }
+    ensures told { outcome ≡ KeeperFault → TellsFault result }
     ensures unread { L.left link.new ≡ L.left link.old }
     ensures sure { L.room link.old ≡ Endless → result ≢ LinkFault }
     ensures cause { result ≡ LinkFault → Rose (L.faults link.old) (L.faults link.new) }
@@ -69,11 +74,11 @@ fn send_outcome<L: Link>(alloc: Global, link: &mut L, outcome: Outcome) -> Sessi
             StatusCode::CONFLICT,
             differs_body(alloc, &kept, &found),
         ),
-        Outcome::KeeperFault => send_keeper_fault(alloc, link),
+        Outcome::KeeperFault => send_keeper_fault(link),
         Outcome::NoMemory => send_no_memory(link),
-        Outcome::Answered(_) => send_no_memory(link),
-        Outcome::ReadFault => send_no_memory(link),
-        Outcome::WriteFault => send_no_memory(link),
+        Outcome::Answered(_) => unreachable!(),
+        Outcome::ReadFault => unreachable!(),
+        Outcome::WriteFault => unreachable!(),
     }
 }
 
@@ -107,6 +112,7 @@ pub fn answer_import<L: Link, K: Keeper, C: Crew, R: Wait + Threads + Drop>(
     ensures crew { C.which crew.new ≡ C.which crew.old }
     ensures board { writer.new.board ≡ writer.old.board }
     ensures unavailable { result ≡ Answered 503 → Rose (K.faults keeper.old) (K.faults keeper.new) }
+    ensures failed { K.faults keeper.old < K.faults keeper.new → TellsFault result }
     ensures sure { NeverFails (L.plan link.old) → L.room link.old ≡ Endless → result ≢ LinkFault }
     ensures cause { result ≡ LinkFault → Rose (L.faults link.old) (L.faults link.new) }
     ensures later { L.faults link.old ≤ L.faults link.new }

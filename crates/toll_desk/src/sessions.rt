@@ -1,5 +1,5 @@
 // One request of a link, and its answer.
-ghost use Rattle.std.specs.Prelude.{◌≡◌, ◌≢◌, ◌≤◌, ◌⊎◌, true, false, ℕ, List, Some};
+ghost use Rattle.std.specs.Prelude.{◌≡◌, ◌≢◌, ◌≤◌, ◌<◌, ◌⊎◌, true, false, ℕ, List, Some};
 ghost use Rattle.road_io.specs.Faults.{Rose};
 ghost use Rattle.road_io.specs.Plans.{NeverFails};
 ghost use Rattle.road_io.specs.Rooms.{Endless};
@@ -7,7 +7,7 @@ ghost use Rattle.keeper.specs.Office.{Office};
 ghost use Rattle.live_board.specs.Passes.{StartsWith};
 ghost use Rattle.toll_requests.specs.Requests.{IsAsked};
 ghost use Rattle.toll_requests.specs.declared.session_end.SessionEnd.TheVariants.{Answered, LinkFault};
-ghost use Rattle.toll_desk.specs.Answers.{wire_of};
+ghost use Rattle.toll_desk.specs.Answers.{wire_of, TellsFault};
 ghost use Rattle.toll_desk.specs.Imports.{state_of};
 ghost use Rattle.toll_desk.specs.Desk.{AnswersKept, IsOfKept};
 ghost use Rattle.toll_desk.specs.Live.{IsOfLive};
@@ -35,6 +35,9 @@ pub fn is_live(asked: &Asked) -> bool
         Asked::Day(_) => false,
         Asked::Spent { .. } => false,
         Asked::Import { .. } => false,
+        Asked::Vehicle { .. } => false,
+        Asked::Days => false,
+        Asked::Page => false,
     }
 }
 
@@ -59,6 +62,7 @@ fn answer_and_learn<L: Link, K: Keeper, C: Crew, R: Wait + Threads + Drop>(
     ensures reader { reader.new.board ≡ reader.old.board }
     ensures had { StartsWith reader.new.seen reader.old.seen }
     ensures unavailable { result ≡ Answered 503 → Rose (K.faults desk.old.keeper) (K.faults desk.new.keeper) }
+    ensures failed { K.faults desk.old.keeper < K.faults desk.new.keeper → TellsFault result }
     ensures plan { desk.new.plan ≡ desk.old.plan }
     ensures limits { desk.new.limits ≡ desk.old.limits }
     ensures crew { C.which desk.new.crew ≡ C.which desk.old.crew }
@@ -89,6 +93,7 @@ pub fn session<L: Link, K: Keeper, C: Crew, R: Wait + Threads + Drop>(
         (wire_of (L.left link.old) (L.plan link.old) (L.written link.old) (L.room link.old))
         (wire_of (L.left link.new) (L.plan link.new) (L.written link.new) (L.room link.new)) result }
     ensures unavailable { result ≡ Answered 503 → Rose (K.faults desk.old.keeper) (K.faults desk.new.keeper) }
+    ensures failed { K.faults desk.old.keeper < K.faults desk.new.keeper → TellsFault result }
     ensures learns { (desk.new ≡ desk.old) ⊎ StartsWith reader.new.seen desk.new.writer.posted.published }
     ensures reader { reader.new.board ≡ reader.old.board }
     ensures had { StartsWith reader.new.seen reader.old.seen }

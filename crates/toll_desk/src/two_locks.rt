@@ -1,14 +1,15 @@
 // A desk that many sessions share, whose keeper lies under a lock of its own.
-ghost use Rattle.std.specs.Prelude.{◌≡◌, ◌≢◌, ◌≤◌, Some};
+ghost use Rattle.std.specs.Prelude.{◌≡◌, ◌≢◌, ◌≤◌, ◌<◌, Some};
 ghost use Rattle.road_io.specs.Faults.{Rose};
 ghost use Rattle.road_io.specs.Plans.{NeverFails};
 ghost use Rattle.road_io.specs.Rooms.{Endless};
 ghost use Rattle.keeper.specs.Office.{Office};
 ghost use Rattle.toll_requests.specs.Requests.{IsAsked};
 ghost use Rattle.toll_requests.specs.declared.session_end.SessionEnd.TheVariants.{Answered, LinkFault};
+ghost use Rattle.toll_desk.specs.Answers.{TellsFault};
 ghost use Rattle.toll_desk.specs.Desk.{AnswersRead, IsOfKept};
 
-use crate::answers::{answer_day, answer_spent};
+use crate::answers::{answer_day, answer_days, answer_page, answer_spent, answer_vehicle};
 use crate::clerk::Clerk;
 use crate::import_desk::ImportDesk;
 use keeper::Keeper;
@@ -43,6 +44,7 @@ fn answer_shared<L: Link, K: Keeper, C: Crew, R: Wait + Threads + Drop>(
     ensures reads { (o : Office) → K.told keeper.old ≡ Some o → AnswersRead asked.now o (K.told keeper.new)
         (K.faults keeper.old) (K.faults keeper.new) (L.room link.old) (L.written link.old) (L.written link.new) result }
     ensures unavailable { result ≡ Answered 503 → Rose (K.faults keeper.old) (K.faults keeper.new) }
+    ensures failed { K.faults keeper.old < K.faults keeper.new → TellsFault result }
     ensures sure { NeverFails (L.plan link.old) → L.room link.old ≡ Endless → result ≢ LinkFault }
     ensures cause { result ≡ LinkFault → Rose (L.faults link.old) (L.faults link.new) }
     ensures later { L.faults link.old ≤ L.faults link.new }
@@ -50,6 +52,11 @@ fn answer_shared<L: Link, K: Keeper, C: Crew, R: Wait + Threads + Drop>(
     match asked {
         Asked::Day(day) => answer_day(alloc, *day, keeper, link),
         Asked::Spent { day, xway, vid } => answer_spent(alloc, *day, *xway, *vid, keeper, link),
+        Asked::Vehicle { vid, from, to } => {
+            answer_vehicle(alloc, *vid, *from, *to, keeper, link)
+        }
+        Asked::Days => answer_days(alloc, keeper, link),
+        Asked::Page => answer_page(alloc, link),
         Asked::Import { day, length, early } => {
             imports
                 .lock(rt)

@@ -8,9 +8,10 @@ use Rattle.std.proofs.lemmas.Str.{IsUtf8-from_ascii}
 use Rattle.std.proofs.lemmas.Str.Ascii.{IsAscii-nil, IsAscii-cons}
 use Rattle.toll_heads.specs.Numbers.{number_in}
 use Rattle.toll_heads.specs.Paths.{parts_of, begins_with, path_place, day_place, live_place, spent_path}
+use Rattle.toll_heads.specs.Paths.{vehicle_path}
 use Rattle.toll_heads.specs.declared.place.DeskPlace.{DeskPlace}
 use Rattle.toll_heads.specs.Places.{PlacesAreAscii}
-use Rattle.toll_heads.proofs.PlaceLaws.{spent_parts, place_cases}
+use Rattle.toll_heads.proofs.PlaceLaws.{spent_parts, vehicle_parts, place_cases}
 use Rattle.toll_heads.proofs.PartLaws.{number_part, glued, glue_parts, bytes_same, front_is}
 
 -- text in two parts
@@ -38,19 +39,33 @@ live_ascii : (text : List ℕ) (p : DeskPlace) (n : Option ℕ) → number_in 0 
 live_ascii text p None is e = absurd (cc e)
 live_ascii text p (Some n) is e = (number_part 0 2147483647 text n is).1
 
--- a charge: three numbers with slashes between them
+-- three numbers with slashes between them
+three_ascii : (text a b c : List ℕ) → parts_of text ≡ a ∷ b ∷ c ∷ [] → IsAscii a → IsAscii b → IsAscii c →
+    IsAscii text
+three_ascii text a b c e x y z =
+    let joined : text ≡ a ++ 47 ∷ (b ++ 47 ∷ c) = sym (glue_parts text) ∙ ap glued e in
+    let last = IsAscii-cons 47 c (omega arith) z in
+    subst IsAscii (sym joined)
+    (ascii_append a _ x (IsAscii-cons 47 _ (omega arith) (ascii_append b _ y last)))
+
+-- a charge
 spent_ascii : (text : List ℕ) (p : DeskPlace) → spent_path (parts_of text) ≡ Some p → IsAscii text
 spent_ascii text p e =
     let s = spent_parts (parts_of text) p e in
-    let joined : text ≡ s.0 ++ 47 ∷ (s.1 ++ 47 ∷ s.2) = sym (glue_parts text) ∙ ap glued s.3 in
-    let last = IsAscii-cons 47 s.2 (omega arith) s.6.1 in
-    subst IsAscii (sym joined)
-    (ascii_append s.0 _ s.4.1 (IsAscii-cons 47 _ (omega arith) (ascii_append s.1 _ s.5.1 last)))
+    three_ascii text s.0 s.1 s.2 s.3 s.4.1 s.5.1 s.6.1
+
+-- a vehicle's statement
+vehicle_ascii : (text : List ℕ) (p : DeskPlace) → vehicle_path (parts_of text) ≡ Some p → IsAscii text
+vehicle_ascii text p e =
+    let s = vehicle_parts (parts_of text) p e in
+    three_ascii text s.0 s.1 s.2 s.3 s.4.1 s.5.1 s.6.1
 
 -- a path that names a place is ASCII
 pub places_are_ascii : PlacesAreAscii
 places_are_ascii path p is = by (bytes_eq path (codes "/live")) refl (begins_with path (codes "/days/")) refl
-    (begins_with path (codes "/live/")) refl (begins_with path (codes "/spent/")) refl is
+    (begins_with path (codes "/live/")) refl (begins_with path (codes "/spent/")) refl
+    (begins_with path (codes "/vehicles/")) refl (bytes_eq path (codes "/days")) refl
+    (bytes_eq path (codes "/")) refl is
   where
     behind : (front : List ℕ) → begins_with path front ≡ true → list_all (λ b. nat_le b 127) front ≡ true →
         IsAscii (drop (length front) path) → IsAscii path
@@ -58,13 +73,26 @@ places_are_ascii path p is = by (bytes_eq path (codes "/live")) refl (begins_wit
         subst IsAscii (sym (front_is path front b)) (ascii_append front _ (ascii_bytes front e) rest)
 
     by : (u : Bool) → bytes_eq path (codes "/live") ≡ u → (v : Bool) → begins_with path (codes "/days/") ≡ v →
-        (w : Bool) → begins_with path (codes "/live/") ≡ w → (x : Bool) → begins_with path (codes "/spent/") ≡ x
-        → place_cases path u v w x ≡ Some p → IsAscii path
-    by true a v b w c x d e = subst IsAscii (sym (bytes_same path (codes "/live") a)) (ascii_bytes (codes "/live") refl)
-    by false a true b w c x d e = behind (codes "/days/") b refl (day_ascii (drop 6 path) p _ refl e)
-    by false a false b true c x d e = behind (codes "/live/") c refl (live_ascii (drop 6 path) p _ refl e)
-    by false a false b false c true d e = behind (codes "/spent/") d refl (spent_ascii (drop 7 path) p e)
-    by false a false b false c false d e = absurd (cc e)
+        (w : Bool) → begins_with path (codes "/live/") ≡ w → (x : Bool) → begins_with path (codes "/spent/") ≡ x →
+        (y : Bool) → begins_with path (codes "/vehicles/") ≡ y → (z : Bool) → bytes_eq path (codes "/days") ≡ z →
+        (t : Bool) → bytes_eq path (codes "/") ≡ t → place_cases path u v w x y z t ≡ Some p
+        → IsAscii path
+    by true a v b w c x d y f z g t h e =
+        subst IsAscii (sym (bytes_same path (codes "/live") a)) (ascii_bytes (codes "/live") refl)
+    by false a true b w c x d y f z g t h e =
+        behind (codes "/days/") b refl (day_ascii (drop 6 path) p _ refl e)
+    by false a false b true c x d y f z g t h e =
+        behind (codes "/live/") c refl (live_ascii (drop 6 path) p _ refl e)
+    by false a false b false c true d y f z g t h e =
+        behind (codes "/spent/") d refl (spent_ascii (drop 7 path) p e)
+    by false a false b false c false d true f z g t h e =
+        behind (codes "/vehicles/") f refl (vehicle_ascii (drop 10 path) p e)
+    by false a false b false c false d false f true g t h e =
+        subst IsAscii (sym (bytes_same path (codes "/days") g)) (ascii_bytes (codes "/days") refl)
+    by false a false b false c false d false f false g true h e =
+        subst IsAscii (sym (bytes_same path (codes "/") h)) (ascii_bytes (codes "/") refl)
+    by false a false b false c false d false f false g false h e =
+        absurd (cc e)
 
 -- bytes that are no text name no place
 pub no_text : (path : List ℕ) → (IsUtf8 path → ⊥) → None ≡ path_place path

@@ -5,7 +5,7 @@ use Rattle.std.specs.List.{list_all, onto_first}
 use Rattle.std.proofs.lemmas.Bool.{cond-false, cond-true, and_parts, and_from, not-true, false_from_ne_true, eqb-true}
 use Rattle.std.proofs.lemmas.List.{take_all}
 use Rattle.std.proofs.lemmas.List.Folds.{list_all_more}
-use Rattle.toll_heads.specs.Paths.{parts_at, parts_of, spent_path}
+use Rattle.toll_heads.specs.Paths.{parts_at, parts_of, spent_path, vehicle_path}
 use Rattle.road_io.proofs.LineLaws.{cut_at}
 
 -- a byte that is another
@@ -71,12 +71,27 @@ parts_some byte (x ∷ xs) = by (x == byte) (parts_some byte xs)
     by true h = omega arith
     by false h = one (parts_at byte xs)
 
+-- a text that is cut three times has four parts or more
+four_cut : (text a b c r s t : List ℕ) → parts_of text ≡ a ∷ parts_of r → parts_of r ≡ b ∷ parts_of s →
+    parts_of s ≡ c ∷ parts_of t → parts_of text ≡ a ∷ b ∷ c ∷ parts_of t
+four_cut text a b c r s t x y z = x ∙ ap (λ l. a ∷ l) (y ∙ ap (λ l. b ∷ l) z)
+
 -- a text of four parts or more names no charge
 pub four_parts : (text a b c r s t : List ℕ) → parts_of text ≡ a ∷ parts_of r → parts_of r ≡ b ∷ parts_of s →
     parts_of s ≡ c ∷ parts_of t → None ≡ spent_path (parts_of text)
 four_parts text a b c r s t x y z =
-    more (parts_of t) (parts_some 47 t) ∙ sym (ap spent_path (x ∙ ap (λ l. a ∷ l) (y ∙ ap (λ l. b ∷ l) z)))
+    more (parts_of t) (parts_some 47 t) ∙ sym (ap spent_path (four_cut text a b c r s t x y z))
   where
     more : (ls : List (List ℕ)) → 0 < length ls → None ≡ spent_path (a ∷ b ∷ c ∷ ls)
+    more [] h = absurd (omega arith)
+    more (l ∷ ls) h = refl
+
+-- nor a vehicle's statement
+pub four_named : (text a b c r s t : List ℕ) → parts_of text ≡ a ∷ parts_of r → parts_of r ≡ b ∷ parts_of s →
+    parts_of s ≡ c ∷ parts_of t → None ≡ vehicle_path (parts_of text)
+four_named text a b c r s t x y z =
+    more (parts_of t) (parts_some 47 t) ∙ sym (ap vehicle_path (four_cut text a b c r s t x y z))
+  where
+    more : (ls : List (List ℕ)) → 0 < length ls → None ≡ vehicle_path (a ∷ b ∷ c ∷ ls)
     more [] h = absurd (omega arith)
     more (l ∷ ls) h = refl

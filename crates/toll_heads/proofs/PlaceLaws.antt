@@ -1,14 +1,16 @@
 -- A path that names a place of the desk finds its route, and the other way round.
-use Rattle.std.proofs.Common.{◌≡◌, ℕ, not, ◌&&◌, Bool, true, false, cond, List, ◌∷◌, ◌++◌, codes, drop, Option, Some}
-use Rattle.std.proofs.Common.{None, refl, sym, ap, ◌∙◌, []}
+use Rattle.std.proofs.Common.{◌≡◌, ℕ, nat_le, zero, suc, Bool, true, false, cond, List, ◌∷◌, ◌++◌, codes, length, drop}
+use Rattle.std.proofs.Common.{Option, Some, None, refl, sym, ap, subst, ◌∙◌, []}
 use Rattle.std.specs.Str.{bytes_eq}
+use Rattle.std.proofs.lemmas.Bool.{cond-true}
 use Rattle.matchit.specs.Seek.{first}
 use Rattle.toll_heads.specs.Numbers.{number_in}
 use Rattle.toll_heads.specs.Paths.{parts_of, begins_with, path_place, day_place, live_place, spent_place, spent_path}
+use Rattle.toll_heads.specs.Paths.{vehicle_place, vehicle_path}
 use Rattle.toll_heads.specs.declared.place.DeskPlace.{DeskPlace}
-use Rattle.toll_heads.specs.declared.place.DeskPlace.TheVariants.{TotalPlace}
+use Rattle.toll_heads.specs.declared.place.DeskPlace.TheVariants.{TotalPlace, VehiclePlace, DaysPlace, PagePlace}
 use Rattle.toll_heads.specs.declared.route.Route.{Route}
-use Rattle.toll_heads.specs.declared.route.Route.TheVariants.{OfDay, OfLive, OfTotal, OfSpent}
+use Rattle.toll_heads.specs.declared.route.Route.TheVariants.{OfDay, OfLive, OfTotal, OfSpent, OfDays, OfVehicle, OfPage}
 use Rattle.toll_heads.specs.Rows.{desk_rows, key_of}
 use Rattle.toll_heads.specs.Places.{route_of, place_by, PlacesHaveRoutes, RoutesHavePlaces}
 use Rattle.toll_heads.proofs.RouteLaws.{find_routes}
@@ -51,6 +53,39 @@ spent_parts (a ∷ b ∷ c ∷ []) p e =
       ap route_of (sym (place_inj _ _ e)),
     )
 
+-- three parts that name a vehicle's statement
+pub vehicle_parts : (ls : List (List ℕ)) (p : DeskPlace) → vehicle_path ls ≡ Some p
+    → (a : List ℕ) × (b : List ℕ) × (c : List ℕ) × (ls ≡ a ∷ b ∷ c ∷ []) × IsNumber a × IsNumber b × IsNumber c
+    × (route_of p ≡ OfVehicle)
+vehicle_parts [] p e = absurd (cc e)
+vehicle_parts (a ∷ []) p e = absurd (cc e)
+vehicle_parts (a ∷ b ∷ []) p e = absurd (cc e)
+vehicle_parts (a ∷ b ∷ c ∷ d ∷ ls) p e = absurd (cc e)
+vehicle_parts (a ∷ b ∷ c ∷ []) p e =
+    by (number_in 0 2147483647 a) (number_in 1 1000000 b) (number_in 1 1000000 c) refl refl refl e
+  where
+    order : (v f t : ℕ) (w : Bool) → cond w (Some (VehiclePlace v f t)) None ≡ Some p → route_of p ≡ OfVehicle
+    order v f t true h = ap route_of (sym (place_inj _ _ h))
+    order v f t false h = absurd (cc h)
+
+    by : (x y z : Option ℕ) → number_in 0 2147483647 a ≡ x → number_in 1 1000000 b ≡ y → number_in 1 1000000 c ≡ z →
+        vehicle_place x y z ≡ Some p
+        → (a' : List ℕ) × (b' : List ℕ) × (c' : List ℕ) × (a ∷ b ∷ c ∷ [] ≡ a' ∷ b' ∷ c' ∷ []) × IsNumber a'
+        × IsNumber b' × IsNumber c' × (route_of p ≡ OfVehicle)
+    by None y z f g h e = absurd (cc e)
+    by (Some v) None z f g h e = absurd (cc e)
+    by (Some v) (Some x) None f g h e = absurd (cc e)
+    by (Some v) (Some x) (Some y) f g h e = (
+      a,
+      b,
+      c,
+      refl,
+      number_part 0 2147483647 a v f,
+      number_part 1 1000000 b x g,
+      number_part 1 1000000 c y h,
+      order v x y (nat_le x y) e,
+    )
+
 -- a path of a charge finds the route of charges
 spent_found : (text : List ℕ) (p : DeskPlace) → spent_path (parts_of text) ≡ Some p →
     first desk_rows (codes "/spent/" ++ text) ≡ Some (key_of (route_of p))
@@ -58,6 +93,15 @@ spent_found text p e =
     let s = spent_parts (parts_of text) p e in
     let joined : text ≡ s.0 ++ 47 ∷ (s.1 ++ 47 ∷ s.2) = sym (glue_parts text) ∙ ap glued s.3 in
     ap (λ l. first desk_rows (codes "/spent/" ++ l)) joined ∙ find_routes.3 s.0 s.1 s.2 s.4.0 s.5.0 s.6.0
+    ∙ ap (λ r. Some (key_of r)) (sym s.7)
+
+-- one of a vehicle's statement that of statements
+vehicle_found : (text : List ℕ) (p : DeskPlace) → vehicle_path (parts_of text) ≡ Some p →
+    first desk_rows (codes "/vehicles/" ++ text) ≡ Some (key_of (route_of p))
+vehicle_found text p e =
+    let s = vehicle_parts (parts_of text) p e in
+    let joined : text ≡ s.0 ++ 47 ∷ (s.1 ++ 47 ∷ s.2) = sym (glue_parts text) ∙ ap glued s.3 in
+    ap (λ l. first desk_rows (codes "/vehicles/" ++ l)) joined ∙ find_routes.5 s.0 s.1 s.2 s.4.0 s.5.0 s.6.0
     ∙ ap (λ r. Some (key_of r)) (sym s.7)
 
 -- one of a day that of days
@@ -74,27 +118,46 @@ live_found text p None is e = absurd (cc e)
 live_found text p (Some n) is e = find_routes.2 text (number_part 0 2147483647 text n is).0
     ∙ ap (λ q. Some (key_of (route_of q))) (place_inj _ _ e)
 
+-- the place that a path names, by what it is and what it begins with
+abbrev pub place_cases : List ℕ → Bool → Bool → Bool → Bool → Bool → Bool → Bool → Option DeskPlace
+place_cases path u v w x y z t =
+    cond u (Some TotalPlace)
+    (cond v (day_place (number_in 70 1000000 (drop 6 path)))
+    (cond w (live_place (number_in 0 2147483647 (drop 6 path)))
+    (cond x (spent_path (parts_of (drop 7 path)))
+    (cond y (vehicle_path (parts_of (drop 10 path))) (cond z (Some DaysPlace) (cond t (Some PagePlace) None))))))
+
 -- a path that names a place finds the route of that place
 pub places_have_routes : PlacesHaveRoutes
 places_have_routes path p is = by (bytes_eq path (codes "/live")) refl (begins_with path (codes "/days/")) refl
-    (begins_with path (codes "/live/")) refl (begins_with path (codes "/spent/")) refl is
+    (begins_with path (codes "/live/")) refl (begins_with path (codes "/spent/")) refl
+    (begins_with path (codes "/vehicles/")) refl (bytes_eq path (codes "/days")) refl
+    (bytes_eq path (codes "/")) refl is
   where
     by : (u : Bool) → bytes_eq path (codes "/live") ≡ u → (v : Bool) → begins_with path (codes "/days/") ≡ v →
-        (w : Bool) → begins_with path (codes "/live/") ≡ w → (x : Bool) → begins_with path (codes "/spent/") ≡ x
-        → cond u (Some TotalPlace)
-        (cond v (day_place (number_in 70 1000000 (drop 6 path)))
-        (cond w (live_place (number_in 0 2147483647 (drop 6 path)))
-        (cond x (spent_path (parts_of (drop 7 path))) None))) ≡ Some p
+        (w : Bool) → begins_with path (codes "/live/") ≡ w → (x : Bool) → begins_with path (codes "/spent/") ≡ x →
+        (y : Bool) → begins_with path (codes "/vehicles/") ≡ y → (z : Bool) → bytes_eq path (codes "/days") ≡ z →
+        (t : Bool) → bytes_eq path (codes "/") ≡ t → place_cases path u v w x y z t ≡ Some p
         → first desk_rows path ≡ Some (key_of (route_of p))
-    by true a v b w c x d e = ap (first desk_rows) (bytes_same path (codes "/live") a) ∙ find_routes.0
+    by true a v b w c x d y f z g t h e =
+        ap (first desk_rows) (bytes_same path (codes "/live") a) ∙ find_routes.0
         ∙ ap (λ q. Some (key_of (route_of q))) (place_inj _ _ e)
-    by false a true b w c x d e = ap (first desk_rows) (front_is path (codes "/days/") b)
-        ∙ day_found (drop 6 path) p _ refl e
-    by false a false b true c x d e = ap (first desk_rows) (front_is path (codes "/live/") c)
-        ∙ live_found (drop 6 path) p _ refl e
-    by false a false b false c true d e = ap (first desk_rows) (front_is path (codes "/spent/") d)
-        ∙ spent_found (drop 7 path) p e
-    by false a false b false c false d e = absurd (cc e)
+    by false a true b w c x d y f z g t h e =
+        ap (first desk_rows) (front_is path (codes "/days/") b) ∙ day_found (drop 6 path) p _ refl e
+    by false a false b true c x d y f z g t h e =
+        ap (first desk_rows) (front_is path (codes "/live/") c) ∙ live_found (drop 6 path) p _ refl e
+    by false a false b false c true d y f z g t h e =
+        ap (first desk_rows) (front_is path (codes "/spent/") d) ∙ spent_found (drop 7 path) p e
+    by false a false b false c false d true f z g t h e =
+        ap (first desk_rows) (front_is path (codes "/vehicles/") f) ∙ vehicle_found (drop 10 path) p e
+    by false a false b false c false d false f true g t h e =
+        ap (first desk_rows) (bytes_same path (codes "/days") g) ∙ find_routes.4
+        ∙ ap (λ q. Some (key_of (route_of q))) (place_inj _ _ e)
+    by false a false b false c false d false f false g true h e =
+        ap (first desk_rows) (bytes_same path (codes "/") h) ∙ find_routes.6
+        ∙ ap (λ q. Some (key_of (route_of q))) (place_inj _ _ e)
+    by false a false b false c false d false f false g false h e =
+        absurd (cc e)
 
 -- a path that finds no route names no place
 pub no_route : (path : List ℕ) → None ≡ first desk_rows path → None ≡ path_place path
@@ -103,14 +166,6 @@ no_route path none = by (path_place path) refl
     by : (o : Option DeskPlace) → path_place path ≡ o → None ≡ o
     by None e = refl
     by (Some p) e = absurd (cc (none ∙ places_have_routes path p e))
-
--- a path that finds one route names no place of another
-other : (path : List ℕ) (r q : Route) (o : Option DeskPlace) → path_place path ≡ o →
-    first desk_rows path ≡ Some (key_of r)
-    → ((p : DeskPlace) → o ≡ Some p → route_of p ≡ q) → (key_of r ≡ key_of q → ⊥) → o ≡ None
-other path r q None is found at apart = refl
-other path r q (Some p) is found at apart =
-    absurd (apart (some_inj _ _ (sym found ∙ places_have_routes path p is) ∙ ap key_of (at p refl)))
 
 -- the routes of places
 day_route : (p : DeskPlace) (n : Option ℕ) → day_place n ≡ Some p → route_of p ≡ OfDay
@@ -126,113 +181,111 @@ live_route p (Some n) e = ap route_of (sym (place_inj _ _ e))
 spent_route : (p : DeskPlace) (ls : List (List ℕ)) → spent_path ls ≡ Some p → route_of p ≡ OfSpent
 spent_route p ls e = (spent_parts ls p e).7
 
--- the place that a path names, by what it is and what it begins with
-abbrev pub place_cases : List ℕ → Bool → Bool → Bool → Bool → Option DeskPlace
-place_cases path u v w x =
-    cond u (Some TotalPlace)
-    (cond v (day_place (number_in 70 1000000 (drop 6 path)))
-    (cond w (live_place (number_in 0 2147483647 (drop 6 path))) (cond x (spent_path (parts_of (drop 7 path))) None)))
+-- of a vehicle's statement
+vehicle_route : (p : DeskPlace) (ls : List (List ℕ)) → vehicle_path ls ≡ Some p → route_of p ≡ OfVehicle
+vehicle_route p ls e = (vehicle_parts ls p e).7
 
--- the place by a route, by the same
-abbrev route_cases : Route → List ℕ → Bool → Bool → Bool → Bool → Option DeskPlace
-route_cases OfDay path u v w x = cond v (day_place (number_in 70 1000000 (drop 6 path))) None
-route_cases OfLive path u v w x = cond w (live_place (number_in 0 2147483647 (drop 6 path))) None
-route_cases OfTotal path u v w x = cond u (Some TotalPlace) None
-route_cases OfSpent path u v w x = cond x (spent_path (parts_of (drop 7 path))) None
-
--- a path is `/live`, or begins with one of the three fronts, or neither
-abbrev one_of : Bool → Bool → Bool → Bool → Bool
-one_of true v w x = not v && (not w && not x)
-one_of false true w x = not w && not x
-one_of false false true x = not x
-one_of false false false x = true
-
--- and this path is
-abbrev is_one : List ℕ → Bool
-is_one path =
-    one_of (bytes_eq path (codes "/live")) (begins_with path (codes "/days/")) (begins_with path (codes "/live/"))
-    (begins_with path (codes "/spent/"))
-
--- no path is two of them
-fronts_differ : (path : List ℕ) → is_one path ≡ true
-fronts_differ path = by (bytes_eq path (codes "/live")) refl (begins_with path (codes "/days/")) refl
+-- a place that a path names is named by its route
+named_by_route : (path : List ℕ) (p : DeskPlace) → path_place path ≡ Some p → place_by (route_of p) path ≡ Some p
+named_by_route path p is = by (bytes_eq path (codes "/live")) refl (begins_with path (codes "/days/")) refl
     (begins_with path (codes "/live/")) refl (begins_with path (codes "/spent/")) refl
+    (begins_with path (codes "/vehicles/")) refl (bytes_eq path (codes "/days")) refl
+    (bytes_eq path (codes "/")) refl is
   where
     by : (u : Bool) → bytes_eq path (codes "/live") ≡ u → (v : Bool) → begins_with path (codes "/days/") ≡ v →
-        (w : Bool) → begins_with path (codes "/live/") ≡ w
-        → (x : Bool) → begins_with path (codes "/spent/") ≡ x → is_one path ≡ true
-    by true a v b w c x d = ap is_one (bytes_same path (codes "/live") a)
-    by false a true b w c x d = ap is_one (front_is path (codes "/days/") b)
-    by false a false b true c x d = ap is_one (front_is path (codes "/live/") c)
-    by false a false b false c x d =
-        ap (λ z. one_of z (begins_with path (codes "/days/")) (begins_with path (codes "/live/"))
-        (begins_with path (codes "/spent/"))) a
-        ∙ ap (λ z. one_of false z (begins_with path (codes "/live/")) (begins_with path (codes "/spent/"))) b
-        ∙ ap (λ z. one_of false false z (begins_with path (codes "/spent/"))) c
+        (w : Bool) → begins_with path (codes "/live/") ≡ w → (x : Bool) → begins_with path (codes "/spent/") ≡ x →
+        (y : Bool) → begins_with path (codes "/vehicles/") ≡ y → (z : Bool) → bytes_eq path (codes "/days") ≡ z →
+        (t : Bool) → bytes_eq path (codes "/") ≡ t → place_cases path u v w x y z t ≡ Some p
+        → place_by (route_of p) path ≡ Some p
+    by true a v b w c x d y f z g t h e =
+        subst (λ q. place_by (route_of q) path ≡ Some q) (place_inj _ _ e)
+        (cond-true (bytes_eq path (codes "/live")) (Some TotalPlace) None a)
+    by false a true b w c x d y f z g t h e =
+        subst (λ r. place_by r path ≡ Some p) (sym (day_route p (number_in 70 1000000 (drop 6 path)) e))
+        (cond-true (begins_with path (codes "/days/")) (day_place (number_in 70 1000000 (drop 6 path))) None b ∙ e)
+    by false a false b true c x d y f z g t h e =
+        subst (λ r. place_by r path ≡ Some p) (sym (live_route p (number_in 0 2147483647 (drop 6 path)) e))
+        (cond-true (begins_with path (codes "/live/")) (live_place (number_in 0 2147483647 (drop 6 path))) None c ∙ e)
+    by false a false b false c true d y f z g t h e =
+        subst (λ r. place_by r path ≡ Some p) (sym (spent_route p (parts_of (drop 7 path)) e))
+        (cond-true (begins_with path (codes "/spent/")) (spent_path (parts_of (drop 7 path))) None d ∙ e)
+    by false a false b false c false d true f z g t h e =
+        subst (λ r. place_by r path ≡ Some p) (sym (vehicle_route p (parts_of (drop 10 path)) e))
+        (cond-true (begins_with path (codes "/vehicles/")) (vehicle_path (parts_of (drop 10 path))) None f ∙ e)
+    by false a false b false c false d false f true g t h e =
+        subst (λ q. place_by (route_of q) path ≡ Some q) (place_inj _ _ e)
+        (cond-true (bytes_eq path (codes "/days")) (Some DaysPlace) None g)
+    by false a false b false c false d false f false g true h e =
+        subst (λ q. place_by (route_of q) path ≡ Some q) (place_inj _ _ e)
+        (cond-true (bytes_eq path (codes "/")) (Some PagePlace) None h)
+    by false a false b false c false d false f false g false h e =
+        absurd (cc e)
+
+-- what is found behind a test is found where the test holds
+held : {A : Type 0} (b : Bool) (x : Option A) (a : A) → cond b x None ≡ Some a → (b ≡ true) × (x ≡ Some a)
+held true x a e = (refl, e)
+held false x a e = absurd (cc e)
+
+-- a place behind a front
+by_front : (front path : List ℕ) (x : Option DeskPlace) (p : DeskPlace) →
+    path_place (front ++ drop (length front) path) ≡ x → cond (begins_with path front) x None ≡ Some p →
+    path_place path ≡ Some p
+by_front front path x p at e =
+    let h = held (begins_with path front) x p e in
+    ap path_place (front_is path front h.0) ∙ at ∙ h.1
+
+-- a place of one path
+by_path : (one path : List ℕ) (q p : DeskPlace) → path_place one ≡ Some q →
+    cond (bytes_eq path one) (Some q) None ≡ Some p → path_place path ≡ Some p
+by_path one path q p at e =
+    let h = held (bytes_eq path one) (Some q) p e in
+    ap path_place (bytes_same path one h.0) ∙ at ∙ h.1
+
+-- a place that a path names by a route it names
+named_at_all : (r : Route) (path : List ℕ) (p : DeskPlace) → place_by r path ≡ Some p → path_place path ≡ Some p
+named_at_all OfDay path p e = by_front (codes "/days/") path _ p refl e
+named_at_all OfLive path p e = by_front (codes "/live/") path _ p refl e
+named_at_all OfTotal path p e = by_path (codes "/live") path _ p refl e
+named_at_all OfSpent path p e = by_front (codes "/spent/") path _ p refl e
+named_at_all OfVehicle path p e = by_front (codes "/vehicles/") path _ p refl e
+named_at_all OfDays path p e = by_path (codes "/days") path _ p refl e
+named_at_all OfPage path p e = by_path (codes "/") path _ p refl e
+
+-- the route of a number
+abbrev route_at : ℕ → Route
+route_at zero = OfDay
+route_at (suc zero) = OfLive
+route_at (suc (suc zero)) = OfTotal
+route_at (suc (suc (suc zero))) = OfSpent
+route_at (suc (suc (suc (suc zero)))) = OfDays
+route_at (suc (suc (suc (suc (suc zero))))) = OfVehicle
+route_at (suc (suc (suc (suc (suc (suc n)))))) = OfPage
+
+-- the route of its number
+route_again : (r : Route) → route_at (key_of r) ≡ r
+route_again OfDay = refl
+route_again OfLive = refl
+route_again OfTotal = refl
+route_again OfSpent = refl
+route_again OfDays = refl
+route_again OfVehicle = refl
+route_again OfPage = refl
+
+-- routes of one number are one
+one_route : (q r : Route) → key_of q ≡ key_of r → q ≡ r
+one_route q r e = sym (route_again q) ∙ ap route_at e ∙ route_again r
 
 -- what a path names by the route that it finds is what it names
 pub routes_have_places : RoutesHavePlaces
-routes_have_places path r found = by r _ _ _ _ (fronts_differ path) found refl ∙ sym (shown r)
+routes_have_places path r found = by (path_place path) refl (place_by r path) refl
   where
-    shown : (q : Route) →
-        place_by q path ≡ route_cases q path (bytes_eq path (codes "/live")) (begins_with path (codes "/days/"))
-        (begins_with path (codes "/live/")) (begins_with path (codes "/spent/"))
-    shown OfDay = refl
-    shown OfLive = refl
-    shown OfTotal = refl
-    shown OfSpent = refl
-
-    at_total : (p : DeskPlace) → Some TotalPlace ≡ Some p → route_of p ≡ OfTotal
-    at_total p e = ap route_of (sym (place_inj _ _ e))
-
-    total : (q : Route) → first desk_rows path ≡ Some (key_of q) → path_place path ≡ Some TotalPlace →
-        Some TotalPlace ≡ route_cases q path true false false false
-    total OfDay f is = other path OfDay OfTotal _ is f at_total (λ e. cc e)
-    total OfLive f is = other path OfLive OfTotal _ is f at_total (λ e. cc e)
-    total OfTotal f is = refl
-    total OfSpent f is = other path OfSpent OfTotal _ is f at_total (λ e. cc e)
-
-    day : (q : Route) (o : Option ℕ) → first desk_rows path ≡ Some (key_of q) → path_place path ≡ day_place o →
-        number_in 70 1000000 (drop 6 path) ≡ o → day_place o ≡ route_cases q path false true false false
-    day OfDay o f is at = ap day_place (sym at)
-    day OfLive o f is at = other path OfLive OfDay _ is f (λ p. day_route p o) (λ e. cc e)
-    day OfTotal o f is at = other path OfTotal OfDay _ is f (λ p. day_route p o) (λ e. cc e)
-    day OfSpent o f is at = other path OfSpent OfDay _ is f (λ p. day_route p o) (λ e. cc e)
-
-    live : (q : Route) (o : Option ℕ) → first desk_rows path ≡ Some (key_of q) → path_place path ≡ live_place o →
-        number_in 0 2147483647 (drop 6 path) ≡ o → live_place o ≡ route_cases q path false false true false
-    live OfDay o f is at = other path OfDay OfLive _ is f (λ p. live_route p o) (λ e. cc e)
-    live OfLive o f is at = ap live_place (sym at)
-    live OfTotal o f is at = other path OfTotal OfLive _ is f (λ p. live_route p o) (λ e. cc e)
-    live OfSpent o f is at = other path OfSpent OfLive _ is f (λ p. live_route p o) (λ e. cc e)
-
-    spent : (q : Route) (ls : List (List ℕ)) → first desk_rows path ≡ Some (key_of q) → path_place path ≡ spent_path ls
-        → parts_of (drop 7 path) ≡ ls → spent_path ls ≡ route_cases q path false false false true
-    spent OfDay ls f is at = other path OfDay OfSpent _ is f (λ p. spent_route p ls) (λ e. cc e)
-    spent OfLive ls f is at = other path OfLive OfSpent _ is f (λ p. spent_route p ls) (λ e. cc e)
-    spent OfTotal ls f is at = other path OfTotal OfSpent _ is f (λ p. spent_route p ls) (λ e. cc e)
-    spent OfSpent ls f is at = ap spent_path (sym at)
-
-    none : (q : Route) → None ≡ route_cases q path false false false false
-    none OfDay = refl
-    none OfLive = refl
-    none OfTotal = refl
-    none OfSpent = refl
-
-    by : (q : Route) (u v w x : Bool) → one_of u v w x ≡ true → first desk_rows path ≡ Some (key_of q) →
-        path_place path ≡ place_cases path u v w x
-        → place_cases path u v w x ≡ route_cases q path u v w x
-    by q true true w x e f is = absurd (cc e)
-    by q true false true x e f is = absurd (cc e)
-    by q true false false true e f is = absurd (cc e)
-    by q true false false false e f is = total q f is
-    by q false true true x e f is = absurd (cc e)
-    by q false true false true e f is = absurd (cc e)
-    by q false true false false e f is = day q _ f is refl
-    by q false false true true e f is = absurd (cc e)
-    by q false false true false e f is = live q _ f is refl
-    by q false false false true e f is = spent q _ f is refl
-    by q false false false false e f is = none q
+    by : (o : Option DeskPlace) → path_place path ≡ o → (n : Option DeskPlace) → place_by r path ≡ n → o ≡ n
+    by None is None at = refl
+    by None is (Some q) at = absurd (cc (sym is ∙ named_at_all r path q at))
+    by (Some p) is n at =
+        let same : route_of p ≡ r =
+        one_route (route_of p) r (some_inj _ _ (sym (places_have_routes path p is) ∙ found)) in
+        sym (subst (λ q. place_by q path ≡ Some p) same (named_by_route path p is)) ∙ at
 
 -- a path that finds a route names what it names by that route
 pub by_route : (path : List ℕ) (r : Route) → Some (key_of r) ≡ first desk_rows path → place_by r path ≡ path_place path

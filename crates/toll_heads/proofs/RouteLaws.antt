@@ -123,6 +123,16 @@ live_found : first desk_rows (codes "/live") ≡ Some 2
 unfolding seek param_step
 live_found = refl
 
+-- the path of all kept days
+days_found : first desk_rows (codes "/days") ≡ Some 4
+unfolding seek param_step
+days_found = refl
+
+-- the path of the page
+page_found : first desk_rows (codes "/") ≡ Some 6
+unfolding seek param_step
+page_found = refl
+
 -- each path of a route's form finds that route
 pub find_routes : FindRoutes
 find_routes = (
@@ -135,4 +145,12 @@ find_routes = (
       ∙ lits (47 ∷ []) ((47 ∷ 256 ∷ 47 ∷ 256 ∷ [], 3) ∷ []) (xway ++ 47 ∷ vid) refl
       ∙ next_of 3 xway vid (256 ∷ []) q ∙ lits (47 ∷ []) ((47 ∷ 256 ∷ [], 3) ∷ []) vid refl
       ∙ last_of 3 vid r,
+  days_found,
+  λ vid from to p q r.
+      lits (codes "/vehicles/") desk_rows (vid ++ 47 ∷ (from ++ 47 ∷ to)) refl
+      ∙ next_of 5 vid (from ++ 47 ∷ to) (256 ∷ 47 ∷ 256 ∷ []) p
+      ∙ lits (47 ∷ []) ((47 ∷ 256 ∷ 47 ∷ 256 ∷ [], 5) ∷ []) (from ++ 47 ∷ to) refl
+      ∙ next_of 5 from to (256 ∷ []) q ∙ lits (47 ∷ []) ((47 ∷ 256 ∷ [], 5) ∷ []) to refl
+      ∙ last_of 5 to r,
+  page_found,
 )

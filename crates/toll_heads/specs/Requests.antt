@@ -9,8 +9,9 @@ use Rattle.toll_heads.specs.Paths.{path_of, path_place}
 use Rattle.toll_heads.specs.Origins.{is_foreign}
 use Rattle.toll_heads.specs.declared.place.DeskPlace.{DeskPlace}
 use Rattle.toll_heads.specs.declared.place.DeskPlace.TheVariants.{DayPlace, SpentPlace, LivePlace, TotalPlace}
+use Rattle.toll_heads.specs.declared.place.DeskPlace.TheVariants.{VehiclePlace, DaysPlace, PagePlace}
 use Rattle.toll_heads.specs.declared.wanted.Wanted.{Wanted}
-use Rattle.toll_heads.specs.declared.wanted.Wanted.TheVariants.{Day, Import, Spent, Live, LiveTotal}
+use Rattle.toll_heads.specs.declared.wanted.Wanted.TheVariants.{Day, Import, Spent, Live, LiveTotal, Vehicle, Days, Page}
 use Rattle.toll_heads.specs.declared.wanted.Refusal.{Refusal}
 use Rattle.toll_heads.specs.declared.wanted.Refusal.TheVariants.{BadOrigin, NoPath, BadMethod, BadLength}
 use Rattle.toll_heads.specs.declared.wanted.Refusal.TheVariants.{LengthNeeded, TooLong}
@@ -59,6 +60,9 @@ asked_at (Some (DayPlace day)) method fields =
 asked_at (Some (SpentPlace day xway vid)) method fields = only_get method (Spent day xway vid)
 asked_at (Some (LivePlace vid)) method fields = only_get method (Live vid)
 asked_at (Some TotalPlace) method fields = only_get method LiveTotal
+asked_at (Some (VehiclePlace vid from to)) method fields = only_get method (Vehicle vid from to)
+asked_at (Some DaysPlace) method fields = only_get method Days
+asked_at (Some PagePlace) method fields = only_get method Page
 
 -- what a target, a method and fields ask for: nothing where a page of the web may have sent them
 abbrev pub asked_by : List ℕ → List ℕ → List (List ℕ × List ℕ) → Result Wanted Refusal

@@ -5,15 +5,19 @@ use Rattle.matchit.specs.Seek.{has_slash, first}
 use Rattle.matchit.specs.Router.{RouteOf}
 use Rattle.matchit.specs.Level.{IsText}
 use Rattle.toll_heads.specs.declared.route.Route.{Route}
-use Rattle.toll_heads.specs.declared.route.Route.TheVariants.{OfDay, OfLive, OfTotal, OfSpent}
+use Rattle.toll_heads.specs.declared.route.Route.TheVariants.{OfDay, OfLive, OfTotal, OfSpent, OfDays, OfVehicle, OfPage}
 
--- the rows of `/days/{day}`, `/live/{vid}`, `/live` and `/spent/{day}/{xway}/{vid}`, in the router's order
+-- the rows of `/days/{day}`, `/days`, `/live/{vid}`, `/live`, `/spent/{day}/{xway}/{vid}`,
+-- `/vehicles/{vid}/{from}/{to}` and `/`, in the router's order
 abbrev pub desk_rows : Rows
 desk_rows =
     (codes "/days/" ++ 256 ∷ [], 0)
+    ∷ (codes "/days", 4)
     ∷ (codes "/live/" ++ 256 ∷ [], 1)
     ∷ (codes "/live", 2)
-    ∷ (codes "/spent/" ++ 256 ∷ 47 ∷ 256 ∷ 47 ∷ 256 ∷ [], 3) ∷ []
+    ∷ (codes "/spent/" ++ 256 ∷ 47 ∷ 256 ∷ 47 ∷ 256 ∷ [], 3)
+    ∷ (codes "/vehicles/" ++ 256 ∷ 47 ∷ 256 ∷ 47 ∷ 256 ∷ [], 5)
+    ∷ (codes "/", 6) ∷ []
 
 -- the number of a route's row
 abbrev pub key_of : Route → ℕ
@@ -21,6 +25,9 @@ key_of OfDay = 0
 key_of OfLive = 1
 key_of OfTotal = 2
 key_of OfSpent = 3
+key_of OfDays = 4
+key_of OfVehicle = 5
+key_of OfPage = 6
 
 -- the number of what the router keeps
 abbrev pub key_at : RouteOf Route → ℕ
@@ -40,3 +47,7 @@ FindRoutes =
     × ((vid : List ℕ) → IsPart vid → first desk_rows (codes "/live/" ++ vid) ≡ Some 1)
     × ((day xway vid : List ℕ) → IsPart day → IsPart xway → IsPart vid
     → first desk_rows (codes "/spent/" ++ (day ++ 47 ∷ (xway ++ 47 ∷ vid))) ≡ Some 3)
+    × (first desk_rows (codes "/days") ≡ Some 4)
+    × ((vid from to : List ℕ) → IsPart vid → IsPart from → IsPart to
+    → first desk_rows (codes "/vehicles/" ++ (vid ++ 47 ∷ (from ++ 47 ∷ to))) ≡ Some 5)
+    × (first desk_rows (codes "/") ≡ Some 6)

@@ -56,6 +56,11 @@ fn asked_at(
         ),
         Some(DeskPlace::LivePlace(vid)) => only_get(method, Wanted::Live(vid)),
         Some(DeskPlace::TotalPlace) => only_get(method, Wanted::LiveTotal),
+        Some(DeskPlace::VehiclePlace(vid, from, to)) => {
+            only_get(method, Wanted::Vehicle(vid, from, to))
+        }
+        Some(DeskPlace::DaysPlace) => only_get(method, Wanted::Days),
+        Some(DeskPlace::PagePlace) => only_get(method, Wanted::Page),
     }
 }
 

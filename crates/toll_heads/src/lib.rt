@@ -1,7 +1,7 @@
 //! What a request asks of the desk, or why it is refused at once, by its head alone.
 //!
 //! `read_front` reads the head from a link, within its first 8,192 bytes and with at most 64 fields. `Routes` holds
-//! the desk's four routes and finds the place that a path names. `wanted_of` judges in this order: whether a page of
+//! the desk's seven routes and finds the place that a path names. `wanted_of` judges in this order: whether a page of
 //! the web may have sent the request, the path, then the method, then the length of the body of a POST.
 #![tactic(auto)]
 

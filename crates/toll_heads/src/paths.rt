@@ -1,8 +1,11 @@
 // What a path is, and what is read from one behind each of the fronts.
-ghost use Rattle.std.specs.Prelude.{◌≡◌, option_map, IfSome};
+ghost use Rattle.std.specs.Prelude.{◌≡◌, ◌≤◌, option_map, Some, IfSome};
 ghost use Rattle.toll_heads.specs.Paths.{path_of as path_of_target, spent_path, parts_of, CutsAt, IsPlace};
 ghost use Rattle.toll_heads.specs.Paths.{day_at as day_at_path, live_at as live_at_path};
 ghost use Rattle.toll_heads.specs.Paths.{total_at as total_at_path, spent_at as spent_at_path};
+ghost use Rattle.toll_heads.specs.Paths.{vehicle_place, vehicle_path};
+ghost use Rattle.toll_heads.specs.Paths.{vehicle_at as vehicle_at_path, days_at as days_at_path};
+ghost use Rattle.toll_heads.specs.Paths.{page_at as page_at_path};
 
 use crate::numbers::number_in;
 use crate::place::DeskPlace;
@@ -44,6 +47,42 @@ fn spent_of_text(text: &[u8]) -> Option<DeskPlace>
             let xway = number_in(0, 255, xway)?;
             let vid = number_in(0, 2_147_483_647, vid)?;
             Some(DeskPlace::SpentPlace(day, xway as u8, vid))
+        }
+    }
+}
+
+/// The place of a vehicle's statement from a day to a day that is not before it.
+fn vehicle_of(vid: u32, from: u32, to: u32) -> Option<DeskPlace>
+    requires { (vid ≤ 2147483647) × (1 ≤ from) × (to ≤ 1000000) }
+    ensures place { result ≡ vehicle_place (Some vid) (Some from) (Some to) }
+    ensures within { IfSome result IsPlace }
+{
+    if from <= to {
+        Some(DeskPlace::VehiclePlace(vid, from, to))
+    } else {
+        None
+    }
+}
+
+/// The place that a vehicle, a first and a last day name.
+fn vehicle_of_text(text: &[u8]) -> Option<DeskPlace>
+    ensures place { result ≡ vehicle_path (parts_of text.now) }
+    ensures within { IfSome result IsPlace }
+{
+    let (vid, Some(rest)) = cut(b'/', text) else {
+        return None;
+    };
+    let (from, Some(rest)) = cut(b'/', rest) else {
+        return None;
+    };
+    let (to, more) = cut(b'/', rest);
+    match more {
+        Some(_) => None,
+        None => {
+            let vid = number_in(0, 2_147_483_647, vid)?;
+            let from = number_in(1, 1_000_000, from)?;
+            let to = number_in(1, 1_000_000, to)?;
+            vehicle_of(vid, from, to)
         }
     }
 }
@@ -96,5 +135,40 @@ pub(crate) fn spent_at(path: &[u8]) -> Option<DeskPlace>
     match path.strip_prefix(b"/spent/") {
         Some(text) => spent_of_text(text),
         None => None,
+    }
+}
+
+/// The place of a vehicle's statement that a path names.
+pub(crate) fn vehicle_at(path: &[u8]) -> Option<DeskPlace>
+    ensures place { result ≡ vehicle_at_path path.now }
+    ensures within { IfSome result IsPlace }
+{
+    match path.strip_prefix(b"/vehicles/") {
+        Some(text) => vehicle_of_text(text),
+        None => None,
+    }
+}
+
+/// The place of all kept days, if a path is its.
+pub(crate) fn days_at(path: &[u8]) -> Option<DeskPlace>
+    ensures place { result ≡ days_at_path path.now }
+    ensures within { IfSome result IsPlace }
+{
+    if path == b"/days".as_slice() {
+        Some(DeskPlace::DaysPlace)
+    } else {
+        None
+    }
+}
+
+/// The place of the page, if a path is its.
+pub(crate) fn page_at(path: &[u8]) -> Option<DeskPlace>
+    ensures place { result ≡ page_at_path path.now }
+    ensures within { IfSome result IsPlace }
+{
+    if path == b"/".as_slice() {
+        Some(DeskPlace::PagePlace)
+    } else {
+        None
     }
 }

@@ -11,4 +11,10 @@ pub enum Route {
     OfTotal,
     /// `/spent/{day}/{xway}/{vid}`
     OfSpent,
+    /// `/vehicles/{vid}/{from}/{to}`
+    OfVehicle,
+    /// `/days`
+    OfDays,
+    /// `/`
+    OfPage,
 }

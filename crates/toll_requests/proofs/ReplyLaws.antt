@@ -16,7 +16,7 @@ use Rattle.toll_heads.specs.declared.wanted.Refusal.{Refusal}
 use Rattle.toll_heads.specs.declared.wanted.Refusal.TheVariants.{BadHead, BadOrigin, NoPath, BadMethod, BadLength}
 use Rattle.toll_heads.specs.declared.wanted.Refusal.TheVariants.{LengthNeeded, TooLong}
 use Rattle.toll_texts.specs.Replies.{Reply, reply_bytes, no_memory_reply}
-use Rattle.toll_requests.specs.Sends.{Replies, HasRoom, HasRoomFor, refusal_reply, refusal_room}
+use Rattle.toll_requests.specs.Sends.{SendsReply, HasRoom, HasRoomFor, refusal_reply, refusal_room}
 use Rattle.toll_requests.specs.Requests.{asked_for, wanted_in, Heads, HasBody, IsRequestRefused, ReadsHeadAsked}
 use Rattle.toll_requests.specs.declared.session_end.SessionEnd.{SessionEnd}
 use Rattle.toll_requests.specs.declared.session_end.SessionEnd.TheVariants.{Answered, Cut, LinkFault}
@@ -51,6 +51,9 @@ wanted_same (wanted.Import day count) rest = refl
 wanted_same (wanted.Spent day xway vid) rest = refl
 wanted_same (wanted.Live vid) rest = refl
 wanted_same wanted.LiveTotal rest = refl
+wanted_same (wanted.Vehicle vid from to) rest = refl
+wanted_same wanted.Days rest = refl
+wanted_same wanted.Page rest = refl
 
 take_front : (n : ℕ) (rest more : List ℕ) → take n (take n rest ++ more) ≡ take n (rest ++ more)
 take_front zero rest more = refl
@@ -64,16 +67,16 @@ has_body (wanted.Import day count) rest more = (more, refl, take_front count res
 has_body (wanted.Spent day xway vid) rest more = tt
 has_body (wanted.Live vid) rest more = tt
 has_body wanted.LiveTotal rest more = tt
+has_body (wanted.Vehicle vid from to) rest more = tt
+has_body wanted.Days rest more = tt
+has_body wanted.Page rest more = tt
 
 -- a refusal that was answered
 pub refused : (bytes : List ℕ) (left old new : Option (List ℕ)) (r : Refusal) (end : SessionEnd) →
-    IsRequestRefused bytes r → Replies (refusal_reply r) old new end → ReadsHeadAsked bytes left old new (Err end)
-refused bytes left old new r (Answered s) is (inl sent) = inl (r, is, sent)
-refused bytes left old new r (Answered s) is (inr sent) = inr sent
-refused bytes left old new r Cut is (inl sent) = absurd sent
-refused bytes left old new r Cut is (inr sent) = absurd sent
-refused bytes left old new r LinkFault is (inl sent) = inr (inl (r, is, sent))
-refused bytes left old new r LinkFault is (inr sent) = inr (inr sent)
+    IsRequestRefused bytes r → SendsReply (refusal_reply r) old new end → ReadsHeadAsked bytes left old new (Err end)
+refused bytes left old new r (Answered s) is sent = inl (r, is, sent)
+refused bytes left old new r Cut is sent = absurd sent
+refused bytes left old new r LinkFault is sent = inr (inl (r, is, sent))
 
 -- a link with room for all bytes does not refuse them
 pub never_full : (room after : Room) (n : ℕ) → HasRoom room n → Refuses room after n → ⊥
@@ -104,9 +107,9 @@ refusal_short LengthNeeded = omega arith
 refusal_short TooLong = omega arith
 
 -- a link with room for any refusal has room for this one
-pub room_for : (room : Room) (r : Refusal) → HasRoom room refusal_room → HasRoomFor room (refusal_reply r)
-room_for room r has =
-    (room_less room refusal_room _ (refusal_short r) has, room_less room refusal_room _ memory_short has)
+pub refusal_has : (room : Room) (r : Refusal) → HasRoom room refusal_room →
+    HasRoom room (length (reply_bytes (refusal_reply r)))
+refusal_has room r has = room_less room refusal_room _ (refusal_short r) has
 
 pub room_for_memory : (room : Room) → HasRoom room refusal_room → HasRoomFor room no_memory_reply
 room_for_memory room has =

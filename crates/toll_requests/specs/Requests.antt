@@ -10,7 +10,7 @@ use Rattle.toll_heads.specs.declared.wanted.Refusal.TheVariants.{BadHead}
 use Rattle.toll_texts.specs.Replies.{no_memory_reply}
 use Rattle.toll_requests.specs.Sends.{SendsReply, refusal_reply}
 use Rattle.toll_requests.specs.declared.asked.Asked.{Asked}
-use Rattle.toll_requests.specs.declared.asked.Asked.TheVariants.{Day, Import, Spent, Live, LiveTotal}
+use Rattle.toll_requests.specs.declared.asked.Asked.TheVariants.{Day, Import, Spent, Live, LiveTotal, Vehicle, Days, Page}
 use Rattle.toll_requests.specs.declared.session_end.SessionEnd.{SessionEnd}
 use Rattle.toll_requests.specs.declared.session_end.SessionEnd.TheVariants.{Answered, Cut, LinkFault}
 
@@ -21,6 +21,9 @@ asked_for (wanted.Import day count) rest = Import day count (take count rest)
 asked_for (wanted.Spent day xway vid) rest = Spent day xway vid
 asked_for (wanted.Live vid) rest = Live vid
 asked_for wanted.LiveTotal rest = LiveTotal
+asked_for (wanted.Vehicle vid from to) rest = Vehicle vid from to
+asked_for wanted.Days rest = Days
+asked_for wanted.Page rest = Page
 
 -- the numbers of what is asked are in their ranges
 abbrev pub IsAsked : Asked → Type 0
@@ -29,6 +32,9 @@ IsAsked (Import day count early) = (70 ≤ day) × (day ≤ 1000000) × (count �
 IsAsked (Spent day xway vid) = (1 ≤ day) × (day ≤ 1000000) × (vid ≤ 2147483647)
 IsAsked (Live vid) = vid ≤ 2147483647
 IsAsked LiveTotal = Unit {0}
+IsAsked (Vehicle vid from to) = (vid ≤ 2147483647) × (1 ≤ from) × (from ≤ to) × (to ≤ 1000000)
+IsAsked Days = Unit {0}
+IsAsked Page = Unit {0}
 
 -- what is asked without the body
 abbrev pub wanted_in : Asked → Wanted
@@ -37,6 +43,9 @@ wanted_in (Import day count early) = wanted.Import day count
 wanted_in (Spent day xway vid) = wanted.Spent day xway vid
 wanted_in (Live vid) = wanted.Live vid
 wanted_in LiveTotal = wanted.LiveTotal
+wanted_in (Vehicle vid from to) = wanted.Vehicle vid from to
+wanted_in Days = wanted.Days
+wanted_in Page = wanted.Page
 
 -- a head stands first in a link's bytes and ends within the first 8,192; what follows it
 abbrev pub Heads : List ℕ → RequestHead → List ℕ → Type 0
@@ -50,6 +59,9 @@ HasBody (Day day) after left = Unit {0}
 HasBody (Spent day xway vid) after left = Unit {0}
 HasBody (Live vid) after left = Unit {0}
 HasBody LiveTotal after left = Unit {0}
+HasBody (Vehicle vid from to) after left = Unit {0}
+HasBody Days after left = Unit {0}
+HasBody Page after left = Unit {0}
 
 -- why a request of these bytes is refused: its head is bad, or what its head asks for is refused
 abbrev pub IsRequestRefused : List ℕ → Refusal → Type 0

@@ -5,6 +5,7 @@ use Rattle.road_io.specs.Rooms.{Room, Untold, Bound, Endless}
 use Rattle.toll_heads.specs.declared.wanted.Refusal.{Refusal}
 use Rattle.toll_heads.specs.declared.wanted.Refusal.TheVariants.{BadHead, BadOrigin, NoPath, BadMethod, BadLength}
 use Rattle.toll_heads.specs.declared.wanted.Refusal.TheVariants.{LengthNeeded, TooLong}
+use Rattle.toll_texts.specs.Pages.{page_bytes}
 use Rattle.toll_texts.specs.Replies.{Reply, reply_bytes, error_reply, no_memory_reply}
 use Rattle.toll_requests.specs.declared.session_end.SessionEnd.{SessionEnd}
 use Rattle.toll_requests.specs.declared.session_end.SessionEnd.TheVariants.{Answered, Cut, LinkFault}
@@ -46,3 +47,11 @@ HasRoomFor room r = HasRoom room (length (reply_bytes r)) × HasRoom room (lengt
 -- no answer of a request that is refused at once has more bytes
 abbrev pub refusal_room : ℕ
 refusal_room = 128
+
+-- the page was sent, or the reply for want of memory
+abbrev pub SendsPage : Option (List ℕ) → Option (List ℕ) → SessionEnd → Type 0
+SendsPage old new end = Sends 200 page_bytes old new end ⊎ SendsReply no_memory_reply old new end
+
+-- a link takes the answer that has the page, and the one for want of memory
+abbrev pub HasRoomForPage : Room → Type 0
+HasRoomForPage room = HasRoom room (length page_bytes) × HasRoom room (length (reply_bytes no_memory_reply))

@@ -12,7 +12,8 @@ ghost use Rattle.toll_requests.specs.Sends.{HasRoom, refusal_room};
 ghost use Rattle.toll_requests.specs.declared.session_end.SessionEnd.TheVariants.{Answered, LinkFault};
 
 use crate::asked::{Asked, early_of};
-use crate::sending::{refuse, send_no_memory};
+use crate::refusing::refuse;
+use crate::sending::send_no_memory;
 use crate::session_end::SessionEnd;
 use httparse::spans::{EMPTY_HEADER_SPAN, HeaderSpan, RequestSpans};
 use road_io::Link;
@@ -36,6 +37,9 @@ fn asked_of(alloc: Global, wanted: Wanted, rest: &[u8]) -> Result<Asked, NoMemor
         Wanted::Spent(day, xway, vid) => Ok(Asked::Spent { day, xway, vid }),
         Wanted::Live(vid) => Ok(Asked::Live(vid)),
         Wanted::LiveTotal => Ok(Asked::LiveTotal),
+        Wanted::Vehicle(vid, from, to) => Ok(Asked::Vehicle { vid, from, to }),
+        Wanted::Days => Ok(Asked::Days),
+        Wanted::Page => Ok(Asked::Page),
     }
 }
 
@@ -68,7 +72,7 @@ fn ask<L: Link>(
             Ok(asked) => Ok(asked),
             Err(_) => Err(send_no_memory(link)),
         },
-        Err(refusal) => Err(refuse(alloc, link, refusal)),
+        Err(refusal) => Err(refuse(link, refusal)),
     }
 }
 
@@ -93,7 +97,7 @@ pub fn read_routed<L: Link>(
     let mut headers = [EMPTY_HEADER_SPAN; 64];
     match read_front(link, &mut buffer, &mut headers) {
         Front::Head(held, spans) => ask(alloc, routes, link, &buffer[..held], &spans, &headers),
-        Front::Bad => Err(refuse(alloc, link, Refusal::BadHead)),
+        Front::Bad => Err(refuse(link, Refusal::BadHead)),
         Front::Cut => Err(SessionEnd::Cut),
         Front::LinkFault => Err(SessionEnd::LinkFault),
     }

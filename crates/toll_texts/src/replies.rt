@@ -1,5 +1,5 @@
 // The bytes of an answer.
-ghost use Rattle.std.specs.Prelude.{◌≡◌, string_bytes, IfOk};
+ghost use Rattle.std.specs.Prelude.{◌≡◌, codes, string_bytes, IfOk};
 ghost use Rattle.toll_texts.specs.Replies as replies;
 
 use http::StatusCode;
@@ -17,7 +17,7 @@ fn phrase_of(status: StatusCode) -> &'static str
 }
 
 /// The status line, without its end.
-fn status_line(alloc: Global, status: StatusCode) -> Result<String, NoMemory>
+pub(crate) fn status_line(alloc: Global, status: StatusCode) -> Result<String, NoMemory>
     ensures { IfOk result (λ s. string_bytes s ≡ replies.status_line status) }
 {
     let code = status.as_u16();
@@ -26,7 +26,7 @@ fn status_line(alloc: Global, status: StatusCode) -> Result<String, NoMemory>
 }
 
 /// The length of a body and what stands between it and the body.
-fn length_field(alloc: Global, body: &str) -> Result<String, NoMemory>
+pub(crate) fn length_field(alloc: Global, body: &str) -> Result<String, NoMemory>
     ensures { IfOk result (λ s. string_bytes s ≡ replies.length_field body.now) }
 {
     let count = body.len();
@@ -50,4 +50,20 @@ pub fn no_memory_text() -> &'static [u8]
 {
     b"HTTP/1.1 500 Internal Server Error\r\nContent-Length: 18\r\nContent-Type: application/json\r\n\
         Connection: close\r\n\r\n{\"error\":\"memory\"}"
+}
+
+/// The answer where the keeper failed, which takes no memory.
+pub fn keeper_text() -> &'static [u8]
+    ensures { result.now ≡ replies.reply_bytes (replies.error_reply 503 (codes "keeper")) }
+{
+    b"HTTP/1.1 503 Service Unavailable\r\nContent-Length: 18\r\nContent-Type: application/json\r\n\
+        Connection: close\r\n\r\n{\"error\":\"keeper\"}"
+}
+
+/// The answer where a day is not kept, which takes no memory.
+pub fn no_day_text() -> &'static [u8]
+    ensures { result.now ≡ replies.reply_bytes (replies.error_reply 404 (codes "no day")) }
+{
+    b"HTTP/1.1 404 Not Found\r\nContent-Length: 18\r\nContent-Type: application/json\r\n\
+        Connection: close\r\n\r\n{\"error\":\"no day\"}"
 }

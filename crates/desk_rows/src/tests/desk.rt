@@ -4,11 +4,13 @@ ghost use Rattle.std.specs.Prelude.{◌≡◌, IfOk};
 mod beside;
 mod faults;
 mod held;
+mod listing;
 mod rows;
 mod sharing;
 
 use import_plan::Plan;
 use keeper::{Keeper, MemKeeper};
+use listing::{AFTER_TWO_DAYS, LISTED, charged_on_five};
 use live_board::{Board, BoardReader, BoardWriter, board};
 use partition_workers::{Crew, InlineCrew};
 use road_io::MemLink;
@@ -24,19 +26,29 @@ const LEAVING: &[u8] =
         0,120,100,30,0,4,0,11,60000,-1,-1,-1,-1,-1,-1\n0,150,100,30,1,0,0,5,26400,-1,-1,-1,-1,-1,-1\n\
         2,160,100,-1,-1,-1,-1,-1,-1,9,-1,-1,-1,-1,-1\n";
 
-/// A POST of the day on which vehicle 100 is charged as it leaves a crowded stretch.
-fn charged_on_leaving(alloc: Global) -> Result<Vec<u8>, NoMemory> {
+/// A POST of a day with these lines.
+fn post_of(alloc: Global, day: u32, lines: &[u8]) -> Result<Vec<u8>, NoMemory> {
+    let count = lines.len();
+    let head = format!(in alloc; "POST /days/{day} HTTP/1.1\r\nContent-Length: {count}\r\n\r\n")?;
+    let mut request = Vec::from_slice(alloc, head.as_bytes())?;
+    request.extend_from_slice(lines)?;
+    Ok(request)
+}
+
+/// A POST of a day on which a stretch of an expressway is crowded, and then a vehicle leaves it.
+fn charged_on(alloc: Global, day: u32, xway: u8, leaving: &[u8]) -> Result<Vec<u8>, NoMemory> {
     let mut lines = Vec::new(alloc);
     for v in 1..52u32 {
-        let line = format!(in alloc; "0,0,{v},30,0,1,0,10,52800,-1,-1,-1,-1,-1,-1\n")?;
+        let line = format!(in alloc; "0,0,{v},30,{xway},1,0,10,52800,-1,-1,-1,-1,-1,-1\n")?;
         lines.extend_from_slice(line.as_bytes())?;
     }
-    lines.extend_from_slice(LEAVING)?;
-    let count = lines.len();
-    let head = format!(in alloc; "POST /days/100 HTTP/1.1\r\nContent-Length: {count}\r\n\r\n")?;
-    let mut request = Vec::from_slice(alloc, head.as_bytes())?;
-    request.extend_from_slice(lines.as_slice())?;
-    Ok(request)
+    lines.extend_from_slice(leaving)?;
+    post_of(alloc, day, lines.as_slice())
+}
+
+/// A POST of the day on which vehicle 100 is charged as it leaves a crowded stretch.
+fn charged_on_leaving(alloc: Global) -> Result<Vec<u8>, NoMemory> {
+    charged_on(alloc, 100, 0, LEAVING)
 }
 
 /// The answer of a status line and a body; none without a status.
@@ -84,7 +96,7 @@ fn ask<K: Keeper, C: Crew, R: Wait + Threads + Drop>(
     requires board { reader.old.board ≡ desk.old.writer.board }
     ensures board { IfOk result (λ _. reader.new.board ≡ desk.new.writer.board) }
 {
-    let mut link = MemLink::new(alloc, input, piece.max(1), 1000, &[])?;
+    let mut link = MemLink::new(alloc, input, piece.max(1), 40_000, &[])?;
     let end = session(alloc, &mut link, reader, desk);
     let written = Vec::from_slice(alloc, link.bytes())?;
     Ok((end, written))
@@ -113,7 +125,7 @@ fn first_wrong<K: Keeper, C: Crew, R: Wait + Threads + Drop>(
 }
 
 /// What is asked after the day of a charge.
-const AFTER_A_CHARGE: [Row; 3] = [
+const AFTER_A_CHARGE: [Row; 4] = [
     Row {
         request: b"GET /live/100 HTTP/1.1\r\n\r\n",
         end: SessionEnd::Answered(200),
@@ -131,6 +143,12 @@ const AFTER_A_CHARGE: [Row; 3] = [
         end: SessionEnd::Answered(200),
         status: "200 OK",
         body: "{\"spent\":2}",
+    },
+    Row {
+        request: b"GET /vehicles/100/1/100 HTTP/1.1\r\n\r\n",
+        end: SessionEnd::Answered(200),
+        status: "200 OK",
+        body: "{\"amounts\":[{\"day\":100,\"tolls\":2,\"xway\":0}],\"from\":1,\"to\":100,\"total\":2,\"vid\":100}",
     },
 ];
 
@@ -165,13 +183,31 @@ fn post_twice<R: Wait + Threads + Drop>(
     Ok((end, wrong))
 }
 
+/// Posts a day of a charge on expressway 0, another on expressway 5, and then asks for both.
+fn post_two<R: Wait + Threads + Drop>(
+    alloc: Global,
+    desk: &mut Desk<MemKeeper, InlineCrew, R>,
+    reader: &mut BoardReader,
+) -> Result<(SessionEnd, usize), NoMemory>
+    requires board { reader.old.board ≡ desk.old.writer.board }
+{
+    let request = charged_on_leaving(alloc)?;
+    ask(alloc, desk, reader, request.as_slice(), 100)?;
+    let request = charged_on_five(alloc)?;
+    let (end, _) = ask(alloc, desk, reader, request.as_slice(), 100)?;
+    let wrong = first_wrong(alloc, desk, reader, &AFTER_TWO_DAYS, 100)?;
+    Ok((end, wrong))
+}
+
 /// What is asked of a new desk: the worked rows in pieces of a size, or what follows a day of a charge that is posted
-/// once or twice.
+/// once or twice, or two such days; or days that are posted and listed.
 #[derive(Clone, Copy)]
 enum Asking {
     Rows(usize),
     Charge,
     ChargeTwice,
+    TwoDays,
+    Listed,
 }
 
 /// How a first post ends, where there is one, and which row is wrong then, their count where none is.
@@ -188,6 +224,8 @@ fn asked<R: Wait + Threads + Drop>(
         Asking::Rows(piece) => Ok((end, first_wrong(alloc, desk, reader, &ROWS, piece)?)),
         Asking::Charge => Ok((end, post_and_ask(alloc, desk, reader)?)),
         Asking::ChargeTwice => post_twice(alloc, desk, reader),
+        Asking::TwoDays => post_two(alloc, desk, reader),
+        Asking::Listed => Ok((end, first_wrong(alloc, desk, reader, &LISTED, 100)?)),
     }
 }
 

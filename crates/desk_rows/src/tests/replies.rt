@@ -1,10 +1,10 @@
 // The bytes of answers.
 use http::StatusCode;
 use keeper::{DayRecord, Digest};
-use road_time::NoMemory;
+use road_time::{NoMemory, SpentRow};
 use toll_texts::{
-    day_body, differs_body, error_body, imported_body, live_body, no_memory_text, passed_body,
-    refused_body, reply_text, spent_body, total_body,
+    day_body, days_body, differs_body, error_body, imported_body, live_body, no_memory_text,
+    passed_body, refused_body, reply_text, spent_body, total_body, vehicle_body,
 };
 use tuple_format::Cause;
 
@@ -106,5 +106,41 @@ fn bodies(rt: HostRuntime) -> Result<(), NoMemory> {
     assert!(rt; is(spent_body(rt.alloc(), 2)?, "{\"spent\":2}"));
     assert!(rt; is(live_body(rt.alloc(), 56, 2, 100)?, live));
     assert!(rt; is(total_body(rt.alloc(), 56, 100, 2)?, total));
+    Ok(())
+}
+
+/// Two amounts, the greatest that there are.
+const AMOUNTS: [SpentRow; 2] = [
+    SpentRow {
+        day: 69,
+        vid: 177,
+        xway: 5,
+        tolls: u64::MAX,
+    },
+    SpentRow {
+        day: 104,
+        vid: 177,
+        xway: 255,
+        tolls: u64::MAX,
+    },
+];
+
+/// The statement of these.
+const OF_A_VEHICLE: &str = "{\"amounts\":[{\"day\":69,\"tolls\":18446744073709551615,\"xway\":5},\
+        {\"day\":104,\"tolls\":18446744073709551615,\"xway\":255}],\"from\":1,\"to\":1000000,\
+        \"total\":36893488147419103230,\"vid\":177}";
+
+/// The texts of bodies that hold an array.
+#[test]
+fn bodies_with_arrays(rt: HostRuntime) -> Result<(), NoMemory> {
+    let two = format!(in rt.alloc(); "[{OF_A_BUSY_DAY},{OF_A_BUSY_DAY}]")?;
+    assert!(rt; is(days_body(rt.alloc(), &[])?, "[]"));
+    assert!(rt; is(days_body(rt.alloc(), &[BUSY, BUSY])?, two.as_str()));
+    assert!(rt;
+        is(
+            vehicle_body(rt.alloc(), 177, 1, 1000000, &AMOUNTS)?,
+            OF_A_VEHICLE
+        )
+    );
     Ok(())
 }

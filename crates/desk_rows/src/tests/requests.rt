@@ -16,6 +16,9 @@ enum Came {
     Spent(u32, u8, u32),
     Live(u32),
     Total,
+    Vehicle(u32, u32, u32),
+    Days,
+    Page,
     Ended(SessionEnd),
 }
 
@@ -26,6 +29,9 @@ fn came_of(read: &Result<Asked, SessionEnd>) -> Came {
         Ok(Asked::Spent { day, xway, vid }) => Came::Spent(*day, *xway, *vid),
         Ok(Asked::Live(vid)) => Came::Live(*vid),
         Ok(Asked::LiveTotal) => Came::Total,
+        Ok(Asked::Vehicle { vid, from, to }) => Came::Vehicle(*vid, *from, *to),
+        Ok(Asked::Days) => Came::Days,
+        Ok(Asked::Page) => Came::Page,
         Err(end) => Came::Ended(*end),
     }
 }

@@ -111,3 +111,25 @@ fn a_keeper_that_fails_is_told(rt: HostRuntime) -> Result<(), NoMemory> {
     }
     Ok(())
 }
+
+/// What is asked of what is kept, each by its first call of the keeper.
+const KEPT: [&[u8]; 4] = [
+    b"GET /days/104 HTTP/1.1\r\n\r\n",
+    b"GET /spent/104/5/177 HTTP/1.1\r\n\r\n",
+    b"GET /vehicles/177/101/104 HTTP/1.1\r\n\r\n",
+    b"GET /days HTTP/1.1\r\n\r\n",
+];
+
+/// A GET of what is kept is answered with 503 where the keeper fails, and so is one of all days at its second call.
+#[test]
+fn a_keeper_that_fails_is_told_to_those_who_ask(rt: HostRuntime) -> Result<(), NoMemory> {
+    for request in KEPT {
+        let mut link = MemLink::new(rt.alloc(), request, 100, 1000, &[])?;
+        let end = SessionEnd::Answered(503);
+        assert!(rt; ends_so(rt, rt.alloc(), &mut link, &[0], end, false)?);
+    }
+    let mut link = MemLink::new(rt.alloc(), KEPT[3], 100, 1000, &[])?;
+    let end = SessionEnd::Answered(503);
+    assert!(rt; ends_so(rt, rt.alloc(), &mut link, &[1], end, false)?);
+    Ok(())
+}

@@ -31,7 +31,7 @@ const TOO_LONG: &[u8] =
         Connection: close\r\n\r\n{\"error\":\"too long\"}";
 
 /// Requests that are read, and what they ask.
-pub const ASKED: [(&[u8], Came); 27] = [
+pub const ASKED: [(&[u8], Came); 34] = [
     (b"GET /days/100 HTTP/1.1\r\n\r\n", Came::Day(100)),
     (b"GET /days/100 HTTP/1.0\n\n", Came::Day(100)),
     (b"\r\n\r\nGET /days/100 HTTP/1.1\r\n\r\n", Came::Day(100)),
@@ -91,6 +91,25 @@ pub const ASKED: [(&[u8], Came); 27] = [
         Came::Live(5),
     ),
     (b"GET /live?x HTTP/1.1\r\n\r\n", Came::Total),
+    (
+        b"GET /vehicles/100/1/1000000 HTTP/1.1\r\n\r\n",
+        Came::Vehicle(100, 1, 1000000),
+    ),
+    (
+        b"GET /vehicles/2147483647/070/70?from=1 HTTP/1.1\r\n\r\n",
+        Came::Vehicle(2147483647, 70, 70),
+    ),
+    (b"GET /days HTTP/1.1\r\n\r\n", Came::Days),
+    (
+        b"GET /days?from=/live HTTP/1.1\r\nHost: localhost:8080\r\n\r\n",
+        Came::Days,
+    ),
+    (b"GET / HTTP/1.1\r\n\r\n", Came::Page),
+    (b"GET /? HTTP/1.0\n\n", Came::Page),
+    (
+        b"GET / HTTP/1.1\r\nHost: 127.0.0.1:8080\r\nConnection: keep-alive\r\n\r\n",
+        Came::Page,
+    ),
     (b"", Came::Ended(SessionEnd::Cut)),
     (b"GET", Came::Ended(SessionEnd::Cut)),
     (b"GET /days/100", Came::Ended(SessionEnd::Cut)),
@@ -129,6 +148,9 @@ pub const REFUSED: [Refused; 7] = [
         answer: BAD_ORIGIN,
         requests: &[
             b"GET /live HTTP/1.1\r\nHost: x\r\n\r\n",
+            b"GET / HTTP/1.1\r\nHost: x\r\n\r\n",
+            b"GET /days HTTP/1.1\r\nHost: localhost\r\nOrigin: http://x\r\n\r\n",
+            b"GET /vehicles/100/1/2 HTTP/1.1\r\nOrigin: null\r\n\r\n",
             b"GET /nothing HTTP/1.1\r\nHost: desk.example:8080\r\n\r\n",
             b"GET /live HTTP/1.1\r\nHost: 127.0.0.1.example\r\n\r\n",
             b"GET /live HTTP/1.1\r\nHost: localhost:80.example\r\n\r\n",
@@ -146,13 +168,15 @@ pub const REFUSED: [Refused; 7] = [
         answer: NO_PATH,
         requests: &[
             b"GET /nothing HTTP/1.1\r\n\r\n",
-            b"GET / HTTP/1.1\r\n\r\n",
             b"GET * HTTP/1.1\r\n\r\n",
+            b"GET // HTTP/1.1\r\n\r\n",
+            b"GET /index.html HTTP/1.1\r\n\r\n",
+            b"GET ?x HTTP/1.1\r\n\r\n",
             b"GET http://desk/live HTTP/1.1\r\n\r\n",
             b"GET days/100 HTTP/1.1\r\n\r\n",
             b"GET //days/100 HTTP/1.1\r\n\r\n",
-            b"GET /days HTTP/1.1\r\n\r\n",
             b"GET /days/ HTTP/1.1\r\n\r\n",
+            b"GET /Days HTTP/1.1\r\n\r\n",
             b"GET /days/100/ HTTP/1.1\r\n\r\n",
             b"GET /days/7 HTTP/1.1\r\n\r\n",
             b"GET /days/69 HTTP/1.1\r\n\r\n",
@@ -179,6 +203,16 @@ pub const REFUSED: [Refused; 7] = [
             b"GET /live/2147483648 HTTP/1.1\r\n\r\n",
             b"GET /live/9999999999 HTTP/1.1\r\n\r\n",
             b"GET /LIVE HTTP/1.1\r\n\r\n",
+            b"GET /vehicles HTTP/1.1\r\n\r\n",
+            b"GET /vehicles/100 HTTP/1.1\r\n\r\n",
+            b"GET /vehicles/100/1 HTTP/1.1\r\n\r\n",
+            b"GET /vehicles/100/2/1 HTTP/1.1\r\n\r\n",
+            b"GET /vehicles/100/0/1 HTTP/1.1\r\n\r\n",
+            b"GET /vehicles/100/1/1000001 HTTP/1.1\r\n\r\n",
+            b"GET /vehicles/2147483648/1/2 HTTP/1.1\r\n\r\n",
+            b"GET /vehicles/100//2 HTTP/1.1\r\n\r\n",
+            b"GET /vehicles/100/1/2/ HTTP/1.1\r\n\r\n",
+            b"GET /vehicles/100/1/2/3 HTTP/1.1\r\n\r\n",
         ],
     },
     Refused {
@@ -194,6 +228,11 @@ pub const REFUSED: [Refused; 7] = [
             b"POST /live/100 HTTP/1.1\r\n\r\n",
             b"POST /live HTTP/1.1\r\n\r\n",
             b"OPTIONS /live HTTP/1.1\r\n\r\n",
+            b"POST /days HTTP/1.1\r\nContent-Length: 0\r\n\r\n",
+            b"DELETE /days HTTP/1.1\r\n\r\n",
+            b"POST / HTTP/1.1\r\nContent-Length: 0\r\n\r\n",
+            b"HEAD / HTTP/1.1\r\n\r\n",
+            b"PUT /vehicles/100/1/2 HTTP/1.1\r\n\r\n",
         ],
     },
     Refused {

@@ -1,8 +1,9 @@
-use Rattle.std.proofs.Common.{◌≡◌, None, sym, subst, arith}
+use Rattle.std.proofs.Common.{◌≡◌, inl, length, sym, subst, arith}
 use Rattle.toll_texts.specs.Bodies.{day_body}
 use Rattle.toll_desk.specs.Answers.{AnswersReply, day_reply}
-use Rattle.toll_requests.proofs.StatusLaws.{not_unavailable}
-use Rattle.toll_desk.proofs.SendLaws.{endless_has}
+use Rattle.toll_requests.specs.Sends.{Sends, HasRoom}
+use Rattle.toll_requests.proofs.StatusLaws.{not_sent_503}
+use Rattle.toll_desk.proofs.SendLaws.{endless_room}
 use Rattle.toll_desk.proofs.answers.send_day.Goals as goal
 
 pub returns-in-Some-clause-sent : goal.returns-in-Some-clause-sent
@@ -17,14 +18,17 @@ returns-in-Some-clause-unavailable g c =
 
 pub returns-in-None-clause-sent : goal.returns-in-None-clause-sent
 returns-in-None-clause-sent g c =
-    subst (λ k. AnswersReply (day_reply k) (g.L.Link.room c.args.link.now) (g.L.Link.written c.args.link.now)
-    (g.L.Link.written c.send_error.new.link) c.send_error.result) (sym c.in-None.is)
-    (c.send_error.ensures.sent, c.send_error.ensures.sure)
+    let old = g.L.Link.written c.args.link.now in
+    let new = g.L.Link.written c.send_bytes.new.link in
+    subst (λ k. AnswersReply (day_reply k) (g.L.Link.room c.args.link.now) old new c.send_bytes.result) (sym c.in-None.is) (
+      inl (subst (λ t. Sends 404 t old new c.send_bytes.result) c.no_day_text.ensures c.send_bytes.ensures.sent),
+      λ has. c.send_bytes.ensures.sure
+          (subst (λ t. HasRoom (g.L.Link.room c.args.link.now) (length t)) (sym c.no_day_text.ensures) has.0),
+    )
 
 pub returns-in-None-clause-unavailable : goal.returns-in-None-clause-unavailable
-returns-in-None-clause-unavailable g c =
-    λ is. not_unavailable (day_reply None) _ _ _ c.send_error.ensures.sent
+returns-in-None-clause-unavailable g c = λ is. not_sent_503 404 _ _ _ _ c.send_bytes.ensures.sent
     (λ e. (let same : 404 ≡ 503 = e in omega (arith, same))) is
 
 pub returns-in-None-clause-sure : goal.returns-in-None-clause-sure
-returns-in-None-clause-sure g c = λ endless. c.send_error.ensures.sure (endless_has _ (day_reply None) endless)
+returns-in-None-clause-sure g c = λ endless. c.send_bytes.ensures.sure (endless_room _ _ endless)

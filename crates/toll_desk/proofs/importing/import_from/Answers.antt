@@ -1,7 +1,7 @@
-use Rattle.std.proofs.Common.{subst, sym, ap, ◌∙◌, arith}
+use Rattle.std.proofs.Common.{subst, ap, ◌∙◌, arith}
 use Rattle.toll_requests.specs.Bodies.{EndsBody}
 use Rattle.toll_requests.proofs.BodyLaws.{body_told, none_left}
-use Rattle.toll_desk.proofs.ImportLaws.{alone_as}
+use Rattle.toll_desk.proofs.ImportLaws.{alone_as, not_answered}
 use Rattle.toll_desk.proofs.importing.import_from.Goals as goal
 
 pub returns-clause-imports : goal.returns-clause-imports
@@ -22,3 +22,8 @@ returns-clause-stored g c = λ all kept is stored cut.
     let none = none_left _ _ _ (c.import-outcome.ensures.whole _ kept told stored) in
     let off = b.cut_off (subst (EndsBody b.left b.faults b.cut) cut c.drain-end.ensures.end) in
     omega (arith, none, off.0, c.drain-end.ensures.fewer)
+
+pub returns-clause-posted : goal.returns-clause-posted
+returns-clause-posted g c = λ kept is.
+    let i = c.import-outcome in
+    not_answered i.result kept (alone_as i.result (λ _. tt) (λ _. tt) i.ensures.alone) is

@@ -1,5 +1,4 @@
-use Rattle.std.proofs.Common.{[], Some, None, inl, inr, refl, sym, subst}
-use Rattle.std.proofs.lemmas.List.{append-nil}
+use Rattle.std.proofs.Common.{Some, inl, inr, subst}
 use Rattle.toll_texts.specs.Replies.{no_memory_reply}
 use Rattle.toll_desk.specs.Answers.{AnswersReply}
 use Rattle.toll_desk.specs.Live.{live_reply}

@@ -1,9 +1,10 @@
 use Rattle.std.proofs.Common.{Some, inl, inr, refl, subst, ◌∙◌}
 use Rattle.toll_requests.specs.Bodies.{LeavesBody}
 use Rattle.toll_requests.proofs.BodyLaws.{never_faulty}
-use Rattle.toll_desk.specs.Answers.{AnswersReply, outcome_reply}
+use Rattle.toll_desk.specs.Answers.{AnswersOutcome}
 use Rattle.toll_desk.specs.Imports.{Imports}
-use Rattle.toll_desk.proofs.ImportLaws.{filled_whole}
+use Rattle.toll_desk.proofs.SendLaws.{not_risen}
+use Rattle.toll_desk.proofs.ImportLaws.{filled_whole, keeper_failed}
 use Rattle.toll_desk.proofs.posting.answer_import.Goals as goal
 
 pub returns-in-Whole-clause-imports : goal.returns-in-Whole-clause-imports
@@ -19,9 +20,9 @@ returns-in-Whole-clause-imports g c = λ all o known told.
           left.0,
           c.send_outcome.ensures.unread ∙ left.1,
           ((λ read. i.ensures.read read c.in-Whole.is), i.ensures.unfailed),
-          subst (λ r. AnswersReply (outcome_reply i.result.0) r (g.L.Link.written c.args.link.now)
+          subst (λ r. AnswersOutcome i.result.0 r (g.L.Link.written c.args.link.now)
               (g.L.Link.written c.send_outcome.new.link) c.send_outcome.result) i.ensures.room_kept
-              (subst (λ w. AnswersReply (outcome_reply i.result.0) (g.L.Link.room i.new.link) w
+              (subst (λ w. AnswersOutcome i.result.0 (g.L.Link.room i.new.link) w
               (g.L.Link.written c.send_outcome.new.link) c.send_outcome.result) i.ensures.unwritten
               c.send_outcome.ensures.sent),
         ),
@@ -72,3 +73,9 @@ pub returns-in-LinkFault-clause-sure : goal.returns-in-LinkFault-clause-sure
 returns-in-LinkFault-clause-sure g c =
     λ never endless is. never_faulty _ _ _ c.import_body-outcome.result.1 c.import_body-outcome.ensures.link_cause never
     c.in-LinkFault.is
+
+pub returns-in-Whole-clause-failed : goal.returns-in-Whole-clause-failed
+returns-in-Whole-clause-failed g c = λ rose.
+    let i = c.import_body-outcome in
+    c.send_outcome.ensures.told
+    (keeper_failed i.result.0 (λ other. not_risen _ _ (i.ensures.keeper.still other) rose))

@@ -1,4 +1,4 @@
-use Rattle.std.proofs.Common.{sym, subst}
+use Rattle.std.proofs.Common.{refl, sym, subst}
 use Rattle.toll_desk.specs.Desk.{AnswersRead}
 use Rattle.toll_desk.proofs.two_locks.answer_shared.Goals as goal
 
@@ -28,3 +28,30 @@ returns-in-Import-clause-reads g c = λ o told.
     subst (λ asked. AnswersRead asked o (g.K.Keeper.told k) (g.K.Keeper.faults c.args.keeper.now)
     (g.K.Keeper.faults k) (g.L.Link.room l) (g.L.Link.written l) (g.L.Link.written a.new.link) a.result)
     (sym c.in-Import.is) tt
+
+pub returns-in-Vehicle-clause-reads : goal.returns-in-Vehicle-clause-reads
+returns-in-Vehicle-clause-reads g c = λ o told.
+    let l = c.args.link.now in
+    let a = c.answer_vehicle in
+    let k = a.new.keeper in
+    subst (λ asked. AnswersRead asked o (g.K.Keeper.told k) (g.K.Keeper.faults c.args.keeper.now)
+    (g.K.Keeper.faults k) (g.L.Link.room l) (g.L.Link.written l) (g.L.Link.written a.new.link) a.result)
+    (sym c.in-Vehicle.is) (a.ensures.told o told, a.ensures.sent o told)
+
+pub returns-in-Days-clause-reads : goal.returns-in-Days-clause-reads
+returns-in-Days-clause-reads g c = λ o told.
+    let l = c.args.link.now in
+    let a = c.answer_days in
+    let k = a.new.keeper in
+    subst (λ asked. AnswersRead asked o (g.K.Keeper.told k) (g.K.Keeper.faults c.args.keeper.now)
+    (g.K.Keeper.faults k) (g.L.Link.room l) (g.L.Link.written l) (g.L.Link.written a.new.link) a.result)
+    (sym c.in-Days.is) (a.ensures.told o told, a.ensures.sent o told)
+
+pub returns-in-Page-clause-reads : goal.returns-in-Page-clause-reads
+returns-in-Page-clause-reads g c = λ o told.
+    let l = c.args.link.now in
+    let a = c.answer_page in
+    let k = c.args.keeper.now in
+    subst (λ asked. AnswersRead asked o (g.K.Keeper.told k) (g.K.Keeper.faults k)
+    (g.K.Keeper.faults k) (g.L.Link.room l) (g.L.Link.written l) (g.L.Link.written a.new.link) a.result)
+    (sym c.in-Page.is) (told, refl, a.ensures.sent)

@@ -45,3 +45,42 @@ returns-in-Import-clause-answers g c = λ o told.
     (sym c.in-Import.is)
     (λ all known. a.ensures.imports all o (ap (λ e. prepend_known e (g.L.Link.left l)) c.items.ensures ∙ known)
     told)
+
+pub returns-in-Vehicle-clause-answers : goal.returns-in-Vehicle-clause-answers
+returns-in-Vehicle-clause-answers g c = λ o told.
+    let s = c.args.self.now in
+    let l = c.args.link.now in
+    let a = c.answer_vehicle in
+    subst (λ asked. AnswersKept g.K.Keeper.refuses g.C.Crew.exact asked s.limits o
+    (state_of (g.K.Keeper.told s.keeper) (g.K.Keeper.faults s.keeper) s.writer.posted)
+    (state_of (g.K.Keeper.told a.new.keeper) (g.K.Keeper.faults a.new.keeper) s.writer.posted)
+    (wire_of (g.L.Link.left l) (g.L.Link.plan l) (g.L.Link.written l) (g.L.Link.room l))
+    (wire_of (g.L.Link.left a.new.link) (g.L.Link.plan a.new.link) (g.L.Link.written a.new.link)
+    (g.L.Link.room a.new.link)) a.result)
+    (sym c.in-Vehicle.is) ((a.ensures.told o told, refl, a.ensures.unread), a.ensures.sent o told)
+
+pub returns-in-Days-clause-answers : goal.returns-in-Days-clause-answers
+returns-in-Days-clause-answers g c = λ o told.
+    let s = c.args.self.now in
+    let l = c.args.link.now in
+    let a = c.answer_days in
+    subst (λ asked. AnswersKept g.K.Keeper.refuses g.C.Crew.exact asked s.limits o
+    (state_of (g.K.Keeper.told s.keeper) (g.K.Keeper.faults s.keeper) s.writer.posted)
+    (state_of (g.K.Keeper.told a.new.keeper) (g.K.Keeper.faults a.new.keeper) s.writer.posted)
+    (wire_of (g.L.Link.left l) (g.L.Link.plan l) (g.L.Link.written l) (g.L.Link.room l))
+    (wire_of (g.L.Link.left a.new.link) (g.L.Link.plan a.new.link) (g.L.Link.written a.new.link)
+    (g.L.Link.room a.new.link)) a.result)
+    (sym c.in-Days.is) ((a.ensures.told o told, refl, a.ensures.unread), a.ensures.sent o told)
+
+pub returns-in-Page-clause-answers : goal.returns-in-Page-clause-answers
+returns-in-Page-clause-answers g c = λ o told.
+    let s = c.args.self.now in
+    let l = c.args.link.now in
+    let a = c.answer_page in
+    subst (λ asked. AnswersKept g.K.Keeper.refuses g.C.Crew.exact asked s.limits o
+    (state_of (g.K.Keeper.told s.keeper) (g.K.Keeper.faults s.keeper) s.writer.posted)
+    (state_of (g.K.Keeper.told s.keeper) (g.K.Keeper.faults s.keeper) s.writer.posted)
+    (wire_of (g.L.Link.left l) (g.L.Link.plan l) (g.L.Link.written l) (g.L.Link.room l))
+    (wire_of (g.L.Link.left a.new.link) (g.L.Link.plan a.new.link) (g.L.Link.written a.new.link)
+    (g.L.Link.room a.new.link)) a.result)
+    (sym c.in-Page.is) ((told, refl, a.ensures.unread), refl, a.ensures.sent)

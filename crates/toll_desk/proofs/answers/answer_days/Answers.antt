@@ -1,0 +1,33 @@
+use Rattle.std.proofs.Common.{◌≡◌, inl, refl, subst, arith, ◌∙◌}
+use Rattle.toll_texts.specs.Lists.{days_body}
+use Rattle.toll_desk.specs.Answers.{AnswersReply, good, days_reply}
+use Rattle.toll_desk.proofs.SendLaws.{failed_rose, not_risen}
+use Rattle.toll_desk.proofs.DayLaws.{memory_still, risen_failed}
+use Rattle.toll_desk.proofs.answers.answer_days.Goals as goal
+
+pub returns-in-Ok-clause-sent : goal.returns-in-Ok-clause-sent
+returns-in-Ok-clause-sent g c = λ o told.
+    inl (
+      c.in-Ok.ensures.cause.still refl,
+      subst
+          (λ days. AnswersReply (good (days_body days)) (g.L.Link.room c.args.link.now) (g.L.Link.written c.args.link.now)
+          (g.L.Link.written c.send_made.new.link) c.send_made.result) (c.as_slice.ensures.value ∙ c.in-Ok.ensures.found o told)
+          (c.send_made.ensures.sent (days_body c.as_slice.result.now) c.days_body.ensures),
+    )
+
+pub returns-in-Ok-clause-unavailable : goal.returns-in-Ok-clause-unavailable
+returns-in-Ok-clause-unavailable g c =
+    λ is. absurd (c.send_made.ensures.unavailable (λ e. (let same : 200 ≡ 503 = e in omega (arith, same))) is)
+
+pub returns-in-Err-clause-sent : goal.returns-in-Err-clause-sent
+returns-in-Err-clause-sent g c = λ o told.
+    c.send_refusal.ensures.sent (days_reply o) _ _
+    (failed_rose _ _ c.in-Err.fault c.in-Err.ensures.cause)
+    (memory_still _ _ c.in-Err.fault c.in-Err.ensures.cause)
+
+pub returns-in-Ok-clause-failed : goal.returns-in-Ok-clause-failed
+returns-in-Ok-clause-failed g c = λ rose. not_risen _ _ (c.in-Ok.ensures.cause.still refl) rose
+
+pub returns-in-Err-clause-failed : goal.returns-in-Err-clause-failed
+returns-in-Err-clause-failed g c =
+    λ rose. c.send_refusal.ensures.told (risen_failed _ _ c.in-Err.fault c.in-Err.ensures.cause rose)
