@@ -21,8 +21,9 @@ IsCauseOf DiskFailed e = e ≡ SqliteFailure SystemIoFailure
 IsCauseOf Shut e = e ≡ SqliteFailure Closed
 IsCauseOf Memory e = e ≡ SqliteFailure OutOfMemory
 IsCauseOf Odd e =
-    (e ≢ SqliteFailure DatabaseBusy) × (e ≢ SqliteFailure NotADatabase) × (e ≢ SqliteFailure DatabaseCorrupt)
-    × (e ≢ SqliteFailure DiskFull) × (e ≢ SqliteFailure SystemIoFailure)
+    (e ≢ SqliteFailure DatabaseBusy) × (e ≢ SqliteFailure CannotOpen) × (e ≢ SqliteFailure DatabaseCorrupt)
+    × (e ≢ SqliteFailure NotADatabase) × (e ≢ SqliteFailure DiskFull) × (e ≢ SqliteFailure SystemIoFailure)
+    × (e ≢ SqliteFailure Closed) × (e ≢ SqliteFailure OutOfMemory)
 IsCauseOf other e = ⊥
 
 -- a failure says why, and want of memory leaves what was said

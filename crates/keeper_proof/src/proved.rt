@@ -33,6 +33,7 @@ pub struct ProvedKeeper<S: Steady> {
 /// Why tables could not be made, none where they were.
 fn why_unmade(made: Result<(), Error>) -> Option<KeepFault>
     ensures none { result ≡ None → IsOk made }
+    ensures made { IsOk made → result ≡ None }
     ensures memory { (result ≡ Some NoMemory) ↔ (made ≡ Err (SqliteFailure OutOfMemory)) }
 {
     match made {
@@ -71,6 +72,7 @@ impl<S: Steady> ProvedKeeper<S> {
             (state S.Store connection).committed) }
         ensures faultless { result.faults ≡ 0 }
         ensures quiet { result.unmade ≡ None → result.refused ≡ None }
+        ensures told { result.refused ≡ None → result.unmade ≡ None }
     {
         let mut conn = connection;
         let made = make(&mut conn, alloc);
