@@ -137,9 +137,7 @@ impl<D: AtPath> Database<D> {
     }
 
     /// The trees of the file, or a keeper on a new connection.
-    fn opened_to_read(
-        &self,
-    ) -> Result<Kept<PageTrees<Pool<D>>, ProvedKeeper<FileStore<D>>>, Cause>
+    fn opened_to_read(&self) -> Result<Kept<PageTrees<Pool<D>>, ProvedKeeper<FileStore<D>>>, Cause>
         ensures { IfOk result (IsReadyToRead (AreFound ⟦<Pool<D> as Pages>⟧) (λ k. k.unmade ≢ Some NoMemory) None) }
     {
         let conn = match open_to_read::<D>(&self.rt, self.path.as_str()) {

@@ -55,7 +55,8 @@ fn told(refused: Option<Refused>) -> Option<Cause>
         → IsSomeAnd result (λ cause. IsCauseOf cause e) }
 {
     match refused {
-        None | Some(Refused::SqliteFailure(ErrorCode::OutOfMemory)) => None,
+        None => None,
+        Some(Refused::SqliteFailure(ErrorCode::OutOfMemory)) => None,
         Some(error) => Some(cause_of(error)),
     }
 }

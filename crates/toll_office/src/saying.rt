@@ -53,7 +53,10 @@ fn say<E: Sink>(errors: &mut E, line: Result<String, AllocError>) {
 /// That a read failed.
 fn unread(alloc: Global, words: &[String]) -> Result<String, AllocError> {
     if compares(words) {
-        return format!(in alloc; "toll_office: standard input or {} could not be read\n", ASIDE_FILE);
+        return format!(in alloc;
+            "toll_office: standard input or {} could not be read\n",
+            ASIDE_FILE
+        );
     }
     format!(in alloc; "toll_office: standard input could not be read\n")
 }
@@ -76,5 +79,8 @@ fn refused(alloc: Global, cause: Option<Cause>) -> Result<String, AllocError> {
 
 /// That the file could not be closed.
 fn unclosed(alloc: Global, cause: Cause) -> Result<String, AllocError> {
-    format!(in alloc; "toll_office: {} was not closed, what was put lies in its log: {}\n", KEPT_FILE, cause)
+    format!(in alloc;
+        "toll_office: {} was not closed, what was put lies in its log: {}\n",
+        KEPT_FILE, cause
+    )
 }

@@ -41,7 +41,10 @@ fn closed(rt: &HostRuntime, status: u8, keeper: SqliteKeeper) -> u8
     ensures { result ≡ status }
 {
     if let Err(cause) = keeper.end() {
-        let _ = eprintln!(rt; "toll_serve: {} was not closed, what was put lies in its log: {}", KEPT_FILE, cause);
+        let _ = eprintln!(rt;
+            "toll_serve: {} was not closed, what was put lies in its log: {}",
+            KEPT_FILE, cause
+        );
     }
     status
 }
