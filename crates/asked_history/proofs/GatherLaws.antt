@@ -123,7 +123,9 @@ gathers_more told number day vid xway tolls olds news rows tuples more off right
       keys_are = keys_more day vid xway tolls olds news rows more g.keys_are;
       differ = differ_more rows r g.differ (sym (g.keys_are day vid xway) ∙ off);
       amounts = λ o is. all_last (λ s. s.tolls ≡ paid o.rows s.day s.vid s.xway) rows r (g.amounts o is) (right o is);
-      asked = weakened (IsGathered number rows) (IsGathered number (rows ++ r ∷ [])) (gathered_more number rows r) tuples g.asked;
+      asked =
+          weakened (IsGathered number rows) (IsGathered number (rows ++ r ∷ [])) (gathered_more number rows r) tuples
+          g.asked;
     }
 
 -- the last row is among them

@@ -7,8 +7,8 @@ use road_time::Tariff;
 use sqlite::Connection;
 use std::alloc::Global;
 
-/// What is changed: the tables are made, those of version 1 are taken over, or something is put. A day after a tariff is
-/// put while the log still has the tariff.
+/// What is changed: the tables are made, those of version 1 are taken over, or something is put. A day after a tariff
+/// is put while the log still has the tariff.
 #[derive(Clone, Copy, Debug, PartialEq, Eq)]
 pub enum Change {
     Tables,

@@ -1,9 +1,9 @@
 //! The tolling office of an expressway, over standard input and output and two files.
 //!
-//! `main` hands the words, standard input, the file `ASIDE_FILE`, standard output and what is kept in the file
-//! `KEPT_FILE` to `work`, which is `office` and says on standard error why it failed, beside helpers that take its
-//! jobs; then it closes what is kept, and the crew with its helpers, and ends with the status. A helper whose thread cannot be had helps with nothing; with none
-//! of them the office's own thread runs all jobs.
+//! `main` hands the words, standard input, the file `ASIDE_FILE`, standard output and error and what is kept in the
+//! file `KEPT_FILE` to `work`, which is `office` and says on standard error why it failed, beside helpers that take its
+//! jobs; then it closes what is kept, and the crew with its helpers, and ends with the status. A helper whose thread
+//! cannot be had helps with nothing; with none of them the office's own thread runs all jobs.
 #![tactic(auto)]
 
 mod kept;

@@ -31,8 +31,8 @@ pub struct Edges<S, A, O, K, E> {
     pub errors: E,
 }
 
-/// Does what the words ask, and says in one line why a read or what is kept failed. The status, what is written and what
-/// is kept are the office's.
+/// Does what the words ask, and says in one line why a read or what is kept failed. The status, what is written and
+/// what is kept are the office's.
 pub fn work<S: Source, A: Source, O: Sink, K: KeptFile, E: Sink, C: Crew, R: Threads + Sync>(
     rt: &R,
     alloc: Global,
