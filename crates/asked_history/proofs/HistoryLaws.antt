@@ -1,18 +1,19 @@
 -- The output of a day is the same by any history that has the amounts that are asked for.
-use Rattle.std.proofs.Common.{◌≡◌, ℕ, ◌-◌, ◌==◌, ◌&&◌, ◌||◌, Bool, true, false, List, [], ◌∷◌, ◌++◌, Some, refl}
-use Rattle.std.proofs.Common.{ap, subst, ◌∙◌}
-use Rattle.std.specs.List.{AllByRecursion, find, list_any}
-use Rattle.std.proofs.lemmas.Bool.{and_parts, eqb-true, cond-true, cond-false}
+use Rattle.std.proofs.Common.{◌≡◌, ℕ, ◌-◌, ◌≤◌, ◌||◌, Bool, true, false, List, [], ◌∷◌, ◌++◌, refl, ap, ◌∙◌, arith}
+use Rattle.std.specs.List.{AllByRecursion, list_any}
+use Rattle.std.proofs.lemmas.List.Elements.{recursion_from_All}
 use Rattle.road_time.specs.declared.road.Tuple.{Tuple}
 use Rattle.road_time.specs.declared.road.Tuple.TheVariants.{Report as ReportTuple, Balance, Spent, Travel}
 use Rattle.road_time.specs.declared.day.SpentRow.{SpentRow}
+use Rattle.road_time.specs.Fits.{IsValid, IsDay}
 use Rattle.road_time.specs.Rates.{Tariffs}
 use Rattle.road_time.specs.Sights.{Sight, moments_after}
 use Rattle.road_time.specs.Tolls.{StretchTold}
 use Rattle.road_time.specs.Day.{rules, told_by, answer_by, notices_by, notices}
-use Rattle.road_time.specs.History.{is_row, tolls_of, paid}
-use Rattle.keeper.specs.Office.{Office}
-use Rattle.asked_history.specs.Asks.{asks_history, ArePaid, IsGathered}
+use Rattle.road_time.specs.History.{paid}
+use Rattle.keeper.specs.Office.{Office, rows_between}
+use Rattle.keeper.proofs.HistoryLaws.{history_law}
+use Rattle.asked_history.specs.Asks.{asks_history}
 
 -- two histories have the same for what a tuple asks
 abbrev pub SameFor : ℕ → (ℕ → ℕ → ℕ → ℕ) → (ℕ → ℕ → ℕ → ℕ) → Tuple → Type 0
@@ -41,45 +42,31 @@ module _ (finding : Sight → StretchTold) (number : ℕ) (a b : ℕ → ℕ →
       ∙ ap (λ ns. (told_by finding (before, x) ++ answer_by finding number b (before, x)) ++ ns)
       (same_notices (before ++ x ∷ []) xs h.1)
 
--- of rows that have what an office has, one that is among them says what the office says
-paid_among : (o : Office) (rows : List SpentRow) (day vid xway : ℕ) → ArePaid o rows →
-    list_any (is_row day vid xway) rows ≡ true → paid rows day vid xway ≡ paid o.rows day vid xway
-paid_among o [] day vid xway h e = let bad : ⊥ = cc in absurd bad
-paid_among o (r ∷ rs) day vid xway h e = at (is_row day vid xway r) refl
-  where
-    at : (b : Bool) → is_row day vid xway r ≡ b → paid (r ∷ rs) day vid xway ≡ paid o.rows day vid xway
-    at true is =
-        let parts = and_parts (r.day == day) (r.vid == vid && r.xway == xway) is in
-        let ends = and_parts (r.vid == vid) (r.xway == xway) parts.1 in
-        let of_day : r.day ≡ day = eqb-true r.day day parts.0 in
-        let of_vid : r.vid ≡ vid = eqb-true r.vid vid ends.0 in
-        let of_xway : r.xway ≡ xway = eqb-true r.xway xway ends.1 in
-        ap tolls_of (cond-true (is_row day vid xway r) (Some r) (find (is_row day vid xway) rs) is)
-        ∙ (h.0 ∙ (ap (λ d. paid o.rows d r.vid r.xway) of_day ∙ (ap (λ v. paid o.rows day v r.xway) of_vid
-        ∙ ap (λ x. paid o.rows day vid x) of_xway)))
-    at false off =
-        ap tolls_of (cond-false (is_row day vid xway r) (Some r) (find (is_row day vid xway) rs) off)
-        ∙ paid_among o rs day vid xway h.1 (subst (λ b. (b || list_any (is_row day vid xway) rs) ≡ true) off e)
+-- a valid tuple of a day is answered alike by all amounts and by those of the 69 days before
+valid_same : (number : ℕ) (o : Office) (rows : List SpentRow) → rows ≡ rows_between o (number - 69) (number - 1) →
+    70 ≤ number → (x : Tuple) → IsValid x → SameFor number (paid rows) (paid o.rows) x
+valid_same number o rows e low (ReportTuple r) v = tt
+valid_same number o rows e low (Balance time vid qid) v = tt
+valid_same number o rows e low (Spent time vid xway qid day) v =
+    let from : number - 69 ≤ number - day = omega (arith, v.4, v.5) in
+    let to : number - day ≤ number - 1 = omega (arith, v.4, v.5) in
+    ap (λ rs. paid rs (number - day) vid xway) e
+    ∙ history_law o (number - 69) (number - 1) (number - day) vid xway from to
+valid_same number o rows e low (Travel time) v = tt
 
--- so what a tuple asks for is answered alike by them and by all amounts
-gathered_same : (number : ℕ) (o : Office) (rows : List SpentRow) → ArePaid o rows → (x : Tuple) →
-    IsGathered number rows x → SameFor number (paid rows) (paid o.rows) x
-gathered_same number o rows h (ReportTuple r) g = tt
-gathered_same number o rows h (Balance time vid qid) g = tt
-gathered_same number o rows h (Spent time vid xway qid day) g = paid_among o rows (number - day) vid xway h g
-gathered_same number o rows h (Travel time) g = tt
+all_same : (number : ℕ) (o : Office) (rows : List SpentRow) → rows ≡ rows_between o (number - 69) (number - 1) →
+    70 ≤ number → (xs : List Tuple) → AllByRecursion IsValid xs →
+    AllByRecursion (SameFor number (paid rows) (paid o.rows)) xs
+all_same number o rows e low [] v = tt
+all_same number o rows e low (x ∷ xs) v = (valid_same number o rows e low x v.0, all_same number o rows e low xs v.1)
 
-all_gathered : (number : ℕ) (o : Office) (rows : List SpentRow) → ArePaid o rows → (xs : List Tuple) →
-    AllByRecursion (IsGathered number rows) xs → AllByRecursion (SameFor number (paid rows) (paid o.rows)) xs
-all_gathered number o rows h [] g = tt
-all_gathered number o rows h (x ∷ xs) g = (gathered_same number o rows h x g.0, all_gathered number o rows h xs g.1)
-
--- a day's output by the amounts that were gathered for it is that by all amounts
-pub by_gathered : (number : ℕ) (o : Office) (rows : List SpentRow) (day : List Tuple) → ArePaid o rows →
-    AllByRecursion (IsGathered number rows) day → (tariffs : Tariffs) →
+-- a day's output by the amounts of the 69 days before is that by all amounts
+pub by_history : (number : ℕ) (o : Office) (rows : List SpentRow) → rows ≡ rows_between o (number - 69) (number - 1) →
+    70 ≤ number → (day : List Tuple) → IsDay day → (tariffs : Tariffs) →
     notices day tariffs number (paid rows) ≡ notices day tariffs number (paid o.rows)
-by_gathered number o rows day h g tariffs =
-    same_notices (rules day tariffs) number (paid rows) (paid o.rows) [] day (all_gathered number o rows h day g)
+by_history number o rows e low day fit tariffs =
+    same_notices (rules day tariffs) number (paid rows) (paid o.rows) [] day
+    (all_same number o rows e low day (recursion_from_All IsValid day fit.valid))
 
 -- a tuple that asks for nothing is answered alike by any two histories
 unasked_same : (number : ℕ) (a b : ℕ → ℕ → ℕ → ℕ) (x : Tuple) → asks_history x ≡ false → SameFor number a b x

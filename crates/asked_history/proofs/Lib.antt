@@ -1,2 +1,1 @@
 mod HistoryLaws
-mod GatherLaws

