@@ -7,13 +7,7 @@ use road_io::{Sink, put_all};
 use sqlite_keeper::{Cause, KEPT_FILE};
 use std::alloc::{AllocError, Global};
 
-/// The status of a read that failed.
-const READ_FAULT: u8 = 4;
-
-/// The status of a keeper that failed.
-const KEEPER_FAULT: u8 = 6;
-
-/// Says why a read or what is kept failed, by the status that the office ended with.
+/// Says why a read or what is kept failed, by the status that the office ended with: 4 for the one, 6 for the other.
 pub fn explain<K: KeptFile, E: Sink>(
     alloc: Global,
     status: u8,
@@ -23,11 +17,11 @@ pub fn explain<K: KeptFile, E: Sink>(
 )
     ensures { status ≢ 4 → status ≢ 6 → errors.new ≡ errors.old }
 {
-    if status == READ_FAULT {
+    if status == 4 {
         say(errors, unread(alloc, words));
         return;
     }
-    if status == KEEPER_FAULT {
+    if status == 6 {
         say(errors, refused(alloc, keeper.failed_by()));
     }
 }
