@@ -1,22 +1,16 @@
 //! The tolling office of an expressway, over standard input and output and two files.
 //!
-//! `main` hands the words, standard input, the file `ASIDE_FILE`, standard output and error and what is kept in the
-//! file `KEPT_FILE` to `work`, which is `office` and says on standard error why it failed, beside helpers that take its
-//! jobs; then it closes what is kept, and the crew with its helpers, and ends with the status. A helper whose thread
-//! cannot be had helps with nothing; with none of them the office's own thread runs all jobs.
+//! `main` hands the words, standard input, the file `ASIDE_FILE`, standard output and what is kept in the file
+//! `KEPT_FILE` to `office`, beside helpers that take its jobs; then it closes the crew with its helpers and
+//! what is kept, and ends with the status. A helper whose thread cannot be had helps with nothing; with none
+//! of them the office's own thread runs all jobs.
 #![tactic(auto)]
-
-mod kept;
-mod saying;
-mod working;
 
 ghost use Rattle.std.specs.Prelude.{◌≡◌, []};
 
-use crate::saying::closed;
-use crate::working::{Edges, work};
-use office_commands::{ASIDE_FILE, Closing};
+use office_commands::{ASIDE_FILE, Closing, office};
 use partition_workers::{Crew, NoGate};
-use road_io::{FileSource, StdSink, StdSource, Writing};
+use road_io::{FileSource, StdSink, StdSource};
 use road_time::Limits;
 use sqlite_keeper::{KEPT_FILE, SqliteKeeper};
 use standing_crew::{Crewed, StandingCrew, beside, standing};
@@ -63,35 +57,28 @@ fn run_office<R: Threads + Sync, C: Crew>(rt: &HostRuntime, threads: &R, crew: &
         Ok(words) => words,
         Err(closing) => return closing.status(),
     };
-    let Ok(aside) = FileSource::at(rt.alloc(), *rt, ASIDE_FILE) else {
+    let mut source = StdSource::new(rt.stdin());
+    let mut sink = StdSink::new(rt.stdout());
+    let Ok(mut aside) = FileSource::at(rt.alloc(), *rt, ASIDE_FILE) else {
         return Closing::NoMemory.status();
     };
-    let Ok(keeper) = SqliteKeeper::at(rt.alloc(), *rt, KEPT_FILE) else {
+    let Ok(mut keeper) = SqliteKeeper::at(rt.alloc(), *rt, KEPT_FILE) else {
         return Closing::NoMemory.status();
     };
-    let mut edges = Edges {
-        source: StdSource::new(rt.stdin()),
-        aside,
-        sink: StdSink::new(rt.stdout()),
-        keeper,
-        errors: Writing::new(rt.stderr()),
-    };
-    let status = work(
+    let status = office(
         threads,
         rt.alloc(),
         words.as_slice(),
         &Limits::DAY,
-        &mut edges,
+        &mut source,
+        &mut aside,
+        &mut sink,
+        &mut keeper,
         crew,
     );
-    let Edges {
-        source: _,
-        aside: _,
-        sink: _,
-        keeper,
-        mut errors,
-    } = edges;
-    closed(rt.alloc(), status, keeper, &mut errors)
+    // What was put stays either way: where the file cannot be closed, it lies in the log beside it.
+    let _ = keeper.close();
+    status
 }
 
 /// The same by a standing crew, which is told to stop then.
