@@ -1,3 +1,4 @@
+pub mod Causes
 pub mod Does
 pub mod Looks
 pub mod Asked

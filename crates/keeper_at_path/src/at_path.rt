@@ -2,11 +2,10 @@
 ghost use Rattle.std.specs.Prelude.{IfOk, IsTrue};
 ghost use Rattle.sqlite_std_file.specs.File.{file_is_usable};
 
-use sqlite::{Error, ErrorCode, FileFrom, FileStore, Files, Start, Wary};
+use crate::cause::{Cause, cause_of_opening};
+use sqlite::{FileFrom, FileStore, Files, Start, Wary};
 use sqlite_disk::Disk;
 use sqlite_pool::Pool;
-use sqlite_std_file::OpenError;
-use std::io::ErrorKind;
 use std::rt::HostRuntime;
 
 /// A file of the machine. What a crash leaves of it is said without the hypothesis that a torn write leaves each byte
@@ -19,37 +18,30 @@ pub type KeptStore = FileStore<KeptDisk>;
 /// The pages of such a file.
 pub type KeptPages = Pool<KeptDisk>;
 
-const NO_MEMORY: Error = Error::SqliteFailure(ErrorCode::OutOfMemory);
-
-const CANNOT_OPEN: Error = Error::SqliteFailure(ErrorCode::CannotOpen);
-
 /// Files that are opened by a path: the database and its log.
 pub trait AtPath: Disk + Drop {
     /// The two files at a path. Nobody else opens them until they are let go.
-    fn open(rt: &HostRuntime, path: &str) -> Result<Files<Self>, Error>
+    fn open(rt: &HostRuntime, path: &str) -> Result<Files<Self>, Cause>
         ensures { IfOk result (λ files. IsTrue (Self.Disk.is_usable files.log)
             × IsTrue (Self.Disk.is_usable files.db)) };
 }
 
 impl AtPath for KeptDisk {
-    fn open(rt: &HostRuntime, path: &str) -> Result<Files<KeptDisk>, Error> {
+    fn open(rt: &HostRuntime, path: &str) -> Result<Files<KeptDisk>, Cause> {
         opened(rt, path, Wary)
     }
 }
 
 /// The two files at a path.
-fn opened<S: Start>(rt: &HostRuntime, path: &str, start: S) -> Result<Files<FileFrom<S>>, Error>
+fn opened<S: Start>(rt: &HostRuntime, path: &str, start: S) -> Result<Files<FileFrom<S>>, Cause>
     ensures { IfOk result (λ files. IsTrue (file_is_usable S.Start files.log)
         × IsTrue (file_is_usable S.Start files.db)) }
 {
     if path == ":memory:" || path.starts_with("file:") {
-        return Err(CANNOT_OPEN);
+        return Err(Cause::Unopened);
     }
     match sqlite_std_file::open(rt, path, start) {
         Ok(files) => Ok(files),
-        Err(OpenError::OutOfMemory) => Err(NO_MEMORY),
-        Err(OpenError::Busy) => Err(Error::SqliteFailure(ErrorCode::DatabaseBusy)),
-        Err(OpenError::Io(error)) if error.kind() == ErrorKind::OutOfMemory => Err(NO_MEMORY),
-        Err(_) => Err(CANNOT_OPEN),
+        Err(error) => Err(cause_of_opening(error)),
     }
 }

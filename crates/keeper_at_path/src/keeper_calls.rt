@@ -10,6 +10,7 @@ ghost use Rattle.keeper.specs.declared.kept.KeepFault.TheVariants.{NoMemory};
 ghost use Rattle.kept_tables.specs.Steps.{FitsAny};
 ghost use Rattle.keeper_writes.specs.Causes.{WasRefused};
 ghost use Rattle.keeper_at_path.specs.Asked.{AskedToRead, AskedToPut};
+ghost use Rattle.keeper_at_path.specs.Causes.{IsSaid};
 ghost use Rattle.keeper_at_path.specs.Looks.{AreFound, Looks};
 
 use crate::at_path::AtPath;
@@ -39,6 +40,7 @@ impl<D: AtPath> Keeper for KeeperIn<D> {
 
     fn last_day(&mut self) -> Result<u32, KeepFault>
         ensures cause { CountsFaults self.old.faults self.new.faults result }
+        ensures said { IsSaid result self.old.database.cause self.new.database.cause }
         ensures does { AskedToRead self.old.database.kept self.new.database.kept
             (AreFound ⟦<Pool<D> as Pages>⟧) (Looks ⟦<Pool<D> as Pages>⟧)
             (λ k. k.unmade ≢ Some NoMemory) (λ k. state ⟦<FileStore<D> as Store>⟧ k.conn)
@@ -50,6 +52,7 @@ impl<D: AtPath> Keeper for KeeperIn<D> {
 
     fn day(&mut self, day: u32) -> Result<Option<DayRecord>, KeepFault>
         ensures cause { CountsFaults self.old.faults self.new.faults result }
+        ensures said { IsSaid result self.old.database.cause self.new.database.cause }
         ensures does { AskedToRead self.old.database.kept self.new.database.kept
             (AreFound ⟦<Pool<D> as Pages>⟧) (Looks ⟦<Pool<D> as Pages>⟧)
             (λ k. k.unmade ≢ Some NoMemory) (λ k. state ⟦<FileStore<D> as Store>⟧ k.conn)
@@ -61,6 +64,7 @@ impl<D: AtPath> Keeper for KeeperIn<D> {
 
     fn past(&mut self) -> Result<Option<PastRecord>, KeepFault>
         ensures cause { CountsFaults self.old.faults self.new.faults result }
+        ensures said { IsSaid result self.old.database.cause self.new.database.cause }
         ensures does { AskedToRead self.old.database.kept self.new.database.kept
             (AreFound ⟦<Pool<D> as Pages>⟧) (Looks ⟦<Pool<D> as Pages>⟧)
             (λ k. k.unmade ≢ Some NoMemory) (λ k. state ⟦<FileStore<D> as Store>⟧ k.conn)
@@ -72,6 +76,7 @@ impl<D: AtPath> Keeper for KeeperIn<D> {
 
     fn spent(&mut self, day: u32, vid: u32, xway: u8) -> Result<u64, KeepFault>
         ensures cause { CountsFaults self.old.faults self.new.faults result }
+        ensures said { IsSaid result self.old.database.cause self.new.database.cause }
         ensures does { AskedToRead self.old.database.kept self.new.database.kept
             (AreFound ⟦<Pool<D> as Pages>⟧) (Looks ⟦<Pool<D> as Pages>⟧)
             (λ k. k.unmade ≢ Some NoMemory) (λ k. state ⟦<FileStore<D> as Store>⟧ k.conn)
@@ -84,6 +89,7 @@ impl<D: AtPath> Keeper for KeeperIn<D> {
     fn rows(&mut self, from: u32, to: u32) -> Result<Vec<SpentRow>, KeepFault>
         ensures rise { IfOk result (λ rows. RowsRise rows.items) }
         ensures cause { CountsFaults self.old.faults self.new.faults result }
+        ensures said { IsSaid result self.old.database.cause self.new.database.cause }
         ensures does { AskedToRead self.old.database.kept self.new.database.kept
             (AreFound ⟦<Pool<D> as Pages>⟧) (Looks ⟦<Pool<D> as Pages>⟧)
             (λ k. k.unmade ≢ Some NoMemory) (λ k. state ⟦<FileStore<D> as Store>⟧ k.conn)
@@ -96,6 +102,7 @@ impl<D: AtPath> Keeper for KeeperIn<D> {
     fn vehicle_rows(&mut self, vid: u32, from: u32, to: u32) -> Result<Vec<SpentRow>, KeepFault>
         ensures rise { IfOk result (λ rows. RowsRise rows.items) }
         ensures cause { CountsFaults self.old.faults self.new.faults result }
+        ensures said { IsSaid result self.old.database.cause self.new.database.cause }
         ensures does { AskedToRead self.old.database.kept self.new.database.kept
             (AreFound ⟦<Pool<D> as Pages>⟧) (Looks ⟦<Pool<D> as Pages>⟧)
             (λ k. k.unmade ≢ Some NoMemory) (λ k. state ⟦<FileStore<D> as Store>⟧ k.conn)
@@ -107,6 +114,7 @@ impl<D: AtPath> Keeper for KeeperIn<D> {
 
     fn tariffs(&mut self) -> Result<Tariffs, KeepFault>
         ensures cause { CountsFaults self.old.faults self.new.faults result }
+        ensures said { IsSaid result self.old.database.cause self.new.database.cause }
         ensures does { AskedToRead self.old.database.kept self.new.database.kept
             (AreFound ⟦<Pool<D> as Pages>⟧) (Looks ⟦<Pool<D> as Pages>⟧)
             (λ k. k.unmade ≢ Some NoMemory) (λ k. state ⟦<FileStore<D> as Store>⟧ k.conn)
@@ -120,6 +128,7 @@ impl<D: AtPath> Keeper for KeeperIn<D> {
         requires fits { IsDayPut kept.now rows.now }
         requires later { IfTold None (λ o. IsLater kept.now.day o) }
         ensures cause { CountsFaults self.old.faults self.new.faults result }
+        ensures said { IsSaid result self.old.database.cause self.new.database.cause }
         ensures does { AskedToPut self.old.database.kept self.new.database.kept
             (λ k. k.unmade ≢ Some NoMemory) (λ k. state ⟦<FileStore<D> as Store>⟧ k.conn)
             (WasRefused ⟦<FileStore<D> as Store>⟧)
@@ -132,6 +141,7 @@ impl<D: AtPath> Keeper for KeeperIn<D> {
         requires fits { IsPastPut kept.now rows.now }
         requires first { IfTold None HasNoDays }
         ensures cause { CountsFaults self.old.faults self.new.faults result }
+        ensures said { IsSaid result self.old.database.cause self.new.database.cause }
         ensures does { AskedToPut self.old.database.kept self.new.database.kept
             (λ k. k.unmade ≢ Some NoMemory) (λ k. state ⟦<FileStore<D> as Store>⟧ k.conn)
             (WasRefused ⟦<FileStore<D> as Store>⟧)
@@ -143,6 +153,7 @@ impl<D: AtPath> Keeper for KeeperIn<D> {
     fn put_tariff(&mut self, xway: u8, tariff: &Tariff) -> Result<(), KeepFault>
         requires valid { IsTariff tariff.now }
         ensures cause { CountsFaults self.old.faults self.new.faults result }
+        ensures said { IsSaid result self.old.database.cause self.new.database.cause }
         ensures does { AskedToPut self.old.database.kept self.new.database.kept
             (λ k. k.unmade ≢ Some NoMemory) (λ k. state ⟦<FileStore<D> as Store>⟧ k.conn)
             (WasRefused ⟦<FileStore<D> as Store>⟧)

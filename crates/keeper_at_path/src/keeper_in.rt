@@ -1,14 +1,16 @@
 // A keeper in a database that is opened by a path: it counts the calls that failed.
-ghost use Rattle.std.specs.Prelude.{◌≡◌, ◌≢◌, Some, IfOk};
+ghost use Rattle.std.specs.Prelude.{◌≡◌, ◌≢◌, Some, None, IfOk};
 ghost use Rattle.sqlite.specs.Held.{state};
 ghost use Rattle.keeper.specs.Calls.{CountsFaults};
 ghost use Rattle.keeper.specs.declared.kept.KeepFault.TheVariants.{NoMemory as no_memory};
 ghost use Rattle.keeper_writes.specs.Causes.{WasRefused};
 ghost use Rattle.keeper_at_path.specs.Asked.{AskedToRead, AskedToPut};
+ghost use Rattle.keeper_at_path.specs.Causes.{IsSaid};
 ghost use Rattle.keeper_at_path.specs.Looks.{AreFound, Looks};
 
 use crate::at_path::AtPath;
 use crate::call::{Putting, Reading};
+use crate::cause::Cause;
 use crate::database::Database;
 use crate::kept::Kept;
 use keeper::KeepFault;
@@ -31,7 +33,8 @@ pub struct KeeperIn<D: AtPath> {
 impl<D: AtPath> KeeperIn<D> {
     /// The keeper in the file at a path.
     pub fn at(alloc: Global, rt: HostRuntime, path: &str) -> Result<KeeperIn<D>, NoMemory>
-        ensures { IfOk result (λ keeper. keeper.faults ≡ 0) }
+        ensures faultless { IfOk result (λ keeper. keeper.faults ≡ 0) }
+        ensures quiet { IfOk result (λ keeper. keeper.database.cause ≡ None) }
     {
         let path = String::from_str(alloc, path)?;
         Ok(KeeperIn {
@@ -49,6 +52,13 @@ impl<D: AtPath> KeeperIn<D> {
         database.give_up()
     }
 
+    /// Why the last call failed that did, none while none failed.
+    pub fn cause(&self) -> Option<Cause>
+        ensures { result ≡ self.now.database.cause }
+    {
+        self.database.cause
+    }
+
     /// Makes a call that reads, and counts it where it failed.
     pub fn read<C: Reading + Drop>(&mut self, call: C) -> Result<C::Answer, KeepFault>
         ensures answers { IfOk result C.answers }
@@ -57,6 +67,7 @@ impl<D: AtPath> KeeperIn<D> {
             (λ k. k.unmade ≢ Some no_memory) (λ k. state ⟦<FileStore<D> as Store>⟧ k.conn)
             (WasRefused ⟦<FileStore<D> as Store>⟧) (C.gives call) result }
         ensures cause { CountsFaults self.old.faults self.new.faults result }
+        ensures said { IsSaid result self.old.database.cause self.new.database.cause }
     {
         let answer = self.database.read(call);
         count(&mut self.faults, answer)
@@ -69,6 +80,7 @@ impl<D: AtPath> KeeperIn<D> {
             (λ k. state ⟦<FileStore<D> as Store>⟧ k.conn) (WasRefused ⟦<FileStore<D> as Store>⟧)
             (C.asks call) (C.next call) result }
         ensures cause { CountsFaults self.old.faults self.new.faults result }
+        ensures said { IsSaid result self.old.database.cause self.new.database.cause }
     {
         let answer = self.database.put(call);
         count(&mut self.faults, answer)

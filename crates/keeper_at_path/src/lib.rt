@@ -5,10 +5,12 @@
 //! made by a `ProvedKeeper` on a connection, which reads and checks the file whole; it takes the files over from the
 //! trees, and is held from then on. A file that is not exactly ours is opened whole. Each call is a value, a `Reading`
 //! or a `Putting`. What the file holds is another hand's until it is read: it tells nothing of it.
+//! Where a call fails, `cause` says why.
 #![tactic(auto)]
 
 mod at_path;
 mod call;
+mod cause;
 mod database;
 mod keeper_calls;
 mod keeper_in;
@@ -17,9 +19,11 @@ mod page_files;
 mod puts;
 mod reads;
 mod shuts;
+mod whys;
 
 pub use at_path::{AtPath, KeptDisk, KeptPages, KeptStore};
 pub use call::{Putting, Reading};
+pub use cause::{Cause, cause_of, fault_of};
 pub use keeper_in::KeeperIn;
 pub use kept::Kept;
 pub use page_files::{open_to_read, open_whole, shut};

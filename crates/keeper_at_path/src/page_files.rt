@@ -4,8 +4,9 @@ ghost use Rattle.sqlite_pool.specs.Opening.{AreUsable};
 ghost use Rattle.keeper_at_path.specs.Looks.{AreFound, FindsTrees};
 
 use crate::at_path::AtPath;
+use crate::cause::{Cause, cause_of};
 use crate::kept::Kept;
-use sqlite::{Connection, Error, ErrorCode, FileStore, Files, Options};
+use sqlite::{Connection, FileStore, Files, Options};
 use sqlite_disk::Disk;
 use sqlite_pager::Pager;
 use sqlite_pages::{Error as PageError, Pages};
@@ -108,37 +109,37 @@ pub fn connected<D: Disk + Drop>(
     rt: &HostRuntime,
     files: Files<D>,
     seed: u64,
-) -> Result<Connection<FileStore<D>>, Error> {
+) -> Result<Connection<FileStore<D>>, Cause> {
     if !files.may_be_used() {
-        return Err(Error::SqliteFailure(ErrorCode::SystemIoFailure));
+        return Err(Cause::DiskFailed);
     }
     match Connection::open_files_with(rt.alloc(), files, Options::new(seed), false) {
         Ok(mut conn) => {
             conn.set_clock(rt);
             Ok(conn)
         }
-        Err((error, _)) => Err(error),
+        Err((error, _)) => Err(cause_of(error)),
     }
 }
 
 /// Copies into the database file what the log has, and lets both go.
-pub fn shut<D: Disk + Drop>(mut pool: Pool<D>) -> Result<(), Error> {
+pub fn shut<D: Disk + Drop>(mut pool: Pool<D>) -> Result<(), Cause> {
     let copied = pool.checkpoint();
     drop(pool.close());
     match copied {
         Ok(()) => Ok(()),
-        Err(PageError::Corrupt) => Err(Error::SqliteFailure(ErrorCode::DatabaseCorrupt)),
-        Err(PageError::Io) => Err(Error::SqliteFailure(ErrorCode::SystemIoFailure)),
-        Err(PageError::Full) => Err(Error::SqliteFailure(ErrorCode::DiskFull)),
-        Err(PageError::OutOfMemory) => Err(Error::SqliteFailure(ErrorCode::OutOfMemory)),
+        Err(PageError::Corrupt) => Err(Cause::Spoiled),
+        Err(PageError::Io) => Err(Cause::DiskFailed),
+        Err(PageError::Full) => Err(Cause::NoRoom),
+        Err(PageError::OutOfMemory) => Err(Cause::Memory),
     }
 }
 
 /// A random number.
-fn seed(rt: &HostRuntime) -> Result<u64, Error> {
+fn seed(rt: &HostRuntime) -> Result<u64, Cause> {
     match RandomState::new(rt) {
         Ok(random) => Ok(random.hash_one(&0u8)),
-        Err(_) => Err(Error::SqliteFailure(ErrorCode::CannotOpen)),
+        Err(_) => Err(Cause::Unopened),
     }
 }
 
@@ -146,7 +147,7 @@ fn seed(rt: &HostRuntime) -> Result<u64, Error> {
 pub fn open_whole<D: AtPath>(
     rt: &HostRuntime,
     path: &str,
-) -> Result<Connection<FileStore<D>>, Error> {
+) -> Result<Connection<FileStore<D>>, Cause> {
     let seed = seed(rt)?;
     let files = D::open(rt, path)?;
     connected(rt, files, seed)
@@ -156,7 +157,7 @@ pub fn open_whole<D: AtPath>(
 pub fn make_whole<D: AtPath>(
     rt: &HostRuntime,
     pool: Pool<D>,
-) -> Result<Connection<FileStore<D>>, Error> {
+) -> Result<Connection<FileStore<D>>, Cause> {
     let seed = seed(rt)?;
     connected(rt, pool.close(), seed)
 }
@@ -165,15 +166,15 @@ pub fn make_whole<D: AtPath>(
 pub fn open_to_read<D: AtPath>(
     rt: &HostRuntime,
     path: &str,
-) -> Result<Kept<PageTrees<Pool<D>>, Connection<FileStore<D>>>, Error>
+) -> Result<Kept<PageTrees<Pool<D>>, Connection<FileStore<D>>>, Cause>
     ensures { IfOk result (FindsTrees ⟦<Pool<D> as Pages>⟧) }
 {
     let Ok(seed) = seed(rt) else {
-        return Err(Error::SqliteFailure(ErrorCode::CannotOpen));
+        return Err(Cause::Unopened);
     };
     let files = match D::open(rt, path) {
         Ok(files) => files,
-        Err(error) => return Err(error),
+        Err(cause) => return Err(cause),
     };
     let files = match trees_of(rt.alloc(), files, seed) {
         Ok(trees) => return Ok(Kept::Trees(trees)),
@@ -181,6 +182,6 @@ pub fn open_to_read<D: AtPath>(
     };
     match connected(rt, files, seed) {
         Ok(conn) => Ok(Kept::Whole(conn)),
-        Err(error) => Err(error),
+        Err(cause) => Err(cause),
     }
 }

@@ -1,5 +1,6 @@
 -- What a keeper on a steady store tells after a call.
 use Rattle.std.proofs.Common.{◌≡◌, Bool, true, false, IsTrue, Option, Some, None, Result, Ok, Err, IsOk, OnOk, OnErr}
+use Rattle.std.proofs.Common.{MatchResult, refl}
 use Rattle.std.proofs.Common.{inr, sym, subst}
 use Rattle.sqlite.specs.Effect.{Database}
 use Rattle.sqlite.specs.State.{State, HasCleanDisk, KeepsCommit}
@@ -73,6 +74,18 @@ either_stands (Err e) db o h = h.1
 pub made_has : {T E : Type 0} (r : Result T E) (P Q : Type 0) → IsOk r → OnOk r P × OnErr r Q → P
 made_has (Ok x) P Q done h = h.0
 made_has (Err e) P Q done h = absurd (cc)
+
+-- where all was made, no error is told
+pub made_quiet : {E : Type 0} (r : Result (Unit {0}) E) (told : Option E) → IsOk r →
+    MatchResult r (λ _. told ≡ None) (λ e. told ≡ Some e) → told ≡ None
+made_quiet (Ok x) told done h = h
+made_quiet (Err e) told done h = absurd (cc)
+
+-- where no error is told, all was made
+pub quiet_made : {E : Type 0} (r : Result (Unit {0}) E) (told : Option E) → told ≡ None →
+    MatchResult r (λ _. told ≡ None) (λ e. told ≡ Some e) → IsOk r
+quiet_made (Ok x) told none h = refl
+quiet_made (Err e) told none h = let bad : ⊥ = cc in absurd bad
 
 -- where nothing is told, anything that is asked of it holds
 pub untold_fits : (steady : Bool) → steady ≡ false → (db : Database) (fits : Office → Type 0) →

@@ -1,5 +1,5 @@
 // The calls on a database that stands for an office.
-ghost use Rattle.std.specs.Prelude.{◌≡◌, ◌≤◌, Err, IsTrue, IfOk, IfErr, IfSome, OnOk, OnErr};
+ghost use Rattle.std.specs.Prelude.{◌≡◌, ◌≤◌, ◌⊎◌, Err, IsTrue, IfOk, IfErr, IfSome, OnOk, OnErr};
 ghost use Rattle.sqlite.specs.Held.{state};
 ghost use Rattle.sqlite.specs.State.{HasCleanDisk, KeepsCommit, Survives};
 ghost use Rattle.road_time.specs.Rates.{IsTariff};
@@ -10,7 +10,7 @@ ghost use Rattle.keeper.specs.Kept.{IsDayPut, IsPastPut, IsLater, HasNoDays, wit
 ghost use Rattle.keeper.specs.declared.kept.KeepFault.TheVariants.{NoMemory};
 ghost use Rattle.kept_tables.specs.Stands.{HasOffice, StandsForOffice};
 ghost use Rattle.kept_tables.specs.Steps.{FitsAny};
-ghost use Rattle.keeper_writes.specs.Causes.{WasRefusedIn, HasCause, LackedMemory};
+ghost use Rattle.keeper_writes.specs.Causes.{WasRefusedIn, HasCause, LackedMemory, IsTold};
 ghost use Rattle.keeper_proof.specs.Gives.{GivesUnless};
 ghost use Rattle.keeper_proof.specs.Looks.{CommitsFrom, HasSecond, IsSealed};
 
@@ -19,7 +19,7 @@ use crate::versions::ready;
 use keeper::{DayRecord, KeepFault, PastRecord};
 use keeper_writes::puts;
 use road_time::{SpentRow, Tariff, Tariffs};
-use sqlite::{Alter, Connection};
+use sqlite::{Alter, Connection, Error};
 use std::alloc::Global;
 
 /// The greatest kept day, else the day before the history's base, else 0.
@@ -156,6 +156,7 @@ pub fn put_day<S: Alter>(
     conn: &mut Connection<S>,
     kept: &DayRecord,
     rows: &[SpentRow],
+    why: &mut Option<Error>,
 ) -> Result<(), KeepFault>
     requires { IsDayPut kept.now rows.now }
     ensures put { HasCleanDisk (state S.Store conn.new) → IsTrue (state S.Store conn.new).is_open → (o : Office)
@@ -166,11 +167,14 @@ pub fn put_day<S: Alter>(
     ensures open { HasCleanDisk (state S.Store conn.new) → OnOk result (IsTrue (state S.Store conn.new).is_open) }
     ensures why { HasCleanDisk (state S.Store conn.new) → (o : Office)
         → StandsForOffice (state S.Store conn.old).committed o → IfErr result (HasCause S.Store conn.old conn.new) }
+    ensures told { HasCleanDisk (state S.Store conn.new)
+        → OnErr result ((why.new ≡ why.old) ⊎ IsTold S.Store conn.old conn.new why.new) }
+    ensures quiet { OnOk result (why.new ≡ why.old) }
     ensures crash { Survives (state S.Store conn.old) (state S.Store conn.new) (CommitsFrom (IsLater kept.now.day)
         (with_day kept.now rows.now) (state S.Store conn.old).committed) }
 {
     ready(conn)?;
-    puts::put_day(conn, kept, rows)
+    puts::put_day(conn, kept, rows, why)
 }
 
 /// Keeps a history with its amounts, where no day and no history is kept.
@@ -178,6 +182,7 @@ pub fn put_past<S: Alter>(
     conn: &mut Connection<S>,
     kept: &PastRecord,
     rows: &[SpentRow],
+    why: &mut Option<Error>,
 ) -> Result<(), KeepFault>
     requires { IsPastPut kept.now rows.now }
     ensures put { HasCleanDisk (state S.Store conn.new) → IsTrue (state S.Store conn.new).is_open → (o : Office)
@@ -188,11 +193,14 @@ pub fn put_past<S: Alter>(
     ensures open { HasCleanDisk (state S.Store conn.new) → OnOk result (IsTrue (state S.Store conn.new).is_open) }
     ensures why { HasCleanDisk (state S.Store conn.new) → (o : Office)
         → StandsForOffice (state S.Store conn.old).committed o → IfErr result (HasCause S.Store conn.old conn.new) }
+    ensures told { HasCleanDisk (state S.Store conn.new)
+        → OnErr result ((why.new ≡ why.old) ⊎ IsTold S.Store conn.old conn.new why.new) }
+    ensures quiet { OnOk result (why.new ≡ why.old) }
     ensures crash { Survives (state S.Store conn.old) (state S.Store conn.new) (CommitsFrom HasNoDays
         (with_past kept.now rows.now) (state S.Store conn.old).committed) }
 {
     ready(conn)?;
-    puts::put_past(conn, kept, rows)
+    puts::put_past(conn, kept, rows, why)
 }
 
 /// Gives an expressway a tariff. The benchmark's takes its own away.
@@ -200,6 +208,7 @@ pub fn put_tariff<S: Alter>(
     conn: &mut Connection<S>,
     xway: u8,
     tariff: &Tariff,
+    why: &mut Option<Error>,
 ) -> Result<(), KeepFault>
     requires { IsTariff tariff.now }
     ensures put { HasCleanDisk (state S.Store conn.new) → IsTrue (state S.Store conn.new).is_open → (o : Office)
@@ -210,9 +219,12 @@ pub fn put_tariff<S: Alter>(
     ensures open { HasCleanDisk (state S.Store conn.new) → OnOk result (IsTrue (state S.Store conn.new).is_open) }
     ensures why { HasCleanDisk (state S.Store conn.new) → (o : Office)
         → StandsForOffice (state S.Store conn.old).committed o → IfErr result (HasCause S.Store conn.old conn.new) }
+    ensures told { HasCleanDisk (state S.Store conn.new)
+        → OnErr result ((why.new ≡ why.old) ⊎ IsTold S.Store conn.old conn.new why.new) }
+    ensures quiet { OnOk result (why.new ≡ why.old) }
     ensures crash { Survives (state S.Store conn.old) (state S.Store conn.new) (CommitsFrom FitsAny
         (with_tariff_of xway tariff.now) (state S.Store conn.old).committed) }
 {
     ready(conn)?;
-    puts::put_tariff(conn, xway, tariff)
+    puts::put_tariff(conn, xway, tariff, why)
 }

@@ -12,7 +12,7 @@ ghost use Rattle.keeper.specs.declared.kept.KeepFault.TheVariants.{Failed, NoMem
 ghost use Rattle.kept_tables.specs.Stands.{HasOffice, StandsForOffice, StandsForNone};
 ghost use Rattle.kept_tables.specs.Steps.{FitsAny};
 ghost use Rattle.kept_tables.specs.Told.{told_in};
-ghost use Rattle.keeper_writes.specs.Causes.{WasRefused, WasRefusedIn, HasCause, LackedMemory};
+ghost use Rattle.keeper_writes.specs.Causes.{WasRefused, WasRefusedIn, HasCause, LackedMemory, IsTold};
 ghost use Rattle.keeper_writes.specs.Counts.{faults_after};
 ghost use Rattle.keeper_proof.specs.Gives.{GivesUnless};
 ghost use Rattle.keeper_proof.specs.Looks.{CommitsFrom, HasSecond, IsSealed};
@@ -255,10 +255,14 @@ impl<S: Steady> Keeper for ProvedKeeper<S> {
             → IfErr result (HasCause S.Store self.old.conn self.new.conn) }
         ensures because { HasCleanDisk (state S.Store self.new.conn) → (o : Office)
             → StandsForOffice (state S.Store self.old.conn).committed o → result ≡ Err Failed → WasRefused S.Store }
+        ensures told { HasCleanDisk (state S.Store self.new.conn) → OnErr result
+            ((self.new.refused ≡ self.old.refused)
+            ⊎ IsTold S.Store self.old.conn self.new.conn self.new.refused) }
+        ensures quiet { OnOk result (self.new.refused ≡ self.old.refused) }
         ensures crash { Survives (state S.Store self.old.conn) (state S.Store self.new.conn) (CommitsFrom
             (IsLater kept.now.day) (with_day kept.now rows.now) (state S.Store self.old.conn).committed) }
     {
-        let answer = calls::put_day(&mut self.conn, kept, rows);
+        let answer = calls::put_day(&mut self.conn, kept, rows, &mut self.refused);
         count(&mut self.faults, answer)
     }
 
@@ -287,10 +291,14 @@ impl<S: Steady> Keeper for ProvedKeeper<S> {
             → IfErr result (HasCause S.Store self.old.conn self.new.conn) }
         ensures because { HasCleanDisk (state S.Store self.new.conn) → (o : Office)
             → StandsForOffice (state S.Store self.old.conn).committed o → result ≡ Err Failed → WasRefused S.Store }
+        ensures told { HasCleanDisk (state S.Store self.new.conn) → OnErr result
+            ((self.new.refused ≡ self.old.refused)
+            ⊎ IsTold S.Store self.old.conn self.new.conn self.new.refused) }
+        ensures quiet { OnOk result (self.new.refused ≡ self.old.refused) }
         ensures crash { Survives (state S.Store self.old.conn) (state S.Store self.new.conn) (CommitsFrom HasNoDays
             (with_past kept.now rows.now) (state S.Store self.old.conn).committed) }
     {
-        let answer = calls::put_past(&mut self.conn, kept, rows);
+        let answer = calls::put_past(&mut self.conn, kept, rows, &mut self.refused);
         count(&mut self.faults, answer)
     }
 
@@ -319,10 +327,14 @@ impl<S: Steady> Keeper for ProvedKeeper<S> {
             → IfErr result (HasCause S.Store self.old.conn self.new.conn) }
         ensures because { HasCleanDisk (state S.Store self.new.conn) → (o : Office)
             → StandsForOffice (state S.Store self.old.conn).committed o → result ≡ Err Failed → WasRefused S.Store }
+        ensures told { HasCleanDisk (state S.Store self.new.conn) → OnErr result
+            ((self.new.refused ≡ self.old.refused)
+            ⊎ IsTold S.Store self.old.conn self.new.conn self.new.refused) }
+        ensures quiet { OnOk result (self.new.refused ≡ self.old.refused) }
         ensures crash { Survives (state S.Store self.old.conn) (state S.Store self.new.conn) (CommitsFrom FitsAny
             (with_tariff_of xway tariff.now) (state S.Store self.old.conn).committed) }
     {
-        let answer = calls::put_tariff(&mut self.conn, xway, tariff);
+        let answer = calls::put_tariff(&mut self.conn, xway, tariff, &mut self.refused);
         count(&mut self.faults, answer)
     }
 }

@@ -1,5 +1,5 @@
 // A keeper on a connection.
-ghost use Rattle.std.specs.Prelude.{◌≡◌, ◌↔◌, true, Some, None, Err, IsOk, IsTrue};
+ghost use Rattle.std.specs.Prelude.{◌≡◌, ◌↔◌, true, Some, None, Ok, Err, IsOk, IsTrue, MatchResult};
 ghost use Rattle.sqlite.specs.Held.{state};
 ghost use Rattle.sqlite.specs.State.{HasCleanDisk, KeepsCommit, Survives};
 ghost use Rattle.sqlite.specs.declared.error.Error.TheVariants.{SqliteFailure};
@@ -10,8 +10,10 @@ ghost use Rattle.kept_tables.specs.Stands.{HasOffice, StandsForOffice};
 ghost use Rattle.kept_tables.specs.Told.{told_in};
 ghost use Rattle.table_making.specs.Growth.{CommitsSame};
 ghost use Rattle.table_making.specs.Objects.{MayBeMade};
+ghost use Rattle.keeper_proof.specs.Looks.{ShowsSecond};
 
 use crate::steady::Steady;
+use crate::versions::has_second;
 use keeper::KeepFault;
 use keeper_writes::refusals::refusal;
 use sqlite::{Connection, Error};
@@ -25,16 +27,28 @@ pub struct ProvedKeeper<S: Steady> {
     pub(crate) conn: Connection<S>,
     pub(crate) faults: u64,
     pub(crate) unmade: Option<KeepFault>,
+    pub(crate) refused: Option<Error>,
 }
 
 /// Why tables could not be made, none where they were.
 fn why_unmade(made: Result<(), Error>) -> Option<KeepFault>
     ensures none { result ≡ None → IsOk made }
+    ensures made { IsOk made → result ≡ None }
     ensures memory { (result ≡ Some NoMemory) ↔ (made ≡ Err (SqliteFailure OutOfMemory)) }
 {
     match made {
         Ok(()) => None,
         Err(error) => Some(refusal(error)),
+    }
+}
+
+/// The database's error, none where the tables were made.
+fn error_of(made: Result<(), Error>) -> Option<Error>
+    ensures { MatchResult made (λ _. result ≡ None) (λ e. result ≡ Some e) }
+{
+    match made {
+        Ok(()) => None,
+        Err(error) => Some(error),
     }
 }
 
@@ -57,6 +71,8 @@ impl<S: Steady> ProvedKeeper<S> {
         ensures crash { Survives (state S.Store connection) (state S.Store result.conn) (CommitsSame
             (state S.Store connection).committed) }
         ensures faultless { result.faults ≡ 0 }
+        ensures quiet { result.unmade ≡ None → result.refused ≡ None }
+        ensures told { result.refused ≡ None → result.unmade ≡ None }
     {
         let mut conn = connection;
         let made = make(&mut conn, alloc);
@@ -65,6 +81,7 @@ impl<S: Steady> ProvedKeeper<S> {
             conn,
             faults: 0,
             unmade: why_unmade(made),
+            refused: error_of(made),
         }
     }
 
@@ -73,6 +90,23 @@ impl<S: Steady> ProvedKeeper<S> {
         ensures { result ≡ self.now.unmade }
     {
         self.unmade
+    }
+
+    /// The error with which the database refused to make the tables, or a put since.
+    pub fn refused(&self) -> Option<Error>
+        ensures { result ≡ self.now.refused }
+    {
+        self.refused
+    }
+
+    /// Whether the database has version 2, where it can be asked.
+    pub fn has_second(&mut self) -> Result<bool, KeepFault>
+        ensures kept { HasCleanDisk (state S.Store self.new.conn)
+            → KeepsCommit (state S.Store self.old.conn) (state S.Store self.new.conn) }
+        ensures second { HasCleanDisk (state S.Store self.new.conn) → result ≡ Ok true
+            → ShowsSecond S.Store self.old.conn self.new.conn }
+    {
+        has_second(&mut self.conn)
     }
 
     /// The connection.
@@ -84,6 +118,7 @@ impl<S: Steady> ProvedKeeper<S> {
             conn,
             faults: _,
             unmade: _,
+            refused: _,
         } = self;
         conn
     }

@@ -1,5 +1,5 @@
 // Whether the tables are there, in version 2.
-ghost use Rattle.std.specs.Prelude.{◌≡◌, ◌≢◌, [], ◌∷◌, pos, Err, IsTrue, IfErr, OnOk};
+ghost use Rattle.std.specs.Prelude.{◌≡◌, ◌≢◌, true, [], ◌∷◌, pos, Ok, Err, IsTrue, IfErr, OnOk};
 ghost use Rattle.sqlite_value.specs.Order.{column};
 ghost use Rattle.sqlite_value.specs.declared.value.Value.TheVariants.{Int};
 ghost use Rattle.sqlite.specs.Held.{state};
@@ -29,6 +29,20 @@ pub fn ready<S: Alter>(conn: &mut Connection<S>) -> Result<(), KeepFault>
 {
     let found = look(conn, "SELECT version FROM form WHERE one = 1", &[])?;
     is_second(&found)
+}
+
+/// Whether version 2 is there, where the database can be asked.
+pub fn has_second<S: Alter>(conn: &mut Connection<S>) -> Result<bool, KeepFault>
+    ensures kept { HasCleanDisk (state S.Store conn.new)
+        → KeepsCommit (state S.Store conn.old) (state S.Store conn.new) }
+    ensures second { HasCleanDisk (state S.Store conn.new) → result ≡ Ok true
+        → ShowsSecond S.Store conn.old conn.new }
+{
+    let found = look(conn, "SELECT version FROM form WHERE one = 1", &[])?;
+    match is_second(&found) {
+        Ok(()) => Ok(true),
+        Err(_) => Ok(false),
+    }
 }
 
 /// Whether an answer has version 2; refused where it has not.

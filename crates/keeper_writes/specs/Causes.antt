@@ -1,5 +1,5 @@
 -- Why a call of a keeper failed.
-use Rattle.std.specs.Prelude.{◌≡◌, ◌≢◌, ◌⊎◌, ℕ, List, [], ◌∷◌, Some, slice_get, Err, IsTrue}
+use Rattle.std.specs.Prelude.{◌≡◌, ◌≢◌, ◌⊎◌, ℕ, List, [], ◌∷◌, Option, Some, None, slice_get, Err, IsTrue}
 use Rattle.sqlite_value.specs.Order.{Row}
 use Rattle.sqlite_trees.specs.declared.store.Store.{Ghosts}
 use Rattle.sqlite.specs.declared.error.Error.{Error}
@@ -73,7 +73,12 @@ pub record RefusedIn {S : Type 0} (g : Ghosts S) (old new : Held S) (error : Err
   pub reached : Survives (state g old) (state g before) (λ _. ⊥)
   pub left : Survives (state g after) (state g new) (λ _. ⊥)
 
--- and not for want of memory
+-- an error is told with which the database refused a step of a call
+abbrev pub IsTold : {S : Type 0} → Ghosts S → Held S → Held S → Option Error → Type 0
+IsTold g old new None = ⊥
+IsTold g old new (Some e) = RefusedIn g old new e
+
+-- a step was refused, and not for want of memory
 pub record WasRefusedIn {S : Type 0} (g : Ghosts S) (old new : Held S) : Type 0 where
   pub error : Error
   pub cause : error ≢ SqliteFailure OutOfMemory

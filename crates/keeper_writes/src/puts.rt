@@ -1,5 +1,5 @@
-// What is put into the tables, each put in one transaction.
-ghost use Rattle.std.specs.Prelude.{◌⊎◌, IsTrue, IfErr, OnOk, OnErr};
+// What is put into the tables, each put in one transaction. Where one is refused, the database's error is told.
+ghost use Rattle.std.specs.Prelude.{◌≡◌, ◌⊎◌, IsTrue, IfErr, OnOk, OnErr};
 ghost use Rattle.sqlite.specs.Held.{state};
 ghost use Rattle.sqlite.specs.State.{HasCleanDisk, KeepsCommit, Survives};
 ghost use Rattle.road_time.specs.Rates.{IsTariff};
@@ -7,11 +7,11 @@ ghost use Rattle.keeper.specs.Office.{Office};
 ghost use Rattle.keeper.specs.Kept.{IsDayPut, IsPastPut, IsLater, HasNoDays, with_day, with_past, with_tariff_of};
 ghost use Rattle.kept_tables.specs.Stands.{HasOffice};
 ghost use Rattle.kept_tables.specs.Steps.{CommitsFor, CommitsNow, FitsAny};
-ghost use Rattle.keeper_writes.specs.Causes.{RefusedIn, HasCause};
+ghost use Rattle.keeper_writes.specs.Causes.{RefusedIn, HasCause, IsTold};
 
 use crate::day_writes::write_day;
 use crate::past_writes::write_past;
-use crate::refusals::refusal;
+use crate::refusals::refusal_told;
 use crate::tariff_writes::write;
 use crate::unfinished::settle;
 use keeper::{DayRecord, KeepFault, PastRecord};
@@ -23,6 +23,7 @@ pub fn put_day<S: Alter>(
     conn: &mut Connection<S>,
     kept: &DayRecord,
     rows: &[SpentRow],
+    why: &mut Option<Error>,
 ) -> Result<(), KeepFault>
     requires { IsDayPut kept.now rows.now }
     ensures put { HasCleanDisk (state S.Store conn.new) → (o : Office)
@@ -32,15 +33,18 @@ pub fn put_day<S: Alter>(
     ensures refused { HasCleanDisk (state S.Store conn.new)
         → OnErr result (KeepsCommit (state S.Store conn.old) (state S.Store conn.new)) }
     ensures why { HasCleanDisk (state S.Store conn.new) → IfErr result (HasCause S.Store conn.old conn.new) }
+    ensures told { HasCleanDisk (state S.Store conn.new)
+        → OnErr result (IsTold S.Store conn.old conn.new why.new) }
+    ensures quiet { OnOk result (why.new ≡ why.old) }
     ensures crash { Survives (state S.Store conn.old) (state S.Store conn.new) (CommitsFor (IsLater kept.now.day)
         (with_day kept.now rows.now) (state S.Store conn.old).committed) }
 {
     if let Err(error) = settle(conn) {
-        return Err(refusal(error));
+        return Err(refusal_told(error, why));
     }
     match keep_day(conn, kept, rows) {
         Ok(()) => Ok(()),
-        Err(error) => Err(refusal(error)),
+        Err(error) => Err(refusal_told(error, why)),
     }
 }
 
@@ -77,6 +81,7 @@ pub fn put_past<S: Alter>(
     conn: &mut Connection<S>,
     kept: &PastRecord,
     rows: &[SpentRow],
+    why: &mut Option<Error>,
 ) -> Result<(), KeepFault>
     requires { IsPastPut kept.now rows.now }
     ensures put { HasCleanDisk (state S.Store conn.new) → (o : Office)
@@ -86,15 +91,18 @@ pub fn put_past<S: Alter>(
     ensures refused { HasCleanDisk (state S.Store conn.new)
         → OnErr result (KeepsCommit (state S.Store conn.old) (state S.Store conn.new)) }
     ensures why { HasCleanDisk (state S.Store conn.new) → IfErr result (HasCause S.Store conn.old conn.new) }
+    ensures told { HasCleanDisk (state S.Store conn.new)
+        → OnErr result (IsTold S.Store conn.old conn.new why.new) }
+    ensures quiet { OnOk result (why.new ≡ why.old) }
     ensures crash { Survives (state S.Store conn.old) (state S.Store conn.new) (CommitsFor HasNoDays
         (with_past kept.now rows.now) (state S.Store conn.old).committed) }
 {
     if let Err(error) = settle(conn) {
-        return Err(refusal(error));
+        return Err(refusal_told(error, why));
     }
     match keep_past(conn, kept, rows) {
         Ok(()) => Ok(()),
-        Err(error) => Err(refusal(error)),
+        Err(error) => Err(refusal_told(error, why)),
     }
 }
 
@@ -130,6 +138,7 @@ pub fn put_tariff<S: Alter>(
     conn: &mut Connection<S>,
     xway: u8,
     tariff: &Tariff,
+    why: &mut Option<Error>,
 ) -> Result<(), KeepFault>
     requires { IsTariff tariff.now }
     ensures put { HasCleanDisk (state S.Store conn.new) → (o : Office)
@@ -139,15 +148,18 @@ pub fn put_tariff<S: Alter>(
     ensures refused { HasCleanDisk (state S.Store conn.new)
         → OnErr result (KeepsCommit (state S.Store conn.old) (state S.Store conn.new)) }
     ensures why { HasCleanDisk (state S.Store conn.new) → IfErr result (HasCause S.Store conn.old conn.new) }
+    ensures told { HasCleanDisk (state S.Store conn.new)
+        → OnErr result (IsTold S.Store conn.old conn.new why.new) }
+    ensures quiet { OnOk result (why.new ≡ why.old) }
     ensures crash { Survives (state S.Store conn.old) (state S.Store conn.new) (CommitsFor FitsAny
         (with_tariff_of xway tariff.now) (state S.Store conn.old).committed) }
 {
     if let Err(error) = settle(conn) {
-        return Err(refusal(error));
+        return Err(refusal_told(error, why));
     }
     match replace(conn, xway, tariff) {
         Ok(()) => Ok(()),
-        Err(error) => Err(refusal(error)),
+        Err(error) => Err(refusal_told(error, why)),
     }
 }
 

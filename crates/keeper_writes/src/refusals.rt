@@ -1,5 +1,5 @@
 // What a refusal of the database is to a keeper, and the count of faults.
-ghost use Rattle.std.specs.Prelude.{◌≡◌, ◌↔◌};
+ghost use Rattle.std.specs.Prelude.{◌≡◌, ◌↔◌, Some};
 ghost use Rattle.keeper.specs.Calls.{CountsFaults};
 ghost use Rattle.keeper.specs.declared.kept.KeepFault.TheVariants.{NoMemory};
 ghost use Rattle.sqlite.specs.declared.error.Error.TheVariants.{SqliteFailure};
@@ -17,6 +17,15 @@ pub fn refusal(error: Error) -> KeepFault
         Error::SqliteFailure(ErrorCode::OutOfMemory) => KeepFault::NoMemory,
         _ => KeepFault::Failed,
     }
+}
+
+/// The same, and the database's own error is told.
+pub fn refusal_told(error: Error, why: &mut Option<Error>) -> KeepFault
+    ensures fault { (result ≡ NoMemory) ↔ (error ≡ SqliteFailure OutOfMemory) }
+    ensures says { why.new ≡ Some error }
+{
+    *why = Some(error);
+    refusal(error)
 }
 
 /// Hands an answer on, and counts it where it is a failure.

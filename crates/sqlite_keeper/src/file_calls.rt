@@ -10,6 +10,7 @@ ghost use Rattle.keeper.specs.declared.kept.KeepFault.TheVariants.{NoMemory};
 ghost use Rattle.kept_tables.specs.Steps.{FitsAny};
 ghost use Rattle.keeper_writes.specs.Causes.{WasRefused};
 ghost use Rattle.keeper_at_path.specs.Asked.{AskedToRead, AskedToPut};
+ghost use Rattle.keeper_at_path.specs.Causes.{IsSaid};
 ghost use Rattle.keeper_at_path.specs.Looks.{AreFound, Looks};
 
 use crate::kept_file::SqliteKeeper;
@@ -38,6 +39,7 @@ impl Keeper for SqliteKeeper {
 
     fn last_day(&mut self) -> Result<u32, KeepFault>
         ensures cause { CountsFaults self.old.in_file.faults self.new.in_file.faults result }
+        ensures said { IsSaid result self.old.in_file.database.cause self.new.in_file.database.cause }
         ensures does { AskedToRead self.old.in_file.database.kept self.new.in_file.database.kept
             (AreFound ⟦<KeptPages as Pages>⟧) (Looks ⟦<KeptPages as Pages>⟧)
             (λ k. k.unmade ≢ Some NoMemory) (λ k. state ⟦<KeptStore as Store>⟧ k.conn)
@@ -49,6 +51,7 @@ impl Keeper for SqliteKeeper {
 
     fn day(&mut self, day: u32) -> Result<Option<DayRecord>, KeepFault>
         ensures cause { CountsFaults self.old.in_file.faults self.new.in_file.faults result }
+        ensures said { IsSaid result self.old.in_file.database.cause self.new.in_file.database.cause }
         ensures does { AskedToRead self.old.in_file.database.kept self.new.in_file.database.kept
             (AreFound ⟦<KeptPages as Pages>⟧) (Looks ⟦<KeptPages as Pages>⟧)
             (λ k. k.unmade ≢ Some NoMemory) (λ k. state ⟦<KeptStore as Store>⟧ k.conn)
@@ -60,6 +63,7 @@ impl Keeper for SqliteKeeper {
 
     fn past(&mut self) -> Result<Option<PastRecord>, KeepFault>
         ensures cause { CountsFaults self.old.in_file.faults self.new.in_file.faults result }
+        ensures said { IsSaid result self.old.in_file.database.cause self.new.in_file.database.cause }
         ensures does { AskedToRead self.old.in_file.database.kept self.new.in_file.database.kept
             (AreFound ⟦<KeptPages as Pages>⟧) (Looks ⟦<KeptPages as Pages>⟧)
             (λ k. k.unmade ≢ Some NoMemory) (λ k. state ⟦<KeptStore as Store>⟧ k.conn)
@@ -71,6 +75,7 @@ impl Keeper for SqliteKeeper {
 
     fn spent(&mut self, day: u32, vid: u32, xway: u8) -> Result<u64, KeepFault>
         ensures cause { CountsFaults self.old.in_file.faults self.new.in_file.faults result }
+        ensures said { IsSaid result self.old.in_file.database.cause self.new.in_file.database.cause }
         ensures does { AskedToRead self.old.in_file.database.kept self.new.in_file.database.kept
             (AreFound ⟦<KeptPages as Pages>⟧) (Looks ⟦<KeptPages as Pages>⟧)
             (λ k. k.unmade ≢ Some NoMemory) (λ k. state ⟦<KeptStore as Store>⟧ k.conn)
@@ -83,6 +88,7 @@ impl Keeper for SqliteKeeper {
     fn rows(&mut self, from: u32, to: u32) -> Result<Vec<SpentRow>, KeepFault>
         ensures rise { IfOk result (λ rows. RowsRise rows.items) }
         ensures cause { CountsFaults self.old.in_file.faults self.new.in_file.faults result }
+        ensures said { IsSaid result self.old.in_file.database.cause self.new.in_file.database.cause }
         ensures does { AskedToRead self.old.in_file.database.kept self.new.in_file.database.kept
             (AreFound ⟦<KeptPages as Pages>⟧) (Looks ⟦<KeptPages as Pages>⟧)
             (λ k. k.unmade ≢ Some NoMemory) (λ k. state ⟦<KeptStore as Store>⟧ k.conn)
@@ -95,6 +101,7 @@ impl Keeper for SqliteKeeper {
     fn vehicle_rows(&mut self, vid: u32, from: u32, to: u32) -> Result<Vec<SpentRow>, KeepFault>
         ensures rise { IfOk result (λ rows. RowsRise rows.items) }
         ensures cause { CountsFaults self.old.in_file.faults self.new.in_file.faults result }
+        ensures said { IsSaid result self.old.in_file.database.cause self.new.in_file.database.cause }
         ensures does { AskedToRead self.old.in_file.database.kept self.new.in_file.database.kept
             (AreFound ⟦<KeptPages as Pages>⟧) (Looks ⟦<KeptPages as Pages>⟧)
             (λ k. k.unmade ≢ Some NoMemory) (λ k. state ⟦<KeptStore as Store>⟧ k.conn)
@@ -106,6 +113,7 @@ impl Keeper for SqliteKeeper {
 
     fn tariffs(&mut self) -> Result<Tariffs, KeepFault>
         ensures cause { CountsFaults self.old.in_file.faults self.new.in_file.faults result }
+        ensures said { IsSaid result self.old.in_file.database.cause self.new.in_file.database.cause }
         ensures does { AskedToRead self.old.in_file.database.kept self.new.in_file.database.kept
             (AreFound ⟦<KeptPages as Pages>⟧) (Looks ⟦<KeptPages as Pages>⟧)
             (λ k. k.unmade ≢ Some NoMemory) (λ k. state ⟦<KeptStore as Store>⟧ k.conn)
@@ -119,6 +127,7 @@ impl Keeper for SqliteKeeper {
         requires fits { IsDayPut kept.now rows.now }
         requires later { IfTold None (λ o. IsLater kept.now.day o) }
         ensures cause { CountsFaults self.old.in_file.faults self.new.in_file.faults result }
+        ensures said { IsSaid result self.old.in_file.database.cause self.new.in_file.database.cause }
         ensures does { AskedToPut self.old.in_file.database.kept self.new.in_file.database.kept
             (λ k. k.unmade ≢ Some NoMemory) (λ k. state ⟦<KeptStore as Store>⟧ k.conn)
             (WasRefused ⟦<KeptStore as Store>⟧)
@@ -131,6 +140,7 @@ impl Keeper for SqliteKeeper {
         requires fits { IsPastPut kept.now rows.now }
         requires first { IfTold None HasNoDays }
         ensures cause { CountsFaults self.old.in_file.faults self.new.in_file.faults result }
+        ensures said { IsSaid result self.old.in_file.database.cause self.new.in_file.database.cause }
         ensures does { AskedToPut self.old.in_file.database.kept self.new.in_file.database.kept
             (λ k. k.unmade ≢ Some NoMemory) (λ k. state ⟦<KeptStore as Store>⟧ k.conn)
             (WasRefused ⟦<KeptStore as Store>⟧)
@@ -142,6 +152,7 @@ impl Keeper for SqliteKeeper {
     fn put_tariff(&mut self, xway: u8, tariff: &Tariff) -> Result<(), KeepFault>
         requires valid { IsTariff tariff.now }
         ensures cause { CountsFaults self.old.in_file.faults self.new.in_file.faults result }
+        ensures said { IsSaid result self.old.in_file.database.cause self.new.in_file.database.cause }
         ensures does { AskedToPut self.old.in_file.database.kept self.new.in_file.database.kept
             (λ k. k.unmade ≢ Some NoMemory) (λ k. state ⟦<KeptStore as Store>⟧ k.conn)
             (WasRefused ⟦<KeptStore as Store>⟧)

@@ -1,17 +1,18 @@
 // A keeper in a SQLite file.
-ghost use Rattle.std.specs.Prelude.{◌≡◌, ◌≢◌, Some, IfOk};
+ghost use Rattle.std.specs.Prelude.{◌≡◌, ◌≢◌, Some, None, IfOk};
 ghost use Rattle.sqlite.specs.Held.{state};
 ghost use Rattle.keeper.specs.Calls.{CountsFaults};
 ghost use Rattle.keeper.specs.declared.kept.KeepFault.TheVariants.{NoMemory as no_memory};
 ghost use Rattle.keeper_writes.specs.Causes.{WasRefused};
 ghost use Rattle.keeper_at_path.specs.Asked.{AskedToRead, AskedToPut};
+ghost use Rattle.keeper_at_path.specs.Causes.{IsSaid};
 ghost use Rattle.keeper_at_path.specs.Looks.{AreFound, Looks};
 
 use keeper::KeepFault;
 use keeper_at_path::{
-    KeeperIn, Kept, KeptDisk, KeptPages, KeptStore, Putting, Reading, shut as shut_pool,
+    Cause, KeeperIn, Kept, KeptDisk, KeptPages, KeptStore, Putting, Reading, cause_of, fault_of,
+    shut as shut_pages,
 };
-use keeper_writes::refusals::refusal;
 use road_time::NoMemory;
 use sqlite::Connection;
 use sqlite_pages::Pages;
@@ -33,15 +34,31 @@ pub struct SqliteKeeper {
 impl SqliteKeeper {
     /// The keeper in the file at a path.
     pub fn at(alloc: Global, rt: HostRuntime, path: &str) -> Result<SqliteKeeper, NoMemory>
-        ensures { IfOk result (λ keeper. keeper.in_file.faults ≡ 0) }
+        ensures faultless { IfOk result (λ keeper. keeper.in_file.faults ≡ 0) }
+        ensures quiet { IfOk result (λ keeper. keeper.in_file.database.cause ≡ None) }
     {
         let in_file = KeeperIn::at(alloc, rt, path)?;
         Ok(SqliteKeeper { in_file })
     }
 
+    /// Why the last call failed that did, none while none failed.
+    pub fn cause(&self) -> Option<Cause>
+        ensures { result ≡ self.now.in_file.database.cause }
+    {
+        self.in_file.cause()
+    }
+
     /// Closes the file, if it is open: what its log has is copied into it. Where that is Ok, the file alone has all
     /// that is kept, and its log has nothing.
     pub fn close(self) -> Result<(), KeepFault> {
+        match self.end() {
+            Ok(()) => Ok(()),
+            Err(cause) => Err(fault_of(cause)),
+        }
+    }
+
+    /// The same, and says why it failed.
+    pub fn end(self) -> Result<(), Cause> {
         let SqliteKeeper { in_file } = self;
         match in_file.give_up() {
             Some(Kept::Trees(pages)) => shut_pages(pages),
@@ -58,6 +75,7 @@ impl SqliteKeeper {
             (λ k. k.unmade ≢ Some no_memory) (λ k. state ⟦<KeptStore as Store>⟧ k.conn)
             (WasRefused ⟦<KeptStore as Store>⟧) (C.gives call) result }
         ensures cause { CountsFaults self.old.in_file.faults self.new.in_file.faults result }
+        ensures said { IsSaid result self.old.in_file.database.cause self.new.in_file.database.cause }
     {
         self.in_file.read(call)
     }
@@ -69,23 +87,16 @@ impl SqliteKeeper {
             (λ k. k.unmade ≢ Some no_memory) (λ k. state ⟦<KeptStore as Store>⟧ k.conn)
             (WasRefused ⟦<KeptStore as Store>⟧) (C.asks call) (C.next call) result }
         ensures cause { CountsFaults self.old.in_file.faults self.new.in_file.faults result }
+        ensures said { IsSaid result self.old.in_file.database.cause self.new.in_file.database.cause }
     {
         self.in_file.put(call)
     }
 }
 
 /// Closes the file of a connection.
-fn shut(conn: Connection<KeptStore>) -> Result<(), KeepFault> {
+fn shut(conn: Connection<KeptStore>) -> Result<(), Cause> {
     match conn.close() {
         Ok(()) => Ok(()),
-        Err(error) => Err(refusal(error)),
-    }
-}
-
-/// Closes the file of pages.
-fn shut_pages(pages: KeptPages) -> Result<(), KeepFault> {
-    match shut_pool(pages) {
-        Ok(()) => Ok(()),
-        Err(error) => Err(refusal(error)),
+        Err(error) => Err(cause_of(error)),
     }
 }

@@ -8,6 +8,7 @@
 mod file_calls;
 mod kept_file;
 
+pub use keeper_at_path::Cause;
 pub use kept_file::{KEPT_FILE, SqliteKeeper};
 
 /// Hands over what may move between threads.

@@ -1,4 +1,4 @@
-use Rattle.std.proofs.Common.{sym, subst, arith}
+use Rattle.std.proofs.Common.{refl, inl, sym, subst, arith}
 use Rattle.sqlite.specs.Effect.{Database}
 use Rattle.sqlite.specs.Held.{state}
 use Rattle.sqlite.specs.State.{HasCleanDisk}
@@ -6,7 +6,7 @@ use Rattle.keeper.specs.Kept.{HasNoDays, with_past}
 use Rattle.kept_tables.specs.Stands.{HasOffice}
 use Rattle.table_making.proofs.GrowLaws.{err_stands}
 use Rattle.keeper_proof.proofs.StandLaws.{put_stands, put_lasts, always}
-use Rattle.keeper_proof.proofs.CauseSteps.{causes_after}
+use Rattle.keeper_proof.proofs.CauseSteps.{causes_after, told_after, on_err}
 use Rattle.keeper_writes.proofs.CauseLaws.{err_handed}
 use Rattle.keeper_proof.proofs.calls.put_past.Goals as goal
 
@@ -51,3 +51,12 @@ returns-clause-version g c clean =
       now = c.ready.new.conn;
       shows = c.in_ok-ready.ensures.version (omega (arith, c.put_past.ensures.crash.clean));
     })
+
+pub returns-in_err-ready-clause-told : goal.returns-in_err-ready-clause-told
+returns-in_err-ready-clause-told g c clean = on_err c.from_residual.result _ (inl refl)
+
+pub returns-clause-told : goal.returns-clause-told
+returns-clause-told g c clean =
+    told_after g.S.Store c.args.conn.now c.ready.new.conn c.put_past.new.conn
+    (c.ready.ensures.kept (omega (arith, c.put_past.ensures.crash.clean))) c.ready.ensures.survives c.put_past.result _ _
+    (c.put_past.ensures.told clean)

@@ -1,4 +1,4 @@
-use Rattle.std.proofs.Common.{sym, subst, arith}
+use Rattle.std.proofs.Common.{refl, inl, sym, subst, arith}
 use Rattle.sqlite.specs.Effect.{Database}
 use Rattle.sqlite.specs.Held.{state}
 use Rattle.sqlite.specs.State.{HasCleanDisk}
@@ -7,7 +7,7 @@ use Rattle.kept_tables.specs.Stands.{HasOffice}
 use Rattle.kept_tables.specs.Steps.{FitsAny}
 use Rattle.table_making.proofs.GrowLaws.{err_stands}
 use Rattle.keeper_proof.proofs.StandLaws.{put_stands, put_lasts, always}
-use Rattle.keeper_proof.proofs.CauseSteps.{causes_after}
+use Rattle.keeper_proof.proofs.CauseSteps.{causes_after, told_after, on_err}
 use Rattle.keeper_writes.proofs.CauseLaws.{err_handed}
 use Rattle.keeper_proof.proofs.calls.put_tariff.Goals as goal
 
@@ -52,3 +52,12 @@ returns-clause-version g c clean =
       now = c.ready.new.conn;
       shows = c.in_ok-ready.ensures.version (omega (arith, c.put_tariff.ensures.crash.clean));
     })
+
+pub returns-in_err-ready-clause-told : goal.returns-in_err-ready-clause-told
+returns-in_err-ready-clause-told g c clean = on_err c.from_residual.result _ (inl refl)
+
+pub returns-clause-told : goal.returns-clause-told
+returns-clause-told g c clean =
+    told_after g.S.Store c.args.conn.now c.ready.new.conn c.put_tariff.new.conn
+    (c.ready.ensures.kept (omega (arith, c.put_tariff.ensures.crash.clean))) c.ready.ensures.survives c.put_tariff.result _ _
+    (c.put_tariff.ensures.told clean)

@@ -5,13 +5,14 @@ use Rattle.sqlite.specs.State.{HasCleanDisk}
 use Rattle.kept_tables.proofs.CrashLaws.{put_survives}
 use Rattle.keeper.specs.Kept.{HasNoDays, with_past}
 use Rattle.kept_tables.specs.Stands.{HasOffice}
+use Rattle.keeper_writes.specs.Causes.{IsTold}
 use Rattle.keeper_writes.proofs.CauseLaws.{cause_of, refused_after}
 use Rattle.kept_tables.proofs.StepLaws.{kept_then}
 use Rattle.keeper_writes.proofs.puts.put_past.Goals as goal
 
 pub returns-in-Err-clause-why : goal.returns-in-Err-clause-why
 returns-in-Err-clause-why g c clean =
-    cause_of g.S.Store c.args.conn.now c.settle.new.conn c.refusal.result c.in-Err.error c.refusal.ensures
+    cause_of g.S.Store c.args.conn.now c.settle.new.conn c.refusal_told.result c.in-Err.error c.refusal_told.ensures.fault
     (c.in-Err.ensures.refused clean)
 
 pub returns-in-Ok-clause-open : goal.returns-in-Ok-clause-open
@@ -52,8 +53,26 @@ returns-in-Err-keep_past-clause-why g c clean =
     let calm = c.in_default.ensures.calm early in
     elim (c.in-Err-keep_past.ensures.because clean) [
       | inl inside ↦ absurd (let e = sym calm ∙ inside in cc)
-      | inr refused ↦ cause_of g.S.Store c.args.conn.now c.keep_past.new.conn c.refusal-in-Err-keep_past.result
-          c.in-Err-keep_past.error c.refusal-in-Err-keep_past.ensures
+      | inr refused ↦ cause_of g.S.Store c.args.conn.now c.keep_past.new.conn c.refusal_told-in-Err-keep_past.result
+          c.in-Err-keep_past.error c.refusal_told-in-Err-keep_past.ensures.fault
+          (refused_after g.S.Store c.args.conn.now c.settle.new.conn c.keep_past.new.conn _ (c.settle.ensures.kept early)
+          c.settle.ensures.survives refused)
+    ]
+
+pub returns-in-Err-clause-told : goal.returns-in-Err-clause-told
+returns-in-Err-clause-told g c clean =
+    subst (IsTold g.S.Store c.args.conn.now c.settle.new.conn) (sym c.refusal_told.ensures.says)
+    (c.in-Err.ensures.refused clean)
+
+pub returns-in-Err-keep_past-clause-told : goal.returns-in-Err-keep_past-clause-told
+returns-in-Err-keep_past-clause-told g c clean =
+    let mid = state g.S.Store c.settle.new.conn in
+    let early : HasCleanDisk mid = omega (arith, c.keep_past.ensures.crash.clean) in
+    let calm = c.in_default.ensures.calm early in
+    elim (c.in-Err-keep_past.ensures.because clean) [
+      | inl inside ↦ absurd (let e = sym calm ∙ inside in cc)
+      | inr refused ↦ subst (IsTold g.S.Store c.args.conn.now c.keep_past.new.conn)
+          (sym c.refusal_told-in-Err-keep_past.ensures.says)
           (refused_after g.S.Store c.args.conn.now c.settle.new.conn c.keep_past.new.conn _ (c.settle.ensures.kept early)
           c.settle.ensures.survives refused)
     ]

@@ -14,7 +14,7 @@ returns-in-Whole-clause-does g c =
           subst (IsReadyToRead _ _ c.args.self.now.kept)
           c.in-Whole.is c.in-Ok.ensures.ready;
       does = c.ask-answer.ensures.does;
-      kept = c.unless_failed.ensures;
+      kept = c.unless_failed.ensures.held;
     }))
 
 -- a call of trees
@@ -28,5 +28,5 @@ returns-clause-does g c =
           subst (IsReadyToRead _ _ c.args.self.now.kept)
           c.in-Trees.is c.in-Ok.ensures.ready;
       looks = c.look-answer.ensures.looks;
-      kept = c.unless_failed-2.ensures;
+      kept = c.unless_failed-2.ensures.held;
     })

@@ -4,7 +4,7 @@ use Rattle.sqlite.specs.State.{HasCleanDisk}
 use Rattle.sqlite.proofs.StateLemmas.{clean_if_open}
 use Rattle.kept_tables.specs.Told.{told_in}
 use Rattle.kept_tables.proofs.StandLaws.{told_if_stands}
-use Rattle.keeper_proof.proofs.TellLaws.{either_stands, made_has}
+use Rattle.keeper_proof.proofs.TellLaws.{either_stands, made_has, made_quiet, quiet_made}
 use Rattle.keeper_proof.proofs.proved.ProvedKeeper.adopt.Goals as goal
 
 pub returns-clause-stands : goal.returns-clause-stands
@@ -27,3 +27,11 @@ returns-clause-tells g c is o stands =
 pub returns-clause-made : goal.returns-clause-made
 returns-clause-made g c clean here none o stands =
     made_has c.make-made.result _ _ (c.why_unmade.ensures.none none) (c.make-made.ensures.stands clean here o stands)
+
+pub returns-clause-quiet : goal.returns-clause-quiet
+returns-clause-quiet g c none =
+    made_quiet c.make-made.result c.error_of.result (c.why_unmade.ensures.none none) c.error_of.ensures
+
+pub returns-clause-told : goal.returns-clause-told
+returns-clause-told g c none =
+    c.why_unmade.ensures.made (quiet_made c.make-made.result c.error_of.result none c.error_of.ensures)

@@ -1,0 +1,37 @@
+-- Which cause an error of the database is, and what a keeper in a file says of its failures.
+use Rattle.std.specs.Prelude.{◌≡◌, ◌≢◌, Option, Result, Ok, Err, IsSome}
+use Rattle.sqlite.specs.declared.error.Error.{Error}
+use Rattle.sqlite.specs.declared.error.Error.TheVariants.{SqliteFailure}
+use Rattle.sqlite.specs.declared.error.ErrorCode.TheVariants.{DatabaseBusy, CannotOpen, DatabaseCorrupt, NotADatabase}
+use Rattle.sqlite.specs.declared.error.ErrorCode.TheVariants.{DiskFull, SystemIoFailure, Closed, OutOfMemory}
+use Rattle.keeper.specs.declared.kept.KeepFault.{KeepFault}
+use Rattle.keeper.specs.declared.kept.KeepFault.TheVariants.{Failed, NoMemory}
+use Rattle.keeper_at_path.specs.declared.cause.Cause.{Cause}
+use Rattle.keeper_at_path.specs.declared.cause.Cause.TheVariants.{InUse, Unopened, Spoiled, NotOurs, NoRoom}
+use Rattle.keeper_at_path.specs.declared.cause.Cause.TheVariants.{DiskFailed, Shut, Memory, Odd}
+
+-- a cause is that of an error of the database
+abbrev pub IsCauseOf : Cause → Error → Type 0
+IsCauseOf InUse e = e ≡ SqliteFailure DatabaseBusy
+IsCauseOf Unopened e = e ≡ SqliteFailure CannotOpen
+IsCauseOf Spoiled e = e ≡ SqliteFailure DatabaseCorrupt
+IsCauseOf NotOurs e = e ≡ SqliteFailure NotADatabase
+IsCauseOf NoRoom e = e ≡ SqliteFailure DiskFull
+IsCauseOf DiskFailed e = e ≡ SqliteFailure SystemIoFailure
+IsCauseOf Shut e = e ≡ SqliteFailure Closed
+IsCauseOf Memory e = e ≡ SqliteFailure OutOfMemory
+IsCauseOf Odd e =
+    (e ≢ SqliteFailure DatabaseBusy) × (e ≢ SqliteFailure CannotOpen) × (e ≢ SqliteFailure DatabaseCorrupt)
+    × (e ≢ SqliteFailure NotADatabase) × (e ≢ SqliteFailure DiskFull) × (e ≢ SqliteFailure SystemIoFailure)
+    × (e ≢ SqliteFailure Closed) × (e ≢ SqliteFailure OutOfMemory)
+IsCauseOf other e = ⊥
+
+-- a failure says why, and want of memory leaves what was said
+abbrev pub IsSaidOf : KeepFault → Option Cause → Option Cause → Type 0
+IsSaidOf Failed old new = IsSome new
+IsSaidOf NoMemory old new = new ≡ old
+
+-- a call that failed says why, and no other call says anything
+abbrev pub IsSaid : {A : Type 0} → Result A KeepFault → Option Cause → Option Cause → Type 0
+IsSaid (Ok x) old new = new ≡ old
+IsSaid (Err fault) old new = IsSaidOf fault old new
