@@ -1,6 +1,6 @@
 // What is changed in a database, and which office is found in it then.
 use crate::days::{day, history, put_day, put_history, put_tariff, row};
-use crate::old::{has_day, has_history, with_old};
+use crate::old::{has_day, has_history, make_old};
 use keeper::{Digester, KeepFault, Keeper};
 use keeper_proof::{ProvedKeeper, Steady};
 use road_time::Tariff;
@@ -25,27 +25,34 @@ pub enum Which {
     Neither,
 }
 
-/// A database as it is before a change.
-pub fn before<S: Steady>(
+/// Makes a database as it is before a change.
+pub fn make_before<S: Steady>(
     alloc: Global,
     change: Change,
     conn: Connection<S>,
-) -> Result<Connection<S>, KeepFault> {
+) -> (Result<(), KeepFault>, Connection<S>) {
     match change {
-        Change::Tables => Ok(conn),
-        Change::TakenOver => with_old(conn),
-        _ => with_tables(alloc, conn),
+        Change::Tables => (Ok(()), conn),
+        Change::TakenOver => {
+            let mut conn = conn;
+            let made = make_old(&mut conn);
+            (made, conn)
+        }
+        _ => make_tables(alloc, conn),
     }
 }
 
-/// A database with its tables.
-pub fn with_tables<S: Steady>(
+/// Makes the tables of a database.
+pub fn make_tables<S: Steady>(
     alloc: Global,
     conn: Connection<S>,
-) -> Result<Connection<S>, KeepFault> {
+) -> (Result<(), KeepFault>, Connection<S>) {
     let mut keeper = ProvedKeeper::adopt(alloc, conn);
-    keeper.last_day()?;
-    Ok(keeper.give_up())
+    let made = match keeper.last_day() {
+        Ok(_) => Ok(()),
+        Err(fault) => Err(fault),
+    };
+    (made, keeper.give_up())
 }
 
 /// Makes a change; whether that was done.

@@ -1,31 +1,58 @@
 // Disks in memory, and databases on them.
 use keeper::KeepFault;
+use keeper_proof::Steady;
 use sqlite::{Connection, FileStore, Files};
 use sqlite_disk::{Crash, Disk, Fuse, Memory};
 use sqlite_pager::Options;
 use std::alloc::Global;
 
-/// A connection to the database on disks, or the disks where it cannot be opened.
-pub fn open<D: Disk + Drop>(
-    alloc: Global,
-    disks: Files<D>,
-) -> Result<Connection<FileStore<D>>, Files<D>> {
-    open_with(alloc, disks, Options::new(1))
+/// What is done with a database.
+pub trait Works {
+    type Answer;
+
+    /// Does it, and gives the database back.
+    fn work<S: Steady>(self, conn: Connection<S>) -> (Self::Answer, Connection<S>);
 }
 
-/// The same, where the log is copied into the file once it has so many pages.
-pub fn open_copying<D: Disk + Drop>(
-    alloc: Global,
-    disks: Files<D>,
-    pages: usize,
-) -> Result<Connection<FileStore<D>>, Files<D>> {
+/// What was answered of a database on disks, whether it could be closed then, so that its log was copied, and the disks
+/// that are left.
+#[derive(Drop)]
+pub struct Worked<A, D: Disk> {
+    pub answer: A,
+    pub closed: bool,
+    pub disks: Files<D>,
+}
+
+/// Options under which the log is copied into the file once it has so many pages.
+pub fn copying(pages: usize) -> Options {
     let mut options = Options::new(1);
     options.checkpoint_frames = pages;
-    open_with(alloc, disks, options)
+    options
 }
 
-/// The same with options.
-fn open_with<D: Disk + Drop>(
+/// Does something with the database on disks, and closes it. Where it cannot be opened, the disks are given back. A
+/// check takes longest at what names the store of files: only this function and the two below name it.
+pub fn work_on<D: Disk + Drop, W: Works + Drop>(
+    alloc: Global,
+    disks: Files<D>,
+    options: Options,
+    works: W,
+) -> Result<Worked<W::Answer, D>, Files<D>> {
+    let conn = match open(alloc, disks, options) {
+        Ok(conn) => conn,
+        Err(left) => return Err(left),
+    };
+    let (answer, conn) = works.work(conn);
+    let (closed, disks) = shut(conn);
+    Ok(Worked {
+        answer,
+        closed,
+        disks,
+    })
+}
+
+/// A connection to the database on disks, or the disks where it cannot be opened.
+fn open<D: Disk + Drop>(
     alloc: Global,
     disks: Files<D>,
     options: Options,
@@ -43,7 +70,7 @@ fn open_with<D: Disk + Drop>(
 }
 
 /// Closes a database; whether its log was copied, and the disks then.
-pub fn shut<D: Disk + Drop>(conn: Connection<FileStore<D>>) -> (bool, Files<D>) {
+fn shut<D: Disk + Drop>(conn: Connection<FileStore<D>>) -> (bool, Files<D>) {
     match conn.close_files() {
         Ok(disks) => (true, disks),
         Err((_, store)) => (false, store.close()),
@@ -77,11 +104,26 @@ impl Stopping for Fuse<Memory> {
 }
 
 /// Disks that hold nothing, and do not stop.
-pub fn empty_disks<D: Stopping>(alloc: Global) -> Files<D> {
+fn empty_disks<D: Stopping>(alloc: Global) -> Files<D> {
     Files {
         log: D::over(Memory::new(alloc), u64::MAX),
         db: D::over(Memory::new(alloc), u64::MAX),
     }
+}
+
+/// Disks on which a database was made, and closed.
+pub fn closed_disks<D: Stopping, W: Works<Answer = Result<(), KeepFault>> + Drop>(
+    alloc: Global,
+    works: W,
+) -> Result<Files<D>, KeepFault> {
+    let Ok(worked) = work_on(alloc, empty_disks(alloc), Options::new(1), works) else {
+        return Err(KeepFault::Failed);
+    };
+    worked.answer?;
+    if !worked.closed {
+        return Err(KeepFault::Failed);
+    }
+    Ok(worked.disks)
 }
 
 /// A disk with the bytes of another.

@@ -20,11 +20,10 @@ INSERT INTO days VALUES (100, x'e3b0c44298fc1c149afbf4c8996fb92427ae41e4649b934c
 INSERT INTO spent VALUES (99, 7, 0, 5), (31, 7, 0, 28);
 INSERT INTO past VALUES (1, 100, x'e3b0c44298fc1c149afbf4c8996fb92427ae41e4649b934ca495991b7852b855', 18, 2)";
 
-/// A connection to a database without tables, once it has those.
-pub fn with_old<S: Steady>(conn: Connection<S>) -> Result<Connection<S>, KeepFault> {
-    let mut conn = conn;
+/// Makes those in a database without tables.
+pub fn make_old<S: Steady>(conn: &mut Connection<S>) -> Result<(), KeepFault> {
     match conn.execute_batch(OLD) {
-        Ok(()) => Ok(conn),
+        Ok(()) => Ok(()),
         Err(_) => Err(KeepFault::Failed),
     }
 }
@@ -55,7 +54,9 @@ pub fn has_history<K: Keeper>(keeper: &mut K) -> Result<bool, KeepFault> {
 
 /// Whether a database with those tables has its day and its history, also when it is adopted once more.
 pub fn taken_over<S: Steady>(alloc: Global, conn: Connection<S>) -> Result<[bool; 4], KeepFault> {
-    let mut keeper = ProvedKeeper::adopt(alloc, with_old(conn)?);
+    let mut conn = conn;
+    make_old(&mut conn)?;
+    let mut keeper = ProvedKeeper::adopt(alloc, conn);
     let day = has_day(&mut keeper)?;
     let history = has_history(&mut keeper)?;
     let mut anew = ProvedKeeper::adopt(alloc, keeper.give_up());

@@ -1,10 +1,11 @@
 // Changes in whose midst the power is lost.
-use crate::changes::{Change, Which, before, changed, found};
-use crate::disks::{Stopping, copied, empty_disks, held_by, open, open_copying, shut};
+use crate::changes::{Change, Which, changed, found, make_before};
+use crate::disks::{Stopping, Works, closed_disks, copied, copying, held_by, work_on};
 use crate::losses::{LOSSES, disks_left};
 use keeper::KeepFault;
 use keeper_proof::{ProvedKeeper, Steady};
 use sqlite::{Connection, Files};
+use sqlite_pager::Options;
 use std::alloc::Global;
 use std::io;
 use std::rt::HostRuntime;
@@ -16,15 +17,56 @@ struct Tally {
     after: u64,
 }
 
+/// Makes what is before a change.
+#[derive(Clone, Copy)]
+struct Before {
+    alloc: Global,
+    change: Change,
+}
+
+impl Works for Before {
+    type Answer = Result<(), KeepFault>;
+
+    fn work<S: Steady>(self, conn: Connection<S>) -> (Result<(), KeepFault>, Connection<S>) {
+        make_before(self.alloc, self.change, conn)
+    }
+}
+
+/// Makes a change; whether no call failed.
+#[derive(Clone, Copy)]
+struct Changing {
+    alloc: Global,
+    change: Change,
+}
+
+impl Works for Changing {
+    type Answer = bool;
+
+    fn work<S: Steady>(self, conn: Connection<S>) -> (bool, Connection<S>) {
+        changed(self.alloc, self.change, conn)
+    }
+}
+
+/// Says which office is found.
+#[derive(Clone, Copy)]
+struct Finding {
+    alloc: Global,
+    change: Change,
+}
+
+impl Works for Finding {
+    type Answer = Result<Which, KeepFault>;
+
+    fn work<S: Steady>(self, conn: Connection<S>) -> (Result<Which, KeepFault>, Connection<S>) {
+        let mut keeper = ProvedKeeper::adopt(self.alloc, conn);
+        let which = found(&mut keeper, self.change);
+        (which, keeper.give_up())
+    }
+}
+
 /// Closed disks whose database is as it is before a change.
 fn disks_before<D: Stopping>(alloc: Global, change: Change) -> Result<Files<D>, KeepFault> {
-    let Ok(conn) = open(alloc, empty_disks(alloc)) else {
-        return Err(KeepFault::Failed);
-    };
-    match shut(before(alloc, change, conn)?) {
-        (true, disks) => Ok(disks),
-        _ => Err(KeepFault::Failed),
-    }
+    closed_disks(alloc, Before { alloc, change })
 }
 
 /// Makes a change over disks, and closes them; whether no call failed, and the disks then.
@@ -34,23 +76,10 @@ fn change_over<D: Stopping>(
     pages: usize,
     disks: Files<D>,
 ) -> (bool, Files<D>) {
-    let conn = match open_copying(alloc, disks, pages) {
-        Ok(conn) => conn,
-        Err(left) => return (false, left),
-    };
-    let (done, conn) = changed(alloc, change, conn);
-    let (closed, left) = shut(conn);
-    (done && closed, left)
-}
-
-/// Which office a database holds.
-fn found_in<S: Steady>(
-    alloc: Global,
-    change: Change,
-    conn: Connection<S>,
-) -> Result<Which, KeepFault> {
-    let mut keeper = ProvedKeeper::adopt(alloc, conn);
-    found(&mut keeper, change)
+    match work_on(alloc, disks, copying(pages), Changing { alloc, change }) {
+        Ok(worked) => (worked.answer && worked.closed, worked.disks),
+        Err(left) => (false, left),
+    }
 }
 
 /// Which office the next open finds on disks.
@@ -59,10 +88,10 @@ fn found_on<D: Stopping>(
     change: Change,
     disks: Files<D>,
 ) -> Result<Which, KeepFault> {
-    let Ok(conn) = open(alloc, disks) else {
-        return Ok(Which::Neither);
-    };
-    found_in(alloc, change, conn)
+    match work_on(alloc, disks, Options::new(1), Finding { alloc, change }) {
+        Ok(worked) => worked.answer,
+        Err(_) => Ok(Which::Neither),
+    }
 }
 
 /// Counts what each loss leaves of disks; none where one leaves neither office.

@@ -1,9 +1,11 @@
 // A day that is put over disks that stop.
+use crate::changes::make_tables;
 use crate::days::{day, put_day, row};
-use crate::disks::{Stopping, copied, empty_disks, open, shut};
+use crate::disks::{Stopping, Works, closed_disks, copied, work_on};
 use keeper::{Digester, KeepFault, Keeper};
 use keeper_proof::{ProvedKeeper, Steady};
 use sqlite::{Connection, Files};
+use sqlite_pager::Options;
 use std::alloc::Global;
 use std::io;
 use std::rt::HostRuntime;
@@ -31,54 +33,71 @@ enum Went {
     PutAndClosed,
 }
 
-/// A database with its tables.
-fn with_tables<S: Steady>(alloc: Global, conn: Connection<S>) -> Result<Connection<S>, KeepFault> {
-    let mut keeper = ProvedKeeper::adopt(alloc, conn);
-    keeper.last_day()?;
-    Ok(keeper.give_up())
+/// Makes the tables.
+#[derive(Clone, Copy)]
+struct Tables {
+    alloc: Global,
 }
 
-/// Puts the day; whether that was done, and the database then.
-fn with_day<S: Steady>(alloc: Global, conn: Connection<S>) -> (bool, Connection<S>) {
-    let mut keeper = ProvedKeeper::adopt(alloc, conn);
-    let put = put_day(&mut keeper) == Ok(true);
-    (put, keeper.give_up())
+impl Works for Tables {
+    type Answer = Result<(), KeepFault>;
+
+    fn work<S: Steady>(self, conn: Connection<S>) -> (Result<(), KeepFault>, Connection<S>) {
+        make_tables(self.alloc, conn)
+    }
 }
 
-/// How much of the day a database has.
-fn kept_in<S: Steady>(alloc: Global, conn: Connection<S>) -> Result<Kept, KeepFault> {
-    let mut keeper = ProvedKeeper::adopt(alloc, conn);
-    kept_by(&mut keeper)
+/// Puts the day; whether that was done.
+#[derive(Clone, Copy)]
+struct Day {
+    alloc: Global,
+}
+
+impl Works for Day {
+    type Answer = bool;
+
+    fn work<S: Steady>(self, conn: Connection<S>) -> (bool, Connection<S>) {
+        let mut keeper = ProvedKeeper::adopt(self.alloc, conn);
+        let put = put_day(&mut keeper) == Ok(true);
+        (put, keeper.give_up())
+    }
+}
+
+/// Says how much of the day is kept.
+#[derive(Clone, Copy)]
+struct Looking {
+    alloc: Global,
+}
+
+impl Works for Looking {
+    type Answer = Result<Kept, KeepFault>;
+
+    fn work<S: Steady>(self, conn: Connection<S>) -> (Result<Kept, KeepFault>, Connection<S>) {
+        let mut keeper = ProvedKeeper::adopt(self.alloc, conn);
+        let kept = kept_by(&mut keeper);
+        (kept, keeper.give_up())
+    }
 }
 
 /// Disks whose database has its tables, and is closed.
 fn new_disks<D: Stopping>(alloc: Global) -> Result<Files<D>, KeepFault> {
-    let Ok(conn) = open(alloc, empty_disks(alloc)) else {
-        return Err(KeepFault::Failed);
-    };
-    match shut(with_tables(alloc, conn)?) {
-        (true, disks) => Ok(disks),
-        _ => Err(KeepFault::Failed),
-    }
+    closed_disks(alloc, Tables { alloc })
 }
 
 /// Puts the day over disks and closes them; how far that went, and the disks then.
 fn put_over<D: Stopping>(alloc: Global, disks: Files<D>) -> (Went, Files<D>) {
-    let conn = match open(alloc, disks) {
-        Ok(conn) => conn,
-        Err(left) => return (Went::NotPut, left),
-    };
-    let (put, conn) = with_day(alloc, conn);
-    let (closed, left) = shut(conn);
-    (how_far(put, closed), left)
+    match work_on(alloc, disks, Options::new(1), Day { alloc }) {
+        Ok(worked) => (how_far(worked.answer, worked.closed), worked.disks),
+        Err(left) => (Went::NotPut, left),
+    }
 }
 
 /// How much of the day disks hold.
 fn kept_on<D: Stopping>(alloc: Global, disks: Files<D>) -> Result<Kept, KeepFault> {
-    let Ok(conn) = open(alloc, disks) else {
-        return Ok(Kept::Part);
-    };
-    kept_in(alloc, conn)
+    match work_on(alloc, disks, Options::new(1), Looking { alloc }) {
+        Ok(worked) => worked.answer,
+        Err(_) => Ok(Kept::Part),
+    }
 }
 
 /// How far a run went.
