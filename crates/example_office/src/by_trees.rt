@@ -1,10 +1,12 @@
 // The same file by its trees and whole, call by call, and a file with a spoiled page.
+use crate::asking::{Asks, ask_file, close_file};
+use crate::whole::{Works, on_whole};
 use crate::worked::put_day;
 use keeper::{DayRecord, KeepFault, Keeper, PastRecord};
-use keeper_at_path::{AtPath, KeeperIn, Kept, open_to_read, open_whole};
-use keeper_proof::ProvedKeeper;
+use keeper_at_path::{Kept, KeptDisk, open_to_read};
+use keeper_proof::{ProvedKeeper, Steady};
 use road_time::{SpentRow, Tariff};
-use sqlite_keeper::SqliteKeeper;
+use sqlite::Connection;
 use sqlite_pages::Pages;
 use std::alloc::Global;
 use std::rt::HostRuntime;
@@ -73,8 +75,8 @@ fn of_keeper<K: Keeper>(keeper: &mut K, day: u32) -> Result<Answers, KeepFault> 
 }
 
 /// What the trees of the file at a path answer; none where it is not exactly ours.
-fn by_trees<D: AtPath>(rt: HostRuntime, path: &str) -> Result<Option<Answers>, KeepFault> {
-    match open_to_read::<D>(&rt, path) {
+fn by_trees(rt: HostRuntime, path: &str) -> Result<Option<Answers>, KeepFault> {
+    match open_to_read::<KeptDisk>(&rt, path) {
         Ok(Kept::Trees(mut trees)) => match of_trees(rt.alloc(), &mut trees, 100) {
             Ok(answers) => Ok(Some(answers)),
             Err(fault) => Err(fault),
@@ -85,23 +87,28 @@ fn by_trees<D: AtPath>(rt: HostRuntime, path: &str) -> Result<Option<Answers>, K
 }
 
 /// What a keeper on the whole file answers.
-fn whole<D: AtPath>(rt: HostRuntime, path: &str) -> Result<Answers, KeepFault> {
-    match open_whole::<D>(&rt, path) {
-        Ok(conn) => {
-            let mut keeper = ProvedKeeper::adopt(rt.alloc(), conn);
-            of_keeper(&mut keeper, 100)
-        }
-        Err(_) => Err(KeepFault::Failed),
+#[derive(Clone, Copy)]
+struct Whole {
+    alloc: Global,
+}
+
+impl Works for Whole {
+    type Answer = Answers;
+
+    fn work<S: Steady>(self, conn: Connection<S>) -> Result<Answers, KeepFault> {
+        let mut keeper = ProvedKeeper::adopt(self.alloc, conn);
+        of_keeper(&mut keeper, 100)
     }
 }
 
 /// Whether each of the seven calls answers the same by the trees of a file and on the whole of it; none where the file
 /// is not exactly ours.
-pub fn both<D: AtPath>(rt: HostRuntime, path: &str) -> Result<Option<[bool; 7]>, KeepFault> {
-    match by_trees::<D>(rt, path)? {
-        Some(trees) => Ok(Some(trees.are_those(&whole::<D>(rt, path)?))),
-        None => Ok(None),
-    }
+pub fn both(rt: HostRuntime, path: &str) -> Result<Option<[bool; 7]>, KeepFault> {
+    let Some(trees) = by_trees(rt, path)? else {
+        return Ok(None);
+    };
+    let whole = on_whole(rt, path, Whole { alloc: rt.alloc() })?;
+    Ok(Some(trees.are_those(&whole)))
 }
 
 /// The bytes of a page of 4,096 bytes are turned.
@@ -115,21 +122,27 @@ fn spoil(rt: HostRuntime, path: &str, page: usize) -> anyhow::Result<()> {
     Ok(())
 }
 
-/// A file with a day whose index of amounts has a spoiled page: what the calls that do not come upon it answer, and
-/// those that do, in one opening of it and the next.
-pub fn spoiled_page<D: AtPath>(
-    rt: HostRuntime,
-    path: &str,
-) -> anyhow::Result<[Result<bool, KeepFault>; 4]> {
-    let _ = put_day::<D>(rt, path);
-    let mut closed = SqliteKeeper::at(rt.alloc(), rt, path)?;
-    let _ = closed.last_day();
-    let _ = closed.close();
+/// What the calls answer of a file with a day whose index of amounts has a spoiled page: those that do not come upon
+/// it, and those that do.
+#[derive(Clone, Copy)]
+struct SpoiledPage;
+
+impl Asks for SpoiledPage {
+    type Answer = [Result<bool, KeepFault>; 4];
+
+    fn ask<K: Keeper>(self, file: &mut K) -> [Result<bool, KeepFault>; 4] {
+        let last = file.last_day().map(|last| last == 100);
+        let spent = file.spent(100, 7, 0).map(|tolls| tolls == 3);
+        let day = file.day(100).map(|day| day.is_some());
+        let rows = file.rows(0, 100).map(|rows| rows.len() == 2);
+        [last, spent, day, rows]
+    }
+}
+
+/// The same in one opening of it and the next.
+pub fn spoiled_page(rt: HostRuntime, path: &str) -> anyhow::Result<[Result<bool, KeepFault>; 4]> {
+    let _ = put_day(rt, path);
+    let _ = close_file(rt, path);
     spoil(rt, path, 4)?;
-    let mut file = KeeperIn::<D>::at(rt.alloc(), rt, path)?;
-    let last = file.last_day().map(|last| last == 100);
-    let spent = file.spent(100, 7, 0).map(|tolls| tolls == 3);
-    let day = file.day(100).map(|day| day.is_some());
-    let rows = file.rows(0, 100).map(|rows| rows.len() == 2);
-    Ok([last, spent, day, rows])
+    Ok(ask_file(rt, path, SpoiledPage)?)
 }

@@ -8,16 +8,17 @@
 
 ghost use Rattle.road_time.specs.Fits.{IsLimits};
 
+mod asking;
 mod by_trees;
 mod files;
 mod old;
 mod refused;
 mod sequence;
 mod spoiled;
+mod whole;
 mod worked;
 
 use keeper::{Keeper, MemKeeper};
-use keeper_at_path::KeptDisk;
 use office_commands::{ASIDE_FILE, office};
 use partition_workers::{NoGate, ThreadCrew};
 use road_io::{FileSource, MemSink};
@@ -223,7 +224,8 @@ fn run<R: Threads + Sync + Copy, K: Keeper>(
     }
 }
 
-/// Runs commands over a file, which is opened anew for each.
+/// Runs commands over a file, which is opened anew for each. The threads rest on bounds of this function, as they may
+/// not on those of an impl.
 fn over_file<R: Threads + Sync + Copy>(
     rt: HostRuntime,
     threads: R,
@@ -263,7 +265,7 @@ fn all<R: Threads + Sync + Copy>(rt: HostRuntime, threads: R) -> anyhow::Result<
     over_both(rt, threads, "ten.db", &ROOM_OF_10)?;
     over_both(rt, threads, "line.db", &ONE_LINE)?;
     over_file(rt, threads, "old.db", &OF_VERSION_1)?;
-    files::rows::<KeptDisk>(rt)
+    files::rows(rt)
 }
 
 fn main(rt: HostRuntime) -> anyhow::Result<()> {

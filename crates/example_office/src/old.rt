@@ -1,7 +1,8 @@
 // A file of version 1.
-use crate::worked::{by_hand, history, put_day, row};
+use crate::asking::{Asks, ask_file};
+use crate::whole::by_hand;
+use crate::worked::{history, put_day, row};
 use keeper::{DayRecord, Digester, KeepFault, Keeper};
-use keeper_at_path::{AtPath, KeeperIn};
 use road_time::Tariff;
 use std::rt::HostRuntime;
 
@@ -21,10 +22,10 @@ INSERT INTO days VALUES (100, x'e3b0c44298fc1c149afbf4c8996fb92427ae41e4649b934c
 INSERT INTO spent VALUES (99, 7, 0, 5), (31, 7, 0, 28);
 INSERT INTO past VALUES (1, 100, x'e3b0c44298fc1c149afbf4c8996fb92427ae41e4649b934ca495991b7852b855', 18, 2)";
 
-/// Whether the file, which is opened anew, has day 100 under the seal of no tariffs.
-fn has_day<D: AtPath>(rt: HostRuntime) -> Result<bool, KeepFault> {
+/// Day 100 without a tuple, under the seal of no tariffs.
+fn old_day() -> DayRecord {
     let digest = Digester::new().finish();
-    let wanted = DayRecord {
+    DayRecord {
         day: 100,
         digest,
         bytes: 0,
@@ -33,39 +34,55 @@ fn has_day<D: AtPath>(rt: HostRuntime) -> Result<bool, KeepFault> {
         notices_digest: digest,
         tariffs: digest,
         total: 0,
-    };
-    let mut file = KeeperIn::<D>::at(rt.alloc(), rt, FILE)?;
-    Ok(file.day(100)? == Some(wanted))
+    }
 }
 
-/// Whether the file, which is opened anew, has the history, and no tariff.
-fn has_history<D: AtPath>(rt: HostRuntime) -> Result<bool, KeepFault> {
-    let digest = Digester::new().finish();
-    let mut file = KeeperIn::<D>::at(rt.alloc(), rt, FILE)?;
-    let past = file.past()? == Some(history(digest));
-    let rows = file.rows(0, 100)?.as_slice() == [row(31, 28), row(99, 5)].as_slice();
-    let tariff = file.tariffs()?.of(0) == Tariff::BENCHMARK;
-    Ok(past && rows && tariff)
+/// Whether day 100 is kept under the seal of no tariffs.
+#[derive(Clone, Copy)]
+struct HasDay;
+
+impl Asks for HasDay {
+    type Answer = Result<bool, KeepFault>;
+
+    fn ask<K: Keeper>(self, file: &mut K) -> Result<bool, KeepFault> {
+        Ok(file.day(100)? == Some(old_day()))
+    }
+}
+
+/// Whether the history is kept, and no tariff.
+#[derive(Clone, Copy)]
+struct HasHistory;
+
+impl Asks for HasHistory {
+    type Answer = Result<bool, KeepFault>;
+
+    fn ask<K: Keeper>(self, file: &mut K) -> Result<bool, KeepFault> {
+        let digest = Digester::new().finish();
+        let past = file.past()? == Some(history(digest));
+        let rows = file.rows(0, 100)?.as_slice() == [row(31, 28), row(99, 5)].as_slice();
+        let tariff = file.tariffs()?.of(0) == Tariff::BENCHMARK;
+        Ok(past && rows && tariff)
+    }
 }
 
 /// Whether a file in which another hand made one of the tables is a fault.
-pub fn with_one_table<D: AtPath>(rt: HostRuntime) -> Result<bool, KeepFault> {
+pub fn with_one_table(rt: HostRuntime) -> Result<bool, KeepFault> {
     let path = "sealed.db";
-    by_hand::<D>(
+    by_hand(
         rt,
         path,
         "CREATE TABLE day_tariffs (day INTEGER PRIMARY KEY, digest BLOB NOT NULL) STRICT;
 INSERT INTO day_tariffs VALUES (100, x'00')",
     )?;
-    Ok(put_day::<D>(rt, path) == Err(KeepFault::Failed))
+    Ok(put_day(rt, path) == Err(KeepFault::Failed))
 }
 
 /// Whether a file of version 1 can be made, and has its day and its history each of the times that it is opened.
-pub fn taken_over<D: AtPath>(rt: HostRuntime) -> Result<[bool; 5], KeepFault> {
-    let made = by_hand::<D>(rt, FILE, OLD).is_ok();
-    let day = has_day::<D>(rt)?;
-    let history = has_history::<D>(rt)?;
-    let day_again = has_day::<D>(rt)?;
-    let history_again = has_history::<D>(rt)?;
+pub fn taken_over(rt: HostRuntime) -> Result<[bool; 5], KeepFault> {
+    let made = by_hand(rt, FILE, OLD).is_ok();
+    let day = ask_file(rt, FILE, HasDay)??;
+    let history = ask_file(rt, FILE, HasHistory)??;
+    let day_again = ask_file(rt, FILE, HasDay)??;
+    let history_again = ask_file(rt, FILE, HasHistory)??;
     Ok([made, day, history, day_again, history_again])
 }

@@ -1,9 +1,9 @@
 // The same calls over the keeper in memory and over the keeper in a file that is opened anew for each step.
 ghost use Rattle.std.specs.Prelude.{◌≤◌};
 
+use crate::asking::{Asks, ask_file};
 use crate::worked::{day, history, other_row, put_day, row};
 use keeper::{Digester, KeepFault, Keeper, MemKeeper};
-use keeper_at_path::{AtPath, KeeperIn};
 use road_time::Tariff;
 use std::rt::HostRuntime;
 
@@ -41,25 +41,46 @@ fn same_tariffs<K: Keeper, L: Keeper>(one: &mut K, other: &mut L) -> Result<bool
     Ok(own && one.tariffs()?.of(0) == other.tariffs()?.of(0))
 }
 
-/// The last day of the file at a path, which is opened anew, and whether it says the same as the keeper in memory.
-fn agree<D: AtPath>(
-    rt: HostRuntime,
-    path: &str,
-    memory: &mut MemKeeper,
-) -> Result<(u32, bool), KeepFault> {
-    let mut file = KeeperIn::<D>::at(rt.alloc(), rt, path)?;
-    let days = same_days(&mut file, memory)?;
-    let amounts = same_amounts(&mut file, memory)?;
-    let rows = same_rows(&mut file, memory)?;
-    let tariffs = same_tariffs(&mut file, memory)?;
-    Ok((file.last_day()?, days && amounts && rows && tariffs))
+/// The last day of a keeper, and whether it says the same as another.
+fn agree<K: Keeper, L: Keeper>(one: &mut K, other: &mut L) -> Result<(u32, bool), KeepFault> {
+    let days = same_days(one, other)?;
+    let amounts = same_amounts(one, other)?;
+    let rows = same_rows(one, other)?;
+    let tariffs = same_tariffs(one, other)?;
+    Ok((one.last_day()?, days && amounts && rows && tariffs))
 }
 
-/// Puts the history into the file.
-fn file_history<D: AtPath>(rt: HostRuntime) -> Result<(), KeepFault> {
-    let digest = Digester::new().finish();
-    let mut file = KeeperIn::<D>::at(rt.alloc(), rt, FILE)?;
-    file.put_past(&history(digest), &[row(31, 28), row(99, 5)])
+/// Whether a keeper in memory says the same.
+#[derive(Drop)]
+struct SaysTheSame {
+    memory: MemKeeper,
+}
+
+impl Asks for SaysTheSame {
+    type Answer = Result<(u32, bool), KeepFault>;
+
+    fn ask<K: Keeper>(self, file: &mut K) -> Result<(u32, bool), KeepFault> {
+        let mut memory = self.memory;
+        agree(file, &mut memory)
+    }
+}
+
+/// The last day of the file at a path, which is opened anew, and whether it says the same as the keeper in memory.
+fn compared(rt: HostRuntime, path: &str, memory: MemKeeper) -> Result<(u32, bool), KeepFault> {
+    ask_file(rt, path, SaysTheSame { memory })?
+}
+
+/// Puts the history.
+#[derive(Clone, Copy)]
+struct PutsHistory;
+
+impl Asks for PutsHistory {
+    type Answer = Result<(), KeepFault>;
+
+    fn ask<K: Keeper>(self, file: &mut K) -> Result<(), KeepFault> {
+        let digest = Digester::new().finish();
+        file.put_past(&history(digest), &[row(31, 28), row(99, 5)])
+    }
 }
 
 /// Puts the history into a keeper in memory.
@@ -79,17 +100,24 @@ fn memory_day(memory: &mut MemKeeper) -> Result<(), KeepFault> {
     Ok(())
 }
 
-/// Puts a tariff into the file.
-fn file_tariff<D: AtPath>(rt: HostRuntime, factor: u8) -> Result<(), KeepFault>
-    requires { factor ≤ 20 }
-{
-    let tariff = Tariff {
-        crowd: 50,
-        speed: 40,
-        factor,
-    };
-    let mut file = KeeperIn::<D>::at(rt.alloc(), rt, FILE)?;
-    file.put_tariff(3, &tariff)
+/// Puts a tariff of a factor.
+#[derive(Clone, Copy)]
+struct PutsTariff {
+    factor: u8,
+    ghost small: { factor ≤ 20 },
+}
+
+impl Asks for PutsTariff {
+    type Answer = Result<(), KeepFault>;
+
+    fn ask<K: Keeper>(self, file: &mut K) -> Result<(), KeepFault> {
+        let tariff = Tariff {
+            crowd: 50,
+            speed: 40,
+            factor: self.factor,
+        };
+        file.put_tariff(3, &tariff)
+    }
 }
 
 /// A keeper in memory with the history and the day.
@@ -114,44 +142,44 @@ fn memory_tariff(rt: HostRuntime, factor: u8) -> Result<MemKeeper, KeepFault>
 }
 
 /// What both say at first.
-pub fn at_first<D: AtPath>(rt: HostRuntime) -> Result<(u32, bool), KeepFault> {
-    let mut memory = MemKeeper::new(rt.alloc(), &[])?;
-    agree::<D>(rt, FILE, &mut memory)
+pub fn at_first(rt: HostRuntime) -> Result<(u32, bool), KeepFault> {
+    let memory = MemKeeper::new(rt.alloc(), &[])?;
+    compared(rt, FILE, memory)
 }
 
 /// What both say after the history.
-pub fn after_history<D: AtPath>(rt: HostRuntime) -> Result<(u32, bool), KeepFault> {
-    file_history::<D>(rt)?;
-    let mut memory = memory_history(rt)?;
-    agree::<D>(rt, FILE, &mut memory)
+pub fn after_history(rt: HostRuntime) -> Result<(u32, bool), KeepFault> {
+    ask_file(rt, FILE, PutsHistory)??;
+    let memory = memory_history(rt)?;
+    compared(rt, FILE, memory)
 }
 
 /// What both say after the day besides.
-pub fn after_day<D: AtPath>(rt: HostRuntime) -> Result<(u32, bool), KeepFault> {
-    put_day::<D>(rt, FILE)?;
-    let mut memory = memory_both(rt)?;
-    agree::<D>(rt, FILE, &mut memory)
+pub fn after_day(rt: HostRuntime) -> Result<(u32, bool), KeepFault> {
+    put_day(rt, FILE)?;
+    let memory = memory_both(rt)?;
+    compared(rt, FILE, memory)
 }
 
 /// What both say with a tariff besides.
-pub fn with_tariff<D: AtPath>(rt: HostRuntime, factor: u8) -> Result<(u32, bool), KeepFault>
+pub fn with_tariff(rt: HostRuntime, factor: u8) -> Result<(u32, bool), KeepFault>
     requires { factor ≤ 20 }
 {
-    file_tariff::<D>(rt, factor)?;
-    let mut memory = memory_tariff(rt, factor)?;
-    agree::<D>(rt, FILE, &mut memory)
+    ask_file(rt, FILE, PutsTariff { factor })??;
+    let memory = memory_tariff(rt, factor)?;
+    compared(rt, FILE, memory)
 }
 
 /// What both say after the day is refused where it is kept.
-pub fn after_refusal<D: AtPath>(rt: HostRuntime) -> Result<(u32, bool), KeepFault> {
-    let refused = put_day::<D>(rt, FILE) == Err(KeepFault::Failed);
-    let mut memory = memory_tariff(rt, 5)?;
-    let (last, same) = agree::<D>(rt, FILE, &mut memory)?;
+pub fn after_refusal(rt: HostRuntime) -> Result<(u32, bool), KeepFault> {
+    let refused = put_day(rt, FILE) == Err(KeepFault::Failed);
+    let memory = memory_tariff(rt, 5)?;
+    let (last, same) = compared(rt, FILE, memory)?;
     Ok((last, same && refused))
 }
 
 /// What both say of the file at a path, in which another hand put the history, the day and the tariff.
-pub fn of_another<D: AtPath>(rt: HostRuntime, path: &str) -> Result<(u32, bool), KeepFault> {
-    let mut memory = memory_tariff(rt, 5)?;
-    agree::<D>(rt, path, &mut memory)
+pub fn of_another(rt: HostRuntime, path: &str) -> Result<(u32, bool), KeepFault> {
+    let memory = memory_tariff(rt, 5)?;
+    compared(rt, path, memory)
 }

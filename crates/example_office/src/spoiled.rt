@@ -1,7 +1,8 @@
 // Files that keep day 100, and that another hand spoiled.
-use crate::worked::{by_hand, put_day};
+use crate::asking::{Asks, ask_file};
+use crate::whole::by_hand;
+use crate::worked::put_day;
 use keeper::{KeepFault, Keeper};
-use keeper_at_path::{AtPath, KeeperIn};
 use road_time::Tariff;
 use std::rt::HostRuntime;
 
@@ -57,9 +58,13 @@ INSERT INTO spent VALUES (100, 7, 0, 5), (100, 7, 0, 6)",
             Spoiled::NoTable => "no_table.db",
         }
     }
+}
 
-    /// Whether the call that comes upon it is answered as if it were not there.
-    fn is_answered<D: AtPath>(self, file: &mut KeeperIn<D>) -> Result<bool, KeepFault> {
+/// Whether the call that comes upon it is answered as if it were not there.
+impl Asks for Spoiled {
+    type Answer = Result<bool, KeepFault>;
+
+    fn ask<K: Keeper>(self, file: &mut K) -> Result<bool, KeepFault> {
         match self {
             Spoiled::ShortDigest | Spoiled::NegativeNumber | Spoiled::NoSeal => Ok(
                 file.day(100)?.is_some(),
@@ -77,13 +82,12 @@ INSERT INTO spent VALUES (100, 7, 0, 5), (100, 7, 0, 6)",
 }
 
 /// What is answered of a file that is spoiled: a fault, or whether it is as if it were not.
-pub fn answered<D: AtPath>(rt: HostRuntime, spoiled: Spoiled) -> Result<bool, KeepFault> {
-    let mut file = KeeperIn::<D>::at(rt.alloc(), rt, spoiled.path())?;
-    spoiled.is_answered(&mut file)
+pub fn answered(rt: HostRuntime, spoiled: Spoiled) -> Result<bool, KeepFault> {
+    ask_file(rt, spoiled.path(), spoiled)?
 }
 
 /// Whether day 100 can be put into a file, and the file be spoiled then.
-pub fn is_made<D: AtPath>(rt: HostRuntime, spoiled: Spoiled) -> Result<bool, KeepFault> {
-    put_day::<D>(rt, spoiled.path())?;
-    Ok(by_hand::<D>(rt, spoiled.path(), spoiled.text()).is_ok())
+pub fn is_made(rt: HostRuntime, spoiled: Spoiled) -> Result<bool, KeepFault> {
+    put_day(rt, spoiled.path())?;
+    Ok(by_hand(rt, spoiled.path(), spoiled.text()).is_ok())
 }

@@ -1,8 +1,8 @@
-// The worked history and day, how the day is put, and another hand.
+// The worked history and day, and how the day is put.
 ghost use Rattle.std.specs.Prelude.{◌≡◌};
 
+use crate::asking::{Asks, ask_file};
 use keeper::{DayRecord, Digest, Digester, KeepFault, Keeper, PastRecord};
-use keeper_at_path::{AtPath, KeeperIn, open_whole};
 use road_time::SpentRow;
 use std::rt::HostRuntime;
 
@@ -68,20 +68,20 @@ pub fn day(digest: Digest, total: u64) -> DayRecord
     }
 }
 
-/// Puts the day into the file at a path, which is opened anew.
-pub fn put_day<D: AtPath>(rt: HostRuntime, path: &str) -> Result<(), KeepFault> {
-    let digest = Digester::new().finish();
-    let mut file = KeeperIn::<D>::at(rt.alloc(), rt, path)?;
-    file.put_day(&day(digest, 5), &[row(100, 3), other_row()])
+/// Puts the day.
+#[derive(Clone, Copy)]
+struct PutsDay;
+
+impl Asks for PutsDay {
+    type Answer = Result<(), KeepFault>;
+
+    fn ask<K: Keeper>(self, file: &mut K) -> Result<(), KeepFault> {
+        let digest = Digester::new().finish();
+        file.put_day(&day(digest, 5), &[row(100, 3), other_row()])
+    }
 }
 
-/// Runs statements on the file at a path, as another hand may.
-pub fn by_hand<D: AtPath>(rt: HostRuntime, path: &str, text: &str) -> Result<(), KeepFault> {
-    let Ok(mut conn) = open_whole::<D>(&rt, path) else {
-        return Err(KeepFault::Failed);
-    };
-    match conn.execute_batch(text) {
-        Ok(()) => Ok(()),
-        Err(_) => Err(KeepFault::Failed),
-    }
+/// Puts the day into the file at a path, which is opened anew.
+pub fn put_day(rt: HostRuntime, path: &str) -> Result<(), KeepFault> {
+    ask_file(rt, path, PutsDay)?
 }

@@ -1,0 +1,48 @@
+// What is done with a whole file that is opened for it.
+use keeper::KeepFault;
+use keeper_at_path::{KeptDisk, open_whole};
+use keeper_proof::Steady;
+use sqlite::Connection;
+use std::rt::HostRuntime;
+
+/// What is done with a connection.
+pub trait Works {
+    type Answer;
+
+    fn work<S: Steady>(self, conn: Connection<S>) -> Result<Self::Answer, KeepFault>;
+}
+
+/// What is answered by a connection on the whole file at a path, which is opened for it.
+pub fn on_whole<W: Works + Drop>(
+    rt: HostRuntime,
+    path: &str,
+    works: W,
+) -> Result<W::Answer, KeepFault> {
+    match open_whole::<KeptDisk>(&rt, path) {
+        Ok(conn) => works.work(conn),
+        Err(_) => Err(KeepFault::Failed),
+    }
+}
+
+/// Statements that another hand runs.
+#[derive(Clone, Copy)]
+struct Statements<'a> {
+    text: &'a str,
+}
+
+impl<'a> Works for Statements<'a> {
+    type Answer = ();
+
+    fn work<S: Steady>(self, conn: Connection<S>) -> Result<(), KeepFault> {
+        let mut conn = conn;
+        match conn.execute_batch(self.text) {
+            Ok(()) => Ok(()),
+            Err(_) => Err(KeepFault::Failed),
+        }
+    }
+}
+
+/// Runs statements on the file at a path, as another hand may.
+pub fn by_hand(rt: HostRuntime, path: &str, text: &str) -> Result<(), KeepFault> {
+    on_whole(rt, path, Statements { text })
+}
