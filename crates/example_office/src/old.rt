@@ -3,6 +3,8 @@ use crate::worked::{by_hand, history, put_day, row};
 use keeper::{DayRecord, Digester, KeepFault, Keeper};
 use keeper_at_path::{AtPath, KeeperIn};
 use road_time::Tariff;
+use sqlite::FileStore;
+use sqlite_pool::Pool;
 use std::rt::HostRuntime;
 
 const FILE: &str = "version_1.db";
@@ -34,14 +36,14 @@ fn has_day<D: AtPath>(rt: HostRuntime) -> Result<bool, KeepFault> {
         tariffs: digest,
         total: 0,
     };
-    let mut file = KeeperIn::<D>::at(rt.alloc(), rt, FILE)?;
+    let mut file = KeeperIn::<FileStore<D>, Pool<D>>::at(rt.alloc(), rt, FILE)?;
     Ok(file.day(100)? == Some(wanted))
 }
 
 /// Whether the file, which is opened anew, has the history, and no tariff.
 fn has_history<D: AtPath>(rt: HostRuntime) -> Result<bool, KeepFault> {
     let digest = Digester::new().finish();
-    let mut file = KeeperIn::<D>::at(rt.alloc(), rt, FILE)?;
+    let mut file = KeeperIn::<FileStore<D>, Pool<D>>::at(rt.alloc(), rt, FILE)?;
     let past = file.past()? == Some(history(digest));
     let rows = file.rows(0, 100)?.as_slice() == [row(31, 28), row(99, 5)].as_slice();
     let tariff = file.tariffs()?.of(0) == Tariff::BENCHMARK;

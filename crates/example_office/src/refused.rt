@@ -2,12 +2,14 @@
 use crate::worked::{by_hand, put_day};
 use keeper::{KeepFault, Keeper};
 use keeper_at_path::{AtPath, KeeperIn};
+use sqlite::FileStore;
 use sqlite_keeper::SqliteKeeper;
+use sqlite_pool::Pool;
 use std::rt::HostRuntime;
 
 /// Whether nothing of day 100 is kept in the file at a path, which is opened anew.
 fn is_without_day<D: AtPath>(rt: HostRuntime, path: &str) -> Result<bool, KeepFault> {
-    let mut file = KeeperIn::<D>::at(rt.alloc(), rt, path)?;
+    let mut file = KeeperIn::<FileStore<D>, Pool<D>>::at(rt.alloc(), rt, path)?;
     let none = file.day(100)? == None && file.spent(100, 7, 0)? == 0;
     Ok(none && file.last_day()? == 0)
 }
@@ -26,7 +28,7 @@ pub fn at_the_last_amount<D: AtPath>(rt: HostRuntime, path: &str) -> Result<[boo
 
 /// Whether the last day of the file at a path is a fault.
 pub fn is_fault<D: AtPath>(rt: HostRuntime, path: &str) -> Result<bool, KeepFault> {
-    let mut file = KeeperIn::<D>::at(rt.alloc(), rt, path)?;
+    let mut file = KeeperIn::<FileStore<D>, Pool<D>>::at(rt.alloc(), rt, path)?;
     Ok(file.last_day() == Err(KeepFault::Failed))
 }
 
@@ -35,7 +37,7 @@ pub fn is_fault<D: AtPath>(rt: HostRuntime, path: &str) -> Result<bool, KeepFaul
 pub fn after_a_fault<D: AtPath>(rt: HostRuntime, path: &str) -> Result<[bool; 3], KeepFault> {
     put_day::<D>(rt, path)?;
     by_hand::<D>(rt, path, "UPDATE day_tariffs SET day = 101")?;
-    let mut file = KeeperIn::<D>::at(rt.alloc(), rt, path)?;
+    let mut file = KeeperIn::<FileStore<D>, Pool<D>>::at(rt.alloc(), rt, path)?;
     let refused = file.day(100) == Err(KeepFault::Failed);
     let mended = by_hand::<D>(rt, path, "UPDATE day_tariffs SET day = 100").is_ok();
     Ok([refused, mended, file.day(100)?.is_some()])
@@ -51,7 +53,7 @@ pub fn closed<D: AtPath>(rt: HostRuntime, path: &str) -> Result<(), KeepFault> {
 
 /// Whether the file at a path has the day and the second of its amounts.
 pub fn has_day<D: AtPath>(rt: HostRuntime, path: &str) -> Result<bool, KeepFault> {
-    let mut file = KeeperIn::<D>::at(rt.alloc(), rt, path)?;
+    let mut file = KeeperIn::<FileStore<D>, Pool<D>>::at(rt.alloc(), rt, path)?;
     Ok(file.day(100)?.is_some() && file.spent(100, 8, 1)? == 2)
 }
 
@@ -59,9 +61,9 @@ pub fn has_day<D: AtPath>(rt: HostRuntime, path: &str) -> Result<bool, KeepFault
 /// finds the day once the other is gone.
 pub fn while_open<D: AtPath>(rt: HostRuntime, path: &str) -> Result<[bool; 3], KeepFault> {
     put_day::<D>(rt, path)?;
-    let mut other = KeeperIn::<D>::at(rt.alloc(), rt, path)?;
+    let mut other = KeeperIn::<FileStore<D>, Pool<D>>::at(rt.alloc(), rt, path)?;
     let before = other.last_day()? == 100;
-    let mut file = KeeperIn::<D>::at(rt.alloc(), rt, path)?;
+    let mut file = KeeperIn::<FileStore<D>, Pool<D>>::at(rt.alloc(), rt, path)?;
     let refused = file.last_day() == Err(KeepFault::Failed);
     let after = other.last_day()? == 100;
     drop(other);

@@ -5,6 +5,8 @@ use crate::worked::{day, history, other_row, put_day, row};
 use keeper::{Digester, KeepFault, Keeper, MemKeeper};
 use keeper_at_path::{AtPath, KeeperIn};
 use road_time::Tariff;
+use sqlite::FileStore;
+use sqlite_pool::Pool;
 use std::rt::HostRuntime;
 
 const FILE: &str = "kept.db";
@@ -47,7 +49,7 @@ fn agree<D: AtPath>(
     path: &str,
     memory: &mut MemKeeper,
 ) -> Result<(u32, bool), KeepFault> {
-    let mut file = KeeperIn::<D>::at(rt.alloc(), rt, path)?;
+    let mut file = KeeperIn::<FileStore<D>, Pool<D>>::at(rt.alloc(), rt, path)?;
     let days = same_days(&mut file, memory)?;
     let amounts = same_amounts(&mut file, memory)?;
     let rows = same_rows(&mut file, memory)?;
@@ -58,7 +60,7 @@ fn agree<D: AtPath>(
 /// Puts the history into the file.
 fn file_history<D: AtPath>(rt: HostRuntime) -> Result<(), KeepFault> {
     let digest = Digester::new().finish();
-    let mut file = KeeperIn::<D>::at(rt.alloc(), rt, FILE)?;
+    let mut file = KeeperIn::<FileStore<D>, Pool<D>>::at(rt.alloc(), rt, FILE)?;
     file.put_past(&history(digest), &[row(31, 28), row(99, 5)])
 }
 
@@ -88,7 +90,7 @@ fn file_tariff<D: AtPath>(rt: HostRuntime, factor: u8) -> Result<(), KeepFault>
         speed: 40,
         factor,
     };
-    let mut file = KeeperIn::<D>::at(rt.alloc(), rt, FILE)?;
+    let mut file = KeeperIn::<FileStore<D>, Pool<D>>::at(rt.alloc(), rt, FILE)?;
     file.put_tariff(3, &tariff)
 }
 

@@ -3,6 +3,8 @@ use crate::worked::{by_hand, put_day};
 use keeper::{KeepFault, Keeper};
 use keeper_at_path::{AtPath, KeeperIn};
 use road_time::Tariff;
+use sqlite::FileStore;
+use sqlite_pool::Pool;
 use std::rt::HostRuntime;
 
 /// What another hand did to a file.
@@ -59,7 +61,7 @@ INSERT INTO spent VALUES (100, 7, 0, 5), (100, 7, 0, 6)",
     }
 
     /// Whether the call that comes upon it is answered as if it were not there.
-    fn is_answered<D: AtPath>(self, file: &mut KeeperIn<D>) -> Result<bool, KeepFault> {
+    fn is_answered<D: AtPath>(self, file: &mut KeeperIn<FileStore<D>, Pool<D>>) -> Result<bool, KeepFault> {
         match self {
             Spoiled::ShortDigest | Spoiled::NegativeNumber | Spoiled::NoSeal => Ok(
                 file.day(100)?.is_some(),
@@ -78,7 +80,7 @@ INSERT INTO spent VALUES (100, 7, 0, 5), (100, 7, 0, 6)",
 
 /// What is answered of a file that is spoiled: a fault, or whether it is as if it were not.
 pub fn answered<D: AtPath>(rt: HostRuntime, spoiled: Spoiled) -> Result<bool, KeepFault> {
-    let mut file = KeeperIn::<D>::at(rt.alloc(), rt, spoiled.path())?;
+    let mut file = KeeperIn::<FileStore<D>, Pool<D>>::at(rt.alloc(), rt, spoiled.path())?;
     spoiled.is_answered(&mut file)
 }
 

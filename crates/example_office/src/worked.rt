@@ -4,6 +4,8 @@ ghost use Rattle.std.specs.Prelude.{◌≡◌};
 use keeper::{DayRecord, Digest, Digester, KeepFault, Keeper, PastRecord};
 use keeper_at_path::{AtPath, KeeperIn, open_whole};
 use road_time::SpentRow;
+use sqlite::FileStore;
+use sqlite_pool::Pool;
 use std::rt::HostRuntime;
 
 /// The history of vehicle 7 before day 100.
@@ -71,7 +73,7 @@ pub fn day(digest: Digest, total: u64) -> DayRecord
 /// Puts the day into the file at a path, which is opened anew.
 pub fn put_day<D: AtPath>(rt: HostRuntime, path: &str) -> Result<(), KeepFault> {
     let digest = Digester::new().finish();
-    let mut file = KeeperIn::<D>::at(rt.alloc(), rt, path)?;
+    let mut file = KeeperIn::<FileStore<D>, Pool<D>>::at(rt.alloc(), rt, path)?;
     file.put_day(&day(digest, 5), &[row(100, 3), other_row()])
 }
 

@@ -1,37 +1,38 @@
 // A database that is opened when it is first asked for.
-ghost use Rattle.std.specs.Prelude.{◌≡◌, ◌≢◌, Some, None, IfOk, IfErr};
+ghost use Rattle.std.specs.Prelude.{◌≡◌, ◌≢◌, true, Some, None, IfOk, IfErr};
 ghost use Rattle.sqlite.specs.Held.{state};
 ghost use Rattle.keeper.specs.declared.kept.KeepFault.TheVariants.{NoMemory};
 ghost use Rattle.keeper_writes.specs.Causes.{WasRefused};
-ghost use Rattle.keeper_at_path.specs.Asked.{AskedToRead, AskedToPut, IsReady, IsReadyToRead, IsNotWhole, IsHeld};
+ghost use Rattle.tree_puts.specs.Stores.{Stores};
+ghost use Rattle.keeper_at_path.specs.Asked.{AskedToRead, AskedToPut, IsReadyToRead, IsHeld, IsMade, IsPut, store_fault};
+ghost use Rattle.keeper_at_path.specs.Asked.{HoldsFound};
 ghost use Rattle.keeper_at_path.specs.Looks.{AreFound, Looks};
 
-use crate::at_path::AtPath;
 use crate::call::{Putting, Reading};
 use crate::kept::Kept;
-use crate::page_files::{make_whole, open_to_read, open_whole};
+use crate::opens::Opens;
 use keeper::KeepFault;
 use keeper_proof::{ProvedKeeper, Steady};
 use keeper_writes::refusals::refusal;
-use sqlite::{Connection, FileStore};
+use sqlite::Connection;
 use sqlite_pages::Pages;
-use sqlite_pool::Pool;
-use sqlite_trees::store::Store;
+use sqlite_trees::error::StoreError;
 use std::alloc::Global;
 use std::rt::HostRuntime;
 use tree_keeper::PageTrees;
 
-/// A database that is opened when it is first asked for: by its trees for a call that reads, whole for one that puts.
+/// A database that is opened when it is first asked for: by its trees where it is exactly ours, or whole. A call that puts
+/// is made of the store of the same trees, or of the whole.
 #[derive(Drop)]
-pub struct Database<D: AtPath> {
+pub struct Database<S: Opens<P>, P: Pages + Drop> {
     rt: HostRuntime,
     path: String,
-    pub(crate) kept: Option<Kept<PageTrees<Pool<D>>, ProvedKeeper<FileStore<D>>>>,
+    pub(crate) kept: Option<Kept<PageTrees<P>, ProvedKeeper<S>>>,
 }
 
-impl<D: AtPath> Database<D> {
+impl<S: Opens<P>, P: Pages + Drop> Database<S, P> {
     /// The database at a path, which is not open.
-    pub(crate) fn new(rt: HostRuntime, path: String) -> Database<D> {
+    pub(crate) fn new(rt: HostRuntime, path: String) -> Database<S, P> {
         Database {
             rt,
             path,
@@ -40,7 +41,7 @@ impl<D: AtPath> Database<D> {
     }
 
     /// The pages or the connection, if it is open.
-    pub(crate) fn give_up(self) -> Option<Kept<Pool<D>, Connection<FileStore<D>>>> {
+    pub(crate) fn give_up(self) -> Option<Kept<P, Connection<S>>> {
         let Database {
             rt: _,
             path: _,
@@ -57,12 +58,10 @@ impl<D: AtPath> Database<D> {
     /// call opens the file anew.
     pub(crate) fn read<C: Reading + Drop>(&mut self, call: C) -> Result<C::Answer, KeepFault>
         ensures answers { IfOk result C.answers }
-        ensures does { AskedToRead self.old.kept self.new.kept
-            (AreFound ⟦<Pool<D> as Pages>⟧) (Looks ⟦<Pool<D> as Pages>⟧)
-            (λ k. k.unmade ≢ Some NoMemory) (λ k. state ⟦<FileStore<D> as Store>⟧ k.conn)
-            (WasRefused ⟦<FileStore<D> as Store>⟧) (C.gives call) result }
+        ensures does { AskedToRead self.old.kept self.new.kept (AreFound P.Pages) (Looks P.Pages)
+            (λ k. k.unmade ≢ Some NoMemory) (λ k. state S.Store k.conn) (WasRefused S.Store) (C.gives call) result }
     {
-        let ready = match self.ready_to_read() {
+        let ready = match self.ready() {
             Ok(ready) => ready,
             Err(fault) => return Err(fault),
         };
@@ -79,58 +78,105 @@ impl<D: AtPath> Database<D> {
         answer
     }
 
-    /// Makes a call that puts, of the keeper that is held, or of one that is opened for it. So with a failure.
+    /// Makes a call that puts, of the keeper that is held, or of a store or a keeper that is opened for it.
     pub(crate) fn put<C: Putting + Drop>(&mut self, call: C) -> Result<(), KeepFault>
         requires { C.fits call }
-        ensures { AskedToPut self.old.kept self.new.kept (λ k. k.unmade ≢ Some NoMemory)
-            (λ k. state ⟦<FileStore<D> as Store>⟧ k.conn) (WasRefused ⟦<FileStore<D> as Store>⟧)
+        ensures { AskedToPut self.old.kept self.new.kept (λ k. k.unmade ≢ Some NoMemory) (AreFound P.Pages)
+            (Stores S.Store (C.asks call) (C.next call)) (λ k. state S.Store k.conn) (WasRefused S.Store)
             (C.asks call) (C.next call) result }
     {
-        let mut kept = match self.ready_to_put() {
-            Ok(kept) => kept,
+        let ready = match self.ready() {
+            Ok(ready) => ready,
             Err(fault) => return Err(fault),
         };
+        match ready {
+            Kept::Whole(kept) => self.put_whole(kept, call),
+            Kept::Trees(trees) => self.put_by_trees(trees, call),
+        }
+    }
+
+    /// Makes a call that puts, of a keeper. A failure lets it go.
+    fn put_whole<C: Putting + Drop>(
+        &mut self,
+        mut kept: ProvedKeeper<S>,
+        call: C,
+    ) -> Result<(), KeepFault>
+        requires { C.fits call }
+        ensures { IsMade (λ k. k ≡ kept) (λ k. state S.Store k.conn) (WasRefused S.Store) true (C.asks call)
+            (λ o u. Unit {0}) (C.next call) self.new.kept result }
+    {
         let answer = call.put(&mut kept);
         self.kept = unless_failed(&answer, Kept::Whole(kept));
         answer
     }
 
-    /// Takes what is held, or opens it.
-    fn ready_to_read(
+    /// Makes a call that puts, of a keeper on a new connection.
+    fn put_over<C: Putting + Drop>(
         &mut self,
-    ) -> Result<Kept<PageTrees<Pool<D>>, ProvedKeeper<FileStore<D>>>, KeepFault>
-        ensures ready { IfOk result (IsReadyToRead (AreFound ⟦<Pool<D> as Pages>⟧)
-            (λ k. k.unmade ≢ Some NoMemory) self.old.kept) }
+        conn: Result<Connection<S>, sqlite::Error>,
+        call: C,
+    ) -> Result<(), KeepFault>
+        requires fits { C.fits call }
+        requires none { self.old.kept ≡ None }
+        ensures { IsPut (λ k. k.unmade ≢ Some NoMemory) self.new.kept (AreFound P.Pages)
+            (Stores S.Store (C.asks call) (C.next call)) (λ k. state S.Store k.conn) (WasRefused S.Store)
+            (C.asks call) (C.next call) result }
+    {
+        let conn = match conn {
+            Ok(conn) => conn,
+            Err(error) => return Err(refusal(error)),
+        };
+        match adopted(self.rt.alloc(), conn) {
+            Ok(kept) => self.put_whole(kept, call),
+            Err(fault) => Err(fault),
+        }
+    }
+
+    /// Makes a call that puts, of the store of some trees; or of a keeper on the whole file, where the trees are not
+    /// sound or the call does not fit what is there.
+    fn put_by_trees<C: Putting + Drop>(
+        &mut self,
+        trees: PageTrees<P>,
+        call: C,
+    ) -> Result<(), KeepFault>
+        requires fits { C.fits call }
+        requires none { self.old.kept ≡ None }
+        ensures { IsPut (λ k. k.unmade ≢ Some NoMemory) self.new.kept (AreFound P.Pages)
+            (Stores S.Store (C.asks call) (C.next call)) (λ k. state S.Store k.conn) (WasRefused S.Store)
+            (C.asks call) (C.next call) result }
+    {
+        let mut store = match S::to_put(&self.rt, trees.give_up()) {
+            Ok(Kept::Trees(store)) => store,
+            Ok(Kept::Whole(conn)) => return self.put_over(Ok(conn), call),
+            Err(error) => return Err(refusal(error)),
+        };
+        match call.store(self.rt.alloc(), &mut store) {
+            Ok(true) => {
+                self.kept = held_again(&self.rt, store);
+                Ok(())
+            }
+            Ok(false) => self.put_over(S::to_whole(&self.rt, store), call),
+            Err(error) => Err(fault_of(error)),
+        }
+    }
+
+    /// Takes what is held, or opens it.
+    fn ready(&mut self) -> Result<Kept<PageTrees<P>, ProvedKeeper<S>>, KeepFault>
+        ensures ready { IfOk result (IsReadyToRead (AreFound P.Pages) (λ k. k.unmade ≢ Some NoMemory) self.old.kept) }
         ensures none { self.new.kept ≡ None }
         ensures unopened { IfErr result (λ _. self.old.kept ≡ None) }
     {
         if let Some(kept) = self.kept.take() {
             return Ok(kept);
         }
-        self.opened_to_read()
-    }
-
-    /// Takes the keeper that is held, or makes one of what is held, or opens one.
-    fn ready_to_put(&mut self) -> Result<ProvedKeeper<FileStore<D>>, KeepFault>
-        ensures ready { IfOk result (IsReady (λ k. k.unmade ≢ Some NoMemory) self.old.kept) }
-        ensures none { self.new.kept ≡ None }
-        ensures unopened { IfErr result (λ _. IsNotWhole self.old.kept) }
-    {
-        let trees = match self.kept.take() {
-            Some(Kept::Whole(kept)) => return Ok(kept),
-            Some(Kept::Trees(trees)) => trees,
-            None => return self.opened(),
-        };
-        self.made_whole(trees)
+        self.opened()
     }
 
     /// The trees of the file, or a keeper on a new connection.
-    fn opened_to_read(
-        &self,
-    ) -> Result<Kept<PageTrees<Pool<D>>, ProvedKeeper<FileStore<D>>>, KeepFault>
-        ensures { IfOk result (IsReadyToRead (AreFound ⟦<Pool<D> as Pages>⟧) (λ k. k.unmade ≢ Some NoMemory) None) }
+    fn opened(&self) -> Result<Kept<PageTrees<P>, ProvedKeeper<S>>, KeepFault>
+        ensures { IfOk result (IsReadyToRead (AreFound P.Pages) (λ k. k.unmade ≢ Some NoMemory) None) }
     {
-        let conn = match open_to_read::<D>(&self.rt, self.path.as_str()) {
+        let conn = match S::to_read(&self.rt, self.path.as_str()) {
             Ok(Kept::Trees(trees)) => return Ok(Kept::Trees(trees)),
             Ok(Kept::Whole(conn)) => conn,
             Err(error) => return Err(refusal(error)),
@@ -140,29 +186,36 @@ impl<D: AtPath> Database<D> {
             Err(fault) => Err(fault),
         }
     }
+}
 
-    /// A keeper on a new connection to the file of some trees, which nobody else opens in between.
-    fn made_whole(&self, trees: PageTrees<Pool<D>>) -> Result<ProvedKeeper<FileStore<D>>, KeepFault>
-        ensures { IfOk result (λ kept. kept.unmade ≢ Some NoMemory) }
-    {
-        match make_whole(&self.rt, trees.give_up()) {
-            Ok(conn) => adopted(self.rt.alloc(), conn),
-            Err(error) => Err(refusal(error)),
-        }
-    }
-
-    /// A keeper on a new connection.
-    fn opened(&self) -> Result<ProvedKeeper<FileStore<D>>, KeepFault>
-        ensures { IfOk result (λ kept. kept.unmade ≢ Some NoMemory) }
-    {
-        match open_whole::<D>(&self.rt, self.path.as_str()) {
-            Ok(conn) => adopted(self.rt.alloc(), conn),
-            Err(error) => Err(refusal(error)),
-        }
+/// What is held of the file of a store that a put was made of.
+fn held_again<S: Opens<P>, P: Pages + Drop>(
+    rt: &HostRuntime,
+    store: S,
+) -> Option<Kept<PageTrees<P>, ProvedKeeper<S>>>
+    ensures { HoldsFound (AreFound P.Pages) result }
+{
+    match S::to_read_again(rt, store) {
+        Some(trees) => Some(Kept::Trees(trees)),
+        None => None,
     }
 }
 
-/// The keeper on a connection. Where there was no memory to make its tables, the connection is let go.
+/// What an error of a store is to a keeper.
+fn fault_of(error: StoreError) -> KeepFault
+    ensures { result ≡ store_fault error }
+{
+    match error {
+        StoreError::OutOfMemory => KeepFault::NoMemory,
+        StoreError::Io
+        | StoreError::Corrupt
+        | StoreError::Full
+        | StoreError::Broken
+        | StoreError::Unstorable => KeepFault::Failed,
+    }
+}
+
+/// A keeper on a new connection. Where there was no memory to make its tables, the connection is let go.
 fn adopted<S: Steady>(alloc: Global, conn: Connection<S>) -> Result<ProvedKeeper<S>, KeepFault>
     ensures { IfOk result (λ kept. kept.unmade ≢ Some NoMemory) }
 {

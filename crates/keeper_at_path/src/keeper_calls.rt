@@ -9,21 +9,19 @@ ghost use Rattle.keeper.specs.Calls.{CountsFaults, IfTold};
 ghost use Rattle.keeper.specs.declared.kept.KeepFault.TheVariants.{NoMemory};
 ghost use Rattle.kept_tables.specs.Steps.{FitsAny};
 ghost use Rattle.keeper_writes.specs.Causes.{WasRefused};
+ghost use Rattle.tree_puts.specs.Stores.{Stores};
 ghost use Rattle.keeper_at_path.specs.Asked.{AskedToRead, AskedToPut};
 ghost use Rattle.keeper_at_path.specs.Looks.{AreFound, Looks};
 
-use crate::at_path::AtPath;
 use crate::keeper_in::KeeperIn;
+use crate::opens::Opens;
 use crate::puts::{PutDay, PutPast, PutTariff};
 use crate::reads::{AskedDay, AskedSpent, KeptTariffs, LastDay, Past, Rows, VehicleRows};
 use keeper::{DayRecord, KeepFault, Keeper, PastRecord};
 use road_time::{SpentRow, Tariff, Tariffs};
-use sqlite::FileStore;
 use sqlite_pages::Pages;
-use sqlite_pool::Pool;
-use sqlite_trees::store::Store;
 
-impl<D: AtPath> Keeper for KeeperIn<D> {
+impl<S: Opens<P>, P: Pages + Drop> Keeper for KeeperIn<S, P> {
     ghost use Rattle.std.specs.Prelude.{true};
     ghost use Rattle.keeper.specs.Calls.{AllOrNothing};
 
@@ -40,9 +38,9 @@ impl<D: AtPath> Keeper for KeeperIn<D> {
     fn last_day(&mut self) -> Result<u32, KeepFault>
         ensures cause { CountsFaults self.old.faults self.new.faults result }
         ensures does { AskedToRead self.old.database.kept self.new.database.kept
-            (AreFound ⟦<Pool<D> as Pages>⟧) (Looks ⟦<Pool<D> as Pages>⟧)
-            (λ k. k.unmade ≢ Some NoMemory) (λ k. state ⟦<FileStore<D> as Store>⟧ k.conn)
-            (WasRefused ⟦<FileStore<D> as Store>⟧)
+            (AreFound P.Pages) (Looks P.Pages)
+            (λ k. k.unmade ≢ Some NoMemory) (λ k. state S.Store k.conn)
+            (WasRefused S.Store)
             (λ o last. last ≡ last_day_of o) result }
     {
         self.read(LastDay)
@@ -51,9 +49,9 @@ impl<D: AtPath> Keeper for KeeperIn<D> {
     fn day(&mut self, day: u32) -> Result<Option<DayRecord>, KeepFault>
         ensures cause { CountsFaults self.old.faults self.new.faults result }
         ensures does { AskedToRead self.old.database.kept self.new.database.kept
-            (AreFound ⟦<Pool<D> as Pages>⟧) (Looks ⟦<Pool<D> as Pages>⟧)
-            (λ k. k.unmade ≢ Some NoMemory) (λ k. state ⟦<FileStore<D> as Store>⟧ k.conn)
-            (WasRefused ⟦<FileStore<D> as Store>⟧)
+            (AreFound P.Pages) (Looks P.Pages)
+            (λ k. k.unmade ≢ Some NoMemory) (λ k. state S.Store k.conn)
+            (WasRefused S.Store)
             (λ o kept. kept ≡ record_of o day) result }
     {
         self.read(AskedDay { day })
@@ -62,9 +60,9 @@ impl<D: AtPath> Keeper for KeeperIn<D> {
     fn past(&mut self) -> Result<Option<PastRecord>, KeepFault>
         ensures cause { CountsFaults self.old.faults self.new.faults result }
         ensures does { AskedToRead self.old.database.kept self.new.database.kept
-            (AreFound ⟦<Pool<D> as Pages>⟧) (Looks ⟦<Pool<D> as Pages>⟧)
-            (λ k. k.unmade ≢ Some NoMemory) (λ k. state ⟦<FileStore<D> as Store>⟧ k.conn)
-            (WasRefused ⟦<FileStore<D> as Store>⟧)
+            (AreFound P.Pages) (Looks P.Pages)
+            (λ k. k.unmade ≢ Some NoMemory) (λ k. state S.Store k.conn)
+            (WasRefused S.Store)
             (λ o past. past ≡ o.past) result }
     {
         self.read(Past)
@@ -73,9 +71,9 @@ impl<D: AtPath> Keeper for KeeperIn<D> {
     fn spent(&mut self, day: u32, vid: u32, xway: u8) -> Result<u64, KeepFault>
         ensures cause { CountsFaults self.old.faults self.new.faults result }
         ensures does { AskedToRead self.old.database.kept self.new.database.kept
-            (AreFound ⟦<Pool<D> as Pages>⟧) (Looks ⟦<Pool<D> as Pages>⟧)
-            (λ k. k.unmade ≢ Some NoMemory) (λ k. state ⟦<FileStore<D> as Store>⟧ k.conn)
-            (WasRefused ⟦<FileStore<D> as Store>⟧)
+            (AreFound P.Pages) (Looks P.Pages)
+            (λ k. k.unmade ≢ Some NoMemory) (λ k. state S.Store k.conn)
+            (WasRefused S.Store)
             (λ o tolls. tolls ≡ paid o.rows day vid xway) result }
     {
         self.read(AskedSpent { day, vid, xway })
@@ -85,9 +83,9 @@ impl<D: AtPath> Keeper for KeeperIn<D> {
         ensures rise { IfOk result (λ rows. RowsRise rows.items) }
         ensures cause { CountsFaults self.old.faults self.new.faults result }
         ensures does { AskedToRead self.old.database.kept self.new.database.kept
-            (AreFound ⟦<Pool<D> as Pages>⟧) (Looks ⟦<Pool<D> as Pages>⟧)
-            (λ k. k.unmade ≢ Some NoMemory) (λ k. state ⟦<FileStore<D> as Store>⟧ k.conn)
-            (WasRefused ⟦<FileStore<D> as Store>⟧)
+            (AreFound P.Pages) (Looks P.Pages)
+            (λ k. k.unmade ≢ Some NoMemory) (λ k. state S.Store k.conn)
+            (WasRefused S.Store)
             (λ o rows. rows.items ≡ rows_between o from to) result }
     {
         self.read(Rows { from, to })
@@ -97,9 +95,9 @@ impl<D: AtPath> Keeper for KeeperIn<D> {
         ensures rise { IfOk result (λ rows. RowsRise rows.items) }
         ensures cause { CountsFaults self.old.faults self.new.faults result }
         ensures does { AskedToRead self.old.database.kept self.new.database.kept
-            (AreFound ⟦<Pool<D> as Pages>⟧) (Looks ⟦<Pool<D> as Pages>⟧)
-            (λ k. k.unmade ≢ Some NoMemory) (λ k. state ⟦<FileStore<D> as Store>⟧ k.conn)
-            (WasRefused ⟦<FileStore<D> as Store>⟧)
+            (AreFound P.Pages) (Looks P.Pages)
+            (λ k. k.unmade ≢ Some NoMemory) (λ k. state S.Store k.conn)
+            (WasRefused S.Store)
             (λ o rows. rows.items ≡ vehicle_rows_between o vid from to) result }
     {
         self.read(VehicleRows { vid, from, to })
@@ -108,9 +106,9 @@ impl<D: AtPath> Keeper for KeeperIn<D> {
     fn tariffs(&mut self) -> Result<Tariffs, KeepFault>
         ensures cause { CountsFaults self.old.faults self.new.faults result }
         ensures does { AskedToRead self.old.database.kept self.new.database.kept
-            (AreFound ⟦<Pool<D> as Pages>⟧) (Looks ⟦<Pool<D> as Pages>⟧)
-            (λ k. k.unmade ≢ Some NoMemory) (λ k. state ⟦<FileStore<D> as Store>⟧ k.conn)
-            (WasRefused ⟦<FileStore<D> as Store>⟧)
+            (AreFound P.Pages) (Looks P.Pages)
+            (λ k. k.unmade ≢ Some NoMemory) (λ k. state S.Store k.conn)
+            (WasRefused S.Store)
             (λ o tariffs. tariffs ≡ o.tariffs) result }
     {
         self.read(KeptTariffs)
@@ -121,8 +119,9 @@ impl<D: AtPath> Keeper for KeeperIn<D> {
         requires later { IfTold None (λ o. IsLater kept.now.day o) }
         ensures cause { CountsFaults self.old.faults self.new.faults result }
         ensures does { AskedToPut self.old.database.kept self.new.database.kept
-            (λ k. k.unmade ≢ Some NoMemory) (λ k. state ⟦<FileStore<D> as Store>⟧ k.conn)
-            (WasRefused ⟦<FileStore<D> as Store>⟧)
+            (λ k. k.unmade ≢ Some NoMemory) (AreFound P.Pages)
+            (Stores S.Store (IsLater kept.now.day) (with_day kept.now rows.now))
+            (λ k. state S.Store k.conn) (WasRefused S.Store)
             (IsLater kept.now.day) (with_day kept.now rows.now) result }
     {
         self.put(PutDay { kept, rows })
@@ -133,8 +132,9 @@ impl<D: AtPath> Keeper for KeeperIn<D> {
         requires first { IfTold None HasNoDays }
         ensures cause { CountsFaults self.old.faults self.new.faults result }
         ensures does { AskedToPut self.old.database.kept self.new.database.kept
-            (λ k. k.unmade ≢ Some NoMemory) (λ k. state ⟦<FileStore<D> as Store>⟧ k.conn)
-            (WasRefused ⟦<FileStore<D> as Store>⟧)
+            (λ k. k.unmade ≢ Some NoMemory) (AreFound P.Pages)
+            (Stores S.Store HasNoDays (with_past kept.now rows.now))
+            (λ k. state S.Store k.conn) (WasRefused S.Store)
             HasNoDays (with_past kept.now rows.now) result }
     {
         self.put(PutPast { kept, rows })
@@ -144,8 +144,9 @@ impl<D: AtPath> Keeper for KeeperIn<D> {
         requires valid { IsTariff tariff.now }
         ensures cause { CountsFaults self.old.faults self.new.faults result }
         ensures does { AskedToPut self.old.database.kept self.new.database.kept
-            (λ k. k.unmade ≢ Some NoMemory) (λ k. state ⟦<FileStore<D> as Store>⟧ k.conn)
-            (WasRefused ⟦<FileStore<D> as Store>⟧)
+            (λ k. k.unmade ≢ Some NoMemory) (AreFound P.Pages)
+            (Stores S.Store FitsAny (with_tariff_of xway tariff.now))
+            (λ k. state S.Store k.conn) (WasRefused S.Store)
             FitsAny (with_tariff_of xway tariff.now) result }
     {
         self.put(PutTariff { xway, tariff })

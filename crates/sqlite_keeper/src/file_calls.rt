@@ -9,6 +9,7 @@ ghost use Rattle.keeper.specs.Calls.{CountsFaults, IfTold};
 ghost use Rattle.keeper.specs.declared.kept.KeepFault.TheVariants.{NoMemory};
 ghost use Rattle.kept_tables.specs.Steps.{FitsAny};
 ghost use Rattle.keeper_writes.specs.Causes.{WasRefused};
+ghost use Rattle.tree_puts.specs.Stores.{Stores};
 ghost use Rattle.keeper_at_path.specs.Asked.{AskedToRead, AskedToPut};
 ghost use Rattle.keeper_at_path.specs.Looks.{AreFound, Looks};
 
@@ -120,8 +121,9 @@ impl Keeper for SqliteKeeper {
         requires later { IfTold None (λ o. IsLater kept.now.day o) }
         ensures cause { CountsFaults self.old.in_file.faults self.new.in_file.faults result }
         ensures does { AskedToPut self.old.in_file.database.kept self.new.in_file.database.kept
-            (λ k. k.unmade ≢ Some NoMemory) (λ k. state ⟦<KeptStore as Store>⟧ k.conn)
-            (WasRefused ⟦<KeptStore as Store>⟧)
+            (λ k. k.unmade ≢ Some NoMemory) (AreFound ⟦<KeptPages as Pages>⟧)
+            (Stores ⟦<KeptStore as Store>⟧ (IsLater kept.now.day) (with_day kept.now rows.now))
+            (λ k. state ⟦<KeptStore as Store>⟧ k.conn) (WasRefused ⟦<KeptStore as Store>⟧)
             (IsLater kept.now.day) (with_day kept.now rows.now) result }
     {
         self.put(PutDay { kept, rows })
@@ -132,8 +134,9 @@ impl Keeper for SqliteKeeper {
         requires first { IfTold None HasNoDays }
         ensures cause { CountsFaults self.old.in_file.faults self.new.in_file.faults result }
         ensures does { AskedToPut self.old.in_file.database.kept self.new.in_file.database.kept
-            (λ k. k.unmade ≢ Some NoMemory) (λ k. state ⟦<KeptStore as Store>⟧ k.conn)
-            (WasRefused ⟦<KeptStore as Store>⟧)
+            (λ k. k.unmade ≢ Some NoMemory) (AreFound ⟦<KeptPages as Pages>⟧)
+            (Stores ⟦<KeptStore as Store>⟧ HasNoDays (with_past kept.now rows.now))
+            (λ k. state ⟦<KeptStore as Store>⟧ k.conn) (WasRefused ⟦<KeptStore as Store>⟧)
             HasNoDays (with_past kept.now rows.now) result }
     {
         self.put(PutPast { kept, rows })
@@ -143,8 +146,9 @@ impl Keeper for SqliteKeeper {
         requires valid { IsTariff tariff.now }
         ensures cause { CountsFaults self.old.in_file.faults self.new.in_file.faults result }
         ensures does { AskedToPut self.old.in_file.database.kept self.new.in_file.database.kept
-            (λ k. k.unmade ≢ Some NoMemory) (λ k. state ⟦<KeptStore as Store>⟧ k.conn)
-            (WasRefused ⟦<KeptStore as Store>⟧)
+            (λ k. k.unmade ≢ Some NoMemory) (AreFound ⟦<KeptPages as Pages>⟧)
+            (Stores ⟦<KeptStore as Store>⟧ FitsAny (with_tariff_of xway tariff.now))
+            (λ k. state ⟦<KeptStore as Store>⟧ k.conn) (WasRefused ⟦<KeptStore as Store>⟧)
             FitsAny (with_tariff_of xway tariff.now) result }
     {
         self.put(PutTariff { xway, tariff })

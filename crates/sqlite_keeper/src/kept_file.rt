@@ -4,12 +4,13 @@ ghost use Rattle.sqlite.specs.Held.{state};
 ghost use Rattle.keeper.specs.Calls.{CountsFaults};
 ghost use Rattle.keeper.specs.declared.kept.KeepFault.TheVariants.{NoMemory as no_memory};
 ghost use Rattle.keeper_writes.specs.Causes.{WasRefused};
+ghost use Rattle.tree_puts.specs.Stores.{Stores};
 ghost use Rattle.keeper_at_path.specs.Asked.{AskedToRead, AskedToPut};
 ghost use Rattle.keeper_at_path.specs.Looks.{AreFound, Looks};
 
 use keeper::KeepFault;
 use keeper_at_path::{
-    KeeperIn, Kept, KeptDisk, KeptPages, KeptStore, Putting, Reading, shut as shut_pool,
+    KeeperIn, Kept, KeptPages, KeptStore, Putting, Reading, shut as shut_pool,
 };
 use keeper_writes::refusals::refusal;
 use road_time::NoMemory;
@@ -27,7 +28,7 @@ pub const KEPT_FILE: &str = "tolls.db";
 /// database behind it.
 #[derive(Drop)]
 pub struct SqliteKeeper {
-    in_file: KeeperIn<KeptDisk>,
+    in_file: KeeperIn<KeptStore, KeptPages>,
 }
 
 impl SqliteKeeper {
@@ -66,8 +67,10 @@ impl SqliteKeeper {
     pub(crate) fn put<C: Putting + Drop>(&mut self, call: C) -> Result<(), KeepFault>
         requires { C.fits call }
         ensures does { AskedToPut self.old.in_file.database.kept self.new.in_file.database.kept
-            (λ k. k.unmade ≢ Some no_memory) (λ k. state ⟦<KeptStore as Store>⟧ k.conn)
-            (WasRefused ⟦<KeptStore as Store>⟧) (C.asks call) (C.next call) result }
+            (λ k. k.unmade ≢ Some no_memory) (AreFound ⟦<KeptPages as Pages>⟧)
+            (Stores ⟦<KeptStore as Store>⟧ (C.asks call) (C.next call))
+            (λ k. state ⟦<KeptStore as Store>⟧ k.conn) (WasRefused ⟦<KeptStore as Store>⟧)
+            (C.asks call) (C.next call) result }
         ensures cause { CountsFaults self.old.in_file.faults self.new.in_file.faults result }
     {
         self.in_file.put(call)

@@ -1,13 +1,22 @@
-use Rattle.std.proofs.Common.{inl}
+use Rattle.std.proofs.Common.{inl, inr, subst}
+use Rattle.sqlite.specs.Held.{state}
+use Rattle.keeper_at_path.specs.Asked.{IsReadyToRead}
+use Rattle.keeper_at_path.proofs.AskedLaws.{ready_whole, ready_trees, none_held, made_of, made_ready}
 use Rattle.keeper_at_path.proofs.database.Database.put.Goals as goal
 
-pub returns : goal.returns
-returns g c =
+-- of a keeper that is held, or of the whole file
+pub returns-in-Whole : goal.returns-in-Whole
+returns-in-Whole g c =
     inl
-    (record {
-      before = c.in-Ok.kept;
-      after = c.put-answer.new.kept;
-      ready = c.in-Ok.ensures.ready;
-      does = c.put-answer.ensures;
-      kept = c.unless_failed.ensures;
-    })
+    (made_of _ _ _ _ _ _ _ _ _ _
+    (ready_whole _ _ c.args.self.now.kept _
+    (subst (IsReadyToRead _ _ c.args.self.now.kept) c.in-Whole.is c.in-Ok.ensures.ready))
+    c.put_whole.ensures)
+
+-- of the store of trees
+pub returns-in-Trees : goal.returns-in-Trees
+returns-in-Trees g c =
+    made_ready _ _ _ _ _ _ _ _ _ c.args.self.now.kept
+    (ready_trees _ _ c.args.self.now.kept _
+    (subst (IsReadyToRead _ _ c.args.self.now.kept) c.in-Trees.is c.in-Ok.ensures.ready))
+    c.put_by_trees.ensures

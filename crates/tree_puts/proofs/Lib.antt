@@ -1,0 +1,6 @@
+pub mod ListLaws
+pub mod TreeLaws
+pub mod AmountLaws
+pub mod OfficeLaws
+pub mod StoreLaws
+pub mod TariffLaws

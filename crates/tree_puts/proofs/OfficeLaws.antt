@@ -1,0 +1,80 @@
+-- What whole puts make of the office that trees stand for.
+use Rattle.std.proofs.Common.{◌≡◌, ℕ, ℤ, pos, [], ◌∷◌, ◌++◌, map, List, Some, None, refl, sym, ap, subst₂, ◌∙◌, arith}
+use Rattle.std.specs.List.{AllByRecursion}
+use Rattle.sqlite_value.specs.Order.{Row}
+use Rattle.sqlite_trees.specs.Tree.{Trees, put_row}
+use Rattle.sqlite_sql.specs.Catalog.{IsIndexOf}
+use Rattle.road_time.specs.declared.day.SpentRow.{SpentRow}
+use Rattle.keeper.specs.declared.kept.DayRecord.{DayRecord}
+use Rattle.keeper.specs.declared.kept.PastRecord.{PastRecord}
+use Rattle.keeper.specs.Office.{Office}
+use Rattle.keeper.specs.Kept.{IsDayPut, IsPastPut, IsLater, HasNoDays, with_day, with_past}
+use Rattle.kept_tables.specs.Codec.{day_row, seal_row, past_row, version_row}
+use Rattle.kept_tables.specs.Stands.{Contents, Holds, HasTables, FitsDay, FitsSpent, FitsPast, contents_of, with_record}
+use Rattle.kept_tables.specs.Stands.{with_seal, with_history}
+use Rattle.kept_tables.proofs.EditLaws.{other_days, other_seals, other_past}
+use Rattle.kept_tables.proofs.DayWriteLaws.{put_last}
+use Rattle.kept_tables.proofs.PutLaws.{days_before, adds_holds, day_stands, past_stands}
+use Rattle.tree_puts.specs.Trees.{database_of, key_columns, StandFor}
+use Rattle.tree_puts.specs.Steps.{Joins, AddsKept}
+
+-- where neither the amounts nor their index changed, it is still theirs
+pub still_indexed : (a b : Trees) → b 1 ≡ a 1 → b 2 ≡ a 2 → IsIndexOf key_columns (a 1) (a 2)
+    → IsIndexOf key_columns (b 1) (b 2)
+still_indexed a b rows entries was = subst₂ (IsIndexOf key_columns) (sym rows) (sym entries) was
+
+-- a day's record, its seal and its amounts are one day more
+pub day_made : (a b c d : Trees) (r : DayRecord) (rows : List SpentRow) (o : Office) → IsDayPut r rows → FitsDay r
+    → AllByRecursion FitsSpent rows → Joins 0 (day_row r) (pos r.day) a b → Joins 4 (seal_row r) (pos r.day) b c
+    → AddsKept c d rows → StandFor a o → IsLater r.day o → StandFor d (with_day r rows o)
+day_made a b c d r rows o put fits small one two adds stand later =
+    let has = stand.office in
+    let before = days_before o r.day later in
+    let version = version_row ∷ [] in
+    let first = contents_of o in
+    let second = with_record r first in
+    let recorded : Holds (database_of b) second =
+    other_days version (database_of a) (database_of b) first (o.days ++ r ∷ []) has.tables
+    (record {
+      schema = refl;
+      rows = one.rows ∙ ap (put_row (day_row r)) has.tables.days_are
+          ∙ put_last day_row (λ (d : DayRecord). d.day) (λ _. refl) r o.days before;
+      others = λ t apart other. one.others t apart;
+    }) in
+    let sealed : Holds (database_of c) (with_seal r second) =
+    other_seals version (database_of b) (database_of c) second (o.days ++ r ∷ []) recorded
+    (record {
+      schema = refl;
+      rows = two.rows ∙ ap (put_row (seal_row r)) recorded.seals_are
+          ∙ put_last seal_row (λ (d : DayRecord). d.day) (λ _. refl) r o.days before;
+      others = λ t apart other. two.others t apart;
+    }) in
+    record {
+      office = day_stands (database_of a) (database_of d) o r rows has put later fits small
+          (adds_holds (database_of c) (database_of d) (with_seal r second) rows sealed adds.adds);
+      indexed = adds.indexed (still_indexed a c
+          (two.others 1 (λ e. omega (arith, e)) ∙ one.others 1 (λ e. omega (arith, e)))
+          (two.others 2 (λ e. omega (arith, e)) ∙ one.others 2 (λ e. omega (arith, e))) stand.indexed);
+    }
+
+-- a history's record and its amounts are a history
+pub past_made : (a b c : Trees) (p : PastRecord) (rows : List SpentRow) (o : Office) → IsPastPut p rows → FitsPast p
+    → AllByRecursion FitsSpent rows → Joins 3 (past_row p) (pos 1) a b → AddsKept b c rows → StandFor a o
+    → HasNoDays o → StandFor c (with_past p rows o)
+past_made a b c p rows o put fits small one adds stand none =
+    let has = stand.office in
+    let first = contents_of o in
+    let empty : a 3 ≡ [] = has.tables.past_is ∙ rw none.past refl in
+    let kept : Holds (database_of b) (with_history p first) =
+    other_past (version_row ∷ []) (database_of a) (database_of b) first (Some p) has.tables
+    (record {
+      schema = refl;
+      rows = one.rows ∙ ap (put_row (past_row p)) empty;
+      others = λ t apart other. one.others t apart;
+    }) in
+    record {
+      office = past_stands (database_of a) (database_of c) o p rows has put none fits small
+          (adds_holds (database_of b) (database_of c) (with_history p first) rows kept adds.adds);
+      indexed = adds.indexed (still_indexed a b (one.others 1 (λ e. omega (arith, e)))
+          (one.others 2 (λ e. omega (arith, e))) stand.indexed);
+    }

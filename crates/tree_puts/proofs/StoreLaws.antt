@@ -1,0 +1,73 @@
+-- How the steps of a put are one put.
+use Rattle.std.proofs.Common.{◌≡◌, ◌⊎◌, inl, inr, Bool, true, false, Result, Ok, Err, IfOk, OnOk, IsTrue, refl, sym, ap, subst}
+use Rattle.std.proofs.Common.{◌∙◌, arith}
+use Rattle.sqlite_trees.specs.declared.error.StoreError.{StoreError}
+use Rattle.sqlite_trees.specs.declared.store.Store.{Ghosts}
+use Rattle.sqlite_trees.specs.Tree.{Trees}
+use Rattle.sqlite_trees.specs.View.{View, IsClean, KeepsCommitted, OnlyWrites}
+use Rattle.keeper.specs.Office.{Office}
+use Rattle.tree_puts.specs.Trees.{StandFor}
+use Rattle.tree_puts.specs.Steps.{IfDone}
+use Rattle.tree_puts.specs.Stores.{IsNotDone, StaysCommitted, Makes, Stores}
+
+-- a step that failed leaves what was committed
+pub stays_after : (u v w : View) → StaysCommitted u v → KeepsCommitted v w → StaysCommitted u w
+stays_after u v w p q = record {
+  was_open = λ here. p.was_open (q.was_open here);
+  committed = λ here. q.committed here ∙ p.committed (q.was_open here);
+}
+
+-- so does one that only writes
+pub stays_written : (u v w : View) → StaysCommitted u v → OnlyWrites v w → StaysCommitted u w
+stays_written u v w p q =
+    let same : w.is_open ≡ v.is_open = ap (λ (x : View). x.is_open) q in
+    record {
+      was_open = λ here. p.was_open (sym same ∙ here);
+      committed = λ here. ap (λ (x : View). x.committed) q ∙ p.committed (sym same ∙ here);
+    }
+
+-- and two such stretches
+pub stays_then : (u v w : View) → StaysCommitted u v → StaysCommitted v w → StaysCommitted u w
+stays_then u v w p q = record {
+  was_open = λ here. p.was_open (q.was_open here);
+  committed = λ here. q.committed here ∙ p.committed (q.was_open here);
+}
+
+-- a put that was not done
+pub refuses : {S : Type 0} (g : Ghosts S) (asks : Office → Type 0) (next : Office → Office) (old new : S)
+    (r : Result Bool StoreError) → IsNotDone r
+    → (IsClean (g.view new) → StaysCommitted (g.view old) (g.view new))
+    → ((db : Trees) → g.recovers new db → g.recovers old db) → Stores g asks next old new r
+refuses g asks next old new r none stays outcomes = record {
+  makes = λ clean. nothing r none;
+  stays = λ clean _. stays clean;
+  crash = λ db found. inr (outcomes db found);
+}
+  where
+    nothing : (x : Result Bool StoreError) → IsNotDone x →
+        IfOk x (λ done. IfDone done (Makes asks next (g.view old).committed (g.view new).committed))
+    nothing (Ok true) bad = absurd bad
+    nothing (Ok false) bad = tt
+    nothing (Err e) bad = tt
+
+-- what is made of trees is made of the same ones
+made_of : (asks : Office → Type 0) (next : Office → Office) (was old now new : Trees) → old ≡ was → new ≡ now
+    → Makes asks next old now → Makes asks next was new
+made_of asks next was old now new p q makes o stand fit =
+    subst (λ t. StandFor t (next o)) (sym q) (makes o (subst (λ t. StandFor t o) (sym p) stand) fit)
+
+-- a put that was committed
+pub committed_so : (asks : Office → Type 0) (next : Office → Office) (was old now new : Trees) (done : Bool)
+    (r : Result Bool StoreError) → old ≡ was → IfDone done (Makes asks next old now) → IfOk r (λ is. is ≡ done)
+    → IfOk r (λ is. IfDone is (new ≡ now)) → IfOk r (λ is. IfDone is (Makes asks next was new))
+committed_so asks next was old now new done (Ok true) p makes same q =
+    made_of asks next was old now new p q
+    (subst (λ b. IfDone b (Makes asks next old now)) (sym same) makes)
+committed_so asks next was old now new done (Ok false) p makes same q = tt
+committed_so asks next was old now new done (Err e) p makes same q = tt
+
+-- what a crash finds of a put
+pub crashed_so : (asks : Office → Type 0) (next : Office → Office) (was old now new : Trees) (done : Bool)
+    → old ≡ was → new ≡ now → done ≡ true → IfDone done (Makes asks next old now) → Makes asks next was new
+crashed_so asks next was old now new done p q is makes =
+    made_of asks next was old now new p q (subst (λ b. IfDone b (Makes asks next old now)) is makes)
