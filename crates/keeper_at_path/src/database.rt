@@ -145,17 +145,18 @@ impl<S: Opens<P>, P: Pages + Drop> Database<S, P> {
             (Stores S.Store (C.asks call) (C.next call)) (λ k. state S.Store k.conn) (WasRefused S.Store)
             (C.asks call) (C.next call) result }
     {
-        let mut store = match S::to_put(&self.rt, trees.give_up()) {
+        let rt = self.rt;
+        let mut store = match S::to_put(&rt, trees.give_up()) {
             Ok(Kept::Trees(store)) => store,
             Ok(Kept::Whole(conn)) => return self.put_over(Ok(conn), call),
             Err(error) => return Err(refusal(error)),
         };
-        match call.store(self.rt.alloc(), &mut store) {
+        match call.store(rt.alloc(), &mut store) {
             Ok(true) => {
-                self.kept = held_again(&self.rt, store);
+                self.kept = held_again(&rt, store);
                 Ok(())
             }
-            Ok(false) => self.put_over(S::to_whole(&self.rt, store), call),
+            Ok(false) => self.put_over(S::to_whole(&rt, store), call),
             Err(error) => Err(fault_of(error)),
         }
     }

@@ -1,6 +1,6 @@
 -- What an amount's row and its entry make of their trees.
 use Rattle.std.proofs.Common.{◌≡◌, ℕ, ℤ, pos, ◌+ℤ◌, ◌+◌, length, take, get_or, List, [], ◌∷◌, ◌++◌, map, drop, refl, sym, ap}
-use Rattle.std.proofs.Common.{subst, subst₂, ◌∙◌, arith, Less, IsPermutation}
+use Rattle.std.proofs.Common.{subst, subst₂, ◌∙◌, arith, Less, true, Option, Some, None, IfSome, IsPermutation}
 use Rattle.std.specs.List.{AllByRecursion}
 use Rattle.std.specs.Ordering.{int_cmp}
 use Rattle.std.proofs.lemmas.Bool.Decides.{nat_tests}
@@ -12,7 +12,7 @@ use Rattle.sqlite_value.specs.Order.{Row, value_cmp}
 use Rattle.sqlite_value.specs.Keys.{plain}
 use Rattle.sqlite_value.proofs.OrderLemmas.{value_cmp-Int, value_cmp_total}
 use Rattle.sqlite_trees.specs.declared.store.Shape.TheVariants.{Table}
-use Rattle.sqlite_trees.specs.Tree.{Trees, rowid, put_row, insert_entry, IsTable}
+use Rattle.sqlite_trees.specs.Tree.{Trees, rowid, put_row, insert_entry, with_tree, IsTable}
 use Rattle.sqlite_trees.specs.View.{View, IsShaped, SetsTree}
 use Rattle.sqlite_trees.proofs.ListLemmas.{all_weaker, all-append, ascending-append}
 use Rattle.sqlite_sql.specs.Catalog.{entry_of, IsIndexOf}
@@ -139,12 +139,23 @@ pub puts_both : (old mid new : View) (n : ℤ) (r : SpentRow) → SetsTree old m
     → SetsTree mid new 2 (insert_entry plain (entry_of key_columns (numbered n r)))
     → PutsBoth n r old.trees new.trees
 puts_both old mid new n r put inserted =
-    let one = λ (t : ℕ). let e : mid.trees t ≡ _ = ap (λ (v : View). v.trees t) put.is in e in
-    let two = λ (t : ℕ). let e : new.trees t ≡ _ = ap (λ (v : View). v.trees t) inserted.is in e in
+    let row = numbered n r in
+    let entry = entry_of key_columns row in
+    let rows = put_row row (old.trees 1) in
+    let entries = insert_entry plain entry (mid.trees 2) in
+    let one = λ (t : ℕ). let e : mid.trees t ≡ with_tree old.trees 1 rows t = ap (λ (v : View). v.trees t) put.is in e in
+    let two = λ (t : ℕ). let e : new.trees t ≡ with_tree mid.trees 2 entries t =
+    ap (λ (v : View). v.trees t) inserted.is in e in
     record {
-      row = two 1 ∙ with_other mid.trees 2 _ 1 (λ e. omega (arith, e)) ∙ one 1 ∙ with_same old.trees 1 _;
-      entry = two 2 ∙ with_same mid.trees 2 _
-          ∙ ap (insert_entry plain (entry_of key_columns (numbered n r)))
-          (one 2 ∙ with_other old.trees 1 _ 2 (λ e. omega (arith, e)));
-      others = λ t apart other. two t ∙ with_other mid.trees 2 _ t other ∙ one t ∙ with_other old.trees 1 _ t apart;
+      row = two 1 ∙ with_other mid.trees 2 entries 1 (λ e. omega (arith, e)) ∙ one 1 ∙ with_same old.trees 1 rows;
+      entry = two 2 ∙ with_same mid.trees 2 entries
+          ∙ ap (insert_entry plain entry) (one 2 ∙ with_other old.trees 1 rows 2 (λ e. omega (arith, e)));
+      others = λ t apart other. two t ∙ with_other mid.trees 2 entries t other ∙ one t
+          ∙ with_other old.trees 1 rows t apart;
     }
+
+-- a number after one, if there is one, is above all that the next is above
+pub after_one : (rows : List Row) (n : ℤ) (next : Option ℤ) → IfSome next (λ m. m ≡ n +ℤ pos 1)
+    → AreBelow (n +ℤ pos 1) rows → IfSome next (λ m. AreBelow m rows)
+after_one rows n None is below = tt
+after_one rows n (Some m) is below = subst (λ k. AreBelow k rows) (sym is) below

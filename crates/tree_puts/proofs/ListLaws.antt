@@ -1,11 +1,12 @@
 -- Lists that gain one more at their end.
-use Rattle.std.proofs.Common.{◌≡◌, ℕ, ◌+◌, ◌<◌, take, get_or, length, List, [], ◌∷◌, ◌++◌, refl, sym, ap, ◌∙◌, arith}
+use Rattle.std.proofs.Common.{◌≡◌, ℕ, suc, ◌+◌, ◌<◌, take, get_or, length, List, [], ◌∷◌, ◌++◌, refl, sym, ap, subst}
+use Rattle.std.proofs.Common.{◌∙◌, arith}
 use Rattle.std.specs.List.{AllByRecursion}
 use Rattle.sqlite_trees.specs.Tree.{IsAscending}
 
 module _ {X : Type 0} where
   -- the last of a list, or what stands in for it
-  pub end : X → List X → X
+  abbrev pub end : X → List X → X
   end d [] = d
   end d (x ∷ xs) = end x xs
 
@@ -23,10 +24,16 @@ module _ {X : Type 0} where
   take_front [] x = refl
   take_front (y ∷ front) x = ap (λ l. y ∷ l) (take_front front x)
 
-  -- and all of it
+  -- and one more is all of it
+  take_next : (front : List X) (x : X) → take (suc (length front)) (front ++ x ∷ []) ≡ front ++ x ∷ []
+  take_next [] x = refl
+  take_next (y ∷ front) x = ap (λ l. y ∷ l) (take_next front x)
+
+  -- the same, by a sum
   pub take_whole : (front : List X) (x : X) → take (length front + 1) (front ++ x ∷ []) ≡ front ++ x ∷ []
-  take_whole [] x = refl
-  take_whole (y ∷ front) x = ap (λ l. y ∷ l) (take_whole front x)
+  take_whole front x =
+      let next : suc (length front) ≡ length front + 1 = omega arith in
+      subst (λ n. take n (front ++ x ∷ []) ≡ front ++ x ∷ []) next (take_next front x)
 
   -- the last at its place
   pub at_end : (front : List X) (x d : X) → get_or (front ++ x ∷ []) (length front) d ≡ x

@@ -1,5 +1,6 @@
 -- What whole puts make of the office that trees stand for.
-use Rattle.std.proofs.Common.{◌≡◌, ℕ, ℤ, pos, [], ◌∷◌, ◌++◌, map, List, Some, None, refl, sym, ap, subst₂, ◌∙◌, arith}
+use Rattle.std.proofs.Common.{◌≡◌, ℕ, pos, Bool, true, false, Result, Ok, Err, IfOk, [], ◌∷◌, ◌++◌, List, Some, refl, sym, ap}
+use Rattle.std.proofs.Common.{subst₂, ◌∙◌, arith}
 use Rattle.std.specs.List.{AllByRecursion}
 use Rattle.sqlite_value.specs.Order.{Row}
 use Rattle.sqlite_trees.specs.Tree.{Trees, put_row}
@@ -16,7 +17,7 @@ use Rattle.kept_tables.proofs.EditLaws.{other_days, other_seals, other_past}
 use Rattle.kept_tables.proofs.DayWriteLaws.{put_last}
 use Rattle.kept_tables.proofs.PutLaws.{days_before, adds_holds, day_stands, past_stands}
 use Rattle.tree_puts.specs.Trees.{database_of, key_columns, StandFor}
-use Rattle.tree_puts.specs.Steps.{Joins, AddsKept}
+use Rattle.tree_puts.specs.Steps.{IfDone, Joins, AddsKept}
 
 -- where neither the amounts nor their index changed, it is still theirs
 pub still_indexed : (a b : Trees) → b 1 ≡ a 1 → b 2 ≡ a 2 → IsIndexOf key_columns (a 1) (a 2)
@@ -78,3 +79,10 @@ past_made a b c p rows o put fits small one adds stand none =
       indexed = adds.indexed (still_indexed a b (one.others 1 (λ e. omega (arith, e)))
           (one.others 2 (λ e. omega (arith, e))) stand.indexed);
     }
+
+-- what two outcomes of a step that was done give
+pub done_both : {E : Type 0} (r : Result Bool E) (P Q R : Type 0) → IfOk r (λ done. IfDone done P)
+    → IfOk r (λ done. IfDone done Q) → (P → Q → R) → IfOk r (λ done. IfDone done R)
+done_both (Ok true) P Q R p q f = f p q
+done_both (Ok false) P Q R p q f = tt
+done_both (Err e) P Q R p q f = tt

@@ -71,3 +71,41 @@ pub crashed_so : (asks : Office → Type 0) (next : Office → Office) (was old 
     → old ≡ was → new ≡ now → done ≡ true → IfDone done (Makes asks next old now) → Makes asks next was new
 crashed_so asks next was old now new done p q is makes =
     made_of asks next was old now new p q (subst (λ b. IfDone b (Makes asks next old now)) is makes)
+
+-- a put that was begun, written and committed: what was written is what the office becomes, and a crash before the end finds
+-- what it found at first
+pub finished : {S : Type 0} (g : Ghosts S) (asks : Office → Type 0) (next : Office → Office) (a b c d : S) (done : Bool)
+    (r : Result Bool StoreError)
+    → (IsClean (g.view b) → (g.view b).trees ≡ (g.view a).committed)
+    → (IsClean (g.view b) → StaysCommitted (g.view a) (g.view b))
+    → ((db : Trees) → g.recovers b db → g.recovers a db)
+    → (IsClean (g.view c) → IsClean (g.view b))
+    → (IsClean (g.view c) → IfDone done (Makes asks next (g.view b).trees (g.view c).trees))
+    → (IsClean (g.view c) → OnlyWrites (g.view b) (g.view c))
+    → ((db : Trees) → g.recovers c db → g.recovers b db)
+    → ((g.view c).is_broken ≡ false → IsClean (g.view c))
+    → (IsClean (g.view d) → IsClean (g.view c))
+    → IfOk r (λ is. is ≡ done)
+    → (IsClean (g.view d) → IfOk r (λ is. IfDone is ((g.view d).committed ≡ (g.view c).trees)))
+    → (IsClean (g.view d) → IsNotDone r → StaysCommitted (g.view c) (g.view d))
+    → ((db : Trees) → g.recovers d db → (((g.view c).is_broken ≡ false) × (db ≡ (g.view c).trees) × (done ≡ true))
+    ⊎ g.recovers c db)
+    → Stores g asks next a d r
+finished g asks next a b c d done r settled stays quiet clean_b wrote frame quieter sound clean_c same commits left crash =
+    record {
+      makes = λ clean.
+          let in_c = clean_c clean in
+          let in_b = clean_b in_c in
+          committed_so asks next (g.view a).committed (g.view b).trees (g.view c).trees (g.view d).committed done r
+          (settled in_b) (wrote in_c) same (commits clean);
+      stays = λ clean none.
+          let in_c = clean_c clean in
+          let in_b = clean_b in_c in
+          stays_then (g.view a) (g.view c) (g.view d)
+          (stays_written (g.view a) (g.view b) (g.view c) (stays in_b) (frame in_c)) (left clean none);
+      crash = λ db found. elim (crash db found) [
+        | inl now ↦ inl (crashed_so asks next (g.view a).committed (g.view b).trees (g.view c).trees db done
+            (settled (clean_b (sound now.0))) now.1 now.2 (wrote (sound now.0)))
+        | inr before ↦ inr (quiet db (quieter db before))
+      ];
+    }

@@ -20,6 +20,7 @@ use Rattle.kept_tables.specs.Stands.{contents_of}
 use Rattle.kept_tables.specs.Steps.{FitsAny}
 use Rattle.kept_tables.proofs.EditLaws.{other_tariffs}
 use Rattle.kept_tables.proofs.TariffLists.{others, taken_is, row_taken, row_put}
+use Rattle.kept_tables.proofs.TariffWriteLaws.{set_after_taken}
 use Rattle.tree_puts.specs.Trees.{database_of, StandFor}
 use Rattle.tree_puts.specs.Stores.{Makes}
 use Rattle.tree_puts.proofs.TreeLaws.{with_same, with_other}
@@ -90,3 +91,11 @@ tariff_given old new xway t low valid own sets o stand _ =
     (λ n apart. at n ∙ with_other old.trees 5 _ n apart) are
     (subst (AllByRecursion (λ (x : ℕ × Tariff). x.0 < 2 ^ 8)) (sym set)
     (put_low xway t o.tariffs low has.fits.tariffs))
+
+-- it was taken away, and put
+pub tariff_written : (old mid new : Trees) (xway : ℕ) (t : Tariff) → same_tariff t benchmark ≡ false
+    → Makes FitsAny (with_tariff_of xway benchmark) old mid → Makes FitsAny (with_tariff_of xway t) mid new
+    → Makes FitsAny (with_tariff_of xway t) old new
+tariff_written old mid new xway t own took gave o stand fit =
+    subst (StandFor new) (set_after_taken xway t o stand.office.sound.tariffs own)
+    (gave (with_tariff_of xway benchmark o) (took o stand fit) fit)

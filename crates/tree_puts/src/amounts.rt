@@ -40,6 +40,10 @@ fn put_amount<S: Store>(
     ensures schema { KeepsSchema (S.Store.view store.old) (S.Store.view store.new) }
     ensures quiet { IsQuiet S.Store.view S.Store.faults S.Store.recovers S.Store.is_shielded store.old store.new }
 {
+    // numbers that were read are known to fit their types
+    let _day = row.day;
+    let _vid = row.vid;
+    let _xway = row.xway;
     set_amount(full, number, row)?;
     set_entry(entry, number, row)?;
     store.put(1, full)?;

@@ -6,7 +6,7 @@ ghost use Rattle.sqlite_trees.specs.declared.store.Shape.TheVariants.{Table};
 ghost use Rattle.sqlite_trees.specs.Tree.{rowid};
 ghost use Rattle.sqlite_trees.specs.View.{IsClean, IsQuiet, KeepsSchema, KeepsCommitted, OnlyWrites};
 ghost use Rattle.kept_tables.specs.Codec.{day_row, past_row};
-ghost use Rattle.kept_tables.specs.Stands.{IsWholeDigest};
+ghost use Rattle.kept_tables.specs.Stands.{IsWholeDigest, FitsPast};
 ghost use Rattle.tree_puts.specs.Steps.{IfDone, Joins};
 
 use crate::rows::{set_day, set_past, set_seal};
@@ -105,7 +105,7 @@ pub fn put_history<S: Store>(
     requires shape { (S.Store.view store.old).shape 3 ≡ Table }
     requires bytes { kept.now.bytes < 2 ^ 63 }
     requires rows { kept.now.rows < 2 ^ 63 }
-    ensures fits { OnOk result (IsWholeDigest kept.now.digest) }
+    ensures fits { OnOk result (FitsPast kept.now) }
     ensures done { IsClean (S.Store.view store.new) → IfOk result (λ done. IfDone done
         (Joins 3 (past_row kept.now) (pos 1) (S.Store.view store.old).trees (S.Store.view store.new).trees)) }
     ensures sound { IsClean (S.Store.view store.new) → OnOk result ((S.Store.view store.old).is_broken ≡ false) }

@@ -3,7 +3,7 @@ ghost use Rattle.std.specs.Prelude.{◌≡◌, ◌<◌, ◌^◌, [], ◌∷◌, 
 ghost use Rattle.sqlite_value.specs.declared.value.Value.TheVariants.{Int, Null, Blob};
 ghost use Rattle.sqlite_sql.specs.Catalog.{entry_of};
 ghost use Rattle.kept_tables.specs.Codec.{day_row, past_row, tariff_row};
-ghost use Rattle.kept_tables.specs.Stands.{IsWholeDigest};
+ghost use Rattle.kept_tables.specs.Stands.{IsWholeDigest, FitsPast};
 ghost use Rattle.tree_puts.specs.Trees.{key_columns};
 ghost use Rattle.tree_puts.specs.Steps.{numbered, key_of};
 
@@ -66,7 +66,7 @@ pub fn set_past(row: &mut Row, kept: &PastRecord) -> Result<(), AllocError>
     requires bytes { kept.now.bytes < 2 ^ 63 }
     requires rows { kept.now.rows < 2 ^ 63 }
     ensures done { OnOk result (row.new ≡ past_row kept.now) }
-    ensures fits { OnOk result (IsWholeDigest kept.now.digest) }
+    ensures fits { OnOk result (FitsPast kept.now) }
 {
     row.clear();
     row.push(ValueRef::Int(1))?;
