@@ -7,6 +7,7 @@ use Rattle.keeper.specs.Office.{Office}
 use Rattle.keeper_at_path.specs.declared.kept.Kept.{Kept}
 use Rattle.keeper_at_path.specs.declared.kept.Kept.TheVariants.{Trees, Whole}
 use Rattle.keeper_at_path.specs.Asked.{IsReady, IsReadyToRead, IsNotWhole, IsMade, IsStored, IsPut, AskedToPut}
+use Rattle.keeper_at_path.specs.Asked.{IsToldAs, HoldsFound}
 
 module _ {T K : Type 0} (found : T → Type 0) (opened : K → Type 0) where
   -- a keeper that is ready is the one that is held, or was opened
@@ -26,9 +27,8 @@ pub none_held : {T K : Type 0} (old : Option (Kept T K)) → old ≡ None → Is
 none_held None h = tt
 none_held (Some k) h = absurd (cc)
 
-module _ {T K X : Type 0} (found : T → Type 0) (see : X → X → Result Bool StoreError → Type 0) (view : K → State)
-    (cause : Type 0) (asks : Office → Type 0) (next : Office → Office) (held : Option (Kept T K))
-    (result : Result (Unit {0}) KeepFault) where
+module _ {T K : Type 0} (view : K → State) (cause : Type 0) (asks : Office → Type 0) (next : Office → Office)
+    (held : Option (Kept T K)) (result : Result (Unit {0}) KeepFault) where
   -- a call was made of a keeper that is known to be fit
   pub made_of : (may : K → Type 0) (kept : K) → may kept
       → IsMade (λ k. k ≡ kept) view cause true asks (λ o u. Unit {0}) next held result
@@ -41,6 +41,9 @@ module _ {T K X : Type 0} (found : T → Type 0) (see : X → X → Result Bool 
     kept = made.kept;
   }
 
+module _ {T K X : Type 0} (found : T → Type 0) (see : X → X → Result Bool StoreError → Type 0) (view : K → State)
+    (cause : Type 0) (asks : Office → Type 0) (next : Office → Office) (held : Option (Kept T K))
+    (result : Result (Unit {0}) KeepFault) where
   -- a keeper that was opened is ready where none was held
   pub made_ready : (opened : K → Type 0) (old : Option (Kept T K)) → IsNotWhole old
       → IsPut opened held found see view cause asks next result
@@ -54,7 +57,19 @@ module _ {T K X : Type 0} (found : T → Type 0) (see : X → X → Result Bool 
   })
     where
       fresh : (was : Option (Kept T K)) → IsNotWhole was → (k : K) → opened k → IsReady opened was k
-      fresh None no k h = h
-      fresh (Some (Trees t)) no k h = h
-      fresh (Some (Whole j)) no k h = absurd no
+      fresh None apart k h = h
+      fresh (Some (Trees t)) apart k h = h
+      fresh (Some (Whole j)) apart k h = absurd apart
   made_ready opened old none (inr other) = inr (none, other)
+
+  -- a call was made of a store
+  pub stored_so : (opened : K → Type 0) (before after : X) (answer : Result Bool StoreError) → see before after answer
+      → IsToldAs answer result → HoldsFound found held → IsPut opened held found see view cause asks next result
+  stored_so opened before after answer stores told kept = inr (inl (record {
+    before = before;
+    after = after;
+    answer = answer;
+    stores = stores;
+    told = told;
+    kept = kept;
+  }))

@@ -151,14 +151,15 @@ impl<S: Opens<P>, P: Pages + Drop> Database<S, P> {
             Ok(Kept::Whole(conn)) => return self.put_over(Ok(conn), call),
             Err(error) => return Err(refusal(error)),
         };
-        match call.store(rt.alloc(), &mut store) {
-            Ok(true) => {
-                self.kept = held_again(&rt, store);
-                Ok(())
-            }
-            Ok(false) => self.put_over(S::to_whole(&rt, store), call),
-            Err(error) => Err(fault_of(error)),
+        let done = match call.store(rt.alloc(), &mut store) {
+            Ok(done) => done,
+            Err(error) => return Err(fault_of(error)),
+        };
+        if done {
+            self.kept = held_again(&rt, store);
+            return Ok(());
         }
+        self.put_over(S::to_whole(&rt, store), call)
     }
 
     /// Takes what is held, or opens it.

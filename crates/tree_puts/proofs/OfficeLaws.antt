@@ -1,9 +1,9 @@
 -- What whole puts make of the office that trees stand for.
 use Rattle.std.proofs.Common.{◌≡◌, ℕ, pos, Bool, true, false, Result, Ok, Err, IfOk, [], ◌∷◌, ◌++◌, List, Some, refl, sym, ap}
-use Rattle.std.proofs.Common.{subst₂, ◌∙◌, arith}
+use Rattle.std.proofs.Common.{filter, subst, subst₂, ◌∙◌, arith}
 use Rattle.std.specs.List.{AllByRecursion}
 use Rattle.sqlite_value.specs.Order.{Row}
-use Rattle.sqlite_trees.specs.Tree.{Trees, put_row}
+use Rattle.sqlite_trees.specs.Tree.{Trees, has_rowid, put_row}
 use Rattle.sqlite_sql.specs.Catalog.{IsIndexOf}
 use Rattle.road_time.specs.declared.day.SpentRow.{SpentRow}
 use Rattle.keeper.specs.declared.kept.DayRecord.{DayRecord}
@@ -17,7 +17,7 @@ use Rattle.kept_tables.proofs.EditLaws.{other_days, other_seals, other_past}
 use Rattle.kept_tables.proofs.DayWriteLaws.{put_last}
 use Rattle.kept_tables.proofs.PutLaws.{days_before, adds_holds, day_stands, past_stands}
 use Rattle.tree_puts.specs.Trees.{database_of, key_columns, StandFor}
-use Rattle.tree_puts.specs.Steps.{IfDone, Joins, AddsKept}
+use Rattle.tree_puts.specs.Steps.{IfDone, Joins, AddsKept, MayFollow, IsFreshDay, IsFreshPast}
 
 -- where neither the amounts nor their index changed, it is still theirs
 pub still_indexed : (a b : Trees) → b 1 ≡ a 1 → b 2 ≡ a 2 → IsIndexOf key_columns (a 1) (a 2)
@@ -86,3 +86,28 @@ pub done_both : {E : Type 0} (r : Result Bool E) (P Q R : Type 0) → IfOk r (λ
 done_both (Ok true) P Q R p q f = f p q
 done_both (Ok false) P Q R p q f = tt
 done_both (Err e) P Q R p q f = tt
+
+-- a day whose record and seal joined, and whose amounts may follow then, was fresh
+pub day_fresh : (a b c : Trees) (r : DayRecord) (rows : List SpentRow) → Joins 0 (day_row r) (pos r.day) a b
+    → Joins 4 (seal_row r) (pos r.day) b c → MayFollow (c 2) rows → IsFreshDay r rows a
+day_fresh a b c r rows one two follow = record {
+  unrecorded = one.free;
+  unsealed = subst (λ (l : List Row). filter (has_rowid (pos r.day)) l ≡ []) (one.others 4 (λ e. omega (arith, e))) two.free;
+  after = subst (λ (l : List Row). MayFollow l rows)
+      (two.others 2 (λ e. omega (arith, e)) ∙ one.others 2 (λ e. omega (arith, e))) follow;
+}
+
+-- so of a history
+pub past_fresh : (a b : Trees) (p : PastRecord) (rows : List SpentRow) → Joins 3 (past_row p) (pos 1) a b
+    → MayFollow (b 2) rows → IsFreshPast rows a
+past_fresh a b p rows one follow = record {
+  unrecorded = one.free;
+  after = subst (λ (l : List Row). MayFollow l rows) (one.others 2 (λ e. omega (arith, e))) follow;
+}
+
+-- what was so of a step that was done is so of an answer that tells the same
+pub told_so : {E : Type 0} (r : Result Bool E) (done : Bool) (P Q : Type 0) → IfOk r (λ is. is ≡ done) → IfDone done P
+    → (P → Q) → IfOk r (λ is. IfDone is Q)
+told_so (Ok true) done P Q same p f = f (subst (λ b. IfDone b P) (sym same) p)
+told_so (Ok false) done P Q same p f = tt
+told_so (Err e) done P Q same p f = tt

@@ -8,6 +8,7 @@ use Rattle.sqlite_value.specs.Keys.{plain, prefix_cmp}
 use Rattle.sqlite_trees.specs.Tree.{Trees, rowid, has_rowid, put_row, insert_entry}
 use Rattle.sqlite_sql.specs.Catalog.{entry_of, IsIndexOf}
 use Rattle.road_time.specs.declared.day.SpentRow.{SpentRow}
+use Rattle.keeper.specs.declared.kept.DayRecord.{DayRecord}
 use Rattle.kept_tables.specs.Codec.{spent_row}
 use Rattle.kept_tables.specs.Steps.{AddsAmounts}
 use Rattle.tree_puts.specs.Trees.{database_of, key_columns}
@@ -51,3 +52,14 @@ abbrev pub MayFollow : List Row → List SpentRow → Type 0
 MayFollow entries [] = Unit {0}
 MayFollow entries (r ∷ rs) =
     (front : List Row) (last : Row) → entries ≡ front ++ last ∷ [] → prefix_cmp plain last (key_of r) ≡ Less
+
+-- neither a record nor a seal has the number of a day, and its amounts may follow those that the index lists
+pub record IsFreshDay (r : DayRecord) (rows : List SpentRow) (trees : Trees) : Type 0 where
+  pub unrecorded : filter (has_rowid (pos r.day)) (trees 0) ≡ []
+  pub unsealed : filter (has_rowid (pos r.day)) (trees 4) ≡ []
+  pub after : MayFollow (trees 2) rows
+
+-- no history is recorded, and the amounts of one may follow those that the index lists
+pub record IsFreshPast (rows : List SpentRow) (trees : Trees) : Type 0 where
+  pub unrecorded : filter (has_rowid (pos 1)) (trees 3) ≡ []
+  pub after : MayFollow (trees 2) rows

@@ -6,7 +6,7 @@ ghost use Rattle.road_time.specs.Rates.{IsTariff};
 ghost use Rattle.keeper.specs.Kept.{IsDayPut, IsPastPut, IsLater, HasNoDays, with_day, with_past, with_tariff_of};
 ghost use Rattle.kept_tables.specs.Steps.{FitsAny};
 ghost use Rattle.tree_puts.specs.Trees.{AreOurs};
-ghost use Rattle.tree_puts.specs.Steps.{IfDone};
+ghost use Rattle.tree_puts.specs.Steps.{IfDone, IsFreshDay, IsFreshPast};
 ghost use Rattle.tree_puts.specs.Stores.{Makes, StaysCommitted, Stores, IsNotDone};
 
 use crate::amounts::put_amounts;
@@ -67,6 +67,8 @@ fn write_day<S: Store>(
     ensures wrote { IsClean (S.Store.view store.new) → IfOk result (λ done. IfDone done
         (Makes (IsLater kept.now.day) (with_day kept.now rows.now) (S.Store.view store.old).trees
         (S.Store.view store.new).trees)) }
+    ensures fresh { IsClean (S.Store.view store.new) → IfOk result (λ done. IfDone done
+        (IsFreshDay kept.now rows.now (S.Store.view store.old).trees)) }
     ensures frame { IsClean (S.Store.view store.new)
         → OnOk result (OnlyWrites (S.Store.view store.old) (S.Store.view store.new)) }
     ensures err { IsClean (S.Store.view store.new)
@@ -90,7 +92,9 @@ pub fn put_day<S: Store>(
     rows: &[SpentRow],
 ) -> Result<bool, StoreError>
     requires { IsDayPut kept.now rows.now }
-    ensures { Stores S.Store (IsLater kept.now.day) (with_day kept.now rows.now) store.old store.new result }
+    ensures stores { Stores S.Store (IsLater kept.now.day) (with_day kept.now rows.now) store.old store.new result }
+    ensures fresh { IsClean (S.Store.view store.new) → IfOk result (λ done. IfDone done
+        (IsFreshDay kept.now rows.now (S.Store.view store.old).committed)) }
 {
     if !begin(store)? {
         return Ok(false);
@@ -114,6 +118,8 @@ fn write_past<S: Store>(
     ensures wrote { IsClean (S.Store.view store.new) → IfOk result (λ done. IfDone done
         (Makes HasNoDays (with_past kept.now rows.now) (S.Store.view store.old).trees
         (S.Store.view store.new).trees)) }
+    ensures fresh { IsClean (S.Store.view store.new) → IfOk result (λ done. IfDone done
+        (IsFreshPast rows.now (S.Store.view store.old).trees)) }
     ensures frame { IsClean (S.Store.view store.new)
         → OnOk result (OnlyWrites (S.Store.view store.old) (S.Store.view store.new)) }
     ensures err { IsClean (S.Store.view store.new)
@@ -134,7 +140,9 @@ pub fn put_past<S: Store>(
     rows: &[SpentRow],
 ) -> Result<bool, StoreError>
     requires { IsPastPut kept.now rows.now }
-    ensures { Stores S.Store HasNoDays (with_past kept.now rows.now) store.old store.new result }
+    ensures stores { Stores S.Store HasNoDays (with_past kept.now rows.now) store.old store.new result }
+    ensures fresh { IsClean (S.Store.view store.new) → IfOk result (λ done. IfDone done
+        (IsFreshPast rows.now (S.Store.view store.old).committed)) }
 {
     if !begin(store)? {
         return Ok(false);

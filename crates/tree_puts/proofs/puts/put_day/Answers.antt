@@ -1,12 +1,15 @@
-use Rattle.std.proofs.Common.{arith}
+use Rattle.std.proofs.Common.{subst, arith}
+use Rattle.sqlite_trees.specs.View.{IsClean}
 use Rattle.sqlite.proofs.StateLemmas.{clean_if_open}
 use Rattle.sqlite.proofs.StreamLemmas.{is_open_now}
 use Rattle.keeper.specs.Kept.{IsLater, with_day}
+use Rattle.tree_puts.specs.Steps.{IsFreshDay}
+use Rattle.tree_puts.proofs.OfficeLaws.{told_so}
 use Rattle.tree_puts.proofs.StoreLaws.{finished}
 use Rattle.tree_puts.proofs.puts.put_day.Goals as goal
 
-pub returns : goal.returns
-returns g c =
+pub returns-clause-stores : goal.returns-clause-stores
+returns-clause-stores g c =
     let written = c.write_day.new.store in
     finished g.S.Store (IsLater c.args.kept.now.day) (with_day c.args.kept.now c.args.rows.now)
     c.args.store.now c.begin.new.store written c.finish.new.store c.in_ok-done.done c.finish.result
@@ -17,3 +20,11 @@ returns g c =
     (is_open_now g.S.Store written (g.met.S.Store.broken_if_shut written) sound))
     (λ clean. omega (arith, c.finish.ensures.clean)) c.finish.ensures.same c.finish.ensures.commits
     c.finish.ensures.stays c.finish.ensures.crash
+
+pub returns-clause-fresh : goal.returns-clause-fresh
+returns-clause-fresh g c clean =
+    let mid = g.S.Store.view c.write_day.new.store in
+    let late : IsClean mid = omega (arith, c.finish.ensures.clean) in
+    let early : IsClean (g.S.Store.view c.begin.new.store) = omega (arith, late, c.write_day.ensures.quiet.clean) in
+    told_so c.finish.result c.in_ok-done.done _ _ c.finish.ensures.same (c.in_ok-done.ensures.fresh late)
+    (subst (IsFreshDay c.args.kept.now c.args.rows.now) (c.in_ok-begin.ensures.settled early).1)

@@ -4,7 +4,7 @@ use Rattle.kept_tables.specs.Codec.{day_row, seal_row}
 use Rattle.kept_tables.specs.Stands.{FitsDay}
 use Rattle.kept_tables.proofs.PutLaws.{below_sum}
 use Rattle.tree_puts.specs.Steps.{IfDone, Joins}
-use Rattle.tree_puts.proofs.OfficeLaws.{day_made, done_both}
+use Rattle.tree_puts.proofs.OfficeLaws.{day_made, day_fresh, done_both}
 use Rattle.tree_puts.proofs.puts.write_day.Goals as goal
 
 pub put_amounts-requires-clause-small : goal.put_amounts-requires-clause-small
@@ -40,3 +40,20 @@ returns-clause-wrote g c clean =
     done_both c.put_amounts.result _ _ _ c.put_amounts.ensures.fits (c.put_amounts.ensures.adds clean)
     (λ small adds o stand later. day_made a.trees first.trees second.trees last.trees kept c.args.rows.now o
     c.requires.fits fits small one two adds stand later)
+
+pub returns-clause-fresh : goal.returns-clause-fresh
+returns-clause-fresh g c clean =
+    let a = g.S.Store.view c.args.store.now in
+    let first = g.S.Store.view c.put_record.new.store in
+    let second = g.S.Store.view c.put_seal.new.store in
+    let late : IsClean second = omega (arith, c.put_amounts.ensures.quiet.clean) in
+    let early : IsClean first = omega (arith, late, c.put_seal.ensures.quiet.clean) in
+    let kept = c.args.kept.now in
+    let recorded = Joins 0 (day_row kept) (pos kept.day) a.trees first.trees in
+    let sealed = Joins 4 (seal_row kept) (pos kept.day) first.trees second.trees in
+    let one : recorded =
+    subst (λ (b : Bool). IfDone b recorded) c.if-not-branch.false (c.in_ok-put_record.ensures.done early) in
+    let two : sealed =
+    subst (λ (b : Bool). IfDone b sealed) c.if-not-branch-2.false (c.in_ok-put_seal.ensures.done late) in
+    done_both c.put_amounts.result _ _ _ c.put_amounts.ensures.fits (c.put_amounts.ensures.follow clean)
+    (λ small follow. day_fresh a.trees first.trees second.trees kept c.args.rows.now one two follow)

@@ -3,7 +3,7 @@ use Rattle.sqlite_trees.specs.View.{IsClean}
 use Rattle.kept_tables.specs.Codec.{past_row}
 use Rattle.kept_tables.specs.Stands.{FitsPast}
 use Rattle.tree_puts.specs.Steps.{IfDone, Joins}
-use Rattle.tree_puts.proofs.OfficeLaws.{past_made, done_both}
+use Rattle.tree_puts.proofs.OfficeLaws.{past_made, past_fresh, done_both}
 use Rattle.tree_puts.proofs.puts.write_past.Goals as goal
 
 pub returns-clause-wrote : goal.returns-clause-wrote
@@ -20,3 +20,15 @@ returns-clause-wrote g c clean =
     done_both c.put_amounts.result _ _ _ c.put_amounts.ensures.fits (c.put_amounts.ensures.adds clean)
     (λ small adds o stand none. past_made a.trees first.trees last.trees kept c.args.rows.now o c.requires.fits fits
     small one adds stand none)
+
+pub returns-clause-fresh : goal.returns-clause-fresh
+returns-clause-fresh g c clean =
+    let a = g.S.Store.view c.args.store.now in
+    let first = g.S.Store.view c.put_history.new.store in
+    let early : IsClean first = omega (arith, c.put_amounts.ensures.quiet.clean) in
+    let kept = c.args.kept.now in
+    let one : Joins 3 (past_row kept) (pos 1) a.trees first.trees =
+    subst (λ (b : Bool). IfDone b (Joins 3 (past_row kept) (pos 1) a.trees first.trees)) c.if-not-branch.false
+    (c.in_ok-put_history.ensures.done early) in
+    done_both c.put_amounts.result _ _ _ c.put_amounts.ensures.fits (c.put_amounts.ensures.follow clean)
+    (λ small follow. past_fresh a.trees first.trees kept c.args.rows.now one follow)

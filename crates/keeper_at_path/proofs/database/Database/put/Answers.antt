@@ -8,7 +8,7 @@ use Rattle.keeper_at_path.proofs.database.Database.put.Goals as goal
 pub returns-in-Whole : goal.returns-in-Whole
 returns-in-Whole g c =
     inl
-    (made_of _ _ _ _ _ _ _ _ _ _
+    (made_of _ _ _ _ _ _ _ _
     (ready_whole _ _ c.args.self.now.kept _
     (subst (IsReadyToRead _ _ c.args.self.now.kept) c.in-Whole.is c.in-Ok.ensures.ready))
     c.put_whole.ensures)
