@@ -5,10 +5,10 @@
 
 PROGRAM is crates/toll_office/out/toll_office. A history of 69 days is put by `past` into an empty folder; beside it the
 same folder with no history. Over each, in this order: `day`, `vehicle`, `tariffs`, `answers` of a day of expenditure
-requests, `import` of a day of lines (by `day.c`), `day` again, `tariff`. For each a line: wall time, greatest memory and the
-status; for the look-ups also what python's sqlite3 takes for the same rows, whose answers must be the same. After each put
-the file must pass `PRAGMA integrity_check` and have its rows, and it must stand alone: no log with bytes beside it. The
-script ends with status 1 at the first difference.
+requests, `import` of a day of lines (by `day.c`), `day` again, `tariff`. For each a line: wall time, greatest memory and
+the status; for the look-ups also what python's sqlite3 takes for the same rows, whose answers must be the same. After
+each put the file must pass `PRAGMA integrity_check` and have its rows, and it must stand alone: no log with bytes beside
+it. The script ends with status 1 at the first difference.
 """
 import argparse
 import os
@@ -49,7 +49,7 @@ def write_history(path, amounts):
 
 
 def write_requests(path, amounts, requests):
-    """A day of expenditure requests, some of them for vehicles and expressways that paid nothing; what each asks for."""
+    """A day of expenditure requests, some for vehicles and expressways that paid nothing; what each asks for."""
     draw = random.Random(1)
     asked = []
     for number in range(requests):
@@ -107,7 +107,8 @@ def check_file(folder, rows, days):
         seals = [day for day, in database.execute("SELECT day FROM day_tariffs ORDER BY day")]
         expect(seals == days, f"{folder.name}: seals {seals}, not {days}")
     size = (folder / KEPT).stat().st_size / 1e6
-    print(f"{folder.name:12} {'integrity_check':16} {time.monotonic() - begin:8.2f} s {size:8.0f} MB of file  ok", flush=True)
+    took = time.monotonic() - begin
+    print(f"{folder.name:12} {'integrity_check':16} {took:8.2f} s {size:8.0f} MB of file  ok", flush=True)
 
 
 def ask_sqlite(folder, name, query, parameters):
@@ -134,7 +135,8 @@ def try_reads(program, folder, requests, asked, amounts):
     expect(status == 0, "answers of the requests")
     given = {int(line.split(",")[2]): int(line.split(",")[3]) for line in text.splitlines() if line.startswith("3,")}
     expect(len(given) == len(asked), f"{len(given)} answers to {len(asked)} requests")
-    found = ask_sqlite(folder, "answers", "SELECT coalesce(sum(tolls), 0) FROM spent WHERE day = ? AND vid = ? AND xway = ?",
+    found = ask_sqlite(folder, "answers",
+                       "SELECT coalesce(sum(tolls), 0) FROM spent WHERE day = ? AND vid = ? AND xway = ?",
                        [(day, vehicle, way) for _, vehicle, day, way in asked])
     for (number, vehicle, day, way), (tolls,) in zip(asked, found):
         expect(given[number] == tolls, f"request {number} of {vehicle} on day {day}: {given[number]}, not {tolls}")

@@ -1,5 +1,6 @@
 -- What is ready for a call, and what was made of it.
-use Rattle.std.proofs.Common.{◌≡◌, ◌⊎◌, inl, inr, Bool, true, false, Option, Some, None, Result, Ok, Err, IsErr, refl, sym, subst, IfErr}
+use Rattle.std.proofs.Common.{◌≡◌, ◌⊎◌, inl, inr, Bool, true, false, Option, Some, None, Result, Ok, Err, IsErr, refl}
+use Rattle.std.proofs.Common.{sym, subst, IfErr}
 use Rattle.sqlite_trees.specs.declared.error.StoreError.{StoreError}
 use Rattle.sqlite.specs.State.{State}
 use Rattle.keeper.specs.declared.kept.KeepFault.{KeepFault}

@@ -4,7 +4,8 @@ ghost use Rattle.sqlite.specs.Held.{state};
 ghost use Rattle.keeper.specs.declared.kept.KeepFault.TheVariants.{NoMemory};
 ghost use Rattle.keeper_writes.specs.Causes.{WasRefused};
 ghost use Rattle.tree_puts.specs.Stores.{Stores};
-ghost use Rattle.keeper_at_path.specs.Asked.{AskedToRead, AskedToPut, IsReadyToRead, IsHeld, IsMade, IsPut, store_fault};
+ghost use Rattle.keeper_at_path.specs.Asked.{AskedToRead, AskedToPut, IsReadyToRead, IsHeld, IsMade, IsPut};
+ghost use Rattle.keeper_at_path.specs.Asked.{store_fault};
 ghost use Rattle.keeper_at_path.specs.Asked.{HoldsFound};
 ghost use Rattle.keeper_at_path.specs.Looks.{AreFound, Looks};
 
@@ -21,8 +22,8 @@ use std::alloc::Global;
 use std::rt::HostRuntime;
 use tree_keeper::PageTrees;
 
-/// A database that is opened when it is first asked for: by its trees where it is exactly ours, or whole. A call that puts
-/// is made of the store of the same trees, or of the whole.
+/// A database that is opened when it is first asked for: by its trees where it is exactly ours, or whole. A call that
+/// puts is made of the store of the same trees, or of the whole.
 #[derive(Drop)]
 pub struct Database<S: Opens<P>, P: Pages + Drop> {
     rt: HostRuntime,

@@ -12,14 +12,11 @@ use sqlite_pool::Pool;
 use std::rt::HostRuntime;
 use tree_keeper::PageTrees;
 
-/// A store of the trees of a file at a path, and the ways to it: by the pages of the file, by a connection to the whole,
-/// and by itself. From one way to another nobody else opens the file.
+/// A store of the trees of a file at a path, and the ways to it: by the pages of the file, by a connection to the
+/// whole, and by itself. From one way to another nobody else opens the file.
 pub trait Opens<P: Pages + Drop>: Shuts {
     /// The trees of the file at a path where it is exactly ours, or else the file whole.
-    fn to_read(
-        rt: &HostRuntime,
-        path: &str,
-    ) -> Result<Kept<PageTrees<P>, Connection<Self>>, Error>
+    fn to_read(rt: &HostRuntime, path: &str) -> Result<Kept<PageTrees<P>, Connection<Self>>, Error>
         ensures { IfOk result (FindsTrees P.Pages) };
 
     /// The store of the file of some pages, which is checked page by page and tree by tree; or else the file whole.

@@ -215,10 +215,7 @@ pub fn stored<D: Disk + Drop>(
 }
 
 /// The trees of files that a store gave back, if they are exactly ours. Else the files are let go.
-pub fn listed_again<D: Disk + Drop>(
-    rt: &HostRuntime,
-    files: Files<D>,
-) -> Option<PageTrees<Pool<D>>>
+pub fn listed_again<D: Disk + Drop>(rt: &HostRuntime, files: Files<D>) -> Option<PageTrees<Pool<D>>>
     ensures { IfSome result (AreFound ⟦<Pool<D> as Pages>⟧) }
 {
     if !files.may_be_used() {

@@ -9,9 +9,7 @@ ghost use Rattle.keeper_at_path.specs.Asked.{AskedToRead, AskedToPut};
 ghost use Rattle.keeper_at_path.specs.Looks.{AreFound, Looks};
 
 use keeper::KeepFault;
-use keeper_at_path::{
-    KeeperIn, Kept, KeptPages, KeptStore, Putting, Reading, shut as shut_pool,
-};
+use keeper_at_path::{KeeperIn, Kept, KeptPages, KeptStore, Putting, Reading, shut as shut_pool};
 use keeper_writes::refusals::refusal;
 use road_time::NoMemory;
 use sqlite::Connection;

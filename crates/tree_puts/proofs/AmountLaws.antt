@@ -1,12 +1,14 @@
 -- What an amount's row and its entry make of their trees.
-use Rattle.std.proofs.Common.{◌≡◌, ℕ, ℤ, pos, ◌+ℤ◌, ◌+◌, length, take, get_or, List, [], ◌∷◌, ◌++◌, map, drop, refl, sym, ap}
+use Rattle.std.proofs.Common.{◌≡◌, ℕ, ℤ, pos, ◌+ℤ◌, ◌+◌, length, take, get_or, List, [], ◌∷◌, ◌++◌, map, drop, refl}
+use Rattle.std.proofs.Common.{sym, ap}
 use Rattle.std.proofs.Common.{subst, subst₂, ◌∙◌, arith, Less, true, Option, Some, None, IfSome, IsPermutation}
 use Rattle.std.specs.List.{AllByRecursion}
 use Rattle.std.specs.Ordering.{int_cmp}
 use Rattle.std.proofs.lemmas.Bool.Decides.{nat_tests}
 use Rattle.std.proofs.lemmas.Int.{ints}
 use Rattle.std.proofs.lemmas.List.{map-append}
-use Rattle.std.proofs.lemmas.List.Sorted.{IsPermutation-trans, IsPermutation-cons, IsPermutation-sym, IsPermutation-to_front}
+use Rattle.std.proofs.lemmas.List.Sorted.{IsPermutation-trans, IsPermutation-cons, IsPermutation-sym}
+use Rattle.std.proofs.lemmas.List.Sorted.{IsPermutation-to_front}
 use Rattle.sqlite_value.specs.declared.value.Value.TheVariants.{Int}
 use Rattle.sqlite_value.specs.Order.{Row, value_cmp}
 use Rattle.sqlite_value.specs.Keys.{plain}
@@ -51,7 +53,8 @@ pub above_last : (rows : List Row) (row : Row) (n : ℤ) → IsTable rows → Is
 above_last rows row n up last is =
     let all = below_end (λ (a b : Row). value_cmp (rowid a) (rowid b) ≡ Less) last.0 row (subst IsTable last.1 up) in
     subst (AreBelow (n +ℤ pos 1)) (sym last.1)
-    (below_after n last.0 row is (subst (λ v. AllByRecursion (λ (r : Row). value_cmp (rowid r) v ≡ Less) last.0) is all))
+    (below_after n last.0 row is
+    (subst (λ v. AllByRecursion (λ (r : Row). value_cmp (rowid r) v ≡ Less) last.0) is all))
 
 -- a row above all comes last
 pub put_at_end : (n : ℤ) (cells : Row) (rows : List Row) → AreBelow n rows
@@ -86,11 +89,13 @@ amount_rows n r kept rows are =
 -- its index gains the entry
 amount_entry : (n : ℤ) (r : SpentRow) (rows entries : List Row) → IsShaped Table rows → AreBelow n rows
     → IsIndexOf key_columns rows entries
-    → IsIndexOf key_columns (rows ++ numbered n r ∷ []) (insert_entry plain (entry_of key_columns (numbered n r)) entries)
+    → IsIndexOf key_columns (rows ++ numbered n r ∷ [])
+    (insert_entry plain (entry_of key_columns (numbered n r)) entries)
 amount_entry n r rows entries shaped all was =
     let row = numbered n r in
     let more =
-    one_more_entry plain key_columns (rows ++ row ∷ []) entries (length rows) (table_with n (spent_row r) rows shaped all)
+    one_more_entry plain key_columns (rows ++ row ∷ []) entries (length rows)
+    (table_with n (spent_row r) rows shaped all)
     (end_within rows row) (subst (λ l. IsIndexOf key_columns l entries) (sym (take_front rows row)) was) in
     subst₂ (λ l x. IsIndexOf key_columns l (insert_entry plain (entry_of key_columns x) entries)) (take_whole rows row)
     (at_end rows row []) more
@@ -143,7 +148,8 @@ puts_both old mid new n r put inserted =
     let entry = entry_of key_columns row in
     let rows = put_row row (old.trees 1) in
     let entries = insert_entry plain entry (mid.trees 2) in
-    let one = λ (t : ℕ). let e : mid.trees t ≡ with_tree old.trees 1 rows t = ap (λ (v : View). v.trees t) put.is in e in
+    let one = λ (t : ℕ). let e : mid.trees t ≡ with_tree old.trees 1 rows t =
+    ap (λ (v : View). v.trees t) put.is in e in
     let two = λ (t : ℕ). let e : new.trees t ≡ with_tree mid.trees 2 entries t =
     ap (λ (v : View). v.trees t) inserted.is in e in
     record {

@@ -1,5 +1,6 @@
 -- What whole puts make of the office that trees stand for.
-use Rattle.std.proofs.Common.{◌≡◌, ℕ, pos, Bool, true, false, Result, Ok, Err, IfOk, [], ◌∷◌, ◌++◌, List, Some, refl, sym, ap}
+use Rattle.std.proofs.Common.{◌≡◌, ℕ, pos, Bool, true, false, Result, Ok, Err, IfOk, [], ◌∷◌, ◌++◌, List, Some, refl}
+use Rattle.std.proofs.Common.{sym, ap}
 use Rattle.std.proofs.Common.{filter, subst, subst₂, ◌∙◌, arith}
 use Rattle.std.specs.List.{AllByRecursion}
 use Rattle.sqlite_value.specs.Order.{Row}
@@ -92,7 +93,8 @@ pub day_fresh : (a b c : Trees) (r : DayRecord) (rows : List SpentRow) → Joins
     → Joins 4 (seal_row r) (pos r.day) b c → MayFollow (c 2) rows → IsFreshDay r rows a
 day_fresh a b c r rows one two follow = record {
   unrecorded = one.free;
-  unsealed = subst (λ (l : List Row). filter (has_rowid (pos r.day)) l ≡ []) (one.others 4 (λ e. omega (arith, e))) two.free;
+  unsealed = subst (λ (l : List Row). filter (has_rowid (pos r.day)) l ≡ [])
+      (one.others 4 (λ e. omega (arith, e))) two.free;
   after = subst (λ (l : List Row). MayFollow l rows)
       (two.others 2 (λ e. omega (arith, e)) ∙ one.others 2 (λ e. omega (arith, e))) follow;
 }

@@ -1,5 +1,6 @@
 -- How the steps of a put are one put.
-use Rattle.std.proofs.Common.{◌≡◌, ◌⊎◌, inl, inr, Bool, true, false, Result, Ok, Err, IfOk, OnOk, IsTrue, refl, sym, ap, subst}
+use Rattle.std.proofs.Common.{◌≡◌, ◌⊎◌, inl, inr, Bool, true, false, Result, Ok, Err, IfOk, OnOk, IsTrue, refl, sym}
+use Rattle.std.proofs.Common.{ap, subst}
 use Rattle.std.proofs.Common.{◌∙◌, arith}
 use Rattle.sqlite_trees.specs.declared.error.StoreError.{StoreError}
 use Rattle.sqlite_trees.specs.declared.store.Store.{Ghosts}
@@ -72,8 +73,8 @@ pub crashed_so : (asks : Office → Type 0) (next : Office → Office) (was old 
 crashed_so asks next was old now new done p q is makes =
     made_of asks next was old now new p q (subst (λ b. IfDone b (Makes asks next old now)) is makes)
 
--- a put that was begun, written and committed: what was written is what the office becomes, and a crash before the end finds
--- what it found at first
+-- a put that was begun, written and committed: what was written is what the office becomes, and a crash before the end
+-- finds what it found at first
 pub finished : {S : Type 0} (g : Ghosts S) (asks : Office → Type 0) (next : Office → Office) (a b c d : S) (done : Bool)
     (r : Result Bool StoreError)
     → (IsClean (g.view b) → (g.view b).trees ≡ (g.view a).committed)
@@ -91,7 +92,8 @@ pub finished : {S : Type 0} (g : Ghosts S) (asks : Office → Type 0) (next : Of
     → ((db : Trees) → g.recovers d db → (((g.view c).is_broken ≡ false) × (db ≡ (g.view c).trees) × (done ≡ true))
     ⊎ g.recovers c db)
     → Stores g asks next a d r
-finished g asks next a b c d done r settled stays quiet clean_b wrote frame quieter sound clean_c same commits left crash =
+finished g asks next a b c d done r settled stays quiet clean_b wrote frame quieter sound clean_c same commits left
+    crash =
     record {
       makes = λ clean.
           let in_c = clean_c clean in

@@ -29,12 +29,7 @@ fn take<S: Store>(store: &mut S, xway: u8) -> Result<(), StoreError>
 }
 
 /// Gives an expressway a tariff of its own.
-fn give<S: Store>(
-    store: &mut S,
-    xway: u8,
-    tariff: &Tariff,
-    row: &mut Row,
-) -> Result<(), StoreError>
+fn give<S: Store>(store: &mut S, xway: u8, tariff: &Tariff, row: &mut Row) -> Result<(), StoreError>
     requires shape { (S.Store.view store.old).shape 5 ≡ Table }
     requires valid { IsTariff tariff.now }
     ensures gave { IsClean (S.Store.view store.new) → same_tariff tariff.now benchmark ≡ false

@@ -34,7 +34,8 @@ rows-preserved g c =
           let step = amount_adds mid.trees new.trees (to_z w64 c.rows.number-bits) row shaped so_far.1
           (c.in_ok-put_amount.ensures.puts clean) in (
             subst (AddsKept old.trees new.trees) (sym more)
-                (adds_more old.trees mid.trees new.trees (take c.rows.row-index c.args.rows.now) (row ∷ []) so_far.0 step.0),
+                (adds_more old.trees mid.trees new.trees (take c.rows.row-index c.args.rows.now) (row ∷ [])
+                so_far.0 step.0),
             subst (λ (n : ℤ). AreBelow n (new.trees 1)) (sym (whole ∙ c.in-Some.ensures)) step.1,
           ),
       subst (AllByRecursion FitsSpent) (sym more)
