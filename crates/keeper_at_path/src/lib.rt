@@ -10,6 +10,7 @@
 mod at_path;
 mod call;
 mod database;
+mod file_keeper;
 mod keeper_calls;
 mod keeper_in;
 mod kept;
@@ -22,6 +23,7 @@ mod shuts;
 
 pub use at_path::{AtPath, KeptDisk, KeptPages, KeptStore};
 pub use call::{Putting, Reading};
+pub use file_keeper::FileKeeper;
 pub use keeper_in::KeeperIn;
 pub use kept::Kept;
 pub use opens::Opens;

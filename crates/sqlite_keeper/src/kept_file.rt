@@ -9,7 +9,7 @@ ghost use Rattle.keeper_at_path.specs.Asked.{AskedToRead, AskedToPut};
 ghost use Rattle.keeper_at_path.specs.Looks.{AreFound, Looks};
 
 use keeper::KeepFault;
-use keeper_at_path::{KeeperIn, Kept, KeptPages, KeptStore, Putting, Reading, shut as shut_pool};
+use keeper_at_path::{FileKeeper, Kept, KeptDisk, KeptPages, KeptStore, Putting, Reading, shut as shut_pool};
 use keeper_writes::refusals::refusal;
 use road_time::NoMemory;
 use sqlite::Connection;
@@ -26,15 +26,15 @@ pub const KEPT_FILE: &str = "tolls.db";
 /// database behind it.
 #[derive(Drop)]
 pub struct SqliteKeeper {
-    in_file: KeeperIn<KeptStore, KeptPages>,
+    in_file: FileKeeper<KeptDisk>,
 }
 
 impl SqliteKeeper {
     /// The keeper in the file at a path.
     pub fn at(alloc: Global, rt: HostRuntime, path: &str) -> Result<SqliteKeeper, NoMemory>
-        ensures { IfOk result (λ keeper. keeper.in_file.faults ≡ 0) }
+        ensures { IfOk result (λ keeper. keeper.in_file.in_file.faults ≡ 0) }
     {
-        let in_file = KeeperIn::at(alloc, rt, path)?;
+        let in_file = FileKeeper::at(alloc, rt, path)?;
         Ok(SqliteKeeper { in_file })
     }
 
@@ -52,11 +52,11 @@ impl SqliteKeeper {
     /// Makes a call that reads. It and `put` alone hand calls on to the store of files, which a check takes longest at.
     pub(crate) fn read<C: Reading + Drop>(&mut self, call: C) -> Result<C::Answer, KeepFault>
         ensures answers { IfOk result C.answers }
-        ensures does { AskedToRead self.old.in_file.database.kept self.new.in_file.database.kept
+        ensures does { AskedToRead self.old.in_file.in_file.database.kept self.new.in_file.in_file.database.kept
             (AreFound ⟦<KeptPages as Pages>⟧) (Looks ⟦<KeptPages as Pages>⟧)
             (λ k. k.unmade ≢ Some no_memory) (λ k. state ⟦<KeptStore as Store>⟧ k.conn)
             (WasRefused ⟦<KeptStore as Store>⟧) (C.gives call) result }
-        ensures cause { CountsFaults self.old.in_file.faults self.new.in_file.faults result }
+        ensures cause { CountsFaults self.old.in_file.in_file.faults self.new.in_file.in_file.faults result }
     {
         self.in_file.read(call)
     }
@@ -64,12 +64,12 @@ impl SqliteKeeper {
     /// Makes a call that puts.
     pub(crate) fn put<C: Putting + Drop>(&mut self, call: C) -> Result<(), KeepFault>
         requires { C.fits call }
-        ensures does { AskedToPut self.old.in_file.database.kept self.new.in_file.database.kept
+        ensures does { AskedToPut self.old.in_file.in_file.database.kept self.new.in_file.in_file.database.kept
             (λ k. k.unmade ≢ Some no_memory) (AreFound ⟦<KeptPages as Pages>⟧)
             (Stores ⟦<KeptStore as Store>⟧ (C.asks call) (C.next call))
             (λ k. state ⟦<KeptStore as Store>⟧ k.conn) (WasRefused ⟦<KeptStore as Store>⟧)
             (C.asks call) (C.next call) result }
-        ensures cause { CountsFaults self.old.in_file.faults self.new.in_file.faults result }
+        ensures cause { CountsFaults self.old.in_file.in_file.faults self.new.in_file.in_file.faults result }
     {
         self.in_file.put(call)
     }
