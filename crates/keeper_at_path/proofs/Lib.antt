@@ -1,1 +1,2 @@
 pub mod DoesLaws
+pub mod AskedLaws

@@ -1,5 +1,7 @@
 -- What is held of a file, and how a call of it is made.
-use Rattle.std.specs.Prelude.{◌≡◌, ◌⊎◌, Bool, true, false, Option, Some, None, Result, Ok, Err, IsErr}
+use Rattle.std.specs.Prelude.{◌≡◌, ◌⊎◌, Bool, true, false, Option, Some, None, Result, Ok, Err, IsOk, IsErr}
+use Rattle.sqlite_trees.specs.declared.error.StoreError.{StoreError}
+use Rattle.sqlite_trees.specs.declared.error.StoreError.TheVariants.{OutOfMemory, Io, Corrupt, Full, Broken, Unstorable}
 use Rattle.sqlite.specs.State.{State}
 use Rattle.keeper.specs.declared.kept.KeepFault.{KeepFault}
 use Rattle.keeper.specs.declared.kept.KeepFault.TheVariants.{Failed, NoMemory}
@@ -65,9 +67,50 @@ AskedToRead old held found looks opened view cause gives result =
     ⊎ (IsMade (λ k. IsReadyToRead found opened old (Whole k)) view cause false FitsAny gives (λ o. o) held result
     ⊎ ((old ≡ None) × (held ≡ None) × IsErr result))
 
--- a call that puts was made of a keeper, or no keeper was held and none could be opened
-abbrev pub AskedToPut : {T K : Type 0} → Option (Kept T K) → Option (Kept T K) → (K → Type 0) → (K → State) →
-    Type 0 → (Office → Type 0) → (Office → Office) → Result (Unit {0}) KeepFault → Type 0
-AskedToPut old held opened view cause asks next result =
+-- what an error of a store is to a keeper
+abbrev pub store_fault : StoreError → KeepFault
+store_fault OutOfMemory = NoMemory
+store_fault Io = Failed
+store_fault Corrupt = Failed
+store_fault Full = Failed
+store_fault Broken = Failed
+store_fault Unstorable = Failed
+
+-- the answer of a put is that of the store; a put that did not fit it is none
+abbrev pub IsToldAs : Result Bool StoreError → Result (Unit {0}) KeepFault → Type 0
+IsToldAs (Ok true) result = IsOk result
+IsToldAs (Ok false) result = ⊥
+IsToldAs (Err e) result = result ≡ Err (store_fault e)
+
+-- trees that were found in a file are held, or nothing is
+abbrev pub HoldsFound : {T K : Type 0} → (T → Type 0) → Option (Kept T K) → Type 0
+HoldsFound found None = Unit {0}
+HoldsFound found (Some (Trees trees)) = found trees
+HoldsFound found (Some (Whole kept)) = ⊥
+
+-- a call that puts was made of a store that was opened for it, and that is let go; trees of the file are held then
+pub record IsStored {T K X : Type 0} (found : T → Type 0) (see : X → X → Result Bool StoreError → Type 0)
+    (held : Option (Kept T K)) (result : Result (Unit {0}) KeepFault) : Type 0 where
+  pub before : X
+  pub after : X
+  pub answer : Result Bool StoreError
+  pub stores : see before after answer
+  pub told : IsToldAs answer result
+  pub kept : HoldsFound found held
+
+-- a call that puts was made of a store or of a keeper, or nothing could be opened and nothing is held
+abbrev pub IsPut : {T K X : Type 0} → (K → Type 0) → Option (Kept T K) → (T → Type 0) →
+    (X → X → Result Bool StoreError → Type 0) → (K → State) → Type 0 → (Office → Type 0) → (Office → Office) →
+    Result (Unit {0}) KeepFault → Type 0
+IsPut may held found see view cause asks next result =
+    IsMade may view cause true asks (λ o u. Unit {0}) next held result
+    ⊎ (IsStored found see held result ⊎ ((held ≡ None) × IsErr result))
+
+-- a call that puts was made of the keeper that is held; or none was, and it was made of a store or of a keeper that was
+-- opened for the call, or none could be opened
+abbrev pub AskedToPut : {T K X : Type 0} → Option (Kept T K) → Option (Kept T K) → (K → Type 0) → (T → Type 0) →
+    (X → X → Result Bool StoreError → Type 0) → (K → State) → Type 0 → (Office → Type 0) → (Office → Office) →
+    Result (Unit {0}) KeepFault → Type 0
+AskedToPut old held opened found see view cause asks next result =
     IsMade (IsReady opened old) view cause true asks (λ o u. Unit {0}) next held result
-    ⊎ (IsNotWhole old × (held ≡ None) × IsErr result)
+    ⊎ (IsNotWhole old × (IsStored found see held result ⊎ ((held ≡ None) × IsErr result)))

@@ -4,6 +4,8 @@ use Rattle.sqlite.specs.declared.error.Error.{Error}
 use Rattle.sqlite.specs.declared.error.Error.TheVariants.{SqliteFailure}
 use Rattle.sqlite.specs.declared.error.ErrorCode.TheVariants.{DatabaseBusy, CannotOpen, DatabaseCorrupt, NotADatabase}
 use Rattle.sqlite.specs.declared.error.ErrorCode.TheVariants.{DiskFull, SystemIoFailure, Closed, OutOfMemory}
+use Rattle.sqlite_trees.specs.declared.error.StoreError.{StoreError}
+use Rattle.sqlite_trees.specs.declared.error.StoreError.TheVariants as Store
 use Rattle.keeper.specs.declared.kept.KeepFault.{KeepFault}
 use Rattle.keeper.specs.declared.kept.KeepFault.TheVariants.{Failed, NoMemory}
 use Rattle.keeper_at_path.specs.declared.cause.Cause.{Cause}
@@ -25,6 +27,15 @@ IsCauseOf Odd e =
     × (e ≢ SqliteFailure NotADatabase) × (e ≢ SqliteFailure DiskFull) × (e ≢ SqliteFailure SystemIoFailure)
     × (e ≢ SqliteFailure Closed) × (e ≢ SqliteFailure OutOfMemory)
 IsCauseOf other e = ⊥
+
+-- the cause that an error of a store of trees is
+abbrev pub cause_in_store : StoreError → Cause
+cause_in_store Store.OutOfMemory = Memory
+cause_in_store Store.Io = DiskFailed
+cause_in_store Store.Corrupt = Spoiled
+cause_in_store Store.Full = NoRoom
+cause_in_store Store.Broken = Shut
+cause_in_store Store.Unstorable = Odd
 
 -- a failure says why, and want of memory leaves what was said
 abbrev pub IsSaidOf : KeepFault → Option Cause → Option Cause → Type 0

@@ -3,6 +3,7 @@ ghost use Rattle.std.specs.Prelude.{true, false, IfOk};
 ghost use Rattle.sqlite.specs.Held.{state};
 ghost use Rattle.kept_tables.specs.Steps.{FitsAny};
 ghost use Rattle.keeper_writes.specs.Causes.{WasRefused};
+ghost use Rattle.tree_puts.specs.Stores.{Stores};
 ghost use Rattle.keeper_at_path.specs.Does.{Does};
 ghost use Rattle.keeper_at_path.specs.Looks.{Looks};
 
@@ -10,6 +11,8 @@ use crate::shuts::Shuts;
 use keeper::KeepFault;
 use keeper_proof::{ProvedKeeper, Steady};
 use sqlite_pages::Pages;
+use sqlite_trees::error::StoreError;
+use sqlite_trees::store::Store;
 use std::alloc::Global;
 use tree_keeper::PageTrees;
 
@@ -51,7 +54,13 @@ pub trait Putting {
 
     ghost next: { Self → Office → Office };
 
-    /// Makes the call.
+    /// Makes the call of a store of the trees, and says whether it was done: it is not where it does not fit what is
+    /// there.
+    fn store<S: Store>(&self, alloc: Global, store: &mut S) -> Result<bool, StoreError>
+        requires { fits self.now }
+        ensures { Stores S.Store (asks self.now) (next self.now) store.old store.new result };
+
+    /// Makes the call of a keeper on a whole file.
     fn put<S: Shuts>(self, kept: &mut ProvedKeeper<S>) -> Result<(), KeepFault>
         requires { fits self }
         ensures { Does (WasRefused S.Store) true (asks self) (λ o u. Unit {0}) (next self)

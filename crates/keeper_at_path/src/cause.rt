@@ -4,11 +4,13 @@ ghost use Rattle.sqlite_std_file.specs.declared.pair.OpenError.TheVariants.{Busy
 ghost use Rattle.keeper.specs.declared.kept.KeepFault.TheVariants.{Failed, NoMemory};
 ghost use Rattle.std.specs.Prelude.{Some};
 ghost use Rattle.keeper_at_path.specs.declared.cause.Cause.TheVariants.{InUse, Journal, Memory};
-ghost use Rattle.keeper_at_path.specs.Causes.{IsCauseOf, IsSaidOf};
+ghost use Rattle.keeper_at_path.specs.Asked.{store_fault};
+ghost use Rattle.keeper_at_path.specs.Causes.{IsCauseOf, IsSaidOf, cause_in_store};
 
 use keeper::KeepFault;
 use sqlite::{Error as Refused, ErrorCode};
 use sqlite_std_file::OpenError;
+use sqlite_trees::error::StoreError;
 use std::io::ErrorKind;
 use thiserror::Error;
 
@@ -112,4 +114,27 @@ pub fn say(said: &mut Option<Cause>, cause: Cause) -> KeepFault
             KeepFault::Failed
         }
     }
+}
+
+/// The cause that an error of a store of trees is.
+fn cause_of_store(error: StoreError) -> Cause
+    ensures { result ≡ cause_in_store error }
+{
+    match error {
+        StoreError::OutOfMemory => Cause::Memory,
+        StoreError::Io => Cause::DiskFailed,
+        StoreError::Corrupt => Cause::Spoiled,
+        StoreError::Full => Cause::NoRoom,
+        StoreError::Broken => Cause::Shut,
+        StoreError::Unstorable => Cause::Odd,
+    }
+}
+
+/// Says the cause of a failure of a store of trees.
+pub fn say_of_store(said: &mut Option<Cause>, error: StoreError) -> KeepFault
+    ensures said { IsSaidOf result said.old said.new }
+    ensures which { result ≡ Failed → said.new ≡ Some (cause_in_store error) }
+    ensures fault { result ≡ store_fault error }
+{
+    say(said, cause_of_store(error))
 }

@@ -1,41 +1,39 @@
 // A database that is opened when it is first asked for.
-ghost use Rattle.std.specs.Prelude.{◌≡◌, ◌≢◌, Some, None, IfOk, IfErr};
+ghost use Rattle.std.specs.Prelude.{◌≡◌, ◌≢◌, true, Some, None, IfOk, IfErr};
 ghost use Rattle.sqlite.specs.Held.{state};
 ghost use Rattle.keeper.specs.declared.kept.KeepFault.TheVariants.{NoMemory};
 ghost use Rattle.keeper_writes.specs.Causes.{WasRefused};
-ghost use Rattle.keeper_at_path.specs.Asked.{AskedToRead, AskedToPut, IsReady, IsReadyToRead, IsNotWhole};
+ghost use Rattle.tree_puts.specs.Stores.{Stores};
+ghost use Rattle.keeper_at_path.specs.Asked.{AskedToRead, AskedToPut, IsReadyToRead, IsMade, IsPut, HoldsFound};
 ghost use Rattle.keeper_at_path.specs.Causes.{IsSaid};
 ghost use Rattle.keeper_at_path.specs.Looks.{AreFound, Looks};
 
-use crate::at_path::AtPath;
 use crate::call::{Putting, Reading};
-use crate::cause::{Cause, say};
+use crate::cause::{Cause, say, say_of_store};
 use crate::kept::Kept;
-use crate::page_files::{make_whole, open_to_read, open_whole};
+use crate::opens::Opens;
 use crate::whys::unless_failed;
 use keeper::KeepFault;
 use keeper_proof::{ProvedKeeper, Steady};
-use sqlite::{Connection, FileStore};
+use sqlite::Connection;
 use sqlite_pages::Pages;
-use sqlite_pool::Pool;
-use sqlite_trees::store::Store;
 use std::alloc::Global;
 use std::rt::HostRuntime;
 use tree_keeper::PageTrees;
 
-/// A database that is opened when it is first asked for: by its trees for a call that reads, whole for one that puts.
-/// `cause` is why the last call failed that did.
+/// A database that is opened when it is first asked for: by its trees where it is exactly ours, or whole. A call that
+/// puts is made of the store of the same trees, or of the whole. `cause` is why the last call failed that did.
 #[derive(Drop)]
-pub struct Database<D: AtPath> {
+pub struct Database<S: Opens<P>, P: Pages + Drop> {
     rt: HostRuntime,
     path: String,
-    pub(crate) kept: Option<Kept<PageTrees<Pool<D>>, ProvedKeeper<FileStore<D>>>>,
+    pub(crate) kept: Option<Kept<PageTrees<P>, ProvedKeeper<S>>>,
     pub(crate) cause: Option<Cause>,
 }
 
-impl<D: AtPath> Database<D> {
+impl<S: Opens<P>, P: Pages + Drop> Database<S, P> {
     /// The database at a path, which is not open.
-    pub(crate) fn new(rt: HostRuntime, path: String) -> Database<D>
+    pub(crate) fn new(rt: HostRuntime, path: String) -> Database<S, P>
         ensures { result.cause ≡ None }
     {
         Database {
@@ -47,7 +45,7 @@ impl<D: AtPath> Database<D> {
     }
 
     /// The pages or the connection, if it is open.
-    pub(crate) fn give_up(self) -> Option<Kept<Pool<D>, Connection<FileStore<D>>>> {
+    pub(crate) fn give_up(self) -> Option<Kept<P, Connection<S>>> {
         let Database {
             rt: _,
             path: _,
@@ -65,13 +63,11 @@ impl<D: AtPath> Database<D> {
     /// call opens the file anew.
     pub(crate) fn read<C: Reading + Drop>(&mut self, call: C) -> Result<C::Answer, KeepFault>
         ensures answers { IfOk result C.answers }
-        ensures does { AskedToRead self.old.kept self.new.kept
-            (AreFound ⟦<Pool<D> as Pages>⟧) (Looks ⟦<Pool<D> as Pages>⟧)
-            (λ k. k.unmade ≢ Some NoMemory) (λ k. state ⟦<FileStore<D> as Store>⟧ k.conn)
-            (WasRefused ⟦<FileStore<D> as Store>⟧) (C.gives call) result }
+        ensures does { AskedToRead self.old.kept self.new.kept (AreFound P.Pages) (Looks P.Pages)
+            (λ k. k.unmade ≢ Some NoMemory) (λ k. state S.Store k.conn) (WasRefused S.Store) (C.gives call) result }
         ensures said { IsSaid result self.old.cause self.new.cause }
     {
-        let ready = match self.ready_to_read() {
+        let ready = match self.ready() {
             Ok(ready) => ready,
             Err(cause) => return Err(say(&mut self.cause, cause)),
         };
@@ -88,29 +84,97 @@ impl<D: AtPath> Database<D> {
         answer
     }
 
-    /// Makes a call that puts, of the keeper that is held, or of one that is opened for it. So with a failure.
+    /// Makes a call that puts, of the keeper that is held, or of a store or a keeper that is opened for it.
     pub(crate) fn put<C: Putting + Drop>(&mut self, call: C) -> Result<(), KeepFault>
         requires { C.fits call }
-        ensures does { AskedToPut self.old.kept self.new.kept (λ k. k.unmade ≢ Some NoMemory)
-            (λ k. state ⟦<FileStore<D> as Store>⟧ k.conn) (WasRefused ⟦<FileStore<D> as Store>⟧)
+        ensures does { AskedToPut self.old.kept self.new.kept (λ k. k.unmade ≢ Some NoMemory) (AreFound P.Pages)
+            (Stores S.Store (C.asks call) (C.next call)) (λ k. state S.Store k.conn) (WasRefused S.Store)
             (C.asks call) (C.next call) result }
         ensures said { IsSaid result self.old.cause self.new.cause }
     {
-        let mut kept = match self.ready_to_put() {
-            Ok(kept) => kept,
+        let ready = match self.ready() {
+            Ok(ready) => ready,
             Err(cause) => return Err(say(&mut self.cause, cause)),
         };
+        match ready {
+            Kept::Whole(kept) => self.put_whole(kept, call),
+            Kept::Trees(trees) => self.put_by_trees(trees, call),
+        }
+    }
+
+    /// Makes a call that puts, of a keeper. A failure lets it go.
+    fn put_whole<C: Putting + Drop>(
+        &mut self,
+        mut kept: ProvedKeeper<S>,
+        call: C,
+    ) -> Result<(), KeepFault>
+        requires { C.fits call }
+        ensures does { IsMade (λ k. k ≡ kept) (λ k. state S.Store k.conn) (WasRefused S.Store) true (C.asks call)
+            (λ o u. Unit {0}) (C.next call) self.new.kept result }
+        ensures said { IsSaid result self.old.cause self.new.cause }
+    {
         let answer = call.put(&mut kept);
         self.kept = unless_failed(&answer, Kept::Whole(kept), &mut self.cause);
         answer
     }
 
-    /// Takes what is held, or opens it.
-    fn ready_to_read(
+    /// Makes a call that puts, of a keeper on a new connection.
+    fn put_over<C: Putting + Drop>(
         &mut self,
-    ) -> Result<Kept<PageTrees<Pool<D>>, ProvedKeeper<FileStore<D>>>, Cause>
-        ensures ready { IfOk result (IsReadyToRead (AreFound ⟦<Pool<D> as Pages>⟧)
-            (λ k. k.unmade ≢ Some NoMemory) self.old.kept) }
+        conn: Result<Connection<S>, Cause>,
+        call: C,
+    ) -> Result<(), KeepFault>
+        requires fits { C.fits call }
+        requires none { self.old.kept ≡ None }
+        ensures does { IsPut (λ k. k.unmade ≢ Some NoMemory) self.new.kept (AreFound P.Pages)
+            (Stores S.Store (C.asks call) (C.next call)) (λ k. state S.Store k.conn) (WasRefused S.Store)
+            (C.asks call) (C.next call) result }
+        ensures said { IsSaid result self.old.cause self.new.cause }
+    {
+        let conn = match conn {
+            Ok(conn) => conn,
+            Err(cause) => return Err(say(&mut self.cause, cause)),
+        };
+        match adopted(self.rt.alloc(), conn) {
+            Ok(kept) => self.put_whole(kept, call),
+            Err(cause) => Err(say(&mut self.cause, cause)),
+        }
+    }
+
+    /// Makes a call that puts, of the store of some trees; or of a keeper on the whole file, where the trees are not
+    /// sound or the call does not fit what is there.
+    fn put_by_trees<C: Putting + Drop>(
+        &mut self,
+        trees: PageTrees<P>,
+        call: C,
+    ) -> Result<(), KeepFault>
+        requires fits { C.fits call }
+        requires none { self.old.kept ≡ None }
+        ensures does { IsPut (λ k. k.unmade ≢ Some NoMemory) self.new.kept (AreFound P.Pages)
+            (Stores S.Store (C.asks call) (C.next call)) (λ k. state S.Store k.conn) (WasRefused S.Store)
+            (C.asks call) (C.next call) result }
+        ensures said { IsSaid result self.old.cause self.new.cause }
+    {
+        let rt = self.rt;
+        let mut store = match S::to_put(&rt, trees.give_up()) {
+            Ok(Kept::Trees(store)) => store,
+            Ok(Kept::Whole(conn)) => return self.put_over(Ok(conn), call),
+            Err(cause) => return Err(say(&mut self.cause, cause)),
+        };
+        let done = match call.store(rt.alloc(), &mut store) {
+            Ok(done) => done,
+            Err(error) => return Err(say_of_store(&mut self.cause, error)),
+        };
+        if done {
+            self.kept = held_again(&rt, store);
+            return Ok(());
+        }
+        self.put_over(S::to_whole(&rt, store), call)
+    }
+
+    /// Takes what is held, or opens it.
+    fn ready(&mut self) -> Result<Kept<PageTrees<P>, ProvedKeeper<S>>, Cause>
+        ensures ready { IfOk result (IsReadyToRead (AreFound P.Pages) (λ k. k.unmade ≢ Some NoMemory) self.old.kept) }
         ensures none { self.new.kept ≡ None }
         ensures unsaid { self.new.cause ≡ self.old.cause }
         ensures unopened { IfErr result (λ _. self.old.kept ≡ None) }
@@ -118,29 +182,14 @@ impl<D: AtPath> Database<D> {
         if let Some(kept) = self.kept.take() {
             return Ok(kept);
         }
-        self.opened_to_read()
-    }
-
-    /// Takes the keeper that is held, or makes one of what is held, or opens one.
-    fn ready_to_put(&mut self) -> Result<ProvedKeeper<FileStore<D>>, Cause>
-        ensures ready { IfOk result (IsReady (λ k. k.unmade ≢ Some NoMemory) self.old.kept) }
-        ensures none { self.new.kept ≡ None }
-        ensures unsaid { self.new.cause ≡ self.old.cause }
-        ensures unopened { IfErr result (λ _. IsNotWhole self.old.kept) }
-    {
-        let trees = match self.kept.take() {
-            Some(Kept::Whole(kept)) => return Ok(kept),
-            Some(Kept::Trees(trees)) => trees,
-            None => return self.opened(),
-        };
-        self.made_whole(trees)
+        self.opened()
     }
 
     /// The trees of the file, or a keeper on a new connection.
-    fn opened_to_read(&self) -> Result<Kept<PageTrees<Pool<D>>, ProvedKeeper<FileStore<D>>>, Cause>
-        ensures { IfOk result (IsReadyToRead (AreFound ⟦<Pool<D> as Pages>⟧) (λ k. k.unmade ≢ Some NoMemory) None) }
+    fn opened(&self) -> Result<Kept<PageTrees<P>, ProvedKeeper<S>>, Cause>
+        ensures { IfOk result (IsReadyToRead (AreFound P.Pages) (λ k. k.unmade ≢ Some NoMemory) None) }
     {
-        let conn = match open_to_read::<D>(&self.rt, self.path.as_str()) {
+        let conn = match S::to_read(&self.rt, self.path.as_str()) {
             Ok(Kept::Trees(trees)) => return Ok(Kept::Trees(trees)),
             Ok(Kept::Whole(conn)) => conn,
             Err(cause) => return Err(cause),
@@ -150,25 +199,18 @@ impl<D: AtPath> Database<D> {
             Err(cause) => Err(cause),
         }
     }
+}
 
-    /// A keeper on a new connection to the file of some trees, which nobody else opens in between.
-    fn made_whole(&self, trees: PageTrees<Pool<D>>) -> Result<ProvedKeeper<FileStore<D>>, Cause>
-        ensures { IfOk result (λ kept. kept.unmade ≢ Some NoMemory) }
-    {
-        match make_whole(&self.rt, trees.give_up()) {
-            Ok(conn) => adopted(self.rt.alloc(), conn),
-            Err(cause) => Err(cause),
-        }
-    }
-
-    /// A keeper on a new connection.
-    fn opened(&self) -> Result<ProvedKeeper<FileStore<D>>, Cause>
-        ensures { IfOk result (λ kept. kept.unmade ≢ Some NoMemory) }
-    {
-        match open_whole::<D>(&self.rt, self.path.as_str()) {
-            Ok(conn) => adopted(self.rt.alloc(), conn),
-            Err(cause) => Err(cause),
-        }
+/// What is held of the file of a store that a put was made of.
+fn held_again<S: Opens<P>, P: Pages + Drop>(
+    rt: &HostRuntime,
+    store: S,
+) -> Option<Kept<PageTrees<P>, ProvedKeeper<S>>>
+    ensures { HoldsFound (AreFound P.Pages) result }
+{
+    match S::to_read_again(rt, store) {
+        Some(trees) => Some(Kept::Trees(trees)),
+        None => None,
     }
 }
 

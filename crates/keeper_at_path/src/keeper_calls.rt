@@ -9,22 +9,20 @@ ghost use Rattle.keeper.specs.Calls.{CountsFaults, IfTold};
 ghost use Rattle.keeper.specs.declared.kept.KeepFault.TheVariants.{NoMemory};
 ghost use Rattle.kept_tables.specs.Steps.{FitsAny};
 ghost use Rattle.keeper_writes.specs.Causes.{WasRefused};
+ghost use Rattle.tree_puts.specs.Stores.{Stores};
 ghost use Rattle.keeper_at_path.specs.Asked.{AskedToRead, AskedToPut};
 ghost use Rattle.keeper_at_path.specs.Causes.{IsSaid};
 ghost use Rattle.keeper_at_path.specs.Looks.{AreFound, Looks};
 
-use crate::at_path::AtPath;
 use crate::keeper_in::KeeperIn;
+use crate::opens::Opens;
 use crate::puts::{PutDay, PutPast, PutTariff};
 use crate::reads::{AskedDay, AskedSpent, KeptTariffs, LastDay, Past, Rows, VehicleRows};
 use keeper::{DayRecord, KeepFault, Keeper, PastRecord};
 use road_time::{SpentRow, Tariff, Tariffs};
-use sqlite::FileStore;
 use sqlite_pages::Pages;
-use sqlite_pool::Pool;
-use sqlite_trees::store::Store;
 
-impl<D: AtPath> Keeper for KeeperIn<D> {
+impl<S: Opens<P>, P: Pages + Drop> Keeper for KeeperIn<S, P> {
     ghost use Rattle.std.specs.Prelude.{true};
     ghost use Rattle.keeper.specs.Calls.{AllOrNothing};
 
@@ -42,9 +40,9 @@ impl<D: AtPath> Keeper for KeeperIn<D> {
         ensures cause { CountsFaults self.old.faults self.new.faults result }
         ensures said { IsSaid result self.old.database.cause self.new.database.cause }
         ensures does { AskedToRead self.old.database.kept self.new.database.kept
-            (AreFound ⟦<Pool<D> as Pages>⟧) (Looks ⟦<Pool<D> as Pages>⟧)
-            (λ k. k.unmade ≢ Some NoMemory) (λ k. state ⟦<FileStore<D> as Store>⟧ k.conn)
-            (WasRefused ⟦<FileStore<D> as Store>⟧)
+            (AreFound P.Pages) (Looks P.Pages)
+            (λ k. k.unmade ≢ Some NoMemory) (λ k. state S.Store k.conn)
+            (WasRefused S.Store)
             (λ o last. last ≡ last_day_of o) result }
     {
         self.read(LastDay)
@@ -54,9 +52,9 @@ impl<D: AtPath> Keeper for KeeperIn<D> {
         ensures cause { CountsFaults self.old.faults self.new.faults result }
         ensures said { IsSaid result self.old.database.cause self.new.database.cause }
         ensures does { AskedToRead self.old.database.kept self.new.database.kept
-            (AreFound ⟦<Pool<D> as Pages>⟧) (Looks ⟦<Pool<D> as Pages>⟧)
-            (λ k. k.unmade ≢ Some NoMemory) (λ k. state ⟦<FileStore<D> as Store>⟧ k.conn)
-            (WasRefused ⟦<FileStore<D> as Store>⟧)
+            (AreFound P.Pages) (Looks P.Pages)
+            (λ k. k.unmade ≢ Some NoMemory) (λ k. state S.Store k.conn)
+            (WasRefused S.Store)
             (λ o kept. kept ≡ record_of o day) result }
     {
         self.read(AskedDay { day })
@@ -66,9 +64,9 @@ impl<D: AtPath> Keeper for KeeperIn<D> {
         ensures cause { CountsFaults self.old.faults self.new.faults result }
         ensures said { IsSaid result self.old.database.cause self.new.database.cause }
         ensures does { AskedToRead self.old.database.kept self.new.database.kept
-            (AreFound ⟦<Pool<D> as Pages>⟧) (Looks ⟦<Pool<D> as Pages>⟧)
-            (λ k. k.unmade ≢ Some NoMemory) (λ k. state ⟦<FileStore<D> as Store>⟧ k.conn)
-            (WasRefused ⟦<FileStore<D> as Store>⟧)
+            (AreFound P.Pages) (Looks P.Pages)
+            (λ k. k.unmade ≢ Some NoMemory) (λ k. state S.Store k.conn)
+            (WasRefused S.Store)
             (λ o past. past ≡ o.past) result }
     {
         self.read(Past)
@@ -78,9 +76,9 @@ impl<D: AtPath> Keeper for KeeperIn<D> {
         ensures cause { CountsFaults self.old.faults self.new.faults result }
         ensures said { IsSaid result self.old.database.cause self.new.database.cause }
         ensures does { AskedToRead self.old.database.kept self.new.database.kept
-            (AreFound ⟦<Pool<D> as Pages>⟧) (Looks ⟦<Pool<D> as Pages>⟧)
-            (λ k. k.unmade ≢ Some NoMemory) (λ k. state ⟦<FileStore<D> as Store>⟧ k.conn)
-            (WasRefused ⟦<FileStore<D> as Store>⟧)
+            (AreFound P.Pages) (Looks P.Pages)
+            (λ k. k.unmade ≢ Some NoMemory) (λ k. state S.Store k.conn)
+            (WasRefused S.Store)
             (λ o tolls. tolls ≡ paid o.rows day vid xway) result }
     {
         self.read(AskedSpent { day, vid, xway })
@@ -91,9 +89,9 @@ impl<D: AtPath> Keeper for KeeperIn<D> {
         ensures cause { CountsFaults self.old.faults self.new.faults result }
         ensures said { IsSaid result self.old.database.cause self.new.database.cause }
         ensures does { AskedToRead self.old.database.kept self.new.database.kept
-            (AreFound ⟦<Pool<D> as Pages>⟧) (Looks ⟦<Pool<D> as Pages>⟧)
-            (λ k. k.unmade ≢ Some NoMemory) (λ k. state ⟦<FileStore<D> as Store>⟧ k.conn)
-            (WasRefused ⟦<FileStore<D> as Store>⟧)
+            (AreFound P.Pages) (Looks P.Pages)
+            (λ k. k.unmade ≢ Some NoMemory) (λ k. state S.Store k.conn)
+            (WasRefused S.Store)
             (λ o rows. rows.items ≡ rows_between o from to) result }
     {
         self.read(Rows { from, to })
@@ -104,9 +102,9 @@ impl<D: AtPath> Keeper for KeeperIn<D> {
         ensures cause { CountsFaults self.old.faults self.new.faults result }
         ensures said { IsSaid result self.old.database.cause self.new.database.cause }
         ensures does { AskedToRead self.old.database.kept self.new.database.kept
-            (AreFound ⟦<Pool<D> as Pages>⟧) (Looks ⟦<Pool<D> as Pages>⟧)
-            (λ k. k.unmade ≢ Some NoMemory) (λ k. state ⟦<FileStore<D> as Store>⟧ k.conn)
-            (WasRefused ⟦<FileStore<D> as Store>⟧)
+            (AreFound P.Pages) (Looks P.Pages)
+            (λ k. k.unmade ≢ Some NoMemory) (λ k. state S.Store k.conn)
+            (WasRefused S.Store)
             (λ o rows. rows.items ≡ vehicle_rows_between o vid from to) result }
     {
         self.read(VehicleRows { vid, from, to })
@@ -116,9 +114,9 @@ impl<D: AtPath> Keeper for KeeperIn<D> {
         ensures cause { CountsFaults self.old.faults self.new.faults result }
         ensures said { IsSaid result self.old.database.cause self.new.database.cause }
         ensures does { AskedToRead self.old.database.kept self.new.database.kept
-            (AreFound ⟦<Pool<D> as Pages>⟧) (Looks ⟦<Pool<D> as Pages>⟧)
-            (λ k. k.unmade ≢ Some NoMemory) (λ k. state ⟦<FileStore<D> as Store>⟧ k.conn)
-            (WasRefused ⟦<FileStore<D> as Store>⟧)
+            (AreFound P.Pages) (Looks P.Pages)
+            (λ k. k.unmade ≢ Some NoMemory) (λ k. state S.Store k.conn)
+            (WasRefused S.Store)
             (λ o tariffs. tariffs ≡ o.tariffs) result }
     {
         self.read(KeptTariffs)
@@ -130,8 +128,9 @@ impl<D: AtPath> Keeper for KeeperIn<D> {
         ensures cause { CountsFaults self.old.faults self.new.faults result }
         ensures said { IsSaid result self.old.database.cause self.new.database.cause }
         ensures does { AskedToPut self.old.database.kept self.new.database.kept
-            (λ k. k.unmade ≢ Some NoMemory) (λ k. state ⟦<FileStore<D> as Store>⟧ k.conn)
-            (WasRefused ⟦<FileStore<D> as Store>⟧)
+            (λ k. k.unmade ≢ Some NoMemory) (AreFound P.Pages)
+            (Stores S.Store (IsLater kept.now.day) (with_day kept.now rows.now))
+            (λ k. state S.Store k.conn) (WasRefused S.Store)
             (IsLater kept.now.day) (with_day kept.now rows.now) result }
     {
         self.put(PutDay { kept, rows })
@@ -143,8 +142,9 @@ impl<D: AtPath> Keeper for KeeperIn<D> {
         ensures cause { CountsFaults self.old.faults self.new.faults result }
         ensures said { IsSaid result self.old.database.cause self.new.database.cause }
         ensures does { AskedToPut self.old.database.kept self.new.database.kept
-            (λ k. k.unmade ≢ Some NoMemory) (λ k. state ⟦<FileStore<D> as Store>⟧ k.conn)
-            (WasRefused ⟦<FileStore<D> as Store>⟧)
+            (λ k. k.unmade ≢ Some NoMemory) (AreFound P.Pages)
+            (Stores S.Store HasNoDays (with_past kept.now rows.now))
+            (λ k. state S.Store k.conn) (WasRefused S.Store)
             HasNoDays (with_past kept.now rows.now) result }
     {
         self.put(PutPast { kept, rows })
@@ -155,8 +155,9 @@ impl<D: AtPath> Keeper for KeeperIn<D> {
         ensures cause { CountsFaults self.old.faults self.new.faults result }
         ensures said { IsSaid result self.old.database.cause self.new.database.cause }
         ensures does { AskedToPut self.old.database.kept self.new.database.kept
-            (λ k. k.unmade ≢ Some NoMemory) (λ k. state ⟦<FileStore<D> as Store>⟧ k.conn)
-            (WasRefused ⟦<FileStore<D> as Store>⟧)
+            (λ k. k.unmade ≢ Some NoMemory) (AreFound P.Pages)
+            (Stores S.Store FitsAny (with_tariff_of xway tariff.now))
+            (λ k. state S.Store k.conn) (WasRefused S.Store)
             FitsAny (with_tariff_of xway tariff.now) result }
     {
         self.put(PutTariff { xway, tariff })

@@ -4,35 +4,34 @@ ghost use Rattle.sqlite.specs.Held.{state};
 ghost use Rattle.keeper.specs.Calls.{CountsFaults};
 ghost use Rattle.keeper.specs.declared.kept.KeepFault.TheVariants.{NoMemory as no_memory};
 ghost use Rattle.keeper_writes.specs.Causes.{WasRefused};
+ghost use Rattle.tree_puts.specs.Stores.{Stores};
 ghost use Rattle.keeper_at_path.specs.Asked.{AskedToRead, AskedToPut};
 ghost use Rattle.keeper_at_path.specs.Causes.{IsSaid};
 ghost use Rattle.keeper_at_path.specs.Looks.{AreFound, Looks};
 
-use crate::at_path::AtPath;
 use crate::call::{Putting, Reading};
 use crate::cause::Cause;
 use crate::database::Database;
 use crate::kept::Kept;
+use crate::opens::Opens;
 use keeper::KeepFault;
 use keeper_writes::refusals::count;
 use road_time::NoMemory;
-use sqlite::{Connection, FileStore};
+use sqlite::Connection;
 use sqlite_pages::Pages;
-use sqlite_pool::Pool;
-use sqlite_trees::store::Store;
 use std::alloc::Global;
 use std::rt::HostRuntime;
 
 /// A database that counts the calls that failed.
 #[derive(Drop)]
-pub struct KeeperIn<D: AtPath> {
-    database: Database<D>,
+pub struct KeeperIn<S: Opens<P>, P: Pages + Drop> {
+    database: Database<S, P>,
     faults: u64,
 }
 
-impl<D: AtPath> KeeperIn<D> {
+impl<S: Opens<P>, P: Pages + Drop> KeeperIn<S, P> {
     /// The keeper in the file at a path.
-    pub fn at(alloc: Global, rt: HostRuntime, path: &str) -> Result<KeeperIn<D>, NoMemory>
+    pub fn at(alloc: Global, rt: HostRuntime, path: &str) -> Result<KeeperIn<S, P>, NoMemory>
         ensures faultless { IfOk result (λ keeper. keeper.faults ≡ 0) }
         ensures quiet { IfOk result (λ keeper. keeper.database.cause ≡ None) }
     {
@@ -44,7 +43,7 @@ impl<D: AtPath> KeeperIn<D> {
     }
 
     /// The pages or the connection, if the database is open.
-    pub fn give_up(self) -> Option<Kept<Pool<D>, Connection<FileStore<D>>>> {
+    pub fn give_up(self) -> Option<Kept<P, Connection<S>>> {
         let KeeperIn {
             database,
             faults: _,
@@ -63,9 +62,9 @@ impl<D: AtPath> KeeperIn<D> {
     pub fn read<C: Reading + Drop>(&mut self, call: C) -> Result<C::Answer, KeepFault>
         ensures answers { IfOk result C.answers }
         ensures does { AskedToRead self.old.database.kept self.new.database.kept
-            (AreFound ⟦<Pool<D> as Pages>⟧) (Looks ⟦<Pool<D> as Pages>⟧)
-            (λ k. k.unmade ≢ Some no_memory) (λ k. state ⟦<FileStore<D> as Store>⟧ k.conn)
-            (WasRefused ⟦<FileStore<D> as Store>⟧) (C.gives call) result }
+            (AreFound P.Pages) (Looks P.Pages)
+            (λ k. k.unmade ≢ Some no_memory) (λ k. state S.Store k.conn)
+            (WasRefused S.Store) (C.gives call) result }
         ensures cause { CountsFaults self.old.faults self.new.faults result }
         ensures said { IsSaid result self.old.database.cause self.new.database.cause }
     {
@@ -76,8 +75,10 @@ impl<D: AtPath> KeeperIn<D> {
     /// Makes a call that puts, and counts it where it failed.
     pub fn put<C: Putting + Drop>(&mut self, call: C) -> Result<(), KeepFault>
         requires { C.fits call }
-        ensures does { AskedToPut self.old.database.kept self.new.database.kept (λ k. k.unmade ≢ Some no_memory)
-            (λ k. state ⟦<FileStore<D> as Store>⟧ k.conn) (WasRefused ⟦<FileStore<D> as Store>⟧)
+        ensures does { AskedToPut self.old.database.kept self.new.database.kept
+            (λ k. k.unmade ≢ Some no_memory) (AreFound P.Pages)
+            (Stores S.Store (C.asks call) (C.next call))
+            (λ k. state S.Store k.conn) (WasRefused S.Store)
             (C.asks call) (C.next call) result }
         ensures cause { CountsFaults self.old.faults self.new.faults result }
         ensures said { IsSaid result self.old.database.cause self.new.database.cause }

@@ -1,20 +1,24 @@
 //! A keeper in a database that is opened by the path of its file, over any files that a path opens.
 //!
 //! `KeeperIn` opens its database at the first call, and anew after a call that failed. A call that reads is made of the
-//! trees of the file, where that lists exactly our tables: no more is read than the answer needs. A call that puts is
-//! made by a `ProvedKeeper` on a connection, which reads and checks the file whole; it takes the files over from the
-//! trees, and is held from then on. A file that is not exactly ours is opened whole. Each call is a value, a `Reading`
-//! or a `Putting`. What the file holds is another hand's until it is read: it tells nothing of it.
-//! Where a call fails, `cause` says why.
+//! trees of the file, where that lists exactly our tables: no more is read than the answer needs. A call that puts takes
+//! the file over from the trees and is made of its store, in one commit, where each page and tree is sound; the trees are
+//! held again then. What does not fit the trees, and a file that is not exactly ours, is left to a `ProvedKeeper` on a
+//! connection, which reads and checks the file whole and is held from then on. Each call is a value, a `Reading` or a
+//! `Putting`. What the file holds is another hand's until it is read: it tells nothing of it. Where a call fails,
+//! `cause` says why. `FileKeeper` is the same over a store of files, which its callers do not see.
 #![tactic(auto)]
 
 mod at_path;
 mod call;
 mod cause;
 mod database;
+mod file_keeper;
 mod keeper_calls;
 mod keeper_in;
 mod kept;
+mod objects;
+mod opens;
 mod page_files;
 mod puts;
 mod reads;
@@ -24,8 +28,10 @@ mod whys;
 pub use at_path::{AtPath, KeptDisk, KeptPages, KeptStore};
 pub use call::{Putting, Reading};
 pub use cause::{Cause, cause_of, fault_of};
+pub use file_keeper::FileKeeper;
 pub use keeper_in::KeeperIn;
 pub use kept::Kept;
+pub use opens::Opens;
 pub use page_files::{open_to_read, open_whole, shut};
 pub use puts::{PutDay, PutPast, PutTariff};
 pub use reads::{AskedDay, AskedSpent, KeptTariffs, LastDay, Past, Rows, VehicleRows};

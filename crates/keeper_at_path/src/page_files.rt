@@ -1,16 +1,19 @@
 // The two files of a database: by their trees where they are exactly ours, or whole.
-ghost use Rattle.std.specs.Prelude.{IsTrue, IfOk};
+ghost use Rattle.std.specs.Prelude.{IsTrue, IfOk, IfSome};
 ghost use Rattle.sqlite_pool.specs.Opening.{AreUsable};
+ghost use Rattle.sqlite_store.specs.Unopened.{AreUsable as MayOpen};
 ghost use Rattle.keeper_at_path.specs.Looks.{AreFound, FindsTrees};
 
 use crate::at_path::AtPath;
 use crate::cause::{Cause, cause_of};
 use crate::kept::Kept;
+use crate::objects::our_objects;
 use sqlite::{Connection, FileStore, Files, Options};
 use sqlite_disk::Disk;
 use sqlite_pager::Pager;
 use sqlite_pages::{Error as PageError, Pages};
 use sqlite_pool::Pool;
+use sqlite_store::Unopened;
 use sqlite_wal::{PageSize, probe_first_page, probe_page_size};
 use std::alloc::Global;
 use std::hash::{BuildHasher, RandomState};
@@ -136,7 +139,7 @@ pub fn shut<D: Disk + Drop>(mut pool: Pool<D>) -> Result<(), Cause> {
 }
 
 /// A random number.
-fn seed(rt: &HostRuntime) -> Result<u64, Cause> {
+pub fn seeded(rt: &HostRuntime) -> Result<u64, Cause> {
     match RandomState::new(rt) {
         Ok(random) => Ok(random.hash_one(&0u8)),
         Err(_) => Err(Cause::Unopened),
@@ -148,18 +151,84 @@ pub fn open_whole<D: AtPath>(
     rt: &HostRuntime,
     path: &str,
 ) -> Result<Connection<FileStore<D>>, Cause> {
-    let seed = seed(rt)?;
+    let seed = seeded(rt)?;
     let files = D::open(rt, path)?;
     connected(rt, files, seed)
 }
 
-/// The file of some pages, whole. Nobody else opens it in between.
-pub fn make_whole<D: AtPath>(
+/// The files of a store that is not open yet, of which nothing is read.
+fn unopened_over<D: Disk + Drop>(
+    alloc: Global,
+    files: Files<D>,
+    size: PageSize,
+    seed: u64,
+) -> Result<Unopened<D>, Files<D>>
+    requires log { IsTrue (D.Disk.is_usable files.log) }
+    requires db { IsTrue (D.Disk.is_usable files.db) }
+    ensures { IfOk result MayOpen }
+{
+    let pager = match Pager::new(alloc, files, size, Options::new(seed)) {
+        Ok(pager) => pager,
+        Err(failed) => return Err(failed.value),
+    };
+    match Unopened::new(alloc, pager, &our_objects()) {
+        Ok(unopened) => Ok(unopened),
+        Err(failed) => Err(failed.value.close()),
+    }
+}
+
+/// The store of files whose pages and trees are sound and ours. Other files are given back.
+fn checked<D: Disk + Drop>(
+    alloc: Global,
+    mut files: Files<D>,
+    seed: u64,
+) -> Result<FileStore<D>, Files<D>> {
+    if !files.may_be_used() {
+        return Err(files);
+    }
+    let Some(size) = our_page_size(alloc, &mut files) else {
+        return Err(files);
+    };
+    let unopened = match unopened_over(alloc, files, size, seed) {
+        Ok(unopened) => unopened,
+        Err(files) => return Err(files),
+    };
+    match unopened.open() {
+        Ok(store) => Ok(store),
+        Err((_, unopened)) => Err(unopened.close()),
+    }
+}
+
+/// The store of files, or a connection over them where it cannot be had.
+pub fn stored<D: Disk + Drop>(
     rt: &HostRuntime,
-    pool: Pool<D>,
-) -> Result<Connection<FileStore<D>>, Cause> {
-    let seed = seed(rt)?;
-    connected(rt, pool.close(), seed)
+    files: Files<D>,
+) -> Result<Kept<FileStore<D>, Connection<FileStore<D>>>, Cause> {
+    let seed = seeded(rt)?;
+    let files = match checked(rt.alloc(), files, seed) {
+        Ok(store) => return Ok(Kept::Trees(store)),
+        Err(files) => files,
+    };
+    match connected(rt, files, seed) {
+        Ok(conn) => Ok(Kept::Whole(conn)),
+        Err(cause) => Err(cause),
+    }
+}
+
+/// The trees of files that a store gave back, if they are exactly ours. Else the files are let go.
+pub fn listed_again<D: Disk + Drop>(rt: &HostRuntime, files: Files<D>) -> Option<PageTrees<Pool<D>>>
+    ensures { IfSome result (AreFound ⟦<Pool<D> as Pages>⟧) }
+{
+    if !files.may_be_used() {
+        return None;
+    }
+    let Ok(seed) = seeded(rt) else {
+        return None;
+    };
+    match trees_of(rt.alloc(), files, seed) {
+        Ok(trees) => Some(trees),
+        Err(_) => None,
+    }
 }
 
 /// The trees of the file at a path where it is exactly ours, or else the file whole.
@@ -169,7 +238,7 @@ pub fn open_to_read<D: AtPath>(
 ) -> Result<Kept<PageTrees<Pool<D>>, Connection<FileStore<D>>>, Cause>
     ensures { IfOk result (FindsTrees ⟦<Pool<D> as Pages>⟧) }
 {
-    let Ok(seed) = seed(rt) else {
+    let Ok(seed) = seeded(rt) else {
         return Err(Cause::Unopened);
     };
     let files = match D::open(rt, path) {

@@ -4,6 +4,9 @@ use crate::shuts::Shuts;
 use keeper::{DayRecord, KeepFault, Keeper, PastRecord};
 use keeper_proof::ProvedKeeper;
 use road_time::{SpentRow, Tariff};
+use sqlite_trees::error::StoreError;
+use sqlite_trees::store::Store;
+use std::alloc::Global;
 
 /// Puts a day.
 #[derive(Clone, Copy)]
@@ -20,6 +23,10 @@ impl<'a> Putting for PutDay<'a> {
     ghost asks = { λ put. IsLater put.kept.now.day };
 
     ghost next = { λ put. with_day put.kept.now put.rows.now };
+
+    fn store<S: Store>(&self, alloc: Global, store: &mut S) -> Result<bool, StoreError> {
+        tree_puts::put_day(store, alloc, self.kept, self.rows)
+    }
 
     fn put<S: Shuts>(self, kept: &mut ProvedKeeper<S>) -> Result<(), KeepFault> {
         kept.put_day(self.kept, self.rows)
@@ -41,6 +48,10 @@ impl<'a> Putting for PutPast<'a> {
     ghost asks = { λ put. HasNoDays };
 
     ghost next = { λ put. with_past put.kept.now put.rows.now };
+
+    fn store<S: Store>(&self, alloc: Global, store: &mut S) -> Result<bool, StoreError> {
+        tree_puts::put_past(store, alloc, self.kept, self.rows)
+    }
 
     fn put<S: Shuts>(self, kept: &mut ProvedKeeper<S>) -> Result<(), KeepFault> {
         kept.put_past(self.kept, self.rows)
@@ -64,6 +75,10 @@ impl<'a> Putting for PutTariff<'a> {
     ghost asks = { λ put. FitsAny };
 
     ghost next = { λ put. with_tariff_of put.xway put.tariff.now };
+
+    fn store<S: Store>(&self, alloc: Global, store: &mut S) -> Result<bool, StoreError> {
+        tree_puts::put_tariff(store, alloc, self.xway, self.tariff)
+    }
 
     fn put<S: Shuts>(self, kept: &mut ProvedKeeper<S>) -> Result<(), KeepFault> {
         kept.put_tariff(self.xway, self.tariff)

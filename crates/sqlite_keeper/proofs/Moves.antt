@@ -11,7 +11,7 @@ use Rattle.sqlite.below.sqlite_disk.specs.contracts.start.WaryStart.TheImpl as W
 use Rattle.sqlite.below.sqlite_disk.specs.contracts.modelled.Modelled as Modelled
 use Rattle.sqlite.below.sqlite_disk.specs.contracts.modelled.ModelledDisk.TheImpl as ModelledDisk
 use Rattle.sqlite.below.sqlite_disk.proofs.modelled.Modelled.TheSendSync as ModelledMoves
-use Rattle.keeper_at_path.proofs.keeper_in.KeeperIn.TheSendSync as KeeperInMoves
+use Rattle.keeper_at_path.proofs.file_keeper.FileKeeper.TheSendSync as FileKeeperMoves
 use Rattle.sqlite_keeper.specs.contracts.kept_file.SqliteKeeper.{the_row, the_type}
 
 -- a file of the machine may move
@@ -28,7 +28,7 @@ keeper_moves =
     let disk = ModelledDisk.ghosts Host.the_row Wary.the_row HostCalls.ghosts ModelledDisk.no_dict
     WaryStart.ghosts ModelledDisk.no_dict ModelledDisk.no_dict in
     declared_send the_type (
-      KeeperInMoves.the_send file disk
+      FileKeeperMoves.the_send file disk
           (ModelledMoves.the_send Host.the_row Wary.the_row HostCalls.ghosts WaryStart.ghosts host_moves),
       tt,
     )

@@ -9,6 +9,7 @@ ghost use Rattle.keeper.specs.Calls.{CountsFaults, IfTold};
 ghost use Rattle.keeper.specs.declared.kept.KeepFault.TheVariants.{NoMemory};
 ghost use Rattle.kept_tables.specs.Steps.{FitsAny};
 ghost use Rattle.keeper_writes.specs.Causes.{WasRefused};
+ghost use Rattle.tree_puts.specs.Stores.{Stores};
 ghost use Rattle.keeper_at_path.specs.Asked.{AskedToRead, AskedToPut};
 ghost use Rattle.keeper_at_path.specs.Causes.{IsSaid};
 ghost use Rattle.keeper_at_path.specs.Looks.{AreFound, Looks};
@@ -29,7 +30,7 @@ impl Keeper for SqliteKeeper {
 
     ghost told = { λ k. None };
 
-    ghost faults = { λ k. k.in_file.faults };
+    ghost faults = { λ k. k.in_file.in_file.faults };
 
     ghost plan = { λ k. None };
 
@@ -38,9 +39,9 @@ impl Keeper for SqliteKeeper {
     ghost needs_memory = { true };
 
     fn last_day(&mut self) -> Result<u32, KeepFault>
-        ensures cause { CountsFaults self.old.in_file.faults self.new.in_file.faults result }
-        ensures said { IsSaid result self.old.in_file.database.cause self.new.in_file.database.cause }
-        ensures does { AskedToRead self.old.in_file.database.kept self.new.in_file.database.kept
+        ensures cause { CountsFaults self.old.in_file.in_file.faults self.new.in_file.in_file.faults result }
+        ensures said { IsSaid result self.old.in_file.in_file.database.cause self.new.in_file.in_file.database.cause }
+        ensures does { AskedToRead self.old.in_file.in_file.database.kept self.new.in_file.in_file.database.kept
             (AreFound ⟦<KeptPages as Pages>⟧) (Looks ⟦<KeptPages as Pages>⟧)
             (λ k. k.unmade ≢ Some NoMemory) (λ k. state ⟦<KeptStore as Store>⟧ k.conn)
             (WasRefused ⟦<KeptStore as Store>⟧)
@@ -50,9 +51,9 @@ impl Keeper for SqliteKeeper {
     }
 
     fn day(&mut self, day: u32) -> Result<Option<DayRecord>, KeepFault>
-        ensures cause { CountsFaults self.old.in_file.faults self.new.in_file.faults result }
-        ensures said { IsSaid result self.old.in_file.database.cause self.new.in_file.database.cause }
-        ensures does { AskedToRead self.old.in_file.database.kept self.new.in_file.database.kept
+        ensures cause { CountsFaults self.old.in_file.in_file.faults self.new.in_file.in_file.faults result }
+        ensures said { IsSaid result self.old.in_file.in_file.database.cause self.new.in_file.in_file.database.cause }
+        ensures does { AskedToRead self.old.in_file.in_file.database.kept self.new.in_file.in_file.database.kept
             (AreFound ⟦<KeptPages as Pages>⟧) (Looks ⟦<KeptPages as Pages>⟧)
             (λ k. k.unmade ≢ Some NoMemory) (λ k. state ⟦<KeptStore as Store>⟧ k.conn)
             (WasRefused ⟦<KeptStore as Store>⟧)
@@ -62,9 +63,9 @@ impl Keeper for SqliteKeeper {
     }
 
     fn past(&mut self) -> Result<Option<PastRecord>, KeepFault>
-        ensures cause { CountsFaults self.old.in_file.faults self.new.in_file.faults result }
-        ensures said { IsSaid result self.old.in_file.database.cause self.new.in_file.database.cause }
-        ensures does { AskedToRead self.old.in_file.database.kept self.new.in_file.database.kept
+        ensures cause { CountsFaults self.old.in_file.in_file.faults self.new.in_file.in_file.faults result }
+        ensures said { IsSaid result self.old.in_file.in_file.database.cause self.new.in_file.in_file.database.cause }
+        ensures does { AskedToRead self.old.in_file.in_file.database.kept self.new.in_file.in_file.database.kept
             (AreFound ⟦<KeptPages as Pages>⟧) (Looks ⟦<KeptPages as Pages>⟧)
             (λ k. k.unmade ≢ Some NoMemory) (λ k. state ⟦<KeptStore as Store>⟧ k.conn)
             (WasRefused ⟦<KeptStore as Store>⟧)
@@ -74,9 +75,9 @@ impl Keeper for SqliteKeeper {
     }
 
     fn spent(&mut self, day: u32, vid: u32, xway: u8) -> Result<u64, KeepFault>
-        ensures cause { CountsFaults self.old.in_file.faults self.new.in_file.faults result }
-        ensures said { IsSaid result self.old.in_file.database.cause self.new.in_file.database.cause }
-        ensures does { AskedToRead self.old.in_file.database.kept self.new.in_file.database.kept
+        ensures cause { CountsFaults self.old.in_file.in_file.faults self.new.in_file.in_file.faults result }
+        ensures said { IsSaid result self.old.in_file.in_file.database.cause self.new.in_file.in_file.database.cause }
+        ensures does { AskedToRead self.old.in_file.in_file.database.kept self.new.in_file.in_file.database.kept
             (AreFound ⟦<KeptPages as Pages>⟧) (Looks ⟦<KeptPages as Pages>⟧)
             (λ k. k.unmade ≢ Some NoMemory) (λ k. state ⟦<KeptStore as Store>⟧ k.conn)
             (WasRefused ⟦<KeptStore as Store>⟧)
@@ -87,9 +88,9 @@ impl Keeper for SqliteKeeper {
 
     fn rows(&mut self, from: u32, to: u32) -> Result<Vec<SpentRow>, KeepFault>
         ensures rise { IfOk result (λ rows. RowsRise rows.items) }
-        ensures cause { CountsFaults self.old.in_file.faults self.new.in_file.faults result }
-        ensures said { IsSaid result self.old.in_file.database.cause self.new.in_file.database.cause }
-        ensures does { AskedToRead self.old.in_file.database.kept self.new.in_file.database.kept
+        ensures cause { CountsFaults self.old.in_file.in_file.faults self.new.in_file.in_file.faults result }
+        ensures said { IsSaid result self.old.in_file.in_file.database.cause self.new.in_file.in_file.database.cause }
+        ensures does { AskedToRead self.old.in_file.in_file.database.kept self.new.in_file.in_file.database.kept
             (AreFound ⟦<KeptPages as Pages>⟧) (Looks ⟦<KeptPages as Pages>⟧)
             (λ k. k.unmade ≢ Some NoMemory) (λ k. state ⟦<KeptStore as Store>⟧ k.conn)
             (WasRefused ⟦<KeptStore as Store>⟧)
@@ -100,9 +101,9 @@ impl Keeper for SqliteKeeper {
 
     fn vehicle_rows(&mut self, vid: u32, from: u32, to: u32) -> Result<Vec<SpentRow>, KeepFault>
         ensures rise { IfOk result (λ rows. RowsRise rows.items) }
-        ensures cause { CountsFaults self.old.in_file.faults self.new.in_file.faults result }
-        ensures said { IsSaid result self.old.in_file.database.cause self.new.in_file.database.cause }
-        ensures does { AskedToRead self.old.in_file.database.kept self.new.in_file.database.kept
+        ensures cause { CountsFaults self.old.in_file.in_file.faults self.new.in_file.in_file.faults result }
+        ensures said { IsSaid result self.old.in_file.in_file.database.cause self.new.in_file.in_file.database.cause }
+        ensures does { AskedToRead self.old.in_file.in_file.database.kept self.new.in_file.in_file.database.kept
             (AreFound ⟦<KeptPages as Pages>⟧) (Looks ⟦<KeptPages as Pages>⟧)
             (λ k. k.unmade ≢ Some NoMemory) (λ k. state ⟦<KeptStore as Store>⟧ k.conn)
             (WasRefused ⟦<KeptStore as Store>⟧)
@@ -112,9 +113,9 @@ impl Keeper for SqliteKeeper {
     }
 
     fn tariffs(&mut self) -> Result<Tariffs, KeepFault>
-        ensures cause { CountsFaults self.old.in_file.faults self.new.in_file.faults result }
-        ensures said { IsSaid result self.old.in_file.database.cause self.new.in_file.database.cause }
-        ensures does { AskedToRead self.old.in_file.database.kept self.new.in_file.database.kept
+        ensures cause { CountsFaults self.old.in_file.in_file.faults self.new.in_file.in_file.faults result }
+        ensures said { IsSaid result self.old.in_file.in_file.database.cause self.new.in_file.in_file.database.cause }
+        ensures does { AskedToRead self.old.in_file.in_file.database.kept self.new.in_file.in_file.database.kept
             (AreFound ⟦<KeptPages as Pages>⟧) (Looks ⟦<KeptPages as Pages>⟧)
             (λ k. k.unmade ≢ Some NoMemory) (λ k. state ⟦<KeptStore as Store>⟧ k.conn)
             (WasRefused ⟦<KeptStore as Store>⟧)
@@ -126,11 +127,12 @@ impl Keeper for SqliteKeeper {
     fn put_day(&mut self, kept: &DayRecord, rows: &[SpentRow]) -> Result<(), KeepFault>
         requires fits { IsDayPut kept.now rows.now }
         requires later { IfTold None (λ o. IsLater kept.now.day o) }
-        ensures cause { CountsFaults self.old.in_file.faults self.new.in_file.faults result }
-        ensures said { IsSaid result self.old.in_file.database.cause self.new.in_file.database.cause }
-        ensures does { AskedToPut self.old.in_file.database.kept self.new.in_file.database.kept
-            (λ k. k.unmade ≢ Some NoMemory) (λ k. state ⟦<KeptStore as Store>⟧ k.conn)
-            (WasRefused ⟦<KeptStore as Store>⟧)
+        ensures cause { CountsFaults self.old.in_file.in_file.faults self.new.in_file.in_file.faults result }
+        ensures said { IsSaid result self.old.in_file.in_file.database.cause self.new.in_file.in_file.database.cause }
+        ensures does { AskedToPut self.old.in_file.in_file.database.kept self.new.in_file.in_file.database.kept
+            (λ k. k.unmade ≢ Some NoMemory) (AreFound ⟦<KeptPages as Pages>⟧)
+            (Stores ⟦<KeptStore as Store>⟧ (IsLater kept.now.day) (with_day kept.now rows.now))
+            (λ k. state ⟦<KeptStore as Store>⟧ k.conn) (WasRefused ⟦<KeptStore as Store>⟧)
             (IsLater kept.now.day) (with_day kept.now rows.now) result }
     {
         self.put(PutDay { kept, rows })
@@ -139,11 +141,12 @@ impl Keeper for SqliteKeeper {
     fn put_past(&mut self, kept: &PastRecord, rows: &[SpentRow]) -> Result<(), KeepFault>
         requires fits { IsPastPut kept.now rows.now }
         requires first { IfTold None HasNoDays }
-        ensures cause { CountsFaults self.old.in_file.faults self.new.in_file.faults result }
-        ensures said { IsSaid result self.old.in_file.database.cause self.new.in_file.database.cause }
-        ensures does { AskedToPut self.old.in_file.database.kept self.new.in_file.database.kept
-            (λ k. k.unmade ≢ Some NoMemory) (λ k. state ⟦<KeptStore as Store>⟧ k.conn)
-            (WasRefused ⟦<KeptStore as Store>⟧)
+        ensures cause { CountsFaults self.old.in_file.in_file.faults self.new.in_file.in_file.faults result }
+        ensures said { IsSaid result self.old.in_file.in_file.database.cause self.new.in_file.in_file.database.cause }
+        ensures does { AskedToPut self.old.in_file.in_file.database.kept self.new.in_file.in_file.database.kept
+            (λ k. k.unmade ≢ Some NoMemory) (AreFound ⟦<KeptPages as Pages>⟧)
+            (Stores ⟦<KeptStore as Store>⟧ HasNoDays (with_past kept.now rows.now))
+            (λ k. state ⟦<KeptStore as Store>⟧ k.conn) (WasRefused ⟦<KeptStore as Store>⟧)
             HasNoDays (with_past kept.now rows.now) result }
     {
         self.put(PutPast { kept, rows })
@@ -151,11 +154,12 @@ impl Keeper for SqliteKeeper {
 
     fn put_tariff(&mut self, xway: u8, tariff: &Tariff) -> Result<(), KeepFault>
         requires valid { IsTariff tariff.now }
-        ensures cause { CountsFaults self.old.in_file.faults self.new.in_file.faults result }
-        ensures said { IsSaid result self.old.in_file.database.cause self.new.in_file.database.cause }
-        ensures does { AskedToPut self.old.in_file.database.kept self.new.in_file.database.kept
-            (λ k. k.unmade ≢ Some NoMemory) (λ k. state ⟦<KeptStore as Store>⟧ k.conn)
-            (WasRefused ⟦<KeptStore as Store>⟧)
+        ensures cause { CountsFaults self.old.in_file.in_file.faults self.new.in_file.in_file.faults result }
+        ensures said { IsSaid result self.old.in_file.in_file.database.cause self.new.in_file.in_file.database.cause }
+        ensures does { AskedToPut self.old.in_file.in_file.database.kept self.new.in_file.in_file.database.kept
+            (λ k. k.unmade ≢ Some NoMemory) (AreFound ⟦<KeptPages as Pages>⟧)
+            (Stores ⟦<KeptStore as Store>⟧ FitsAny (with_tariff_of xway tariff.now))
+            (λ k. state ⟦<KeptStore as Store>⟧ k.conn) (WasRefused ⟦<KeptStore as Store>⟧)
             FitsAny (with_tariff_of xway tariff.now) result }
     {
         self.put(PutTariff { xway, tariff })

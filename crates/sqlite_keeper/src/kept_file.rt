@@ -4,13 +4,14 @@ ghost use Rattle.sqlite.specs.Held.{state};
 ghost use Rattle.keeper.specs.Calls.{CountsFaults};
 ghost use Rattle.keeper.specs.declared.kept.KeepFault.TheVariants.{NoMemory as no_memory};
 ghost use Rattle.keeper_writes.specs.Causes.{WasRefused};
+ghost use Rattle.tree_puts.specs.Stores.{Stores};
 ghost use Rattle.keeper_at_path.specs.Asked.{AskedToRead, AskedToPut};
 ghost use Rattle.keeper_at_path.specs.Causes.{IsSaid};
 ghost use Rattle.keeper_at_path.specs.Looks.{AreFound, Looks};
 
 use keeper::KeepFault;
 use keeper_at_path::{
-    Cause, KeeperIn, Kept, KeptDisk, KeptPages, KeptStore, Putting, Reading, cause_of, fault_of,
+    Cause, FileKeeper, Kept, KeptDisk, KeptPages, KeptStore, Putting, Reading, cause_of, fault_of,
     shut as shut_pages,
 };
 use road_time::NoMemory;
@@ -28,22 +29,22 @@ pub const KEPT_FILE: &str = "tolls.db";
 /// database behind it.
 #[derive(Drop)]
 pub struct SqliteKeeper {
-    in_file: KeeperIn<KeptDisk>,
+    in_file: FileKeeper<KeptDisk>,
 }
 
 impl SqliteKeeper {
     /// The keeper in the file at a path.
     pub fn at(alloc: Global, rt: HostRuntime, path: &str) -> Result<SqliteKeeper, NoMemory>
-        ensures faultless { IfOk result (λ keeper. keeper.in_file.faults ≡ 0) }
-        ensures quiet { IfOk result (λ keeper. keeper.in_file.database.cause ≡ None) }
+        ensures faultless { IfOk result (λ keeper. keeper.in_file.in_file.faults ≡ 0) }
+        ensures quiet { IfOk result (λ keeper. keeper.in_file.in_file.database.cause ≡ None) }
     {
-        let in_file = KeeperIn::at(alloc, rt, path)?;
+        let in_file = FileKeeper::at(alloc, rt, path)?;
         Ok(SqliteKeeper { in_file })
     }
 
     /// Why the last call failed that did, none while none failed.
     pub fn cause(&self) -> Option<Cause>
-        ensures { result ≡ self.now.in_file.database.cause }
+        ensures { result ≡ self.now.in_file.in_file.database.cause }
     {
         self.in_file.cause()
     }
@@ -70,12 +71,12 @@ impl SqliteKeeper {
     /// Makes a call that reads. It and `put` alone hand calls on to the store of files, which a check takes longest at.
     pub(crate) fn read<C: Reading + Drop>(&mut self, call: C) -> Result<C::Answer, KeepFault>
         ensures answers { IfOk result C.answers }
-        ensures does { AskedToRead self.old.in_file.database.kept self.new.in_file.database.kept
+        ensures does { AskedToRead self.old.in_file.in_file.database.kept self.new.in_file.in_file.database.kept
             (AreFound ⟦<KeptPages as Pages>⟧) (Looks ⟦<KeptPages as Pages>⟧)
             (λ k. k.unmade ≢ Some no_memory) (λ k. state ⟦<KeptStore as Store>⟧ k.conn)
             (WasRefused ⟦<KeptStore as Store>⟧) (C.gives call) result }
-        ensures cause { CountsFaults self.old.in_file.faults self.new.in_file.faults result }
-        ensures said { IsSaid result self.old.in_file.database.cause self.new.in_file.database.cause }
+        ensures cause { CountsFaults self.old.in_file.in_file.faults self.new.in_file.in_file.faults result }
+        ensures said { IsSaid result self.old.in_file.in_file.database.cause self.new.in_file.in_file.database.cause }
     {
         self.in_file.read(call)
     }
@@ -83,11 +84,13 @@ impl SqliteKeeper {
     /// Makes a call that puts.
     pub(crate) fn put<C: Putting + Drop>(&mut self, call: C) -> Result<(), KeepFault>
         requires { C.fits call }
-        ensures does { AskedToPut self.old.in_file.database.kept self.new.in_file.database.kept
-            (λ k. k.unmade ≢ Some no_memory) (λ k. state ⟦<KeptStore as Store>⟧ k.conn)
-            (WasRefused ⟦<KeptStore as Store>⟧) (C.asks call) (C.next call) result }
-        ensures cause { CountsFaults self.old.in_file.faults self.new.in_file.faults result }
-        ensures said { IsSaid result self.old.in_file.database.cause self.new.in_file.database.cause }
+        ensures does { AskedToPut self.old.in_file.in_file.database.kept self.new.in_file.in_file.database.kept
+            (λ k. k.unmade ≢ Some no_memory) (AreFound ⟦<KeptPages as Pages>⟧)
+            (Stores ⟦<KeptStore as Store>⟧ (C.asks call) (C.next call))
+            (λ k. state ⟦<KeptStore as Store>⟧ k.conn) (WasRefused ⟦<KeptStore as Store>⟧)
+            (C.asks call) (C.next call) result }
+        ensures cause { CountsFaults self.old.in_file.in_file.faults self.new.in_file.in_file.faults result }
+        ensures said { IsSaid result self.old.in_file.in_file.database.cause self.new.in_file.in_file.database.cause }
     {
         self.in_file.put(call)
     }

@@ -1,13 +1,22 @@
-use Rattle.std.proofs.Common.{inl}
+use Rattle.std.proofs.Common.{inl, inr, subst}
+use Rattle.sqlite.specs.Held.{state}
+use Rattle.keeper_at_path.specs.Asked.{IsReadyToRead}
+use Rattle.keeper_at_path.proofs.AskedLaws.{ready_whole, ready_trees, none_held, made_of, made_ready}
 use Rattle.keeper_at_path.proofs.database.Database.put.Goals as goal
 
-pub returns-clause-does : goal.returns-clause-does
-returns-clause-does g c =
+-- of a keeper that is held, or of the whole file
+pub returns-in-Whole-clause-does : goal.returns-in-Whole-clause-does
+returns-in-Whole-clause-does g c =
     inl
-    (record {
-      before = c.in-Ok.kept;
-      after = c.put-answer.new.kept;
-      ready = c.in-Ok.ensures.ready;
-      does = c.put-answer.ensures;
-      kept = c.unless_failed.ensures.held;
-    })
+    (made_of _ _ _ _ _ _ _ _
+    (ready_whole _ _ c.args.self.now.kept _
+    (subst (IsReadyToRead _ _ c.args.self.now.kept) c.in-Whole.is c.in-Ok.ensures.ready))
+    c.put_whole.ensures.does)
+
+-- of the store of trees
+pub returns-in-Trees-clause-does : goal.returns-in-Trees-clause-does
+returns-in-Trees-clause-does g c =
+    made_ready _ _ _ _ _ _ _ _ _ c.args.self.now.kept
+    (ready_trees _ _ c.args.self.now.kept _
+    (subst (IsReadyToRead _ _ c.args.self.now.kept) c.in-Trees.is c.in-Ok.ensures.ready))
+    c.put_by_trees.ensures.does
