@@ -9,7 +9,7 @@ them on the path. A block ```console has lines `$ command`, each with the lines 
 command may be followed by two blanks, `# ` and the one line that it must print, or by a text that says what it does. `..`
 stands for anything. What is run for a command between backticks, behind the blocks of its page, is said by INLINE below, which
 must name each. With --kit the copy is a clone, and the commands of the kit (`rt`) are run too, but for the gate: README's first
-one proves and builds the office, which takes half an hour. The script ends with status 1 if a command prints something else, if
+one proves and builds the office, which takes some 40 minutes. The script ends with status 1 if a command prints something else, if
 one whose text is not said ends with a status above 8, or if one is not named.
 """
 import argparse
