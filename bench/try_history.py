@@ -7,10 +7,11 @@ PROGRAM is crates/toll_office/out/toll_office. A history of 69 days is put by `p
 same folder with no history. Over each, in this order: `day`, `vehicle`, `tariffs`, `answers` of a day of expenditure
 requests, `import` of a day of lines (by `day.c`), `day` again, `tariff`. For each a line: wall time, greatest memory and
 the status; for the look-ups also what python's sqlite3 takes for the same rows, whose answers must be the same. After
-each put the file must pass `PRAGMA integrity_check` and have its rows, and it must stand alone: no log with bytes beside
+each put the file must pass `PRAGMA integrity_check` and have its rows, and it must stand alone: no log with pages beside
 it. The script ends with status 1 at the first difference.
 """
 import argparse
+import contextlib
 import os
 import pathlib
 import random
@@ -93,12 +94,17 @@ def expect(holds, what):
         sys.exit(f"wrong: {what}")
 
 
+def looked_at(folder):
+    """The file alone, which is not locked and to which nothing is added."""
+    return sqlite3.connect(f"file:{folder / KEPT}?mode=ro&immutable=1", uri=True)
+
+
 def check_file(folder, rows, days):
     """The file alone is whole, and has so many amounts and days."""
     log = folder / (KEPT + "-wal")
-    expect(not log.exists() or log.stat().st_size == 0, f"{log} has bytes")
+    expect(not log.exists() or log.stat().st_size < 4096, f"{log} has pages")
     begin = time.monotonic()
-    with sqlite3.connect(f"file:{folder / KEPT}?mode=ro&immutable=1", uri=True) as database:
+    with contextlib.closing(looked_at(folder)) as database:
         expect(database.execute("PRAGMA integrity_check").fetchall() == [("ok",)], f"{folder.name}: integrity_check")
         found = database.execute("SELECT count(*), count(DISTINCT day) FROM spent").fetchone()
         expect(rows is None or found == rows, f"{folder.name}: {found} amounts and days, not {rows}")
@@ -114,7 +120,7 @@ def check_file(folder, rows, days):
 def ask_sqlite(folder, name, query, parameters):
     """The rows that sqlite3 finds, and prints what it took."""
     begin = time.monotonic()
-    with sqlite3.connect(f"file:{folder / KEPT}?mode=ro", uri=True) as database:
+    with contextlib.closing(looked_at(folder)) as database:
         rows = [row for given in parameters for row in database.execute(query, given).fetchall()]
     print(f"{folder.name:12} {'sqlite3 ' + name:16} {time.monotonic() - begin:8.2f} s  {len(rows)} rows", flush=True)
     return rows
