@@ -252,6 +252,7 @@ static void end_second(void) {
         if (spot->count < 2 && spot->stands) {
             spot->stands = 0, s->stands--;
             if (second % 60) mark(spot->stretch, second / 60 + 1); // it stood a second ago
+            else if (!s->stands) s->marked = -1; // it stood in no second of this minute
         }
     }
     touched_count = 0;
@@ -261,7 +262,7 @@ static void end_minute(int before, int minute) {
     int kept = 0;
     for (int i = 0; i < marked_count; i++) {
         Stretch *s = stretches + marked[i];
-        if (s->stands || before + 1 == minute) s->had = minute;
+        if (s->stands || (s->marked == before && before + 1 == minute)) s->had = minute;
         if (s->stands) marked[kept++] = marked[i], s->marked = minute;
     }
     marked_count = kept;
