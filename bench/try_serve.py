@@ -4,7 +4,7 @@
     python3 bench/try_serve.py PROGRAM [--lines 100000] [--beside 1000000] [--asks 1000] [--folder DAYS]
 
 PROGRAM is the executable `toll_serve`. The server runs in a new folder, on a free port of this machine. Asked are: every
-path and every refusal, with the whole answer; refused requests with bodies that nobody reads; requests as a page of the web
+path and every refusal, with the whole answer; a day of several expressways, whose amounts are those of `plain.c`; refused requests with bodies that nobody reads; requests as a page of the web
 sends them; a day of so many lines, posted while four clients read the live board; so many kept days one after another; a
 slow client and a silent one beside three that work; a thousand silent ones, and fifty whose heads come a byte a second; more
 connections than there are file handles; 200 faults of accept, and threads that cannot be had; POSTs in line behind one, of
@@ -46,6 +46,7 @@ FEW_HANDLES = 40
 KILLS = 50
 ACCEPT_FAULTS = 200
 AT_MOST = 0.05
+WAYS = (2_000_000, 500_000, 3, 60)  # lines, vehicles, expressways, minutes
 HERE = pathlib.Path(__file__).resolve().parent
 
 
@@ -753,6 +754,32 @@ def try_drains(program, folder):
     server.end()
 
 
+def try_ways(program, folder):
+    """A day of several expressways: what each vehicle paid on each is what `plain.c` reckons, over HTTP."""
+    made = pathlib.Path(folder)
+    for name in ("day", "plain"):
+        subprocess.run(["cc", "-O2", "-o", made / name, HERE / f"{name}.c"], check=True)
+    lines = subprocess.run([made / "day", *map(str, WAYS), "1"], capture_output=True, check=True).stdout
+    told = subprocess.run([made / "plain", "charges", "100"], input=lines, capture_output=True, check=True).stdout
+    rows = [tuple(map(int, row.split(","))) for row in told.decode().splitlines()[1:]]
+    kept = {(vid, xway): tolls for vid, _, xway, tolls in rows}
+    some = rows[:: max(1, len(rows) // 300)]
+    server = Server(program, folder, 2 * len(some) + 3)
+    expect("POST of some expressways", server.ask("POST", "/days/100", lines)[0], 200)
+    for vid, day, xway, tolls in some:
+        for way in (xway, (xway + 1) % WAYS[2]):
+            said = json.loads(server.ask("GET", f"/spent/{day}/{way}/{vid}")[2])["spent"]
+            expect(f"/spent/{day}/{way}/{vid}", said, kept.get((vid, way), 0))
+    vid = some[-1][0]
+    owed = [{"day": 100, "tolls": tolls, "xway": xway} for (own, xway), tolls in sorted(kept.items()) if own == vid and tolls]
+    said = json.loads(server.ask("GET", f"/vehicles/{vid}/1/100")[2])
+    expect("the vehicle's statement", (said["amounts"], said["total"]), (owed, sum(row["tolls"] for row in owed)))
+    expect("the kept days", [day["day"] for day in json.loads(server.ask("GET", "/days")[2])], [100])
+    expect("the end", server.end(), (0, b""))
+    ways = len({xway for _, _, xway, _ in rows})
+    print(f"a day of {ways} expressways: {2 * len(some)} amounts and a vehicle's statement over HTTP are those of plain.c")
+
+
 def try_kept(folder, day):
     """What was kept, by another reader of the file: once the server has ended, the file alone has all."""
     alone = tempfile.mkdtemp()
@@ -786,7 +813,7 @@ def main():
     own = tempfile.mkdtemp()
     try_bodies(program, own)
     shutil.rmtree(own)
-    for attempt in (try_silent, try_handles, try_faults, try_threads, try_drains, try_line):
+    for attempt in (try_ways, try_silent, try_handles, try_faults, try_threads, try_drains, try_line):
         own = tempfile.mkdtemp()
         attempt(program, own)
         shutil.rmtree(own)
