@@ -1,23 +1,22 @@
 -- What taking rows away makes of trees, and of the office that they stand for.
-use Rattle.std.proofs.Common.{◌≡◌, ◌<◌, ℕ, pos, Bool, true, false, Result, Ok, Err, IfOk, List, [], ◌∷◌, map, drop, refl}
-use Rattle.std.proofs.Common.{sym, ap, subst, subst₂, ◌∙◌, arith, IsPermutation, IsTrue}
+use Rattle.std.proofs.Common.{◌≡◌, ℕ, Bool, true, false, Result, Ok, Err, IfOk, List, [], refl}
+use Rattle.std.proofs.Common.{sym, ap, subst, subst₂, ◌∙◌, arith}
 use Rattle.std.proofs.lemmas.List.Sorted.{IsPermutation-refl}
 use Rattle.sqlite_value.specs.Order.{Row}
 use Rattle.sqlite_trees.specs.Tree.{Trees}
 use Rattle.sqlite_trees.specs.View.{View, SetsTree}
 use Rattle.sqlite_exec.specs.Calls.{OnlyReads}
 use Rattle.sqlite_exec.specs.Write.{IsLast}
-use Rattle.sqlite_sql.specs.Catalog.{IsIndexOf, entry_of}
+use Rattle.sqlite_sql.specs.Catalog.{IsIndexOf}
 use Rattle.road_time.specs.declared.day.SpentRow.{SpentRow}
 use Rattle.keeper.specs.declared.kept.PastRecord.{PastRecord}
 use Rattle.keeper.specs.Office.{Office}
-use Rattle.keeper.specs.Kept.{IsPastPut, HasNoDays, with_past}
+use Rattle.keeper.specs.Kept.{HasNoDays, with_past}
 use Rattle.keeper.proofs.SoundLaws.{nothing_sound}
 use Rattle.renewal.specs.Renewed.{emptied, anew}
-use Rattle.kept_tables.specs.Codec.{spent_row}
 use Rattle.kept_tables.specs.Stands.{AreAmountRows}
 use Rattle.kept_tables.specs.Steps.{FitsAny}
-use Rattle.tree_puts.specs.Trees.{database_of, key_columns, StandFor}
+use Rattle.tree_puts.specs.Trees.{key_columns, StandFor}
 use Rattle.tree_puts.specs.Steps.{IfDone}
 use Rattle.tree_puts.specs.Stores.{Makes}
 use Rattle.tree_puts.specs.Clears.{OthersStay, Pops, Clears, ClearsAmounts, ClearsDays, ClearsAll}
