@@ -28,10 +28,10 @@ use Rattle.import_once.specs.declared.outcomes.Outcome.TheVariants.{ReadFault, W
 use Rattle.day_rounds.specs.declared.day_run.WorkedDay.{WorkedDay}
 use Rattle.day_rounds.specs.declared.fault.DayFault.{DayFault}
 use Rattle.day_rounds.specs.declared.fault.DayFault.TheVariants as stop
-use Rattle.import_once.specs.Imports.{DayAnswer, Work, work_by, worked_record, worked_sums, worked_office}
+use Rattle.import_once.specs.Imports.{DayAnswer, Work, work_by, worked_record, worked_office}
 use Rattle.import_once.specs.Imports.{import_worked, answers_worked, unless_passed, Does, Merges, KeepsAll, LeavesAlone, LeavesRead}
 use Rattle.import_once.specs.Imports.{IsOfNewDay, IsOfKeptDay}
-use Rattle.import_once.specs.Stages.{run_record, run_sums, Stores, Finishes, Tells, IsReadWhole, IsOfEnd}
+use Rattle.import_once.specs.Stages.{run_record, Stores, Finishes, Tells, IsReadWhole, IsOfEnd}
 use Rattle.day_rounds.specs.Faults.{WritesUpTo}
 use Rattle.import_once.specs.Runs.{stopped_outcome, WhereWorked}
 use Rattle.import_once.proofs.WorkLaws.{record_is, sums_are, rows_are}
