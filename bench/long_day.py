@@ -56,10 +56,8 @@ def main():
         sys.stdout.buffer.write(lines)
         return
     said, told, read, notices = figures(lines)
-    answered, stored, already = (
-        f"{it}: {said}\nlines {read}\nnotices {notices}\n" for it in ("answered", "stored", "already")
-    )
-    text = f"{answered}audited: # agree notices {told}\nstatus 0\n{stored}{already}"
+    kept = "".join(f"{it}: {said}\nlines {read}\nnotices {notices}\n" for it in ("stored", "already"))
+    text = f"answered: {said}\naudited: # agree notices {told}\nstatus 0\n{kept}"
     if "--check" in sys.argv and STORED.read_text() != text:
         sys.exit(f"{STORED} is not\n{text}")
     print(text, end="")
