@@ -67,7 +67,9 @@ put_refused w a b r keeping.NoMemory goes e = tt
 -- one call more came first
 pub one_before : (n : ℕ) (outcome : PastOutcome) (a b c : AskingPlan) → PassesCalls 1 a b →
     AsksNewPast n outcome b c → AsksNewPast (1 + n) outcome a c
-one_before n (Stored kept) a b c one h = passes_on a b c 1 (n + 1) one h
+one_before n (Stored kept) a b c one h =
+    let same : 1 + (n + 1) ≡ (1 + n) + 1 = omega arith in
+    subst (λ m. PassesCalls m a c) same (passes_on a b c 1 (n + 1) one h)
 one_before n (Already kept) a b c one h = absurd h
 one_before n (Row line cause) a b c one h = passes_on a b c 1 n one h
 one_before n (PastLate last) a b c one h = passes_on a b c 1 n one h

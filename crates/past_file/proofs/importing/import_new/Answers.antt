@@ -67,5 +67,6 @@ returns-else-last-gt0-clause-asked g c =
 pub returns-in-Err-clause-asked : goal.returns-in-Err-clause-asked
 returns-in-Err-clause-asked g c =
     let here : c.last_day.result ≡ Err c.in-Err.fault = cc in
-    subst (λ (o : PastOutcome). AsksNewPast 1 o (g.K.Keeper.plan c.args.keeper.now) (g.K.Keeper.plan c.last_day.new.self))
+    subst
+    (λ (o : PastOutcome). AsksNewPast 1 o (g.K.Keeper.plan c.args.keeper.now) (g.K.Keeper.plan c.last_day.new.self))
     (sym c.keeper_refused.ensures) (call_refused 1 _ _ c.last_day.result c.in-Err.fault c.last_day.ensures.planned here)
