@@ -1,5 +1,5 @@
 // The closing lines, and the statuses that they go with.
-ghost use Rattle.std.specs.Prelude.{◌≡◌, IfOk};
+ghost use Rattle.std.specs.Prelude.{◌≡◌, ◌==◌, IfOk, if◌then◌else◌};
 ghost use Rattle.std.specs.String.{string_bytes};
 ghost use Rattle.office_commands.specs.Closings.{closing_line, status_of};
 
@@ -125,6 +125,19 @@ pub enum Closing {
         days: u64,
         last: u32,
     },
+    /// The lines of a day were checked: so many are good, so many refused.
+    Checked {
+        day: u32,
+        good: u64,
+        refused: u64,
+    },
+}
+
+/// The status of a check by how many lines are refused.
+fn status_of_check(refused: u64) -> u8
+    ensures { result ≡ (if refused == 0 then 0 else 2) }
+{
+    if refused == 0 { 0 } else { 2 }
 }
 
 impl Closing {
@@ -155,6 +168,7 @@ impl Closing {
             Closing::NoMemory => 8,
             Closing::Rehearsed { .. } => 0,
             Closing::Listed { .. } => 0,
+            Closing::Checked { refused, .. } => status_of_check(refused),
         }
     }
 
@@ -233,6 +247,9 @@ impl Closing {
                 );
             }
             Closing::Listed { days, last } => return days_line(alloc, days, last),
+            Closing::Checked { day, good, refused } => {
+                format!(in alloc; "# checked day {day} good {good} refused {refused}\n")?
+            }
         };
         Ok(line)
     }
