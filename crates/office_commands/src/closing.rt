@@ -3,7 +3,9 @@ ghost use Rattle.std.specs.Prelude.{◌≡◌, ◌==◌, IfOk, if◌then◌else�
 ghost use Rattle.std.specs.String.{string_bytes};
 ghost use Rattle.office_commands.specs.Closings.{closing_line, status_of};
 
-use crate::day_lines::{already_line, days_line, differs_day, rehearsal, stored_line, tariff_line};
+use crate::day_lines::{
+    already_line, checked_line, days_line, differs_day, rehearsal, stored_line, tariff_line,
+};
 use crate::entry_text::EntryText;
 use crate::past_lines::{
     differs_past, past_already, past_kept, past_late, past_refused, past_stored,
@@ -248,7 +250,7 @@ impl Closing {
             }
             Closing::Listed { days, last } => return days_line(alloc, days, last),
             Closing::Checked { day, good, refused } => {
-                format!(in alloc; "# checked day {day} good {good} refused {refused}\n")?
+                return checked_line(alloc, day, good, refused);
             }
         };
         Ok(line)
