@@ -133,6 +133,6 @@ pub(crate) fn perform<S: Source, A: Source, O: Sink, K: Keeper, C: Crew, R: Thre
         ))),
         Command::Days => days(alloc, sink, keeper),
         Command::Charges { from, to } => charges(alloc, from, to, sink, keeper),
-        Command::Check { day, late } => check(alloc, day, late, limits, source, sink),
+        Command::Check { day: number, late } => check(alloc, number, late, limits, source, sink),
     }
 }

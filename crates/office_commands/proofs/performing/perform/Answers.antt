@@ -411,7 +411,7 @@ returns-in-Check-clause-wrote g c = λ bytes lines o told.
 
 pub returns-in-Check-clause-keeps : goal.returns-in-Check-clause-keeps
 returns-in-Check-clause-keeps g c = λ bytes lines o right told kept. rw c.in-Check.is
-    (kept_same _ (check_command c.args.limits.now c.in-Check.day c.in-Check.late bytes o) _ _ _ refl kept)
+    (kept_same _ (check_command c.args.limits.now c.in-Check.number c.in-Check.late bytes o) _ _ _ refl kept)
 
 pub returns-in-Check-clause-does : goal.returns-in-Check-clause-does
 returns-in-Check-clause-does g c = λ bytes lines o told kept.
