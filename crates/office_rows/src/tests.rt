@@ -1,5 +1,6 @@
 // Words, a source and an aside in, a sink's text and a status out.
 mod audits;
+mod checks;
 mod days;
 mod faults;
 mod input;
