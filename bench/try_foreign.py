@@ -36,6 +36,7 @@ COMMANDS = {
     "answers 100": LINE,
     "import 100": LINE,
 }
+PUTS = ("tariff 0 50 40 5", "import 101")
 OF_A_DAY = ("day 100", "export 100", "import 100")
 
 # the causes, as docs/FORMATS.md lists them
@@ -111,7 +112,7 @@ def refused(program, folder, name, words, cause, **how):
     """A command ends with a fault, says this cause, and the file is what it was."""
     kept = pathlib.Path(folder) / "tolls.db"
     before = kept.read_bytes() if kept.is_file() else None
-    status, out, err = run(program, folder, words, COMMANDS[words], **how)
+    status, out, err = run(program, folder, words, COMMANDS.get(words, LINE), **how)
     if status != 6 or not out.endswith("# keeper fault\n"):
         fail(f"{name}, {words}: status {status}, {out!r}")
     if err != f"toll_office: tolls.db: {cause}\n":
@@ -212,17 +213,16 @@ def fill(folder):
 
 
 def no_room(program):
-    """The disk is full when a day, a history or a tariff is to be kept."""
-    for words in ("import 101", "tariff 0 50 40 5"):
+    """The disk is full when a tariff or a day is to be kept."""
+    for words in PUTS:
         with small_disk(1 << 20) as folder:
             if folder is None:
                 print("passed over: a full disk, which may not be mounted here")
                 return
             make(folder / "tolls.db", OURS)
             fill(folder)
-            COMMANDS.setdefault("import 101", LINE)
             refused(program, folder, "no room", words, NO_ROOM)
-    print("left alone: a file on a full disk, by 2 commands")
+    print(f"left alone: a file on a full disk, by {len(PUTS)} commands")
 
 
 def not_closed(program):
