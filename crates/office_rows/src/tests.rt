@@ -1,5 +1,7 @@
 // Words, a source and an aside in, a sink's text and a status out.
+mod asking;
 mod audits;
+mod causes;
 mod checks;
 mod days;
 mod faults;
