@@ -39,7 +39,7 @@ impl<R> TcpEar<R> {
     }
 }
 
-impl<R: Wait + Copy + Drop> Listener for TcpEar<R> {
+impl<R: Wait + Copy + Drop + Send> Listener for TcpEar<R> {
     type Line = RoomLink;
 
     type Pass = TcpTurn<R>;
@@ -78,7 +78,7 @@ impl<R: Wait + Copy + Drop> Listener for TcpEar<R> {
     }
 }
 
-impl<R: Wait + Copy + Drop> Ear for TcpEar<R> {
+impl<R: Wait + Copy + Drop + Send> Ear for TcpEar<R> {
     fn accepted(&self) -> u64 {
         self.accepted
     }

@@ -10,7 +10,7 @@ use road_io::{Failed, Link};
 pub trait Listener {
     type Line: Link + Send;
 
-    type Pass: Turn;
+    type Pass: Turn + Send;
 
     ghost faults: { Self → ℕ };
 

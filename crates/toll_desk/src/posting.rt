@@ -121,14 +121,15 @@ pub fn finish_import<L: Link>(alloc: Global, imported: Imported<'_>, link: &mut 
     requires read { imported.outcome ≡ ReadFault → IsStopped imported.read }
     requires written { imported.outcome ≢ WriteFault }
     requires kept { (kept : DayRecord) → imported.outcome ≢ outcomes.Answered kept }
-    ensures ends { Finishes imported.early.now imported.outcome
+    ensures ends { Finishes imported.entry.early.now imported.entry.outcome
         (wire_of (L.left link.old) (L.plan link.old) (L.written link.old) (L.room link.old))
-        (wire_of (L.left link.new) (L.plan link.new) (L.written link.new) (L.room link.new)) imported.read result }
-    ensures unavailable { result ≡ Answered 503 → imported.outcome ≡ KeeperFault }
-    ensures told { imported.outcome ≡ KeeperFault → TellsFault result }
-    ensures sure { imported.read ≢ reading.LinkFault → NeverFails (L.plan link.old) → L.room link.old ≡ Endless
-        → result ≢ LinkFault }
-    ensures cause { imported.read ≢ reading.LinkFault → result ≡ LinkFault
+        (wire_of (L.left link.new) (L.plan link.new) (L.written link.new) (L.room link.new))
+        imported.entry.read result }
+    ensures unavailable { result ≡ Answered 503 → imported.entry.outcome ≡ KeeperFault }
+    ensures told { imported.entry.outcome ≡ KeeperFault → TellsFault result }
+    ensures sure { imported.entry.read ≢ reading.LinkFault → NeverFails (L.plan link.old)
+        → L.room link.old ≡ Endless → result ≢ LinkFault }
+    ensures cause { imported.entry.read ≢ reading.LinkFault → result ≡ LinkFault
         → Rose (L.faults link.old) (L.faults link.new) }
     ensures later { L.faults link.old ≤ L.faults link.new }
 {

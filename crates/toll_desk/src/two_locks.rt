@@ -52,11 +52,11 @@ fn finish_after<L: Link, T: Turn>(
     requires read { imported.outcome ≡ ReadFault → IsStopped imported.read }
     requires written { imported.outcome ≢ WriteFault }
     requires kept { (kept : DayRecord) → imported.outcome ≢ outcomes.Answered kept }
-    ensures unavailable { result ≡ Answered 503 → imported.outcome ≡ KeeperFault }
-    ensures told { imported.outcome ≡ KeeperFault → TellsFault result }
-    ensures sure { imported.read ≢ reading.LinkFault → NeverFails (L.plan link.old) → L.room link.old ≡ Endless
-        → result ≢ LinkFault }
-    ensures cause { imported.read ≢ reading.LinkFault → result ≡ LinkFault
+    ensures unavailable { result ≡ Answered 503 → imported.entry.outcome ≡ KeeperFault }
+    ensures told { imported.entry.outcome ≡ KeeperFault → TellsFault result }
+    ensures sure { imported.entry.read ≢ reading.LinkFault → NeverFails (L.plan link.old)
+        → L.room link.old ≡ Endless → result ≢ LinkFault }
+    ensures cause { imported.entry.read ≢ reading.LinkFault → result ≡ LinkFault
         → Rose (L.faults link.old) (L.faults link.new) }
     ensures later { L.faults link.old ≤ L.faults link.new }
 {

@@ -135,7 +135,7 @@ fn a_door_gives_its_ears(rt: HostRuntime) -> Result<(), NoMemory> {
 }
 
 /// Whether a client and the connection that an ear accepts of it hear one another, once what it asks is whole.
-fn hear_one_another<R: Wait + Copy + Drop>(
+fn hear_one_another<R: Wait + Copy + Drop + Send>(
     client: &mut TcpStream,
     ear: &mut TcpEar<R>,
 ) -> io::Result<bool>
@@ -182,7 +182,7 @@ fn a_door_hears_on_a_free_port(rt: HostRuntime) -> io::Result<()> {
 }
 
 /// Whether the second of two connections comes once the turn of the first is over, while that is still served.
-fn hear_both<R: Wait + Copy + Drop>(ear: &mut TcpEar<R>) -> bool
+fn hear_both<R: Wait + Copy + Drop + Send>(ear: &mut TcpEar<R>) -> bool
     requires { ⟦<TcpEar<R> as Listener>⟧.accepted ear.old ≡ 0 }
     ensures { ⟦<TcpEar<R> as Listener>⟧.accepted ear.new ≤ 2 }
 {
