@@ -9,6 +9,7 @@ ghost use Rattle.road_io.specs.Blame.{FaultsByPlan};
 ghost use Rattle.keeper.specs.Office.{Office, record_of, last_day};
 ghost use Rattle.keeper.specs.declared.kept.DayRecord.{DayRecord};
 ghost use Rattle.import_once.specs.Imports.{most_imported};
+ghost use Rattle.import_once.specs.declared.outcomes.AnsweredDay.{AnsweredDay};
 ghost use Rattle.import_once.specs.declared.outcomes.Outcome.TheVariants as outcomes;
 ghost use Rattle.import_once.specs.declared.outcomes.Outcome.TheVariants.{Stored, ReadFault, WriteFault, KeeperFault};
 ghost use Rattle.toll_requests.specs.Bodies.{filled};
@@ -84,7 +85,7 @@ impl<C: Crew, R: Wait + Threads + Drop> ImportDesk<C, R> {
         ensures link_later { L.faults link.old ≤ L.faults link.new }
         ensures link_sure { NeverFails (L.plan link.old) → NeverFails (L.plan link.new) }
         ensures unfailed { result.outcome ≢ WriteFault }
-        ensures posted { (kept : DayRecord) → result.outcome ≢ outcomes.Answered kept }
+        ensures posted { (day : AnsweredDay) → result.outcome ≢ outcomes.Answered day }
         ensures keeper { FaultsByPlan (K.faults keeper.old) (K.faults keeper.new) (K.plan keeper.old)
             (result.outcome ≡ KeeperFault) }
     {

@@ -8,6 +8,7 @@ ghost use Rattle.accounts.specs.Operations.{Posted};
 ghost use Rattle.keeper.specs.Office.{Office, record_of, last_day};
 ghost use Rattle.keeper.specs.declared.kept.DayRecord.{DayRecord};
 ghost use Rattle.import_once.specs.Imports.{most_imported};
+ghost use Rattle.import_once.specs.declared.outcomes.AnsweredDay.{AnsweredDay};
 ghost use Rattle.import_once.specs.declared.outcomes.Outcome.TheVariants.{Stored, ReadFault, WriteFault, KeeperFault};
 ghost use Rattle.import_once.specs.declared.outcomes.Outcome.TheVariants as outcomes;
 ghost use Rattle.toll_requests.specs.Bodies.{filled, IsSure};
@@ -92,7 +93,7 @@ fn import_from<'b, L: Link, K: Keeper, C: Crew, P: Publisher, R: Threads, N: Sta
     ensures link_later { N.faults ≤ L.faults link.new }
     ensures link_sure { IsSure N.plan → IsSure (L.plan link.new) }
     ensures unfailed { result.outcome ≢ WriteFault }
-    ensures posted { (kept : DayRecord) → result.outcome ≢ outcomes.Answered kept }
+    ensures posted { (day : AnsweredDay) → result.outcome ≢ outcomes.Answered day }
     ensures keeper { FaultsByPlan (K.faults keeper.old) (K.faults keeper.new) (K.plan keeper.old)
         (result.outcome ≡ KeeperFault) }
 {
@@ -168,7 +169,7 @@ pub fn import_only<'b, L: Link, K: Keeper, C: Crew, P: Publisher, R: Threads>(
     ensures link_later { L.faults link.old ≤ L.faults link.new }
     ensures link_sure { NeverFails (L.plan link.old) → NeverFails (L.plan link.new) }
     ensures unfailed { result.outcome ≢ WriteFault }
-    ensures posted { (kept : DayRecord) → result.outcome ≢ outcomes.Answered kept }
+    ensures posted { (day : AnsweredDay) → result.outcome ≢ outcomes.Answered day }
     ensures keeper { FaultsByPlan (K.faults keeper.old) (K.faults keeper.new) (K.plan keeper.old)
         (result.outcome ≡ KeeperFault) }
 {

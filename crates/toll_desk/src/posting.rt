@@ -6,7 +6,7 @@ ghost use Rattle.road_io.specs.Plans.{NeverFails};
 ghost use Rattle.road_io.specs.Rooms.{Endless};
 ghost use Rattle.road_time.specs.Fits.{IsLimits};
 ghost use Rattle.keeper.specs.Office.{Office};
-ghost use Rattle.keeper.specs.declared.kept.DayRecord.{DayRecord};
+ghost use Rattle.import_once.specs.declared.outcomes.AnsweredDay.{AnsweredDay};
 ghost use Rattle.import_once.specs.declared.outcomes.Outcome.TheVariants as outcomes;
 ghost use Rattle.import_once.specs.declared.outcomes.Outcome.TheVariants.{ReadFault, WriteFault, KeeperFault};
 ghost use Rattle.toll_requests.specs.declared.session_end.SessionEnd.TheVariants.{Answered, LinkFault};
@@ -36,7 +36,7 @@ use toll_texts::{differs_body, imported_body, passed_body, refused_body};
 fn send_outcome<L: Link>(alloc: Global, link: &mut L, outcome: Outcome) -> SessionEnd
     requires read { outcome ≢ ReadFault }
     requires written { outcome ≢ WriteFault }
-    requires kept { (kept : DayRecord) → outcome ≢ outcomes.Answered kept }
+    requires kept { (day : AnsweredDay) → outcome ≢ outcomes.Answered day }
     ensures sent { AnswersOutcome outcome (L.room link.old) (L.written link.old) (L.written link.new) result }
     ensures unavailable { result ≡ Answered 503 → outcome ≡ KeeperFault }
     ensures told { outcome ≡ KeeperFault → TellsFault result }
@@ -96,7 +96,7 @@ fn finish_body<L: Link>(
     requires few { length early.now ≤ left }
     requires read { outcome ≢ ReadFault }
     requires written { outcome ≢ WriteFault }
-    requires kept { (kept : DayRecord) → outcome ≢ outcomes.Answered kept }
+    requires kept { (day : AnsweredDay) → outcome ≢ outcomes.Answered day }
     ensures ends { (rest : List ℕ) → prepend_known early.now (L.left link.old) ≡ Some rest
         → FinishesBody left rest outcome
         (wire_of (L.left link.old) (L.plan link.old) (L.written link.old) (L.room link.old))
@@ -120,7 +120,7 @@ pub fn finish_import<L: Link>(alloc: Global, imported: Imported<'_>, link: &mut 
     requires fits { FitsRead imported.early.now imported.read }
     requires read { imported.outcome ≡ ReadFault → IsStopped imported.read }
     requires written { imported.outcome ≢ WriteFault }
-    requires kept { (kept : DayRecord) → imported.outcome ≢ outcomes.Answered kept }
+    requires kept { (day : AnsweredDay) → imported.outcome ≢ outcomes.Answered day }
     ensures ends { Finishes imported.entry.early.now imported.entry.outcome
         (wire_of (L.left link.old) (L.plan link.old) (L.written link.old) (L.room link.old))
         (wire_of (L.left link.new) (L.plan link.new) (L.written link.new) (L.room link.new))

@@ -10,7 +10,7 @@ ghost use Rattle.toll_desk.specs.Answers.{TellsFault};
 ghost use Rattle.toll_desk.specs.Desk.{AnswersRead, IsOfKept};
 ghost use Rattle.toll_desk.specs.Reading.{FitsRead, IsStopped};
 ghost use Rattle.toll_desk.specs.declared.imported.ReadTo.TheVariants as reading;
-ghost use Rattle.keeper.specs.declared.kept.DayRecord.{DayRecord};
+ghost use Rattle.import_once.specs.declared.outcomes.AnsweredDay.{AnsweredDay};
 ghost use Rattle.import_once.specs.declared.outcomes.Outcome.TheVariants as outcomes;
 ghost use Rattle.import_once.specs.declared.outcomes.Outcome.TheVariants.{ReadFault, WriteFault, KeeperFault};
 
@@ -51,7 +51,7 @@ fn finish_after<L: Link, T: Turn>(
     requires fits { FitsRead imported.early.now imported.read }
     requires read { imported.outcome ≡ ReadFault → IsStopped imported.read }
     requires written { imported.outcome ≢ WriteFault }
-    requires kept { (kept : DayRecord) → imported.outcome ≢ outcomes.Answered kept }
+    requires kept { (day : AnsweredDay) → imported.outcome ≢ outcomes.Answered day }
     ensures unavailable { result ≡ Answered 503 → imported.entry.outcome ≡ KeeperFault }
     ensures told { imported.entry.outcome ≡ KeeperFault → TellsFault result }
     ensures sure { imported.entry.read ≢ reading.LinkFault → NeverFails (L.plan link.old)
