@@ -1,4 +1,4 @@
-use Rattle.std.proofs.Common.{refl, subst, ap, ◌∙◌, sym, arith, Some}
+use Rattle.std.proofs.Common.{◌≡◌, subst, ap, ◌∙◌, sym, arith, rules}
 use Rattle.road_io.specs.Within.{ReadsWithin}
 use Rattle.import_once.specs.Imports.{most_imported}
 use Rattle.keeper.specs.Office.{record_of}
@@ -32,8 +32,9 @@ returns-clause-few g c = λ all o left is told is_open.
 
 pub returns-clause-unread : goal.returns-clause-unread
 returns-clause-unread g c = λ o told none passed.
-    let same = c.import-outcome.ensures.unread o told none passed in (
-      ap (λ b. g.L.Link.left b.link.now) same,
+    let same = c.import-outcome.ensures.unread o told none passed in
+    let ended : c.import-outcome.new.source.link.now ≡ c.link-1.given.0 = search rules in (
+      ap (λ l. g.L.Link.left l) (sym ended) ∙ ap (λ b. g.L.Link.left b.link.now) same,
       c.read_to-read.ensures.quiet (ap (λ b. b.faults) same) (ap (λ b. b.cut) same) ∙ ap (λ b. Open b.left) same,
       ap (λ b. b.early.now) same,
     )
