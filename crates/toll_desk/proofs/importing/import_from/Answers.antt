@@ -2,7 +2,7 @@ use Rattle.std.proofs.Common.{◌≡◌, subst, ap, ◌∙◌, sym, arith, rules
 use Rattle.road_io.specs.Within.{ReadsWithin}
 use Rattle.import_once.specs.Imports.{most_imported}
 use Rattle.keeper.specs.Office.{record_of}
-use Rattle.toll_requests.specs.Bodies.{body_left}
+use Rattle.toll_requests.specs.Bodies.{body_left, filled}
 use Rattle.toll_requests.proofs.BodyLaws.{body_told, none_left}
 use Rattle.toll_desk.proofs.ImportLaws.{alone_as, not_answered}
 use Rattle.toll_desk.specs.declared.imported.ReadTo.TheVariants.{Open}
@@ -42,7 +42,9 @@ returns-clause-unread g c = λ o told none passed.
 pub returns-clause-stored : goal.returns-clause-stored
 returns-clause-stored g c = λ all kept is stored.
     let told = body_told c.args.count c.args.early.now all (g.L.Link.left c.args.link.now) (c.requires.bytes ∙ is) in
-    c.read_to-read.ensures.over (none_left _ _ _ (c.import-outcome.ensures.whole _ kept told stored))
+    let b = c.import-outcome.new.source in
+    c.read_to-read.ensures.over (none_left b.left b.early.now (g.L.Link.left b.link.now)
+    (c.import-outcome.ensures.whole (filled c.args.count all) kept told stored))
 
 pub returns-clause-posted : goal.returns-clause-posted
 returns-clause-posted g c = λ kept is.
