@@ -4,6 +4,7 @@ mod days;
 mod faults;
 mod input;
 mod listings;
+mod renewals;
 mod road;
 mod runs;
 mod traffic;

@@ -1,14 +1,15 @@
 //! The tolling office of an expressway, over standard input and output and two files.
 //!
 //! `main` hands the words, standard input, the file `ASIDE_FILE`, standard output and what is kept in the file
-//! `KEPT_FILE` to `office`, beside helpers that take its jobs; then it closes the crew with its helpers and
-//! what is kept, and ends with the status. A helper whose thread cannot be had helps with nothing; with none
+//! `KEPT_FILE` to `office`, or to `begin_anew` where the words ask for that, beside helpers that take its jobs; then it
+//! closes the crew with its helpers and what is kept, and ends with the status. A helper whose thread cannot be had helps with nothing; with none
 //! of them the office's own thread runs all jobs.
 #![tactic(auto)]
 
 ghost use Rattle.std.specs.Prelude.{◌≡◌, []};
 
 use office_commands::{ASIDE_FILE, Closing, office};
+use office_renewal::{begin_anew, renewal_base};
 use partition_workers::{Crew, NoGate};
 use road_io::{FileSource, StdSink, StdSource};
 use road_time::Limits;
@@ -47,7 +48,39 @@ fn words_of(rt: &HostRuntime) -> Result<Vec<String>, Closing> {
     Ok(words)
 }
 
-/// The status of the office over standard input and output and its two files, by a crew.
+/// The status of the office over standard input and output and the file beside it, by what it keeps and a crew. Where
+/// the words ask for it, it begins anew.
+fn run_words<R: Threads + Sync, C: Crew>(
+    rt: &HostRuntime,
+    threads: &R,
+    words: &[String],
+    aside: &mut FileSource,
+    keeper: &mut SqliteKeeper,
+    crew: &mut C,
+) -> u8
+    requires { C.out crew.old ≡ [] }
+    ensures idle { C.out crew.new ≡ [] }
+    ensures which { C.which crew.new ≡ C.which crew.old }
+{
+    let mut source = StdSource::new(rt.stdin());
+    let mut sink = StdSink::new(rt.stdout());
+    match renewal_base(words) {
+        Some(base) => begin_anew(rt.alloc(), base, &mut sink, keeper),
+        None => office(
+            threads,
+            rt.alloc(),
+            words,
+            &Limits::DAY,
+            &mut source,
+            aside,
+            &mut sink,
+            keeper,
+            crew,
+        ),
+    }
+}
+
+/// The same over the words and the two files.
 fn run_office<R: Threads + Sync, C: Crew>(rt: &HostRuntime, threads: &R, crew: &mut C) -> u8
     requires { C.out crew.old ≡ [] }
     ensures idle { C.out crew.new ≡ [] }
@@ -57,25 +90,13 @@ fn run_office<R: Threads + Sync, C: Crew>(rt: &HostRuntime, threads: &R, crew: &
         Ok(words) => words,
         Err(closing) => return closing.status(),
     };
-    let mut source = StdSource::new(rt.stdin());
-    let mut sink = StdSink::new(rt.stdout());
     let Ok(mut aside) = FileSource::at(rt.alloc(), *rt, ASIDE_FILE) else {
         return Closing::NoMemory.status();
     };
     let Ok(mut keeper) = SqliteKeeper::at(rt.alloc(), *rt, KEPT_FILE) else {
         return Closing::NoMemory.status();
     };
-    let status = office(
-        threads,
-        rt.alloc(),
-        words.as_slice(),
-        &Limits::DAY,
-        &mut source,
-        &mut aside,
-        &mut sink,
-        &mut keeper,
-        crew,
-    );
+    let status = run_words(rt, threads, words.as_slice(), &mut aside, &mut keeper, crew);
     // What was put stays either way: where the file cannot be closed, it lies in the log beside it.
     let _ = keeper.close();
     status
