@@ -56,7 +56,8 @@ def main():
         sys.stdout.buffer.write(lines)
         return
     said, read, notices = figures(lines)
-    text = "".join(f"{it}: {said}\nlines {read}\nnotices {notices}\n" for it in ("answered", "stored", "already"))
+    kept = "".join(f"{it}: {said}\nlines {read}\nnotices {notices}\n" for it in ("stored", "already"))
+    text = f"answered: {said}\n{kept}"
     if "--check" in sys.argv and STORED.read_text() != text:
         sys.exit(f"{STORED} is not\n{text}")
     print(text, end="")

@@ -39,6 +39,10 @@ IsGatheringAhead d limits late given = GathersOn (answer_of d.following) d.reade
 abbrev pub HasReadAhead : DayAhead → ℕ → Option (List ℕ) → List ℕ → Type 0
 HasReadAhead d lines left bytes = HasReadOf d.reader lines left bytes
 
+-- whether the digest of its bytes is asked
+abbrev pub is_digested : DayAhead → Bool
+is_digested d = d.reader.consumed.digested
+
 -- the source failed before
 abbrev pub HasFailedAhead : DayAhead → Type 0
 HasFailedAhead d = HasReaderFailed d.reader

@@ -1,18 +1,30 @@
 -- Days that are read whole, or up to the first line that is refused.
-use Rattle.std.specs.Prelude.{ℕ, ◌≡◌, ◌≤◌, ◌+◌, ◌-◌, ◌*◌, ◌^◌, ◌<◌, List, [], length, take, drop, Option, Some, None}
+use Rattle.std.specs.Prelude.{ℕ, ◌≡◌, ◌≤◌, ◌+◌, ◌-◌, ◌*◌, ◌^◌, ◌<◌, List, [], length, take, drop}
+use Rattle.std.specs.Prelude.{Bool, Option, Some, None, is_some}
 use Rattle.road_time.specs.declared.day.Limits.{Limits}
 use Rattle.road_time.specs.Lines.{lines_of}
 use Rattle.road_time.specs.Form.{Fault}
 use Rattle.tuple_format.specs.Causes.{cause_of}
+use Rattle.keeper.specs.declared.digest.Digest.{Digest}
 use Rattle.keeper.specs.Digests.{digest_of}
 use Rattle.day_reading.specs.declared.whole_day.DayEnd.{DayEnd}
 use Rattle.day_reading.specs.declared.whole_day.DayEnd.TheVariants.{Whole, Refused}
 
+-- a digest is that of these bytes, if it was asked
+abbrev pub IsDigestOf : Option Digest → List ℕ → Type 0
+IsDigestOf (Some digest) bytes = digest ≡ digest_of bytes
+IsDigestOf None bytes = Unit {0}
+
 -- how the reading of these bytes ended: at their end, or at the first line that is refused
 abbrev pub EndsReading : DayEnd → List ℕ → Option (ℕ × Fault) → Type 0
-EndsReading (Whole n digest) bytes refused = (refused ≡ None) × (n ≡ length bytes) × (digest ≡ digest_of bytes)
+EndsReading (Whole n digest) bytes refused = (refused ≡ None) × (n ≡ length bytes) × IsDigestOf digest bytes
 EndsReading (Refused line cause) bytes refused = (fault : Fault) × (refused ≡ Some (line, fault))
     × (cause_of fault ≡ cause)
+
+-- of a day that was read whole there is a digest where one was asked
+abbrev pub IsDigested : Bool → DayEnd → Type 0
+IsDigested asked (Whole n digest) = is_some digest ≡ asked
+IsDigested asked (Refused line cause) = Unit {0}
 
 -- a day of fewer than 2^63 bytes
 abbrev pub IsShortDay : DayEnd → Type 0

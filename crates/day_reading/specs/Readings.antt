@@ -1,5 +1,5 @@
 -- A reader in the midst of a day.
-use Rattle.std.specs.Prelude.{ℕ, ◌≡◌, ◌≤◌, ◌++◌, ◌∷◌, [], Bool, false, List, length, take, Option, Some, None, Result}
+use Rattle.std.specs.Prelude.{ℕ, ◌≡◌, ◌≤◌, ◌++◌, ◌∷◌, [], Bool, true, false, List, length, take, Option, Some, None, Result}
 use Rattle.std.specs.Prelude.{Ok, Err}
 use Rattle.road_time.specs.declared.road.Tuple.{Tuple}
 use Rattle.road_time.specs.declared.day.Limits.{Limits}
@@ -25,9 +25,9 @@ use Rattle.day_reading.specs.declared.day_reader.DayReader.{DayReader}
 abbrev pub IsFrontOf : List Tuple → List Tuple → Type 0
 IsFrontOf given day = given ≡ take (length given) day
 
--- these bytes were taken, and counted
+-- these bytes were taken, and counted, where the digest is asked also for the digest
 abbrev pub HasTaken : Consumed → List ℕ → Type 0
-HasTaken c bytes = TookBeside c.digester bytes × (c.bytes ≡ length bytes)
+HasTaken c bytes = (c.digested ≡ true → TookBeside c.digester bytes) × (c.bytes ≡ length bytes)
 
 -- lines are read on: those before were all let in, and the rest lies ahead
 pub record ReadsOn (front : Option (List ℕ)) (number : ℕ) (consumed : Consumed) (gate : GateState) (sorter : Sorting)

@@ -1,4 +1,4 @@
-// The bytes of the lines that were cut: how many, and their digest.
+// The bytes of the lines that were cut: how many, and their digest, if it is asked.
 ghost use Rattle.std.specs.Prelude.{◌≤◌};
 ghost use Rattle.day_reading.specs.declared.consumed.TheConstants.{GREATEST_CHUNK};
 
@@ -13,10 +13,11 @@ const FIRST_CHUNK: usize = 262_144;
 /// thread is not done before the caller reads again.
 const GREATEST_CHUNK: usize = 4_194_304;
 
-/// The bytes taken so far. Of these no more wait for a thread than a chunk has. They cannot be dropped: `digest` and
-/// `close` end them, once no thread has a part of them.
+/// The bytes taken so far, with their digest where one is asked. Of these no more wait for a thread than a chunk has.
+/// They cannot be dropped: `digest` and `close` end them, once no thread has a part of them.
 pub struct Consumed {
     pub digester: BesideDigester,
+    pub digested: bool,
     pub bytes: u64,
     ghost bounded: { digester.greatest ≤ GREATEST_CHUNK },
 }

@@ -5,7 +5,7 @@ ghost use Rattle.road_time.specs.Reads.{reads};
 ghost use Rattle.road_io.specs.Blame.{FaultsByPlan};
 ghost use Rattle.road_io.specs.Plans.{NeverFails};
 ghost use Rattle.road_io.specs.Cutter.{ahead};
-ghost use Rattle.day_reading.specs.Days.{EndsReading, IsShortDay, LeavesBehind, most_of_day};
+ghost use Rattle.day_reading.specs.Days.{EndsReading, IsDigested, IsShortDay, LeavesBehind, most_of_day};
 ghost use Rattle.road_io.specs.Within.{ReadsWithin};
 ghost use Rattle.day_reading.specs.Readings.{HasTaken, HasRead};
 ghost use Rattle.day_reading.specs.declared.whole_day.ReadStop.TheVariants.{ReadFault};
@@ -22,8 +22,8 @@ use tuple_format::Cause;
 /// How the reading of a day ended.
 #[derive(Clone, Copy, Debug, PartialEq, Eq)]
 pub enum DayEnd {
-    /// At the end of its bytes.
-    Whole { bytes: u64, digest: Digest },
+    /// At the end of its bytes, of which this is the digest, if it was asked.
+    Whole { bytes: u64, digest: Option<Digest> },
     /// At this line, counted from 1, the first that is refused.
     Refused { line: u64, cause: Cause },
 }
@@ -42,12 +42,13 @@ pub enum ReadStop {
     NoMemory,
 }
 
-/// How many bytes a reader that is done has taken, and their digest.
+/// How many bytes a reader that is done has taken, and their digest, if it was asked.
 pub fn whole<R: Threads>(rt: &R, reader: DayReader) -> DayEnd
     ensures exact { (bytes : List ℕ) → HasTaken reader.consumed bytes → EndsReading result bytes None }
     ensures left { (left : Option (List ℕ)) (bytes : List ℕ) → HasTaken reader.consumed bytes
         → HasRead (ahead reader.cutter left) reader.consumed bytes → LeavesBehind result bytes left }
     ensures short { reader.intake.line_limit ≤ 16000000 → IsShortDay result }
+    ensures digested { IsDigested reader.consumed.digested result }
 {
     let bytes = reader.bytes();
     DayEnd::Whole {
@@ -56,12 +57,14 @@ pub fn whole<R: Threads>(rt: &R, reader: DayReader) -> DayEnd
     }
 }
 
-/// Reads a day to its end or to the first line that is refused. Lines may come late by up to so many seconds.
+/// Reads a day to its end or to the first line that is refused, with or without the digest. Lines may come late by up
+/// to so many seconds.
 pub fn read_day<S: Source, R: Threads>(
     rt: &R,
     alloc: Global,
     limits: &Limits,
     late: u8,
+    digested: bool,
     source: &mut S,
 ) -> Result<Day, ReadStop>
     requires within { IsLimits limits.now }
@@ -72,6 +75,7 @@ pub fn read_day<S: Source, R: Threads>(
         → IfOk result (λ d. EndsReading d.end bytes (reads bytes limits.now late).refused) }
     ensures fit { IfOk result (λ d. Fit d.tuples.items limits.now) }
     ensures short { IfOk result (λ d. IsShortDay d.end) }
+    ensures digested { IfOk result (λ d. IsDigested digested d.end) }
     ensures left { (bytes : List ℕ) → S.left source.old ≡ Some bytes
         → IfOk result (λ d. LeavesBehind d.end bytes (S.left source.new)) }
     ensures bounded { ReadsWithin (most_of_day limits.now) (S.left source.old) (S.left source.new) }
@@ -80,7 +84,7 @@ pub fn read_day<S: Source, R: Threads>(
         (result ≡ Err ReadFault) }
     ensures still { NeverFails (S.plan source.old) → NeverFails (S.plan source.new) }
 {
-    let Ok(mut reader) = DayReader::new(alloc, limits, late) else {
+    let Ok(mut reader) = DayReader::new(alloc, limits, late, digested) else {
         return Err(ReadStop::NoMemory);
     };
     // Read for the proof alone: it is a number of 32 bits.

@@ -13,7 +13,8 @@ use Rattle.day_reading.specs.declared.day_ahead.Following.{Following}
 use Rattle.day_reading.specs.declared.day_ahead.Following.TheVariants.{Waits, Ends, Stops}
 use Rattle.day_reading.specs.declared.day_reader.DayReader.{DayReader}
 use Rattle.day_reading.specs.Readings.{GivesTuple, HasReadOf}
-use Rattle.day_reading.specs.Ahead.{answer_of, is_waiting, has_more, IsAhead, IsGatheringAhead, HasReadAhead}
+use Rattle.day_reading.specs.Ahead.{answer_of, is_waiting, has_more, is_digested}
+use Rattle.day_reading.specs.Ahead.{IsAhead, IsGatheringAhead, HasReadAhead}
 use Rattle.day_reading.specs.Ahead.{GivesAhead, GathersAhead}
 use Rattle.day_reading.proofs.AheadLaws.{ahead_front, ahead_fit}
 use Rattle.expressway.specs.Results.{AreFirst}
@@ -27,6 +28,7 @@ pub given_none : (limits : Limits) (late : ℕ) (d : DayAhead) (left : Option (L
 given_none limits late d left = record {
   gathers = λ given h. subst (IsGatheringAhead d limits late) (sym (append-nil given)) h;
   reads = λ bytes given h. subst (IsAhead d limits late left bytes) (sym (append-nil given)) h;
+  digested = refl;
 }
 
 -- some, and then some more
@@ -38,6 +40,7 @@ given_more limits late xs ys old mid new was between left a b = record {
       (b.gathers (given ++ xs) (a.gathers given h));
   reads = λ bytes given h. subst (IsAhead new limits late left bytes) (append_assoc given xs ys)
       (b.reads bytes (given ++ xs) (a.reads bytes given h));
+  digested = b.digested ∙ a.digested;
 }
 
 -- the answer of `next` gives one more, or none
@@ -49,16 +52,19 @@ pub given_one : (limits : Limits) (late : ℕ) (r : Result (Option Tuple) ReadSt
     (old new : DayAhead) (was left : Option (List ℕ)) → r ≡ Ok o →
     ((given : List Tuple) → IsGatheringAhead old limits late given → GathersAhead r new limits late given) →
     ((bytes : List ℕ) (given : List Tuple) → IsAhead old limits late was bytes given →
-    GivesAhead r new limits late left bytes given) → HasGiven limits late (one_of o) old new was left
-given_one limits late r (Some x) old new was left e gathers gives = record {
+    GivesAhead r new limits late left bytes given) → is_digested new ≡ is_digested old →
+    HasGiven limits late (one_of o) old new was left
+given_one limits late r (Some x) old new was left e gathers gives same = record {
   gathers = λ given h. subst (λ a. GathersAhead a new limits late given) e (gathers given h);
   reads = λ bytes given h. subst (λ a. GivesAhead a new limits late left bytes given) e (gives bytes given h);
+  digested = same;
 }
-given_one limits late r None old new was left e gathers gives = record {
+given_one limits late r None old new was left e gathers gives same = record {
   gathers = λ given h. subst (IsGatheringAhead new limits late) (sym (append-nil given))
       (subst (λ a. GathersAhead a new limits late given) e (gathers given h));
   reads = λ bytes given h. subst (IsAhead new limits late left bytes) (sym (append-nil given))
       (subst (λ a. GivesAhead a new limits late left bytes given) e (gives bytes given h));
+  digested = same;
 }
 
 -- what was given is the first of the day that the bytes are

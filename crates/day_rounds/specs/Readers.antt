@@ -4,7 +4,7 @@ use Rattle.road_time.specs.declared.road.Tuple.{Tuple}
 use Rattle.road_time.specs.declared.day.Limits.{Limits}
 use Rattle.day_reading.specs.declared.day_ahead.DayAhead.{DayAhead}
 use Rattle.day_reading.specs.declared.whole_day.ReadStop.{ReadStop}
-use Rattle.day_reading.specs.Ahead.{has_more, IsAhead, IsGatheringAhead, HasFailedAhead}
+use Rattle.day_reading.specs.Ahead.{has_more, is_digested, IsAhead, IsGatheringAhead, HasFailedAhead}
 
 -- a reader gave some tuples more, of a day under these limits and at this lateness
 pub record HasGiven (limits : Limits) (late : ℕ) (xs : List Tuple) (old new : DayAhead) (was left : Option (List ℕ)) :
@@ -13,6 +13,7 @@ pub record HasGiven (limits : Limits) (late : ℕ) (xs : List Tuple) (old new : 
       IsGatheringAhead new limits late (given ++ xs)
   pub reads : (bytes : List ℕ) (given : List Tuple) → IsAhead old limits late was bytes given →
       IsAhead new limits late left bytes (given ++ xs)
+  pub digested : is_digested new ≡ is_digested old
 
 -- where nothing stopped the reader it gave so many tuples more, or all that were left, and none where none was
 pub record HasReadOn (stop : Option ReadStop) (count : ℕ) (xs : List Tuple) (old new : DayAhead)

@@ -3,8 +3,8 @@ ghost use Rattle.std.specs.Prelude.{◌≡◌, ◌≤◌, [], ℕ, List, Option,
 ghost use Rattle.road_time.specs.Reads.{reads};
 ghost use Rattle.road_io.specs.Plans.{NeverFails};
 ghost use Rattle.road_io.specs.Rooms.{Endless};
-ghost use Rattle.day_reading.specs.Days.{LeavesBehind, most_of_day};
-ghost use Rattle.day_reading.specs.Ahead.{IsAhead, IsGatheringAhead, HasReadAhead, HasFailedAhead};
+ghost use Rattle.day_reading.specs.Days.{IsDigested, LeavesBehind, most_of_day};
+ghost use Rattle.day_reading.specs.Ahead.{is_digested, IsAhead, IsGatheringAhead, HasReadAhead, HasFailedAhead};
 ghost use Rattle.settling.specs.Answers.{history_of};
 ghost use Rattle.settling.specs.Boards.{IsAbreast};
 ghost use Rattle.watermark.specs.Shares.{start};
@@ -88,6 +88,7 @@ pub fn run_opened<C: Crew, S: Source, K: Keeper, O: Sink, P: Publisher, R: Threa
         → (bytes : List ℕ) → IsAhead ahead run.floor.limits late (S.left source.old) bytes []
         → HasReadAhead ahead run.floor.limits.lines (S.left source.old) bytes
         → LeavesBehind r.end bytes (S.left source.new)) }
+    ensures digested { IfOk result (λ r. IsDigested (is_digested ahead) r.end) }
     ensures planned { OnOk result ((e : Setting) (late : ℕ)
         → Runs C.out C.number C.holds C.gave C.exact C.jobs C.answers e (C.jobs crew.old) (C.answers crew.old) run
         crew.old start

@@ -3,7 +3,7 @@ ghost use Rattle.std.specs.Prelude.{◌≡◌, ◌≤◌, [], ℕ, List, Some, N
 ghost use Rattle.road_time.specs.Reads.{reads};
 ghost use Rattle.road_io.specs.Plans.{NeverFails};
 ghost use Rattle.road_io.specs.Rooms.{Endless};
-ghost use Rattle.day_reading.specs.Days.{LeavesBehind, most_of_day};
+ghost use Rattle.day_reading.specs.Days.{IsDigested, LeavesBehind, most_of_day};
 ghost use Rattle.road_io.specs.Within.{ReadsWithin};
 ghost use Rattle.settling.specs.Answers.{history_of};
 ghost use Rattle.settling.specs.Boards.{IsAbreast};
@@ -28,14 +28,15 @@ use std::alloc::Global;
 use std::thread::Threads;
 
 /// Imports the tuples of a day to its end, or to the first line that is refused: it reads, and makes turns by the plan
-/// until all is settled. What is written is their output, by the findings that the crew answered. On every exit the
-/// crew has nothing out.
+/// until all is settled. What is written is their output, by the findings that the crew answered. The digest of the
+/// bytes is taken where it is asked. On every exit the crew has nothing out.
 pub fn run_day<C: Crew, S: Source, K: Keeper, O: Sink, P: Publisher, R: Threads>(
     rt: &R,
     alloc: Global,
     plan: &Plan,
     limits: &Limits,
     late: u8,
+    digested: bool,
     tariffs: &Tariffs,
     day: u32,
     source: &mut S,
@@ -76,6 +77,7 @@ pub fn run_day<C: Crew, S: Source, K: Keeper, O: Sink, P: Publisher, R: Threads>
     ensures bounded { ReadsWithin (most_of_day limits.now) (S.left source.old) (S.left source.new) }
     ensures leaves { IfOk result (λ run. (bytes : List ℕ) → S.left source.old ≡ Some bytes
         → LeavesBehind run.end bytes (S.left source.new)) }
+    ensures digested { IfOk result (λ run. IsDigested digested run.end) }
     ensures planned { OnOk result ((bytes : List ℕ) → S.left source.old ≡ Some bytes
         → HasPlannedJobs plan.now.turns plan.now.width limits.now.backlog (reads bytes limits.now late).tuples
         (C.jobs crew.old) (C.jobs crew.new)) }
@@ -95,7 +97,7 @@ pub fn run_day<C: Crew, S: Source, K: Keeper, O: Sink, P: Publisher, R: Threads>
     let Ok(run) = begin(alloc, plan.width, limits, tariffs) else {
         return Err(DayFault::NoMemory);
     };
-    match DayAhead::open(rt, alloc, limits, late, source) {
+    match DayAhead::open(rt, alloc, limits, late, digested, source) {
         Err(stop) => Err(reading_stopped(stop)),
         Ok(ahead) => {
             let these = Vec::new(alloc);

@@ -28,7 +28,7 @@ fn read_day<S: Source, R: Threads>(rt: &R, alloc: Global, source: &mut S) -> Opt
     ensures { IfSome result (λ d. Fit d.items DAY) }
 {
     let limits = Limits::DAY;
-    let Ok(mut reader) = DayReader::new(alloc, &limits, 0) else {
+    let Ok(mut reader) = DayReader::new(alloc, &limits, 0, false) else {
         return None;
     };
     let mut tuples = Vec::new(alloc);

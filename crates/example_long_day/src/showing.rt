@@ -1,16 +1,29 @@
 // What is printed of an outcome.
-use import_once::Outcome;
+use import_once::{AnsweredDay, Outcome};
 use keeper::DayRecord;
 use std::io;
 use std::rt::HostRuntime;
 
+/// What a day comes to, in figures.
+fn show_sums(rt: HostRuntime, word: &str, day: &AnsweredDay) -> io::Result<()> {
+    let AnsweredDay {
+        bytes,
+        tuples,
+        notices,
+        total,
+    } = *day;
+    println!(rt; "{word}: {tuples} tuples, {bytes} bytes, {notices} notices, {total} charged")
+}
+
 /// A record in figures, and the digests of its lines and of its notices.
 fn show_record(rt: HostRuntime, word: &str, record: &DayRecord) -> io::Result<()> {
-    let tuples = record.tuples;
-    let bytes = record.bytes;
-    let notices = record.notices;
-    let total = record.total;
-    println!(rt; "{word}: {tuples} tuples, {bytes} bytes, {notices} notices, {total} charged")?;
+    let sums = AnsweredDay {
+        bytes: record.bytes,
+        tuples: record.tuples,
+        notices: record.notices,
+        total: record.total,
+    };
+    show_sums(rt, word, &sums)?;
     let (Ok(read), Ok(told)) = (
         record.digest.text(rt.alloc()),
         record.notices_digest.text(rt.alloc()),
@@ -24,7 +37,7 @@ fn show_record(rt: HostRuntime, word: &str, record: &DayRecord) -> io::Result<()
 /// An outcome.
 pub(crate) fn show(rt: HostRuntime, outcome: &Outcome) -> io::Result<()> {
     match outcome {
-        Outcome::Answered(record) => show_record(rt, "answered", record),
+        Outcome::Answered(day) => show_sums(rt, "answered", day),
         Outcome::Stored(record) => show_record(rt, "stored", record),
         Outcome::Already(record) => show_record(rt, "already", record),
         other => println!(rt; "{other:?}"),

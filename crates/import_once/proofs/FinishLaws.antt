@@ -28,13 +28,13 @@ use Rattle.import_once.specs.declared.outcomes.Outcome.TheVariants.{ReadFault, W
 use Rattle.day_rounds.specs.declared.day_run.WorkedDay.{WorkedDay}
 use Rattle.day_rounds.specs.declared.fault.DayFault.{DayFault}
 use Rattle.day_rounds.specs.declared.fault.DayFault.TheVariants as stop
-use Rattle.import_once.specs.Imports.{DayAnswer, Work, work_by, worked_record, worked_office, import_worked}
-use Rattle.import_once.specs.Imports.{answers_worked, unless_passed, Does, Merges, KeepsAll, LeavesAlone, LeavesRead}
+use Rattle.import_once.specs.Imports.{DayAnswer, Work, work_by, worked_record, worked_office}
+use Rattle.import_once.specs.Imports.{import_worked, answers_worked, unless_passed, Does, Merges, KeepsAll, LeavesAlone, LeavesRead}
 use Rattle.import_once.specs.Imports.{IsOfNewDay, IsOfKeptDay}
-use Rattle.import_once.specs.Stages.{run_record, Stores, Finishes, Tells, IsRecordAnswered, IsReadWhole, IsOfEnd}
+use Rattle.import_once.specs.Stages.{run_record, Stores, Finishes, Tells, IsReadWhole, IsOfEnd}
 use Rattle.day_rounds.specs.Faults.{WritesUpTo}
 use Rattle.import_once.specs.Runs.{stopped_outcome, WhereWorked}
-use Rattle.import_once.proofs.WorkLaws.{record_is, rows_are}
+use Rattle.import_once.proofs.WorkLaws.{record_is, sums_are, rows_are}
 
 module _ (w : WhenRefused) (work : Work) (number : ℕ) (bytes : List ℕ) (day : List Tuple) (o : Office)
     (old new : Option (List ℕ)) (now : Option Office) (wrote : Appends old new (out work.told)) where
@@ -74,7 +74,8 @@ module _ (w : WhenRefused) (number : ℕ) (found : List (ℕ × StretchTold)) (b
   pub finishes_does : (end : DayEnd) (refused : Option (ℕ × Fault)) (outcome : Outcome) → EndsReading end bytes refused
       → Finishes w number end run tariffs o now outcome
       → Does w (import_worked (work_by found number day o) number bytes day refused o) o old new now outcome
-  finishes_does (Whole n digest) refused outcome e h =
+  finishes_does (Whole n None) refused outcome e h = absurd h
+  finishes_does (Whole n (Some digest)) refused outcome e h =
       subst (λ (r : Option (ℕ × Fault)). Does w (import_worked (work_by found number day o) number bytes day r o) o old
       new now outcome) (sym e.0)
       (stores_does w (work_by found number day o) number bytes day o old new now wrote
@@ -91,41 +92,24 @@ module _ (w : WhenRefused) (number : ℕ) (found : List (ℕ × StretchTold)) (b
 
 module _ (w : WhenRefused) (number : ℕ) (found : List (ℕ × StretchTold)) (bytes : List ℕ) (day : List Tuple)
     (o : Office)
-    (old new : Option (List ℕ)) (now : Option Office) (run : WorkedDay) (tariffs : Tariffs)
+    (old new : Option (List ℕ)) (now : Option Office) (run : WorkedDay)
     (wrote : Appends old new (out (work_by found number day o).told)) (count : run.tuples ≡ length day)
-    (closed : IsClosed run.closed number (given found) number (Some (paid o.rows)) day)
-    (under : tariffs ≡ o.tariffs) (same : now ≡ Some o) where
-  -- a day that was worked and answered
-  tells_whole : (kept : DayRecord) (outcome : Outcome) →
-      kept ≡ worked_record (work_by found number day o) number bytes day o → IsRecordAnswered kept outcome
-      → Does w (answers_worked (work_by found number day o) number bytes day None o) o old new now outcome
-  tells_whole kept (Answered r) e h = record { outcome_is = ap Answered (h ∙ e); wrote = wrote; kept = same }
-  tells_whole kept NoMemory e h =
-      inl (
-        (
-          length (out (work_by found number day o).told),
-          subst (Appends old new)
-              (sym (take-length (out (work_by found number day o).told))) wrote,
-        ),
-        same,
-      )
-  tells_whole kept _ e h = absurd h
-
+    (closed : IsClosed run.closed number (given found) number (Some (paid o.rows)) day) (same : now ≡ Some o) where
   -- a day that is answered, or whose refused line is named
   pub tells_does : (end : DayEnd) (refused : Option (ℕ × Fault)) (outcome : Outcome) → EndsReading end bytes refused →
-      Tells number end run tariffs outcome
-      → Does w (answers_worked (work_by found number day o) number bytes day refused o) o old new now outcome
+      Tells end run outcome
+      → Does w (answers_worked (work_by found number day o) bytes day refused o) o old new now outcome
   tells_does (Whole n digest) refused outcome e h =
-      subst (λ (r : Option (ℕ × Fault)). Does w (answers_worked (work_by found number day o) number bytes day r o) o old
-      new now outcome) (sym e.0)
-      (tells_whole (run_record number n digest run tariffs) outcome
-      (record_is number found day o run closed bytes n digest tariffs count e.1 e.2 under) h)
+      let sums = sums_are number found day o run closed bytes n count e.1 in
+      subst (λ (r : Option (ℕ × Fault)). Does w (answers_worked (work_by found number day o) bytes day r o) o old new now
+      outcome) (sym e.0)
+      (subst (Does w (answers_worked (work_by found number day o) bytes day None o) o old new now) (sym h)
+      (record { outcome_is = ap Answered sums; wrote = wrote; kept = same }))
   tells_does (RefusedAt line cause) refused outcome e h =
       let fault = e.0 in
-      subst (λ (r : Option (ℕ × Fault)). Does w (answers_worked (work_by found number day o) number bytes day r o) o old
-      new now outcome) (sym e.1)
-      (subst (Does w (answers_worked (work_by found number day o) number bytes day (Some (line, fault)) o) o old new
-      now) (sym h)
+      subst (λ (r : Option (ℕ × Fault)). Does w (answers_worked (work_by found number day o) bytes day r o) o old new now
+      outcome) (sym e.1)
+      (subst (Does w (answers_worked (work_by found number day o) bytes day (Some (line, fault)) o) o old new now) (sym h)
       (record { outcome_is = ap (Refused line) (sym e.2); wrote = wrote; kept = same }))
 
 -- the work of a day was stopped
@@ -151,10 +135,10 @@ text_worked work number bytes day None o = refl
 text_worked work number bytes day (Some (line, fault)) o = refl
 
 -- and so that of answering it
-pub text_answered : (work : Work) (number : ℕ) (bytes : List ℕ) (day : List Tuple) (refused : Option (ℕ × Fault))
-    (o : Office) → (answers_worked work number bytes day refused o).text ≡ out work.told
-text_answered work number bytes day None o = refl
-text_answered work number bytes day (Some (line, fault)) o = refl
+pub text_answered : (work : Work) (bytes : List ℕ) (day : List Tuple) (refused : Option (ℕ × Fault)) (o : Office) →
+    (answers_worked work bytes day refused o).text ≡ out work.told
+text_answered work bytes day None o = refl
+text_answered work bytes day (Some (line, fault)) o = refl
 
 -- a day after all that is kept is read
 pub new_is_read : (read : DayAnswer) (number : ℕ) (o : Office) → last_day o < number →
@@ -190,14 +174,13 @@ whole_unrefused (Whole n digest) bytes refused e h = e.0
 whole_unrefused (RefusedAt line cause) bytes refused e h = absurd h
 
 -- what is left of the source of a day that was answered, or whose refused line was named
-pub tells_leaves : (number : ℕ) (run' : WorkedDay) (tariffs : Tariffs) (end : DayEnd) (refused : Option (ℕ × Fault))
-    (bytes : List ℕ) (left : Option (List ℕ)) (outcome : Outcome)
-    → EndsReading end bytes refused → LeavesBehind end bytes left → Tells number end run' tariffs outcome →
+pub tells_leaves : (run' : WorkedDay) (end : DayEnd) (refused : Option (ℕ × Fault)) (bytes : List ℕ)
+    (left : Option (List ℕ)) (outcome : Outcome)
+    → EndsReading end bytes refused → LeavesBehind end bytes left → Tells end run' outcome →
     LeavesRead outcome refused bytes left
-tells_leaves number run' tariffs (Whole n digest) refused bytes left (Answered kept) e l h = (e.0, l)
-tells_leaves number run' tariffs (Whole n digest) refused bytes left NoMemory e l h = tt
-tells_leaves number run' tariffs (Whole n digest) refused bytes left _ e l h = absurd h
-tells_leaves number run' tariffs (RefusedAt line cause) refused bytes left outcome e l h =
+tells_leaves run' (Whole n digest) refused bytes left outcome e l h =
+    subst (λ (o : Outcome). LeavesRead o refused bytes left) (sym h) (e.0, l)
+tells_leaves run' (RefusedAt line cause) refused bytes left outcome e l h =
     subst (λ (o : Outcome). LeavesRead o refused bytes left) (sym h) (e, l)
 
 -- what is left of that of a day that was stored, or whose refused line was named

@@ -29,8 +29,8 @@ use Rattle.settling.proofs.AnswerLaws.{notices_few, notices_exact}
 use Rattle.day_reading.specs.Days.{IsShortDay}
 use Rattle.day_rounds.specs.Imports.{AreRightFor}
 use Rattle.day_rounds.specs.declared.day_run.WorkedDay.{WorkedDay}
-use Rattle.import_once.specs.Imports.{work_of, work_by, worked_record}
-use Rattle.import_once.specs.Stages.{run_record, CanPut}
+use Rattle.import_once.specs.Imports.{work_of, work_by, worked_record, worked_sums}
+use Rattle.import_once.specs.Stages.{run_record, run_sums, CanPut}
 
 -- a day that was worked may be put, whatever was found for it
 pub run_fits : (number : ℕ) (limits : Limits) (found : List (ℕ × StretchTold)) (history : PaidHistory)
@@ -87,6 +87,14 @@ module _ (number : ℕ) (found : List (ℕ × StretchTold)) (day : List Tuple) (
       let many : run.closed.notices ≡ length ns = closed.count ∙ ap length told_is in
       let text : run.closed.notices_digest ≡ digest_of (out ns) = closed.digest
       ∙ ap (λ ms. digest_of (out ms)) told_is in
+      let sum : run.closed.total ≡ sum_of (work_by found number day o).charged = closed.total in
+      cc
+
+  -- what a day that was worked comes to is that of its work
+  pub sums_are : (bytes : List ℕ) (n : ℕ) → run.tuples ≡ length day → n ≡ length bytes →
+      run_sums n run ≡ worked_sums (work_by found number day o) bytes day
+  sums_are bytes n count size =
+      let many : run.closed.notices ≡ length (work_by found number day o).told = closed.count ∙ ap length told_is in
       let sum : run.closed.total ≡ sum_of (work_by found number day o).charged = closed.total in
       cc
 

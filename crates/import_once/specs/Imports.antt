@@ -27,6 +27,7 @@ use Rattle.keeper.specs.Calls.{WhenRefused, Leaves}
 use Rattle.settling.specs.Printing.{WritesFront, WritesLess}
 use Rattle.day_reading.specs.Days.{StopsSoon, most_of_day}
 use Rattle.import_once.specs.declared.outcomes.Outcome.{Outcome}
+use Rattle.import_once.specs.declared.outcomes.AnsweredDay.{AnsweredDay}
 use Rattle.import_once.specs.declared.outcomes.Outcome.TheVariants.{Stored, Already, Answered, Refused, DayPassed}
 use Rattle.import_once.specs.declared.outcomes.Outcome.TheVariants.{Differs, ReadFault, WriteFault, KeeperFault}
 use Rattle.import_once.specs.declared.outcomes.Outcome.TheVariants.{NoMemory}
@@ -68,6 +69,16 @@ worked_record work number bytes day o =
           sum_of work.charged;
     }
 
+-- what a day with this work comes to
+abbrev pub worked_sums : Work → List ℕ → List Tuple → AnsweredDay
+worked_sums work bytes day =
+    record {
+      bytes = length bytes;
+      tuples = length day;
+      notices = length work.told;
+      total = sum_of work.charged;
+    }
+
 -- the office with that day
 abbrev pub worked_office : Work → ℕ → List ℕ → List Tuple → Office → Office
 worked_office work number bytes day o =
@@ -86,10 +97,10 @@ import_worked work number bytes day (Some (line, fault)) o =
     record { outcome = Refused line (cause_of fault); text = out work.told; office = o }
 
 -- the output of all tuples of a day that is answered, or of those before the first refused line; nothing is kept
-abbrev pub answers_worked : Work → ℕ → List ℕ → List Tuple → Option (ℕ × Fault) → Office → DayAnswer
-answers_worked work number bytes day None o =
-    record { outcome = Answered (worked_record work number bytes day o); text = out work.told; office = o }
-answers_worked work number bytes day (Some (line, fault)) o =
+abbrev pub answers_worked : Work → List ℕ → List Tuple → Option (ℕ × Fault) → Office → DayAnswer
+answers_worked work bytes day None o =
+    record { outcome = Answered (worked_sums work bytes day); text = out work.told; office = o }
+answers_worked work bytes day (Some (line, fault)) o =
     record { outcome = Refused line (cause_of fault); text = out work.told; office = o }
 
 -- a day that is kept: whether what was found is what is kept
@@ -121,7 +132,7 @@ import_read number bytes day refused o = import_worked (work_of number day o) nu
 
 -- answering a day that was read
 abbrev pub answers_read : ℕ → List ℕ → List Tuple → Option (ℕ × Fault) → Office → DayAnswer
-answers_read number bytes day refused o = answers_worked (work_of number day o) number bytes day refused o
+answers_read number bytes day refused o = answers_worked (work_of number day o) bytes day refused o
 
 -- importing a new day of these bytes
 abbrev pub new_import : ℕ → ℕ → Limits → List ℕ → Office → DayAnswer
@@ -145,7 +156,7 @@ import_merged found number bytes day refused o = import_worked (work_by found nu
 
 -- answering a day that was read, by these findings
 abbrev pub answers_merged : List (ℕ × StretchTold) → ℕ → List ℕ → List Tuple → Option (ℕ × Fault) → Office → DayAnswer
-answers_merged found number bytes day refused o = answers_worked (work_by found number day o) number bytes day refused o
+answers_merged found number bytes day refused o = answers_worked (work_by found number day o) bytes day refused o
 
 -- importing a new day of these bytes
 abbrev pub new_import_found : List (ℕ × StretchTold) → ℕ → ℕ → Limits → List ℕ → Office → DayAnswer

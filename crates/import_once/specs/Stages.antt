@@ -1,5 +1,5 @@
 -- What the stages of an import do.
-use Rattle.std.specs.Prelude.{ℕ, ◌≡◌, ◌+◌, ◌<◌, ◌^◌, List, drop, Option, Some}
+use Rattle.std.specs.Prelude.{ℕ, ◌≡◌, ◌+◌, ◌<◌, ◌^◌, List, drop, Option, Some, None}
 use Rattle.std.specs.List.{AllByRecursion}
 use Rattle.road_time.specs.declared.day.SpentRow.{SpentRow}
 use Rattle.road_time.specs.Rates.{Tariffs}
@@ -13,6 +13,7 @@ use Rattle.day_reading.specs.declared.whole_day.DayEnd.{DayEnd}
 use Rattle.day_reading.specs.declared.whole_day.DayEnd.TheVariants as end
 use Rattle.day_reading.specs.Days.{IsShortDay}
 use Rattle.import_once.specs.declared.outcomes.Outcome.{Outcome}
+use Rattle.import_once.specs.declared.outcomes.AnsweredDay.{AnsweredDay}
 use Rattle.import_once.specs.declared.outcomes.Outcome.TheVariants.{Stored, Already, Answered, Refused, Differs}
 use Rattle.import_once.specs.declared.outcomes.Outcome.TheVariants.{ReadFault, KeeperFault, NoMemory}
 use Rattle.day_rounds.specs.declared.day_run.WorkedDay.{WorkedDay}
@@ -54,24 +55,24 @@ Stores w kept rows was now NoMemory =
     (o : Office) × (now ≡ Some o) × Leaves w keeping.NoMemory o was (with_day kept rows was)
 Stores w kept rows was now _ = ⊥
 
--- a day that was read whole was put, or was refused; of another one the first refused line is named, and nothing is put
+-- a day that was read whole, with its digest, was put, or was refused; of another one the first refused line is named,
+-- and nothing is put
 abbrev pub Finishes : WhenRefused → ℕ → DayEnd → WorkedDay → Tariffs → Office → Option Office → Outcome → Type 0
-Finishes w number (end.Whole bytes digest) run tariffs was now outcome =
+Finishes w number (end.Whole bytes None) run tariffs was now outcome = ⊥
+Finishes w number (end.Whole bytes (Some digest)) run tariffs was now outcome =
     Stores w (run_record number bytes digest run tariffs) run.closed.rows was now outcome
 Finishes w number (end.Refused line cause) run tariffs was now outcome =
     (outcome ≡ Refused line cause) × (now ≡ Some was)
 
--- a record is answered, or memory ran out
-abbrev pub IsRecordAnswered : DayRecord → Outcome → Type 0
-IsRecordAnswered kept (Answered r) = r ≡ kept
-IsRecordAnswered kept NoMemory = Unit {0}
-IsRecordAnswered kept _ = ⊥
+-- what a day that was worked comes to
+abbrev pub run_sums : ℕ → WorkedDay → AnsweredDay
+run_sums bytes run =
+    record { bytes = bytes; tuples = run.tuples; notices = run.closed.notices; total = run.closed.total }
 
--- a day that was read whole is answered, unless memory runs out; of another one the first refused line is named
-abbrev pub Tells : ℕ → DayEnd → WorkedDay → Tariffs → Outcome → Type 0
-Tells number (end.Whole bytes digest) run tariffs outcome =
-    IsRecordAnswered (run_record number bytes digest run tariffs) outcome
-Tells number (end.Refused line cause) run tariffs outcome = outcome ≡ Refused line cause
+-- a day that was read whole is answered; of another one the first refused line is named
+abbrev pub Tells : DayEnd → WorkedDay → Outcome → Type 0
+Tells (end.Whole bytes digest) run outcome = outcome ≡ Answered (run_sums bytes run)
+Tells (end.Refused line cause) run outcome = outcome ≡ Refused line cause
 
 -- a day was read to its end
 abbrev pub IsReadWhole : DayEnd → Type 0

@@ -82,6 +82,7 @@ fn answer_under<S: Source, O: Sink, K: Keeper, C: Crew, R: Threads>(
         plan,
         limits,
         late,
+        false,
         tariffs,
         number,
         source,
@@ -90,7 +91,7 @@ fn answer_under<S: Source, O: Sink, K: Keeper, C: Crew, R: Threads>(
         crew,
         &mut publisher,
     ) {
-        Ok(run) => finish_answers(alloc, number, &run, tariffs),
+        Ok(run) => finish_answers(&run),
         Err(fault) => stopped(fault),
     }
 }

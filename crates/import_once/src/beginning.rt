@@ -92,7 +92,7 @@ fn import_under<S: Source, O: Sink, K: Keeper, C: Crew, P: Publisher, R: Threads
     ensures asked { AsksBy 0 result (K.plan keeper.old) (K.plan keeper.new) }
 {
     match run_day(
-        rt, alloc, plan, limits, late, tariffs, number, source, keeper, sink, crew, publisher,
+        rt, alloc, plan, limits, late, true, tariffs, number, source, keeper, sink, crew, publisher,
     ) {
         Ok(run) => finish_import(alloc, number, &run, tariffs, keeper),
         Err(fault) => stopped(fault),

@@ -1,18 +1,19 @@
-// The record and the amounts of a day that was worked, and how it is put.
-ghost use Rattle.std.specs.Prelude.{◌≡◌, ◌≢◌, ℕ, Some, IfOk};
+// The record and the amounts of a day that was worked, and how it is put; what one comes to that is answered.
+ghost use Rattle.std.specs.Prelude.{◌≡◌, ◌≢◌, ℕ, Option, Some, IfOk, true};
 ghost use Rattle.keeper.specs.Office.{Office};
 ghost use Rattle.keeper.specs.Kept.{IsDayPut, IsLater};
 ghost use Rattle.keeper.specs.Calls.{IfTold};
 ghost use Rattle.keeper.specs.declared.kept.DayRecord.{DayRecord as DayRecordValue};
 ghost use Rattle.keeper.specs.declared.digest.Digest.{Digest as DigestValue};
 ghost use Rattle.day_reading.specs.declared.whole_day.DayEnd.TheVariants.{Whole};
+ghost use Rattle.day_reading.specs.Days.{IsDigested};
 ghost use Rattle.road_io.specs.Blame.{FaultsByPlan};
 ghost use Rattle.import_once.specs.Asked.{AsksBy};
 ghost use Rattle.import_once.specs.Imports.{IsOfNewDay, IsOfAnswers, PutsOnce, KeepsAll};
 ghost use Rattle.import_once.specs.Stages.{run_record, CanPut, Stores, Finishes, Tells, IsReadWhole, IsOfEnd};
 ghost use Rattle.import_once.specs.declared.outcomes.Outcome.TheVariants.{Stored, ReadFault, WriteFault, KeeperFault};
 
-use crate::outcomes::{Outcome, refused};
+use crate::outcomes::{Outcome, refused, sums_of};
 use day_reading::DayEnd;
 use day_rounds::WorkedDay;
 use keeper::{DayRecord, Digest, Keeper, seal};
@@ -52,7 +53,7 @@ fn store<K: Keeper>(kept: &DayRecord, rows: &[SpentRow], keeper: &mut K) -> Outc
     ensures puts { (o : Office) → K.told keeper.old ≡ Some o → PutsOnce kept.now.day o (K.told keeper.new) }
     ensures keeps { KeepsAll result (K.told keeper.new ≡ K.told keeper.old) }
     ensures new_day { IsOfNewDay result }
-    ensures of_end { (bytes : ℕ) (digest : DigestValue) → IsOfEnd (Whole bytes digest) result }
+    ensures of_end { (bytes : ℕ) (digest : Option DigestValue) → IsOfEnd (Whole bytes digest) result }
     ensures unread { result ≢ ReadFault }
     ensures unwritten { result ≢ WriteFault }
     ensures keeper { FaultsByPlan (K.faults keeper.old) (K.faults keeper.new) (K.plan keeper.old)
@@ -74,6 +75,7 @@ pub fn finish_import<K: Keeper>(
     keeper: &mut K,
 ) -> Outcome
     requires can { CanPut number run.now }
+    requires digested { IsDigested true run.now.end }
     requires later { IfTold (K.told keeper.old) (λ o. IsLater number o) }
     ensures finishes { (o : Office) → K.told keeper.old ≡ Some o
         → Finishes K.refuses number run.now.end run.now tariffs.now o (K.told keeper.new) result }
@@ -90,18 +92,19 @@ pub fn finish_import<K: Keeper>(
 {
     match run.end {
         DayEnd::Refused { line, cause } => Outcome::Refused { line, cause },
-        DayEnd::Whole { bytes, digest } => {
-            match record_for(alloc, number, bytes, digest, run, tariffs) {
+        DayEnd::Whole { bytes, digest } => match digest {
+            Some(digest) => match record_for(alloc, number, bytes, digest, run, tariffs) {
                 Ok(kept) => store(&kept, run.closed.rows.items(), keeper),
                 Err(NoMemory) => Outcome::NoMemory,
-            }
-        }
+            },
+            None => unreachable!(),
+        },
     }
 }
 
 /// The answer to a day that was worked.
-pub fn finish_answers(alloc: Global, number: u32, run: &WorkedDay, tariffs: &Tariffs) -> Outcome
-    ensures tells { Tells number run.now.end run.now tariffs.now result }
+pub fn finish_answers(run: &WorkedDay) -> Outcome
+    ensures tells { Tells run.now.end run.now result }
     ensures own { IsOfAnswers result }
     ensures unread { result ≢ ReadFault }
     ensures unwritten { result ≢ WriteFault }
@@ -109,11 +112,6 @@ pub fn finish_answers(alloc: Global, number: u32, run: &WorkedDay, tariffs: &Tar
 {
     match run.end {
         DayEnd::Refused { line, cause } => Outcome::Refused { line, cause },
-        DayEnd::Whole { bytes, digest } => {
-            match record_for(alloc, number, bytes, digest, run, tariffs) {
-                Ok(kept) => Outcome::Answered(kept),
-                Err(NoMemory) => Outcome::NoMemory,
-            }
-        }
+        DayEnd::Whole { bytes, .. } => Outcome::Answered(sums_of(bytes, run)),
     }
 }

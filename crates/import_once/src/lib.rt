@@ -15,4 +15,4 @@ mod outcomes;
 
 pub use answering::answers;
 pub use importing::import;
-pub use outcomes::Outcome;
+pub use outcomes::{AnsweredDay, Outcome};

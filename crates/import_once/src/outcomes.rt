@@ -3,11 +3,21 @@ ghost use Rattle.std.specs.Prelude.{◌≡◌, ◌≢◌};
 ghost use Rattle.import_once.specs.Runs.{stopped_outcome, refused_outcome};
 ghost use Rattle.keeper.specs.declared.kept.DayRecord.{DayRecord as DayRecordValue};
 ghost use Rattle.import_once.specs.Imports.{IsOfNewDay, IsOfAnswers};
+ghost use Rattle.import_once.specs.Stages.{run_sums};
 ghost use Rattle.import_once.specs.declared.outcomes.Outcome.TheVariants.{Stored};
 
-use day_rounds::DayFault;
+use day_rounds::{DayFault, WorkedDay};
 use keeper::{DayRecord, Digest, KeepFault};
 use tuple_format::Cause;
+
+/// What a day that was answered comes to: its bytes, its tuples, its notices, and its charges added up.
+#[derive(Clone, Copy, Debug, PartialEq, Eq)]
+pub struct AnsweredDay {
+    pub bytes: u64,
+    pub tuples: u64,
+    pub notices: u64,
+    pub total: u64,
+}
 
 /// How the import of a day, or its answering, ends.
 #[derive(Clone, Copy, Debug, PartialEq, Eq)]
@@ -17,7 +27,7 @@ pub enum Outcome {
     /// The day was kept before, of the same bytes.
     Already(DayRecord),
     /// The day was answered and is not kept.
-    Answered(DayRecord),
+    Answered(AnsweredDay),
     /// This line, counted from 1, is the first that is refused.
     Refused { line: u64, cause: Cause },
     /// The day is not kept, and a later one is, or a history up to it.
@@ -32,6 +42,18 @@ pub enum Outcome {
     KeeperFault,
     /// Memory ran out.
     NoMemory,
+}
+
+/// What a day of so many bytes that was worked comes to.
+pub fn sums_of(bytes: u64, run: &WorkedDay) -> AnsweredDay
+    ensures { result ≡ run_sums bytes run.now }
+{
+    AnsweredDay {
+        bytes,
+        tuples: run.tuples,
+        notices: run.closed.notices,
+        total: run.closed.total,
+    }
 }
 
 /// The outcome of a day whose work was stopped.

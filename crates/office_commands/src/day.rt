@@ -90,7 +90,7 @@ pub fn read_day<S: Source, R: Threads>(
         (result ≡ Err ReadFault) }
 {
     let lesser = recomputed(limits, how);
-    match day_reading::read_day(rt, alloc, &lesser, late, source) {
+    match day_reading::read_day(rt, alloc, &lesser, late, false, source) {
         Ok(day) => Ok(ReadDay {
             refused: refused_at(day.end),
             tuples: day.tuples,

@@ -1,5 +1,5 @@
 // Reading a history: the type.
-ghost use Rattle.std.specs.Prelude.{◌≤◌, ◌*◌};
+ghost use Rattle.std.specs.Prelude.{◌≡◌, ◌≤◌, ◌*◌, true};
 ghost use Rattle.road_io.specs.Cutter.{line_number};
 
 use crate::amounts::Amounts;
@@ -14,5 +14,6 @@ pub struct PastReader {
     cutter: LineCutter,
     consumed: Consumed,
     amounts: Amounts,
+    ghost digested: { consumed.digested ≡ true },
     ghost few_bytes: { consumed.bytes ≤ 201 * line_number cutter },
 }

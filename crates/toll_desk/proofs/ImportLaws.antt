@@ -1,6 +1,6 @@
 -- Laws of a day that is imported from a body.
 use Rattle.std.proofs.Common.{◌≡◌, ℕ, ◌≤◌, List, [], ◌∷◌, length, take, zero, suc, refl, ap, subst, arith}
-use Rattle.keeper.specs.declared.kept.DayRecord.{DayRecord}
+use Rattle.import_once.specs.declared.outcomes.AnsweredDay.{AnsweredDay}
 use Rattle.import_once.specs.declared.outcomes.Outcome.{Outcome}
 use Rattle.import_once.specs.declared.outcomes.Outcome.TheVariants.{Stored, Already, Answered, Refused, DayPassed}
 use Rattle.import_once.specs.declared.outcomes.Outcome.TheVariants.{Differs, ReadFault, WriteFault, KeeperFault}
@@ -42,6 +42,6 @@ keeper_failed KeeperFault h = refl
 keeper_failed NoMemory h = absurd (h (λ e. cc e))
 
 -- an import that leaves what it should alone answered no day
-pub not_answered : (outcome : Outcome) (kept : DayRecord) → LeavesAlone outcome (Unit {0}) (Unit {0}) →
-    outcome ≡ Answered kept → ⊥
-not_answered outcome kept h e = subst (λ o. LeavesAlone o (Unit {0}) (Unit {0})) e h
+pub not_answered : (outcome : Outcome) (day : AnsweredDay) → LeavesAlone outcome (Unit {0}) (Unit {0}) →
+    outcome ≡ Answered day → ⊥
+not_answered outcome day h e = subst (λ o. LeavesAlone o (Unit {0}) (Unit {0})) e h

@@ -6,6 +6,7 @@ ghost use Rattle.road_time.specs.Fits.{IsLimits};
 ghost use Rattle.accounts.specs.Operations.{Posted};
 ghost use Rattle.keeper.specs.Office.{Office};
 ghost use Rattle.keeper.specs.declared.kept.DayRecord.{DayRecord};
+ghost use Rattle.import_once.specs.declared.outcomes.AnsweredDay.{AnsweredDay};
 ghost use Rattle.import_once.specs.declared.outcomes.Outcome.TheVariants.{Stored, ReadFault, WriteFault, KeeperFault};
 ghost use Rattle.import_once.specs.declared.outcomes.Outcome.TheVariants as outcomes;
 ghost use Rattle.toll_requests.specs.Bodies.{filled, LeavesBody, HasEndCause};
@@ -64,7 +65,7 @@ fn import_from<L: Link, K: Keeper, C: Crew, P: Publisher, R: Threads, N: Start>(
     ensures link_cause { HasEndCause N.plan N.faults (L.faults link.new) result.1 }
     ensures link_later { N.faults ≤ L.faults link.new }
     ensures unfailed { result.0 ≢ WriteFault }
-    ensures posted { (kept : DayRecord) → result.0 ≢ outcomes.Answered kept }
+    ensures posted { (day : AnsweredDay) → result.0 ≢ outcomes.Answered day }
     ensures keeper { FaultsByPlan (K.faults keeper.old) (K.faults keeper.new) (K.plan keeper.old)
         (result.0 ≡ KeeperFault) }
 {
@@ -129,7 +130,7 @@ pub fn import_body<L: Link, K: Keeper, C: Crew, P: Publisher, R: Threads>(
     ensures link_cause { HasEndCause (L.plan link.old) (L.faults link.old) (L.faults link.new) result.1 }
     ensures link_later { L.faults link.old ≤ L.faults link.new }
     ensures unfailed { result.0 ≢ WriteFault }
-    ensures posted { (kept : DayRecord) → result.0 ≢ outcomes.Answered kept }
+    ensures posted { (day : AnsweredDay) → result.0 ≢ outcomes.Answered day }
     ensures keeper { FaultsByPlan (K.faults keeper.old) (K.faults keeper.new) (K.plan keeper.old)
         (result.0 ≡ KeeperFault) }
 {

@@ -6,7 +6,7 @@ ghost use Rattle.road_io.specs.Plans.{NeverFails};
 ghost use Rattle.road_io.specs.Rooms.{Endless};
 ghost use Rattle.road_time.specs.Fits.{IsLimits};
 ghost use Rattle.keeper.specs.Office.{Office};
-ghost use Rattle.keeper.specs.declared.kept.DayRecord.{DayRecord};
+ghost use Rattle.import_once.specs.declared.outcomes.AnsweredDay.{AnsweredDay};
 ghost use Rattle.import_once.specs.declared.outcomes.Outcome.TheVariants as outcomes;
 ghost use Rattle.import_once.specs.declared.outcomes.Outcome.TheVariants.{ReadFault, WriteFault, KeeperFault};
 ghost use Rattle.toll_requests.specs.declared.session_end.SessionEnd.TheVariants.{Answered, LinkFault};
@@ -33,7 +33,7 @@ use toll_texts::{differs_body, imported_body, passed_body, refused_body};
 fn send_outcome<L: Link>(alloc: Global, link: &mut L, outcome: Outcome) -> SessionEnd
     requires read { outcome ≢ ReadFault }
     requires written { outcome ≢ WriteFault }
-    requires kept { (kept : DayRecord) → outcome ≢ outcomes.Answered kept }
+    requires kept { (day : AnsweredDay) → outcome ≢ outcomes.Answered day }
     ensures sent { AnswersOutcome outcome (L.room link.old) (L.written link.old) (L.written link.new) result }
     ensures unavailable { result ≡ Answered 503 → outcome ≡ KeeperFault }
     ensures told { outcome ≡ KeeperFault → TellsFault result }

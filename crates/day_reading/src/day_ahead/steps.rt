@@ -9,10 +9,10 @@ ghost use Rattle.road_io.specs.Blame.{FaultsByPlan};
 ghost use Rattle.road_io.specs.Plans.{NeverFails};
 ghost use Rattle.road_io.specs.Cutter.{line_number};
 ghost use Rattle.day_reading.specs.Lines.{FollowsAfter};
-ghost use Rattle.day_reading.specs.Days.{EndsReading, IsShortDay, LeavesBehind, most_of_day};
+ghost use Rattle.day_reading.specs.Days.{EndsReading, IsDigested, IsShortDay, LeavesBehind, most_of_day};
 ghost use Rattle.road_io.specs.Within.{ReadsWithin};
 ghost use Rattle.day_reading.specs.Readings.{IsReading, IsGathering, GivesTuple, GathersOn, HasReadOf, HasReaderFailed};
-ghost use Rattle.day_reading.specs.Ahead.{answer_of, has_more, IsAhead, IsGatheringAhead, HasReadAhead};
+ghost use Rattle.day_reading.specs.Ahead.{answer_of, has_more, is_digested, IsAhead, IsGatheringAhead, HasReadAhead};
 ghost use Rattle.day_reading.specs.Ahead.{HasFailedAhead, GivesAhead, GathersAhead};
 ghost use Rattle.day_reading.specs.declared.whole_day.ReadStop.TheVariants.{ReadFault};
 
@@ -46,6 +46,7 @@ fn look<S: Source, R: Threads>(
         ((HasReaderFailed reader.old → ⊥) × (result ≡ Err ReadFault)) }
     ensures still { (HasReaderFailed reader.old → ⊥) → NeverFails (S.plan source.old) → NeverFails (S.plan source.new) }
     ensures unfailed { (HasReaderFailed reader.old → ⊥) → result ≢ Err ReadFault → HasReaderFailed reader.new → ⊥ }
+    ensures digested { reader.new.consumed.digested ≡ reader.old.consumed.digested }
 {
     match reader.next(rt, source) {
         Ok(Some(tuple)) => Ok(Following::Waits(tuple)),
@@ -57,12 +58,13 @@ fn look<S: Source, R: Threads>(
 }
 
 impl DayAhead {
-    /// Reads up to the first tuple. Lines may come late by up to so many seconds.
+    /// Reads up to the first tuple, with or without the digest. Lines may come late by up to so many seconds.
     pub fn open<S: Source, R: Threads>(
         rt: &R,
         alloc: Global,
         limits: &Limits,
         late: u8,
+        digested: bool,
         source: &mut S,
     ) -> Result<DayAhead, ReadStop>
         requires { late ≤ 120 }
@@ -73,12 +75,13 @@ impl DayAhead {
             → IfOk result (λ d. HasReadAhead d limits.now.lines (S.left source.new) bytes) }
         ensures bounded { ReadsWithin (most_of_day limits.now) (S.left source.old) (S.left source.new) }
         ensures unfailed { IfOk result (λ d. HasFailedAhead d → ⊥) }
+        ensures digested { IfOk result (λ d. is_digested d ≡ digested) }
         ensures same { S.name source.new ≡ S.name source.old }
         ensures source { FaultsByPlan (S.faults source.old) (S.faults source.new) (S.plan source.old)
             (result ≡ Err ReadFault) }
         ensures still { NeverFails (S.plan source.old) → NeverFails (S.plan source.new) }
     {
-        let Ok(mut reader) = DayReader::new(alloc, limits, late) else {
+        let Ok(mut reader) = DayReader::new(alloc, limits, late, digested) else {
             return Err(ReadStop::NoMemory);
         };
         match look(rt, &mut reader, source) {
@@ -121,6 +124,7 @@ impl DayAhead {
         ensures read { (lines : ℕ) (bytes : List ℕ) → HasReadAhead self.old lines (S.left source.old) bytes
             → HasReadAhead self.new lines (S.left source.new) bytes }
         ensures unfailed { (HasFailedAhead self.old → ⊥) → result ≢ Err ReadFault → HasFailedAhead self.new → ⊥ }
+        ensures digested { is_digested self.new ≡ is_digested self.old }
         ensures same { S.name source.new ≡ S.name source.old }
         ensures source { FaultsByPlan (S.faults source.old) (S.faults source.new) (S.plan source.old)
             ((HasFailedAhead self.old → ⊥) × (result ≡ Err ReadFault)) }
@@ -152,6 +156,7 @@ impl DayAhead {
         ensures short { (limits : LimitsValue) (late : ℕ) (given : List TupleValue)
             → IsGatheringAhead self limits late given
             → limits.lines ≤ DAY.lines → IsShortDay result }
+        ensures digested { IsDigested (is_digested self) result }
     {
         let DayAhead { reader, following } = self;
         match following {

@@ -1,12 +1,12 @@
 // Reading a day, tuple by tuple.
 ghost use Rattle.std.specs.Prelude.{◌≡◌, ◌≢◌, ◌↔◌, ◌≤◌, ◌+◌, ◌*◌, ◌++◌, ◌∷◌, [], ℕ, List, Option, Some, None, Ok, Err};
-ghost use Rattle.std.specs.Prelude.{IfOk, IfNone, IfSome, length};
+ghost use Rattle.std.specs.Prelude.{IfOk, IfNone, IfSome, is_some, length};
 ghost use Rattle.road_time.specs.declared.road.Tuple.{Tuple as TupleValue};
 ghost use Rattle.road_time.specs.declared.day.Limits.{Limits as LimitsValue};
 ghost use Rattle.road_io.specs.Blame.{FaultsByPlan};
 ghost use Rattle.road_io.specs.Plans.{NeverFails};
 ghost use Rattle.road_io.specs.Cutter.{line_number};
-ghost use Rattle.keeper.specs.Digests.{digest_of};
+ghost use Rattle.day_reading.specs.Days.{IsDigestOf};
 ghost use Rattle.day_reading.specs.Readings.{IsReading, IsGathering, IsGivingOut, GivesTuple, GathersOn, HasTaken};
 ghost use Rattle.day_reading.specs.Readings.{HasReadOf, HasReaderFailed, RefusesAfter};
 ghost use Rattle.day_reading.specs.declared.ending.Ending.{Ending as EndingValue};
@@ -26,19 +26,25 @@ use std::thread::Threads;
 use tuple_format::Cause;
 
 impl DayReader {
-    /// A reader before the first line. Lines may come late by up to so many seconds.
-    pub fn new(alloc: Global, limits: &Limits, late: u8) -> Result<DayReader, NoMemory>
+    /// A reader before the first line, with or without the digest. Lines may come late by up to so many seconds.
+    pub fn new(
+        alloc: Global,
+        limits: &Limits,
+        late: u8,
+        digested: bool,
+    ) -> Result<DayReader, NoMemory>
         requires { late ≤ 120 }
         ensures reading { IfOk result (λ r. (bytes : List ℕ) → IsReading r limits.now late (Some bytes) bytes []) }
         ensures gathering { IfOk result (λ r. IsGathering r limits.now late []) }
         ensures read { IfOk result (λ r. (bytes : List ℕ) → HasReadOf r limits.now.lines (Some bytes) bytes) }
         ensures unfailed { IfOk result (λ r. HasReaderFailed r → ⊥) }
+        ensures digested { IfOk result (λ r. r.consumed.digested ≡ digested) }
     {
         let cutter = LineCutter::new(alloc)?;
         Ok(DayReader {
             cutter,
             intake: Intake::new(alloc, limits, late),
-            consumed: Consumed::new(alloc),
+            consumed: Consumed::new(alloc, digested),
             given: 0,
             end: None,
         })
@@ -66,9 +72,10 @@ impl DayReader {
         self.given
     }
 
-    /// The digest of the bytes of the lines that were cut.
-    pub fn digest<R: Threads>(self, rt: &R) -> Digest
-        ensures { (bytes : List ℕ) → HasTaken self.consumed bytes → result ≡ digest_of bytes }
+    /// The digest of the bytes of the lines that were cut, if it was asked.
+    pub fn digest<R: Threads>(self, rt: &R) -> Option<Digest>
+        ensures exact { (bytes : List ℕ) → HasTaken self.consumed bytes → IsDigestOf result bytes }
+        ensures digested { is_some result ≡ self.consumed.digested }
     {
         let DayReader {
             cutter: _,
@@ -103,6 +110,7 @@ impl DayReader {
         ensures end { self.new.end ≡ result }
         ensures next { IfNone result (line_number self.new.cutter ≡ line_number self.old.cutter + 1) }
         ensures limit { self.new.intake.line_limit ≡ self.old.intake.line_limit }
+        ensures digested { self.new.consumed.digested ≡ self.old.consumed.digested }
         ensures read { (lines : ℕ) (bytes : List ℕ) → HasReadOf self.old lines (S.left source.old) bytes
             → HasReadOf self.new lines (S.left source.new) bytes }
         ensures same { S.name source.new ≡ S.name source.old }
@@ -178,6 +186,7 @@ impl DayReader {
         ensures gathers { (limits : LimitsValue) (late : ℕ) (given : List TupleValue)
             → IsGathering self.old limits late given → GathersOn (Ok result) self.new limits late given }
         ensures end { self.new.end ≡ None }
+        ensures consumed { self.new.consumed ≡ self.old.consumed }
         ensures read { (lines : ℕ) (left : Option (List ℕ)) (bytes : List ℕ) → HasReadOf self.old lines left bytes
             → HasReadOf self.new lines left bytes }
     {
@@ -203,6 +212,7 @@ impl DayReader {
         ensures end { self.new.end ≡ self.old.end }
         ensures after { RefusesAfter result (line_number self.new.cutter) }
         ensures fault { result ≡ Err ReadFault ↔ (stop ≡ ReadFault) }
+        ensures consumed { self.new.consumed ≡ self.old.consumed }
         ensures read { (lines : ℕ) (left : Option (List ℕ)) (bytes : List ℕ) → HasReadOf self.old lines left bytes
             → HasReadOf self.new lines left bytes }
     {
@@ -227,6 +237,7 @@ impl DayReader {
         ensures end { self.new.end ≡ self.old.end }
         ensures after { RefusesAfter result (line_number self.new.cutter) }
         ensures fault { result ≡ Err ReadFault ↔ (end ≡ Stopped ReadFault) }
+        ensures consumed { self.new.consumed ≡ self.old.consumed }
         ensures read { (lines : ℕ) (left : Option (List ℕ)) (bytes : List ℕ) → HasReadOf self.old lines left bytes
             → HasReadOf self.new lines left bytes }
     {
@@ -259,6 +270,7 @@ impl DayReader {
         ensures still { (HasReaderFailed self.old → ⊥) → NeverFails (S.plan source.old) → NeverFails
             (S.plan source.new) }
         ensures unfailed { (HasReaderFailed self.old → ⊥) → result ≢ Err ReadFault → HasReaderFailed self.new → ⊥ }
+        ensures digested { self.new.consumed.digested ≡ self.old.consumed.digested }
     {
         if let Some(end) = self.end {
             return self.drain(end);

@@ -37,7 +37,7 @@ struct Day {
     end: Result<(), ReadEnd>,
     lines: u64,
     bytes: u64,
-    digest: Digest,
+    digest: Option<Digest>,
 }
 
 /// Reads on to the end of a day: why it ended before that, if it did.
@@ -66,7 +66,7 @@ fn read_day<R: Threads>(
     reads: Reads<'_>,
 ) -> Result<Day, NoMemory> {
     let mut source = MemSource::new(alloc, input.as_bytes(), reads.piece.max(1), reads.fails)?;
-    let mut reader = DayReader::new(alloc, limits, late.min(120))?;
+    let mut reader = DayReader::new(alloc, limits, late.min(120), true)?;
     let mut tuples = Vec::new(alloc);
     let Ok(end) = read_on(rt, &mut reader, &mut source, &mut tuples) else {
         reader.close(rt);
@@ -81,16 +81,17 @@ fn read_day<R: Threads>(
     })
 }
 
-/// Reads a day one tuple ahead: the number of its tuples, and its end.
+/// Reads a day one tuple ahead, with or without the digest: the number of its tuples, and its end.
 fn count_ahead<R: Threads>(
     rt: &R,
     alloc: Global,
     input: &str,
     limits: &Limits,
+    digested: bool,
     fails: &[u32],
 ) -> Result<(usize, Result<DayEnd, ReadStop>), NoMemory> {
     let mut source = MemSource::new(alloc, input.as_bytes(), 7, fails)?;
-    let mut ahead = match DayAhead::open(rt, alloc, limits, 0, &mut source) {
+    let mut ahead = match DayAhead::open(rt, alloc, limits, 0, digested, &mut source) {
         Ok(ahead) => ahead,
         Err(stop) => return Ok((0, Err(stop))),
     };
@@ -206,7 +207,7 @@ fn end_of(refused: Option<(u64, Cause)>) -> Result<(), ReadEnd> {
 fn is_read<R: Threads>(rt: &R, alloc: Global, row: &Row) -> Result<bool, NoMemory> {
     let (input, limits, count, refused) = row;
     let end = end_of(*refused);
-    let ahead = count_ahead(rt, alloc, input, limits, &[])?;
+    let ahead = count_ahead(rt, alloc, input, limits, false, &[])?;
     let day = read_day(rt, alloc, input, limits, 0, WHOLE)?;
     let same = day.end == end && is_same(&end, &ahead.1);
     Ok(same && (day.tuples.len(), ahead.0) == (*count, *count))
@@ -225,7 +226,7 @@ fn days_and_their_ends(rt: HostRuntime) -> Result<(), NoMemory> {
 fn digest_of_one<R: Threads>(rt: &R, alloc: Global) -> Result<Option<Digest>, NoMemory> {
     let one = read_day(rt, alloc, ONE, &Limits::DAY, 0, WHOLE)?;
     if (one.lines, one.bytes, one.tuples.len()) == (1, 42, 1) {
-        Ok(Some(one.digest))
+        Ok(one.digest)
     } else {
         Ok(None)
     }
@@ -242,11 +243,18 @@ fn is_found(alloc: Global, digest: Digest) -> Result<bool, NoMemory> {
     Ok(find_digest(alloc, 41, &mut source) == Ok(digest))
 }
 
-/// Whether one line is read at once to this end.
-fn is_read_at_once<R: Threads>(rt: &R, alloc: Global, whole: DayEnd) -> Result<bool, NoMemory> {
+/// Whether one line is read to this end, at once and a tuple ahead, with or without the digest.
+fn is_read_to<R: Threads>(
+    rt: &R,
+    alloc: Global,
+    digested: bool,
+    whole: DayEnd,
+) -> Result<bool, NoMemory> {
     let mut source = MemSource::new(alloc, ONE.as_bytes(), 7, &[])?;
-    let read = day_reading::read_day(rt, alloc, &Limits::DAY, 0, &mut source);
-    Ok(read.map(|day| (day.tuples.len(), day.end)) == Ok((1, whole)))
+    let read = day_reading::read_day(rt, alloc, &Limits::DAY, 0, digested, &mut source);
+    let ahead = count_ahead(rt, alloc, ONE, &Limits::DAY, digested, &[])?;
+    let at_once = read.map(|day| (day.tuples.len(), day.end)) == Ok((1, whole));
+    Ok(at_once && ahead == (1, Ok(whole)))
 }
 
 const TEXT: &str = "fc2f0b2e7199ba75ff5a464f444f1d13574338c146416b399a7125bc0993cf7b";
@@ -256,12 +264,16 @@ fn one_line_and_its_digest(rt: HostRuntime) -> Result<(), NoMemory> {
     let Some(digest) = digest_of_one(&rt, rt.alloc())? else {
         return Err(NoMemory);
     };
-    let whole = DayEnd::Whole { bytes: 42, digest };
     assert!(rt; has_text(rt.alloc(), &digest, TEXT)?);
-    assert!(rt; count_ahead(&rt, rt.alloc(), ONE, &Limits::DAY, &[])? == (1, Ok(whole)));
-    let cut = count_ahead(&rt, rt.alloc(), PAIR, &Limits::DAY, &[1])?;
+    let cut = count_ahead(&rt, rt.alloc(), PAIR, &Limits::DAY, true, &[1])?;
     assert!(rt; cut == (0, Err(ReadStop::ReadFault)));
     assert!(rt; is_found(rt.alloc(), digest)?);
-    assert!(rt; is_read_at_once(&rt, rt.alloc(), whole)?);
+    for asked in [Some(digest), None] {
+        let whole = DayEnd::Whole {
+            bytes: 42,
+            digest: asked,
+        };
+        assert!(rt; is_read_to(&rt, rt.alloc(), asked.is_some(), whole)?);
+    }
     Ok(())
 }

@@ -36,7 +36,7 @@ impl PastReader {
         let cutter = LineCutter::new(alloc)?;
         Ok(PastReader {
             cutter,
-            consumed: Consumed::new(alloc),
+            consumed: Consumed::new(alloc, true),
             amounts: Amounts::new(alloc),
         })
     }
@@ -137,11 +137,15 @@ impl PastReader {
             consumed.close(rt);
             return Err(PastStop::NoMemory);
         };
+        let bytes = consumed.bytes;
+        let Some(digest) = consumed.digest(rt) else {
+            unreachable!()
+        };
         let past = PastRecord {
             base,
-            bytes: consumed.bytes,
+            bytes,
             rows: rows.len() as u64,
-            digest: consumed.digest(rt),
+            digest,
         };
         Ok(History { past, rows })
     }

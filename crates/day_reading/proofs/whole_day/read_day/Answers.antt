@@ -1,9 +1,10 @@
-use Rattle.std.proofs.Common.{◌≡◌, None, ◌++◌, ◌∷◌, [], Option, Some, Result, Ok, Err, refl, sym, subst, ◌∙◌, arith}
+use Rattle.std.proofs.Common.{Bool, ◌≡◌, None, ◌++◌, ◌∷◌, [], Option, Some, Result, Ok, Err, refl, sym, subst, ◌∙◌, arith}
 use Rattle.std.proofs.lemmas.Bool.{cond-true}
 use Rattle.road_time.specs.declared.road.Tuple.{Tuple}
 use Rattle.day_reading.specs.declared.ending.ReadEnd.{ReadEnd}
 use Rattle.day_reading.specs.declared.ending.ReadEnd.TheVariants.{Refused, ReadFault}
 use Rattle.road_io.specs.Cutter.{line_number}
+use Rattle.day_reading.specs.Days.{IsDigested}
 use Rattle.day_reading.specs.Readings.{IsReading, IsGathering, HasReadOf, GivesTuple, GathersOn}
 use Rattle.day_reading.proofs.BoundLaws.{day_within, stops_soon}
 use Rattle.day_reading.proofs.whole_day.read_day.Goals as goal
@@ -24,6 +25,7 @@ reading-init g c =
           (subst (λ o. IsReading r limits late o bytes []) (sym told) (c.in-Ok.ensures.reading bytes));
       read = λ bytes told. subst (λ o. HasReadOf r limits.lines o bytes) (sym told) (c.in-Ok.ensures.read bytes);
       unfailed = c.in-Ok.ensures.unfailed;
+      digested = c.in-Ok.ensures.digested;
       same = refl;
       stands = refl;
       still = λ never. never;
@@ -51,6 +53,7 @@ reading-preserved g c =
           (c.next.ensures.gives limits late bytes before (inv.reading bytes told)));
       read = λ bytes told. c.next.ensures.read limits.lines bytes (inv.read bytes told);
       unfailed = c.next.ensures.unfailed inv.unfailed (given_no_fault c.next.result x some);
+      digested = c.next.ensures.digested ∙ inv.digested;
       same = c.next.ensures.same ∙ inv.same;
       stands = c.next.ensures.source.still (λ f. given_no_fault c.next.result x some f.1) ∙ inv.stands;
       still = λ never. c.next.ensures.still inv.unfailed (inv.still never);
@@ -107,6 +110,11 @@ returns-in-Ok-None-clause-left g c = λ bytes told.
     (c.reading.invariant.reading bytes told)) in
     let read = c.next.ensures.read limits.lines bytes (c.reading.invariant.read bytes told) in
     c.whole-end.ensures.left left bytes gives.3 read.1.0
+
+pub returns-in-Ok-None-clause-digested : goal.returns-in-Ok-None-clause-digested
+returns-in-Ok-None-clause-digested g c =
+    subst (λ (asked : Bool). IsDigested asked c.whole-end.result)
+    (c.next.ensures.digested ∙ c.reading.invariant.digested) c.whole-end.ensures.digested
 
 pub returns-in-Err-Refused-clause-left : goal.returns-in-Err-Refused-clause-left
 returns-in-Err-Refused-clause-left g c = λ bytes told.

@@ -11,6 +11,7 @@ invariant-reading g l = record {
   read : (bytes : List ℕ) → g.S.Source.left l.initial.source ≡ Some bytes →
       HasReadOf l.reader l.limits.lines (g.S.Source.left l.source) bytes;
   unfailed : HasReaderFailed l.reader → ⊥;
+  digested : l.reader.consumed.digested ≡ l.digested;
   same : g.S.Source.name l.source ≡ g.S.Source.name l.initial.source;
   stands : g.S.Source.faults l.source ≡ g.S.Source.faults l.initial.source;
   still : NeverFails (g.S.Source.plan l.initial.source) → NeverFails (g.S.Source.plan l.source);

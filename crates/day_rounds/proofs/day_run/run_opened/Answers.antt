@@ -1,5 +1,6 @@
-use Rattle.std.proofs.Common.{[], sym, subst}
+use Rattle.std.proofs.Common.{Bool, [], sym, subst}
 use Rattle.day_reading.specs.Ahead.{IsAhead, IsGatheringAhead}
+use Rattle.day_reading.specs.Days.{IsDigested}
 use Rattle.road_time.specs.Day.{given}
 use Rattle.day_reading.proofs.AheadLaws.{ahead_within}
 use Rattle.settling.specs.Closes.{IsClosed}
@@ -151,6 +152,14 @@ returns-in-Ok-close-clause-leaves g c e late h gathers number history bytes is r
     v.done e (k.jobs c.args.crew.now) (k.answers c.args.crew.now) late h gathers number history in
     c.end-end.ensures.left f.limits late (g.S.Source.left c.run_plan.new.source) bytes s.fed
     (on.given.reads bytes [] is) (v.read f.limits.lines bytes read)
+
+pub returns-in-Ok-close-clause-digested : goal.returns-in-Ok-close-clause-digested
+returns-in-Ok-close-clause-digested g c =
+    let k = g.C.Crew in
+    let (e, late, h, gathers, number, history, abreast) = c.requires.runs in
+    let (s, on, all, count, runs, plan) =
+    c.in-Ok.ensures.done e (k.jobs c.args.crew.now) (k.answers c.args.crew.now) late h gathers number history in
+    subst (λ (asked : Bool). IsDigested asked c.end-end.result) on.given.digested c.end-end.ensures.digested
 
 pub returns-in-Ok-close-clause-planned : goal.returns-in-Ok-close-clause-planned
 returns-in-Ok-close-clause-planned g c e late h gathers number history bytes =

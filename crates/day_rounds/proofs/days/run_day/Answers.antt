@@ -1,7 +1,7 @@
-use Rattle.std.proofs.Common.{◌≡◌, ◌≤◌, ◌∙◌, [], inr, refl, sym, ap, subst, arith}
+use Rattle.std.proofs.Common.{Bool, ◌≡◌, ◌≤◌, ◌∙◌, [], inr, refl, sym, ap, subst, arith}
 use Rattle.std.specs.Prelude.{Some, None}
 use Rattle.road_time.specs.Reads.{reads}
-use Rattle.day_reading.specs.Days.{most_of_day}
+use Rattle.day_reading.specs.Days.{IsDigested, most_of_day}
 use Rattle.day_reading.specs.Ahead.{IsAhead, IsGatheringAhead, HasReadAhead}
 use Rattle.settling.specs.Answers.{history_of}
 use Rattle.watermark.specs.Floors.{Setting}
@@ -187,6 +187,11 @@ returns-in-Ok-run_opened-clause-leaves g c bytes told =
     (c.in-Ok-open.ensures.ahead bytes told))
     (subst (λ l. HasReadAhead ahead l.lines left bytes) (sym c.in-Ok.ensures.limits)
     (c.in-Ok-open.ensures.read bytes told))
+
+pub returns-in-Ok-run_opened-clause-digested : goal.returns-in-Ok-run_opened-clause-digested
+returns-in-Ok-run_opened-clause-digested g c =
+    subst (λ (asked : Bool). IsDigested asked c.in-Ok-run_opened.left.end) c.in-Ok-open.ensures.digested
+    c.in-Ok-run_opened.ensures.digested
 
 pub returns-in-Ok-run_opened-clause-planned : goal.returns-in-Ok-run_opened-clause-planned
 returns-in-Ok-run_opened-clause-planned g c bytes told =

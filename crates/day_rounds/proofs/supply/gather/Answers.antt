@@ -44,7 +44,7 @@ gathering-preserved g c =
           (g.S.Source.left c.next.new.source) (inv.given limits late)
           (given_one limits late c.next.result (Some x) c.gathering.ahead new (g.S.Source.left c.gathering.source)
           (g.S.Source.left c.next.new.source) some (c.next.ensures.gathers limits late)
-          (c.next.ensures.gives limits late)));
+          (c.next.ensures.gives limits late) c.next.ensures.digested));
       few = (let t = c.gathering-test.true in omega (arith, longer, t));
       same = λ e. absurd (omega (arith, longer, e));
       read = λ lines bytes h. c.next.ensures.read lines bytes (inv.read lines bytes h);
@@ -78,7 +78,7 @@ returns-in-Ok-None-clause-given g c limits late =
     (c.gathering.invariant.given limits late)
     (given_one limits late c.next.result None c.gathering.ahead new (g.S.Source.left c.gathering.source)
     (g.S.Source.left c.next.new.source) none (c.next.ensures.gathers limits late)
-    (c.next.ensures.gives limits late)))
+    (c.next.ensures.gives limits late) c.next.ensures.digested))
 
 pub returns-in-Ok-None-clause-full : goal.returns-in-Ok-None-clause-full
 returns-in-Ok-None-clause-full g c few =

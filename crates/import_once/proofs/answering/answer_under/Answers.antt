@@ -38,12 +38,12 @@ returns-in-Ok-clause-does g c = λ exact bytes o left told under.
     subst (λ (h : PaidHistory). IsClosed c.in-Ok.run'.closed number (given ran.found) number h ran.day) known
     ran.closed in
     let read = ran.read bytes left in
-    let done = tells_does w number ran.found bytes ran.day o old new now c.in-Ok.run' c.args.tariffs.now
-    (ran.wrote (paid o.rows) known) ran.count closed under (c.run_day.ensures.same ∙ told) c.in-Ok.run'.end refused
+    let done = tells_does w number ran.found bytes ran.day o old new now c.in-Ok.run'
+    (ran.wrote (paid o.rows) known) ran.count closed (c.run_day.ensures.same ∙ told) c.in-Ok.run'.end refused
     result read.1 (c.finish_answers.ensures.tells) in
     let right = subst (λ (t : Tariffs). AreRightFor ran.found ran.day t number) under (ran.right exact) in
     let by_rules =
-    subst (λ (work : Work). Does w (answers_worked work number bytes ran.day refused o) o old new now result)
+    subst (λ (work : Work). Does w (answers_worked work bytes ran.day refused o) o old new now result)
     (right_work number ran.found ran.day o right) done in
     subst (λ (day : List Tuple). Does w (answers_read number bytes day refused o) o old new now result) read.0 by_rules
 
@@ -62,11 +62,11 @@ returns-in-Ok-clause-merged g c = λ bytes o left told under.
     subst (λ (h : PaidHistory). IsClosed c.in-Ok.run'.closed number (given ran.found) number h ran.day) known
     ran.closed in
     let read = ran.read bytes left in
-    let done = tells_does w number ran.found bytes ran.day o old new now c.in-Ok.run' c.args.tariffs.now
-    (ran.wrote (paid o.rows) known) ran.count closed under (c.run_day.ensures.same ∙ told) c.in-Ok.run'.end refused
+    let done = tells_does w number ran.found bytes ran.day o old new now c.in-Ok.run'
+    (ran.wrote (paid o.rows) known) ran.count closed (c.run_day.ensures.same ∙ told) c.in-Ok.run'.end refused
     result read.1 (c.finish_answers.ensures.tells) in
     let there =
-    subst (λ (day : List Tuple). Does w (answers_worked (work_by ran.found number day o) number bytes day refused o)
+    subst (λ (day : List Tuple). Does w (answers_worked (work_by ran.found number day o) bytes day refused o)
     o old new now result) read.0 done in
     record {
       found = ran.found;
@@ -90,7 +90,7 @@ returns-in-Err-clause-does g c = λ exact bytes o left told under.
     under some in
     let text =
     subst (λ (all : List ℕ). WritesUpTo c.in-Err.fault all old new)
-    (sym (text_answered (work_of number day o) number bytes day refused o)) ours in
+    (sym (text_answered (work_of number day o) bytes day refused o)) ours in
     subst (λ (r : Outcome). Does w (answers_read number bytes day refused o) o old new now r) (sym c.stopped.ensures.is)
     (stops_does w (answers_read number bytes day refused o) o old new now c.in-Err.fault text
     (c.run_day.ensures.same ∙ told))
@@ -122,7 +122,7 @@ pub returns-in-Ok-clause-leaves : goal.returns-in-Ok-clause-leaves
 returns-in-Ok-clause-leaves g c = λ bytes left.
     let refused = (reads bytes c.args.limits.now c.args.late).refused in
     let ends = (c.in-Ok.ensures.ran.read bytes left).1 in
-    tells_leaves c.args.number c.in-Ok.run' c.args.tariffs.now c.in-Ok.run'.end refused bytes
+    tells_leaves c.in-Ok.run' c.in-Ok.run'.end refused bytes
     (g.S.Source.left c.run_day.new.source) c.finish_answers.result ends (c.in-Ok.ensures.leaves bytes left)
     (c.finish_answers.ensures.tells)
 

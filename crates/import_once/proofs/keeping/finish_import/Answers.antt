@@ -1,9 +1,16 @@
-use Rattle.std.proofs.Common.{◌≡◌, sym, subst}
+use Rattle.std.proofs.Common.{◌≡◌, None, false, true, sym, subst}
 use Rattle.day_reading.specs.declared.whole_day.DayEnd.{DayEnd}
 use Rattle.day_reading.specs.declared.whole_day.DayEnd.TheVariants.{Whole}
+use Rattle.day_reading.specs.Days.{IsDigested}
 use Rattle.import_once.specs.Stages.{IsOfEnd}
 use Rattle.settling.proofs.AskLaws.{passes_none}
 use Rattle.import_once.proofs.keeping.finish_import.Goals as goal
+
+pub unreachable-requires : goal.unreachable-requires
+unreachable-requires g c =
+    let none : c.args.run.now.end ≡ Whole c.in-Whole.bytes None = cc in
+    let no : false ≡ true = subst (λ (e : DayEnd). IsDigested true e) none c.requires.digested in
+    absurd (cc no)
 
 pub returns-in-Ok-clause-of_end : goal.returns-in-Ok-clause-of_end
 returns-in-Ok-clause-of_end g c =

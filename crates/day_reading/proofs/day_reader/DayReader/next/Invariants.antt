@@ -17,6 +17,7 @@ invariant-loop-tuple g l = record {
       IsGathering l.self limits late given;
   read : (lines : ℕ) (bytes : List ℕ) → HasReadOf l.initial.self lines (g.S.Source.left l.initial.source) bytes →
       HasReadOf l.self lines (g.S.Source.left l.source) bytes;
+  digested : l.self.consumed.digested ≡ l.initial.self.consumed.digested;
   same : g.S.Source.name l.source ≡ g.S.Source.name l.initial.source;
   stands : g.S.Source.faults l.source ≡ g.S.Source.faults l.initial.source;
   still : NeverFails (g.S.Source.plan l.initial.source) → NeverFails (g.S.Source.plan l.source);

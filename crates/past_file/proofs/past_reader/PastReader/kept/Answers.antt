@@ -1,4 +1,5 @@
-use Rattle.std.proofs.Common.{◌≡◌, ◌∙◌, length, ap, refl, arith}
+use Rattle.std.proofs.Common.{◌≡◌, ◌∙◌, Some, length, ap, refl, subst, arith}
+use Rattle.day_reading.specs.Days.{IsDigestOf}
 use Rattle.keeper.specs.PastReads.{past_reads, past_kept}
 use Rattle.past_file.proofs.PutLaws.{record_is, may_be_put}
 use Rattle.past_file.proofs.past_reader.PastReader.kept.Goals as goal
@@ -9,9 +10,10 @@ returns-clause-exact g c = λ limits left bytes e.
     let rows = (past_reads bytes base limits).rows in
     let kept : c.in-Ok.rows.items ≡ past_kept rows = c.in-Ok.ensures.value ∙ e.rows_are.kept in
     let size : c.len.result ≡ length c.in-Ok.rows.items = cc (c.len.ensures, c.in-Ok.rows.ok.0) in
-    let count : c.len.result ≡ length (past_kept rows) = size ∙ ap length kept in (
-      record_is base c.args.self.consumed.bytes c.len.result c.digest.result bytes rows e.has_taken.1
-          (c.digest.ensures bytes e.has_taken) count,
+    let count : c.len.result ≡ length (past_kept rows) = size ∙ ap length kept in
+    let some : c.digest.result ≡ Some c.in-Some.digest = cc in (
+      record_is base c.args.self.consumed.bytes c.len.result c.in-Some.digest bytes rows e.has_taken.1
+          (subst (λ d. IsDigestOf d bytes) some (c.digest.ensures.exact bytes e.has_taken)) count,
       kept,
     )
 
