@@ -8,6 +8,8 @@ ghost use Rattle.keeper_at_path.specs.Asked.{AskedToRead, AskedToPut, IsReadyToR
 ghost use Rattle.keeper_at_path.specs.Causes.{IsSaid};
 ghost use Rattle.keeper_at_path.specs.Looks.{AreFound, Looks};
 
+mod anew;
+
 use crate::call::{Putting, Reading};
 use crate::cause::{Cause, say, say_of_store};
 use crate::kept::Kept;

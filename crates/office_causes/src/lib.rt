@@ -8,3 +8,4 @@ mod explaining;
 mod saying;
 
 pub use explaining::explained;
+pub use saying::say_why;

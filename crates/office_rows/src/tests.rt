@@ -7,6 +7,7 @@ mod days;
 mod faults;
 mod input;
 mod listings;
+mod renewals;
 mod road;
 mod runs;
 mod traffic;

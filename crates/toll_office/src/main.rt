@@ -1,15 +1,16 @@
 //! The tolling office of an expressway, over standard input and output and two files.
 //!
 //! `main` hands the words, standard input, the file `ASIDE_FILE`, standard output, what is kept in the file `KEPT_FILE`
-//! and standard error to `explained`, beside helpers that take its jobs; then it closes the crew with its helpers and
-//! what is kept, and ends with the status. A helper whose thread cannot be had helps with nothing; with none of them
-//! the office's own thread runs all jobs.
+//! and standard error to `explained`, or to `begin_anew` where the words ask for that, beside helpers that take its
+//! jobs; then it closes the crew with its helpers and what is kept, and ends with the status. A helper whose thread
+//! cannot be had helps with nothing; with none of them the office's own thread runs all jobs.
 #![tactic(auto)]
 
 ghost use Rattle.std.specs.Prelude.{◌≡◌, []};
 
-use office_causes::explained;
+use office_causes::{explained, say_why};
 use office_commands::{ASIDE_FILE, Closing};
+use office_renewal::{begin_anew, renewal_base};
 use partition_workers::{Crew, NoGate};
 use road_io::{FileSource, StdSink, StdSource, Writing};
 use road_time::Limits;
@@ -67,7 +68,45 @@ fn close(rt: &HostRuntime, keeper: SqliteKeeper) {
     }
 }
 
-/// The status of the office over standard input and output and its two files, by a crew.
+/// The status of the office over standard input and output and the file beside it, by what it keeps and a crew. Where
+/// the words ask for it, it begins anew. Why it failed is said on standard error.
+fn run_words<R: Threads + Sync, C: Crew>(
+    rt: &HostRuntime,
+    threads: &R,
+    words: &[String],
+    aside: &mut FileSource,
+    keeper: &mut SqliteKeeper,
+    crew: &mut C,
+) -> u8
+    requires { C.out crew.old ≡ [] }
+    ensures idle { C.out crew.new ≡ [] }
+    ensures which { C.which crew.new ≡ C.which crew.old }
+{
+    let mut source = StdSource::new(rt.stdin());
+    let mut sink = StdSink::new(rt.stdout());
+    let mut err = Writing::new(rt.stderr());
+    let why = |keeper: &SqliteKeeper| line_of(rt.alloc(), keeper.cause());
+    let Some(base) = renewal_base(words) else {
+        return explained(
+            threads,
+            rt.alloc(),
+            words,
+            &Limits::DAY,
+            &mut source,
+            aside,
+            &mut sink,
+            keeper,
+            &why,
+            &mut err,
+            crew,
+        );
+    };
+    let status = begin_anew(rt.alloc(), base, &mut sink, keeper);
+    say_why(status, keeper, &why, &mut err);
+    status
+}
+
+/// The same over the words and the two files.
 fn run_office<R: Threads + Sync, C: Crew>(rt: &HostRuntime, threads: &R, crew: &mut C) -> u8
     requires { C.out crew.old ≡ [] }
     ensures idle { C.out crew.new ≡ [] }
@@ -77,28 +116,13 @@ fn run_office<R: Threads + Sync, C: Crew>(rt: &HostRuntime, threads: &R, crew: &
         Ok(words) => words,
         Err(closing) => return closing.status(),
     };
-    let mut source = StdSource::new(rt.stdin());
-    let mut sink = StdSink::new(rt.stdout());
     let Ok(mut aside) = FileSource::at(rt.alloc(), *rt, ASIDE_FILE) else {
         return Closing::NoMemory.status();
     };
     let Ok(mut keeper) = SqliteKeeper::at(rt.alloc(), *rt, KEPT_FILE) else {
         return Closing::NoMemory.status();
     };
-    let mut err = Writing::new(rt.stderr());
-    let status = explained(
-        threads,
-        rt.alloc(),
-        words.as_slice(),
-        &Limits::DAY,
-        &mut source,
-        &mut aside,
-        &mut sink,
-        &mut keeper,
-        &|keeper: &SqliteKeeper| line_of(rt.alloc(), keeper.cause()),
-        &mut err,
-        crew,
-    );
+    let status = run_words(rt, threads, words.as_slice(), &mut aside, &mut keeper, crew);
     close(rt, keeper);
     status
 }
