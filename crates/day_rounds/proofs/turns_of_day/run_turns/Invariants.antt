@@ -1,4 +1,4 @@
-use Rattle.std.proofs.Common.{◌≡◌, ◌≤◌, ◌-◌, ◌+◌, ◌*◌, ℕ, List, [], length}
+use Rattle.std.proofs.Common.{◌≡◌, ◌-◌, ◌+◌, ◌*◌, ℕ, List, [], length}
 use Rattle.std.specs.Prelude.{Option}
 use Rattle.road_time.specs.Day.{sum_of}
 use Rattle.road_io.specs.Plans.{NeverFails}
