@@ -13,7 +13,8 @@ use Rattle.road_time.specs.Day.{rules, told_by, answer_by, notices_by, notices}
 use Rattle.road_time.specs.History.{paid}
 use Rattle.keeper.specs.Office.{Office, rows_between}
 use Rattle.keeper.proofs.HistoryLaws.{history_law}
-use Rattle.asked_history.specs.Asks.{asks_history}
+use Rattle.asked_history.specs.Asks.{asks_history, HasAsked, HasAllAsked, AreRight}
+use Rattle.asked_history.proofs.AmountLaws.{paid_right}
 
 -- two histories have the same for what a tuple asks
 abbrev pub SameFor : ℕ → (ℕ → ℕ → ℕ → ℕ) → (ℕ → ℕ → ℕ → ℕ) → Tuple → Type 0
@@ -90,3 +91,25 @@ none_asks number a b (x ∷ xs) e =
 pub by_none : (number : ℕ) (a b : ℕ → ℕ → ℕ → ℕ) (day : List Tuple) (tariffs : Tariffs) →
     list_any asks_history day ≡ false → notices day tariffs number a ≡ notices day tariffs number b
 by_none number a b day tariffs e = same_notices (rules day tariffs) number a b [] day (none_asks number a b day e)
+
+-- a tuple is answered alike by right amounts of what it asks for and by all amounts
+asked_same : (number : ℕ) (kept rows : List SpentRow) → AreRight kept rows → (x : Tuple) → HasAsked number rows x →
+    SameFor number (paid rows) (paid kept) x
+asked_same number kept rows right (ReportTuple r) h = tt
+asked_same number kept rows right (Balance time vid qid) h = tt
+asked_same number kept rows right (Spent time vid xway qid day) h =
+    paid_right kept (number - day) vid xway rows right h
+asked_same number kept rows right (Travel time) h = tt
+
+each_same : (number : ℕ) (kept rows : List SpentRow) → AreRight kept rows → (xs : List Tuple) →
+    HasAllAsked number rows xs → AllByRecursion (SameFor number (paid rows) (paid kept)) xs
+each_same number kept rows right [] h = tt
+each_same number kept rows right (x ∷ xs) h =
+    (asked_same number kept rows right x h.0, each_same number kept rows right xs h.1)
+
+-- a day's output by right amounts of all that it asks for is that by all amounts
+pub by_asked : (number : ℕ) (kept rows : List SpentRow) → AreRight kept rows → (day : List Tuple) →
+    HasAllAsked number rows day → (tariffs : Tariffs) →
+    notices day tariffs number (paid rows) ≡ notices day tariffs number (paid kept)
+by_asked number kept rows right day asked tariffs =
+    same_notices (rules day tariffs) number (paid rows) (paid kept) [] day (each_same number kept rows right day asked)

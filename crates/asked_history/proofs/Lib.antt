@@ -1,1 +1,2 @@
 mod HistoryLaws
+mod AmountLaws

@@ -86,7 +86,13 @@ all_sound = (
                         (sizes_plain, (refl, refl, refl, refl, tt)),
                         (
                           (plain_both sizes runs sizes_plain runs_plain, (refl, refl, refl, refl, tt)),
-                          ((tt, tt), ((tt, (refl, refl, refl, refl, (refl, refl, refl, refl, tt))), tt)),
+                          (
+                            (tt, tt),
+                            (
+                              (tt, (refl, refl, refl, refl, (refl, refl, refl, refl, tt))),
+                              ((late_plain, (refl, refl, refl, refl, tt)), tt),
+                            ),
+                          ),
                         ),
                       ),
                     ),

@@ -148,6 +148,10 @@ charges_in value = with (needed 1 1000000 (value (codes "from"))) (λ from.
     with (needed 1 1000000 (value (codes "to"))) (λ to.
     if nat_le from to then Some (command.Charges from to) else None))
 
+-- the command `check DAY`
+abbrev pub check_in : Values → Option Command
+check_in value = with (day_in value) (λ day. with (late_in value) (λ late. Some (command.Check day late)))
+
 -- the command of a name, with the values of its names
 abbrev pub meaning : Text → Values → Option Command
 meaning name value =
@@ -166,7 +170,8 @@ meaning name value =
     else (if bytes_eq name (codes "rehearse") then rehearse_in value
     else (if bytes_eq name (codes "days") then Some command.Days
     else (if bytes_eq name (codes "charges") then charges_in value
-    else None))))))))))))))
+    else (if bytes_eq name (codes "check") then check_in value
+    else None)))))))))))))))
 
 -- the value that was said of a name
 abbrev pub value_of : Said → Values
@@ -236,3 +241,4 @@ IsInRange (command.Generate seed size) = IsSize size
 IsInRange (command.Rehearse seed size run) = IsSize size × IsRun run
 IsInRange command.Days = Unit {0}
 IsInRange (command.Charges from to) = (1 ≤ from) × (from ≤ to) × (to ≤ 1000000)
+IsInRange (command.Check day late) = (70 ≤ day) × (day ≤ 1000000) × (late ≤ 120)

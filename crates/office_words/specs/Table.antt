@@ -35,4 +35,5 @@ forms = stated_form (codes "answers") (codes "day" ∷ []) runs
     ∷ stated_form (codes "rehearse") (codes "seed" ∷ []) (sizes ++ runs)
     ∷ stated_form (codes "days") [] []
     ∷ stated_form (codes "charges") (codes "from" ∷ codes "to" ∷ []) []
+    ∷ stated_form (codes "check") (codes "day" ∷ []) (codes "late" ∷ [])
     ∷ []

@@ -97,6 +97,11 @@ pub enum Command {
         from: u32,
         to: u32,
     },
+    /// Names the lines of a day that are refused.
+    Check {
+        day: u32,
+        late: u8,
+    },
 }
 
 /// Why there is no command.

@@ -3,6 +3,7 @@ ghost use Rattle.std.specs.Prelude.{◌≡◌, ◌≤◌, IfSome, codes};
 ghost use Rattle.clap.specs.Words.{first_value, found_of};
 ghost use Rattle.office_words.specs.Meaning.{day_in, late_in, width_in, plan_in, run_in, answers_in, import_in};
 ghost use Rattle.office_words.specs.Meaning.{bulk_in, validate_in, audit_in, past_in, vehicle_in, tariff_in, charges_in};
+ghost use Rattle.office_words.specs.Meaning.{check_in};
 ghost use Rattle.office_words.specs.Meaning.{meaning, seed_in, size_in, generate_in, rehearse_in, IsInRange, IsPlan};
 ghost use Rattle.office_words.specs.Meaning.{IsRecomputing, IsRun, IsSize, backlog_in};
 
@@ -158,6 +159,15 @@ fn charges(m: &ArgMatches<'_>) -> Option<Command>
     })
 }
 
+fn check(m: &ArgMatches<'_>) -> Option<Command>
+    ensures value { result ≡ check_in (first_value (found_of m.now)) }
+    ensures range { IfSome result IsInRange }
+{
+    let day = day(m)?;
+    let late = late(m)?;
+    Some(Command::Check { day, late })
+}
+
 fn tariff(m: &ArgMatches<'_>) -> Option<Command>
     ensures value { result ≡ tariff_in (first_value (found_of m.now)) }
     ensures range { IfSome result IsInRange }
@@ -239,6 +249,7 @@ pub fn command(name: &str, m: &ArgMatches<'_>) -> Option<Command>
         "rehearse" => rehearse(m),
         "days" => Some(Command::Days),
         "charges" => charges(m),
+        "check" => check(m),
         _ => None,
     }
 }

@@ -149,12 +149,13 @@ fn with_traffic<'a>(alloc: Global, top: Command<'a>) -> Result<Command<'a>, Allo
     )
 }
 
-/// The commands that list all days and what they charge.
+/// The commands that list all days, what they charge, and the refused lines of one.
 fn with_listings<'a>(alloc: Global, top: Command<'a>) -> Result<Command<'a>, AllocError>
-    ensures { IfOk result (λ c. app_of c ≡ with_forms (app_of top.entry) (take 2 (drop 13 forms))) }
+    ensures { IfOk result (λ c. app_of c ≡ with_forms (app_of top.entry) (take 3 (drop 13 forms))) }
 {
     let top = with(alloc, top, "days", &[], &[])?;
-    with(alloc, top, "charges", &["from", "to"], &[])
+    let top = with(alloc, top, "charges", &["from", "to"], &[])?;
+    with(alloc, top, "check", &["day"], &["late"])
 }
 
 /// The whole table.

@@ -1,11 +1,14 @@
 // Puts of a keeper of which it is not known what it keeps.
 ghost use Rattle.std.specs.Prelude.{◌≡◌, ◌≤◌, Some};
 ghost use Rattle.keeper.specs.Office.{Office};
-ghost use Rattle.keeper.specs.Kept.{IsDayPut, IsPastPut, IsLater, HasNoDays, with_day, with_past};
+ghost use Rattle.keeper.specs.Kept.{IsDayPut, IsPastPut, IsLater, HasNoDays, with_day, with_past, with_tariff_of};
+ghost use Rattle.keeper.specs.Calls.{Puts};
+ghost use Rattle.road_time.specs.Rates.{IsTariff};
 ghost use Rattle.shared_keeper.specs.Tries.{Tries};
+ghost use Rattle.shared_keeper.specs.Calls.{PutsShared};
 
 use keeper::{DayRecord, KeepFault, Keeper, PastRecord};
-use road_time::SpentRow;
+use road_time::{SpentRow, Tariff};
 
 /// Puts a day, if it comes after all that is kept; else that is a failure.
 pub fn try_day<K: Keeper>(
@@ -41,4 +44,39 @@ pub fn try_past<K: Keeper>(
         return Err(KeepFault::Failed);
     }
     keeper.put_past(kept, rows)
+}
+
+/// Puts a day as `try_day` does, between two states of the keeper.
+pub fn put_next_day<K: Keeper>(
+    keeper: &mut K,
+    kept: &DayRecord,
+    rows: &[SpentRow],
+) -> Result<(), KeepFault>
+    requires { IsDayPut kept.now rows.now }
+    ensures shared { PutsShared K.told K.faults (λ o after.
+        Tries K.refuses (IsLater kept.now.day o) (with_day kept.now rows.now) o after result) }
+{
+    try_day(keeper, kept, rows)
+}
+
+/// Puts a history as `try_past` does, between two states of the keeper.
+pub fn put_first_past<K: Keeper>(
+    keeper: &mut K,
+    kept: &PastRecord,
+    rows: &[SpentRow],
+) -> Result<(), KeepFault>
+    requires { IsPastPut kept.now rows.now }
+    ensures shared { PutsShared K.told K.faults (λ o after.
+        Tries K.refuses (HasNoDays o) (with_past kept.now rows.now) o after result) }
+{
+    try_past(keeper, kept, rows)
+}
+
+/// Gives an expressway a tariff, between two states of the keeper.
+pub fn put_one_tariff<K: Keeper>(keeper: &mut K, xway: u8, tariff: &Tariff) -> Result<(), KeepFault>
+    requires { IsTariff tariff.now }
+    ensures shared { PutsShared K.told K.faults (λ o after.
+        Puts K.refuses (Some o) after result (with_tariff_of xway tariff.now)) }
+{
+    keeper.put_tariff(xway, tariff)
 }

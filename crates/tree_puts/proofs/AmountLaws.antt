@@ -1,9 +1,8 @@
 -- What an amount's row and its entry make of their trees.
-use Rattle.std.proofs.Common.{◌≡◌, ℕ, ℤ, pos, ◌+ℤ◌, ◌+◌, length, take, get_or, List, [], ◌∷◌, ◌++◌, map, drop, refl}
+use Rattle.std.proofs.Common.{◌≡◌, ℕ, ℤ, pos, ◌+ℤ◌, length, List, [], ◌∷◌, ◌++◌, map, drop, refl}
 use Rattle.std.proofs.Common.{sym, ap}
 use Rattle.std.proofs.Common.{subst, subst₂, ◌∙◌, arith, Less, true, Option, Some, None, IfSome, IsPermutation}
 use Rattle.std.specs.List.{AllByRecursion}
-use Rattle.std.specs.Ordering.{int_cmp}
 use Rattle.std.proofs.lemmas.Bool.Decides.{nat_tests}
 use Rattle.std.proofs.lemmas.Int.{ints}
 use Rattle.std.proofs.lemmas.List.{map-append}

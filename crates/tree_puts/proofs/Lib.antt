@@ -4,3 +4,4 @@ pub mod AmountLaws
 pub mod OfficeLaws
 pub mod StoreLaws
 pub mod TariffLaws
+pub mod ClearLaws

@@ -1,5 +1,5 @@
 -- What whole puts make of the office that trees stand for.
-use Rattle.std.proofs.Common.{◌≡◌, ℕ, pos, Bool, true, false, Result, Ok, Err, IfOk, [], ◌∷◌, ◌++◌, List, Some, refl}
+use Rattle.std.proofs.Common.{◌≡◌, pos, Bool, true, false, Result, Ok, Err, IfOk, [], ◌∷◌, ◌++◌, List, Some, refl}
 use Rattle.std.proofs.Common.{sym, ap}
 use Rattle.std.proofs.Common.{filter, subst, subst₂, ◌∙◌, arith}
 use Rattle.std.specs.List.{AllByRecursion}
@@ -12,7 +12,7 @@ use Rattle.keeper.specs.declared.kept.PastRecord.{PastRecord}
 use Rattle.keeper.specs.Office.{Office}
 use Rattle.keeper.specs.Kept.{IsDayPut, IsPastPut, IsLater, HasNoDays, with_day, with_past}
 use Rattle.kept_tables.specs.Codec.{day_row, seal_row, past_row, version_row}
-use Rattle.kept_tables.specs.Stands.{Contents, Holds, HasTables, FitsDay, FitsSpent, FitsPast, contents_of, with_record}
+use Rattle.kept_tables.specs.Stands.{Holds, FitsDay, FitsSpent, FitsPast, contents_of, with_record}
 use Rattle.kept_tables.specs.Stands.{with_seal, with_history}
 use Rattle.kept_tables.proofs.EditLaws.{other_days, other_seals, other_past}
 use Rattle.kept_tables.proofs.DayWriteLaws.{put_last}

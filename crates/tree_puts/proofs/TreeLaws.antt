@@ -1,10 +1,9 @@
 -- Trees of which one is changed.
-use Rattle.std.proofs.Common.{◌≡◌, ℕ, ℤ, ◌==◌, Bool, true, false, cond, List, [], ◌∷◌, ◌++◌, filter, refl, sym, ap}
-use Rattle.std.proofs.Common.{subst, ◌∙◌}
+use Rattle.std.proofs.Common.{◌≡◌, ℕ, ℤ, false, cond, List, refl, ap}
+use Rattle.std.proofs.Common.{◌∙◌}
 use Rattle.std.proofs.Common.{eq-eqb, ne_eqb}
-use Rattle.sqlite_value.specs.declared.value.Value.TheVariants.{Int}
 use Rattle.sqlite_value.specs.Order.{Row}
-use Rattle.sqlite_trees.specs.Tree.{Trees, with_tree, rowid, has_rowid, put_row}
+use Rattle.sqlite_trees.specs.Tree.{Trees, with_tree, put_row}
 use Rattle.sqlite_trees.specs.View.{View, Finds, SetsTree}
 use Rattle.tree_puts.specs.Steps.{Joins}
 

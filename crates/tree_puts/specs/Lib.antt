@@ -1,3 +1,4 @@
 pub mod Trees
 pub mod Steps
 pub mod Stores
+pub mod Clears

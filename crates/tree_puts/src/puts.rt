@@ -21,7 +21,7 @@ use sqlite_value::row::Row;
 use std::alloc::Global;
 
 /// Undoes what is under way, and says whether the trees are ours.
-fn begin<S: Store>(store: &mut S) -> Result<bool, StoreError>
+pub(crate) fn begin<S: Store>(store: &mut S) -> Result<bool, StoreError>
     ensures ours { IfOk result (λ ours. IfDone ours (AreOurs (S.Store.view store.new).shape)) }
     ensures settled { IsClean (S.Store.view store.new) → OnOk result (IsTrue (S.Store.view store.new).is_open
         × ((S.Store.view store.new).trees ≡ (S.Store.view store.old).committed)) }
@@ -37,7 +37,7 @@ fn begin<S: Store>(store: &mut S) -> Result<bool, StoreError>
 }
 
 /// Commits what is written, if a put was done.
-fn finish<S: Store>(store: &mut S, done: bool) -> Result<bool, StoreError>
+pub(crate) fn finish<S: Store>(store: &mut S, done: bool) -> Result<bool, StoreError>
     ensures same { IfOk result (λ is. is ≡ done) }
     ensures commits { IsClean (S.Store.view store.new) → IfOk result (λ is. IfDone is
         ((S.Store.view store.new).committed ≡ (S.Store.view store.old).trees)) }
@@ -106,7 +106,7 @@ pub fn put_day<S: Store>(
 }
 
 /// Writes a history and its amounts, and says whether it did.
-fn write_past<S: Store>(
+pub(crate) fn write_past<S: Store>(
     store: &mut S,
     kept: &PastRecord,
     rows: &[SpentRow],

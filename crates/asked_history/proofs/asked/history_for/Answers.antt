@@ -1,29 +1,36 @@
-use Rattle.std.proofs.Common.{◌≡◌, ◌-◌, ◌∙◌}
-use Rattle.std.proofs.lemmas.Result.{IfOk-weaker}
-use Rattle.keeper.specs.Office.{rows_between}
+use Rattle.std.proofs.Common.{◌≡◌, ◌-◌}
+use Rattle.std.proofs.lemmas.List.Elements.{recursion_from_All}
+use Rattle.road_time.specs.Fits.{IsValid}
 use Rattle.road_time.specs.History.{paid}
+use Rattle.keeper.specs.Office.{rows_between}
 use Rattle.keeper.proofs.HistoryLaws.{keys_law}
-use Rattle.asked_history.proofs.HistoryLaws.{by_history, by_none}
-use Rattle.keeper.proofs.CallLaws.{reads_if_ok}
+use Rattle.keeper.proofs.CallLaws.{reads_ok}
+use Rattle.asked_history.proofs.HistoryLaws.{by_history, by_none, by_asked}
 use Rattle.asked_history.proofs.asked.history_for.Goals as goal
 
-pub returns-then-asks_any-clause-told : goal.returns-then-asks_any-clause-told
-returns-then-asks_any-clause-told g c = λ o told.
+pub returns-then-not-asks_any-clause-told : goal.returns-then-not-asks_any-clause-told
+returns-then-not-asks_any-clause-told g c = λ o told tariffs.
+    by_none c.args.number (paid c.new.result.items) (paid o.rows) c.args.tuples.now tariffs
+    (cc (c.asks_any.ensures, c.if-not-asks_any.true))
+
+pub asked_amounts-requires-clause-valid : goal.asked_amounts-requires-clause-valid
+asked_amounts-requires-clause-valid g c = recursion_from_All IsValid c.args.tuples.now c.requires.fit.valid
+
+pub returns-in-Ok-clause-told : goal.returns-in-Ok-clause-told
+returns-in-Ok-clause-told g c = λ o told tariffs.
+    by_asked c.args.number o.rows c.in-Ok.rows.items (c.in-Ok.ensures.right o told) c.args.tuples.now
+    c.in-Ok.ensures.asked tariffs
+
+pub returns-in-Ok-rows-clause-told : goal.returns-in-Ok-rows-clause-told
+returns-in-Ok-rows-clause-told g c = λ o told tariffs.
     let number = c.args.number in
     let before = g.K.Keeper.told c.args.keeper.now in
     let after = g.K.Keeper.told c.rows.new.self in
-    let exact =
-    reads_if_ok before after c.rows.result (λ p rows. rows.items ≡ rows_between p (number - 69) (number - 1)) o
-    c.rows.ensures.state told in
-    IfOk-weaker c.rows.result _ _
-    (λ rows e. λ tariffs. by_history number o rows.items e c.requires.low c.args.tuples.now c.requires.fit tariffs)
-    exact
+    let rows = c.in-Ok-rows.rows in
+    let exact : rows.items ≡ rows_between o (number - 69) (number - 1) =
+    reads_ok before after c.rows.result (λ p rows. rows.items ≡ rows_between p (number - 69) (number - 1)) o rows
+    c.rows.ensures.state told c.in-Ok-rows.is in
+    by_history number o rows.items exact c.requires.low c.args.tuples.now c.requires.fit tariffs
 
-pub returns-then-asks_any-clause-keys : goal.returns-then-asks_any-clause-keys
-returns-then-asks_any-clause-keys g c =
-    IfOk-weaker c.rows.result _ _ (λ rows e. keys_law rows.items e) c.rows.ensures.rise
-
-pub returns-else-asks_any-clause-told : goal.returns-else-asks_any-clause-told
-returns-else-asks_any-clause-told g c = λ o told tariffs.
-    by_none c.args.number (paid c.new.result.items) (paid o.rows) c.args.tuples.now tariffs
-    (cc (c.asks_any.ensures, c.if-asks_any.false))
+pub returns-in-Ok-rows-clause-keys : goal.returns-in-Ok-rows-clause-keys
+returns-in-Ok-rows-clause-keys g c = keys_law c.in-Ok-rows.rows.items c.in-Ok-rows.ensures.rise

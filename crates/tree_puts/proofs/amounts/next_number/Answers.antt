@@ -3,7 +3,6 @@ use Rattle.sqlite_value.specs.declared.value.Value.TheVariants.{Int}
 use Rattle.sqlite_trees.specs.Tree.{rowid}
 use Rattle.sqlite_trees.specs.View.{IsShaped}
 use Rattle.sqlite_exec.specs.Write.{IsLast}
-use Rattle.tree_puts.specs.Steps.{AreBelow}
 use Rattle.tree_puts.proofs.AmountLaws.{above_last, after_one}
 use Rattle.tree_puts.proofs.amounts.next_number.Goals as goal
 

@@ -1,4 +1,3 @@
-use Rattle.std.proofs.Common.{rules, arith}
 use Rattle.std.proofs.lemmas.Result.{on_ok_weaker}
 use Rattle.tree_puts.proofs.TariffLaws.{tariff_given}
 use Rattle.tree_puts.proofs.tariffs.give.Goals as goal

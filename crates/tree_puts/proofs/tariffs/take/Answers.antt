@@ -1,4 +1,4 @@
-use Rattle.std.proofs.Common.{◌≡◌, ℤ, pos, subst, ◌∙◌, to_z, of_z, w64, rules}
+use Rattle.std.proofs.Common.{◌≡◌, ℤ, subst, ◌∙◌, to_z, of_z, w64, rules}
 use Rattle.std.proofs.lemmas.Result.{on_ok_weaker}
 use Rattle.sqlite_trees.specs.Tree.{without_rowid}
 use Rattle.sqlite_trees.specs.View.{IsClean, SetsTree}

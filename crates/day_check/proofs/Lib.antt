@@ -1,0 +1,4 @@
+pub mod TallyLaws
+pub mod JudgeLaws
+pub mod LineLaws
+pub mod WholeLaws

@@ -1,0 +1,4 @@
+pub mod Renewed
+pub mod Renewals
+pub mod InMemory
+pub mod Laws

@@ -1,0 +1,23 @@
+-- Calls of a keeper that others may call between.
+use Rattle.std.specs.Prelude.{◌≡◌, ℕ, ◌≤◌, Option, Some, Result}
+use Rattle.keeper.specs.declared.kept.KeepFault.{KeepFault}
+use Rattle.keeper.specs.Office.{Office}
+use Rattle.keeper.specs.Calls.{Reads, SoundIfTold, CountsFaults}
+
+-- a call that reads was one of the keeper that is shared: of two states that it had, the first was left as it was, and
+-- what it keeps was answered
+pub record ReadsShared {K T : Type 0} (told : K → Option Office) (faults : K → ℕ) (r : Result T KeepFault)
+    (P : Office → T → Type 0) : Type 0 where
+  pub was : K
+  pub now : K
+  pub reads : Reads (told was) (told now) r P
+  pub sound : SoundIfTold (told now)
+  pub counts : CountsFaults (faults was) (faults now) r
+
+-- a put was one of the keeper that is shared: between two states that it had it did so to what it kept
+pub record PutsShared {K : Type 0} (told : K → Option Office) (faults : K → ℕ) (Did : Office → Option Office → Type 0) :
+    Type 0 where
+  pub was : K
+  pub now : K
+  pub did : (o : Office) → told was ≡ Some o → Did o (told now)
+  pub later : faults was ≤ faults now

@@ -1,0 +1,113 @@
+-- What taking rows away makes of trees, and of the office that they stand for.
+use Rattle.std.proofs.Common.{◌≡◌, ℕ, Bool, true, false, Result, Ok, Err, IfOk, List, [], refl}
+use Rattle.std.proofs.Common.{sym, ap, subst, subst₂, ◌∙◌, arith}
+use Rattle.std.proofs.lemmas.List.Sorted.{IsPermutation-refl}
+use Rattle.sqlite_value.specs.Order.{Row}
+use Rattle.sqlite_trees.specs.Tree.{Trees}
+use Rattle.sqlite_trees.specs.View.{View, SetsTree}
+use Rattle.sqlite_exec.specs.Calls.{OnlyReads}
+use Rattle.sqlite_exec.specs.Write.{IsLast}
+use Rattle.sqlite_sql.specs.Catalog.{IsIndexOf}
+use Rattle.road_time.specs.declared.day.SpentRow.{SpentRow}
+use Rattle.keeper.specs.declared.kept.PastRecord.{PastRecord}
+use Rattle.keeper.specs.Office.{Office}
+use Rattle.keeper.specs.Kept.{HasNoDays, with_past}
+use Rattle.keeper.proofs.SoundLaws.{nothing_sound}
+use Rattle.renewal.specs.Renewed.{emptied, anew}
+use Rattle.kept_tables.specs.Stands.{AreAmountRows}
+use Rattle.kept_tables.specs.Steps.{FitsAny}
+use Rattle.tree_puts.specs.Trees.{key_columns, StandFor}
+use Rattle.tree_puts.specs.Steps.{IfDone}
+use Rattle.tree_puts.specs.Stores.{Makes}
+use Rattle.tree_puts.specs.Clears.{OthersStay, Pops, Clears, ClearsAmounts, ClearsDays, ClearsAll}
+use Rattle.tree_puts.proofs.TreeLaws.{with_other}
+
+-- where a search for the last found none, there is none
+pub none_popped : (old new : View) (tree : ℕ) (row : Row) → IsLast (old.trees tree) row false → OnlyReads old new →
+    Pops tree false old.trees new.trees
+none_popped old new tree row none reads =
+    let same : new.trees ≡ old.trees = ap (λ (v : View). v.trees) reads in (
+      ap (λ (all : Trees). all tree) same ∙ none,
+      λ t apart. ap (λ (all : Trees). all t) same,
+    )
+
+-- one was taken away
+pub one_popped : (old mid new : View) (tree : ℕ) (edit : List Row → List Row) → OnlyReads old mid →
+    SetsTree mid new tree edit → Pops tree true old.trees new.trees
+one_popped old mid new tree edit reads sets = λ t apart.
+    let before : mid.trees ≡ old.trees = ap (λ (v : View). v.trees) reads in
+    let after = ap (λ (v : View). v.trees t) sets.is in
+    after ∙ with_other mid.trees tree (edit (mid.trees tree)) t apart ∙ ap (λ (all : Trees). all t) before
+
+-- others stay as they stayed
+pub stay_then : (a b c : Trees) (tree : ℕ) → OthersStay tree a b → OthersStay tree b c → OthersStay tree a c
+stay_then a b c tree p q = λ t apart. q t apart ∙ p t apart
+
+-- none is left of a tree of which some went before
+pub cleared_now : (a b c : Trees) (tree : ℕ) → OthersStay tree a b → Pops tree false b c → Clears tree a c
+cleared_now a b c tree before none = record {
+  empty = none.0;
+  others = stay_then a b c tree before none.1;
+}
+
+-- two trees are gone
+pub amounts_cleared : (a b c : Trees) → Clears 1 a b → Clears 2 b c → ClearsAmounts a c
+amounts_cleared a b c p q = record {
+  spent = q.others 1 (λ e. omega (arith, e)) ∙ p.empty;
+  key = q.empty;
+  others = λ t apart other. q.others t other ∙ p.others t apart;
+}
+
+pub days_cleared : (a b c : Trees) → Clears 0 a b → Clears 4 b c → ClearsDays a c
+days_cleared a b c p q = record {
+  days = q.others 0 (λ e. omega (arith, e)) ∙ p.empty;
+  seals = q.empty;
+  others = λ t apart other. q.others t other ∙ p.others t apart;
+}
+
+-- all of them are
+pub all_cleared : (a b c d : Trees) → ClearsAmounts a b → ClearsDays b c → Clears 3 c d → ClearsAll a d
+all_cleared a b c d p q r = record {
+  days = r.others 0 (λ e. omega (arith, e)) ∙ q.days;
+  spent = r.others 1 (λ e. omega (arith, e)) ∙ q.others 1 (λ e. omega (arith, e)) (λ e. omega (arith, e)) ∙ p.spent;
+  key = r.others 2 (λ e. omega (arith, e)) ∙ q.others 2 (λ e. omega (arith, e)) (λ e. omega (arith, e)) ∙ p.key;
+  past = r.empty;
+  seals = r.others 4 (λ e. omega (arith, e)) ∙ q.seals;
+  others = λ t above. r.others t (λ e. omega (arith, above, e))
+      ∙ q.others t (λ e. omega (arith, above, e)) (λ e. omega (arith, above, e))
+      ∙ p.others t (λ e. omega (arith, above, e)) (λ e. omega (arith, above, e));
+}
+
+-- an office stands with nothing but the tariffs
+pub emptied_stands : (old new : Trees) (o : Office) → ClearsAll old new → StandFor old o → StandFor new (emptied o)
+emptied_stands old new o gone stand =
+    let has = stand.office in
+    record {
+      office = record {
+        tables = record {
+          schema = refl;
+          days_are = gone.days;
+          rows_are = subst (AreAmountRows []) (sym gone.spent) (IsPermutation-refl []);
+          past_is = gone.past;
+          seals_are = gone.seals;
+          tariffs_are = gone.others 5 (omega arith) ∙ has.tables.tariffs_are;
+          version = gone.others 6 (omega arith) ∙ has.tables.version;
+        };
+        fits = record { days = tt; rows = tt; past = tt; tariffs = has.fits.tariffs };
+        sound = nothing_sound o.tariffs has.sound.tariffs;
+      };
+      indexed = subst₂ (IsIndexOf key_columns) (sym gone.spent) (sym gone.key) (IsPermutation-refl []);
+    }
+
+-- what was taken away, and a history that was put then, is an office that began anew
+pub begun_anew : (a b c : Trees) (p : PastRecord) (rows : List SpentRow) → ClearsAll a b →
+    Makes HasNoDays (with_past p rows) b c → Makes FitsAny (anew p rows) a c
+begun_anew a b c p rows gone puts o stand _ =
+    puts (emptied o) (emptied_stands a b o gone stand) (record { days = refl; past = refl })
+
+-- what follows of a step that was done
+pub done_then : {E : Type 0} (r : Result Bool E) (P Q : Type 0) → IfOk r (λ done. IfDone done P) → (P → Q) →
+    IfOk r (λ done. IfDone done Q)
+done_then (Ok true) P Q p f = f p
+done_then (Ok false) P Q p f = tt
+done_then (Err e) P Q p f = tt
