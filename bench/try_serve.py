@@ -9,7 +9,8 @@ sends them; a day of so many lines, posted while four clients read the live boar
 slow client and a silent one beside three that work; a thousand silent ones, and fifty whose heads come a byte a second; more
 connections than there are file handles; 200 faults of accept, and threads that cannot be had; POSTs in line behind one, of
 which some clients leave; a day of so many lines again, posted beside a thousand silent clients and ten POSTs in line, while
-others ask for live totals and kept amounts; clients that are answered and go on sending; a POST whose body comes a byte a second,
+others ask for live totals and kept amounts; a POST of a passed day and one of a refused day, whose bodies of some MB come slowly, and
+a client that does not take its answer, beside the next POST; clients that are answered and go on sending; a POST whose body comes a byte a second,
 and one whose body is held back, beside clients that ask for what is kept; clients that vanish; a kill -9 at moments of a POST. The
 server then ends by its sessions, and Python's `sqlite3` reads what it kept. The script ends with status 1 at the first answer
 that is not the expected one, or that comes late. The faults of accept are made by `bench/fail_accept.c`, built by `cc`.
@@ -626,6 +627,58 @@ def try_line(program, folder):
     server.end()
 
 
+def slow_post(server, day, begins):
+    """A POST of which half the body is sent, and how many bytes are still to come."""
+    wire = server.connect(SILENCE * 3)
+    wire.sendall(b"POST /days/%d HTTP/1.1\r\nContent-Length: %d\r\n\r\n" % (day, REFUSED_BODY) + begins)
+    left = REFUSED_BODY - len(begins)
+    wire.sendall(b"a" * (left // 2))
+    return wire, left - left // 2
+
+
+def try_passed(program, folder):
+    """A passed day and a refused one whose bodies of some MB come slowly, and a client that does not take its answer: the next POST
+    does not wait for them. One more keeps all the lanes that POSTs may keep: who asks is answered, and a further POST waits."""
+    server = Server(program, folder, 3_000)
+    expect("the first day", server.ask("POST", "/days/100", b"")[0], 200)
+    slow = [slow_post(server, 99, b""), slow_post(server, 101, LATE)]
+    untaken = socket.socket()
+    untaken.setsockopt(socket.SOL_SOCKET, socket.SO_RCVBUF, 1)
+    server.left -= 1
+    untaken.connect(("127.0.0.1", server.port))
+    untaken.sendall(b"POST /days/98 HTTP/1.1\r\nContent-Length: 0\r\n\r\n")
+    time.sleep(0.2)
+    begin = time.monotonic()
+    status, _, text = server.ask("POST", "/days/102", charged_day())
+    took = time.monotonic() - begin
+    expect("the next POST", (status, json.loads(text)["outcome"]), (200, "stored"))
+    if took > AT_ONCE:
+        fail(f"the next POST was answered after {took:.2f} s, while bodies came that are not used")
+    slow.append(slow_post(server, 97, b""))
+    last = Posts(server, 96)
+    last.start()
+    answers, most = slowest(work(server, ["/live", "/days/102", "/spent/102/0/100"], 2))
+    expect("a POST behind as many as may be served", last.answer, None)
+    for wire, left in slow:
+        wire.sendall(b"a" * left)
+    taken = [all_of(wire) for wire, _ in slow]
+    last.join()
+    refused = answer_bytes(422, "Unprocessable Entity", '{"cause":"late 10 9","error":"refused","line":3}')
+    expect("the slow ones", taken, [passed_by(100), refused, passed_by(102)])
+    expect("the one behind them", last.answer, (409, "Conflict", '{"error":"passed","last":102}'))
+    for wire, _ in slow:
+        wire.close()
+    untaken.close()
+    print(f"a passed and a refused day of {REFUSED_BODY / 1e6:.0f} MB that come slowly, and an answer that is not taken: the next POST was"
+          f" answered within {took * 1000:.0f} ms; with one slow day more {answers} answers to others, the slowest {most:.1f} ms, while a"
+          " further POST waited; all were answered at the end")
+    server.end()
+
+
+def passed_by(day):
+    return answer_bytes(409, "Conflict", '{"error":"passed","last":%d}' % day)
+
+
 def percentile(times):
     times = sorted(times)
     return times[int(0.99 * (len(times) - 1))]
@@ -813,7 +866,7 @@ def main():
     own = tempfile.mkdtemp()
     try_bodies(program, own)
     shutil.rmtree(own)
-    for attempt in (try_ways, try_silent, try_handles, try_faults, try_threads, try_drains, try_line):
+    for attempt in (try_ways, try_silent, try_handles, try_faults, try_threads, try_drains, try_line, try_passed):
         own = tempfile.mkdtemp()
         attempt(program, own)
         shutil.rmtree(own)

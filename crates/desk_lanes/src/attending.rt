@@ -3,6 +3,7 @@ ghost use Rattle.std.specs.Prelude.{◌≡◌};
 ghost use Rattle.live_board.specs.Passes.{StartsWith};
 
 use keeper::Keeper;
+use lane_loops::Turn;
 use live_board::BoardReader;
 use partition_workers::Crew;
 use road_io::Link;
@@ -11,14 +12,15 @@ use std::sync::{Mutex, Wait};
 use std::thread::Threads;
 use toll_desk::{ImportDesk, TwoLocks, session_shared};
 
-/// Runs a session on a connection. A POST has the imports' lock until it is answered; for each call of the keeper a
-/// request of what is kept takes the keeper's lock; no other takes a lock.
-pub fn attend<L: Link, K: Keeper, C: Crew, R: Wait + Threads + Drop>(
+/// Runs a session on a connection. A POST has the imports' lock until its day is imported, and then its turn is over.
+/// For each call of the keeper a request of what is kept takes the keeper's lock. No other takes a lock.
+pub fn attend<L: Link, K: Keeper, C: Crew, R: Wait + Threads + Drop, T: Turn>(
     rt: R,
     alloc: Global,
     keeper: &Mutex<K>,
     imports: &Mutex<ImportDesk<C, R>>,
     line: &mut L,
+    turn: &mut T,
     reader: &mut BoardReader,
 )
     ensures board { reader.new.board ≡ reader.old.board }
@@ -28,6 +30,7 @@ pub fn attend<L: Link, K: Keeper, C: Crew, R: Wait + Threads + Drop>(
         rt,
         keeper,
         imports,
+        turn,
     };
     session_shared(alloc, line, reader, &mut clerk);
 }

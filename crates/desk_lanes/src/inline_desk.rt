@@ -6,7 +6,7 @@ use crate::attending::attend;
 use crate::desk_crew::DeskCrew;
 use import_plan::Plan;
 use keeper::Keeper;
-use lane_loops::Host;
+use lane_loops::{Host, Turn};
 use live_board::{BoardReader, BoardWriter};
 use partition_workers::{Crew, InlineCrew};
 use road_io::Link;
@@ -24,8 +24,22 @@ pub struct InlineDesk<K: Keeper, R: Wait + Threads + Drop + Copy> {
 }
 
 impl<K: Keeper, R: Wait + Threads + Drop + Copy> Host for InlineDesk<K, R> {
-    fn attend<L: Link>(&self, alloc: Global, line: &mut L, reader: &mut BoardReader) {
-        attend(self.rt, alloc, &self.keeper, &self.imports, line, reader);
+    fn attend<L: Link, T: Turn>(
+        &self,
+        alloc: Global,
+        line: &mut L,
+        turn: &mut T,
+        reader: &mut BoardReader,
+    ) {
+        attend(
+            self.rt,
+            alloc,
+            &self.keeper,
+            &self.imports,
+            line,
+            turn,
+            reader,
+        );
     }
 }
 

@@ -1,7 +1,7 @@
 // A desk that loops share.
 use crate::attending::attend;
 use keeper::Keeper;
-use lane_loops::Host;
+use lane_loops::{Host, Turn};
 use live_board::BoardReader;
 use partition_workers::Crew;
 use road_io::Link;
@@ -11,7 +11,7 @@ use std::thread::Threads;
 use toll_desk::ImportDesk;
 
 /// A desk that loops in many threads share. It runs a session on each connection. Its keeper has a lock of its own,
-/// which is taken for one call at a time; a POST takes that of the imports too, until it is answered.
+/// which is taken for one call at a time; a POST takes that of the imports too, until its day is imported.
 pub struct SharedDesk<K: Keeper, C: Crew, R: Wait + Threads + Drop + Copy> {
     rt: R,
     keeper: Mutex<K>,
@@ -40,7 +40,21 @@ impl<K: Keeper, C: Crew, R: Wait + Threads + Drop + Copy> SharedDesk<K, C, R> {
 }
 
 impl<K: Keeper, C: Crew, R: Wait + Threads + Drop + Copy> Host for SharedDesk<K, C, R> {
-    fn attend<L: Link>(&self, alloc: Global, line: &mut L, reader: &mut BoardReader) {
-        attend(self.rt, alloc, &self.keeper, &self.imports, line, reader);
+    fn attend<L: Link, T: Turn>(
+        &self,
+        alloc: Global,
+        line: &mut L,
+        turn: &mut T,
+        reader: &mut BoardReader,
+    ) {
+        attend(
+            self.rt,
+            alloc,
+            &self.keeper,
+            &self.imports,
+            line,
+            turn,
+            reader,
+        );
     }
 }

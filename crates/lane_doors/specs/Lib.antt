@@ -1,3 +1,4 @@
 pub mod Doors
 pub mod MemDoors
 pub mod TcpDoors
+pub mod Turns

@@ -2,6 +2,7 @@
 //!
 //! A `Door` opens a number of ears, which are listeners, and counts at their closing what they accepted and whether
 //! one failed. `TcpDoor` hears on a port of this machine, for this machine alone; `MemDoor` has listeners in memory.
+//! A connection of a `TcpEar` that posts a day has a `TcpTurn`, which it may give back before itself.
 //! Ears are seated in lanes, each with a reader of the live board, and rise from them again.
 #![tactic(auto)]
 
@@ -15,6 +16,7 @@ mod seats;
 mod shared_room;
 mod tcp_door;
 mod tcp_ear;
+mod tcp_turn;
 
 pub use door::{Door, DoorFault};
 pub use ear::Ear;
@@ -23,3 +25,4 @@ pub use mem_door::MemDoor;
 pub use seats::{rise, seat};
 pub use tcp_door::TcpDoor;
 pub use tcp_ear::TcpEar;
+pub use tcp_turn::TcpTurn;

@@ -7,7 +7,7 @@ use road_time::NoMemory;
 use std::alloc::Global;
 use std::net::SocketAddr;
 use std::sync::{Arc, Mutex, Wait};
-use waiting_room::{RoomLink, Threshold, WaitingRoom};
+use waiting_room::{RoomLink, RoomTurn, Threshold, WaitingRoom};
 
 /// A waiting room under a lock, and its threshold beside it: who gives a connection back does not wait for the lock.
 #[derive(Drop)]
@@ -56,6 +56,14 @@ impl SharedRoom {
     pub(crate) fn next<R: Wait>(&self, rt: &R, alloc: Global) -> Result<RoomLink, Failed> {
         let mut room = self.room.lock(rt);
         room.next(rt, alloc)
+    }
+
+    /// The pass of a connection, if it has that. Where it cannot be taken out it comes back with the connection.
+    pub(crate) fn turn(&self, line: &mut RoomLink) -> Option<RoomTurn> {
+        match Arc::try_clone(&self.threshold) {
+            Ok(threshold) => line.turn(threshold),
+            Err(_) => None,
+        }
     }
 
     /// Gives a connection back to the room.

@@ -58,11 +58,26 @@ fn add<R: Drop>(ears: &mut Vec<TcpEar<R>>, ear: TcpEar<R>, port: u16) -> Result<
     Ok(())
 }
 
-/// A room on a port, which many ears may share.
-fn open_room(host: HostRuntime, alloc: Global, port: u16) -> Result<SharedRoom, DoorFault>
+/// How many of so many ears may be busy with connections that post a day: one at least, and of several all but one.
+fn most_posts(count: u8) -> usize
+    requires { 1 ≤ count }
+    ensures one { count ≡ 1 → result ≡ 1 }
+    ensures free { 2 ≤ count → result + 1 ≡ count }
+{
+    (count - 1).max(1) as usize
+}
+
+/// A room on a port, which so many ears share: all of them but one may be busy with connections that post a day.
+fn open_room(
+    host: HostRuntime,
+    alloc: Global,
+    port: u16,
+    count: u8,
+) -> Result<SharedRoom, DoorFault>
+    requires { 1 ≤ count }
     ensures { IfOk result (λ shared. IsOwnPort shared.at port) }
 {
-    let room = match WaitingRoom::open(host, alloc, port) {
+    let room = match WaitingRoom::open(host, alloc, port, most_posts(count)) {
         Ok(room) => room,
         Err(RoomFault::Failed) => return Err(DoorFault::Failed),
         Err(RoomFault::NoMemory) => return Err(DoorFault::NoMemory),
@@ -86,7 +101,7 @@ fn listen<R: Copy + Drop>(
     ensures fresh { IfOk result (All (λ ear. (accepted_by ear ≡ 0) × (faults_of ear ≡ 0))) }
     ensures hears { IfOk result (All (λ ear. HearsAt ear port)) }
 {
-    let room = open_room(host, alloc, port)?;
+    let room = open_room(host, alloc, port, count)?;
     let mut ears = Vec::new(alloc);
     for _ in 1..count {
         let Ok(again) = room.again() else {
@@ -133,13 +148,13 @@ impl<R: Wait + Copy + Drop + Send + Sync> Door for TcpDoor<R> {
 
     ghost accepted = { accepted_at };
 
-    ghost lanes_for = { λ readers. max readers 2 };
+    ghost lanes_for = { λ readers. max readers 3 };
 
     ghost hears = { HearsAt };
 
-    /// Two at least, so that one is free while a day is posted.
+    /// Three at least, so that one is free while a day is posted and what is left of another POST is done.
     fn lanes(&self, readers: u8) -> u8 {
-        readers.max(2)
+        readers.max(3)
     }
 
     fn open(&mut self, alloc: Global, port: u16, ears: u8) -> Result<Ears<TcpEar<R>>, DoorFault>

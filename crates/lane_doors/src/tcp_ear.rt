@@ -4,6 +4,7 @@ ghost use Rattle.lane_doors.specs.TcpDoors.{accepted_by, faults_of, address_of};
 
 use crate::ear::Ear;
 use crate::shared_room::SharedRoom;
+use crate::tcp_turn::TcpTurn;
 use lane_loops::Listener;
 use road_io::Failed;
 use std::alloc::Global;
@@ -38,8 +39,10 @@ impl<R> TcpEar<R> {
     }
 }
 
-impl<R: Wait> Listener for TcpEar<R> {
+impl<R: Wait + Copy + Drop + Send> Listener for TcpEar<R> {
     type Line = RoomLink;
+
+    type Pass = TcpTurn<R>;
 
     ghost faults = { faults_of };
 
@@ -58,6 +61,13 @@ impl<R: Wait> Listener for TcpEar<R> {
         }
     }
 
+    fn pass(&self, line: &mut RoomLink) -> TcpTurn<R> {
+        TcpTurn {
+            rt: self.rt,
+            own: self.room.turn(line),
+        }
+    }
+
     fn end(&mut self, line: RoomLink) {
         self.room.end(&self.rt, line);
     }
@@ -68,7 +78,7 @@ impl<R: Wait> Listener for TcpEar<R> {
     }
 }
 
-impl<R: Wait> Ear for TcpEar<R> {
+impl<R: Wait + Copy + Drop + Send> Ear for TcpEar<R> {
     fn accepted(&self) -> u64 {
         self.accepted
     }

@@ -7,6 +7,7 @@ use crate::lane::Lane;
 use crate::listener::Listener;
 use crate::stub::Stub;
 use crate::tickets::{Draws, Tickets, draw};
+use crate::turn::Turn;
 use road_io::Failed;
 use std::alloc::Global;
 use std::sync::atomic::{AtomicBool, Ordering};
@@ -14,8 +15,8 @@ use std::sync::ledger::Ledger;
 use std::sync::{Mutex, Wait};
 
 impl<N: Listener> Lane<N> {
-    /// Accepts a connection, has it served, and gives it back, so that what was answered reaches the client. Where the
-    /// listener fails the lane failed; so it does where all loops are to stop.
+    /// Accepts a connection, has it served, and gives it back, so that what was answered reaches the client. Its turn
+    /// is over then at the latest. Where the listener fails the lane failed; so it does where all loops are to stop.
     fn turn<H: Host>(&mut self, alloc: Global, host: &H, stop: &AtomicBool) -> bool
         requires room { N.accepted self.old.listener < 2 ^ 64 - 1 }
         requires goes { self.old.failed ≡ false }
@@ -33,7 +34,9 @@ impl<N: Listener> Lane<N> {
         match self.listener.accept() {
             Ok(line) => {
                 let mut line = line;
-                host.attend(alloc, &mut line, &mut self.reader);
+                let mut pass = self.listener.pass(&mut line);
+                host.attend(alloc, &mut line, &mut pass, &mut self.reader);
+                pass.end();
                 self.listener.end(line);
                 true
             }

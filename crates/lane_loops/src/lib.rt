@@ -5,7 +5,8 @@
 //! serve it. Each ticket is drawn once, by whichever loop comes first: what the lanes drew is counted by a ledger,
 //! whose shares they hold. A second ledger counts the loops that found no ticket left. So where no listener failed,
 //! the listeners accepted as many connections in all as there were tickets. A connection is given back to the listener
-//! that it came from, and to nobody else. Where no thread can be had for a loop, all of them stop.
+//! that it came from, and to nobody else; its `Turn`, which one connection at a time has, may be over before that.
+//! Where no thread can be had for a loop, all of them stop.
 #![tactic(auto)]
 
 mod begun;
@@ -20,6 +21,7 @@ mod serve_end;
 mod serving;
 mod stub;
 mod tickets;
+mod turn;
 
 pub use host::Host;
 pub use lane::Lane;
@@ -28,3 +30,4 @@ pub use listener::Listener;
 pub use mem_listener::MemListener;
 pub use serve_end::ServeEnd;
 pub use serving::serve;
+pub use turn::{NoTurn, Turn};

@@ -2,12 +2,15 @@
 ghost use Rattle.std.specs.Prelude.{ℕ, ◌≡◌, ◌≤◌, ◌+◌, ◌-◌, ◌^◌, ◌<◌, OnOk, OnErr};
 ghost use Rattle.road_io.specs.Faults.{HasCause, Rose};
 
+use crate::turn::Turn;
 use road_io::{Failed, Link};
 
 /// Gives connections, one after another, and takes each back that was served. `accepted` counts those that it gave,
 /// `faults` the calls that failed. A connection cannot be let go but by `end`.
 pub trait Listener {
     type Line: Link + Send;
+
+    type Pass: Turn + Send;
 
     ghost faults: { Self → ℕ };
 
@@ -19,6 +22,9 @@ pub trait Listener {
         ensures accepts { OnOk result (accepted self.new ≡ accepted self.old + 1) }
         ensures refuses { OnErr result (accepted self.new ≡ accepted self.old) }
         ensures cause { HasCause (faults self.old) (faults self.new) result };
+
+    /// What a connection has of what one at a time has. It may be given back before the connection.
+    fn pass(&self, line: &mut Self::Line) -> Self::Pass;
 
     /// Takes a connection back, and ends it, so that what was answered reaches the client.
     fn end(&mut self, line: Self::Line)

@@ -7,6 +7,7 @@ ghost use Rattle.road_io.specs.Plans.{planned};
 ghost use Rattle.lane_loops.specs.MemListeners.{links_of, plan_of, accepted_by, faults_of};
 
 use crate::listener::Listener;
+use crate::turn::NoTurn;
 use road_io::{Failed, Link, MemLink};
 use road_time::NoMemory;
 use std::alloc::Global;
@@ -85,6 +86,8 @@ fn turn(fails: &[u32], call: u64) -> (bool, u64)
 impl Listener for MemListener {
     type Line = MemLink;
 
+    type Pass = NoTurn;
+
     ghost faults = { faults_of };
 
     ghost accepted = { accepted_by };
@@ -109,6 +112,10 @@ impl Listener for MemListener {
                 Err(Failed)
             }
         }
+    }
+
+    fn pass(&self, _line: &mut MemLink) -> NoTurn {
+        NoTurn
     }
 
     fn end(&mut self, line: MemLink)

@@ -112,7 +112,7 @@ fn run_beside<
         },
         move || -> (Vec<Lane<N>>, Stub<D, E>)
             requires bounds { IsSync R.row × IsSync H.row × IsSend N.row × IsSend N.Line.row
-                × IsSend D.row × IsSend E.row × IsSync D.row × IsSync E.row }
+                × IsSend N.Pass.row × IsSend D.row × IsSend E.row × IsSync D.row × IsSync E.row }
             requires drawn { stub.drawn.parts ≡ vec_len lanes }
             requires ends { stub.ends.parts ≡ vec_len lanes }
             requires unused { (stub.drawn.amount ≡ 0) × (stub.ends.amount ≡ 0) }

@@ -1,4 +1,5 @@
 pub mod SendLaws
 pub mod DayLaws
 pub mod ImportLaws
+pub mod ReadLaws
 pub mod LiveLaws

@@ -2,6 +2,7 @@ pub mod Answers
 pub mod Days
 pub mod Pages
 pub mod Imports
+pub mod Reading
 pub mod Desk
 pub mod Live
 pub mod Sessions

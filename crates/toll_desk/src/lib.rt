@@ -11,6 +11,7 @@ mod answers;
 mod clerk;
 mod desk;
 mod import_desk;
+mod imported;
 mod importing;
 mod kept_days;
 mod live;

@@ -12,9 +12,12 @@ ghost use Rattle.import_once.specs.declared.outcomes.Outcome.TheVariants.{ReadFa
 ghost use Rattle.toll_requests.specs.declared.session_end.SessionEnd.TheVariants.{Answered, LinkFault};
 ghost use Rattle.toll_desk.specs.Answers.{AnswersOutcome, TellsFault, wire_of};
 ghost use Rattle.toll_desk.specs.Imports.{state_of, ImportsDay};
+ghost use Rattle.toll_desk.specs.Reading.{FinishesBody, Finishes, FitsRead, IsStopped};
+ghost use Rattle.toll_desk.specs.declared.imported.ReadTo.TheVariants as reading;
 
 use crate::answers::{send_keeper_fault, send_made};
-use crate::importing::import_body;
+use crate::imported::{Imported, ReadTo};
+use crate::importing::import_only;
 use http::StatusCode;
 use import_once::Outcome;
 use import_plan::Plan;
@@ -26,7 +29,7 @@ use road_time::Limits;
 use std::alloc::Global;
 use std::sync::Wait;
 use std::thread::Threads;
-use toll_requests::{BodyEnd, SessionEnd, send_no_memory};
+use toll_requests::{BodyEnd, SessionEnd, send_no_memory, skip_body};
 use toll_texts::{differs_body, imported_body, passed_body, refused_body};
 
 /// Answers how an import ended.
@@ -82,6 +85,61 @@ fn send_outcome<L: Link>(alloc: Global, link: &mut L, outcome: Outcome) -> Sessi
     }
 }
 
+/// Reads what is left of a body, and answers how its import ended.
+fn finish_body<L: Link>(
+    alloc: Global,
+    outcome: Outcome,
+    early: &[u8],
+    left: u64,
+    link: &mut L,
+) -> SessionEnd
+    requires few { length early.now ≤ left }
+    requires read { outcome ≢ ReadFault }
+    requires written { outcome ≢ WriteFault }
+    requires kept { (day : AnsweredDay) → outcome ≢ outcomes.Answered day }
+    ensures ends { (rest : List ℕ) → prepend_known early.now (L.left link.old) ≡ Some rest
+        → FinishesBody left rest outcome
+        (wire_of (L.left link.old) (L.plan link.old) (L.written link.old) (L.room link.old))
+        (wire_of (L.left link.new) (L.plan link.new) (L.written link.new) (L.room link.new)) result }
+    ensures unavailable { result ≡ Answered 503 → outcome ≡ KeeperFault }
+    ensures told { outcome ≡ KeeperFault → TellsFault result }
+    ensures sure { NeverFails (L.plan link.old) → L.room link.old ≡ Endless → result ≢ LinkFault }
+    ensures cause { result ≡ LinkFault → Rose (L.faults link.old) (L.faults link.new) }
+    ensures later { L.faults link.old ≤ L.faults link.new }
+{
+    match skip_body(link, early, left) {
+        BodyEnd::Whole => send_outcome(alloc, link, outcome),
+        BodyEnd::Cut => SessionEnd::Cut,
+        BodyEnd::LinkFault => SessionEnd::LinkFault,
+    }
+}
+
+/// Does what is left of a request whose day was imported: reads the rest of its body, and answers how the import ended.
+/// It needs the link alone.
+pub fn finish_import<L: Link>(alloc: Global, imported: Imported<'_>, link: &mut L) -> SessionEnd
+    requires fits { FitsRead imported.early.now imported.read }
+    requires read { imported.outcome ≡ ReadFault → IsStopped imported.read }
+    requires written { imported.outcome ≢ WriteFault }
+    requires kept { (day : AnsweredDay) → imported.outcome ≢ outcomes.Answered day }
+    ensures ends { Finishes imported.entry.early.now imported.entry.outcome
+        (wire_of (L.left link.old) (L.plan link.old) (L.written link.old) (L.room link.old))
+        (wire_of (L.left link.new) (L.plan link.new) (L.written link.new) (L.room link.new))
+        imported.entry.read result }
+    ensures unavailable { result ≡ Answered 503 → imported.entry.outcome ≡ KeeperFault }
+    ensures told { imported.entry.outcome ≡ KeeperFault → TellsFault result }
+    ensures sure { imported.entry.read ≢ reading.LinkFault → NeverFails (L.plan link.old)
+        → L.room link.old ≡ Endless → result ≢ LinkFault }
+    ensures cause { imported.entry.read ≢ reading.LinkFault → result ≡ LinkFault
+        → Rose (L.faults link.old) (L.faults link.new) }
+    ensures later { L.faults link.old ≤ L.faults link.new }
+{
+    match imported.read {
+        ReadTo::Open(left) => finish_body(alloc, imported.outcome, imported.early, left, link),
+        ReadTo::Cut => SessionEnd::Cut,
+        ReadTo::LinkFault => SessionEnd::LinkFault,
+    }
+}
+
 /// Imports a day from the body of a request, publishes its charges, and answers how that ended.
 pub fn answer_import<L: Link, K: Keeper, C: Crew, R: Wait + Threads + Drop>(
     rt: &R,
@@ -118,12 +176,8 @@ pub fn answer_import<L: Link, K: Keeper, C: Crew, R: Wait + Threads + Drop>(
     ensures later { L.faults link.old ≤ L.faults link.new }
     ensures keeper_later { K.faults keeper.old ≤ K.faults keeper.new }
 {
-    let (outcome, end) = import_body(
+    let imported = import_only(
         rt, alloc, day, plan, limits, early, count, link, keeper, crew, writer,
     );
-    match end {
-        BodyEnd::Whole => send_outcome(alloc, link, outcome),
-        BodyEnd::Cut => SessionEnd::Cut,
-        BodyEnd::LinkFault => SessionEnd::LinkFault,
-    }
+    finish_import(alloc, imported, link)
 }

@@ -1,5 +1,5 @@
 // A desk that many sessions share, whose keeper lies under a lock of its own.
-ghost use Rattle.std.specs.Prelude.{◌≡◌, ◌≢◌, ◌≤◌, ◌<◌, Some};
+ghost use Rattle.std.specs.Prelude.{◌≡◌, ◌≢◌, ◌≤◌, ◌<◌, Some, false, length};
 ghost use Rattle.road_io.specs.Faults.{Rose};
 ghost use Rattle.road_io.specs.Plans.{NeverFails};
 ghost use Rattle.road_io.specs.Rooms.{Endless};
@@ -8,11 +8,19 @@ ghost use Rattle.toll_requests.specs.Requests.{IsAsked};
 ghost use Rattle.toll_requests.specs.declared.session_end.SessionEnd.TheVariants.{Answered, LinkFault};
 ghost use Rattle.toll_desk.specs.Answers.{TellsFault};
 ghost use Rattle.toll_desk.specs.Desk.{AnswersRead, IsOfKept};
+ghost use Rattle.toll_desk.specs.Reading.{FitsRead, IsStopped};
+ghost use Rattle.toll_desk.specs.declared.imported.ReadTo.TheVariants as reading;
+ghost use Rattle.import_once.specs.declared.outcomes.AnsweredDay.{AnsweredDay};
+ghost use Rattle.import_once.specs.declared.outcomes.Outcome.TheVariants as outcomes;
+ghost use Rattle.import_once.specs.declared.outcomes.Outcome.TheVariants.{ReadFault, WriteFault, KeeperFault};
 
 use crate::answers::{answer_day, answer_days, answer_page, answer_spent, answer_vehicle};
 use crate::clerk::Clerk;
 use crate::import_desk::ImportDesk;
+use crate::imported::Imported;
+use crate::posting::finish_import;
 use keeper::Keeper;
+use lane_loops::Turn;
 use partition_workers::Crew;
 use road_io::Link;
 use shared_keeper::SharedKeeper;
@@ -21,20 +29,76 @@ use std::sync::{Mutex, Wait};
 use std::thread::Threads;
 use toll_requests::{Asked, SessionEnd};
 
-/// Takes the lock of the imports for a POST until that is answered, and the lock of the keeper for one call at a time:
-/// so who asks for what is kept waits for no POST, and POSTs wait for one another. It tells nothing.
+/// Takes the lock of the imports for a POST until its day is imported, and the lock of the keeper for one call at a
+/// time: so who asks for what is kept waits for no POST, and POSTs wait for one another's imports alone. The turn is
+/// given back once a day is imported. It tells nothing.
 #[derive(Drop)]
-pub struct TwoLocks<'a, K: Keeper, C: Crew, R: Wait + Threads + Drop> {
+pub struct TwoLocks<'a, K: Keeper, C: Crew, R: Wait + Threads + Drop, T: Turn> {
     pub rt: R,
     pub keeper: &'a Mutex<K>,
     pub imports: &'a Mutex<ImportDesk<C, R>>,
+    pub turn: &'a mut T,
 }
 
-/// Answers a request of what is kept: of a day or an amount by the keeper alone, a POST with the imports locked.
-fn answer_shared<L: Link, K: Keeper, C: Crew, R: Wait + Threads + Drop>(
+/// Does what is left of a POST whose turn is over.
+fn finish_after<L: Link, T: Turn>(
+    alloc: Global,
+    imported: Imported<'_>,
+    turn: &T,
+    link: &mut L,
+) -> SessionEnd
+    requires over { T.held turn.now ≡ false }
+    requires fits { FitsRead imported.early.now imported.read }
+    requires read { imported.outcome ≡ ReadFault → IsStopped imported.read }
+    requires written { imported.outcome ≢ WriteFault }
+    requires kept { (day : AnsweredDay) → imported.outcome ≢ outcomes.Answered day }
+    ensures unavailable { result ≡ Answered 503 → imported.entry.outcome ≡ KeeperFault }
+    ensures told { imported.entry.outcome ≡ KeeperFault → TellsFault result }
+    ensures sure { imported.entry.read ≢ reading.LinkFault → NeverFails (L.plan link.old)
+        → L.room link.old ≡ Endless → result ≢ LinkFault }
+    ensures cause { imported.entry.read ≢ reading.LinkFault → result ≡ LinkFault
+        → Rose (L.faults link.old) (L.faults link.new) }
+    ensures later { L.faults link.old ≤ L.faults link.new }
+{
+    finish_import(alloc, imported, link)
+}
+
+/// Imports the day of a POST with the imports locked. Once they are not, and its turn is over, the rest of its body is
+/// read, and it is answered.
+fn import_shared<L: Link, K: Keeper, C: Crew, R: Wait + Threads + Drop, T: Turn>(
     rt: &R,
     alloc: Global,
     imports: &Mutex<ImportDesk<C, R>>,
+    turn: &mut T,
+    day: u32,
+    early: &[u8],
+    count: u64,
+    keeper: &mut K,
+    link: &mut L,
+) -> SessionEnd
+    requires low { 70 ≤ day }
+    requires high { day ≤ 1000000 }
+    requires few { length early.now ≤ count }
+    ensures unavailable { result ≡ Answered 503 → Rose (K.faults keeper.old) (K.faults keeper.new) }
+    ensures failed { K.faults keeper.old < K.faults keeper.new → TellsFault result }
+    ensures sure { NeverFails (L.plan link.old) → L.room link.old ≡ Endless → result ≢ LinkFault }
+    ensures cause { result ≡ LinkFault → Rose (L.faults link.old) (L.faults link.new) }
+    ensures later { L.faults link.old ≤ L.faults link.new }
+{
+    let imported = imports
+        .lock(rt)
+        .import(alloc, day, early, count, keeper, link);
+    turn.over();
+    finish_after(alloc, imported, turn, link)
+}
+
+/// Answers a request of what is kept: of a day or an amount by the keeper alone, a POST with the imports
+/// locked until its day is imported.
+fn answer_shared<L: Link, K: Keeper, C: Crew, R: Wait + Threads + Drop, T: Turn>(
+    rt: &R,
+    alloc: Global,
+    imports: &Mutex<ImportDesk<C, R>>,
+    turn: &mut T,
     asked: &Asked,
     keeper: &mut K,
     link: &mut L,
@@ -57,23 +121,37 @@ fn answer_shared<L: Link, K: Keeper, C: Crew, R: Wait + Threads + Drop>(
         }
         Asked::Days => answer_days(alloc, keeper, link),
         Asked::Page => answer_page(alloc, link),
-        Asked::Import { day, length, early } => {
-            imports
-                .lock(rt)
-                .answer(alloc, *day, early.items(), *length, keeper, link)
-        }
+        Asked::Import { day, length, early } => import_shared(
+            rt,
+            alloc,
+            imports,
+            turn,
+            *day,
+            early.items(),
+            *length,
+            keeper,
+            link,
+        ),
         Asked::Live(_) => unreachable!(),
         Asked::LiveTotal => unreachable!(),
     }
 }
 
-impl<'a, K: Keeper, C: Crew, R: Wait + Threads + Drop> Clerk for TwoLocks<'a, K, C, R> {
+impl<'a, K: Keeper, C: Crew, R: Wait + Threads + Drop, T: Turn> Clerk for TwoLocks<'a, K, C, R, T> {
     ghost use Rattle.std.specs.Prelude.{None};
 
     ghost passed = { λ _. None };
 
     fn answer<L: Link>(&mut self, alloc: Global, asked: Asked, link: &mut L) -> SessionEnd {
         let mut keeper = SharedKeeper::new(&self.rt, self.keeper);
-        answer_shared(&self.rt, alloc, self.imports, &asked, &mut keeper, link)
+        answer_shared(
+            &self.rt,
+            alloc,
+            self.imports,
+            self.turn,
+            &asked,
+            &mut keeper,
+            link,
+        )
     }
 }

@@ -1,5 +1,5 @@
 -- What becomes of connections whose time is over.
-use Rattle.std.specs.Prelude.{◌≡◌, ◌≤◌, ◌<◌, ◌-◌, Bool, true, false, [], Option, Some, None}
+use Rattle.std.specs.Prelude.{◌≡◌, ◌≤◌, ◌<◌, ◌-◌, ℕ, Bool, true, false, List, [], length, get_or, Option, Some, None}
 use Rattle.std.specs.Time.{instant_nanos}
 use Rattle.std.specs.declared.time.Instant.{Instant}
 use Rattle.waiting_room.specs.declared.seat.Seat.{Seat}
@@ -18,3 +18,8 @@ pub record JudgedSeat (now : Instant) (old new : Seat) : Type 0 where
 abbrev pub IsJudged : Instant → Option Seat → Option Seat → Type 0
 IsJudged now None new = new ≡ None
 IsJudged now (Some old) new = (seat : Seat) × (new ≡ Some seat) × JudgedSeat now old seat
+
+-- each place was judged at a moment, and they are as many as before
+abbrev pub AreJudged : Instant → List (Option Seat) → List (Option Seat) → Type 0
+AreJudged now old new =
+    (length new ≡ length old) × ((k : ℕ) → k < length old → IsJudged now (get_or old k None) (get_or new k None))

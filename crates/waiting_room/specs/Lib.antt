@@ -2,6 +2,7 @@ pub mod Addresses
 pub mod Fronts
 pub mod Heads
 pub mod Judged
+pub mod Outsides
 pub mod OwnPorts
 pub mod Passing
 pub mod Posts

@@ -1,5 +1,5 @@
 // What happens to connections in their seats.
-ghost use Rattle.waiting_room.specs.Judged.{IsJudged};
+ghost use Rattle.waiting_room.specs.Judged.{IsJudged, AreJudged};
 
 use crate::draining::Drain;
 use crate::seat::Seat;
@@ -69,7 +69,9 @@ fn judge_place(place: &mut Option<Seat>, now: Instant)
 }
 
 /// Calls the connections whose time is over, and lets go of what those sent who have gone.
-pub(crate) fn judge_all(seats: &mut [Option<Seat>], now: Instant) {
+pub(crate) fn judge_all(seats: &mut [Option<Seat>], now: Instant)
+    ensures { AreJudged now seats.old seats.new }
+{
     for place in seats.iter_mut() {
         judge_place(place, now);
     }

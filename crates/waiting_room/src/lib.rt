@@ -4,8 +4,9 @@
 //! accept until its head is whole, or it ends, or ten seconds are over, whatever it sends meanwhile. `next` waits for
 //! all of them at once, and hands on the first that is to wait no more: a `RoomLink`, which gives what the connection
 //! sent in the room before what it sends later. A connection is never let go in the room: each is handed on.
-//! There is one pass for connections that post a day: the next one waits in its seat until that before it came back.
-//! `RoomLink::leave` brings a connection back over the `Threshold`, and the room drops what still comes of it.
+//! There is one pass for connections that post a day: the next one waits in its seat until that before it gave the pass
+//! back, by a `RoomTurn` or with itself, and while as many are out as may be. `RoomLink::leave` brings a connection
+//! back over the `Threshold`, and the room drops what still comes of it.
 #![tactic(auto)]
 
 mod draining;
@@ -13,6 +14,7 @@ mod front;
 mod front_link;
 mod heard;
 mod hearing;
+mod outside;
 mod passing;
 mod patience;
 mod patient;
@@ -25,5 +27,5 @@ mod threshold;
 
 pub use front_link::FrontLink;
 pub use room::{RoomFault, WaitingRoom};
-pub use room_link::RoomLink;
+pub use room_link::{RoomLink, RoomTurn};
 pub use threshold::Threshold;

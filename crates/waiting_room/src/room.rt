@@ -1,12 +1,14 @@
 // Where connections wait for their head.
-ghost use Rattle.std.specs.Prelude.{◌≡◌, true, false, None, Some, IfOk, IfSome, IsSome, slice_get};
+ghost use Rattle.std.specs.Prelude.{◌≡◌, ◌<◌, ◌+◌, true, false, None, Some, IfOk, IfSome, IsSome, slice_get};
 ghost use Rattle.waiting_room.specs.Addresses.{address_of};
+ghost use Rattle.waiting_room.specs.Outsides.{most_out, out_of};
 ghost use Rattle.waiting_room.specs.OwnPorts.{IsOwnPort};
 ghost use Rattle.waiting_room.specs.Posts.{posts};
 
 use crate::draining::Drain;
 use crate::heard::Heard;
 use crate::hearing::{DRAINS, SEATS, end_drains, hear_ready, is_empty, judge_all};
+use crate::outside::Outside;
 use crate::posts::{first_called, is_post};
 use crate::room_link::{Pass, RoomLink, link_to};
 use crate::seat::Seat;
@@ -40,8 +42,8 @@ pub enum RoomFault {
     NoMemory,
 }
 
-/// Connections that wait for their head, those that are drained, and the listener that they come from. It has the one
-/// pass, unless a connection that posts a day is out with it.
+/// Connections that wait for their head, those that are drained, those that post a day and are out, and the listener
+/// that they come from.
 #[derive(Drop)]
 pub struct WaitingRoom {
     rt: HostRuntime,
@@ -50,7 +52,7 @@ pub struct WaitingRoom {
     events: Events,
     seats: Vec<Option<Seat>>,
     drains: Vec<Option<Drain>>,
-    pass: Option<Pass>,
+    outside: Outside,
     threshold: Arc<Threshold, Global>,
 }
 
@@ -101,21 +103,25 @@ fn take_at(seats: &mut [Option<Seat>], at: usize) -> Option<Seat>
     seats.get_mut(at)?.take()
 }
 
-/// The pass, for a connection that posts a day.
-fn pass_for(held: &[u8], pass: &mut Option<Pass>) -> Option<Pass>
-    ensures posts { posts held.now ≡ true → (result ≡ pass.old) × (pass.new ≡ None) }
-    ensures others { posts held.now ≡ false → (result ≡ None) × (pass.new ≡ pass.old) }
+/// The pass, for a connection that posts a day, which is out from now on.
+fn pass_for(held: &[u8], outside: &mut Outside) -> Option<Pass>
+    ensures posts { posts held.now ≡ true → (result ≡ outside.old.pass) × (outside.new.pass ≡ None)
+        × (outside.old.out < outside.old.most → outside.new.out ≡ outside.old.out + 1) }
+    ensures others { posts held.now ≡ false → (result ≡ None) × (outside.new ≡ outside.old) }
 {
     if is_post(held) {
-        return pass.take();
+        return outside.let_out();
     }
     None
 }
 
 /// Has a connection leave its seat; one that posts a day takes the pass.
-fn let_out(rt: HostRuntime, registry: &Registry, seat: Seat, pass: &mut Option<Pass>) -> RoomLink
+fn let_out(rt: HostRuntime, registry: &Registry, seat: Seat, outside: &mut Outside) -> RoomLink
     ensures front { result.front ≡ seat.held }
-    ensures pass { posts seat.held.items ≡ true → result.keep.pass ≡ pass.old }
+    ensures pass { posts seat.held.items ≡ true → result.keep.pass ≡ outside.old.pass }
+    ensures counts { posts seat.held.items ≡ true → outside.old.out < outside.old.most
+        → outside.new.out ≡ outside.old.out + 1 }
+    ensures told { result.keep.posts ≡ posts seat.held.items }
 {
     let Seat {
         stream,
@@ -127,14 +133,22 @@ fn let_out(rt: HostRuntime, registry: &Registry, seat: Seat, pass: &mut Option<P
     } = seat;
     let mut stream = stream;
     let _ = registry.deregister(&mut stream);
-    let own = pass_for(held.as_slice(), pass);
+    let own = pass_for(held.as_slice(), outside);
     link_to(rt, net::TcpStream::from(stream), held, late, own)
 }
 
 impl WaitingRoom {
-    /// Listens on a port of 127.0.0.1, which only this machine reaches. Nobody waits.
-    pub fn open(rt: HostRuntime, alloc: Global, port: u16) -> Result<WaitingRoom, RoomFault>
-        ensures { IfOk result (λ room. IsOwnPort (address_of room) port) }
+    /// Listens on a port of 127.0.0.1, which only this machine reaches. Nobody waits. So many connections that post a
+    /// day are out at a time at most.
+    pub fn open(
+        rt: HostRuntime,
+        alloc: Global,
+        port: u16,
+        most: usize,
+    ) -> Result<WaitingRoom, RoomFault>
+        ensures address { IfOk result (λ room. IsOwnPort (address_of room) port) }
+        ensures most { IfOk result (λ room. most_out room ≡ most) }
+        ensures none { IfOk result (λ room. out_of room ≡ 0) }
     {
         let Ok(seats) = empty_places(alloc, SEATS) else {
             return Err(RoomFault::NoMemory);
@@ -161,7 +175,7 @@ impl WaitingRoom {
             events,
             seats,
             drains,
-            pass: Some(Pass::of_new_room()),
+            outside: Outside::new(most),
             threshold,
         })
     }
@@ -186,7 +200,7 @@ impl WaitingRoom {
         }
     }
 
-    /// Takes what came back: connections, which are drained, and the pass.
+    /// Takes what came back: connections, which are drained, the pass, and those that posted a day.
     fn take_back<R: Wait>(&mut self, rt: &R, now: Instant) {
         for _ in 0..DRAINS {
             let Some(stream) = self.threshold.next_stream(rt) else {
@@ -200,18 +214,23 @@ impl WaitingRoom {
             );
         }
         if let Some(pass) = self.threshold.next_pass(rt) {
-            self.pass = Some(pass);
+            self.outside.take_pass(pass);
         }
+        self.outside.take_back(self.threshold.take_posts(rt));
     }
 
     /// Takes the connection that was accepted first of those that may leave. One that posts a day may leave while the
-    /// pass is there, and takes it with it.
+    /// pass is there, which it takes with it, and while fewer are out than may be.
     fn take(&mut self) -> Option<RoomLink>
         ensures pass { IfSome result (λ line. posts line.front.items ≡ true → IsSome line.keep.pass) }
+        ensures few { IfSome result (λ line. posts line.front.items ≡ true → out_of self.old < most_out self.old) }
+        ensures counts { IfSome result (λ line. posts line.front.items ≡ true
+            → out_of self.new ≡ out_of self.old + 1) }
+        ensures told { IfSome result (λ line. line.keep.posts ≡ posts line.front.items) }
     {
-        let at = first_called(self.seats.as_slice(), self.pass.is_none())?;
+        let at = first_called(self.seats.as_slice(), self.outside.forbids())?;
         let seat = take_at(self.seats.as_mut_slice(), at)?;
-        Some(let_out(self.rt, self.poll.registry(), seat, &mut self.pass))
+        Some(let_out(self.rt, self.poll.registry(), seat, &mut self.outside))
     }
 
     /// Waits for what connections send, and hears it.
@@ -248,8 +267,8 @@ impl WaitingRoom {
     }
 
     /// Waits for the next connection that is to wait no more, and gives it: its head is whole, or it ended, or its time
-    /// is over. One that posts a day waits while another is out. It fails where the listener cannot hear any more, and
-    /// where the room is closed.
+    /// is over. One that posts a day waits while another has the pass, and while as many are out as may be. It fails
+    /// where the listener cannot hear any more, and where the room is closed.
     pub fn next<R: Wait>(&mut self, rt: &R, alloc: Global) -> Result<RoomLink, Failed> {
         for _ in 0..u64::MAX {
             if self.threshold.is_closed() {

@@ -1,20 +1,26 @@
 // Where connections come back to a room that they left.
+ghost use Rattle.std.specs.Prelude.{◌≡◌};
+
 use crate::room_link::Pass;
 use mio::Waker;
 use std::net::{Shutdown, TcpStream};
 use std::sync::atomic::{AtomicBool, Ordering};
 use std::sync::{Mutex, Wait};
 
-/// What came back to a room: connections that were answered, and the pass that a POST had.
+/// What came back to a room: connections that were answered, how many of them posted a day, and the pass that one had.
 #[derive(Drop)]
 struct Returned {
     streams: Vec<TcpStream>,
+    posts: usize,
     pass: Option<Pass>,
 }
 
 impl Returned {
     /// Puts a connection and a pass to those that came back. One for which no memory is left is let go at once.
-    fn put(&mut self, stream: Option<TcpStream>, pass: Option<Pass>) {
+    fn put(&mut self, stream: Option<TcpStream>, pass: Option<Pass>, posts: bool) {
+        if posts {
+            self.posts = self.posts.saturating_add(1);
+        }
         if let Some(stream) = stream {
             let _ = self.streams.push(stream);
         }
@@ -31,6 +37,16 @@ impl Returned {
     /// The pass, if it came back.
     fn next_pass(&mut self) -> Option<Pass> {
         self.pass.take()
+    }
+
+    /// How many that posted a day came back since this was asked.
+    fn take_posts(&mut self) -> usize
+        ensures all { result ≡ self.old.posts }
+        ensures none { self.new.posts ≡ 0 }
+    {
+        let posts = self.posts;
+        self.posts = 0;
+        posts
     }
 }
 
@@ -50,6 +66,7 @@ impl Threshold {
             closed: AtomicBool::new(false),
             returned: Mutex::new(Returned {
                 streams,
+                posts: 0,
                 pass: None,
             }),
             waker,
@@ -68,12 +85,18 @@ impl Threshold {
     }
 
     /// Takes back a connection that was answered, which hears at once that no more comes, and its pass.
-    pub(crate) fn give_back<R: Wait>(&self, rt: &R, stream: Option<TcpStream>, pass: Option<Pass>) {
+    pub(crate) fn give_back<R: Wait>(
+        &self,
+        rt: &R,
+        stream: Option<TcpStream>,
+        pass: Option<Pass>,
+        posts: bool,
+    ) {
         let stream = shut(stream);
-        if stream.is_none() && pass.is_none() {
+        if stream.is_none() && pass.is_none() && !posts {
             return;
         }
-        self.returned.lock(rt).put(stream, pass);
+        self.returned.lock(rt).put(stream, pass, posts);
         let _ = self.waker.wake();
     }
 
@@ -85,6 +108,11 @@ impl Threshold {
     /// The pass, if it came back.
     pub(crate) fn next_pass<R: Wait>(&self, rt: &R) -> Option<Pass> {
         self.returned.lock(rt).next_pass()
+    }
+
+    /// How many that posted a day came back since this was asked.
+    pub(crate) fn take_posts<R: Wait>(&self, rt: &R) -> usize {
+        self.returned.lock(rt).take_posts()
     }
 }
 

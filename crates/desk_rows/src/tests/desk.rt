@@ -4,6 +4,7 @@ ghost use Rattle.std.specs.Prelude.{◌≡◌, IfOk};
 mod beside;
 mod faults;
 mod held;
+mod in_line;
 mod listing;
 mod rows;
 mod sharing;

@@ -4,7 +4,7 @@ ghost use Rattle.lane_loops.specs.MemListeners.{accepted_by, faults_of};
 ghost use Rattle.lane_doors.specs.MemDoors.{accepted_at};
 
 use lane_doors::{Door, DoorFault, Ear, Ears, MemDoor, TcpDoor, TcpEar, rise, seat};
-use lane_loops::{Listener, MemListener};
+use lane_loops::{Listener, MemListener, Turn};
 use live_board::{Board, Readers, board};
 use road_io::{Link, MemLink};
 use road_time::NoMemory;
@@ -135,7 +135,10 @@ fn a_door_gives_its_ears(rt: HostRuntime) -> Result<(), NoMemory> {
 }
 
 /// Whether a client and the connection that an ear accepts of it hear one another, once what it asks is whole.
-fn hear_one_another<R: Wait>(client: &mut TcpStream, ear: &mut TcpEar<R>) -> io::Result<bool>
+fn hear_one_another<R: Wait + Copy + Drop + Send>(
+    client: &mut TcpStream,
+    ear: &mut TcpEar<R>,
+) -> io::Result<bool>
     requires { ⟦<TcpEar<R> as Listener>⟧.accepted ear.old ≡ 0 }
     ensures { ⟦<TcpEar<R> as Listener>⟧.accepted ear.new ≤ 1 }
 {
@@ -174,6 +177,64 @@ fn a_door_hears_on_a_free_port(rt: HostRuntime) -> io::Result<()> {
     let mut client = TcpStream::connect(&rt, address)?;
     assert!(rt; hear_one_another(&mut client, &mut ear)?);
     assert_eq!(rt; (ear.accepted(), ear.faults()), (1, 0));
+    door.close(ears_of(alloc, ear)?);
+    Ok(())
+}
+
+/// Whether the second of two connections comes once the turn of the first is over, while that is still served.
+fn hear_both<R: Wait + Copy + Drop + Send>(ear: &mut TcpEar<R>) -> bool
+    requires { ⟦<TcpEar<R> as Listener>⟧.accepted ear.old ≡ 0 }
+    ensures { ⟦<TcpEar<R> as Listener>⟧.accepted ear.new ≤ 2 }
+{
+    let Ok(first) = ear.accept() else {
+        return false;
+    };
+    let mut first = first;
+    let mut turn = ear.pass(&mut first);
+    turn.over();
+    let came = match ear.accept() {
+        Ok(second) => {
+            ear.end(second);
+            true
+        }
+        Err(_) => false,
+    };
+    turn.end();
+    ear.end(first);
+    came
+}
+
+/// A client that posted a day to a port, whose body is still to come.
+fn post_to(rt: &HostRuntime, address: SocketAddr) -> io::Result<TcpStream> {
+    let mut client = TcpStream::connect(rt, address)?;
+    client.write_all(b"POST /days/100 HTTP/1.1\r\nContent-Length: 9\r\n\r\n")?;
+    Ok(client)
+}
+
+/// Of two clients that post a day the second is heard while the first is still served, once its turn is over.
+#[test]
+fn a_post_whose_turn_is_over_holds_no_other(rt: HostRuntime) -> io::Result<()> {
+    let alloc = rt.alloc();
+    let holder = TcpListener::bind(&rt, "127.0.0.1:0")?;
+    let address = holder.local_addr()?;
+    drop(holder);
+    let mut door = TcpDoor::new(rt, rt);
+    let Ok(ears) = door.open(alloc, address.port(), 3) else {
+        return Err(io::Error::from(io::ErrorKind::AddrInUse));
+    };
+    let mut ears = ears.into_vec();
+    let Some(mut ear) = ears.pop() else {
+        return Err(io::Error::from(io::ErrorKind::NotFound));
+    };
+    if ear.accepted() != 0 {
+        return Err(io::Error::from(io::ErrorKind::InvalidData));
+    }
+    let first = post_to(&rt, address)?;
+    let second = post_to(&rt, address)?;
+    assert!(rt; hear_both(&mut ear));
+    assert_eq!(rt; (ear.accepted(), ear.faults()), (2, 0));
+    drop(first);
+    drop(second);
     door.close(ears_of(alloc, ear)?);
     Ok(())
 }

@@ -6,7 +6,7 @@ use super::{answer_of, charged_on_leaving};
 use desk_lanes::DeskCrew;
 use import_plan::Plan;
 use keeper::{Keeper, MemKeeper};
-use lane_loops::Host;
+use lane_loops::{Host, NoTurn};
 use live_board::{Board, BoardReader, board};
 use partition_workers::{InlineCrew, NoGate, ThreadCrew};
 use road_io::{Link, MemLink};
@@ -18,12 +18,12 @@ use std::sync::atomic::Ordering::SeqCst;
 use std::thread;
 use std::thread::Threads;
 
-const PLAN: Plan = Plan {
+pub const PLAN: Plan = Plan {
     width: 4,
     turns: None,
 };
 
-const EMPTY_DAY_BEFORE: &[u8] = b"POST /days/99 HTTP/1.1\r\nContent-Length: 0\r\n\r\n";
+pub const EMPTY_DAY_BEFORE: &[u8] = b"POST /days/99 HTTP/1.1\r\nContent-Length: 0\r\n\r\n";
 
 const KEPT_DAY: &[u8] = b"GET /days/99 HTTP/1.1\r\n\r\n";
 
@@ -33,26 +33,26 @@ const AMOUNT: &[u8] = b"GET /spent/100/0/100 HTTP/1.1\r\n\r\n";
 
 /// One who has a host serve connections.
 #[derive(Drop)]
-struct Caller<'a, H> {
-    host: &'a H,
+pub struct Caller<'a, H> {
+    pub host: &'a H,
 }
 
 impl<'a, H: Host> Caller<'a, H> {
     /// Has it serve one.
-    fn call<L: Link>(&mut self, alloc: Global, line: &mut L, reader: &mut BoardReader) {
-        self.host.attend(alloc, line, reader);
+    pub fn call<L: Link>(&mut self, alloc: Global, line: &mut L, reader: &mut BoardReader) {
+        self.host.attend(alloc, line, &mut NoTurn, reader);
     }
 }
 
 /// What a session over a link of these bytes writes.
-fn ask<H: Host>(
+pub fn ask<H: Host>(
     alloc: Global,
     host: &H,
     reader: &mut BoardReader,
     request: &[u8],
 ) -> Result<Vec<u8>, NoMemory> {
     let mut link = MemLink::new(alloc, request, 100, 1000, &[])?;
-    host.attend(alloc, &mut link, reader);
+    host.attend(alloc, &mut link, &mut NoTurn, reader);
     let written = Vec::from_slice(alloc, link.bytes())?;
     Ok(written)
 }

@@ -1,7 +1,12 @@
-use Rattle.std.proofs.Common.{subst, ap, ◌∙◌, arith}
-use Rattle.toll_requests.specs.Bodies.{EndsBody}
+use Rattle.std.proofs.Common.{◌≡◌, subst, ap, ◌∙◌, sym, arith, rules}
+use Rattle.road_io.specs.Within.{ReadsWithin}
+use Rattle.import_once.specs.Imports.{most_imported}
+use Rattle.keeper.specs.Office.{record_of}
+use Rattle.toll_requests.specs.Bodies.{body_left, filled}
 use Rattle.toll_requests.proofs.BodyLaws.{body_told, none_left}
 use Rattle.toll_desk.proofs.ImportLaws.{alone_as, not_answered}
+use Rattle.toll_desk.specs.declared.imported.ReadTo.TheVariants.{Open}
+use Rattle.toll_desk.proofs.ReadLaws.{few_read}
 use Rattle.toll_desk.proofs.importing.import_from.Goals as goal
 
 pub returns-clause-imports : goal.returns-clause-imports
@@ -15,13 +20,31 @@ returns-clause-imports g c = λ all o was is told posted.
       alone = alone_as i.result (λ _. tt) (λ left. ap (λ p. g.P.Publisher.posted p) left.1 ∙ posted) i.ensures.alone;
     }
 
+pub returns-clause-few : goal.returns-clause-few
+returns-clause-few g c = λ all o left is told is_open.
+    let starts = body_told c.args.count c.args.early.now all (g.L.Link.left c.args.link.now) (c.requires.bytes ∙ is) in
+    let b = c.import-outcome.new.source in
+    let within = subst (λ l. ReadsWithin (most_imported (record_of o c.args.day) c.args.limits.now) l
+    (body_left b.left b.early.now (g.L.Link.left b.link.now))) starts (c.import-outcome.ensures.bounded o told) in
+    let few = few_read c.args.count b.left _ b.early.now all (g.L.Link.left b.link.now) within in
+    let same = c.read_to-read.ensures.rest left is_open in
+    omega (arith, few, same)
+
+pub returns-clause-unread : goal.returns-clause-unread
+returns-clause-unread g c = λ o told none passed.
+    let same = c.import-outcome.ensures.unread o told none passed in
+    let ended : c.import-outcome.new.source.link.now ≡ c.link-1.given.0 = search rules in (
+      ap (λ l. g.L.Link.left l) (sym ended) ∙ ap (λ b. g.L.Link.left b.link.now) same,
+      c.read_to-read.ensures.quiet (ap (λ b. b.faults) same) (ap (λ b. b.cut) same) ∙ ap (λ b. Open b.left) same,
+      ap (λ b. b.early.now) same,
+    )
+
 pub returns-clause-stored : goal.returns-clause-stored
-returns-clause-stored g c = λ all kept is stored cut.
+returns-clause-stored g c = λ all kept is stored.
     let told = body_told c.args.count c.args.early.now all (g.L.Link.left c.args.link.now) (c.requires.bytes ∙ is) in
-    let b = c.drain-end.new.body in
-    let none = none_left _ _ _ (c.import-outcome.ensures.whole _ kept told stored) in
-    let off = b.cut_off (subst (EndsBody b.left b.faults b.cut) cut c.drain-end.ensures.end) in
-    omega (arith, none, off.0, c.drain-end.ensures.fewer)
+    let b = c.import-outcome.new.source in
+    c.read_to-read.ensures.over (none_left b.left b.early.now (g.L.Link.left b.link.now)
+    (c.import-outcome.ensures.whole (filled c.args.count all) kept told stored))
 
 pub returns-clause-posted : goal.returns-clause-posted
 returns-clause-posted g c = λ kept is.

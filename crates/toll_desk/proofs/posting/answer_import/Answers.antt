@@ -1,81 +1,56 @@
-use Rattle.std.proofs.Common.{Some, inl, inr, refl, subst, ◌∙◌}
-use Rattle.toll_requests.specs.Bodies.{LeavesBody}
-use Rattle.toll_requests.proofs.BodyLaws.{never_faulty}
-use Rattle.toll_desk.specs.Answers.{AnswersOutcome}
-use Rattle.toll_desk.specs.Imports.{Imports}
+use Rattle.std.proofs.Common.{Some, refl, subst, ◌∙◌}
+use Rattle.toll_desk.specs.Answers.{wire_of}
+use Rattle.toll_desk.specs.Imports.{state_of}
+use Rattle.toll_desk.specs.Reading.{IsReadTo}
 use Rattle.toll_desk.proofs.SendLaws.{not_risen}
-use Rattle.toll_desk.proofs.ImportLaws.{filled_whole, keeper_failed}
+use Rattle.toll_desk.proofs.ImportLaws.{keeper_failed}
+use Rattle.toll_desk.proofs.ReadLaws.{composes, fits, never_failed, rose_by}
 use Rattle.toll_desk.proofs.posting.answer_import.Goals as goal
 
-pub returns-in-Whole-clause-imports : goal.returns-in-Whole-clause-imports
-returns-in-Whole-clause-imports g c = λ all o known told.
-    let i = c.import_body-outcome in
-    let left = subst (LeavesBody c.args.count all (g.L.Link.left i.new.link)) c.in-Whole.is
-    (i.ensures.leaves all known) in
-    let imports = i.ensures.imports all o c.args.writer.now.posted known told refl in (
-      i.result.0,
-      i.ensures.keeper.cause,
-      inl (
-        (
-          left.0,
-          c.send_outcome.ensures.unread ∙ left.1,
-          ((λ read. i.ensures.read read c.in-Whole.is), i.ensures.unfailed),
-          subst (λ r. AnswersOutcome i.result.0 r (g.L.Link.written c.args.link.now)
-              (g.L.Link.written c.send_outcome.new.link) c.send_outcome.result) i.ensures.room_kept
-              (subst (λ w. AnswersOutcome i.result.0 (g.L.Link.room i.new.link) w
-              (g.L.Link.written c.send_outcome.new.link) c.send_outcome.result) i.ensures.unwritten
-              c.send_outcome.ensures.sent),
-        ),
-        subst (λ bytes. Imports g.K.Keeper.refuses g.C.Crew.exact c.args.day c.args.limits.now bytes o
-            (g.K.Keeper.told i.new.keeper) c.args.writer.now.posted (Some i.new.publisher.posted) i.result.0)
-            (filled_whole c.args.count all left.0) imports,
-      ),
-    )
+pub finish_import-requires-clause-fits : goal.finish_import-requires-clause-fits
+finish_import-requires-clause-fits g c =
+    let i = c.import_only-imported in
+    fits c.args.count _ i.result.early.now (g.L.Link.left i.new.link) i.result.read i.ensures.reads
 
-pub returns-in-Whole-clause-unavailable : goal.returns-in-Whole-clause-unavailable
-returns-in-Whole-clause-unavailable g c =
-    λ is. c.import_body-outcome.ensures.keeper.cause (c.send_outcome.ensures.unavailable is)
+pub returns-clause-imports : goal.returns-clause-imports
+returns-clause-imports g c = λ all o known told.
+    let i = c.import_only-imported in
+    let f = c.finish_import in
+    let l = c.args.link.now in
+    let m = i.new.link in
+    let n = f.new.link in
+    composes g.K.Keeper.refuses g.C.Crew.exact c.args.day c.args.limits.now c.args.count all o
+    (state_of (g.K.Keeper.told c.args.keeper.now) (g.K.Keeper.faults c.args.keeper.now) c.args.writer.now.posted)
+    (state_of (g.K.Keeper.told i.new.keeper) (g.K.Keeper.faults i.new.keeper) i.new.publisher.posted)
+    (wire_of (g.L.Link.left l) (g.L.Link.plan l) (g.L.Link.written l) (g.L.Link.room l))
+    (wire_of (g.L.Link.left m) (g.L.Link.plan m) (g.L.Link.written m) (g.L.Link.room m))
+    (wire_of (g.L.Link.left n) (g.L.Link.plan n) (g.L.Link.written n) (g.L.Link.room n))
+    i.result.early.now i.result.read i.result.outcome f.result (g.L.Link.faults l)
+    (g.L.Link.faults m) i.ensures.keeper.cause
+    (subst (λ bytes. IsReadTo c.args.count bytes i.result.early.now (g.L.Link.left m) i.result.read) known
+    i.ensures.reads)
+    i.ensures.link_cause i.ensures.unwritten i.ensures.room_kept i.ensures.link_sure i.ensures.read i.ensures.unfailed
+    (λ kept stored. i.ensures.stored all kept known stored)
+    (i.ensures.imports all o c.args.writer.now.posted known told refl) f.ensures.ends
 
-pub returns-in-Whole-clause-sure : goal.returns-in-Whole-clause-sure
-returns-in-Whole-clause-sure g c =
-    λ never endless. c.send_outcome.ensures.sure (c.import_body-outcome.ensures.room_kept ∙ endless)
+pub returns-clause-unavailable : goal.returns-clause-unavailable
+returns-clause-unavailable g c =
+    λ is. c.import_only-imported.ensures.keeper.cause (c.finish_import.ensures.unavailable is)
 
-pub returns-in-Cut-clause-imports : goal.returns-in-Cut-clause-imports
-returns-in-Cut-clause-imports g c = λ all o known told.
-    let i = c.import_body-outcome in
-    let left =
-    subst (LeavesBody c.args.count all (g.L.Link.left i.new.link)) c.in-Cut.is (i.ensures.leaves all known) in (
-      i.result.0,
-      i.ensures.keeper.cause,
-      inr (
-        inl (refl, left, i.ensures.unwritten, λ kept stored. i.ensures.stored all kept known stored c.in-Cut.is),
-        i.ensures.imports all o c.args.writer.now.posted known told refl,
-      ),
-    )
+pub returns-clause-failed : goal.returns-clause-failed
+returns-clause-failed g c = λ rose.
+    let i = c.import_only-imported in
+    c.finish_import.ensures.told
+    (keeper_failed i.result.outcome (λ other. not_risen _ _ (i.ensures.keeper.still other) rose))
 
-pub returns-in-LinkFault-clause-imports : goal.returns-in-LinkFault-clause-imports
-returns-in-LinkFault-clause-imports g c = λ all o known told.
-    let i = c.import_body-outcome in (
-      i.result.0,
-      i.ensures.keeper.cause,
-      inr (
-        inr (
-          refl,
-          i.ensures.unwritten,
-          λ never. never_faulty _ _ _ i.result.1 i.ensures.link_cause never
-              c.in-LinkFault.is,
-        ),
-        i.ensures.imports all o c.args.writer.now.posted known told refl,
-      ),
-    )
+pub returns-clause-sure : goal.returns-clause-sure
+returns-clause-sure g c = λ never endless.
+    let i = c.import_only-imported in
+    c.finish_import.ensures.sure (never_failed _ _ _ i.result.read i.ensures.link_cause never)
+    (i.ensures.link_sure never) (i.ensures.room_kept ∙ endless)
 
-pub returns-in-LinkFault-clause-sure : goal.returns-in-LinkFault-clause-sure
-returns-in-LinkFault-clause-sure g c =
-    λ never endless is. never_faulty _ _ _ c.import_body-outcome.result.1 c.import_body-outcome.ensures.link_cause never
-    c.in-LinkFault.is
-
-pub returns-in-Whole-clause-failed : goal.returns-in-Whole-clause-failed
-returns-in-Whole-clause-failed g c = λ rose.
-    let i = c.import_body-outcome in
-    c.send_outcome.ensures.told
-    (keeper_failed i.result.0 (λ other. not_risen _ _ (i.ensures.keeper.still other) rose))
+pub returns-clause-cause : goal.returns-clause-cause
+returns-clause-cause g c = λ is.
+    let i = c.import_only-imported in
+    rose_by _ _ _ _ i.result.read i.ensures.link_cause i.ensures.link_later c.finish_import.ensures.later
+    (λ unfailed. c.finish_import.ensures.cause unfailed is)

@@ -23,7 +23,7 @@ returns-in-Spent-clause-reads g c = λ o told.
 pub returns-in-Import-clause-reads : goal.returns-in-Import-clause-reads
 returns-in-Import-clause-reads g c = λ o told.
     let l = c.args.link.now in
-    let a = c.answer in
+    let a = c.import_shared in
     let k = a.new.keeper in
     subst (λ asked. AnswersRead asked o (g.K.Keeper.told k) (g.K.Keeper.faults c.args.keeper.now)
     (g.K.Keeper.faults k) (g.L.Link.room l) (g.L.Link.written l) (g.L.Link.written a.new.link) a.result)

@@ -1,5 +1,5 @@
 use Rattle.std.specs.Io.KnownBytes.{prepend_known}
-use Rattle.toll_desk.proofs.importing.import_body.Given as goal
+use Rattle.toll_desk.proofs.importing.import_only.Given as goal
 
 abbrev pub ghosts-import_from : goal.ghosts-import_from
 ghosts-import_from g a = record {
