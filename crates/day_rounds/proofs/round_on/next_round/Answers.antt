@@ -19,6 +19,11 @@ round-requires-clause-runs g c =
     let (e, told, answered, s, h, can, number, history, abreast, all) = c.requires.runs in
     (e, told, answered, s, h, can, number, history, abreast)
 
+pub returns-in-None-clause-given : goal.returns-in-None-clause-given
+returns-in-None-clause-given g c limits late =
+    let none : c.round.new.stop ≡ None = cc in
+    c.in-Ok.ensures.read_on.given none limits late
+
 pub returns-in-None-clause-few : goal.returns-in-None-clause-few
 returns-in-None-clause-few g c =
     let (e, told, answered, s, h, can, number, history, abreast, all) = c.requires.runs in

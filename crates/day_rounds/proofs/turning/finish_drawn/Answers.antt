@@ -1,5 +1,6 @@
 use Rattle.std.specs.Prelude.{Some, slice_get}
-use Rattle.std.proofs.Common.{ℕ, suc, [], ◌∷◌, ◌≡◌, ◌<◌, ◌≤◌, ◌+◌, ◌-◌, ◌∙◌, length, refl, sym, ap, arith, rules, subst}
+use Rattle.std.proofs.Common.{ℕ, suc, List, [], ◌∷◌, ◌≡◌, ◌<◌, ◌≤◌, ◌+◌, ◌-◌, ◌∙◌, length, refl, sym, ap, arith, rules, subst}
+use Rattle.road_time.specs.Tolls.{StretchTold}
 use Rattle.draws.specs.Draws.{drawn, after_draws}
 use Rattle.draws.proofs.DrawLaws.{none_drawn, one_drawn}
 use Rattle.expressway.proofs.RunSteps.{on_refusal}
@@ -93,7 +94,7 @@ loop-rng-preserved g c =
           ∙ ap (λ m. (drawn m (after_draws (1 + length first) before)).0) (still ∙ sym outs)) in
           let from : slice_get mid.outs (drawn (length mid.outs) (after_draws (1 + length first) before)).0
           ≡ Some came.worker = subst (λ p. slice_get mid.outs p ≡ Some came.worker) place came.placed in
-          let b = (came.worker, came.found) in (
+          let b : ℕ × List (ℕ × StretchTold) = (came.worker, came.found) in (
             now,
             n + 1,
             moved_then w n 1 s mid now moved
