@@ -32,11 +32,6 @@ returns-in-None-clause-few g c =
     let few = c.in-Ok.ensures.read_on.few none in
     omega (arith, has, all, few)
 
-pub returns-in-None-clause-given : goal.returns-in-None-clause-given
-returns-in-None-clause-given g c limits late =
-    let none : c.round.new.stop ≡ None = cc in
-    c.in-Ok.ensures.read_on.given none limits late
-
 pub returns-in-None-clause-full : goal.returns-in-None-clause-full
 returns-in-None-clause-full g c few =
     let (e, told, answered, s, h, can, number, history, abreast, all) = c.requires.runs in
