@@ -38,7 +38,7 @@ def line(turn, vehicle):
 
 
 def figures(lines):
-    """Lines, bytes, notices and the sum of charges, and the digests of lines and notices."""
+    """Lines, bytes, notices and the sum of charges, the notices alone, and the digests of lines and notices."""
     with tempfile.TemporaryDirectory() as top:
         plain = f"{top}/plain"
         subprocess.run(["cc", "-O2", "-o", plain, HERE / "plain.c"], check=True)
@@ -47,7 +47,7 @@ def figures(lines):
     total = sum(int(row.split(b",")[3]) for row in charges.splitlines()[1:])
     tuples, told = lines.count(b"\n"), notices.count(b"\n")
     said = f"{tuples} tuples, {len(lines)} bytes, {told} notices, {total} charged"
-    return said, hashlib.sha256(lines).hexdigest(), hashlib.sha256(notices).hexdigest()
+    return said, told, hashlib.sha256(lines).hexdigest(), hashlib.sha256(notices).hexdigest()
 
 
 def main():
@@ -55,9 +55,9 @@ def main():
     if "--lines" in sys.argv:
         sys.stdout.buffer.write(lines)
         return
-    said, read, notices = figures(lines)
+    said, told, read, notices = figures(lines)
     kept = "".join(f"{it}: {said}\nlines {read}\nnotices {notices}\n" for it in ("stored", "already"))
-    text = f"answered: {said}\n{kept}"
+    text = f"answered: {said}\naudited: # agree notices {told}\nstatus 0\n{kept}"
     if "--check" in sys.argv and STORED.read_text() != text:
         sys.exit(f"{STORED} is not\n{text}")
     print(text, end="")

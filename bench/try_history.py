@@ -2,6 +2,7 @@
 """Times the office over a kept history, and checks each file that it leaves.
 
     python3 bench/try_history.py PROGRAM [--amounts 7000000] [--lines 1000000] [--requests 1000] [--folder FOLDER]
+    python3 bench/try_history.py PROGRAM --ways [--amounts 7000000] [--folder FOLDER]
 
 PROGRAM is crates/toll_office/out/toll_office. A history of 69 days is put by `past` into an empty folder; beside it the
 same folder with no history. Over each, in this order: `day`, `vehicle`, `tariffs`, `answers` of a day of expenditure
@@ -9,6 +10,9 @@ requests, `import` of a day of lines (by `day.c`), `day` again, `tariff`. For ea
 the status; for the look-ups also what python's sqlite3 takes for the same rows, whose answers must be the same. After
 each put the file must pass `PRAGMA integrity_check` and have its rows, and it must stand alone: no log with pages beside
 it. The script ends with status 1 at the first difference.
+
+With --ways it tries `past` alone, in three ways that must keep the same rows: into an empty folder, over a file that is
+there and keeps nothing, and over one with a table of another hand, which is opened whole and put by statements.
 """
 import argparse
 import contextlib
@@ -179,6 +183,45 @@ def try_folder(program, folder, amounts, files, asked):
     expect(text.splitlines()[:1] == ["3,40,45,3"], f"tariffs: {text!r}")
 
 
+def kept_rows(folder):
+    """What the file keeps of a history, but for the order in which it lies there."""
+    with contextlib.closing(looked_at(folder)) as database:
+        rows = database.execute("SELECT count(*), sum(day * vid + xway * 7 + tolls), sum(tolls) FROM spent").fetchone()
+        return rows, database.execute("SELECT * FROM past").fetchall()
+
+
+def try_ways(program, room, history, amounts):
+    """`past` into an empty folder, over a file that is there, and over one with a table of another hand."""
+    found = []
+    for name in ("new", "there", "theirs"):
+        folder = room / name
+        shutil.rmtree(folder, ignore_errors=True)
+        folder.mkdir()
+        if name != "new":
+            run(folder, [program, "tariffs"], os.devnull)
+        if name == "theirs":
+            with contextlib.closing(sqlite3.connect(folder / KEPT)) as database:
+                database.execute("CREATE TABLE theirs (one INTEGER)")
+                database.commit()
+        _, status = run(folder, [program, "past", str(BASE)], history)
+        expect(status == 0, f"past, {name}")
+        check_file(folder, (amounts, DAYS), [])
+        found.append(kept_rows(folder))
+        expect(found[0] == found[-1], f"{name}: {found[-1]}, not {found[0]}")
+        shutil.rmtree(folder)
+
+
+def try_all(program, room, files, given):
+    """All commands, with the history and without."""
+    asked = write_requests(files[1], given.amounts, given.requests)
+    write_day(files[2], given.lines, room)
+    for name, amounts in (("no_history", 0), ("history", given.amounts)):
+        folder = room / name
+        shutil.rmtree(folder, ignore_errors=True)
+        folder.mkdir()
+        try_folder(program, folder, amounts, files, asked)
+
+
 def main():
     words = argparse.ArgumentParser(description=__doc__, formatter_class=argparse.RawDescriptionHelpFormatter)
     words.add_argument("program", type=pathlib.Path)
@@ -186,18 +229,16 @@ def main():
     words.add_argument("--lines", type=int, default=1_000_000)
     words.add_argument("--requests", type=int, default=1_000)
     words.add_argument("--folder", type=pathlib.Path, help="where the files are made, and left")
+    words.add_argument("--ways", action="store_true", help="only the three ways of `past`")
     given = words.parse_args()
     room = given.folder or pathlib.Path(tempfile.mkdtemp())
     room.mkdir(parents=True, exist_ok=True)
     files = [room / name for name in ("history.csv", "requests.csv", "day.csv")]
     write_history(files[0], given.amounts)
-    asked = write_requests(files[1], given.amounts, given.requests)
-    write_day(files[2], given.lines, room)
-    for name, amounts in (("no_history", 0), ("history", given.amounts)):
-        folder = room / name
-        shutil.rmtree(folder, ignore_errors=True)
-        folder.mkdir()
-        try_folder(str(given.program.resolve()), folder, amounts, files, asked)
+    if given.ways:
+        try_ways(str(given.program.resolve()), room, files[0], given.amounts)
+    else:
+        try_all(str(given.program.resolve()), room, files, given)
     if given.folder is None:
         shutil.rmtree(room)
     print("all as expected")

@@ -6,10 +6,12 @@
 
 mod checker;
 mod judging;
+mod laws;
 mod refusal_lines;
 mod tally;
 mod whole;
 
+pub use laws::check_law;
 pub use refusal_lines::refusals_text;
 pub use tally::{Refusal, Tally};
 pub use whole::{CheckStop, check_day};

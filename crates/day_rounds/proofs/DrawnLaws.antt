@@ -1,11 +1,14 @@
 -- turns as a generator draws them
-use Rattle.std.proofs.Common.{◌≡◌, ℕ, zero, suc, ◌+◌, ◌-◌, ◌≤◌, Bool, true, false, refl, arith}
+use Rattle.std.proofs.Common.{◌≡◌, ℕ, zero, suc, ◌+◌, ◌-◌, ◌≤◌, Bool, true, false, List, length, refl, sym, subst}
+use Rattle.std.proofs.Common.{arith}
 use Rattle.std.specs.Prelude.{Result, Ok, Err, OnOk}
 use Rattle.rand_pcg.specs.Lcg.{Lcg}
 use Rattle.draws.specs.Draws.{drawn, after_draws}
+use Rattle.road_time.specs.Tolls.{StretchTold}
 use Rattle.watermark.specs.Shares.{State}
 use Rattle.day_rounds.specs.Runs.{given_if}
-use Rattle.day_rounds.specs.Drawn.{turn_size, after_size, after_finishing, given_where}
+use Rattle.day_rounds.specs.Drawn.{turn_size, after_size, finish_count, after_finishing, given_where, ComeAsDrawn}
+use Rattle.day_rounds.specs.Drawn.{AreFinished}
 
 -- how many tuples are asked for is drawn
 pub size_drawn : (room : ℕ) (more : Bool) (g left : Lcg) (n : ℕ) →
@@ -23,10 +26,23 @@ pub finishing_drawn : (held rest : ℕ) (g left : Lcg) → (held ≡ 0 → left 
 finishing_drawn zero rest g left none some = none refl
 finishing_drawn (suc held) rest g left none some = (some (omega arith)).1
 
--- what holds, holds where a call went well
-pub in_any : {T E P : Type 0} (r : Result T E) → P → OnOk r P
-in_any (Ok x) p = p
-in_any (Err e) p = tt
+-- as many came back as were drawn
+count_drawn : (held rest k : ℕ) (g left : Lcg) → rest + k ≡ held →
+    (1 ≤ held → (rest + (1 + (drawn held g).0) ≡ held) × (left ≡ after_draws (2 + (drawn held g).0) g)) →
+    k ≡ finish_count held g
+count_drawn zero rest k g left all some = omega (arith, all)
+count_drawn (suc held) rest k g left all some = let h = (some (omega arith)).0 in omega (arith, h, all)
+
+pub finished_drawn : (s : State) (g left : Lcg) (backs : List (ℕ × List (ℕ × StretchTold))) (held rest k : ℕ) →
+    length s.outs ≡ held → rest + k ≡ held → length backs ≡ k → ComeAsDrawn g s backs → (held ≡ 0 → left ≡ g) →
+    (1 ≤ held → (rest + (1 + (drawn held g).0) ≡ held) × (left ≡ after_draws (2 + (drawn held g).0) g)) →
+    AreFinished s g left backs
+finished_drawn s g left backs held rest k outs all long each none some = record {
+  count = subst (λ n. length backs ≡ finish_count n g) (sym outs) (subst (λ n. n ≡ finish_count held g) (sym long)
+      (count_drawn held rest k g left all some));
+  each = each;
+  left_is = subst (λ n. left ≡ after_finishing n g) (sym outs) (finishing_drawn held rest g left none some);
+}
 
 -- where a job is out no worker is given one
 pub where_some : (held : ℕ) (s : State) (worker : ℕ) → (held ≡ 0 → ⊥) → s ≡ given_where held s worker

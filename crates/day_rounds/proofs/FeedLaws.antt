@@ -47,6 +47,11 @@ module _ (width : ℕ) where
   fed_found s [] = refl
   fed_found s (x ∷ xs) = fed_found (after_feed width s x) xs
 
+  -- the same jobs are out
+  pub fed_outs : (s : State) (xs : List Tuple) → (after_feeds width s xs).outs ≡ s.outs
+  fed_outs s [] = refl
+  fed_outs s (x ∷ xs) = fed_outs (after_feed width s x) xs
+
   -- no job is out that was not before
   pub fed_out : (s : State) (xs : List Tuple) (w : ℕ) → ((after_feeds width s xs).share w).out ≡ (s.share w).out
   fed_out s [] w = refl
@@ -118,6 +123,7 @@ module _ {S T : Type 0} (out : S → List ℕ) (number : T → ℕ) (holds : S �
         held = h.held;
         open' = subst (λ n. AreOpen e.tariffs n t (map (λ t. t.1) h.tasks)) (sym width)
             (open_fed w e.tariffs w s xs (map (λ t. t.1) h.tasks) h.open');
+        outs_are = h.outs_are ∙ sym (fed_outs w s xs);
         right = λ x. subst (λ n. IsTrue e.tariffs n t) (sym width) (true_fed w e.tariffs w s xs (h.right x));
         since = h.since;
         starts = subst (λ n. HaveStarted n now.floor.limits.backlog t (map start_of h.since)) (sym width)

@@ -1,11 +1,13 @@
 -- a job that is out is finished
-use Rattle.std.proofs.Common.{◌≡◌, ℕ, zero, suc, ◌<◌, ◌⊎◌, inl, inr, ⊎_elim, Bool, true, false, ◌||◌, List, [], ◌∷◌}
+use Rattle.std.proofs.Common.{◌≡◌, ℕ, zero, suc, ◌<◌, ◌⊎◌, inl, inr, ⊎_elim, Bool, true, false, cond, ◌||◌, List, []}
+use Rattle.std.proofs.Common.{◌∷◌}
 use Rattle.std.proofs.Common.{◌++◌, length, map, is_err, IsOk, Result, Ok, Err, refl, sym, ap, ◌∙◌, arith, subst}
 use Rattle.std.proofs.Common.{append_assoc, slice_index_or}
-use Rattle.std.specs.Prelude.{Option, Some, None, Contains}
+use Rattle.std.specs.Prelude.{Option, Some, None, Contains, slice_get, ◌≢◌}
 use Rattle.std.specs.List.{remove}
 use Rattle.std.specs.Result.{OnOk}
-use Rattle.std.proofs.lemmas.List.{map-append}
+use Rattle.std.proofs.lemmas.List.{map-append, length-map}
+use Rattle.std.proofs.lemmas.Bool.{eq-eqb, ne_eqb}
 use Rattle.expressway.specs.declared.job.Job.{Job}
 use Rattle.expressway.specs.declared.job.Done.{Done}
 use Rattle.expressway.specs.declared.finding.Finding.{Finding}
@@ -18,7 +20,7 @@ use Rattle.partition_workers.specs.Told.{CrewTold, WhereTold, ForgetsJob, Answer
 use Rattle.partition_workers.specs.Callers.{HasOut, IsListingWhereTold}
 use Rattle.partition_workers.proofs.ListingLaws.{where_finished}
 use Rattle.watermark.specs.Shares.{State}
-use Rattle.watermark.specs.Steps.{after_back}
+use Rattle.watermark.specs.Steps.{after_back, without_one}
 use Rattle.watermark.specs.Sound.{IsTrue}
 use Rattle.watermark.specs.Jobs.{MayComeBack}
 use Rattle.watermark.specs.Starts.{HaveStarted}
@@ -26,7 +28,7 @@ use Rattle.watermark.specs.Floors.{Setting, StandsFor}
 use Rattle.watermark.proofs.Jobs.{comes_back, true_result, ok_is}
 use Rattle.watermark.proofs.Starts.{starts_back}
 use Rattle.watermark.proofs.Truths.{true_back}
-use Rattle.day_rounds.specs.Tasks.{IsOpen, AreOpen}
+use Rattle.day_rounds.specs.Tasks.{IsOpen, AreOfEach, AreOpen}
 use Rattle.day_rounds.specs.Runs.{Runs, Stopped, CameBack, HasAnswered, start_of}
 use Rattle.day_rounds.specs.declared.begun.Import.{Import}
 use Rattle.day_rounds.proofs.OpenLaws.{at_middle, open_back}
@@ -36,11 +38,28 @@ split_at : {T : Type 0} (tasks : List (T × Job)) (place : ℕ) (ticket : T) →
     ticket ≡ slice_index_or (map (λ t. t.0) tasks) place ticket →
     (before : List (T × Job)) × (job : Job) × (after : List (T × Job)) × (tasks ≡ before ++ (ticket, job) ∷ after)
     × (map (λ t. t.0) (before ++ after) ≡ remove (map (λ t. t.0) tasks) place)
+    × (slice_get (map (λ t. t.1.worker) tasks) place ≡ Some job.worker)
 split_at [] place ticket h e = absurd (omega (arith, h))
-split_at ((t, job) ∷ tasks) zero ticket h e = ([], job, tasks, ap (λ u. (u, job) ∷ tasks) (sym e), refl)
+split_at ((t, job) ∷ tasks) zero ticket h e = ([], job, tasks, ap (λ u. (u, job) ∷ tasks) (sym e), refl, refl)
 split_at ((t, job) ∷ tasks) (suc n) ticket h e =
-    let (b, j, a, is, rest) = split_at tasks n ticket (omega (arith, h)) e in
-    ((t, job) ∷ b, j, a, ap (λ ts. (t, job) ∷ ts) is, ap (λ ts. t ∷ ts) rest)
+    let (b, j, a, is, rest, here) = split_at tasks n ticket (omega (arith, h)) e in
+    ((t, job) ∷ b, j, a, ap (λ ts. (t, job) ∷ ts) is, ap (λ ts. t ∷ ts) rest, here)
+
+-- the worker of a job that came back is out no more
+out_without : {T : Type 0} (before : List (T × Job)) (ticket : T) (job : Job) (after : List (T × Job)) (worker : ℕ) →
+    job.worker ≡ worker → AreOfEach (map (λ t. t.1) before ++ job ∷ map (λ t. t.1) after) →
+    without_one worker (map (λ t. t.1.worker) (before ++ (ticket, job) ∷ after))
+    ≡ map (λ t. t.1.worker) (before ++ after)
+out_without {T} [] ticket job after worker e h =
+    let rest = map (λ (t : T × Job). t.1.worker) after in
+    ap (λ b. cond b rest (job.worker ∷ without_one worker rest)) (eq-eqb job.worker worker e)
+out_without {T} (b ∷ before) ticket job after worker e h =
+    let rest = map (λ (t : T × Job). t.1.worker) (before ++ (ticket, job) ∷ after) in
+    let other : b.1.worker ≢ worker = λ q.
+    at_middle (λ k. k.worker ≢ b.1.worker) (map (λ (t : T × Job). t.1) before) job
+    (map (λ (t : T × Job). t.1) after) h.0 (e ∙ sym q) in
+    ap (λ x. cond x rest (b.1.worker ∷ without_one worker rest)) (ne_eqb b.1.worker worker other)
+    ∙ ap (λ ws. b.1.worker ∷ ws) (out_without before ticket job after worker e h.1)
 
 -- what is listed is so too where an answer was refused
 pub listing_weaker : (told : Option CrewTold) (js : List Job) (out : List ℕ) (r : Bool) (now : Option CrewTold) →
@@ -93,6 +112,7 @@ module _ {S T : Type 0} (out : S → List ℕ) (number : T → ℕ) (holds : S �
   parts : (before : List (T × Job)) × (job : Job) × (after : List (T × Job))
       × (h.tasks ≡ before ++ (ticket, job) ∷ after)
       × (map (λ t. t.0) (before ++ after) ≡ remove (map (λ t. t.0) h.tasks) place)
+      × (slice_get (map (λ t. t.1.worker) h.tasks) place ≡ Some job.worker)
   parts = split_at h.tasks place ticket (subst (λ ts. place < length ts) (sym h.tickets) within)
       (subst (λ ts. ticket ≡ slice_index_or ts place ticket) (sym h.tickets) value)
 
@@ -159,12 +179,14 @@ module _ {S T : Type 0} (out : S → List ℕ) (number : T → ℕ) (holds : S �
           comes_back e.tariffs run.floor.inboxes.width run.floor.limits s job.worker job h.stands.terms h.stands.sound
           mine.within mine.some mine.out done ok (shape before job after held)
 
-      pub finish_came : CameBack run.floor.inboxes.width s (after_back s done.worker (map shown done.findings))
+      pub finish_came : CameBack run.floor.inboxes.width place s (after_back s done.worker (map shown done.findings))
       finish_came =
           record {
             worker = done.worker;
             job = done.number;
             found = map shown done.findings;
+            placed = subst (λ ws. slice_get ws place ≡ Some job.worker) h.outs_are parts.5
+                ∙ ap (λ w. Some w) (sym (shape before job after held).back.worker);
             can = finish_may.can;
             is =
                 refl;
@@ -193,6 +215,8 @@ module _ {S T : Type 0} (out : S → List ℕ) (number : T → ℕ) (holds : S �
                 (sym (map-append (λ (t : T × Job). t.1) before after))
                 (open_back e.tariffs run.floor.inboxes.width s done.worker finish_may.can.within fs
                 (map (λ t. t.1) before) job (map (λ t. t.1) after) (sym shaped.back.worker) opened));
+            outs_are = sym (ap (without_one done.worker) (sym h.outs_are ∙ ap (map (λ (t : T × Job). t.1.worker)) parts.3)
+                ∙ out_without before ticket job after done.worker (sym shaped.back.worker) opened.apart);
             right = λ x. subst (λ n. IsTrue e.tariffs n s') (sym width)
                 (subst (λ gs. IsTrue e.tariffs run.floor.inboxes.width (after_back s done.worker gs))
                 (sym (true_result e.tariffs run.floor.inboxes.width run.floor.limits s job.worker job h.stands.terms
@@ -210,10 +234,22 @@ module _ {S T : Type 0} (out : S → List ℕ) (number : T → ℕ) (holds : S �
             answers_are = answered_more answered s.found (answers crew) (answers crewed) done ok h.answers_are says;
           }
 
--- two things that hold where all went well
-pub ok_both : {T E P Q R : Type 0} (r : Result T E) → (P → Q → R) → OnOk r P → OnOk r Q → OnOk r R
-ok_both (Ok x) f p q = f p q
-ok_both (Err e) f p q = tt
+-- as many workers as tickets
+pub outs_count : {S T : Type 0} (out : S → List ℕ) (number : T → ℕ) (holds : S → ℕ → Job → Type 0)
+    (gave : S → T → Type 0) (exact : Bool) (jobs : S → Option CrewTold) (answers : S → Option (List Finding))
+    (e : Setting) (told : Option CrewTold) (answered : Option (List Finding)) (run : Import T) (crew : S) (s : State) →
+    Runs out number holds gave exact jobs answers e told answered run crew s →
+    length s.outs ≡ length run.tickets.items
+outs_count {S} {T} out number holds gave exact jobs answers e told answered run crew s h =
+    ap length (sym h.outs_are)
+    ∙ (length-map h.tasks (λ (t : T × Job). t.1.worker)
+    ∙ (sym (length-map h.tasks (λ (t : T × Job). t.0)) ∙ ap length h.tickets))
+
+-- four things that hold where all went well
+pub ok_four : {T E P Q R U Z : Type 0} (r : Result T E) → (P → Q → R → U → Z) → OnOk r P → OnOk r Q → OnOk r R →
+    OnOk r U → OnOk r Z
+ok_four (Ok x) f p q r u = f p q r u
+ok_four (Err e) f p q r u = tt
 
 pub some_items : {X : Type 0} (xs : List X) (P : Type 0) → (length xs ≡ 0 → ⊥) → xs ≡ [] → P
 some_items [] P h e = absurd (h refl)

@@ -122,6 +122,7 @@ module _ {S T : Type 0} (out : S → List ℕ) (number : T → ℕ) (holds : S �
     tickets = sym none;
     held = idle out number holds gave crew free;
     open' = open_start e.tariffs run.floor.inboxes.width;
+    outs_are = refl;
     right = λ x. true_start e.tariffs run.floor.inboxes.width;
     since = [];
     starts = record { are = refl; count = refl; numbered = tt; each = tt; whole = λ w k. refl };

@@ -121,7 +121,7 @@ module _ {S T : Type 0} (out : S → List ℕ) (number : T → ℕ) (holds : S �
   -- the jobs of its plan
   pub whole_planned : (turns : Option ℕ) → run.tickets.items ≡ [] → IsPlanned turns w l.backlog s →
       (bytes : List ℕ) → IsAhead a l late was bytes [] →
-      HasPlannedJobs turns w l.backlog (reads bytes l late).tuples told (jobs crew)
+      HasPlannedJobs turns w l.backlog (reads bytes l late).tuples told (jobs crew) answered (answers crew)
   whole_planned turns none planned bytes is = record {
     last = s;
     planned = planned;
@@ -129,6 +129,7 @@ module _ {S T : Type 0} (out : S → List ℕ) (number : T → ℕ) (holds : S �
     since = h.since;
     are = h.starts.are;
     listed = runs_listed out number holds gave exact jobs answers e told answered run crew s h all none;
+    found = h.answers_are;
   }
 
   -- or whose closing was stopped

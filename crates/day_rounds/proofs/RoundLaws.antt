@@ -25,7 +25,7 @@ use Rattle.watermark.proofs.Marks.{all_back}
 use Rattle.watermark.proofs.Texts.{same_told, merged_same, charged_same, not_settled, long_first}
 use Rattle.day_rounds.specs.Published.{settled_between}
 use Rattle.day_rounds.specs.Runs.{Runs, Stopped, CameBack, OnlyTakesBack, IsDone, after_feeds, given_all}
-use Rattle.day_rounds.specs.Runs.{after_backs}
+use Rattle.day_rounds.specs.Runs.{ComesBack, ComeInOrder, HaveComeInOrder, after_backs}
 use Rattle.day_rounds.specs.declared.begun.Import.{Import}
 use Rattle.day_rounds.proofs.OpenLaws.{out_none}
 use Rattle.day_rounds.proofs.FeedLaws.{fed_are, fed_settled, fed_found, fed_out, fed_first}
@@ -42,8 +42,6 @@ later_same s =
       charges = refl;
       between =
           λ a b. refl;
-      backs = [];
-      is = refl;
     }
 
 -- those that came back later stand before those that came back first
@@ -51,6 +49,34 @@ backs_joined : (s : State) (late first : List (ℕ × List (ℕ × StretchTold))
     after_backs (after_backs s first) late ≡ after_backs s (late ++ first)
 backs_joined s [] first = refl
 backs_joined s (b ∷ late) first = ap (λ m. after_back m b.0 b.1) (backs_joined s late first)
+
+-- and came in their order
+order_joined : (s mid : State) (late first : List (ℕ × List (ℕ × StretchTold))) → mid ≡ after_backs s first →
+    ComeInOrder mid late → ComeInOrder s first → ComeInOrder s (late ++ first)
+order_joined s mid [] first is b a = a
+order_joined s mid (x ∷ late) first is b a = (
+  subst (λ m. ComesBack 0 m x) (ap (λ m. after_backs m late) is ∙ backs_joined s late first) b.0,
+  order_joined s mid late first is b.1 a,
+)
+
+-- none came back, or more after some
+pub none_came : (s : State) → HaveComeInOrder s s
+none_came s = record { backs = []; is = refl; order = tt }
+
+pub came_then : (s mid now : State) → HaveComeInOrder s mid → HaveComeInOrder mid now → HaveComeInOrder s now
+came_then s mid now a b = record {
+  backs = b.backs ++ a.backs;
+  is = b.is ∙ (ap (λ m. after_backs m b.backs) a.is ∙ backs_joined s b.backs a.backs);
+  order = order_joined s mid b.backs a.backs a.is b.order a.order;
+}
+
+-- the first of those that were out
+pub came_first : (width : ℕ) (s now : State) → CameBack width 0 s now → HaveComeInOrder s now
+came_first width s now came = record {
+  backs = (came.worker, came.found) ∷ [];
+  is = came.is;
+  order = (record { placed = came.placed; found = came.can.shape }, tt);
+}
 
 pub later_then : (s mid now : State) → OnlyTakesBack s mid → OnlyTakesBack mid now → OnlyTakesBack s now
 later_then s mid now a b = record {
@@ -60,14 +86,12 @@ later_then s mid now a b = record {
   text = λ d k. b.text d k ∙ a.text d k;
   charges = b.charges ∙ a.charges;
   between = λ n m. b.between n m ∙ a.between n m;
-  backs = b.backs ++ a.backs;
-  is = b.is ∙ (ap (λ m. after_backs m b.backs) a.is ∙ backs_joined s b.backs a.backs);
 }
 
 -- one that came back
-pub came_later : (width : ℕ) (limits : Limits) (s now : State) → SoundState width limits s → CameBack width s now →
-    OnlyTakesBack s now
-came_later width limits s now sound came =
+pub came_later : (width place : ℕ) (limits : Limits) (s now : State) → SoundState width limits s →
+    CameBack width place s now → OnlyTakesBack s now
+came_later width place limits s now sound came =
     let low = not_settled width limits s came.worker came.job came.found sound came.can in
     let first = take s.settled s.fed in
     let long = long_first width limits s sound in
@@ -83,8 +107,6 @@ came_later width limits s now sound came =
           (charges_same_between (given s.found) (given (s.found ++ came.found)) first
           (told_agree (given s.found) (given (s.found ++ came.found)) first
           (same_told s.found came.found s.settled low first long)) a b);
-      backs = (came.worker, came.found) ∷ [];
-      is = refl;
     })
 
 -- a job is given where it may be
@@ -187,6 +209,11 @@ module _ {S T : Type 0} (out : S → List ℕ) (number : T → ℕ) (holds : S �
       out_none s.share run.floor.inboxes.width
       (sym h.open'.count ∙ ap (λ ts. length (map (λ (t : T × Job). t.1) ts)) no) v k
 
+  pub none_outs : run.tickets.items ≡ [] → s.outs ≡ []
+  none_outs none =
+      sym h.outs_are
+      ∙ ap (map (λ (t : T × Job). t.1.worker)) (none_mapped (λ (t : T × Job). t.0) h.tasks (h.tickets ∙ none))
+
   -- after a refusal
   pub stopped_by : (now : Import T) → now.tickets.items ≡ run.tickets.items → (day : List Tuple) → AreFirst s.fed day →
       Stopped out number holds gave jobs told run.floor.inboxes.width run.floor.limits day now crew
@@ -210,9 +237,9 @@ module _ {S T : Type 0} (out : S → List ℕ) (number : T → ℕ) (holds : S �
     fed = after_feeds w s xs
 
     -- all that was fed is done, where all jobs that were given are back
-    pub round_done : (now : State) → OnlyTakesBack (given_all fed w) now → ((v : ℕ) → v < w → (now.share v).out ≡ []) →
-        IsDone w s xs now
-    round_done now later none =
+    pub round_done : (now : State) → OnlyTakesBack (given_all fed w) now → HaveComeInOrder (given_all fed w) now →
+        ((v : ℕ) → v < w → (now.share v).out ≡ []) → now.outs ≡ [] → IsDone w s xs now
+    round_done now later came none no_outs =
         let t = given_all fed w in
         let first : take t.settled t.fed ≡ take s.settled s.fed = ap (λ n. take n t.fed) (given_settled fed w)
         ∙ (ap (take fed.settled) (given_fed fed w) ∙ fed_first w s xs h.stands.sound.settled) in
@@ -226,6 +253,7 @@ module _ {S T : Type 0} (out : S → List ℕ) (number : T → ℕ) (holds : S �
           done = all_back w now (λ v k.
               ap (λ es. es ++ (now.share v).waiting) (none v k)
               ∙ (later.waiting v ∙ given_waits fed w (λ u m. fed_out w s xs u ∙ home u m) v k));
-          backs = later.backs;
-          is = later.is;
+          backs = came.backs;
+          is = came.is;
+          come = record { order = came.order; none = ap (λ m. m.outs) (sym came.is) ∙ no_outs };
         }

@@ -61,6 +61,7 @@ module _ {S T : Type 0} (out : S → List ℕ) (number : T → ℕ) (holds : S �
     tickets = h.tickets ∙ sym items;
     held = h.held;
     open' = subst (λ n. AreOpen e.tariffs n s (map (λ t. t.1) h.tasks)) (sym width) h.open';
+    outs_are = h.outs_are;
     right = λ x. subst (λ n. IsTrue e.tariffs n s) (sym width) (h.right x);
     since = h.since;
     starts = subst (λ n. HaveStarted n now.floor.limits.backlog s (map start_of h.since)) (sym width)
@@ -117,6 +118,8 @@ module _ {S T : Type 0} (out : S → List ℕ) (number : T → ℕ) (holds : S �
               (subst (AreOpen e.tariffs run.floor.inboxes.width (after_give s worker))
               (sym (map-append (λ (t : T × Job). t.1) h.tasks ((ticket, job) ∷ [])))
               (open_give e.tariffs run.floor.inboxes.width s worker within job (map (λ t. t.1) h.tasks) h.open' next));
+          outs_are = map-append (λ (t : T × Job). t.1.worker) h.tasks ((ticket, job) ∷ [])
+              ∙ (ap (λ ws. ws ++ job.worker ∷ []) h.outs_are ∙ ap (λ w. s.outs ++ w ∷ []) next.worker_is);
           right = λ x. true_give e.tariffs now.floor.inboxes.width s worker
               (subst (λ n. IsTrue e.tariffs n s) (sym width) (h.right x));
           since = h.since ++ job ∷ [];

@@ -88,6 +88,7 @@ round_settled width backlog e s mid xs n old new was posted done is text steps =
   steps = λ before have. steps before (stepped_moved backlog s mid before was done.settled done.between have);
   backs = done.backs;
   is = ap (λ m. after_settle mid m) is ∙ ap (settled_all width) done.is;
+  come = done.come;
 }
 
 module _ {S T : Type 0} (out : S → List ℕ) (number : T → ℕ) (holds : S → ℕ → Job → Type 0) (gave : S → T → Type 0)
@@ -109,6 +110,7 @@ module _ {S T : Type 0} (out : S → List ℕ) (number : T → ℕ) (holds : S �
         held = h.held;
         open' = subst (λ m. AreOpen e.tariffs m t (map (λ t. t.1) h.tasks)) (sym width)
             (open_settle e.tariffs w s n (map (λ t. t.1) h.tasks) h.open');
+        outs_are = h.outs_are;
         right = λ x. subst (λ m. IsTrue e.tariffs m t) (sym width) (h.right x);
         since = h.since;
         starts = subst (λ m. HaveStarted m now.floor.limits.backlog t (map start_of h.since)) (sym width)

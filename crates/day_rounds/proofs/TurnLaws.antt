@@ -119,8 +119,8 @@ moved_then width k n s mid now a b = record {
       (out_at now.share width) k n a.worked b.worked;
 }
 
-one_back : (width : ℕ) (s now : State) → CameBack width s now → HasWorked width 1 s now
-one_back width s now came =
+one_back : (width place : ℕ) (s now : State) → CameBack width place s now → HasWorked width 1 s now
+one_back width place s now came =
     let w = came.worker in
     let after = after_back s w came.found in
     let was : one_out (s.share w) ≡ 1 = ap one_if came.can.out in
@@ -130,10 +130,10 @@ one_back width s now came =
     (λ v ne. ap (λ sh. sh.out) (at_other w v taken_back s.share ne)) in
     subst (HasWorked width 1 s) (sym came.is) (omega (arith, was, none, less))
 
-pub came_moved : (width : ℕ) (limits : Limits) (s now : State) → SoundState width limits s → CameBack width s now →
-    IsMoved width 1 s now
-came_moved width limits s now sound came =
-    let later = came_later width limits s now sound came in
+pub came_moved : (width place : ℕ) (limits : Limits) (s now : State) → SoundState width limits s →
+    CameBack width place s now → IsMoved width 1 s now
+came_moved width place limits s now sound came =
+    let later = came_later width place limits s now sound came in
     record {
       fed = later.fed;
       settled = later.settled;
@@ -141,7 +141,7 @@ came_moved width limits s now sound came =
       charges = later.charges;
       between =
           later.between;
-      worked = one_back width s now came;
+      worked = one_back width place s now came;
     }
 
 -- where nothing waits and nothing is out after jobs were given, all that was fed was done before

@@ -5,7 +5,7 @@ use Rattle.draws.specs.Draws.{drawn, after_draws}
 use Rattle.road_time.specs.declared.road.Tuple.{Tuple}
 use Rattle.road_time.specs.Tolls.{StretchTold}
 use Rattle.watermark.specs.Shares.{State, start}
-use Rattle.day_rounds.specs.Runs.{given_if, after_feeds, after_backs, settled_all}
+use Rattle.day_rounds.specs.Runs.{ComesBack, given_if, after_feeds, after_backs, settled_all}
 use Rattle.day_rounds.specs.Tasks.{out_at}
 
 -- how many tuples may be fed
@@ -29,16 +29,10 @@ abbrev pub after_finishing : ℕ → Lcg → Lcg
 after_finishing zero g = g
 after_finishing (suc held) g = after_draws (2 + (drawn (suc held) g).0) g
 
--- workers were drawn as often as there are workers, and then which jobs of those that were out to finish
-abbrev pub DrawsWork : ℕ → Lcg → Lcg → Type 0
-DrawsWork width g left = (held : ℕ) × (left ≡ after_finishing held (after_draws width g))
-
--- a turn fed as many tuples as it drew, or all that were left, and drew its work after that
-pub record DrawsTurn (width backlog : ℕ) (s : State) (g left : Lcg) (xs : List Tuple) (more still : Bool) :
-    Type 0 where
+-- a turn fed as many tuples as it drew, or all that were left
+pub record DrawsTurn (backlog : ℕ) (s : State) (g : Lcg) (xs : List Tuple) (more still : Bool) : Type 0 where
   pub few : length xs ≤ turn_size (room_left backlog s) more g
   pub full : length xs < turn_size (room_left backlog s) more g → still ≡ false
-  pub work : DrawsWork width (after_size (room_left backlog s) more g) left
 
 -- so many times a worker is drawn and given its next job, if there is one
 abbrev pub given_drawn : ℕ → ℕ → Lcg → State → State
@@ -61,6 +55,25 @@ given_least width (suc worker) s =
 abbrev pub after_giving : ℕ → Lcg → State → State
 after_giving width g s = given_least width width (given_drawn width width g s)
 
+-- how many of the jobs that are out a turn finishes, as is drawn: one or more, where any is
+abbrev pub finish_count : ℕ → Lcg → ℕ
+finish_count zero g = 0
+finish_count (suc held) g = 1 + (drawn (suc held) g).0
+
+-- jobs came back, the last one first: each from the place that was drawn among those that were still out, after one
+-- draw before them
+abbrev pub ComeAsDrawn : Lcg → State → List (ℕ × List (ℕ × StretchTold)) → Type 0
+ComeAsDrawn g s [] = Unit {0}
+ComeAsDrawn g s (b ∷ bs) =
+    ComesBack (drawn (length (after_backs s bs).outs) (after_draws (1 + length bs) g)).0 (after_backs s bs) b
+    × ComeAsDrawn g s bs
+
+-- as many of the jobs that were out came back as was drawn, each as it was drawn, and a generator is left
+pub record AreFinished (s : State) (g left : Lcg) (backs : List (ℕ × List (ℕ × StretchTold))) : Type 0 where
+  pub count : length backs ≡ finish_count (length s.outs) g
+  pub each : ComeAsDrawn g s backs
+  pub left_is : left ≡ after_finishing (length s.outs) g
+
 -- a turn that was made: the state before it, its generator, whether a tuple was left, what it fed, and the jobs that
 -- came back
 pub record TurnMade : Type 0 where
@@ -70,16 +83,27 @@ pub record TurnMade : Type 0 where
   pub xs : List Tuple
   pub backs : List (ℕ × List (ℕ × StretchTold))
 
+-- its generator after it asked for tuples
+abbrev pub after_asking : ℕ → TurnMade → Lcg
+after_asking backlog t = after_size (room_left backlog t.before) t.more t.generator
+
+-- the state after its tuples were fed and its jobs given
+abbrev pub given_in : ℕ → ℕ → TurnMade → State
+given_in width backlog t = after_giving width (after_asking backlog t) (after_feeds width t.before t.xs)
+
 -- the state after it
 abbrev pub after_turn : ℕ → ℕ → TurnMade → State
-after_turn width backlog t = settled_all width (after_backs
-    (after_giving width (after_size (room_left backlog t.before) t.more t.generator) (after_feeds width t.before t.xs))
-    t.backs)
+after_turn width backlog t = settled_all width (after_backs (given_in width backlog t) t.backs)
+
+-- a state is that after it, and as many of the jobs that were out were finished as it drew, each as it was drawn
+pub record HasMade (width backlog : ℕ) (t : TurnMade) (now : State) (left : Lcg) : Type 0 where
+  pub is : now ≡ after_turn width backlog t
+  pub finished : AreFinished (given_in width backlog t) (after_draws width (after_asking backlog t)) left t.backs
 
 -- the turns of a day since its start and a first generator, the last one first: each draws from what the one before
--- left, feeds what comes next, and gives the jobs that are drawn
+-- left, feeds what comes next, and gives and finishes the jobs that are drawn
 abbrev pub AreTurns : ℕ → ℕ → Lcg → List TurnMade → State → Lcg → Bool → Type 0
 AreTurns width backlog first [] s g more = (s ≡ start) × (g ≡ first)
 AreTurns width backlog first (t ∷ turns) s g more =
-    DrawsTurn width backlog t.before t.generator g t.xs t.more more × (s.fed ≡ t.before.fed ++ t.xs)
-    × (s ≡ after_turn width backlog t) × AreTurns width backlog first turns t.before t.generator t.more
+    DrawsTurn backlog t.before t.generator t.xs t.more more × (s.fed ≡ t.before.fed ++ t.xs)
+    × HasMade width backlog t s g × AreTurns width backlog first turns t.before t.generator t.more

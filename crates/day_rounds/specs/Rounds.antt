@@ -6,11 +6,11 @@ use Rattle.watermark.specs.Shares.{State}
 use Rattle.watermark.specs.Floors.{Setting}
 use Rattle.road_time.specs.Tolls.{StretchTold}
 use Rattle.day_rounds.specs.Published.{HasStepped}
-use Rattle.day_rounds.specs.Runs.{after_feeds, given_all, after_backs, settled_all}
+use Rattle.day_rounds.specs.Runs.{AllComeInOrder, after_feeds, given_all, after_backs, settled_all}
 use Rattle.day_rounds.specs.Fronts.{HasText}
 
--- some tuples were fed and all that was fed is settled; the text and the steps go on from what was written and
--- published
+-- some tuples were fed and all that was fed is settled, after the jobs came back in the order of their starts; the text
+-- and the steps go on from what was written and published
 pub record IsSettled (width backlog : ℕ) (e : Setting) (s : State) (xs : List Tuple) (old new : Option (List ℕ))
     (was posted : Option Posted) (now : State) : Type 0 where
   pub fed : now.fed ≡ s.fed ++ xs
@@ -19,3 +19,4 @@ pub record IsSettled (width backlog : ℕ) (e : Setting) (s : State) (xs : List 
   pub steps : (before : Option Posted) → HasStepped backlog s before was → HasStepped backlog now before posted
   pub backs : List (ℕ × List (ℕ × StretchTold))
   pub is : now ≡ settled_all width (after_backs (given_all (after_feeds width s xs) width) backs)
+  pub come : AllComeInOrder (given_all (after_feeds width s xs) width) backs

@@ -1,6 +1,6 @@
 -- What holds of an import between two steps.
 use Rattle.std.specs.Prelude.{◌≡◌, ℕ, zero, suc, ◌+◌, ◌≤◌, Bool, true, false, List, [], ◌∷◌, ◌++◌, length, map, Option}
-use Rattle.std.specs.Prelude.{Some, None, if◌then◌else◌}
+use Rattle.std.specs.Prelude.{Some, None, if◌then◌else◌, slice_get}
 use Rattle.road_time.specs.Tolls.{StretchTold as RoadFinding}
 use Rattle.road_time.specs.declared.road.Tuple.{Tuple}
 use Rattle.expressway.specs.declared.job.Job.{Job}
@@ -14,7 +14,7 @@ use Rattle.watermark.specs.Written.{settled_text, settled_charges}
 use Rattle.expressway.specs.Results.{AreFirst}
 use Rattle.road_time.specs.declared.day.Limits.{Limits}
 use Rattle.road_time.specs.Fits.{Fit}
-use Rattle.watermark.specs.Sound.{CanBack, SoundState, IsTrue}
+use Rattle.watermark.specs.Sound.{CanBack, SoundState, IsTrue, told_positions}
 use Rattle.watermark.specs.Starts.{HaveStarted}
 use Rattle.watermark.specs.Floors.{Setting, StandsFor}
 use Rattle.day_rounds.specs.Tasks.{AreOpen}
@@ -33,7 +33,7 @@ HasAnswered (Some was) found None = ⊥
 HasAnswered (Some was) found (Some now) = (since : List Finding) × (now ≡ was ++ since) × (map shown since ≡ found)
 
 -- an import on a crew, between two steps: its floor stands for a state; its tickets are those of the jobs that are
--- out; with an exact crew the findings are true;
+-- out, in the order of their starts; with an exact crew the findings are true;
 -- and of the jobs started since it began, and the findings answered, the crew tells what was told to it and by it
 pub record Runs {S T : Type 0} (out : S → List ℕ) (number : T → ℕ) (holds : S → ℕ → Job → Type 0)
     (gave : S → T → Type 0) (exact : Bool) (jobs : S → Option CrewTold) (answers : S → Option (List Finding))
@@ -44,6 +44,7 @@ pub record Runs {S T : Type 0} (out : S → List ℕ) (number : T → ℕ) (hold
   pub tickets : map (λ t. t.0) tasks ≡ run.tickets.items
   pub held : HasOut out number holds gave crew tasks
   pub open' : AreOpen e.tariffs run.floor.inboxes.width s (map (λ t. t.1) tasks)
+  pub outs_are : map (λ t. t.1.worker) tasks ≡ s.outs
   pub right : exact ≡ true → IsTrue e.tariffs run.floor.inboxes.width s
   pub since : List Job
   pub starts : HaveStarted run.floor.inboxes.width run.floor.limits.backlog s (map start_of since)
@@ -69,11 +70,12 @@ pub record Stopped {S T : Type 0} (out : S → List ℕ) (number : T → ℕ) (h
 abbrev pub given_if : State → ℕ → State
 given_if s worker = if can_give (s.share worker) then after_give s worker else s
 
--- one job came back
-pub record CameBack (width : ℕ) (s now : State) : Type 0 where
+-- one job came back, from its place among those that were out
+pub record CameBack (width place : ℕ) (s now : State) : Type 0 where
   pub worker : ℕ
   pub job : ℕ
   pub found : List (ℕ × RoadFinding)
+  pub placed : slice_get s.outs place ≡ Some worker
   pub can : CanBack width s worker job found
   pub is : now ≡ after_back s worker found
 
@@ -92,6 +94,21 @@ abbrev pub after_backs : State → List (ℕ × List (ℕ × RoadFinding)) → S
 after_backs s [] = s
 after_backs s (b ∷ bs) = after_back (after_backs s bs) b.0 b.1
 
+-- a job came back from its place among those that were out, with one finding for each of its reports that is told
+pub record ComesBack (place : ℕ) (s : State) (b : ℕ × List (ℕ × RoadFinding)) : Type 0 where
+  pub placed : slice_get s.outs place ≡ Some b.0
+  pub found : map (λ f. f.0) b.1 ≡ told_positions (s.share b.0).out
+
+-- jobs came back, the last one first: each was the first of those that were out
+abbrev pub ComeInOrder : State → List (ℕ × List (ℕ × RoadFinding)) → Type 0
+ComeInOrder s [] = Unit {0}
+ComeInOrder s (b ∷ bs) = ComesBack 0 (after_backs s bs) b × ComeInOrder s bs
+
+-- all jobs that were out came back, in the order of their starts
+pub record AllComeInOrder (s : State) (backs : List (ℕ × List (ℕ × RoadFinding))) : Type 0 where
+  pub order : ComeInOrder s backs
+  pub none : (after_backs s backs).outs ≡ []
+
 -- what can be is settled
 abbrev pub settled_all : ℕ → State → State
 settled_all width s = after_settle s (mark width s)
@@ -104,15 +121,20 @@ pub record OnlyTakesBack (s now : State) : Type 0 where
   pub text : (day : ℕ) (kept : ℕ → ℕ → ℕ → ℕ) → settled_text day kept now ≡ settled_text day kept s
   pub charges : settled_charges now ≡ settled_charges s
   pub between : (a b : ℕ) → settled_between now a b ≡ settled_between s a b
+
+-- some jobs came back, in the order of their starts
+pub record HaveComeInOrder (s now : State) : Type 0 where
   pub backs : List (ℕ × List (ℕ × RoadFinding))
   pub is : now ≡ after_backs s backs
+  pub order : ComeInOrder s backs
 
 -- some tuples may be fed, one after another
 pub record CanFeedAll (limits : Limits) (s : State) (xs : List Tuple) : Type 0 where
   pub fit : Fit (s.fed ++ xs) limits
   pub room : length s.fed + length xs ≤ s.settled + limits.backlog
 
--- some tuples were fed, each worker was given its next job, and all that was fed is done; what was settled stays
+-- some tuples were fed, each worker was given its next job, and all that was fed is done: the jobs came back in the
+-- order of their starts; what was settled stays
 pub record IsDone (width : ℕ) (s : State) (xs : List Tuple) (now : State) : Type 0 where
   pub fed : now.fed ≡ s.fed ++ xs
   pub settled : now.settled ≡ s.settled
@@ -122,3 +144,4 @@ pub record IsDone (width : ℕ) (s : State) (xs : List Tuple) (now : State) : Ty
   pub done : mark width now ≡ length now.fed
   pub backs : List (ℕ × List (ℕ × RoadFinding))
   pub is : now ≡ after_backs (given_all (after_feeds width s xs) width) backs
+  pub come : AllComeInOrder (given_all (after_feeds width s xs) width) backs

@@ -95,7 +95,8 @@ pub fn run_opened<C: Crew, S: Source, K: Keeper, O: Sink, P: Publisher, R: Threa
         → IsGatheringAhead ahead run.floor.limits late [] → e.number ≡ day → e.history ≡ history_of (K.told keeper.old)
         → (bytes : List ℕ) → IsAhead ahead run.floor.limits late (S.left source.old) bytes []
         → HasPlannedJobs plan.now.turns run.floor.inboxes.width run.floor.limits.backlog
-        (reads bytes run.floor.limits late).tuples (C.jobs crew.old) (C.jobs crew.new)) }
+        (reads bytes run.floor.limits late).tuples (C.jobs crew.old) (C.jobs crew.new) (C.answers crew.old)
+        (C.answers crew.new)) }
     ensures rest { OnOk result ((e : Setting) (late : ℕ)
         → Runs C.out C.number C.holds C.gave C.exact C.jobs C.answers e (C.jobs crew.old) (C.answers crew.old) run
         crew.old start

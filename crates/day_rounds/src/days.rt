@@ -80,7 +80,7 @@ pub fn run_day<C: Crew, S: Source, K: Keeper, O: Sink, P: Publisher, R: Threads>
     ensures digested { IfOk result (λ run. IsDigested digested run.end) }
     ensures planned { OnOk result ((bytes : List ℕ) → S.left source.old ≡ Some bytes
         → HasPlannedJobs plan.now.turns plan.now.width limits.now.backlog (reads bytes limits.now late).tuples
-        (C.jobs crew.old) (C.jobs crew.new)) }
+        (C.jobs crew.old) (C.jobs crew.new) (C.answers crew.old) (C.answers crew.new)) }
     ensures rest { OnOk result ((bytes : List ℕ) → S.left source.old ≡ Some bytes
         → (reads bytes limits.now late).refused ≡ None → S.left source.new ≡ Some []) }
     ensures source_same { S.name source.new ≡ S.name source.old }

@@ -28,7 +28,7 @@ pub fn finish_one<C: Crew>(
     ensures fewer { length run.new.tickets.items + 1 ≡ length run.old.tickets.items }
     ensures came { OnOk result ((e : Setting) (told : Option CrewTold) (answered : Option (List Finding)) (s : State)
         → Runs C.out C.number C.holds C.gave C.exact C.jobs C.answers e told answered run.old crew.old s
-        → (now : State) × CameBack run.old.floor.inboxes.width s now
+        → (now : State) × CameBack run.old.floor.inboxes.width place s now
         × Runs C.out C.number C.holds C.gave C.exact C.jobs C.answers e told answered run.new crew.new now) }
     ensures stopped { OnErr result ((e : Setting) (told : Option CrewTold) (answered : Option (List Finding))
         (s : State)

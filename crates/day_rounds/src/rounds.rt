@@ -11,7 +11,8 @@ ghost use Rattle.partition_workers.specs.Told.{CrewTold};
 ghost use Rattle.watermark.specs.Shares.{State};
 ghost use Rattle.watermark.specs.Floors.{Setting, StandsFor};
 ghost use Rattle.day_rounds.specs.Readers.{HasReadOn};
-ghost use Rattle.day_rounds.specs.Runs.{Runs, Stopped, CanFeedAll, OnlyTakesBack, IsDone, after_feeds, given_all};
+ghost use Rattle.day_rounds.specs.Runs.{Runs, Stopped, CanFeedAll, OnlyTakesBack, HaveComeInOrder, IsDone, after_feeds};
+ghost use Rattle.day_rounds.specs.Runs.{given_all};
 
 use crate::begun::Import;
 use crate::finish::finish_one;
@@ -77,9 +78,8 @@ pub fn finish_firsts<C: Crew>(run: &mut Import<C::Ticket>, crew: &mut C) -> Resu
     ensures none { OnOk result (run.new.tickets.items ≡ []) }
     ensures came { OnOk result ((e : Setting) (told : Option CrewTold) (answered : Option (List Finding)) (s : State)
         → Runs C.out C.number C.holds C.gave C.exact C.jobs C.answers e told answered run.old crew.old s
-        → (now : State) × OnlyTakesBack s now × Runs C.out C.number C.holds C.gave C.exact C.jobs C.answers e told
-        answered
-        run.new crew.new now) }
+        → (now : State) × OnlyTakesBack s now × HaveComeInOrder s now
+        × Runs C.out C.number C.holds C.gave C.exact C.jobs C.answers e told answered run.new crew.new now) }
     ensures stopped { OnErr result ((e : Setting) (told : Option CrewTold) (answered : Option (List Finding))
         (s : State)
         → Runs C.out C.number C.holds C.gave C.exact C.jobs C.answers e told answered run.old crew.old s

@@ -16,7 +16,7 @@ ghost use Rattle.watermark.specs.Written.{settled_charges};
 ghost use Rattle.watermark.specs.Floors.{Setting};
 ghost use Rattle.day_rounds.specs.Runs.{Runs};
 ghost use Rattle.day_rounds.specs.Turns.{IsTurned};
-ghost use Rattle.day_rounds.specs.Drawn.{DrawsTurn, after_turn};
+ghost use Rattle.day_rounds.specs.Drawn.{DrawsTurn, HasMade};
 ghost use Rattle.day_rounds.specs.Readers.{HasGiven};
 ghost use Rattle.day_rounds.specs.Halts.{IsHalted};
 ghost use Rattle.day_rounds.specs.Faults.{IsCounted};
@@ -92,10 +92,9 @@ pub fn next_turn<C: Crew, S: Source, K: Keeper, O: Sink, P: Publisher, R: Thread
         crew.new now
         × IsAbreast (P.posted publisher.new) (sum_of (settled_charges now))
         × (s.settled ≡ length s.fed → has_more ahead.old ≡ true → 1 ≤ length xs)
-        × DrawsTurn width run.old.floor.limits.backlog s rng.old rng.new xs (has_more ahead.old)
-        (has_more ahead.new)
-        × ((backs : List (ℕ × List (ℕ × RoadFinding))) × (now ≡ after_turn width run.old.floor.limits.backlog
-        (record { before = s; generator = rng.old; more = has_more ahead.old; xs = xs; backs = backs })))) }
+        × DrawsTurn run.old.floor.limits.backlog s rng.old xs (has_more ahead.old) (has_more ahead.new)
+        × ((backs : List (ℕ × List (ℕ × RoadFinding))) × HasMade width run.old.floor.limits.backlog
+        (record { before = s; generator = rng.old; more = has_more ahead.old; xs = xs; backs = backs }) now rng.new)) }
     ensures halted { IfErr result (λ fault.
         (e : Setting) (told : Option CrewTold) (answered : Option (List Finding)) (late : ℕ) (s : State)
         → Runs C.out C.number C.holds C.gave C.exact C.jobs C.answers e told answered run.old crew.old s

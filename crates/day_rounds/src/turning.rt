@@ -11,7 +11,7 @@ ghost use Rattle.watermark.specs.Floors.{Setting};
 ghost use Rattle.day_rounds.specs.Runs.{Runs, Stopped, after_backs};
 ghost use Rattle.day_rounds.specs.Turns.{IsGiven, IsMoved};
 ghost use Rattle.day_rounds.specs.Tasks.{out_at};
-ghost use Rattle.day_rounds.specs.Drawn.{DrawsWork, given_drawn, given_where, given_least, after_giving};
+ghost use Rattle.day_rounds.specs.Drawn.{given_drawn, given_where, given_least, after_giving, ComeAsDrawn, AreFinished};
 
 use crate::begun::Import;
 use crate::finish::finish_one;
@@ -133,7 +133,8 @@ pub fn finish_drawn<C: Crew>(
         → (now : State) × (k : ℕ) × IsMoved run.old.floor.inboxes.width k s now
         × (length run.new.tickets.items + k ≡ length run.old.tickets.items)
         × Runs C.out C.number C.holds C.gave C.exact C.jobs C.answers e told answered run.new crew.new now
-        × ((backs : List (ℕ × List (ℕ × RoadFinding))) × (now ≡ after_backs s backs))) }
+        × ((backs : List (ℕ × List (ℕ × RoadFinding))) × (now ≡ after_backs s backs) × (length backs ≡ k)
+        × ComeAsDrawn rng.old s backs)) }
     ensures some { OnOk result (1 ≤ length run.old.tickets.items
         → length run.new.tickets.items + 1 ≤ length run.old.tickets.items) }
     ensures stopped { OnErr result ((e : Setting) (told : Option CrewTold) (answered : Option (List Finding))
@@ -179,8 +180,8 @@ pub fn work_turn<C: Crew>(
         → (now : State) × (k : ℕ) × IsMoved run.old.floor.inboxes.width k s now
         × Runs C.out C.number C.holds C.gave C.exact C.jobs C.answers e told answered run.new crew.new now
         × (k ≡ 0 → mark run.old.floor.inboxes.width s ≡ length s.fed)
-        × ((backs : List (ℕ × List (ℕ × RoadFinding))) × (now ≡ after_backs (after_giving width rng.old s) backs))) }
-    ensures drawn { OnOk result (DrawsWork width rng.old rng.new) }
+        × ((backs : List (ℕ × List (ℕ × RoadFinding))) × (now ≡ after_backs (after_giving width rng.old s) backs)
+        × AreFinished (after_giving width rng.old s) (after_draws width rng.old) rng.new backs)) }
     ensures stopped { OnErr result ((e : Setting) (told : Option CrewTold) (answered : Option (List Finding))
         (s : State)
         → Runs C.out C.number C.holds C.gave C.exact C.jobs C.answers e told answered run.old crew.old s

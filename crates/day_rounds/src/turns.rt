@@ -7,6 +7,7 @@ ghost use Rattle.road_time.specs.Tolls.{StretchTold as RoadFinding};
 ghost use Rattle.expressway.specs.Results.{AreFirst};
 ghost use Rattle.expressway.specs.declared.finding.Finding.{Finding};
 ghost use Rattle.partition_workers.specs.Told.{CrewTold};
+ghost use Rattle.draws.specs.Draws.{after_draws};
 ghost use Rattle.settling.specs.Answers.{history_of};
 ghost use Rattle.settling.specs.Boards.{IsAbreast};
 ghost use Rattle.settling.specs.Faults.{SinkFaults, KeeperFaults, keeper_failed};
@@ -15,7 +16,7 @@ ghost use Rattle.watermark.specs.Written.{settled_charges};
 ghost use Rattle.watermark.specs.Floors.{Setting};
 ghost use Rattle.day_rounds.specs.Runs.{Runs, Stopped, CanFeedAll, after_feeds, after_backs, settled_all};
 ghost use Rattle.day_rounds.specs.Turns.{IsMoved, IsTurned};
-ghost use Rattle.day_rounds.specs.Drawn.{DrawsWork, after_giving};
+ghost use Rattle.day_rounds.specs.Drawn.{AreFinished, after_giving};
 ghost use Rattle.day_rounds.specs.Published.{published_of};
 ghost use Rattle.day_rounds.specs.Fronts.{HasText, HasFront};
 ghost use Rattle.day_rounds.specs.Asked.{AsksUntil};
@@ -57,8 +58,9 @@ pub fn feed_turn<C: Crew>(
         → mark run.old.floor.inboxes.width (after_feeds run.old.floor.inboxes.width s these.now)
         ≡ length (after_feeds run.old.floor.inboxes.width s these.now).fed)
         × ((backs : List (ℕ × List (ℕ × RoadFinding))) × (now ≡ after_backs (after_giving width rng.old
-        (after_feeds run.old.floor.inboxes.width s these.now)) backs))) }
-    ensures drawn { OnOk result (DrawsWork width rng.old rng.new) }
+        (after_feeds run.old.floor.inboxes.width s these.now)) backs)
+        × AreFinished (after_giving width rng.old (after_feeds run.old.floor.inboxes.width s these.now))
+        (after_draws width rng.old) rng.new backs)) }
     ensures stopped { OnErr result ((e : Setting) (told : Option CrewTold) (answered : Option (List Finding))
         (s : State)
         → Runs C.out C.number C.holds C.gave C.exact C.jobs C.answers e told answered run.old crew.old s
@@ -105,8 +107,9 @@ pub fn turn<C: Crew, K: Keeper, O: Sink, P: Publisher>(
         crew.new now
         × IsAbreast (P.posted publisher.new) (sum_of (settled_charges now))
         × ((backs : List (ℕ × List (ℕ × RoadFinding))) × (now ≡ settled_all run.old.floor.inboxes.width (after_backs
-        (after_giving width rng.old (after_feeds run.old.floor.inboxes.width s these.now)) backs)))) }
-    ensures drawn { OnOk result (DrawsWork width rng.old rng.new) }
+        (after_giving width rng.old (after_feeds run.old.floor.inboxes.width s these.now)) backs))
+        × AreFinished (after_giving width rng.old (after_feeds run.old.floor.inboxes.width s these.now))
+        (after_draws width rng.old) rng.new backs)) }
     ensures stopped { OnErr result ((e : Setting) (told : Option CrewTold) (answered : Option (List Finding))
         (s : State)
         → Runs C.out C.number C.holds C.gave C.exact C.jobs C.answers e told answered run.old crew.old s

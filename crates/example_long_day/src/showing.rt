@@ -34,6 +34,14 @@ fn show_record(rt: HostRuntime, word: &str, record: &DayRecord) -> io::Result<()
     println!(rt; "notices {told}")
 }
 
+/// What an audit wrote, and its status.
+pub(crate) fn show_audit(rt: HostRuntime, text: &[u8], status: u8) -> io::Result<()> {
+    match str::from_utf8(text) {
+        Ok(line) => println!(rt; "audited: {line}status {status}"),
+        Err(_) => println!(rt; "no text"),
+    }
+}
+
 /// An outcome.
 pub(crate) fn show(rt: HostRuntime, outcome: &Outcome) -> io::Result<()> {
     match outcome {

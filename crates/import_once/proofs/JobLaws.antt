@@ -6,6 +6,7 @@ use Rattle.road_time.specs.declared.road.Tuple.{Tuple}
 use Rattle.road_time.specs.Rates.{Tariffs}
 use Rattle.road_time.specs.Day.{rules}
 use Rattle.expressway.specs.declared.job.Job.{Job}
+use Rattle.expressway.specs.declared.finding.Finding.{Finding}
 use Rattle.expressway.specs.Events.{events_for}
 use Rattle.partition_workers.specs.Lists.{listing_of}
 use Rattle.partition_workers.specs.Told.{CrewTold, WhereTold}
@@ -24,7 +25,7 @@ use Rattle.import_once.specs.Imports.{IsOfKeptDay}
 use Rattle.import_once.specs.Runs.{stopped_outcome, refused_outcome, WhereWorked, HasStartedJobs, HasDaySteps}
 use Rattle.import_once.specs.Runs.{PublishesDay, PublishesUnderSome}
 use Rattle.import_plan.specs.declared.Plan.{Plan}
-use Rattle.import_once.specs.Planned.{StartsPlanned}
+use Rattle.import_once.specs.Planned.{WorksPlanned}
 use Rattle.import_once.proofs.FinishLaws.{where_worked}
 use Rattle.day_rounds.specs.declared.fault.DayFault.TheVariants as stop
 use Rattle.keeper.specs.declared.kept.KeepFault.TheVariants as keeping
@@ -110,10 +111,11 @@ refused_started width backlog day told fault outcome is =
     (none_started width backlog day told (refused_outcome fault) (refused_unworked fault _))
 
 -- and none is due by a plan
-pub refused_planned : (plan : Plan) (backlog : ℕ) (day : List Tuple) (told now : Option CrewTold) (fault : KeepFault)
-    (outcome : Outcome) → outcome ≡ refused_outcome fault → StartsPlanned plan backlog day told now outcome
-refused_planned plan backlog day told now fault outcome is =
-    subst (StartsPlanned plan backlog day told now) (sym is) (refused_unworked fault _)
+pub refused_planned : (plan : Plan) (backlog : ℕ) (day : List Tuple) (told now : Option CrewTold)
+    (answers answered : Option (List Finding)) (fault : KeepFault) (outcome : Outcome) →
+    outcome ≡ refused_outcome fault → WorksPlanned plan backlog day told now answers answered outcome
+refused_planned plan backlog day told now answers answered fault outcome is =
+    subst (WorksPlanned plan backlog day told now answers answered) (sym is) (refused_unworked fault _)
 
 -- the steps of a day that was worked
 pub stepped_all : (t : Task) (day : List Tuple) (old now : Option Posted) (outcome : Outcome) →

@@ -10,7 +10,7 @@ ghost use Rattle.import_once.specs.Faults.{FaultsBeside, NamesNoOther, FailsNext
 ghost use Rattle.import_once.specs.Asked.{AsksBy};
 ghost use Rattle.import_once.specs.Imports.{answers_answer, answers_found, Does, LeavesRead, IsOfAnswers};
 ghost use Rattle.import_once.specs.Runs.{DoesByCrew, HasStartedJobs};
-ghost use Rattle.import_once.specs.Planned.{StartsPlanned};
+ghost use Rattle.import_once.specs.Planned.{WorksPlanned};
 ghost use Rattle.import_once.specs.declared.outcomes.Outcome.TheVariants.{ReadFault, WriteFault, KeeperFault};
 
 use crate::keeping::finish_answers;
@@ -57,8 +57,8 @@ fn answer_under<S: Source, O: Sink, K: Keeper, C: Crew, R: Threads>(
         → HasStartedJobs plan.now.width limits.now.backlog (reads bytes limits.now late).tuples (C.jobs crew.old)
         (C.jobs crew.new) result }
     ensures planned { (bytes : List ℕ) → S.left source.old ≡ Some bytes
-        → StartsPlanned plan.now limits.now.backlog (reads bytes limits.now late).tuples (C.jobs crew.old)
-        (C.jobs crew.new) result }
+        → WorksPlanned plan.now limits.now.backlog (reads bytes limits.now late).tuples (C.jobs crew.old)
+        (C.jobs crew.new) (C.answers crew.old) (C.answers crew.new) result }
     ensures kept { K.told keeper.new ≡ K.told keeper.old }
     ensures own { IsOfAnswers result }
     ensures leaves { (bytes : List ℕ) → S.left source.old ≡ Some bytes
@@ -127,8 +127,8 @@ pub fn answers<S: Source, O: Sink, K: Keeper, C: Crew, R: Threads>(
         → HasStartedJobs plan.now.width limits.now.backlog (reads bytes limits.now late).tuples (C.jobs crew.old)
         (C.jobs crew.new) result }
     ensures planned { (bytes : List ℕ) → S.left source.old ≡ Some bytes
-        → StartsPlanned plan.now limits.now.backlog (reads bytes limits.now late).tuples (C.jobs crew.old)
-        (C.jobs crew.new) result }
+        → WorksPlanned plan.now limits.now.backlog (reads bytes limits.now late).tuples (C.jobs crew.old)
+        (C.jobs crew.new) (C.answers crew.old) (C.answers crew.new) result }
     ensures kept { K.told keeper.new ≡ K.told keeper.old }
     ensures own { IsOfAnswers result }
     ensures leaves { (bytes : List ℕ) → S.left source.old ≡ Some bytes

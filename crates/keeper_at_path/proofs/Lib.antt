@@ -1,2 +1,3 @@
 pub mod DoesLaws
 pub mod AskedLaws
+pub mod AnewLaws

@@ -2,3 +2,4 @@ pub mod Causes
 pub mod Does
 pub mod Looks
 pub mod Asked
+pub mod Anew

@@ -8,6 +8,8 @@ ghost use Rattle.keeper_at_path.specs.Asked.{AskedToRead, AskedToPut, IsReadyToR
 ghost use Rattle.keeper_at_path.specs.Causes.{IsSaid};
 ghost use Rattle.keeper_at_path.specs.Looks.{AreFound, Looks};
 
+mod anew;
+
 use crate::call::{Putting, Reading};
 use crate::cause::{Cause, say, say_of_store};
 use crate::kept::Kept;
@@ -21,8 +23,8 @@ use std::alloc::Global;
 use std::rt::HostRuntime;
 use tree_keeper::PageTrees;
 
-/// A database that is opened when it is first asked for: by its trees where it is exactly ours, or whole. A call that
-/// puts is made of the store of the same trees, or of the whole. `cause` is why the last call failed that did.
+/// A database that is opened when it is first asked for: by its trees where it is exactly ours or new, or whole. A
+/// call that puts is made of the store of the same trees, or of the whole. `cause` is why the last call failed that did.
 #[derive(Drop)]
 pub struct Database<S: Opens<P>, P: Pages + Drop> {
     rt: HostRuntime,
@@ -189,15 +191,67 @@ impl<S: Opens<P>, P: Pages + Drop> Database<S, P> {
     fn opened(&self) -> Result<Kept<PageTrees<P>, ProvedKeeper<S>>, Cause>
         ensures { IfOk result (IsReadyToRead (AreFound P.Pages) (λ k. k.unmade ≢ Some NoMemory) None) }
     {
-        let conn = match S::to_read(&self.rt, self.path.as_str()) {
+        let mut conn = match S::to_read(&self.rt, self.path.as_str()) {
             Ok(Kept::Trees(trees)) => return Ok(Kept::Trees(trees)),
             Ok(Kept::Whole(conn)) => conn,
             Err(cause) => return Err(cause),
         };
-        match adopted(self.rt.alloc(), conn) {
-            Ok(kept) => Ok(Kept::Whole(kept)),
-            Err(cause) => Err(cause),
+        if lists_nothing(&mut conn) {
+            return made(&self.rt, conn);
         }
+        whole(&self.rt, conn)
+    }
+}
+
+/// Whether a database lists nothing yet.
+fn lists_nothing<S: Steady>(conn: &mut Connection<S>) -> bool {
+    match conn.query_all("SELECT name FROM sqlite_schema", &[]) {
+        Ok(listed) => listed.is_empty(),
+        Err(_) => false,
+    }
+}
+
+/// The trees of a new file, once a connection has made its tables; or a keeper on it, where they are not made.
+fn made<S: Opens<P>, P: Pages + Drop>(
+    rt: &HostRuntime,
+    conn: Connection<S>,
+) -> Result<Kept<PageTrees<P>, ProvedKeeper<S>>, Cause>
+    ensures { IfOk result (IsReadyToRead (AreFound P.Pages) (λ k. k.unmade ≢ Some NoMemory) None) }
+{
+    let kept = match adopted(rt.alloc(), conn) {
+        Ok(kept) => kept,
+        Err(cause) => return Err(cause),
+    };
+    match kept.unmade() {
+        Some(_) => Ok(Kept::Whole(kept)),
+        None => found_made(rt, kept.give_up()),
+    }
+}
+
+/// The trees of the file of a connection that has made its tables, or a keeper on it.
+fn found_made<S: Opens<P>, P: Pages + Drop>(
+    rt: &HostRuntime,
+    conn: Connection<S>,
+) -> Result<Kept<PageTrees<P>, ProvedKeeper<S>>, Cause>
+    ensures { IfOk result (IsReadyToRead (AreFound P.Pages) (λ k. k.unmade ≢ Some NoMemory) None) }
+{
+    match S::to_read_made(rt, conn) {
+        Ok(Kept::Trees(trees)) => Ok(Kept::Trees(trees)),
+        Ok(Kept::Whole(conn)) => whole(rt, conn),
+        Err(cause) => Err(cause),
+    }
+}
+
+/// A keeper on a new connection.
+fn whole<S: Opens<P>, P: Pages + Drop>(
+    rt: &HostRuntime,
+    conn: Connection<S>,
+) -> Result<Kept<PageTrees<P>, ProvedKeeper<S>>, Cause>
+    ensures { IfOk result (IsReadyToRead (AreFound P.Pages) (λ k. k.unmade ≢ Some NoMemory) None) }
+{
+    match adopted(rt.alloc(), conn) {
+        Ok(kept) => Ok(Kept::Whole(kept)),
+        Err(cause) => Err(cause),
     }
 }
 

@@ -9,6 +9,8 @@ ghost use Rattle.keeper_at_path.specs.Asked.{AskedToRead, AskedToPut};
 ghost use Rattle.keeper_at_path.specs.Causes.{IsSaid};
 ghost use Rattle.keeper_at_path.specs.Looks.{AreFound, Looks};
 
+mod anew;
+
 use crate::at_path::AtPath;
 use crate::call::{Putting, Reading};
 use crate::cause::Cause;

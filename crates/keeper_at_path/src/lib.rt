@@ -1,12 +1,13 @@
 //! A keeper in a database that is opened by the path of its file, over any files that a path opens.
 //!
-//! `KeeperIn` opens its database at the first call, and anew after a call that failed. A call that reads is made of the
-//! trees of the file, where that lists exactly our tables: no more is read than the answer needs. A call that puts takes
-//! the file over from the trees and is made of its store, in one commit, where each page and tree is sound; the trees are
-//! held again then. What does not fit the trees, and a file that is not exactly ours, is left to a `ProvedKeeper` on a
-//! connection, which reads and checks the file whole and is held from then on. Each call is a value, a `Reading` or a
-//! `Putting`. What the file holds is another hand's until it is read: it tells nothing of it. Where a call fails,
-//! `cause` says why. `FileKeeper` is the same over a store of files, which its callers do not see.
+//! `KeeperIn` opens its database at the first call, and anew after a call that failed. A call that reads is made of
+//! the trees of the file, where that lists exactly our tables: no more is read than the answer needs. In a new file a
+//! connection makes the tables first, and is taken over. A call that puts takes the file over from the trees and is
+//! made of its store, in one commit, where each page and tree is sound; the trees are held again then. What does not
+//! fit the trees, and a file that is not exactly ours, is left to a `ProvedKeeper` on a connection, which reads and
+//! checks the file whole and is held from then on. Each call is a value, a `Reading` or a `Putting`. What the file
+//! holds is another hand's until it is read: it tells nothing of it. Where a call fails, `cause` says why.
+//! `FileKeeper` is the same over a store of files, which its callers do not see.
 #![tactic(auto)]
 
 mod at_path;

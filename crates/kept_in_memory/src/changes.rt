@@ -7,7 +7,8 @@ use road_time::Tariff;
 use sqlite::Connection;
 use std::alloc::Global;
 
-/// What is changed: the tables are made, those of version 1 are taken over, or something is put.
+/// What is changed: the tables are made, those of version 1 are taken over, or something is put. A day after a tariff
+/// is put while the log still has the tariff.
 #[derive(Clone, Copy, Debug, PartialEq, Eq)]
 pub enum Change {
     Tables,
@@ -15,6 +16,7 @@ pub enum Change {
     History,
     Day,
     Tariff,
+    DayAfterTariff,
 }
 
 /// Which office is found.
@@ -64,6 +66,10 @@ fn put<K: Keeper>(keeper: &mut K, change: Change) -> Result<bool, KeepFault> {
         Change::Tariff => {
             put_tariff(keeper)?;
             Ok(true)
+        }
+        Change::DayAfterTariff => {
+            put_tariff(keeper)?;
+            put_day(keeper)
         }
     }
 }
@@ -141,6 +147,10 @@ pub fn found<K: Keeper>(keeper: &mut K, change: Change) -> Result<Which, KeepFau
         Change::Tariff => Ok(either(
             none && has_nothing(keeper)?,
             has_tariff(keeper)? && has_nothing(keeper)?,
+        )),
+        Change::DayAfterTariff => Ok(either(
+            has_nothing(keeper)?,
+            has_tariff(keeper)? && has_put_day(keeper)?,
         )),
     }
 }

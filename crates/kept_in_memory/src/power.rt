@@ -157,7 +157,16 @@ fn tell<D: Stopping>(rt: HostRuntime, change: Change, pages: usize) -> io::Resul
     println!(rt; "power is lost, {change:?}, the file beside {pages} pages: {file:?}")
 }
 
-/// Lines for each change, and for a day whose log is copied within its put.
+/// Whether each loss leaves a day whole or not there where the log is copied within its put and stops, whether it does
+/// where the file stops, and whether the file is called more often than where the log is copied at the close alone.
+fn copied_within<D: Stopping>(alloc: Global) -> Result<[bool; 3], KeepFault> {
+    let (_, _, log) = stops::<D>(alloc, Change::DayAfterTariff, 1, true)?;
+    let (calls, _, file) = stops::<D>(alloc, Change::DayAfterTariff, 1, false)?;
+    let (fewer, _, _) = stops::<D>(alloc, Change::DayAfterTariff, 1000, false)?;
+    Ok([log, file, fewer < calls])
+}
+
+/// Lines for each change, for a day whose log of few pages is copied as it is closed, and for one whose put copies it.
 pub fn power_is_lost<D: Stopping>(rt: HostRuntime) -> io::Result<()> {
     for change in [
         Change::Tables,
@@ -168,5 +177,7 @@ pub fn power_is_lost<D: Stopping>(rt: HostRuntime) -> io::Result<()> {
     ] {
         tell::<D>(rt, change, 1000)?;
     }
-    tell::<D>(rt, Change::Day, 1)
+    tell::<D>(rt, Change::Day, 1)?;
+    let copied = copied_within::<D>(rt.alloc());
+    println!(rt; "power is lost, a put within which the log is copied: {copied:?}")
 }

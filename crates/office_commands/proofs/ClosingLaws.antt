@@ -1,5 +1,6 @@
 -- What a closing line says, and what may stand before it.
-use Rattle.std.proofs.Common.{◌≡◌, ◌≢◌, ℕ, List, length, Option, Some, Ok, refl, sym, ap, ◌∙◌, arith, []}
+use Rattle.std.proofs.Common.{◌≡◌, ◌≢◌, ◌==◌, ℕ, Bool, true, false, List, length, Option, Some, Ok, refl, sym, ap, ◌∙◌}
+use Rattle.std.proofs.Common.{arith, [], if◌then◌else◌}
 use Rattle.std.proofs.lemmas.List.{take_all}
 use Rattle.road_io.proofs.SinkLaws.{appends_none}
 use Rattle.road_io.specs.declared.source.Failed.{Failed}
@@ -7,6 +8,7 @@ use Rattle.keeper.specs.declared.kept.KeepFault.{KeepFault}
 use Rattle.day_reading.specs.declared.whole_day.ReadStop.{ReadStop}
 use Rattle.office_commands.specs.declared.closing.Closing.{Closing}
 use Rattle.office_commands.specs.declared.closing.Closing.TheVariants.{Words, ReadFault, KeeperFault, NoMemory}
+use Rattle.office_commands.specs.declared.closing.Closing.TheVariants.{Checked}
 use Rattle.office_commands.specs.Closings.{status_of}
 use Rattle.office_commands.specs.Commands.{Answer}
 use Rattle.office_commands.specs.Endings.{Sort, Own, Unread, Unkept, Unroomed, sort_of, IsTextFront, StandsBy}
@@ -21,8 +23,22 @@ IsOf Unread c = c ≡ ReadFault
 IsOf Unkept c = c ≡ KeeperFault
 IsOf Unroomed c = c ≡ NoMemory
 
+-- a check ends with 0 or 2
+check_status : (refused n : ℕ) → n ≢ 0 → n ≢ 2 → status_of (Checked 0 0 refused) ≢ n
+check_status refused n some other e = go (refused == 0) e
+  where
+    go : (b : Bool) → (if b then 0 else 2) ≡ n → ⊥
+    go true is = some (sym is)
+    go false is = other (sym is)
+
 -- each closing line is of its sort
 pub is_of : (c : Closing) → IsOf (sort_of c) c
+is_of (Checked day good refused) = (
+  check_status refused 4 (λ e. omega (arith, e)) (λ e. omega (arith, e)),
+  check_status refused 5 (λ e. omega (arith, e)) (λ e. omega (arith, e)),
+  check_status refused 6 (λ e. omega (arith, e)) (λ e. omega (arith, e)),
+  check_status refused 8 (λ e. omega (arith, e)) (λ e. omega (arith, e)),
+)
 is_of ReadFault = refl
 is_of KeeperFault = refl
 is_of NoMemory = refl
@@ -51,6 +67,8 @@ is_unkept c e = go (sort_of c) (is_of c)
 -- and one of 1 that of other words
 pub is_words : (c : Closing) → status_of c ≡ 1 → c ≡ Words
 is_words Words e = refl
+is_words (Checked day good refused) e =
+    absurd (check_status refused 1 (λ n. omega (arith, n)) (λ n. omega (arith, n)) e)
 is_words _ e = absurd (omega (arith, e))
 
 -- a whole text is some first bytes of itself

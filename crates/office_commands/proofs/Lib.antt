@@ -20,3 +20,4 @@ pub mod PerformLaws
 pub mod StartLaws
 pub mod LimitLaws
 pub mod RunLaws
+pub mod CheckLaws

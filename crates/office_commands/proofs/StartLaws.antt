@@ -111,7 +111,7 @@ pub day_none : (run' : DayRun) (backlog : ℕ) (day : List Tuple) (worked : Type
 day_none run' backlog day worked told bad = record {
   outcome = NoMemory;
   jobs = none_started run'.plan.width backlog day told;
-  planned = tt;
+  planned = (None, None, tt);
   whole = λ w. absurd (bad w);
 }
 

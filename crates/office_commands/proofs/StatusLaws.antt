@@ -11,7 +11,7 @@ use Rattle.road_time.specs.Reads.{reads}
 use Rattle.past_file.specs.Imports.{most_past}
 use Rattle.office_commands.specs.Days.{recomputed}
 use Rattle.office_commands.specs.Endings.{HoldsSame}
-use Rattle.office_commands.specs.Rests.{HasReadTo, HasReadDay, ReadsAsked, LeavesAsKept, ReadsUncompared}
+use Rattle.office_commands.specs.Rests.{HasReadTo, HasReadDay, ReadsAsked, LeavesAsKept, ReadsUncompared, ReadsToEnd}
 use Rattle.office_commands.proofs.RestLaws.{to_other}
 use Rattle.office_words.specs.declared.command.Command.TheVariants as command
 
@@ -46,6 +46,15 @@ uncompared_status most status code before after same h = λ s. h (moved s)
     moved (inl s) = inl (sym (same (λ e. omega (arith, s, e)) (λ e. omega (arith, s, e))) ∙ s)
     moved (inr s) = inr (sym (same (λ e. omega (arith, s, e)) (λ e. omega (arith, s, e))) ∙ s)
 
+-- of a check that came to the end
+to_end_status : (status code : ℕ) (before after : Option (List ℕ)) → Ended status code → ReadsToEnd code before after →
+    ReadsToEnd status before after
+to_end_status status code before after same h = λ s. h (moved s)
+  where
+    moved : (status ≡ 0) ⊎ (status ≡ 2) → (code ≡ 0) ⊎ (code ≡ 2)
+    moved (inl s) = inl (sym (same (λ e. omega (arith, s, e)) (λ e. omega (arith, s, e))) ∙ s)
+    moved (inr s) = inr (sym (same (λ e. omega (arith, s, e)) (λ e. omega (arith, s, e))) ∙ s)
+
 -- of a run's reading of its source
 pub read_status : (limits : Limits) (m : Option Command) (status code : ℕ) (before after : Option (List ℕ)) →
     Ended status code → ReadsAsked limits m code before after → ReadsAsked limits m status before after
@@ -61,6 +70,8 @@ read_status limits (Some (command.Accidents late)) status code before after same
     day_status (recomputed Plainly limits) late status code before after same h
 read_status limits (Some (command.Past base)) status code before after same h =
     uncompared_status (most_past limits) status code before after same h
+read_status limits (Some (command.Check day late)) status code before after same h =
+    to_end_status status code before after same h
 read_status limits _ status code before after same h = tt
 
 -- of what a run leaves of its source
@@ -109,6 +120,11 @@ read_other limits (Some (command.Accidents late)) code left well parted named =
           named;
     }
 read_other limits (Some (command.Past base)) code left well parted named = λ s. nothing_read (most_past limits) left
+read_other limits (Some (command.Check day late)) code left well parted named = λ s. absurd (neither s)
+  where
+    neither : (code ≡ 0) ⊎ (code ≡ 2) → ⊥
+    neither (inl s) = well s
+    neither (inr s) = named s
 read_other limits _ code left well parted named = tt
 
 -- nor of what it leaves of one

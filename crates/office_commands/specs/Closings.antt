@@ -1,5 +1,5 @@
 -- The closing lines.
-use Rattle.std.specs.Prelude.{ℕ, List, ◌++◌, codes}
+use Rattle.std.specs.Prelude.{ℕ, ◌==◌, List, ◌++◌, codes, if◌then◌else◌}
 use Rattle.std.specs.Fmt.{decimal}
 use Rattle.hex.specs.Hex.{encode_lower}
 use Rattle.road_time.specs.Text.{notice_text}
@@ -13,7 +13,7 @@ use Rattle.office_commands.specs.declared.closing.Closing.TheVariants.{PastStore
 use Rattle.office_commands.specs.declared.closing.Closing.TheVariants.{PastRefused, DayPassed, DiffersDay, NoDay}
 use Rattle.office_commands.specs.declared.closing.Closing.TheVariants.{PastLate, PastKept, DiffersPast, ReadFault}
 use Rattle.office_commands.specs.declared.closing.Closing.TheVariants.{KeeperFault, DiffersLine, NoMemory, Rehearsed}
-use Rattle.office_commands.specs.declared.closing.Closing.TheVariants.{Listed}
+use Rattle.office_commands.specs.declared.closing.Closing.TheVariants.{Listed, Checked}
 
 -- how a line of notices is named
 abbrev pub entry_text : EntryText → List ℕ
@@ -107,6 +107,9 @@ closing_line (Rehearsed bytes digest tuples notices notices_digest total) =
     rehearsed_line bytes (encode_lower digest.bytes) tuples
     (rehearsed_end notices (encode_lower notices_digest.bytes) total)
 closing_line (Listed days last) = codes "# days " ++ (decimal days ++ (codes " last " ++ (decimal last ++ codes "\n")))
+closing_line (Checked day good refused) =
+    codes "# checked day "
+    ++ (decimal day ++ (codes " good " ++ (decimal good ++ (codes " refused " ++ (decimal refused ++ codes "\n")))))
 
 -- the status that a closing line goes with
 abbrev pub status_of : Closing → ℕ
@@ -132,3 +135,4 @@ status_of (DiffersLine line wanted found) = 7
 status_of NoMemory = 8
 status_of (Rehearsed bytes digest tuples notices notices_digest total) = 0
 status_of (Listed days last) = 0
+status_of (Checked day good refused) = if refused == 0 then 0 else 2

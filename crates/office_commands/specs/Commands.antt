@@ -32,6 +32,8 @@ use Rattle.office_commands.specs.declared.closing.Closing.TheVariants.{PastAlrea
 use Rattle.office_commands.specs.declared.closing.Closing.TheVariants.{DayPassed, DiffersDay, NoDay, PastLate, PastKept}
 use Rattle.office_commands.specs.declared.closing.Closing.TheVariants.{DiffersPast, ReadFault, KeeperFault, NoMemory}
 use Rattle.office_commands.specs.declared.closing.Closing.TheVariants.{Listed}
+use Rattle.office_commands.specs.declared.closing.Closing.TheVariants.{Checked as CheckedDay}
+use Rattle.day_check.specs.Checked.{Checked, checked, named_of, refusals_text}
 use Rattle.office_words.specs.declared.command.Comparison.{Comparison}
 use Rattle.office_words.specs.declared.command.DayRun.{DayRun}
 use Rattle.office_words.specs.declared.command.Recomputing.TheVariants.{Plainly}
@@ -178,6 +180,18 @@ days_command o = record { text = list_text o.days; closing = Some (Listed (lengt
 abbrev pub charges_command : ℕ → ℕ → Office → Answer
 charges_command from to o = text_alone (charges_report from to o) o
 
+-- what is said of a day whose lines were checked: its refused lines, the first 1,000, and how many are good and refused
+abbrev pub check_answer : ℕ → Checked → Office → Answer
+check_answer number c o = record {
+  text = refusals_text (named_of c);
+  closing = Some (CheckedDay number (length c.kept) (length c.refusals));
+  office = o;
+}
+
+-- the command `check DAY`
+abbrev pub check_command : Limits → ℕ → ℕ → List ℕ → Office → Answer
+check_command limits number late bytes o = check_answer number (checked limits late (lines_of bytes)) o
+
 -- what words ask, by the command that they mean, over the bytes of the source, those of the aside, and what is kept
 abbrev pub office_answer : Limits → List ℕ → List ℕ → Office → Option Command → Answer
 office_answer limits bytes aside o None = closed Words o
@@ -196,3 +210,4 @@ office_answer limits bytes aside o (Some (command.Generate seed size)) = generat
 office_answer limits bytes aside o (Some (command.Rehearse seed size run)) = rehearse_command seed size run o
 office_answer limits bytes aside o (Some command.Days) = days_command o
 office_answer limits bytes aside o (Some (command.Charges from to)) = charges_command from to o
+office_answer limits bytes aside o (Some (command.Check number late)) = check_command limits number late bytes o

@@ -8,6 +8,8 @@ use Rattle.keeper.specs.Calls.{WhenRefused, Leaves}
 use Rattle.keeper.specs.Office.{Office}
 use Rattle.day_reading.specs.declared.whole_day.ReadStop.{ReadStop}
 use Rattle.day_reading.specs.declared.whole_day.ReadStop.TheVariants as stops
+use Rattle.day_check.specs.declared.whole.CheckStop.{CheckStop}
+use Rattle.day_check.specs.declared.whole.CheckStop.TheVariants as checks
 use Rattle.reports.specs.declared.report_fault.ReportFault.{ReportFault}
 use Rattle.reports.specs.declared.report_fault.ReportFault.TheVariants as reports
 use Rattle.office_commands.specs.declared.closing.Closing.{Closing}
@@ -93,6 +95,11 @@ EndsReport day _ (Err e) = ⊥
 abbrev pub stopping : ReadStop → Closing
 stopping stops.ReadFault = ReadFault
 stopping stops.NoMemory = NoMemory
+
+-- the closing of a check that could not read
+abbrev pub stopping_check : CheckStop → Closing
+stopping_check checks.ReadFault = ReadFault
+stopping_check checks.NoMemory = NoMemory
 
 -- the closing of a run whose keeper refused
 abbrev pub refusing : KeepFault → Closing

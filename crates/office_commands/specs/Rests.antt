@@ -57,6 +57,11 @@ StopsThere limits late status before after =
 abbrev pub ReadsUncompared : ℕ → ℕ → Option (List ℕ) → Option (List ℕ) → Type 0
 ReadsUncompared most status before after = (status ≡ 2) ⊎ (status ≡ 6) → ReadsWithin most before after
 
+-- where lines were checked, the source was read to its end
+abbrev pub ReadsToEnd : ℕ → Option (List ℕ) → Option (List ℕ) → Type 0
+ReadsToEnd status before after =
+    (status ≡ 0) ⊎ (status ≡ 2) → (bytes : List ℕ) → before ≡ Some bytes → after ≡ Some []
+
 -- how words had their source read, whatever is kept
 abbrev pub ReadsAsked : Limits → Option Command → ℕ → Option (List ℕ) → Option (List ℕ) → Type 0
 ReadsAsked limits (Some (command.Answers run)) status before after = HasReadDay limits run.late status before after
@@ -68,6 +73,7 @@ ReadsAsked limits (Some (command.Compare asked)) status before after =
     HasReadDay (recomputed asked.how limits) asked.late status before after
 ReadsAsked limits (Some (command.Accidents late)) status before after =
     HasReadDay (recomputed Plainly limits) late status before after
+ReadsAsked limits (Some (command.Check day late)) status before after = ReadsToEnd status before after
 ReadsAsked limits _ status before after = Unit {0}
 
 -- what an import leaves of its source: nothing, or of that of a day that was kept before all behind one byte more than

@@ -16,6 +16,7 @@ use Rattle.office_words.specs.declared.command.Recomputing.TheVariants.{Plainly}
 use Rattle.office_commands.specs.Days.{recomputed, in_bulk}
 use Rattle.office_commands.specs.Commands.{notices_of_day, compared_tuples}
 use Rattle.office_commands.specs.Entries.{most_compared}
+use Rattle.day_check.specs.Checking.{most_checked}
 
 -- what words ask for, if they ask for a command
 abbrev pub asked : List (String Global) → Option Command
@@ -50,6 +51,7 @@ uses (Some (command.Generate seed size)) = nothing
 uses (Some (command.Rehearse seed size run)) = record nothing { crew = true }
 uses (Some command.Days) = record nothing { keeper = true }
 uses (Some (command.Charges from to)) = record nothing { keeper = true }
+uses (Some (command.Check day late)) = record nothing { source = true }
 uses None = nothing
 
 -- whether a command has a use for the source
@@ -130,6 +132,7 @@ most_of limits o (Some (command.Import run)) = most_imported (record_of o run.da
 most_of limits o (Some (command.Compare asked)) = most_of_day (recomputed asked.how limits)
 most_of limits o (Some (command.Past base)) = most_kept o.past limits
 most_of limits o (Some (command.Accidents late)) = most_of_day (recomputed Plainly limits)
+most_of limits o (Some (command.Check day late)) = most_checked
 most_of limits o _ = 0
 
 -- the most that words have read of the aside

@@ -1,9 +1,11 @@
 // The closing lines, and the statuses that they go with.
-ghost use Rattle.std.specs.Prelude.{◌≡◌, IfOk};
+ghost use Rattle.std.specs.Prelude.{◌≡◌, ◌==◌, IfOk, if◌then◌else◌};
 ghost use Rattle.std.specs.String.{string_bytes};
 ghost use Rattle.office_commands.specs.Closings.{closing_line, status_of};
 
-use crate::day_lines::{already_line, days_line, differs_day, rehearsal, stored_line, tariff_line};
+use crate::day_lines::{
+    already_line, checked_line, days_line, differs_day, rehearsal, stored_line, tariff_line,
+};
 use crate::entry_text::EntryText;
 use crate::past_lines::{
     differs_past, past_already, past_kept, past_late, past_refused, past_stored,
@@ -125,6 +127,19 @@ pub enum Closing {
         days: u64,
         last: u32,
     },
+    /// The lines of a day were checked: so many are good, so many refused.
+    Checked {
+        day: u32,
+        good: u64,
+        refused: u64,
+    },
+}
+
+/// The status of a check by how many lines are refused.
+fn status_of_check(refused: u64) -> u8
+    ensures { result ≡ (if refused == 0 then 0 else 2) }
+{
+    if refused == 0 { 0 } else { 2 }
 }
 
 impl Closing {
@@ -155,6 +170,7 @@ impl Closing {
             Closing::NoMemory => 8,
             Closing::Rehearsed { .. } => 0,
             Closing::Listed { .. } => 0,
+            Closing::Checked { refused, .. } => status_of_check(refused),
         }
     }
 
@@ -233,6 +249,9 @@ impl Closing {
                 );
             }
             Closing::Listed { days, last } => return days_line(alloc, days, last),
+            Closing::Checked { day, good, refused } => {
+                return checked_line(alloc, day, good, refused);
+            }
         };
         Ok(line)
     }

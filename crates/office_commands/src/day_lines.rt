@@ -3,7 +3,7 @@ ghost use Rattle.std.specs.Prelude.{◌≡◌, IfOk};
 ghost use Rattle.std.specs.String.{string_bytes};
 ghost use Rattle.office_commands.specs.Closings.{closing_line, stored_line, already_line, tariff_kept_line};
 ghost use Rattle.office_commands.specs.Closings.{differs_line, rehearsed_end, rehearsed_line};
-ghost use Rattle.office_commands.specs.declared.closing.Closing.TheVariants.{DiffersDay, Rehearsed, Listed};
+ghost use Rattle.office_commands.specs.declared.closing.Closing.TheVariants.{DiffersDay, Rehearsed, Listed, Checked};
 
 use keeper::Digest;
 use road_time::NoMemory;
@@ -88,6 +88,19 @@ pub(crate) fn days_line(alloc: Global, days: u64, last: u32) -> Result<String, N
     ensures { IfOk result (λ line. string_bytes line ≡ closing_line (Listed days last)) }
 {
     let line = format!(in alloc; "# days {days} last {last}\n")?;
+    Ok(line)
+}
+
+/// The line of a day whose lines were checked.
+pub(crate) fn checked_line(
+    alloc: Global,
+    day: u32,
+    good: u64,
+    refused: u64,
+) -> Result<String, NoMemory>
+    ensures { IfOk result (λ line. string_bytes line ≡ closing_line (Checked day good refused)) }
+{
+    let line = format!(in alloc; "# checked day {day} good {good} refused {refused}\n")?;
     Ok(line)
 }
 

@@ -7,6 +7,7 @@
 
 mod answers;
 mod aside;
+mod checks;
 mod closing;
 mod comparing;
 mod day;

@@ -17,6 +17,7 @@ ghost use Rattle.office_commands.specs.Faults.{ReadFaults, TellsNoOther};
 ghost use Rattle.road_io.specs.Blame.{FaultsByPlan, FaultsByRoom};
 
 use crate::answers::answers;
+use crate::checks::check;
 use crate::closing::Closing;
 use crate::comparing::compare_source;
 use crate::days::days;
@@ -132,5 +133,6 @@ pub(crate) fn perform<S: Source, A: Source, O: Sink, K: Keeper, C: Crew, R: Thre
         ))),
         Command::Days => days(alloc, sink, keeper),
         Command::Charges { from, to } => charges(alloc, from, to, sink, keeper),
+        Command::Check { day: number, late } => check(alloc, number, late, limits, source, sink),
     }
 }

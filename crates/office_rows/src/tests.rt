@@ -1,9 +1,13 @@
 // Words, a source and an aside in, a sink's text and a status out.
+mod asking;
 mod audits;
+mod causes;
+mod checks;
 mod days;
 mod faults;
 mod input;
 mod listings;
+mod renewals;
 mod road;
 mod runs;
 mod traffic;

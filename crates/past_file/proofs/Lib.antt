@@ -5,3 +5,4 @@ pub mod ReadLaws
 pub mod KeepLaws
 pub mod PutLaws
 pub mod CauseLaws
+pub mod AskedLaws

@@ -11,6 +11,7 @@ ghost use Rattle.road_io.specs.Within.{ReadsWithin};
 ghost use Rattle.past_file.specs.Imports.{past_compared, unchanged, past_again, past_read, past_new, past_answer};
 ghost use Rattle.past_file.specs.Imports.{DoesPast, LeavesPast, NeedsNone, IsUnread, IsPastUncompared, RefusesSoon};
 ghost use Rattle.past_file.specs.Imports.{PutsPast, KeepsAllPast, most_past, most_kept};
+ghost use Rattle.past_file.specs.Asked.{FailsFirst, AsksNewPast, AsksPast, IsOfKeptPast};
 ghost use Rattle.past_file.specs.declared.outcomes.PastOutcome.TheVariants.{ReadFault, KeeperFault};
 
 use crate::history::History;
@@ -29,6 +30,7 @@ fn same_or_not(kept: &PastRecord, found: Digest) -> PastOutcome
     ensures is { result ≡ past_compared kept.now found }
     ensures soon { (bytes : List ℕ) (left : Option (List ℕ)) → RefusesSoon result bytes left }
     ensures compared { IsPastUncompared result → ⊥ }
+    ensures own { IsOfKeptPast result }
 {
     if found.bytes == kept.digest.bytes {
         PastOutcome::Already(*kept)
@@ -52,6 +54,7 @@ fn compare<S: Source>(alloc: Global, kept: &PastRecord, base: u32, source: &mut 
     ensures uncompared { IsPastUncompared result → source.new ≡ source.old }
     ensures bounded { ReadsWithin (kept.now.bytes + 1) (S.left source.old) (S.left source.new) }
     ensures unasked { result ≢ KeeperFault }
+    ensures own { IsOfKeptPast result }
     ensures same { S.name source.new ≡ S.name source.old }
     ensures source { FaultsByPlan (S.faults source.old) (S.faults source.new) (S.plan source.old) (result ≡ ReadFault) }
 {
@@ -80,6 +83,7 @@ fn store<K: Keeper>(history: &History, keeper: &mut K) -> PastOutcome
     ensures unread { result ≢ ReadFault }
     ensures keeper { FaultsByPlan (K.faults keeper.old) (K.faults keeper.new) (K.plan keeper.old)
         (result ≡ KeeperFault) }
+    ensures asked { AsksNewPast 0 result (K.plan keeper.old) (K.plan keeper.new) }
 {
     match keeper.put_past(&history.past, history.rows.as_slice()) {
         Ok(()) => PastOutcome::Stored(history.past),
@@ -112,6 +116,7 @@ fn import_first<S: Source, K: Keeper, R: Threads>(
     ensures source { FaultsByPlan (S.faults source.old) (S.faults source.new) (S.plan source.old) (result ≡ ReadFault) }
     ensures keeper { FaultsByPlan (K.faults keeper.old) (K.faults keeper.new) (K.plan keeper.old)
         (result ≡ KeeperFault) }
+    ensures asked { AsksNewPast 0 result (K.plan keeper.old) (K.plan keeper.new) }
 {
     match read_past(rt, alloc, base, limits, source) {
         Ok(history) => store(&history, keeper),
@@ -146,6 +151,7 @@ fn import_new<S: Source, K: Keeper, R: Threads>(
     ensures source { FaultsByPlan (S.faults source.old) (S.faults source.new) (S.plan source.old) (result ≡ ReadFault) }
     ensures keeper { FaultsByPlan (K.faults keeper.old) (K.faults keeper.new) (K.plan keeper.old)
         (result ≡ KeeperFault) }
+    ensures asked { AsksNewPast 1 result (K.plan keeper.old) (K.plan keeper.new) }
 {
     match keeper.last_day() {
         Ok(last) => {
@@ -187,6 +193,8 @@ pub fn import_past<S: Source, K: Keeper, R: Threads>(
     ensures source { FaultsByPlan (S.faults source.old) (S.faults source.new) (S.plan source.old) (result ≡ ReadFault) }
     ensures keeper { FaultsByPlan (K.faults keeper.old) (K.faults keeper.new) (K.plan keeper.old)
         (result ≡ KeeperFault) }
+    ensures asked_first { FailsFirst (K.plan keeper.old) → result ≡ KeeperFault }
+    ensures asked { AsksPast result (K.plan keeper.old) (K.plan keeper.new) }
 {
     match keeper.past() {
         Ok(Some(kept)) => compare(alloc, &kept, base, source),

@@ -22,7 +22,8 @@ pub struct AnewKeeper {
 impl AnewKeeper {
     ghost use Rattle.renewal.specs.InMemory.{kept_anew};
 
-    /// Keeps nothing yet, and fails at the calls whose numbers from 0 stand in `fails`.
+    /// Keeps nothing yet, and fails at the calls whose numbers from 0 stand in `fails`. Those of tariffs are not numbered,
+    /// and do not fail.
     pub fn new(alloc: Global, fails: &[u32]) -> Result<AnewKeeper, NoMemory>
         ensures kept { IfOk result (λ k. kept_anew k ≡ nothing_kept) }
         ensures faultless { IfOk result (λ k. k.faults ≡ 0) }

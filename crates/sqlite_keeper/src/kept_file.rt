@@ -9,6 +9,8 @@ ghost use Rattle.keeper_at_path.specs.Asked.{AskedToRead, AskedToPut};
 ghost use Rattle.keeper_at_path.specs.Causes.{IsSaid};
 ghost use Rattle.keeper_at_path.specs.Looks.{AreFound, Looks};
 
+mod anew;
+
 use keeper::KeepFault;
 use keeper_at_path::{
     Cause, FileKeeper, Kept, KeptDisk, KeptPages, KeptStore, Putting, Reading, cause_of, fault_of,

@@ -1,18 +1,20 @@
 //! The tolling office of an expressway, over standard input and output and two files.
 //!
-//! `main` hands the words, standard input, the file `ASIDE_FILE`, standard output and what is kept in the file
-//! `KEPT_FILE` to `office`, beside helpers that take its jobs; then it closes the crew with its helpers and
-//! what is kept, and ends with the status. A helper whose thread cannot be had helps with nothing; with none
-//! of them the office's own thread runs all jobs.
+//! `main` hands the words, standard input, the file `ASIDE_FILE`, standard output, what is kept in the file `KEPT_FILE`
+//! and standard error to `explained`, or to `begin_anew` where the words ask for that, beside helpers that take its
+//! jobs; then it closes the crew with its helpers and what is kept, and ends with the status. A helper whose thread
+//! cannot be had helps with nothing; with none of them the office's own thread runs all jobs.
 #![tactic(auto)]
 
 ghost use Rattle.std.specs.Prelude.{◌≡◌, []};
 
-use office_commands::{ASIDE_FILE, Closing, office};
+use office_causes::{explained, say_why};
+use office_commands::{ASIDE_FILE, Closing};
+use office_renewal::{begin_anew, renewal_base};
 use partition_workers::{Crew, NoGate};
-use road_io::{FileSource, StdSink, StdSource};
+use road_io::{FileSource, StdSink, StdSource, Writing};
 use road_time::Limits;
-use sqlite_keeper::{KEPT_FILE, SqliteKeeper};
+use sqlite_keeper::{Cause, KEPT_FILE, SqliteKeeper};
 use standing_crew::{Crewed, StandingCrew, beside, standing};
 use std::alloc::Global;
 use std::env;
@@ -47,7 +49,64 @@ fn words_of(rt: &HostRuntime) -> Result<Vec<String>, Closing> {
     Ok(words)
 }
 
-/// The status of the office over standard input and output and its two files, by a crew.
+/// The line of why a call of what is kept failed, none where there is no memory for it.
+fn line_of(alloc: Global, cause: Option<Cause>) -> Option<String> {
+    match cause {
+        Some(cause) => format!(in alloc; "toll_office: {}: {}\n", KEPT_FILE, cause).ok(),
+        None => None,
+    }
+}
+
+/// Closes what is kept, and says on standard error where that failed. What was put stays either way: it lies in the log
+/// beside the file then.
+fn close(rt: &HostRuntime, keeper: SqliteKeeper) {
+    if let Err(cause) = keeper.end() {
+        let _ = eprintln!(rt;
+            "toll_office: {} is not closed, what was put lies in its log: {}",
+            KEPT_FILE, cause
+        );
+    }
+}
+
+/// The status of the office over standard input and output and the file beside it, by what it keeps and a crew. Where
+/// the words ask for it, it begins anew. Why it failed is said on standard error.
+fn run_words<R: Threads + Sync, C: Crew>(
+    rt: &HostRuntime,
+    threads: &R,
+    words: &[String],
+    aside: &mut FileSource,
+    keeper: &mut SqliteKeeper,
+    crew: &mut C,
+) -> u8
+    requires { C.out crew.old ≡ [] }
+    ensures idle { C.out crew.new ≡ [] }
+    ensures which { C.which crew.new ≡ C.which crew.old }
+{
+    let mut source = StdSource::new(rt.stdin());
+    let mut sink = StdSink::new(rt.stdout());
+    let mut err = Writing::new(rt.stderr());
+    let why = |keeper: &SqliteKeeper| line_of(rt.alloc(), keeper.cause());
+    let Some(base) = renewal_base(words) else {
+        return explained(
+            threads,
+            rt.alloc(),
+            words,
+            &Limits::DAY,
+            &mut source,
+            aside,
+            &mut sink,
+            keeper,
+            &why,
+            &mut err,
+            crew,
+        );
+    };
+    let status = begin_anew(rt.alloc(), base, &mut sink, keeper);
+    say_why(status, keeper, &why, &mut err);
+    status
+}
+
+/// The same over the words and the two files.
 fn run_office<R: Threads + Sync, C: Crew>(rt: &HostRuntime, threads: &R, crew: &mut C) -> u8
     requires { C.out crew.old ≡ [] }
     ensures idle { C.out crew.new ≡ [] }
@@ -57,27 +116,14 @@ fn run_office<R: Threads + Sync, C: Crew>(rt: &HostRuntime, threads: &R, crew: &
         Ok(words) => words,
         Err(closing) => return closing.status(),
     };
-    let mut source = StdSource::new(rt.stdin());
-    let mut sink = StdSink::new(rt.stdout());
     let Ok(mut aside) = FileSource::at(rt.alloc(), *rt, ASIDE_FILE) else {
         return Closing::NoMemory.status();
     };
     let Ok(mut keeper) = SqliteKeeper::at(rt.alloc(), *rt, KEPT_FILE) else {
         return Closing::NoMemory.status();
     };
-    let status = office(
-        threads,
-        rt.alloc(),
-        words.as_slice(),
-        &Limits::DAY,
-        &mut source,
-        &mut aside,
-        &mut sink,
-        &mut keeper,
-        crew,
-    );
-    // What was put stays either way: where the file cannot be closed, it lies in the log beside it.
-    let _ = keeper.close();
+    let status = run_words(rt, threads, words.as_slice(), &mut aside, &mut keeper, crew);
+    close(rt, keeper);
     status
 }
 

@@ -2,7 +2,7 @@
 //!
 //! `main` hands the words, a door on a port of 127.0.0.1 and what is kept in the file `KEPT_FILE` to
 //! `serve_in_threads`, whose jobs run in threads of their own, closes what is kept, and ends with its status. It
-//! prints nothing.
+//! prints nothing but where what is kept cannot be closed: that it says on standard error.
 #![tactic(auto)]
 
 use desk_server::{ServerEnd, serve_in_threads};
@@ -33,6 +33,17 @@ fn words_of(rt: &HostRuntime) -> Result<Vec<String>, ServerEnd> {
     Ok(words)
 }
 
+/// Closes what is kept, and says on standard error where that failed. What was put stays either way: it lies in the log
+/// beside the file then.
+fn close(rt: &HostRuntime, keeper: SqliteKeeper) {
+    if let Err(cause) = keeper.end() {
+        let _ = eprintln!(rt;
+            "toll_serve: {} is not closed, what was put lies in its log: {}",
+            KEPT_FILE, cause
+        );
+    }
+}
+
 fn main(rt: HostRuntime) -> ExitCode {
     let words = match words_of(&rt) {
         Ok(words) => words,
@@ -50,7 +61,6 @@ fn main(rt: HostRuntime) -> ExitCode {
         &mut door,
         keeper,
     );
-    // What was put stays either way: where the file cannot be closed, it lies in the log beside it.
-    let _ = keeper.close();
+    close(&rt, keeper);
     ExitCode::from(status)
 }

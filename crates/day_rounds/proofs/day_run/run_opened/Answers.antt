@@ -177,7 +177,8 @@ returns-in-Ok-close-clause-planned g c e late h gathers number history bytes =
     (g.P.Publisher.posted last.publisher) s) (sym v.limits) on in
     let same_gathers = subst (λ m. IsGatheringAhead c.args.ahead m late []) (sym v.limits) gathers in
     under (λ n m. IsPlanned c.args.plan.now.turns n m.backlog s → IsAhead c.args.ahead m late was bytes [] →
-    HasPlannedJobs c.args.plan.now.turns n m.backlog (reads bytes m late).tuples told (k.jobs last.crew))
+    HasPlannedJobs c.args.plan.now.turns n m.backlog (reads bytes m late).tuples told (k.jobs last.crew) answered
+    (k.answers last.crew))
     last.run.floor.inboxes.width f.inboxes.width last.run.floor.limits f.limits v.width v.limits
     (λ planned ahead. whole_planned k.out k.number k.holds k.gave k.exact k.jobs k.answers e told answered last.run
     last.crew s runs f.limits late c.args.ahead last.ahead _ _ _ _ _ _ same_on all v.ended same_gathers

@@ -208,8 +208,9 @@ returns-in-Ok-run_opened-clause-planned g c bytes told =
     c.in-Ok-open.ensures.gathering in
     let left = g.S.Source.left c.open.new.source in
     under (λ n m. HasPlannedJobs c.args.plan.now.turns n m.backlog (reads bytes m c.args.late).tuples
-    (k.jobs c.args.crew.now) (k.jobs c.run_opened.new.crew)) run.floor.inboxes.width c.args.plan.now.width
-    run.floor.limits limits c.in-Ok.ensures.width c.in-Ok.ensures.limits
+    (k.jobs c.args.crew.now) (k.jobs c.run_opened.new.crew) (k.answers c.args.crew.now)
+    (k.answers c.run_opened.new.crew)) run.floor.inboxes.width c.args.plan.now.width run.floor.limits limits
+    c.in-Ok.ensures.width c.in-Ok.ensures.limits
     (c.in-Ok-run_opened.ensures.planned e c.args.late h gathers refl refl bytes
     (subst (λ l. IsAhead ahead l c.args.late left bytes []) (sym c.in-Ok.ensures.limits)
     (c.in-Ok-open.ensures.ahead bytes told)))

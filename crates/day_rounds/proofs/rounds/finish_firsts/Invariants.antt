@@ -4,7 +4,7 @@ use Rattle.expressway.specs.declared.finding.Finding.{Finding}
 use Rattle.partition_workers.specs.Told.{CrewTold}
 use Rattle.watermark.specs.Shares.{State}
 use Rattle.watermark.specs.Floors.{Setting}
-use Rattle.day_rounds.specs.Runs.{Runs, OnlyTakesBack}
+use Rattle.day_rounds.specs.Runs.{Runs, OnlyTakesBack, HaveComeInOrder}
 use Rattle.day_rounds.proofs.rounds.finish_firsts.Given as goal
 
 abbrev pub invariant-loop-run : goal.invariant-loop-run
@@ -16,7 +16,7 @@ invariant-loop-run g l =
       which : k.which l.crew ≡ k.which l.fn.crew;
       came : (e : Setting) (told : Option CrewTold) (answered : Option (List Finding)) (s : State) →
           Runs k.out k.number k.holds k.gave k.exact k.jobs k.answers e told answered l.fn.run l.fn.crew s →
-          (now : State) × OnlyTakesBack s now
+          (now : State) × OnlyTakesBack s now × HaveComeInOrder s now
           × Runs k.out k.number k.holds k.gave k.exact k.jobs k.answers e told answered l.run l.crew now;
     }
 

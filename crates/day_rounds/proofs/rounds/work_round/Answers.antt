@@ -1,9 +1,9 @@
 use Rattle.std.proofs.Common.{◌<◌, ◌++◌, refl, sym, ◌∙◌, subst}
 use Rattle.expressway.proofs.RunSteps.{on_refusal}
 use Rattle.expressway.specs.Results.{AreFirst}
-use Rattle.day_rounds.specs.Runs.{Stopped, CanFeedAll, OnlyTakesBack, IsDone, after_feeds, given_all}
+use Rattle.day_rounds.specs.Runs.{Stopped, CanFeedAll, OnlyTakesBack, HaveComeInOrder, IsDone, after_feeds, given_all}
 use Rattle.day_rounds.proofs.FeedLaws.{fed_runs, fed_are, first_left}
-use Rattle.day_rounds.proofs.RoundLaws.{all_home, stopped_by, round_done, given_fed}
+use Rattle.day_rounds.proofs.RoundLaws.{all_home, none_outs, stopped_by, round_done, given_fed}
 use Rattle.day_rounds.proofs.rounds.work_round.Goals as goal
 
 pub returns-in_err-feed_these-clause-stopped : goal.returns-in_err-feed_these-clause-stopped
@@ -88,7 +88,7 @@ returns-clause-done g c e told answered s h can =
     let mid =
     fed_runs k.out k.number k.holds k.gave k.exact k.jobs k.answers e told answered c.args.run.now c.args.crew.now s
     h c.feed_these.new.run these v.tickets v.width v.limits (v.fed e s h.stands may) in
-    let (now, later, runs) = f.came e told answered (given_all fed c.args.width) (r.given e told answered fed mid) in
+    let (now, later, order, runs) = f.came e told answered (given_all fed c.args.width) (r.given e told answered fed mid) in
     let home =
     all_home k.out k.number k.holds k.gave k.exact k.jobs k.answers e told answered c.args.run.now c.args.crew.now s
     h c.requires.none in
@@ -98,8 +98,11 @@ returns-clause-done g c e told answered s h can =
           (round_done k.out k.number k.holds k.gave k.exact k.jobs k.answers e told answered c.args.run.now
           c.args.crew.now s h these home now
           (subst (λ n. OnlyTakesBack (given_all fed n) now) c.requires.width later)
+          (subst (λ n. HaveComeInOrder (given_all fed n) now) c.requires.width order)
           (λ u m. all_home k.out k.number k.holds k.gave k.exact k.jobs k.answers e told answered
-          c.finish_firsts.new.run c.finish_firsts.new.crew now runs f.none u (subst (λ n. u < n) (sym width) m))),
+          c.finish_firsts.new.run c.finish_firsts.new.crew now runs f.none u (subst (λ n. u < n) (sym width) m))
+          (none_outs k.out k.number k.holds k.gave k.exact k.jobs k.answers e told answered c.finish_firsts.new.run
+          c.finish_firsts.new.crew now runs f.none)),
       runs,
     )
 

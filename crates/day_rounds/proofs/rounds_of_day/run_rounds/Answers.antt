@@ -7,6 +7,7 @@ use Rattle.watermark.specs.Shares.{start}
 use Rattle.day_rounds.specs.Faults.{HasDayFront}
 use Rattle.day_rounds.specs.Readers.{HasGiven}
 use Rattle.day_rounds.specs.Planned.{AreRounds, after_round, are_left}
+use Rattle.day_rounds.specs.Runs.{AllComeInOrder, after_feeds, given_all}
 use Rattle.day_rounds.specs.Asked.{AsksUntil, is_keepers}
 use Rattle.day_rounds.proofs.AskedLaws.{none_asked, asked_on, none_reading}
 use Rattle.day_rounds.proofs.DayLaws.{on_start, cut_at, next_can, fewer_left}
@@ -156,6 +157,8 @@ day-preserved g c =
                 settled.fed,
                 subst (λ w. now ≡ after_round w
                     (record { before = s; xs = c.day.these.items; backs = settled.backs })) inv.width settled.is,
+                subst (λ w. AllComeInOrder (given_all (after_feeds w s c.day.these.items) w) settled.backs) inv.width
+                    settled.come,
                 subst (AreRounds f.inboxes.width f.limits.backlog made.0 s)
                     (some_left c.day.these.items (search rules)) made.1,
               ),

@@ -4,7 +4,7 @@ use Rattle.expressway.specs.Results.{AreFirst}
 use Rattle.draws.specs.Draws.{after_draws}
 use Rattle.day_reading.specs.Ahead.{has_more}
 use Rattle.day_rounds.specs.Runs.{after_feeds, after_backs, settled_all}
-use Rattle.day_rounds.specs.Drawn.{turn_size, after_size, after_finishing, after_giving}
+use Rattle.day_rounds.specs.Drawn.{turn_size, after_size, after_giving, AreFinished}
 use Rattle.day_rounds.specs.Asked.{AsksUntil, is_keepers}
 use Rattle.day_rounds.specs.Faults.{HasDayFront}
 use Rattle.day_rounds.specs.Readers.{HasGiven}
@@ -91,7 +91,8 @@ returns-in-Ok-turn-clause-done g c e told answered late s h gathers number histo
     × (c.some_of-count.new.rng ≡ after_size c.room-room.result b c.args.rng.now)) c.more.ensures.exact
     (size_drawn c.room-room.result c.more.result c.args.rng.now c.some_of-count.new.rng c.some_of-count.result
     some.drawn some.no_room some.none_left)) in
-    let work = c.in-Ok-turn.ensures.drawn in (
+    let left = c.turn.new.rng in
+    let w = c.args.width in (
       xs,
       now,
       j,
@@ -110,17 +111,18 @@ returns-in-Ok-turn-clause-done g c e told answered late s h gathers number histo
         full = λ less. c.in-Ok.ensures.full
             (subst (λ ys. length ys < c.some_of-count.result) c.as_slice.ensures.value
             (subst (λ n. length xs < n) (sym sized.0) less));
-        work = (
-          work.0,
-          work.1 ∙ ap (λ r. after_finishing work.0 (after_draws c.args.width r)) sized.1,
-        );
       },
       (
         backs.0,
-        subst (λ m. now ≡ settled_all m (after_backs (after_giving c.args.width c.some_of-count.new.rng
-            (after_feeds m s xs)) backs.0)) (sym c.requires.width) backs.1
-            ∙ ap (λ r. settled_all c.args.width (after_backs (after_giving c.args.width r
-            (after_feeds c.args.width s xs)) backs.0)) sized.1,
+        record {
+          is = subst (λ m. now ≡ settled_all m (after_backs (after_giving w c.some_of-count.new.rng
+              (after_feeds m s xs)) backs.0)) (sym c.requires.width) backs.1
+              ∙ ap (λ r. settled_all w (after_backs (after_giving w r (after_feeds w s xs)) backs.0)) sized.1;
+          finished = subst (λ r. AreFinished (after_giving w r (after_feeds w s xs)) (after_draws w r) left backs.0)
+              sized.1
+              (subst (λ m. AreFinished (after_giving w c.some_of-count.new.rng (after_feeds m s xs))
+              (after_draws w c.some_of-count.new.rng) left backs.0) (sym c.requires.width) backs.2);
+        },
       ),
     )
 

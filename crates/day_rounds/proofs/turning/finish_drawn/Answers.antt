@@ -1,11 +1,14 @@
+use Rattle.std.specs.Prelude.{Some, slice_get}
 use Rattle.std.proofs.Common.{ℕ, suc, [], ◌∷◌, ◌≡◌, ◌<◌, ◌≤◌, ◌+◌, ◌-◌, ◌∙◌, length, refl, sym, ap, arith, rules, subst}
 use Rattle.draws.specs.Draws.{drawn, after_draws}
 use Rattle.draws.proofs.DrawLaws.{none_drawn, one_drawn}
 use Rattle.expressway.proofs.RunSteps.{on_refusal}
 use Rattle.expressway.specs.Results.{AreFirst}
+use Rattle.watermark.specs.Shares.{State}
 use Rattle.watermark.specs.Steps.{after_back}
-use Rattle.day_rounds.specs.Runs.{Stopped}
+use Rattle.day_rounds.specs.Runs.{Stopped, ComesBack}
 use Rattle.day_rounds.specs.Turns.{IsMoved}
+use Rattle.day_rounds.proofs.FinishLaws.{outs_count}
 use Rattle.day_rounds.proofs.TurnLaws.{moved_same, moved_then, came_moved}
 use Rattle.day_rounds.proofs.turning.finish_drawn.Goals as goal
 
@@ -36,7 +39,7 @@ loop-rng-init g c =
         moved_same c.args.run.now.floor.inboxes.width s,
         none_more (length c.args.run.now.tickets.items),
         h,
-        ([], refl),
+        ([], refl, refl, tt),
       );
     }
 
@@ -54,6 +57,8 @@ loop-rng-preserved g c =
     let one = v.fewer in
     let few = inv.fewer in
     let all = inv.held in
+    let k = g.C.Crew in
+    let all_held = inv.held in
     let going : (c.len-held.result - 1 - c.draw_place-more.result) < length c.loop-rng.run.tickets.items =
     search rules in
     let further : suc (1 + (c.len-held.result - length c.loop-rng.run.tickets.items))
@@ -72,18 +77,40 @@ loop-rng-preserved g c =
       fewer = omega (arith, one, few);
       came = λ e told answered s h.
           let (mid, n, moved, count, runs, backs) = inv.came e told answered s h in
-          let (now, came, all) = v.came e told answered mid runs in (
+          let (now, came, all) = v.came e told answered mid runs in
+          let before = c.args.rng.now in
+          let first = backs.0 in
+          let long = backs.2 in
+          let outs : length mid.outs ≡ length c.loop-rng.run.tickets.items =
+          outs_count k.out k.number k.holds k.gave k.exact k.jobs k.answers e told answered c.loop-rng.run
+          c.loop-rng.crew mid runs in
+          let still : c.len-in-loop-rng.result ≡ length c.loop-rng.run.tickets.items = search rules in
+          let draws : 1 + (c.len-held.result - length c.loop-rng.run.tickets.items) ≡ 1 + length first =
+          omega (arith, all_held, count, long) in
+          let place : c.draw_place-place.result ≡ (drawn (length mid.outs) (after_draws (1 + length first) before)).0 =
+          c.draw_place-place.ensures.drawn.0
+          ∙ (ap (λ r. (drawn c.len-in-loop-rng.result r).0) (inv.drawn ∙ ap (λ m. after_draws m before) draws)
+          ∙ ap (λ m. (drawn m (after_draws (1 + length first) before)).0) (still ∙ sym outs)) in
+          let from : slice_get mid.outs (drawn (length mid.outs) (after_draws (1 + length first) before)).0
+          ≡ Some came.worker = subst (λ p. slice_get mid.outs p ≡ Some came.worker) place came.placed in
+          let b = (came.worker, came.found) in (
             now,
             n + 1,
             moved_then w n 1 s mid now moved
                 (subst (λ k. IsMoved k 1 mid now) inv.width
-                (came_moved c.loop-rng.run.floor.inboxes.width c.loop-rng.run.floor.limits mid now runs.stands.sound
-                came)),
+                (came_moved c.loop-rng.run.floor.inboxes.width c.draw_place-place.result c.loop-rng.run.floor.limits mid
+                now runs.stands.sound came)),
             omega (arith, one, count),
             all,
             (
-              (came.worker, came.found) ∷ backs.0,
+              b ∷ first,
               came.is ∙ ap (λ m. after_back m came.worker came.found) backs.1,
+              omega (arith, long),
+              (
+                subst (λ (m : State). ComesBack (drawn (length m.outs) (after_draws (1 + length first) before)).0 m b)
+                    backs.1 (record { placed = from; found = came.can.shape }),
+                backs.3,
+              ),
             ),
           );
     }
@@ -115,3 +142,16 @@ returns-clause-drawn g c some =
     let count : 1 + (c.len-held.result - length c.loop-rng.run.tickets.items) ≡ 2 + (drawn n c.args.rng.now).0 =
     (let h = inv.held in omega (arith, done, low, left, h)) in
     (omega (arith, done, low, left), inv.drawn ∙ ap (λ m. after_draws m c.args.rng.now) count)
+
+pub returns-then-held-eq0-clause-came : goal.returns-then-held-eq0-clause-came
+returns-then-held-eq0-clause-came g c e told answered s h = (
+  s,
+  0,
+  moved_same c.args.run.now.floor.inboxes.width s,
+  none_more (length c.args.run.now.tickets.items),
+  h,
+  ([], refl, refl, tt),
+)
+
+pub returns-clause-came : goal.returns-clause-came
+returns-clause-came g c = c.loop-rng.invariant.came

@@ -8,6 +8,7 @@ use Rattle.watermark.specs.Shares.{State}
 use Rattle.watermark.specs.Floors.{Setting}
 use Rattle.day_rounds.specs.Runs.{Runs, after_backs}
 use Rattle.day_rounds.specs.Turns.{IsMoved}
+use Rattle.day_rounds.specs.Drawn.{ComeAsDrawn}
 use Rattle.day_rounds.proofs.turning.finish_drawn.Given as goal
 
 abbrev pub invariant-loop-rng : goal.invariant-loop-rng
@@ -28,7 +29,8 @@ invariant-loop-rng g l =
           (now : State) × (n : ℕ) × IsMoved l.fn.run.floor.inboxes.width n s now
           × (length l.run.tickets.items + n ≡ length l.fn.run.tickets.items)
           × Runs k.out k.number k.holds k.gave k.exact k.jobs k.answers e told answered l.run l.crew now
-          × ((backs : List (ℕ × List (ℕ × RoadFinding))) × (now ≡ after_backs s backs));
+          × ((backs : List (ℕ × List (ℕ × RoadFinding))) × (now ≡ after_backs s backs) × (length backs ≡ n)
+          × ComeAsDrawn l.fn.rng s backs);
     }
 
 abbrev pub decreases-loop-rng : goal.decreases-loop-rng

@@ -1,11 +1,12 @@
 use Rattle.std.proofs.Common.{ℕ, zero, suc, ◌≡◌, ◌+◌, ◌≤◌, ◌<◌, ◌∙◌, length, refl, sym, ap, arith, subst}
+use Rattle.draws.specs.Draws.{after_draws}
 use Rattle.expressway.proofs.RunSteps.{on_refusal}
 use Rattle.expressway.specs.Results.{AreFirst}
 use Rattle.day_rounds.specs.Runs.{Stopped, after_backs}
 use Rattle.day_rounds.specs.Turns.{IsGiven, IsMoved}
-use Rattle.day_rounds.specs.Drawn.{after_finishing, given_least}
-use Rattle.day_rounds.proofs.DrawnLaws.{finishing_drawn}
-use Rattle.day_rounds.proofs.FinishLaws.{ok_both}
+use Rattle.day_rounds.specs.Drawn.{AreFinished, after_giving, given_least}
+use Rattle.day_rounds.proofs.DrawnLaws.{finished_drawn}
+use Rattle.day_rounds.proofs.FinishLaws.{ok_four, outs_count}
 use Rattle.expressway.proofs.ShapeLaws.{err_map}
 use Rattle.keeper.proofs.ListFacts.{no_length}
 use Rattle.day_rounds.proofs.RoundLaws.{all_home, stopped_by}
@@ -64,12 +65,21 @@ returns-clause-worked g c =
     let w = c.args.run.now.floor.inboxes.width in
     let one = c.give_drawn.ensures.width in
     let two = c.give_least.ensures.width ∙ one in
-    ok_both c.finish_drawn.result
-    (λ came some e told answered s h.
+    ok_four c.finish_drawn.result
+    (λ came some none_drawn some_drawn e told answered s h.
     let (first, a, given, runs, is) = c.in_ok-give_drawn.ensures.given e told answered s h in
     let (mid, b, more, all, waits, so) = c.in_ok-give_least.ensures.given e told answered first runs in
     let both = given_then w a b s first mid given (subst (λ n. IsGiven n b first mid) one more) in
-    let (now, d, moved, count, last, backs) = came e told answered mid all in (
+    let (now, d, moved, count, last, backs) = came e told answered mid all in
+    let left = c.finish_drawn.new.rng in
+    let gave : mid ≡ after_giving c.args.width c.args.rng.now s =
+    subst (λ n. mid ≡ given_least n c.args.width first) (one ∙ sym c.requires.width) so
+    ∙ ap (λ u. given_least c.args.width c.args.width u) is in
+    let finished =
+    finished_drawn mid c.give_drawn.new.rng left backs.0 (length c.give_least.new.run.tickets.items)
+    (length c.finish_drawn.new.run.tickets.items) d
+    (outs_count k.out k.number k.holds k.gave k.exact k.jobs k.answers e told answered c.give_least.new.run
+    c.give_least.new.crew mid all) count backs.2 backs.3 none_drawn some_drawn in (
       now,
       (a + b) + d,
       moved_then w (a + b) d s mid now (moved_given w (a + b) s mid both) (subst (λ n. IsMoved n d mid now) two moved),
@@ -85,12 +95,12 @@ returns-clause-worked g c =
           (λ v m. waits empty v (subst (λ n. v < n) (sym c.requires.width) m)),
       (
         backs.0,
-        backs.1 ∙ ap (λ u. after_backs u backs.0)
-            (subst (λ n. mid ≡ given_least n c.args.width first) (one ∙ sym c.requires.width) so
-            ∙ ap (λ u. given_least c.args.width c.args.width u) is),
+        backs.1 ∙ ap (λ u. after_backs u backs.0) gave,
+        subst (λ u. AreFinished u (after_draws c.args.width c.args.rng.now) left backs.0) gave
+            (subst (λ r. AreFinished mid r left backs.0) c.in_ok-give_drawn.ensures.drawn finished),
       ),
     ))
-    c.finish_drawn.ensures.came c.finish_drawn.ensures.some
+    c.finish_drawn.ensures.came c.finish_drawn.ensures.some c.finish_drawn.ensures.none c.finish_drawn.ensures.drawn
 
 pub returns-clause-stopped : goal.returns-clause-stopped
 returns-clause-stopped g c =
@@ -105,15 +115,3 @@ returns-clause-stopped g c =
     c.finish_drawn.new.run c.finish_drawn.new.crew) (c.give_least.ensures.limits ∙ c.give_drawn.ensures.limits)
     (stopped e told answered now all day (subst (λ ts. AreFirst ts day) (sym (more.fed ∙ given.fed)) first))))
     c.finish_drawn.ensures.stopped
-
-pub returns-clause-drawn : goal.returns-clause-drawn
-returns-clause-drawn g c =
-    let held = length c.give_least.new.run.tickets.items in
-    let left = length c.finish_drawn.new.run.tickets.items in
-    ok_both c.finish_drawn.result
-    (λ none some. (
-      held,
-      finishing_drawn held left c.give_drawn.new.rng c.finish_drawn.new.rng none some
-          ∙ ap (after_finishing held) c.in_ok-give_drawn.ensures.drawn,
-    ))
-    c.finish_drawn.ensures.none c.finish_drawn.ensures.drawn

@@ -74,6 +74,3 @@ returns-clause-stopped g c =
     (stopped e told answered (after_feeds w s these) mid day
     (subst (λ ts. AreFirst ts day) (sym (fed_are w s these)) first))))
     c.work_turn.ensures.stopped
-
-pub returns-clause-drawn : goal.returns-clause-drawn
-returns-clause-drawn g c = c.work_turn.ensures.drawn

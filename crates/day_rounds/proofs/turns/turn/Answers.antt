@@ -8,7 +8,6 @@ use Rattle.watermark.specs.Shares.{mark}
 use Rattle.watermark.specs.Steps.{after_settle}
 use Rattle.expressway.proofs.RunSteps.{on_refusal}
 use Rattle.day_rounds.specs.Runs.{Stopped, settled_all}
-use Rattle.day_rounds.proofs.DrawnLaws.{in_any}
 use Rattle.day_rounds.proofs.FeedLaws.{fed_are}
 use Rattle.day_rounds.proofs.AskedLaws.{none_asked}
 use Rattle.day_rounds.proofs.FrontLaws.{front_before}
@@ -66,6 +65,7 @@ returns-clause-done g c =
         backs.0,
         ap (λ m. after_settle mid m) (is ∙ ap (λ m. mark m mid) v.width)
             ∙ ap (λ u. settled_all f.inboxes.width u) backs.1,
+        backs.2,
       ),
     ))
     c.settle_done.ensures.settled
@@ -101,9 +101,6 @@ returns-clause-front g c =
     (subst (Fit (s.fed ++ these)) (sym v.limits) can.fit) first
     (text_kept e s mid (turn_text w j s mid these h.stands.sound.settled moved) first _ had))
     c.settle_done.ensures.stopped
-
-pub returns-clause-drawn : goal.returns-clause-drawn
-returns-clause-drawn g c = in_any c.settle_done.result c.in-Ok.ensures.drawn
 
 pub returns-in_default-clause-asked : goal.returns-in_default-clause-asked
 returns-in_default-clause-asked g c = none_asked (g.K.Keeper.plan c.args.keeper.now)

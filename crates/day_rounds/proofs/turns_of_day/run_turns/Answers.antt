@@ -4,7 +4,7 @@ use Rattle.day_reading.specs.Ahead.{has_more}
 use Rattle.settling.specs.Answers.{history_of}
 use Rattle.watermark.specs.Shares.{start, mark}
 use Rattle.day_rounds.specs.Tasks.{out_at}
-use Rattle.day_rounds.specs.Drawn.{DrawsTurn, TurnMade, AreTurns, after_turn}
+use Rattle.day_rounds.specs.Drawn.{DrawsTurn, TurnMade, AreTurns, HasMade}
 use Rattle.day_rounds.specs.Asked.{is_keepers}
 use Rattle.day_rounds.proofs.AskedLaws.{none_asked, asked_on}
 use Rattle.day_rounds.proofs.DayLaws.{on_start, on_next, on_gathers, cut_at}
@@ -130,10 +130,10 @@ day-preserved g c =
               t ∷ made.0,
               (
                 subst
-                    (λ l. DrawsTurn c.args.plan.now.width l.backlog s c.day.rng c.next_turn.new.rng xs
-                    (has_more c.day.ahead) (has_more c.next_turn.new.ahead)) inv.limits draws,
+                    (λ l. DrawsTurn l.backlog s c.day.rng xs (has_more c.day.ahead)
+                    (has_more c.next_turn.new.ahead)) inv.limits draws,
                 turned.fed,
-                subst (λ l. now ≡ after_turn c.args.plan.now.width l.backlog t) inv.limits backs.1,
+                subst (λ l. HasMade c.args.plan.now.width l.backlog t now c.next_turn.new.rng) inv.limits backs.1,
                 made.1,
               ),
             ),

@@ -16,7 +16,7 @@ use Rattle.import_once.proofs.FinishLaws.{tells_does, does_merges, stops_does, t
 use Rattle.import_once.proofs.FinishLaws.{tells_leaves, stops_leaves}
 use Rattle.import_once.specs.Runs.{HasStartedJobs}
 use Rattle.import_once.proofs.JobLaws.{started_all, started_first}
-use Rattle.import_once.specs.Planned.{StartsPlanned}
+use Rattle.import_once.specs.Planned.{WorksPlanned}
 use Rattle.import_once.proofs.JobLaws.{stops_unworked}
 use Rattle.import_once.specs.Asked.{AsksBy}
 use Rattle.import_once.proofs.AskedLaws.{told_asked, stopped_asked}
@@ -139,8 +139,9 @@ returns-in-Ok-clause-planned g c = λ bytes left.
 
 pub returns-in-Err-clause-planned : goal.returns-in-Err-clause-planned
 returns-in-Err-clause-planned g c = λ bytes left.
-    subst (StartsPlanned c.args.plan.now c.args.limits.now.backlog (reads bytes c.args.limits.now c.args.late).tuples
-    (g.C.Crew.jobs c.args.crew.now) (g.C.Crew.jobs c.run_day.new.crew)) (sym c.stopped.ensures.is)
+    subst (WorksPlanned c.args.plan.now c.args.limits.now.backlog (reads bytes c.args.limits.now c.args.late).tuples
+    (g.C.Crew.jobs c.args.crew.now) (g.C.Crew.jobs c.run_day.new.crew) (g.C.Crew.answers c.args.crew.now)
+    (g.C.Crew.answers c.run_day.new.crew)) (sym c.stopped.ensures.is)
     (stops_unworked c.in-Err.fault _)
 
 pub returns-in-Err-clause-source : goal.returns-in-Err-clause-source

@@ -45,7 +45,7 @@ returns-in-Err-clause-asked_first g c = λ fails.
 
 pub returns-in-Err-clause-planned : goal.returns-in-Err-clause-planned
 returns-in-Err-clause-planned g c = λ bytes left.
-    refused_planned _ _ _ _ _ c.in-Err.fault c.refused.result c.refused.ensures
+    refused_planned _ _ _ _ _ _ _ c.in-Err.fault c.refused.result c.refused.ensures
 
 pub returns-in-Ok-clause-asked : goal.returns-in-Ok-clause-asked
 returns-in-Ok-clause-asked g c =

@@ -16,7 +16,7 @@ use Rattle.import_once.proofs.FinishLaws.{finishes_does, does_merges, stops_does
 use Rattle.import_once.proofs.FinishLaws.{stops_keeps, whole_unrefused, ends_leaves, stops_leaves}
 use Rattle.import_once.specs.Runs.{HasStartedJobs, HasDaySteps}
 use Rattle.import_once.proofs.JobLaws.{started_all, started_first, stepped_all, stepped_some}
-use Rattle.import_once.specs.Planned.{StartsPlanned}
+use Rattle.import_once.specs.Planned.{WorksPlanned}
 use Rattle.import_once.proofs.JobLaws.{stops_unworked}
 use Rattle.import_once.specs.Asked.{AsksBy}
 use Rattle.import_once.proofs.AskedLaws.{worked_asked, stopped_asked}
@@ -175,8 +175,9 @@ returns-in-Ok-clause-planned g c = λ bytes left.
 
 pub returns-in-Err-clause-planned : goal.returns-in-Err-clause-planned
 returns-in-Err-clause-planned g c = λ bytes left.
-    subst (StartsPlanned c.args.plan.now c.args.limits.now.backlog (reads bytes c.args.limits.now c.args.late).tuples
-    (g.C.Crew.jobs c.args.crew.now) (g.C.Crew.jobs c.run_day.new.crew)) (sym c.stopped.ensures.is)
+    subst (WorksPlanned c.args.plan.now c.args.limits.now.backlog (reads bytes c.args.limits.now c.args.late).tuples
+    (g.C.Crew.jobs c.args.crew.now) (g.C.Crew.jobs c.run_day.new.crew) (g.C.Crew.answers c.args.crew.now)
+    (g.C.Crew.answers c.run_day.new.crew)) (sym c.stopped.ensures.is)
     (stops_unworked c.in-Err.fault _)
 
 pub returns-in-Err-clause-source : goal.returns-in-Err-clause-source

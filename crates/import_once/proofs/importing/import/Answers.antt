@@ -103,7 +103,7 @@ returns-in-Ok-Some-clause-planned g c = λ bytes left.
 
 pub returns-in-Err-clause-planned : goal.returns-in-Err-clause-planned
 returns-in-Err-clause-planned g c = λ bytes left.
-    refused_planned _ _ _ _ _ c.in-Err.fault c.refused.result c.refused.ensures
+    refused_planned _ _ _ _ _ _ _ c.in-Err.fault c.refused.result c.refused.ensures
 
 pub returns-in-Ok-Some-clause-asked : goal.returns-in-Ok-Some-clause-asked
 returns-in-Ok-Some-clause-asked g c =

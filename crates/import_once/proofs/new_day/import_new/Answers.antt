@@ -83,7 +83,7 @@ returns-then-last-number-clause-planned g c = λ bytes left. tt
 
 pub returns-in-Err-clause-planned : goal.returns-in-Err-clause-planned
 returns-in-Err-clause-planned g c = λ bytes left.
-    refused_planned _ _ _ _ _ c.in-Err.fault c.refused.result c.refused.ensures
+    refused_planned _ _ _ _ _ _ _ c.in-Err.fault c.refused.result c.refused.ensures
 
 pub returns-else-last-number-clause-asked : goal.returns-else-last-number-clause-asked
 returns-else-last-number-clause-asked g c =

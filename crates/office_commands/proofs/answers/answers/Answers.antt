@@ -54,7 +54,7 @@ pub returns-clause-jobs : goal.returns-clause-jobs
 returns-clause-jobs g c = λ bytes left. record {
   outcome = c.answers-done.result;
   jobs = c.answers-done.ensures.jobs bytes left;
-  planned = c.answers-done.ensures.planned bytes left;
+  planned = (_, _, c.answers-done.ensures.planned bytes left);
   whole = λ said. answered_worked c.args.run.day c.answers-done.result c.ended.result c.ended.ensures.ends
       c.answers-done.ensures.own said;
 }

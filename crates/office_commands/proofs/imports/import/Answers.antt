@@ -81,7 +81,7 @@ pub returns-clause-jobs : goal.returns-clause-jobs
 returns-clause-jobs g c = λ bytes left. record {
   outcome = c.import-done.result;
   jobs = c.import-done.ensures.jobs bytes left;
-  planned = c.import-done.ensures.planned bytes left;
+  planned = (_, _, c.import-done.ensures.planned bytes left);
   whole =
       let number = c.args.run.day in
       let read = reads bytes c.args.limits.now c.args.run.late in

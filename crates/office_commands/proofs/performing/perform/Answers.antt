@@ -4,7 +4,7 @@ use Rattle.road_io.proofs.SinkLaws.{appends_none}
 use Rattle.office_commands.specs.declared.closing.Closing.{Closing}
 use Rattle.office_commands.specs.declared.closing.Closing.TheVariants.{ReadFault}
 use Rattle.office_commands.specs.Commands.{accidents_command, history_command, tariff_command, generate_command}
-use Rattle.office_commands.specs.Commands.{rehearse_command, office_answer}
+use Rattle.office_commands.specs.Commands.{rehearse_command, check_command, office_answer}
 use Rattle.office_commands.proofs.ReportLaws.{report_office}
 use Rattle.office_commands.proofs.KeepingLaws.{kept_same, closing_same, kept_whole}
 use Rattle.office_commands.proofs.ComparingLaws.{same_log}
@@ -403,3 +403,29 @@ returns-in-Charges-clause-does g c = λ bytes lines o told kept.
     did_unchanged _ (office_answer c.args.limits.now bytes lines o (Some c.args.command)) o _ _ _ _
     (rw c.in-Charges.is refl) (returns-in-Charges-clause-wrote g c bytes lines o told)
     (returns-in-Charges-clause-keeps g c bytes lines o told.right told.source_is kept)
+
+-- `check DAY`
+pub returns-in-Check-clause-wrote : goal.returns-in-Check-clause-wrote
+returns-in-Check-clause-wrote g c = λ bytes lines o told.
+    rw c.in-Check.is (c.check.ensures.wrote bytes o (told.source_is (ap source_of c.in-Check.is)))
+
+pub returns-in-Check-clause-keeps : goal.returns-in-Check-clause-keeps
+returns-in-Check-clause-keeps g c = λ bytes lines o right told kept. rw c.in-Check.is
+    (kept_same _ (check_command c.args.limits.now c.in-Check.number c.in-Check.late bytes o) _ _ _ refl kept)
+
+pub returns-in-Check-clause-does : goal.returns-in-Check-clause-does
+returns-in-Check-clause-does g c = λ bytes lines o told kept.
+    did_unchanged _ (office_answer c.args.limits.now bytes lines o (Some c.args.command)) o _ _ _ _
+    (rw c.in-Check.is refl) (returns-in-Check-clause-wrote g c bytes lines o told)
+    (returns-in-Check-clause-keeps g c bytes lines o told.right told.source_is kept)
+
+pub returns-in-Check-clause-reads : goal.returns-in-Check-clause-reads
+returns-in-Check-clause-reads g c = λ used. rw c.in-Check.is c.check.ensures.reads
+
+pub returns-in-Check-clause-bounded : goal.returns-in-Check-clause-bounded
+returns-in-Check-clause-bounded g c = λ o kept. rw c.in-Check.is c.check.ensures.bounded
+
+pub returns-in-Check-clause-read : goal.returns-in-Check-clause-read
+returns-in-Check-clause-read g c =
+    by_source _ _ _ _ _ _ _ _ (Unit {0}) _ (ap source_of c.in-Check.is) (λ bad. bad) (λ bad. bad) (λ calm. tt)
+    (beside _ _ _ _ _ c.check.ensures.source)

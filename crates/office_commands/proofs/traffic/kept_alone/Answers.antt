@@ -53,7 +53,7 @@ returns-in-Stored-clause-jobs g c =
     jobs_same c.args.run own.result DAY own.ensures.same own.ensures.lines own.ensures.backlog file _ _ _ (record {
       outcome = c.import.result;
       jobs = c.import.ensures.jobs file (ap (λ x. Some x) c.in_ok-source.ensures.left);
-      planned = c.import.ensures.planned file (ap (λ x. Some x) c.in_ok-source.ensures.left);
+      planned = (_, _, c.import.ensures.planned file (ap (λ x. Some x) c.in_ok-source.ensures.left));
       whole = λ ok. subst WasWorked (sym c.in-Stored.is) tt;
     })
 
@@ -64,7 +64,7 @@ returns-in-NoMemory-clause-jobs g c =
     jobs_same c.args.run own.result DAY own.ensures.same own.ensures.lines own.ensures.backlog file _ _ _ (record {
       outcome = c.import.result;
       jobs = c.import.ensures.jobs file (ap (λ x. Some x) c.in_ok-source.ensures.left);
-      planned = c.import.ensures.planned file (ap (λ x. Some x) c.in_ok-source.ensures.left);
+      planned = (_, _, c.import.ensures.planned file (ap (λ x. Some x) c.in_ok-source.ensures.left));
       whole = λ ok. absurd (cc ok);
     })
 

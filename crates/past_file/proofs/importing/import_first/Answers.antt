@@ -5,6 +5,7 @@ use Rattle.past_file.specs.declared.judging.PastStop.TheVariants.{Row}
 use Rattle.past_file.specs.Imports.{past_read, DoesPast, LeavesPast}
 use Rattle.past_file.specs.Readings.{ReadsPast, StopsSoonAt}
 use Rattle.past_file.proofs.KeepLaws.{row_does}
+use Rattle.past_file.proofs.AskedLaws.{unasked}
 use Rattle.past_file.proofs.importing.import_first.Goals as goal
 
 pub returns-in-Ok-clause-does : goal.returns-in-Ok-clause-does
@@ -43,3 +44,9 @@ returns-in-Err-Row-clause-soon g c = λ bytes left.
     subst (λ r. IfErr r (λ stop. (bs : List ℕ) → g.S.Source.left c.args.source.now ≡ Some bs →
     StopsSoonAt stop bs (g.S.Source.left c.read_past.new.source))) stopped c.read_past.ensures.soon in
     soon bytes left
+
+pub returns-in-Err-Row-clause-asked : goal.returns-in-Err-Row-clause-asked
+returns-in-Err-Row-clause-asked g c = unasked (g.K.Keeper.plan c.args.keeper.now)
+
+pub returns-in-Err-ReadFault-clause-asked : goal.returns-in-Err-ReadFault-clause-asked
+returns-in-Err-ReadFault-clause-asked g c = unasked (g.K.Keeper.plan c.args.keeper.now)

@@ -1,9 +1,12 @@
-use Rattle.std.proofs.Common.{◌≡◌, ◌∙◌, Option, Some, None, Ok, sym, subst, arith}
+use Rattle.std.proofs.Common.{◌≡◌, ◌∙◌, Option, Some, None, Ok, Err, sym, subst, arith}
 use Rattle.keeper.specs.Office.{Office, last_day}
 use Rattle.keeper.specs.Kept.{HasNoDays}
 use Rattle.keeper.specs.Calls.{IfTold}
 use Rattle.past_file.specs.Imports.{PastAnswer, DoesPast}
 use Rattle.keeper.proofs.CallLaws.{reads_same}
+use Rattle.past_file.specs.Asked.{AsksNewPast}
+use Rattle.past_file.specs.declared.outcomes.PastOutcome.{PastOutcome}
+use Rattle.past_file.proofs.AskedLaws.{call_passed, call_refused, one_before}
 use Rattle.past_file.proofs.KeepLaws.{told_no_days, told_last, first_new}
 use Rattle.past_file.proofs.importing.import_new.Goals as goal
 
@@ -49,3 +52,20 @@ returns-else-last-gt0-clause-unread g c = λ o told some.
     (omega (arith, c.if-last-gt0.false))) in
     let no_days : HasNoDays o = subst (λ (t : Option Office). IfTold t HasNoDays) kept bare in
     absurd (some no_days.days)
+
+pub returns-then-last-gt0-clause-asked : goal.returns-then-last-gt0-clause-asked
+returns-then-last-gt0-clause-asked g c =
+    let ok : c.last_day.result ≡ Ok c.in-Ok.last = cc in
+    call_passed _ _ c.last_day.result c.in-Ok.last c.last_day.ensures.planned ok
+
+pub returns-else-last-gt0-clause-asked : goal.returns-else-last-gt0-clause-asked
+returns-else-last-gt0-clause-asked g c =
+    let ok : c.last_day.result ≡ Ok c.in-Ok.last = cc in
+    one_before 0 c.import_first.result _ _ _
+    (call_passed _ _ c.last_day.result c.in-Ok.last c.last_day.ensures.planned ok) c.import_first.ensures.asked
+
+pub returns-in-Err-clause-asked : goal.returns-in-Err-clause-asked
+returns-in-Err-clause-asked g c =
+    let here : c.last_day.result ≡ Err c.in-Err.fault = cc in
+    subst (λ (o : PastOutcome). AsksNewPast 1 o (g.K.Keeper.plan c.args.keeper.now) (g.K.Keeper.plan c.last_day.new.self))
+    (sym c.keeper_refused.ensures) (call_refused 1 _ _ c.last_day.result c.in-Err.fault c.last_day.ensures.planned here)

@@ -39,7 +39,7 @@ macro_rules! compared {
 pub type Row = (&'static [&'static str], Result<Command, WordFault>);
 
 /// Words of the commands on a day that is not kept.
-pub const COMMANDS: [Row; 9] = [
+pub const COMMANDS: [Row; 11] = [
     (
         &["answers", "100"],
         Ok(Command::Answers(run!(100, 0, 1, None))),
@@ -73,10 +73,26 @@ pub const COMMANDS: [Row; 9] = [
         &["accidents", "--late", "120"],
         Ok(Command::Accidents { late: 120 }),
     ),
+    (
+        &["check", "1000000"],
+        Ok(Command::Check {
+            day: 1_000_000,
+            late: 0,
+        }),
+    ),
+    (
+        &["check", "--late=120", "--", "70"],
+        Ok(Command::Check { day: 70, late: 120 }),
+    ),
 ];
 
 /// And such of no stated form.
-pub const NO_COMMANDS: [&[&str]; 15] = [
+pub const NO_COMMANDS: [&[&str]; 20] = [
+    &["check"],
+    &["check", "69"],
+    &["check", "100", "101"],
+    &["check", "100", "--late", "121"],
+    &["check", "100", "--workers", "2"],
     &["answers", "100", "--late", "121"],
     &["answers", "100", "--late="],
     &["answers", "100", "--late", "1", "--late", "1"],

@@ -1,0 +1,31 @@
+// A history that all begins anew with, by a keeper in a file.
+ghost use Rattle.keeper.specs.Kept.{IsPastPut};
+ghost use Rattle.keeper.specs.Calls.{CountsFaults};
+ghost use Rattle.renewal.specs.Renewed.{anew};
+ghost use Rattle.kept_tables.specs.Steps.{FitsAny};
+ghost use Rattle.tree_puts.specs.Stores.{Stores};
+ghost use Rattle.keeper_at_path.specs.Anew.{AskedAnew};
+ghost use Rattle.keeper_at_path.specs.Causes.{IsSaid};
+ghost use Rattle.keeper_at_path.specs.Looks.{AreFound};
+
+use super::FileKeeper;
+use crate::at_path::AtPath;
+use keeper::{KeepFault, PastRecord};
+use road_time::SpentRow;
+use sqlite::FileStore;
+use sqlite_pages::Pages;
+use sqlite_pool::Pool;
+use sqlite_trees::store::Store;
+
+impl<D: AtPath> FileKeeper<D> {
+    /// Begins anew with a history, and counts the call where it failed.
+    pub fn put_anew(&mut self, kept: &PastRecord, rows: &[SpentRow]) -> Result<(), KeepFault>
+        requires { IsPastPut kept.now rows.now }
+        ensures does { AskedAnew self.new.in_file.database.kept (AreFound ⟦<Pool<D> as Pages>⟧)
+            (Stores ⟦<FileStore<D> as Store>⟧ FitsAny (anew kept.now rows.now)) result }
+        ensures cause { CountsFaults self.old.in_file.faults self.new.in_file.faults result }
+        ensures said { IsSaid result self.old.in_file.database.cause self.new.in_file.database.cause }
+    {
+        self.in_file.put_anew(kept, rows)
+    }
+}
