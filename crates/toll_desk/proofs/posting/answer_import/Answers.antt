@@ -56,5 +56,6 @@ pub returns-clause-cause : goal.returns-clause-cause
 returns-clause-cause g c = λ is.
     let i = c.import_only-imported in
     rose_by (g.L.Link.plan c.args.link.now) (g.L.Link.faults c.args.link.now) (g.L.Link.faults i.new.link)
-    (g.L.Link.faults c.finish_import.new.link) i.result.read i.ensures.link_cause i.ensures.link_later c.finish_import.ensures.later
+    (g.L.Link.faults c.finish_import.new.link) i.result.read i.ensures.link_cause i.ensures.link_later
+    c.finish_import.ensures.later
     (λ unfailed. c.finish_import.ensures.cause unfailed is)

@@ -32,5 +32,6 @@ pub returns-clause-cause : goal.returns-clause-cause
 returns-clause-cause g c = λ is.
     let i = c.import-imported in
     rose_by (g.L.Link.plan c.args.link.now) (g.L.Link.faults c.args.link.now) (g.L.Link.faults i.new.link)
-    (g.L.Link.faults c.finish_after.new.link) i.result.read i.ensures.link_cause i.ensures.link_later c.finish_after.ensures.later
+    (g.L.Link.faults c.finish_after.new.link) i.result.read i.ensures.link_cause i.ensures.link_later
+    c.finish_after.ensures.later
     (λ unfailed. c.finish_after.ensures.cause unfailed is)
