@@ -1,4 +1,4 @@
-use Rattle.std.proofs.Common.{Some, refl, subst, ◌∙◌}
+use Rattle.std.proofs.Common.{refl, subst, ◌∙◌}
 use Rattle.std.specs.Io.KnownBytes.{prepend_known}
 use Rattle.toll_desk.specs.Answers.{wire_of}
 use Rattle.toll_desk.specs.Imports.{state_of}
