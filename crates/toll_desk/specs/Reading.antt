@@ -1,8 +1,7 @@
 -- How far the body of a request was read, and what is left to do of it.
-use Rattle.std.specs.Prelude.{◌≡◌, ◌≢◌, ◌⊎◌, ◌≤◌, ◌<◌, ◌-◌, ℕ, Bool, List, length, drop, Option, Some}
+use Rattle.std.specs.Prelude.{◌≡◌, ◌⊎◌, ◌≤◌, ◌<◌, ◌-◌, ℕ, Bool, List, length, drop, Option, Some}
 use Rattle.std.specs.Io.KnownBytes.{prepend_known}
 use Rattle.road_io.specs.Faults.{Rose}
-use Rattle.road_io.specs.Plans.{NeverFails}
 use Rattle.import_once.specs.declared.outcomes.Outcome.{Outcome}
 use Rattle.toll_requests.specs.Bodies.{IsBehind, IsSure}
 use Rattle.toll_requests.specs.declared.session_end.SessionEnd.{SessionEnd}

@@ -1,4 +1,5 @@
-use Rattle.std.proofs.Common.{Some, refl, subst, ◌∙◌}
+use Rattle.std.proofs.Common.{refl, subst, ◌∙◌}
+use Rattle.std.specs.Io.KnownBytes.{prepend_known}
 use Rattle.toll_desk.specs.Answers.{wire_of}
 use Rattle.toll_desk.specs.Imports.{state_of}
 use Rattle.toll_desk.specs.Reading.{IsReadTo}
@@ -10,7 +11,8 @@ use Rattle.toll_desk.proofs.posting.answer_import.Goals as goal
 pub finish_import-requires-clause-fits : goal.finish_import-requires-clause-fits
 finish_import-requires-clause-fits g c =
     let i = c.import_only-imported in
-    fits c.args.count _ i.result.early.now (g.L.Link.left i.new.link) i.result.read i.ensures.reads
+    fits c.args.count (prepend_known c.args.early.now (g.L.Link.left c.args.link.now)) i.result.early.now
+    (g.L.Link.left i.new.link) i.result.read i.ensures.reads
 
 pub returns-clause-imports : goal.returns-clause-imports
 returns-clause-imports g c = λ all o known told.
@@ -46,11 +48,14 @@ returns-clause-failed g c = λ rose.
 pub returns-clause-sure : goal.returns-clause-sure
 returns-clause-sure g c = λ never endless.
     let i = c.import_only-imported in
-    c.finish_import.ensures.sure (never_failed _ _ _ i.result.read i.ensures.link_cause never)
+    c.finish_import.ensures.sure (never_failed (g.L.Link.plan c.args.link.now) (g.L.Link.faults c.args.link.now)
+    (g.L.Link.faults i.new.link) i.result.read i.ensures.link_cause never)
     (i.ensures.link_sure never) (i.ensures.room_kept ∙ endless)
 
 pub returns-clause-cause : goal.returns-clause-cause
 returns-clause-cause g c = λ is.
     let i = c.import_only-imported in
-    rose_by _ _ _ _ i.result.read i.ensures.link_cause i.ensures.link_later c.finish_import.ensures.later
+    rose_by (g.L.Link.plan c.args.link.now) (g.L.Link.faults c.args.link.now) (g.L.Link.faults i.new.link)
+    (g.L.Link.faults c.finish_import.new.link) i.result.read i.ensures.link_cause i.ensures.link_later
+    c.finish_import.ensures.later
     (λ unfailed. c.finish_import.ensures.cause unfailed is)
