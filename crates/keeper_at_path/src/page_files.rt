@@ -251,7 +251,7 @@ fn found_in<D: Disk + Drop>(
     }
 }
 
-/// The same of the files that a connection gave back.
+/// The same of the files that a store gave back.
 pub fn found_again<D: Disk + Drop>(
     rt: &HostRuntime,
     files: Files<D>,
