@@ -20,7 +20,7 @@ pub trait Opens<P: Pages + Drop>: Shuts {
     fn to_read(rt: &HostRuntime, path: &str) -> Result<Kept<PageTrees<P>, Connection<Self>>, Cause>
         ensures { IfOk result (FindsTrees P.Pages) };
 
-    /// The same of the file of a store, with what it has committed.
+    /// The same of the file of the store of a connection, with what that has committed.
     fn to_read_made(
         rt: &HostRuntime,
         store: Self,
