@@ -235,7 +235,7 @@ fn found_made<S: Opens<P>, P: Pages + Drop>(
 ) -> Result<Kept<PageTrees<P>, ProvedKeeper<S>>, Cause>
     ensures { IfOk result (IsReadyToRead (AreFound P.Pages) (λ k. k.unmade ≢ Some NoMemory) None) }
 {
-    match S::to_read_made(rt, conn) {
+    match S::to_read_made(rt, conn.into_store()) {
         Ok(Kept::Trees(trees)) => Ok(Kept::Trees(trees)),
         Ok(Kept::Whole(conn)) => whole(rt, conn),
         Err(cause) => Err(cause),

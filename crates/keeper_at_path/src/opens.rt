@@ -20,10 +20,10 @@ pub trait Opens<P: Pages + Drop>: Shuts {
     fn to_read(rt: &HostRuntime, path: &str) -> Result<Kept<PageTrees<P>, Connection<Self>>, Cause>
         ensures { IfOk result (FindsTrees P.Pages) };
 
-    /// The same of the file of a connection, with what it has committed.
+    /// The same of the file of the store of a connection, with what that has committed.
     fn to_read_made(
         rt: &HostRuntime,
-        conn: Connection<Self>,
+        store: Self,
     ) -> Result<Kept<PageTrees<P>, Connection<Self>>, Cause>
         ensures { IfOk result (FindsTrees P.Pages) };
 
@@ -48,11 +48,9 @@ impl<D: AtPath> Opens<Pool<D>> for FileStore<D> {
 
     fn to_read_made(
         rt: &HostRuntime,
-        conn: Connection<FileStore<D>>,
-    ) -> Result<Kept<PageTrees<Pool<D>>, Connection<FileStore<D>>>, Cause>
-        ensures { IfOk result (FindsTrees ⟦<Pool<D> as Pages>⟧) }
-    {
-        found_again(rt, conn.into_store().close())
+        store: FileStore<D>,
+    ) -> Result<Kept<PageTrees<Pool<D>>, Connection<FileStore<D>>>, Cause> {
+        found_again(rt, store.close())
     }
 
     fn to_put(
