@@ -197,9 +197,45 @@ impl<S: Opens<P>, P: Pages + Drop> Database<S, P> {
             Err(cause) => return Err(cause),
         };
         if lists_nothing(&mut conn) {
-            return made(&self.rt, conn);
+            return self.made(conn);
         }
         whole(&self.rt, conn)
+    }
+
+    /// The trees of a new file, once a connection has made its tables; or a keeper on it, where they are not made.
+    fn made(&self, conn: Connection<S>) -> Result<Kept<PageTrees<P>, ProvedKeeper<S>>, Cause>
+        ensures { IfOk result (IsReadyToRead (AreFound P.Pages) (λ k. k.unmade ≢ Some NoMemory) None) }
+    {
+        let kept = match adopted(self.rt.alloc(), conn) {
+            Ok(kept) => kept,
+            Err(cause) => return Err(cause),
+        };
+        match kept.unmade() {
+            Some(_) => Ok(Kept::Whole(kept)),
+            None => self.taken_over(kept.give_up()),
+        }
+    }
+
+    /// The trees of the file of a connection that has made its tables. A file that is not ours even so, such as one with
+    /// pages of another size, is opened anew.
+    fn taken_over(&self, conn: Connection<S>) -> Result<Kept<PageTrees<P>, ProvedKeeper<S>>, Cause>
+        ensures { IfOk result (IsReadyToRead (AreFound P.Pages) (λ k. k.unmade ≢ Some NoMemory) None) }
+    {
+        match S::to_read_again(&self.rt, conn.into_store()) {
+            Some(trees) => Ok(Kept::Trees(trees)),
+            None => self.opened_anew(),
+        }
+    }
+
+    /// The trees of a file that is there, or a keeper on a new connection.
+    fn opened_anew(&self) -> Result<Kept<PageTrees<P>, ProvedKeeper<S>>, Cause>
+        ensures { IfOk result (IsReadyToRead (AreFound P.Pages) (λ k. k.unmade ≢ Some NoMemory) None) }
+    {
+        match S::to_read(&self.rt, self.path.as_str()) {
+            Ok(Kept::Trees(trees)) => Ok(Kept::Trees(trees)),
+            Ok(Kept::Whole(conn)) => whole(&self.rt, conn),
+            Err(cause) => Err(cause),
+        }
     }
 }
 
@@ -208,37 +244,6 @@ fn lists_nothing<S: Steady>(conn: &mut Connection<S>) -> bool {
     match conn.query_all("SELECT name FROM sqlite_schema", &[]) {
         Ok(listed) => listed.is_empty(),
         Err(_) => false,
-    }
-}
-
-/// The trees of a new file, once a connection has made its tables; or a keeper on it, where they are not made.
-fn made<S: Opens<P>, P: Pages + Drop>(
-    rt: &HostRuntime,
-    conn: Connection<S>,
-) -> Result<Kept<PageTrees<P>, ProvedKeeper<S>>, Cause>
-    ensures { IfOk result (IsReadyToRead (AreFound P.Pages) (λ k. k.unmade ≢ Some NoMemory) None) }
-{
-    let kept = match adopted(rt.alloc(), conn) {
-        Ok(kept) => kept,
-        Err(cause) => return Err(cause),
-    };
-    match kept.unmade() {
-        Some(_) => Ok(Kept::Whole(kept)),
-        None => found_made(rt, kept.give_up()),
-    }
-}
-
-/// The trees of the file of a connection that has made its tables, or a keeper on it.
-fn found_made<S: Opens<P>, P: Pages + Drop>(
-    rt: &HostRuntime,
-    conn: Connection<S>,
-) -> Result<Kept<PageTrees<P>, ProvedKeeper<S>>, Cause>
-    ensures { IfOk result (IsReadyToRead (AreFound P.Pages) (λ k. k.unmade ≢ Some NoMemory) None) }
-{
-    match S::to_read_made(rt, conn.into_store()) {
-        Ok(Kept::Trees(trees)) => Ok(Kept::Trees(trees)),
-        Ok(Kept::Whole(conn)) => whole(rt, conn),
-        Err(cause) => Err(cause),
     }
 }
 

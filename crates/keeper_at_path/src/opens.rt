@@ -5,7 +5,7 @@ ghost use Rattle.keeper_at_path.specs.Looks.{AreFound, FindsTrees};
 use crate::at_path::AtPath;
 use crate::cause::Cause;
 use crate::kept::Kept;
-use crate::page_files::{connected, found_again, listed_again, open_to_read, seeded, stored};
+use crate::page_files::{connected, listed_again, open_to_read, seeded, stored};
 use crate::shuts::Shuts;
 use sqlite::{Connection, FileStore};
 use sqlite_pages::Pages;
@@ -18,13 +18,6 @@ use tree_keeper::PageTrees;
 pub trait Opens<P: Pages + Drop>: Shuts {
     /// The trees of the file at a path where it is exactly ours, or else the file whole.
     fn to_read(rt: &HostRuntime, path: &str) -> Result<Kept<PageTrees<P>, Connection<Self>>, Cause>
-        ensures { IfOk result (FindsTrees P.Pages) };
-
-    /// The same of the file of the store of a connection, with what that has committed.
-    fn to_read_made(
-        rt: &HostRuntime,
-        store: Self,
-    ) -> Result<Kept<PageTrees<P>, Connection<Self>>, Cause>
         ensures { IfOk result (FindsTrees P.Pages) };
 
     /// The store of the file of some pages, which is checked page by page and tree by tree; or else the file whole.
@@ -44,13 +37,6 @@ impl<D: AtPath> Opens<Pool<D>> for FileStore<D> {
         path: &str,
     ) -> Result<Kept<PageTrees<Pool<D>>, Connection<FileStore<D>>>, Cause> {
         open_to_read::<D>(rt, path)
-    }
-
-    fn to_read_made(
-        rt: &HostRuntime,
-        store: FileStore<D>,
-    ) -> Result<Kept<PageTrees<Pool<D>>, Connection<FileStore<D>>>, Cause> {
-        found_again(rt, store.close())
     }
 
     fn to_put(

@@ -231,45 +231,6 @@ pub fn listed_again<D: Disk + Drop>(rt: &HostRuntime, files: Files<D>) -> Option
     }
 }
 
-/// The trees of files where they are exactly ours, or else the files whole.
-fn found_in<D: Disk + Drop>(
-    rt: &HostRuntime,
-    files: Files<D>,
-    seed: u64,
-) -> Result<Kept<PageTrees<Pool<D>>, Connection<FileStore<D>>>, Cause>
-    requires log { IsTrue (D.Disk.is_usable files.log) }
-    requires db { IsTrue (D.Disk.is_usable files.db) }
-    ensures { IfOk result (FindsTrees ⟦<Pool<D> as Pages>⟧) }
-{
-    let files = match trees_of(rt.alloc(), files, seed) {
-        Ok(trees) => return Ok(Kept::Trees(trees)),
-        Err(files) => files,
-    };
-    match connected(rt, files, seed) {
-        Ok(conn) => Ok(Kept::Whole(conn)),
-        Err(cause) => Err(cause),
-    }
-}
-
-/// The same of the files that a store gave back.
-pub fn found_again<D: Disk + Drop>(
-    rt: &HostRuntime,
-    files: Files<D>,
-) -> Result<Kept<PageTrees<Pool<D>>, Connection<FileStore<D>>>, Cause>
-    ensures { IfOk result (FindsTrees ⟦<Pool<D> as Pages>⟧) }
-{
-    if !files.may_be_used() {
-        return Err(Cause::DiskFailed);
-    }
-    let Ok(seed) = seeded(rt) else {
-        return Err(Cause::Unopened);
-    };
-    match found_in(rt, files, seed) {
-        Ok(found) => Ok(found),
-        Err(cause) => Err(cause),
-    }
-}
-
 /// The trees of the file at a path where it is exactly ours, or else the file whole.
 pub fn open_to_read<D: AtPath>(
     rt: &HostRuntime,
@@ -284,8 +245,12 @@ pub fn open_to_read<D: AtPath>(
         Ok(files) => files,
         Err(cause) => return Err(cause),
     };
-    match found_in(rt, files, seed) {
-        Ok(found) => Ok(found),
+    let files = match trees_of(rt.alloc(), files, seed) {
+        Ok(trees) => return Ok(Kept::Trees(trees)),
+        Err(files) => files,
+    };
+    match connected(rt, files, seed) {
+        Ok(conn) => Ok(Kept::Whole(conn)),
         Err(cause) => Err(cause),
     }
 }
