@@ -5,7 +5,9 @@ counts how long the pages for newcomers take to read.
     python3 bench/check_words.py
 
 A word of a page is what stands between blanks and has a letter or a digit, in sentences, tables and blocks alike; 200 of them
-are a minute. All pages that README sends a newcomer to may take 60 minutes. The grammar is the table in `crates/office_words/specs/Table.antt` and, of the server, `crates/server_words/specs/App.antt`.
+are a minute. All pages that README sends a newcomer to may take 60 minutes. The grammar is the table in
+`crates/office_words/specs/Table.antt`, beside it what `crates/office_renewal/specs/Words.antt` takes, and, of the server,
+`crates/server_words/specs/App.antt`.
 The script ends with status 1 and names each word that a page lacks or has too much. If groff is there, the manual pages must
 give it no warning.
 """
@@ -41,7 +43,9 @@ def office():
 
     body = re.search(r"^forms = (.*?)^    ∷ \[\]", table, re.S | re.M).group(1)
     rows = re.findall(r'stated_form \(codes "(\w+)"\) (\[\]|\(.*?\[\]\)) (.*?)$', body, re.M)
-    return {name: (names(places), names(options)) for name, places, options in rows}
+    forms = {name: (names(places), names(options)) for name, places, options in rows}
+    beside = re.search(r'bytes_eq name \(codes "(\w+)"\)', text("crates/office_renewal/specs/Words.antt"))
+    return {**forms, beside.group(1): (["base"], [])}
 
 
 def server():

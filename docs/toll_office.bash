@@ -4,12 +4,12 @@
 _toll_office() {
     local word=${COMP_WORDS[COMP_CWORD]} options=
     if [ "$COMP_CWORD" -eq 1 ]; then
-        COMPREPLY=($(compgen -W "answers import validate audit past day vehicle accidents export tariff tariffs generate rehearse days charges" -- "$word"))
+        COMPREPLY=($(compgen -W "answers import check validate audit past renew day vehicle accidents export tariff tariffs generate rehearse days charges" -- "$word"))
         return
     fi
     case ${COMP_WORDS[1]} in
     answers | import) options="--late --workers --turns --backlog" ;;
-    validate | accidents) options="--late" ;;
+    check | validate | accidents) options="--late" ;;
     audit) options="--late --shards --workers" ;;
     generate) options="--vehicles --minutes --xways --crashes" ;;
     rehearse) options="--vehicles --minutes --xways --crashes --late --workers --turns --backlog" ;;
