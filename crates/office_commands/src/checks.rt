@@ -1,6 +1,5 @@
 // The command `check DAY`: each refused line of a day.
-ghost use Rattle.std.specs.Prelude.{◌≡◌, ◌≢◌, ◌≤◌, ◌⊎◌, ℕ, List, [], Some, Ok, IsErr};
-ghost use Rattle.road_time.specs.Lines.{lines_of};
+ghost use Rattle.std.specs.Prelude.{◌≡◌, ◌≢◌, ◌≤◌, ℕ, List, Some, Ok, IsErr};
 ghost use Rattle.road_io.specs.Within.{ReadsWithin};
 ghost use Rattle.road_io.specs.Blame.{FaultsByPlan, FaultsByRoom};
 ghost use Rattle.keeper.specs.Office.{Office};
