@@ -241,8 +241,9 @@ def not_closed(program):
             os.remove(folder / "tolls.db-shm")
         fill(folder)
         status, out, err = run(program, folder, "day 100", "")
-        wanted = f"toll_office: tolls.db is not closed, what was put lies in its log: {NO_ROOM}\n"
-        if status != 0 or err != wanted:
+        # the kit's close tells that writing failed, and not always that there was no room
+        said = "toll_office: tolls.db is not closed, what was put lies in its log: "
+        if status != 0 or err not in (f"{said}{NO_ROOM}\n", f"{said}the disk failed\n"):
             fail(f"a close on a full disk: status {status}, {out!r}, {err!r}")
     print("said: a close that failed")
 

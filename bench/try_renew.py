@@ -9,6 +9,7 @@ days, a history of them whose digest is that of the file that `past` takes, the 
 third folder keeps the same. Days after the base are answered and kept as in the copy that did not begin anew. Each file is
 checked by SQLite. The script ends with status 1 at the first difference.
 """
+import contextlib
 import hashlib
 import os
 import pathlib
@@ -44,7 +45,7 @@ class Office:
         return Office(self.program, folder)
 
     def rows(self, query, *values):
-        with sqlite3.connect(self.folder / "tolls.db") as db:
+        with contextlib.closing(sqlite3.connect(self.folder / "tolls.db")) as db:
             return db.execute(query, values).fetchall()
 
     def size(self):
