@@ -17,7 +17,7 @@ from try_new_folder import tables
 from write_docs import PAGES, TOP
 
 OTHERS = [["write_docs.py", "--check"], ["pictures.py", "--check"], ["check_words.py"], ["check_rows.py"],
-          ["check_traffic.py"], ["check_clauses.py"]]
+          ["check_traffic.py"], ["check_clauses.py"], ["check_heads.py"]]
 
 
 def shown():

@@ -8,9 +8,9 @@ one shell, in a copy of the repository's example data, documents, scripts and pr
 them on the path. A block ```console has lines `$ command`, each with the lines that it must print; in a block without a name a
 command may be followed by two blanks, `# ` and the one line that it must print, or by a text that says what it does. `..`
 stands for anything. What is run for a command between backticks, behind the blocks of its page, is said by INLINE below, which
-must name each. With --kit the copy is a clone, and the commands of the kit (`rt`) are run too, but for the gate: README's first
-one proves and builds the office, which takes some 40 minutes. The script ends with status 1 if a command prints something else, if
-one whose text is not said ends with a status above 8, or if one is not named.
+must name each. With --kit the copy is a clone, and the commands of the kit are run too, but for the gate: `rt try`, and
+bench/build.py, which takes a minute if the kit has kept what it proves, and else up to an hour for each program. The script ends
+with status 1 if a command prints something else, if one whose text is not said ends with a status above 8, or if one is not named.
 """
 import argparse
 import os
@@ -33,8 +33,9 @@ DAY = "# stored day 100 tuples 1137 notices 341 total 16416"
 
 # what a command prints of which the page says only what it does
 PRINTS = {
-    "(cd crates/toll_office && rt run -- answers 100 < ../example_office/data/day.csv)":
+    "(cd crates/toll_office && rt try -- answers 100 < ../example_office/data/day.csv)":
         "..# answered day 100 tuples 1137 notices 341..",
+    "python3 bench/build.py": "..crates/toll_office/out/toll_office\nproved and built in .. minutes",
 }
 
 # what comes before a page's commands: README shows a run before it says how to build. $OLD is the top of the copy
@@ -50,9 +51,8 @@ BEGIN = {
 INLINE = {
     "rt ci": None, "rt try": None, "rt run": None, "rt check": None, "rt doc": None,
     "rt version": [("rt version | grep -c rattle-kit-", "1")],
-    "(cd crates/toll_serve && rt run)": [
-        ('(cd "$OLD/crates/toll_serve" && rt run > "$OLD/serve.out"); echo $?; grep -c "^#" "$OLD/serve.out"', "..1\n0"),
-        ('test -x "$OLD/crates/toll_serve/out/toll_serve" && echo built', "built")],
+    "python3 bench/build.py toll_serve": [
+        ('python3 "$OLD/bench/build.py" toll_serve | tail -n 2', "crates/toll_serve/out/toll_serve\nproved and built in .. minutes")],
     "toll_serve PORT": None, "toll_serve PORT [--sessions N] [--readers N]": None,
     "man -l docs/toll_office.1": [('man -l "$OLD/docs/toll_office.1" | grep -m 1 -c "toll_office import DAY"', "1")],
     "source docs/toll_office.bash": [
@@ -190,7 +190,7 @@ class Shell:
 
 
 def needs_kit(command):
-    return re.search(r"(^|[( ;&])rt ", command) is not None
+    return re.search(r"(^|[( ;&])rt |bench/build\.py", command) is not None
 
 
 def passed_over(command, given):
