@@ -5,8 +5,8 @@
 
 Looked at are README, CHANGELOG and docs. A link must lead to a file of the repository. A path in backticks that begins with
 `crates/`, `bench/` or `docs/` must be there. The code that PROOF shows must stand in the file that it names, and the tables of
-FORMATS in the definitions. No line but of a table, a picture or a block is longer than 128 characters. The script ends with
-status 1 if anything is wrong. It proves nothing and runs no program; bench/try_docs.py does.
+FORMATS in the definitions. No line but of a table, a picture or a block is longer than 128 characters, and README has 120 lines
+at most. The script ends with status 1 if anything is wrong. It proves nothing and runs no program; bench/try_docs.py does.
 """
 import pathlib
 import re
@@ -46,6 +46,9 @@ def tables_differ():
 
 def main():
     wrong = shown() + tables_differ()
+    lines = len((TOP / "README.md").read_text().splitlines())
+    if lines > 120:
+        wrong.append(f"README.md: {lines} lines")
     for name, *words in OTHERS:
         ran = subprocess.run([sys.executable, TOP / "bench" / name, *words], text=True, stdout=subprocess.PIPE,
                              stderr=subprocess.STDOUT)
