@@ -39,7 +39,7 @@ fn import_failing<R: Threads + Sync + Copy>(
         &mut sink,
         &mut keeper,
     )?;
-    let told = sink.bytes() == b"# read fault\n";
+    let told = sink.bytes() == b"# read fault\n".as_slice();
     Ok(Came { status, told })
 }
 
