@@ -232,9 +232,9 @@ returns-in-Ok-clause-by g c =
 pub returns-in-Err-Words-clause-by : goal.returns-in-Err-Words-clause-by
 returns-in-Err-Words-clause-by g c =
     sees_other 1 (λ s. omega (arith, s)) (λ s. omega (arith, s)) (λ s. omega (arith, s)) (asked c.args.words.now)
-    c.args.shards_seen
+    c.args.shards_seen.now
 
 pub returns-in-Err-NoMemory-clause-by : goal.returns-in-Err-NoMemory-clause-by
 returns-in-Err-NoMemory-clause-by g c =
     sees_other 8 (λ s. omega (arith, s)) (λ s. omega (arith, s)) (λ s. omega (arith, s)) (asked c.args.words.now)
-    c.args.shards_seen
+    c.args.shards_seen.now
