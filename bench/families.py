@@ -25,7 +25,6 @@ TABLE = """
 road_time
 usual_order         road_order                           > road_time      as usual_order
 road_io
-digest_beside       road_digest
 
 # Lines and tuples of a day
 tuple_format        /tuples_text
@@ -58,6 +57,7 @@ tree_puts           keep_puts
 keeper_at_path      keep_files
 sqlite_keeper       keep_sqlite
 shared_keeper       keep_shared
+digest_beside       keep_digest
 
 # A day: read, settled, worked in rounds, imported
 day_reading
@@ -438,6 +438,8 @@ def run(top, move):
         for module, body in moved.items():
             new[f"crates/{crate}/src/{module}.rt"] = ([body], [])
     new["crates.txt"] = ([crates_text(move)], ["crates.txt"])
+    said = subprocess.run(["git", "ls-files", "-s"], cwd=top, check=True, capture_output=True, text=True).stdout
+    runs = [line.split("\t")[1] for line in said.splitlines() if line.startswith("100755")]
     for path in old:
         (top / path).unlink()
     for target, (texts, sources) in new.items():
@@ -446,9 +448,8 @@ def run(top, move):
             subprocess.run(["git", "show", f"HEAD:{sources[0]}"], cwd=top, check=True, stdout=open(top / target, "wb"))
         else:
             (top / target).write_text(texts[0])
-    for path in old:
-        mode = subprocess.run(["git", "ls-files", "-s", path], cwd=top, capture_output=True, text=True).stdout.split(" ")[0]
-        if mode == "100755" and (top / place(move, path)).exists():
+    for path in runs:
+        if path in old and (top / place(move, path)).exists():
             os.chmod(top / place(move, path), 0o755)
     for folder in sorted({(top / path).parent for path in old}, key=lambda it: -len(it.parts)):
         while folder != top and folder.is_dir() and not any(folder.iterdir()):
@@ -594,9 +595,17 @@ def check_edits(top):
 
 def check_names(top, move):
     """New names that a module has."""
-    wrong, names = 0, set(move.new.values())
+    wrong, names, table = 0, set(move.new.values()), listed(top)[0]
+    reached = {}
+    for name, below in table.items():
+        reached[name] = set(below).union(*(reached.get(it, set()) for it in below))
+        for it in below:
+            if it in table and it not in reached:
+                print(f"{name} stands in crates.txt before {it}")
+                wrong += 1
     for path in top.glob("crates/*/src/**/*.rt"):
-        if path.stem in names:
+        crate = path.relative_to(top).parts[1]
+        if path.stem in reached[crate] | {crate}:
             print(f"a module named as a crate: {path.relative_to(top)}")
             wrong += 1
     kit = pathlib.Path("/opt/rattle/rlibs")
