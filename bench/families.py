@@ -18,13 +18,14 @@ import shlex
 import subprocess
 import sys
 
-# A line of the table: the crate's name now, its new name, after a slash that of --all, after > the crate that it is joined to,
+# Rows after + hold with --join alone, rows after - without it. A line of the table: the crate's name now, its new name, after a slash that of --all, after > the crate that it is joined to,
 # and after `as` the module that its own items of lib.rt stand in then. Crates in the order in which crates.txt is to have them.
 TABLE = """
 # The road: places, times, rules and what they mean; bytes in and out
 road_time
 usual_order         road_order                           > road_time      as usual_order
 road_io
++ digest_beside     road_digest
 
 # Lines and tuples of a day
 tuple_format        /tuples_text
@@ -57,7 +58,7 @@ tree_puts           keep_puts
 keeper_at_path      keep_files
 sqlite_keeper       keep_sqlite
 shared_keeper       keep_shared
-digest_beside       keep_digest
+- digest_beside     keep_digest
 
 # A day: read, settled, worked in rounds, imported
 day_reading
@@ -114,6 +115,11 @@ MODULES = {
     ("server_words", "src", "serving"): "served_words",
     ("toll_requests", "specs", "Requests"): "ReadRequests",
 }
+# Modules of a crate that move to another with --join: crate, place, module, the crate that they move to.
+MOVES = {
+    ("keeper", "src", "digest"): "digest_beside",
+    ("keeper", "specs", "Digests"): "digest_beside",
+}
 # Words that are crates and more: in documents and scripts they are turned only in a path or beside a word that says crate.
 PLAIN = {"accidents", "accounts", "crossings", "draws", "expressway", "keeper", "renewal", "reports", "settling", "validator", "watermark"}
 WORD = r"(?<![\w.:/-])"
@@ -133,8 +139,8 @@ class Move:
             if line.startswith("#"):
                 head = line[1:].strip()
                 self.heads.append(head)
-            elif line.strip():
-                self.row(line, head, everything)
+            elif line.strip() and not line.startswith("-" if join else "+"):
+                self.row(line.lstrip("+- "), head, everything)
         for name in self.listed:
             if name not in self.new:
                 print(f"no family: {name} keeps its name")
@@ -144,6 +150,8 @@ class Move:
         if join:
             for guest, host in self.host.items():
                 self.new[guest] = self.new[host]
+        self.moves = {it: to for it, to in MOVES.items() if join and it[0] in self.listed and to in self.listed}
+        self.joined = {self.new[it] for it in self.host.values()}
         self.modules = {}
         self.here = {name: found(top / "crates" / name) for name in self.listed}
         self.exports = {name: exports(top / "crates" / name / "src/lib.rt") for name in self.listed}
@@ -187,39 +195,44 @@ class Move:
     def module(self, crate, kind, name):
         return self.modules.get((crate, kind, name), name)
 
+    def goes(self, crate, kind, name):
+        """The crate that a module is in then."""
+        return self.new[self.moves.get((crate, kind, name), crate)]
+
     def dotted(self, match):
         """A path of a definition or a proof."""
         crate, kind, rest = match[1], match[2], match[3].split(".")[1:]
         if crate not in self.new:
             return match[0]
+        new = self.new[crate]
         if rest and kind == "specs" and rest[0] == "declared":
             if len(rest) > 1:
                 if rest[1] in self.here[crate]["src"]:
+                    new = self.goes(crate, "src", rest[1])
                     rest[1] = self.module(crate, "src", rest[1])
                 elif crate in self.root:
                     rest.insert(1, self.root[crate])
-        elif rest and kind == "specs":
-            rest[0] = self.module(crate, "specs", rest[0])
-        elif rest and rest[0] in self.here[crate]["proofs"]:
-            rest[0] = self.module(crate, "proofs", rest[0])
+        elif rest and (kind == "specs" or rest[0] in self.here[crate]["proofs"]):
+            new = self.goes(crate, kind, rest[0])
+            rest[0] = self.module(crate, kind, rest[0])
         elif rest and rest[0] in self.here[crate]["src"]:
+            new = self.goes(crate, "src", rest[0])
             rest[0] = self.module(crate, "src", rest[0])
         elif rest and crate in self.root:
             rest.insert(0, self.root[crate])
-        return ".".join(["Rattle", self.new[crate], kind, *rest])
+        return ".".join(["Rattle", new, kind, *rest])
 
-    def coded(self, text, owner):
-        """A source text: paths that begin with a crate, or with this crate."""
-        own = self.new.get(owner)
+    def coded(self, text, owner, home):
+        """A source text of a crate, which is in the crate `home` then: paths that begin with a crate, or with this crate."""
         names = "|".join(sorted(self.new, key=len, reverse=True))
+        moved = {crate for crate, _, _ in self.moves}
 
         def brought(match):
-            crate = match[2]
-            if own is None or self.new[crate] != own:
+            crate, lines = match[2], collections.OrderedDict()
+            if self.new[crate] != home and crate not in moved:
                 return match[0]
-            lines = collections.OrderedDict()
-            for item in re.split(r",\s*", match[3].strip().rstrip(",")):
-                path, name = self.item(crate, item)
+            for said in re.split(r",\s*", match[3].strip().rstrip(",")):
+                path, name = self.item(crate, said, home)
                 lines.setdefault(path, []).append(name)
             return "\n".join(f"{match[1]}{path}::{its[0] if len(its) == 1 else '{' + ', '.join(its) + '}'};" for path, its in lines.items())
 
@@ -227,37 +240,44 @@ class Move:
             crate, first, second = owner if match[1] == "crate" else match[1], match[2], match[3]
             if crate not in self.new:
                 return match[0]
+            more = [second] if second else []
             if first in ("specs", "proofs") and second:
-                second = self.module(crate, first, second)
+                new, words = self.goes(crate, first, second), [first, self.module(crate, first, second)]
             elif first in self.here[crate]["src"]:
-                first = self.module(crate, "src", first)
-            elif first and self.new[crate] == own and match[1] != "crate":
-                where, first = self.item(crate, first)
-                return "::".join([where, first, *([second] if second else [])])
-            return "::".join(["crate" if self.new[crate] == own else self.new[crate], first or "", *([second] if second else [])])
+                new, words = self.goes(crate, "src", first), [self.module(crate, "src", first), *more]
+                if new not in (home, self.new[crate]):
+                    words = more
+            elif first and match[1] != "crate":
+                where, first = self.item(crate, first, home)
+                return "::".join([where, first, *more])
+            else:
+                return "::".join(["crate" if match[1] == "crate" or self.new[crate] == home else self.new[crate], first or "", *more])
+            return "::".join(["crate" if new == home else new, *words]) + ("" if first else "::")
         text = re.sub(rf"^((?:pub )?use )({names})::\{{([^{{}}]*)\}};", brought, text, flags=re.M)
         return re.sub(rf"(?<![\w:.$])({names}|crate)::(\w+)?(?:::(\w+))?", path, text)
 
-    def item(self, crate, said):
-        """Where an item of a joined crate's root stands: a path, and the item."""
-        name = said.split(" as ")[0].split("::")[0]
+    def item(self, crate, said, home):
+        """Where an item of a crate's root stands, seen from the crate `home`: a path, and the item."""
+        inner = said.split("::")
+        name = inner[0].split(" as ")[0]
         if name in self.here[crate]["src"]:
-            inner = said.split("::")
-            return f"crate::{'::'.join([self.module(crate, 'src', inner[0]), *inner[1:-1]])}", inner[-1]
-        path = self.exports[crate].get(name)
-        if path is None:
-            if crate not in self.root:
-                sys.exit(f"where stands {crate}::{said}?")
-            return f"crate::{self.root[crate]}", said
-        first, *rest = path.split("::")
+            new = self.goes(crate, "src", name)
+            path = ["crate" if new == home else new, self.module(crate, "src", inner[0]), *inner[1:-1]]
+            return "::".join(path[:2] if len(inner) > 1 else path[:1]), inner[-1] if len(inner) > 1 else self.module(crate, "src", said)
+        first, *rest = self.exports[crate].get(name, self.root.get(crate, "")).split("::")
         if first in self.new:
-            return "::".join(["crate" if self.new[first] == self.new[crate] else self.new[first], *rest]), said
+            return "::".join(["crate" if self.new[first] == home else self.new[first], *rest]), said
+        new = self.goes(crate, "src", first)
+        if new != home:
+            return new, said
+        if not first:
+            sys.exit(f"where stands {crate}::{said}?")
         return "::".join(["crate", self.module(crate, "src", first), *rest]), said
 
-    def text(self, text, suffix, owner=None):
+    def text(self, text, suffix, owner=None, home=None):
         """The text of a file of code, definitions, proofs or edits."""
         text = DOTTED.sub(self.dotted, text)
-        return self.coded(text, owner) if suffix in (".rt", ".edit") else text
+        return self.coded(text, owner, home or self.new.get(owner)) if suffix in (".rt", ".edit") else text
 
     def words(self, text):
         """The text of a document or a script."""
@@ -281,6 +301,19 @@ class Move:
                 line = re.sub(rf"(?<=`)(?:{plain})(?=`)", turned, line)
             lines.append(line)
         return "".join(lines)
+
+    def titles(self, text):
+        """The titles of a document that name a crate twice once crates are joined; other such lines are told."""
+        lines = []
+        for line in text.split("\n"):
+            named = re.findall(r"`(\w+)`", line)
+            if line.startswith("## ") and ": `" in line:
+                head, _, rest = line.partition(": ")
+                line = f"{head}: {', '.join(dict.fromkeys(re.split(r', | and ', rest)))}"
+            elif not line.startswith("|") and any(named.count(it) > 1 for it in named if it in self.joined):
+                print(f"look at: {line}")
+            lines.append(line)
+        return "\n".join(lines)
 
 
 def listed(top):
@@ -316,32 +349,41 @@ def files(top):
     return [it for it in said.split("\0") if it and (top / it).is_file()]
 
 
-def place(move, path):
-    """Where a file goes."""
+def place(move, path, text=None):
+    """Where a file goes; an edit goes with the file that it names."""
     parts = path.split("/")
     if parts[0] == "bench" and len(parts) > 3 and parts[1] == "edits" and parts[2] in move.new:
-        return "/".join([*parts[:2], move.new[parts[2]], *parts[3:]])
+        return "/".join([*parts[:2], edited(move, parts[2], text), *parts[3:]])
     if parts[0] != "crates" or parts[1] not in move.new:
         return path
     crate, rest = parts[1], parts[2:]
+    new = move.new[crate]
     if rest[0] == "src" and len(rest) > 1:
         stem = rest[1].removesuffix(".rt")
         if rest == ["src", "lib.rt"] and crate in move.root:
             rest = ["src", f"{move.root[crate]}.rt"]
         elif stem in move.here[crate]["src"]:
+            new = move.goes(crate, "src", stem)
             rest[1] = move.module(crate, "src", stem) + (".rt" if rest[1].endswith(".rt") else "")
     elif rest[0] in ("specs", "proofs") and len(rest) > 1 and rest[1] != "Lib.antt":
         stem = rest[1].removesuffix(".antt")
         if rest[1].endswith(".antt"):
+            new = move.goes(crate, rest[0], stem)
             rest[1] = move.module(crate, rest[0], stem) + ".antt"
         elif stem in move.here[crate]["src"]:
+            new = move.goes(crate, "src", stem)
             rest[1] = move.module(crate, "src", stem)
         elif crate in move.root:
             rest.insert(1, move.root[crate])
-    return "/".join(["crates", move.new[crate], *rest])
+    elif rest[0] == "must-fail":
+        new = edited(move, crate, text)
+    return "/".join(["crates", new, *rest])
 
 
-ROOT_LINE = re.compile(r"^(?:pub )?(?:mod \w+;|use [^;]+;)$", re.M)
+def edited(move, crate, text):
+    """The crate of an edit."""
+    said = re.search(r"^file: src/(\w+)", text or "", re.M)
+    return move.goes(crate, "src", said[1]) if said else move.new[crate]
 
 
 def split_root(text):
@@ -390,7 +432,7 @@ def run(top, move):
             old[path] = None
     groups, new = collections.defaultdict(list), {}
     for path in old:
-        groups[place(move, path)].append(path)
+        groups[place(move, path, old[path])].append(path)
     roots = collections.defaultdict(list)
     for name, _ in move.order:
         path = f"crates/{name}/src/lib.rt"
@@ -402,15 +444,15 @@ def run(top, move):
             parts, text = path.split("/"), old[path]
             owner = parts[1] if parts[0] == "crates" else parts[2] if path.startswith("bench/edits/") else None
             suffix = pathlib.PurePath(path).suffix
-            if text is None or path.startswith("bench/families"):
+            if text is None or path in ("bench/families.py", "bench/count_house.py"):
                 texts.append(text)
             elif suffix in (".rt", ".antt", ".edit"):
-                text = move.text(text, suffix, owner)
+                text = move.text(text, suffix, owner, target.split("/")[2 if target.startswith("bench/") else 1])
                 if suffix == ".edit":
                     text = edit_file(move, owner, text)
                 texts.append(lib_modules(move, path, text))
             elif path.startswith(("docs/", "bench/", "README", "CHANGELOG")) and suffix in (".md", ".py", ".sh", ".svg", ".c", ""):
-                texts.append(move.words(text))
+                texts.append(move.titles(move.words(text)) if suffix == ".md" else move.words(text))
             else:
                 texts.append(text)
         new[target] = (texts, sources)
@@ -431,13 +473,13 @@ def run(top, move):
             continue
         parts = []
         for name, _ in members:
-            text = lib_modules(move, f"crates/{name}/src/lib.rt", move.text(old[f"crates/{name}/src/lib.rt"], ".rt", name))
+            text = lib_modules(move, f"crates/{name}/src/lib.rt", move.text(old[f"crates/{name}/src/lib.rt"], ".rt", name, crate))
             parts.append((text, move.root.get(name)))
         text, moved = join_root(parts)
         new[f"crates/{crate}/src/lib.rt"] = ([text], [f"crates/{name}/src/lib.rt" for name, _ in members])
         for module, body in moved.items():
             new[f"crates/{crate}/src/{module}.rt"] = ([body], [])
-    new["crates.txt"] = ([crates_text(move)], ["crates.txt"])
+    new["crates.txt"] = ([crates_text(move, new)], ["crates.txt"])
     said = subprocess.run(["git", "ls-files", "-s"], cwd=top, check=True, capture_output=True, text=True).stdout
     runs = [line.split("\t")[1] for line in said.splitlines() if line.startswith("100755")]
     for path in old:
@@ -449,8 +491,8 @@ def run(top, move):
         else:
             (top / target).write_text(texts[0])
     for path in runs:
-        if path in old and (top / place(move, path)).exists():
-            os.chmod(top / place(move, path), 0o755)
+        if path in old and (top / place(move, path, old[path])).exists():
+            os.chmod(top / place(move, path, old[path]), 0o755)
     for folder in sorted({(top / path).parent for path in old}, key=lambda it: -len(it.parts)):
         while folder != top and folder.is_dir() and not any(folder.iterdir()):
             folder.rmdir()
@@ -459,15 +501,26 @@ def run(top, move):
 
 
 def lib_modules(move, path, text):
-    """The lines of a root file or a Lib file that name modules."""
+    """The lines of a root file or a Lib file that name modules: as they are called then, without those that move away, and with
+    those that move here."""
     parts = path.split("/")
     if parts[0] != "crates":
         return text
-    crate = parts[1]
-    if parts[2:] in (["specs", "Lib.antt"], ["proofs", "Lib.antt"]):
-        kind = parts[2]
+    crate, kind = parts[1], parts[2]
+    gone = [(of, module) for of, place_, module in move.moves if of == crate and place_ == kind]
+    come = [(of, module) for (of, place_, module), to in move.moves.items() if to == crate and place_ == kind]
+    if parts[3:] == ["Lib.antt"]:
+        for _, module in gone:
+            text = re.sub(rf"^(?:pub )?mod {module}\n", "", text, flags=re.M)
+        text += "".join(f"pub mod {module}\n" for _, module in come)
         return re.sub(r"(?<=mod )(\w+)", lambda m: move.module(crate, kind, m[0]), text)
     if parts[2:] == ["src", "lib.rt"]:
+        for _, module in gone:
+            text = re.sub(rf"^(?:pub )?mod {module};\n|^pub use (?:{module}|{move.new[move.moves[crate, 'src', module]]})(?:::[^;]+)?;\n", "", text, flags=re.M)
+        for of, module in come:
+            names = sorted(item for item, where in move.exports[of].items() if where == module)
+            text = re.sub(r"^(?=mod )", f"mod {module};\n", text, count=1, flags=re.M)
+            text = re.sub(r"^(?=pub use )", f"pub use {module}::{{{', '.join(names)}}};\n", text, count=1, flags=re.M)
         text = re.sub(r"(?<=mod )(\w+)(?=;)", lambda m: move.module(crate, "src", m[0]), text)
         return re.sub(r"(?<=^pub use )(\w+)(?=::)", lambda m: move.module(crate, "src", m[0]), text, flags=re.M)
     return text
@@ -476,13 +529,17 @@ def lib_modules(move, path, text):
 def edit_file(move, owner, text):
     """The line of an edit that names its file."""
     def turned(match):
-        return "file: " + place(move, f"crates/{owner}/{match[1]}").split("/", 2)[2]
+        return "file: " + place(move, f"crates/{owner}/{match[1]}", text).split("/", 2)[2]
     return re.sub(r"^file: (\S+)", turned, text, flags=re.M)
 
 
-def crates_text(move):
+def crates_text(move, new):
     """crates.txt with the new names, in groups, each crate below those that use it."""
-    below, flags = collections.defaultdict(list), {}
+    below, flags, said = collections.defaultdict(list), {}, collections.defaultdict(set)
+    for target, (texts, _) in new.items():
+        if target.startswith("crates/") and target.endswith((".rt", ".antt")):
+            said[target.split("/")[1]] |= set(re.findall(r"\bRattle\.(\w+)\.|(?<![\w:])(\w+)(?=::)", texts[0]) and
+                                              [a or b for a, b in re.findall(r"\bRattle\.(\w+)\.|(?<![\w:])(\w+)(?=::)", texts[0])])
     for name, lower in move.listed.items():
         new = move.new[name]
         flags.setdefault(new, []).extend(it for it in move.flags[name] if it not in flags.get(new, []))
@@ -490,6 +547,17 @@ def crates_text(move):
             it = move.new.get(it, it)
             if it != new and it not in below[new]:
                 below[new].append(it)
+    touched = {move.new[of] for of, _, _ in move.moves} | {move.new[to] for to in move.moves.values()}
+    libraries = {it for lower in move.listed.values() for it in lower}
+    for it in touched:
+        for name in sorted(move.new.values()) if it in move.new.values() else []:
+            if it in said[name] and it != name and it not in below[name]:
+                below[name].append(it)
+        for name in [name for name in below if it in below[name] and it not in said[name]]:
+            below[name].remove(it)
+    for name in touched:
+        below[name] = [it for it in below[name] if it in said[name]]
+        below[name] += sorted(it for it in said[name] & libraries - set(move.listed) if it not in below[name])
     heads = collections.OrderedDict((head, []) for head in move.heads)
     for name, head in move.order:
         if name not in move.host and move.new[name] not in heads[head]:
@@ -561,7 +629,7 @@ def compare(top, move, old, sources):
         if suffix not in (".rt", ".antt") or len(came) != 1 or target.endswith(("src/lib.rt", "Lib.antt")):
             continue
         owner = came[0].split("/")[1]
-        want, have = move.text(old[came[0]], suffix, owner), (top / target).read_text()
+        want, have = move.text(old[came[0]], suffix, owner, target.split("/")[1]), (top / target).read_text()
         if sequence(want) != sequence(have) or names_of(imports(want)) != names_of(imports(have)):
             print(f"differs: {target}")
             wrong += 1
@@ -642,6 +710,9 @@ def main():
     if given.fmt:
         lay_out(top, move, given.wait)
         subprocess.run(["git", "add", "-A"], cwd=top, check=True)
+    for script in ("write_docs.py", "pictures.py"):
+        subprocess.run([sys.executable, f"bench/{script}"], cwd=top)
+    subprocess.run(["git", "add", "-A"], cwd=top, check=True)
     wrong = compare(top, move, old, sources) + check_edits(top) + check_names(top, move)
     print(f"{len(move.listed)} crates before, {len(set(move.new.values()))} after; {wrong} wrong")
     sys.exit(1 if wrong else 0)
