@@ -17,7 +17,7 @@ import sys
 
 # The calls that a byte goes through, in their order: TYPE::FUNCTION, or FUNCTION with a piece of the path that it stands in.
 WALK = """
-main@toll_office run_office@ office@entry read_words@words perform@performing import@importing import_new@ import_later@ import_begun@
+main@toll_office run_office@ office@entry read_words@words perform@performing import@importing import_new@new_day import_later@new_day import_begun@
 import_under@ run_day@ run_opened@ run_plan@ run_rounds@ next_round@ round@rounding work_round@ read_on@supply gather@supply
 next@day_ahead next@day_reader advance@cutter read@source next@day_reader add@consumed add@beside_digester
 add@beside_digester take@intake read_line@ admit@gatekeeper Sorter::put take@sorter take@intake next@day_reader next@day_ahead

@@ -1,10 +1,10 @@
 #!/usr/bin/env python3
 """Gives the crates the names of their families, joins small crates, and looks whether anything else changed.
 
-    python3 bench/families.py [--join] [--all] [--fmt] [--wait COMMAND] [TOP]
+    python3 bench/families.py [--join | --wide] [--all] [--fmt] [--wait COMMAND] [TOP]
 
 Works in place on the repository TOP, of which nothing may be uncommitted. Without --join each crate is renamed alone; with it the
-crates that the table joins become modules of the first. With --all the crates that the specification names get their family's
+crates that the table joins by > become modules of the first, with --wide those that it joins by >> too. With --all the crates that the specification names get their family's
 word too; without it they keep their names. With --fmt each crate whose files changed is laid out by `rt fmt`, behind COMMAND if one
 is given. Last, the files before and after are compared token by token, with the names turned. The script ends with status 1 where
 a token differs, an edit's old text no longer stands exactly once, or a name is taken. It proves nothing, and goes once it has run.
@@ -18,7 +18,7 @@ import shlex
 import subprocess
 import sys
 
-# Rows after + hold with --join alone, rows after - without it. A line of the table: the crate's name now, its new name, after a slash that of --all, after > the crate that it is joined to,
+# Rows after + hold with --join alone, rows after - without it. A line of the table: the crate's name now, its new name, after a slash that of --all, after > or >> the crate that it is joined to,
 # and after `as` the module that its own items of lib.rt stand in then. Crates in the order in which crates.txt is to have them.
 TABLE = """
 # The road: places, times, rules and what they mean; bytes in and out
@@ -57,15 +57,15 @@ keeper_proof        /keep_database
 tree_puts           keep_puts
 keeper_at_path      keep_files
 sqlite_keeper       keep_sqlite
-shared_keeper       keep_shared
+shared_keeper       keep_shared                          >> toll_desk
 - digest_beside     keep_digest
 
 # A day: read, settled, worked in rounds, imported
 day_reading
-day_check
-settling            day_settling
+day_check                                                >> day_reading
+settling            day_settling                         >> watermark
 watermark           /day_floor
-day_rounds
+day_rounds                                               >> import_once
 import_once         /day_import
 past_file           day_past
 asked_history       day_asked                            > past_file
@@ -96,7 +96,7 @@ toll_serve
 # Tests and examples: rows of the road, the engine, the office and the server
 road_rows           tests_road
 engine_rows         tests_engine
-record_rows         tests_records
+record_rows         tests_records                        >> engine_rows
 office_rows         tests_office
 import_rows         tests_import
 desk_rows           tests_desk
@@ -114,6 +114,19 @@ MODULES = {
     ("asked_history", "proofs", "AmountLaws"): "AskedAmountLaws",
     ("server_words", "src", "serving"): "served_words",
     ("toll_requests", "specs", "Requests"): "ReadRequests",
+    ("settling", "src", "slot"): "due_slot",
+    ("settling", "src", "laws"): "settling_laws",
+    ("settling", "specs", "Laws"): "SettlingLaws",
+    ("day_rounds", "src", "importing"): "begin_stop",
+    ("day_rounds", "specs", "Planned"): "PlannedRounds",
+    ("day_rounds", "specs", "Asked"): "AskedRounds",
+    ("day_rounds", "specs", "Faults"): "DayFaults",
+    ("day_rounds", "specs", "Imports"): "WorkedDays",
+    ("day_rounds", "specs", "Runs"): "RoundRuns",
+    ("day_rounds", "proofs", "AskedLaws"): "AskedRoundLaws",
+    ("day_rounds", "proofs", "FinishLaws"): "FinishRoundLaws",
+    ("day_rounds", "proofs", "JobLaws"): "RoundJobLaws",
+    ("record_rows", "src", "tests"): "record_tests",
 }
 # Modules of a crate that move to another with --join: crate, place, module, the crate that they move to.
 MOVES = {
@@ -130,8 +143,8 @@ TOKEN = re.compile(r"\s+|[A-Za-z_]\w*|\d\w*|\"(?:\\.|[^\"\\])*\"|.", re.S)
 class Move:
     """Where each crate and module goes."""
 
-    def __init__(self, top, join, everything):
-        self.top, self.join = top, join
+    def __init__(self, top, join, everything, wide):
+        self.top, self.join, self.wide = top, join, wide
         self.listed, self.flags = listed(top)
         self.heads, self.order, self.new, self.host, self.root = [], [], {}, {}, {}
         head = ""
@@ -158,16 +171,16 @@ class Move:
         self.taken()
 
     def row(self, line, head, everything):
-        said = re.match(r"(\w+)\s*(\w+)?(?:/(\w+))?\s*(?:> (\w+))?\s*(?:as (\w+))?\s*$", line)
+        said = re.match(r"(\w+)\s*(\w+)?(?:/(\w+))?\s*(?:(>>?) (\w+))?\s*(?:as (\w+))?\s*$", line)
         if not said:
             sys.exit(f"no row: {line}")
-        name, new, full, host, root = said.groups()
+        name, new, full, how, host, root = said.groups()
         if name not in self.listed:
             print(f"no such crate now: {name}")
             return
         self.new[name] = (full if everything else None) or new or name
         self.order.append((name, head))
-        if self.join and host:
+        if self.join and (how == ">" or how and self.wide):
             self.host[name] = host
         if self.join and root:
             self.root[name] = root
@@ -416,6 +429,10 @@ def join_root(parts):
             heads[-1] = head
         elif body:
             bodies.append(body)
+    brought = collections.Counter(it for line in uses for it in re.findall(r"\w+", line.rpartition("::")[2].replace("{", "").replace("}", "")))
+    twice = [it for it, count in brought.items() if count > 1 and it != "as"]
+    if twice:
+        print(f"brought out twice by a joined crate: {', '.join(twice)}")
     mods.sort(key=lambda it: it.removeprefix("pub ").removeprefix("mod "))
     uses.sort(key=lambda it: it.removeprefix("pub use "))
     text = "\n//!\n".join(heads) + "\n#![tactic(auto)]\n\n" + "\n".join(mods) + "\n\n" + "\n".join(uses) + "\n"
@@ -696,6 +713,7 @@ def lay_out(top, move, wait):
 def main():
     words = argparse.ArgumentParser()
     words.add_argument("--join", action="store_true")
+    words.add_argument("--wide", action="store_true")
     words.add_argument("--all", action="store_true")
     words.add_argument("--fmt", action="store_true")
     words.add_argument("--wait", default="")
@@ -704,7 +722,7 @@ def main():
     top = given.top.resolve()
     if subprocess.run(["git", "status", "--porcelain"], cwd=top, check=True, capture_output=True, text=True).stdout.strip():
         sys.exit("something is not committed")
-    move = Move(top, given.join, given.all)
+    move = Move(top, given.join or given.wide, given.all, given.wide)
     old, sources = run(top, move)
     subprocess.run(["git", "add", "-A"], cwd=top, check=True)
     if given.fmt:
