@@ -96,7 +96,7 @@ toll_serve
 # Tests and examples: rows of the road, the engine, the office and the server
 road_rows           tests_road
 engine_rows         tests_engine
-record_rows         tests_records                        >> engine_rows
+record_rows         tests_records
 office_rows         tests_office
 import_rows         tests_import
 desk_rows           tests_desk
@@ -126,7 +126,6 @@ MODULES = {
     ("day_rounds", "proofs", "AskedLaws"): "AskedRoundLaws",
     ("day_rounds", "proofs", "FinishLaws"): "FinishRoundLaws",
     ("day_rounds", "proofs", "JobLaws"): "RoundJobLaws",
-    ("record_rows", "src", "tests"): "record_tests",
 }
 # Modules of a crate that move to another with --join: crate, place, module, the crate that they move to.
 MOVES = {
@@ -403,9 +402,9 @@ def split_root(text):
     """The head, the `mod` lines, the `pub use` items and the rest of a root file."""
     head = re.match(r"(?:\s*//!?[^\n]*\n)*", text)[0]
     rest = text[len(head):].replace("#![tactic(auto)]\n", "", 1)
-    mods = re.findall(r"^(?:pub )?mod \w+;$", rest, re.M)
+    mods = re.findall(r"^(?:#\[[^\n]*\]\n)*(?:pub )?mod \w+;$", rest, re.M)
     uses = re.findall(r"^pub use [^;]+;$", rest, re.M)
-    body = re.sub(r"^(?:pub )?mod \w+;\n?|^pub use [^;]+;\n?", "", rest, flags=re.M).strip()
+    body = re.sub(r"^(?:#\[[^\n]*\]\n)*(?:pub )?mod \w+;\n?|^pub use [^;]+;\n?", "", rest, flags=re.M).strip()
     return head.strip(), mods, uses, body
 
 
@@ -433,7 +432,7 @@ def join_root(parts):
     twice = [it for it, count in brought.items() if count > 1 and it != "as"]
     if twice:
         print(f"brought out twice by a joined crate: {', '.join(twice)}")
-    mods.sort(key=lambda it: it.removeprefix("pub ").removeprefix("mod "))
+    mods.sort(key=lambda it: re.search(r"mod (\w+);", it)[1])
     uses.sort(key=lambda it: it.removeprefix("pub use "))
     text = "\n//!\n".join(heads) + "\n#![tactic(auto)]\n\n" + "\n".join(mods) + "\n\n" + "\n".join(uses) + "\n"
     return text + ("\n" + "\n\n".join(bodies) + "\n" if bodies else ""), moved
