@@ -164,7 +164,7 @@ class Move:
                 self.new[guest] = self.new[host]
         self.moves = {it: to for it, to in MOVES.items() if join and it[0] in self.listed and to in self.listed}
         self.joined = {self.new[it] for it in self.host.values()}
-        self.modules = {}
+        self.modules, self.own = {}, {}
         self.here = {name: found(top / "crates" / name) for name in self.listed}
         self.exports = {name: exports(top / "crates" / name / "src/lib.rt") for name in self.listed}
         self.taken()
@@ -202,6 +202,8 @@ class Move:
                             print(f"{guest}: {kind} {module} becomes {name}")
                         if name != module:
                             self.modules[guest, kind, module] = name
+                            file = self.top / "crates" / guest / kind / f"{module}.antt"
+                            self.own[guest, kind, module] = file.read_text() if file.exists() else ""
                         have[kind].add(name.lower())
 
     def module(self, crate, kind, name):
@@ -295,7 +297,8 @@ class Move:
         """The text of a document or a script."""
         def turned(match):
             return self.new.get(match[0], match[0])
-        text = DOTTED.sub(self.dotted, text)
+        text = self.defined(DOTTED.sub(self.dotted, text))
+        text = re.sub(r"\bcrates/\w+/(?:src|specs|proofs|must-fail)/[\w/.-]*\w", lambda m: place(self, m[0]), text)
         moved = {old: new for old, new in self.new.items() if old != new}
         if not moved:
             return text
@@ -313,6 +316,19 @@ class Move:
                 line = re.sub(rf"(?<=`)(?:{plain})(?=`)", turned, line)
             lines.append(line)
         return "".join(lines)
+
+    def defined(self, text):
+        """The words of definition files in the parts of a document that are about a joined crate whose file has a new name."""
+        lines, about = [], []
+        for line in text.split("\n"):
+            if line.startswith("## "):
+                about = re.findall(r"`(\w+)`", line)
+            for (crate, kind, module), name in self.modules.items():
+                if kind != "src" and crate in about:
+                    own = self.own[crate, kind, module]
+                    line = re.sub(rf"(?<![\w.]){module}\.(\w+)", lambda m: f"{name}.{m[1]}" if re.search(rf"\b{m[1]}\b\s*[:(\{{]", own) else m[0], line)
+            lines.append(line)
+        return "\n".join(lines)
 
     def titles(self, text):
         """The titles of a document that name a crate twice once crates are joined; other such lines are told."""
