@@ -25,6 +25,7 @@ TABLE = """
 road_time
 usual_order         road_order                           > road_time      as usual_order
 road_io
+two_way             road_two_way                         > road_io
 + digest_beside     road_digest
 
 # Lines and tuples of a day
@@ -153,11 +154,14 @@ class Move:
                 self.heads.append(head)
             elif line.strip() and not line.startswith("-" if join else "+"):
                 self.row(line.lstrip("+- "), head, everything)
+        before = None
         for name in self.listed:
             if name not in self.new:
                 print(f"no family: {name} keeps its name")
                 self.new[name] = name
-                self.order.append((name, self.heads[-1]))
+                at = next((at for at, it in enumerate(self.order) if it[0] == before), -1)
+                self.order.insert(at + 1, (name, self.order[at][1] if at >= 0 else self.heads[0]))
+            before = name
         self.order = [(name, head) for name, head in self.order if name in self.listed]
         if join:
             for guest, host in self.host.items():
