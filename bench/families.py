@@ -88,7 +88,7 @@ toll_requests       serve_requests                       > toll_heads
 lane_loops          serve_loops
 toll_desk           /serve_desk
 waiting_room        serve_room
-lane_doors          serve_doors                          > lane_loops
+lane_doors          serve_doors                          > desk_server
 desk_lanes          serve_shared                         > desk_server
 server_words        serve_words                          > desk_server
 desk_server         serve_top
