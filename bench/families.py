@@ -18,7 +18,8 @@ import shlex
 import subprocess
 import sys
 
-# Rows after + hold with --join alone, rows after - without it. A line of the table: the crate's name now, its new name, after a slash that of --all, after > or >> the crate that it is joined to,
+# Rows after + hold with --join alone, rows after - without it.
+# A line of the table: the crate's name now, its new name, after a slash that of --all, after > or >> the crate that it is joined to,
 # and after `as` the module that its own items of lib.rt stand in then. Crates in the order in which crates.txt is to have them.
 TABLE = """
 # The road: places, times, rules and what they mean; bytes in and out
@@ -134,9 +135,11 @@ MOVES = {
     ("keeper", "specs", "Digests"): "digest_beside",
 }
 # Words that are crates and more: in documents and scripts they are turned only in a path or beside a word that says crate.
-PLAIN = {"accidents", "accounts", "crossings", "draws", "expressway", "keeper", "renewal", "reports", "settling", "validator", "watermark"}
-WORD = r"(?<![\w.:/-])"
+PLAIN = {"accidents", "accounts", "crossings", "draws", "expressway", "keeper", "renewal", "reports", "settling", "validator",
+         "watermark"}
+PAGES = ("docs/", "bench/", "README", "CHANGELOG")
 DOTTED = re.compile(r"\bRattle\.(\w+)\.(specs|proofs)((?:\.(?:«[^»]+»|\w+))*)")
+IMPORT = r"^\s*(?:pub |ghost )*use [^;{]*(?:\{[^}]*\})?[^;\n]*;?$"
 TOKEN = re.compile(r"\s+|[A-Za-z_]\w*|\d\w*|\"(?:\\.|[^\"\\])*\"|.", re.S)
 
 
@@ -252,7 +255,7 @@ class Move:
             for said in re.split(r",\s*", match[3].strip().rstrip(",")):
                 path, name = self.item(crate, said, home)
                 lines.setdefault(path, []).append(name)
-            return "\n".join(f"{match[1]}{path}::{its[0] if len(its) == 1 else '{' + ', '.join(its) + '}'};" for path, its in lines.items())
+            return "\n".join(f"{match[1]}{path}::{grouped(its)};" for path, its in lines.items())
 
         def path(match):
             crate, first, second = owner if match[1] == "crate" else match[1], match[2], match[3]
@@ -269,7 +272,8 @@ class Move:
                 where, first = self.item(crate, first, home)
                 return "::".join([where, first, *more])
             else:
-                return "::".join(["crate" if match[1] == "crate" or self.new[crate] == home else self.new[crate], first or "", *more])
+                own = match[1] == "crate" or self.new[crate] == home
+                return "::".join(["crate" if own else self.new[crate], first or "", *more])
             return "::".join(["crate" if new == home else new, *words]) + ("" if first else "::")
         text = re.sub(rf"^((?:pub )?use )({names})::\{{([^{{}}]*)\}};", brought, text, flags=re.M)
         return re.sub(rf"(?<![\w:.$])({names}|crate)::(\w+)?(?:::(\w+))?", path, text)
@@ -281,7 +285,7 @@ class Move:
         if name in self.here[crate]["src"]:
             new = self.goes(crate, "src", name)
             path = ["crate" if new == home else new, self.module(crate, "src", inner[0]), *inner[1:-1]]
-            return "::".join(path[:2] if len(inner) > 1 else path[:1]), inner[-1] if len(inner) > 1 else self.module(crate, "src", said)
+            return ("::".join(path[:2]), inner[-1]) if len(inner) > 1 else (path[0], path[1])
         first, *rest = self.exports[crate].get(name, self.root.get(crate, "")).split("::")
         if first in self.new:
             return "::".join(["crate" if self.new[first] == home else self.new[first], *rest]), said
@@ -330,7 +334,7 @@ class Move:
             for (crate, kind, module), name in self.modules.items():
                 if kind != "src" and crate in about:
                     own = self.own[crate, kind, module]
-                    line = re.sub(rf"(?<![\w.]){module}\.(\w+)", lambda m: f"{name}.{m[1]}" if re.search(rf"\b{m[1]}\b\s*[:(\{{]", own) else m[0], line)
+                    line = re.sub(rf"(?<![\w.]){module}\.(\w+)", lambda m: renamed(m, name, own), line)
             lines.append(line)
         return "\n".join(lines)
 
@@ -367,10 +371,20 @@ def found(folder):
     return {"src": stems("src", ".rt"), "specs": stems("specs", ".antt"), "proofs": stems("proofs", ".antt")}
 
 
+def grouped(items):
+    """Items as an import has them."""
+    return items[0] if len(items) == 1 else f"{{{', '.join(items)}}}"
+
+
+def renamed(match, name, own):
+    """A word of a definition file under the file's new name, if the file has it."""
+    return f"{name}.{match[1]}" if re.search(rf"\b{match[1]}\b\s*[:(\{{]", own) else match[0]
+
+
 def exports(root):
     """Where each item that a root file brings out stands."""
-    out = {}
-    for path, inner, one in re.findall(r"^pub use ([\w:]+?)::(?:\{([^}]*)\}|(\w+(?: as \w+)?));", root.read_text() if root.exists() else "", re.M):
+    out, text = {}, root.read_text() if root.exists() else ""
+    for path, inner, one in re.findall(r"^pub use ([\w:]+?)::(?:\{([^}]*)\}|(\w+(?: as \w+)?));", text, re.M):
         for item in re.split(r",\s*", (one or inner).strip().rstrip(",")):
             out[item.split(" as ")[-1]] = path
     return out
@@ -448,7 +462,7 @@ def join_root(parts):
             heads[-1] = head
         elif body:
             bodies.append(body)
-    brought = collections.Counter(it for line in uses for it in re.findall(r"\w+", line.rpartition("::")[2].replace("{", "").replace("}", "")))
+    brought = collections.Counter(it for line in uses for it in re.findall(r"\w+", line.rpartition("::")[2]))
     twice = [it for it, count in brought.items() if count > 1 and it != "as"]
     if twice:
         print(f"brought out twice by a joined crate: {', '.join(twice)}")
@@ -487,7 +501,7 @@ def run(top, move):
                 if suffix == ".edit":
                     text = edit_file(move, owner, text)
                 texts.append(lib_modules(move, path, text))
-            elif path.startswith(("docs/", "bench/", "README", "CHANGELOG")) and suffix in (".md", ".py", ".sh", ".svg", ".c", ""):
+            elif path.startswith(PAGES) and suffix in (".md", ".py", ".sh", ".svg", ".c", ""):
                 texts.append(move.titles(move.words(text)) if suffix == ".md" else move.words(text))
             else:
                 texts.append(text)
@@ -496,7 +510,8 @@ def run(top, move):
         if len(sources) > 1 and not target.endswith("Lib.antt") and not target.endswith("src/lib.rt"):
             if target.endswith(".edit"):
                 for text, source in zip(texts[1:], sources[1:]):
-                    new[target.replace(".edit", f"_{source.split('/')[-3] if 'crates' in source else 'more'}.edit")] = ([text], [source])
+                    more = source.split("/")[-3] if "crates" in source else "more"
+                    new[target.replace(".edit", f"_{more}.edit")] = ([text], [source])
                 new[target] = (texts[:1], sources[:1])
             else:
                 sys.exit(f"two files come to {target}: {sources}")
@@ -509,8 +524,8 @@ def run(top, move):
             continue
         parts = []
         for name, _ in members:
-            text = lib_modules(move, f"crates/{name}/src/lib.rt", move.text(old[f"crates/{name}/src/lib.rt"], ".rt", name, crate))
-            parts.append((text, move.root.get(name)))
+            path = f"crates/{name}/src/lib.rt"
+            parts.append((lib_modules(move, path, move.text(old[path], ".rt", name, crate)), move.root.get(name)))
         text, moved = join_root(parts)
         new[f"crates/{crate}/src/lib.rt"] = ([text], [f"crates/{name}/src/lib.rt" for name, _ in members])
         for module, body in moved.items():
@@ -552,7 +567,8 @@ def lib_modules(move, path, text):
         return re.sub(r"(?<=mod )(\w+)", lambda m: move.module(crate, kind, m[0]), text)
     if parts[2:] == ["src", "lib.rt"]:
         for _, module in gone:
-            text = re.sub(rf"^(?:pub )?mod {module};\n|^pub use (?:{module}|{move.new[move.moves[crate, 'src', module]]})(?:::[^;]+)?;\n", "", text, flags=re.M)
+            there = move.new[move.moves[crate, "src", module]]
+            text = re.sub(rf"^(?:pub )?mod {module};\n|^pub use (?:{module}|{there})(?:::[^;]+)?;\n", "", text, flags=re.M)
         for of, module in come:
             names = sorted(item for item, where in move.exports[of].items() if where == module)
             text = re.sub(r"^(?=mod )", f"mod {module};\n", text, count=1, flags=re.M)
@@ -574,8 +590,8 @@ def crates_text(move, new):
     below, flags, said = collections.defaultdict(list), {}, collections.defaultdict(set)
     for target, (texts, _) in new.items():
         if target.startswith("crates/") and target.endswith((".rt", ".antt")):
-            said[target.split("/")[1]] |= set(re.findall(r"\bRattle\.(\w+)\.|(?<![\w:])(\w+)(?=::)", texts[0]) and
-                                              [a or b for a, b in re.findall(r"\bRattle\.(\w+)\.|(?<![\w:])(\w+)(?=::)", texts[0])])
+            found_ = re.findall(r"\bRattle\.(\w+)\.|(?<![\w:])(\w+)(?=::)", texts[0])
+            said[target.split("/")[1]].update(dotted or path for dotted, path in found_)
     for name, lower in move.listed.items():
         new = move.new[name]
         flags.setdefault(new, []).extend(it for it in move.flags[name] if it not in flags.get(new, []))
@@ -624,23 +640,15 @@ def crates_text(move, new):
     return text + "\n".join(lines) + "\n"
 
 
-def tokens(text):
-    """The tokens of a text as a bag: a layout may break lines and set imports in another order."""
-    found_ = collections.Counter(it for it in TOKEN.findall(text) if not it.isspace())
-    for it in (",", "{", "}", "use", "ghost", ";"):
-        found_.pop(it, None)
-    return found_
-
-
 def sequence(text):
     """The tokens in their order, without the imports, and without what a layout puts in or takes out before a bracket."""
-    text = re.sub(r"^\s*(?:pub |ghost )*use [^;{]*(?:\{[^}]*\})?[^;\n]*;?$", "", text, flags=re.M)
+    text = re.sub(IMPORT, "", text, flags=re.M)
     found_ = [it for it in TOKEN.findall(text) if not it.isspace()]
     return [it for at, it in enumerate(found_) if not (it == "," and at + 1 < len(found_) and found_[at + 1] in ")]}")]
 
 
 def imports(text):
-    return sorted(re.sub(r"\s+", " ", it) for it in re.findall(r"^\s*(?:pub |ghost )*use [^;{]*(?:\{[^}]*\})?[^;\n]*;?$", text, re.M))
+    return sorted(re.sub(r"\s+", " ", it) for it in re.findall(IMPORT, text, re.M))
 
 
 def names_of(lines):
