@@ -3,11 +3,12 @@
 
     python3 bench/families.py [--join | --wide] [--all] [--fmt] [--wait COMMAND] [TOP]
 
-Works in place on the repository TOP, of which nothing may be uncommitted. Without --join each crate is renamed alone; with it the
-crates that the table joins by > become modules of the first, with --wide those that it joins by >> too. With --all the crates that the specification names get their family's
-word too; without it they keep their names. With --fmt each crate whose files changed is laid out by `rt fmt`, behind COMMAND if one
-is given. Last, the files before and after are compared token by token, with the names turned. The script ends with status 1 where
-a token differs, an edit's old text no longer stands exactly once, or a name is taken. It proves nothing, and goes once it has run.
+Works in place on the repository TOP, of which nothing may be uncommitted. Without --join each crate is renamed alone; with it
+the crates that the table joins by > become modules of the first, with --wide those that it joins by >> too. With --all the
+crates that the specification names get their family's word too; without it they keep their names. With --fmt each crate is
+laid out by `rt fmt`, behind COMMAND if one is given. Last, the files before and after are compared token by token, with the
+names turned. Lines of documents that name a joined crate twice are printed, to be read. The script ends with status 1 where a
+token differs, an edit's old text no longer stands exactly once, or a name is taken. It proves nothing, and goes once it ran.
 """
 import argparse
 import collections
@@ -19,8 +20,8 @@ import subprocess
 import sys
 
 # Rows after + hold with --join alone, rows after - without it.
-# A line of the table: the crate's name now, its new name, after a slash that of --all, after > or >> the crate that it is joined to,
-# and after `as` the module that its own items of lib.rt stand in then. Crates in the order in which crates.txt is to have them.
+# A line of the table: the crate's name now, its new name, after a slash that of --all, after > or >> the crate that it is
+# joined to, and after `as` the module that its own items of lib.rt stand in then. Crates in the order in which crates.txt is to have them.
 TABLE = """
 # The road: places, times, rules and what they mean; bytes in and out
 road_time
