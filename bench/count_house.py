@@ -15,7 +15,8 @@ import pathlib
 import re
 import sys
 
-# The calls that a byte goes through, in their order: TYPE::FUNCTION, or FUNCTION with a piece of the path that it stands in.
+# The calls that a byte goes through, in their order: TYPE::FUNCTION, or FUNCTION with a piece of the path that it stands in; of
+# several with a bar between them the first that is there.
 WALK = """
 main@toll_office run_office@ office@entry read_words@words perform@performing import@importing import_new@new_day
 import_later@new_day import_begun@ import_under@ run_day@ run_opened@ run_plan@ run_rounds@ next_round@ round@rounding
@@ -29,7 +30,7 @@ run@job start@inline_crew start_beside@ give_one@ finish_firsts@ finish_one@ fin
 finish_one@ back@floor back@inboxes fill@slots said@slot fill@slots fill@slot back@floor round@rounding settle_done@
 settle@floor settle@publishing write_run@ settle_run@ settle_next@ settle_slot@ settle_report@ charge@booking
 Book::charge settle_report@ notify@booking Book::notify settle_report@ put_told@printer put_notice@ flush@printer
-hand_on@handing write@sink
+hand_on@handing|put_all@sink write@sink
 """
 CLAUSE = re.compile(r"^\s*(?:requires|ensures|ghost (?!use\b))\b")
 
@@ -108,7 +109,7 @@ def main():
     cache = [(path, path.read_text()) for path in sources(top, ".rt", "src")]
     gone, walk = [], []
     for said in WALK.split():
-        crate = station(top, said, cache)
+        crate = next((it for it in (station(top, one, cache) for one in said.split("|")) if it), None)
         if crate is None:
             gone.append(said)
         elif not walk or walk[-1] != crate:

@@ -21,7 +21,7 @@ import sys
 
 # Rows after + hold with --join alone, rows after - without it.
 # A line of the table: the crate's name now, its new name, after a slash that of --all, after > or >> the crate that it is
-# joined to, and after `as` the module that its own items of lib.rt stand in then. Crates in the order in which crates.txt is to have them.
+# joined to, and after `as` the module that its own items of lib.rt stand in then. Crates stand in the order of crates.txt.
 TABLE = """
 # The road: places, times, rules and what they mean; bytes in and out
 road_time
