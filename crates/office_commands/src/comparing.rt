@@ -10,11 +10,11 @@ ghost use Rattle.road_time.specs.History.{paid, KeysDiffer};
 ghost use Rattle.day_reading.specs.Days.{most_of_day};
 ghost use Rattle.road_io.specs.Within.{ReadsWithin};
 ghost use Rattle.office_words.specs.Meaning.{IsComparing};
-ghost use Rattle.office_commands.specs.Asides.{compared};
-ghost use Rattle.office_commands.specs.Commands.{compare_command, comparison_of, compared_tuples, notices_of_day};
-ghost use Rattle.office_commands.specs.Commands.{unless_refused, closed};
+ghost use Rattle.office_commands.specs.Commands.{compare_command, comparison_by, comparison_of, compared_tuples};
+ghost use Rattle.office_commands.specs.Commands.{notices_of_day, unless_refused};
+ghost use Rattle.office_commands.specs.Differences.{differences_text};
 ghost use Rattle.office_commands.specs.Days.{recomputed, in_bulk, IsRightFor};
-ghost use Rattle.office_commands.specs.Entries.{most_compared};
+ghost use Rattle.office_commands.specs.Listings.{most_listed};
 ghost use Rattle.office_commands.specs.Closings.{status_of};
 ghost use Rattle.office_commands.specs.Endings.{StandsBefore};
 ghost use Rattle.office_commands.specs.Rests.{HasReadDay, SaysBy};
@@ -24,9 +24,10 @@ ghost use Rattle.office_commands.specs.Starts.{shards_of, StartsBulk, SaysCompar
 ghost use Rattle.office_commands.specs.Faults.{ReadFaults};
 ghost use Rattle.road_io.specs.Blame.{FaultsByPlan};
 
-use crate::aside::compare;
 use crate::closing::Closing;
 use crate::day::{ReadDay, read_day, stopped};
+use crate::difference::Difference;
+use crate::listed::compare_and_list;
 use crate::refusal::refused;
 use asked_history::history_for;
 use keeper::{KeepFault, Keeper};
@@ -103,22 +104,31 @@ fn wanted_notices<K: Keeper, C: Crew, R: Threads + Sync>(
     }
 }
 
-/// Compares notices with the lines of an aside.
-fn compare_notices<A: Source>(alloc: Global, wanted: &[Notice], aside: &mut A) -> Closing
+/// Compares notices with the lines of an aside, and gives the first differences, where more than one is asked for.
+fn compare_notices<A: Source>(
+    alloc: Global,
+    show: u32,
+    wanted: &[Notice],
+    aside: &mut A,
+    shown: &mut Vec<Difference>,
+) -> Closing
+    requires few { show ≤ 1000 }
+    requires empty { shown.old.items ≡ [] }
     ensures exact { (lines : List ℕ) (o : Office) → A.left aside.old ≡ Some lines
-        → StandsBefore (closed (compared wanted.now (lines_of lines)) o) result [] }
+        → StandsBefore (comparison_by show wanted.now (lines_of lines) o) result (differences_text shown.new.items) }
     ensures own { (result ≢ KeeperFault) × (result ≢ Words) }
     ensures unnamed { status_of result ≢ 2 }
-    ensures bounded { ReadsWithin (most_compared (length wanted.now)) (A.left aside.old) (A.left aside.new) }
+    ensures none { status_of result ≢ 7 → shown.new.items ≡ [] }
+    ensures bounded { ReadsWithin (most_listed show (length wanted.now)) (A.left aside.old) (A.left aside.new) }
     ensures aside { FaultsByPlan (A.faults aside.old) (A.faults aside.new) (A.plan aside.old) (result ≡ ReadFault) }
 {
-    match compare(alloc, wanted, aside) {
+    match compare_and_list(alloc, show, wanted, aside, shown) {
         Ok(closing) => closing,
         Err(stop) => stopped(stop),
     }
 }
 
-/// Compares the notices of a day that was read with the lines of an aside.
+/// Compares the notices of a day that was read with the lines of an aside, and gives the first differences.
 fn compare_day<A: Source, K: Keeper, C: Crew, R: Threads + Sync>(
     rt: &R,
     alloc: Global,
@@ -128,21 +138,26 @@ fn compare_day<A: Source, K: Keeper, C: Crew, R: Threads + Sync>(
     aside: &mut A,
     keeper: &mut K,
     crew: &mut C,
+    shown: &mut Vec<Difference>,
 ) -> Closing
     requires fit { IsDay day.now.tuples.items }
     requires range { IsComparing asked }
     requires idle { C.out crew.old ≡ [] }
+    requires empty { shown.old.items ≡ [] }
     ensures exact { IsRightFor asked.how C.exact → (lines : List ℕ) (o : Office) → A.left aside.old ≡ Some lines
         → K.told keeper.old ≡ Some o → tariffs.now ≡ o.tariffs
         → StandsBefore (unless_refused day.now.refused
-        (comparison_of asked.day day.now.tuples.items (lines_of lines) o)) result [] }
+        (comparison_of asked.show asked.day day.now.tuples.items (lines_of lines) o)) result
+        (differences_text shown.new.items) }
     ensures kept { K.told keeper.new ≡ K.told keeper.old }
     ensures said { result ≢ Words }
     ensures says { SaysBy day.now.refused (status_of result) }
+    ensures none { status_of result ≢ 7 → shown.new.items ≡ [] }
     ensures source_first { day.now.refused ≢ None → aside.new ≡ aside.old }
     ensures bounded { IsRightFor asked.how C.exact → (o : Office) → K.told keeper.old ≡ Some o
         → tariffs.now ≡ o.tariffs
-        → ReadsWithin (most_noticed asked.day day.now.tuples.items o) (A.left aside.old) (A.left aside.new) }
+        → ReadsWithin (most_noticed asked.show asked.day day.now.tuples.items o) (A.left aside.old)
+        (A.left aside.new) }
     ensures unused { in_bulk asked.how ≡ false → crew.new ≡ crew.old }
     ensures jobs { StartsBulk asked.how day.now.tuples.items (SaysCompared (status_of result)) (C.jobs crew.old)
         (C.jobs crew.new) }
@@ -164,13 +179,13 @@ fn compare_day<A: Source, K: Keeper, C: Crew, R: Threads + Sync>(
         keeper,
         crew,
     ) {
-        Ok(wanted) => compare_notices(alloc, wanted.items(), aside),
+        Ok(wanted) => compare_notices(alloc, asked.show, wanted.items(), aside, shown),
         Err(fault) => refused(fault),
     }
 }
 
 /// Compares the notices of what the source has, after what the keeper keeps, with the lines of an aside, unless a
-/// line is refused.
+/// line is refused. Gives the first differences, where more than one is asked for.
 pub fn compare_source<S: Source, A: Source, K: Keeper, C: Crew, R: Threads + Sync>(
     rt: &R,
     alloc: Global,
@@ -180,15 +195,18 @@ pub fn compare_source<S: Source, A: Source, K: Keeper, C: Crew, R: Threads + Syn
     aside: &mut A,
     keeper: &mut K,
     crew: &mut C,
+    shown: &mut Vec<Difference>,
 ) -> Closing
     requires range { IsComparing asked }
     requires within { IsLimits limits.now }
     requires idle { C.out crew.old ≡ [] }
+    requires empty { shown.old.items ≡ [] }
     ensures exact { IsRightFor asked.how C.exact → (bytes lines : List ℕ) (o : Office) → S.left source.old ≡ Some bytes
         → A.left aside.old ≡ Some lines → K.told keeper.old ≡ Some o
-        → StandsBefore (compare_command limits.now asked bytes lines o) result [] }
+        → StandsBefore (compare_command limits.now asked bytes lines o) result (differences_text shown.new.items) }
     ensures kept { (o : Office) → K.told keeper.old ≡ Some o → K.told keeper.new ≡ Some o }
     ensures said { result ≢ Words }
+    ensures none { status_of result ≢ 7 → shown.new.items ≡ [] }
     ensures reads { HasReadDay (recomputed asked.how limits.now) asked.late (status_of result)
         (S.left source.old) (S.left source.new) }
     ensures refused_first { status_of result ≡ 2 → aside.new ≡ aside.old }
@@ -198,7 +216,7 @@ pub fn compare_source<S: Source, A: Source, K: Keeper, C: Crew, R: Threads + Syn
         (S.left source.new) }
     ensures aside_bounded { IsRightFor asked.how C.exact → (bytes : List ℕ) (o : Office)
         → S.left source.old ≡ Some bytes → K.told keeper.old ≡ Some o
-        → ReadsWithin (most_noticed asked.day (compared_tuples limits.now asked bytes) o)
+        → ReadsWithin (most_noticed asked.show asked.day (compared_tuples limits.now asked bytes) o)
         (A.left aside.old) (A.left aside.new) }
     ensures unused { in_bulk asked.how ≡ false → crew.new ≡ crew.old }
     ensures jobs { (bytes : List ℕ) → S.left source.old ≡ Some bytes
@@ -216,7 +234,9 @@ pub fn compare_source<S: Source, A: Source, K: Keeper, C: Crew, R: Threads + Syn
         Err(fault) => return refused(fault),
     };
     match read_day(rt, alloc, limits, asked.how, asked.late, source) {
-        Ok(read) => compare_day(rt, alloc, asked, &read, &tariffs, aside, keeper, crew),
+        Ok(read) => compare_day(
+            rt, alloc, asked, &read, &tariffs, aside, keeper, crew, shown,
+        ),
         Err(stop) => stopped(stop),
     }
 }
