@@ -69,11 +69,11 @@ fn closing_by(wanted: &[Notice], list: &[Difference]) -> Closing
     ensures own { IsComparison result }
     ensures none { status_of result ≢ 7 → list.now ≡ [] }
 {
-    match list {
-        [] => Closing::Agree {
+    match list.split_first() {
+        None => Closing::Agree {
             notices: wanted.len() as u64,
         },
-        [first, ..] => Closing::DiffersLine {
+        Some((first, _)) => Closing::DiffersLine {
             line: first.line,
             wanted: first.wanted,
             found: first.found,

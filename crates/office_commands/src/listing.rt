@@ -261,9 +261,9 @@ fn line_step<A: Source>(
     ensures aside { FaultsByPlan (A.faults aside.old) (A.faults aside.new) (A.plan aside.old) (result ≡ Err ReadFault) }
     ensures still { NeverFails (A.plan aside.old) → NeverFails (A.plan aside.new) }
 {
-    match wanted {
-        [] => over_line(spot, cutter, aside, list),
-        [notice, behind @ ..] => at_line(notice, behind, spot, cutter, aside, room, list),
+    match wanted.split_first() {
+        None => over_line(spot, cutter, aside, list),
+        Some((notice, behind)) => at_line(notice, behind, spot, cutter, aside, room, list),
     }
 }
 
@@ -276,8 +276,8 @@ fn long_step(wanted: &[Notice], line: u64, list: &mut Vec<Difference>) -> Result
     ensures memory { result ≢ Err ReadFault }
 {
     let found = EntryText::Malformed;
-    match wanted {
-        [] => {
+    match wanted.split_first() {
+        None => {
             let over = Difference {
                 line,
                 kind: DifferenceKind::Additional,
@@ -286,7 +286,7 @@ fn long_step(wanted: &[Notice], line: u64, list: &mut Vec<Difference>) -> Result
             };
             note(list, over, Step::Ended)
         }
-        [notice, ..] => {
+        Some((notice, _)) => {
             let changed = Difference {
                 line,
                 kind: DifferenceKind::Changed,
@@ -307,9 +307,9 @@ fn end_step(wanted: &[Notice], line: u64, list: &mut Vec<Difference>) -> Result<
         (λ s. StepCounts s (length wanted.now) (length list.old.items) (length list.new.items)) }
     ensures memory { result ≢ Err ReadFault }
 {
-    match wanted {
-        [] => Ok(Step::Ended),
-        [notice, ..] => {
+    match wanted.split_first() {
+        None => Ok(Step::Ended),
+        Some((notice, _)) => {
             let absent = Difference {
                 line,
                 kind: DifferenceKind::Missing,
