@@ -1,5 +1,6 @@
 //! The program's commands, by `office`, on the example day and on the worked rows of kept state: over a keeper in
-//! memory, and over a keeper in a file that is opened anew for each command, each job in a thread of its own.
+//! memory, over a keeper whose tables lie in memory, and over a keeper in a file that is opened anew for each command,
+//! each job in a thread of its own.
 //!
 //! What it must print was worked out apart from this code. Behind each command's text stands its status. `old.db` is a
 //! database of version 1 that sqlite3 made. Last come the rows of what a keeper in a file keeps, a line each, which
@@ -12,16 +13,18 @@ mod asking;
 mod by_trees;
 mod files;
 mod old;
+mod read_faults;
 mod refused;
 mod sequence;
 mod spoiled;
+mod tables;
 mod whole;
 mod worked;
 
 use keeper::{Keeper, MemKeeper};
 use office_commands::{ASIDE_FILE, office};
 use partition_workers::{NoGate, ThreadCrew};
-use road_io::{FileSource, MemSink};
+use road_io::{FileSource, MemSink, Source};
 use road_time::Limits;
 use sqlite_keeper::SqliteKeeper;
 use std::rt::HostRuntime;
@@ -149,11 +152,11 @@ fn words_of(rt: HostRuntime, command: &str) -> anyhow::Result<Vec<String>> {
 }
 
 /// The status of a command over a keeper, its output into a sink, each job in a thread of its own.
-fn answer<R: Threads + Sync + Copy, K: Keeper>(
+fn answer<R: Threads + Sync + Copy, S: Source, K: Keeper>(
     rt: HostRuntime,
     threads: R,
     command: &str,
-    file: &str,
+    source: &mut S,
     limits: &Limits,
     sink: &mut MemSink,
     keeper: &mut K,
@@ -161,7 +164,6 @@ fn answer<R: Threads + Sync + Copy, K: Keeper>(
     requires { IsLimits limits.now }
 {
     let words = words_of(rt, command)?;
-    let mut source = FileSource::at(rt.alloc(), rt, file)?;
     let mut aside = FileSource::at(rt.alloc(), rt, ASIDE_FILE)?;
     let mut crew = ThreadCrew::new(threads, rt.alloc(), NoGate);
     Ok(office(
@@ -169,7 +171,7 @@ fn answer<R: Threads + Sync + Copy, K: Keeper>(
         rt.alloc(),
         words.as_slice(),
         limits,
-        &mut source,
+        source,
         &mut aside,
         sink,
         keeper,
@@ -189,8 +191,17 @@ fn run_in_room<R: Threads + Sync + Copy, K: Keeper>(
 ) -> anyhow::Result<()>
     requires { IsLimits limits.now }
 {
+    let mut source = FileSource::at(rt.alloc(), rt, file)?;
     let mut sink = MemSink::new(rt.alloc(), room, 4096)?;
-    let status = answer(rt, threads, command, file, limits, &mut sink, keeper)?;
+    let status = answer(
+        rt,
+        threads,
+        command,
+        &mut source,
+        limits,
+        &mut sink,
+        keeper,
+    )?;
     let text = String::from_utf8_lossy(rt.alloc(), sink.bytes())?;
     print!(rt; "{text}")?;
     if room < AMPLE {
@@ -239,32 +250,47 @@ fn over_file<R: Threads + Sync + Copy>(
     Ok(())
 }
 
-/// Runs commands over a keeper in memory, and then over a file.
-fn over_both<R: Threads + Sync + Copy>(
+/// Runs commands over a keeper in memory.
+fn in_memory<R: Threads + Sync + Copy>(
     rt: HostRuntime,
     threads: R,
-    path: &str,
     steps: &[Step],
 ) -> anyhow::Result<()> {
     let mut keeper = MemKeeper::new(rt.alloc(), &[])?;
     for step in steps {
         run(rt, threads, *step, &mut keeper)?;
     }
+    Ok(())
+}
+
+/// Runs commands over a keeper in memory, over one whose tables lie in memory, and then over a file.
+fn over_each<R: Threads + Sync + Copy>(
+    rt: HostRuntime,
+    threads: R,
+    path: &str,
+    steps: &[Step],
+) -> anyhow::Result<()> {
+    in_memory(rt, threads, steps)?;
+    tables::over_tables(rt, threads, steps)?;
     over_file(rt, threads, path, steps)
 }
 
 /// All runs.
 fn all<R: Threads + Sync + Copy>(rt: HostRuntime, threads: R) -> anyhow::Result<()> {
-    over_both(rt, threads, "example.db", &EXAMPLE_DAY)?;
-    over_both(rt, threads, "empty.db", &EMPTY_DAY)?;
-    over_both(rt, threads, "charged.db", &CHARGED_ON_LEAVING)?;
-    over_both(rt, threads, "history.db", &HISTORY)?;
-    over_both(rt, threads, "tariffs.db", &TARIFFS)?;
-    over_both(rt, threads, "late.db", &LATE_LINES)?;
-    over_both(rt, threads, "eleven.db", &ROOM_OF_11)?;
-    over_both(rt, threads, "ten.db", &ROOM_OF_10)?;
-    over_both(rt, threads, "line.db", &ONE_LINE)?;
+    in_memory(rt, threads, &EXAMPLE_DAY)?;
+    over_file(rt, threads, "example.db", &EXAMPLE_DAY)?;
+    over_each(rt, threads, "empty.db", &EMPTY_DAY)?;
+    over_each(rt, threads, "charged.db", &CHARGED_ON_LEAVING)?;
+    over_each(rt, threads, "history.db", &HISTORY)?;
+    over_each(rt, threads, "tariffs.db", &TARIFFS)?;
+    over_each(rt, threads, "late.db", &LATE_LINES)?;
+    over_each(rt, threads, "eleven.db", &ROOM_OF_11)?;
+    over_each(rt, threads, "ten.db", &ROOM_OF_10)?;
+    over_each(rt, threads, "line.db", &ONE_LINE)?;
+    tables::over_old_tables(rt, threads, &OF_VERSION_1)?;
     over_file(rt, threads, "old.db", &OF_VERSION_1)?;
+    let faults = read_faults::each_read_fails(rt, threads, "faults.db")?;
+    println!(rt; "each read of an import fails: {faults:?}")?;
     files::rows(rt)
 }
 

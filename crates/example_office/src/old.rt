@@ -1,9 +1,11 @@
-// A file of version 1.
+// Tables of version 1, in a file or in memory.
 use crate::asking::{Asks, ask_file};
 use crate::whole::by_hand;
 use crate::worked::{history, put_day, row};
 use keeper::{DayRecord, Digester, KeepFault, Keeper};
+use keeper_proof::Steady;
 use road_time::Tariff;
+use sqlite::Connection;
 use std::rt::HostRuntime;
 
 const FILE: &str = "version_1.db";
@@ -21,6 +23,14 @@ INSERT INTO days VALUES (100, x'e3b0c44298fc1c149afbf4c8996fb92427ae41e4649b934c
   x'e3b0c44298fc1c149afbf4c8996fb92427ae41e4649b934ca495991b7852b855', 0);
 INSERT INTO spent VALUES (99, 7, 0, 5), (31, 7, 0, 28);
 INSERT INTO past VALUES (1, 100, x'e3b0c44298fc1c149afbf4c8996fb92427ae41e4649b934ca495991b7852b855', 18, 2)";
+
+/// Makes those in a database without tables.
+pub fn make_old<S: Steady>(conn: &mut Connection<S>) -> Result<(), KeepFault> {
+    match conn.execute_batch(OLD) {
+        Ok(()) => Ok(()),
+        Err(_) => Err(KeepFault::Failed),
+    }
+}
 
 /// Day 100 without a tuple, under the seal of no tariffs.
 fn old_day() -> DayRecord {

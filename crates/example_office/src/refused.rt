@@ -18,6 +18,11 @@ impl Asks for IsWithoutDay {
     }
 }
 
+/// Whether nothing of day 100 is kept in the file at a path.
+pub fn is_without_day(rt: HostRuntime, path: &str) -> Result<bool, KeepFault> {
+    ask_file(rt, path, IsWithoutDay)?
+}
+
 /// Whether a day is refused at its last amount, which another hand has put, whether nothing of it is kept then, and
 /// whether it can be put once that amount is gone.
 pub fn at_the_last_amount(rt: HostRuntime, path: &str) -> Result<[bool; 4], KeepFault> {

@@ -1,11 +1,13 @@
 -- Which cause an error of the database is, and what a keeper in a file says of its failures.
-use Rattle.std.specs.Prelude.{◌≡◌, ◌≢◌, Option, Result, Ok, Err, IsSome}
+use Rattle.std.specs.Prelude.{◌≡◌, ◌≢◌, Bool, true, false, Option, Result, Ok, Err, IsSome}
 use Rattle.sqlite.specs.declared.error.Error.{Error}
 use Rattle.sqlite.specs.declared.error.Error.TheVariants.{SqliteFailure}
 use Rattle.sqlite.specs.declared.error.ErrorCode.TheVariants.{DatabaseBusy, CannotOpen, DatabaseCorrupt, NotADatabase}
 use Rattle.sqlite.specs.declared.error.ErrorCode.TheVariants.{DiskFull, SystemIoFailure, Closed, OutOfMemory}
 use Rattle.sqlite_trees.specs.declared.error.StoreError.{StoreError}
 use Rattle.sqlite_trees.specs.declared.error.StoreError.TheVariants as Store
+use Rattle.sqlite_pages.specs.declared.error.Error.{Error as PageError}
+use Rattle.sqlite_pages.specs.declared.error.Error.TheVariants as Page
 use Rattle.keeper.specs.declared.kept.KeepFault.{KeepFault}
 use Rattle.keeper.specs.declared.kept.KeepFault.TheVariants.{Failed, NoMemory}
 use Rattle.keeper_at_path.specs.declared.cause.Cause.{Cause}
@@ -36,6 +38,14 @@ cause_in_store Store.Corrupt = Spoiled
 cause_in_store Store.Full = NoRoom
 cause_in_store Store.Broken = Shut
 cause_in_store Store.Unstorable = Odd
+
+-- the cause that an error of pages is as they are closed, by whether a write found no room
+abbrev pub close_cause : PageError → Bool → Cause
+close_cause Page.OutOfMemory no_room = Memory
+close_cause Page.Corrupt no_room = Spoiled
+close_cause Page.Full no_room = NoRoom
+close_cause Page.Io true = NoRoom
+close_cause Page.Io false = DiskFailed
 
 -- a failure says why, and want of memory leaves what was said
 abbrev pub IsSaidOf : KeepFault → Option Cause → Option Cause → Type 0

@@ -5,10 +5,11 @@ ghost use Rattle.keeper.specs.declared.kept.KeepFault.TheVariants.{Failed, NoMem
 ghost use Rattle.std.specs.Prelude.{Some};
 ghost use Rattle.keeper_at_path.specs.declared.cause.Cause.TheVariants.{InUse, Journal, Memory};
 ghost use Rattle.keeper_at_path.specs.Asked.{store_fault};
-ghost use Rattle.keeper_at_path.specs.Causes.{IsCauseOf, IsSaidOf, cause_in_store};
+ghost use Rattle.keeper_at_path.specs.Causes.{IsCauseOf, IsSaidOf, cause_in_store, close_cause};
 
 use keeper::KeepFault;
 use sqlite::{Error as Refused, ErrorCode};
+use sqlite_pages::Error as PageError;
 use sqlite_std_file::OpenError;
 use sqlite_trees::error::StoreError;
 use std::io::ErrorKind;
@@ -27,9 +28,9 @@ pub enum Cause {
     NotPlain,
     #[error("it cannot be opened")]
     Unopened,
-    #[error("it is no database, or a page of it is spoiled")]
+    #[error("a page of it is spoiled")]
     Spoiled,
-    #[error("it is a database, but not one of these programs")]
+    #[error("it is no database of these programs")]
     NotOurs,
     #[error("it is of another version than 2")]
     OtherVersion,
@@ -137,4 +138,21 @@ pub fn say_of_store(said: &mut Option<Cause>, error: StoreError) -> KeepFault
     ensures fault { result ≡ store_fault error }
 {
     say(said, cause_of_store(error))
+}
+
+/// The cause that an error of pages is as they are closed, by whether a write found no room.
+pub fn cause_at_close(error: PageError, no_room: bool) -> Cause
+    ensures { result ≡ close_cause error no_room }
+{
+    match error {
+        PageError::OutOfMemory => Cause::Memory,
+        PageError::Corrupt => Cause::Spoiled,
+        PageError::Full => Cause::NoRoom,
+        PageError::Io => {
+            if no_room {
+                return Cause::NoRoom;
+            }
+            Cause::DiskFailed
+        }
+    }
 }

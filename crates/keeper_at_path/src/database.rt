@@ -24,7 +24,8 @@ use std::rt::HostRuntime;
 use tree_keeper::PageTrees;
 
 /// A database that is opened when it is first asked for: by its trees where it is exactly ours or new, or whole. A
-/// call that puts is made of the store of the same trees, or of the whole. `cause` is why the last call failed that did.
+/// call that puts is made of the store of the same trees, or of the whole. `cause` is why the last call failed that
+/// did.
 #[derive(Drop)]
 pub struct Database<S: Opens<P>, P: Pages + Drop> {
     rt: HostRuntime,
@@ -216,8 +217,8 @@ impl<S: Opens<P>, P: Pages + Drop> Database<S, P> {
         }
     }
 
-    /// The trees of the file of a connection that has made its tables. A file that is not ours even so, such as one with
-    /// pages of another size, is opened anew.
+    /// The trees of the file of a connection that has made its tables. A file that is not ours even so, such as one
+    /// with pages of another size, is opened anew.
     fn taken_over(&self, conn: Connection<S>) -> Result<Kept<PageTrees<P>, ProvedKeeper<S>>, Cause>
         ensures { IfOk result (IsReadyToRead (AreFound P.Pages) (λ k. k.unmade ≢ Some NoMemory) None) }
     {

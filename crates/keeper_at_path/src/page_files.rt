@@ -5,13 +5,13 @@ ghost use Rattle.sqlite_store.specs.Unopened.{AreUsable as MayOpen};
 ghost use Rattle.keeper_at_path.specs.Looks.{AreFound, FindsTrees};
 
 use crate::at_path::AtPath;
-use crate::cause::{Cause, cause_of};
+use crate::cause::{Cause, cause_at_close, cause_of};
 use crate::kept::Kept;
 use crate::objects::our_objects;
 use sqlite::{Connection, FileStore, Files, Options};
 use sqlite_disk::Disk;
 use sqlite_pager::Pager;
-use sqlite_pages::{Error as PageError, Pages};
+use sqlite_pages::Pages;
 use sqlite_pool::Pool;
 use sqlite_store::Unopened;
 use sqlite_wal::{PageSize, probe_first_page, probe_page_size};
@@ -127,14 +127,13 @@ pub fn connected<D: Disk + Drop>(
 
 /// Copies into the database file what the log has, and lets both go.
 pub fn shut<D: Disk + Drop>(mut pool: Pool<D>) -> Result<(), Cause> {
+    let before = pool.tally().refused;
     let copied = pool.checkpoint();
+    let no_room = before < pool.tally().refused;
     drop(pool.close());
     match copied {
         Ok(()) => Ok(()),
-        Err(PageError::Corrupt) => Err(Cause::Spoiled),
-        Err(PageError::Io) => Err(Cause::DiskFailed),
-        Err(PageError::Full) => Err(Cause::NoRoom),
-        Err(PageError::OutOfMemory) => Err(Cause::Memory),
+        Err(error) => Err(cause_at_close(error, no_room)),
     }
 }
 

@@ -1,12 +1,13 @@
 -- What a failure of the second of two steps says of both.
-use Rattle.std.proofs.Common.{◌≡◌, ◌⊎◌, inl, inr, Option, Some, None, Err, Ok, Result, IfErr, OnErr, IsErrAnd}
+use Rattle.std.proofs.Common.{ℕ, ◌≡◌, ◌⊎◌, inl, inr, List, Option, Some, None, Err, Ok, Result, IfErr, OnErr, IsErrAnd}
 use Rattle.sqlite_trees.specs.declared.store.Store.{Ghosts}
 use Rattle.sqlite.specs.declared.error.Error.{Error}
 use Rattle.sqlite.specs.Held.{Held, state}
 use Rattle.sqlite.specs.State.{KeepsCommit, Survives}
 use Rattle.keeper.specs.declared.kept.KeepFault.{KeepFault}
 use Rattle.keeper.specs.declared.kept.KeepFault.TheVariants.{Failed, NoMemory}
-use Rattle.keeper_writes.specs.Causes.{WasRefusedIn, HasCause, LackedMemory, IsTold}
+use Rattle.sqlite_value.specs.Order.{Row}
+use Rattle.keeper_writes.specs.Causes.{WasRefusedIn, HasCauseOf, HasCause, LackedMemory, IsTold}
 use Rattle.keeper_writes.proofs.CauseLaws.{refused_after, err_handed}
 
 module _ {S : Type 0} (g : Ghosts S) (old mid new : Held S) (kept : KeepsCommit (state g old) (state g mid))
@@ -23,15 +24,20 @@ module _ {S : Type 0} (g : Ghosts S) (old mid new : Held S) (kept : KeepsCommit 
   pub memory_after : LackedMemory g mid new → LackedMemory g old new
   memory_after h = refused_after g old mid new _ kept survives h
 
-  -- so is each fault's cause
-  pub cause_after : (f : KeepFault) → HasCause g mid new f → HasCause g old new f
-  cause_after Failed h = failure_after h
-  cause_after NoMemory h = memory_after h
+  -- so is each fault's cause, whatever the call writes
+  pub cause_after : (W : List ℕ → Row → Type 0) (f : KeepFault) → HasCauseOf g W mid new f → HasCauseOf g W old new f
+  cause_after W Failed h = record {
+    error = h.error;
+    cause = h.cause;
+    refused = refused_after g old mid new h.error kept survives h.refused;
+  }
+  cause_after W NoMemory h = refused_after g old mid new _ kept survives h
 
   -- and each error's
-  pub causes_after : {T : Type 0} (r : Result T KeepFault) → IfErr r (HasCause g mid new) → IfErr r (HasCause g old new)
-  causes_after (Ok x) h = h
-  causes_after (Err f) h = cause_after f h
+  pub causes_after : {T : Type 0} (W : List ℕ → Row → Type 0) (r : Result T KeepFault) →
+      IfErr r (HasCauseOf g W mid new) → IfErr r (HasCauseOf g W old new)
+  causes_after W (Ok x) h = h
+  causes_after W (Err f) h = cause_after W f h
 
 -- what holds anyway holds of an error
 pub on_err : {T E : Type 0} (r : Result T E) (P : Type 0) → P → OnErr r P
@@ -39,12 +45,12 @@ on_err (Ok x) P p = tt
 on_err (Err e) P p = p
 
 -- an error that the second of two steps tells is told of both
-pub told_after : {S T : Type 0} (g : Ghosts S) (old mid new : Held S) → KeepsCommit (state g old) (state g mid) →
-    Survives (state g old) (state g mid) (λ _. ⊥) → (r : Result T KeepFault) (before why : Option Error) →
-    OnErr r (IsTold g mid new why) → OnErr r ((why ≡ before) ⊎ IsTold g old new why)
-told_after g old mid new kept survives (Ok x) before why h = tt
-told_after g old mid new kept survives (Err f) before None h = absurd h
-told_after g old mid new kept survives (Err f) before (Some e) h =
+pub told_after : {S T : Type 0} (g : Ghosts S) (W : List ℕ → Row → Type 0) (old mid new : Held S) →
+    KeepsCommit (state g old) (state g mid) → Survives (state g old) (state g mid) (λ _. ⊥) → (r : Result T KeepFault)
+    (before why : Option Error) → OnErr r (IsTold g W mid new why) → OnErr r ((why ≡ before) ⊎ IsTold g W old new why)
+told_after g W old mid new kept survives (Ok x) before why h = tt
+told_after g W old mid new kept survives (Err f) before None h = absurd h
+told_after g W old mid new kept survives (Err f) before (Some e) h =
     inr (refused_after g old mid new e kept survives h)
 
 module _ {S : Type 0} (g : Ghosts S) (old new : Held S) where

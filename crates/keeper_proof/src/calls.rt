@@ -10,7 +10,8 @@ ghost use Rattle.keeper.specs.Kept.{IsDayPut, IsPastPut, IsLater, HasNoDays, wit
 ghost use Rattle.keeper.specs.declared.kept.KeepFault.TheVariants.{NoMemory};
 ghost use Rattle.kept_tables.specs.Stands.{HasOffice, StandsForOffice};
 ghost use Rattle.kept_tables.specs.Steps.{FitsAny};
-ghost use Rattle.keeper_writes.specs.Causes.{WasRefusedIn, HasCause, LackedMemory, IsTold};
+ghost use Rattle.keeper_writes.specs.Causes.{WasRefusedIn, HasCauseOf, LackedMemory, IsTold};
+ghost use Rattle.keeper_writes.specs.Writes.{WritesDay, WritesPast, WritesTariff};
 ghost use Rattle.keeper_proof.specs.Gives.{GivesUnless};
 ghost use Rattle.keeper_proof.specs.Looks.{CommitsFrom, HasSecond, IsSealed};
 
@@ -126,7 +127,8 @@ pub fn vehicle_rows<S: Alter>(
         → KeepsCommit (state S.Store conn.old) (state S.Store conn.new) }
     ensures gives { HasCleanDisk (state S.Store conn.new) → (o : Office)
         → StandsForOffice (state S.Store conn.old).committed o
-        → GivesUnless (WasRefusedIn S.Store conn.old conn.new) (λ v. v.items) result (vehicle_rows_between o vid from to) }
+        → GivesUnless (WasRefusedIn S.Store conn.old conn.new) (λ v. v.items) result
+        (vehicle_rows_between o vid from to) }
     ensures rise { IfOk result (λ v. RowsRise v.items) }
     ensures version { HasCleanDisk (state S.Store conn.new) → OnOk result (HasSecond S.Store conn.old) }
     ensures open { HasCleanDisk (state S.Store conn.new) → OnOk result (IsTrue (state S.Store conn.new).is_open) }
@@ -166,9 +168,10 @@ pub fn put_day<S: Alter>(
     ensures version { HasCleanDisk (state S.Store conn.new) → OnOk result (HasSecond S.Store conn.old) }
     ensures open { HasCleanDisk (state S.Store conn.new) → OnOk result (IsTrue (state S.Store conn.new).is_open) }
     ensures why { HasCleanDisk (state S.Store conn.new) → (o : Office)
-        → StandsForOffice (state S.Store conn.old).committed o → IfErr result (HasCause S.Store conn.old conn.new) }
+        → StandsForOffice (state S.Store conn.old).committed o
+        → IfErr result (HasCauseOf S.Store (WritesDay kept.now rows.now) conn.old conn.new) }
     ensures told { HasCleanDisk (state S.Store conn.new)
-        → OnErr result ((why.new ≡ why.old) ⊎ IsTold S.Store conn.old conn.new why.new) }
+        → OnErr result ((why.new ≡ why.old) ⊎ IsTold S.Store (WritesDay kept.now rows.now) conn.old conn.new why.new) }
     ensures quiet { OnOk result (why.new ≡ why.old) }
     ensures crash { Survives (state S.Store conn.old) (state S.Store conn.new) (CommitsFrom (IsLater kept.now.day)
         (with_day kept.now rows.now) (state S.Store conn.old).committed) }
@@ -192,9 +195,10 @@ pub fn put_past<S: Alter>(
     ensures version { HasCleanDisk (state S.Store conn.new) → OnOk result (HasSecond S.Store conn.old) }
     ensures open { HasCleanDisk (state S.Store conn.new) → OnOk result (IsTrue (state S.Store conn.new).is_open) }
     ensures why { HasCleanDisk (state S.Store conn.new) → (o : Office)
-        → StandsForOffice (state S.Store conn.old).committed o → IfErr result (HasCause S.Store conn.old conn.new) }
+        → StandsForOffice (state S.Store conn.old).committed o
+        → IfErr result (HasCauseOf S.Store (WritesPast kept.now rows.now) conn.old conn.new) }
     ensures told { HasCleanDisk (state S.Store conn.new)
-        → OnErr result ((why.new ≡ why.old) ⊎ IsTold S.Store conn.old conn.new why.new) }
+        → OnErr result ((why.new ≡ why.old) ⊎ IsTold S.Store (WritesPast kept.now rows.now) conn.old conn.new why.new) }
     ensures quiet { OnOk result (why.new ≡ why.old) }
     ensures crash { Survives (state S.Store conn.old) (state S.Store conn.new) (CommitsFrom HasNoDays
         (with_past kept.now rows.now) (state S.Store conn.old).committed) }
@@ -218,9 +222,10 @@ pub fn put_tariff<S: Alter>(
     ensures version { HasCleanDisk (state S.Store conn.new) → OnOk result (HasSecond S.Store conn.old) }
     ensures open { HasCleanDisk (state S.Store conn.new) → OnOk result (IsTrue (state S.Store conn.new).is_open) }
     ensures why { HasCleanDisk (state S.Store conn.new) → (o : Office)
-        → StandsForOffice (state S.Store conn.old).committed o → IfErr result (HasCause S.Store conn.old conn.new) }
+        → StandsForOffice (state S.Store conn.old).committed o
+        → IfErr result (HasCauseOf S.Store (WritesTariff xway tariff.now) conn.old conn.new) }
     ensures told { HasCleanDisk (state S.Store conn.new)
-        → OnErr result ((why.new ≡ why.old) ⊎ IsTold S.Store conn.old conn.new why.new) }
+        → OnErr result ((why.new ≡ why.old) ⊎ IsTold S.Store (WritesTariff xway tariff.now) conn.old conn.new why.new) }
     ensures quiet { OnOk result (why.new ≡ why.old) }
     ensures crash { Survives (state S.Store conn.old) (state S.Store conn.new) (CommitsFrom FitsAny
         (with_tariff_of xway tariff.now) (state S.Store conn.old).committed) }

@@ -12,7 +12,8 @@ ghost use Rattle.keeper.specs.declared.kept.KeepFault.TheVariants.{Failed, NoMem
 ghost use Rattle.kept_tables.specs.Stands.{HasOffice, StandsForOffice, StandsForNone};
 ghost use Rattle.kept_tables.specs.Steps.{FitsAny};
 ghost use Rattle.kept_tables.specs.Told.{told_in};
-ghost use Rattle.keeper_writes.specs.Causes.{WasRefused, WasRefusedIn, HasCause, LackedMemory, IsTold};
+ghost use Rattle.keeper_writes.specs.Causes.{WasRefused, WasRefusedIn, HasCauseOf, LackedMemory, IsTold};
+ghost use Rattle.keeper_writes.specs.Writes.{WritesDay, WritesPast, WritesTariff};
 ghost use Rattle.keeper_writes.specs.Counts.{faults_after};
 ghost use Rattle.keeper_proof.specs.Gives.{GivesUnless};
 ghost use Rattle.keeper_proof.specs.Looks.{CommitsFrom, HasSecond, IsSealed};
@@ -252,12 +253,12 @@ impl<S: Steady> Keeper for ProvedKeeper<S> {
             → OnOk result (HasOffice (state S.Store self.new.conn).committed (with_day kept.now rows.now o)) }
         ensures why { HasCleanDisk (state S.Store self.new.conn) → (o : Office)
             → StandsForOffice (state S.Store self.old.conn).committed o
-            → IfErr result (HasCause S.Store self.old.conn self.new.conn) }
+            → IfErr result (HasCauseOf S.Store (WritesDay kept.now rows.now) self.old.conn self.new.conn) }
         ensures because { HasCleanDisk (state S.Store self.new.conn) → (o : Office)
             → StandsForOffice (state S.Store self.old.conn).committed o → result ≡ Err Failed → WasRefused S.Store }
         ensures told { HasCleanDisk (state S.Store self.new.conn) → OnErr result
             ((self.new.refused ≡ self.old.refused)
-            ⊎ IsTold S.Store self.old.conn self.new.conn self.new.refused) }
+            ⊎ IsTold S.Store (WritesDay kept.now rows.now) self.old.conn self.new.conn self.new.refused) }
         ensures quiet { OnOk result (self.new.refused ≡ self.old.refused) }
         ensures crash { Survives (state S.Store self.old.conn) (state S.Store self.new.conn) (CommitsFrom
             (IsLater kept.now.day) (with_day kept.now rows.now) (state S.Store self.old.conn).committed) }
@@ -288,12 +289,12 @@ impl<S: Steady> Keeper for ProvedKeeper<S> {
             → OnOk result (HasOffice (state S.Store self.new.conn).committed (with_past kept.now rows.now o)) }
         ensures why { HasCleanDisk (state S.Store self.new.conn) → (o : Office)
             → StandsForOffice (state S.Store self.old.conn).committed o
-            → IfErr result (HasCause S.Store self.old.conn self.new.conn) }
+            → IfErr result (HasCauseOf S.Store (WritesPast kept.now rows.now) self.old.conn self.new.conn) }
         ensures because { HasCleanDisk (state S.Store self.new.conn) → (o : Office)
             → StandsForOffice (state S.Store self.old.conn).committed o → result ≡ Err Failed → WasRefused S.Store }
         ensures told { HasCleanDisk (state S.Store self.new.conn) → OnErr result
             ((self.new.refused ≡ self.old.refused)
-            ⊎ IsTold S.Store self.old.conn self.new.conn self.new.refused) }
+            ⊎ IsTold S.Store (WritesPast kept.now rows.now) self.old.conn self.new.conn self.new.refused) }
         ensures quiet { OnOk result (self.new.refused ≡ self.old.refused) }
         ensures crash { Survives (state S.Store self.old.conn) (state S.Store self.new.conn) (CommitsFrom HasNoDays
             (with_past kept.now rows.now) (state S.Store self.old.conn).committed) }
@@ -324,12 +325,12 @@ impl<S: Steady> Keeper for ProvedKeeper<S> {
             → OnOk result (HasOffice (state S.Store self.new.conn).committed (with_tariff_of xway tariff.now o)) }
         ensures why { HasCleanDisk (state S.Store self.new.conn) → (o : Office)
             → StandsForOffice (state S.Store self.old.conn).committed o
-            → IfErr result (HasCause S.Store self.old.conn self.new.conn) }
+            → IfErr result (HasCauseOf S.Store (WritesTariff xway tariff.now) self.old.conn self.new.conn) }
         ensures because { HasCleanDisk (state S.Store self.new.conn) → (o : Office)
             → StandsForOffice (state S.Store self.old.conn).committed o → result ≡ Err Failed → WasRefused S.Store }
         ensures told { HasCleanDisk (state S.Store self.new.conn) → OnErr result
             ((self.new.refused ≡ self.old.refused)
-            ⊎ IsTold S.Store self.old.conn self.new.conn self.new.refused) }
+            ⊎ IsTold S.Store (WritesTariff xway tariff.now) self.old.conn self.new.conn self.new.refused) }
         ensures quiet { OnOk result (self.new.refused ≡ self.old.refused) }
         ensures crash { Survives (state S.Store self.old.conn) (state S.Store self.new.conn) (CommitsFrom FitsAny
             (with_tariff_of xway tariff.now) (state S.Store self.old.conn).committed) }

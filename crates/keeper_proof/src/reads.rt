@@ -142,7 +142,8 @@ pub fn vehicle_rows<S: Alter>(
         → KeepsCommit (state S.Store conn.old) (state S.Store conn.new) }
     ensures gives { HasCleanDisk (state S.Store conn.new) → (o : Office)
         → HasOffice (state S.Store conn.old).committed o
-        → GivesUnless (WasRefusedIn S.Store conn.old conn.new) (λ v. v.items) result (vehicle_rows_between o vid from to) }
+        → GivesUnless (WasRefusedIn S.Store conn.old conn.new) (λ v. v.items) result
+        (vehicle_rows_between o vid from to) }
     ensures rise { IfOk result (λ v. RowsRise v.items) }
     ensures open { HasCleanDisk (state S.Store conn.new) → OnOk result (IsTrue (state S.Store conn.new).is_open) }
     ensures survives { Survives (state S.Store conn.old) (state S.Store conn.new) (λ _. ⊥) }

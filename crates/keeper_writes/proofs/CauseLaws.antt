@@ -1,5 +1,5 @@
 -- What a failure says of a refusal.
-use Rattle.std.proofs.Common.{◌≡◌, ◌↔◌, inl, inr, true, [], Err, Ok, Result, IfOk, IfErr, OnOk, IsErrAnd}
+use Rattle.std.proofs.Common.{ℕ, ◌≡◌, ◌↔◌, inl, inr, true, List, [], Err, Ok, Result, IfOk, IfErr, OnOk, IsErrAnd}
 use Rattle.std.proofs.Common.{refl, sym, subst, arith}
 use Rattle.sqlite_value.specs.Order.{Row}
 use Rattle.sqlite_trees.specs.declared.store.Store.{Ghosts}
@@ -15,7 +15,9 @@ use Rattle.keeper.specs.declared.kept.KeepFault.TheVariants.{Failed, NoMemory}
 use Rattle.kept_tables.specs.Steps.{StaysInside}
 use Rattle.kept_tables.proofs.PutLaws.{survives_both}
 use Rattle.kept_tables.proofs.StepLaws.{kept_then}
-use Rattle.keeper_writes.specs.Causes.{RefusesStep, RefusedIn, WasRefusedIn, WasRefused, HasCause}
+use Rattle.keeper_writes.specs.Causes.{RefusesStep, RefusedOf, RefusedIn, WritesSome, WasRefusedOf, WasRefusedIn}
+use Rattle.keeper_writes.specs.Causes.{WasRefused, HasCauseOf, HasCause}
+use Rattle.keeper_writes.specs.Writes.{WritesNothing, WritesAny}
 
 pub ok_then : {T E : Type 0} (r : Result T E) (P Q : T → Type 0) → IfOk r P → ((x : T) → P x → Q x) → IfOk r Q
 ok_then (Ok x) P Q p f = f x p
@@ -54,10 +56,55 @@ survives_self s = record {
 pub kept_inside : (old new : State) → StaysInside old new (Ok tt) → KeepsCommit old new
 kept_inside old new s = record { was_open = λ here. s.was_open; committed = λ here. s.committed_is }
 
+-- what refuses a step of a call that writes less refuses one of a call that writes more
+pub step_wider : (V W : List ℕ → Row → Type 0) → ((sql : List ℕ) (params : Row) → V sql params → W sql params) →
+    (sql : List ℕ) (params : Row) (before after : State) (e : Error) → RefusesStep V sql params before after e →
+    RefusesStep W sql params before after e
+step_wider V W more sql params before after e (inl h) = inl h
+step_wider V W more sql params before after e (inr (inl h)) = inr (inl h)
+step_wider V W more sql params before after e (inr (inr (inl h))) =
+    inr (inr (inl (more sql params h.0, h.1, h.2, h.3)))
+step_wider V W more sql params before after e (inr (inr (inr h))) =
+    inr (inr (inr (
+      record { sql = h.0.sql; params = h.0.params; written = more h.0.sql h.0.params h.0.written },
+      h.1,
+      h.2,
+    )))
+
 module _ {S : Type 0} (g : Ghosts S) where
+  -- what is refused of a call that writes less is refused of one that writes more
+  pub refused_wider : (V W : List ℕ → Row → Type 0) →
+      ((sql : List ℕ) (params : Row) → V sql params → W sql params) → (old new : Held S) (e : Error) →
+      RefusedOf g V old new e → RefusedOf g W old new e
+  refused_wider V W more old new e r = record {
+    sql = r.sql;
+    params = r.params;
+    before = r.before;
+    after = r.after;
+    refused = step_wider V W more r.sql r.params (state g r.before) (state g r.after) e r.refused;
+    begun = r.begun;
+    reached = r.reached;
+    left = r.left;
+  }
+
+  -- a call that writes nothing is any call
+  pub refused_idle : (W : List ℕ → Row → Type 0) (old new : Held S) (e : Error) → RefusedIn g old new e →
+      RefusedOf g W old new e
+  refused_idle W old new e r = refused_wider WritesNothing W (λ sql params none. absurd none) old new e r
+
+  -- so is its cause one of any call
+  pub cause_idle : (W : List ℕ → Row → Type 0) (old new : Held S) (f : KeepFault) → HasCause g old new f →
+      HasCauseOf g W old new f
+  cause_idle W old new Failed h = record {
+    error = h.error;
+    cause = h.cause;
+    refused = refused_idle W old new h.error h.refused;
+  }
+  cause_idle W old new NoMemory h = refused_idle W old new (SqliteFailure OutOfMemory) h
+
   -- the call is the step
-  pub refused_now : (old new : Held S) (sql : _) (params : Row) (e : Error) →
-      RefusesStep sql params (state g old) (state g new) e → RefusedIn g old new e
+  pub refused_now : {W : List ℕ → Row → Type 0} (old new : Held S) (sql : _) (params : Row) (e : Error) →
+      RefusesStep W sql params (state g old) (state g new) e → RefusedOf g W old new e
   refused_now old new sql params e h = record {
     sql = sql;
     params = params;
@@ -70,8 +117,9 @@ module _ {S : Type 0} (g : Ghosts S) where
   }
 
   -- a step that commits nothing goes before
-  pub refused_after : (old mid new : Held S) (e : Error) → KeepsCommit (state g old) (state g mid) →
-      Survives (state g old) (state g mid) (λ _. ⊥) → RefusedIn g mid new e → RefusedIn g old new e
+  pub refused_after : {W : List ℕ → Row → Type 0} (old mid new : Held S) (e : Error) →
+      KeepsCommit (state g old) (state g mid) → Survives (state g old) (state g mid) (λ _. ⊥) →
+      RefusedOf g W mid new e → RefusedOf g W old new e
   refused_after old mid new e kept survives r = record {
     sql = r.sql;
     params = r.params;
@@ -84,8 +132,8 @@ module _ {S : Type 0} (g : Ghosts S) where
   }
 
   -- what is refused ends with a step that commits nothing
-  pub refused_before : (old mid new : Held S) (e : Error) → RefusedIn g old mid e →
-      Survives (state g mid) (state g new) (λ _. ⊥) → RefusedIn g old new e
+  pub refused_before : {W : List ℕ → Row → Type 0} (old mid new : Held S) (e : Error) → RefusedOf g W old mid e →
+      Survives (state g mid) (state g new) (λ _. ⊥) → RefusedOf g W old new e
   refused_before old mid new e r survives = record {
     sql = r.sql;
     params = r.params;
@@ -98,8 +146,8 @@ module _ {S : Type 0} (g : Ghosts S) where
   }
 
   -- a transaction began with the call
-  pub refused_begun : (old new : Held S) (e : Error) → RefusedIn g (record old { in_transaction = true }) new e →
-      RefusedIn g old new e
+  pub refused_begun : {W : List ℕ → Row → Type 0} (old new : Held S) (e : Error) →
+      RefusedOf g W (record old { in_transaction = true }) new e → RefusedOf g W old new e
   refused_begun old new e r = record {
     sql = r.sql;
     params = r.params;
@@ -112,41 +160,55 @@ module _ {S : Type 0} (g : Ghosts S) where
   }
 
   -- the commit of a transaction that began with the call was refused
-  pub commit_refused : (old last end : Held S) (e : Error) →
+  pub commit_refused : (W : List ℕ → Row → Type 0) → WritesSome W → (old last end : Held S) (e : Error) →
       StaysInside (state g (record old { in_transaction = true })) (state g last) (Ok tt) →
       Survives (state g (record old { in_transaction = true })) (state g last) (λ _. ⊥) →
-      FailsToCommit (state g last) (state g end) e → RefusedIn g old end e
-  commit_refused old last end e inside survives fails =
+      FailsToCommit (state g last) (state g end) e → RefusedOf g W old end e
+  commit_refused W some old last end e inside survives fails =
       let begun = record old { in_transaction = true } in
       refused_begun old end e
       (refused_after begun last end e (kept_inside (state g begun) (state g last) inside) survives
-      (refused_now last end [] [] e (inr (inr (inr (inside.mode, fails))))))
+      (refused_now {W = W} last end [] [] e (inr (inr (inr (some, inside.mode, fails))))))
 
-  -- each error of steps that go on within a transaction
-  pub errs_after : {T : Type 0} (old mid new : Held S) (r : Result T Error) →
+  -- each error of steps that go on within a transaction, of a call that writes more
+  pub errs_after : {T : Type 0} (V W : List ℕ → Row → Type 0) →
+      ((sql : List ℕ) (params : Row) → V sql params → W sql params) → (old mid new : Held S) (r : Result T Error) →
       StaysInside (state g old) (state g mid) (Ok tt) → Survives (state g old) (state g mid) (λ _. ⊥) →
-      IfErr r (RefusedIn g mid new) → IfErr r (RefusedIn g old new)
-  errs_after old mid new r inside survives h =
-      err_then r (RefusedIn g mid new) (RefusedIn g old new) h
-      (λ e it. refused_after old mid new e (kept_inside (state g old) (state g mid) inside) survives it)
+      IfErr r (RefusedOf g V mid new) → IfErr r (RefusedOf g W old new)
+  errs_after V W more old mid new r inside survives h =
+      err_then r (RefusedOf g V mid new) (RefusedOf g W old new) h
+      (λ e it. refused_after old mid new e (kept_inside (state g old) (state g mid) inside) survives
+      (refused_wider V W more mid new e it))
 
   -- what a keeper calls a fault has the cause of the refusal
-  pub cause_of : (old new : Held S) (f : KeepFault) (e : Error) → ((f ≡ NoMemory) ↔ (e ≡ SqliteFailure OutOfMemory)) →
-      RefusedIn g old new e → HasCause g old new f
-  cause_of old new Failed e both h = record {
+  pub cause_of : (W : List ℕ → Row → Type 0) (old new : Held S) (f : KeepFault) (e : Error) →
+      ((f ≡ NoMemory) ↔ (e ≡ SqliteFailure OutOfMemory)) → RefusedOf g W old new e → HasCauseOf g W old new f
+  cause_of W old new Failed e both h = record {
     error = e;
     cause = λ memory. let bad : Failed ≡ NoMemory = both.1 memory in absurd (cc);
     refused = h;
   }
-  cause_of old new NoMemory e both h = subst (RefusedIn g old new) (both.0 refl) h
+  cause_of W old new NoMemory e both h = subst (RefusedOf g W old new) (both.0 refl) h
 
   -- a failure has one
-  pub failure_of : {T : Type 0} (old new : Held S) (r : Result T KeepFault) → IfErr r (HasCause g old new) →
-      r ≡ Err Failed → WasRefusedIn g old new
-  failure_of old new (Ok x) h failed = absurd (cc)
-  failure_of old new (Err Failed) h failed = h
-  failure_of old new (Err NoMemory) h failed = absurd (cc)
+  pub failure_of : {T : Type 0} (W : List ℕ → Row → Type 0) (old new : Held S) (r : Result T KeepFault) →
+      IfErr r (HasCauseOf g W old new) → r ≡ Err Failed → WasRefusedOf g W old new
+  failure_of W old new (Ok x) h failed = absurd (cc)
+  failure_of W old new (Err Failed) h failed = h
+  failure_of W old new (Err NoMemory) h failed = absurd (cc)
 
   -- and some call was refused
+  pub put_refused : (W : List ℕ → Row → Type 0) (old new : Held S) → WasRefusedOf g W old new → WasRefused g
+  put_refused W old new h = record {
+    old = old;
+    new = new;
+    refused = record {
+      error = h.error;
+      cause = h.cause;
+      refused = refused_wider W WritesAny (λ sql params written. tt) old new h.error h.refused;
+    };
+  }
+
+  -- so of a call that writes nothing
   pub was_refused : (old new : Held S) → WasRefusedIn g old new → WasRefused g
-  was_refused old new h = record { old = old; new = new; refused = h }
+  was_refused old new h = put_refused WritesNothing old new h

@@ -16,6 +16,7 @@ use Rattle.kept_tables.specs.Stands.{HasOffice}
 use Rattle.kept_tables.specs.Texts.{undo, find_version, find_last, find_past, find_day, find_seal, find_spent}
 use Rattle.kept_tables.specs.Texts.{list_spent, list_vehicle, find_tariffs, put_day, put_seal, put_spent, put_past}
 use Rattle.kept_tables.specs.Texts.{drop_tariff, put_tariff}
+use Rattle.keeper_writes.specs.Writes.{WritesNothing, WritesAny}
 
 -- all that a keeper asks of its tables
 abbrev pub asked_texts : List (List ℕ)
@@ -46,58 +47,82 @@ RefusesQuery sql params before after e =
     IsOneOf asked_texts sql × (IsTrue before.is_open → before.now ≡ before.committed)
     × FailsToQuery sql params before after e
 
--- so was a text that writes within a transaction
-abbrev pub RefusesWrite : List ℕ → Row → State → State → Error → Type 0
-RefusesWrite sql params before after e =
-    IsOneOf written_texts sql × IsTrue before.in_transaction × ExecutesInside 0 sql params before after (Err e)
+-- so was a text that the call writes within a transaction, with its values
+abbrev pub RefusesWrite : (List ℕ → Row → Type 0) → List ℕ → Row → State → State → Error → Type 0
+RefusesWrite writes sql params before after e =
+    writes sql params × IsOneOf written_texts sql × IsTrue before.in_transaction
+    × ExecutesInside 0 sql params before after (Err e)
 
--- so was the commit of a transaction
-abbrev pub RefusesCommit : State → State → Error → Type 0
-RefusesCommit before after e = IsTrue before.in_transaction × FailsToCommit before after e
+-- a call writes something
+pub record WritesSome (writes : List ℕ → Row → Type 0) : Type 0 where
+  pub sql : List ℕ
+  pub params : Row
+  pub written : writes sql params
+
+-- so was the commit of a transaction of a call that writes
+abbrev pub RefusesCommit : (List ℕ → Row → Type 0) → State → State → Error → Type 0
+RefusesCommit writes before after e = WritesSome writes × IsTrue before.in_transaction × FailsToCommit before after e
 
 -- one of them was
-abbrev pub RefusesStep : List ℕ → Row → State → State → Error → Type 0
-RefusesStep sql params before after e =
+abbrev pub RefusesStep : (List ℕ → Row → Type 0) → List ℕ → Row → State → State → Error → Type 0
+RefusesStep writes sql params before after e =
     RefusesUndo sql params before after e ⊎ (RefusesQuery sql params before after e
-    ⊎ (RefusesWrite sql params before after e ⊎ RefusesCommit before after e))
+    ⊎ (RefusesWrite writes sql params before after e ⊎ RefusesCommit writes before after e))
 
--- the database refused a step of a call with this error: up to the step nothing was committed, and the call ends with what
--- the step left
-pub record RefusedIn {S : Type 0} (g : Ghosts S) (old new : Held S) (error : Error) : Type 0 where
+-- the database refused a step of a call that writes these texts, each with its values, with this error: up to the step
+-- nothing was committed, and the call ends with what the step left
+pub record RefusedOf {S : Type 0} (g : Ghosts S) (writes : List ℕ → Row → Type 0) (old new : Held S) (error : Error) :
+    Type 0 where
   pub sql : List ℕ
   pub params : Row
   pub before : Held S
   pub after : Held S
-  pub refused : RefusesStep sql params (state g before) (state g after) error
+  pub refused : RefusesStep writes sql params (state g before) (state g after) error
   pub begun : KeepsCommit (state g old) (state g before)
   pub reached : Survives (state g old) (state g before) (λ _. ⊥)
   pub left : Survives (state g after) (state g new) (λ _. ⊥)
 
+-- the same of a call that writes nothing
+abbrev pub RefusedIn : {S : Type 0} → Ghosts S → Held S → Held S → Error → Type 0
+RefusedIn g old new e = RefusedOf g WritesNothing old new e
+
 -- an error is told with which the database refused a step of a call
-abbrev pub IsTold : {S : Type 0} → Ghosts S → Held S → Held S → Option Error → Type 0
-IsTold g old new None = ⊥
-IsTold g old new (Some e) = RefusedIn g old new e
+abbrev pub IsTold : {S : Type 0} → Ghosts S → (List ℕ → Row → Type 0) → Held S → Held S → Option Error → Type 0
+IsTold g writes old new None = ⊥
+IsTold g writes old new (Some e) = RefusedOf g writes old new e
 
 -- a step was refused, and not for want of memory
-pub record WasRefusedIn {S : Type 0} (g : Ghosts S) (old new : Held S) : Type 0 where
+pub record WasRefusedOf {S : Type 0} (g : Ghosts S) (writes : List ℕ → Row → Type 0) (old new : Held S) : Type 0 where
   pub error : Error
   pub cause : error ≢ SqliteFailure OutOfMemory
-  pub refused : RefusedIn g old new error
+  pub refused : RefusedOf g writes old new error
+
+-- the same of a call that writes nothing
+abbrev pub WasRefusedIn : {S : Type 0} → Ghosts S → Held S → Held S → Type 0
+WasRefusedIn g old new = WasRefusedOf g WritesNothing old new
 
 -- the database had no memory for a step of a call
+abbrev pub LackedMemoryOf : {S : Type 0} → Ghosts S → (List ℕ → Row → Type 0) → Held S → Held S → Type 0
+LackedMemoryOf g writes old new = RefusedOf g writes old new (SqliteFailure OutOfMemory)
+
+-- the same of a call that writes nothing
 abbrev pub LackedMemory : {S : Type 0} → Ghosts S → Held S → Held S → Type 0
-LackedMemory g old new = RefusedIn g old new (SqliteFailure OutOfMemory)
+LackedMemory g old new = LackedMemoryOf g WritesNothing old new
 
 -- the step of some call was refused, and not for want of memory
 pub record WasRefused {S : Type 0} (g : Ghosts S) : Type 0 where
   pub old : Held S
   pub new : Held S
-  pub refused : WasRefusedIn g old new
+  pub refused : WasRefusedOf g WritesAny old new
 
 -- a fault has its own cause: a failure that a step was refused, want of memory that the database had none
+abbrev pub HasCauseOf : {S : Type 0} → Ghosts S → (List ℕ → Row → Type 0) → Held S → Held S → KeepFault → Type 0
+HasCauseOf g writes old new Failed = WasRefusedOf g writes old new
+HasCauseOf g writes old new NoMemory = LackedMemoryOf g writes old new
+
+-- the same of a call that writes nothing
 abbrev pub HasCause : {S : Type 0} → Ghosts S → Held S → Held S → KeepFault → Type 0
-HasCause g old new Failed = WasRefusedIn g old new
-HasCause g old new NoMemory = LackedMemory g old new
+HasCause g old new fault = HasCauseOf g WritesNothing old new fault
 
 -- six tables hold no office
 abbrev pub HasNoOffice : Database → Type 0

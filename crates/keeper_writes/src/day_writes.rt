@@ -9,7 +9,8 @@ ghost use Rattle.keeper.specs.Office.{Office};
 ghost use Rattle.keeper.specs.Kept.{IsDayPut, IsLater, with_day};
 ghost use Rattle.kept_tables.specs.Stands.{Contents, Holds, HoldsAs, HasOffice, IsWholeDigest, with_record, with_seal};
 ghost use Rattle.kept_tables.specs.Steps.{StaysInside};
-ghost use Rattle.keeper_writes.specs.Causes.{RefusedIn};
+ghost use Rattle.keeper_writes.specs.Causes.{RefusedOf};
+ghost use Rattle.keeper_writes.specs.Writes.{WritesDay, WritesRecord, WritesSeal};
 
 use crate::columns::{bytes_of, column};
 use crate::spent_writes::put_amounts;
@@ -34,7 +35,7 @@ pub fn write_day<S: Alter>(
         → StaysInside (state S.Store tx.old.conn.now) (state S.Store tx.new.conn.now) result }
     ensures refused { HasCleanDisk (state S.Store tx.new.conn.now)
         → IsTrue (state S.Store tx.old.conn.now).in_transaction
-        → IfErr result (RefusedIn S.Store tx.old.conn.now tx.new.conn.now) }
+        → IfErr result (RefusedOf S.Store (WritesDay kept.now rows.now) tx.old.conn.now tx.new.conn.now) }
     ensures survives { Survives (state S.Store tx.old.conn.now) (state S.Store tx.new.conn.now) (λ _. ⊥) }
 {
     put_record(tx, kept)?;
@@ -62,7 +63,7 @@ pub fn put_record<S: Alter>(tx: &mut Transaction<'_, S>, kept: &DayRecord) -> Re
         → StaysInside (state S.Store tx.old.conn.now) (state S.Store tx.new.conn.now) result }
     ensures refused { HasCleanDisk (state S.Store tx.new.conn.now)
         → IsTrue (state S.Store tx.old.conn.now).in_transaction
-        → IfErr result (RefusedIn S.Store tx.old.conn.now tx.new.conn.now) }
+        → IfErr result (RefusedOf S.Store (WritesRecord kept.now) tx.old.conn.now tx.new.conn.now) }
     ensures survives { Survives (state S.Store tx.old.conn.now) (state S.Store tx.new.conn.now) (λ _. ⊥) }
 {
     let day = kept.day;
@@ -95,7 +96,7 @@ pub fn put_seal<S: Alter>(tx: &mut Transaction<'_, S>, day: u32, seal: &Digest) 
         → StaysInside (state S.Store tx.old.conn.now) (state S.Store tx.new.conn.now) result }
     ensures refused { HasCleanDisk (state S.Store tx.new.conn.now)
         → IsTrue (state S.Store tx.old.conn.now).in_transaction
-        → IfErr result (RefusedIn S.Store tx.old.conn.now tx.new.conn.now) }
+        → IfErr result (RefusedOf S.Store (WritesSeal day seal.now) tx.old.conn.now tx.new.conn.now) }
     ensures survives { Survives (state S.Store tx.old.conn.now) (state S.Store tx.new.conn.now) (λ _. ⊥) }
 {
     let bytes = bytes_of(&seal.bytes);

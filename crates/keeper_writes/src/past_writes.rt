@@ -6,7 +6,8 @@ ghost use Rattle.keeper.specs.Office.{Office};
 ghost use Rattle.keeper.specs.Kept.{IsPastPut, HasNoDays, with_past};
 ghost use Rattle.kept_tables.specs.Stands.{Contents, Holds, HasOffice, FitsPast, with_history};
 ghost use Rattle.kept_tables.specs.Steps.{StaysInside};
-ghost use Rattle.keeper_writes.specs.Causes.{RefusedIn};
+ghost use Rattle.keeper_writes.specs.Causes.{RefusedOf};
+ghost use Rattle.keeper_writes.specs.Writes.{WritesPast, WritesHistory};
 
 use crate::columns::{bytes_of, column};
 use crate::spent_writes::put_amounts;
@@ -31,7 +32,7 @@ pub fn write_past<S: Alter>(
         → StaysInside (state S.Store tx.old.conn.now) (state S.Store tx.new.conn.now) result }
     ensures refused { HasCleanDisk (state S.Store tx.new.conn.now)
         → IsTrue (state S.Store tx.old.conn.now).in_transaction
-        → IfErr result (RefusedIn S.Store tx.old.conn.now tx.new.conn.now) }
+        → IfErr result (RefusedOf S.Store (WritesPast kept.now rows.now) tx.old.conn.now tx.new.conn.now) }
     ensures survives { Survives (state S.Store tx.old.conn.now) (state S.Store tx.new.conn.now) (λ _. ⊥) }
 {
     put_history(tx, kept)?;
@@ -53,7 +54,7 @@ fn put_history<S: Alter>(tx: &mut Transaction<'_, S>, kept: &PastRecord) -> Resu
         → StaysInside (state S.Store tx.old.conn.now) (state S.Store tx.new.conn.now) result }
     ensures refused { HasCleanDisk (state S.Store tx.new.conn.now)
         → IsTrue (state S.Store tx.old.conn.now).in_transaction
-        → IfErr result (RefusedIn S.Store tx.old.conn.now tx.new.conn.now) }
+        → IfErr result (RefusedOf S.Store (WritesHistory kept.now) tx.old.conn.now tx.new.conn.now) }
     ensures survives { Survives (state S.Store tx.old.conn.now) (state S.Store tx.new.conn.now) (λ _. ⊥) }
 {
     let base = kept.base;

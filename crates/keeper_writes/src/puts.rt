@@ -7,7 +7,8 @@ ghost use Rattle.keeper.specs.Office.{Office};
 ghost use Rattle.keeper.specs.Kept.{IsDayPut, IsPastPut, IsLater, HasNoDays, with_day, with_past, with_tariff_of};
 ghost use Rattle.kept_tables.specs.Stands.{HasOffice};
 ghost use Rattle.kept_tables.specs.Steps.{CommitsFor, CommitsNow, FitsAny};
-ghost use Rattle.keeper_writes.specs.Causes.{RefusedIn, HasCause, IsTold};
+ghost use Rattle.keeper_writes.specs.Causes.{RefusedOf, HasCauseOf, IsTold};
+ghost use Rattle.keeper_writes.specs.Writes.{WritesDay, WritesPast, WritesTariff};
 
 use crate::day_writes::write_day;
 use crate::past_writes::write_past;
@@ -32,9 +33,10 @@ pub fn put_day<S: Alter>(
     ensures open { HasCleanDisk (state S.Store conn.new) → OnOk result (IsTrue (state S.Store conn.new).is_open) }
     ensures refused { HasCleanDisk (state S.Store conn.new)
         → OnErr result (KeepsCommit (state S.Store conn.old) (state S.Store conn.new)) }
-    ensures why { HasCleanDisk (state S.Store conn.new) → IfErr result (HasCause S.Store conn.old conn.new) }
+    ensures why { HasCleanDisk (state S.Store conn.new)
+        → IfErr result (HasCauseOf S.Store (WritesDay kept.now rows.now) conn.old conn.new) }
     ensures told { HasCleanDisk (state S.Store conn.new)
-        → OnErr result (IsTold S.Store conn.old conn.new why.new) }
+        → OnErr result (IsTold S.Store (WritesDay kept.now rows.now) conn.old conn.new why.new) }
     ensures quiet { OnOk result (why.new ≡ why.old) }
     ensures crash { Survives (state S.Store conn.old) (state S.Store conn.new) (CommitsFor (IsLater kept.now.day)
         (with_day kept.now rows.now) (state S.Store conn.old).committed) }
@@ -64,7 +66,7 @@ fn keep_day<S: Alter>(
         → OnErr result (KeepsCommit (state S.Store conn.old) (state S.Store conn.new)) }
     ensures because { HasCleanDisk (state S.Store conn.new)
         → IfErr result (λ e. IsTrue (state S.Store conn.old).in_transaction
-        ⊎ RefusedIn S.Store conn.old conn.new e) }
+        ⊎ RefusedOf S.Store (WritesDay kept.now rows.now) conn.old conn.new e) }
     ensures crash { Survives (state S.Store conn.old) (state S.Store conn.new) (CommitsNow (IsLater kept.now.day)
         (with_day kept.now rows.now) (state S.Store conn.old)) }
 {
@@ -90,9 +92,10 @@ pub fn put_past<S: Alter>(
     ensures open { HasCleanDisk (state S.Store conn.new) → OnOk result (IsTrue (state S.Store conn.new).is_open) }
     ensures refused { HasCleanDisk (state S.Store conn.new)
         → OnErr result (KeepsCommit (state S.Store conn.old) (state S.Store conn.new)) }
-    ensures why { HasCleanDisk (state S.Store conn.new) → IfErr result (HasCause S.Store conn.old conn.new) }
+    ensures why { HasCleanDisk (state S.Store conn.new)
+        → IfErr result (HasCauseOf S.Store (WritesPast kept.now rows.now) conn.old conn.new) }
     ensures told { HasCleanDisk (state S.Store conn.new)
-        → OnErr result (IsTold S.Store conn.old conn.new why.new) }
+        → OnErr result (IsTold S.Store (WritesPast kept.now rows.now) conn.old conn.new why.new) }
     ensures quiet { OnOk result (why.new ≡ why.old) }
     ensures crash { Survives (state S.Store conn.old) (state S.Store conn.new) (CommitsFor HasNoDays
         (with_past kept.now rows.now) (state S.Store conn.old).committed) }
@@ -121,7 +124,7 @@ fn keep_past<S: Alter>(
         → OnErr result (KeepsCommit (state S.Store conn.old) (state S.Store conn.new)) }
     ensures because { HasCleanDisk (state S.Store conn.new)
         → IfErr result (λ e. IsTrue (state S.Store conn.old).in_transaction
-        ⊎ RefusedIn S.Store conn.old conn.new e) }
+        ⊎ RefusedOf S.Store (WritesPast kept.now rows.now) conn.old conn.new e) }
     ensures crash { Survives (state S.Store conn.old) (state S.Store conn.new) (CommitsNow HasNoDays
         (with_past kept.now rows.now) (state S.Store conn.old)) }
 {
@@ -147,9 +150,10 @@ pub fn put_tariff<S: Alter>(
     ensures open { HasCleanDisk (state S.Store conn.new) → OnOk result (IsTrue (state S.Store conn.new).is_open) }
     ensures refused { HasCleanDisk (state S.Store conn.new)
         → OnErr result (KeepsCommit (state S.Store conn.old) (state S.Store conn.new)) }
-    ensures why { HasCleanDisk (state S.Store conn.new) → IfErr result (HasCause S.Store conn.old conn.new) }
+    ensures why { HasCleanDisk (state S.Store conn.new)
+        → IfErr result (HasCauseOf S.Store (WritesTariff xway tariff.now) conn.old conn.new) }
     ensures told { HasCleanDisk (state S.Store conn.new)
-        → OnErr result (IsTold S.Store conn.old conn.new why.new) }
+        → OnErr result (IsTold S.Store (WritesTariff xway tariff.now) conn.old conn.new why.new) }
     ensures quiet { OnOk result (why.new ≡ why.old) }
     ensures crash { Survives (state S.Store conn.old) (state S.Store conn.new) (CommitsFor FitsAny
         (with_tariff_of xway tariff.now) (state S.Store conn.old).committed) }
@@ -174,7 +178,7 @@ fn replace<S: Alter>(conn: &mut Connection<S>, xway: u8, tariff: &Tariff) -> Res
         → OnErr result (KeepsCommit (state S.Store conn.old) (state S.Store conn.new)) }
     ensures because { HasCleanDisk (state S.Store conn.new)
         → IfErr result (λ e. IsTrue (state S.Store conn.old).in_transaction
-        ⊎ RefusedIn S.Store conn.old conn.new e) }
+        ⊎ RefusedOf S.Store (WritesTariff xway tariff.now) conn.old conn.new e) }
     ensures crash { Survives (state S.Store conn.old) (state S.Store conn.new) (CommitsNow FitsAny
         (with_tariff_of xway tariff.now) (state S.Store conn.old)) }
 {

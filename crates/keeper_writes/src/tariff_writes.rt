@@ -8,7 +8,8 @@ ghost use Rattle.keeper.specs.Office.{Office};
 ghost use Rattle.keeper.specs.Kept.{with_tariff_of};
 ghost use Rattle.kept_tables.specs.Stands.{HasOffice};
 ghost use Rattle.kept_tables.specs.Steps.{StaysInside};
-ghost use Rattle.keeper_writes.specs.Causes.{RefusedIn};
+ghost use Rattle.keeper_writes.specs.Causes.{RefusedOf};
+ghost use Rattle.keeper_writes.specs.Writes.{WritesTariff, WritesTaken, WritesGiven};
 
 use road_time::Tariff;
 use sqlite::{Alter, Error, Transaction, params};
@@ -26,7 +27,7 @@ pub fn write<S: Alter>(tx: &mut Transaction<'_, S>, xway: u8, tariff: &Tariff) -
         → StaysInside (state S.Store tx.old.conn.now) (state S.Store tx.new.conn.now) result }
     ensures refused { HasCleanDisk (state S.Store tx.new.conn.now)
         → IsTrue (state S.Store tx.old.conn.now).in_transaction
-        → IfErr result (RefusedIn S.Store tx.old.conn.now tx.new.conn.now) }
+        → IfErr result (RefusedOf S.Store (WritesTariff xway tariff.now) tx.old.conn.now tx.new.conn.now) }
     ensures survives { Survives (state S.Store tx.old.conn.now) (state S.Store tx.new.conn.now) (λ _. ⊥) }
 {
     take(tx, xway)?;
@@ -48,7 +49,7 @@ fn take<S: Alter>(tx: &mut Transaction<'_, S>, xway: u8) -> Result<(), Error>
         → StaysInside (state S.Store tx.old.conn.now) (state S.Store tx.new.conn.now) result }
     ensures refused { HasCleanDisk (state S.Store tx.new.conn.now)
         → IsTrue (state S.Store tx.old.conn.now).in_transaction
-        → IfErr result (RefusedIn S.Store tx.old.conn.now tx.new.conn.now) }
+        → IfErr result (RefusedOf S.Store (WritesTaken xway) tx.old.conn.now tx.new.conn.now) }
     ensures survives { Survives (state S.Store tx.old.conn.now) (state S.Store tx.new.conn.now) (λ _. ⊥) }
 {
     match tx.execute(
@@ -74,7 +75,7 @@ fn give<S: Alter>(tx: &mut Transaction<'_, S>, xway: u8, tariff: &Tariff) -> Res
         → StaysInside (state S.Store tx.old.conn.now) (state S.Store tx.new.conn.now) result }
     ensures refused { HasCleanDisk (state S.Store tx.new.conn.now)
         → IsTrue (state S.Store tx.old.conn.now).in_transaction
-        → IfErr result (RefusedIn S.Store tx.old.conn.now tx.new.conn.now) }
+        → IfErr result (RefusedOf S.Store (WritesGiven xway tariff.now) tx.old.conn.now tx.new.conn.now) }
     ensures survives { Survives (state S.Store tx.old.conn.now) (state S.Store tx.new.conn.now) (λ _. ⊥) }
 {
     match tx.execute(

@@ -31,7 +31,7 @@ use Rattle.office_commands.specs.Closings.{status_of}
 use Rattle.office_commands.specs.Commands.{closing_by, compared_tuples}
 use Rattle.office_commands.specs.Endings.{EndsCommand, code_of, stopping, refusing}
 use Rattle.office_commands.specs.Starts.{WasWorked, StartsDay, SaysWorked, SaysImported, SaysCompared, StartsBulk}
-use Rattle.office_commands.specs.Starts.{StartsAsked, backlog_of}
+use Rattle.office_commands.specs.Starts.{StartsAsked, SeesAsked, backlog_of}
 use Rattle.office_commands.specs.Traffic.{plan_from_seed}
 use Rattle.office_commands.proofs.OutcomeLaws.{code_is}
 use Rattle.office_commands.proofs.RestLaws.{IsNew, is_new}
@@ -243,3 +243,8 @@ module _ (code : ℕ) (well : code ≢ 0) (parted : code ≢ 7) (named : code �
   starts_other limits (Some (command.Rehearse seed size run')) bytes kept told =
       day_none run' (backlog_of run' DAY) (generated (plan_from_seed seed size)) (code ≡ 0) told well
   starts_other limits _ bytes kept told = tt
+
+  -- and saw no day
+  pub sees_other : (m : Option Command) (shards : ℕ) → SeesAsked m code shards
+  sees_other (Some (command.Compare asked)) shards = λ said. absurd (uncompared said)
+  sees_other _ shards = tt

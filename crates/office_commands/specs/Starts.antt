@@ -65,6 +65,12 @@ abbrev pub shards_of : Recomputing → ℕ
 shards_of Plainly = 0
 shards_of (InBulk shards width) = shards
 
+-- by how many shards of its vehicles the day of a command was seen: where notices were compared, by as many as the
+-- words name
+abbrev pub SeesAsked : Option Command → ℕ → ℕ → Type 0
+SeesAsked (Some (command.Compare asked)) status shards = SaysCompared status → shards ≡ shards_of asked.how
+SeesAsked _ status shards = Unit {0}
+
 -- the jobs that words start, by the command that they ask for: over as many workers as they name
 abbrev pub StartsAsked : Limits → Option Command → List ℕ → Option Office → ℕ → Option CrewTold → Option CrewTold →
     Type 0

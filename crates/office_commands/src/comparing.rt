@@ -128,7 +128,8 @@ fn compare_notices<A: Source>(
     }
 }
 
-/// Compares the notices of a day that was read with the lines of an aside, and gives the first differences.
+/// Compares the notices of a day that was read with the lines of an aside, and gives the first differences. By how many
+/// shards its vehicles were seen stands in `shards_seen` where notices were compared.
 fn compare_day<A: Source, K: Keeper, C: Crew, R: Threads + Sync>(
     rt: &R,
     alloc: Global,
@@ -138,6 +139,7 @@ fn compare_day<A: Source, K: Keeper, C: Crew, R: Threads + Sync>(
     aside: &mut A,
     keeper: &mut K,
     crew: &mut C,
+    shards_seen: &mut usize,
     shown: &mut Vec<Difference>,
 ) -> Closing
     requires fit { IsDay day.now.tuples.items }
@@ -161,6 +163,7 @@ fn compare_day<A: Source, K: Keeper, C: Crew, R: Threads + Sync>(
     ensures unused { in_bulk asked.how ≡ false → crew.new ≡ crew.old }
     ensures jobs { StartsBulk asked.how day.now.tuples.items (SaysCompared (status_of result)) (C.jobs crew.old)
         (C.jobs crew.new) }
+    ensures by { SaysCompared (status_of result) → shards_seen.new ≡ shards_of asked.how }
     ensures idle { C.out crew.new ≡ [] }
     ensures crew { C.which crew.new ≡ C.which crew.old }
     ensures aside { FaultsByPlan (A.faults aside.old) (A.faults aside.new) (A.plan aside.old) (result ≡ ReadFault) }
@@ -179,13 +182,17 @@ fn compare_day<A: Source, K: Keeper, C: Crew, R: Threads + Sync>(
         keeper,
         crew,
     ) {
-        Ok(wanted) => compare_notices(alloc, asked.show, wanted.items(), aside, shown),
+        Ok(wanted) => {
+            *shards_seen = wanted.shards();
+            compare_notices(alloc, asked.show, wanted.items(), aside, shown)
+        }
         Err(fault) => refused(fault),
     }
 }
 
 /// Compares the notices of what the source has, after what the keeper keeps, with the lines of an aside, unless a
-/// line is refused. Gives the first differences, where more than one is asked for.
+/// line is refused. Gives the first differences, where more than one is asked for. By how many shards the vehicles were
+/// seen stands in `shards_seen` where notices were compared.
 pub fn compare_source<S: Source, A: Source, K: Keeper, C: Crew, R: Threads + Sync>(
     rt: &R,
     alloc: Global,
@@ -195,6 +202,7 @@ pub fn compare_source<S: Source, A: Source, K: Keeper, C: Crew, R: Threads + Syn
     aside: &mut A,
     keeper: &mut K,
     crew: &mut C,
+    shards_seen: &mut usize,
     shown: &mut Vec<Difference>,
 ) -> Closing
     requires range { IsComparing asked }
@@ -222,6 +230,7 @@ pub fn compare_source<S: Source, A: Source, K: Keeper, C: Crew, R: Threads + Syn
     ensures jobs { (bytes : List ℕ) → S.left source.old ≡ Some bytes
         → StartsBulk asked.how (compared_tuples limits.now asked bytes) (SaysCompared (status_of result))
         (C.jobs crew.old) (C.jobs crew.new) }
+    ensures by { SaysCompared (status_of result) → shards_seen.new ≡ shards_of asked.how }
     ensures idle { C.out crew.new ≡ [] }
     ensures crew { C.which crew.new ≡ C.which crew.old }
     ensures read { ReadFaults (S.faults source.old) (S.faults source.new) (A.faults aside.old) (A.faults aside.new)
@@ -235,7 +244,16 @@ pub fn compare_source<S: Source, A: Source, K: Keeper, C: Crew, R: Threads + Syn
     };
     match read_day(rt, alloc, limits, asked.how, asked.late, source) {
         Ok(read) => compare_day(
-            rt, alloc, asked, &read, &tariffs, aside, keeper, crew, shown,
+            rt,
+            alloc,
+            asked,
+            &read,
+            &tariffs,
+            aside,
+            keeper,
+            crew,
+            shards_seen,
+            shown,
         ),
         Err(stop) => stopped(stop),
     }

@@ -14,7 +14,7 @@ ghost use Rattle.office_commands.specs.declared.closing.Closing.TheVariants.{Rea
 ghost use Rattle.office_commands.specs.Uses.{asked, IsTold, IsRightCrew, IsRightAside, SourceTells, KeeperTells};
 ghost use Rattle.office_commands.specs.Uses.{uses_crew, uses_source, uses_aside, uses_keeper, changes_kept, AsksPassed};
 ghost use Rattle.office_commands.specs.Uses.{PutsAsked, most_of, most_aside_of};
-ghost use Rattle.office_commands.specs.Starts.{StartsAsked};
+ghost use Rattle.office_commands.specs.Starts.{StartsAsked, SeesAsked};
 ghost use Rattle.import_once.specs.Faults.{FaultsBeside};
 ghost use Rattle.office_commands.specs.Faults.{ReadFaults, TellsNoOther};
 ghost use Rattle.road_io.specs.Blame.{FaultsByPlan, FaultsByRoom};
@@ -57,7 +57,8 @@ fn close<O: Sink>(alloc: Global, closing: Closing, sink: &mut O) -> u8
     }
 }
 
-/// Does what the words ask, but for the closing line.
+/// Does what the words ask, but for the closing line. By how many shards the vehicles of a compared day were seen
+/// stands in `shards_seen`.
 fn run<S: Source, A: Source, O: Sink, K: Keeper, C: Crew, R: Threads + Sync>(
     rt: &R,
     alloc: Global,
@@ -68,6 +69,7 @@ fn run<S: Source, A: Source, O: Sink, K: Keeper, C: Crew, R: Threads + Sync>(
     sink: &mut O,
     keeper: &mut K,
     crew: &mut C,
+    shards_seen: &mut usize,
 ) -> Result<Option<Closing>, Failed>
     requires within { IsLimits limits.now }
     requires idle { C.out crew.old ≡ [] }
@@ -100,6 +102,7 @@ fn run<S: Source, A: Source, O: Sink, K: Keeper, C: Crew, R: Threads + Sync>(
         → SourceTells (asked words.now) (S.left source.old) bytes
         → StartsAsked limits.now (asked words.now) bytes (K.told keeper.old) (code_of result) (C.jobs crew.old)
         (C.jobs crew.new) }
+    ensures by { SeesAsked (asked words.now) (code_of result) shards_seen.new }
     ensures idle { C.out crew.new ≡ [] }
     ensures crew { C.which crew.new ≡ C.which crew.old }
     ensures reads { uses_source (asked words.now) ≡ true
@@ -126,7 +129,16 @@ fn run<S: Source, A: Source, O: Sink, K: Keeper, C: Crew, R: Threads + Sync>(
 {
     match read_words(alloc, words) {
         Ok(command) => perform(
-            rt, alloc, command, limits, source, aside, sink, keeper, crew,
+            rt,
+            alloc,
+            command,
+            limits,
+            source,
+            aside,
+            sink,
+            keeper,
+            crew,
+            shards_seen,
         ),
         Err(WordFault::Words) => Ok(Some(Closing::Words)),
         Err(WordFault::NoMemory) => Ok(Some(Closing::NoMemory)),
@@ -202,7 +214,19 @@ pub fn office<S: Source, A: Source, O: Sink, K: Keeper, C: Crew, R: Threads + Sy
     ensures keeper { FaultsBeside (K.faults keeper.old) (K.faults keeper.new) (K.plan keeper.old) (result ≡ 6)
         ((result ≢ 5) × (result ≢ 8)) }
 {
-    match run(rt, alloc, words, limits, source, aside, sink, keeper, crew) {
+    let mut shards_seen = 0;
+    match run(
+        rt,
+        alloc,
+        words,
+        limits,
+        source,
+        aside,
+        sink,
+        keeper,
+        crew,
+        &mut shards_seen,
+    ) {
         Ok(Some(closing)) => close(alloc, closing, sink),
         Ok(None) => 0,
         Err(_) => 5,

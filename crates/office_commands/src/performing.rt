@@ -11,7 +11,7 @@ ghost use Rattle.office_commands.specs.declared.closing.Closing.TheVariants.{Rea
 ghost use Rattle.office_commands.specs.Uses.{IsTold, IsRightCrew, IsRightAside, SourceTells, KeeperTells, uses_crew};
 ghost use Rattle.office_commands.specs.Uses.{uses_source, uses_aside, uses_keeper, changes_kept, AsksPassed, PutsAsked};
 ghost use Rattle.office_commands.specs.Uses.{most_of, most_aside_of};
-ghost use Rattle.office_commands.specs.Starts.{StartsAsked};
+ghost use Rattle.office_commands.specs.Starts.{StartsAsked, SeesAsked};
 ghost use Rattle.office_commands.specs.Commands.{office_answer};
 ghost use Rattle.office_commands.specs.Faults.{ReadFaults, TellsNoOther};
 ghost use Rattle.road_io.specs.Blame.{FaultsByPlan, FaultsByRoom};
@@ -36,7 +36,8 @@ use road_time::Limits;
 use std::alloc::Global;
 use std::thread::Threads;
 
-/// Does what a command asks, but for the closing line.
+/// Does what a command asks, but for the closing line. By how many shards the vehicles of a compared day were seen
+/// stands in `shards_seen`.
 #[tactic(auto, using(day_reading::proofs::BoundLaws::nothing_read))]
 pub(crate) fn perform<S: Source, A: Source, O: Sink, K: Keeper, C: Crew, R: Threads + Sync>(
     rt: &R,
@@ -48,6 +49,7 @@ pub(crate) fn perform<S: Source, A: Source, O: Sink, K: Keeper, C: Crew, R: Thre
     sink: &mut O,
     keeper: &mut K,
     crew: &mut C,
+    shards_seen: &mut usize,
 ) -> Result<Option<Closing>, Failed>
     requires limits { IsLimits limits.now }
     requires range { IsInRange command }
@@ -79,6 +81,7 @@ pub(crate) fn perform<S: Source, A: Source, O: Sink, K: Keeper, C: Crew, R: Thre
         → SourceTells (Some command) (S.left source.old) bytes
         → StartsAsked limits.now (Some command) bytes (K.told keeper.old) (code_of result) (C.jobs crew.old)
         (C.jobs crew.new) }
+    ensures by { SeesAsked (Some command) (code_of result) shards_seen.new }
     ensures idle { C.out crew.new ≡ [] }
     ensures crew { C.which crew.new ≡ C.which crew.old }
     ensures reads { uses_source (Some command) ≡ true
@@ -113,7 +116,16 @@ pub(crate) fn perform<S: Source, A: Source, O: Sink, K: Keeper, C: Crew, R: Thre
             import(rt, alloc, run, &own, source, sink, keeper, crew)
         }
         Command::Compare(asked) => compare_and_tell(
-            rt, alloc, asked, limits, source, aside, sink, keeper, crew,
+            rt,
+            alloc,
+            asked,
+            limits,
+            source,
+            aside,
+            sink,
+            keeper,
+            crew,
+            shards_seen,
         ),
         Command::Past { base } => Ok(Some(past(rt, alloc, base, limits, source, keeper))),
         Command::Day { day: number } => day(alloc, number, sink, keeper),

@@ -16,7 +16,7 @@ ghost use Rattle.office_commands.specs.Differences.{differences_text};
 ghost use Rattle.office_commands.specs.Endings.{Wrote, StandsBefore, code_of};
 ghost use Rattle.office_commands.specs.Faults.{ReadFaults, TellsNoOther};
 ghost use Rattle.office_commands.specs.Rests.{HasReadDay};
-ghost use Rattle.office_commands.specs.Starts.{StartsBulk, SaysCompared};
+ghost use Rattle.office_commands.specs.Starts.{StartsBulk, SaysCompared, shards_of};
 ghost use Rattle.office_commands.specs.Uses.{most_noticed};
 
 use crate::closing::Closing;
@@ -58,8 +58,8 @@ fn tell<O: Sink>(
     }
 }
 
-/// Compares the notices of what the source has with the lines of an aside, as `compare_source` does, and tells the first
-/// differences, where more than one is asked for.
+/// Compares the notices of what the source has with the lines of an aside, as `compare_source` does, and tells the
+/// first differences, where more than one is asked for.
 pub fn compare_and_tell<S: Source, A: Source, O: Sink, K: Keeper, C: Crew, R: Threads + Sync>(
     rt: &R,
     alloc: Global,
@@ -70,6 +70,7 @@ pub fn compare_and_tell<S: Source, A: Source, O: Sink, K: Keeper, C: Crew, R: Th
     sink: &mut O,
     keeper: &mut K,
     crew: &mut C,
+    shards_seen: &mut usize,
 ) -> Result<Option<Closing>, Failed>
     requires range { IsComparing asked }
     requires within { IsLimits limits.now }
@@ -94,6 +95,7 @@ pub fn compare_and_tell<S: Source, A: Source, O: Sink, K: Keeper, C: Crew, R: Th
     ensures jobs { (bytes : List ℕ) → S.left source.old ≡ Some bytes
         → StartsBulk asked.how (compared_tuples limits.now asked bytes) (SaysCompared (code_of result))
         (C.jobs crew.old) (C.jobs crew.new) }
+    ensures by { SaysCompared (code_of result) → shards_seen.new ≡ shards_of asked.how }
     ensures idle { C.out crew.new ≡ [] }
     ensures crew { C.which crew.new ≡ C.which crew.old }
     ensures read { ReadFaults (S.faults source.old) (S.faults source.new) (A.faults aside.old) (A.faults aside.new)
@@ -106,7 +108,16 @@ pub fn compare_and_tell<S: Source, A: Source, O: Sink, K: Keeper, C: Crew, R: Th
 {
     let mut shown = Vec::new(alloc);
     let closing = compare_source(
-        rt, alloc, asked, limits, source, aside, keeper, crew, &mut shown,
+        rt,
+        alloc,
+        asked,
+        limits,
+        source,
+        aside,
+        keeper,
+        crew,
+        shards_seen,
+        &mut shown,
     );
     tell(alloc, closing, shown.as_slice(), sink)
 }

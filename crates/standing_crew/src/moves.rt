@@ -7,7 +7,7 @@ ghost use Rattle.standing_crew.specs.Steps.{IsOfInput};
 ghost use Rattle.standing_crew.specs.Views.{CanBeRun, input_of, with_taken};
 ghost use Rattle.standing_crew.specs.Views.{after_announce, after_take, after_collect, after_stop};
 ghost use Rattle.standing_crew.specs.Calls.{IsAt, IsSame, KeepsSeat, HasTurn};
-ghost use Rattle.standing_crew.specs.declared.moves.TheConstants.{BELL};
+ghost use Rattle.standing_crew.specs.declared.moves.TheConstants.{BELL, SLEEPERS, CREW_WAITS};
 
 use crate::cells::{CellSeat, CellTable, Parcel};
 use crate::plays::{
@@ -106,6 +106,7 @@ pub(crate) fn give_back(
 pub(crate) fn wake_crew(cells: &CellTable, given: GivenBack, waits: usize)
     requires cell { given.cell < cells.now.table_id.words }
     requires waits { waits < cells.now.table_id.words }
+    requires word { waits ≡ cells.now.table_id.slots + CREW_WAITS }
 {
     let GivenBack { cell } = given;
     if cells.peek(waits) != 0 {
@@ -184,6 +185,7 @@ pub(crate) fn ring(cells: &CellTable, seat: &mut CellSeat, count: usize) -> Rung
 pub(crate) fn wake_one(cells: &CellTable, rung: Rung, sleepers: usize)
     requires bell { rung.word < cells.now.table_id.words }
     requires sleepers { sleepers < cells.now.table_id.words }
+    requires word { sleepers ≡ cells.now.table_id.slots + SLEEPERS }
 {
     let Rung { word } = rung;
     if cells.peek(sleepers) != 0 {
@@ -214,7 +216,8 @@ pub(crate) struct CrewLies(());
 
 /// Looks at the bell.
 pub(crate) fn hear(cells: &CellTable, bell: usize) -> Heard
-    requires { bell < cells.now.table_id.words }
+    requires bell { bell < cells.now.table_id.words }
+    requires word { bell ≡ cells.now.table_id.slots + BELL }
 {
     Heard {
         rung: cells.peek(bell),
@@ -229,14 +232,16 @@ pub(crate) fn sleep_at_bell<R: Wait>(
     heard: &Heard,
     bell: usize,
 )
-    requires { bell < cells.now.table_id.words }
+    requires bell { bell < cells.now.table_id.words }
+    requires word { bell ≡ cells.now.table_id.slots + BELL }
 {
     cells.park(rt, bell, (heard.rung & 0xffff_ffff) as u32);
 }
 
 /// A crew that said so sleeps while a cell's job is taken.
 pub(crate) fn sleep_at_cell<R: Wait>(rt: &R, cells: &CellTable, _lies: &CrewLies, cell: usize)
-    requires { cell < cells.now.table_id.words }
+    requires word { cell < cells.now.table_id.words }
+    requires cell { cell < cells.now.table_id.slots }
 {
     cells.park(rt, cell, TAKEN as u32);
 }

@@ -127,7 +127,8 @@ fn two_jobs_are_run_on_the_caller_alone(rt: HostRuntime) -> Result<(), NoMemory>
     Ok(())
 }
 
-/// Holds job 0 until job 1 has passed, for so many looks, and notes whether it saw that.
+/// Holds job 0 until job 1 has passed, for so many looks, and notes whether it saw that. It looks at no job that comes
+/// under another worker than its own, 3.
 #[derive(Drop)]
 struct SecondFirst {
     passed: Arc<AtomicU64, Global>,
@@ -137,7 +138,10 @@ struct SecondFirst {
 const LOOKS: u32 = 300_000_000;
 
 impl Gate for SecondFirst {
-    fn pass(&self, _worker: u8, number: u32) {
+    fn pass(&self, worker: u8, number: u32) {
+        if worker != 3 {
+            return;
+        }
         if number != 0 {
             self.passed.store(1, Ordering::SeqCst);
             return;

@@ -8,7 +8,8 @@ use std::sync::Arc;
 use std::sync::atomic::{AtomicU64, Ordering};
 use std::thread::Threads;
 
-/// Holds job 0 until job 1 has passed, for so many looks, and notes whether it saw that.
+/// Holds job 0 until job 1 has passed, for so many looks, and notes whether it saw that. It looks at no job that comes
+/// under another worker than its own, which has the job's number.
 #[derive(Clone, Drop)]
 struct SecondFirst {
     passed: Arc<AtomicU64, Global>,
@@ -18,7 +19,10 @@ struct SecondFirst {
 const LOOKS: u32 = 300_000_000;
 
 impl Gate for SecondFirst {
-    fn pass(&self, _worker: u8, number: u32) {
+    fn pass(&self, worker: u8, number: u32) {
+        if u32::from(worker) != number {
+            return;
+        }
         if number != 0 {
             self.passed.store(1, Ordering::SeqCst);
             return;

@@ -13,6 +13,9 @@ use std::thread::Threads;
 /// How many jobs and helpers there are.
 const FOUR: u32 = 4;
 
+/// The worker whose jobs are started.
+const WORKER: u8 = 3;
+
 /// How often one looks for another at most.
 const LOOKS: u32 = 300_000_000;
 
@@ -20,7 +23,7 @@ const LOOKS: u32 = 300_000_000;
 const PAUSE: u32 = 20_000_000;
 
 /// Holds four jobs until all have come, and then lets them pass in the order of their numbers, with a pause before
-/// each.
+/// each. It counts no job that comes under another worker than its own.
 #[derive(Drop)]
 struct InTurn {
     came: Arc<AtomicU64, Global>,
@@ -70,7 +73,10 @@ impl InTurn {
 }
 
 impl Gate for InTurn {
-    fn pass(&self, _worker: u8, number: u32) {
+    fn pass(&self, worker: u8, number: u32) {
+        if worker != WORKER {
+            return;
+        }
         let jobs = u64::from(number);
         self.came.fetch_add(1, Ordering::SeqCst);
         if self.all_came() && self.has_passed(jobs) {

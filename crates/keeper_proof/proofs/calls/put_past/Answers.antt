@@ -7,7 +7,8 @@ use Rattle.kept_tables.specs.Stands.{HasOffice}
 use Rattle.table_making.proofs.GrowLaws.{err_stands}
 use Rattle.keeper_proof.proofs.StandLaws.{put_stands, put_lasts, always}
 use Rattle.keeper_proof.proofs.CauseSteps.{causes_after, told_after, on_err}
-use Rattle.keeper_writes.proofs.CauseLaws.{err_handed}
+use Rattle.keeper_writes.specs.Writes.{WritesPast}
+use Rattle.keeper_writes.proofs.CauseLaws.{err_handed, cause_idle}
 use Rattle.keeper_proof.proofs.calls.put_past.Goals as goal
 
 pub returns-in_err-ready-clause-put : goal.returns-in_err-ready-clause-put
@@ -18,7 +19,8 @@ returns-in_err-ready-clause-put g c clean here o stands fit =
 pub returns-in_err-ready-clause-why : goal.returns-in_err-ready-clause-why
 returns-in_err-ready-clause-why g c clean o stands =
     err_handed c.from_residual.result c.in_err-ready.field-0.0 _ c.from_residual.ensures.1
-    (c.in_err-ready.ensures.why clean o stands)
+    (cause_idle g.S.Store (WritesPast c.args.kept.now c.args.rows.now) c.args.conn.now c.ready.new.conn
+    c.in_err-ready.field-0.0 (c.in_err-ready.ensures.why clean o stands))
 
 pub returns-clause-put : goal.returns-clause-put
 returns-clause-put g c clean here o stands fit =
@@ -34,7 +36,8 @@ returns-clause-put g c clean here o stands fit =
 pub returns-clause-why : goal.returns-clause-why
 returns-clause-why g c clean o stands =
     causes_after g.S.Store c.args.conn.now c.ready.new.conn c.put_past.new.conn
-    (c.ready.ensures.kept (omega (arith, c.put_past.ensures.crash.clean))) c.ready.ensures.survives c.put_past.result
+    (c.ready.ensures.kept (omega (arith, c.put_past.ensures.crash.clean))) c.ready.ensures.survives
+    (WritesPast c.args.kept.now c.args.rows.now) c.put_past.result
     (c.put_past.ensures.why clean)
 
 pub returns-clause-crash : goal.returns-clause-crash
@@ -57,6 +60,7 @@ returns-in_err-ready-clause-told g c clean = on_err c.from_residual.result _ (in
 
 pub returns-clause-told : goal.returns-clause-told
 returns-clause-told g c clean =
-    told_after g.S.Store c.args.conn.now c.ready.new.conn c.put_past.new.conn
+    told_after g.S.Store (WritesPast c.args.kept.now c.args.rows.now) c.args.conn.now c.ready.new.conn
+    c.put_past.new.conn
     (c.ready.ensures.kept (omega (arith, c.put_past.ensures.crash.clean))) c.ready.ensures.survives c.put_past.result _ _
     (c.put_past.ensures.told clean)

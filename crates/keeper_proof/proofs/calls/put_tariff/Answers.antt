@@ -8,7 +8,8 @@ use Rattle.kept_tables.specs.Steps.{FitsAny}
 use Rattle.table_making.proofs.GrowLaws.{err_stands}
 use Rattle.keeper_proof.proofs.StandLaws.{put_stands, put_lasts, always}
 use Rattle.keeper_proof.proofs.CauseSteps.{causes_after, told_after, on_err}
-use Rattle.keeper_writes.proofs.CauseLaws.{err_handed}
+use Rattle.keeper_writes.specs.Writes.{WritesTariff}
+use Rattle.keeper_writes.proofs.CauseLaws.{err_handed, cause_idle}
 use Rattle.keeper_proof.proofs.calls.put_tariff.Goals as goal
 
 pub returns-in_err-ready-clause-put : goal.returns-in_err-ready-clause-put
@@ -19,7 +20,8 @@ returns-in_err-ready-clause-put g c clean here o stands =
 pub returns-in_err-ready-clause-why : goal.returns-in_err-ready-clause-why
 returns-in_err-ready-clause-why g c clean o stands =
     err_handed c.from_residual.result c.in_err-ready.field-0.0 _ c.from_residual.ensures.1
-    (c.in_err-ready.ensures.why clean o stands)
+    (cause_idle g.S.Store (WritesTariff c.args.xway c.args.tariff.now) c.args.conn.now c.ready.new.conn
+    c.in_err-ready.field-0.0 (c.in_err-ready.ensures.why clean o stands))
 
 pub returns-clause-put : goal.returns-clause-put
 returns-clause-put g c clean here o stands =
@@ -35,7 +37,8 @@ returns-clause-put g c clean here o stands =
 pub returns-clause-why : goal.returns-clause-why
 returns-clause-why g c clean o stands =
     causes_after g.S.Store c.args.conn.now c.ready.new.conn c.put_tariff.new.conn
-    (c.ready.ensures.kept (omega (arith, c.put_tariff.ensures.crash.clean))) c.ready.ensures.survives c.put_tariff.result
+    (c.ready.ensures.kept (omega (arith, c.put_tariff.ensures.crash.clean))) c.ready.ensures.survives
+    (WritesTariff c.args.xway c.args.tariff.now) c.put_tariff.result
     (c.put_tariff.ensures.why clean)
 
 pub returns-clause-crash : goal.returns-clause-crash
@@ -58,6 +61,7 @@ returns-in_err-ready-clause-told g c clean = on_err c.from_residual.result _ (in
 
 pub returns-clause-told : goal.returns-clause-told
 returns-clause-told g c clean =
-    told_after g.S.Store c.args.conn.now c.ready.new.conn c.put_tariff.new.conn
+    told_after g.S.Store (WritesTariff c.args.xway c.args.tariff.now) c.args.conn.now c.ready.new.conn
+    c.put_tariff.new.conn
     (c.ready.ensures.kept (omega (arith, c.put_tariff.ensures.crash.clean))) c.ready.ensures.survives c.put_tariff.result _ _
     (c.put_tariff.ensures.told clean)

@@ -38,8 +38,31 @@ returns-in-Ok-clause-puts g c clean inside contents holds later =
 
 pub returns-in-Err-clause-refused : goal.returns-in-Err-clause-refused
 returns-in-Err-clause-refused g c clean inside =
+    let bytes : to_z w64 (of_z w64 c.column-bytes.result) ≡ c.column-bytes.result = search rules in
+    let tuples : to_z w64 (of_z w64 c.column-tuples.result) ≡ c.column-tuples.result = search rules in
+    let notices : to_z w64 (of_z w64 c.column-notices.result) ≡ c.column-notices.result = search rules in
+    let total : to_z w64 (of_z w64 c.column-total.result) ≡ c.column-total.result = search rules in
+    let ran = rw (
+      c.params-to_sql.ensures,
+      c.params-to_sql-2.ensures,
+      c.params-to_sql-3.ensures,
+      c.params-to_sql-4.ensures,
+      c.params-to_sql-5.ensures,
+      c.params-to_sql-6.ensures,
+      c.params-to_sql-7.ensures,
+      c.bytes_of-digest.ensures.same,
+      bytes,
+      tuples,
+      notices,
+      c.bytes_of-told.ensures.same,
+      total,
+      c.column-bytes.ensures,
+      c.column-tuples.ensures,
+      c.column-notices.ensures,
+      c.column-total.ensures,
+    ) at (c.in-Err.ensures.runs clean inside) in
     refused_now g.S.Store c.args.tx.now.conn.now c.execute.new.self.conn.now put_day _ c.in-Err.error
-    (inr (inr (inl ((0, refl), inside, c.in-Err.ensures.runs clean inside))))
+    (inr (inr (inl ((refl, refl), (0, refl), inside, ran))))
 
 pub returns-in-Ok-clause-digest : goal.returns-in-Ok-clause-digest
 returns-in-Ok-clause-digest g c =

@@ -22,8 +22,9 @@ returns-in-Ok-clause-puts g c clean inside version contents holds r day seal lat
 
 pub returns-in-Err-clause-refused : goal.returns-in-Err-clause-refused
 returns-in-Err-clause-refused g c clean inside =
+    let ran = rw (c.params-to_sql.ensures, c.params-to_sql-2.ensures, c.bytes_of-bytes.ensures.same) at (c.in-Err.ensures.runs clean inside) in
     refused_now g.S.Store c.args.tx.now.conn.now c.execute.new.self.conn.now put_seal _ c.in-Err.error
-    (inr (inr (inl ((1, refl), inside, c.in-Err.ensures.runs clean inside))))
+    (inr (inr (inl ((refl, refl), (1, refl), inside, ran))))
 
 pub returns-in-Ok-clause-fits : goal.returns-in-Ok-clause-fits
 returns-in-Ok-clause-fits g c = whole_by c.args.seal.now c.bytes_of-bytes.ensures.long c.bytes_of-bytes.ensures.each

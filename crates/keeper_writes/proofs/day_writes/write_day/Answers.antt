@@ -1,10 +1,11 @@
-use Rattle.std.proofs.Common.{◌^◌, refl, ◌∙◌, arith, IsTrue}
+use Rattle.std.proofs.Common.{◌^◌, refl, ◌∙◌, arith, inl, inr, IsTrue}
 use Rattle.sqlite.specs.Held.{state}
 use Rattle.sqlite.specs.State.{HasCleanDisk}
 use Rattle.kept_tables.specs.Stands.{Holds, FitsDay, contents_of, with_record, with_seal}
 use Rattle.kept_tables.proofs.PutLaws.{days_before, below_sum, adds_holds, day_stands, ok_both, stays_then, shows_then}
 use Rattle.kept_tables.proofs.PutLaws.{survives_both}
-use Rattle.keeper_writes.proofs.CauseLaws.{err_handed, errs_after, kept_inside, refused_after}
+use Rattle.keeper_writes.specs.Writes.{WritesDay, WritesRecord, WritesSeal, WritesAmounts}
+use Rattle.keeper_writes.proofs.CauseLaws.{err_handed, errs_after, kept_inside, refused_after, refused_wider}
 use Rattle.keeper_writes.proofs.day_writes.write_day.Goals as goal
 
 pub returns-clause-wrote : goal.returns-clause-wrote
@@ -61,7 +62,9 @@ returns-clause-inside g c clean inside =
 pub returns-in_err-put_record-clause-refused : goal.returns-in_err-put_record-clause-refused
 returns-in_err-put_record-clause-refused g c clean inside =
     err_handed c.from_residual.result c.in_err-put_record.field-0.0 _ c.from_residual.ensures.1
-    (c.in_err-put_record.ensures.refused clean inside)
+    (refused_wider g.S.Store (WritesRecord c.args.kept.now) (WritesDay c.args.kept.now c.args.rows.now)
+    (λ sql params is. inl is) c.args.tx.now.conn.now c.put_record.new.tx.conn.now _
+    (c.in_err-put_record.ensures.refused clean inside))
 
 pub returns-in_err-put_seal-clause-refused : goal.returns-in_err-put_seal-clause-refused
 returns-in_err-put_seal-clause-refused g c clean inside =
@@ -73,7 +76,9 @@ returns-in_err-put_seal-clause-refused g c clean inside =
     c.from_residual-in_err-put_seal.ensures.1
     (refused_after g.S.Store c.args.tx.now.conn.now c.put_record.new.tx.conn.now c.put_seal.new.tx.conn.now _
     (kept_inside old first one) c.put_record.ensures.survives
-    (c.in_err-put_seal.ensures.refused clean (one.mode ∙ inside)))
+    (refused_wider g.S.Store (WritesSeal c.args.kept.now.day c.args.kept.now.tariffs)
+    (WritesDay c.args.kept.now c.args.rows.now) (λ sql params is. inr (inl is)) c.put_record.new.tx.conn.now
+    c.put_seal.new.tx.conn.now _ (c.in_err-put_seal.ensures.refused clean (one.mode ∙ inside))))
 
 pub returns-clause-refused : goal.returns-clause-refused
 returns-clause-refused g c clean inside =
@@ -84,7 +89,8 @@ returns-clause-refused g c clean inside =
     let early : HasCleanDisk first = omega (arith, late, c.put_seal.ensures.survives.clean) in
     let one = c.in_ok-put_record.ensures.inside early inside in
     let two = c.in_ok-put_seal.ensures.inside late (one.mode ∙ inside) in
-    errs_after g.S.Store c.args.tx.now.conn.now c.put_seal.new.tx.conn.now c.put_amounts.new.tx.conn.now
+    errs_after g.S.Store (WritesAmounts c.args.rows.now) (WritesDay c.args.kept.now c.args.rows.now)
+    (λ sql params is. inr (inr is)) c.args.tx.now.conn.now c.put_seal.new.tx.conn.now c.put_amounts.new.tx.conn.now
     c.put_amounts.result (shows_then old first second one two)
     (survives_both old first second c.put_record.ensures.survives c.put_seal.ensures.survives)
     (c.put_amounts.ensures.refused clean (two.mode ∙ (one.mode ∙ inside)))

@@ -29,8 +29,21 @@ returns-in-Ok-clause-puts g c clean inside contents holds none =
 
 pub returns-in-Err-clause-refused : goal.returns-in-Err-clause-refused
 returns-in-Err-clause-refused g c clean inside =
+    let bytes : to_z w64 (of_z w64 c.column-bytes.result) ≡ c.column-bytes.result = search rules in
+    let count : to_z w64 (of_z w64 c.column-count.result) ≡ c.column-count.result = search rules in
+    let ran = rw (
+      c.params-to_sql.ensures,
+      c.params-to_sql-2.ensures,
+      c.params-to_sql-3.ensures,
+      c.params-to_sql-4.ensures,
+      c.bytes_of-digest.ensures.same,
+      bytes,
+      count,
+      c.column-bytes.ensures,
+      c.column-count.ensures,
+    ) at (c.in-Err.ensures.runs clean inside) in
     refused_now g.S.Store c.args.tx.now.conn.now c.execute.new.self.conn.now put_past _ c.in-Err.error
-    (inr (inr (inl ((3, refl), inside, c.in-Err.ensures.runs clean inside))))
+    (inr (inr (inl ((refl, refl), (3, refl), inside, ran))))
 
 pub returns-in-Ok-clause-fits : goal.returns-in-Ok-clause-fits
 returns-in-Ok-clause-fits g c = (

@@ -1,11 +1,14 @@
-use Rattle.std.proofs.Common.{◌≡◌, refl, sym, subst, rules, inr, arith, true, IsTrue}
+use Rattle.std.proofs.Common.{◌≡◌, refl, sym, subst, rules, inl, inr, arith, true, IsTrue}
 use Rattle.sqlite.specs.Held.{state}
 use Rattle.sqlite.specs.State.{HasCleanDisk, Survives}
 use Rattle.keeper.specs.Kept.{IsLater, with_day}
 use Rattle.kept_tables.specs.Steps.{CommitsNow}
 use Rattle.kept_tables.proofs.CrashLaws.{commit_survives}
 use Rattle.sqlite.specs.Steps.{FailsToCommit}
-use Rattle.keeper_writes.specs.Causes.{RefusedIn}
+use Rattle.kept_tables.specs.Codec.{day_values}
+use Rattle.kept_tables.specs.Texts.{put_day}
+use Rattle.keeper_writes.specs.Causes.{RefusedOf, WritesSome}
+use Rattle.keeper_writes.specs.Writes.{WritesDay}
 use Rattle.keeper_writes.proofs.CauseLaws.{err_then, err_handed, on_then, commit_refused}
 use Rattle.keeper_writes.proofs.CauseLaws.{refused_begun, refused_before}
 use Rattle.keeper_writes.proofs.puts.keep_day.Goals as goal
@@ -20,7 +23,7 @@ returns-in_err-write_day-clause-because g c clean =
     let early : HasCleanDisk (state g.S.Store last) = omega (arith, late, c.drop-tx.ensures.survives.clean) in
     err_handed c.from_residual.result c.in_err-write_day.field-0.0 _ c.from_residual.ensures.1
     (inr
-    (subst (λ k. RefusedIn g.S.Store c.args.conn.now k c.in_err-write_day.field-0.0) same
+    (subst (λ k. RefusedOf g.S.Store (WritesDay c.args.kept.now c.args.rows.now) c.args.conn.now k c.in_err-write_day.field-0.0) same
     (refused_begun g.S.Store c.args.conn.now end _
     (refused_before g.S.Store (record c.args.conn.now { in_transaction = true }) last end _
     ((rw begun at (c.in_err-write_day.ensures.refused early)) refl) c.drop-tx.ensures.survives))))
@@ -33,10 +36,13 @@ returns-clause-because g c clean =
     let same : end ≡ c.conn-2-1.given.0 = search rules in
     let late : HasCleanDisk (state g.S.Store end) = subst (λ h. HasCleanDisk (state g.S.Store h)) (sym same) clean in
     let early : HasCleanDisk (state g.S.Store last) = omega (arith, late, c.commit.ensures.survives.clean) in
+    let some : WritesSome (WritesDay c.args.kept.now c.args.rows.now) =
+    record { sql = put_day; params = day_values c.args.kept.now; written = inl (refl, refl) } in
     err_then c.commit.result (FailsToCommit (state g.S.Store last) (state g.S.Store end)) _ (c.commit.ensures.err late)
     (λ e h. inr
-    (subst (λ k. RefusedIn g.S.Store c.args.conn.now k e) same
-    (commit_refused g.S.Store c.args.conn.now last end e ((rw begun at (c.in_ok-write_day.ensures.inside early)) refl)
+    (subst (λ k. RefusedOf g.S.Store (WritesDay c.args.kept.now c.args.rows.now) c.args.conn.now k e) same
+    (commit_refused g.S.Store (WritesDay c.args.kept.now c.args.rows.now) some c.args.conn.now last end e
+    ((rw begun at (c.in_ok-write_day.ensures.inside early)) refl)
     (rw begun at c.write_day.ensures.survives) h)))
 
 pub returns-clause-open : goal.returns-clause-open

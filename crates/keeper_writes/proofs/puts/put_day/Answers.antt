@@ -6,14 +6,17 @@ use Rattle.kept_tables.proofs.CrashLaws.{put_survives}
 use Rattle.keeper.specs.Kept.{IsLater, with_day}
 use Rattle.kept_tables.specs.Stands.{HasOffice}
 use Rattle.keeper_writes.specs.Causes.{IsTold}
-use Rattle.keeper_writes.proofs.CauseLaws.{cause_of, refused_after}
+use Rattle.keeper_writes.specs.Writes.{WritesDay}
+use Rattle.keeper_writes.proofs.CauseLaws.{cause_of, refused_after, refused_idle}
 use Rattle.kept_tables.proofs.StepLaws.{kept_then}
 use Rattle.keeper_writes.proofs.puts.put_day.Goals as goal
 
 pub returns-in-Err-clause-why : goal.returns-in-Err-clause-why
 returns-in-Err-clause-why g c clean =
-    cause_of g.S.Store c.args.conn.now c.settle.new.conn c.refusal_told.result c.in-Err.error c.refusal_told.ensures.fault
-    (c.in-Err.ensures.refused clean)
+    let writes = WritesDay c.args.kept.now c.args.rows.now in
+    cause_of g.S.Store writes c.args.conn.now c.settle.new.conn c.refusal_told.result c.in-Err.error
+    c.refusal_told.ensures.fault
+    (refused_idle g.S.Store writes c.args.conn.now c.settle.new.conn c.in-Err.error (c.in-Err.ensures.refused clean))
 
 pub returns-in-Ok-clause-open : goal.returns-in-Ok-clause-open
 returns-in-Ok-clause-open g c clean = (c.in-Ok.ensures.open clean).1
@@ -53,7 +56,8 @@ returns-in-Err-keep_day-clause-why g c clean =
     let calm = c.in_default.ensures.calm early in
     elim (c.in-Err-keep_day.ensures.because clean) [
       | inl inside ↦ absurd (let e = sym calm ∙ inside in cc)
-      | inr refused ↦ cause_of g.S.Store c.args.conn.now c.keep_day.new.conn c.refusal_told-in-Err-keep_day.result
+      | inr refused ↦ cause_of g.S.Store (WritesDay c.args.kept.now c.args.rows.now)
+          c.args.conn.now c.keep_day.new.conn c.refusal_told-in-Err-keep_day.result
           c.in-Err-keep_day.error c.refusal_told-in-Err-keep_day.ensures.fault
           (refused_after g.S.Store c.args.conn.now c.settle.new.conn c.keep_day.new.conn _ (c.settle.ensures.kept early)
           c.settle.ensures.survives refused)
@@ -61,8 +65,9 @@ returns-in-Err-keep_day-clause-why g c clean =
 
 pub returns-in-Err-clause-told : goal.returns-in-Err-clause-told
 returns-in-Err-clause-told g c clean =
-    subst (IsTold g.S.Store c.args.conn.now c.settle.new.conn) (sym c.refusal_told.ensures.says)
-    (c.in-Err.ensures.refused clean)
+    let writes = WritesDay c.args.kept.now c.args.rows.now in
+    subst (IsTold g.S.Store writes c.args.conn.now c.settle.new.conn) (sym c.refusal_told.ensures.says)
+    (refused_idle g.S.Store writes c.args.conn.now c.settle.new.conn c.in-Err.error (c.in-Err.ensures.refused clean))
 
 pub returns-in-Err-keep_day-clause-told : goal.returns-in-Err-keep_day-clause-told
 returns-in-Err-keep_day-clause-told g c clean =
@@ -71,7 +76,8 @@ returns-in-Err-keep_day-clause-told g c clean =
     let calm = c.in_default.ensures.calm early in
     elim (c.in-Err-keep_day.ensures.because clean) [
       | inl inside ↦ absurd (let e = sym calm ∙ inside in cc)
-      | inr refused ↦ subst (IsTold g.S.Store c.args.conn.now c.keep_day.new.conn)
+      | inr refused ↦ subst
+          (IsTold g.S.Store (WritesDay c.args.kept.now c.args.rows.now) c.args.conn.now c.keep_day.new.conn)
           (sym c.refusal_told-in-Err-keep_day.ensures.says)
           (refused_after g.S.Store c.args.conn.now c.settle.new.conn c.keep_day.new.conn _ (c.settle.ensures.kept early)
           c.settle.ensures.survives refused)

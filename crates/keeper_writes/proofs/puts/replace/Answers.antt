@@ -1,11 +1,14 @@
-use Rattle.std.proofs.Common.{◌≡◌, refl, sym, subst, rules, inr, arith, true, IsTrue}
+use Rattle.std.proofs.Common.{◌≡◌, refl, sym, subst, rules, inl, inr, arith, true, [], ◌∷◌, pos, IsTrue}
 use Rattle.sqlite.specs.Held.{state}
 use Rattle.sqlite.specs.State.{HasCleanDisk, Survives}
 use Rattle.keeper.specs.Kept.{with_tariff_of}
 use Rattle.kept_tables.specs.Steps.{CommitsNow, FitsAny}
 use Rattle.kept_tables.proofs.CrashLaws.{commit_survives}
 use Rattle.sqlite.specs.Steps.{FailsToCommit}
-use Rattle.keeper_writes.specs.Causes.{RefusedIn}
+use Rattle.sqlite_value.specs.declared.value.Value.TheVariants.{Int}
+use Rattle.kept_tables.specs.Texts.{drop_tariff}
+use Rattle.keeper_writes.specs.Causes.{RefusedOf, WritesSome}
+use Rattle.keeper_writes.specs.Writes.{WritesTariff}
 use Rattle.keeper_writes.proofs.CauseLaws.{err_then, err_handed, on_then, commit_refused}
 use Rattle.keeper_writes.proofs.CauseLaws.{refused_begun, refused_before}
 use Rattle.keeper_writes.proofs.puts.replace.Goals as goal
@@ -20,7 +23,7 @@ returns-in_err-write-clause-because g c clean =
     let early : HasCleanDisk (state g.S.Store last) = omega (arith, late, c.drop-tx.ensures.survives.clean) in
     err_handed c.from_residual.result c.in_err-write.field-0.0 _ c.from_residual.ensures.1
     (inr
-    (subst (λ k. RefusedIn g.S.Store c.args.conn.now k c.in_err-write.field-0.0) same
+    (subst (λ k. RefusedOf g.S.Store (WritesTariff c.args.xway c.args.tariff.now) c.args.conn.now k c.in_err-write.field-0.0) same
     (refused_begun g.S.Store c.args.conn.now end _
     (refused_before g.S.Store (record c.args.conn.now { in_transaction = true }) last end _
     ((rw begun at (c.in_err-write.ensures.refused early)) refl) c.drop-tx.ensures.survives))))
@@ -33,10 +36,13 @@ returns-clause-because g c clean =
     let same : end ≡ c.conn-2-1.given.0 = search rules in
     let late : HasCleanDisk (state g.S.Store end) = subst (λ h. HasCleanDisk (state g.S.Store h)) (sym same) clean in
     let early : HasCleanDisk (state g.S.Store last) = omega (arith, late, c.commit.ensures.survives.clean) in
+    let some : WritesSome (WritesTariff c.args.xway c.args.tariff.now) =
+    record { sql = drop_tariff; params = Int (pos c.args.xway) ∷ []; written = inl (refl, refl) } in
     err_then c.commit.result (FailsToCommit (state g.S.Store last) (state g.S.Store end)) _ (c.commit.ensures.err late)
     (λ e h. inr
-    (subst (λ k. RefusedIn g.S.Store c.args.conn.now k e) same
-    (commit_refused g.S.Store c.args.conn.now last end e ((rw begun at (c.in_ok-write.ensures.inside early)) refl)
+    (subst (λ k. RefusedOf g.S.Store (WritesTariff c.args.xway c.args.tariff.now) c.args.conn.now k e) same
+    (commit_refused g.S.Store (WritesTariff c.args.xway c.args.tariff.now) some c.args.conn.now last end e
+    ((rw begun at (c.in_ok-write.ensures.inside early)) refl)
     (rw begun at c.write.ensures.survives) h)))
 
 pub returns-clause-open : goal.returns-clause-open

@@ -30,8 +30,18 @@ returns-in-Ok-clause-adds g c clean inside schema =
 
 pub returns-in-Err-clause-refused : goal.returns-in-Err-clause-refused
 returns-in-Err-clause-refused g c clean inside =
+    let whole : to_z w64 (of_z w64 c.args.tolls) ≡ c.args.tolls = search rules in
+    let ran = rw (
+      c.params-to_sql.ensures,
+      c.params-to_sql-2.ensures,
+      c.params-to_sql-3.ensures,
+      c.params-to_sql-4.ensures,
+      c.from.ensures,
+      whole,
+      c.requires.stored,
+    ) at (c.in-Err.ensures.runs clean inside) in
     refused_now g.S.Store c.args.tx.now.conn.now c.execute.new.self.conn.now put_spent _ c.in-Err.error
-    (inr (inr (inl ((2, refl), inside, c.in-Err.ensures.runs clean inside))))
+    (inr (inr (inl ((refl, refl), (2, refl), inside, ran))))
 
 pub returns-in-Ok-clause-fits : goal.returns-in-Ok-clause-fits
 returns-in-Ok-clause-fits g c = (search rules, search rules, search rules, c.requires.small)

@@ -2,6 +2,7 @@ use Rattle.std.proofs.Common.{[], ◌∷◌, take, get_or, sym, subst, ◌∙◌
 use Rattle.std.proofs.lemmas.List.{take_more}
 use Rattle.std.specs.List.{AllByRecursion}
 use Rattle.sqlite_keyed.proofs.ListLemmas.{all-append}
+use Rattle.road_time.specs.declared.day.SpentRow.{SpentRow}
 use Rattle.kept_tables.specs.Stands.{FitsSpent}
 use Rattle.sqlite.specs.Held.{state}
 use Rattle.sqlite.specs.State.{HasCleanDisk}
@@ -10,7 +11,9 @@ use Rattle.kept_tables.specs.Steps.{AddsAmounts}
 use Rattle.kept_tables.proofs.SpentWriteLaws.{adds_then}
 use Rattle.kept_tables.proofs.PutLaws.{shows_then}
 use Rattle.kept_tables.proofs.StepLaws.{kept_then}
-use Rattle.keeper_writes.proofs.CauseLaws.{err_handed, kept_inside, refused_after}
+use Rattle.std.proofs.lemmas.Option.{slice_get-get_or}
+use Rattle.keeper_writes.specs.Writes.{WritesAmount, WritesAmounts}
+use Rattle.keeper_writes.proofs.CauseLaws.{err_handed, kept_inside, refused_after, refused_wider}
 use Rattle.keeper_writes.proofs.spent_writes.put_amounts.Goals as goal
 
 pub rows-preserved : goal.rows-preserved
@@ -51,6 +54,16 @@ returns-in_err-put_amount-clause-refused g c clean inside =
     let mid = state g.S.Store c.rows.tx.conn.now in
     let kept = c.rows.invariant in
     let early : HasCleanDisk mid = omega (arith, c.put_amount.ensures.survives.clean) in
+    let none : SpentRow = record { day = 0; vid = 0; xway = 0; tolls = 0 } in
+    let row = get_or c.args.rows.now c.rows.row-index none in
     err_handed c.from_residual.result c.in_err-put_amount.field-0.0 _ c.from_residual.ensures.1
     (refused_after g.S.Store c.args.tx.now.conn.now c.rows.tx.conn.now c.put_amount.new.tx.conn.now _
-    (kept.6 early inside) kept.1 (c.in_err-put_amount.ensures.refused clean (kept.2 early inside)))
+    (kept.6 early inside) kept.1
+    (refused_wider g.S.Store (WritesAmount row) (WritesAmounts c.args.rows.now)
+    (λ sql params is. record {
+      place = c.rows.row-index;
+      row = row;
+      is_one = slice_get-get_or c.args.rows.now c.rows.row-index none c.rows-test.true;
+      is_put = is;
+    }) c.rows.tx.conn.now c.put_amount.new.tx.conn.now _
+    (c.in_err-put_amount.ensures.refused clean (kept.2 early inside))))

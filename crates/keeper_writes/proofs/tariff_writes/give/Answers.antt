@@ -21,5 +21,14 @@ returns-in-Ok-clause-gave g c clean inside o has own =
 
 pub returns-in-Err-clause-refused : goal.returns-in-Err-clause-refused
 returns-in-Err-clause-refused g c clean inside =
+    let ran = rw (
+      c.params-to_sql.ensures,
+      c.params-to_sql-2.ensures,
+      c.params-to_sql-3.ensures,
+      c.params-to_sql-4.ensures,
+      c.from.ensures,
+      c.from-2.ensures,
+      c.from-3.ensures,
+    ) at (c.in-Err.ensures.runs clean inside) in
     refused_now g.S.Store c.args.tx.now.conn.now c.execute.new.self.conn.now put_tariff _ c.in-Err.error
-    (inr (inr (inl ((5, refl), inside, c.in-Err.ensures.runs clean inside))))
+    (inr (inr (inl ((refl, refl), (5, refl), inside, ran))))

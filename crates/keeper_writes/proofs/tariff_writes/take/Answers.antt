@@ -12,5 +12,6 @@ returns-in-Ok-clause-took g c clean inside o has =
 
 pub returns-in-Err-clause-refused : goal.returns-in-Err-clause-refused
 returns-in-Err-clause-refused g c clean inside =
+    let ran = rw (c.params-to_sql.ensures, c.from.ensures) at (c.in-Err.ensures.runs clean inside) in
     refused_now g.S.Store c.args.tx.now.conn.now c.execute.new.self.conn.now drop_tariff _ c.in-Err.error
-    (inr (inr (inl ((4, refl), inside, c.in-Err.ensures.runs clean inside))))
+    (inr (inr (inl ((refl, refl), (4, refl), inside, ran))))

@@ -97,3 +97,11 @@ returns-in-Ok-clause-jobs g c =
     (g.C.Crew.jobs c.args.crew.now) (g.C.Crew.jobs c.wanted_notices.new.crew)) c.as_slice.ensures.value
     (bulk_weaker c.args.asked.how c.as_slice.result.now (IsOk c.wanted_notices.result) _ _ _ (λ said. ok)
     c.wanted_notices.ensures.jobs)
+
+pub returns-in-Some-clause-by : goal.returns-in-Some-clause-by
+returns-in-Some-clause-by g c = λ said. absurd (named_compared said)
+
+pub returns-in-Err-clause-by : goal.returns-in-Err-clause-by
+returns-in-Err-clause-by g c = λ said.
+    absurd (refused_compared c.in-Err.fault (subst (λ (k : Closing). SaysCompared (status_of k)) c.refused.ensures
+    said))

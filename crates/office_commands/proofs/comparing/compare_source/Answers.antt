@@ -133,3 +133,13 @@ returns-in-Ok-read_day-clause-jobs g c = λ bytes left.
     subst (λ (ts : List Tuple). StartsBulk c.args.asked.how ts (SaysCompared (status_of c.compare_day.result))
     (g.C.Crew.jobs c.args.crew.now) (g.C.Crew.jobs c.compare_day.new.crew))
     (c.in-Ok-read_day.ensures.tuples bytes left) c.compare_day.ensures.jobs
+
+pub returns-in-Err-clause-by : goal.returns-in-Err-clause-by
+returns-in-Err-clause-by g c = λ said.
+    absurd (refused_compared c.in-Err.fault (subst (λ (k : Closing). SaysCompared (status_of k)) c.refused.ensures
+    said))
+
+pub returns-clause-by : goal.returns-clause-by
+returns-clause-by g c = λ said.
+    absurd (stopped_compared c.in-Err-read_day.stop (subst (λ (k : Closing). SaysCompared (status_of k))
+    c.stopped.ensures said))

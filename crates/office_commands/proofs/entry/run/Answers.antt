@@ -13,8 +13,8 @@ use Rattle.office_commands.proofs.WordLaws.{meant, meant_none}
 use Rattle.office_commands.proofs.PutLaws.{puts_same}
 use Rattle.office_commands.proofs.StatusLaws.{read_other, rest_other}
 use Rattle.office_commands.proofs.entry.run.Goals as goal
-use Rattle.office_commands.specs.Starts.{StartsAsked}
-use Rattle.office_commands.proofs.StartLaws.{starts_other}
+use Rattle.office_commands.specs.Starts.{StartsAsked, SeesAsked}
+use Rattle.office_commands.proofs.StartLaws.{starts_other, sees_other}
 
 pub returns-in-Ok-clause-wrote : goal.returns-in-Ok-clause-wrote
 returns-in-Ok-clause-wrote g c = λ bytes lines o told.
@@ -222,3 +222,19 @@ pub returns-in-Err-NoMemory-clause-jobs : goal.returns-in-Err-NoMemory-clause-jo
 returns-in-Err-NoMemory-clause-jobs g c = λ bytes used told.
     starts_other 8 (λ s. omega (arith, s)) (λ s. omega (arith, s)) (λ s. omega (arith, s)) c.args.limits.now
     (asked c.args.words.now) bytes (g.K.Keeper.told c.args.keeper.now) (g.C.Crew.jobs c.args.crew.now)
+
+pub returns-in-Ok-clause-by : goal.returns-in-Ok-clause-by
+returns-in-Ok-clause-by g c =
+    let is = meant _ c.in-Ok.command c.read_words.result c.read_words.ensures.reads c.in-Ok.is in
+    subst (λ (m : Option Command). SeesAsked m (code_of c.perform.result) c.perform.new.shards_seen) (sym is)
+    c.perform.ensures.by
+
+pub returns-in-Err-Words-clause-by : goal.returns-in-Err-Words-clause-by
+returns-in-Err-Words-clause-by g c =
+    sees_other 1 (λ s. omega (arith, s)) (λ s. omega (arith, s)) (λ s. omega (arith, s)) (asked c.args.words.now)
+    c.args.shards_seen.now
+
+pub returns-in-Err-NoMemory-clause-by : goal.returns-in-Err-NoMemory-clause-by
+returns-in-Err-NoMemory-clause-by g c =
+    sees_other 8 (λ s. omega (arith, s)) (λ s. omega (arith, s)) (λ s. omega (arith, s)) (asked c.args.words.now)
+    c.args.shards_seen.now

@@ -371,6 +371,9 @@ pub returns-in-Compare-clause-jobs : goal.returns-in-Compare-clause-jobs
 returns-in-Compare-clause-jobs g c = λ bytes used told.
     rw c.in-Compare.is (c.compare_and_tell.ensures.jobs bytes (told (ap source_of c.in-Compare.is)))
 
+pub returns-in-Compare-clause-by : goal.returns-in-Compare-clause-by
+returns-in-Compare-clause-by g c = rw c.in-Compare.is c.compare_and_tell.ensures.by
+
 pub returns-in-Rehearse-clause-jobs : goal.returns-in-Rehearse-clause-jobs
 returns-in-Rehearse-clause-jobs g c = λ bytes used told. rw c.in-Rehearse.is c.rehearse.ensures.jobs
 

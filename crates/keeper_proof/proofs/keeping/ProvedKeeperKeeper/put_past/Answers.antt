@@ -5,7 +5,8 @@ use Rattle.sqlite.proofs.StateLemmas.{clean_if_open}
 use Rattle.keeper.specs.Kept.{HasNoDays, with_past}
 use Rattle.kept_tables.proofs.StandLaws.{told_sound}
 use Rattle.keeper_proof.proofs.TellLaws.{puts_tell}
-use Rattle.keeper_writes.proofs.CauseLaws.{was_refused, failure_of}
+use Rattle.keeper_writes.specs.Writes.{WritesPast}
+use Rattle.keeper_writes.proofs.CauseLaws.{put_refused, failure_of}
 use Rattle.keeper_proof.proofs.StandLaws.{done_open}
 use Rattle.keeper_proof.proofs.keeping.ProvedKeeperKeeper.put_past.Goals as goal
 
@@ -44,8 +45,9 @@ returns-clause-why g c clean o stands = rw c.count.ensures.same (c.put_past-answ
 
 pub returns-clause-because : goal.returns-clause-because
 returns-clause-because g c clean o stands failed =
-    was_refused g.S.Store c.args.self.now.conn c.put_past-answer.new.conn
-    (failure_of g.S.Store c.args.self.now.conn c.put_past-answer.new.conn c.put_past-answer.result (c.put_past-answer.ensures.why clean o stands) (sym c.count.ensures.same ∙ failed))
+    let writes = WritesPast c.args.kept.now c.args.rows.now in
+    put_refused g.S.Store writes c.args.self.now.conn c.put_past-answer.new.conn
+    (failure_of g.S.Store writes c.args.self.now.conn c.put_past-answer.new.conn c.put_past-answer.result (c.put_past-answer.ensures.why clean o stands) (sym c.count.ensures.same ∙ failed))
 
 pub returns-clause-version : goal.returns-clause-version
 returns-clause-version g c clean = rw c.count.ensures.same (c.put_past-answer.ensures.version clean)

@@ -6,7 +6,8 @@ use Rattle.keeper.specs.Kept.{with_tariff_of}
 use Rattle.kept_tables.specs.Steps.{FitsAny}
 use Rattle.kept_tables.proofs.StandLaws.{told_sound}
 use Rattle.keeper_proof.proofs.TellLaws.{puts_tell, any_fits}
-use Rattle.keeper_writes.proofs.CauseLaws.{was_refused, failure_of}
+use Rattle.keeper_writes.specs.Writes.{WritesTariff}
+use Rattle.keeper_writes.proofs.CauseLaws.{put_refused, failure_of}
 use Rattle.keeper_proof.proofs.StandLaws.{done_open}
 use Rattle.keeper_proof.proofs.keeping.ProvedKeeperKeeper.put_tariff.Goals as goal
 
@@ -45,8 +46,9 @@ returns-clause-why g c clean o stands = rw c.count.ensures.same (c.put_tariff-an
 
 pub returns-clause-because : goal.returns-clause-because
 returns-clause-because g c clean o stands failed =
-    was_refused g.S.Store c.args.self.now.conn c.put_tariff-answer.new.conn
-    (failure_of g.S.Store c.args.self.now.conn c.put_tariff-answer.new.conn c.put_tariff-answer.result (c.put_tariff-answer.ensures.why clean o stands) (sym c.count.ensures.same ∙ failed))
+    let writes = WritesTariff c.args.xway c.args.tariff.now in
+    put_refused g.S.Store writes c.args.self.now.conn c.put_tariff-answer.new.conn
+    (failure_of g.S.Store writes c.args.self.now.conn c.put_tariff-answer.new.conn c.put_tariff-answer.result (c.put_tariff-answer.ensures.why clean o stands) (sym c.count.ensures.same ∙ failed))
 
 pub returns-clause-version : goal.returns-clause-version
 returns-clause-version g c clean = rw c.count.ensures.same (c.put_tariff-answer.ensures.version clean)
