@@ -1,6 +1,6 @@
 -- What the first difference says, and how a list of differences begins.
 use Rattle.std.proofs.Common.{◌≡◌, ◌∙◌, ℕ, zero, suc, ◌+◌, ◌-◌, ◌<◌, ◌≤◌, Bool, true, false, cond, List, [], ◌∷◌}
-use Rattle.std.proofs.Common.{length, take, refl, sym, ap, arith}
+use Rattle.std.proofs.Common.{length, take, slice_index_or, refl, sym, ap, arith}
 use Rattle.std.proofs.lemmas.Bool.{cond-true, cond-false, le-leb, lt-leb}
 use Rattle.road_time.specs.declared.road.Notice.{Notice}
 use Rattle.office_commands.specs.declared.entry_text.EntryText.TheVariants.{Nothing, Read}
@@ -105,3 +105,15 @@ module _ (show : ℕ) where
 
     pub most_more : (notices : ℕ) → most_compared (notices + show) ≡ most_listed show notices
     most_more notices = sym (cond-false _ _ _ (lt-leb show 1 (omega (arith, more))))
+
+-- a list that is not empty closes with its first difference
+pub closes_at : (ds : List Difference) (agreed : Closing) (d : Difference) → 1 ≤ length ds →
+    DiffersLine (slice_index_or ds 0 d).line (slice_index_or ds 0 d).wanted (slice_index_or ds 0 d).found
+    ≡ closed_by_first agreed ds
+closes_at [] agreed d h = absurd (omega (arith, h))
+closes_at (x ∷ ds) agreed d h = refl
+
+-- and an empty one says that all agree
+pub closes_none : (ds : List Difference) (agreed : Closing) → length ds < 1 → agreed ≡ closed_by_first agreed ds
+closes_none [] agreed h = refl
+closes_none (d ∷ ds) agreed h = absurd (omega (arith, h))

@@ -224,3 +224,8 @@ pub ready_more : (entry : AsideEntry) (c : LineCutter) (some more : ℕ) → som
 ready_more Line c some more h at = (at.0, at.1, omega (arith, at.2, h))
 ready_more Long c some more h at = tt
 ready_more End c some more h at = tt
+
+-- no notices are left where there are none
+pub no_notices : (ws : List Notice) → length ws ≡ 0 → ws ≡ []
+no_notices [] e = refl
+no_notices (w ∷ ws) e = absurd (omega (arith, e))

@@ -1,16 +1,17 @@
 // The first lines at which notices part from those of the rules, and the closing line of their comparison.
 ghost use Rattle.std.specs.Prelude.{◌≡◌, ◌≢◌, ◌≤◌, ◌+◌, [], ℕ, List, Some, Err, IfOk, IfErr, length, take, drop};
 ghost use Rattle.road_time.specs.Lines.{lines_of};
+ghost use Rattle.road_io.specs.Cutter.{ahead, line_of};
 ghost use Rattle.road_io.specs.Within.{ReadsWithin};
 ghost use Rattle.road_io.specs.Blame.{FaultsByPlan};
 ghost use Rattle.day_reading.specs.declared.whole_day.ReadStop.TheVariants.{ReadFault};
 ghost use Rattle.office_commands.specs.Asides.{compared, compared_from};
 ghost use Rattle.office_commands.specs.Closings.{status_of};
-ghost use Rattle.office_commands.specs.Entries.{entered, IsComparison, most_compared};
+ghost use Rattle.office_commands.specs.Entries.{entered, HasReadEntries, IsComparison, most_compared};
 ghost use Rattle.office_commands.specs.Differences.{differences, told_before};
-ghost use Rattle.office_commands.specs.Listings.{most_listed};
+ghost use Rattle.office_commands.specs.Listings.{IsReady, StandsAt, most_listed};
 
-use crate::aside::{compare, next_entry};
+use crate::aside::{AsideEntry, compare, next_entry};
 use crate::closing::Closing;
 use crate::difference::Difference;
 use crate::listing::{Spot, Step, next_step};
@@ -25,6 +26,39 @@ fn behind_first(notices: &[Notice]) -> &[Notice]
     ensures { result.now ≡ drop 1 notices.now }
 {
     &notices[1..]
+}
+
+/// Lists the first differences, at most so many, of notices from what an aside has next and what follows.
+fn list_from<A: Source>(
+    alloc: Global,
+    most: usize,
+    wanted: &[Notice],
+    entry: AsideEntry,
+    cutter: &mut LineCutter,
+    aside: &mut A,
+) -> Result<Vec<Difference>, ReadStop>
+    requires few { most ≤ 1000 }
+    requires ready { IsReady entry cutter.old 1 }
+    ensures exact { (entries : List (List ℕ))
+        → StandsAt entry (line_of cutter.old) (ahead cutter.old (A.left aside.old)) entries
+        → IfOk result (λ list. list.items ≡ take most (differences wanted.now 1 entries)) }
+    ensures read { (bytes : List ℕ) → HasReadEntries (ahead cutter.old (A.left aside.old)) 1 bytes
+        → HasReadEntries (ahead cutter.new (A.left aside.new)) (1 + length wanted.now + most) bytes }
+    ensures aside { FaultsByPlan (A.faults aside.old) (A.faults aside.new) (A.plan aside.old) (result ≡ Err ReadFault) }
+{
+    let mut spot = Spot { line: 1, entry };
+    let mut list = Vec::new(alloc);
+    let mut room = Vec::new(alloc);
+    let mut rest = wanted;
+    while list.as_slice().len() < most {
+        match next_step(rest, &mut spot, cutter, aside, &mut room, &mut list) {
+            Ok(Step::Passed) => rest = behind_first(rest),
+            Ok(Step::Stayed) => {}
+            Ok(Step::Ended) => return Ok(list),
+            Err(stop) => return Err(stop),
+        }
+    }
+    Ok(list)
 }
 
 /// The first differences of notices from the lines of an aside, at most so many.
@@ -43,23 +77,10 @@ fn first_differences<A: Source>(
     let Ok(mut cutter) = LineCutter::new(alloc) else {
         return Err(ReadStop::NoMemory);
     };
-    let entry = match next_entry(&mut cutter, aside) {
-        Ok(entry) => entry,
-        Err(stop) => return Err(stop),
-    };
-    let mut spot = Spot { line: 1, entry };
-    let mut list = Vec::new(alloc);
-    let mut room = Vec::new(alloc);
-    let mut rest = wanted;
-    'listing: while list.as_slice().len() < most {
-        match next_step(rest, &mut spot, &mut cutter, aside, &mut room, &mut list) {
-            Ok(Step::Passed) => rest = behind_first(rest),
-            Ok(Step::Stayed) => {}
-            Ok(Step::Ended) => return Ok(list),
-            Err(stop) => return Err(stop),
-        }
+    match next_entry(&mut cutter, aside) {
+        Ok(entry) => list_from(alloc, most, wanted, entry, &mut cutter, aside),
+        Err(stop) => Err(stop),
     }
-    Ok(list)
 }
 
 /// The closing line of a comparison, by the first differences.
@@ -69,11 +90,11 @@ fn closing_by(wanted: &[Notice], list: &[Difference]) -> Closing
     ensures own { IsComparison result }
     ensures none { status_of result ≢ 7 → list.now ≡ [] }
 {
-    match list.split_first() {
-        None => Closing::Agree {
+    match list {
+        [] => Closing::Agree {
             notices: wanted.len() as u64,
         },
-        Some((first, _)) => Closing::DiffersLine {
+        [first, ..] => Closing::DiffersLine {
             line: first.line,
             wanted: first.wanted,
             found: first.found,

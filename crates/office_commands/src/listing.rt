@@ -272,12 +272,13 @@ fn long_step(wanted: &[Notice], line: u64, list: &mut Vec<Difference>) -> Result
     ensures exact { (all : List DifferenceValue) (text : List ℕ) (after : Option (List ℕ))
         → ListsOn all list.old.items wanted.now line Long text after
         → IfOk result (λ s. (s ≡ Ended) × (all ≡ list.new.items)) }
-    ensures counts { IfOk result (λ s. length list.new.items ≤ length list.old.items + 1) }
+    ensures counts { (notices : ℕ)
+        → IfOk result (λ s. StepCounts s notices (length list.old.items) (length list.new.items)) }
     ensures memory { result ≢ Err ReadFault }
 {
     let found = EntryText::Malformed;
-    match wanted.split_first() {
-        None => {
+    match wanted {
+        [] => {
             let over = Difference {
                 line,
                 kind: DifferenceKind::Additional,
@@ -286,7 +287,7 @@ fn long_step(wanted: &[Notice], line: u64, list: &mut Vec<Difference>) -> Result
             };
             note(list, over, Step::Ended)
         }
-        Some((notice, _)) => {
+        [notice, ..] => {
             let changed = Difference {
                 line,
                 kind: DifferenceKind::Changed,
@@ -307,9 +308,9 @@ fn end_step(wanted: &[Notice], line: u64, list: &mut Vec<Difference>) -> Result<
         (λ s. StepCounts s (length wanted.now) (length list.old.items) (length list.new.items)) }
     ensures memory { result ≢ Err ReadFault }
 {
-    match wanted.split_first() {
-        None => Ok(Step::Ended),
-        Some((notice, _)) => {
+    match wanted {
+        [] => Ok(Step::Ended),
+        [notice, ..] => {
             let absent = Difference {
                 line,
                 kind: DifferenceKind::Missing,

@@ -66,9 +66,9 @@ fn is_text_of_first(
     requires short { length line.now ≤ 200 }
     ensures { IfOk result (λ same. same ≡ is_text_of_first notices.now line.now) }
 {
-    match notices.split_first() {
-        None => Ok(false),
-        Some((first, _)) => is_its_text(first, line, room),
+    match notices {
+        [] => Ok(false),
+        [first, ..] => is_its_text(first, line, room),
     }
 }
 

@@ -1,4 +1,4 @@
-use Rattle.std.proofs.Common.{Some}
+use Rattle.std.proofs.Common.{◌+◌}
 use Rattle.road_io.specs.Cutter.{ahead, line_of, line_number}
 use Rattle.office_commands.proofs.ListingLaws.{stands_entered, ready_by}
 use Rattle.office_commands.proofs.listing.move_on.Goals as goal
