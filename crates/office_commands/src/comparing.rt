@@ -1,5 +1,5 @@
 // The commands `validate DAY` and `audit DAY`: notices compared with those of the rules.
-ghost use Rattle.std.specs.Prelude.{◌≡◌, ◌≢◌, [], ℕ, List, Some, None, Err, IfOk, IsOk, false, length};
+ghost use Rattle.std.specs.Prelude.{◌≡◌, ◌≢◌, ◌≤◌, [], ℕ, List, Some, None, Err, IfOk, IsOk, false, length};
 ghost use Rattle.road_time.specs.Day.{notices};
 ghost use Rattle.road_time.specs.Fits.{IsDay, IsLimits};
 ghost use Rattle.road_time.specs.Lines.{lines_of};

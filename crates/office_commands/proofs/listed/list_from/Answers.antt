@@ -4,7 +4,8 @@ use Rattle.std.proofs.lemmas.List.{take_all, take-append-le, length-drop}
 use Rattle.road_time.specs.declared.road.Notice.{Notice}
 use Rattle.road_io.specs.Cutter.{ahead, line_of}
 use Rattle.office_commands.specs.Differences.{differences}
-use Rattle.office_commands.specs.Listings.{ListsOn}
+use Rattle.office_commands.specs.declared.listing.Step.{Step}
+use Rattle.office_commands.specs.Listings.{ListsOn, StepsTo, StepCounts}
 use Rattle.office_commands.proofs.ListingLaws.{read_more, ready_more}
 use Rattle.office_commands.proofs.listed.list_from.Goals as goal
 
@@ -37,19 +38,24 @@ loop-rest-preserved-in-Ok-Passed g c =
     let inv = c.loop-rest.invariant in
     let step = c.in-Ok-Passed.ensures in
     let room : length c.loop-rest.list.items < c.args.most = search rules in
-    let size = ap length c.behind_first.ensures ∙ length-drop 1 c.loop-rest.rest in
+    let rest = c.loop-rest.rest.now in
+    let size = ap length c.behind_first-rest.ensures ∙ length-drop 1 rest in
     let now = c.next_step.new in
+    let counts = subst (λ (s : Step). StepCounts s (length rest) (length c.loop-rest.list.items) (length now.list.items))
+    c.in-Ok-Passed.field-0-test step.counts in
     record {
       told = λ entries st. subst (λ (ws : List Notice). ListsOn (differences c.args.wanted.now 1 entries) now.list.items
           ws now.spot.line now.spot.entry (line_of now.cutter) (ahead now.cutter (g.A.Source.left now.aside)))
-          (sym c.behind_first.ensures) (step.exact (differences c.args.wanted.now 1 entries) (inv.told entries st));
-      read = λ bytes s. read_more _ _ _ bytes (omega (arith, size, step.counts.0, step.counts.1, inv.shorter))
+          (sym c.behind_first-rest.ensures)
+          (subst (λ (s : Step). StepsTo s (differences c.args.wanted.now 1 entries) now.list.items rest now.spot.line
+          now.spot.entry (line_of now.cutter) (ahead now.cutter (g.A.Source.left now.aside)))
+          c.in-Ok-Passed.field-0-test (step.exact (differences c.args.wanted.now 1 entries) (inv.told entries st)));
+      read = λ bytes s. read_more _ _ _ bytes (omega (arith, size, counts.0, counts.1, inv.shorter))
           (c.next_step.ensures.read _ bytes (inv.read bytes s));
-      few = omega (arith, room, step.counts.2);
+      few = omega (arith, room, counts.2);
       shorter = omega (arith, size, inv.shorter);
-      line = omega (arith, step.line, inv.line, size, step.counts.0, step.counts.1);
-      ready = ready_more _ _ _ _ (omega (arith, size, step.counts.0, step.counts.1, inv.shorter))
-          (step.ready _ inv.ready);
+      line = omega (arith, step.line, inv.line, size, counts.0, counts.1);
+      ready = ready_more _ _ _ _ (omega (arith, size, counts.0, counts.1, inv.shorter)) (step.ready _ inv.ready);
       stands = c.next_step.ensures.aside.still (λ e. let no : ⊥ = cc in no) ∙ inv.stands;
       still = λ never. c.next_step.ensures.still (inv.still never);
     }
@@ -59,14 +65,21 @@ loop-rest-preserved g c =
     let inv = c.loop-rest.invariant in
     let step = c.in-Ok-Stayed.ensures in
     let room : length c.loop-rest.list.items < c.args.most = search rules in
+    let rest = c.loop-rest.rest.now in
+    let now = c.next_step.new in
+    let counts = subst (λ (s : Step). StepCounts s (length rest) (length c.loop-rest.list.items) (length now.list.items))
+    c.in-Ok-Stayed.field-0-test step.counts in
     record {
-      told = λ entries st. step.exact (differences c.args.wanted.now 1 entries) (inv.told entries st);
-      read = λ bytes s. read_more _ _ _ bytes (omega (arith, step.counts, inv.shorter))
+      told = λ entries st.
+          subst (λ (s : Step). StepsTo s (differences c.args.wanted.now 1 entries) now.list.items rest now.spot.line
+          now.spot.entry (line_of now.cutter) (ahead now.cutter (g.A.Source.left now.aside)))
+          c.in-Ok-Stayed.field-0-test (step.exact (differences c.args.wanted.now 1 entries) (inv.told entries st));
+      read = λ bytes s. read_more _ _ _ bytes (omega (arith, counts, inv.shorter))
           (c.next_step.ensures.read _ bytes (inv.read bytes s));
-      few = omega (arith, room, step.counts);
+      few = omega (arith, room, counts);
       shorter = inv.shorter;
-      line = omega (arith, step.line, inv.line, step.counts);
-      ready = ready_more _ _ _ _ (omega (arith, step.counts, inv.shorter)) (step.ready _ inv.ready);
+      line = omega (arith, step.line, inv.line, counts);
+      ready = ready_more _ _ _ _ (omega (arith, counts, inv.shorter)) (step.ready _ inv.ready);
       stands = c.next_step.ensures.aside.still (λ e. let no : ⊥ = cc in no) ∙ inv.stands;
       still = λ never. c.next_step.ensures.still (inv.still never);
     }
@@ -76,8 +89,15 @@ returns-in-Ok-Ended-clause-exact g c = λ entries st.
     let inv = c.loop-rest.invariant in
     let room : length c.loop-rest.list.items < c.args.most = search rules in
     let all = differences c.args.wanted.now 1 entries in
-    let e = c.in-Ok-Ended.ensures.exact all (inv.told entries st) in
-    sym e ∙ sym (take_all c.args.most all (omega (arith, ap length e, c.in-Ok-Ended.ensures.counts, room)))
+    let now = c.next_step.new in
+    let rest = c.loop-rest.rest.now in
+    let e : all ≡ now.list.items = subst (λ (s : Step). StepsTo s all now.list.items rest now.spot.line now.spot.entry
+    (line_of now.cutter) (ahead now.cutter (g.A.Source.left now.aside))) c.in-Ok-Ended.field-0-test
+    (c.in-Ok-Ended.ensures.exact all (inv.told entries st)) in
+    let counts : length now.list.items ≤ length c.loop-rest.list.items + 1 = subst (λ (s : Step). StepCounts s
+    (length rest) (length c.loop-rest.list.items) (length now.list.items)) c.in-Ok-Ended.field-0-test
+    c.in-Ok-Ended.ensures.counts in
+    sym e ∙ sym (take_all c.args.most all (omega (arith, ap length e, counts, room)))
 
 pub returns-in-Ok-Ended-clause-read : goal.returns-in-Ok-Ended-clause-read
 returns-in-Ok-Ended-clause-read g c = λ bytes s.
