@@ -42,14 +42,14 @@ loop-rest-preserved-in-Ok-Passed g c =
     let size = ap length c.behind_first-rest.ensures ∙ length-drop 1 rest in
     let now = c.next_step.new in
     let counts = subst (λ (s : Step). StepCounts s (length rest) (length c.loop-rest.list.items) (length now.list.items))
-    c.in-Ok-Passed.field-0-test step.counts in
+    c.in-Ok-Passed.field-0-is step.counts in
     record {
       told = λ entries st. subst (λ (ws : List Notice). ListsOn (differences c.args.wanted.now 1 entries) now.list.items
           ws now.spot.line now.spot.entry (line_of now.cutter) (ahead now.cutter (g.A.Source.left now.aside)))
           (sym c.behind_first-rest.ensures)
           (subst (λ (s : Step). StepsTo s (differences c.args.wanted.now 1 entries) now.list.items rest now.spot.line
           now.spot.entry (line_of now.cutter) (ahead now.cutter (g.A.Source.left now.aside)))
-          c.in-Ok-Passed.field-0-test (step.exact (differences c.args.wanted.now 1 entries) (inv.told entries st)));
+          c.in-Ok-Passed.field-0-is (step.exact (differences c.args.wanted.now 1 entries) (inv.told entries st)));
       read = λ bytes s. read_more _ _ _ bytes (omega (arith, size, counts.0, counts.1, inv.shorter))
           (c.next_step.ensures.read _ bytes (inv.read bytes s));
       few = omega (arith, room, counts.2);
@@ -68,12 +68,12 @@ loop-rest-preserved g c =
     let rest = c.loop-rest.rest.now in
     let now = c.next_step.new in
     let counts = subst (λ (s : Step). StepCounts s (length rest) (length c.loop-rest.list.items) (length now.list.items))
-    c.in-Ok-Stayed.field-0-test step.counts in
+    c.in-Ok-Stayed.field-0-is step.counts in
     record {
       told = λ entries st.
           subst (λ (s : Step). StepsTo s (differences c.args.wanted.now 1 entries) now.list.items rest now.spot.line
           now.spot.entry (line_of now.cutter) (ahead now.cutter (g.A.Source.left now.aside)))
-          c.in-Ok-Stayed.field-0-test (step.exact (differences c.args.wanted.now 1 entries) (inv.told entries st));
+          c.in-Ok-Stayed.field-0-is (step.exact (differences c.args.wanted.now 1 entries) (inv.told entries st));
       read = λ bytes s. read_more _ _ _ bytes (omega (arith, counts, inv.shorter))
           (c.next_step.ensures.read _ bytes (inv.read bytes s));
       few = omega (arith, room, counts);
@@ -92,10 +92,10 @@ returns-in-Ok-Ended-clause-exact g c = λ entries st.
     let now = c.next_step.new in
     let rest = c.loop-rest.rest.now in
     let e : all ≡ now.list.items = subst (λ (s : Step). StepsTo s all now.list.items rest now.spot.line now.spot.entry
-    (line_of now.cutter) (ahead now.cutter (g.A.Source.left now.aside))) c.in-Ok-Ended.field-0-test
+    (line_of now.cutter) (ahead now.cutter (g.A.Source.left now.aside))) c.in-Ok-Ended.field-0-is
     (c.in-Ok-Ended.ensures.exact all (inv.told entries st)) in
     let counts : length now.list.items ≤ length c.loop-rest.list.items + 1 = subst (λ (s : Step). StepCounts s
-    (length rest) (length c.loop-rest.list.items) (length now.list.items)) c.in-Ok-Ended.field-0-test
+    (length rest) (length c.loop-rest.list.items) (length now.list.items)) c.in-Ok-Ended.field-0-is
     c.in-Ok-Ended.ensures.counts in
     sym e ∙ sym (take_all c.args.most all (omega (arith, ap length e, counts, room)))
 
