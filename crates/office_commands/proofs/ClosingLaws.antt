@@ -87,9 +87,11 @@ front_of a c text h = front_by (sort_of c) a c text h
 -- some first bytes of these are some of the text too
 pub front_front : (text whole : List ℕ) (k : ℕ) → k < length text → IsTextFront text whole →
     IsTextFront (take k text) whole
-front_front text whole k h front =
-    (k, ap (take k) front.1
-    ∙ take-take k front.0 whole (omega (arith, h, ap length front.1, length-take front.0 whole)))
+front_front text whole k h front = (
+  k,
+  ap (take k) front.1
+      ∙ take-take k front.0 whole (omega (arith, h, ap length front.1, length-take front.0 whole)),
+)
 
 -- a run that could not read wrote nothing
 pub wrote_nothing : (a : Answer) (s : ReadStop) (old : Option (List ℕ)) → Wrote a (Ok (Some (stopping s))) old old

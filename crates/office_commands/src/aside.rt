@@ -41,7 +41,10 @@ fn is_marked(text: &[u8]) -> bool
 }
 
 /// Moves to the next line of an aside. It ends with its bytes, or at a line that begins with #.
-pub(crate) fn next_entry<A: Source>(cutter: &mut LineCutter, aside: &mut A) -> Result<AsideEntry, ReadStop>
+pub(crate) fn next_entry<A: Source>(
+    cutter: &mut LineCutter,
+    aside: &mut A,
+) -> Result<AsideEntry, ReadStop>
     requires number { line_number cutter.old + 1 < 2 ^ 64 }
     requires whole { fault_of cutter.old ≡ None }
     ensures enters { IfOk result

@@ -39,11 +39,7 @@ pub enum Step {
 }
 
 /// Lists a difference, and goes on by this step.
-fn note(
-    list: &mut Vec<Difference>,
-    difference: Difference,
-    step: Step,
-) -> Result<Step, ReadStop>
+fn note(list: &mut Vec<Difference>, difference: Difference, step: Step) -> Result<Step, ReadStop>
     ensures noted { IfOk result (λ s. (s ≡ step) × (list.new.items ≡ list.old.items ++ difference ∷ [])) }
     ensures memory { result ≢ Err ReadFault }
 {

@@ -58,11 +58,7 @@ pub(crate) fn is_its_text(
 }
 
 /// Whether a line is the text of the first of some notices.
-fn is_text_of_first(
-    notices: &[Notice],
-    line: &[u8],
-    room: &mut Vec<u8>,
-) -> Result<bool, NoMemory>
+fn is_text_of_first(notices: &[Notice], line: &[u8], room: &mut Vec<u8>) -> Result<bool, NoMemory>
     requires short { length line.now ≤ 200 }
     ensures { IfOk result (λ same. same ≡ is_text_of_first notices.now line.now) }
 {

@@ -77,12 +77,7 @@ const TOLD_ROWS: [Listed; 14] = [
         THREE,
         7,
     ),
-    (
-        "2",
-        b"x\nx\nx\n",
-        TWO,
-        7,
-    ),
+    ("2", b"x\nx\nx\n", TWO, 7),
     ("1000", b"# a comment\n", NONE, 7),
 ];
 
@@ -96,11 +91,13 @@ const TWO: &str = "1 wanted 0,1,0,-1,0 found malformed\n2 wanted 0,2,0,-1,0 foun
     # differs line 1 wanted 0,1,0,-1,0 found malformed\n";
 
 /// One is missing, another one changed, a third one too many.
-const THREE: &str = "1 missing 0,1,0,-1,0\n2 wanted 0,2,130,-1,0 found 0,2,130,-1,9\n6 additional 0,4,240,16,0\n\
+const THREE: &str =
+    "1 missing 0,1,0,-1,0\n2 wanted 0,2,130,-1,0 found 0,2,130,-1,9\n6 additional 0,4,240,16,0\n\
     # differs line 1 wanted 0,1,0,-1,0 found 0,2,0,-1,0\n";
 
 /// All six are missing.
-const NONE: &str = "1 missing 0,1,0,-1,0\n1 missing 0,2,0,-1,0\n1 missing 0,2,130,-1,0\n1 missing 1,180,3,10\n\
+const NONE: &str =
+    "1 missing 0,1,0,-1,0\n1 missing 0,2,0,-1,0\n1 missing 0,2,130,-1,0\n1 missing 1,180,3,10\n\
     1 missing 0,3,180,0,0\n1 missing 0,4,240,16,0\n# differs line 1 wanted 0,1,0,-1,0 found none\n";
 
 #[test]
