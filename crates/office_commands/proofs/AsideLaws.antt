@@ -16,11 +16,11 @@ use Rattle.office_commands.specs.Asides.{is_short, begins_with_hash, entries_of,
 use Rattle.office_commands.specs.Entries.{entered, GoesOn, PartsAt}
 
 -- a line of at most 200 bytes is short
-short : (line : List ℕ) → length line ≤ 200 → is_short line ≡ true
+pub short : (line : List ℕ) → length line ≤ 200 → is_short line ≡ true
 short line h = le-leb (length line) 200 h
 
 -- a line of more is not
-long : (line : List ℕ) → 200 < length line → is_short line ≡ false
+pub long : (line : List ℕ) → 200 < length line → is_short line ≡ false
 long line h = lt-leb (length line) 200 h
 
 -- a long line is no end

@@ -1,7 +1,7 @@
 -- What a closing line says, and what may stand before it.
 use Rattle.std.proofs.Common.{◌≡◌, ◌≢◌, ◌==◌, ℕ, Bool, true, false, List, length, Option, Some, Ok, refl, sym, ap, ◌∙◌}
-use Rattle.std.proofs.Common.{arith, [], if◌then◌else◌}
-use Rattle.std.proofs.lemmas.List.{take_all}
+use Rattle.std.proofs.Common.{arith, [], ◌<◌, take, if◌then◌else◌}
+use Rattle.std.proofs.lemmas.List.{take_all, take-take, length-take}
 use Rattle.road_io.proofs.SinkLaws.{appends_none}
 use Rattle.road_io.specs.declared.source.Failed.{Failed}
 use Rattle.keeper.specs.declared.kept.KeepFault.{KeepFault}
@@ -84,6 +84,15 @@ front_by _ a c text h = h
 pub front_of : (a : Answer) (c : Closing) (text : List ℕ) → StandsBefore a c text → IsTextFront text a.text
 front_of a c text h = front_by (sort_of c) a c text h
 
+-- some first bytes of these are some of the text too
+pub front_front : (text whole : List ℕ) (k : ℕ) → k < length text → IsTextFront text whole →
+    IsTextFront (take k text) whole
+front_front text whole k h front = (
+  k,
+  ap (take k) front.1
+      ∙ take-take k front.0 whole (omega (arith, h, ap length front.1, length-take front.0 whole)),
+)
+
 -- a run that could not read wrote nothing
 pub wrote_nothing : (a : Answer) (s : ReadStop) (old : Option (List ℕ)) → Wrote a (Ok (Some (stopping s))) old old
 wrote_nothing a stops.ReadFault old = ([], (0, refl), appends_none old)
@@ -98,6 +107,17 @@ stops_empty a stops.NoMemory = (0, refl)
 pub refuses_empty : (a : Answer) (fault : KeepFault) → StandsBefore a (refusing fault) []
 refuses_empty a keeping.Failed = (0, refl)
 refuses_empty a keeping.NoMemory = (0, refl)
+
+-- the whole text stands before the own closing line of a command
+pub stands_whole : (a : Answer) (c : Closing) (text : List ℕ) → Some c ≡ a.closing → text ≡ a.text →
+    StandsBefore a c text
+stands_whole a c text is whole = go (sort_of c)
+  where
+    go : (s : Sort) → StandsBy s a c text
+    go Own = (is, whole)
+    go Unread = whole_front text a.text whole
+    go Unkept = whole_front text a.text whole
+    go Unroomed = whole_front text a.text whole
 
 -- nothing stands before the own closing line of a command without a text
 pub stands_alone : (a : Answer) (c : Closing) → Some c ≡ a.closing → [] ≡ a.text → StandsBefore a c []

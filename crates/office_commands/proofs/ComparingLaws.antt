@@ -1,5 +1,5 @@
--- What stands before the closing line of a comparison.
-use Rattle.std.proofs.Common.{◌≡◌, ℕ, List, [], Option, Some, None, refl}
+-- What is kept by a comparison, and by an accident log.
+use Rattle.std.proofs.Common.{◌≡◌, ℕ, List, Option, Some, None, refl}
 use Rattle.road_time.specs.declared.road.Tuple.{Tuple}
 use Rattle.keeper.specs.Office.{Office}
 use Rattle.tuple_format.specs.declared.cause.Cause.{Cause}
@@ -12,30 +12,17 @@ use Rattle.office_commands.specs.Commands.{unless_refused, accidents_command}
 use Rattle.office_commands.specs.Days.{recomputed, refusal_of}
 use Rattle.office_words.specs.declared.command.Recomputing.TheVariants.{Plainly}
 
--- a comparison writes nothing before its closing line
-no_text : (refused : Option (ℕ × Cause)) (number : ℕ) (tuples : List Tuple) (lines : List (List ℕ)) (o : Office) →
-    [] ≡ (unless_refused refused (comparison_of number tuples lines o)).text
-no_text None number tuples lines o = refl
-no_text (Some r) number tuples lines o = refl
-
--- and keeps what was kept
-same_office : (refused : Option (ℕ × Cause)) (number : ℕ) (tuples : List Tuple) (lines : List (List ℕ)) (o : Office) →
-    (unless_refused refused (comparison_of number tuples lines o)).office ≡ o
-same_office None number tuples lines o = refl
-same_office (Some r) number tuples lines o = refl
+-- a comparison keeps what was kept
+same_office : (refused : Option (ℕ × Cause)) (show number : ℕ) (tuples : List Tuple) (lines : List (List ℕ))
+    (o : Office) → (unless_refused refused (comparison_of show number tuples lines o)).office ≡ o
+same_office None show number tuples lines o = refl
+same_office (Some r) show number tuples lines o = refl
 
 -- so does the row of a command that compares
-pub no_row_text : (limits : Limits) (asked : Comparison) (bytes aside : List ℕ) (o : Office) →
-    [] ≡ (compare_command limits asked bytes aside o).text
-no_row_text limits asked bytes aside o =
-    no_text (refusal_of (reads bytes (recomputed asked.how limits) asked.late).refused) asked.day
-    (compared_tuples limits asked bytes) (lines_of aside) o
-
--- and leaves the office as it was
 pub same_row : (limits : Limits) (asked : Comparison) (bytes aside : List ℕ) (o : Office) →
     (compare_command limits asked bytes aside o).office ≡ o
 same_row limits asked bytes aside o =
-    same_office (refusal_of (reads bytes (recomputed asked.how limits) asked.late).refused) asked.day
+    same_office (refusal_of (reads bytes (recomputed asked.how limits) asked.late).refused) asked.show asked.day
     (compared_tuples limits asked bytes) (lines_of aside) o
 
 -- so does an accident log

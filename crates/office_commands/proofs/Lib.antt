@@ -9,6 +9,8 @@ pub mod DayLaws
 pub mod BoundLaws
 pub mod AsideLaws
 pub mod ComparingLaws
+pub mod DifferenceLaws
+pub mod ListingLaws
 pub mod HistoryLaws
 pub mod TrafficLaws
 pub mod PutLaws

@@ -6,17 +6,10 @@ use Rattle.road_io.specs.Plans.{NeverFails}
 use Rattle.road_io.proofs.SinkLaws.{appends_none}
 use Rattle.office_words.specs.declared.command.Command.{Command}
 use Rattle.office_commands.specs.declared.closing.Closing.{Closing}
-use Rattle.office_commands.specs.Commands.{Answer, compare_command}
-use Rattle.office_commands.specs.Endings.{StandsBefore, Wrote, KeepsBy, sort_of, Did}
+use Rattle.office_commands.specs.Commands.{Answer}
+use Rattle.office_commands.specs.Endings.{StandsBefore, Wrote}
 use Rattle.office_commands.specs.Faults.{ReadFaults}
 use Rattle.office_commands.specs.Uses.{uses_source, uses_aside, uses_keeper, uses_crew}
-use Rattle.keeper.specs.Calls.{WhenRefused}
-use Rattle.road_time.specs.declared.day.Limits.{Limits}
-use Rattle.office_words.specs.declared.command.Comparison.{Comparison}
-use Rattle.keeper.specs.Office.{Office}
-use Rattle.office_commands.proofs.KeepingLaws.{closing_same}
-use Rattle.office_commands.proofs.ComparingLaws.{same_row, no_row_text}
-use Rattle.office_commands.proofs.ConcludeLaws.{did_silent}
 
 -- whether a command has a use for the source
 abbrev pub source_of : Command → Bool
@@ -62,7 +55,7 @@ beside before now plan failed quiet f =
 -- and of one that reads an aside too, of one of the two
 pub by_both : (before now aside_before aside_now : ℕ) (plan aside_plan : Option (ℕ → Bool)) (uses asks : Bool)
     (failed named quiet : Type 0) → uses ≡ true → asks ≡ true → (named → failed) → (failed → named) →
-    ReadFaults before now aside_before aside_now (NeverFails plan) (NeverFails aside_plan) failed (Unit {0}) →
+    ReadFaults before now aside_before aside_now (NeverFails plan) (NeverFails aside_plan) failed quiet →
     ReadFaults before now aside_before aside_now (uses ≡ true → NeverFails plan) (asks ≡ true →
     NeverFails aside_plan) named quiet
 by_both before now aside_before aside_now plan aside_plan uses asks failed named quiet used aside_used same told f =
@@ -70,21 +63,6 @@ by_both before now aside_before aside_now plan aside_plan uses asks failed named
       later = f.later;
       aside_later = f.aside_later;
       cause = λ bad. f.cause (same bad);
-      still = λ well calm. f.still (λ bad. well (told bad)) tt;
+      still = λ well calm. f.still (λ bad. well (told bad)) calm;
       sure = λ fine aside_fine bad. f.sure (fine used) (aside_fine aside_used) (same bad);
     }
-
-module _ (w : WhenRefused) (limits : Limits) (asked : Comparison) (bytes lines : List ℕ) (o : Office)
-    (now : Option Office) (c : Closing) where
-  -- a comparison keeps what was kept
-  pub compare_keeps : now ≡ Some o → KeepsBy (sort_of c) w (compare_command limits asked bytes lines o) o now
-  compare_keeps kept =
-      closing_same w (compare_command limits asked bytes lines o) o now c (same_row limits asked bytes lines o) kept
-
-  -- and names its line alone
-  pub compare_did : (old : Option (List ℕ)) → StandsBefore (compare_command limits asked bytes lines o) c [] →
-      now ≡ Some o
-      → Did w (compare_command limits asked bytes lines o) o old old now (Ok (Some c))
-  compare_did old stands kept =
-      did_silent w (compare_command limits asked bytes lines o) o old old now c (no_row_text limits asked bytes lines o)
-      stands (compare_keeps kept) (appends_none old)

@@ -42,6 +42,7 @@ use Rattle.traffic_gen.specs.Traffic.{file_of}
 use Rattle.office_commands.specs.Traffic.{plan_from_seed, rehearsed_record, rehearsed}
 use Rattle.office_commands.specs.Days.{recomputed, refusal_of}
 use Rattle.office_commands.specs.Asides.{compared}
+use Rattle.office_commands.specs.Differences.{told_text}
 
 -- what a command is to write before its closing line, that line, if it has one, and what is kept then
 pub record Answer : Type 0 where
@@ -95,9 +96,17 @@ unless_refused (Some refused) answer = closed (Refused refused.0 refused.1) answ
 abbrev pub accidents_of : List Tuple → Office → Answer
 accidents_of tuples o = text_alone (log_text (log_of tuples)) o
 
+-- how notices compare with lines, where so many differences are told
+abbrev pub comparison_by : ℕ → List Notice → List (List ℕ) → Office → Answer
+comparison_by show wanted lines o = record {
+  text = told_text show wanted lines;
+  closing = Some (compared wanted lines);
+  office = o;
+}
+
 -- how the notices of a day compare with lines
-abbrev pub comparison_of : ℕ → List Tuple → List (List ℕ) → Office → Answer
-comparison_of number tuples lines o = closed (compared (notices_of_day number tuples o) lines) o
+abbrev pub comparison_of : ℕ → ℕ → List Tuple → List (List ℕ) → Office → Answer
+comparison_of show number tuples lines o = comparison_by show (notices_of_day number tuples o) lines o
 
 -- the tuples of a day that is compared
 abbrev pub compared_tuples : Limits → Comparison → List ℕ → List Tuple
@@ -107,7 +116,7 @@ compared_tuples limits asked bytes = (reads bytes (recomputed asked.how limits) 
 abbrev pub compare_command : Limits → Comparison → List ℕ → List ℕ → Office → Answer
 compare_command limits asked bytes aside o =
     unless_refused (refusal_of (reads bytes (recomputed asked.how limits) asked.late).refused)
-    (comparison_of asked.day (compared_tuples limits asked bytes) (lines_of aside) o)
+    (comparison_of asked.show asked.day (compared_tuples limits asked bytes) (lines_of aside) o)
 
 -- the command `accidents`
 abbrev pub accidents_command : Limits → ℕ → List ℕ → Office → Answer

@@ -3,6 +3,8 @@ pub mod Traffic
 pub mod Days
 pub mod Asides
 pub mod Entries
+pub mod Differences
+pub mod Listings
 pub mod Commands
 pub mod Uses
 pub mod Faults

@@ -15,7 +15,7 @@ use Rattle.office_words.specs.declared.command.Command.TheVariants as command
 use Rattle.office_words.specs.declared.command.Recomputing.TheVariants.{Plainly}
 use Rattle.office_commands.specs.Days.{recomputed, in_bulk}
 use Rattle.office_commands.specs.Commands.{notices_of_day, compared_tuples}
-use Rattle.office_commands.specs.Entries.{most_compared}
+use Rattle.office_commands.specs.Listings.{most_listed}
 use Rattle.day_check.specs.Checking.{most_checked}
 
 -- what words ask for, if they ask for a command
@@ -121,9 +121,9 @@ PutsAsked (Some (command.Tariff xway crowd speed factor)) was now =
     (now ≡ Some was) ⊎ (now ≡ Some (with_tariff_of xway (record { crowd = crowd; speed = speed; factor = factor }) was))
 PutsAsked _ was now = Unit {0}
 
--- the most that is read of an aside with which a day's notices are compared
-abbrev pub most_noticed : ℕ → List Tuple → Office → ℕ
-most_noticed number tuples o = most_compared (length (notices_of_day number tuples o))
+-- the most that is read of an aside with which a day's notices are compared, where so many differences are told
+abbrev pub most_noticed : ℕ → ℕ → List Tuple → Office → ℕ
+most_noticed show number tuples o = most_listed show (length (notices_of_day number tuples o))
 
 -- the most that words have read of the source
 abbrev pub most_of : Limits → Office → Option Command → ℕ
@@ -138,5 +138,5 @@ most_of limits o _ = 0
 -- the most that words have read of the aside
 abbrev pub most_aside_of : Limits → List ℕ → Office → Option Command → ℕ
 most_aside_of limits bytes o (Some (command.Compare asked)) =
-    most_noticed asked.day (compared_tuples limits asked bytes) o
+    most_noticed asked.show asked.day (compared_tuples limits asked bytes) o
 most_aside_of limits bytes o _ = 0

@@ -41,7 +41,10 @@ fn is_marked(text: &[u8]) -> bool
 }
 
 /// Moves to the next line of an aside. It ends with its bytes, or at a line that begins with #.
-fn next_entry<A: Source>(cutter: &mut LineCutter, aside: &mut A) -> Result<AsideEntry, ReadStop>
+pub(crate) fn next_entry<A: Source>(
+    cutter: &mut LineCutter,
+    aside: &mut A,
+) -> Result<AsideEntry, ReadStop>
     requires number { line_number cutter.old + 1 < 2 ^ 64 }
     requires whole { fault_of cutter.old ≡ None }
     ensures enters { IfOk result
@@ -71,7 +74,7 @@ fn next_entry<A: Source>(cutter: &mut LineCutter, aside: &mut A) -> Result<Aside
 }
 
 /// How a line of at most 200 bytes is named.
-fn entry_of(line: &[u8]) -> EntryText
+pub(crate) fn entry_of(line: &[u8]) -> EntryText
     ensures { result ≡ entry_of (defined_read_notice (without_cr line.now)) }
 {
     match read_notice(trimmed(line)) {
@@ -81,7 +84,7 @@ fn entry_of(line: &[u8]) -> EntryText
 }
 
 /// Whether a line is the text of a notice. The room is used again for each.
-fn is_text_of(notice: &Notice, line: &[u8], room: &mut Vec<u8>) -> Result<bool, NoMemory>
+pub(crate) fn is_text_of(notice: &Notice, line: &[u8], room: &mut Vec<u8>) -> Result<bool, NoMemory>
     ensures { IfOk result (λ same. same ≡ bytes_eq (without_cr line.now) (notice_text notice.now)) }
 {
     room.clear();

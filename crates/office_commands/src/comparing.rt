@@ -1,5 +1,5 @@
 // The commands `validate DAY` and `audit DAY`: notices compared with those of the rules.
-ghost use Rattle.std.specs.Prelude.{◌≡◌, ◌≢◌, [], ℕ, List, Some, None, Err, IfOk, IsOk, false, length};
+ghost use Rattle.std.specs.Prelude.{◌≡◌, ◌≢◌, ◌≤◌, [], ℕ, List, Some, None, Err, IfOk, IsOk, false, length};
 ghost use Rattle.road_time.specs.Day.{notices};
 ghost use Rattle.road_time.specs.Fits.{IsDay, IsLimits};
 ghost use Rattle.road_time.specs.Lines.{lines_of};
@@ -10,11 +10,11 @@ ghost use Rattle.road_time.specs.History.{paid, KeysDiffer};
 ghost use Rattle.day_reading.specs.Days.{most_of_day};
 ghost use Rattle.road_io.specs.Within.{ReadsWithin};
 ghost use Rattle.office_words.specs.Meaning.{IsComparing};
-ghost use Rattle.office_commands.specs.Asides.{compared};
-ghost use Rattle.office_commands.specs.Commands.{compare_command, comparison_of, compared_tuples, notices_of_day};
-ghost use Rattle.office_commands.specs.Commands.{unless_refused, closed};
+ghost use Rattle.office_commands.specs.Commands.{compare_command, comparison_by, comparison_of, compared_tuples};
+ghost use Rattle.office_commands.specs.Commands.{notices_of_day, unless_refused};
+ghost use Rattle.office_commands.specs.Differences.{differences_text};
 ghost use Rattle.office_commands.specs.Days.{recomputed, in_bulk, IsRightFor};
-ghost use Rattle.office_commands.specs.Entries.{most_compared};
+ghost use Rattle.office_commands.specs.Listings.{most_listed};
 ghost use Rattle.office_commands.specs.Closings.{status_of};
 ghost use Rattle.office_commands.specs.Endings.{StandsBefore};
 ghost use Rattle.office_commands.specs.Rests.{HasReadDay, SaysBy};
@@ -24,9 +24,10 @@ ghost use Rattle.office_commands.specs.Starts.{shards_of, StartsBulk, SaysCompar
 ghost use Rattle.office_commands.specs.Faults.{ReadFaults};
 ghost use Rattle.road_io.specs.Blame.{FaultsByPlan};
 
-use crate::aside::compare;
 use crate::closing::Closing;
 use crate::day::{ReadDay, read_day, stopped};
+use crate::difference::Difference;
+use crate::listed::compare_and_list;
 use crate::refusal::refused;
 use asked_history::history_for;
 use keeper::{KeepFault, Keeper};
@@ -103,23 +104,32 @@ fn wanted_notices<K: Keeper, C: Crew, R: Threads + Sync>(
     }
 }
 
-/// Compares notices with the lines of an aside.
-fn compare_notices<A: Source>(alloc: Global, wanted: &[Notice], aside: &mut A) -> Closing
+/// Compares notices with the lines of an aside, and gives the first differences, where more than one is asked for.
+fn compare_notices<A: Source>(
+    alloc: Global,
+    show: u32,
+    wanted: &[Notice],
+    aside: &mut A,
+    shown: &mut Vec<Difference>,
+) -> Closing
+    requires few { show ≤ 1000 }
+    requires empty { shown.old.items ≡ [] }
     ensures exact { (lines : List ℕ) (o : Office) → A.left aside.old ≡ Some lines
-        → StandsBefore (closed (compared wanted.now (lines_of lines)) o) result [] }
+        → StandsBefore (comparison_by show wanted.now (lines_of lines) o) result (differences_text shown.new.items) }
     ensures own { (result ≢ KeeperFault) × (result ≢ Words) }
     ensures unnamed { status_of result ≢ 2 }
-    ensures bounded { ReadsWithin (most_compared (length wanted.now)) (A.left aside.old) (A.left aside.new) }
+    ensures none { status_of result ≢ 7 → shown.new.items ≡ [] }
+    ensures bounded { ReadsWithin (most_listed show (length wanted.now)) (A.left aside.old) (A.left aside.new) }
     ensures aside { FaultsByPlan (A.faults aside.old) (A.faults aside.new) (A.plan aside.old) (result ≡ ReadFault) }
 {
-    match compare(alloc, wanted, aside) {
+    match compare_and_list(alloc, show, wanted, aside, shown) {
         Ok(closing) => closing,
         Err(stop) => stopped(stop),
     }
 }
 
-/// Compares the notices of a day that was read with the lines of an aside. By how many shards its vehicles were seen
-/// stands in `shards_seen` where notices were compared.
+/// Compares the notices of a day that was read with the lines of an aside, and gives the first differences. By how many
+/// shards its vehicles were seen stands in `shards_seen` where notices were compared.
 fn compare_day<A: Source, K: Keeper, C: Crew, R: Threads + Sync>(
     rt: &R,
     alloc: Global,
@@ -130,21 +140,26 @@ fn compare_day<A: Source, K: Keeper, C: Crew, R: Threads + Sync>(
     keeper: &mut K,
     crew: &mut C,
     shards_seen: &mut usize,
+    shown: &mut Vec<Difference>,
 ) -> Closing
     requires fit { IsDay day.now.tuples.items }
     requires range { IsComparing asked }
     requires idle { C.out crew.old ≡ [] }
+    requires empty { shown.old.items ≡ [] }
     ensures exact { IsRightFor asked.how C.exact → (lines : List ℕ) (o : Office) → A.left aside.old ≡ Some lines
         → K.told keeper.old ≡ Some o → tariffs.now ≡ o.tariffs
         → StandsBefore (unless_refused day.now.refused
-        (comparison_of asked.day day.now.tuples.items (lines_of lines) o)) result [] }
+        (comparison_of asked.show asked.day day.now.tuples.items (lines_of lines) o)) result
+        (differences_text shown.new.items) }
     ensures kept { K.told keeper.new ≡ K.told keeper.old }
     ensures said { result ≢ Words }
     ensures says { SaysBy day.now.refused (status_of result) }
+    ensures none { status_of result ≢ 7 → shown.new.items ≡ [] }
     ensures source_first { day.now.refused ≢ None → aside.new ≡ aside.old }
     ensures bounded { IsRightFor asked.how C.exact → (o : Office) → K.told keeper.old ≡ Some o
         → tariffs.now ≡ o.tariffs
-        → ReadsWithin (most_noticed asked.day day.now.tuples.items o) (A.left aside.old) (A.left aside.new) }
+        → ReadsWithin (most_noticed asked.show asked.day day.now.tuples.items o) (A.left aside.old)
+        (A.left aside.new) }
     ensures unused { in_bulk asked.how ≡ false → crew.new ≡ crew.old }
     ensures jobs { StartsBulk asked.how day.now.tuples.items (SaysCompared (status_of result)) (C.jobs crew.old)
         (C.jobs crew.new) }
@@ -169,14 +184,15 @@ fn compare_day<A: Source, K: Keeper, C: Crew, R: Threads + Sync>(
     ) {
         Ok(wanted) => {
             *shards_seen = wanted.shards();
-            compare_notices(alloc, wanted.items(), aside)
+            compare_notices(alloc, asked.show, wanted.items(), aside, shown)
         }
         Err(fault) => refused(fault),
     }
 }
 
 /// Compares the notices of what the source has, after what the keeper keeps, with the lines of an aside, unless a
-/// line is refused. By how many shards the vehicles were seen stands in `shards_seen` where notices were compared.
+/// line is refused. Gives the first differences, where more than one is asked for. By how many shards the vehicles were
+/// seen stands in `shards_seen` where notices were compared.
 pub fn compare_source<S: Source, A: Source, K: Keeper, C: Crew, R: Threads + Sync>(
     rt: &R,
     alloc: Global,
@@ -187,15 +203,18 @@ pub fn compare_source<S: Source, A: Source, K: Keeper, C: Crew, R: Threads + Syn
     keeper: &mut K,
     crew: &mut C,
     shards_seen: &mut usize,
+    shown: &mut Vec<Difference>,
 ) -> Closing
     requires range { IsComparing asked }
     requires within { IsLimits limits.now }
     requires idle { C.out crew.old ≡ [] }
+    requires empty { shown.old.items ≡ [] }
     ensures exact { IsRightFor asked.how C.exact → (bytes lines : List ℕ) (o : Office) → S.left source.old ≡ Some bytes
         → A.left aside.old ≡ Some lines → K.told keeper.old ≡ Some o
-        → StandsBefore (compare_command limits.now asked bytes lines o) result [] }
+        → StandsBefore (compare_command limits.now asked bytes lines o) result (differences_text shown.new.items) }
     ensures kept { (o : Office) → K.told keeper.old ≡ Some o → K.told keeper.new ≡ Some o }
     ensures said { result ≢ Words }
+    ensures none { status_of result ≢ 7 → shown.new.items ≡ [] }
     ensures reads { HasReadDay (recomputed asked.how limits.now) asked.late (status_of result)
         (S.left source.old) (S.left source.new) }
     ensures refused_first { status_of result ≡ 2 → aside.new ≡ aside.old }
@@ -205,7 +224,7 @@ pub fn compare_source<S: Source, A: Source, K: Keeper, C: Crew, R: Threads + Syn
         (S.left source.new) }
     ensures aside_bounded { IsRightFor asked.how C.exact → (bytes : List ℕ) (o : Office)
         → S.left source.old ≡ Some bytes → K.told keeper.old ≡ Some o
-        → ReadsWithin (most_noticed asked.day (compared_tuples limits.now asked bytes) o)
+        → ReadsWithin (most_noticed asked.show asked.day (compared_tuples limits.now asked bytes) o)
         (A.left aside.old) (A.left aside.new) }
     ensures unused { in_bulk asked.how ≡ false → crew.new ≡ crew.old }
     ensures jobs { (bytes : List ℕ) → S.left source.old ≡ Some bytes
@@ -234,6 +253,7 @@ pub fn compare_source<S: Source, A: Source, K: Keeper, C: Crew, R: Threads + Syn
             keeper,
             crew,
             shards_seen,
+            shown,
         ),
         Err(stop) => stopped(stop),
     }

@@ -19,7 +19,6 @@ ghost use Rattle.road_io.specs.Blame.{FaultsByPlan, FaultsByRoom};
 use crate::answers::answers;
 use crate::checks::check;
 use crate::closing::Closing;
-use crate::comparing::compare_source;
 use crate::days::days;
 use crate::imports::import;
 use crate::mishaps::accidents;
@@ -27,6 +26,7 @@ use crate::past::past;
 use crate::run_limits::run_limits;
 use crate::statements::{charges, day, export, vehicle};
 use crate::tariffs::{tariff, tariffs};
+use crate::telling::compare_and_tell;
 use crate::traffic::{generate, rehearse};
 use keeper::Keeper;
 use office_words::Command;
@@ -115,17 +115,18 @@ pub(crate) fn perform<S: Source, A: Source, O: Sink, K: Keeper, C: Crew, R: Thre
             let own = run_limits(&run, limits);
             import(rt, alloc, run, &own, source, sink, keeper, crew)
         }
-        Command::Compare(asked) => Ok(Some(compare_source(
+        Command::Compare(asked) => compare_and_tell(
             rt,
             alloc,
             asked,
             limits,
             source,
             aside,
+            sink,
             keeper,
             crew,
             shards_seen,
-        ))),
+        ),
         Command::Past { base } => Ok(Some(past(rt, alloc, base, limits, source, keeper))),
         Command::Day { day: number } => day(alloc, number, sink, keeper),
         Command::Vehicle { vid, from, to } => vehicle(alloc, vid, from, to, sink, keeper),

@@ -4,6 +4,7 @@ mod audits;
 mod causes;
 mod checks;
 mod days;
+mod differences;
 mod faults;
 mod input;
 mod listings;

@@ -202,7 +202,13 @@ ready = (
                         (refl, (as_place 1 refl, refl)),
                         (
                           (refl, (as_place 1 refl, refl)),
-                          (refl, ((refl, (as_place 1 refl, (refl, (as_place 2 refl, refl)))), ((refl, (as_place 1 refl, refl)), tt))),
+                          (
+                            refl,
+                            (
+                              (refl, (as_place 1 refl, (refl, (as_place 2 refl, refl)))),
+                              ((refl, (as_place 1 refl, refl)), tt),
+                            ),
+                          ),
                         ),
                       ),
                     ),

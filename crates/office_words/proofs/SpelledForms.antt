@@ -40,7 +40,7 @@ sizes_plain = ((refl, λ v. refl), ((refl, λ v. refl), ((refl, λ v. refl), ((r
 
 audits_plain : AllPlainly audits
 unfolding look
-audits_plain = ((refl, λ v. refl), ((refl, λ v. refl), ((refl, λ v. refl), tt)))
+audits_plain = ((refl, λ v. refl), ((refl, λ v. refl), ((refl, λ v. refl), ((refl, λ v. refl), tt))))
 
 late_plain : AllPlainly (codes "late" ∷ [])
 unfolding look

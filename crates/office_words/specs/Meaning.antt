@@ -88,17 +88,22 @@ import_in value = with (day_in value) (λ day. with (run_in day value) (λ run. 
 -- the command `validate DAY`
 abbrev pub validate_in : Values → Option Command
 validate_in value = with (day_in value) (λ day. with (late_in value) (λ late.
-    Some (command.Compare (record { day = day; late = late; how = Plainly }))))
+    Some (command.Compare (record { day = day; late = late; how = Plainly; show = 1 }))))
 
 -- by how many shards of vehicles and over how many workers notices are recomputed in bulk
 abbrev pub bulk_in : Values → Option Recomputing
 bulk_in value = with (optional 1 64 1 (value (codes "shards"))) (λ shards. with (width_in value) (λ width.
     Some (InBulk shards width)))
 
+-- how many of the lines that differ are told
+abbrev pub show_in : Values → Option ℕ
+show_in value = optional 1 1000 1 (value (codes "show"))
+
 -- the command `audit DAY`
 abbrev pub audit_in : Values → Option Command
 audit_in value = with (day_in value) (λ day. with (late_in value) (λ late. with (bulk_in value) (λ how.
-    Some (command.Compare (record { day = day; late = late; how = how })))))
+    with (show_in value) (λ show.
+    Some (command.Compare (record { day = day; late = late; how = how; show = show }))))))
 
 -- the command `past BASE`
 abbrev pub past_in : Values → Option Command
@@ -215,6 +220,8 @@ pub record IsComparing (asked : Comparison) : Type 0 where
   pub high : asked.day ≤ 1000000
   pub soon : asked.late ≤ 120
   pub how : IsRecomputing asked.how
+  pub some_shown : 1 ≤ asked.show
+  pub few_shown : asked.show ≤ 1000
 
 -- what a day's run is told is in its ranges
 pub record IsRun (run : DayRun) : Type 0 where

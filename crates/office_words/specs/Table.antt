@@ -16,7 +16,7 @@ runs = codes "late" ∷ codes "workers" ∷ codes "turns" ∷ codes "backlog" �
 
 -- the options of the command that recomputes a day in bulk
 abbrev pub audits : List Text
-audits = codes "late" ∷ codes "shards" ∷ codes "workers" ∷ []
+audits = codes "late" ∷ codes "shards" ∷ codes "workers" ∷ codes "show" ∷ []
 
 -- what is built: each command with its places and its options
 abbrev pub forms : List Form

@@ -30,13 +30,14 @@ pub enum Recomputing {
     InBulk { shards: u8, width: u8 },
 }
 
-/// What a comparison is told: the day, 70 to 1,000,000, by how many seconds its lines may come late, 0 to 120, and
-/// how its notices are recomputed.
+/// What a comparison is told: the day, 70 to 1,000,000, by how many seconds its lines may come late, 0 to 120, how its
+/// notices are recomputed, and how many of the lines that differ are told, 1 to 1,000.
 #[derive(Clone, Copy, Debug, PartialEq)]
 pub struct Comparison {
     pub day: u32,
     pub late: u8,
     pub how: Recomputing,
+    pub show: u32,
 }
 
 /// A command with its numbers, each in its range. Lines may come late by 0 to 120 seconds.

@@ -1,9 +1,9 @@
 // The command that matches stand for.
-ghost use Rattle.std.specs.Prelude.{◌≡◌, ◌≤◌, IfSome, codes};
+ghost use Rattle.std.specs.Prelude.{◌≡◌, ◌≤◌, IfSome};
 ghost use Rattle.clap.specs.Words.{first_value, found_of};
 ghost use Rattle.office_words.specs.Meaning.{day_in, late_in, width_in, plan_in, run_in, answers_in, import_in};
-ghost use Rattle.office_words.specs.Meaning.{bulk_in, validate_in, audit_in, past_in, vehicle_in, tariff_in, charges_in};
-ghost use Rattle.office_words.specs.Meaning.{check_in};
+ghost use Rattle.office_words.specs.Meaning.{bulk_in, validate_in, audit_in, show_in, past_in, vehicle_in, tariff_in};
+ghost use Rattle.office_words.specs.Meaning.{charges_in, check_in};
 ghost use Rattle.office_words.specs.Meaning.{meaning, seed_in, size_in, generate_in, rehearse_in, IsInRange, IsPlan};
 ghost use Rattle.office_words.specs.Meaning.{IsRecomputing, IsRun, IsSize, backlog_in};
 
@@ -106,7 +106,22 @@ fn validate(m: &ArgMatches<'_>) -> Option<Command>
     let day = day(m)?;
     let late = late(m)?;
     let how = Recomputing::Plainly;
-    Some(Command::Compare(Comparison { day, late, how }))
+    let show = 1;
+    Some(Command::Compare(Comparison {
+        day,
+        late,
+        how,
+        show,
+    }))
+}
+
+/// How many of the lines that differ are told.
+fn show(m: &ArgMatches<'_>) -> Option<u32>
+    ensures value { result ≡ show_in (first_value (found_of m.now)) }
+    ensures range { IfSome result (λ n. (1 ≤ n) × (n ≤ 1000)) }
+{
+    let n = optional(m, "show", 1, 1000, 1)?;
+    Some(n as u32)
 }
 
 fn audit(m: &ArgMatches<'_>) -> Option<Command>
@@ -116,7 +131,13 @@ fn audit(m: &ArgMatches<'_>) -> Option<Command>
     let day = day(m)?;
     let late = late(m)?;
     let how = in_bulk(m)?;
-    Some(Command::Compare(Comparison { day, late, how }))
+    let show = show(m)?;
+    Some(Command::Compare(Comparison {
+        day,
+        late,
+        how,
+        show,
+    }))
 }
 
 fn past(m: &ArgMatches<'_>) -> Option<Command>

@@ -98,7 +98,7 @@ fn with_days<'a>(alloc: Global, top: Command<'a>) -> Result<Command<'a>, AllocEr
         top,
         "audit",
         &["day"],
-        &["late", "shards", "workers"],
+        &["late", "shards", "workers", "show"],
     )?;
     with(alloc, top, "past", &["base"], &[])
 }

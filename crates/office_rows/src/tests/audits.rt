@@ -5,18 +5,18 @@ use road_time::Limits;
 use std::test::Fail;
 
 /// One of the pair reports from another expressway, and two come by later.
-const ELSEWHERE: [&str; 3] = [
+pub const ELSEWHERE: [&str; 3] = [
     "0,130,2,50,1,0,0,3,15840",
     "0,180,3,50,0,1,0,10,52800",
     "0,240,4,50,0,1,0,10,52800",
 ];
 
 /// What they are told.
-const TOLD: &[u8] =
+pub const TOLD: &[u8] =
     b"0,1,0,-1,0\n0,2,0,-1,0\n0,2,130,-1,0\n1,180,3,10\n0,3,180,0,0\n0,4,240,16,0\n";
 
 /// The same without its fourth line.
-const SHORT: &[u8] = b"0,1,0,-1,0\n0,2,0,-1,0\n0,2,130,-1,0\n0,3,180,0,0\n0,4,240,16,0\n";
+pub const SHORT: &[u8] = b"0,1,0,-1,0\n0,2,0,-1,0\n0,2,130,-1,0\n0,3,180,0,0\n0,4,240,16,0\n";
 
 /// An aside, how the audit of that day compares with it, and the status.
 const COMPARED: [(&[u8], &str, u8); 2] = [

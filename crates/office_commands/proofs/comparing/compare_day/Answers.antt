@@ -4,11 +4,13 @@ use Rattle.road_time.specs.Lines.{lines_of}
 use Rattle.tuple_format.specs.declared.cause.Cause.{Cause}
 use Rattle.road_io.specs.Within.{ReadsWithin}
 use Rattle.office_commands.specs.declared.closing.Closing.{Closing}
-use Rattle.office_commands.specs.Asides.{compared}
 use Rattle.office_commands.specs.Closings.{status_of}
-use Rattle.office_commands.specs.Commands.{notices_of_day, comparison_of, unless_refused, closed}
+use Rattle.office_commands.specs.Commands.{notices_of_day, comparison_by, comparison_of, unless_refused}
+use Rattle.office_commands.specs.Differences.{differences_text}
+use Rattle.office_commands.specs.declared.difference.Difference.{Difference}
+use Rattle.office_commands.specs.declared.closing.Closing.TheVariants.{Refused}
 use Rattle.office_commands.specs.Endings.{StandsBefore}
-use Rattle.office_commands.specs.Entries.{most_compared}
+use Rattle.office_commands.specs.Listings.{most_listed}
 use Rattle.office_commands.specs.Rests.{SaysBy}
 use Rattle.office_commands.proofs.ClosingLaws.{refuses_empty}
 use Rattle.office_commands.proofs.RestLaws.{refused_says}
@@ -22,21 +24,29 @@ returns-in-Ok-clause-exact g c = λ right lines o told kept rates.
     let day = c.args.day.now in
     let number = c.args.asked.day in
     let refused : day.refused ≡ None = cc in
-    let row = comparison_of number day.tuples.items (lines_of lines) o in
+    let row = comparison_of c.args.asked.show number day.tuples.items (lines_of lines) o in
+    let text = differences_text c.compare_notices.new.shown.items in
     let known : c.items.result.now ≡ notices_of_day number day.tuples.items o =
     c.items.ensures
     ∙ c.in-Ok.ensures.exact right o kept rates
     ∙ ap (λ ts. notices_of_day number ts o) c.as_slice.ensures.value in
-    subst (λ (r : Option (ℕ × Cause)). StandsBefore (unless_refused r row) c.compare_notices.result []) (sym refused)
-    (subst (λ (ns : List Notice). StandsBefore (closed (compared ns (lines_of lines)) o) c.compare_notices.result [])
-    known
-    (c.compare_notices.ensures.exact lines o told))
+    subst (λ (r : Option (ℕ × Cause)). StandsBefore (unless_refused r row) c.compare_notices.result text) (sym refused)
+    (subst (λ (ns : List Notice). StandsBefore (comparison_by c.args.asked.show ns (lines_of lines) o)
+    c.compare_notices.result text) known (c.compare_notices.ensures.exact lines o told))
 
 pub returns-in-Err-clause-exact : goal.returns-in-Err-clause-exact
 returns-in-Err-clause-exact g c = λ right lines o told kept rates.
-    let row = comparison_of c.args.asked.day c.args.day.now.tuples.items (lines_of lines) o in
+    let row = comparison_of c.args.asked.show c.args.asked.day c.args.day.now.tuples.items (lines_of lines) o in
     let a = unless_refused c.args.day.now.refused row in
-    subst (λ (k : Closing). StandsBefore a k []) (sym c.refused.ensures) (refuses_empty a c.in-Err.fault)
+    subst (λ (ds : List Difference). StandsBefore a c.refused.result (differences_text ds)) (sym c.requires.empty)
+    (subst (λ (k : Closing). StandsBefore a k []) (sym c.refused.ensures) (refuses_empty a c.in-Err.fault))
+
+pub returns-in-Some-clause-exact : goal.returns-in-Some-clause-exact
+returns-in-Some-clause-exact g c = λ right lines o told kept rates.
+    let row = comparison_of c.args.asked.show c.args.asked.day c.args.day.now.tuples.items (lines_of lines) o in
+    let is : c.args.day.now.refused ≡ Some (c.in-Some.line, c.in-Some.cause) = cc in
+    subst (λ (r : Option (ℕ × Cause)). StandsBefore (unless_refused r row) (Refused c.in-Some.line c.in-Some.cause)
+    (differences_text c.args.shown.now.items)) (sym is) (refl, ap differences_text c.requires.empty)
 
 pub returns-in-Ok-clause-bounded : goal.returns-in-Ok-clause-bounded
 returns-in-Ok-clause-bounded g c = λ right o kept rates.
@@ -48,7 +58,7 @@ returns-in-Ok-clause-bounded g c = λ right o kept rates.
     ∙ ap (λ ts. notices_of_day number ts o) c.as_slice.ensures.value in
     let before = g.A.Source.left c.args.aside.now in
     let after = g.A.Source.left c.compare_notices.new.aside in
-    subst (λ (ns : List Notice). ReadsWithin (most_compared (length ns)) before after) known
+    subst (λ (ns : List Notice). ReadsWithin (most_listed c.args.asked.show (length ns)) before after) known
     c.compare_notices.ensures.bounded
 
 pub returns-in-Some-clause-says : goal.returns-in-Some-clause-says

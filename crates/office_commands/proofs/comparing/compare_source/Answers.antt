@@ -6,7 +6,9 @@ use Rattle.tuple_format.specs.declared.cause.Cause.{Cause}
 use Rattle.keeper.proofs.CallLaws.{reads_same, reads_ok}
 use Rattle.office_commands.specs.declared.closing.Closing.{Closing}
 use Rattle.office_commands.specs.Days.{recomputed}
-use Rattle.office_commands.specs.Commands.{compare_command, comparison_of, unless_refused, compared_tuples}
+use Rattle.office_commands.specs.Commands.{Answer, compare_command, comparison_of, unless_refused, compared_tuples}
+use Rattle.office_commands.specs.Differences.{differences_text}
+use Rattle.office_commands.specs.declared.difference.Difference.{Difference}
 use Rattle.office_commands.specs.Endings.{StandsBefore}
 use Rattle.office_commands.proofs.ClosingLaws.{refuses_empty, stops_empty}
 use Rattle.road_io.specs.Within.{ReadsWithin}
@@ -23,12 +25,14 @@ use Rattle.office_commands.proofs.comparing.compare_source.Goals as goal
 pub returns-in-Err-clause-exact : goal.returns-in-Err-clause-exact
 returns-in-Err-clause-exact g c = λ right bytes lines o told lying kept.
     let a = compare_command c.args.limits.now c.args.asked bytes lines o in
-    subst (λ (k : Closing). StandsBefore a k []) (sym c.refused.ensures) (refuses_empty a c.in-Err.fault)
+    subst (λ (ds : List Difference). StandsBefore a c.refused.result (differences_text ds)) (sym c.requires.empty)
+    (subst (λ (k : Closing). StandsBefore a k []) (sym c.refused.ensures) (refuses_empty a c.in-Err.fault))
 
 pub returns-clause-exact : goal.returns-clause-exact
 returns-clause-exact g c = λ right bytes lines o told lying kept.
     let a = compare_command c.args.limits.now c.args.asked bytes lines o in
-    subst (λ (k : Closing). StandsBefore a k []) (sym c.stopped.ensures) (stops_empty a c.in-Err-read_day.stop)
+    subst (λ (ds : List Difference). StandsBefore a c.stopped.result (differences_text ds)) (sym c.requires.empty)
+    (subst (λ (k : Closing). StandsBefore a k []) (sym c.stopped.ensures) (stops_empty a c.in-Err-read_day.stop))
 
 pub returns-in-Ok-read_day-clause-exact : goal.returns-in-Ok-read_day-clause-exact
 returns-in-Ok-read_day-clause-exact g c = λ right bytes lines o told lying kept.
@@ -41,12 +45,13 @@ returns-in-Ok-read_day-clause-exact g c = λ right bytes lines o told lying kept
     reads_ok before after c.tariffs.result (λ p kept. kept ≡ p.tariffs) o c.in-Ok.tariffs c.tariffs.ensures.state
     kept ok in
     let read = reads bytes (recomputed c.args.asked.how c.args.limits.now) c.args.asked.late in
-    subst (λ (r : Option (ℕ × Cause)). StandsBefore
-    (unless_refused r (comparison_of c.args.asked.day read.tuples (lines_of lines) o)) c.compare_day.result [])
+    let row : List Tuple → Answer =
+    λ ts. comparison_of c.args.asked.show c.args.asked.day ts (lines_of lines) o in
+    let text = differences_text c.compare_day.new.shown.items in
+    subst (λ (r : Option (ℕ × Cause)). StandsBefore (unless_refused r (row read.tuples)) c.compare_day.result text)
     (c.in-Ok-read_day.ensures.refused bytes told)
-    (subst (λ (ts : List Tuple). StandsBefore
-    (unless_refused c.in-Ok-read_day.read.refused (comparison_of c.args.asked.day ts (lines_of lines) o))
-    c.compare_day.result []) (c.in-Ok-read_day.ensures.tuples bytes told)
+    (subst (λ (ts : List Tuple). StandsBefore (unless_refused c.in-Ok-read_day.read.refused (row ts))
+    c.compare_day.result text) (c.in-Ok-read_day.ensures.tuples bytes told)
     (c.compare_day.ensures.exact right lines o lying still rates))
 
 pub returns-in-Ok-read_day-clause-aside_bounded : goal.returns-in-Ok-read_day-clause-aside_bounded
@@ -59,7 +64,7 @@ returns-in-Ok-read_day-clause-aside_bounded g c = λ right bytes o told kept.
     let rates : c.in-Ok.tariffs ≡ o.tariffs =
     reads_ok before after c.tariffs.result (λ p kept. kept ≡ p.tariffs) o c.in-Ok.tariffs c.tariffs.ensures.state
     kept ok in
-    subst (λ (ts : List Tuple). ReadsWithin (most_noticed c.args.asked.day ts o) (g.A.Source.left c.args.aside.now)
+    subst (λ (ts : List Tuple). ReadsWithin (most_noticed c.args.asked.show c.args.asked.day ts o) (g.A.Source.left c.args.aside.now)
     (g.A.Source.left c.compare_day.new.aside)) (c.in-Ok-read_day.ensures.tuples bytes told)
     (c.compare_day.ensures.bounded right o still rates)
 

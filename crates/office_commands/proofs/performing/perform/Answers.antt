@@ -4,14 +4,14 @@ use Rattle.road_io.proofs.SinkLaws.{appends_none}
 use Rattle.office_commands.specs.declared.closing.Closing.{Closing}
 use Rattle.office_commands.specs.declared.closing.Closing.TheVariants.{ReadFault}
 use Rattle.office_commands.specs.Commands.{accidents_command, history_command, tariff_command, generate_command}
-use Rattle.office_commands.specs.Commands.{rehearse_command, check_command, office_answer}
+use Rattle.office_commands.specs.Commands.{rehearse_command, check_command, compare_command, office_answer}
 use Rattle.office_commands.proofs.ReportLaws.{report_office}
 use Rattle.office_commands.proofs.KeepingLaws.{kept_same, closing_same, kept_whole}
-use Rattle.office_commands.proofs.ComparingLaws.{same_log}
+use Rattle.office_commands.proofs.ComparingLaws.{same_log, same_row}
 use Rattle.office_commands.proofs.ConcludeLaws.{did_unchanged, did_silent, closing_holds, closing_of}
 use Rattle.office_commands.proofs.PerformLaws.{source_of, aside_of, keeper_of, crew_of, wrote_silent, by_source}
 use Rattle.office_commands.proofs.PerformLaws.{beside}
-use Rattle.office_commands.proofs.PerformLaws.{by_both, compare_keeps, compare_did}
+use Rattle.office_commands.proofs.PerformLaws.{by_both}
 use Rattle.keeper.specs.Office.{record_of}
 use Rattle.office_commands.specs.Commands.{Answer}
 use Rattle.office_commands.specs.Endings.{Wrote, Keeps, Did}
@@ -125,49 +125,49 @@ returns-in-Import-clause-read g c =
 
 -- `validate DAY` and `audit DAY`
 pub returns-in-Compare-clause-wrote : goal.returns-in-Compare-clause-wrote
-returns-in-Compare-clause-wrote g c = λ bytes lines o told. rw c.in-Compare.is (wrote_silent _ _ _
-    (c.compare_source.ensures.exact (λ bulk. told.right (ap crew_of c.in-Compare.is ∙ bulk)) bytes lines o
+returns-in-Compare-clause-wrote g c = λ bytes lines o told. rw c.in-Compare.is
+    (c.compare_and_tell.ensures.wrote (λ bulk. told.right (ap crew_of c.in-Compare.is ∙ bulk)) bytes lines o
     (told.source_is (ap source_of c.in-Compare.is)) (told.aside_is (ap aside_of c.in-Compare.is))
-    (told.kept_is (ap keeper_of c.in-Compare.is))))
+    (told.kept_is (ap keeper_of c.in-Compare.is)))
 
 pub returns-in-Compare-clause-keeps : goal.returns-in-Compare-clause-keeps
 returns-in-Compare-clause-keeps g c = λ bytes lines o right told kept. rw c.in-Compare.is
-    (compare_keeps _ c.args.limits.now c.in-Compare.asked bytes lines o _ _ (c.compare_source.ensures.kept o kept))
+    (kept_same _ (compare_command c.args.limits.now c.in-Compare.asked bytes lines o) _ _ _
+    (same_row c.args.limits.now c.in-Compare.asked bytes lines o) (c.compare_and_tell.ensures.kept o kept))
 
 pub returns-in-Compare-clause-does : goal.returns-in-Compare-clause-does
 returns-in-Compare-clause-does g c = λ bytes lines o told kept.
-    rw c.in-Compare.is (compare_did _ c.args.limits.now c.in-Compare.asked bytes lines o _ _ _
-    (c.compare_source.ensures.exact (λ bulk. told.right (ap crew_of c.in-Compare.is ∙ bulk)) bytes lines o
-    (told.source_is (ap source_of c.in-Compare.is)) (told.aside_is (ap aside_of c.in-Compare.is)) kept)
-    (c.compare_source.ensures.kept o kept))
+    did_unchanged _ (office_answer c.args.limits.now bytes lines o (Some c.args.command)) o _ _ _ _
+    (rw c.in-Compare.is (same_row c.args.limits.now c.in-Compare.asked bytes lines o))
+    (returns-in-Compare-clause-wrote g c bytes lines o told)
+    (returns-in-Compare-clause-keeps g c bytes lines o told.right told.source_is kept)
 
 pub returns-in-Compare-clause-reads : goal.returns-in-Compare-clause-reads
-returns-in-Compare-clause-reads g c = λ used. rw c.in-Compare.is c.compare_source.ensures.reads
+returns-in-Compare-clause-reads g c = λ used. rw c.in-Compare.is c.compare_and_tell.ensures.reads
 
 pub returns-in-Compare-clause-bounded : goal.returns-in-Compare-clause-bounded
-returns-in-Compare-clause-bounded g c = λ o kept. rw c.in-Compare.is c.compare_source.ensures.bounded
+returns-in-Compare-clause-bounded g c = λ o kept. rw c.in-Compare.is c.compare_and_tell.ensures.bounded
 
 pub returns-in-Compare-clause-aside_bounded : goal.returns-in-Compare-clause-aside_bounded
 returns-in-Compare-clause-aside_bounded g c = λ bytes o right told kept.
-    rw c.in-Compare.is (c.compare_source.ensures.aside_bounded
+    rw c.in-Compare.is (c.compare_and_tell.ensures.aside_bounded
     (λ bulk. right (ap aside_of c.in-Compare.is) (ap crew_of c.in-Compare.is ∙ bulk)) bytes o
     (told (ap source_of c.in-Compare.is)) (kept (ap keeper_of c.in-Compare.is)))
 
 pub returns-in-Compare-clause-refused_first : goal.returns-in-Compare-clause-refused_first
-returns-in-Compare-clause-refused_first g c = λ s. c.compare_source.ensures.refused_first s
+returns-in-Compare-clause-refused_first g c = λ s. c.compare_and_tell.ensures.refused_first s
 
 pub returns-in-Compare-clause-source_first : goal.returns-in-Compare-clause-source_first
-returns-in-Compare-clause-source_first g c = λ bytes left more. c.compare_source.ensures.source_first bytes left more
+returns-in-Compare-clause-source_first g c = λ bytes left more. c.compare_and_tell.ensures.source_first bytes left more
 
 pub returns-in-Compare-clause-crew_unused : goal.returns-in-Compare-clause-crew_unused
 returns-in-Compare-clause-crew_unused g c = λ none.
-    c.compare_source.ensures.unused (sym (ap crew_of c.in-Compare.is) ∙ none)
+    c.compare_and_tell.ensures.unused (sym (ap crew_of c.in-Compare.is) ∙ none)
 
 pub returns-in-Compare-clause-read : goal.returns-in-Compare-clause-read
 returns-in-Compare-clause-read g c =
     by_both _ _ _ _ _ _ _ _ _ _ _ (ap source_of c.in-Compare.is) (ap aside_of c.in-Compare.is)
-    (closing_of c.compare_source.result ReadFault (Ok (Some c.compare_source.result)) refl)
-    (λ bad. ap (λ (k : Closing). Ok (Some k)) bad) c.compare_source.ensures.read
+    (λ bad. bad) (λ bad. bad) c.compare_and_tell.ensures.read
 
 -- `past BASE`
 pub returns-in-Past-clause-wrote : goal.returns-in-Past-clause-wrote
@@ -369,10 +369,10 @@ returns-in-Import-clause-jobs g c = λ bytes used told.
 
 pub returns-in-Compare-clause-jobs : goal.returns-in-Compare-clause-jobs
 returns-in-Compare-clause-jobs g c = λ bytes used told.
-    rw c.in-Compare.is (c.compare_source.ensures.jobs bytes (told (ap source_of c.in-Compare.is)))
+    rw c.in-Compare.is (c.compare_and_tell.ensures.jobs bytes (told (ap source_of c.in-Compare.is)))
 
 pub returns-in-Compare-clause-by : goal.returns-in-Compare-clause-by
-returns-in-Compare-clause-by g c = rw c.in-Compare.is c.compare_source.ensures.by
+returns-in-Compare-clause-by g c = rw c.in-Compare.is c.compare_and_tell.ensures.by
 
 pub returns-in-Rehearse-clause-jobs : goal.returns-in-Rehearse-clause-jobs
 returns-in-Rehearse-clause-jobs g c = λ bytes used told. rw c.in-Rehearse.is c.rehearse.ensures.jobs

@@ -24,14 +24,22 @@ macro_rules! run {
     };
 }
 
-/// The comparison of a day.
-macro_rules! compared {
-    ($day:expr, $late:expr, $how:expr) => {
+/// The comparison of a day that tells so many differences.
+macro_rules! listed {
+    ($day:expr, $late:expr, $how:expr, $show:expr) => {
         Command::Compare(Comparison {
             day: $day,
             late: $late,
             how: $how,
+            show: $show,
         })
+    };
+}
+
+/// The same, where one is told.
+macro_rules! compared {
+    ($day:expr, $late:expr, $how:expr) => {
+        listed!($day, $late, $how, 1)
     };
 }
 
@@ -338,7 +346,7 @@ pub const NOT_ON_WORKERS: [&[&str]; 21] = [
 ];
 
 /// Words of a day that is recomputed.
-pub const ON_AUDITS: [Row; 2] = [
+pub const ON_AUDITS: [Row; 4] = [
     (
         &["audit", "100"],
         Ok(compared!(
@@ -369,10 +377,34 @@ pub const ON_AUDITS: [Row; 2] = [
             }
         )),
     ),
+    (
+        &["audit", "100", "--show", "10"],
+        Ok(listed!(
+            100,
+            0,
+            Recomputing::InBulk {
+                shards: 1,
+                width: 1,
+            },
+            10
+        )),
+    ),
+    (
+        &["audit", "--show=1000", "100", "--shards", "64"],
+        Ok(listed!(
+            100,
+            0,
+            Recomputing::InBulk {
+                shards: 64,
+                width: 1,
+            },
+            1000
+        )),
+    ),
 ];
 
 /// And such of no stated form.
-pub const NOT_ON_AUDITS: [&[&str]; 8] = [
+pub const NOT_ON_AUDITS: [&[&str]; 14] = [
     &["audit"],
     &["audit", "69"],
     &["audit", "100", "--shards", "0"],
@@ -381,4 +413,10 @@ pub const NOT_ON_AUDITS: [&[&str]; 8] = [
     &["audit", "100", "--turns", "1"],
     &["validate", "100", "--shards", "1"],
     &["import", "100", "--shards", "1"],
+    &["audit", "100", "--show", "0"],
+    &["audit", "100", "--show", "1001"],
+    &["audit", "100", "--show"],
+    &["audit", "100", "--show", "2", "--show", "2"],
+    &["validate", "100", "--show", "2"],
+    &["check", "100", "--show", "2"],
 ];
