@@ -6,10 +6,11 @@
 
 PROGRAM is crates/toll_office/out/toll_office. A history of 69 days is put by `past` into an empty folder; beside it the
 same folder with no history. Over each, in this order: `day`, `vehicle`, `tariffs`, `answers` of a day of expenditure
-requests, `import` of a day of lines (by `day.c`), `day` again, `tariff`. For each a line: wall time, greatest memory and
-the status; for the look-ups also what python's sqlite3 takes for the same rows, whose answers must be the same. After
-each put the file must pass `PRAGMA integrity_check` and have its rows, and it must stand alone: no log with pages beside
-it. The script ends with status 1 at the first difference.
+requests, `import` of a day of lines (by `day.c`), `day` again, `tariff`. For each a line: wall time, processor time,
+greatest memory and the status; for the look-ups also what python's sqlite3 takes for the same rows, whose answers must be
+the same. After each put the file must pass `PRAGMA integrity_check` and have its rows, and it must stand alone: no log
+with pages beside it. The script ends with status 1 at the first difference. Memory below 10 MB shows as that: a small
+python starts each command.
 
 With --ways it tries `past` alone, in three ways that must keep the same rows: into an empty folder, over a file that is
 there and keeps nothing, and over one with a table of another hand, which is opened whole and put by statements.
@@ -27,6 +28,16 @@ import tempfile
 import time
 
 HERE = pathlib.Path(__file__).resolve().parent
+# starts a command from a small process, since the memory of the one that starts it counts as the command's
+START = """
+import os, sys, time
+begin = time.monotonic()
+child = os.posix_spawn(sys.argv[2], sys.argv[2:], os.environ)
+_, status, used = os.wait4(child, 0)
+wall = time.monotonic() - begin
+with open(sys.argv[1], "w") as out:
+    print(wall, used.ru_utime + used.ru_stime, used.ru_maxrss / 1024, os.waitstatus_to_exitcode(status), file=out)
+"""
 BASE = 100
 FIRST = BASE - 69
 DAYS = 69
@@ -39,7 +50,7 @@ def amount_of(vehicle, day):
 
 
 def vehicles_of(day, amounts):
-    """The vehicles of a day: as many on each day, the last days one more until all are there."""
+    """The vehicles of a day: as many on each day, and the first days one more until all are there."""
     each, more = divmod(amounts, DAYS)
     return each + (1 if day - FIRST < more else 0)
 
@@ -78,19 +89,16 @@ def write_day(path, lines, room):
 
 def run(folder, words, source):
     """Makes a call, and prints what it took; its output and status."""
-    taken = folder.parent / "out"
+    taken, took = folder.parent / "out", folder.parent.resolve() / "took"
     with open(source, "rb") as given, open(taken, "wb") as out:
-        begin = time.monotonic()
-        child = subprocess.Popen(words, stdin=given, stdout=out, stderr=subprocess.PIPE, cwd=folder)
-        said = child.stderr.read().decode()
-        _, status, used = os.wait4(child.pid, 0)
-        wall = time.monotonic() - begin
-    child.returncode = os.waitstatus_to_exitcode(status)
+        said = subprocess.run([sys.executable, "-I", "-S", "-c", START, took, *words], stdin=given, stdout=out,
+                              stderr=subprocess.PIPE, cwd=folder, check=True).stderr.decode()
+    wall, processor, memory, status = took.read_text().split()
     text = taken.read_text()
     last = (text + said).splitlines()[-1] if text or said else ""
-    print(f"{folder.name:12} {' '.join(words[1:]):16} {wall:8.2f} s {used.ru_maxrss / 1024:8.0f} MB"
-          f"  status {child.returncode}  {last}", flush=True)
-    return text, child.returncode
+    print(f"{folder.name:12} {' '.join(words[1:]):24} {float(wall):8.2f} s {float(processor):8.2f} s of processor"
+          f" {float(memory):6.0f} MB  status {status}  {last}", flush=True)
+    return text, int(status)
 
 
 def expect(holds, what):
@@ -118,15 +126,16 @@ def check_file(folder, rows, days):
         expect(seals == days, f"{folder.name}: seals {seals}, not {days}")
     size = (folder / KEPT).stat().st_size / 1e6
     took = time.monotonic() - begin
-    print(f"{folder.name:12} {'integrity_check':16} {took:8.2f} s {size:8.0f} MB of file  ok", flush=True)
+    print(f"{folder.name:12} {'integrity_check':24} {took:8.2f} s {size:8.0f} MB of file  ok", flush=True)
 
 
 def ask_sqlite(folder, name, query, parameters):
     """The rows that sqlite3 finds, and prints what it took."""
-    begin = time.monotonic()
+    begin, used = time.monotonic(), time.process_time()
     with contextlib.closing(looked_at(folder)) as database:
         rows = [row for given in parameters for row in database.execute(query, given).fetchall()]
-    print(f"{folder.name:12} {'sqlite3 ' + name:16} {time.monotonic() - begin:8.2f} s  {len(rows)} rows", flush=True)
+    wall, processor = time.monotonic() - begin, time.process_time() - used
+    print(f"{folder.name:12} {'sqlite3 ' + name:24} {wall:8.2f} s {processor:8.2f} s of processor  {len(rows)} rows", flush=True)
     return rows
 
 
