@@ -193,15 +193,7 @@ fn run_in_room<R: Threads + Sync + Copy, K: Keeper>(
 {
     let mut source = FileSource::at(rt.alloc(), rt, file)?;
     let mut sink = MemSink::new(rt.alloc(), room, 4096)?;
-    let status = answer(
-        rt,
-        threads,
-        command,
-        &mut source,
-        limits,
-        &mut sink,
-        keeper,
-    )?;
+    let status = answer(rt, threads, command, &mut source, limits, &mut sink, keeper)?;
     let text = String::from_utf8_lossy(rt.alloc(), sink.bytes())?;
     print!(rt; "{text}")?;
     if room < AMPLE {

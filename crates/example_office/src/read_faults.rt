@@ -1,6 +1,4 @@
 // An import over a file, whose reads fail in turn.
-ghost use Rattle.std.specs.Prelude.{◌≤◌};
-
 use crate::refused::is_without_day;
 use crate::{AMPLE, answer};
 use road_io::{MemSink, MemSource};
@@ -9,9 +7,6 @@ use sqlite_keeper::SqliteKeeper;
 use std::rt::HostRuntime;
 use std::thread::Threads;
 
-/// How many bytes a read gives.
-const PIECE: usize = 100;
-
 /// What an import of day 100 came to: its status, and whether it wrote the line of a read fault alone.
 #[derive(Clone, Copy)]
 struct Came {
@@ -19,7 +14,7 @@ struct Came {
     told: bool,
 }
 
-/// What an import comes to over a file that is opened for it, where the read of a number fails.
+/// What an import comes to over a file that is opened for it. Each read gives 100 bytes, and that of a number fails.
 fn import_failing<R: Threads + Sync + Copy>(
     rt: HostRuntime,
     threads: R,
@@ -27,7 +22,7 @@ fn import_failing<R: Threads + Sync + Copy>(
     day: &[u8],
     number: u32,
 ) -> anyhow::Result<Came> {
-    let mut source = MemSource::new(rt.alloc(), day, PIECE, &[number])?;
+    let mut source = MemSource::new(rt.alloc(), day, 100, &[number])?;
     let mut sink = MemSink::new(rt.alloc(), AMPLE, 4096)?;
     let mut keeper = SqliteKeeper::at(rt.alloc(), rt, path)?;
     let status = answer(
