@@ -183,7 +183,8 @@ def example(office, plain):
 
 def hundred(office):
     """Each command on a file of a hundred days."""
-    day = "".join(line + "\n" for line in office.run("generate", 5, "--minutes", 5, "--vehicles", 200, "--crashes", 1)[0])
+    words = ("--minutes", 20, "--vehicles", 1000, "--crashes", 2)
+    day = "".join(line + "\n" for line in office.run("generate", 5, *words)[0])
     digest = hashlib.sha256(day.encode()).hexdigest()
     notices, answered = office.run("answers", FIRST, text=day)
     _, tuples, count = [int(word) for word in answered.split() if word.isdigit()]
