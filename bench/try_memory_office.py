@@ -1,16 +1,19 @@
 #!/usr/bin/env python3
 """Tries the office where memory runs out: each allocation of a command fails in turn, and then clean runs tell what is kept.
 
-    python3 bench/try_memory_office.py PROGRAM [--only NAME] [--from N] [--to N] [--step N] [--jobs N]
+    python3 bench/try_memory_office.py PROGRAM [--only NAME] [--from N] [--to N] [--step N] [--jobs N] [--csv FILE]
 
 Each row is a command in a new folder: the import of the day on which a vehicle is charged as it leaves, a history, a day that
 is generated, its import, and an import whose input, output or database fails. A run ends as with ample memory, or with 8. All is
 kept or nothing, and all where it ended as with ample memory; the same command in a clean run then ends well, with all kept. For
 each row it prints how many runs ended how, and after how many of those with 8 all was kept. With --step only each Nth allocation
-is tried. It wants a C compiler, and is quicker where TMPDIR is in memory.
+is tried. With --csv all rows are tried, each allocation, and the counts are written to that file, from which bench/write_docs.py
+has those of docs/ROWS.md (`--csv bench/memory.csv`). It wants a C compiler, and is quicker where TMPDIR is in memory.
 """
 import argparse
 import concurrent.futures
+import csv
+import datetime
 import os
 import pathlib
 import shutil
@@ -111,8 +114,22 @@ def trials(office, top, row, given):
                 kept_after += got == 8 and stored
             if not all_made:
                 break
-    said = ", ".join(f"status {it}: {count}" for it, count in ends.items())
-    return f"{row.name}: {sum(ends.values())} runs, {said}, all kept after {kept_after} of those with 8"
+    return {"row": row.name, "command": row.words, "runs": sum(ends.values()), "status": status, "ended": ends[status],
+            "no_memory": ends[8], "all_kept": kept_after}
+
+
+def told(counts):
+    """The counts of a row, as they are printed."""
+    return (f"{counts['row']}: {counts['runs']} runs, status {counts['status']}: {counts['ended']}, "
+            f"status 8: {counts['no_memory']}, all kept after {counts['all_kept']} of those with 8")
+
+
+def write_counts(path, found):
+    """The counts of all rows, with the day on which they were taken."""
+    with open(path, "w", newline="") as file:
+        table = csv.DictWriter(file, ["day", *found[0]])
+        table.writeheader()
+        table.writerows({"day": datetime.date.today().isoformat(), **it} for it in found)
 
 
 def main():
@@ -123,7 +140,10 @@ def main():
     words.add_argument("--to", type=int, default=100_000, dest="last")
     words.add_argument("--step", type=int, default=1)
     words.add_argument("--jobs", type=int, default=2)
+    words.add_argument("--csv", type=pathlib.Path)
     given = words.parse_args()
+    if given.csv and (given.only, given.first, given.last, given.step) != ("", 1, words.get_default("last"), 1):
+        words.error("--csv is for all rows and each allocation")
     with tempfile.TemporaryDirectory() as top:
         shim = f"{top}/fail_alloc.so"
         subprocess.run(["cc", "-O2", "-shared", "-fPIC", "-o", shim, HERE / "fail_alloc.c", "-ldl"], check=True)
@@ -141,9 +161,13 @@ def main():
             Row("write fault", "import 100", day, DAY, "write"),
             Row("keeper fault", "import 100", day, DAY, "keep"),
         ]
+        found = []
         for row in rows:
             if given.only in row.name:
-                print(trials(office, top, row, given), flush=True)
+                found.append(trials(office, top, row, given))
+                print(told(found[-1]), flush=True)
+        if given.csv:
+            write_counts(given.csv, found)
 
 
 if __name__ == "__main__":

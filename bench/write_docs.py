@@ -1,6 +1,7 @@
 #!/usr/bin/env python3
 """Writes what the documents have from other files: the kit's name from its KIT-ID, the trusted libraries and the table of
-crates from crates.txt and the crates' own first sentences, the table of speed from bench/speed.csv, and the index of tests.
+crates from crates.txt and the crates' own first sentences, the table of speed from bench/speed.csv, the counts of runs that
+want memory from bench/memory.csv, and the index of tests.
 
     python3 bench/write_docs.py [--check] [--kit /opt/rattle/KIT-ID]
 
@@ -118,7 +119,25 @@ def speed_table():
     return "\n".join(rows)
 
 
-PIECES = {"trusted libraries": trusted, "crates": crate_table, "speed": speed_table, "figure": speed_figure, "tests": index}
+def memory_counts():
+    """The counts of the office's runs in which an allocation fails: a list, since each line of a table in ROWS is a row."""
+    path = TOP / "bench" / "memory.csv"
+    if not path.exists():
+        return "They were not counted on this source."
+    with open(path, newline="") as file:
+        runs = list(csv.DictReader(file))
+    every = sum(int(it["runs"]) for it in runs)
+    items = [f"{every:,} allocations were refused, one a run, and no run ended otherwise ({runs[0]['day']}):", ""]
+    for it in runs:
+        said = (f"- {it['row']} (`{it['command']}`): {int(it['runs']):,} runs, {int(it['no_memory']):,} of them with status 8 and "
+                f"{int(it['ended']):,} with {it['status']}, as with ample memory; all was kept after {int(it['all_kept']):,} of "
+                "those with 8")
+        items.append(textwrap.fill(said, 118, subsequent_indent="  ", break_on_hyphens=False))
+    return "\n".join(items)
+
+
+PIECES = {"trusted libraries": trusted, "crates": crate_table, "speed": speed_table, "figure": speed_figure,
+          "memory": memory_counts, "tests": index}
 
 
 def written(text, kit):
