@@ -4,7 +4,7 @@
     python3 bench/try_serve.py PROGRAM [--lines 100000] [--beside 1000000] [--asks 1000] [--folder DAYS]
 
 PROGRAM is the executable `toll_serve`. The server runs in a new folder, on a free port of this machine. Asked are: every
-path and every refusal, with the whole answer; a day of several expressways, whose amounts are those of `plain.c`; refused requests with bodies that nobody reads; requests as a page of the web
+path and every refusal, with the whole answer; the notices of a day that `curl` sends slowly; a day of several expressways, whose amounts are those of `plain.c`; refused requests with bodies that nobody reads; requests as a page of the web
 sends them; a day of so many lines, posted while four clients read the live board; so many kept days one after another; a
 slow client and a silent one beside three that work; a thousand silent ones, and fifty whose heads come a byte a second; more
 connections than there are file handles; 200 faults of accept, and threads that cannot be had; POSTs in line behind one, of
@@ -326,6 +326,56 @@ def try_answers(program, folder):
     asked = 60 - server.left
     expect("the end", server.end(), (0, b""))
     print(f"every path and refusal: {asked} connections, each answered as stated; the server ended by its sessions, status 0")
+
+
+def notices_of(server, lines):
+    """What comes back for the lines of a day whose notices are asked for, over a connection of its own."""
+    return server.raw(b"POST /answers/100 HTTP/1.1\r\nContent-Length: %d\r\n\r\n" % len(lines) + lines)
+
+
+def try_stream(program, folder):
+    """The notices of a day that is sent, as they are settled: whole answers, and those of a day that `curl` sends slowly."""
+    server = Server(program, folder, 20)
+    head = b"HTTP/1.1 200 OK\r\nContent-Type: text/plain\r\nConnection: close\r\n\r\n"
+    crowd = b"".join(b"0,%d,0,-1,0\n" % vid for vid in range(1, 52))
+    for lines, told in [
+        (b"", b"# answered day 100 tuples 0 notices 0\n"),
+        (LATE, b"0,1,10,-1,0\n0,2,10,-1,0\n# refused line 3 late 10 9\n"),
+        (charged_day(), crowd + b"0,100,60,30,2\n0,100,90,-1,0\n0,100,150,-1,0\n2,160,9,2\n"
+                        b"# answered day 100 tuples 56 notices 55\n"),
+    ]:
+        expect(f"the notices of {lines[:20]!r}", notices_of(server, lines), head + told)
+    expect("the notices of a day that is cut", server.raw(b"POST /answers/100 HTTP/1.1\r\nContent-Length: 5\r\n\r\n\n\n"),
+           head + b"# read fault\n")
+    expect("GET of notices", server.ask("GET", "/answers/100"), (405, "Method Not Allowed", '{"error":"method"}'))
+    expect("notices of day 69", server.ask("POST", "/answers/69", b""), (404, "Not Found", '{"error":"no path"}'))
+    if shutil.which("curl"):
+        try_slow_day(server)
+    expect("the day", server.ask("GET", "/days/100"), (404, "Not Found", '{"error":"no day"}'))
+    expect("the live board", server.ask("GET", "/live"), (200, "OK", '{"as_of":0,"day":0,"total":0}'))
+    expect("the end", server.end(), (0, b""))
+
+
+def try_slow_day(server, count=6000, rate="60k"):
+    """A day that `curl` sends slowly: its notices come while it goes on."""
+    lines = report([(at // 100, at, 30, 1, 10, 52800) for at in range(count)])
+    wanted = b"".join(b"0,%d,%d,-1,0\n" % (at, at // 100) for at in range(count))
+    with server.lock:
+        server.left -= 1
+    words = ["curl", "-sN", "--limit-rate", rate, "-X", "POST", "-H", "Expect:", "--data-binary", "@-",
+             f"http://127.0.0.1:{server.port}/answers/100"]
+    begin = time.monotonic()
+    with subprocess.Popen(words, stdin=subprocess.PIPE, stdout=subprocess.PIPE) as curl:
+        curl.stdin.write(lines)
+        curl.stdin.close()
+        told = curl.stdout.read(1)
+        first = time.monotonic() - begin
+        told += curl.stdout.read()
+    took = time.monotonic() - begin
+    expect("the notices of a slow day", told, wanted + b"# answered day 100 tuples %d notices %d\n" % (count, count))
+    if first > took / 2:
+        fail(f"the first notice of a slow day came after {first:.1f} s of {took:.1f} s")
+    print(f"a day of {count} lines, sent slowly by curl: the first notice came after {first:.1f} s, the last after {took:.1f} s")
 
 
 class Watcher(threading.Thread):
@@ -866,7 +916,7 @@ def main():
     own = tempfile.mkdtemp()
     try_bodies(program, own)
     shutil.rmtree(own)
-    for attempt in (try_ways, try_silent, try_handles, try_faults, try_threads, try_drains, try_line, try_passed):
+    for attempt in (try_stream, try_ways, try_silent, try_handles, try_faults, try_threads, try_drains, try_line, try_passed):
         own = tempfile.mkdtemp()
         attempt(program, own)
         shutil.rmtree(own)

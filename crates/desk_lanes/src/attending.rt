@@ -1,33 +1,47 @@
 // A session over a desk that is shared.
-ghost use Rattle.std.specs.Prelude.{◌≡◌};
+ghost use Rattle.std.specs.Prelude.{◌≡◌, ◌≤◌};
+ghost use Rattle.road_time.specs.Fits.{IsLimits};
 ghost use Rattle.live_board.specs.Passes.{StartsWith};
+ghost use Rattle.lane_loops.specs.Wires.{wire_by};
+ghost use Rattle.desk_lanes.specs.Attends.{Attends};
 
+use import_plan::Plan;
 use keeper::Keeper;
 use lane_loops::Turn;
 use live_board::BoardReader;
 use partition_workers::Crew;
-use road_io::Link;
+use road_time::Limits;
 use std::alloc::Global;
 use std::sync::{Mutex, Wait};
 use std::thread::Threads;
 use toll_desk::{ImportDesk, TwoLocks, session_shared};
+use two_way::TwoWay;
 
 /// Runs a session on a connection. A POST has the imports' lock until its day is imported, and then its turn is over.
 /// For each call of the keeper a request of what is kept takes the keeper's lock. No other takes a lock.
-pub fn attend<L: Link, K: Keeper, C: Crew, R: Wait + Threads + Drop, T: Turn>(
+pub fn attend<L: TwoWay, K: Keeper, C: Crew, R: Wait + Threads + Drop, T: Turn>(
     rt: R,
     alloc: Global,
+    plan: Plan,
+    limits: Limits,
     keeper: &Mutex<K>,
     imports: &Mutex<ImportDesk<C, R>>,
     line: &mut L,
     turn: &mut T,
     reader: &mut BoardReader,
 )
+    requires some { 1 ≤ plan.width }
+    requires few { plan.width ≤ 64 }
+    requires within { IsLimits limits }
+    ensures attends { Attends K.told K.faults reader.old reader.new (wire_by L.left L.plan L.written L.room line.old)
+        (wire_by L.left L.plan L.written L.room line.new) }
     ensures board { reader.new.board ≡ reader.old.board }
     ensures had { StartsWith reader.new.seen reader.old.seen }
 {
     let mut clerk = TwoLocks {
         rt,
+        plan,
+        limits,
         keeper,
         imports,
         turn,

@@ -8,15 +8,22 @@ use live_board::BoardWriter;
 use road_time::Limits;
 use std::sync::Wait;
 
-/// A crew whose desk loops in many threads may share. `out` are the numbers of the tickets whose jobs are out.
+/// A crew whose desk loops in many threads may share. `out` are the numbers of the tickets whose jobs are out; `works`
+/// is by which plan a desk works a day, and `bounds` within which limits.
 /// Each such crew has a shared desk of its own, since a desk of some crew could not be shared: of a crew that is not
 /// known, it is known in its own thread alone that its tickets may be let go.
 pub trait DeskCrew<K, R: Wait + Drop> {
     ghost use Rattle.std.specs.Prelude.{ℕ, List};
+    ghost use Rattle.road_time.specs.declared.day.Limits.{Limits};
+    ghost use Rattle.import_plan.specs.declared.Plan.{Plan};
 
     type Shared: Host + Send + Sync;
 
     ghost out: { Self → List ℕ };
+
+    ghost works: { Self.Shared → Plan };
+
+    ghost bounds: { Self.Shared → Limits };
 
     /// Makes a desk with this crew, and puts its keeper under one lock and the rest under another.
     fn share(
@@ -30,7 +37,9 @@ pub trait DeskCrew<K, R: Wait + Drop> {
         requires idle { out self ≡ [] }
         requires some { 1 ≤ plan.width }
         requires few { plan.width ≤ 64 }
-        requires within { IsLimits limits };
+        requires within { IsLimits limits }
+        ensures works { works result ≡ plan }
+        ensures bounds { bounds result ≡ limits };
 
     /// Ends the desk and the board's writer, and gives the keeper back. It may wait for readers.
     fn end(shared: Self::Shared) -> K;

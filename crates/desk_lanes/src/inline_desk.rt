@@ -9,22 +9,31 @@ use keeper::Keeper;
 use lane_loops::{Host, Turn};
 use live_board::{BoardReader, BoardWriter};
 use partition_workers::{Crew, InlineCrew};
-use road_io::Link;
 use road_time::Limits;
 use std::alloc::Global;
 use std::sync::{Mutex, Wait};
 use std::thread::Threads;
 use toll_desk::ImportDesk;
+use two_way::TwoWay;
 
 /// A desk that loops share, and that runs each job as it is started. Its keeper has a lock of its own.
 pub struct InlineDesk<K: Keeper, R: Wait + Threads + Drop + Copy> {
     rt: R,
+    plan: Plan,
+    limits: Limits,
     keeper: Mutex<K>,
     imports: Mutex<ImportDesk<InlineCrew, R>>,
+    ghost some: { 1 ≤ plan.width },
+    ghost few: { plan.width ≤ 64 },
+    ghost within: { IsLimits limits },
 }
 
 impl<K: Keeper, R: Wait + Threads + Drop + Copy> Host for InlineDesk<K, R> {
-    fn attend<L: Link, T: Turn>(
+    ghost use Rattle.desk_lanes.specs.Attends.{Attends};
+
+    ghost attends = { λ _ p q old new. Attends K.told K.faults p q old new };
+
+    fn attend<L: TwoWay, T: Turn>(
         &self,
         alloc: Global,
         line: &mut L,
@@ -34,6 +43,8 @@ impl<K: Keeper, R: Wait + Threads + Drop + Copy> Host for InlineDesk<K, R> {
         attend(
             self.rt,
             alloc,
+            self.plan,
+            self.limits,
             &self.keeper,
             &self.imports,
             line,
@@ -49,6 +60,10 @@ impl<K: Keeper + Send, R: Wait + Threads + Drop + Copy + Send + Sync> DeskCrew<K
 
     ghost out = { λ crew. ⟦<InlineCrew as Crew>⟧.out crew };
 
+    ghost works = { λ desk. desk.plan };
+
+    ghost bounds = { λ desk. desk.limits };
+
     fn share(
         self,
         rt: R,
@@ -61,16 +76,18 @@ impl<K: Keeper + Send, R: Wait + Threads + Drop + Copy + Send + Sync> DeskCrew<K
         requires some { 1 ≤ plan.width }
         requires few { plan.width ≤ 64 }
         requires within { IsLimits limits }
+        ensures works { result.plan ≡ plan }
+        ensures bounds { result.limits ≡ limits }
     {
         let imports = Mutex::new(ImportDesk {
             rt,
             crew: self,
             writer,
-            plan,
-            limits,
         });
         InlineDesk {
             rt,
+            plan,
+            limits,
             keeper: Mutex::new(keeper),
             imports,
         }
@@ -79,6 +96,8 @@ impl<K: Keeper + Send, R: Wait + Threads + Drop + Copy + Send + Sync> DeskCrew<K
     fn end(shared: InlineDesk<K, R>) -> K {
         let InlineDesk {
             rt: _,
+            plan: _,
+            limits: _,
             keeper,
             imports,
         } = shared;

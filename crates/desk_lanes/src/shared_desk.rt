@@ -1,28 +1,53 @@
 // A desk that loops share.
+ghost use Rattle.std.specs.Prelude.{◌≡◌, ◌≤◌};
+ghost use Rattle.road_time.specs.Fits.{IsLimits};
+
 use crate::attending::attend;
+use import_plan::Plan;
 use keeper::Keeper;
 use lane_loops::{Host, Turn};
 use live_board::BoardReader;
 use partition_workers::Crew;
-use road_io::Link;
+use road_time::Limits;
 use std::alloc::Global;
 use std::sync::{Mutex, Wait};
 use std::thread::Threads;
 use toll_desk::ImportDesk;
+use two_way::TwoWay;
 
 /// A desk that loops in many threads share. It runs a session on each connection. Its keeper has a lock of its own,
-/// which is taken for one call at a time; a POST takes that of the imports too, until its day is imported.
+/// which is taken for one call at a time; a POST takes that of the imports too, until its day is imported. By which plan
+/// and within which limits a day is worked lies beside the locks.
 pub struct SharedDesk<K: Keeper, C: Crew, R: Wait + Threads + Drop + Copy> {
     rt: R,
+    pub(crate) plan: Plan,
+    pub(crate) limits: Limits,
     keeper: Mutex<K>,
     imports: Mutex<ImportDesk<C, R>>,
+    ghost some: { 1 ≤ plan.width },
+    ghost few: { plan.width ≤ 64 },
+    ghost within: { IsLimits limits },
 }
 
 impl<K: Keeper, C: Crew, R: Wait + Threads + Drop + Copy> SharedDesk<K, C, R> {
-    /// Puts a keeper and the part of a desk that imports under a lock each.
-    pub(crate) fn new(rt: R, keeper: K, imports: ImportDesk<C, R>) -> Self {
+    /// Puts a keeper and the part of a desk that imports under a lock each, and the plan and the limits beside them.
+    pub(crate) fn new(
+        rt: R,
+        plan: Plan,
+        limits: Limits,
+        keeper: K,
+        imports: ImportDesk<C, R>,
+    ) -> Self
+        requires some { 1 ≤ plan.width }
+        requires few { plan.width ≤ 64 }
+        requires within { IsLimits limits }
+        ensures works { result.plan ≡ plan }
+        ensures bounds { result.limits ≡ limits }
+    {
         SharedDesk {
             rt,
+            plan,
+            limits,
             keeper: Mutex::new(keeper),
             imports: Mutex::new(imports),
         }
@@ -32,6 +57,8 @@ impl<K: Keeper, C: Crew, R: Wait + Threads + Drop + Copy> SharedDesk<K, C, R> {
     pub(crate) fn into_parts(self) -> (K, ImportDesk<C, R>) {
         let SharedDesk {
             rt: _,
+            plan: _,
+            limits: _,
             keeper,
             imports,
         } = self;
@@ -40,7 +67,11 @@ impl<K: Keeper, C: Crew, R: Wait + Threads + Drop + Copy> SharedDesk<K, C, R> {
 }
 
 impl<K: Keeper, C: Crew, R: Wait + Threads + Drop + Copy> Host for SharedDesk<K, C, R> {
-    fn attend<L: Link, T: Turn>(
+    ghost use Rattle.desk_lanes.specs.Attends.{Attends};
+
+    ghost attends = { λ _ p q old new. Attends K.told K.faults p q old new };
+
+    fn attend<L: TwoWay, T: Turn>(
         &self,
         alloc: Global,
         line: &mut L,
@@ -50,6 +81,8 @@ impl<K: Keeper, C: Crew, R: Wait + Threads + Drop + Copy> Host for SharedDesk<K,
         attend(
             self.rt,
             alloc,
+            self.plan,
+            self.limits,
             &self.keeper,
             &self.imports,
             line,

@@ -22,6 +22,10 @@ where
 
     ghost out = { λ crew. ⟦<ThreadCrew<R, NoGate> as Crew>⟧.out crew };
 
+    ghost works = { λ desk. desk.plan };
+
+    ghost bounds = { λ desk. desk.limits };
+
     fn share(
         self,
         rt: R,
@@ -34,15 +38,15 @@ where
         requires some { 1 ≤ plan.width }
         requires few { plan.width ≤ 64 }
         requires within { IsLimits limits }
+        ensures works { result.plan ≡ plan }
+        ensures bounds { result.limits ≡ limits }
     {
         let imports = ImportDesk {
             rt,
             crew: self,
             writer,
-            plan,
-            limits,
         };
-        SharedDesk::new(rt, keeper, imports)
+        SharedDesk::new(rt, plan, limits, keeper, imports)
     }
 
     fn end(shared: SharedDesk<K, ThreadCrew<R, NoGate>, R>) -> K {

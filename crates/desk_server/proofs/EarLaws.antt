@@ -1,11 +1,14 @@
 -- What ears count, in lanes and out of them.
 use Rattle.std.proofs.Common.{◌≡◌, ◌∙◌, ◌<◌, ◌||◌, ℕ, zero, suc, Bool, true, false, refl, sym, subst, List, [], ◌∷◌}
-use Rattle.std.proofs.Common.{map, length, arith, nat_lt, lt-ltb}
-use Rattle.std.specs.List.{All}
+use Rattle.std.proofs.Common.{inl, inr, ⊎_elim, map, length, arith, nat_lt, lt-ltb}
+use Rattle.std.specs.List.{All, AllZip}
+use Rattle.std.proofs.lemmas.Bool.{cases_Bool}
 use Rattle.road_io.specs.Faults.{Rose}
-use Rattle.lane_loops.specs.Lanes.{AnyRose}
+use Rattle.live_board.specs.Passes.{Pass}
+use Rattle.lane_loops.specs.Lanes.{AnyRose, LaneServes, LaneTurned}
 use Rattle.lane_loops.specs.declared.lane.Lane.{Lane}
 use Rattle.lane_doors.specs.Doors.{has_fault}
+use Rattle.desk_server.specs.Served.{EarServed}
 
 -- lanes of ears that accepted nothing have accepted nothing
 pub fresh_in : {N : Type 0} (f h : N → ℕ) (lanes : List (Lane N)) →
@@ -34,3 +37,28 @@ rose_fails f (o ∷ old) (n ∷ new) (zero, p, below, at, rose) =
     rw above refl
 rose_fails f (o ∷ old) (n ∷ new) (suc k, p, below, at, rose) =
     rw (rose_fails f old new (k, p, omega (arith, below), at, rose)) (or_true (nat_lt 0 (f n.listener)))
+
+-- what a lane served its ear served
+ear_served : {N : Type 0} (faults accepted : N → ℕ) (turn : N → Pass → N → Pass → Type 0) (x y : Lane N) →
+    LaneServes faults x y → LaneTurned accepted turn x y → EarServed faults accepted turn x.listener y.listener
+ear_served faults accepted turn x y serves turned =
+    record {
+      count = turned.count;
+      last = turned.last;
+      first = x.reader;
+      behind = y.reader;
+      counted = turned.counted;
+      turns = turned.turns;
+      over = ⊎_elim (λ (yes : y.failed ≡ true). inr (serves.cause yes))
+          (λ (fine : y.failed ≡ false). inl (turned.over fine)) (cases_Bool y.failed);
+    }
+
+-- and so all of them
+pub ears_served : {N : Type 0} (faults accepted : N → ℕ) (turn : N → Pass → N → Pass → Type 0)
+    (xs ys : List (Lane N)) → AllZip (LaneServes faults) xs ys → AllZip (LaneTurned accepted turn) xs ys →
+    AllZip (EarServed faults accepted turn) (map (λ lane. lane.listener) xs) (map (λ lane. lane.listener) ys)
+ears_served faults accepted turn [] [] a b = tt
+ears_served faults accepted turn [] (y ∷ ys) a b = absurd a
+ears_served faults accepted turn (x ∷ xs) [] a b = absurd a
+ears_served faults accepted turn (x ∷ xs) (y ∷ ys) (serves, a) (turned, b) =
+    (ear_served faults accepted turn x y serves turned, ears_served faults accepted turn xs ys a b)

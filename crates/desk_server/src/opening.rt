@@ -2,8 +2,12 @@
 ghost use Rattle.std.specs.Prelude.{◌≡◌, ◌≤◌, ◌<◌, ◌^◌, [], All, length, vec_len, vec_capacity, true};
 ghost use Rattle.road_time.specs.Fits.{IsLimits};
 ghost use Rattle.lane_loops.specs.declared.serve_end.ServeEnd.TheVariants.{Served, ListenFault};
+ghost use Rattle.lane_loops.specs.Wires.{wire_by};
+ghost use Rattle.lane_loops.specs.Lanes.{TurnOf};
 ghost use Rattle.lane_doors.specs.Doors.{accepted_in, has_fault};
 ghost use Rattle.desk_server.specs.Endings.{counts_of, EndsServing};
+ghost use Rattle.desk_server.specs.Served.{ServedBy, ServedAt};
+ghost use Rattle.desk_server.specs.declared.ending.ServerEnd.TheVariants as server;
 
 use crate::ending::ServerEnd;
 use desk_lanes::{DeskCrew, serve};
@@ -56,6 +60,10 @@ fn serve_over<
     requires idle { C.out crew ≡ [] }
     ensures most { accepted_in N.accepted result.1 ≤ sessions }
     ensures served { result.0 ≡ Served → accepted_in N.accepted result.1 ≡ sessions }
+    ensures desk { ServedBy N.faults N.accepted
+        (λ (desk : C.Shared). TurnOf N.gives N.takes
+        (wire_by N.Line.left N.Line.plan N.Line.written N.Line.room) (C.Shared.attends desk))
+        C.works C.bounds limits.now ears result.1 }
     ensures fault { result.0 ≡ ListenFault → has_fault N.faults result.1 ≡ true }
 {
     let Board { writer, readers } = board;
@@ -99,6 +107,10 @@ fn serve_behind<
     requires unused { D.accepted door.old ≡ 0 }
     ensures ends { EndsServing serving.now (counts_of (D.refused door.old) (D.faults door.old) (D.accepted door.old))
         (counts_of (D.refused door.new) (D.faults door.new) (D.accepted door.new)) result.0 }
+    ensures desk { result.0 ≡ server.Served → ServedAt D.hears D.Ear.faults D.Ear.accepted
+        (λ (desk : C.Shared). TurnOf D.Ear.gives D.Ear.takes
+        (wire_by D.Ear.Line.left D.Ear.Line.plan D.Ear.Line.written D.Ear.Line.room) (C.Shared.attends desk))
+        C.works C.bounds limits.now serving.now }
     ensures refused { D.refused door.old ≤ D.refused door.new }
     ensures faults { D.faults door.old ≤ D.faults door.new }
 {
@@ -150,6 +162,10 @@ pub fn serve_as<
     requires unused { D.accepted door.old ≡ 0 }
     ensures ends { EndsServing serving.now (counts_of (D.refused door.old) (D.faults door.old) (D.accepted door.old))
         (counts_of (D.refused door.new) (D.faults door.new) (D.accepted door.new)) result.0 }
+    ensures desk { result.0 ≡ server.Served → ServedAt D.hears D.Ear.faults D.Ear.accepted
+        (λ (desk : C.Shared). TurnOf D.Ear.gives D.Ear.takes
+        (wire_by D.Ear.Line.left D.Ear.Line.plan D.Ear.Line.written D.Ear.Line.room) (C.Shared.attends desk))
+        C.works C.bounds limits.now serving.now }
     ensures refused { D.refused door.old ≤ D.refused door.new }
     ensures faults { D.faults door.old ≤ D.faults door.new }
 {

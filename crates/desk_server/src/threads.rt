@@ -3,9 +3,14 @@ ghost use Rattle.std.specs.Prelude.{◌≡◌, ◌≤◌, ◌⊎◌, None, map, 
 ghost use Rattle.road_io.specs.Faults.{Rose};
 ghost use Rattle.road_time.specs.Fits.{IsLimits};
 ghost use Rattle.server_words.specs.Meaning.{serving_meant};
+ghost use Rattle.lane_loops.specs.Wires.{wire_by};
+ghost use Rattle.lane_loops.specs.Lanes.{TurnOf};
+ghost use Rattle.desk_lanes.specs.Attends.{Attends};
 ghost use Rattle.desk_server.specs.Endings.{counts_of, EndsWith, HasServed};
+ghost use Rattle.desk_server.specs.Served.{ServedAsSaid};
 
 use crate::serving::serve_words;
+use desk_lanes::DeskCrew;
 use keeper::Keeper;
 use lane_doors::Door;
 use partition_workers::{NoGate, ThreadCrew};
@@ -30,6 +35,11 @@ pub fn serve_in_threads<D: Door, K: Keeper + Send, R: Wait + Threads + Drop + Co
         (counts_of (D.refused door.new) (D.faults door.new) (D.accepted door.new)) result.0 }
     ensures served { result.0 ≡ 0 → HasServed (serving_meant (map string_bytes words.now))
         (counts_of (D.refused door.new) (D.faults door.new) (D.accepted door.new)) }
+    ensures desk { result.0 ≡ 0 → ServedAsSaid D.hears D.Ear.faults D.Ear.accepted
+        (λ desk. TurnOf D.Ear.gives D.Ear.takes
+        (wire_by D.Ear.Line.left D.Ear.Line.plan D.Ear.Line.written D.Ear.Line.room) (Attends K.told K.faults))
+        ⟦<ThreadCrew<R, NoGate> as DeskCrew<K, R>>⟧.works ⟦<ThreadCrew<R, NoGate> as DeskCrew<K, R>>⟧.bounds
+        limits.now (serving_meant (map string_bytes words.now)) }
     ensures words { result.0 ≡ 1 → serving_meant (map string_bytes words.now) ≡ None }
     ensures no_words { serving_meant (map string_bytes words.now) ≡ None → (result.0 ≡ 1) ⊎ (result.0 ≡ 8) }
     ensures untouched { result.0 ≡ 1 → door.new ≡ door.old }

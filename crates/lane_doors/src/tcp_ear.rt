@@ -48,6 +48,10 @@ impl<R: Wait + Copy + Drop + Send> Listener for TcpEar<R> {
 
     ghost accepted = { accepted_by };
 
+    ghost gives = { λ _ new line. Unit {0} };
+
+    ghost takes = { λ _ new line. Unit {0} };
+
     fn accept(&mut self) -> Result<RoomLink, Failed> {
         match self.room.next(&self.rt, self.alloc) {
             Ok(line) => {

@@ -1,5 +1,5 @@
 -- What a listener in memory stands for.
-use Rattle.std.specs.Prelude.{ℕ, Bool, List, reverse}
+use Rattle.std.specs.Prelude.{◌≡◌, ◌∷◌, ℕ, Bool, List, reverse}
 use Rattle.road_io.specs.Plans.{planned}
 use Rattle.road_io.specs.declared.memory.MemLink.{MemLink}
 use Rattle.lane_loops.specs.declared.mem_listener.MemListener.{MemListener}
@@ -19,3 +19,11 @@ accepted_by l = l.accepted
 -- the calls that failed
 abbrev pub faults_of : MemListener → ℕ
 faults_of l = l.faults
+
+-- it gives the first of its links, and has the others left
+abbrev pub GivesLink : MemListener → MemListener → MemLink → Type 0
+GivesLink old new line = links_of old ≡ line ∷ links_of new
+
+-- a link that it takes back is let go: it has those left that it had
+abbrev pub TakesLink : MemListener → MemListener → MemLink → Type 0
+TakesLink old new line = links_of new ≡ links_of old

@@ -1,6 +1,7 @@
 // The loop of one lane.
 ghost use Rattle.std.specs.Prelude.{◌≡◌, ◌+◌, ◌<◌, ◌-◌, ◌^◌, true, false};
-ghost use Rattle.lane_loops.specs.Lanes.{LaneServes};
+ghost use Rattle.lane_loops.specs.Wires.{wire_by};
+ghost use Rattle.lane_loops.specs.Lanes.{LaneServes, TurnOf, LaneTurned};
 
 use crate::host::Host;
 use crate::lane::Lane;
@@ -23,6 +24,10 @@ impl<N: Listener> Lane<N> {
         ensures serves { LaneServes N.faults self.old self.new }
         ensures accepts { result ≡ true → N.accepted self.new.listener ≡ N.accepted self.old.listener + 1 }
         ensures refuses { result ≡ false → N.accepted self.new.listener ≡ N.accepted self.old.listener }
+        ensures turns { result ≡ true
+            → TurnOf N.gives N.takes (wire_by N.Line.left N.Line.plan N.Line.written N.Line.room)
+            (H.attends host.now) self.old.listener self.old.reader self.new.listener self.new.reader }
+        ensures stays { result ≡ false → self.new.reader ≡ self.old.reader }
         ensures failed { self.new.failed ≡ true → result ≡ false }
         ensures goes { self.new.failed ≡ false → result ≡ true }
     {
@@ -48,6 +53,7 @@ impl<N: Listener> Lane<N> {
     }
 
     /// Turns, until no ticket is left, the listener fails or all loops are to stop.
+    #[tactic(auto, using(crate::proofs::LaneLaws::no_turn, crate::proofs::LaneLaws::failed_turn))]
     pub fn run<H: Host, D: Draws, E: Ledger, R: Wait>(
         &mut self,
         rt: &R,
@@ -61,6 +67,9 @@ impl<N: Listener> Lane<N> {
         requires ends { 0 < stub.old.ends.parts }
         requires fresh { N.accepted self.old.listener ≡ stub.old.drawn.amount }
         ensures serves { LaneServes N.faults self.old self.new }
+        ensures turned { LaneTurned N.accepted
+            (TurnOf N.gives N.takes (wire_by N.Line.left N.Line.plan N.Line.written N.Line.room)
+            (H.attends host.now)) self.old self.new }
         ensures served { self.new.failed ≡ false → N.accepted self.new.listener ≡ stub.new.drawn.amount }
         ensures over { self.new.failed ≡ false → 0 < stub.new.ends.amount }
         ensures failed { self.new.failed ≡ true → N.accepted self.new.listener + 1 ≡ stub.new.drawn.amount }

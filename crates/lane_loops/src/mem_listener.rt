@@ -4,7 +4,7 @@ ghost use Rattle.std.specs.Prelude.{IsErr, IsNone, IfOk, IfSome, IfNone, OnOk, O
 ghost use Rattle.std.specs.List.{list_any};
 ghost use Rattle.road_io.specs.Faults.{HasCause, Rose};
 ghost use Rattle.road_io.specs.Plans.{planned};
-ghost use Rattle.lane_loops.specs.MemListeners.{links_of, plan_of, accepted_by, faults_of};
+ghost use Rattle.lane_loops.specs.MemListeners.{links_of, plan_of, accepted_by, faults_of, GivesLink, TakesLink};
 
 use crate::listener::Listener;
 use crate::turn::NoTurn;
@@ -92,13 +92,17 @@ impl Listener for MemListener {
 
     ghost accepted = { accepted_by };
 
+    ghost gives = { GivesLink };
+
+    ghost takes = { TakesLink };
+
     fn accept(&mut self) -> Result<MemLink, Failed>
         requires room { accepted_by self.old < 2 ^ 64 - 1 }
         ensures accepts { OnOk result (accepted_by self.new ≡ accepted_by self.old + 1) }
         ensures refuses { OnErr result (accepted_by self.new ≡ accepted_by self.old) }
         ensures cause { HasCause (faults_of self.old) (faults_of self.new) result }
         ensures exact { IsErr result ↔ ((plan_of self.old 0 ≡ true) ⊎ (links_of self.old ≡ [])) }
-        ensures given { IfOk result (λ line. links_of self.old ≡ line ∷ links_of self.new) }
+        ensures gives { IfOk result (λ line. GivesLink self.old self.new line) }
         ensures kept { OnErr result (links_of self.new ≡ links_of self.old) }
         ensures planned { (n : ℕ) → plan_of self.new n ≡ plan_of self.old (n + 1) }
     {
@@ -121,6 +125,7 @@ impl Listener for MemListener {
     fn end(&mut self, line: MemLink)
         ensures accepted { accepted_by self.new ≡ accepted_by self.old }
         ensures faults { faults_of self.new ≡ faults_of self.old }
+        ensures takes { TakesLink self.old self.new line }
         ensures same { self.new ≡ self.old }
     {
         let mut line = line;

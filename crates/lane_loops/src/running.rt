@@ -1,7 +1,8 @@
 // The loops of all lanes.
 ghost use Rattle.std.specs.Prelude.{◌≡◌, ◌≤◌, ◌<◌, ◌+◌, ◌++◌, ◌∷◌, [], ℕ, length, vec_len, vec_capacity, All};
 ghost use denote.Param.Send.{IsSync, IsSend};
-ghost use Rattle.lane_loops.specs.Lanes.{LaneRan, RanAll};
+ghost use Rattle.lane_loops.specs.Wires.{wire_by};
+ghost use Rattle.lane_loops.specs.Lanes.{LaneRan, RanAll, TurnOf};
 
 use crate::begun::heed;
 use crate::host::Host;
@@ -29,7 +30,10 @@ fn run_lane<N: Listener, H: Host, D: Draws, E: Ledger, R: Wait>(
     requires ends { stub.ends.parts ≡ 1 }
     requires unused { stub.drawn.amount ≡ 0 }
     requires fresh { N.accepted lane.listener ≡ 0 }
-    ensures ran { LaneRan N.faults N.accepted lane result.0 result.1.drawn.amount result.1.ends.amount }
+    ensures ran { LaneRan N.faults N.accepted
+        (TurnOf N.gives N.takes (wire_by N.Line.left N.Line.plan N.Line.written N.Line.room)
+        (H.attends host.now))
+        lane result.0 result.1.drawn.amount result.1.ends.amount }
     ensures drawn { result.1.drawn.parts ≡ 1 }
     ensures ends { result.1.ends.parts ≡ 1 }
 {
@@ -90,7 +94,10 @@ fn run_beside<
     requires unused { (stub.drawn.amount ≡ 0) × (stub.ends.amount ≡ 0) }
     requires fresh { All (λ lane. N.accepted lane.listener ≡ 0) lanes.items }
     requires room { vec_len lanes < vec_capacity lanes }
-    ensures ran { RanAll N.faults N.accepted (lanes.items ++ last ∷ []) result.0.items
+    ensures ran { RanAll N.faults N.accepted
+        (TurnOf N.gives N.takes (wire_by N.Line.left N.Line.plan N.Line.written N.Line.room)
+        (H.attends host.now))
+        (lanes.items ++ last ∷ []) result.0.items
         result.1.drawn.amount result.1.ends.amount }
     ensures len { vec_len result.0 ≡ vec_len lanes + 1 }
     ensures drawn { result.1.drawn.parts ≡ stub.drawn.parts + 1 }
@@ -104,7 +111,10 @@ fn run_beside<
         move || -> (Lane<N>, Stub<D, E>)
             requires { (own.drawn.parts ≡ 1) × (own.ends.parts ≡ 1) × (own.drawn.amount ≡ 0)
                 × (N.accepted last.listener ≡ 0) }
-            ensures ran { LaneRan N.faults N.accepted last result.0 result.1.drawn.amount result.1.ends.amount }
+            ensures ran { LaneRan N.faults N.accepted
+                (TurnOf N.gives N.takes (wire_by N.Line.left N.Line.plan N.Line.written N.Line.room)
+                (H.attends host.entry.now))
+                last result.0 result.1.drawn.amount result.1.ends.amount }
             ensures parts { (result.1.drawn.parts ≡ 1) × (result.1.ends.parts ≡ 1) }
         {
             begun.store(true, Ordering::SeqCst);
@@ -112,12 +122,15 @@ fn run_beside<
         },
         move || -> (Vec<Lane<N>>, Stub<D, E>)
             requires bounds { IsSync R.row × IsSync H.row × IsSend N.row × IsSend N.Line.row
-                × IsSend N.Pass.row × IsSend D.row × IsSend E.row × IsSync D.row × IsSync E.row }
+                × IsSend N.Line.Out.row × IsSend N.Pass.row × IsSend D.row × IsSend E.row × IsSync D.row × IsSync E.row }
             requires drawn { stub.drawn.parts ≡ vec_len lanes }
             requires ends { stub.ends.parts ≡ vec_len lanes }
             requires unused { (stub.drawn.amount ≡ 0) × (stub.ends.amount ≡ 0) }
             requires fresh { All (λ lane. N.accepted lane.listener ≡ 0) lanes.items }
-            ensures ran { RanAll N.faults N.accepted lanes.items result.0.items
+            ensures ran { RanAll N.faults N.accepted
+                (TurnOf N.gives N.takes (wire_by N.Line.left N.Line.plan N.Line.written N.Line.room)
+                (H.attends host.entry.now))
+                lanes.items result.0.items
                 result.1.drawn.amount result.1.ends.amount }
             ensures len { vec_len result.0 ≡ vec_len lanes }
             ensures drawn { result.1.drawn.parts ≡ stub.drawn.parts }
@@ -152,7 +165,10 @@ pub fn run_all<
     requires ends { stub.ends.parts ≡ vec_len lanes }
     requires unused { (stub.drawn.amount ≡ 0) × (stub.ends.amount ≡ 0) }
     requires fresh { All (λ lane. N.accepted lane.listener ≡ 0) lanes.items }
-    ensures ran { RanAll N.faults N.accepted lanes.items result.0.items result.1.drawn.amount result.1.ends.amount }
+    ensures ran { RanAll N.faults N.accepted
+        (TurnOf N.gives N.takes (wire_by N.Line.left N.Line.plan N.Line.written N.Line.room)
+        (H.attends host.now))
+        lanes.items result.0.items result.1.drawn.amount result.1.ends.amount }
     ensures len { vec_len result.0 ≡ vec_len lanes }
     ensures drawn { result.1.drawn.parts ≡ stub.drawn.parts }
     ensures ends { result.1.ends.parts ≡ stub.ends.parts }

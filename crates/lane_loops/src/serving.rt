@@ -1,7 +1,8 @@
 // Serving a number of connections.
 ghost use Rattle.std.specs.Prelude.{◌≡◌, ◌≤◌, ◌↔◌, true, false, length, vec_len, All};
 ghost use Rattle.std.specs.List.{AllZip, list_any};
-ghost use Rattle.lane_loops.specs.Lanes.{LaneServes, HasFailedLane, AnyRose, accepted_in_all};
+ghost use Rattle.lane_loops.specs.Wires.{wire_by};
+ghost use Rattle.lane_loops.specs.Lanes.{LaneServes, HasFailedLane, AnyRose, accepted_in_all, TurnOf, LaneTurned};
 ghost use Rattle.lane_loops.specs.declared.serve_end.ServeEnd.TheVariants.{Served, ListenFault};
 
 use crate::host::Host;
@@ -43,6 +44,9 @@ fn run_over<
     requires some { 1 ≤ vec_len lanes }
     requires fresh { All (λ lane. N.accepted lane.listener ≡ 0) lanes.items }
     ensures lanes { AllZip (LaneServes N.faults) lanes.items result.items }
+    ensures turns { AllZip (LaneTurned N.accepted
+        (TurnOf N.gives N.takes (wire_by N.Line.left N.Line.plan N.Line.written N.Line.room)
+        (H.attends host.now))) lanes.items result.items }
     ensures within { accepted_in_all N.accepted result.items ≤ sessions }
     ensures served { list_any (λ lane. lane.failed) result.items ≡ false
         → accepted_in_all N.accepted result.items ≡ sessions }
@@ -86,6 +90,9 @@ pub fn serve<N: Listener + Drop + Send, H: Host + Sync, R: Threads + Wait + Sync
     requires few { length lanes.old ≤ 64 }
     requires fresh { All (λ lane. N.accepted lane.listener ≡ 0) lanes.old }
     ensures lanes { AllZip (LaneServes N.faults) lanes.old lanes.new }
+    ensures turns { AllZip (LaneTurned N.accepted
+        (TurnOf N.gives N.takes (wire_by N.Line.left N.Line.plan N.Line.written N.Line.room)
+        (H.attends host.now))) lanes.old lanes.new }
     ensures end { (result ≡ ListenFault) ↔ HasFailedLane lanes.new }
     ensures cause { result ≡ ListenFault → AnyRose N.faults lanes.old lanes.new }
     ensures served { result ≡ Served → accepted_in_all N.accepted lanes.new ≡ sessions }

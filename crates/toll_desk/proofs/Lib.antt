@@ -3,3 +3,6 @@ pub mod DayLaws
 pub mod ImportLaws
 pub mod ReadLaws
 pub mod LiveLaws
+mod SharedLaws
+pub mod StreamLaws
+pub mod LimitLaws

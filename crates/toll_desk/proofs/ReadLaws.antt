@@ -82,20 +82,18 @@ fits count bytes early known (Open left) h = h.0
 fits count bytes early known Cut h = tt
 fits count bytes early known LinkFault h = tt
 
--- what is answered behind the rest of a body is answered behind the body
-by_rest : (w : WhenRefused) (exact : Bool) (day : ℕ) (limits : Limits) (count left : ℕ) (all : List ℕ) (o : Office)
-    (was now : DeskState) (old mid new : Wire) (outcome : Outcome) (end : SessionEnd) →
+-- what is answered behind the rest of a body is answered behind the body, and what is so of the bytes that it stands for
+-- is so of it
+by_rest : (I : List ℕ → Type 0) (count left : ℕ) (all : List ℕ) (old mid new : Wire) (outcome : Outcome)
+    (end : SessionEnd) →
     left ≤ count → count - left ≤ length all → mid.written ≡ old.written → mid.room ≡ old.room →
     (NeverFails old.plan → NeverFails mid.plan) → outcome ≢ ReadFault → outcome ≢ WriteFault →
     ((kept : DayRecord) → outcome ≡ Stored kept → left ≡ 0) →
-    Imports w exact day limits (filled count all) o now.told was.posted (Some now.posted) outcome →
-    FinishesBody left (drop (count - left) all) outcome mid new end →
-    (AnswersBody count all outcome old new end
-    × Imports w exact day limits (take count all) o now.told was.posted (Some now.posted) outcome)
-    ⊎ ((IsCutShort count all outcome old new end ⊎ FailsInBody old new end)
-    × Imports w exact day limits (filled count all) o now.told was.posted (Some now.posted) outcome)
-by_rest w exact day limits count left all o was now old mid new outcome end less there written room sure unread
-    unwritten stored imports (inl (whole, rest, answers)) =
+    I (filled count all) → FinishesBody left (drop (count - left) all) outcome mid new end →
+    (AnswersBody count all outcome old new end × I (take count all))
+    ⊎ ((IsCutShort count all outcome old new end ⊎ FailsInBody old new end) × I (filled count all))
+by_rest I count left all old mid new outcome end less there written room sure unread unwritten stored imports
+    (inl (whole, rest, answers)) =
     let long = length-drop (count - left) all in
     let enough : count ≤ length all = omega (arith, less, there, long, whole) in
     let back : (count - left) + left ≡ count = omega (arith, less) in
@@ -107,11 +105,10 @@ by_rest w exact day limits count left all o was now old mid new outcome end less
         subst (λ r. AnswersOutcome outcome r old.written new.written end) room
             (subst (λ t. AnswersOutcome outcome mid.room t new.written end) written answers),
       ),
-      subst (λ bytes. Imports w exact day limits bytes o now.told was.posted (Some now.posted) outcome)
-          (filled_whole count all enough) imports,
+      subst I (filled_whole count all enough) imports,
     )
-by_rest w exact day limits count left all o was now old mid new outcome end less there written room sure unread
-    unwritten stored imports (inr (inl (cut, short, same))) =
+by_rest I count left all old mid new outcome end less there written room sure unread unwritten stored imports
+    (inr (inl (cut, short, same))) =
     let long = length-drop (count - left) all in
     inr (
       inl (
@@ -122,9 +119,36 @@ by_rest w exact day limits count left all o was now old mid new outcome end less
       ),
       imports,
     )
-by_rest w exact day limits count left all o was now old mid new outcome end less there written room sure unread
-    unwritten stored imports (inr (inr (failed, same, never))) =
+by_rest I count left all old mid new outcome end less there written room sure unread unwritten stored imports
+    (inr (inr (failed, same, never))) =
     inr (inr (failed, same ∙ written, λ none. never (sure none)), imports)
+
+-- a body that was read so far, and then what is left to do of its request, are the body and its answer; what is so of
+-- the bytes that it stands for is so of it
+pub finishes_as : (I : List ℕ → Type 0) (count : ℕ) (all : List ℕ) (old mid new : Wire) (early : List ℕ)
+    (read : ReadTo) (outcome : Outcome) (end : SessionEnd) (before after : ℕ) →
+    IsReadTo count (Some all) early mid.left read →
+    HasReadCause old.plan before after read → mid.written ≡ old.written → mid.room ≡ old.room →
+    (NeverFails old.plan → NeverFails mid.plan) → (outcome ≡ ReadFault → IsStopped read) → outcome ≢ WriteFault →
+    ((kept : DayRecord) → outcome ≡ Stored kept → HasNoneLeft read) →
+    I (filled count all) → Finishes early outcome mid new read end →
+    (AnswersBody count all outcome old new end × I (take count all))
+    ⊎ ((IsCutShort count all outcome old new end ⊎ FailsInBody old new end) × I (filled count all))
+finishes_as I count all old mid new early (Open left) outcome end before after reads cause written room sure unread
+    unwritten stored imports finishes =
+    let (few, less, behind) = reads in
+    let (is, there) = behind all refl in
+    by_rest I count left all old mid new outcome end less there written room sure unread unwritten stored imports
+    (finishes (drop (count - left) all) is)
+finishes_as I count all old mid new early Cut outcome end before after reads cause written room sure unread unwritten
+    stored imports finishes =
+    inr (
+      inl (finishes.0, reads all refl, finishes.1 ∙ written, λ kept is. absurd (stored kept is)),
+      imports,
+    )
+finishes_as I count all old mid new early LinkFault outcome end before after reads cause written room sure unread
+    unwritten stored imports finishes =
+    inr (inr (finishes.0, finishes.1 ∙ written, λ never. cause.1 (sure_plan old.plan never)), imports)
 
 -- an import, and then what is left to do of its request, are the import of a day and its answer
 pub composes : (w : WhenRefused) (exact : Bool) (day : ℕ) (limits : Limits) (count : ℕ) (all : List ℕ) (o : Office)
@@ -136,27 +160,20 @@ pub composes : (w : WhenRefused) (exact : Bool) (day : ℕ) (limits : Limits) (c
     ((kept : DayRecord) → outcome ≡ Stored kept → HasNoneLeft read) →
     Imports w exact day limits (filled count all) o now.told was.posted (Some now.posted) outcome →
     Finishes early outcome mid new read end → ImportsDay w exact day limits count all o was now old new end
-composes w exact day limits count all o was now old mid new early (Open left) outcome end before after rose reads cause
-    written room sure unread unwritten stored imports finishes =
-    let (few, less, behind) = reads in
-    let (is, there) = behind all refl in (
-      outcome,
-      rose,
-      by_rest w exact day limits count left all o was now old mid new outcome end less there written room sure unread
-          unwritten stored imports (finishes (drop (count - left) all) is),
-    )
-composes w exact day limits count all o was now old mid new early Cut outcome end before after rose reads cause
+composes w exact day limits count all o was now old mid new early read outcome end before after rose reads cause
     written room sure unread unwritten stored imports finishes = (
       outcome,
       rose,
-      inr (
-        inl (finishes.0, reads all refl, finishes.1 ∙ written, λ kept is. absurd (stored kept is)),
-        imports,
-      ),
+      finishes_as (λ bytes. Imports w exact day limits bytes o now.told was.posted (Some now.posted) outcome) count all
+          old mid new early read outcome end before after reads cause written room sure unread unwritten stored imports
+          finishes,
     )
-composes w exact day limits count all o was now old mid new early LinkFault outcome end before after rose reads cause
-    written room sure unread unwritten stored imports finishes = (
-      outcome,
-      rose,
-      inr (inr (finishes.0, finishes.1 ∙ written, λ never. cause.1 (sure_plan old.plan never)), imports),
-    )
+
+-- how a POST ends, whatever is kept
+pub posts_as : (count : ℕ) (all : List ℕ) (old new : Wire) (outcome : Outcome) (end : SessionEnd) →
+    (AnswersBody count all outcome old new end × Unit {0})
+    ⊎ ((IsCutShort count all outcome old new end ⊎ FailsInBody old new end) × Unit {0}) →
+    AnswersBody count all outcome old new end
+    ⊎ (IsCutShort count all outcome old new end ⊎ FailsInBody old new end)
+posts_as count all old new outcome end (inl (whole, none)) = inl whole
+posts_as count all old new outcome end (inr (stopped, none)) = inr stopped

@@ -42,7 +42,7 @@ pub memory_answers : (r : Reply) (room : Room) (old new : Option (List ℕ)) (en
 memory_answers r room old new end sent sure = (inr sent, λ has. sure (has.1, has.1))
 
 -- an office that is told is one
-office_is : (p o : Office) → Some p ≡ Some o → p ≡ o
+pub office_is : (p o : Office) → Some p ≡ Some o → p ≡ o
 office_is p o e = cc e
 
 -- what a keeper that tells its office answers

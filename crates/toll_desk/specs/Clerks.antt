@@ -23,16 +23,19 @@ abbrev pub PassesRequest : ClerkTold → ClerkTold → Asked → SessionEnd → 
 PassesRequest None after asked end = Unit {0}
 PassesRequest (Some p) after asked end = after ≡ Some (Some (record { asked = asked; end = end }))
 
--- a request of what is kept is passed on once, as it was read, and its clerk's end is the session's: nothing is written
--- by a clerk that tells, so nothing by the session, and the reader is left as it was
-abbrev pub PassesOn : List ℕ → ClerkTold → ClerkTold → Pass → Pass → Wire → Wire → SessionEnd → Type 0
-PassesOn bytes told now p q old new end =
-    (asked : Asked) × (mid : Wire) × Asks bytes asked old mid × IsOfKept asked × PassesRequest told now asked end
-    × ((t : Option Passed) → told ≡ Some t → new.written ≡ old.written) × (q ≡ p)
+-- a request of what is kept is passed on once, as it was read, its clerk answers it so, and the clerk's end is the
+-- session's: nothing is written by a clerk that tells, so nothing by the session, and the reader is left as it was
+abbrev pub PassesOn : (Asked → Wire → Wire → SessionEnd → Type 0) → List ℕ → ClerkTold → ClerkTold → Pass → Pass → Wire →
+    Wire → SessionEnd → Type 0
+PassesOn answers bytes told now p q old new end =
+    (asked : Asked) × (mid : Wire) × Asks bytes asked old mid × IsOfKept asked × answers asked mid new end
+    × PassesRequest told now asked end × ((t : Option Passed) → told ≡ Some t → new.written ≡ old.written) × (q ≡ p)
 
--- a session that passes on what is asked of what is kept; all else is answered, and the clerk stays as it was
-abbrev pub Shares : List ℕ → ClerkTold → ClerkTold → Pass → Pass → Wire → Wire → SessionEnd → Type 0
-Shares bytes told now p q old new end =
+-- a session that passes on what is asked of what is kept, to a clerk that answers so; all else is answered, and the
+-- clerk stays as it was
+abbrev pub Shares : (Asked → Wire → Wire → SessionEnd → Type 0) → List ℕ → ClerkTold → ClerkTold → Pass → Pass → Wire →
+    Wire → SessionEnd → Type 0
+Shares answers bytes told now p q old new end =
     (EndsAtOnce bytes old new end × (now ≡ told) × (q ≡ p))
-    ⊎ (PassesOn bytes told now p q old new end
+    ⊎ (PassesOn answers bytes told now p q old new end
     ⊎ (ServesLive bytes p q old new end × (now ≡ told)))

@@ -7,17 +7,19 @@ use Rattle.keeper.specs.Calls.{WhenRefused}
 use Rattle.keeper.specs.Office.{Office, record_of}
 use Rattle.toll_requests.specs.declared.asked.Asked.{Asked}
 use Rattle.toll_requests.specs.declared.asked.Asked.TheVariants.{Day, Import, Spent, Live, LiveTotal, Vehicle, Days, Page}
+use Rattle.toll_requests.specs.declared.asked.Asked.TheVariants.{Answers}
 use Rattle.toll_requests.specs.declared.session_end.SessionEnd.{SessionEnd}
 use Rattle.toll_desk.specs.Answers.{Wire, day_reply, spent_reply, days_reply, vehicle_reply, AnswersUnlessFailed}
 use Rattle.toll_desk.specs.Pages.{AnswersPage}
 use Rattle.toll_desk.specs.Imports.{DeskState, ImportsDay}
+use Rattle.toll_desk.specs.Streams.{AnswersDay}
 
 -- what is kept is told as it was, nothing is published, and nothing is read
 abbrev pub LeavesAll : Office → DeskState → DeskState → Wire → Wire → Type 0
 LeavesAll o was now old new = (now.told ≡ Some o) × (now.posted ≡ was.posted) × (new.left ≡ old.left)
 
 -- a session's end of what is asked of what is kept: the reply of a day, of an amount, of all days or of a vehicle, or
--- the page, which leave all as it is; or that of an import
+-- the page, which leave all as it is; or that of an import; or the notices of a day, of which nothing is kept
 abbrev pub AnswersKept : WhenRefused → Bool → Asked → Limits → Office → DeskState → DeskState → Wire → Wire →
     SessionEnd → Type 0
 AnswersKept w exact (Day day) limits o was now old new end =
@@ -37,26 +39,12 @@ AnswersKept w exact Days limits o was now old new end =
     × AnswersUnlessFailed (days_reply o) was.faults now.faults old.room old.written new.written end
 AnswersKept w exact Page limits o was now old new end =
     LeavesAll o was now old new × (now.faults ≡ was.faults) × AnswersPage old.room old.written new.written end
+AnswersKept w exact (Answers day count early) limits o was now old new end =
+    (all : List ℕ) → prepend_known early old.left ≡ Some all
+    → (now.told ≡ Some o) × (now.posted ≡ was.posted)
+    × AnswersDay w exact day limits count all o old.written new.written end
 AnswersKept w exact (Live vid) limits o was now old new end = Unit {0}
 AnswersKept w exact LiveTotal limits o was now old new end = Unit {0}
-
--- a session's end of what is asked of a keeper alone, which keeps what it kept: the reply of a day, of an amount, of
--- all days or of a vehicle, or the page
-abbrev pub AnswersRead : Asked → Office → Option Office → ℕ → ℕ → Room → Option (List ℕ) → Option (List ℕ) → SessionEnd
-    → Type 0
-AnswersRead (Day day) o told before now room old new end =
-    (told ≡ Some o) × AnswersUnlessFailed (day_reply (record_of o day)) before now room old new end
-AnswersRead (Spent day xway vid) o told before now room old new end =
-    (told ≡ Some o) × AnswersUnlessFailed (spent_reply o day xway vid) before now room old new end
-AnswersRead (Import day count early) o told before now room old new end = Unit {0}
-AnswersRead (Vehicle vid from to) o told before now room old new end =
-    (told ≡ Some o) × AnswersUnlessFailed (vehicle_reply o vid from to) before now room old new end
-AnswersRead Days o told before now room old new end =
-    (told ≡ Some o) × AnswersUnlessFailed (days_reply o) before now room old new end
-AnswersRead Page o told before now room old new end =
-    (told ≡ Some o) × (now ≡ before) × AnswersPage room old new end
-AnswersRead (Live vid) o told before now room old new end = Unit {0}
-AnswersRead LiveTotal o told before now room old new end = Unit {0}
 
 -- a request asks for what is kept or for the page, and not for the live board
 abbrev pub IsOfKept : Asked → Type 0
@@ -66,5 +54,6 @@ IsOfKept (Import day count early) = Unit {0}
 IsOfKept (Vehicle vid from to) = Unit {0}
 IsOfKept Days = Unit {0}
 IsOfKept Page = Unit {0}
+IsOfKept (Answers day count early) = Unit {0}
 IsOfKept (Live vid) = ⊥
 IsOfKept LiveTotal = ⊥

@@ -3,6 +3,8 @@ pub mod Days
 pub mod Pages
 pub mod Imports
 pub mod Reading
+pub mod Shared
+pub mod Streams
 pub mod Desk
 pub mod Live
 pub mod Sessions

@@ -8,6 +8,7 @@ use Rattle.toll_texts.specs.Bodies.{live_body, total_body}
 use Rattle.toll_texts.specs.Replies.{Reply, no_memory_reply}
 use Rattle.toll_requests.specs.declared.asked.Asked.{Asked}
 use Rattle.toll_requests.specs.declared.asked.Asked.TheVariants.{Day, Import, Spent, Live, LiveTotal, Vehicle, Days, Page}
+use Rattle.toll_requests.specs.declared.asked.Asked.TheVariants.{Answers}
 use Rattle.toll_requests.specs.declared.session_end.SessionEnd.{SessionEnd}
 use Rattle.toll_desk.specs.Answers.{Wire, AnswersReply, good}
 
@@ -21,6 +22,7 @@ asked_of (Import day count early) = None
 asked_of (Vehicle vid from to) = None
 asked_of Days = None
 asked_of Page = None
+asked_of (Answers day count early) = None
 
 -- a request asks for the live board
 abbrev pub IsOfLive : Asked → Type 0
@@ -32,6 +34,7 @@ IsOfLive (Import day count early) = ⊥
 IsOfLive (Vehicle vid from to) = ⊥
 IsOfLive Days = ⊥
 IsOfLive Page = ⊥
+IsOfLive (Answers day count early) = ⊥
 
 -- a vehicle's account on a board, or what all owe
 abbrev pub live_of : Option ℕ → BoardState → Shown

@@ -5,10 +5,13 @@ ghost use Rattle.road_io.specs.Rooms.{Endless};
 ghost use Rattle.keeper.specs.declared.kept.KeepFault.TheVariants as keep_fault;
 ghost use Rattle.keeper.specs.Office.{Office, record_of};
 ghost use Rattle.toll_texts.specs.Replies.{Reply as ReplyValue};
+ghost use Rattle.toll_texts.specs.Lists.{days_body as body_of_days};
+ghost use Rattle.keeper.specs.declared.kept.DayRecord.{DayRecord as TheDay};
 ghost use Rattle.toll_requests.specs.declared.session_end.SessionEnd.TheVariants.{Answered, LinkFault};
 ghost use Rattle.toll_desk.specs.Answers.{AnswersReply, AnswersUnlessFailed, day_reply, spent_reply, keeper_reply};
-ghost use Rattle.toll_desk.specs.Answers.{days_reply, vehicle_reply, AnswersExactly, TellsFault};
+ghost use Rattle.toll_desk.specs.Answers.{days_reply, vehicle_reply, AnswersExactly, TellsFault, good, wire_of};
 ghost use Rattle.toll_desk.specs.Pages.{AnswersPage};
+ghost use Rattle.toll_desk.specs.Shared.{AnswersSome};
 
 use crate::kept_days::kept_days;
 use http::StatusCode;
@@ -54,7 +57,7 @@ pub fn send_keeper_fault<L: Link>(link: &mut L) -> SessionEnd
 }
 
 /// Answers that the keeper failed, or that it found no memory.
-fn send_refusal<L: Link>(fault: KeepFault, link: &mut L) -> SessionEnd
+pub(crate) fn send_refusal<L: Link>(fault: KeepFault, link: &mut L) -> SessionEnd
     ensures sent { (reply : ReplyValue) (before now : ℕ) → (fault ≡ keep_fault.Failed → Rose before now)
         → (fault ≡ keep_fault.NoMemory → now ≡ before)
         → AnswersUnlessFailed reply before now (L.room link.old) (L.written link.old) (L.written link.new) result }
@@ -72,7 +75,7 @@ fn send_refusal<L: Link>(fault: KeepFault, link: &mut L) -> SessionEnd
 }
 
 /// Answers a day, if it is kept.
-fn send_day<L: Link>(alloc: Global, kept: Option<DayRecord>, link: &mut L) -> SessionEnd
+pub(crate) fn send_day<L: Link>(alloc: Global, kept: Option<DayRecord>, link: &mut L) -> SessionEnd
     ensures sent { AnswersReply (day_reply kept) (L.room link.old) (L.written link.old) (L.written link.new) result }
     ensures unavailable { result ≢ Answered 503 }
     ensures unread { L.left link.new ≡ L.left link.old }
@@ -140,6 +143,9 @@ pub fn answer_spent<L: Link, K: Keeper>(
 pub fn answer_days<L: Link, K: Keeper>(alloc: Global, keeper: &mut K, link: &mut L) -> SessionEnd
     ensures sent { (o : Office) → K.told keeper.old ≡ Some o → AnswersUnlessFailed (days_reply o)
         (K.faults keeper.old) (K.faults keeper.new) (L.room link.old) (L.written link.old) (L.written link.new) result }
+    ensures some { AnswersSome {T = List TheDay} (λ days. good (body_of_days days))
+        (wire_of (L.left link.old) (L.plan link.old) (L.written link.old) (L.room link.old))
+        (wire_of (L.left link.new) (L.plan link.new) (L.written link.new) (L.room link.new)) result }
     ensures told { (o : Office) → K.told keeper.old ≡ Some o → K.told keeper.new ≡ Some o }
     ensures unavailable { result ≡ Answered 503 → Rose (K.faults keeper.old) (K.faults keeper.new) }
     ensures failed { K.faults keeper.old < K.faults keeper.new → TellsFault result }

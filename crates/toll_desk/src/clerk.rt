@@ -3,26 +3,36 @@ ghost use Rattle.std.specs.Prelude.{◌≡◌, ◌≤◌, Option, Some};
 ghost use Rattle.road_io.specs.Faults.{Rose};
 ghost use Rattle.toll_requests.specs.Requests.{IsAsked};
 ghost use Rattle.toll_requests.specs.declared.session_end.SessionEnd.TheVariants.{LinkFault};
+ghost use Rattle.toll_desk.specs.Answers.{wire_of};
 ghost use Rattle.toll_desk.specs.Desk.{IsOfKept};
 ghost use Rattle.toll_desk.specs.Clerks.{NonePassed, PassesRequest};
 ghost use Rattle.toll_desk.specs.declared.passed.Passed.{Passed as ThePassed};
 
-use road_io::Link;
 use std::alloc::Global;
 use toll_requests::{Asked, SessionEnd};
+use two_way::TwoWay;
 
-/// Whoever answers what is asked of what is kept. `passed` is the request that was passed, if one was, where the clerk
-/// tells that; such a clerk writes nothing.
+/// Whoever answers what is asked of what is kept. `answers` is how it answers a request, by what its link tells before
+/// and after. `passed` is the request that was passed, if one was, where the clerk tells that; such a clerk writes
+/// nothing.
 pub trait Clerk {
+    ghost use Rattle.toll_requests.specs.declared.asked.Asked.{Asked};
+    ghost use Rattle.toll_requests.specs.declared.session_end.SessionEnd.{SessionEnd};
+    ghost use Rattle.toll_desk.specs.Answers.{Wire};
     ghost use Rattle.toll_desk.specs.Clerks.{ClerkTold};
+
+    ghost answers: { Self → Asked → Wire → Wire → SessionEnd → Type 0 };
 
     ghost passed: { Self → ClerkTold };
 
     /// Answers a request over its link. A clerk that tells is to be passed one request at most.
-    fn answer<L: Link>(&mut self, alloc: Global, asked: Asked, link: &mut L) -> SessionEnd
+    fn answer<L: TwoWay>(&mut self, alloc: Global, asked: Asked, link: &mut L) -> SessionEnd
         requires asked { IsAsked asked }
         requires kept { IsOfKept asked }
         requires fresh { NonePassed (passed self.old) }
+        ensures answers { answers self.old asked
+            (wire_of (L.left link.old) (L.plan link.old) (L.written link.old) (L.room link.old))
+            (wire_of (L.left link.new) (L.plan link.new) (L.written link.new) (L.room link.new)) result }
         ensures passed { PassesRequest (passed self.old) (passed self.new) asked result }
         ensures silent { (p : Option ThePassed) → passed self.old ≡ Some p → L.written link.new ≡ L.written link.old }
         ensures cause { result ≡ LinkFault → Rose (L.faults link.old) (L.faults link.new) }

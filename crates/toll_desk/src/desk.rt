@@ -13,17 +13,18 @@ ghost use Rattle.toll_desk.specs.Desk.{AnswersKept, IsOfKept};
 
 use crate::answers::{answer_day, answer_days, answer_page, answer_spent, answer_vehicle};
 use crate::import_desk::ImportDesk;
+use crate::notices::answer_notices;
 use crate::posting::answer_import;
 use import_plan::Plan;
 use keeper::Keeper;
 use live_board::BoardWriter;
 use partition_workers::Crew;
-use road_io::Link;
 use road_time::Limits;
 use std::alloc::Global;
 use std::sync::Wait;
 use std::thread::Threads;
 use toll_requests::{Asked, SessionEnd};
+use two_way::TwoWay;
 
 /// What answers requests of what is kept: a keeper, the crew, plan and limits of imports, and the writer of the live
 /// board, which ends with it.
@@ -43,7 +44,7 @@ pub struct Desk<K: Keeper, C: Crew, R: Wait + Threads + Drop> {
 
 impl<K: Keeper, C: Crew, R: Wait + Threads + Drop> Desk<K, C, R> {
     /// Answers what is asked of what is kept. A POST is an import of its body, whose charges are published.
-    pub fn answer<L: Link>(&mut self, alloc: Global, asked: &Asked, link: &mut L) -> SessionEnd
+    pub fn answer<L: TwoWay>(&mut self, alloc: Global, asked: &Asked, link: &mut L) -> SessionEnd
         requires asked { IsAsked asked.now }
         requires kept { IsOfKept asked.now }
         ensures answers { (o : Office) → K.told self.old.keeper ≡ Some o
@@ -87,6 +88,22 @@ impl<K: Keeper, C: Crew, R: Wait + Threads + Drop> Desk<K, C, R> {
                     &mut self.keeper,
                     &mut self.crew,
                     &mut self.writer,
+                    link,
+                )
+            }
+            Asked::Answers { day, length, early } => {
+                let plan = self.plan;
+                let limits = self.limits;
+                answer_notices(
+                    &self.rt,
+                    alloc,
+                    *day,
+                    &plan,
+                    &limits,
+                    early.items(),
+                    *length,
+                    &mut self.keeper,
+                    &mut self.crew,
                     link,
                 )
             }

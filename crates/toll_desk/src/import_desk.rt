@@ -1,9 +1,7 @@
 // The part of a desk that imports.
-ghost use Rattle.std.specs.Prelude.{◌≡◌, ◌≢◌, ◌≤◌, ◌<◌, ◌+◌, ℕ, List, [], Some, None, length};
+ghost use Rattle.std.specs.Prelude.{◌≡◌, ◌≢◌, ◌≤◌, ◌+◌, ℕ, List, [], Some, None, length};
 ghost use Rattle.std.specs.Io.KnownBytes.{prepend_known};
-ghost use Rattle.road_io.specs.Faults.{Rose};
 ghost use Rattle.road_io.specs.Plans.{NeverFails};
-ghost use Rattle.road_io.specs.Rooms.{Endless};
 ghost use Rattle.road_time.specs.Fits.{IsLimits};
 ghost use Rattle.road_io.specs.Blame.{FaultsByPlan};
 ghost use Rattle.keeper.specs.Office.{Office, record_of, last_day};
@@ -13,15 +11,12 @@ ghost use Rattle.import_once.specs.declared.outcomes.AnsweredDay.{AnsweredDay};
 ghost use Rattle.import_once.specs.declared.outcomes.Outcome.TheVariants as outcomes;
 ghost use Rattle.import_once.specs.declared.outcomes.Outcome.TheVariants.{Stored, ReadFault, WriteFault, KeeperFault};
 ghost use Rattle.toll_requests.specs.Bodies.{filled};
-ghost use Rattle.toll_requests.specs.declared.session_end.SessionEnd.TheVariants.{Answered, LinkFault};
-ghost use Rattle.toll_desk.specs.Answers.{wire_of, TellsFault};
 ghost use Rattle.toll_desk.specs.declared.imported.ReadTo.TheVariants.{Open};
-ghost use Rattle.toll_desk.specs.Imports.{state_of, Imports, ImportsDay};
+ghost use Rattle.toll_desk.specs.Imports.{Imports};
 ghost use Rattle.toll_desk.specs.Reading.{IsReadTo, HasReadCause, IsStopped, HasNoneLeft};
 
 use crate::imported::Imported;
 use crate::importing::import_only;
-use crate::posting::answer_import;
 use import_plan::Plan;
 use keeper::Keeper;
 use live_board::BoardWriter;
@@ -31,19 +26,14 @@ use road_time::Limits;
 use std::alloc::Global;
 use std::sync::Wait;
 use std::thread::Threads;
-use toll_requests::SessionEnd;
 
-/// The part of a desk that imports: all of it but the keeper, which is handed in for each import.
+/// The part of a desk that imports: all of it but the keeper, the plan and the limits, which are handed in for each
+/// import.
 #[derive(Drop)]
 pub struct ImportDesk<C: Crew, R: Wait + Threads + Drop> {
     pub rt: R,
     pub crew: C,
     pub writer: BoardWriter<R>,
-    pub plan: Plan,
-    pub limits: Limits,
-    ghost some: { 1 ≤ plan.width },
-    ghost few: { plan.width ≤ 64 },
-    ghost within: { IsLimits limits },
     ghost idle: { C.out crew ≡ [] },
 }
 
@@ -53,6 +43,8 @@ impl<C: Crew, R: Wait + Threads + Drop> ImportDesk<C, R> {
     pub fn import<'b, L: Link, K: Keeper>(
         &mut self,
         alloc: Global,
+        plan: &Plan,
+        limits: &Limits,
         day: u32,
         early: &'b [u8],
         count: u64,
@@ -62,21 +54,21 @@ impl<C: Crew, R: Wait + Threads + Drop> ImportDesk<C, R> {
         requires low { 70 ≤ day }
         requires high { day ≤ 1000000 }
         requires few { length early.now ≤ count }
+        requires width { (1 ≤ plan.now.width) × (plan.now.width ≤ 64) }
+        requires within { IsLimits limits.now }
         ensures imports { (all : List ℕ) (o : Office) → prepend_known early.now (L.left link.old) ≡ Some all
-            → K.told keeper.old ≡ Some o → Imports K.refuses C.exact day self.old.limits (filled count all) o
+            → K.told keeper.old ≡ Some o → Imports K.refuses C.exact day limits.now (filled count all) o
             (K.told keeper.new) self.old.writer.posted (Some self.new.writer.posted) result.outcome }
         ensures reads { IsReadTo count (prepend_known early.now (L.left link.old)) result.early.now (L.left link.new)
             result.read }
         ensures few { (all : List ℕ) (o : Office) (left : ℕ) → prepend_known early.now (L.left link.old) ≡ Some all
             → K.told keeper.old ≡ Some o → result.read ≡ Open left
-            → count ≤ left + most_imported (record_of o day) self.old.limits }
+            → count ≤ left + most_imported (record_of o day) limits.now }
         ensures unread { (o : Office) → K.told keeper.old ≡ Some o → record_of o day ≡ None → day ≤ last_day o
             → (L.left link.new ≡ L.left link.old) × (result.read ≡ Open count) × (result.early.now ≡ early.now) }
         ensures read { result.outcome ≡ ReadFault → IsStopped result.read }
         ensures stored { (all : List ℕ) (kept : DayRecord) → prepend_known early.now (L.left link.old) ≡ Some all
             → result.outcome ≡ Stored kept → HasNoneLeft result.read }
-        ensures plan { self.new.plan ≡ self.old.plan }
-        ensures limits { self.new.limits ≡ self.old.limits }
         ensures crew { C.which self.new.crew ≡ C.which self.old.crew }
         ensures board { self.new.writer.board ≡ self.old.writer.board }
         ensures unwritten { L.written link.new ≡ L.written link.old }
@@ -89,67 +81,18 @@ impl<C: Crew, R: Wait + Threads + Drop> ImportDesk<C, R> {
         ensures keeper { FaultsByPlan (K.faults keeper.old) (K.faults keeper.new) (K.plan keeper.old)
             (result.outcome ≡ KeeperFault) }
     {
-        let plan = self.plan;
-        let limits = self.limits;
         import_only(
             &self.rt,
             alloc,
             day,
-            &plan,
-            &limits,
+            plan,
+            limits,
             early,
             count,
             link,
             keeper,
             &mut self.crew,
             &mut self.writer,
-        )
-    }
-
-    /// Imports a day of the body of a POST, publishes its charges, and answers how that ended.
-    pub fn answer<L: Link, K: Keeper>(
-        &mut self,
-        alloc: Global,
-        day: u32,
-        early: &[u8],
-        count: u64,
-        keeper: &mut K,
-        link: &mut L,
-    ) -> SessionEnd
-        requires low { 70 ≤ day }
-        requires high { day ≤ 1000000 }
-        requires few { length early.now ≤ count }
-        ensures imports { (all : List ℕ) (o : Office) → prepend_known early.now (L.left link.old) ≡ Some all
-            → K.told keeper.old ≡ Some o → ImportsDay K.refuses C.exact day self.old.limits count all o
-            (state_of (K.told keeper.old) (K.faults keeper.old) self.old.writer.posted)
-            (state_of (K.told keeper.new) (K.faults keeper.new) self.new.writer.posted)
-            (wire_of (L.left link.old) (L.plan link.old) (L.written link.old) (L.room link.old))
-            (wire_of (L.left link.new) (L.plan link.new) (L.written link.new) (L.room link.new)) result }
-        ensures plan { self.new.plan ≡ self.old.plan }
-        ensures limits { self.new.limits ≡ self.old.limits }
-        ensures crew { C.which self.new.crew ≡ C.which self.old.crew }
-        ensures board { self.new.writer.board ≡ self.old.writer.board }
-        ensures unavailable { result ≡ Answered 503 → Rose (K.faults keeper.old) (K.faults keeper.new) }
-        ensures failed { K.faults keeper.old < K.faults keeper.new → TellsFault result }
-        ensures sure { NeverFails (L.plan link.old) → L.room link.old ≡ Endless → result ≢ LinkFault }
-        ensures cause { result ≡ LinkFault → Rose (L.faults link.old) (L.faults link.new) }
-        ensures later { L.faults link.old ≤ L.faults link.new }
-        ensures keeper_later { K.faults keeper.old ≤ K.faults keeper.new }
-    {
-        let plan = self.plan;
-        let limits = self.limits;
-        answer_import(
-            &self.rt,
-            alloc,
-            day,
-            &plan,
-            &limits,
-            early,
-            count,
-            keeper,
-            &mut self.crew,
-            &mut self.writer,
-            link,
         )
     }
 }
@@ -161,8 +104,6 @@ impl<C: Crew + Drop, R: Wait + Threads + Drop> ImportDesk<C, R> {
             rt: _,
             crew: _,
             writer,
-            plan: _,
-            limits: _,
         } = self;
         writer.end();
     }

@@ -30,7 +30,7 @@ use std::thread::Threads;
 use toll_requests::{Body, Start};
 
 /// How far a body was read.
-fn read_to<L: Link, N: Start>(body: &Body<'_, '_, L, N>) -> ReadTo
+pub fn read_to<L: Link, N: Start>(body: &Body<'_, '_, L, N>) -> ReadTo
     ensures read { IsReadTo N.total N.bytes body.now.early.now (L.left body.now.link.now) result }
     ensures cause { HasReadCause N.plan N.faults (L.faults body.now.link.now) result }
     ensures stopped { 0 < body.now.faults → IsStopped result }

@@ -16,11 +16,16 @@ mod importing;
 mod kept_days;
 mod live;
 mod locked;
+mod notices;
+mod notices_shared;
 mod one_clerk;
 mod passed;
 mod posting;
 mod sessions;
+mod shared_answers;
 mod sharing;
+mod stream_ends;
+mod streaming;
 mod two_locks;
 
 pub use clerk::Clerk;

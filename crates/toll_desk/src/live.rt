@@ -114,5 +114,6 @@ pub fn live_answer<L: Link>(
         Asked::Vehicle { .. } => unreachable!(),
         Asked::Days => unreachable!(),
         Asked::Page => unreachable!(),
+        Asked::Answers { .. } => unreachable!(),
     }
 }

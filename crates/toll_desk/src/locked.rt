@@ -3,11 +3,11 @@ use crate::clerk::Clerk;
 use crate::desk::Desk;
 use keeper::Keeper;
 use partition_workers::Crew;
-use road_io::Link;
 use std::alloc::Global;
 use std::sync::{Mutex, Wait};
 use std::thread::Threads;
 use toll_requests::{Asked, SessionEnd};
+use two_way::TwoWay;
 
 /// Takes the lock of a desk for each request. It tells nothing.
 #[derive(Drop)]
@@ -19,9 +19,11 @@ pub struct Locked<'a, K: Keeper, C: Crew, R: Wait + Threads + Drop> {
 impl<'a, K: Keeper, C: Crew, R: Wait + Threads + Drop> Clerk for Locked<'a, K, C, R> {
     ghost use Rattle.std.specs.Prelude.{None};
 
+    ghost answers = { λ _ asked old new end. Unit {0} };
+
     ghost passed = { λ _. None };
 
-    fn answer<L: Link>(&mut self, alloc: Global, asked: Asked, link: &mut L) -> SessionEnd {
+    fn answer<L: TwoWay>(&mut self, alloc: Global, asked: Asked, link: &mut L) -> SessionEnd {
         self.desk.lock(&self.rt).answer(alloc, &asked, link)
     }
 }

@@ -18,11 +18,11 @@ use crate::live::live_answer;
 use keeper::Keeper;
 use live_board::BoardReader;
 use partition_workers::Crew;
-use road_io::Link;
 use std::alloc::Global;
 use std::sync::Wait;
 use std::thread::Threads;
 use toll_requests::{Asked, SessionEnd, read_asked};
+use two_way::TwoWay;
 
 /// Whether it is asked of the live board.
 pub fn is_live(asked: &Asked) -> bool
@@ -38,11 +38,12 @@ pub fn is_live(asked: &Asked) -> bool
         Asked::Vehicle { .. } => false,
         Asked::Days => false,
         Asked::Page => false,
+        Asked::Answers { .. } => false,
     }
 }
 
 /// Answers a request of what is kept, and tells the reader all that is published then.
-fn answer_and_learn<L: Link, K: Keeper, C: Crew, R: Wait + Threads + Drop>(
+fn answer_and_learn<L: TwoWay, K: Keeper, C: Crew, R: Wait + Threads + Drop>(
     alloc: Global,
     link: &mut L,
     asked: &Asked,
@@ -79,7 +80,7 @@ fn answer_and_learn<L: Link, K: Keeper, C: Crew, R: Wait + Threads + Drop>(
 
 /// Reads one request and answers it. The reader is of the board of the desk's writer, and is told what is published
 /// with each answer of what is kept.
-pub fn session<L: Link, K: Keeper, C: Crew, R: Wait + Threads + Drop>(
+pub fn session<L: TwoWay, K: Keeper, C: Crew, R: Wait + Threads + Drop>(
     alloc: Global,
     link: &mut L,
     reader: &mut BoardReader,

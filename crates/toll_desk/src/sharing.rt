@@ -10,12 +10,12 @@ use crate::clerk::Clerk;
 use crate::live::live_answer;
 use crate::sessions::is_live;
 use live_board::BoardReader;
-use road_io::Link;
 use std::alloc::Global;
 use toll_requests::{SessionEnd, read_asked};
+use two_way::TwoWay;
 
 /// Reads one request and answers it, or passes it on. It waits inside the clerk alone.
-pub fn session_shared<L: Link, H: Clerk>(
+pub fn session_shared<L: TwoWay, H: Clerk>(
     alloc: Global,
     link: &mut L,
     reader: &mut BoardReader,
@@ -23,7 +23,7 @@ pub fn session_shared<L: Link, H: Clerk>(
 ) -> SessionEnd
     requires fresh { NonePassed (H.passed clerk.old) }
     ensures shares { (bytes : List ℕ) → L.left link.old ≡ Some bytes
-        → Shares bytes (H.passed clerk.old) (H.passed clerk.new) reader.old reader.new
+        → Shares (H.answers clerk.old) bytes (H.passed clerk.old) (H.passed clerk.new) reader.old reader.new
         (wire_of (L.left link.old) (L.plan link.old) (L.written link.old) (L.room link.old))
         (wire_of (L.left link.new) (L.plan link.new) (L.written link.new) (L.room link.new)) result }
     ensures reader { reader.new.board ≡ reader.old.board }

@@ -1,33 +1,39 @@
 // A desk that many sessions share, whose keeper lies under a lock of its own.
-ghost use Rattle.std.specs.Prelude.{◌≡◌, ◌≢◌, ◌≤◌, ◌<◌, Some, false, length};
+ghost use Rattle.std.specs.Prelude.{◌≡◌, ◌≢◌, ◌≤◌, ◌<◌, false, length};
 ghost use Rattle.road_io.specs.Faults.{Rose};
 ghost use Rattle.road_io.specs.Plans.{NeverFails};
 ghost use Rattle.road_io.specs.Rooms.{Endless};
-ghost use Rattle.keeper.specs.Office.{Office};
+ghost use Rattle.road_time.specs.Fits.{IsLimits};
 ghost use Rattle.toll_requests.specs.Requests.{IsAsked};
 ghost use Rattle.toll_requests.specs.declared.session_end.SessionEnd.TheVariants.{Answered, LinkFault};
-ghost use Rattle.toll_desk.specs.Answers.{TellsFault};
-ghost use Rattle.toll_desk.specs.Desk.{AnswersRead, IsOfKept};
-ghost use Rattle.toll_desk.specs.Reading.{FitsRead, IsStopped};
+ghost use Rattle.toll_desk.specs.Answers.{TellsFault, wire_of};
+ghost use Rattle.toll_desk.specs.Desk.{IsOfKept};
+ghost use Rattle.toll_desk.specs.Reading.{Finishes, FitsRead, IsStopped};
+ghost use Rattle.toll_desk.specs.Shared.{AnswersPost, AnswersShared};
 ghost use Rattle.toll_desk.specs.declared.imported.ReadTo.TheVariants as reading;
 ghost use Rattle.import_once.specs.declared.outcomes.AnsweredDay.{AnsweredDay};
 ghost use Rattle.import_once.specs.declared.outcomes.Outcome.TheVariants as outcomes;
 ghost use Rattle.import_once.specs.declared.outcomes.Outcome.TheVariants.{ReadFault, WriteFault, KeeperFault};
 
-use crate::answers::{answer_day, answer_days, answer_page, answer_spent, answer_vehicle};
+use crate::answers::{answer_days, answer_page};
 use crate::clerk::Clerk;
 use crate::import_desk::ImportDesk;
 use crate::imported::Imported;
+use crate::notices_shared::answer_notices_shared;
 use crate::posting::finish_import;
+use crate::shared_answers::{share_day, share_spent, share_vehicle};
+use import_plan::Plan;
 use keeper::Keeper;
 use lane_loops::Turn;
 use partition_workers::Crew;
 use road_io::Link;
+use road_time::Limits;
 use shared_keeper::SharedKeeper;
 use std::alloc::Global;
 use std::sync::{Mutex, Wait};
 use std::thread::Threads;
 use toll_requests::{Asked, SessionEnd};
+use two_way::TwoWay;
 
 /// Takes the lock of the imports for a POST until its day is imported, and the lock of the keeper for one call at a
 /// time: so who asks for what is kept waits for no POST, and POSTs wait for one another's imports alone. The turn is
@@ -35,9 +41,14 @@ use toll_requests::{Asked, SessionEnd};
 #[derive(Drop)]
 pub struct TwoLocks<'a, K: Keeper, C: Crew, R: Wait + Threads + Drop, T: Turn> {
     pub rt: R,
+    pub plan: Plan,
+    pub limits: Limits,
     pub keeper: &'a Mutex<K>,
     pub imports: &'a Mutex<ImportDesk<C, R>>,
     pub turn: &'a mut T,
+    ghost some: { 1 ≤ plan.width },
+    ghost few: { plan.width ≤ 64 },
+    ghost within: { IsLimits limits },
 }
 
 /// Does what is left of a POST whose turn is over.
@@ -52,6 +63,10 @@ fn finish_after<L: Link, T: Turn>(
     requires read { imported.outcome ≡ ReadFault → IsStopped imported.read }
     requires written { imported.outcome ≢ WriteFault }
     requires kept { (day : AnsweredDay) → imported.outcome ≢ outcomes.Answered day }
+    ensures ends { Finishes imported.entry.early.now imported.entry.outcome
+        (wire_of (L.left link.old) (L.plan link.old) (L.written link.old) (L.room link.old))
+        (wire_of (L.left link.new) (L.plan link.new) (L.written link.new) (L.room link.new))
+        imported.entry.read result }
     ensures unavailable { result ≡ Answered 503 → imported.entry.outcome ≡ KeeperFault }
     ensures told { imported.entry.outcome ≡ KeeperFault → TellsFault result }
     ensures sure { imported.entry.read ≢ reading.LinkFault → NeverFails (L.plan link.old)
@@ -68,6 +83,8 @@ fn finish_after<L: Link, T: Turn>(
 fn import_shared<L: Link, K: Keeper, C: Crew, R: Wait + Threads + Drop, T: Turn>(
     rt: &R,
     alloc: Global,
+    plan: &Plan,
+    limits: &Limits,
     imports: &Mutex<ImportDesk<C, R>>,
     turn: &mut T,
     day: u32,
@@ -79,6 +96,11 @@ fn import_shared<L: Link, K: Keeper, C: Crew, R: Wait + Threads + Drop, T: Turn>
     requires low { 70 ≤ day }
     requires high { day ≤ 1000000 }
     requires few { length early.now ≤ count }
+    requires width { (1 ≤ plan.now.width) × (plan.now.width ≤ 64) }
+    requires within { IsLimits limits.now }
+    ensures posts { AnswersPost count early.now
+        (wire_of (L.left link.old) (L.plan link.old) (L.written link.old) (L.room link.old))
+        (wire_of (L.left link.new) (L.plan link.new) (L.written link.new) (L.room link.new)) result }
     ensures unavailable { result ≡ Answered 503 → Rose (K.faults keeper.old) (K.faults keeper.new) }
     ensures failed { K.faults keeper.old < K.faults keeper.new → TellsFault result }
     ensures sure { NeverFails (L.plan link.old) → L.room link.old ≡ Endless → result ≢ LinkFault }
@@ -87,43 +109,65 @@ fn import_shared<L: Link, K: Keeper, C: Crew, R: Wait + Threads + Drop, T: Turn>
 {
     let imported = imports
         .lock(rt)
-        .import(alloc, day, early, count, keeper, link);
+        .import(alloc, plan, limits, day, early, count, keeper, link);
     turn.over();
     finish_after(alloc, imported, turn, link)
 }
 
 /// Answers a request of what is kept: of a day or an amount by the keeper alone, a POST with the imports
 /// locked until its day is imported.
-fn answer_shared<L: Link, K: Keeper, C: Crew, R: Wait + Threads + Drop, T: Turn>(
+fn answer_shared<'a, L: TwoWay, K: Keeper, C: Crew, R: Wait + Threads + Drop, T: Turn>(
     rt: &R,
     alloc: Global,
+    plan: &Plan,
+    limits: &Limits,
     imports: &Mutex<ImportDesk<C, R>>,
     turn: &mut T,
     asked: &Asked,
-    keeper: &mut K,
+    keeper: &mut SharedKeeper<'a, K, R>,
     link: &mut L,
 ) -> SessionEnd
     requires asked { IsAsked asked.now }
     requires kept { IsOfKept asked.now }
-    ensures reads { (o : Office) → K.told keeper.old ≡ Some o → AnswersRead asked.now o (K.told keeper.new)
-        (K.faults keeper.old) (K.faults keeper.new) (L.room link.old) (L.written link.old) (L.written link.new) result }
-    ensures unavailable { result ≡ Answered 503 → Rose (K.faults keeper.old) (K.faults keeper.new) }
-    ensures failed { K.faults keeper.old < K.faults keeper.new → TellsFault result }
+    requires width { (1 ≤ plan.now.width) × (plan.now.width ≤ 64) }
+    requires within { IsLimits limits.now }
+    ensures shared { AnswersShared K.told K.faults asked.now
+        (wire_of (L.left link.old) (L.plan link.old) (L.written link.old) (L.room link.old))
+        (wire_of (L.left link.new) (L.plan link.new) (L.written link.new) (L.room link.new)) result }
+    ensures unavailable { result ≡ Answered 503
+        → Rose (⟦<SharedKeeper<'a, K, R> as Keeper>⟧.faults keeper.old)
+        (⟦<SharedKeeper<'a, K, R> as Keeper>⟧.faults keeper.new) }
+    ensures failed { ⟦<SharedKeeper<'a, K, R> as Keeper>⟧.faults keeper.old
+        < ⟦<SharedKeeper<'a, K, R> as Keeper>⟧.faults keeper.new
+        → TellsFault result }
     ensures sure { NeverFails (L.plan link.old) → L.room link.old ≡ Endless → result ≢ LinkFault }
     ensures cause { result ≡ LinkFault → Rose (L.faults link.old) (L.faults link.new) }
     ensures later { L.faults link.old ≤ L.faults link.new }
 {
     match asked {
-        Asked::Day(day) => answer_day(alloc, *day, keeper, link),
-        Asked::Spent { day, xway, vid } => answer_spent(alloc, *day, *xway, *vid, keeper, link),
-        Asked::Vehicle { vid, from, to } => {
-            answer_vehicle(alloc, *vid, *from, *to, keeper, link)
-        }
+        Asked::Day(day) => share_day(alloc, *day, keeper, link),
+        Asked::Spent { day, xway, vid } => share_spent(alloc, *day, *xway, *vid, keeper, link),
+        Asked::Vehicle { vid, from, to } => share_vehicle(alloc, *vid, *from, *to, keeper, link),
         Asked::Days => answer_days(alloc, keeper, link),
         Asked::Page => answer_page(alloc, link),
         Asked::Import { day, length, early } => import_shared(
             rt,
             alloc,
+            plan,
+            limits,
+            imports,
+            turn,
+            *day,
+            early.items(),
+            *length,
+            keeper,
+            link,
+        ),
+        Asked::Answers { day, length, early } => answer_notices_shared(
+            rt,
+            alloc,
+            plan,
+            limits,
             imports,
             turn,
             *day,
@@ -139,14 +183,19 @@ fn answer_shared<L: Link, K: Keeper, C: Crew, R: Wait + Threads + Drop, T: Turn>
 
 impl<'a, K: Keeper, C: Crew, R: Wait + Threads + Drop, T: Turn> Clerk for TwoLocks<'a, K, C, R, T> {
     ghost use Rattle.std.specs.Prelude.{None};
+    ghost use Rattle.toll_desk.specs.Shared.{AnswersShared};
+
+    ghost answers = { λ _ asked old new end. AnswersShared K.told K.faults asked old new end };
 
     ghost passed = { λ _. None };
 
-    fn answer<L: Link>(&mut self, alloc: Global, asked: Asked, link: &mut L) -> SessionEnd {
+    fn answer<L: TwoWay>(&mut self, alloc: Global, asked: Asked, link: &mut L) -> SessionEnd {
         let mut keeper = SharedKeeper::new(&self.rt, self.keeper);
         answer_shared(
             &self.rt,
             alloc,
+            &self.plan,
+            &self.limits,
             self.imports,
             self.turn,
             &asked,

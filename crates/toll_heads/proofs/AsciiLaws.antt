@@ -8,7 +8,7 @@ use Rattle.std.proofs.lemmas.Str.{IsUtf8-from_ascii}
 use Rattle.std.proofs.lemmas.Str.Ascii.{IsAscii-nil, IsAscii-cons}
 use Rattle.toll_heads.specs.Numbers.{number_in}
 use Rattle.toll_heads.specs.Paths.{parts_of, begins_with, path_place, day_place, live_place, spent_path}
-use Rattle.toll_heads.specs.Paths.{vehicle_path}
+use Rattle.toll_heads.specs.Paths.{vehicle_path, answers_place}
 use Rattle.toll_heads.specs.declared.place.DeskPlace.{DeskPlace}
 use Rattle.toll_heads.specs.Places.{PlacesAreAscii}
 use Rattle.toll_heads.proofs.PlaceLaws.{spent_parts, vehicle_parts, place_cases}
@@ -32,6 +32,12 @@ day_ascii : (text : List ℕ) (p : DeskPlace) (n : Option ℕ) → number_in 70 
     IsAscii text
 day_ascii text p None is e = absurd (cc e)
 day_ascii text p (Some n) is e = (number_part 70 1000000 text n is).1
+
+-- the day of some notices
+answers_ascii : (text : List ℕ) (p : DeskPlace) (n : Option ℕ) → number_in 70 1000000 text ≡ n →
+    answers_place n ≡ Some p → IsAscii text
+answers_ascii text p None is e = absurd (cc e)
+answers_ascii text p (Some n) is e = (number_part 70 1000000 text n is).1
 
 -- a vehicle
 live_ascii : (text : List ℕ) (p : DeskPlace) (n : Option ℕ) → number_in 0 2147483647 text ≡ n → live_place n ≡ Some p →
@@ -65,7 +71,7 @@ pub places_are_ascii : PlacesAreAscii
 places_are_ascii path p is = by (bytes_eq path (codes "/live")) refl (begins_with path (codes "/days/")) refl
     (begins_with path (codes "/live/")) refl (begins_with path (codes "/spent/")) refl
     (begins_with path (codes "/vehicles/")) refl (bytes_eq path (codes "/days")) refl
-    (bytes_eq path (codes "/")) refl is
+    (bytes_eq path (codes "/")) refl (begins_with path (codes "/answers/")) refl is
   where
     behind : (front : List ℕ) → begins_with path front ≡ true → list_all (λ b. nat_le b 127) front ≡ true →
         IsAscii (drop (length front) path) → IsAscii path
@@ -75,23 +81,26 @@ places_are_ascii path p is = by (bytes_eq path (codes "/live")) refl (begins_wit
     by : (u : Bool) → bytes_eq path (codes "/live") ≡ u → (v : Bool) → begins_with path (codes "/days/") ≡ v →
         (w : Bool) → begins_with path (codes "/live/") ≡ w → (x : Bool) → begins_with path (codes "/spent/") ≡ x →
         (y : Bool) → begins_with path (codes "/vehicles/") ≡ y → (z : Bool) → bytes_eq path (codes "/days") ≡ z →
-        (t : Bool) → bytes_eq path (codes "/") ≡ t → place_cases path u v w x y z t ≡ Some p
+        (t : Bool) → bytes_eq path (codes "/") ≡ t → (s : Bool) → begins_with path (codes "/answers/") ≡ s →
+        place_cases path u v w x y z t s ≡ Some p
         → IsAscii path
-    by true a v b w c x d y f z g t h e =
+    by true a v b w c x d y f z g t h s i e =
         subst IsAscii (sym (bytes_same path (codes "/live") a)) (ascii_bytes (codes "/live") refl)
-    by false a true b w c x d y f z g t h e =
+    by false a true b w c x d y f z g t h s i e =
         behind (codes "/days/") b refl (day_ascii (drop 6 path) p _ refl e)
-    by false a false b true c x d y f z g t h e =
+    by false a false b true c x d y f z g t h s i e =
         behind (codes "/live/") c refl (live_ascii (drop 6 path) p _ refl e)
-    by false a false b false c true d y f z g t h e =
+    by false a false b false c true d y f z g t h s i e =
         behind (codes "/spent/") d refl (spent_ascii (drop 7 path) p e)
-    by false a false b false c false d true f z g t h e =
+    by false a false b false c false d true f z g t h s i e =
         behind (codes "/vehicles/") f refl (vehicle_ascii (drop 10 path) p e)
-    by false a false b false c false d false f true g t h e =
+    by false a false b false c false d false f true g t h s i e =
         subst IsAscii (sym (bytes_same path (codes "/days") g)) (ascii_bytes (codes "/days") refl)
-    by false a false b false c false d false f false g true h e =
+    by false a false b false c false d false f false g true h s i e =
         subst IsAscii (sym (bytes_same path (codes "/") h)) (ascii_bytes (codes "/") refl)
-    by false a false b false c false d false f false g false h e =
+    by false a false b false c false d false f false g false h true i e =
+        behind (codes "/answers/") i refl (answers_ascii (drop 9 path) p _ refl e)
+    by false a false b false c false d false f false g false h false i e =
         absurd (cc e)
 
 -- bytes that are no text name no place

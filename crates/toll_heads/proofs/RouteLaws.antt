@@ -153,4 +153,5 @@ find_routes = (
       ∙ next_of 5 from to (256 ∷ []) q ∙ lits (47 ∷ []) ((47 ∷ 256 ∷ [], 5) ∷ []) to refl
       ∙ last_of 5 to r,
   page_found,
+  λ day p. lits (codes "/answers/") desk_rows day refl ∙ last_of 7 day p,
 )

@@ -7,6 +7,7 @@ use Rattle.httparse.specs.declared.spans.HeaderSpan.{HeaderSpan}
 use Rattle.toll_heads.specs.Fronts.{front_of, NeverHasHead, MayGoOn, IsBadHead, IsCutHead}
 use Rattle.toll_heads.specs.declared.wanted.Wanted.{Wanted}
 use Rattle.toll_heads.specs.declared.wanted.Wanted.TheVariants.{Day, Import, Spent, Live, LiveTotal, Vehicle, Days, Page}
+use Rattle.toll_heads.specs.declared.wanted.Wanted.TheVariants.{Answers}
 use Rattle.toll_heads.specs.declared.fronts.Look.{Look}
 use Rattle.toll_heads.specs.declared.fronts.Look.TheVariants.{Whole, Open, Never}
 use Rattle.toll_heads.specs.declared.fronts.Front.{Front}
@@ -22,6 +23,7 @@ IsWanted LiveTotal = Unit {0}
 IsWanted (Vehicle vid from to) = (vid ≤ 2147483647) × (1 ≤ from) × (from ≤ to) × (to ≤ 1000000)
 IsWanted Days = Unit {0}
 IsWanted Page = Unit {0}
+IsWanted (Answers day count) = (70 ≤ day) × (day ≤ 1000000) × (count ≤ 4000000000)
 
 -- what stands first in some bytes
 abbrev pub IsLook : List ℕ → List HeaderSpan → Look → Type 0

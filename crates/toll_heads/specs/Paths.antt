@@ -6,7 +6,7 @@ use Rattle.std.specs.Str.{bytes_eq}
 use Rattle.toll_heads.specs.Numbers.{number_in}
 use Rattle.toll_heads.specs.declared.place.DeskPlace.{DeskPlace}
 use Rattle.toll_heads.specs.declared.place.DeskPlace.TheVariants.{DayPlace, SpentPlace, LivePlace, TotalPlace}
-use Rattle.toll_heads.specs.declared.place.DeskPlace.TheVariants.{VehiclePlace, DaysPlace, PagePlace}
+use Rattle.toll_heads.specs.declared.place.DeskPlace.TheVariants.{VehiclePlace, DaysPlace, PagePlace, AnswersPlace}
 
 -- the parts of a text, with a byte between two
 abbrev pub parts_at : ℕ → List ℕ → List (List ℕ)
@@ -34,6 +34,11 @@ CutsAt byte text part (Some rest) = parts_at byte text ≡ part ∷ parts_at byt
 abbrev pub day_place : Option ℕ → Option DeskPlace
 day_place None = None
 day_place (Some day) = Some (DayPlace day)
+
+-- the place of the notices of a day, if its number is one
+abbrev pub answers_place : Option ℕ → Option DeskPlace
+answers_place None = None
+answers_place (Some day) = Some (AnswersPlace day)
 
 -- the place of a vehicle's account, if its number is one
 abbrev pub live_place : Option ℕ → Option DeskPlace
@@ -81,6 +86,7 @@ IsPlace TotalPlace = Unit {0}
 IsPlace (VehiclePlace vid from to) = (vid ≤ 2147483647) × (1 ≤ from) × (from ≤ to) × (to ≤ 1000000)
 IsPlace DaysPlace = Unit {0}
 IsPlace PagePlace = Unit {0}
+IsPlace (AnswersPlace day) = (70 ≤ day) × (day ≤ 1000000)
 
 -- a text begins with a front
 abbrev pub begins_with : List ℕ → List ℕ → Bool
@@ -114,7 +120,12 @@ days_at path = if bytes_eq path (codes "/days") then Some DaysPlace else None
 abbrev pub page_at : List ℕ → Option DeskPlace
 page_at path = if bytes_eq path (codes "/") then Some PagePlace else None
 
--- the place that a path names: `/live`, `/days`, `/`, or one of four fronts with numbers behind it
+-- the place of the notices of a day that a path names
+abbrev pub answers_at : List ℕ → Option DeskPlace
+answers_at path =
+    if begins_with path (codes "/answers/") then answers_place (number_in 70 1000000 (drop 9 path)) else None
+
+-- the place that a path names: `/live`, `/days`, `/`, or one of five fronts with numbers behind it
 abbrev pub path_place : List ℕ → Option DeskPlace
 path_place path =
     if bytes_eq path (codes "/live") then Some TotalPlace
@@ -124,4 +135,5 @@ path_place path =
     else if begins_with path (codes "/vehicles/") then vehicle_path (parts_of (drop 10 path))
     else if bytes_eq path (codes "/days") then Some DaysPlace
     else if bytes_eq path (codes "/") then Some PagePlace
+    else if begins_with path (codes "/answers/") then answers_place (number_in 70 1000000 (drop 9 path))
     else None

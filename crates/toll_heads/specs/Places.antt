@@ -3,12 +3,14 @@ use Rattle.std.specs.Prelude.{◌≡◌, ℕ, List, Option, Some}
 use Rattle.std.specs.Str.{IsAscii}
 use Rattle.matchit.specs.Seek.{first}
 use Rattle.toll_heads.specs.Paths.{path_place, day_at, live_at, total_at, spent_at, vehicle_at, days_at, page_at}
+use Rattle.toll_heads.specs.Paths.{answers_at}
 use Rattle.toll_heads.specs.Rows.{desk_rows, key_of}
 use Rattle.toll_heads.specs.declared.place.DeskPlace.{DeskPlace}
 use Rattle.toll_heads.specs.declared.place.DeskPlace.TheVariants.{DayPlace, SpentPlace, LivePlace, TotalPlace}
-use Rattle.toll_heads.specs.declared.place.DeskPlace.TheVariants.{VehiclePlace, DaysPlace, PagePlace}
+use Rattle.toll_heads.specs.declared.place.DeskPlace.TheVariants.{VehiclePlace, DaysPlace, PagePlace, AnswersPlace}
 use Rattle.toll_heads.specs.declared.route.Route.{Route}
 use Rattle.toll_heads.specs.declared.route.Route.TheVariants.{OfDay, OfLive, OfTotal, OfSpent, OfDays, OfVehicle, OfPage}
+use Rattle.toll_heads.specs.declared.route.Route.TheVariants.{OfAnswers}
 
 -- a place's route
 abbrev pub route_of : DeskPlace → Route
@@ -19,6 +21,7 @@ route_of (SpentPlace day xway vid) = OfSpent
 route_of (VehiclePlace vid from to) = OfVehicle
 route_of DaysPlace = OfDays
 route_of PagePlace = OfPage
+route_of (AnswersPlace day) = OfAnswers
 
 -- the place that a path of a route names
 abbrev pub place_by : Route → List ℕ → Option DeskPlace
@@ -29,6 +32,7 @@ place_by OfSpent path = spent_at path
 place_by OfVehicle path = vehicle_at path
 place_by OfDays path = days_at path
 place_by OfPage path = page_at path
+place_by OfAnswers path = answers_at path
 
 -- a path that names a place finds its route
 abbrev pub PlacesHaveRoutes : Type 0

@@ -9,9 +9,10 @@ use Rattle.toll_heads.specs.Paths.{path_of, path_place}
 use Rattle.toll_heads.specs.Origins.{is_foreign}
 use Rattle.toll_heads.specs.declared.place.DeskPlace.{DeskPlace}
 use Rattle.toll_heads.specs.declared.place.DeskPlace.TheVariants.{DayPlace, SpentPlace, LivePlace, TotalPlace}
-use Rattle.toll_heads.specs.declared.place.DeskPlace.TheVariants.{VehiclePlace, DaysPlace, PagePlace}
+use Rattle.toll_heads.specs.declared.place.DeskPlace.TheVariants.{VehiclePlace, DaysPlace, PagePlace, AnswersPlace}
 use Rattle.toll_heads.specs.declared.wanted.Wanted.{Wanted}
 use Rattle.toll_heads.specs.declared.wanted.Wanted.TheVariants.{Day, Import, Spent, Live, LiveTotal, Vehicle, Days, Page}
+use Rattle.toll_heads.specs.declared.wanted.Wanted.TheVariants.{Answers}
 use Rattle.toll_heads.specs.declared.wanted.Refusal.{Refusal}
 use Rattle.toll_heads.specs.declared.wanted.Refusal.TheVariants.{BadOrigin, NoPath, BadMethod, BadLength}
 use Rattle.toll_heads.specs.declared.wanted.Refusal.TheVariants.{LengthNeeded, TooLong}
@@ -48,6 +49,15 @@ abbrev pub import_of : ℕ → Result ℕ Refusal → Result Wanted Refusal
 import_of day (Ok n) = Ok (Import day n)
 import_of day (Err e) = Err e
 
+-- the notices of a day, where the length of its body is stated well
+abbrev pub answers_of : ℕ → Result ℕ Refusal → Result Wanted Refusal
+answers_of day (Ok n) = Ok (Answers day n)
+answers_of day (Err e) = Err e
+
+-- what only a POST asks for
+abbrev pub only_post : List ℕ → Result Wanted Refusal → Result Wanted Refusal
+only_post method wanted = if bytes_eq method (codes "POST") then wanted else Err BadMethod
+
 -- what only a GET asks for
 abbrev pub only_get : List ℕ → Wanted → Result Wanted Refusal
 only_get method wanted = if bytes_eq method (codes "GET") then Ok wanted else Err BadMethod
@@ -63,6 +73,7 @@ asked_at (Some TotalPlace) method fields = only_get method LiveTotal
 asked_at (Some (VehiclePlace vid from to)) method fields = only_get method (Vehicle vid from to)
 asked_at (Some DaysPlace) method fields = only_get method Days
 asked_at (Some PagePlace) method fields = only_get method Page
+asked_at (Some (AnswersPlace day)) method fields = only_post method (answers_of day (body_length fields))
 
 -- what a target, a method and fields ask for: nothing where a page of the web may have sent them
 abbrev pub asked_by : List ℕ → List ℕ → List (List ℕ × List ℕ) → Result Wanted Refusal

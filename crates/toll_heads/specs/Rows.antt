@@ -6,12 +6,14 @@ use Rattle.matchit.specs.Router.{RouteOf}
 use Rattle.matchit.specs.Level.{IsText}
 use Rattle.toll_heads.specs.declared.route.Route.{Route}
 use Rattle.toll_heads.specs.declared.route.Route.TheVariants.{OfDay, OfLive, OfTotal, OfSpent, OfDays, OfVehicle, OfPage}
+use Rattle.toll_heads.specs.declared.route.Route.TheVariants.{OfAnswers}
 
--- the rows of `/days/{day}`, `/days`, `/live/{vid}`, `/live`, `/spent/{day}/{xway}/{vid}`,
+-- the rows of `/answers/{day}`, `/days/{day}`, `/days`, `/live/{vid}`, `/live`, `/spent/{day}/{xway}/{vid}`,
 -- `/vehicles/{vid}/{from}/{to}` and `/`, in the router's order
 abbrev pub desk_rows : Rows
 desk_rows =
-    (codes "/days/" ++ 256 ∷ [], 0)
+    (codes "/answers/" ++ 256 ∷ [], 7)
+    ∷ (codes "/days/" ++ 256 ∷ [], 0)
     ∷ (codes "/days", 4)
     ∷ (codes "/live/" ++ 256 ∷ [], 1)
     ∷ (codes "/live", 2)
@@ -28,6 +30,7 @@ key_of OfSpent = 3
 key_of OfDays = 4
 key_of OfVehicle = 5
 key_of OfPage = 6
+key_of OfAnswers = 7
 
 -- the number of what the router keeps
 abbrev pub key_at : RouteOf Route → ℕ
@@ -51,3 +54,4 @@ FindRoutes =
     × ((vid from to : List ℕ) → IsPart vid → IsPart from → IsPart to
     → first desk_rows (codes "/vehicles/" ++ (vid ++ 47 ∷ (from ++ 47 ∷ to))) ≡ Some 5)
     × (first desk_rows (codes "/") ≡ Some 6)
+    × ((day : List ℕ) → IsPart day → first desk_rows (codes "/answers/" ++ day) ≡ Some 7)

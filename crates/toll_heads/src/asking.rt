@@ -1,10 +1,11 @@
 // What a head asks for.
-ghost use Rattle.std.specs.Prelude.{◌≡◌, IfOk, map};
+ghost use Rattle.std.specs.Prelude.{◌≡◌, ◌≤◌, IfOk, All, map, length};
 ghost use Rattle.httparse.specs.Grammar.{RequestHead};
-ghost use Rattle.httparse.specs.Spans.{IsRequestAt, IsRequestWithin, name_and_value};
+ghost use Rattle.httparse.specs.Spans.{IsRequestAt, IsRequestWithin, name_and_value, IsHeaderWithin, header_bytes};
 ghost use Rattle.toll_heads.specs.Paths.{path_of as path_of_target, path_place};
 ghost use Rattle.toll_heads.specs.Requests.{wanted_of as wanted_of_head, asked_at as asked_at_place};
-ghost use Rattle.toll_heads.specs.Requests.{only_get as only_get_of};
+ghost use Rattle.toll_heads.specs.Requests.{only_get as only_get_of, only_post as only_post_of, answers_of};
+ghost use Rattle.toll_heads.specs.Requests.{body_length as body_length_of};
 ghost use Rattle.toll_heads.specs.Asks.{IsWanted};
 
 use crate::fields::body_length;
@@ -22,6 +23,22 @@ fn only_get(method: &[u8], wanted: Wanted) -> Result<Wanted, Refusal>
 {
     if method == b"GET".as_slice() {
         Ok(wanted)
+    } else {
+        Err(Refusal::BadMethod)
+    }
+}
+
+/// What only a POST asks for: the notices of a day, whose body is as long as its fields say.
+fn only_post(method: &[u8], day: u32, buf: &[u8], fields: &[HeaderSpan]) -> Result<Wanted, Refusal>
+    requires within { All (IsHeaderWithin (length buf.now)) fields.now }
+    requires day { (70 ≤ day) × (day ≤ 1000000) }
+    ensures wanted { result ≡ only_post_of method.now (answers_of day
+        (body_length_of (map (header_bytes buf.now) fields.now))) }
+    ensures ranges { IfOk result IsWanted }
+{
+    if method == b"POST".as_slice() {
+        let length = body_length(buf, fields)?;
+        Ok(Wanted::Answers(day, length))
     } else {
         Err(Refusal::BadMethod)
     }
@@ -61,6 +78,9 @@ fn asked_at(
         }
         Some(DeskPlace::DaysPlace) => only_get(method, Wanted::Days),
         Some(DeskPlace::PagePlace) => only_get(method, Wanted::Page),
+        Some(DeskPlace::AnswersPlace(day)) => {
+            only_post(method, day, buf, &headers[..spans.headers])
+        }
     }
 }
 

@@ -5,7 +5,7 @@ ghost use Rattle.toll_heads.specs.Paths.{day_at as day_at_path, live_at as live_
 ghost use Rattle.toll_heads.specs.Paths.{total_at as total_at_path, spent_at as spent_at_path};
 ghost use Rattle.toll_heads.specs.Paths.{vehicle_place, vehicle_path};
 ghost use Rattle.toll_heads.specs.Paths.{vehicle_at as vehicle_at_path, days_at as days_at_path};
-ghost use Rattle.toll_heads.specs.Paths.{page_at as page_at_path};
+ghost use Rattle.toll_heads.specs.Paths.{page_at as page_at_path, answers_at as answers_at_path};
 
 use crate::numbers::number_in;
 use crate::place::DeskPlace;
@@ -145,6 +145,20 @@ pub(crate) fn vehicle_at(path: &[u8]) -> Option<DeskPlace>
 {
     match path.strip_prefix(b"/vehicles/") {
         Some(text) => vehicle_of_text(text),
+        None => None,
+    }
+}
+
+/// The place of the notices of a day that a path names.
+pub(crate) fn answers_at(path: &[u8]) -> Option<DeskPlace>
+    ensures place { result ≡ answers_at_path path.now }
+    ensures within { IfSome result IsPlace }
+{
+    match path.strip_prefix(b"/answers/") {
+        Some(number) => {
+            let day = number_in(70, 1_000_000, number)?;
+            Some(DeskPlace::AnswersPlace(day))
+        }
         None => None,
     }
 }

@@ -17,4 +17,6 @@ pub enum Route {
     OfDays,
     /// `/`
     OfPage,
+    /// `/answers/{day}`
+    OfAnswers,
 }

@@ -6,7 +6,7 @@ ghost use Rattle.toll_heads.specs.Rows.{desk_rows, key_of, key_at};
 ghost use Rattle.toll_heads.specs.Paths.{path_place as place_of_path, IsPlace};
 ghost use Rattle.toll_heads.specs.Places.{place_by as place_by_route};
 
-use crate::paths::{day_at, days_at, live_at, page_at, spent_at, total_at, vehicle_at};
+use crate::paths::{answers_at, day_at, days_at, live_at, page_at, spent_at, total_at, vehicle_at};
 use crate::place::DeskPlace;
 use crate::route::Route;
 use matchit::{InsertError, Router};
@@ -31,6 +31,7 @@ fn desk_router(alloc: Global) -> Result<Router<Route>, InsertError>
     router.insert("/spent/{day}/{xway}/{vid}", Route::OfSpent)?;
     router.insert("/days", Route::OfDays)?;
     router.insert("/vehicles/{vid}/{from}/{to}", Route::OfVehicle)?;
+    router.insert("/answers/{day}", Route::OfAnswers)?;
     router.insert("/", Route::OfPage)?;
     Ok(router)
 }
@@ -59,6 +60,7 @@ fn place_by(route: Route, path: &[u8]) -> Option<DeskPlace>
         Route::OfVehicle => vehicle_at(path),
         Route::OfDays => days_at(path),
         Route::OfPage => page_at(path),
+        Route::OfAnswers => answers_at(path),
     }
 }
 
@@ -78,7 +80,7 @@ fn place_in(router: &Router<Route>, path: &[u8]) -> Option<DeskPlace>
 }
 
 impl Routes {
-    /// The seven routes.
+    /// The eight routes.
     pub fn new(alloc: Global) -> Result<Routes, NoMemory> {
         match desk_router(alloc) {
             Ok(router) => Ok(Routes { router }),

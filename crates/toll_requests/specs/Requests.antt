@@ -11,6 +11,7 @@ use Rattle.toll_texts.specs.Replies.{no_memory_reply}
 use Rattle.toll_requests.specs.Sends.{SendsReply, refusal_reply}
 use Rattle.toll_requests.specs.declared.asked.Asked.{Asked}
 use Rattle.toll_requests.specs.declared.asked.Asked.TheVariants.{Day, Import, Spent, Live, LiveTotal, Vehicle, Days, Page}
+use Rattle.toll_requests.specs.declared.asked.Asked.TheVariants.{Answers}
 use Rattle.toll_requests.specs.declared.session_end.SessionEnd.{SessionEnd}
 use Rattle.toll_requests.specs.declared.session_end.SessionEnd.TheVariants.{Answered, Cut, LinkFault}
 
@@ -24,6 +25,7 @@ asked_for wanted.LiveTotal rest = LiveTotal
 asked_for (wanted.Vehicle vid from to) rest = Vehicle vid from to
 asked_for wanted.Days rest = Days
 asked_for wanted.Page rest = Page
+asked_for (wanted.Answers day count) rest = Answers day count (take count rest)
 
 -- the numbers of what is asked are in their ranges
 abbrev pub IsAsked : Asked → Type 0
@@ -35,6 +37,7 @@ IsAsked LiveTotal = Unit {0}
 IsAsked (Vehicle vid from to) = (vid ≤ 2147483647) × (1 ≤ from) × (from ≤ to) × (to ≤ 1000000)
 IsAsked Days = Unit {0}
 IsAsked Page = Unit {0}
+IsAsked (Answers day count early) = (70 ≤ day) × (day ≤ 1000000) × (count ≤ 4000000000) × (length early ≤ count)
 
 -- what is asked without the body
 abbrev pub wanted_in : Asked → Wanted
@@ -46,6 +49,7 @@ wanted_in LiveTotal = wanted.LiveTotal
 wanted_in (Vehicle vid from to) = wanted.Vehicle vid from to
 wanted_in Days = wanted.Days
 wanted_in Page = wanted.Page
+wanted_in (Answers day count early) = wanted.Answers day count
 
 -- a head stands first in a link's bytes and ends within the first 8,192; what follows it
 abbrev pub Heads : List ℕ → RequestHead → List ℕ → Type 0
@@ -62,6 +66,8 @@ HasBody LiveTotal after left = Unit {0}
 HasBody (Vehicle vid from to) after left = Unit {0}
 HasBody Days after left = Unit {0}
 HasBody Page after left = Unit {0}
+HasBody (Answers day count early) after left =
+    (more : List ℕ) × (left ≡ Some more) × (take count (early ++ more) ≡ take count after)
 
 -- why a request of these bytes is refused: its head is bad, or what its head asks for is refused
 abbrev pub IsRequestRefused : List ℕ → Refusal → Type 0

@@ -40,6 +40,11 @@ fn asked_of(alloc: Global, wanted: Wanted, rest: &[u8]) -> Result<Asked, NoMemor
         Wanted::Vehicle(vid, from, to) => Ok(Asked::Vehicle { vid, from, to }),
         Wanted::Days => Ok(Asked::Days),
         Wanted::Page => Ok(Asked::Page),
+        Wanted::Answers(day, length) => {
+            let came = length.min(rest.len() as u64) as usize;
+            let early = early_of(alloc, &rest[..came])?;
+            Ok(Asked::Answers { day, length, early })
+        }
     }
 }
 

@@ -14,10 +14,18 @@ ends_line byte = byte == 13 || byte == 10
 abbrev pub post_of_day : List ℕ
 post_of_day = 80 ∷ 79 ∷ 83 ∷ 84 ∷ 32 ∷ 47 ∷ 100 ∷ 97 ∷ 121 ∷ 115 ∷ 47 ∷ []
 
--- what was sent begins, behind empty lines, as the POST of a day
+-- "POST /answers/"
+abbrev pub post_of_answers : List ℕ
+post_of_answers = 80 ∷ 79 ∷ 83 ∷ 84 ∷ 32 ∷ 47 ∷ 97 ∷ 110 ∷ 115 ∷ 119 ∷ 101 ∷ 114 ∷ 115 ∷ 47 ∷ []
+
+-- some bytes begin as the POST of a day, to be imported or for its notices
+abbrev pub begins_post : List ℕ → Bool
+begins_post bytes = starts_with eqb bytes post_of_day || starts_with eqb bytes post_of_answers
+
+-- what was sent begins so, behind empty lines
 abbrev pub posts : List ℕ → Bool
 posts [] = false
-posts (byte ∷ bytes) = if ends_line byte then posts bytes else starts_with eqb (byte ∷ bytes) post_of_day
+posts (byte ∷ bytes) = if ends_line byte then posts bytes else begins_post (byte ∷ bytes)
 
 -- a connection may leave its seat: it is to wait no more, and posts no day where that is forbidden
 abbrev pub may_leave : Bool → Seat → Bool

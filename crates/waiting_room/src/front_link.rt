@@ -9,13 +9,14 @@ ghost use Rattle.waiting_room.specs.Fronts.{left_behind};
 
 use road_io::{Failed, Link};
 
-/// Bytes that came before, and then those of a link: the first are read first. `keep` is kept for as long. It cannot be
-/// let go but by being taken apart.
+/// Bytes that came before, and then those of a link: the first are read first. It counts the calls of its link that
+/// failed. `keep` is kept for as long. It cannot be let go but by being taken apart.
 pub struct FrontLink<L, K> {
     pub(crate) front: Vec<u8>,
     pub(crate) at: usize,
     pub(crate) link: L,
     pub(crate) keep: K,
+    pub(crate) faults: u64,
 }
 
 impl<L, K> FrontLink<L, K> {
@@ -31,6 +32,7 @@ impl<L, K> FrontLink<L, K> {
             at: 0,
             link,
             keep,
+            faults: 0,
         }
     }
 
@@ -44,6 +46,7 @@ impl<L, K> FrontLink<L, K> {
             at: _,
             link,
             keep,
+            faults: _,
         } = self;
         (link, keep)
     }
@@ -69,6 +72,7 @@ fn read_behind<L: Link>(
     front: &[u8],
     at: &mut usize,
     link: &mut L,
+    faults: &mut u64,
     buf: &mut [u8],
 ) -> Result<usize, Failed>
     requires { 0 < length buf.old }
@@ -77,14 +81,17 @@ fn read_behind<L: Link>(
         (left_behind front.now at.new (L.left link.new)) result buf.new }
     ensures unwritten { L.written link.new ≡ L.written link.old }
     ensures room_kept { L.room link.new ≡ L.room link.old }
-    ensures cause { HasCause (L.faults link.old) (L.faults link.new) result }
+    ensures cause { HasCause faults.old faults.new result }
 {
     if *at < front.len() {
         return Ok(give(front, at, buf));
     }
     match link.read(buf) {
         Ok(count) => Ok(count),
-        Err(unread) => Err(unread),
+        Err(unread) => {
+            *faults = faults.saturating_add(1);
+            Err(unread)
+        }
     }
 }
 
@@ -94,7 +101,6 @@ fn finish_behind<L: Link>(front: &[u8], at: usize, link: &mut L)
         (left_behind front.now at (L.left link.new)) }
     ensures unwritten { L.written link.new ≡ L.written link.old }
     ensures room_kept { L.room link.new ≡ L.room link.old }
-    ensures uncounted { L.faults link.new ≡ L.faults link.old }
 {
     if at < front.len() {
         return;
@@ -111,18 +117,27 @@ impl<L: Link, K> Link for FrontLink<L, K> {
 
     ghost room = { λ l. L.room l.link };
 
-    ghost faults = { λ l. L.faults l.link };
+    ghost faults = { λ l. l.faults };
 
     ghost most = { λ l. AnyPart };
 
     fn read(&mut self, buf: &mut [u8]) -> Result<usize, Failed> {
-        read_behind(self.front.as_slice(), &mut self.at, &mut self.link, buf)
+        read_behind(
+            self.front.as_slice(),
+            &mut self.at,
+            &mut self.link,
+            &mut self.faults,
+            buf,
+        )
     }
 
     fn write(&mut self, piece: &[u8]) -> Result<usize, Failed> {
         match self.link.write(piece) {
             Ok(count) => Ok(count),
-            Err(unsent) => Err(unsent),
+            Err(unsent) => {
+                self.faults = self.faults.saturating_add(1);
+                Err(unsent)
+            }
         }
     }
 

@@ -14,6 +14,7 @@ mod front;
 mod front_link;
 mod heard;
 mod hearing;
+mod lending;
 mod outside;
 mod passing;
 mod patience;
@@ -26,6 +27,7 @@ mod seating;
 mod threshold;
 
 pub use front_link::FrontLink;
+pub use lending::Handle;
 pub use room::{RoomFault, WaitingRoom};
 pub use room_link::{RoomLink, RoomTurn};
 pub use threshold::Threshold;

@@ -1,7 +1,7 @@
 // Who leaves the room first.
 ghost use Rattle.std.specs.Prelude.{◌≡◌, ◌<◌, ◌≤◌, ◌+◌, None, true, false, IfSome, length};
 ghost use Rattle.std.specs.Time.{instant_nanos};
-ghost use Rattle.waiting_room.specs.Posts.{ends_line, posts, may_leave, IsFirst, IsFirstBelow, HasNone};
+ghost use Rattle.waiting_room.specs.Posts.{ends_line, begins_post, posts, may_leave, IsFirst, IsFirstBelow, HasNone};
 ghost use Rattle.waiting_room.specs.declared.seat.Seat.{Seat as TheSeat};
 
 use crate::seat::Seat;
@@ -14,13 +14,21 @@ fn ends_line(byte: u8) -> bool
     byte == b'\r' || byte == b'\n'
 }
 
-/// Whether what was sent begins, behind empty lines, as the POST of a day. All others are answered at once.
+/// Whether some bytes begin as the POST of a day, to be imported or for its notices.
+fn begins_post(sent: &[u8]) -> bool
+    ensures { result ≡ begins_post sent.now }
+{
+    sent.starts_with(b"POST /days/") || sent.starts_with(b"POST /answers/")
+}
+
+/// Whether what was sent begins, behind empty lines, as the POST of a day, to be imported or for its notices. All
+/// others are answered at once.
 pub(crate) fn is_post(held: &[u8]) -> bool
     ensures { result ≡ posts held.now }
 {
     for at in 0..held.len() {
         if !ends_line(held[at]) {
-            return held[at..].starts_with(b"POST /days/");
+            return begins_post(&held[at..]);
         }
     }
     false

@@ -6,8 +6,10 @@ mod faults;
 mod held;
 mod in_line;
 mod listing;
+mod over_lanes;
 mod rows;
 mod sharing;
+mod streaming;
 
 use import_plan::Plan;
 use keeper::{Keeper, MemKeeper};
@@ -22,7 +24,7 @@ use std::sync::Wait;
 use std::thread::Threads;
 use toll_desk::{Desk, SessionEnd, session};
 
-const LEAVING: &[u8] =
+pub const LEAVING: &[u8] =
     b"0,60,100,30,0,1,0,10,52800,-1,-1,-1,-1,-1,-1\n0,90,100,30,0,1,0,11,58080,-1,-1,-1,-1,-1,-1\n\
         0,120,100,30,0,4,0,11,60000,-1,-1,-1,-1,-1,-1\n0,150,100,30,1,0,0,5,26400,-1,-1,-1,-1,-1,-1\n\
         2,160,100,-1,-1,-1,-1,-1,-1,9,-1,-1,-1,-1,-1\n";

@@ -9,7 +9,7 @@ use keeper::{Keeper, MemKeeper};
 use lane_loops::{Host, NoTurn};
 use live_board::{Board, BoardReader, board};
 use partition_workers::{InlineCrew, NoGate, ThreadCrew};
-use road_io::{Link, MemLink};
+use road_io::MemLink;
 use road_time::{Limits, NoMemory};
 use std::alloc::Global;
 use std::sync::Wait;
@@ -17,6 +17,7 @@ use std::sync::atomic::AtomicBool;
 use std::sync::atomic::Ordering::SeqCst;
 use std::thread;
 use std::thread::Threads;
+use two_way::TwoWay;
 
 pub const PLAN: Plan = Plan {
     width: 4,
@@ -39,7 +40,7 @@ pub struct Caller<'a, H> {
 
 impl<'a, H: Host> Caller<'a, H> {
     /// Has it serve one.
-    pub fn call<L: Link>(&mut self, alloc: Global, line: &mut L, reader: &mut BoardReader) {
+    pub fn call<L: TwoWay>(&mut self, alloc: Global, line: &mut L, reader: &mut BoardReader) {
         self.host.attend(alloc, line, &mut NoTurn, reader);
     }
 }

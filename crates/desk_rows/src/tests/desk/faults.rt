@@ -113,7 +113,7 @@ fn a_keeper_that_fails_is_told(rt: HostRuntime) -> Result<(), NoMemory> {
 }
 
 /// What is asked of what is kept, each by its first call of the keeper.
-const KEPT: [&[u8]; 4] = [
+pub const KEPT: [&[u8]; 4] = [
     b"GET /days/104 HTTP/1.1\r\n\r\n",
     b"GET /spent/104/5/177 HTTP/1.1\r\n\r\n",
     b"GET /vehicles/177/101/104 HTTP/1.1\r\n\r\n",

@@ -1,12 +1,13 @@
 // Links in memory that hold one of their calls.
-ghost use Rattle.std.specs.Prelude.{Some};
+ghost use Rattle.std.specs.Prelude.{Some, false};
 ghost use Rattle.road_io.specs.Portions.{UpTo};
 ghost use Rattle.road_io.specs.Rooms.{Bound};
 ghost use Rattle.road_io.specs.Links.{left_of, plan_of, bytes_of, room_of, most_read, link_faults};
 
-use road_io::{Failed, Link, MemLink};
+use road_io::{Failed, Link, MemLink, VoidSink};
 use std::sync::atomic::AtomicBool;
 use std::sync::atomic::Ordering::SeqCst;
+use two_way::TwoWay;
 
 /// A link in memory. After so many reads it holds the next one until a flag is raised, or until it has looked
 /// 300,000,000 times, and notes whether it saw the flag.
@@ -67,6 +68,18 @@ impl<'a> Link for HeldLink<'a> {
     }
 }
 
+impl<'a> TwoWay for HeldLink<'a> {
+    type Out = VoidSink;
+
+    ghost lends = { false };
+
+    fn outward(&mut self) -> Option<VoidSink> {
+        None
+    }
+
+    fn put_back(&mut self, _out: VoidSink) {}
+}
+
 /// A link in memory that holds its second read, or its first write, until a flag is raised, or until it has looked
 /// 300,000,000 times. It notes whether it saw the flag, and raises another one when it begins to look.
 #[derive(Drop)]
@@ -110,4 +123,16 @@ impl<'a> Link for SlowLink<'a> {
     fn finish(&mut self) {
         self.inner.finish();
     }
+}
+
+impl<'a> TwoWay for SlowLink<'a> {
+    type Out = VoidSink;
+
+    ghost lends = { false };
+
+    fn outward(&mut self) -> Option<VoidSink> {
+        None
+    }
+
+    fn put_back(&mut self, _out: VoidSink) {}
 }

@@ -31,7 +31,7 @@ const TOO_LONG: &[u8] =
         Connection: close\r\n\r\n{\"error\":\"too long\"}";
 
 /// Requests that are read, and what they ask.
-pub const ASKED: [(&[u8], Came); 34] = [
+pub const ASKED: [(&[u8], Came); 37] = [
     (b"GET /days/100 HTTP/1.1\r\n\r\n", Came::Day(100)),
     (b"GET /days/100 HTTP/1.0\n\n", Came::Day(100)),
     (b"\r\n\r\nGET /days/100 HTTP/1.1\r\n\r\n", Came::Day(100)),
@@ -110,6 +110,18 @@ pub const ASKED: [(&[u8], Came); 34] = [
         b"GET / HTTP/1.1\r\nHost: 127.0.0.1:8080\r\nConnection: keep-alive\r\n\r\n",
         Came::Page,
     ),
+    (
+        b"POST /answers/100 HTTP/1.1\r\nContent-Length: 0\r\n\r\n",
+        Came::Answers(100, 0),
+    ),
+    (
+        b"POST /answers/0000000070?late=1 HTTP/1.1\r\ncontent-length: 4000000000\r\n\r\nabc",
+        Came::Answers(70, 4000000000),
+    ),
+    (
+        b"POST /answers/1000000 HTTP/1.0\nContent-Length: 3\n\nabcd",
+        Came::Answers(1000000, 3),
+    ),
     (b"", Came::Ended(SessionEnd::Cut)),
     (b"GET", Came::Ended(SessionEnd::Cut)),
     (b"GET /days/100", Came::Ended(SessionEnd::Cut)),
@@ -161,6 +173,7 @@ pub const REFUSED: [Refused; 7] = [
             b"GET /live HTTP/1.1\r\nHost: localhost\r\norigin: http://localhost\r\n\r\n",
             b"POST /days/100 HTTP/1.1\r\nOrigin: http://x\r\nContent-Length: 0\r\n\r\n",
             b"POST /days/100 HTTP/1.1\r\nOrigin: http://x\r\nContent-Length: x\r\n\r\n",
+            b"POST /answers/100 HTTP/1.1\r\nOrigin: http://x\r\nContent-Length: 0\r\n\r\n",
         ],
     },
     Refused {
@@ -213,6 +226,11 @@ pub const REFUSED: [Refused; 7] = [
             b"GET /vehicles/100//2 HTTP/1.1\r\n\r\n",
             b"GET /vehicles/100/1/2/ HTTP/1.1\r\n\r\n",
             b"GET /vehicles/100/1/2/3 HTTP/1.1\r\n\r\n",
+            b"POST /answers HTTP/1.1\r\nContent-Length: 0\r\n\r\n",
+            b"POST /answers/ HTTP/1.1\r\nContent-Length: 0\r\n\r\n",
+            b"POST /answers/69 HTTP/1.1\r\nContent-Length: 0\r\n\r\n",
+            b"POST /answers/1000001 HTTP/1.1\r\nContent-Length: 0\r\n\r\n",
+            b"POST /answers/100/1 HTTP/1.1\r\nContent-Length: 0\r\n\r\n",
         ],
     },
     Refused {
@@ -233,6 +251,8 @@ pub const REFUSED: [Refused; 7] = [
             b"POST / HTTP/1.1\r\nContent-Length: 0\r\n\r\n",
             b"HEAD / HTTP/1.1\r\n\r\n",
             b"PUT /vehicles/100/1/2 HTTP/1.1\r\n\r\n",
+            b"GET /answers/100 HTTP/1.1\r\n\r\n",
+            b"PUT /answers/100 HTTP/1.1\r\nContent-Length: x\r\n\r\n",
         ],
     },
     Refused {
@@ -251,6 +271,7 @@ pub const REFUSED: [Refused; 7] = [
             b"POST /days/100 HTTP/1.1\r\nContent-Length: 0\r\ncontent-length: 0\r\n\r\n",
             b"POST /days/100 HTTP/1.1\r\nContent-Length: 5\r\nContent-Length: x\r\nTransfer-Encoding: chunked\r\n\r\n",
             b"POST /days/100 HTTP/1.1\r\nTransfer-Encoding: chunked\r\nContent-Length: x\r\n\r\n",
+            b"POST /answers/100 HTTP/1.1\r\nContent-Length: x\r\n\r\n",
         ],
     },
     Refused {
@@ -262,6 +283,8 @@ pub const REFUSED: [Refused; 7] = [
             b"POST /days/100 HTTP/1.1\r\nTransfer-Encoding: chunked\r\n\r\n",
             b"POST /days/100 HTTP/1.1\r\nContent-Length: 0\r\ntransfer-encoding: identity\r\n\r\n",
             b"POST /days/100 HTTP/1.1\r\nTransfer-Encoding:\r\nContent-Length: 4000000001\r\n\r\n",
+            b"POST /answers/100 HTTP/1.1\r\n\r\n",
+            b"POST /answers/100 HTTP/1.1\r\nTransfer-Encoding: chunked\r\n\r\n",
         ],
     },
     Refused {
@@ -270,6 +293,7 @@ pub const REFUSED: [Refused; 7] = [
         requests: &[
             b"POST /days/100 HTTP/1.1\r\nContent-Length: 4000000001\r\n\r\n",
             b"POST /days/100 HTTP/1.1\r\nContent-Length: 9999999999\r\n\r\n",
+            b"POST /answers/100 HTTP/1.1\r\nContent-Length: 4000000001\r\n\r\n",
         ],
     },
 ];

@@ -1,8 +1,10 @@
-use Rattle.std.proofs.Common.{◌≡◌, inl, refl, subst, arith, ◌∙◌}
+use Rattle.std.proofs.Common.{◌≡◌, List, [], inl, refl, subst, arith, ◌∙◌}
+use Rattle.keeper.specs.declared.kept.DayRecord.{DayRecord}
 use Rattle.toll_texts.specs.Lists.{days_body}
-use Rattle.toll_desk.specs.Answers.{AnswersReply, good, days_reply}
+use Rattle.toll_desk.specs.Answers.{wire_of, AnswersReply, good, days_reply}
 use Rattle.toll_desk.proofs.SendLaws.{failed_rose, not_risen}
 use Rattle.toll_desk.proofs.DayLaws.{memory_still, risen_failed}
+use Rattle.toll_desk.proofs.SharedLaws.{some_of}
 use Rattle.toll_desk.proofs.answers.answer_days.Goals as goal
 
 pub returns-in-Ok-clause-sent : goal.returns-in-Ok-clause-sent
@@ -31,3 +33,19 @@ returns-in-Ok-clause-failed g c = λ rose. not_risen _ _ (c.in-Ok.ensures.cause.
 pub returns-in-Err-clause-failed : goal.returns-in-Err-clause-failed
 returns-in-Err-clause-failed g c =
     λ rose. c.send_refusal.ensures.told (risen_failed _ _ c.in-Err.fault c.in-Err.ensures.cause rose)
+
+pub returns-in-Ok-clause-some : goal.returns-in-Ok-clause-some
+returns-in-Ok-clause-some g c =
+    (c.as_slice.result.now, inl (c.send_made.ensures.sent (days_body c.as_slice.result.now) c.days_body.ensures))
+
+pub returns-in-Err-clause-some : goal.returns-in-Err-clause-some
+returns-in-Err-clause-some g c =
+    let l = c.args.link.now in
+    let n = c.send_refusal.new.link in
+    some_of {T = List DayRecord} (λ days. good (days_body days)) [] _ _
+    (wire_of (g.L.Link.left l) (g.L.Link.plan l) (g.L.Link.written l) (g.L.Link.room l))
+    (wire_of (g.L.Link.left n) (g.L.Link.plan n) (g.L.Link.written n) (g.L.Link.room n))
+    c.send_refusal.result
+    (c.send_refusal.ensures.sent (good (days_body [])) _ _
+    (failed_rose _ _ c.in-Err.fault c.in-Err.ensures.cause)
+    (memory_still _ _ c.in-Err.fault c.in-Err.ensures.cause))

@@ -32,6 +32,7 @@ returns-else-is_live-clause-shares g c = λ bytes is.
       (wire_of (g.L.Link.left m) (g.L.Link.plan m) (g.L.Link.written m) (g.L.Link.room m)),
       (r, c.in-Ok.ensures.room_kept, c.in-Ok.ensures.still),
       c.is_live.ensures.kept c.if-is_live.false,
+      c.answer.ensures.answers,
       c.answer.ensures.passed,
       (λ t tells. c.answer.ensures.silent t tells ∙ r.5),
       refl,

@@ -1,57 +1,76 @@
-use Rattle.std.proofs.Common.{refl, sym, subst}
-use Rattle.toll_desk.specs.Desk.{AnswersRead}
+use Rattle.std.proofs.Common.{sym, subst, ap, ◌∙◌}
+use Rattle.std.specs.Io.KnownBytes.{prepend_known}
+use Rattle.toll_desk.specs.Answers.{wire_of}
+use Rattle.toll_desk.specs.Shared.{AnswersShared}
 use Rattle.toll_desk.proofs.two_locks.answer_shared.Goals as goal
 
-pub returns-in-Day-clause-reads : goal.returns-in-Day-clause-reads
-returns-in-Day-clause-reads g c = λ o told.
+pub returns-in-Day-clause-shared : goal.returns-in-Day-clause-shared
+returns-in-Day-clause-shared g c =
     let l = c.args.link.now in
-    let a = c.answer_day in
-    let k = a.new.keeper in
-    subst (λ asked. AnswersRead asked o (g.K.Keeper.told k) (g.K.Keeper.faults c.args.keeper.now)
-    (g.K.Keeper.faults k) (g.L.Link.room l) (g.L.Link.written l) (g.L.Link.written a.new.link) a.result)
-    (sym c.in-Day.is) (a.ensures.told o told, a.ensures.sent o told)
+    let a = c.share_day in
+    subst (λ asked. AnswersShared g.K.Keeper.told g.K.Keeper.faults asked
+    (wire_of (g.L.Link.left l) (g.L.Link.plan l) (g.L.Link.written l) (g.L.Link.room l))
+    (wire_of (g.L.Link.left a.new.link) (g.L.Link.plan a.new.link) (g.L.Link.written a.new.link)
+    (g.L.Link.room a.new.link)) a.result)
+    (sym c.in-Day.is) (a.ensures.shared, a.ensures.some, a.ensures.unread)
 
-pub returns-in-Spent-clause-reads : goal.returns-in-Spent-clause-reads
-returns-in-Spent-clause-reads g c = λ o told.
+pub returns-in-Spent-clause-shared : goal.returns-in-Spent-clause-shared
+returns-in-Spent-clause-shared g c =
     let l = c.args.link.now in
-    let a = c.answer_spent in
-    let k = a.new.keeper in
-    subst (λ asked. AnswersRead asked o (g.K.Keeper.told k) (g.K.Keeper.faults c.args.keeper.now)
-    (g.K.Keeper.faults k) (g.L.Link.room l) (g.L.Link.written l) (g.L.Link.written a.new.link) a.result)
-    (sym c.in-Spent.is) (a.ensures.told o told, a.ensures.sent o told)
+    let a = c.share_spent in
+    subst (λ asked. AnswersShared g.K.Keeper.told g.K.Keeper.faults asked
+    (wire_of (g.L.Link.left l) (g.L.Link.plan l) (g.L.Link.written l) (g.L.Link.room l))
+    (wire_of (g.L.Link.left a.new.link) (g.L.Link.plan a.new.link) (g.L.Link.written a.new.link)
+    (g.L.Link.room a.new.link)) a.result)
+    (sym c.in-Spent.is) (a.ensures.shared, a.ensures.some, a.ensures.unread)
 
-pub returns-in-Import-clause-reads : goal.returns-in-Import-clause-reads
-returns-in-Import-clause-reads g c = λ o told.
+pub returns-in-Vehicle-clause-shared : goal.returns-in-Vehicle-clause-shared
+returns-in-Vehicle-clause-shared g c =
     let l = c.args.link.now in
-    let a = c.import_shared in
-    let k = a.new.keeper in
-    subst (λ asked. AnswersRead asked o (g.K.Keeper.told k) (g.K.Keeper.faults c.args.keeper.now)
-    (g.K.Keeper.faults k) (g.L.Link.room l) (g.L.Link.written l) (g.L.Link.written a.new.link) a.result)
-    (sym c.in-Import.is) tt
+    let a = c.share_vehicle in
+    subst (λ asked. AnswersShared g.K.Keeper.told g.K.Keeper.faults asked
+    (wire_of (g.L.Link.left l) (g.L.Link.plan l) (g.L.Link.written l) (g.L.Link.room l))
+    (wire_of (g.L.Link.left a.new.link) (g.L.Link.plan a.new.link) (g.L.Link.written a.new.link)
+    (g.L.Link.room a.new.link)) a.result)
+    (sym c.in-Vehicle.is) (a.ensures.shared, a.ensures.some, a.ensures.unread)
 
-pub returns-in-Vehicle-clause-reads : goal.returns-in-Vehicle-clause-reads
-returns-in-Vehicle-clause-reads g c = λ o told.
-    let l = c.args.link.now in
-    let a = c.answer_vehicle in
-    let k = a.new.keeper in
-    subst (λ asked. AnswersRead asked o (g.K.Keeper.told k) (g.K.Keeper.faults c.args.keeper.now)
-    (g.K.Keeper.faults k) (g.L.Link.room l) (g.L.Link.written l) (g.L.Link.written a.new.link) a.result)
-    (sym c.in-Vehicle.is) (a.ensures.told o told, a.ensures.sent o told)
-
-pub returns-in-Days-clause-reads : goal.returns-in-Days-clause-reads
-returns-in-Days-clause-reads g c = λ o told.
+pub returns-in-Days-clause-shared : goal.returns-in-Days-clause-shared
+returns-in-Days-clause-shared g c =
     let l = c.args.link.now in
     let a = c.answer_days in
-    let k = a.new.keeper in
-    subst (λ asked. AnswersRead asked o (g.K.Keeper.told k) (g.K.Keeper.faults c.args.keeper.now)
-    (g.K.Keeper.faults k) (g.L.Link.room l) (g.L.Link.written l) (g.L.Link.written a.new.link) a.result)
-    (sym c.in-Days.is) (a.ensures.told o told, a.ensures.sent o told)
+    subst (λ asked. AnswersShared g.K.Keeper.told g.K.Keeper.faults asked
+    (wire_of (g.L.Link.left l) (g.L.Link.plan l) (g.L.Link.written l) (g.L.Link.room l))
+    (wire_of (g.L.Link.left a.new.link) (g.L.Link.plan a.new.link) (g.L.Link.written a.new.link)
+    (g.L.Link.room a.new.link)) a.result)
+    (sym c.in-Days.is) (a.ensures.some, a.ensures.unread)
 
-pub returns-in-Page-clause-reads : goal.returns-in-Page-clause-reads
-returns-in-Page-clause-reads g c = λ o told.
+pub returns-in-Page-clause-shared : goal.returns-in-Page-clause-shared
+returns-in-Page-clause-shared g c =
     let l = c.args.link.now in
     let a = c.answer_page in
-    let k = c.args.keeper.now in
-    subst (λ asked. AnswersRead asked o (g.K.Keeper.told k) (g.K.Keeper.faults k)
-    (g.K.Keeper.faults k) (g.L.Link.room l) (g.L.Link.written l) (g.L.Link.written a.new.link) a.result)
-    (sym c.in-Page.is) (told, refl, a.ensures.sent)
+    subst (λ asked. AnswersShared g.K.Keeper.told g.K.Keeper.faults asked
+    (wire_of (g.L.Link.left l) (g.L.Link.plan l) (g.L.Link.written l) (g.L.Link.room l))
+    (wire_of (g.L.Link.left a.new.link) (g.L.Link.plan a.new.link) (g.L.Link.written a.new.link)
+    (g.L.Link.room a.new.link)) a.result)
+    (sym c.in-Page.is) (a.ensures.sent, a.ensures.unread)
+
+pub returns-in-Import-clause-shared : goal.returns-in-Import-clause-shared
+returns-in-Import-clause-shared g c =
+    let l = c.args.link.now in
+    let a = c.import_shared in
+    subst (λ asked. AnswersShared g.K.Keeper.told g.K.Keeper.faults asked
+    (wire_of (g.L.Link.left l) (g.L.Link.plan l) (g.L.Link.written l) (g.L.Link.room l))
+    (wire_of (g.L.Link.left a.new.link) (g.L.Link.plan a.new.link) (g.L.Link.written a.new.link)
+    (g.L.Link.room a.new.link)) a.result)
+    (sym c.in-Import.is)
+    (λ all known. a.ensures.posts all (ap (λ e. prepend_known e (g.L.Link.left l)) c.items.ensures ∙ known))
+
+pub returns-in-Answers-clause-shared : goal.returns-in-Answers-clause-shared
+returns-in-Answers-clause-shared g c =
+    let l = c.args.link.now in
+    let a = c.answer_notices_shared in
+    subst (λ asked. AnswersShared g.K.Keeper.told g.K.Keeper.faults asked
+    (wire_of (g.L.Link.left l) (g.L.Link.plan l) (g.L.Link.written l) (g.L.Link.room l))
+    (wire_of (g.L.Link.left a.new.link) (g.L.Link.plan a.new.link) (g.L.Link.written a.new.link)
+    (g.L.Link.room a.new.link)) a.result)
+    (sym c.in-Answers.is) tt

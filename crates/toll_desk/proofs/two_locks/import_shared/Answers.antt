@@ -1,8 +1,10 @@
-use Rattle.std.proofs.Common.{◌∙◌}
+use Rattle.std.proofs.Common.{subst, ◌∙◌}
 use Rattle.std.specs.Io.KnownBytes.{prepend_known}
+use Rattle.toll_desk.specs.Answers.{wire_of}
+use Rattle.toll_desk.specs.Reading.{IsReadTo}
 use Rattle.toll_desk.proofs.SendLaws.{not_risen}
 use Rattle.toll_desk.proofs.ImportLaws.{keeper_failed}
-use Rattle.toll_desk.proofs.ReadLaws.{fits, never_failed, rose_by}
+use Rattle.toll_desk.proofs.ReadLaws.{fits, never_failed, rose_by, finishes_as, posts_as}
 use Rattle.toll_desk.proofs.two_locks.import_shared.Goals as goal
 
 pub finish_after-requires-clause-fits : goal.finish_after-requires-clause-fits
@@ -10,6 +12,25 @@ finish_after-requires-clause-fits g c =
     let i = c.import-imported in
     fits c.args.count (prepend_known c.args.early.now (g.L.Link.left c.args.link.now)) i.result.early.now
     (g.L.Link.left i.new.link) i.result.read i.ensures.reads
+
+pub returns-clause-posts : goal.returns-clause-posts
+returns-clause-posts g c = λ all known.
+    let i = c.import-imported in
+    let f = c.finish_after in
+    let l = c.args.link.now in
+    let m = i.new.link in
+    let n = f.new.link in
+    let old = wire_of (g.L.Link.left l) (g.L.Link.plan l) (g.L.Link.written l) (g.L.Link.room l) in
+    let mid = wire_of (g.L.Link.left m) (g.L.Link.plan m) (g.L.Link.written m) (g.L.Link.room m) in
+    let new = wire_of (g.L.Link.left n) (g.L.Link.plan n) (g.L.Link.written n) (g.L.Link.room n) in (
+      i.result.outcome,
+      posts_as c.args.count all old new i.result.outcome f.result (finishes_as (λ _. Unit {0}) c.args.count all old mid
+          new i.result.early.now i.result.read i.result.outcome f.result (g.L.Link.faults l) (g.L.Link.faults m)
+          (subst (λ bytes. IsReadTo c.args.count bytes i.result.early.now (g.L.Link.left m) i.result.read) known
+          i.ensures.reads)
+          i.ensures.link_cause i.ensures.unwritten i.ensures.room_kept i.ensures.link_sure i.ensures.read
+          i.ensures.unfailed (λ kept stored. i.ensures.stored all kept known stored) tt f.ensures.ends),
+    )
 
 pub returns-clause-unavailable : goal.returns-clause-unavailable
 returns-clause-unavailable g c =

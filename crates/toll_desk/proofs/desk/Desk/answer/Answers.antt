@@ -84,3 +84,21 @@ returns-in-Page-clause-answers g c = λ o told.
     (wire_of (g.L.Link.left a.new.link) (g.L.Link.plan a.new.link) (g.L.Link.written a.new.link)
     (g.L.Link.room a.new.link)) a.result)
     (sym c.in-Page.is) ((told, refl, a.ensures.unread), refl, a.ensures.sent)
+
+pub returns-in-Answers-clause-answers : goal.returns-in-Answers-clause-answers
+returns-in-Answers-clause-answers g c = λ o told.
+    let s = c.args.self.now in
+    let l = c.args.link.now in
+    let a = c.answer_notices in
+    subst (λ asked. AnswersKept g.K.Keeper.refuses g.C.Crew.exact asked s.limits o
+    (state_of (g.K.Keeper.told s.keeper) (g.K.Keeper.faults s.keeper) s.writer.posted)
+    (state_of (g.K.Keeper.told a.new.keeper) (g.K.Keeper.faults a.new.keeper) s.writer.posted)
+    (wire_of (g.L.Link.left l) (g.L.Link.plan l) (g.L.Link.written l) (g.L.Link.room l))
+    (wire_of (g.L.Link.left a.new.link) (g.L.Link.plan a.new.link) (g.L.Link.written a.new.link)
+    (g.L.Link.room a.new.link)) a.result)
+    (sym c.in-Answers.is)
+    (λ all known. (
+      a.ensures.kept ∙ told,
+      refl,
+      a.ensures.answers all o (ap (λ e. prepend_known e (g.L.Link.left l)) c.items-in-Answers.ensures ∙ known) told,
+    ))

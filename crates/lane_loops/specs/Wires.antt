@@ -1,0 +1,17 @@
+-- What a connection tells.
+use Rattle.std.specs.Prelude.{ℕ, Bool, List, Option}
+use Rattle.road_io.specs.Rooms.{Room}
+
+-- what is left to be read of a connection and which reads to come fail, what was written and how much more it takes;
+-- each where it tells that
+pub record Wire : Type 0 where
+  pub left : Option (List ℕ)
+  pub plan : Option (ℕ → Bool)
+  pub written : Option (List ℕ)
+  pub room : Room
+
+-- a connection, by what its type tells
+abbrev pub wire_by : {L : Type 0} → (L → Option (List ℕ)) → (L → Option (ℕ → Bool)) → (L → Option (List ℕ)) →
+    (L → Room) → L → Wire
+wire_by left plan written room line =
+    record { left = left line; plan = plan line; written = written line; room = room line }

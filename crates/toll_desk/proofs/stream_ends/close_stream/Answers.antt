@@ -1,0 +1,42 @@
+use Rattle.std.proofs.Common.{inl, inr, refl, sym, subst, ◌∙◌}
+use Rattle.toll_desk.specs.Answers.{TellsFault}
+use Rattle.toll_desk.specs.Streams.{WritesLast}
+use Rattle.toll_desk.proofs.StreamLaws.{ends_well, available, last_available, last_told, end_told}
+use Rattle.toll_desk.proofs.stream_ends.close_stream.Goals as goal
+
+pub returns-in-Ok-clause-closes : goal.returns-in-Ok-clause-closes
+returns-in-Ok-clause-closes g c =
+    let w = c.write_last in
+    let old = g.O.Sink.written c.args.out.now in
+    let new = g.O.Sink.written w.new.out in
+    inr (inl (subst (λ t. WritesLast t _ old new w.result) c.in-Ok.ensures
+    (subst (λ e. WritesLast _ e old new w.result) c.end_of-wanted.ensures w.ensures.sent)))
+
+pub returns-in-Err-clause-closes : goal.returns-in-Err-clause-closes
+returns-in-Err-clause-closes g c =
+    let w = c.write_last-in-Err in
+    let old = g.O.Sink.written c.args.out.now in
+    let new = g.O.Sink.written w.new.out in
+    inr (inr (subst (λ t. WritesLast t _ old new w.result) c.memory_line.ensures
+    (subst (λ e. WritesLast _ e old new w.result) c.end_of-wanted.ensures w.ensures.sent)))
+
+pub returns-in-Ok-clause-unavailable : goal.returns-in-Ok-clause-unavailable
+returns-in-Ok-clause-unavailable g c =
+    last_available _ c.end_of-wanted.result c.write_last.result _ _
+    (λ e. available c.args.outcome.now (sym c.end_of-wanted.ensures ∙ e)) c.write_last.ensures.sent
+
+pub returns-in-Err-clause-unavailable : goal.returns-in-Err-clause-unavailable
+returns-in-Err-clause-unavailable g c =
+    last_available _ c.end_of-wanted.result c.write_last-in-Err.result _ _
+    (λ e. available c.args.outcome.now (sym c.end_of-wanted.ensures ∙ e)) c.write_last-in-Err.ensures.sent
+
+pub returns-in-Ok-clause-told : goal.returns-in-Ok-clause-told
+returns-in-Ok-clause-told g c = λ failed.
+    last_told _ c.end_of-wanted.result c.write_last.result _ _
+    (subst TellsFault (sym c.end_of-wanted.ensures) (end_told c.args.outcome.now failed)) c.write_last.ensures.sent
+
+pub returns-in-Err-clause-told : goal.returns-in-Err-clause-told
+returns-in-Err-clause-told g c = λ failed.
+    last_told _ c.end_of-wanted.result c.write_last-in-Err.result _ _
+    (subst TellsFault (sym c.end_of-wanted.ensures) (end_told c.args.outcome.now failed))
+    c.write_last-in-Err.ensures.sent
