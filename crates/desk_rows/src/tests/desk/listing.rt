@@ -246,19 +246,24 @@ fn the_page_is_answered(rt: HostRuntime) -> Result<(), NoMemory> {
 }
 
 /// The record of a day of 100,000 empty lines.
-const LONG_DAY: &str = "{\"bytes\":100000,\"day\":123,\
+pub const LONG_DAY: &str = "{\"bytes\":100000,\"day\":123,\
     \"digest\":\"dfaa58d53bfd69721640839b11946d66a6feca615428c09984c93caa719b6370\",\"notices\":0,\
     \"notices_digest\":\"e3b0c44298fc1c149afbf4c8996fb92427ae41e4649b934ca495991b7852b855\",\"outcome\":\"stored\",\
     \"tariffs\":\"e3b0c44298fc1c149afbf4c8996fb92427ae41e4649b934ca495991b7852b855\",\"total\":0,\"tuples\":0}";
 
-/// A POST of 100,000 bytes in pieces of 10,000 is read to its end and stored.
-#[test]
-fn a_long_post_in_pieces_is_stored(rt: HostRuntime) -> Result<(), NoMemory> {
-    let mut lines = Vec::new(rt.alloc());
+/// A POST of day 123, which has 100,000 empty lines.
+pub fn long_post(alloc: Global) -> Result<Vec<u8>, NoMemory> {
+    let mut lines = Vec::new(alloc);
     for _ in 0..100_000u32 {
         lines.push(b'\n')?;
     }
-    let request = post_of(rt.alloc(), 123, lines.as_slice())?;
+    post_of(alloc, 123, lines.as_slice())
+}
+
+/// A POST of 100,000 bytes in pieces of 10,000 is read to its end and stored.
+#[test]
+fn a_long_post_in_pieces_is_stored(rt: HostRuntime) -> Result<(), NoMemory> {
+    let request = long_post(rt.alloc())?;
     let (end, written) = ask_new(rt, rt.alloc(), request.as_slice(), 10_000)?;
     let wanted = answer_of(rt.alloc(), "200 OK", LONG_DAY)?;
     assert_eq!(rt; end, SessionEnd::Answered(200));

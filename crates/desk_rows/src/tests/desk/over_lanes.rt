@@ -1,22 +1,42 @@
-// What is kept, asked of a desk that lanes share: of a day, an expressway and a vehicle that differ from one another,
-// and of a keeper that fails.
+// What is asked of a desk that lanes share: what is kept, of a day, an expressway and a vehicle that differ from one
+// another; what is asked of a keeper that fails; a long day; and the notices of a day that is sent.
 ghost use Rattle.std.specs.Prelude.{◌≡◌, []};
 
 use super::beside::PLAN;
 use super::faults::KEPT;
-use super::listing::{AFTER_TWO_DAYS, charged_on_five};
-use super::rows::Row;
+use super::listing::{AFTER_TWO_DAYS, LONG_DAY, charged_on_five, long_post};
+use super::streaming::{STREAMED, charged_day, is_stream, request_of};
 use super::{answer_of, charged_on_leaving};
 use desk_lanes::DeskCrew;
 use keeper::MemKeeper;
 use lane_loops::{Host, NoTurn};
 use live_board::{Board, BoardReader, board};
 use partition_workers::{InlineCrew, NoGate, ThreadCrew};
-use road_io::MemLink;
+use road_io::{MemLink, MemSink};
 use road_time::{Limits, NoMemory};
 use std::alloc::Global;
 use std::sync::Wait;
 use std::thread::Threads;
+use two_way::BothWays;
+
+/// What is asked of a new desk that lanes share, and what it is to answer.
+#[derive(Clone, Copy)]
+enum Asking<'a> {
+    /// What is kept, once two days were posted.
+    TwoDays,
+    /// This, of a keeper that fails.
+    Fault(&'a [u8]),
+    /// A day of 100,000 bytes is posted.
+    LongDay,
+    /// This over a connection in pieces, which is to have this behind the head.
+    Notices {
+        request: &'a [u8],
+        piece: usize,
+        sent: &'a [u8],
+    },
+    /// Notices, over a connection whose outward direction cannot be taken out of it.
+    NoHandle,
+}
 
 /// What a host writes on a connection of these bytes.
 fn told<H: Host>(
@@ -24,8 +44,9 @@ fn told<H: Host>(
     host: &H,
     reader: &mut BoardReader,
     request: &[u8],
+    piece: usize,
 ) -> Result<Vec<u8>, NoMemory> {
-    let mut link = MemLink::new(alloc, request, 100, 40_000, &[])?;
+    let mut link = MemLink::new(alloc, request, piece.max(1), 40_000, &[])?;
     host.attend(alloc, &mut link, &mut NoTurn, reader);
     let written = Vec::from_slice(alloc, link.bytes())?;
     Ok(written)
@@ -37,10 +58,12 @@ fn answers_two_days<H: Host>(
     host: &H,
     reader: &mut BoardReader,
 ) -> Result<bool, NoMemory> {
-    told(alloc, host, reader, charged_on_leaving(alloc)?.as_slice())?;
-    told(alloc, host, reader, charged_on_five(alloc)?.as_slice())?;
+    let first = charged_on_leaving(alloc)?;
+    told(alloc, host, reader, first.as_slice(), 100)?;
+    let second = charged_on_five(alloc)?;
+    told(alloc, host, reader, second.as_slice(), 100)?;
     for row in AFTER_TWO_DAYS {
-        let written = told(alloc, host, reader, row.request)?;
+        let written = told(alloc, host, reader, row.request, 100)?;
         let wanted = answer_of(alloc, row.status, row.body)?;
         if written.as_slice() != wanted.as_bytes() {
             return Ok(false);
@@ -49,26 +72,82 @@ fn answers_two_days<H: Host>(
     Ok(true)
 }
 
-/// Whether a host tells that its keeper fails to who asks for this.
-fn tells_fault<H: Host>(
+/// Whether a host answers a request, which comes in pieces, with this status and this body.
+fn answers_so<H: Host>(
     alloc: Global,
     host: &H,
     reader: &mut BoardReader,
     request: &[u8],
+    piece: usize,
+    status: &str,
+    body: &str,
 ) -> Result<bool, NoMemory> {
-    let written = told(alloc, host, reader, request)?;
-    let wanted = answer_of(alloc, "503 Service Unavailable", "{\"error\":\"keeper\"}")?;
+    let written = told(alloc, host, reader, request, piece)?;
+    let wanted = answer_of(alloc, status, body)?;
     Ok(written.as_slice() == wanted.as_bytes())
 }
 
-/// The same of a new desk of a crew, whose keeper fails at these calls: of two days without a request, of the request
-/// with one.
+/// Whether a host writes this behind the head of a stream on a connection whose bytes go out apart from it, and keeps
+/// no day.
+fn streams<H: Host>(
+    alloc: Global,
+    host: &H,
+    reader: &mut BoardReader,
+    request: &[u8],
+    piece: usize,
+    sent: &[u8],
+) -> Result<bool, NoMemory> {
+    let input = MemLink::new(alloc, request, piece.max(1), 0, &[])?;
+    let output = MemSink::new(alloc, 10_000, piece.max(1))?;
+    let mut link = BothWays::new(input, output);
+    host.attend(alloc, &mut link, &mut NoTurn, reader);
+    let day = b"GET /days/100 HTTP/1.1\r\n\r\n";
+    let body = "{\"error\":\"no day\"}";
+    let none = answers_so(alloc, host, reader, day, 100, "404 Not Found", body)?;
+    Ok(none && is_stream(link.bytes(), sent))
+}
+
+/// Whether a host answers what is asked as it is to be.
+fn answers<H: Host>(
+    alloc: Global,
+    host: &H,
+    reader: &mut BoardReader,
+    asking: Asking<'_>,
+) -> Result<bool, NoMemory> {
+    match asking {
+        Asking::TwoDays => answers_two_days(alloc, host, reader),
+        Asking::Fault(request) => {
+            let status = "503 Service Unavailable";
+            let body = "{\"error\":\"keeper\"}";
+            answers_so(alloc, host, reader, request, 100, status, body)
+        }
+        Asking::LongDay => {
+            let request = long_post(alloc)?;
+            let long = request.as_slice();
+            answers_so(alloc, host, reader, long, 10_000, "200 OK", LONG_DAY)
+        }
+        Asking::Notices {
+            request,
+            piece,
+            sent,
+        } => streams(alloc, host, reader, request, piece, sent),
+        Asking::NoHandle => {
+            let request = request_of(alloc, b"", 0)?;
+            let empty = request.as_slice();
+            let status = "500 Internal Server Error";
+            let body = "{\"error\":\"memory\"}";
+            answers_so(alloc, host, reader, empty, 100, status, body)
+        }
+    }
+}
+
+/// The same of a new desk of a crew, whose keeper fails at these calls.
 fn share_for<R: Threads + Wait + Drop + Copy + Send + Sync, C: DeskCrew<MemKeeper, R> + Drop>(
     rt: R,
     alloc: Global,
     crew: C,
     fails: &[u32],
-    request: Option<&[u8]>,
+    asking: Asking<'_>,
 ) -> Result<bool, NoMemory>
     requires { C.out crew ≡ [] }
 {
@@ -76,55 +155,88 @@ fn share_for<R: Threads + Wait + Drop + Copy + Send + Sync, C: DeskCrew<MemKeepe
     let Board { writer, readers } = board(rt, alloc, 1)?;
     let mut readers = readers.into_vec();
     let desk = crew.share(rt, keeper, writer, PLAN, Limits::DAY);
-    let right = match (readers.pop(), request) {
-        (Some(mut reader), None) => answers_two_days(alloc, &desk, &mut reader),
-        (Some(mut reader), Some(request)) => tells_fault(alloc, &desk, &mut reader, request),
-        (None, _) => Err(NoMemory),
+    let right = match readers.pop() {
+        Some(mut reader) => answers(alloc, &desk, &mut reader, asking),
+        None => Err(NoMemory),
     };
     C::end(desk);
     right
 }
 
-/// The same with a thread for each job.
-fn share_by_threads<R: Threads + Wait + Drop + Copy + Send + Sync>(
+/// The same of a desk that runs each job as it is started, and of one with a thread for each.
+fn share_for_both<R: Threads + Wait + Drop + Copy + Send + Sync>(
     rt: R,
     alloc: Global,
     fails: &[u32],
-    request: Option<&[u8]>,
+    asking: Asking<'_>,
 ) -> Result<bool, NoMemory> {
-    share_for(
-        rt,
-        alloc,
-        ThreadCrew::new(rt, alloc, NoGate),
-        fails,
-        request,
-    )
+    let inline = share_for(rt, alloc, InlineCrew::new(alloc, false), fails, asking)?;
+    let threads = ThreadCrew::new(rt, alloc, NoGate);
+    Ok(inline && share_for(rt, alloc, threads, fails, asking)?)
 }
 
 /// An amount is that of the day, the expressway and the vehicle that are asked for, over a desk that lanes share.
 #[test]
 fn who_asks_over_lanes_is_told_of_that_very_one(rt: HostRuntime) -> Result<(), NoMemory> {
-    let alloc = rt.alloc();
-    assert!(rt; share_for(rt, alloc, InlineCrew::new(alloc, false), &[], None)?);
-    assert!(rt; share_by_threads(rt, alloc, &[], None)?);
+    assert!(rt; share_for_both(rt, rt.alloc(), &[], Asking::TwoDays)?);
     Ok(())
 }
 
 /// Who asks for what is kept over lanes is answered with 503 where the keeper fails.
 #[test]
 fn who_asks_over_lanes_is_told_of_a_fault(rt: HostRuntime) -> Result<(), NoMemory> {
-    let alloc = rt.alloc();
     for request in KEPT {
-        assert!(rt;
-            share_for(
-                rt,
-                alloc,
-                InlineCrew::new(alloc, false),
-                &[0],
-                Some(request)
-            )?
-        );
-        assert!(rt; share_by_threads(rt, alloc, &[0], Some(request))?);
+        assert!(rt; share_for_both(rt, rt.alloc(), &[0], Asking::Fault(request))?);
     }
+    Ok(())
+}
+
+/// A POST of 100,000 bytes in pieces of 10,000 is stored over lanes too.
+#[test]
+fn a_long_post_over_lanes_is_stored(rt: HostRuntime) -> Result<(), NoMemory> {
+    assert!(rt; share_for_both(rt, rt.alloc(), &[], Asking::LongDay)?);
+    Ok(())
+}
+
+/// Whether a desk that lanes share, whose keeper fails at these calls, streams this for a request.
+fn is_streamed<R: Threads + Wait + Drop + Copy + Send + Sync>(
+    rt: R,
+    alloc: Global,
+    fails: &[u32],
+    request: &[u8],
+    sent: &[u8],
+) -> Result<bool, NoMemory> {
+    let asking = Asking::Notices {
+        request,
+        piece: 7,
+        sent,
+    };
+    share_for_both(rt, alloc, fails, asking)
+}
+
+/// The notices of a day that is sent are streamed over lanes, to the closing line.
+#[test]
+fn notices_are_streamed_over_lanes(rt: HostRuntime) -> Result<(), NoMemory> {
+    let alloc = rt.alloc();
+    for row in &STREAMED {
+        let request = request_of(alloc, row.lines, 0)?;
+        assert!(rt; is_streamed(rt, alloc, &[], request.as_slice(), row.sent)?);
+    }
+    let (lines, sent) = charged_day(alloc)?;
+    let request = request_of(alloc, lines.as_slice(), 0)?;
+    assert!(rt; is_streamed(rt, alloc, &[], request.as_slice(), sent.as_slice())?);
+    Ok(())
+}
+
+/// Over lanes too a body that is cut and a keeper that fails are told behind the head; and where there is no second
+/// handle of a connection, want of memory is answered.
+#[test]
+fn a_stream_over_lanes_tells_its_faults(rt: HostRuntime) -> Result<(), NoMemory> {
+    let alloc = rt.alloc();
+    let cut = request_of(alloc, b"\n\n\n", 2)?;
+    assert!(rt; is_streamed(rt, alloc, &[], cut.as_slice(), b"# read fault\n")?);
+    let empty = request_of(alloc, b"", 0)?;
+    assert!(rt; is_streamed(rt, alloc, &[0], empty.as_slice(), b"# keeper fault\n")?);
+    assert!(rt; share_for_both(rt, alloc, &[], Asking::NoHandle)?);
     Ok(())
 }

@@ -17,12 +17,12 @@ const HEAD: &[u8] = b"HTTP/1.1 200 OK\r\nContent-Type: text/plain\r\nConnection:
 
 /// The lines of a body, and what is sent behind the head.
 #[derive(Clone, Copy)]
-struct Streamed {
-    lines: &'static [u8],
-    sent: &'static [u8],
+pub struct Streamed {
+    pub lines: &'static [u8],
+    pub sent: &'static [u8],
 }
 
-const STREAMED: [Streamed; 4] = [
+pub const STREAMED: [Streamed; 4] = [
     Streamed {
         lines: b"",
         sent: b"# answered day 100 tuples 0 notices 0\n",
@@ -51,7 +51,7 @@ struct Seen {
 }
 
 /// A request for the notices of day 100, whose body is as long as it says, or as many bytes shorter.
-fn request_of(alloc: Global, lines: &[u8], missing: usize) -> Result<Vec<u8>, NoMemory> {
+pub fn request_of(alloc: Global, lines: &[u8], missing: usize) -> Result<Vec<u8>, NoMemory> {
     let count = lines.len().saturating_add(missing);
     let head = format!(in alloc; "POST /answers/100 HTTP/1.1\r\nContent-Length: {count}\r\n\r\n")?;
     let mut request = Vec::from_slice(alloc, head.as_bytes())?;
@@ -102,14 +102,16 @@ fn stream_anew<R: Wait + Threads + Drop + Copy>(
     seen
 }
 
-/// Whether a session ended so, sent this behind the head, and kept nothing.
-fn is_seen(seen: &Seen, end: SessionEnd, sent: &[u8]) -> bool {
-    let all = seen.sent.as_slice();
-    seen.end == end
-        && !seen.kept
-        && all.len() == HEAD.len().saturating_add(sent.len())
+/// Whether all that was sent is the head, and this behind it.
+pub fn is_stream(all: &[u8], sent: &[u8]) -> bool {
+    all.len() == HEAD.len().saturating_add(sent.len())
         && all.starts_with(HEAD)
         && all.ends_with(sent)
+}
+
+/// Whether a session ended so, sent this behind the head, and kept nothing.
+fn is_seen(seen: &Seen, end: SessionEnd, sent: &[u8]) -> bool {
+    seen.end == end && !seen.kept && is_stream(seen.sent.as_slice(), sent)
 }
 
 /// Notices are sent behind the head, and a closing line behind them, in whatever pieces bytes come and go.
@@ -126,7 +128,7 @@ fn notices_are_streamed(rt: HostRuntime) -> Result<(), NoMemory> {
 }
 
 /// The lines of the day on which vehicle 100 is charged as it leaves a crowded stretch, and its notices.
-fn charged_day(alloc: Global) -> Result<(Vec<u8>, Vec<u8>), NoMemory> {
+pub fn charged_day(alloc: Global) -> Result<(Vec<u8>, Vec<u8>), NoMemory> {
     let mut lines = Vec::new(alloc);
     let mut sent = Vec::new(alloc);
     for v in 1..52u32 {
