@@ -76,7 +76,7 @@ fn close_stream<O: Sink>(alloc: Global, day: u32, outcome: &Outcome, out: &mut O
         → result ≡ LinkFault → Rose before (O.faults out.new) }
     ensures sure { O.room out.old ≡ Endless → outcome.now ≢ WriteFault → result ≢ LinkFault }
 {
-    if matches!(*outcome, Outcome::WriteFault) {
+    if let Outcome::WriteFault = *outcome {
         return SessionEnd::LinkFault;
     }
     let wanted = end_of(outcome);

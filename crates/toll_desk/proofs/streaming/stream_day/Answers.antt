@@ -55,3 +55,6 @@ pub returns-in-Ok-clause-sink_cause : goal.returns-in-Ok-clause-sink_cause
 returns-in-Ok-clause-sink_cause g c = λ is.
     let r = c.settle.ensures.sink.cause is in
     omega (arith, r, c.in-Ok.ensures.cause.later)
+
+pub returns-in-Err-clause-sink_endless : goal.returns-in-Err-clause-sink_endless
+returns-in-Err-clause-sink_endless g c = λ endless. absurd (endless_takes _ _ _ endless c.in-Err.ensures.full)
