@@ -14,10 +14,11 @@ use Rattle.clap.specs.Faults.{walk_fault, settle_fault, defaults_fault, check_fa
 use Rattle.office_words.specs.Grammar.{Form, Text, Said, WordLook, ending, alone, joined, refused, plain, look, says}
 use Rattle.office_words.specs.Grammar.{spoken}
 use Rattle.office_words.specs.App.{app_of_forms, shape_of_form, office_top, unless, found_in}
-use Rattle.office_words.specs.Laws.{row_said, rows_said, AllText, FindsWhatIsSpoken}
+use Rattle.office_words.specs.Laws.{rows_said, AllText, FindsWhatIsSpoken}
 use Rattle.office_words.specs.Table.{forms}
 use Rattle.office_words.proofs.Leaf.{as_place, made, leaf, built_form, built_is, ComesAt, Shows, shows}
 use Rattle.office_words.proofs.Values.{walk_finds}
+use Rattle.office_words.proofs.WalkEnds.{result}
 
 abbrev Ready : Form → Type 0
 Ready f = ComesAt (made f) 1 f.places
@@ -122,8 +123,8 @@ module _ (fs : List Form) where
       (stopped_passes whole_app.top names (walk_from nothing_held) f.name [] words)
 
   inner : (f : Form) (words : List Text) (k : Kinds) (r : List Row) (o : Option Said) →
-      unless k (Some r) ≡ option_map (map row_said) o
-      → unless (or_else k []) (Some (f.name, r)) ≡ option_map rows_said (option_map (λ said. (f.name, said)) o)
+      unless k (Some r) ≡ result f.flags o
+      → unless (or_else k []) (Some (f.name, r)) ≡ option_map rows_said (option_map (λ said. (f, said)) o)
   inner f words [] r (Some said) e = ap (option_map (λ (x : List Row). (f.name, x))) e
   inner f words [] r None e = ap (option_map (λ (x : List Row). (f.name, x))) e
   inner f words (k ∷ ks) r (Some said) e = ap (option_map (λ (x : List Row). (f.name, x))) e

@@ -1,5 +1,6 @@
 pub mod Leaf
 pub mod Looks
+pub mod FlagRows
 pub mod WalkEnds
 pub mod Turns
 pub mod Values

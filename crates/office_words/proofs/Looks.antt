@@ -6,7 +6,7 @@ use Rattle.std.proofs.lemmas.Bool.{eqb-true}
 use Rattle.std.proofs.lemmas.Slice.Eq.{bytes_eq-Decides}
 use Rattle.office_words.specs.Grammar.{Text, Said, WordLook, long_look, look_after_two, look_after_one, is_equals}
 use Rattle.office_words.specs.Grammar.{ending, alone, joined, refused, plain, look, contains, is_said, Form, says, give}
-use Rattle.office_words.specs.Grammar.{words_placed}
+use Rattle.office_words.specs.Grammar.{stands, words_placed}
 
 -- how a word of this look is written
 abbrev pub Written : WordLook → Text → Type 0
@@ -82,6 +82,30 @@ plainly (o ∷ os) n all has = go (bytes_eq o n) refl (plainly os n all.1)
     go true e rest = subst Plainly ((bytes_eq-Decides o n).0 e) all.0
     go false e rest = rest (rw e at has)
 
+-- a name that is among some is among them and others
+pub contains_both : (os fs : List Text) (n : Text) → contains (os ++ fs) n ≡ (contains os n || contains fs n)
+contains_both [] fs n = refl
+contains_both (o ∷ os) fs n = go (bytes_eq o n) (contains_both os fs n)
+  where
+    go : (b : Bool) → contains (os ++ fs) n ≡ (contains os n || contains fs n) →
+        (b || contains (os ++ fs) n) ≡ ((b || contains os n) || contains fs n)
+    go true e = refl
+    go false e = e
+
+-- an option of the form is read as it is written
+pub plain_option : (f : Form) (n : Text) → AllPlainly (f.options ++ f.flags) → contains f.options n ≡ true → Plainly n
+plain_option f n all has =
+    plainly (f.options ++ f.flags) n all (rw (contains_both f.options f.flags n, has) refl)
+
+-- and so is a flag
+pub plain_flag : (f : Form) (n : Text) → AllPlainly (f.options ++ f.flags) → contains f.flags n ≡ true → Plainly n
+plain_flag f n all has =
+    plainly (f.options ++ f.flags) n all (rw (contains_both f.options f.flags n, has) (go (contains f.options n)))
+  where
+    go : (b : Bool) → (b || true) ≡ true
+    go true = refl
+    go false = refl
+
 -- what is said with a name more
 pub is_said_more : (m n v : Text) (said : Said) → is_said m (said ++ (n, v) ∷ []) ≡ (is_said m said || bytes_eq n m)
 is_said_more m n v [] = go (bytes_eq n m)
@@ -112,7 +136,9 @@ all_from (p ∷ ps) test h =
 abbrev pub by_look : Form → Text → List Text → List Text → Said → WordLook → Option Said
 by_look f word words left said l = elim l [
   | ending ↦ words_placed f left said words
-  | alone name ↦ if contains f.options name then says f left (Some name) said words else None
+  | alone name ↦ if contains f.options name then says f left (Some name) said words
+      else (if contains f.flags name
+      then option_and_then (λ now. says f left None now words) (give name stands said) else None)
   | joined name value ↦ if contains f.options name
       then option_and_then (λ now. says f left None now words) (give name value said) else None
   | refused ↦ None

@@ -6,9 +6,9 @@ use Rattle.std.specs.Option.{unwrap_or}
 use Rattle.std.proofs.lemmas.Option.{none-some}
 use Rattle.std.proofs.lemmas.Slice.Eq.{bytes_eq-Decides}
 use Rattle.office_words.specs.Grammar.{Form, Text, Said, WordLook, ending, alone, joined, refused, plain, look}
-use Rattle.office_words.specs.Grammar.{contains, is_said, give, whole, words_placed, says}
-use Rattle.office_words.specs.Spelling.{Item, in_place, apart, joint, AllFit, words_of, said_in, places_filled}
-use Rattle.office_words.specs.Spelling.{HasFreshNames, Spells}
+use Rattle.office_words.specs.Grammar.{contains, is_said, give, says, stands, whole, words_placed}
+use Rattle.office_words.specs.Spelling.{Item, in_place, apart, joint, flagged, AllFit, words_of, said_in}
+use Rattle.office_words.specs.Spelling.{places_filled, HasFreshNames, Spells}
 use Rattle.office_words.proofs.Looks.{Written, written, is_said_more, by_look, by_value}
 use Rattle.office_words.proofs.Spelling.{Open}
 
@@ -34,18 +34,32 @@ module _ (f : Form) where
       let k = both_false (bytes_eq q n) (contains left n) new in
       (o.0, rw (is_said_more q n v said, o.1) (apart_back q n k.0), o.2, o.3, still_open left said n v k.1 o.4)
 
-  -- an option is no place to come
-  option_new : (left : List Text) (said : Said) (n : Text) → contains f.options n ≡ true → Open f left said →
-      contains left n ≡ false
-  option_new [] said n has o = refl
-  option_new (q ∷ left) said n has o = go (bytes_eq q n) refl (option_new left said n has o.4)
+  -- an option or flag is no place to come
+  named_new : (left : List Text) (said : Said) (n : Text) → (contains f.options n || contains f.flags n) ≡ true →
+      Open f left said → contains left n ≡ false
+  named_new [] said n has o = refl
+  named_new (q ∷ left) said n has o = go (bytes_eq q n) refl (named_new left said n has o.4)
     where
       go : (b : Bool) → bytes_eq q n ≡ b → contains left n ≡ false → (b || contains left n) ≡ false
       go true e rest =
-          let same : contains f.options q ≡ true =
-          subst (λ x. contains f.options x ≡ true) (sym ((bytes_eq-Decides q n).0 e)) has in
+          let same : (contains f.options q || contains f.flags q) ≡ true =
+          subst (λ x. (contains f.options x || contains f.flags x) ≡ true) (sym ((bytes_eq-Decides q n).0 e)) has in
           absurd (true≢false (sym same ∙ o.3))
       go false e rest = rest
+
+  -- an option is no place to come
+  option_new : (left : List Text) (said : Said) (n : Text) → contains f.options n ≡ true → Open f left said →
+      contains left n ≡ false
+  option_new left said n has o = named_new left said n (rw has refl) o
+
+  -- nor is a flag
+  flag_new : (left : List Text) (said : Said) (n : Text) → contains f.flags n ≡ true → Open f left said →
+      contains left n ≡ false
+  flag_new left said n has o = named_new left said n (rw has (go (contains f.options n))) o
+    where
+      go : (b : Bool) → (b || true) ≡ true
+      go true = refl
+      go false = refl
 
   -- a name that is given was not said
   given : (n v : Text) (said out : Said) (F : Said → Option Said) → option_and_then F (give n v said) ≡ Some out →
@@ -147,7 +161,23 @@ module _ (f : Form) where
                 p.5,
                 (r.4, p.6),
               )
-          has_it false has = absurd (none-some out (rw has at h))
+          has_it false has = stands_so (contains f.flags n) refl
+            where
+              stands_so : (b : Bool) → contains f.flags n ≡ b → Parts left said (word ∷ words) out
+              stands_so true flag =
+                  let g = given n stands said out (λ now. says f left None now words) (rw (has, flag) at h) in
+                  let p = fn left (said ++ (n, stands) ∷ []) out
+                  (still_open left said n stands (flag_new left said n flag o) o) g.1 in (
+                    flagged n ∷ p.0,
+                    p.1,
+                    (λ i. w i ∷ p.2 i),
+                    p.3
+                        ∙ append_assoc said ((n, stands) ∷ []) (said_in p.0 p.1),
+                    ((has, flag), p.4),
+                    p.5,
+                    (g.0, p.6),
+                  )
+              stands_so false flag = absurd (none-some out (rw (has, flag) at h))
       go (joined n v) is w h = has_it (contains f.options n) refl
         where
           has_it : (b : Bool) → contains f.options n ≡ b → Parts left said (word ∷ words) out

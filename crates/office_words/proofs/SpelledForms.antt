@@ -4,15 +4,15 @@ use Rattle.std.proofs.Common.{None, bytes_eq, codes, find, ◌↔◌}
 use Rattle.std.specs.Option.{unwrap_or}
 use Rattle.std.proofs.lemmas.Option.{none-some}
 use Rattle.office_words.specs.Grammar.{Form, Text, Said, look, says, spoken}
-use Rattle.office_words.specs.Table.{forms, audits, runs, sizes}
+use Rattle.office_words.specs.Table.{forms, audits, audit_flags, runs, sizes}
 use Rattle.office_words.specs.Spelling.{Spells, IsSpelled}
 use Rattle.office_words.proofs.Looks.{AllPlainly}
 use Rattle.office_words.proofs.Spelling.{Open, read_back}
 use Rattle.office_words.proofs.SpelledBack.{spelled_back}
 
--- a form's options are read as they are written, and its places and options have names of their own
+-- a form's options and flags are read as they are written, and its places have names of their own
 abbrev Sound : Form → Type 0
-Sound f = AllPlainly f.options × Open f f.places []
+Sound f = AllPlainly (f.options ++ f.flags) × Open f f.places []
 
 abbrev AllSound : List Form → Type 0
 AllSound [] = Unit {0}
@@ -38,9 +38,10 @@ sizes_plain : AllPlainly sizes
 unfolding look
 sizes_plain = ((refl, λ v. refl), ((refl, λ v. refl), ((refl, λ v. refl), ((refl, λ v. refl), tt))))
 
-audits_plain : AllPlainly audits
+audits_plain : AllPlainly (audits ++ audit_flags)
 unfolding look
-audits_plain = ((refl, λ v. refl), ((refl, λ v. refl), ((refl, λ v. refl), ((refl, λ v. refl), tt))))
+audits_plain =
+    ((refl, λ v. refl), ((refl, λ v. refl), ((refl, λ v. refl), ((refl, λ v. refl), ((refl, λ v. refl), tt)))))
 
 late_plain : AllPlainly (codes "late" ∷ [])
 unfolding look
@@ -107,35 +108,33 @@ all_sound = (
   ),
 )
 
-pub is_spelled : (words : List Text) (name : Text) (said : Said) →
-    spoken forms words ≡ Some (name, said) ↔ IsSpelled forms words name said
-is_spelled words name said = (to words, from)
+pub is_spelled : (words : List Text) (form : Form) (said : Said) →
+    spoken forms words ≡ Some (form, said) ↔ IsSpelled forms words form said
+is_spelled words form said = (to words, from)
   where
-    to : (ws : List Text) → spoken forms ws ≡ Some (name, said) → IsSpelled forms ws name said
+    to : (ws : List Text) → spoken forms ws ≡ Some (form, said) → IsSpelled forms ws form said
     to [] e = absurd (none-some _ e)
     to (word ∷ rest) e = named (find (λ f. bytes_eq f.name word) forms) refl
       where
-        named : (o : Option Form) → find (λ f. bytes_eq f.name word) forms ≡ o → IsSpelled forms (word ∷ rest) name said
+        named : (o : Option Form) → find (λ f. bytes_eq f.name word) forms ≡ o → IsSpelled forms (word ∷ rest) form said
         named None i = absurd (none-some _ (rw i at e))
         named (Some f) i = spoken_so (says f f.places None [] rest) refl
           where
-            spoken_so : (o : Option Said) → says f f.places None [] rest ≡ o → IsSpelled forms (word ∷ rest) name said
+            spoken_so : (o : Option Said) → says f f.places None [] rest ≡ o → IsSpelled forms (word ∷ rest) form said
             spoken_so None j = absurd (none-some _ (rw (i, j) at e))
             spoken_so (Some s) j =
-                let same : Some (f.name, s) ≡ Some (name, said) = rw (i, j) at e in
-                let pair_is : (f.name, s) ≡ (name, said) = ap (λ x. unwrap_or x (f.name, s)) same in
+                let same : Some (f, s) ≡ Some (form, said) = rw (i, j) at e in
+                let pair_is : (f, s) ≡ (form, said) = ap (λ x. unwrap_or x (f, s)) same in
                 record {
-                  form = f;
                   first = word;
                   rest = rest;
                   words_are = refl;
-                  named = i;
-                  name_is = sym (ap (λ p. p.0) pair_is);
-                  spells = subst (Spells f rest) (ap (λ p. p.1) pair_is)
+                  named = i ∙ ap (λ p. Some p.0) pair_is;
+                  spells = subst (λ p. Spells p.0 rest p.1) pair_is
                       (spelled_back f rest s (sound_found forms word f all_sound i).1 j);
                 }
 
-    from : IsSpelled forms words name said → spoken forms words ≡ Some (name, said)
+    from : IsSpelled forms words form said → spoken forms words ≡ Some (form, said)
     from s =
-        let back = read_back s.form (sound_found forms s.first s.form all_sound s.named).0 s.rest said s.spells in
-        ap (spoken forms) s.words_are ∙ rw (s.named, back) (ap (λ n. Some (n, said)) (sym s.name_is))
+        let back = read_back form (sound_found forms s.first form all_sound s.named).0 s.rest said s.spells in
+        ap (spoken forms) s.words_are ∙ rw (s.named, back) refl

@@ -1,18 +1,19 @@
 -- Words that are spelled so are read so: the grammar as a function gives what the grammar as a relation says.
 use Rattle.std.proofs.Common.{◌≡◌, ◌∙◌, ◌||◌, Bool, true, false, refl, sym, ap, subst, List, [], ◌∷◌, ◌++◌, map, Option}
 use Rattle.std.proofs.Common.{Some, None, bytes_eq, append-nil, append_assoc}
-use Rattle.office_words.specs.Grammar.{Form, Text, Said, look, contains, is_said, whole, words_placed, says}
-use Rattle.office_words.specs.Spelling.{Item, in_place, apart, joint, AllFit, words_of, said_in, places_filled}
-use Rattle.office_words.specs.Spelling.{HasFreshNames, Spells}
-use Rattle.office_words.proofs.Looks.{plainly, is_said_more, all_from, AllPlainly, by_look, by_value}
+use Rattle.office_words.specs.Grammar.{Form, Text, Said, look, contains, is_said, says, stands, whole, words_placed}
+use Rattle.office_words.specs.Spelling.{Item, in_place, apart, joint, flagged, AllFit, words_of, said_in}
+use Rattle.office_words.specs.Spelling.{places_filled, HasFreshNames, Spells}
+use Rattle.office_words.proofs.Looks.{by_look, by_value}
+use Rattle.office_words.proofs.Looks.{plain_option, plain_flag, is_said_more, all_from, AllPlainly}
 
--- the places to come are the form's, are apart from one another and from the options, and none is said
+-- the places to come are the form's, are apart from one another, the options and the flags, and none is said
 abbrev pub Open : Form → List Text → Said → Type 0
 Open f [] said = Unit {0}
 Open f (p ∷ left) said = (contains f.places p ≡ true) × (is_said p said ≡ false) × (contains left p ≡ false)
-    × (contains f.options p ≡ false) × Open f left said
+    × ((contains f.options p || contains f.flags p) ≡ false) × Open f left said
 
-module _ (f : Form) (named : AllPlainly f.options) where
+module _ (f : Form) (named : AllPlainly (f.options ++ f.flags)) where
   -- each place is said or is to come
   abbrev Covers : List Text → Said → Type 0
   Covers left said = (n : Text) → contains f.places n ≡ true → (is_said n said || contains left n) ≡ true
@@ -66,15 +67,21 @@ module _ (f : Form) (named : AllPlainly f.options) where
       ∙ ap (λ s. Some s) (append_assoc said ((n, w) ∷ []) (said_in items rest)))
   to_says (apart n v ∷ items) rest said fit fresh covers =
       ap (by_look f (45 ∷ 45 ∷ n) (v ∷ words_of items rest) (places_filled items rest) said)
-      (plainly f.options n named fit.0.0).0
+      (plain_option f n named fit.0.0).0
       ∙ rw fit.0.0 (ap (by_value f v (words_of items rest) (places_filled items rest) n said) fit.0.1
       ∙ rw fresh.0 (to_says items rest (said ++ (n, v) ∷ []) fit.1 fresh.1 (covers_option n v _ said covers)
       ∙ ap (λ s. Some s) (append_assoc said ((n, v) ∷ []) (said_in items rest))))
   to_says (joint n v ∷ items) rest said fit fresh covers =
       ap (by_look f (45 ∷ 45 ∷ (n ++ 61 ∷ v)) (words_of items rest) (places_filled items rest) said)
-      ((plainly f.options n named fit.0).1 v)
+      ((plain_option f n named fit.0).1 v)
       ∙ rw (fit.0, fresh.0) (to_says items rest (said ++ (n, v) ∷ []) fit.1 fresh.1 (covers_option n v _ said covers)
       ∙ ap (λ s. Some s) (append_assoc said ((n, v) ∷ []) (said_in items rest)))
+  to_says (flagged n ∷ items) rest said fit fresh covers =
+      ap (by_look f (45 ∷ 45 ∷ n) (words_of items rest) (places_filled items rest) said)
+      (plain_flag f n named fit.0.1).0
+      ∙ rw (fit.0.0, fit.0.1, fresh.0)
+      (to_says items rest (said ++ (n, stands) ∷ []) fit.1 fresh.1 (covers_option n stands _ said covers)
+      ∙ ap (λ s. Some s) (append_assoc said ((n, stands) ∷ []) (said_in items rest)))
 
   -- words that are spelled so are read so
   pub read_back : (words : List Text) (said : Said) → Spells f words said → says f f.places None [] words ≡ Some said

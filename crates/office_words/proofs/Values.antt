@@ -1,5 +1,5 @@
 -- A subcommand's walk where the value of an option is awaited, and the whole walk.
-use Rattle.std.proofs.Common.{◌≡◌, ◌∙◌, ℕ, Bool, true, false, refl, List, [], ◌∷◌, map, Some, None, option_map}
+use Rattle.std.proofs.Common.{◌≡◌, ◌∙◌, ℕ, Bool, true, false, refl, List, [], ◌∷◌, Some, None}
 use Rattle.std.proofs.Common.{option_and_then}
 use Rattle.std.proofs.Math.Bool.{and-false}
 use Rattle.office_words.specs.App.{unless}
@@ -9,7 +9,7 @@ use Rattle.clap.specs.declared.error.kind.ErrorKind.TheVariants.{InvalidValue}
 use Rattle.clap.specs.Faults.{walk_fault, turn_fault, settle_fault, flags_fault}
 use Rattle.office_words.specs.Grammar.{Form, Text, Said, WordLook, ending, alone, joined, refused, plain, look}
 use Rattle.office_words.specs.Grammar.{contains, give, says}
-use Rattle.office_words.specs.Laws.{row_said, AllText}
+use Rattle.office_words.specs.Laws.{AllText}
 use Rattle.office_words.proofs.Leaf.{place_made, made, leaf, no_short, long_is, Knows, as_place, as_option}
 use Rattle.office_words.proofs.Leaf.{knows_option, ComesAt, Shows, shows}
 use Rattle.office_words.proofs.WalkEnds.{rows, hold, at, step, outcome, result, at_end, gives}
@@ -40,53 +40,59 @@ module _ (f : Form) where
       Says f words → Knows (made f) n → ComesAt (made f) i left
       → (l : WordLook) → Shows l word →
       outcome (leaf f) (at (rows said) (Some (n, [])) (option n) i false) (word ∷ words)
-      ≡ result (by_value f word words left n said l)
+      ≡ result f.flags (by_value f word words left n said l)
   unfolding walked flags_fault
   value_next word words said n left i text next k comes ending shown =
       step (leaf f) (at (rows said) (Some (n, [])) (option n) i false) word words
       ∙ rw shown (cut_off words n (rows said) left i k comes)
-  value_next word words said n left i text next k comes (alone x) shown = go (contains f.options x) refl
+  value_next word words said n left i text next k comes (alone x) shown =
+      go (contains f.options x) (contains f.flags x) refl refl
     where
-      go : (b : Bool) → contains f.options x ≡ b →
+      go : (b d : Bool) → contains f.options x ≡ b → contains f.flags x ≡ d →
           outcome (leaf f) (at (rows said) (Some (n, [])) (option n) i false) (word ∷ words) ≡ None
-      go true e = step (leaf f) (at (rows said) (Some (n, [])) (option n) i false) word words
-          ∙ rw (shown.0, shown.1, long_is 1 f.places f.options x, e, stuck n (rows said) k) refl
-      go false e = step (leaf f) (at (rows said) (Some (n, [])) (option n) i false) word words
-          ∙ rw (shown.0, shown.1, long_is 1 f.places f.options x, e) refl
-  value_next word words said n left i text next k comes (joined x v) shown = go (contains f.options x) refl
+      go true d e h = step (leaf f) (at (rows said) (Some (n, [])) (option n) i false) word words
+          ∙ rw (shown.0, shown.1, long_is 1 f.places f.options f.flags x, e, stuck n (rows said) k) refl
+      go false true e h = step (leaf f) (at (rows said) (Some (n, [])) (option n) i false) word words
+          ∙ rw (shown.0, shown.1, long_is 1 f.places f.options f.flags x, e, h, stuck n (rows said) k) refl
+      go false false e h = step (leaf f) (at (rows said) (Some (n, [])) (option n) i false) word words
+          ∙ rw (shown.0, shown.1, long_is 1 f.places f.options f.flags x, e, h) refl
+  value_next word words said n left i text next k comes (joined x v) shown =
+      go (contains f.options x) (contains f.flags x) refl refl
     where
-      go : (b : Bool) → contains f.options x ≡ b →
+      go : (b d : Bool) → contains f.options x ≡ b → contains f.flags x ≡ d →
           outcome (leaf f) (at (rows said) (Some (n, [])) (option n) i false) (word ∷ words) ≡ None
-      go true e = step (leaf f) (at (rows said) (Some (n, [])) (option n) i false) word words
-          ∙ rw (shown.0, shown.1, long_is 1 f.places f.options x, e, stuck n (rows said) k) refl
-      go false e = step (leaf f) (at (rows said) (Some (n, [])) (option n) i false) word words
-          ∙ rw (shown.0, shown.1, long_is 1 f.places f.options x, e) refl
+      go true d e h = step (leaf f) (at (rows said) (Some (n, [])) (option n) i false) word words
+          ∙ rw (shown.0, shown.1, long_is 1 f.places f.options f.flags x, e, stuck n (rows said) k) refl
+      go false true e h = step (leaf f) (at (rows said) (Some (n, [])) (option n) i false) word words
+          ∙ rw (shown.0, shown.1, long_is 1 f.places f.options f.flags x, e, h) refl
+      go false false e h = step (leaf f) (at (rows said) (Some (n, [])) (option n) i false) word words
+          ∙ rw (shown.0, shown.1, long_is 1 f.places f.options f.flags x, e, h) refl
   value_next word words said n left i text next k comes refused shown =
       step (leaf f) (at (rows said) (Some (n, [])) (option n) i false) word words
-      ∙ rw (shown.0, shown.1, shown.4, shown.6, no_short 1 f.places f.options shown.5) refl
+      ∙ rw (shown.0, shown.1, shown.4, shown.6, no_short 1 f.places f.options f.flags shown.5) refl
   value_next word words said n left i text next k comes plain shown =
       step (leaf f) (at (rows said) (Some (n, [])) (option n) i false) word words
       ∙ by k (next text (rows said) (Some (n, word ∷ [])) (give n word said) left i
       (gives f n word (rows said) said refl k) comes)
     where
-      by : Knows (made f) n → outcome (leaf f) (at (rows said) (Some (n, word ∷ [])) idle i false) words ≡ result
+      by : Knows (made f) n → outcome (leaf f) (at (rows said) (Some (n, word ∷ [])) idle i false) words ≡ result f.flags
           (option_and_then (λ now. says f left None now words) (give n word said))
           → unless (turn_fault (leaf f) [] (at (rows said) (Some (n, [])) (option n) i false) word)
           (outcome (leaf f) (walked (made f) [] (at (rows said) (Some (n, [])) (option n) i false) word) words)
-          ≡ result (option_and_then (λ now. says f left None now words) (give n word said))
+          ≡ result f.flags (option_and_then (λ now. says f left None now words) (give n word said))
       by (as_place j found) rest = rw (shown.0, shown.1, shown.2, found, (bytes_eq-Decides n n).1 refl) rest
       by (as_option found) rest = rw (shown.0, shown.1, shown.2, found, (bytes_eq-Decides n n).1 refl) rest
 
   -- a word more where a value is awaited
   waits_step : (word : Text) (words : List Text) → Says f words → Waits f (word ∷ words)
   waits_step word words next text said n left i has comes =
-      value_next word words said n left i text.1 next (knows_option 1 f.places f.options n has) comes (look word)
+      value_next word words said n left i text.1 next (knows_option 1 f.places f.options f.flags n has) comes (look word)
       (shows word text.0)
 
   -- no word where a value is awaited
   waits_end : Waits f []
   unfolding walk_fault
-  waits_end text said n left i has comes = rw (stuck n (rows said) (knows_option 1 f.places f.options n has)) refl
+  waits_end text said n left i has comes = rw (stuck n (rows said) (knows_option 1 f.places f.options f.flags n has)) refl
 
   -- the walk finds what the words say
   all_said : (words : List Text) → Says f words × Waits f words
@@ -97,5 +103,5 @@ module _ (f : Form) where
 
   -- the walk over a subcommand's words finds what the grammar says
   pub walk_finds : (words : List Text) → AllText words → ComesAt (made f) 1 f.places →
-      outcome (leaf f) (walk_from nothing_held) words ≡ option_map (map row_said) (says f f.places None [] words)
+      outcome (leaf f) (walk_from nothing_held) words ≡ result f.flags (says f f.places None [] words)
   walk_finds words text comes = (all_said words).0 text [] None (Some []) f.places 1 (refl, refl) comes

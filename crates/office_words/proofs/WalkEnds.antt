@@ -20,9 +20,10 @@ use Rattle.clap.specs.Simple.{Shape}
 use Rattle.clap.specs.Takes.{is_given}
 use Rattle.clap.specs.Faults.{walk_fault, turn_fault, settle_fault, defaults_fault, check_fault, use_fault}
 use Rattle.office_words.specs.Grammar.{Form, Text, Said, is_said, give, whole}
-use Rattle.office_words.specs.Laws.{row_said}
-use Rattle.office_words.proofs.Leaf.{place_made, option_made, places_made, options_made, made, leaf, Knows, as_place}
-use Rattle.office_words.proofs.Leaf.{as_option}
+use Rattle.office_words.specs.Laws.{row_said, row_unsaid, with_flags}
+use Rattle.office_words.proofs.FlagRows.{no_row, given_still, flag_row}
+use Rattle.office_words.proofs.Leaf.{place_made, option_made, flag_made, places_made, named_made, flags_made, made, leaf, Knows}
+use Rattle.office_words.proofs.Leaf.{as_place, as_option}
 
 -- the rows of what was said
 abbrev pub rows : Said → List Row
@@ -82,21 +83,28 @@ either true x = refl
 either false x = refl
 
 -- there is no fault of a default
-no_defaults : (i : ℕ) (places options : List Text) (r : List Row) →
-    defaults_fault r (places_made i places (options_made options)) ≡ []
+no_defaults : (i : ℕ) (places options flags : List Text) (r : List Row) →
+    defaults_fault r (places_made i places (named_made options flags)) ≡ []
 unfolding defaults_fault
-no_defaults i [] [] r = refl
-no_defaults i [] (o ∷ os) r = rw (or-true (has_row o r)) (no_defaults i [] os (with_default r (option_made o)))
-no_defaults i (p ∷ ps) os r =
-    rw (or-true (has_row p r)) (no_defaults (min (i + 1) usize_max) ps os (with_default r (place_made i p)))
+no_defaults i (p ∷ ps) os fs r =
+    rw (or-true (has_row p r)) (no_defaults (min (i + 1) usize_max) ps os fs (with_default r (place_made i p)))
+no_defaults i [] (o ∷ os) fs r =
+    rw (or-true (has_row o r)) (no_defaults i [] os fs (with_default r (option_made o)))
+no_defaults i [] [] (n ∷ fs) r =
+    let none : Kinds = [] in
+    rw (either (has_row n r || false) none) (no_defaults i [] [] fs (with_default r (flag_made n)))
+no_defaults i [] [] [] r = refl
 
--- no default adds a row
-no_more : (i : ℕ) (places options : List Text) (r : List Row) →
-    fold with_default r (places_made i places (options_made options)) ≡ r
-no_more i [] [] r = refl
-no_more i [] (o ∷ os) r = ap (λ x. fold with_default x (options_made os)) (either (has_row o r) r) ∙ no_more i [] os r
-no_more i (p ∷ ps) os r = ap (λ x. fold with_default x (places_made (min (i + 1) usize_max) ps (options_made os)))
-    (either (has_row p r) r) ∙ no_more (min (i + 1) usize_max) ps os r
+-- only flags that have no row get one by default
+flags_only : (i : ℕ) (places options flags : List Text) (r : List Row) →
+    fold with_default r (places_made i places (named_made options flags)) ≡ with_flags flags r
+flags_only i (p ∷ ps) os fs r = ap (λ x. fold with_default x (places_made (min (i + 1) usize_max) ps (named_made os fs)))
+    (either (has_row p r) r) ∙ flags_only (min (i + 1) usize_max) ps os fs r
+flags_only i [] (o ∷ os) fs r = ap (λ x. fold with_default x (named_made os fs)) (either (has_row o r) r)
+    ∙ flags_only i [] os fs r
+flags_only i [] [] (n ∷ fs) r = ap (λ x. fold with_default x (flags_made fs)) (flag_row n r)
+    ∙ flags_only i [] [] fs (cond (has_row n r) r (r ++ row_unsaid n ∷ []))
+flags_only i [] [] [] r = refl
 
 -- a row is given where its name is said
 given_is : (n : Text) (said : Said) → is_given n (rows said) ≡ is_said n said
@@ -109,18 +117,25 @@ given_is n (p ∷ said) = go (bytes_eq p.0 n) (given_is n said)
     go true e = refl
     go false e = e
 
+-- with the rows of the flags that are not said, a name is given where it is said
+given_by : (flags : List Text) (said : Said) (n : Text) → is_given n (with_flags flags (rows said)) ≡ is_said n said
+given_by flags said n = given_still flags n (rows said) ∙ given_is n said
+
 -- a place that lacks its word, or one that is wanted
-wants : (i : ℕ) (places options : List Text) (said : Said)
-    → list_any (λ a. a.required && not (is_given a.id (rows said))) (places_made i places (options_made options))
+wants : (i : ℕ) (places options flags : List Text) (said : Said) (r : List Row)
+    → ((n : Text) → is_given n r ≡ is_said n said)
+    → list_any (λ a. a.required && not (is_given a.id r)) (places_made i places (named_made options flags))
     ≡ not (list_all (λ place. is_said place said) places)
-wants i [] [] said = refl
-wants i [] (o ∷ os) said = wants i [] os said
-wants i (p ∷ ps) os said = rw (given_is p said) (go (is_said p said) (wants (min (i + 1) usize_max) ps os said))
+wants i [] [] [] said r same = refl
+wants i [] [] (n ∷ fs) said r same = wants i [] [] fs said r same
+wants i [] (o ∷ os) fs said r same = wants i [] os fs said r same
+wants i (p ∷ ps) os fs said r same =
+    rw (same p) (go (is_said p said) (wants (min (i + 1) usize_max) ps os fs said r same))
   where
-    go : (b : Bool) → list_any (λ a. a.required && not (is_given a.id (rows said)))
-        (places_made (min (i + 1) usize_max) ps (options_made os)) ≡ not (list_all (λ place. is_said place said) ps)
-        → (not b || list_any (λ a. a.required && not (is_given a.id (rows said)))
-        (places_made (min (i + 1) usize_max) ps (options_made os)))
+    go : (b : Bool) → list_any (λ a. a.required && not (is_given a.id r))
+        (places_made (min (i + 1) usize_max) ps (named_made os fs)) ≡ not (list_all (λ place. is_said place said) ps)
+        → (not b || list_any (λ a. a.required && not (is_given a.id r))
+        (places_made (min (i + 1) usize_max) ps (named_made os fs)))
         ≡ not (b && list_all (λ place. is_said place said) ps)
     go true e = e
     go false e = refl
@@ -130,21 +145,10 @@ pub has_row_is : (n : Text) (said : Said) → has_row n (rows said) ≡ is_said 
 has_row_is n [] = refl
 has_row_is n (p ∷ said) = ap (λ b. bytes_eq p.0 n || b) (has_row_is n said)
 
--- no row has the name
+-- no row has the name that was not said
 absent : (n : Text) (change : Row → List Row) (missing : List Row) (said : Said) → is_said n said ≡ false →
     at_row n change missing (rows said) ≡ rows said ++ missing
-absent n change missing [] lacks = refl
-absent n change missing (p ∷ said) lacks = go (bytes_eq p.0 n) refl (absent n change missing said)
-  where
-    go : (b : Bool) → bytes_eq p.0 n ≡ b →
-        (is_said n said ≡ false → at_row n change missing (rows said) ≡ rows said ++ missing)
-        → at_row n change missing (rows (p ∷ said)) ≡ rows (p ∷ said) ++ missing
-    go true e rest =
-        let bad : true ≡ false = rw e at lacks in
-        absurd (true≢false bad)
-    go false e rest =
-        let none : is_said n said ≡ false = rw e at lacks in
-        rw e (ap (λ r. row_said p ∷ r) (rest none))
+absent n change missing said without_it = no_row n change missing (rows said) (has_row_is n said ∙ without_it)
 
 -- the rows with one more
 abbrev pub set_row : Text → Text → List Row → List Row
@@ -153,14 +157,14 @@ set_row n v r = with_values n AsWritten CommandLine (v ∷ []) (without n r)
 -- a name that was not said has one row more
 pub one_more : (n v : Text) (said : Said) → is_said n said ≡ false →
     set_row n v (rows said) ≡ rows (said ++ (n, v) ∷ [])
-one_more n v said lacks =
-    ap (with_values n AsWritten CommandLine (v ∷ [])) (absent n (λ _. []) [] said lacks ∙ append-nil (rows said))
-    ∙ absent n (more_values CommandLine (v ∷ [])) (row_said (n, v) ∷ []) said lacks
+one_more n v said new =
+    ap (with_values n AsWritten CommandLine (v ∷ [])) (absent n (λ _. []) [] said new ∙ append-nil (rows said))
+    ∙ absent n (more_values CommandLine (v ∷ [])) (row_said (n, v) ∷ []) said new
     ∙ sym (map-append row_said said ((n, v) ∷ []))
 
--- the rows of what was said, if anything was
-abbrev pub result : Option Said → Option (List Row)
-result = option_map rows
+-- the rows of what was said, if anything was, and behind them those of the flags that were not
+abbrev pub result : List Text → Option Said → Option (List Row)
+result flags = option_map (λ said. with_flags flags (rows said))
 
 -- a name that has a row is given twice
 abbrev pub repeats : Text → List Row → Kinds
@@ -175,19 +179,20 @@ module _ (f : Form) where
   -- the end of a walk comes to what was said, if all places are
   pub at_end : (r : List Row) (p : Pending) (o : Option Said) (waiting : Waiting) (i : ℕ) (trailing : Bool) →
       Settles r p o
-      → outcome (leaf f) (at r p waiting i trailing) [] ≡ result (option_and_then (whole f) o)
+      → outcome (leaf f) (at r p waiting i trailing) [] ≡ result f.flags (option_and_then (whole f) o)
   unfolding walk_fault
   at_end r p None waiting i trailing s = rw s.2 refl
   at_end r p (Some said) waiting i trailing s =
       rw (
         s.0,
         s.1,
-        no_defaults 1 f.places f.options (rows said),
-        no_more 1 f.places f.options (rows said),
-        wants 1 f.places f.options said,
+        no_defaults 1 f.places f.options f.flags (rows said),
+        flags_only 1 f.places f.options f.flags (rows said),
+        wants 1 f.places f.options f.flags said (with_flags f.flags (rows said)) (given_by f.flags said),
       ) (go (list_all (λ place. is_said place said) f.places))
     where
-      go : (b : Bool) → unless (check_kinds false false (not b)) (Some (rows said)) ≡ result (cond b (Some said) None)
+      go : (b : Bool) → unless (check_kinds false false (not b)) (Some (with_flags f.flags (rows said)))
+          ≡ result f.flags (cond b (Some said) None)
       go true = refl
       go false = refl
 
@@ -203,15 +208,15 @@ module _ (f : Form) where
         where
           go : (b : Bool) → is_said n said ≡ b → Settles (rows said) (Some (n, v ∷ [])) (give n v said)
           go true has = rw has (ArgumentConflict, [], rw (found, fault, has_row_is n said, has) refl)
-          go false lacks =
-              rw lacks (rw (found, fault, has_row_is n said, lacks) refl, rw (found, takes) (one_more n v said lacks))
+          go false new =
+              rw new (rw (found, fault, has_row_is n said, new) refl, rw (found, takes) (one_more n v said new))
 
       by : Knows (made f) n → Settles (rows said) (Some (n, v ∷ [])) (give n v said)
       by (as_place i found) = from (place_made i n) found refl refl
       by (as_option found) = from (option_made n) found refl refl
 
   -- nothing comes of what fails
-  pub none_said : (o : Option Said) → None ≡ result (option_and_then (λ said. None) o)
+  pub none_said : (o : Option Said) → None ≡ result f.flags (option_and_then (λ said. None) o)
   none_said None = refl
   none_said (Some said) = refl
 
@@ -219,10 +224,10 @@ module _ (f : Form) where
   pub to_place : (r : List Row) (p : Pending) (o : Option Said) (place word : Text) (i : ℕ) (trailing : Bool)
       (words : List Text) (F : Said → Option Said) → Settles r p o → Knows (made f) place
       → ((x : List Row) (q : Pending) (y : Option Said) → Settles x q y →
-      outcome (leaf f) (at x q idle i trailing) words ≡ result (option_and_then F y))
+      outcome (leaf f) (at x q idle i trailing) words ≡ result f.flags (option_and_then F y))
       → unless (settle_fault (made f) false (hold r p))
       (outcome (leaf f) (at (settled_rows (made f) p r) (Some (place, word ∷ [])) idle i trailing) words)
-      ≡ result (option_and_then (λ said. option_and_then F (give place word said)) o)
+      ≡ result f.flags (option_and_then (λ said. option_and_then F (give place word said)) o)
   to_place r p None place word i trailing words F s k next = rw s.2 refl
   to_place r p (Some said) place word i trailing words F s k next =
       rw s.0 (next _ _ (give place word said) (gives place word _ said s.1 k))

@@ -4,20 +4,26 @@ use Rattle.clap.specs.Walk.{Row, Rule}
 use Rattle.clap.specs.Simple.{App, Shape, new_rule, new_shape, with_subcommand, subcommand_of}
 use Rattle.clap.specs.Kinds.{Kinds}
 use Rattle.clap.specs.Faults.{fault_of}
-use Rattle.clap.specs.declared.builder.action.ArgAction.TheVariants.{Set}
+use Rattle.clap.specs.declared.builder.action.ArgAction.TheVariants.{Set, SetTrue}
 use Rattle.office_words.specs.Grammar.{Form, Text}
 
 -- an option, by its name
 abbrev pub option_rule : Text → Rule
 option_rule id = record (new_rule id) { long = Some id; action = Some Set }
 
+-- a flag, by its name
+abbrev pub flag_rule : Text → Rule
+flag_rule id = record (new_rule id) { long = Some id; action = Some SetTrue }
+
 -- a word in place, by what it stands for
 abbrev pub place_rule : Text → Rule
 place_rule id = record (new_rule id) { required = true; action = Some Set }
 
--- a subcommand: its places and then its options
+-- a subcommand: its places, then its options and then its flags
 abbrev pub shape_of_form : Form → Shape
-shape_of_form f = record (new_shape f.name) { rules = map place_rule f.places ++ map option_rule f.options }
+shape_of_form f = record (new_shape f.name) {
+  rules = map place_rule f.places ++ (map option_rule f.options ++ map flag_rule f.flags);
+}
 
 -- the app of a subcommand alone
 abbrev pub app_of_form : Form → App

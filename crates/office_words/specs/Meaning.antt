@@ -1,13 +1,13 @@
 -- What each command means.
 use Rattle.std.specs.Prelude.{◌≡◌, ◌≤◌, ◌&&◌, ◌*◌, ◌^◌, ◌-◌, ℕ, Bool, List, Option, Some, None, codes, length, nat_le}
-use Rattle.std.specs.Prelude.{find, if◌then◌else◌, option_and_then, option_map, Result, Ok, Err}
+use Rattle.std.specs.Prelude.{find, false, if◌then◌else◌, option_and_then, option_map, Result, Ok, Err}
 use Rattle.std.specs.Option.{option_map_or}
 use Rattle.std.specs.Str.{bytes_eq}
 use Rattle.std.specs.Char.{is_ascii_digit}
 use Rattle.std.specs.List.{list_all}
 use Rattle.std.specs.Str.Parse.{digits_value}
 use Rattle.import_plan.specs.declared.Plan.{Plan}
-use Rattle.office_words.specs.Grammar.{Text, Said, spoken}
+use Rattle.office_words.specs.Grammar.{Form, Text, Said, contains, is_said, lacks, spoken, stands}
 use Rattle.office_words.specs.Table.{forms}
 use Rattle.office_words.specs.declared.command.Command.{Command}
 use Rattle.office_words.specs.declared.command.Command.TheVariants as command
@@ -88,7 +88,7 @@ import_in value = with (day_in value) (λ day. with (run_in day value) (λ run. 
 -- the command `validate DAY`
 abbrev pub validate_in : Values → Option Command
 validate_in value = with (day_in value) (λ day. with (late_in value) (λ late.
-    Some (command.Compare (record { day = day; late = late; how = Plainly; show = 1 }))))
+    Some (command.Compare (record { day = day; late = late; how = Plainly; show = 1; any_order = false }))))
 
 -- by how many shards of vehicles and over how many workers notices are recomputed in bulk
 abbrev pub bulk_in : Values → Option Recomputing
@@ -99,11 +99,16 @@ bulk_in value = with (optional 1 64 1 (value (codes "shards"))) (λ shards. with
 abbrev pub show_in : Values → Option ℕ
 show_in value = optional 1 1000 1 (value (codes "show"))
 
+-- whether the notices of a second may stand in any order
+abbrev pub any_order_in : Values → Bool
+any_order_in value = option_map_or (λ text. bytes_eq text stands) (value (codes "any-order")) false
+
 -- the command `audit DAY`
 abbrev pub audit_in : Values → Option Command
 audit_in value = with (day_in value) (λ day. with (late_in value) (λ late. with (bulk_in value) (λ how.
     with (show_in value) (λ show.
-    Some (command.Compare (record { day = day; late = late; how = how; show = show }))))))
+    Some (command.Compare
+    (record { day = day; late = late; how = how; show = show; any_order = any_order_in value }))))))
 
 -- the command `past BASE`
 abbrev pub past_in : Values → Option Command
@@ -182,9 +187,14 @@ meaning name value =
 abbrev pub value_of : Said → Values
 value_of said name = option_map (λ p. p.1) (find (λ p. bytes_eq p.0 name) said)
 
+-- the value of a name of a form: what was said of it, and of a flag that was not that it lacks
+abbrev pub value_by : Form → Said → Values
+value_by form said name =
+    if is_said name said then value_of said name else (if contains form.flags name then Some lacks else None)
+
 -- the command that the words mean, where they are of a stated form
 abbrev pub means : List Text → Option Command
-means words = option_and_then (λ p. meaning p.0 (value_of p.1)) (spoken forms words)
+means words = option_and_then (λ p. meaning p.0.name (value_by p.0 p.1)) (spoken forms words)
 
 -- the words are refused exactly where they mean no command, and the command is the one that they mean
 abbrev pub ReadsCommand : Option Command → Result Command WordFault → Type 0

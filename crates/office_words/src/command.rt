@@ -31,13 +31,15 @@ pub enum Recomputing {
 }
 
 /// What a comparison is told: the day, 70 to 1,000,000, by how many seconds its lines may come late, 0 to 120, how its
-/// notices are recomputed, and how many of the lines that differ are told, 1 to 1,000.
+/// notices are recomputed, how many of the lines that differ are told, 1 to 1,000, and whether the notices of a second
+/// may stand in any order.
 #[derive(Clone, Copy, Debug, PartialEq)]
 pub struct Comparison {
     pub day: u32,
     pub late: u8,
     pub how: Recomputing,
     pub show: u32,
+    pub any_order: bool,
 }
 
 /// A command with its numbers, each in its range. Lines may come late by 0 to 120 seconds.

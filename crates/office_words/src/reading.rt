@@ -3,7 +3,7 @@ ghost use Rattle.std.specs.Prelude.{◌≡◌, ◌≤◌, IfSome};
 ghost use Rattle.clap.specs.Words.{first_value, found_of};
 ghost use Rattle.office_words.specs.Meaning.{day_in, late_in, width_in, plan_in, run_in, answers_in, import_in};
 ghost use Rattle.office_words.specs.Meaning.{bulk_in, validate_in, audit_in, show_in, past_in, vehicle_in, tariff_in};
-ghost use Rattle.office_words.specs.Meaning.{charges_in, check_in};
+ghost use Rattle.office_words.specs.Meaning.{any_order_in, charges_in, check_in};
 ghost use Rattle.office_words.specs.Meaning.{meaning, seed_in, size_in, generate_in, rehearse_in, IsInRange, IsPlan};
 ghost use Rattle.office_words.specs.Meaning.{IsRecomputing, IsRun, IsSize, backlog_in};
 
@@ -107,11 +107,13 @@ fn validate(m: &ArgMatches<'_>) -> Option<Command>
     let late = late(m)?;
     let how = Recomputing::Plainly;
     let show = 1;
+    let any_order = false;
     Some(Command::Compare(Comparison {
         day,
         late,
         how,
         show,
+        any_order,
     }))
 }
 
@@ -124,6 +126,16 @@ fn show(m: &ArgMatches<'_>) -> Option<u32>
     Some(n as u32)
 }
 
+/// Whether the notices of a second may stand in any order.
+fn any_order(m: &ArgMatches<'_>) -> bool
+    ensures { result ≡ any_order_in (first_value (found_of m.now)) }
+{
+    match m.get_str("any-order") {
+        Some(text) => text == "true",
+        None => false,
+    }
+}
+
 fn audit(m: &ArgMatches<'_>) -> Option<Command>
     ensures value { result ≡ audit_in (first_value (found_of m.now)) }
     ensures range { IfSome result IsInRange }
@@ -132,11 +144,13 @@ fn audit(m: &ArgMatches<'_>) -> Option<Command>
     let late = late(m)?;
     let how = in_bulk(m)?;
     let show = show(m)?;
+    let any_order = any_order(m);
     Some(Command::Compare(Comparison {
         day,
         late,
         how,
         show,
+        any_order,
     }))
 }
 

@@ -1,12 +1,12 @@
 // The table of commands, as clap is told it.
 ghost use Rattle.std.specs.Prelude.{◌≡◌, IfOk, false, map, string_bytes, take, drop};
 ghost use Rattle.clap.specs.Words.{app_of, rule_of, FailsBy, fault_of, HasMatchesOf};
-ghost use Rattle.office_words.specs.App.{option_rule, place_rule, app_of_form, app_of_forms, shape_of_form, bare_app};
-ghost use Rattle.office_words.specs.App.{with_forms};
+ghost use Rattle.office_words.specs.App.{option_rule, place_rule, flag_rule, app_of_form, app_of_forms, shape_of_form};
+ghost use Rattle.office_words.specs.App.{bare_app, with_forms};
 ghost use Rattle.clap.specs.Simple.{with_subcommand};
 ghost use Rattle.clap.specs.Walk.{texts};
 ghost use Rattle.clap.specs.declared.builder.command.Command.TheViews.{out-Command};
-ghost use Rattle.office_words.specs.Table.{stated_form, forms};
+ghost use Rattle.office_words.specs.Table.{flagged_form, stated_form, forms};
 
 use clap::{Arg, ArgAction, ArgMatches, Command, Error};
 use std::alloc::{AllocError, Global};
@@ -27,15 +27,24 @@ pub fn option<'a>(alloc: Global, id: &'a str) -> Arg<'a>
     Arg::new(alloc, id).long(id).action(ArgAction::Set)
 }
 
-/// A command with its places and then its options.
+/// A flag, `--NAME`, which takes no value.
+fn flag<'a>(alloc: Global, id: &'a str) -> Arg<'a>
+    ensures rule { rule_of result ≡ flag_rule id.entry.now }
+    ensures local { result.global ≡ false }
+{
+    Arg::new(alloc, id).long(id).action(ArgAction::SetTrue)
+}
+
+/// A command with its places, then its options and then its flags.
 fn command<'a>(
     alloc: Global,
     name: &'a str,
     places: &[&'a str],
     options: &[&'a str],
+    flags: &[&'a str],
 ) -> Result<Command<'a>, AllocError>
     ensures app { IfOk result (λ c. app_of c
-        ≡ app_of_form (stated_form name.entry.now (texts places.now) (texts options.now))) }
+        ≡ app_of_form (flagged_form name.entry.now (texts places.now) (texts options.now) (texts flags.now))) }
     ensures local { IfOk result (λ c. (out-Command c).has_globals ≡ false) }
 {
     let mut made = Command::new(alloc, name);
@@ -45,7 +54,25 @@ fn command<'a>(
     for choice in options {
         made = made.arg(option(alloc, choice))?;
     }
+    for mark in flags {
+        made = made.arg(flag(alloc, mark))?;
+    }
     Ok(made)
+}
+
+/// The command with one more subcommand, which has flags.
+fn with_flagged<'a>(
+    alloc: Global,
+    top: Command<'a>,
+    name: &'a str,
+    places: &[&'a str],
+    options: &[&'a str],
+    flags: &[&'a str],
+) -> Result<Command<'a>, AllocError>
+    ensures { IfOk result (λ c. app_of c ≡ with_subcommand (app_of top.entry)
+        (shape_of_form (flagged_form name.entry.now (texts places.now) (texts options.now) (texts flags.now)))) }
+{
+    top.subcommand(command(alloc, name, places, options, flags)?)
 }
 
 /// The command with one more subcommand.
@@ -59,7 +86,7 @@ fn with<'a>(
     ensures { IfOk result (λ c. app_of c ≡ with_subcommand (app_of top.entry)
         (shape_of_form (stated_form name.entry.now (texts places.now) (texts options.now)))) }
 {
-    top.subcommand(command(alloc, name, places, options)?)
+    with_flagged(alloc, top, name, places, options, &[])
 }
 
 /// The program, with no command yet.
@@ -93,12 +120,13 @@ fn with_days<'a>(alloc: Global, top: Command<'a>) -> Result<Command<'a>, AllocEr
         &["late", "workers", "turns", "backlog"],
     )?;
     let top = with(alloc, top, "validate", &["day"], &["late"])?;
-    let top = with(
+    let top = with_flagged(
         alloc,
         top,
         "audit",
         &["day"],
         &["late", "shards", "workers", "show"],
+        &["any-order"],
     )?;
     with(alloc, top, "past", &["base"], &[])
 }
