@@ -32,13 +32,15 @@ returns-clause-answers g c = λ all o known told.
     let s = c.stream_day-settled in
     let f = c.finish_stream-end in
     let bytes = filled c.args.count all in
+    let mid = g.L.Out.Sink.written s.new.out in
     inl (
       s.result.outcome,
-      _,
-      λ exact. subst (λ x. Streams g.K.Keeper.refuses c.args.day c.args.limits.now bytes o x _ s.result.outcome)
+      mid,
+      λ exact. subst (λ x. Streams g.K.Keeper.refuses c.args.day c.args.limits.now bytes o x mid s.result.outcome)
           c.in-Some.ensures.written
           (s.ensures.streams all o (ap (λ l. prepend_known c.args.early.now l) c.outward.ensures.left ∙ known) told exact),
-      subst (λ y. Closes c.args.day s.result.outcome _ y f.result) (sym (c.put_back.ensures.written c.in-Some.ensures.lends)) f.ensures.closes,
+      subst (λ y. Closes c.args.day s.result.outcome mid y f.result)
+          (sym (c.put_back.ensures.written c.in-Some.ensures.lends)) f.ensures.closes,
     )
 
 pub returns-clause-failed : goal.returns-clause-failed

@@ -1,6 +1,6 @@
 use Rattle.std.proofs.Common.{inl, inr, refl, sym, subst, ◌∙◌, arith}
 use Rattle.toll_desk.specs.Answers.{TellsFault}
-use Rattle.toll_desk.specs.Streams.{WritesLast}
+use Rattle.toll_desk.specs.Streams.{WritesLast, end_of}
 use Rattle.toll_desk.proofs.StreamLaws.{ends_well, available, last_available, last_told, end_told}
 use Rattle.toll_desk.proofs.stream_ends.close_stream.Goals as goal
 
@@ -18,7 +18,8 @@ returns-in-Ok-clause-closes g c =
     let w = c.write_last in
     let old = g.O.Sink.written c.args.out.now in
     let new = g.O.Sink.written w.new.out in
-    inr (inl (subst (λ t. WritesLast t _ old new w.result) (c.as_bytes.ensures.value ∙ c.in-Ok.ensures)
+    let ends = end_of c.args.outcome.now in
+    inr (inl (subst (λ t. WritesLast t ends old new w.result) (c.as_bytes.ensures.value ∙ c.in-Ok.ensures)
     (subst (λ e. WritesLast c.as_bytes.result.now e old new w.result) c.end_of-wanted.ensures w.ensures.sent)))
 
 pub returns-in-Err-clause-closes : goal.returns-in-Err-clause-closes
@@ -26,7 +27,8 @@ returns-in-Err-clause-closes g c =
     let w = c.write_last-in-Err in
     let old = g.O.Sink.written c.args.out.now in
     let new = g.O.Sink.written w.new.out in
-    inr (inr (subst (λ t. WritesLast t _ old new w.result) c.memory_line.ensures
+    let ends = end_of c.args.outcome.now in
+    inr (inr (subst (λ t. WritesLast t ends old new w.result) c.memory_line.ensures
     (subst (λ e. WritesLast c.memory_line.result.now e old new w.result) c.end_of-wanted.ensures w.ensures.sent)))
 
 pub returns-in-Ok-clause-unavailable : goal.returns-in-Ok-clause-unavailable
@@ -52,14 +54,14 @@ returns-in-Err-clause-told g c = λ failed.
 
 pub returns-in-Ok-clause-cause : goal.returns-in-Ok-clause-cause
 returns-in-Ok-clause-cause g c = λ before less given is.
-    let well = λ e. ends_well c.args.outcome.now c.in_default.not-WriteFault (sym c.end_of-wanted.ensures ∙ e) in
-    let rose = c.write_last.ensures.cause well is in
+    let rose = c.write_last.ensures.cause
+    (λ e. ends_well c.args.outcome.now c.in_default.not-WriteFault (sym c.end_of-wanted.ensures ∙ e)) is in
     omega (arith, rose, less)
 
 pub returns-in-Err-clause-cause : goal.returns-in-Err-clause-cause
 returns-in-Err-clause-cause g c = λ before less given is.
-    let well = λ e. ends_well c.args.outcome.now c.in_default.not-WriteFault (sym c.end_of-wanted.ensures ∙ e) in
-    let rose = c.write_last-in-Err.ensures.cause well is in
+    let rose = c.write_last-in-Err.ensures.cause
+    (λ e. ends_well c.args.outcome.now c.in_default.not-WriteFault (sym c.end_of-wanted.ensures ∙ e)) is in
     omega (arith, rose, less)
 
 pub returns-in-Ok-clause-sure : goal.returns-in-Ok-clause-sure

@@ -2,5 +2,5 @@ use Rattle.std.proofs.Common.{subst}
 use Rattle.toll_desk.specs.Reading.{FitsRead}
 use Rattle.toll_desk.proofs.stream_ends.skip_rest.Goals as goal
 
-pub skip_body-requires-clause-few : goal.skip_body-requires-clause-few
-skip_body-requires-clause-few g c = subst (FitsRead c.args.early.now) c.in-Open.is c.requires
+pub skip_body-requires : goal.skip_body-requires
+skip_body-requires g c = record { few = subst (FitsRead c.args.early.now) c.in-Open.is c.requires }
