@@ -1,5 +1,5 @@
 // The calls of a keeper in a database.
-ghost use Rattle.std.specs.Prelude.{◌≡◌, ◌≢◌, Some, None, IfOk};
+ghost use Rattle.std.specs.Prelude.{◌≡◌, ◌≢◌, ◌≤◌, Some, None, IfOk, IfSome};
 ghost use Rattle.sqlite.specs.Held.{state};
 ghost use Rattle.road_time.specs.History.{paid};
 ghost use Rattle.road_time.specs.Rates.{IsTariff};
@@ -62,6 +62,7 @@ impl<S: Opens<P>, P: Pages + Drop> Keeper for KeeperIn<S, P> {
     }
 
     fn past(&mut self) -> Result<Option<PastRecord>, KeepFault>
+        ensures based { IfOk result (λ past. IfSome past (λ p. 70 ≤ p.base)) }
         ensures cause { CountsFaults self.old.faults self.new.faults result }
         ensures said { IsSaid result self.old.database.cause self.new.database.cause }
         ensures does { AskedToRead self.old.database.kept self.new.database.kept

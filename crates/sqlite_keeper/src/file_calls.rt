@@ -1,5 +1,5 @@
 // The calls of a keeper in a SQLite file.
-ghost use Rattle.std.specs.Prelude.{◌≡◌, ◌≢◌, Some, None, IfOk};
+ghost use Rattle.std.specs.Prelude.{◌≡◌, ◌≢◌, ◌≤◌, Some, None, IfOk, IfSome};
 ghost use Rattle.sqlite.specs.Held.{state};
 ghost use Rattle.road_time.specs.History.{paid};
 ghost use Rattle.road_time.specs.Rates.{IsTariff};
@@ -64,6 +64,7 @@ impl Keeper for SqliteKeeper {
     }
 
     fn past(&mut self) -> Result<Option<PastRecord>, KeepFault>
+        ensures based { IfOk result (λ past. IfSome past (λ p. 70 ≤ p.base)) }
         ensures cause { CountsFaults self.old.in_file.in_file.faults self.new.in_file.in_file.faults result }
         ensures said { IsSaid result self.old.in_file.in_file.database.cause self.new.in_file.in_file.database.cause }
         ensures does { AskedToRead self.old.in_file.in_file.database.kept self.new.in_file.in_file.database.kept
