@@ -1,4 +1,4 @@
-use Rattle.std.proofs.Common.{pos, sym, subst, IsTrue}
+use Rattle.std.proofs.Common.{pos, subst}
 use Rattle.sqlite_trees.specs.View.{Finds}
 use Rattle.sqlite_store.specs.Db.{trees_in}
 use Rattle.tree_keeper.specs.Pages.{our_trees}
@@ -10,5 +10,5 @@ returns-clause-second g c clean t db at plain is =
       c.find_row.new.row,
       subst (Finds rows (pos 1) c.find_row.new.row) c.if-not-there.false
           ((c.in_ok-there.ensures.done clean) t db at plain),
-      c.holds.ensures.0 (subst IsTrue (sym is) tt),
+      c.holds.ensures.0 is,
     )
