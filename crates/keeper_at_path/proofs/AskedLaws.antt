@@ -28,7 +28,7 @@ pub none_held : {T K : Type 0} (old : Option (Kept T K)) → old ≡ None → Is
 none_held None h = tt
 none_held (Some k) h = absurd (cc)
 
-module _ {T K : Type 0} (view : K → State) (cause : Type 0) (asks : Office → Type 0) (next : Office → Office)
+module _ {T K : Type 0} (view : K → State) (cause : K → K → Type 0) (asks : Office → Type 0) (next : Office → Office)
     (held : Option (Kept T K)) (result : Result (Unit {0}) KeepFault) where
   -- a call was made of a keeper that is known to be fit
   pub made_of : (may : K → Type 0) (kept : K) → may kept
@@ -43,7 +43,7 @@ module _ {T K : Type 0} (view : K → State) (cause : Type 0) (asks : Office →
   }
 
 module _ {T K X : Type 0} (found : T → Type 0) (see : X → X → Result Bool StoreError → Type 0) (view : K → State)
-    (cause : Type 0) (asks : Office → Type 0) (next : Office → Office) (held : Option (Kept T K))
+    (cause : K → K → Type 0) (asks : Office → Type 0) (next : Office → Office) (held : Option (Kept T K))
     (result : Result (Unit {0}) KeepFault) where
   -- a keeper that was opened is ready where none was held
   pub made_ready : (opened : K → Type 0) (old : Option (Kept T K)) → IsNotWhole old

@@ -18,23 +18,17 @@ either : {T : Type 0} (r : Result T KeepFault) (P : Type 0) → P → OnOk r P �
 either (Ok x) P p = (p, tt)
 either (Err e) P p = (tt, p)
 
--- an answer that failed had the cause
-failed_cause : {T X : Type 0} (R : Type 0) (see : T → X) (r : Result T KeepFault) (x : X) → r ≡ Err Failed →
-    GivesUnless R see r x → R
-failed_cause R see (Ok t) x is h = absurd (cc)
-failed_cause R see (Err NoMemory) x is h = absurd (cc)
-failed_cause R see (Err Failed) x is h = h
-
 -- a call that reads
-pub read_does : {T X : Type 0} (R : Type 0) (see : T → X) (y : Office → X) (old new : State)
+pub read_does : {T X : Type 0} (R C : Type 0) (see : T → X) (y : Office → X) (old new : State)
     (r : Result T KeepFault) → (HasCleanDisk new → KeepsCommit old new)
     → (HasCleanDisk new → (o : Office) → StandsForOffice old.committed o → GivesUnless R see r (y o)) →
-    Survives old new (λ _. ⊥) → Does R false FitsAny (λ o x. see x ≡ y o) (λ o. o) old new r
-read_does R see y old new r kept gives survives = record {
+    (HasCleanDisk new → (o : Office) → StandsForOffice old.committed o → r ≡ Err Failed → C) →
+    Survives old new (λ _. ⊥) → Does C false FitsAny (λ o x. see x ≡ y o) (λ o. o) old new r
+read_does R C see y old new r kept gives because survives = record {
   kept = λ _ clean. kept clean;
   answers = λ clean o stands fit. ok_gives R see r (y o) (gives clean o stands);
   leaves = λ clean here o stands fit. either r _ (still_stands old new o here stands (kept clean));
-  because = λ clean o stands failed. failed_cause R see r (y o) failed (gives clean o stands);
+  because = because;
   crash =
       survives_weaker old new (λ _. ⊥) (CommitsIf false FitsAny (λ o. o) old.committed) (λ _ db none. absurd none)
       survives;

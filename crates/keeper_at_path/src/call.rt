@@ -2,7 +2,7 @@
 ghost use Rattle.std.specs.Prelude.{true, false, IfOk};
 ghost use Rattle.sqlite.specs.Held.{state};
 ghost use Rattle.kept_tables.specs.Steps.{FitsAny};
-ghost use Rattle.keeper_writes.specs.Causes.{WasRefused};
+ghost use Rattle.keeper_writes.specs.Causes.{WasRefusedIn, WasRefusedOf};
 ghost use Rattle.tree_puts.specs.Stores.{Stores};
 ghost use Rattle.keeper_at_path.specs.Does.{Does};
 ghost use Rattle.keeper_at_path.specs.Looks.{Looks};
@@ -30,7 +30,7 @@ pub trait Reading {
     /// Makes the call of a keeper on a whole file.
     fn ask<S: Steady>(self, kept: &mut ProvedKeeper<S>) -> Result<Self::Answer, KeepFault>
         ensures answers { IfOk result answers }
-        ensures does { Does (WasRefused S.Store) false FitsAny (gives self) (λ o. o)
+        ensures does { Does (WasRefusedIn S.Store kept.old.conn kept.new.conn) false FitsAny (gives self) (λ o. o)
             (state S.Store kept.old.conn) (state S.Store kept.new.conn) result };
 
     /// Makes the call of the trees of a file.
@@ -44,11 +44,15 @@ pub trait Reading {
 }
 
 /// A call of a keeper that puts, with what it is handed. `fits` is what may be handed in. Of an office that is kept,
-/// `asks` is what is asked and `next` what is kept then.
+/// `asks` is what is asked and `next` what is kept then; `writes` are the texts, each with its values, that it writes.
 pub trait Putting {
+    ghost use Rattle.std.specs.Prelude.{ℕ, List};
+    ghost use Rattle.sqlite_value.specs.Order.{Row};
     ghost use Rattle.keeper.specs.Office.{Office};
 
     ghost fits: { Self → Type 0 };
+
+    ghost writes: { Self → List ℕ → Row → Type 0 };
 
     ghost asks: { Self → Office → Type 0 };
 
@@ -63,6 +67,7 @@ pub trait Putting {
     /// Makes the call of a keeper on a whole file.
     fn put<S: Shuts>(self, kept: &mut ProvedKeeper<S>) -> Result<(), KeepFault>
         requires { fits self }
-        ensures { Does (WasRefused S.Store) true (asks self) (λ o u. Unit {0}) (next self)
+        ensures { Does (WasRefusedOf S.Store (writes self) kept.old.conn kept.new.conn) true (asks self)
+            (λ o u. Unit {0}) (next self)
             (state S.Store kept.old.conn) (state S.Store kept.new.conn) result };
 }

@@ -2,7 +2,7 @@
 ghost use Rattle.std.specs.Prelude.{◌≡◌, ◌≢◌, true, Some, None, IfOk, IfErr};
 ghost use Rattle.sqlite.specs.Held.{state};
 ghost use Rattle.keeper.specs.declared.kept.KeepFault.TheVariants.{NoMemory};
-ghost use Rattle.keeper_writes.specs.Causes.{WasRefused};
+ghost use Rattle.keeper_writes.specs.Causes.{WasRefusedIn, WasRefusedOf};
 ghost use Rattle.tree_puts.specs.Stores.{Stores};
 ghost use Rattle.keeper_at_path.specs.Asked.{AskedToRead, AskedToPut, IsReadyToRead, IsMade, IsPut, HoldsFound};
 ghost use Rattle.keeper_at_path.specs.Causes.{IsSaid};
@@ -67,7 +67,8 @@ impl<S: Opens<P>, P: Pages + Drop> Database<S, P> {
     pub(crate) fn read<C: Reading + Drop>(&mut self, call: C) -> Result<C::Answer, KeepFault>
         ensures answers { IfOk result C.answers }
         ensures does { AskedToRead self.old.kept self.new.kept (AreFound P.Pages) (Looks P.Pages)
-            (λ k. k.unmade ≢ Some NoMemory) (λ k. state S.Store k.conn) (WasRefused S.Store) (C.gives call) result }
+            (λ k. k.unmade ≢ Some NoMemory) (λ k. state S.Store k.conn)
+            (λ k l. WasRefusedIn S.Store k.conn l.conn) (C.gives call) result }
         ensures said { IsSaid result self.old.cause self.new.cause }
     {
         let ready = match self.ready() {
@@ -91,7 +92,8 @@ impl<S: Opens<P>, P: Pages + Drop> Database<S, P> {
     pub(crate) fn put<C: Putting + Drop>(&mut self, call: C) -> Result<(), KeepFault>
         requires { C.fits call }
         ensures does { AskedToPut self.old.kept self.new.kept (λ k. k.unmade ≢ Some NoMemory) (AreFound P.Pages)
-            (Stores S.Store (C.asks call) (C.next call)) (λ k. state S.Store k.conn) (WasRefused S.Store)
+            (Stores S.Store (C.asks call) (C.next call)) (λ k. state S.Store k.conn)
+            (λ k l. WasRefusedOf S.Store (C.writes call) k.conn l.conn)
             (C.asks call) (C.next call) result }
         ensures said { IsSaid result self.old.cause self.new.cause }
     {
@@ -112,7 +114,8 @@ impl<S: Opens<P>, P: Pages + Drop> Database<S, P> {
         call: C,
     ) -> Result<(), KeepFault>
         requires { C.fits call }
-        ensures does { IsMade (λ k. k ≡ kept) (λ k. state S.Store k.conn) (WasRefused S.Store) true (C.asks call)
+        ensures does { IsMade (λ k. k ≡ kept) (λ k. state S.Store k.conn)
+            (λ k l. WasRefusedOf S.Store (C.writes call) k.conn l.conn) true (C.asks call)
             (λ o u. Unit {0}) (C.next call) self.new.kept result }
         ensures said { IsSaid result self.old.cause self.new.cause }
     {
@@ -130,7 +133,8 @@ impl<S: Opens<P>, P: Pages + Drop> Database<S, P> {
         requires fits { C.fits call }
         requires none { self.old.kept ≡ None }
         ensures does { IsPut (λ k. k.unmade ≢ Some NoMemory) self.new.kept (AreFound P.Pages)
-            (Stores S.Store (C.asks call) (C.next call)) (λ k. state S.Store k.conn) (WasRefused S.Store)
+            (Stores S.Store (C.asks call) (C.next call)) (λ k. state S.Store k.conn)
+            (λ k l. WasRefusedOf S.Store (C.writes call) k.conn l.conn)
             (C.asks call) (C.next call) result }
         ensures said { IsSaid result self.old.cause self.new.cause }
     {
@@ -154,7 +158,8 @@ impl<S: Opens<P>, P: Pages + Drop> Database<S, P> {
         requires fits { C.fits call }
         requires none { self.old.kept ≡ None }
         ensures does { IsPut (λ k. k.unmade ≢ Some NoMemory) self.new.kept (AreFound P.Pages)
-            (Stores S.Store (C.asks call) (C.next call)) (λ k. state S.Store k.conn) (WasRefused S.Store)
+            (Stores S.Store (C.asks call) (C.next call)) (λ k. state S.Store k.conn)
+            (λ k l. WasRefusedOf S.Store (C.writes call) k.conn l.conn)
             (C.asks call) (C.next call) result }
         ensures said { IsSaid result self.old.cause self.new.cause }
     {

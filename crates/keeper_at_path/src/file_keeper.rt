@@ -3,7 +3,7 @@ ghost use Rattle.std.specs.Prelude.{◌≡◌, ◌≢◌, Some, None, IfOk};
 ghost use Rattle.sqlite.specs.Held.{state};
 ghost use Rattle.keeper.specs.Calls.{CountsFaults};
 ghost use Rattle.keeper.specs.declared.kept.KeepFault.TheVariants.{NoMemory as no_memory};
-ghost use Rattle.keeper_writes.specs.Causes.{WasRefused};
+ghost use Rattle.keeper_writes.specs.Causes.{WasRefusedIn, WasRefusedOf};
 ghost use Rattle.tree_puts.specs.Stores.{Stores};
 ghost use Rattle.keeper_at_path.specs.Asked.{AskedToRead, AskedToPut};
 ghost use Rattle.keeper_at_path.specs.Causes.{IsSaid};
@@ -60,7 +60,7 @@ impl<D: AtPath> FileKeeper<D> {
         ensures does { AskedToRead self.old.in_file.database.kept self.new.in_file.database.kept
             (AreFound ⟦<Pool<D> as Pages>⟧) (Looks ⟦<Pool<D> as Pages>⟧)
             (λ k. k.unmade ≢ Some no_memory) (λ k. state ⟦<FileStore<D> as Store>⟧ k.conn)
-            (WasRefused ⟦<FileStore<D> as Store>⟧) (C.gives call) result }
+            (λ k l. WasRefusedIn ⟦<FileStore<D> as Store>⟧ k.conn l.conn) (C.gives call) result }
         ensures cause { CountsFaults self.old.in_file.faults self.new.in_file.faults result }
         ensures said { IsSaid result self.old.in_file.database.cause self.new.in_file.database.cause }
     {
@@ -73,7 +73,8 @@ impl<D: AtPath> FileKeeper<D> {
         ensures does { AskedToPut self.old.in_file.database.kept self.new.in_file.database.kept
             (λ k. k.unmade ≢ Some no_memory) (AreFound ⟦<Pool<D> as Pages>⟧)
             (Stores ⟦<FileStore<D> as Store>⟧ (C.asks call) (C.next call))
-            (λ k. state ⟦<FileStore<D> as Store>⟧ k.conn) (WasRefused ⟦<FileStore<D> as Store>⟧)
+            (λ k. state ⟦<FileStore<D> as Store>⟧ k.conn)
+            (λ k l. WasRefusedOf ⟦<FileStore<D> as Store>⟧ (C.writes call) k.conn l.conn)
             (C.asks call) (C.next call) result }
         ensures cause { CountsFaults self.old.in_file.faults self.new.in_file.faults result }
         ensures said { IsSaid result self.old.in_file.database.cause self.new.in_file.database.cause }

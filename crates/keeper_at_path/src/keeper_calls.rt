@@ -1,5 +1,5 @@
 // The calls of a keeper in a database.
-ghost use Rattle.std.specs.Prelude.{◌≡◌, ◌≢◌, Some, None, IfOk};
+ghost use Rattle.std.specs.Prelude.{◌≡◌, ◌≢◌, ◌≤◌, Some, None, IfOk, IfSome};
 ghost use Rattle.sqlite.specs.Held.{state};
 ghost use Rattle.road_time.specs.History.{paid};
 ghost use Rattle.road_time.specs.Rates.{IsTariff};
@@ -8,7 +8,8 @@ ghost use Rattle.keeper.specs.Kept.{IsDayPut, IsPastPut, IsLater, HasNoDays, wit
 ghost use Rattle.keeper.specs.Calls.{CountsFaults, IfTold};
 ghost use Rattle.keeper.specs.declared.kept.KeepFault.TheVariants.{NoMemory};
 ghost use Rattle.kept_tables.specs.Steps.{FitsAny};
-ghost use Rattle.keeper_writes.specs.Causes.{WasRefused};
+ghost use Rattle.keeper_writes.specs.Causes.{WasRefusedIn, WasRefusedOf};
+ghost use Rattle.keeper_writes.specs.Writes.{WritesDay, WritesPast, WritesTariff};
 ghost use Rattle.tree_puts.specs.Stores.{Stores};
 ghost use Rattle.keeper_at_path.specs.Asked.{AskedToRead, AskedToPut};
 ghost use Rattle.keeper_at_path.specs.Causes.{IsSaid};
@@ -42,7 +43,7 @@ impl<S: Opens<P>, P: Pages + Drop> Keeper for KeeperIn<S, P> {
         ensures does { AskedToRead self.old.database.kept self.new.database.kept
             (AreFound P.Pages) (Looks P.Pages)
             (λ k. k.unmade ≢ Some NoMemory) (λ k. state S.Store k.conn)
-            (WasRefused S.Store)
+            (λ k l. WasRefusedIn S.Store k.conn l.conn)
             (λ o last. last ≡ last_day_of o) result }
     {
         self.read(LastDay)
@@ -54,19 +55,20 @@ impl<S: Opens<P>, P: Pages + Drop> Keeper for KeeperIn<S, P> {
         ensures does { AskedToRead self.old.database.kept self.new.database.kept
             (AreFound P.Pages) (Looks P.Pages)
             (λ k. k.unmade ≢ Some NoMemory) (λ k. state S.Store k.conn)
-            (WasRefused S.Store)
+            (λ k l. WasRefusedIn S.Store k.conn l.conn)
             (λ o kept. kept ≡ record_of o day) result }
     {
         self.read(AskedDay { day })
     }
 
     fn past(&mut self) -> Result<Option<PastRecord>, KeepFault>
+        ensures based { IfOk result (λ past. IfSome past (λ p. 70 ≤ p.base)) }
         ensures cause { CountsFaults self.old.faults self.new.faults result }
         ensures said { IsSaid result self.old.database.cause self.new.database.cause }
         ensures does { AskedToRead self.old.database.kept self.new.database.kept
             (AreFound P.Pages) (Looks P.Pages)
             (λ k. k.unmade ≢ Some NoMemory) (λ k. state S.Store k.conn)
-            (WasRefused S.Store)
+            (λ k l. WasRefusedIn S.Store k.conn l.conn)
             (λ o past. past ≡ o.past) result }
     {
         self.read(Past)
@@ -78,7 +80,7 @@ impl<S: Opens<P>, P: Pages + Drop> Keeper for KeeperIn<S, P> {
         ensures does { AskedToRead self.old.database.kept self.new.database.kept
             (AreFound P.Pages) (Looks P.Pages)
             (λ k. k.unmade ≢ Some NoMemory) (λ k. state S.Store k.conn)
-            (WasRefused S.Store)
+            (λ k l. WasRefusedIn S.Store k.conn l.conn)
             (λ o tolls. tolls ≡ paid o.rows day vid xway) result }
     {
         self.read(AskedSpent { day, vid, xway })
@@ -91,7 +93,7 @@ impl<S: Opens<P>, P: Pages + Drop> Keeper for KeeperIn<S, P> {
         ensures does { AskedToRead self.old.database.kept self.new.database.kept
             (AreFound P.Pages) (Looks P.Pages)
             (λ k. k.unmade ≢ Some NoMemory) (λ k. state S.Store k.conn)
-            (WasRefused S.Store)
+            (λ k l. WasRefusedIn S.Store k.conn l.conn)
             (λ o rows. rows.items ≡ rows_between o from to) result }
     {
         self.read(Rows { from, to })
@@ -104,7 +106,7 @@ impl<S: Opens<P>, P: Pages + Drop> Keeper for KeeperIn<S, P> {
         ensures does { AskedToRead self.old.database.kept self.new.database.kept
             (AreFound P.Pages) (Looks P.Pages)
             (λ k. k.unmade ≢ Some NoMemory) (λ k. state S.Store k.conn)
-            (WasRefused S.Store)
+            (λ k l. WasRefusedIn S.Store k.conn l.conn)
             (λ o rows. rows.items ≡ vehicle_rows_between o vid from to) result }
     {
         self.read(VehicleRows { vid, from, to })
@@ -116,7 +118,7 @@ impl<S: Opens<P>, P: Pages + Drop> Keeper for KeeperIn<S, P> {
         ensures does { AskedToRead self.old.database.kept self.new.database.kept
             (AreFound P.Pages) (Looks P.Pages)
             (λ k. k.unmade ≢ Some NoMemory) (λ k. state S.Store k.conn)
-            (WasRefused S.Store)
+            (λ k l. WasRefusedIn S.Store k.conn l.conn)
             (λ o tariffs. tariffs ≡ o.tariffs) result }
     {
         self.read(KeptTariffs)
@@ -130,7 +132,8 @@ impl<S: Opens<P>, P: Pages + Drop> Keeper for KeeperIn<S, P> {
         ensures does { AskedToPut self.old.database.kept self.new.database.kept
             (λ k. k.unmade ≢ Some NoMemory) (AreFound P.Pages)
             (Stores S.Store (IsLater kept.now.day) (with_day kept.now rows.now))
-            (λ k. state S.Store k.conn) (WasRefused S.Store)
+            (λ k. state S.Store k.conn)
+            (λ k l. WasRefusedOf S.Store (WritesDay kept.now rows.now) k.conn l.conn)
             (IsLater kept.now.day) (with_day kept.now rows.now) result }
     {
         self.put(PutDay { kept, rows })
@@ -144,7 +147,8 @@ impl<S: Opens<P>, P: Pages + Drop> Keeper for KeeperIn<S, P> {
         ensures does { AskedToPut self.old.database.kept self.new.database.kept
             (λ k. k.unmade ≢ Some NoMemory) (AreFound P.Pages)
             (Stores S.Store HasNoDays (with_past kept.now rows.now))
-            (λ k. state S.Store k.conn) (WasRefused S.Store)
+            (λ k. state S.Store k.conn)
+            (λ k l. WasRefusedOf S.Store (WritesPast kept.now rows.now) k.conn l.conn)
             HasNoDays (with_past kept.now rows.now) result }
     {
         self.put(PutPast { kept, rows })
@@ -157,7 +161,8 @@ impl<S: Opens<P>, P: Pages + Drop> Keeper for KeeperIn<S, P> {
         ensures does { AskedToPut self.old.database.kept self.new.database.kept
             (λ k. k.unmade ≢ Some NoMemory) (AreFound P.Pages)
             (Stores S.Store FitsAny (with_tariff_of xway tariff.now))
-            (λ k. state S.Store k.conn) (WasRefused S.Store)
+            (λ k. state S.Store k.conn)
+            (λ k l. WasRefusedOf S.Store (WritesTariff xway tariff.now) k.conn l.conn)
             FitsAny (with_tariff_of xway tariff.now) result }
     {
         self.put(PutTariff { xway, tariff })

@@ -3,7 +3,7 @@ ghost use Rattle.std.specs.Prelude.{◌≡◌, ◌≢◌, Some, None, IfOk};
 ghost use Rattle.sqlite.specs.Held.{state};
 ghost use Rattle.keeper.specs.Calls.{CountsFaults};
 ghost use Rattle.keeper.specs.declared.kept.KeepFault.TheVariants.{NoMemory as no_memory};
-ghost use Rattle.keeper_writes.specs.Causes.{WasRefused};
+ghost use Rattle.keeper_writes.specs.Causes.{WasRefusedIn, WasRefusedOf};
 ghost use Rattle.tree_puts.specs.Stores.{Stores};
 ghost use Rattle.keeper_at_path.specs.Asked.{AskedToRead, AskedToPut};
 ghost use Rattle.keeper_at_path.specs.Causes.{IsSaid};
@@ -66,7 +66,7 @@ impl<S: Opens<P>, P: Pages + Drop> KeeperIn<S, P> {
         ensures does { AskedToRead self.old.database.kept self.new.database.kept
             (AreFound P.Pages) (Looks P.Pages)
             (λ k. k.unmade ≢ Some no_memory) (λ k. state S.Store k.conn)
-            (WasRefused S.Store) (C.gives call) result }
+            (λ k l. WasRefusedIn S.Store k.conn l.conn) (C.gives call) result }
         ensures cause { CountsFaults self.old.faults self.new.faults result }
         ensures said { IsSaid result self.old.database.cause self.new.database.cause }
     {
@@ -80,7 +80,8 @@ impl<S: Opens<P>, P: Pages + Drop> KeeperIn<S, P> {
         ensures does { AskedToPut self.old.database.kept self.new.database.kept
             (λ k. k.unmade ≢ Some no_memory) (AreFound P.Pages)
             (Stores S.Store (C.asks call) (C.next call))
-            (λ k. state S.Store k.conn) (WasRefused S.Store)
+            (λ k. state S.Store k.conn)
+            (λ k l. WasRefusedOf S.Store (C.writes call) k.conn l.conn)
             (C.asks call) (C.next call) result }
         ensures cause { CountsFaults self.old.faults self.new.faults result }
         ensures said { IsSaid result self.old.database.cause self.new.database.cause }

@@ -17,8 +17,11 @@ pub struct PutDay<'a> {
 
 impl<'a> Putting for PutDay<'a> {
     ghost use Rattle.keeper.specs.Kept.{IsDayPut, IsLater, with_day};
+    ghost use Rattle.keeper_writes.specs.Writes.{WritesDay};
 
     ghost fits = { λ put. IsDayPut put.kept.now put.rows.now };
+
+    ghost writes = { λ put. WritesDay put.kept.now put.rows.now };
 
     ghost asks = { λ put. IsLater put.kept.now.day };
 
@@ -42,8 +45,11 @@ pub struct PutPast<'a> {
 
 impl<'a> Putting for PutPast<'a> {
     ghost use Rattle.keeper.specs.Kept.{IsPastPut, HasNoDays, with_past};
+    ghost use Rattle.keeper_writes.specs.Writes.{WritesPast};
 
     ghost fits = { λ put. IsPastPut put.kept.now put.rows.now };
+
+    ghost writes = { λ put. WritesPast put.kept.now put.rows.now };
 
     ghost asks = { λ put. HasNoDays };
 
@@ -69,8 +75,11 @@ impl<'a> Putting for PutTariff<'a> {
     ghost use Rattle.road_time.specs.Rates.{IsTariff};
     ghost use Rattle.keeper.specs.Kept.{with_tariff_of};
     ghost use Rattle.kept_tables.specs.Steps.{FitsAny};
+    ghost use Rattle.keeper_writes.specs.Writes.{WritesTariff};
 
     ghost fits = { λ put. IsTariff put.tariff.now };
+
+    ghost writes = { λ put. WritesTariff put.xway put.tariff.now };
 
     ghost asks = { λ put. FitsAny };
 

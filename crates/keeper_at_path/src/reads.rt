@@ -64,11 +64,11 @@ impl Reading for AskedDay {
 pub struct Past;
 
 impl Reading for Past {
-    ghost use Rattle.std.specs.Prelude.{◌≡◌};
+    ghost use Rattle.std.specs.Prelude.{◌≡◌, ◌≤◌, IfSome};
 
     type Answer = Option<PastRecord>;
 
-    ghost answers = { λ _. Unit {0} };
+    ghost answers = { λ past. IfSome past (λ p. 70 ≤ p.base) };
 
     ghost gives = { λ _ o past. past ≡ o.past };
 

@@ -13,11 +13,11 @@ use Rattle.kept_tables.specs.Asks.{is_ask_text}
 use Rattle.kept_tables.specs.Stands.{StandsForOffice}
 use Rattle.kept_tables.specs.Steps.{IsTreesOf}
 use Rattle.kept_tables.specs.Texts.{find_version, find_day, find_seal}
-use Rattle.keeper_writes.specs.Causes.{IsOneOf, asked_texts}
+use Rattle.keeper_writes.specs.Causes.{IsAsked}
 
--- a text is one of a keeper's queries
-abbrev pub IsQuery : List ℕ → Type 0
-IsQuery sql = (is_ask_text (first sql) ≡ true) × IsOneOf asked_texts sql
+-- a text is one of a keeper's queries, with as many values as that is given
+abbrev pub IsQuery : List ℕ → Row → Type 0
+IsQuery sql params = (is_ask_text (first sql) ≡ true) × IsAsked sql params
 
 -- an answer has one row, whose first value is version 2
 pub record IsSecond (rows : List Row) : Type 0 where

@@ -18,7 +18,7 @@ pub fn look<S: Alter>(
     sql: &str,
     params: &[ValueRef<'_>],
 ) -> Result<Vec<Row>, KeepFault>
-    requires { IsQuery sql.now }
+    requires { IsQuery sql.now (bound params.now) }
     ensures kept { HasCleanDisk (state S.Store conn.new)
         → KeepsCommit (state S.Store conn.old) (state S.Store conn.new) }
     ensures shown { HasCleanDisk (state S.Store conn.new)

@@ -1,5 +1,5 @@
 -- Why a call of a keeper failed.
-use Rattle.std.specs.Prelude.{◌≡◌, ◌≢◌, ◌⊎◌, ℕ, List, [], ◌∷◌, Option, Some, None, slice_get, Err, IsTrue}
+use Rattle.std.specs.Prelude.{◌≡◌, ◌≢◌, ◌⊎◌, ℕ, List, [], ◌∷◌, length, Option, Some, None, slice_get, Err, IsTrue}
 use Rattle.sqlite_value.specs.Order.{Row}
 use Rattle.sqlite_trees.specs.declared.store.Store.{Ghosts}
 use Rattle.sqlite.specs.declared.error.Error.{Error}
@@ -24,6 +24,10 @@ asked_texts =
     find_version ∷ find_last ∷ find_past ∷ find_day ∷ find_seal ∷ find_spent ∷ list_spent ∷ list_vehicle ∷
     find_tariffs ∷ []
 
+-- how many values each of these is given
+abbrev pub asked_counts : List ℕ
+asked_counts = 0 ∷ 0 ∷ 0 ∷ 1 ∷ 1 ∷ 3 ∷ 2 ∷ 3 ∷ 0 ∷ []
+
 -- all that it writes into them
 abbrev pub written_texts : List (List ℕ)
 written_texts = put_day ∷ put_seal ∷ put_spent ∷ put_past ∷ drop_tariff ∷ put_tariff ∷ []
@@ -32,6 +36,11 @@ written_texts = put_day ∷ put_seal ∷ put_spent ∷ put_past ∷ drop_tariff 
 abbrev pub IsOneOf : List (List ℕ) → List ℕ → Type 0
 IsOneOf texts sql = (at : ℕ) × (slice_get texts at ≡ Some sql)
 
+-- a text is one of a keeper's queries, with as many values as that is given
+abbrev pub IsAsked : List ℕ → Row → Type 0
+IsAsked sql params =
+    (at : ℕ) × (slice_get asked_texts at ≡ Some sql) × (slice_get asked_counts at ≡ Some (length params))
+
 -- a text is a keeper's own
 abbrev pub IsKeptText : List ℕ → Type 0
 IsKeptText sql = (sql ≡ undo) ⊎ (IsOneOf asked_texts sql ⊎ IsOneOf written_texts sql)
@@ -39,12 +48,12 @@ IsKeptText sql = (sql ≡ undo) ⊎ (IsOneOf asked_texts sql ⊎ IsOneOf written
 -- what ends a transaction that someone left was refused with this error
 abbrev pub RefusesUndo : List ℕ → Row → State → State → Error → Type 0
 RefusesUndo sql params before after e =
-    (sql ≡ undo) × IsTrue before.in_transaction × Executes sql params before after (Err e)
+    (sql ≡ undo) × (params ≡ []) × IsTrue before.in_transaction × Executes sql params before after (Err e)
 
 -- so was a query of what is committed
 abbrev pub RefusesQuery : List ℕ → Row → State → State → Error → Type 0
 RefusesQuery sql params before after e =
-    IsOneOf asked_texts sql × (IsTrue before.is_open → before.now ≡ before.committed)
+    IsAsked sql params × (IsTrue before.is_open → before.now ≡ before.committed)
     × FailsToQuery sql params before after e
 
 -- so was a text that the call writes within a transaction, with its values

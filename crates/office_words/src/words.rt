@@ -12,7 +12,8 @@ use std::alloc::Global;
 
 /// Why there are no matches.
 pub fn fault_of(error: &Error) -> WordFault
-    ensures { (result ≡ WordFault.Words) → (kind_of error.now ≡ kind.OutOfMemory) → ⊥ }
+    ensures words { (result ≡ WordFault.Words) → (kind_of error.now ≡ kind.OutOfMemory) → ⊥ }
+    ensures memory { (result ≡ WordFault.NoMemory) → kind_of error.now ≡ kind.OutOfMemory }
 {
     match error.kind() {
         ErrorKind::OutOfMemory => WordFault::NoMemory,

@@ -1,5 +1,5 @@
 // The calls of a keeper in a SQLite file.
-ghost use Rattle.std.specs.Prelude.{◌≡◌, ◌≢◌, Some, None, IfOk};
+ghost use Rattle.std.specs.Prelude.{◌≡◌, ◌≢◌, ◌≤◌, Some, None, IfOk, IfSome};
 ghost use Rattle.sqlite.specs.Held.{state};
 ghost use Rattle.road_time.specs.History.{paid};
 ghost use Rattle.road_time.specs.Rates.{IsTariff};
@@ -8,7 +8,8 @@ ghost use Rattle.keeper.specs.Kept.{IsDayPut, IsPastPut, IsLater, HasNoDays, wit
 ghost use Rattle.keeper.specs.Calls.{CountsFaults, IfTold};
 ghost use Rattle.keeper.specs.declared.kept.KeepFault.TheVariants.{NoMemory};
 ghost use Rattle.kept_tables.specs.Steps.{FitsAny};
-ghost use Rattle.keeper_writes.specs.Causes.{WasRefused};
+ghost use Rattle.keeper_writes.specs.Causes.{WasRefusedIn, WasRefusedOf};
+ghost use Rattle.keeper_writes.specs.Writes.{WritesDay, WritesPast, WritesTariff};
 ghost use Rattle.tree_puts.specs.Stores.{Stores};
 ghost use Rattle.keeper_at_path.specs.Asked.{AskedToRead, AskedToPut};
 ghost use Rattle.keeper_at_path.specs.Causes.{IsSaid};
@@ -44,7 +45,7 @@ impl Keeper for SqliteKeeper {
         ensures does { AskedToRead self.old.in_file.in_file.database.kept self.new.in_file.in_file.database.kept
             (AreFound ⟦<KeptPages as Pages>⟧) (Looks ⟦<KeptPages as Pages>⟧)
             (λ k. k.unmade ≢ Some NoMemory) (λ k. state ⟦<KeptStore as Store>⟧ k.conn)
-            (WasRefused ⟦<KeptStore as Store>⟧)
+            (λ k l. WasRefusedIn ⟦<KeptStore as Store>⟧ k.conn l.conn)
             (λ o last. last ≡ last_day_of o) result }
     {
         self.read(LastDay)
@@ -56,19 +57,20 @@ impl Keeper for SqliteKeeper {
         ensures does { AskedToRead self.old.in_file.in_file.database.kept self.new.in_file.in_file.database.kept
             (AreFound ⟦<KeptPages as Pages>⟧) (Looks ⟦<KeptPages as Pages>⟧)
             (λ k. k.unmade ≢ Some NoMemory) (λ k. state ⟦<KeptStore as Store>⟧ k.conn)
-            (WasRefused ⟦<KeptStore as Store>⟧)
+            (λ k l. WasRefusedIn ⟦<KeptStore as Store>⟧ k.conn l.conn)
             (λ o kept. kept ≡ record_of o day) result }
     {
         self.read(AskedDay { day })
     }
 
     fn past(&mut self) -> Result<Option<PastRecord>, KeepFault>
+        ensures based { IfOk result (λ past. IfSome past (λ p. 70 ≤ p.base)) }
         ensures cause { CountsFaults self.old.in_file.in_file.faults self.new.in_file.in_file.faults result }
         ensures said { IsSaid result self.old.in_file.in_file.database.cause self.new.in_file.in_file.database.cause }
         ensures does { AskedToRead self.old.in_file.in_file.database.kept self.new.in_file.in_file.database.kept
             (AreFound ⟦<KeptPages as Pages>⟧) (Looks ⟦<KeptPages as Pages>⟧)
             (λ k. k.unmade ≢ Some NoMemory) (λ k. state ⟦<KeptStore as Store>⟧ k.conn)
-            (WasRefused ⟦<KeptStore as Store>⟧)
+            (λ k l. WasRefusedIn ⟦<KeptStore as Store>⟧ k.conn l.conn)
             (λ o past. past ≡ o.past) result }
     {
         self.read(Past)
@@ -80,7 +82,7 @@ impl Keeper for SqliteKeeper {
         ensures does { AskedToRead self.old.in_file.in_file.database.kept self.new.in_file.in_file.database.kept
             (AreFound ⟦<KeptPages as Pages>⟧) (Looks ⟦<KeptPages as Pages>⟧)
             (λ k. k.unmade ≢ Some NoMemory) (λ k. state ⟦<KeptStore as Store>⟧ k.conn)
-            (WasRefused ⟦<KeptStore as Store>⟧)
+            (λ k l. WasRefusedIn ⟦<KeptStore as Store>⟧ k.conn l.conn)
             (λ o tolls. tolls ≡ paid o.rows day vid xway) result }
     {
         self.read(AskedSpent { day, vid, xway })
@@ -93,7 +95,7 @@ impl Keeper for SqliteKeeper {
         ensures does { AskedToRead self.old.in_file.in_file.database.kept self.new.in_file.in_file.database.kept
             (AreFound ⟦<KeptPages as Pages>⟧) (Looks ⟦<KeptPages as Pages>⟧)
             (λ k. k.unmade ≢ Some NoMemory) (λ k. state ⟦<KeptStore as Store>⟧ k.conn)
-            (WasRefused ⟦<KeptStore as Store>⟧)
+            (λ k l. WasRefusedIn ⟦<KeptStore as Store>⟧ k.conn l.conn)
             (λ o rows. rows.items ≡ rows_between o from to) result }
     {
         self.read(Rows { from, to })
@@ -106,7 +108,7 @@ impl Keeper for SqliteKeeper {
         ensures does { AskedToRead self.old.in_file.in_file.database.kept self.new.in_file.in_file.database.kept
             (AreFound ⟦<KeptPages as Pages>⟧) (Looks ⟦<KeptPages as Pages>⟧)
             (λ k. k.unmade ≢ Some NoMemory) (λ k. state ⟦<KeptStore as Store>⟧ k.conn)
-            (WasRefused ⟦<KeptStore as Store>⟧)
+            (λ k l. WasRefusedIn ⟦<KeptStore as Store>⟧ k.conn l.conn)
             (λ o rows. rows.items ≡ vehicle_rows_between o vid from to) result }
     {
         self.read(VehicleRows { vid, from, to })
@@ -118,7 +120,7 @@ impl Keeper for SqliteKeeper {
         ensures does { AskedToRead self.old.in_file.in_file.database.kept self.new.in_file.in_file.database.kept
             (AreFound ⟦<KeptPages as Pages>⟧) (Looks ⟦<KeptPages as Pages>⟧)
             (λ k. k.unmade ≢ Some NoMemory) (λ k. state ⟦<KeptStore as Store>⟧ k.conn)
-            (WasRefused ⟦<KeptStore as Store>⟧)
+            (λ k l. WasRefusedIn ⟦<KeptStore as Store>⟧ k.conn l.conn)
             (λ o tariffs. tariffs ≡ o.tariffs) result }
     {
         self.read(KeptTariffs)
@@ -132,7 +134,8 @@ impl Keeper for SqliteKeeper {
         ensures does { AskedToPut self.old.in_file.in_file.database.kept self.new.in_file.in_file.database.kept
             (λ k. k.unmade ≢ Some NoMemory) (AreFound ⟦<KeptPages as Pages>⟧)
             (Stores ⟦<KeptStore as Store>⟧ (IsLater kept.now.day) (with_day kept.now rows.now))
-            (λ k. state ⟦<KeptStore as Store>⟧ k.conn) (WasRefused ⟦<KeptStore as Store>⟧)
+            (λ k. state ⟦<KeptStore as Store>⟧ k.conn)
+            (λ k l. WasRefusedOf ⟦<KeptStore as Store>⟧ (WritesDay kept.now rows.now) k.conn l.conn)
             (IsLater kept.now.day) (with_day kept.now rows.now) result }
     {
         self.put(PutDay { kept, rows })
@@ -146,7 +149,8 @@ impl Keeper for SqliteKeeper {
         ensures does { AskedToPut self.old.in_file.in_file.database.kept self.new.in_file.in_file.database.kept
             (λ k. k.unmade ≢ Some NoMemory) (AreFound ⟦<KeptPages as Pages>⟧)
             (Stores ⟦<KeptStore as Store>⟧ HasNoDays (with_past kept.now rows.now))
-            (λ k. state ⟦<KeptStore as Store>⟧ k.conn) (WasRefused ⟦<KeptStore as Store>⟧)
+            (λ k. state ⟦<KeptStore as Store>⟧ k.conn)
+            (λ k l. WasRefusedOf ⟦<KeptStore as Store>⟧ (WritesPast kept.now rows.now) k.conn l.conn)
             HasNoDays (with_past kept.now rows.now) result }
     {
         self.put(PutPast { kept, rows })
@@ -159,7 +163,8 @@ impl Keeper for SqliteKeeper {
         ensures does { AskedToPut self.old.in_file.in_file.database.kept self.new.in_file.in_file.database.kept
             (λ k. k.unmade ≢ Some NoMemory) (AreFound ⟦<KeptPages as Pages>⟧)
             (Stores ⟦<KeptStore as Store>⟧ FitsAny (with_tariff_of xway tariff.now))
-            (λ k. state ⟦<KeptStore as Store>⟧ k.conn) (WasRefused ⟦<KeptStore as Store>⟧)
+            (λ k. state ⟦<KeptStore as Store>⟧ k.conn)
+            (λ k l. WasRefusedOf ⟦<KeptStore as Store>⟧ (WritesTariff xway tariff.now) k.conn l.conn)
             FitsAny (with_tariff_of xway tariff.now) result }
     {
         self.put(PutTariff { xway, tariff })

@@ -3,7 +3,7 @@ ghost use Rattle.std.specs.Prelude.{◌≡◌, ◌≢◌, Some, None, IfOk};
 ghost use Rattle.sqlite.specs.Held.{state};
 ghost use Rattle.keeper.specs.Calls.{CountsFaults};
 ghost use Rattle.keeper.specs.declared.kept.KeepFault.TheVariants.{NoMemory as no_memory};
-ghost use Rattle.keeper_writes.specs.Causes.{WasRefused};
+ghost use Rattle.keeper_writes.specs.Causes.{WasRefusedIn, WasRefusedOf};
 ghost use Rattle.tree_puts.specs.Stores.{Stores};
 ghost use Rattle.keeper_at_path.specs.Asked.{AskedToRead, AskedToPut};
 ghost use Rattle.keeper_at_path.specs.Causes.{IsSaid};
@@ -76,7 +76,7 @@ impl SqliteKeeper {
         ensures does { AskedToRead self.old.in_file.in_file.database.kept self.new.in_file.in_file.database.kept
             (AreFound ⟦<KeptPages as Pages>⟧) (Looks ⟦<KeptPages as Pages>⟧)
             (λ k. k.unmade ≢ Some no_memory) (λ k. state ⟦<KeptStore as Store>⟧ k.conn)
-            (WasRefused ⟦<KeptStore as Store>⟧) (C.gives call) result }
+            (λ k l. WasRefusedIn ⟦<KeptStore as Store>⟧ k.conn l.conn) (C.gives call) result }
         ensures cause { CountsFaults self.old.in_file.in_file.faults self.new.in_file.in_file.faults result }
         ensures said { IsSaid result self.old.in_file.in_file.database.cause self.new.in_file.in_file.database.cause }
     {
@@ -89,7 +89,8 @@ impl SqliteKeeper {
         ensures does { AskedToPut self.old.in_file.in_file.database.kept self.new.in_file.in_file.database.kept
             (λ k. k.unmade ≢ Some no_memory) (AreFound ⟦<KeptPages as Pages>⟧)
             (Stores ⟦<KeptStore as Store>⟧ (C.asks call) (C.next call))
-            (λ k. state ⟦<KeptStore as Store>⟧ k.conn) (WasRefused ⟦<KeptStore as Store>⟧)
+            (λ k. state ⟦<KeptStore as Store>⟧ k.conn)
+            (λ k l. WasRefusedOf ⟦<KeptStore as Store>⟧ (C.writes call) k.conn l.conn)
             (C.asks call) (C.next call) result }
         ensures cause { CountsFaults self.old.in_file.in_file.faults self.new.in_file.in_file.faults result }
         ensures said { IsSaid result self.old.in_file.in_file.database.cause self.new.in_file.in_file.database.cause }

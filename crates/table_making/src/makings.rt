@@ -1,5 +1,5 @@
 // The making of tables, in one transaction.
-ghost use Rattle.std.specs.Prelude.{◌≡◌, false, IsTrue, IfOk, OnOk, OnErr};
+ghost use Rattle.std.specs.Prelude.{◌≡◌, false, IsTrue, IfOk, IfErr, OnOk, OnErr};
 ghost use Rattle.sqlite.specs.Held.{state};
 ghost use Rattle.sqlite.specs.Listing.{understood};
 ghost use Rattle.sqlite.specs.State.{HasCleanDisk, Survives, KeepsCommit, IsUnchanged};
@@ -167,7 +167,8 @@ fn is_there<S: Alter>(conn: &mut Connection<S>, sql: &str) -> Result<bool, Error
 
 /// Whether a refusal says that something is not there; handed on where it does not.
 fn misses(error: Error) -> Result<bool, Error>
-    ensures { IfOk result (λ is. (is ≡ false) × ((fault : CompileError) × (error ≡ SqlInputError fault))) }
+    ensures missed { IfOk result (λ is. (is ≡ false) × ((fault : CompileError) × (error ≡ SqlInputError fault))) }
+    ensures own { IfErr result (λ e. e ≡ error) }
 {
     match error {
         Error::SqlInputError(_) => Ok(false),

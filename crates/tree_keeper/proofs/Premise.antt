@@ -66,6 +66,11 @@ pub key_begins : {size : ℕ} {pages : PageMap} {roots : Roots} → roots_of siz
     → Names size our_trees pages 2 (Index plain) roots.spent_key
 key_begins are = record { shape_is = refl; root_is = ap (λ l. slice_index l 2) are }
 
+-- the version is in the last
+pub form_begins : {size : ℕ} {pages : PageMap} {roots : Roots} → roots_of size our_trees pages ≡ root_list roots
+    → Names size our_trees pages 6 Table roots.form
+form_begins are = record { shape_is = refl; root_is = ap (λ l. slice_index l 6) are }
+
 module _ {size : ℕ} {pages : PageMap} {roots : Roots} {o : Office} (has : StandForOffice size pages roots o) where
   -- where the trees begin
   pub spent_at : Names size our_trees pages 1 Table roots.spent

@@ -1,5 +1,9 @@
 -- What a search in the table of days tells.
-use Rattle.std.specs.Prelude.{◌≡◌, ℕ, List, [], ◌∷◌, ◌++◌, Option, Some, None}
+use Rattle.std.specs.Prelude.{◌≡◌, ℕ, pos, true, List, [], ◌∷◌, ◌++◌, filter, Option, Some, None}
+use Rattle.sqlite_value.specs.declared.value.Value.TheVariants.{Blob}
+use Rattle.sqlite_value.specs.Order.{Row, column}
+use Rattle.sqlite_trees.specs.Tree.{has_rowid}
+use Rattle.sqlite_trees.specs.View.{Finds}
 use Rattle.keeper.specs.declared.kept.DayRecord.{DayRecord}
 use Rattle.keeper.specs.declared.kept.OldRecord.{OldRecord}
 use Rattle.keeper.specs.Kept.{sealed}
@@ -16,3 +20,9 @@ abbrev pub IsLastDay : List DayRecord → Option ℕ → Type 0
 IsLastDay days None = days ≡ []
 IsLastDay days (Some day) = (before : List DayRecord) × (last : DayRecord) × (days ≡ before ++ last ∷ [])
     × (last.day ≡ day)
+
+-- a day is told with the digest of its seal's row, and as not kept only where it has no record
+abbrev pub IsToldSealed : List Row → List Row → ℕ → Option DayRecord → Type 0
+IsToldSealed days seals day None = filter (has_rowid (pos day)) days ≡ []
+IsToldSealed days seals day (Some r) =
+    (row : Row) × Finds seals (pos day) row true × (column row 2 ≡ Blob r.tariffs.bytes)

@@ -1,9 +1,11 @@
 -- When pages stand for an office.
-use Rattle.std.specs.Prelude.{◌≡◌, ◌⊎◌, ℕ, List, [], ◌∷◌, codes}
+use Rattle.std.specs.Prelude.{◌≡◌, ◌⊎◌, ℕ, pos, true, List, [], ◌∷◌, codes}
 use Rattle.sqlite_disk.specs.Disk.{MoreFaults}
-use Rattle.sqlite_value.specs.declared.value.Value.TheVariants.{Null, Text}
+use Rattle.sqlite_value.specs.declared.value.Value.TheVariants.{Null, Int, Text}
+use Rattle.sqlite_value.specs.Order.{Row, column}
 use Rattle.sqlite_value.specs.Keys.{plain}
 use Rattle.sqlite_trees.specs.declared.store.Shape.TheVariants.{Table, Index}
+use Rattle.sqlite_trees.specs.View.{Finds}
 use Rattle.sqlite_pages.specs.PageMap.{PageMap}
 use Rattle.sqlite_pages.specs.declared.pages.Pages.{Ghosts}
 use Rattle.sqlite_store.specs.declared.catalog.Wanted.{Wanted}
@@ -54,6 +56,10 @@ pub record HoldOffice (size : ℕ) (pages : PageMap) (o : Office) : Type 0 where
 pub record StandForOffice (size : ℕ) (pages : PageMap) (roots : Roots) (o : Office) : Type 0 where
   pub holds : HoldOffice size pages o
   pub roots_are : roots_of size our_trees pages ≡ root_list roots
+
+-- the row of number 1 of a table has version 2
+abbrev pub ListsSecond : List Row → Type 0
+ListsSecond rows = (row : Row) × Finds rows (pos 1) row true × (column row 2 ≡ Int (pos 2))
 
 -- the disk failed, or the pages are shut or cannot grow
 abbrev pub PagesStopped : {P : Type 0} → Ghosts P → P → P → Type 0

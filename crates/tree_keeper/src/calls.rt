@@ -1,5 +1,5 @@
 // The calls of a keeper that read, over trees.
-ghost use Rattle.std.specs.Prelude.{◌≡◌, IfOk};
+ghost use Rattle.std.specs.Prelude.{◌≡◌, ◌≤◌, IfOk, IfSome};
 ghost use Rattle.sqlite_pages.specs.Calls.{IsClean, Continues};
 ghost use Rattle.sqlite_store.specs.Db.{IsDb, roots_of, trees_in};
 ghost use Rattle.road_time.specs.History.{paid};
@@ -7,6 +7,7 @@ ghost use Rattle.keeper.specs.Office.{Office, RowsRise, last_day as last_of, rec
 ghost use Rattle.keeper.specs.Office.{vehicle_rows_between};
 ghost use Rattle.tree_keeper.specs.Pages.{our_trees, root_list, StandForOffice, PagesStopped};
 ghost use Rattle.tree_keeper.specs.Finds.{IsHeldAmount};
+ghost use Rattle.tree_keeper.specs.Days.{IsToldSealed};
 ghost use Rattle.tree_keeper.specs.Gives.{AnswersUnless, keep_fault_of};
 
 use crate::amounts::amount;
@@ -111,6 +112,10 @@ pub fn day<P: Pages>(
     ensures gives { IsClean P.Pages pages.new → (o : Office)
         → StandForOffice (P.Pages.size pages.old) (P.Pages.pages pages.old) roots o
         → AnswersUnless (PagesStopped P.Pages pages.old pages.new) (λ found. found ≡ record_of o day) result }
+    ensures sealed { IsClean P.Pages pages.new → IsDb (P.Pages.size pages.old) our_trees (P.Pages.pages pages.old)
+        → roots_of (P.Pages.size pages.old) our_trees (P.Pages.pages pages.old) ≡ root_list roots
+        → IfOk result (IsToldSealed (trees_in (P.Pages.size pages.old) our_trees (P.Pages.pages pages.old) 0)
+        (trees_in (P.Pages.size pages.old) our_trees (P.Pages.pages pages.old) 4) day) }
     ensures kept { Continues P.Pages pages.old pages.new }
     ensures pages { P.Pages.pages pages.new ≡ P.Pages.pages pages.old }
 {
@@ -129,6 +134,7 @@ pub fn past<P: Pages>(
     ensures gives { IsClean P.Pages pages.new → (o : Office)
         → StandForOffice (P.Pages.size pages.old) (P.Pages.pages pages.old) roots o
         → AnswersUnless (PagesStopped P.Pages pages.old pages.new) (λ past. past ≡ o.past) result }
+    ensures based { IfOk result (λ past. IfSome past (λ q. 70 ≤ q.base)) }
     ensures kept { Continues P.Pages pages.old pages.new }
     ensures pages { P.Pages.pages pages.new ≡ P.Pages.pages pages.old }
 {

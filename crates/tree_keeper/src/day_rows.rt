@@ -1,14 +1,16 @@
 // The rows of days and of their seals.
-ghost use Rattle.std.specs.Prelude.{◌≡◌, ◌≢◌, ◌<◌, ◌^◌, ℕ, pos, MatchResult};
+ghost use Rattle.std.specs.Prelude.{◌≡◌, ◌≢◌, ◌<◌, ◌^◌, ℕ, pos, [], None, filter, IfOk, MatchResult};
 ghost use Rattle.sqlite_pages.specs.declared.error.Error.TheVariants.{Corrupt};
 ghost use Rattle.sqlite_pages.specs.Calls.{IsClean, Continues, FailsFor};
+ghost use Rattle.sqlite_trees.specs.Tree.{has_rowid};
+ghost use Rattle.sqlite_store.specs.Db.{IsDb, roots_of, trees_in};
 ghost use Rattle.keeper.specs.declared.kept.DayRecord.{DayRecord as Day};
 ghost use Rattle.keeper.specs.Kept.{sealed};
 ghost use Rattle.keeper.specs.Office.{Office, record_of, last_day};
 ghost use Rattle.kept_tables.specs.Codec.{day_row};
 ghost use Rattle.kept_tables.specs.Stands.{FitsDay};
-ghost use Rattle.tree_keeper.specs.Pages.{StandForOffice};
-ghost use Rattle.tree_keeper.specs.Days.{TellsDay, IsLastDay};
+ghost use Rattle.tree_keeper.specs.Pages.{our_trees, root_list, StandForOffice};
+ghost use Rattle.tree_keeper.specs.Days.{TellsDay, IsLastDay, IsToldSealed};
 
 use crate::finds::find_row;
 use crate::hands::Hands;
@@ -52,6 +54,10 @@ fn unsealed_day<P: Pages>(
     ensures done { IsClean P.Pages pages.new → (o : Office)
         → StandForOffice (P.Pages.size pages.old) (P.Pages.pages pages.old) roots o
         → MatchResult result (TellsDay (record_of o day)) (FailsFor P.Pages pages.old pages.new ⊥) }
+    ensures none { IsClean P.Pages pages.new → IsDb (P.Pages.size pages.old) our_trees (P.Pages.pages pages.old)
+        → roots_of (P.Pages.size pages.old) our_trees (P.Pages.pages pages.old) ≡ root_list roots
+        → IfOk result (λ old. old ≡ None → filter (has_rowid (pos day))
+        (trees_in (P.Pages.size pages.old) our_trees (P.Pages.pages pages.old) 0) ≡ []) }
     ensures kept { Continues P.Pages pages.old pages.new }
     ensures pages { P.Pages.pages pages.new ≡ P.Pages.pages pages.old }
 {
@@ -80,6 +86,10 @@ pub fn record<P: Pages>(
     ensures done { IsClean P.Pages pages.new → (o : Office)
         → StandForOffice (P.Pages.size pages.old) (P.Pages.pages pages.old) roots o
         → MatchResult result (λ found. found ≡ record_of o day) (FailsFor P.Pages pages.old pages.new ⊥) }
+    ensures sealed { IsClean P.Pages pages.new → IsDb (P.Pages.size pages.old) our_trees (P.Pages.pages pages.old)
+        → roots_of (P.Pages.size pages.old) our_trees (P.Pages.pages pages.old) ≡ root_list roots
+        → IfOk result (IsToldSealed (trees_in (P.Pages.size pages.old) our_trees (P.Pages.pages pages.old) 0)
+        (trees_in (P.Pages.size pages.old) our_trees (P.Pages.pages pages.old) 4) day) }
     ensures kept { Continues P.Pages pages.old pages.new }
     ensures pages { P.Pages.pages pages.new ≡ P.Pages.pages pages.old }
 {

@@ -1,5 +1,5 @@
 // The row of a history.
-ghost use Rattle.std.specs.Prelude.{◌≡◌, ◌≤◌, MatchResult};
+ghost use Rattle.std.specs.Prelude.{◌≡◌, ◌≤◌, IfOk, IfSome, MatchResult};
 ghost use Rattle.sqlite_pages.specs.Calls.{IsClean, Continues, FailsFor};
 ghost use Rattle.keeper.specs.declared.kept.PastRecord.{PastRecord as History};
 ghost use Rattle.keeper.specs.Office.{Office};
@@ -17,8 +17,9 @@ use sqlite_value::row::Row;
 
 /// The history that a row is. Its base is 70 or more.
 fn history_of(row: &Row) -> Result<PastRecord, Error>
-    ensures { (p : History) → FitsPast p → 70 ≤ p.base → row.now ≡ past_row p
+    ensures gives { (p : History) → FitsPast p → 70 ≤ p.base → row.now ≡ past_row p
         → MatchResult result (λ q. q ≡ p) (λ e. ⊥) }
+    ensures based { IfOk result (λ q. 70 ≤ q.base) }
 {
     let base = number_32(row, 2)?;
     let digest = digest_at(row, 3)?;
@@ -44,6 +45,7 @@ pub fn history<P: Pages>(
     ensures done { IsClean P.Pages pages.new → (o : Office)
         → StandForOffice (P.Pages.size pages.old) (P.Pages.pages pages.old) roots o
         → MatchResult result (λ past. past ≡ o.past) (FailsFor P.Pages pages.old pages.new ⊥) }
+    ensures based { IfOk result (λ past. IfSome past (λ q. 70 ≤ q.base)) }
     ensures kept { Continues P.Pages pages.old pages.new }
     ensures pages { P.Pages.pages pages.new ≡ P.Pages.pages pages.old }
 {

@@ -1,14 +1,16 @@
 // Whether pages list our trees, and where those begin.
-ghost use Rattle.std.specs.Prelude.{◌≡◌, IfOk, IfSome};
+ghost use Rattle.std.specs.Prelude.{◌≡◌, ℕ, true, IfOk, IfSome};
 ghost use Rattle.sqlite_pages.specs.Calls.{IsClean, Continues};
-ghost use Rattle.sqlite_store.specs.Db.{IsDb, roots_of};
-ghost use Rattle.tree_keeper.specs.Pages.{our_trees, root_list};
+ghost use Rattle.sqlite_trees.specs.declared.store.Shape.TheVariants.{Table};
+ghost use Rattle.sqlite_store.specs.Catalog.{reals_at};
+ghost use Rattle.sqlite_store.specs.Db.{IsDb, Names as IsAt, roots_of, trees_in};
+ghost use Rattle.tree_keeper.specs.Pages.{our_trees, root_list, ListsSecond};
 
 use crate::finds::find_row;
 use crate::hands::Hands;
 use crate::listing::{SCHEMA_ROOT, key_at, table_at};
 use crate::roots::Roots;
-use crate::values::number_at;
+use crate::values::holds;
 use sqlite_btree::table;
 use sqlite_pages::{Error, Pages};
 
@@ -44,6 +46,11 @@ fn begins_after<P: Pages>(pages: &mut P, hands: &mut Hands, number: i64) -> Resu
 
 /// Whether the tables are of version 2.
 fn is_second<P: Pages>(pages: &mut P, hands: &mut Hands, form: u32) -> Result<bool, Error>
+    ensures second { IsClean P.Pages pages.new → (t : ℕ)
+        → IsDb (P.Pages.size pages.old) our_trees (P.Pages.pages pages.old)
+        → IsAt (P.Pages.size pages.old) our_trees (P.Pages.pages pages.old) t Table form → reals_at our_trees t ≡ 0
+        → IfOk result (λ is. is ≡ true
+        → ListsSecond (trees_in (P.Pages.size pages.old) our_trees (P.Pages.pages pages.old) t)) }
     ensures kept { Continues P.Pages pages.old pages.new }
     ensures pages { P.Pages.pages pages.new ≡ P.Pages.pages pages.old }
 {
@@ -58,7 +65,7 @@ fn is_second<P: Pages>(pages: &mut P, hands: &mut Hands, form: u32) -> Result<bo
     if !there {
         return Ok(false);
     }
-    Ok(number_at(&hands.row, 2) == Some(2))
+    Ok(holds(&hands.row, 2, 2))
 }
 
 /// Whether rows of the numbers 1 to 7 are listed, and no others.
@@ -164,6 +171,9 @@ pub fn find_roots<P: Pages>(pages: &mut P, hands: &mut Hands) -> Result<Option<R
     ensures done { IsClean P.Pages pages.new → IsDb (P.Pages.size pages.old) our_trees (P.Pages.pages pages.old)
         → IfOk result (λ found. IfSome found (λ roots.
         roots_of (P.Pages.size pages.old) our_trees (P.Pages.pages pages.old) ≡ root_list roots)) }
+    ensures second { IsClean P.Pages pages.new → IsDb (P.Pages.size pages.old) our_trees (P.Pages.pages pages.old)
+        → IfOk result (λ found. IfSome found (λ _. ListsSecond
+        (trees_in (P.Pages.size pages.old) our_trees (P.Pages.pages pages.old) 6))) }
     ensures kept { Continues P.Pages pages.old pages.new }
     ensures pages { P.Pages.pages pages.new ≡ P.Pages.pages pages.old }
 {

@@ -1,13 +1,15 @@
 // Pages whose trees were found, with what a keeper asks of them.
-ghost use Rattle.std.specs.Prelude.{◌≡◌, IfOk, MatchResult};
+ghost use Rattle.std.specs.Prelude.{◌≡◌, ◌≤◌, IfOk, IfSome, MatchResult};
 ghost use Rattle.sqlite_pages.specs.Calls.{IsClean, Continues};
 ghost use Rattle.sqlite_pool.specs.Opening.{AreUsable};
 ghost use Rattle.sqlite_store.specs.Db.{IsDb, roots_of, trees_in};
 ghost use Rattle.road_time.specs.History.{paid};
 ghost use Rattle.keeper.specs.Office.{Office, RowsRise, last_day as last_of, record_of, rows_between};
 ghost use Rattle.keeper.specs.Office.{vehicle_rows_between};
-ghost use Rattle.tree_keeper.specs.Pages.{our_trees, root_list, HoldOffice, StandForOffice, PagesStopped};
+ghost use Rattle.tree_keeper.specs.Pages.{our_trees, root_list, HoldOffice, ListsSecond};
+ghost use Rattle.tree_keeper.specs.Pages.{StandForOffice, PagesStopped};
 ghost use Rattle.tree_keeper.specs.Finds.{IsHeldAmount};
+ghost use Rattle.tree_keeper.specs.Days.{IsToldSealed};
 ghost use Rattle.tree_keeper.specs.Gives.{AnswersUnless};
 
 use crate::calls;
@@ -35,6 +37,9 @@ impl<P: Pages> PageTrees<P> {
         ensures found { IfOk result (λ trees. IsClean P.Pages trees.pages → (o : Office)
             → HoldOffice (P.Pages.size pages) (P.Pages.pages pages) o
             → StandForOffice (P.Pages.size trees.pages) (P.Pages.pages trees.pages) trees.roots o) }
+        ensures second { IfOk result (λ trees. IsClean P.Pages trees.pages
+            → IsDb (P.Pages.size pages) our_trees (P.Pages.pages pages)
+            → ListsSecond (trees_in (P.Pages.size pages) our_trees (P.Pages.pages pages) 6)) }
         ensures same { MatchResult result
             (λ trees. Continues P.Pages pages trees.pages × (P.Pages.pages trees.pages ≡ P.Pages.pages pages))
             (λ back. Continues P.Pages pages back × (P.Pages.pages back ≡ P.Pages.pages pages)) }
@@ -81,6 +86,12 @@ impl<P: Pages> PageTrees<P> {
             → StandForOffice (P.Pages.size self.old.pages) (P.Pages.pages self.old.pages) self.old.roots o
             → AnswersUnless (PagesStopped P.Pages self.old.pages self.new.pages)
             (λ found. found ≡ record_of o day) result }
+        ensures sealed { IsClean P.Pages self.new.pages
+            → IsDb (P.Pages.size self.old.pages) our_trees (P.Pages.pages self.old.pages)
+            → roots_of (P.Pages.size self.old.pages) our_trees (P.Pages.pages self.old.pages) ≡ root_list self.old.roots
+            → IfOk result (IsToldSealed (trees_in (P.Pages.size self.old.pages) our_trees
+            (P.Pages.pages self.old.pages) 0)
+            (trees_in (P.Pages.size self.old.pages) our_trees (P.Pages.pages self.old.pages) 4) day) }
         ensures kept { Continues P.Pages self.old.pages self.new.pages }
         ensures same { (P.Pages.pages self.new.pages ≡ P.Pages.pages self.old.pages)
             × (self.new.roots ≡ self.old.roots) }
@@ -94,6 +105,7 @@ impl<P: Pages> PageTrees<P> {
             → StandForOffice (P.Pages.size self.old.pages) (P.Pages.pages self.old.pages) self.old.roots o
             → AnswersUnless (PagesStopped P.Pages self.old.pages self.new.pages)
             (λ past. past ≡ o.past) result }
+        ensures based { IfOk result (λ past. IfSome past (λ q. 70 ≤ q.base)) }
         ensures kept { Continues P.Pages self.old.pages self.new.pages }
         ensures same { (P.Pages.pages self.new.pages ≡ P.Pages.pages self.old.pages)
             × (self.new.roots ≡ self.old.roots) }

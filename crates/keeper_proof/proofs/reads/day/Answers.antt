@@ -17,10 +17,10 @@ use Rattle.keeper_proof.proofs.StandLaws.{always}
 use Rattle.keeper_proof.proofs.reads.day.Goals as goal
 
 pub look-requires : goal.look-requires
-look-requires g c = (find_day_asks, (3, refl))
+look-requires g c = (find_day_asks, (3, refl, refl))
 
 pub look-requires-2 : goal.look-requires-2
-look-requires-2 g c = (find_seal_asks, (4, refl))
+look-requires-2 g c = (find_seal_asks, (4, refl, refl))
 
 pub returns-in_err-found-clause-gives : goal.returns-in_err-found-clause-gives
 returns-in_err-found-clause-gives g c clean o has =

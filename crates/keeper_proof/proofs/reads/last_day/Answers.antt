@@ -15,10 +15,10 @@ use Rattle.keeper_proof.proofs.StandLaws.{always}
 use Rattle.keeper_proof.proofs.reads.last_day.Goals as goal
 
 pub look-requires : goal.look-requires
-look-requires g c = (find_last_asks, (1, refl))
+look-requires g c = (find_last_asks, (1, refl, refl))
 
 pub look-requires-2 : goal.look-requires-2
-look-requires-2 g c = (find_past_asks, (2, refl))
+look-requires-2 g c = (find_past_asks, (2, refl, refl))
 
 pub returns-in_err-days-clause-gives : goal.returns-in_err-days-clause-gives
 returns-in_err-days-clause-gives g c clean o has =

@@ -13,7 +13,7 @@ use Rattle.keeper_proof.proofs.StandLaws.{always}
 use Rattle.keeper_proof.proofs.reads.rows.Goals as goal
 
 pub look-requires : goal.look-requires
-look-requires g c = (list_spent_asks, (6, refl))
+look-requires g c = (list_spent_asks, (6, refl, refl))
 
 pub returns-in_err-found-clause-gives : goal.returns-in_err-found-clause-gives
 returns-in_err-found-clause-gives g c clean o has =

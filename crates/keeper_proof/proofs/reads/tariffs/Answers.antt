@@ -9,7 +9,7 @@ use Rattle.keeper_proof.proofs.StandLaws.{always}
 use Rattle.keeper_proof.proofs.reads.tariffs.Goals as goal
 
 pub look-requires : goal.look-requires
-look-requires g c = (find_tariffs_asks, (8, refl))
+look-requires g c = (find_tariffs_asks, (8, refl, refl))
 
 pub returns-in_err-found-clause-gives : goal.returns-in_err-found-clause-gives
 returns-in_err-found-clause-gives g c clean o has =

@@ -13,7 +13,7 @@ use Rattle.keeper_proof.proofs.StandLaws.{always}
 use Rattle.keeper_proof.proofs.reads.vehicle_rows.Goals as goal
 
 pub look-requires : goal.look-requires
-look-requires g c = (list_vehicle_asks, (7, refl))
+look-requires g c = (list_vehicle_asks, (7, refl, refl))
 
 pub returns-in_err-found-clause-gives : goal.returns-in_err-found-clause-gives
 returns-in_err-found-clause-gives g c clean o has =

@@ -4,7 +4,7 @@ use Rattle.keeper_proof.specs.Looks.{IsSecond}
 use Rattle.keeper_proof.proofs.versions.has_second.Goals as goal
 
 pub look-requires : goal.look-requires
-look-requires g c = (find_version_asks, (0, refl))
+look-requires g c = (find_version_asks, (0, refl, refl))
 
 pub returns-in-Ok-clause-second : goal.returns-in-Ok-clause-second
 returns-in-Ok-clause-second g c clean is =

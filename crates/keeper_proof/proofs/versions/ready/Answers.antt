@@ -7,7 +7,7 @@ use Rattle.keeper_writes.proofs.CauseLaws.{err_handed, on_then}
 use Rattle.keeper_proof.proofs.versions.ready.Goals as goal
 
 pub look-requires : goal.look-requires
-look-requires g c = (find_version_asks, (0, refl))
+look-requires g c = (find_version_asks, (0, refl, refl))
 
 pub returns-in_err-found-clause-why : goal.returns-in_err-found-clause-why
 returns-in_err-found-clause-why g c clean o stands =

@@ -40,4 +40,4 @@ returns-in-Ok-clause-calm g c clean =
 pub returns-in-Err-clause-refused : goal.returns-in-Err-clause-refused
 returns-in-Err-clause-refused g c clean =
     refused_now g.S.Store c.args.conn.now c.execute.new.self undo _ c.in-Err.error
-    (inl (refl, search rules, c.in-Err.ensures.runs clean))
+    (inl (refl, refl, search rules, c.in-Err.ensures.runs clean))

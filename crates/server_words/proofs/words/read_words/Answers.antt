@@ -8,7 +8,7 @@ use Rattle.server_words.proofs.words.read_words.Goals as goal
 pub returns-in-Err-clause-reads : goal.returns-in-Err-clause-reads
 returns-in-Err-clause-reads c =
     on_error (map string_bytes c.args.words.now) (all_text c.args.words.now) c.in-Err.error c.fault_of.result
-    c.in-Err.ensures.kinds c.fault_of.ensures
+    c.in-Err.ensures.kinds c.fault_of.ensures.words
 
 pub returns-in-Some-clause-reads : goal.returns-in-Some-clause-reads
 returns-in-Some-clause-reads c =

@@ -6,12 +6,12 @@ use Rattle.table_making.proofs.makings.is_there.Goals as goal
 pub returns-clause-says : goal.returns-clause-says
 returns-clause-says g c clean =
     (missed_says (state g.S.Store c.args.conn.now) (state g.S.Store c.prepare.new.self) c.args.sql.now c.in-Err.error
-    c.misses.result c.misses.ensures (c.in-Err.ensures.err clean)).0
+    c.misses.result c.misses.ensures.missed (c.in-Err.ensures.err clean)).0
 
 pub returns-clause-same : goal.returns-clause-same
 returns-clause-same g c clean =
     (missed_says (state g.S.Store c.args.conn.now) (state g.S.Store c.prepare.new.self) c.args.sql.now c.in-Err.error
-    c.misses.result c.misses.ensures (c.in-Err.ensures.err clean)).1
+    c.misses.result c.misses.ensures.missed (c.in-Err.ensures.err clean)).1
 
 pub returns-clause-kept : goal.returns-clause-kept
 returns-clause-kept g c clean =

@@ -1,6 +1,8 @@
 use Rattle.sqlite.specs.Held.{state}
 use Rattle.keeper.specs.Kept.{IsLater, with_day}
-use Rattle.keeper_writes.specs.Causes.{WasRefused}
+use Rattle.keeper_writes.specs.Causes.{WasRefusedOf}
+use Rattle.keeper_writes.specs.Writes.{WritesDay}
+use Rattle.keeper_writes.proofs.CauseLaws.{failure_of}
 use Rattle.keeper_proof.proofs.TellLaws.{untold_fits}
 use Rattle.keeper_at_path.proofs.DoesLaws.{put_does}
 use Rattle.keeper_at_path.proofs.puts.PutDayPutting.put.Goals as goal
@@ -10,8 +12,10 @@ put_day-requires g c = record { fits = c.requires; later = untold_fits g.S.Stead
 
 pub returns : goal.returns
 returns g c =
-    put_does (WasRefused g.S.Store)
+    let writes = WritesDay c.args.self.kept.now c.args.self.rows.now in
+    put_does (WasRefusedOf g.S.Store writes c.args.kept.now.conn c.put_day.new.self.conn)
     (IsLater c.args.self.kept.now.day) (with_day c.args.self.kept.now c.args.self.rows.now)
     (state g.S.Store c.args.kept.now.conn) (state g.S.Store c.put_day.new.self.conn)
     c.put_day.result c.put_day.ensures.put
-    c.put_day.ensures.because c.put_day.ensures.crash
+    (λ clean o stands. failure_of g.S.Store writes c.args.kept.now.conn c.put_day.new.self.conn c.put_day.result
+    (c.put_day.ensures.why clean o stands)) c.put_day.ensures.crash

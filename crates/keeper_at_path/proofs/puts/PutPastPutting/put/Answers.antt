@@ -1,6 +1,8 @@
 use Rattle.sqlite.specs.Held.{state}
 use Rattle.keeper.specs.Kept.{HasNoDays, with_past}
-use Rattle.keeper_writes.specs.Causes.{WasRefused}
+use Rattle.keeper_writes.specs.Causes.{WasRefusedOf}
+use Rattle.keeper_writes.specs.Writes.{WritesPast}
+use Rattle.keeper_writes.proofs.CauseLaws.{failure_of}
 use Rattle.keeper_proof.proofs.TellLaws.{untold_fits}
 use Rattle.keeper_at_path.proofs.DoesLaws.{put_does}
 use Rattle.keeper_at_path.proofs.puts.PutPastPutting.put.Goals as goal
@@ -10,8 +12,10 @@ put_past-requires g c = record { fits = c.requires; first = untold_fits g.S.Stea
 
 pub returns : goal.returns
 returns g c =
-    put_does (WasRefused g.S.Store) HasNoDays
+    let writes = WritesPast c.args.self.kept.now c.args.self.rows.now in
+    put_does (WasRefusedOf g.S.Store writes c.args.kept.now.conn c.put_past.new.self.conn) HasNoDays
     (with_past c.args.self.kept.now c.args.self.rows.now)
     (state g.S.Store c.args.kept.now.conn) (state g.S.Store c.put_past.new.self.conn)
     c.put_past.result c.put_past.ensures.put
-    c.put_past.ensures.because c.put_past.ensures.crash
+    (λ clean o stands. failure_of g.S.Store writes c.args.kept.now.conn c.put_past.new.self.conn c.put_past.result
+    (c.put_past.ensures.why clean o stands)) c.put_past.ensures.crash

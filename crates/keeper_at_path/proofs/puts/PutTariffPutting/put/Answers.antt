@@ -1,14 +1,18 @@
 use Rattle.sqlite.specs.Held.{state}
 use Rattle.keeper.specs.Kept.{with_tariff_of}
 use Rattle.kept_tables.specs.Steps.{FitsAny}
-use Rattle.keeper_writes.specs.Causes.{WasRefused}
+use Rattle.keeper_writes.specs.Causes.{WasRefusedOf}
+use Rattle.keeper_writes.specs.Writes.{WritesTariff}
+use Rattle.keeper_writes.proofs.CauseLaws.{failure_of}
 use Rattle.keeper_at_path.proofs.DoesLaws.{put_does}
 use Rattle.keeper_at_path.proofs.puts.PutTariffPutting.put.Goals as goal
 
 pub returns : goal.returns
 returns g c =
-    put_does (WasRefused g.S.Store) FitsAny
+    let writes = WritesTariff c.args.self.xway c.args.self.tariff.now in
+    put_does (WasRefusedOf g.S.Store writes c.args.kept.now.conn c.put_tariff.new.self.conn) FitsAny
     (with_tariff_of c.args.self.xway c.args.self.tariff.now)
     (state g.S.Store c.args.kept.now.conn) (state g.S.Store c.put_tariff.new.self.conn)
     c.put_tariff.result (λ clean here o stands fit. c.put_tariff.ensures.put clean here o stands)
-    c.put_tariff.ensures.because c.put_tariff.ensures.crash
+    (λ clean o stands. failure_of g.S.Store writes c.args.kept.now.conn c.put_tariff.new.self.conn c.put_tariff.result
+    (c.put_tariff.ensures.why clean o stands)) c.put_tariff.ensures.crash

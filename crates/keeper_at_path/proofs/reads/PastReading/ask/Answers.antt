@@ -2,14 +2,15 @@ use Rattle.std.proofs.Common.{Option}
 use Rattle.keeper.specs.declared.kept.PastRecord.{PastRecord}
 use Rattle.keeper.specs.Office.{Office}
 use Rattle.sqlite.specs.Held.{state}
-use Rattle.keeper_writes.specs.Causes.{WasRefused}
+use Rattle.keeper_writes.specs.Causes.{WasRefused, WasRefusedIn}
 use Rattle.keeper_at_path.proofs.DoesLaws.{read_does}
 use Rattle.keeper_at_path.proofs.reads.PastReading.ask.Goals as goal
 
 pub returns-clause-does : goal.returns-clause-does
 returns-clause-does g c =
-    read_does (WasRefused g.S.Store) (λ (x : Option PastRecord). x)
+    read_does (WasRefused g.S.Store) (WasRefusedIn g.S.Store c.args.kept.now.conn c.past.new.self.conn)
+    (λ (x : Option PastRecord). x)
     (λ (o : Office). o.past)
     (state g.S.Store c.args.kept.now.conn) (state g.S.Store c.past.new.self.conn)
     c.past.result
-    c.past.ensures.kept c.past.ensures.gives c.past.ensures.crash
+    c.past.ensures.kept c.past.ensures.gives c.past.ensures.why c.past.ensures.crash

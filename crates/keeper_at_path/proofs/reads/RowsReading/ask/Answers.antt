@@ -2,14 +2,15 @@ use Rattle.std.proofs.Common.{Vec, Global}
 use Rattle.road_time.specs.declared.day.SpentRow.{SpentRow}
 use Rattle.keeper.specs.Office.{rows_between}
 use Rattle.sqlite.specs.Held.{state}
-use Rattle.keeper_writes.specs.Causes.{WasRefused}
+use Rattle.keeper_writes.specs.Causes.{WasRefused, WasRefusedIn}
 use Rattle.keeper_at_path.proofs.DoesLaws.{read_does}
 use Rattle.keeper_at_path.proofs.reads.RowsReading.ask.Goals as goal
 
 pub returns-clause-does : goal.returns-clause-does
 returns-clause-does g c =
-    read_does (WasRefused g.S.Store) (λ (v : Vec SpentRow Global). v.items)
+    read_does (WasRefused g.S.Store) (WasRefusedIn g.S.Store c.args.kept.now.conn c.rows.new.self.conn)
+    (λ (v : Vec SpentRow Global). v.items)
     (λ o. rows_between o c.args.self.from c.args.self.to)
     (state g.S.Store c.args.kept.now.conn) (state g.S.Store c.rows.new.self.conn)
     c.rows.result
-    c.rows.ensures.kept c.rows.ensures.gives c.rows.ensures.crash
+    c.rows.ensures.kept c.rows.ensures.gives c.rows.ensures.why c.rows.ensures.crash
