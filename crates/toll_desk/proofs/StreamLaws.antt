@@ -1,5 +1,5 @@
 -- Laws of the notices of a day that is sent.
-use Rattle.std.proofs.Common.{◌≡◌, ◌≢◌, ◌∙◌, ℕ, List, Option, inl, inr, refl, sym, ap, subst, arith}
+use Rattle.std.proofs.Common.{◌≡◌, ◌≢◌, ◌∙◌, ℕ, List, Option, inl, inr, refl, sym, subst, arith}
 use Rattle.road_io.specs.Rooms.{Room, Untold, Bound, Endless, Takes, Refuses}
 use Rattle.road_time.specs.declared.day.Limits.{Limits}
 use Rattle.road_time.specs.Reads.{reads}

@@ -1,7 +1,6 @@
 -- What the desk answers of what is kept.
-use Rattle.std.specs.Prelude.{◌≡◌, ℕ, Bool, List, Option, Some}
+use Rattle.std.specs.Prelude.{◌≡◌, ℕ, Bool, List, Some}
 use Rattle.std.specs.Io.KnownBytes.{prepend_known}
-use Rattle.road_io.specs.Rooms.{Room}
 use Rattle.road_time.specs.declared.day.Limits.{Limits}
 use Rattle.keeper.specs.Calls.{WhenRefused}
 use Rattle.keeper.specs.Office.{Office, record_of}

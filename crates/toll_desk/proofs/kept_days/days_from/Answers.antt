@@ -1,4 +1,4 @@
-use Rattle.std.proofs.Common.{◌≡◌, ◌≤◌, ◌<◌, ◌++◌, refl, sym, ap, ◌∙◌, arith}
+use Rattle.std.proofs.Common.{◌≤◌, ◌<◌, ◌++◌, refl, sym, ap, ◌∙◌, arith}
 use Rattle.road_time.proofs.EachLaws.{weakened}
 use Rattle.keeper.specs.Office.{record_of}
 use Rattle.toll_desk.specs.Days.{as_list}

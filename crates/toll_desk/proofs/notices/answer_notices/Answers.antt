@@ -1,6 +1,5 @@
-use Rattle.std.proofs.Common.{◌∙◌, ◌≡◌, ◌≤◌, ◌<◌, inl, inr, refl, subst, sym, ap, arith}
+use Rattle.std.proofs.Common.{◌∙◌, inl, inr, refl, subst, sym, ap, arith}
 use Rattle.std.specs.Io.KnownBytes.{prepend_known}
-use Rattle.road_io.specs.Faults.{Rose}
 use Rattle.toll_texts.specs.Replies.{no_memory_reply}
 use Rattle.toll_requests.specs.Bodies.{filled}
 use Rattle.toll_requests.specs.Sends.{SendsReply}

@@ -1,4 +1,4 @@
-use Rattle.std.proofs.Common.{◌≡◌, inl, refl, ap, None}
+use Rattle.std.proofs.Common.{inl, refl, ap, None}
 use Rattle.keeper.specs.Office.{record_of}
 use Rattle.toll_desk.specs.Answers.{wire_of, day_reply}
 use Rattle.toll_desk.proofs.SendLaws.{failed_rose, not_risen}

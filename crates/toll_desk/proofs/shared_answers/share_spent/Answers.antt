@@ -1,5 +1,4 @@
 use Rattle.std.proofs.Common.{◌≡◌, ℕ, inl, refl, ap, arith}
-use Rattle.road_time.specs.History.{paid}
 use Rattle.toll_texts.specs.Bodies.{spent_body}
 use Rattle.toll_desk.specs.Answers.{wire_of, good, spent_reply}
 use Rattle.toll_desk.proofs.SendLaws.{failed_rose, not_risen}

@@ -1,6 +1,5 @@
 use Rattle.std.proofs.Common.{◌≡◌, ◌∙◌, List, [], inl, refl, ap, arith}
 use Rattle.road_time.specs.declared.day.SpentRow.{SpentRow}
-use Rattle.keeper.specs.Office.{vehicle_rows_between}
 use Rattle.toll_texts.specs.Lists.{vehicle_body}
 use Rattle.toll_desk.specs.Answers.{wire_of, good, vehicle_reply}
 use Rattle.toll_desk.proofs.SendLaws.{failed_rose, not_risen}

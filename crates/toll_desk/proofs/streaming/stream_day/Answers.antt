@@ -1,4 +1,4 @@
-use Rattle.std.proofs.Common.{◌∙◌, inl, inr, refl, subst, sym, arith}
+use Rattle.std.proofs.Common.{◌∙◌, inl, inr, refl, subst, arith}
 use Rattle.std.specs.Io.KnownBytes.{prepend_known, Appends}
 use Rattle.import_once.specs.Imports.{answers_answer, Does}
 use Rattle.toll_requests.specs.Bodies.{filled}
