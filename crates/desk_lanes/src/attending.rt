@@ -19,15 +19,15 @@ use two_way::TwoWay;
 
 /// Runs a session on a connection. A POST has the imports' lock until its day is imported, and then its turn is over.
 /// For each call of the keeper a request of what is kept takes the keeper's lock. No other takes a lock.
-pub fn attend<L: TwoWay, K: Keeper, C: Crew, R: Wait + Threads + Drop, T: Turn>(
+pub fn attend<'d, L: TwoWay, K: Keeper, C: Crew, R: Wait + Threads + Drop, T: Turn>(
     rt: R,
     alloc: Global,
     plan: Plan,
     limits: Limits,
-    keeper: &Mutex<K>,
-    imports: &Mutex<ImportDesk<C, R>>,
+    keeper: &'d Mutex<K>,
+    imports: &'d Mutex<ImportDesk<C, R>>,
     line: &mut L,
-    turn: &mut T,
+    turn: &'d mut T,
     reader: &mut BoardReader,
 )
     requires some { 1 ≤ plan.width }
