@@ -1,5 +1,6 @@
 -- The notices of one second in any order: where a second ends, and how many of each notice are still to come.
-use Rattle.std.specs.Prelude.{ℕ, ◌-◌, ◌==◌, ◌&&◌, Bool, List, [], ◌∷◌, pos, count_by, unwrap_or, if◌then◌else◌, int_eq}
+use Rattle.std.specs.Prelude.{ℕ, ◌-◌, ◌==◌, ◌&&◌, Bool, List, [], ◌∷◌, pos, count_by, unwrap_or, if◌then◌else◌}
+use Rattle.std.specs.Ordering.{int_eq}
 use Rattle.std.specs.Map.{lookup}
 use Rattle.road_time.specs.declared.road.Notice.{Notice}
 use Rattle.road_time.specs.declared.road.Notice.TheVariants.{Toll, Alert, Balance, Spent}
@@ -54,7 +55,7 @@ still counts x = how_many counts (numbers_of x)
 
 -- how often a notice is among some
 abbrev pub count_in : List Notice → Notice → ℕ
-count_in ns x = count_by (same_notice x) ns
+count_in ns x = count_by (λ w. same_notice w x) ns
 
 -- how often each notice is, where this one is once less
 abbrev pub less : (Notice → ℕ) → Notice → Notice → ℕ

@@ -1,5 +1,5 @@
 // Where the first second of some notices ends.
-ghost use Rattle.std.specs.Prelude.{◌≡◌, ◌≤◌, ◌∷◌, ◌==◌, IfNone, length, not, take, drop};
+ghost use Rattle.std.specs.Prelude.{◌≡◌, ◌≤◌, ◌∷◌, ◌==◌, length, not, take, drop};
 ghost use Rattle.std.specs.List.{position_or_len};
 ghost use Rattle.second_notices.specs.Seconds.{second_of, seconds};
 
@@ -19,10 +19,17 @@ pub fn second_of(notice: &Notice) -> u32
 
 /// How many notices are of this second before the first that is not.
 fn same_second(second: u32, notices: &[Notice]) -> usize
-    ensures { result ≡ position_or_len (λ v. not (second_of v == second)) notices.now }
+    ensures exact { result ≡ position_or_len (λ v. not (second_of v == second)) notices.now }
+    ensures few { result ≤ length notices.now }
 {
-    let other = notices.iter().position(|notice| second_of(notice) != second);
-    other.unwrap_or(notices.len())
+    let mut same = 0;
+    for notice in notices {
+        if second_of(notice) != second {
+            return same;
+        }
+        same += 1;
+    }
+    same
 }
 
 /// How many notices the first second has.
@@ -32,6 +39,8 @@ pub fn first_second(notices: &[Notice]) -> usize
     ensures few { result ≤ length notices.now }
     ensures cut { seconds notices.now ≡ take result notices.now ∷ seconds (drop result notices.now) }
 {
-    let second = second_of(&notices[0]);
-    1 + same_second(second, &notices[1..])
+    match notices.split_first() {
+        None => 0,
+        Some((first, behind)) => 1 + same_second(second_of(first), behind),
+    }
 }
