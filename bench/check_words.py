@@ -30,7 +30,7 @@ def text(name):
 
 
 def office():
-    """Each command of the office with its places and its options."""
+    """Each command of the office with its places, and its options and flags."""
     table = text("crates/office_words/specs/Table.antt")
     lists = {name: body for name, body in re.findall(r"^(\w+) = (.*?)$", table, re.M) if "codes" in body}
 
@@ -38,12 +38,13 @@ def office():
         found = []
         for part in said.strip("() ").split("++"):
             part = part.strip("() ")
-            found += re.findall(r'codes "(\w+)"', lists.get(part, part))
+            found += re.findall(r'codes "([\w-]+)"', lists.get(part, part))
         return found
 
     body = re.search(r"^forms = (.*?)^    ∷ \[\]", table, re.S | re.M).group(1)
-    rows = re.findall(r'stated_form \(codes "(\w+)"\) (\[\]|\(.*?\[\]\)) (.*?)$', body, re.M)
-    forms = {name: (names(places), names(options)) for name, places, options in rows}
+    row = r'(?:stated|flagged)_form \(codes "(\w+)"\) (\[\]|\(.*?\[\]\)) (\(.*?\)|[\w\[\]]+) ?(\w*)$'
+    rows = re.findall(row, body, re.M)
+    forms = {name: (names(places), names(options) + names(flags)) for name, places, options, flags in rows}
     beside = re.search(r'bytes_eq name \(codes "(\w+)"\)', text("crates/office_renewal/specs/Words.antt"))
     return {**forms, beside.group(1): (["base"], [])}
 
@@ -92,7 +93,7 @@ def main():
         same(f"completion: {name}", completed("toll_office", name, ""), words)
         said = synopsis.get(name, "")
         if "options of" not in said:
-            same(f"toll_office.1: {name}", re.findall(r"--\w+", said), words)
+            same(f"toll_office.1: {name}", re.findall(r"--[\w-]+", said), words)
         same(f"toll_office.1: places of {name}", re.findall(r"\b[A-Z]+\b", re.sub(r"\[.*?\]", "", said)),
              [it.upper() for it in places])
         if not re.search(rf"^\.BI? {name}\b", page, re.M):

@@ -10,7 +10,7 @@ _toll_office() {
     case ${COMP_WORDS[1]} in
     answers | import) options="--late --workers --turns --backlog" ;;
     check | validate | accidents) options="--late" ;;
-    audit) options="--late --shards --workers --show" ;;
+    audit) options="--late --shards --workers --show --any-order" ;;
     generate) options="--vehicles --minutes --xways --crashes" ;;
     rehearse) options="--vehicles --minutes --xways --crashes --late --workers --turns --backlog" ;;
     esac

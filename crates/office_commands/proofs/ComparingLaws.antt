@@ -13,16 +13,16 @@ use Rattle.office_commands.specs.Days.{recomputed, refusal_of}
 use Rattle.office_words.specs.declared.command.Recomputing.TheVariants.{Plainly}
 
 -- a comparison keeps what was kept
-same_office : (refused : Option (ℕ × Cause)) (show number : ℕ) (tuples : List Tuple) (lines : List (List ℕ))
-    (o : Office) → (unless_refused refused (comparison_of show number tuples lines o)).office ≡ o
-same_office None show number tuples lines o = refl
-same_office (Some r) show number tuples lines o = refl
+same_office : (refused : Option (ℕ × Cause)) (asked : Comparison) (tuples : List Tuple) (lines : List (List ℕ))
+    (o : Office) → (unless_refused refused (comparison_of asked tuples lines o)).office ≡ o
+same_office None asked tuples lines o = refl
+same_office (Some r) asked tuples lines o = refl
 
 -- so does the row of a command that compares
 pub same_row : (limits : Limits) (asked : Comparison) (bytes aside : List ℕ) (o : Office) →
     (compare_command limits asked bytes aside o).office ≡ o
 same_row limits asked bytes aside o =
-    same_office (refusal_of (reads bytes (recomputed asked.how limits) asked.late).refused) asked.show asked.day
+    same_office (refusal_of (reads bytes (recomputed asked.how limits) asked.late).refused) asked
     (compared_tuples limits asked bytes) (lines_of aside) o
 
 -- so does an accident log

@@ -95,7 +95,7 @@ module _ (show : ℕ) where
     pub told_none : (all : List Difference) → [] ≡ told_before show all
     told_none all = sym (cond-true _ _ _ (le-leb show 1 (omega (arith, one))))
 
-    pub most_alone : (notices : ℕ) → most_compared notices ≡ most_listed show notices
+    pub most_alone : (notices : ℕ) → most_compared notices ≡ most_listed false show notices
     most_alone notices = sym (cond-true _ _ _ (le-leb show 1 (omega (arith, one))))
 
   -- where more are, the first so many do
@@ -103,7 +103,7 @@ module _ (show : ℕ) where
     pub told_some : (all : List Difference) → take show all ≡ told_before show all
     told_some all = sym (cond-false _ _ _ (lt-leb show 1 (omega (arith, more))))
 
-    pub most_more : (notices : ℕ) → most_compared (notices + show) ≡ most_listed show notices
+    pub most_more : (notices : ℕ) → most_compared (notices + show) ≡ most_listed false show notices
     most_more notices = sym (cond-false _ _ _ (lt-leb show 1 (omega (arith, more))))
 
 -- a list that is not empty closes with its first difference

@@ -11,6 +11,8 @@ pub mod AsideLaws
 pub mod ComparingLaws
 pub mod DifferenceLaws
 pub mod ListingLaws
+pub mod TurnLaws
+pub mod SecondLaws
 pub mod HistoryLaws
 pub mod TrafficLaws
 pub mod PutLaws

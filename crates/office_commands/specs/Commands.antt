@@ -1,5 +1,5 @@
 -- The table of commands: what each is to write, how it ends, and what is kept then.
-use Rattle.std.specs.Prelude.{ℕ, List, [], length, Option, Some, None}
+use Rattle.std.specs.Prelude.{ℕ, Bool, List, [], length, Option, Some, None}
 use Rattle.road_time.specs.declared.road.Tuple.{Tuple}
 use Rattle.road_time.specs.declared.road.Notice.{Notice}
 use Rattle.road_time.specs.declared.day.Limits.{Limits}
@@ -41,8 +41,7 @@ use Rattle.office_words.specs.declared.command.Size.{Size}
 use Rattle.traffic_gen.specs.Traffic.{file_of}
 use Rattle.office_commands.specs.Traffic.{plan_from_seed, rehearsed_record, rehearsed}
 use Rattle.office_commands.specs.Days.{recomputed, refusal_of}
-use Rattle.office_commands.specs.Asides.{compared}
-use Rattle.office_commands.specs.Differences.{told_text}
+use Rattle.office_commands.specs.AnyOrder.{compared_in, told_text}
 
 -- what a command is to write before its closing line, that line, if it has one, and what is kept then
 pub record Answer : Type 0 where
@@ -96,17 +95,18 @@ unless_refused (Some refused) answer = closed (Refused refused.0 refused.1) answ
 abbrev pub accidents_of : List Tuple → Office → Answer
 accidents_of tuples o = text_alone (log_text (log_of tuples)) o
 
--- how notices compare with lines, where so many differences are told
-abbrev pub comparison_by : ℕ → List Notice → List (List ℕ) → Office → Answer
-comparison_by show wanted lines o = record {
-  text = told_text show wanted lines;
-  closing = Some (compared wanted lines);
+-- how notices compare with lines, in any order within a second or not, where so many differences are told
+abbrev pub comparison_by : Bool → ℕ → List Notice → List (List ℕ) → Office → Answer
+comparison_by any_order show wanted lines o = record {
+  text = told_text any_order show wanted lines;
+  closing = Some (compared_in any_order wanted lines);
   office = o;
 }
 
 -- how the notices of a day compare with lines
-abbrev pub comparison_of : ℕ → ℕ → List Tuple → List (List ℕ) → Office → Answer
-comparison_of show number tuples lines o = comparison_by show (notices_of_day number tuples o) lines o
+abbrev pub comparison_of : Comparison → List Tuple → List (List ℕ) → Office → Answer
+comparison_of asked tuples lines o =
+    comparison_by asked.any_order asked.show (notices_of_day asked.day tuples o) lines o
 
 -- the tuples of a day that is compared
 abbrev pub compared_tuples : Limits → Comparison → List ℕ → List Tuple
@@ -116,7 +116,7 @@ compared_tuples limits asked bytes = (reads bytes (recomputed asked.how limits) 
 abbrev pub compare_command : Limits → Comparison → List ℕ → List ℕ → Office → Answer
 compare_command limits asked bytes aside o =
     unless_refused (refusal_of (reads bytes (recomputed asked.how limits) asked.late).refused)
-    (comparison_of asked.show asked.day (compared_tuples limits asked bytes) (lines_of aside) o)
+    (comparison_of asked (compared_tuples limits asked bytes) (lines_of aside) o)
 
 -- the command `accidents`
 abbrev pub accidents_command : Limits → ℕ → List ℕ → Office → Answer

@@ -4,7 +4,7 @@ use Rattle.std.specs.Prelude.{if◌then◌else◌}
 use Rattle.std.specs.List.{flat_map}
 use Rattle.std.specs.Fmt.{decimal}
 use Rattle.road_time.specs.declared.road.Notice.{Notice}
-use Rattle.road_time.specs.declared.road.Notice.TheVariants.{Toll, Alert, Balance, Spent}
+use Rattle.second_notices.specs.Seconds.{second_of}
 use Rattle.office_commands.specs.declared.entry_text.EntryText.{EntryText}
 use Rattle.office_commands.specs.declared.entry_text.EntryText.TheVariants.{Nothing, Read}
 use Rattle.office_commands.specs.declared.difference.DifferenceKind.{DifferenceKind}
@@ -12,15 +12,8 @@ use Rattle.office_commands.specs.declared.difference.DifferenceKind.TheVariants.
 use Rattle.office_commands.specs.declared.difference.Difference.{Difference}
 use Rattle.office_commands.specs.declared.closing.Closing.{Closing}
 use Rattle.office_commands.specs.declared.closing.Closing.TheVariants.{DiffersLine}
-use Rattle.office_commands.specs.Asides.{is_short, is_text_of, found_as, entries_of}
+use Rattle.office_commands.specs.Asides.{is_short, is_text_of, found_as}
 use Rattle.office_commands.specs.Closings.{entry_text}
-
--- the second of a notice
-abbrev pub second_of : Notice → ℕ
-second_of (Toll vid time lav toll) = time
-second_of (Alert time vid seg) = time
-second_of (Balance time qid amount) = time
-second_of (Spent time qid amount) = time
 
 -- what was found is a notice of a later second than another
 abbrev pub is_after : Notice → EntryText → Bool
@@ -114,7 +107,3 @@ difference_line d = kind_line d.kind d.line d.wanted d.found
 -- the lines of differences
 abbrev pub differences_text : List Difference → List ℕ
 differences_text ds = flat_map difference_line ds
-
--- what is written before the closing line of a comparison of notices with lines
-abbrev pub told_text : ℕ → List Notice → List (List ℕ) → List ℕ
-told_text show wanted lines = differences_text (told_before show (differences wanted 1 (entries_of lines)))

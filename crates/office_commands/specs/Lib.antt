@@ -4,6 +4,8 @@ pub mod Days
 pub mod Asides
 pub mod Entries
 pub mod Differences
+pub mod AnyOrder
+pub mod Turns
 pub mod Listings
 pub mod Commands
 pub mod Uses

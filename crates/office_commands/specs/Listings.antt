@@ -1,6 +1,6 @@
 -- A list of differences on its way.
 use Rattle.std.specs.Prelude.{ℕ, ◌≡◌, ◌+◌, ◌<◌, ◌≤◌, nat_le, List, [], ◌∷◌, ◌++◌, length, drop, Option, Some, None}
-use Rattle.std.specs.Prelude.{if◌then◌else◌}
+use Rattle.std.specs.Prelude.{if◌then◌else◌, Bool, true, false}
 use Rattle.road_time.specs.declared.road.Notice.{Notice}
 use Rattle.road_io.specs.declared.cutter.LineCutter.{LineCutter}
 use Rattle.road_io.specs.Cutter.{line_of, line_number, fault_of}
@@ -45,6 +45,8 @@ StepCounts Passed notices before now = (1 ≤ notices) × (before ≤ now) × (n
 StepCounts Stayed notices before now = now ≡ before + 1
 StepCounts Ended notices before now = now ≤ before + 1
 
--- the most that an aside is read where so many differences are told: where more than one, as many lines more
-abbrev pub most_listed : ℕ → ℕ → ℕ
-most_listed show notices = if nat_le show 1 then most_compared notices else most_compared (notices + show)
+-- the most that an aside is read where so many differences are told: where more than one, or notices of a second may
+-- stand in any order, as many lines more
+abbrev pub most_listed : Bool → ℕ → ℕ → ℕ
+most_listed true show notices = most_compared (notices + show)
+most_listed false show notices = if nat_le show 1 then most_compared notices else most_compared (notices + show)

@@ -12,6 +12,7 @@ use Rattle.past_file.specs.Imports.{NeedsNone, PutsPast, most_kept}
 use Rattle.office_words.specs.Meaning.{means}
 use Rattle.office_words.specs.declared.command.Command.{Command}
 use Rattle.office_words.specs.declared.command.Command.TheVariants as command
+use Rattle.office_words.specs.declared.command.Comparison.{Comparison}
 use Rattle.office_words.specs.declared.command.Recomputing.TheVariants.{Plainly}
 use Rattle.office_commands.specs.Days.{recomputed, in_bulk}
 use Rattle.office_commands.specs.Commands.{notices_of_day, compared_tuples}
@@ -121,9 +122,10 @@ PutsAsked (Some (command.Tariff xway crowd speed factor)) was now =
     (now ≡ Some was) ⊎ (now ≡ Some (with_tariff_of xway (record { crowd = crowd; speed = speed; factor = factor }) was))
 PutsAsked _ was now = Unit {0}
 
--- the most that is read of an aside with which a day's notices are compared, where so many differences are told
-abbrev pub most_noticed : ℕ → ℕ → List Tuple → Office → ℕ
-most_noticed show number tuples o = most_listed show (length (notices_of_day number tuples o))
+-- the most that is read of an aside with which a day's notices are compared
+abbrev pub most_noticed : Comparison → List Tuple → Office → ℕ
+most_noticed asked tuples o =
+    most_listed asked.any_order asked.show (length (notices_of_day asked.day tuples o))
 
 -- the most that words have read of the source
 abbrev pub most_of : Limits → Office → Option Command → ℕ
@@ -138,5 +140,5 @@ most_of limits o _ = 0
 -- the most that words have read of the aside
 abbrev pub most_aside_of : Limits → List ℕ → Office → Option Command → ℕ
 most_aside_of limits bytes o (Some (command.Compare asked)) =
-    most_noticed asked.show asked.day (compared_tuples limits asked bytes) o
+    most_noticed asked (compared_tuples limits asked bytes) o
 most_aside_of limits bytes o _ = 0

@@ -107,22 +107,26 @@ fn wanted_notices<K: Keeper, C: Crew, R: Threads + Sync>(
 /// Compares notices with the lines of an aside, and gives the first differences, where more than one is asked for.
 fn compare_notices<A: Source>(
     alloc: Global,
+    any_order: bool,
     show: u32,
     wanted: &[Notice],
     aside: &mut A,
     shown: &mut Vec<Difference>,
 ) -> Closing
+    requires some { 1 ≤ show }
     requires few { show ≤ 1000 }
     requires empty { shown.old.items ≡ [] }
     ensures exact { (lines : List ℕ) (o : Office) → A.left aside.old ≡ Some lines
-        → StandsBefore (comparison_by show wanted.now (lines_of lines) o) result (differences_text shown.new.items) }
+        → StandsBefore (comparison_by any_order show wanted.now (lines_of lines) o) result
+        (differences_text shown.new.items) }
     ensures own { (result ≢ KeeperFault) × (result ≢ Words) }
     ensures unnamed { status_of result ≢ 2 }
     ensures none { status_of result ≢ 7 → shown.new.items ≡ [] }
-    ensures bounded { ReadsWithin (most_listed show (length wanted.now)) (A.left aside.old) (A.left aside.new) }
+    ensures bounded { ReadsWithin (most_listed any_order show (length wanted.now)) (A.left aside.old)
+        (A.left aside.new) }
     ensures aside { FaultsByPlan (A.faults aside.old) (A.faults aside.new) (A.plan aside.old) (result ≡ ReadFault) }
 {
-    match compare_and_list(alloc, show, wanted, aside, shown) {
+    match compare_and_list(alloc, any_order, show, wanted, aside, shown) {
         Ok(closing) => closing,
         Err(stop) => stopped(stop),
     }
@@ -149,7 +153,7 @@ fn compare_day<A: Source, K: Keeper, C: Crew, R: Threads + Sync>(
     ensures exact { IsRightFor asked.how C.exact → (lines : List ℕ) (o : Office) → A.left aside.old ≡ Some lines
         → K.told keeper.old ≡ Some o → tariffs.now ≡ o.tariffs
         → StandsBefore (unless_refused day.now.refused
-        (comparison_of asked.show asked.day day.now.tuples.items (lines_of lines) o)) result
+        (comparison_of asked day.now.tuples.items (lines_of lines) o)) result
         (differences_text shown.new.items) }
     ensures kept { K.told keeper.new ≡ K.told keeper.old }
     ensures said { result ≢ Words }
@@ -158,7 +162,7 @@ fn compare_day<A: Source, K: Keeper, C: Crew, R: Threads + Sync>(
     ensures source_first { day.now.refused ≢ None → aside.new ≡ aside.old }
     ensures bounded { IsRightFor asked.how C.exact → (o : Office) → K.told keeper.old ≡ Some o
         → tariffs.now ≡ o.tariffs
-        → ReadsWithin (most_noticed asked.show asked.day day.now.tuples.items o) (A.left aside.old)
+        → ReadsWithin (most_noticed asked day.now.tuples.items o) (A.left aside.old)
         (A.left aside.new) }
     ensures unused { in_bulk asked.how ≡ false → crew.new ≡ crew.old }
     ensures jobs { StartsBulk asked.how day.now.tuples.items (SaysCompared (status_of result)) (C.jobs crew.old)
@@ -184,7 +188,14 @@ fn compare_day<A: Source, K: Keeper, C: Crew, R: Threads + Sync>(
     ) {
         Ok(wanted) => {
             *shards_seen = wanted.shards();
-            compare_notices(alloc, asked.show, wanted.items(), aside, shown)
+            compare_notices(
+                alloc,
+                asked.any_order,
+                asked.show,
+                wanted.items(),
+                aside,
+                shown,
+            )
         }
         Err(fault) => refused(fault),
     }
@@ -224,7 +235,7 @@ pub fn compare_source<S: Source, A: Source, K: Keeper, C: Crew, R: Threads + Syn
         (S.left source.new) }
     ensures aside_bounded { IsRightFor asked.how C.exact → (bytes : List ℕ) (o : Office)
         → S.left source.old ≡ Some bytes → K.told keeper.old ≡ Some o
-        → ReadsWithin (most_noticed asked.show asked.day (compared_tuples limits.now asked bytes) o)
+        → ReadsWithin (most_noticed asked (compared_tuples limits.now asked bytes) o)
         (A.left aside.old) (A.left aside.new) }
     ensures unused { in_bulk asked.how ≡ false → crew.new ≡ crew.old }
     ensures jobs { (bytes : List ℕ) → S.left source.old ≡ Some bytes

@@ -6,6 +6,7 @@
 #![tactic(auto)]
 
 mod answers;
+mod any_order;
 mod aside;
 mod checks;
 mod closing;
@@ -27,10 +28,12 @@ mod past_lines;
 mod performing;
 mod refusal;
 mod run_limits;
+mod second;
 mod statements;
 mod tariffs;
 mod telling;
 mod traffic;
+mod turns;
 
 pub use crate::closing::Closing;
 pub use crate::entry::office;

@@ -5,12 +5,15 @@ ghost use Rattle.road_io.specs.Cutter.{ahead, line_of};
 ghost use Rattle.road_io.specs.Within.{ReadsWithin};
 ghost use Rattle.road_io.specs.Blame.{FaultsByPlan};
 ghost use Rattle.day_reading.specs.declared.whole_day.ReadStop.TheVariants.{ReadFault};
+ghost use Rattle.office_commands.specs.AnyOrder.{compared_in, differences_in};
 ghost use Rattle.office_commands.specs.Asides.{compared, compared_from};
 ghost use Rattle.office_commands.specs.Closings.{status_of};
 ghost use Rattle.office_commands.specs.Entries.{entered, HasReadEntries, IsComparison, most_compared};
-ghost use Rattle.office_commands.specs.Differences.{differences, told_before};
+ghost use Rattle.office_commands.specs.Differences.{closed_by_first, differences, told_before};
+ghost use Rattle.office_commands.specs.declared.closing.Closing.TheVariants.{Agree};
 ghost use Rattle.office_commands.specs.Listings.{IsReady, StandsAt, most_listed};
 
+use crate::any_order::list_in_any_order;
 use crate::aside::{AsideEntry, compare, next_entry};
 use crate::closing::Closing;
 use crate::difference::Difference;
@@ -84,9 +87,10 @@ fn first_differences<A: Source>(
 }
 
 /// The closing line of a comparison, by the first differences.
-fn closing_by(wanted: &[Notice], list: &[Difference]) -> Closing
+pub(crate) fn closing_by(wanted: &[Notice], list: &[Difference]) -> Closing
     ensures exact { (most : ℕ) (entries : List (List ℕ)) → 1 ≤ most
         → list.now ≡ take most (differences wanted.now 1 entries) → result ≡ compared_from 1 wanted.now entries }
+    ensures first { result ≡ closed_by_first (Agree (length wanted.now)) list.now }
     ensures own { IsComparison result }
     ensures none { status_of result ≢ 7 → list.now ≡ [] }
 {
@@ -102,9 +106,9 @@ fn closing_by(wanted: &[Notice], list: &[Difference]) -> Closing
     }
 }
 
-/// Compares notices with the lines of an aside as `compare` does, and gives the first differences, where more than one
-/// is asked for.
-pub(crate) fn compare_and_list<A: Source>(
+/// Compares notices in their order with the lines of an aside as `compare` does, and gives the first differences, where
+/// more than one is asked for.
+fn list_in_order<A: Source>(
     alloc: Global,
     show: u32,
     wanted: &[Notice],
@@ -120,7 +124,8 @@ pub(crate) fn compare_and_list<A: Source>(
     ensures own { IfOk result IsComparison }
     ensures none { IfOk result (λ c. status_of c ≢ 7 → shown.new.items ≡ []) }
     ensures stopped { IfErr result (λ e. shown.new.items ≡ []) }
-    ensures bounded { ReadsWithin (most_listed show (length wanted.now)) (A.left aside.old) (A.left aside.new) }
+    ensures bounded { ReadsWithin (most_listed false show (length wanted.now)) (A.left aside.old)
+        (A.left aside.new) }
     ensures aside { FaultsByPlan (A.faults aside.old) (A.faults aside.new) (A.plan aside.old) (result ≡ Err ReadFault) }
 {
     if show < 2 {
@@ -133,4 +138,34 @@ pub(crate) fn compare_and_list<A: Source>(
     let closing = closing_by(wanted, list.as_slice());
     *shown = list;
     Ok(closing)
+}
+
+/// Compares notices with the lines of an aside, in any order within a second or not, and gives the first differences,
+/// where more than one is asked for.
+pub(crate) fn compare_and_list<A: Source>(
+    alloc: Global,
+    any_order: bool,
+    show: u32,
+    wanted: &[Notice],
+    aside: &mut A,
+    shown: &mut Vec<Difference>,
+) -> Result<Closing, ReadStop>
+    requires some { 1 ≤ show }
+    requires few { show ≤ 1000 }
+    requires empty { shown.old.items ≡ [] }
+    ensures exact { (lines : List ℕ) → A.left aside.old ≡ Some lines
+        → IfOk result (λ c. c ≡ compared_in any_order wanted.now (lines_of lines)) }
+    ensures listed { (lines : List ℕ) → A.left aside.old ≡ Some lines
+        → IfOk result (λ c. shown.new.items ≡ told_before show (differences_in any_order wanted.now (entered lines))) }
+    ensures own { IfOk result IsComparison }
+    ensures none { IfOk result (λ c. status_of c ≢ 7 → shown.new.items ≡ []) }
+    ensures stopped { IfErr result (λ e. shown.new.items ≡ []) }
+    ensures bounded { ReadsWithin (most_listed any_order show (length wanted.now)) (A.left aside.old)
+        (A.left aside.new) }
+    ensures aside { FaultsByPlan (A.faults aside.old) (A.faults aside.new) (A.plan aside.old) (result ≡ Err ReadFault) }
+{
+    if any_order {
+        return list_in_any_order(alloc, show, wanted, aside, shown);
+    }
+    list_in_order(alloc, show, wanted, aside, shown)
 }

@@ -50,7 +50,7 @@ fn note(list: &mut Vec<Difference>, difference: Difference, step: Step) -> Resul
 }
 
 /// Moves behind a line.
-fn move_on<A: Source>(
+pub(crate) fn move_on<A: Source>(
     spot: &mut Spot,
     cutter: &mut LineCutter,
     aside: &mut A,

@@ -3,28 +3,17 @@ ghost use Rattle.std.specs.Prelude.{◌≡◌, ◌≤◌, ℕ, List, Option, IfO
 ghost use Rattle.office_commands.specs.declared.aside.AsideEntry.TheVariants.{Line};
 ghost use Rattle.office_commands.specs.Asides.{found_as};
 ghost use Rattle.office_commands.specs.Asides.{is_text_of as is_its_text};
-ghost use Rattle.office_commands.specs.Differences.{second_of, is_after, is_before, is_missing};
+ghost use Rattle.office_commands.specs.Differences.{is_after, is_before, is_missing};
 ghost use Rattle.office_commands.specs.Differences.{is_text_of_first, is_in_first};
 ghost use Rattle.office_commands.specs.Listings.{StandsAt};
 
 use crate::aside::{AsideEntry, is_text_of};
 use crate::entry_text::EntryText;
 use road_time::{NoMemory, Notice};
-
-/// The second of a notice.
-fn second_of(notice: &Notice) -> u32
-    ensures { result ≡ second_of notice.now }
-{
-    match *notice {
-        Notice::Toll { time, .. } => time,
-        Notice::Alert { time, .. } => time,
-        Notice::Balance { time, .. } => time,
-        Notice::Spent { time, .. } => time,
-    }
-}
+use second_notices::second_of;
 
 /// Whether what was found is a notice of a later second.
-fn is_after(notice: &Notice, found: EntryText) -> bool
+pub(crate) fn is_after(notice: &Notice, found: EntryText) -> bool
     ensures { result ≡ is_after notice.now found }
 {
     match found {

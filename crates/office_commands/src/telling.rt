@@ -89,7 +89,7 @@ pub fn compare_and_tell<S: Source, A: Source, O: Sink, K: Keeper, C: Crew, R: Th
         (S.left source.new) }
     ensures aside_bounded { IsRightFor asked.how C.exact → (bytes : List ℕ) (o : Office)
         → S.left source.old ≡ Some bytes → K.told keeper.old ≡ Some o
-        → ReadsWithin (most_noticed asked.show asked.day (compared_tuples limits.now asked bytes) o)
+        → ReadsWithin (most_noticed asked (compared_tuples limits.now asked bytes) o)
         (A.left aside.old) (A.left aside.new) }
     ensures unused { in_bulk asked.how ≡ false → crew.new ≡ crew.old }
     ensures jobs { (bytes : List ℕ) → S.left source.old ≡ Some bytes

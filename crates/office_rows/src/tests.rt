@@ -1,4 +1,5 @@
 // Words, a source and an aside in, a sink's text and a status out.
+mod any_order;
 mod asking;
 mod audits;
 mod causes;

@@ -82,7 +82,7 @@ const TOLD_ROWS: [Listed; 14] = [
 ];
 
 /// A second line that is too long, and nothing behind it.
-const LONG: &[u8] = b"0,1,0,-1,0\nxxxxxxxxxxxxxxxxxxxxxxxxxxxxxxxxxxxxxxxxxxxxxxxxxxxxxxxxxxxx\
+pub const LONG: &[u8] = b"0,1,0,-1,0\nxxxxxxxxxxxxxxxxxxxxxxxxxxxxxxxxxxxxxxxxxxxxxxxxxxxxxxxxxxxx\
     xxxxxxxxxxxxxxxxxxxxxxxxxxxxxxxxxxxxxxxxxxxxxxxxxxxxxxxxxxxxxxxxxxxxxxxxxxxxxxxxxxxxxxxxxxxxxxxxxxxx\
     xxxxxxxxxxxxxxxxxxxxxxxxxxxxxxxxxxxxxxxxx\n";
 
@@ -96,7 +96,7 @@ const THREE: &str =
     # differs line 1 wanted 0,1,0,-1,0 found 0,2,0,-1,0\n";
 
 /// All six are missing.
-const NONE: &str =
+pub const NONE: &str =
     "1 missing 0,1,0,-1,0\n1 missing 0,2,0,-1,0\n1 missing 0,2,130,-1,0\n1 missing 1,180,3,10\n\
     1 missing 0,3,180,0,0\n1 missing 0,4,240,16,0\n# differs line 1 wanted 0,1,0,-1,0 found none\n";
 

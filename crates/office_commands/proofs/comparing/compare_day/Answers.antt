@@ -24,26 +24,26 @@ returns-in-Ok-clause-exact g c = λ right lines o told kept rates.
     let day = c.args.day.now in
     let number = c.args.asked.day in
     let refused : day.refused ≡ None = cc in
-    let row = comparison_of c.args.asked.show number day.tuples.items (lines_of lines) o in
+    let row = comparison_of c.args.asked day.tuples.items (lines_of lines) o in
     let text = differences_text c.compare_notices.new.shown.items in
     let known : c.items.result.now ≡ notices_of_day number day.tuples.items o =
     c.items.ensures
     ∙ c.in-Ok.ensures.exact right o kept rates
     ∙ ap (λ ts. notices_of_day number ts o) c.as_slice.ensures.value in
     subst (λ (r : Option (ℕ × Cause)). StandsBefore (unless_refused r row) c.compare_notices.result text) (sym refused)
-    (subst (λ (ns : List Notice). StandsBefore (comparison_by c.args.asked.show ns (lines_of lines) o)
+    (subst (λ (ns : List Notice). StandsBefore (comparison_by c.args.asked.any_order c.args.asked.show ns (lines_of lines) o)
     c.compare_notices.result text) known (c.compare_notices.ensures.exact lines o told))
 
 pub returns-in-Err-clause-exact : goal.returns-in-Err-clause-exact
 returns-in-Err-clause-exact g c = λ right lines o told kept rates.
-    let row = comparison_of c.args.asked.show c.args.asked.day c.args.day.now.tuples.items (lines_of lines) o in
+    let row = comparison_of c.args.asked c.args.day.now.tuples.items (lines_of lines) o in
     let a = unless_refused c.args.day.now.refused row in
     subst (λ (ds : List Difference). StandsBefore a c.refused.result (differences_text ds)) (sym c.requires.empty)
     (subst (λ (k : Closing). StandsBefore a k []) (sym c.refused.ensures) (refuses_empty a c.in-Err.fault))
 
 pub returns-in-Some-clause-exact : goal.returns-in-Some-clause-exact
 returns-in-Some-clause-exact g c = λ right lines o told kept rates.
-    let row = comparison_of c.args.asked.show c.args.asked.day c.args.day.now.tuples.items (lines_of lines) o in
+    let row = comparison_of c.args.asked c.args.day.now.tuples.items (lines_of lines) o in
     let is : c.args.day.now.refused ≡ Some (c.in-Some.line, c.in-Some.cause) = cc in
     subst (λ (r : Option (ℕ × Cause)). StandsBefore (unless_refused r row) (Refused c.in-Some.line c.in-Some.cause)
     (differences_text c.args.shown.now.items)) (sym is) (refl, ap differences_text c.requires.empty)
@@ -58,7 +58,8 @@ returns-in-Ok-clause-bounded g c = λ right o kept rates.
     ∙ ap (λ ts. notices_of_day number ts o) c.as_slice.ensures.value in
     let before = g.A.Source.left c.args.aside.now in
     let after = g.A.Source.left c.compare_notices.new.aside in
-    subst (λ (ns : List Notice). ReadsWithin (most_listed c.args.asked.show (length ns)) before after) known
+    subst (λ (ns : List Notice). ReadsWithin (most_listed c.args.asked.any_order c.args.asked.show (length ns))
+    before after) known
     c.compare_notices.ensures.bounded
 
 pub returns-in-Some-clause-says : goal.returns-in-Some-clause-says

@@ -12,12 +12,12 @@ use Rattle.office_commands.proofs.comparing.compare_notices.Goals as goal
 
 pub returns-in-Ok-clause-exact : goal.returns-in-Ok-clause-exact
 returns-in-Ok-clause-exact g c = λ lines o told.
-    stands_whole (comparison_by c.args.show c.args.wanted.now (lines_of lines) o) c.in-Ok.closing _
+    stands_whole (comparison_by c.args.any_order c.args.show c.args.wanted.now (lines_of lines) o) c.in-Ok.closing _
     (ap Some (c.in-Ok.ensures.exact lines told)) (ap differences_text (c.in-Ok.ensures.listed lines told))
 
 pub returns-in-Err-clause-exact : goal.returns-in-Err-clause-exact
 returns-in-Err-clause-exact g c = λ lines o told.
-    let a = comparison_by c.args.show c.args.wanted.now (lines_of lines) o in
+    let a = comparison_by c.args.any_order c.args.show c.args.wanted.now (lines_of lines) o in
     subst (λ (ds : List Difference). StandsBefore a c.stopped.result (differences_text ds))
     (sym c.in-Err.ensures.stopped)
     (subst (λ (k : Closing). StandsBefore a k []) (sym c.stopped.ensures) (stops_empty a c.in-Err.stop))

@@ -46,7 +46,7 @@ returns-in-Ok-read_day-clause-exact g c = λ right bytes lines o told lying kept
     kept ok in
     let read = reads bytes (recomputed c.args.asked.how c.args.limits.now) c.args.asked.late in
     let row : List Tuple → Answer =
-    λ ts. comparison_of c.args.asked.show c.args.asked.day ts (lines_of lines) o in
+    λ ts. comparison_of c.args.asked ts (lines_of lines) o in
     let text = differences_text c.compare_day.new.shown.items in
     subst (λ (r : Option (ℕ × Cause)). StandsBefore (unless_refused r (row read.tuples)) c.compare_day.result text)
     (c.in-Ok-read_day.ensures.refused bytes told)
@@ -64,7 +64,7 @@ returns-in-Ok-read_day-clause-aside_bounded g c = λ right bytes o told kept.
     let rates : c.in-Ok.tariffs ≡ o.tariffs =
     reads_ok before after c.tariffs.result (λ p kept. kept ≡ p.tariffs) o c.in-Ok.tariffs c.tariffs.ensures.state
     kept ok in
-    subst (λ (ts : List Tuple). ReadsWithin (most_noticed c.args.asked.show c.args.asked.day ts o) (g.A.Source.left c.args.aside.now)
+    subst (λ (ts : List Tuple). ReadsWithin (most_noticed c.args.asked ts o) (g.A.Source.left c.args.aside.now)
     (g.A.Source.left c.compare_day.new.aside)) (c.in-Ok-read_day.ensures.tuples bytes told)
     (c.compare_day.ensures.bounded right o still rates)
 

@@ -24,15 +24,23 @@ macro_rules! run {
     };
 }
 
-/// The comparison of a day that tells so many differences.
-macro_rules! listed {
-    ($day:expr, $late:expr, $how:expr, $show:expr) => {
+/// The comparison of a day that tells so many differences, in any order within a second or not.
+macro_rules! ordered {
+    ($day:expr, $late:expr, $how:expr, $show:expr, $any_order:expr) => {
         Command::Compare(Comparison {
             day: $day,
             late: $late,
             how: $how,
             show: $show,
+            any_order: $any_order,
         })
+    };
+}
+
+/// The same, in its order.
+macro_rules! listed {
+    ($day:expr, $late:expr, $how:expr, $show:expr) => {
+        ordered!($day, $late, $how, $show, false)
     };
 }
 
@@ -346,7 +354,7 @@ pub const NOT_ON_WORKERS: [&[&str]; 21] = [
 ];
 
 /// Words of a day that is recomputed.
-pub const ON_AUDITS: [Row; 4] = [
+pub const ON_AUDITS: [Row; 6] = [
     (
         &["audit", "100"],
         Ok(compared!(
@@ -401,10 +409,36 @@ pub const ON_AUDITS: [Row; 4] = [
             1000
         )),
     ),
+    (
+        &["audit", "100", "--any-order"],
+        Ok(ordered!(
+            100,
+            0,
+            Recomputing::InBulk {
+                shards: 1,
+                width: 1,
+            },
+            1,
+            true
+        )),
+    ),
+    (
+        &["audit", "--any-order", "--late=5", "100", "--show", "10"],
+        Ok(ordered!(
+            100,
+            5,
+            Recomputing::InBulk {
+                shards: 1,
+                width: 1,
+            },
+            10,
+            true
+        )),
+    ),
 ];
 
 /// And such of no stated form.
-pub const NOT_ON_AUDITS: [&[&str]; 14] = [
+pub const NOT_ON_AUDITS: [&[&str]; 21] = [
     &["audit"],
     &["audit", "69"],
     &["audit", "100", "--shards", "0"],
@@ -419,4 +453,11 @@ pub const NOT_ON_AUDITS: [&[&str]; 14] = [
     &["audit", "100", "--show", "2", "--show", "2"],
     &["validate", "100", "--show", "2"],
     &["check", "100", "--show", "2"],
+    &["audit", "100", "--any-order", "--any-order"],
+    &["audit", "100", "--any-order=true"],
+    &["audit", "100", "--any-order", "true"],
+    &["audit", "100", "--late", "--any-order"],
+    &["audit", "--any-order"],
+    &["validate", "100", "--any-order"],
+    &["import", "100", "--any-order"],
 ];
