@@ -109,8 +109,9 @@ fn lines_over<A: Source>(
 {
     while list.as_slice().len() < most {
         match next_step(&[], spot, cutter, aside, room, list) {
+            Ok(Step::Stayed) => {}
             Ok(Step::Ended) => return Ok(()),
-            Ok(_) => {}
+            Ok(Step::Passed) => return Ok(()),
             Err(stop) => return Err(stop),
         }
     }

@@ -17,7 +17,7 @@ ghost use Rattle.office_commands.specs.Turns.{Onward, ListsSecond, ReachTo, Told
 use crate::difference::{Difference, DifferenceKind};
 use crate::entry_text::EntryText;
 use crate::listing::Spot;
-use crate::turns::{Turn, found_at, turn};
+use crate::turns::{Turn, found_at, next_turn};
 use day_reading::ReadStop;
 use road_io::{LineCutter, Source};
 use road_time::Notice;
@@ -127,7 +127,7 @@ pub(crate) fn one_second<A: Source>(
         if list.as_slice().len() == most {
             return Ok(Reach::Whole);
         }
-        match turn(run, &mut coming, spot, cutter, aside, list) {
+        match next_turn(run, &mut coming, spot, cutter, aside, list) {
             Ok(Turn::Came) => left -= 1,
             Ok(Turn::Stayed) => {}
             Ok(Turn::Behind) => {

@@ -11,7 +11,7 @@ ghost use Rattle.office_commands.specs.declared.difference.Difference.{Differenc
 ghost use Rattle.office_commands.specs.declared.difference.DifferenceKind.TheVariants.{Additional};
 ghost use Rattle.office_commands.specs.declared.entry_text.EntryText.TheVariants.{Nothing};
 ghost use Rattle.office_commands.specs.declared.aside.AsideEntry.TheVariants.{Line, Long, End};
-ghost use Rattle.office_commands.specs.declared.turns.Turn.TheVariants.{Behind, Ended};
+ghost use Rattle.office_commands.specs.declared.turns.Turn.TheVariants.{Came, Stayed, Behind, Ended};
 ghost use Rattle.office_commands.specs.Asides.{found_as};
 ghost use Rattle.office_commands.specs.Entries.{HasReadEntries};
 ghost use Rattle.office_commands.specs.Differences.{differs_at};
@@ -96,6 +96,7 @@ fn came_turn<A: Source>(
         → IfOk result (λ t. TurnsTo t all listed run behind left
         (without_found coming (found_as (line_of cutter.old))) spot.new.line spot.new.entry (line_of cutter.new)
         (ahead cutter.new (A.left aside.new))) }
+    ensures came { IfOk result (λ t. t ≡ Came) }
     ensures counts { (many : ℕ) → IfOk result (λ t. TurnCounts t spot.old.line spot.new.line many many) }
     ensures ready { IfOk result (λ t. IsReady spot.new.entry cutter.new spot.new.line) }
     ensures read { (bytes : List ℕ) → HasReadEntries (ahead cutter.old (A.left aside.old)) spot.old.line bytes
@@ -121,6 +122,7 @@ fn over_turn<A: Source>(
     requires line { spot.old.line + 1 < 2 ^ 64 }
     requires ready { IsReady spot.old.entry cutter.old spot.old.line }
     requires named { found ≡ found_as (line_of cutter.old) }
+    ensures stayed { IfOk result (λ t. t ≡ Stayed) }
     ensures exact { (all : List DifferenceValue) (run : List NoticeValue) (behind : Onward) (left : ℕ)
         (coming : NoticeValue → ℕ) → 1 ≤ left → is_later run found ≡ false → is_wanted coming found ≡ false
         → ListsSecond all list.old.items run behind left coming spot.old.line spot.old.entry (line_of cutter.old)
@@ -199,7 +201,7 @@ fn long_turn(line: u64, list: &mut Vec<Difference>) -> Result<Turn, ReadStop>
 }
 
 /// One turn: compares what an aside has next with the notices of a second that are still to come.
-pub(crate) fn turn<A: Source>(
+pub(crate) fn next_turn<A: Source>(
     run: &[Notice],
     coming: &mut StillToCome,
     spot: &mut Spot,

@@ -8,7 +8,7 @@ use Rattle.office_commands.specs.declared.difference.Difference.{Difference}
 use Rattle.office_commands.specs.declared.second.Reach.{Reach}
 use Rattle.office_commands.specs.AnyOrder.{differences_by_second}
 use Rattle.office_commands.specs.Turns.{ListsSeconds, ReachTo}
-use Rattle.office_commands.proofs.ListingLaws.{read_more}
+use Rattle.office_commands.proofs.ListingLaws.{no_notices, read_more}
 use Rattle.office_commands.proofs.SecondLaws.{first_of_seconds}
 use Rattle.office_commands.proofs.any_order.all_seconds.Goals as goal
 
@@ -70,3 +70,29 @@ loop-rest-preserved g c =
       stands = c.one_second.ensures.aside.still (λ e. let no : ⊥ = cc in no) ∙ inv.stands;
       still = λ never. c.one_second.ensures.still (inv.still never);
     }
+
+pub returns-in-Ok-Whole-clause-exact : goal.returns-in-Ok-Whole-clause-exact
+returns-in-Ok-Whole-clause-exact g c = λ all h.
+    let inv = c.loop-rest.invariant in
+    let now = c.one_second.new in
+    let rest = c.loop-rest.rest.now in
+    let some = c.first_second-some.result in
+    let run = c.first_some-run.result.now in
+    let line = line_of c.loop-rest.cutter in
+    let after = ahead c.loop-rest.cutter (g.A.Source.left c.loop-rest.aside) in
+    let before = c.loop-rest.spot in
+    let behind = λ (m : ℕ) (ks : List (List ℕ)). differences_by_second (seconds (drop some rest)) m ks in
+    let cut : seconds rest ≡ run ∷ seconds (drop some rest) =
+    c.first_second-some.ensures.cut ∙ ap (λ (r : List Notice). r ∷ seconds (drop some rest))
+    (sym c.first_some-run.ensures) in
+    subst (λ (r : Reach). ReachTo r c.args.most all now.list.items behind now.spot.line now.spot.entry
+    (line_of now.cutter) (ahead now.cutter (g.A.Source.left now.aside))) c.in-Ok-Whole.field-0-is
+    (c.in-Ok-Whole.ensures.exact all behind (first_of_seconds all c.loop-rest.list.items rest run (drop some rest)
+    before.line before.entry line after cut (inv.told all h)))
+
+pub returns-clause-exact : goal.returns-clause-exact
+returns-clause-exact g c = λ all h.
+    let now = c.loop-rest in
+    let empty : length now.rest.now ≡ 0 = search rules in
+    subst (λ (ws : List Notice). ListsSeconds all now.list.items ws now.spot.line now.spot.entry (line_of now.cutter)
+    (ahead now.cutter (g.A.Source.left now.aside))) (no_notices now.rest.now empty) (now.invariant.told all h)

@@ -6,8 +6,8 @@ use Rattle.office_commands.specs.Entries.{HasReadEntries}
 use Rattle.office_commands.specs.Listings.{IsReady, ListsOn}
 use Rattle.office_commands.proofs.any_order.lines_over.Given as goal
 
-abbrev pub invariant-loop-1 : goal.invariant-loop-1
-invariant-loop-1 g l = record {
+abbrev pub invariant-loop-spot : goal.invariant-loop-spot
+invariant-loop-spot g l = record {
   told : (all : List Difference) →
       ListsOn all l.initial.list.items [] l.initial.spot.line l.initial.spot.entry (line_of l.initial.cutter)
       (ahead l.initial.cutter (g.A.Source.left l.initial.aside)) →
@@ -26,5 +26,5 @@ invariant-loop-1 g l = record {
   still : NeverFails (g.A.Source.plan l.initial.aside) → NeverFails (g.A.Source.plan l.aside);
 }
 
-abbrev pub decreases-loop-1 : goal.decreases-loop-1
-decreases-loop-1 g l = l.most - length l.list.items
+abbrev pub decreases-loop-spot : goal.decreases-loop-spot
+decreases-loop-spot g l = l.most - length l.list.items

@@ -19,38 +19,35 @@ loop-left-init g c =
     let line = line_of c.args.cutter.now in
     let after = ahead c.args.cutter.now (g.A.Source.left c.args.aside.now) in
     let run = c.args.run.now in
-    let many : length run ≡ c.len-left.result = search rules in
     let all_come : count_in run ≡ still c.in-Ok.coming = λ i x. sym (c.in-Ok.ensures x) i in
     record {
       told = λ all behind h.
-          subst (λ k. ListsSecond all c.args.list.now.items run behind k (still c.in-Ok.coming) spot.line spot.entry line after)
-          many
-          (subst (λ (coming : Notice → ℕ). ListsSecond all c.args.list.now.items run behind (length run) coming spot.line
-          spot.entry line after) all_come h);
+          subst (λ (coming : Notice → ℕ). ListsSecond all c.args.list.now.items run behind (length run) coming spot.line
+          spot.entry line after) all_come h;
       read = λ bytes s. s;
       few = c.requires.few;
       more = omega arith;
-      fewer = omega (arith, many);
-      line = omega (arith, many);
+      fewer = omega arith;
+      line = omega arith;
       ready = c.requires.ready;
       stands = refl;
       still = λ never. never;
     }
 
-pub turn-requires-clause-line : goal.turn-requires-clause-line
-turn-requires-clause-line g c =
+pub next_turn-requires-clause-line : goal.next_turn-requires-clause-line
+next_turn-requires-clause-line g c =
     let inv = c.loop-left.invariant in
     let room : length c.loop-left.list.items < c.args.most = search rules in
     omega (arith, room, inv.line, inv.more, inv.few, c.requires.line)
 
-pub turn-requires-clause-ready : goal.turn-requires-clause-ready
-turn-requires-clause-ready g c = c.loop-left.invariant.ready
+pub next_turn-requires-clause-ready : goal.next_turn-requires-clause-ready
+next_turn-requires-clause-ready g c = c.loop-left.invariant.ready
 
 pub loop-left-preserved-in-Ok-Came : goal.loop-left-preserved-in-Ok-Came
 loop-left-preserved-in-Ok-Came g c =
     let inv = c.loop-left.invariant in
     let step = c.in-Ok-Came.ensures in
-    let now = c.turn.new in
+    let now = c.next_turn.new in
     let some : 1 ≤ c.loop-left.left = search rules in
     let counts = subst (λ (t : Turn). TurnCounts t c.loop-left.spot.line now.spot.line
     (length c.loop-left.list.items) (length now.list.items)) c.in-Ok-Came.field-0-is step.counts in
@@ -65,15 +62,15 @@ loop-left-preserved-in-Ok-Came g c =
       fewer = omega (arith, inv.fewer);
       line = omega (arith, some, inv.line, counts.0, counts.1);
       ready = step.ready;
-      stands = c.turn.ensures.aside.still (λ e. let no : ⊥ = cc in no) ∙ inv.stands;
-      still = λ never. c.turn.ensures.still (inv.still never);
+      stands = c.next_turn.ensures.aside.still (λ e. let no : ⊥ = cc in no) ∙ inv.stands;
+      still = λ never. c.next_turn.ensures.still (inv.still never);
     }
 
 pub loop-left-preserved : goal.loop-left-preserved
 loop-left-preserved g c =
     let inv = c.loop-left.invariant in
     let step = c.in-Ok-Stayed.ensures in
-    let now = c.turn.new in
+    let now = c.next_turn.new in
     let some : 1 ≤ c.loop-left.left = search rules in
     let room : length c.loop-left.list.items < c.args.most = search rules in
     let counts = subst (λ (t : Turn). TurnCounts t c.loop-left.spot.line now.spot.line
@@ -89,14 +86,14 @@ loop-left-preserved g c =
       fewer = inv.fewer;
       line = omega (arith, inv.line, counts.0, counts.1);
       ready = step.ready;
-      stands = c.turn.ensures.aside.still (λ e. let no : ⊥ = cc in no) ∙ inv.stands;
-      still = λ never. c.turn.ensures.still (inv.still never);
+      stands = c.next_turn.ensures.aside.still (λ e. let no : ⊥ = cc in no) ∙ inv.stands;
+      still = λ never. c.next_turn.ensures.still (inv.still never);
     }
 
 pub returns-in-Ok-Behind-clause-exact : goal.returns-in-Ok-Behind-clause-exact
 returns-in-Ok-Behind-clause-exact g c = λ all behind h.
     let inv = c.loop-left.invariant in
-    let now = c.turn.new in
+    let now = c.next_turn.new in
     let some : 1 ≤ c.loop-left.left = search rules in
     let run = c.args.run.now in
     let line = line_of now.cutter in
@@ -116,7 +113,7 @@ returns-in-Ok-Behind-clause-exact g c = λ all behind h.
 pub returns-in-Ok-Ended-clause-exact : goal.returns-in-Ok-Ended-clause-exact
 returns-in-Ok-Ended-clause-exact g c = λ all behind h.
     let inv = c.loop-left.invariant in
-    let now = c.turn.new in
+    let now = c.next_turn.new in
     let some : 1 ≤ c.loop-left.left = search rules in
     let room : length c.loop-left.list.items < c.args.most = search rules in
     let counts = subst (λ (t : Turn). TurnCounts t c.loop-left.spot.line now.spot.line
@@ -126,3 +123,16 @@ returns-in-Ok-Ended-clause-exact g c = λ all behind h.
     (ahead now.cutter (g.A.Source.left now.aside))) c.in-Ok-Ended.field-0-is
     (c.in-Ok-Ended.ensures.exact all behind c.loop-left.left some (inv.told all behind h)) in
     whole_taken c.args.most all now.list.items whole (omega (arith, room, counts.2))
+
+pub returns-then-as_slice-most-clause-exact : goal.returns-then-as_slice-most-clause-exact
+returns-then-as_slice-most-clause-exact g c = λ all behind h.
+    let at = c.loop-left.invariant.told all behind h in
+    let full : length c.loop-left.list.items ≡ c.args.most = search rules in
+    full_taken c.args.most all c.loop-left.list.items _ at.2 full
+
+pub returns-clause-exact : goal.returns-clause-exact
+returns-clause-exact g c = λ all behind h.
+    let now = c.loop-left in
+    let none : now.left ≡ 0 = search rules in
+    subst (λ k. ListsSecond all now.list.items c.args.run.now behind k (still now.coming) now.spot.line now.spot.entry
+    (line_of now.cutter) (ahead now.cutter (g.A.Source.left now.aside))) none (now.invariant.told all behind h)

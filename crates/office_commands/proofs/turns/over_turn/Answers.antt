@@ -21,14 +21,14 @@ returns-in-Ok-tell_over-clause-exact g c = λ all run behind left coming some he
     let at = second_at_line all listed run behind left coming spot.line some spot.entry line
     (ahead c.args.cutter.now (g.A.Source.left c.args.aside.now)) c.requires.at_line h in
     subst (λ (ds : List Difference). ListsSecond all ds run behind left coming now.spot.line now.spot.entry
-    (line_of now.cutter) after) (sym c.in-Ok-tell_over.ensures)
+    (line_of now.cutter) after) (sym c.in-Ok-tell_over.ensures.told)
     (turn_over all listed run behind left coming spot.line some now.spot.line line at.0 now.spot.entry
     (line_of now.cutter) after c.in-Ok.ensures.line at.3 (c.in-Ok.ensures.stands at.0 at.1) c.args.found
     c.requires.named here needless (short line at.2))
 
 pub returns-in-Ok-tell_over-clause-counts : goal.returns-in-Ok-tell_over-clause-counts
 returns-in-Ok-tell_over-clause-counts g c =
-    (c.in-Ok.ensures.line, ap length c.in-Ok-tell_over.ensures ∙ length_push c.args.list.now.items _)
+    (c.in-Ok.ensures.line, ap length c.in-Ok-tell_over.ensures.told ∙ length_push c.args.list.now.items _)
 
 pub returns-in-Ok-tell_over-clause-ready : goal.returns-in-Ok-tell_over-clause-ready
 returns-in-Ok-tell_over-clause-ready g c =
