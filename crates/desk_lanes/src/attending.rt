@@ -14,20 +14,20 @@ use road_time::Limits;
 use std::alloc::Global;
 use std::sync::{Mutex, Wait};
 use std::thread::Threads;
-use toll_desk::{ImportDesk, TwoLocks, session_shared};
+use toll_desk::{ImportDesk, TwoLocks, Work, session_shared};
 use two_way::TwoWay;
 
 /// Runs a session on a connection. A POST has the imports' lock until its day is imported, and then its turn is over.
 /// For each call of the keeper a request of what is kept takes the keeper's lock. No other takes a lock.
-pub fn attend<'d, L: TwoWay, K: Keeper, C: Crew, R: Wait + Threads + Drop, T: Turn>(
+pub fn attend<L: TwoWay, K: Keeper, C: Crew, R: Wait + Threads + Drop, T: Turn>(
     rt: R,
     alloc: Global,
     plan: Plan,
     limits: Limits,
-    keeper: &'d Mutex<K>,
-    imports: &'d Mutex<ImportDesk<C, R>>,
+    keeper: &Mutex<K>,
+    imports: &Mutex<ImportDesk<C, R>>,
     line: &mut L,
-    turn: &'d mut T,
+    turn: &mut T,
     reader: &mut BoardReader,
 )
     requires some { 1 ≤ plan.width }
@@ -40,8 +40,7 @@ pub fn attend<'d, L: TwoWay, K: Keeper, C: Crew, R: Wait + Threads + Drop, T: Tu
 {
     let mut clerk = TwoLocks {
         rt,
-        plan,
-        limits,
+        work: Work { plan, limits },
         keeper,
         imports,
         turn,

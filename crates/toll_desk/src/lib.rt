@@ -27,6 +27,7 @@ mod sharing;
 mod stream_ends;
 mod streaming;
 mod two_locks;
+mod work;
 
 pub use clerk::Clerk;
 pub use desk::{Desk, desk_moves};
@@ -39,3 +40,4 @@ pub use sessions::session;
 pub use sharing::session_shared;
 pub use toll_requests::{Asked, Early, SessionEnd};
 pub use two_locks::TwoLocks;
+pub use work::Work;

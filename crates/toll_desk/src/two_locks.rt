@@ -22,6 +22,7 @@ use crate::imported::Imported;
 use crate::notices_shared::answer_notices_shared;
 use crate::posting::finish_import;
 use crate::shared_answers::{share_day, share_spent, share_vehicle};
+use crate::work::Work;
 use import_plan::Plan;
 use keeper::Keeper;
 use lane_loops::Turn;
@@ -41,14 +42,10 @@ use two_way::TwoWay;
 #[derive(Drop)]
 pub struct TwoLocks<'a, K: Keeper, C: Crew, R: Wait + Threads + Drop, T: Turn> {
     pub rt: R,
-    pub plan: Plan,
-    pub limits: Limits,
+    pub work: Work,
     pub keeper: &'a Mutex<K>,
     pub imports: &'a Mutex<ImportDesk<C, R>>,
     pub turn: &'a mut T,
-    ghost some: { 1 ≤ plan.width },
-    ghost few: { plan.width ≤ 64 },
-    ghost within: { IsLimits limits },
 }
 
 /// Does what is left of a POST whose turn is over.
@@ -194,8 +191,8 @@ impl<'a, K: Keeper, C: Crew, R: Wait + Threads + Drop, T: Turn> Clerk for TwoLoc
         answer_shared(
             &self.rt,
             alloc,
-            &self.plan,
-            &self.limits,
+            &self.work.plan,
+            &self.work.limits,
             self.imports,
             self.turn,
             &asked,
