@@ -11,8 +11,8 @@ use Rattle.office_commands.specs.declared.difference.Difference.{Difference}
 use Rattle.office_commands.specs.declared.closing.Closing.{Closing}
 use Rattle.office_commands.specs.declared.closing.Closing.TheVariants.{Agree}
 use Rattle.office_commands.specs.Asides.{is_short, found_as, entries_of, compared}
-use Rattle.office_commands.specs.Differences.{is_after, differs_at, lines_over, differences, closed_by_first, told_before}
-use Rattle.office_commands.specs.Differences.{differences_text}
+use Rattle.office_commands.specs.Differences.{is_after, differs_at, lines_over, differences, closed_by_first}
+use Rattle.office_commands.specs.Differences.{told_before, differences_text}
 
 -- what was found is of a later second than these notices, which are of one
 abbrev pub is_later : List Notice → EntryText → Bool

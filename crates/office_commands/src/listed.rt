@@ -1,5 +1,6 @@
 // The first lines at which notices part from those of the rules, and the closing line of their comparison.
-ghost use Rattle.std.specs.Prelude.{◌≡◌, ◌≢◌, ◌≤◌, ◌+◌, [], ℕ, List, Some, Err, IfOk, IfErr, length, take, drop};
+ghost use Rattle.std.specs.Prelude.{◌≡◌, ◌≢◌, ◌≤◌, ◌+◌, [], ℕ, List, Some, Err, IfOk, IfErr};
+ghost use Rattle.std.specs.Prelude.{length, take, drop, false};
 ghost use Rattle.road_time.specs.Lines.{lines_of};
 ghost use Rattle.road_io.specs.Cutter.{ahead, line_of};
 ghost use Rattle.road_io.specs.Within.{ReadsWithin};

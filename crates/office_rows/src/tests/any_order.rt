@@ -7,12 +7,7 @@ use road_time::Limits;
 use std::test::Fail;
 
 /// Words behind `audit 100`, an aside, the text, and the status.
-type Compared = (
-    &'static [&'static str],
-    &'static [u8],
-    &'static str,
-    u8,
-);
+type Compared = (&'static [&'static str], &'static [u8], &'static str, u8);
 
 /// Notices of one second the other way round, twice.
 const SWAPPED: &[u8] =
@@ -31,7 +26,8 @@ const TWICE: &[u8] =
     b"0,1,0,-1,0\n0,1,0,-1,0\n0,2,0,-1,0\n0,2,130,-1,0\n1,180,3,10\n0,3,180,0,0\n0,4,240,16,0\n";
 
 /// A notice more behind all.
-const MORE: &[u8] = b"0,1,0,-1,0\n0,2,0,-1,0\n0,2,130,-1,0\n1,180,3,10\n0,3,180,0,0\n0,4,240,16,0\n0,5,300,-1,0\n";
+const MORE: &[u8] =
+    b"0,1,0,-1,0\n0,2,0,-1,0\n0,2,130,-1,0\n1,180,3,10\n0,3,180,0,0\n0,4,240,16,0\n0,5,300,-1,0\n";
 
 /// How they compare with the day's notices, in any order and in theirs.
 const ROWS: [Compared; 11] = [
