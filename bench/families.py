@@ -76,6 +76,7 @@ asked_history       day_asked                            > past_file
 # The office: its words, commands and program
 reports             /office_reports
 vehicle_workers     /ways_audit
+second_notices      office_seconds
 office_words
 office_renewal                                           > office_causes
 office_commands
