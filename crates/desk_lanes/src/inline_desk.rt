@@ -56,9 +56,11 @@ impl<J: Naming, K: Keeper, R: Wait + Threads + Drop + Copy> Host for InlineDesk<
     }
 }
 
-impl<J: Naming + Send + Sync, K: Keeper + Send, R: Wait + Threads + Drop + Copy + Send + Sync>
-    DeskCrew<Kept<J, K>, R> for InlineCrew
-{
+impl<
+    J: Naming + Send + Sync,
+    K: Keeper + Send,
+    R: Wait + Threads + Drop + Copy + Send + Sync,
+> DeskCrew<Kept<J, K>, R> for InlineCrew {
     type Shared = InlineDesk<J, K, R>;
 
     ghost out = { λ crew. ⟦<InlineCrew as Crew>⟧.out crew };

@@ -67,7 +67,8 @@ impl<J: Naming, K: Keeper, C: Crew, R: Wait + Threads + Drop + Copy> SharedDesk<
     }
 }
 
-impl<J: Naming, K: Keeper, C: Crew, R: Wait + Threads + Drop + Copy> Host for SharedDesk<J, K, C, R> {
+impl<J: Naming, K: Keeper, C: Crew, R: Wait + Threads + Drop + Copy> Host
+    for SharedDesk<J, K, C, R> {
     ghost use Rattle.desk_lanes.specs.Attends.{Attends};
 
     ghost attends = { λ desk p q old new.

@@ -14,8 +14,11 @@ use std::sync::Wait;
 use std::thread::Threads;
 use toll_desk::ImportDesk;
 
-impl<J: Naming + Send + Sync, K: Keeper + Send, R: Wait + Threads + Drop + Copy + Send + Sync>
-    DeskCrew<Kept<J, K>, R> for ThreadCrew<R, NoGate>
+impl<
+    J: Naming + Send + Sync,
+    K: Keeper + Send,
+    R: Wait + Threads + Drop + Copy + Send + Sync,
+> DeskCrew<Kept<J, K>, R> for ThreadCrew<R, NoGate>
 where
     ThreadCrew<R, NoGate>: Crew<Ticket = ThreadTicket, Name = ()>,
 {

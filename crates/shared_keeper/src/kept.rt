@@ -13,6 +13,7 @@ use keeper::{KeepFault, Keeper};
 use logbook::Seen;
 
 /// A keeper whose history was opened, and has no name yet.
+#[derive(Drop)]
 pub struct Opened<K: Keeper> {
     keeper: K,
     head: Head<K>,
@@ -43,6 +44,7 @@ impl<K: Keeper> Opened<K> {
 }
 
 /// A keeper beside its history. Where it is settled, the history's last place is what the keeper is now.
+#[derive(Drop)]
 pub struct Kept<J: Naming, K: Keeper> {
     pub(crate) keeper: K,
     head: Head<K>,

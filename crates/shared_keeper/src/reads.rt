@@ -20,7 +20,10 @@ pub fn read_last_day<J: Naming, K: Keeper>(kept: &mut Kept<J, K>) -> Result<u32,
 }
 
 /// A day's record.
-pub fn read_day<J: Naming, K: Keeper>(kept: &mut Kept<J, K>, day: u32) -> Result<Option<DayRecord>, KeepFault>
+pub fn read_day<J: Naming, K: Keeper>(
+    kept: &mut Kept<J, K>,
+    day: u32,
+) -> Result<Option<DayRecord>, KeepFault>
     ensures shared { ReadsShared K.told K.faults result (λ o kept. kept ≡ record_of o day) }
     ensures state { Reads (K.told kept.old.keeper) (K.told kept.new.keeper) result (λ o kept. kept ≡ record_of o day) }
     ensures sound { SoundIfTold (K.told kept.new.keeper) }
@@ -29,7 +32,9 @@ pub fn read_day<J: Naming, K: Keeper>(kept: &mut Kept<J, K>, day: u32) -> Result
 }
 
 /// The history's record.
-pub fn read_past<J: Naming, K: Keeper>(kept: &mut Kept<J, K>) -> Result<Option<PastRecord>, KeepFault>
+pub fn read_past<J: Naming, K: Keeper>(
+    kept: &mut Kept<J, K>,
+) -> Result<Option<PastRecord>, KeepFault>
     ensures shared { ReadsShared K.told K.faults result (λ o past. past ≡ o.past) }
     ensures state { Reads (K.told kept.old.keeper) (K.told kept.new.keeper) result (λ o past. past ≡ o.past) }
     ensures sound { SoundIfTold (K.told kept.new.keeper) }
@@ -38,7 +43,12 @@ pub fn read_past<J: Naming, K: Keeper>(kept: &mut Kept<J, K>) -> Result<Option<P
 }
 
 /// An amount.
-pub fn read_spent<J: Naming, K: Keeper>(kept: &mut Kept<J, K>, day: u32, vid: u32, xway: u8) -> Result<u64, KeepFault>
+pub fn read_spent<J: Naming, K: Keeper>(
+    kept: &mut Kept<J, K>,
+    day: u32,
+    vid: u32,
+    xway: u8,
+) -> Result<u64, KeepFault>
     ensures shared { ReadsShared K.told K.faults result (λ o tolls. tolls ≡ paid o.rows day vid xway) }
     ensures state { Reads (K.told kept.old.keeper) (K.told kept.new.keeper) result (λ o tolls. tolls ≡ paid o.rows day vid xway) }
     ensures sound { SoundIfTold (K.told kept.new.keeper) }
@@ -47,7 +57,11 @@ pub fn read_spent<J: Naming, K: Keeper>(kept: &mut Kept<J, K>, day: u32, vid: u3
 }
 
 /// The amounts of some days.
-pub fn read_rows<J: Naming, K: Keeper>(kept: &mut Kept<J, K>, from: u32, to: u32) -> Result<Vec<SpentRow>, KeepFault>
+pub fn read_rows<J: Naming, K: Keeper>(
+    kept: &mut Kept<J, K>,
+    from: u32,
+    to: u32,
+) -> Result<Vec<SpentRow>, KeepFault>
     ensures shared { ReadsShared K.told K.faults result (λ o rows. rows.items ≡ rows_between o from to) }
     ensures state { Reads (K.told kept.old.keeper) (K.told kept.new.keeper) result (λ o rows. rows.items ≡ rows_between o from to) }
     ensures sound { SoundIfTold (K.told kept.new.keeper) }
@@ -57,7 +71,12 @@ pub fn read_rows<J: Naming, K: Keeper>(kept: &mut Kept<J, K>, from: u32, to: u32
 }
 
 /// The amounts of a vehicle on some days.
-pub fn read_vehicle_rows<J: Naming, K: Keeper>(kept: &mut Kept<J, K>, vid: u32, from: u32, to: u32) -> Result<Vec<SpentRow>, KeepFault>
+pub fn read_vehicle_rows<J: Naming, K: Keeper>(
+    kept: &mut Kept<J, K>,
+    vid: u32,
+    from: u32,
+    to: u32,
+) -> Result<Vec<SpentRow>, KeepFault>
     ensures shared { ReadsShared K.told K.faults result (λ o rows. rows.items ≡ vehicle_rows_between o vid from to) }
     ensures state { Reads (K.told kept.old.keeper) (K.told kept.new.keeper) result (λ o rows. rows.items ≡ vehicle_rows_between o vid from to) }
     ensures sound { SoundIfTold (K.told kept.new.keeper) }

@@ -43,7 +43,7 @@ impl<'a, J: Naming, K: Keeper, R: Wait> SharedKeeper<'a, J, K, R> {
 
     /// Counts on from where one who was to put is.
     pub fn counts(&mut self, held: HeldKeeper<'a, J, K, R>)
-        ensures { self.new.faults ≡ held.faults }
+        ensures { self.new.faults ≡ held.entry.faults }
     {
         self.faults = held.faults;
     }

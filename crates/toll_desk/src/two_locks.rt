@@ -77,15 +77,7 @@ fn finish_after<L: Link, T: Turn>(
 
 /// Imports the day of a POST with the imports locked. Once they are not, and its turn is over, the rest of its body is
 /// read, and it is answered.
-fn import_shared<
-    'a,
-    L: Link,
-    J: Naming,
-    K: Keeper,
-    C: Crew,
-    R: Wait + Threads + Drop,
-    T: Turn,
->(
+fn import_shared<'a, L: Link, J: Naming, K: Keeper, C: Crew, R: Wait + Threads + Drop, T: Turn>(
     rt: &R,
     alloc: Global,
     plan: &Plan,
@@ -126,15 +118,7 @@ fn import_shared<
 
 /// Answers a request of what is kept: of a day or an amount by the keeper alone, a POST with the imports
 /// locked until its day is imported.
-fn answer_shared<
-    'a,
-    L: TwoWay,
-    J: Naming,
-    K: Keeper,
-    C: Crew,
-    R: Wait + Threads + Drop,
-    T: Turn,
->(
+fn answer_shared<'a, L: TwoWay, J: Naming, K: Keeper, C: Crew, R: Wait + Threads + Drop, T: Turn>(
     rt: &R,
     alloc: Global,
     plan: &Plan,
@@ -200,8 +184,7 @@ fn answer_shared<
 }
 
 impl<'a, J: Naming, K: Keeper, C: Crew, R: Wait + Threads + Drop, T: Turn> Clerk
-    for TwoLocks<'a, J, K, C, R, T>
-{
+    for TwoLocks<'a, J, K, C, R, T> {
     ghost use Rattle.std.specs.Prelude.{None};
     ghost use Rattle.toll_desk.specs.Shared.{AnswersShared};
 

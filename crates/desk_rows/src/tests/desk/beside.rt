@@ -128,12 +128,7 @@ fn share_beside<
     J: Naming + Send + Sync,
     R: Threads + Wait + Drop + Copy + Send + Sync,
     C: DeskCrew<Kept<J, MemKeeper>, R> + Drop,
->(
-    rt: R,
-    alloc: Global,
-    crew: C,
-    kept: Kept<J, MemKeeper>,
-) -> Result<(Beside, bool), NoMemory>
+>(rt: R, alloc: Global, crew: C, kept: Kept<J, MemKeeper>) -> Result<(Beside, bool), NoMemory>
     requires { C.out crew ≡ [] }
 {
     let Board { writer, readers } = board(rt, alloc, 2)?;
@@ -158,7 +153,12 @@ fn share_inline<J: Naming + Send + Sync, R: Threads + Wait + Drop + Copy + Send 
 ) -> Result<(Beside, bool), NoMemory>
     requires { opened.seen.book ≡ J.book }
 {
-    share_beside(rt, alloc, InlineCrew::new(alloc, false), opened.named::<J>())
+    share_beside(
+        rt,
+        alloc,
+        InlineCrew::new(alloc, false),
+        opened.named::<J>(),
+    )
 }
 
 /// The same with a thread for each job.
@@ -169,7 +169,12 @@ fn share_by_threads<J: Naming + Send + Sync, R: Threads + Wait + Drop + Copy + S
 ) -> Result<(Beside, bool), NoMemory>
     requires { opened.seen.book ≡ J.book }
 {
-    share_beside(rt, alloc, ThreadCrew::new(rt, alloc, NoGate), opened.named::<J>())
+    share_beside(
+        rt,
+        alloc,
+        ThreadCrew::new(rt, alloc, NoGate),
+        opened.named::<J>(),
+    )
 }
 
 /// The same of a new keeper, each way.

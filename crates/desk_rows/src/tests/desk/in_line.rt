@@ -80,13 +80,7 @@ fn share_behind<
     J: Naming + Send + Sync,
     R: Threads + Wait + Drop + Copy + Send + Sync,
     C: DeskCrew<Kept<J, MemKeeper>, R> + Drop,
->(
-    rt: R,
-    alloc: Global,
-    crew: C,
-    kept: Kept<J, MemKeeper>,
-    writes: bool,
-) -> Result<Behind, NoMemory>
+>(rt: R, alloc: Global, crew: C, kept: Kept<J, MemKeeper>, writes: bool) -> Result<Behind, NoMemory>
     requires { C.out crew ≡ [] }
 {
     let Board { writer, readers } = board(rt, alloc, 2)?;
@@ -111,7 +105,13 @@ fn share_inline<J: Naming + Send + Sync, R: Threads + Wait + Drop + Copy + Send 
 ) -> Result<Behind, NoMemory>
     requires { opened.seen.book ≡ J.book }
 {
-    share_behind(rt, alloc, InlineCrew::new(alloc, false), opened.named::<J>(), writes)
+    share_behind(
+        rt,
+        alloc,
+        InlineCrew::new(alloc, false),
+        opened.named::<J>(),
+        writes,
+    )
 }
 
 /// The same with a thread for each job.
@@ -123,7 +123,13 @@ fn share_by_threads<J: Naming + Send + Sync, R: Threads + Wait + Drop + Copy + S
 ) -> Result<Behind, NoMemory>
     requires { opened.seen.book ≡ J.book }
 {
-    share_behind(rt, alloc, ThreadCrew::new(rt, alloc, NoGate), opened.named::<J>(), writes)
+    share_behind(
+        rt,
+        alloc,
+        ThreadCrew::new(rt, alloc, NoGate),
+        opened.named::<J>(),
+        writes,
+    )
 }
 
 /// The same of a new keeper, each way.

@@ -177,7 +177,13 @@ fn share_inline<J: Naming + Send + Sync, R: Threads + Wait + Drop + Copy + Send 
 ) -> Result<bool, NoMemory>
     requires { opened.seen.book ≡ J.book }
 {
-    share_for(rt, alloc, InlineCrew::new(alloc, false), opened.named::<J>(), asking)
+    share_for(
+        rt,
+        alloc,
+        InlineCrew::new(alloc, false),
+        opened.named::<J>(),
+        asking,
+    )
 }
 
 /// The same of one with a thread for each job.
@@ -189,7 +195,13 @@ fn share_by_threads<J: Naming + Send + Sync, R: Threads + Wait + Drop + Copy + S
 ) -> Result<bool, NoMemory>
     requires { opened.seen.book ≡ J.book }
 {
-    share_for(rt, alloc, ThreadCrew::new(rt, alloc, NoGate), opened.named::<J>(), asking)
+    share_for(
+        rt,
+        alloc,
+        ThreadCrew::new(rt, alloc, NoGate),
+        opened.named::<J>(),
+        asking,
+    )
 }
 
 /// The same of both, with a new keeper each, which fails at these calls.
