@@ -89,4 +89,4 @@ returns-in-Answers-clause-shared g c =
     (wire_of (g.L.Link.left l) (g.L.Link.plan l) (g.L.Link.written l) (g.L.Link.room l))
     (wire_of (g.L.Link.left a.new.link) (g.L.Link.plan a.new.link) (g.L.Link.written a.new.link)
     (g.L.Link.room a.new.link)) a.result)
-    c.items-2.ensures a.ensures.answers)
+    c.items-in-Answers.ensures a.ensures.answers)

@@ -48,7 +48,7 @@ returns-clause-imports g c =
     let was = tells_of g.K.Keeper.told p.seen.log p.count p.counted in
     let now = tells_of g.K.Keeper.told q.seen.log q.count q.counted in
     let before = state_of (told_at g.K.Keeper.told p.seen.log p.count) c.hold-held.result.faults
-    c.lock-desk.result.writer.posted in
+    c.deref_mut.result.now.writer.posted in
     let after = state_of (told_at g.K.Keeper.told q.seen.log q.count) i.new.keeper.faults i.new.self.writer.posted in
     record {
       was = was.0;
