@@ -1,15 +1,19 @@
 -- Laws of what is answered of a keeper that others may call between.
-use Rattle.std.proofs.Common.{◌≡◌, ℕ, inl, inr, Option, Some, None, Result, Ok, Err, refl, ap, subst, ◌∙◌}
+use Rattle.std.proofs.Common.{◌≡◌, ◌≤◌, ◌+◌, ◌-◌, ◌<◌, ◌⊎◌, ◌++◌, ℕ, zero, suc, inl, inr, List, [], Option, Some, None}
+use Rattle.std.proofs.Common.{Result, Ok, Err, IfOk, OnOk, refl, sym, ap, subst, ◌∙◌, arith}
+use Rattle.std.specs.Global.{Vec}
+use Rattle.keeper.specs.declared.kept.DayRecord.{DayRecord}
 use Rattle.keeper.specs.declared.kept.KeepFault.{KeepFault}
 use Rattle.keeper.specs.declared.kept.KeepFault.TheVariants.{Failed, NoMemory}
 use Rattle.keeper.specs.Calls.{Reads}
-use Rattle.keeper.specs.Office.{Office}
+use Rattle.keeper.specs.Office.{Office, record_of, last_day}
 use Rattle.shared_keeper.specs.Calls.{ReadsShared}
 use Rattle.road_io.specs.Faults.{Rose}
-use Rattle.toll_texts.specs.Replies.{Reply}
+use Rattle.toll_texts.specs.Replies.{Reply, no_memory_reply}
 use Rattle.toll_requests.specs.declared.session_end.SessionEnd.{SessionEnd}
 use Rattle.toll_desk.specs.Answers.{Wire, AnswersReply, AnswersUnlessFailed}
-use Rattle.toll_desk.specs.Shared.{AnswersOf, AnswersSome}
+use Rattle.toll_desk.specs.Days.{first_day, as_list}
+use Rattle.toll_desk.specs.Shared.{AnswersOf, AnswersSome, AnswersListed, ListsFrom, ListsDays}
 use Rattle.toll_desk.proofs.SendLaws.{kept_is, office_is, failed_rose}
 use Rattle.toll_desk.proofs.DayLaws.{memory_still}
 
@@ -63,3 +67,62 @@ pub some_of : {T : Type 0} (reply : T → Reply) (x : T) (before now : ℕ) (old
     AnswersUnlessFailed (reply x) before now old.room old.written new.written end → AnswersSome reply old new end
 some_of reply x before now old new end (inl sent) = (x, inl sent.1)
 some_of reply x before now old new end (inr failed) = (x, inr failed.1)
+
+-- what is answered unless the keeper failed, of whatever reply, is that it failed or want of memory
+pub refused_list : {K : Type 0} (told : K → Option Office) (before now : ℕ) (old new : Wire) (end : SessionEnd) →
+    AnswersUnlessFailed no_memory_reply before now old.room old.written new.written end → AnswersListed told old new end
+refused_list told before now old new end (inl sent) = inr (inr sent.1)
+refused_list told before now old new end (inr failed) = inr (inl failed.1)
+
+-- what was added of a day is what a state of the keeper kept of it
+pub added_of : {K : Type 0} (told : K → Option Office) (k : K) (kept : Option DayRecord) (day : ℕ)
+    (old new : List DayRecord) (r : Result (Unit {0}) KeepFault) → OnOk r (new ≡ old ++ as_list kept) →
+    ((o : Office) → told k ≡ Some o → kept ≡ record_of o day) →
+    OnOk r ((k : K) × (kept : Option DayRecord) × (new ≡ old ++ as_list kept)
+    × ((o : Office) → told k ≡ Some o → kept ≡ record_of o day))
+added_of told k kept day old new (Ok u) added is = (k, kept, added, is)
+added_of told k kept day old new (Err e) added is = tt
+
+-- before any day none is listed
+pub lists_none : {K : Type 0} (told : K → Option Office) (first at : ℕ) (days : List DayRecord) → at ≡ first →
+    days ≡ [] → ListsFrom told first (at - first) days
+lists_none told first at days same none =
+    let nothing : 0 ≡ at - first = omega (arith, same) in subst (λ n. ListsFrom told first n days) nothing none
+
+-- one day more
+pub lists_more : {K : Type 0} (told : K → Option Office) (k : K) (kept : Option DayRecord) (first at : ℕ)
+    (before days : List DayRecord) → first ≤ at → days ≡ before ++ as_list kept →
+    ((o : Office) → told k ≡ Some o → kept ≡ record_of o at) → ListsFrom told first (at - first) before →
+    ListsFrom told first ((at + 1) - first) days
+lists_more told k kept first at before days from added is lists =
+    let more : suc (at - first) ≡ (at + 1) - first = omega (arith, from) in
+    let here : at ≡ first + (at - first) = omega (arith, from) in
+    subst (λ n. ListsFrom told first n days) more
+    (k, kept, before, added, (λ o tells. subst (λ d. kept ≡ record_of o d) here (is o tells)), lists)
+
+-- where the last day was passed, all to it are listed
+pub lists_all : {K : Type 0} (told : K → Option Office) (first last at : ℕ) (days : List DayRecord) → first ≤ at →
+    (at ≤ first) ⊎ (at ≤ last + 1) → last < at → ListsFrom told first (at - first) days →
+    ListsFrom told first ((last + 1) - first) days
+lists_all told first last at days from (inl same) passed lists =
+    let all : at - first ≡ (last + 1) - first = omega (arith, from, same, passed) in
+    subst (λ n. ListsFrom told first n days) all lists
+lists_all told first last at days from (inr to) passed lists =
+    let all : at - first ≡ (last + 1) - first = omega (arith, from, to, passed) in
+    subst (λ n. ListsFrom told first n days) all lists
+
+-- so all days are
+pub lists_days : {K : Type 0} (told : K → Option Office) (first last : ℕ) (at_first at_last : K) →
+    ((o : Office) → told at_first ≡ Some o → first ≡ first_day o.past) →
+    ((o : Office) → told at_last ≡ Some o → last ≡ last_day o) → (r : Result (Vec DayRecord) KeepFault) →
+    IfOk r (λ days. ListsFrom told first ((last + 1) - first) days.items) → IfOk r (λ days. ListsDays told days.items)
+lists_days told first last at_first at_last is_first is_last (Ok days) lists = record {
+  first = first;
+  last = last;
+  at_first = at_first;
+  at_last = at_last;
+  is_first = is_first;
+  is_last = is_last;
+  lists = lists;
+}
+lists_days told first last at_first at_last is_first is_last (Err e) lists = tt

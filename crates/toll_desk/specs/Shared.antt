@@ -1,11 +1,11 @@
 -- What a desk answers of a keeper that others may call between.
-use Rattle.std.specs.Prelude.{◌≡◌, ◌⊎◌, ℕ, Bool, List, Option, Some}
+use Rattle.std.specs.Prelude.{◌≡◌, ◌⊎◌, ℕ, ◌+◌, ◌-◌, zero, suc, Bool, List, [], ◌++◌, Option, Some}
 use Rattle.std.specs.Io.KnownBytes.{prepend_known}
 use Rattle.road_time.specs.declared.day.Limits.{Limits}
 use Rattle.road_time.specs.declared.day.SpentRow.{SpentRow}
 use Rattle.keeper.specs.Calls.{WhenRefused}
 use Rattle.keeper.specs.declared.kept.DayRecord.{DayRecord}
-use Rattle.keeper.specs.Office.{Office, record_of}
+use Rattle.keeper.specs.Office.{Office, record_of, last_day}
 use Rattle.import_once.specs.declared.outcomes.Outcome.{Outcome}
 use Rattle.toll_texts.specs.Bodies.{spent_body}
 use Rattle.toll_texts.specs.Lists.{days_body, vehicle_body}
@@ -17,6 +17,7 @@ use Rattle.toll_requests.specs.declared.asked.Asked.TheVariants.{Answers}
 use Rattle.toll_requests.specs.declared.session_end.SessionEnd.{SessionEnd}
 use Rattle.toll_desk.specs.Answers.{Wire, AnswersReply, AnswersExactly, AnswersUnlessFailed, keeper_reply, good}
 use Rattle.toll_desk.specs.Answers.{day_reply, spent_reply, vehicle_reply}
+use Rattle.toll_desk.specs.Days.{first_day, as_list}
 use Rattle.toll_desk.specs.Pages.{AnswersPage}
 use Rattle.toll_desk.specs.Imports.{AnswersBody, IsCutShort, FailsInBody, DeskState, ImportsDay}
 use Rattle.toll_desk.specs.Streams.{AnswersDay}
@@ -43,6 +44,32 @@ AnswersPost count early old new end =
     (all : List ℕ) → prepend_known early old.left ≡ Some all
     → (outcome : Outcome) × (AnswersBody count all outcome old new end
     ⊎ (IsCutShort count all outcome old new end ⊎ FailsInBody old new end))
+
+-- so many days from one on were looked for, each in a state of the keeper, and listed are those that it kept then
+abbrev pub ListsFrom : {K : Type 0} → (K → Option Office) → ℕ → ℕ → List DayRecord → Type 0
+ListsFrom {K} told first zero days = days ≡ []
+ListsFrom {K} told first (suc n) days =
+    (k : K) × (kept : Option DayRecord) × (before : List DayRecord) × (days ≡ before ++ as_list kept)
+    × ((o : Office) → told k ≡ Some o → kept ≡ record_of o (first + n)) × ListsFrom told first n before
+
+-- all days were looked for, from the first that may be kept in a state of the keeper to the last that was kept in one,
+-- and listed are those that it kept when they were
+pub record ListsDays {K : Type 0} (told : K → Option Office) (days : List DayRecord) : Type 0 where
+  pub first : ℕ
+  pub last : ℕ
+  pub at_first : K
+  pub at_last : K
+  pub is_first : (o : Office) → told at_first ≡ Some o → first ≡ first_day o.past
+  pub is_last : (o : Office) → told at_last ≡ Some o → last ≡ last_day o
+  pub lists : ListsFrom told first ((last + 1) - first) days
+
+-- the days that are listed are answered; or exactly that the keeper failed, or want of memory
+abbrev pub AnswersListed : {K : Type 0} → (K → Option Office) → Wire → Wire → SessionEnd → Type 0
+AnswersListed told old new end =
+    ((days : List DayRecord) × ListsDays told days
+    × AnswersReply (good (days_body days)) old.room old.written new.written end)
+    ⊎ (AnswersExactly keeper_reply old.room old.written new.written end
+    ⊎ AnswersReply no_memory_reply old.room old.written new.written end)
 
 -- a day is imported exactly, from an office that the keeper told in one of its states, and what is kept then it told in
 -- one too
@@ -75,7 +102,7 @@ AnswersNotices told w exact limits day count early old new end =
     ⊎ SendsReply no_memory_reply old.written new.written end
 
 -- what is asked is answered of a keeper that others may call between: a day, an amount and a vehicle's bill of one of
--- its states, all days by one of the replies of days, the page, a POST behind its body and exactly of one of its
+-- its states, all days day by day of its states, the page, a POST behind its body and exactly of one of its
 -- states, and the notices of a day exactly of one too
 abbrev pub AnswersShared : {K : Type 0} → (K → Option Office) → (K → ℕ) → WhenRefused → Bool → Limits → Asked → Wire →
     Wire → SessionEnd → Type 0
@@ -92,7 +119,7 @@ AnswersShared told faults w exact limits (Vehicle vid from to) old new end =
     × AnswersSome {T = List SpentRow} (λ rows. good (vehicle_body vid from to rows)) old new end
     × (new.left ≡ old.left)
 AnswersShared told faults w exact limits Days old new end =
-    AnswersSome {T = List DayRecord} (λ days. good (days_body days)) old new end × (new.left ≡ old.left)
+    AnswersListed told old new end × AnswersSome {T = List DayRecord} (λ days. good (days_body days)) old new end × (new.left ≡ old.left)
 AnswersShared told faults w exact limits Page old new end =
     AnswersPage old.room old.written new.written end × (new.left ≡ old.left)
 AnswersShared told faults w exact limits (Answers day count early) old new end =

@@ -10,7 +10,7 @@ use keeper::{DayRecord, KeepFault, Keeper, PastRecord};
 use std::alloc::Global;
 
 /// The first day that may be kept, by the record of a history.
-fn first_of(past: Option<PastRecord>) -> u32
+pub(crate) fn first_of(past: Option<PastRecord>) -> u32
     ensures { result ≡ first_of_past past }
 {
     match past {
@@ -33,7 +33,7 @@ fn first_day<K: Keeper>(keeper: &mut K) -> Result<u32, KeepFault>
 }
 
 /// Adds a record, if there is one.
-fn add(kept: Option<DayRecord>, days: &mut Vec<DayRecord>) -> Result<(), KeepFault>
+pub(crate) fn add(kept: Option<DayRecord>, days: &mut Vec<DayRecord>) -> Result<(), KeepFault>
     ensures added { OnOk result (days.new.items ≡ days.old.items ++ as_list kept) }
     ensures memory { result ≢ Err Failed }
 {

@@ -9,6 +9,7 @@
 
 mod answers;
 mod clerk;
+mod days_shared;
 mod desk;
 mod import_desk;
 mod imported;

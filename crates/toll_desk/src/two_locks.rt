@@ -15,8 +15,9 @@ ghost use Rattle.import_once.specs.declared.outcomes.AnsweredDay.{AnsweredDay};
 ghost use Rattle.import_once.specs.declared.outcomes.Outcome.TheVariants as outcomes;
 ghost use Rattle.import_once.specs.declared.outcomes.Outcome.TheVariants.{ReadFault, WriteFault, KeeperFault};
 
-use crate::answers::{answer_days, answer_page};
+use crate::answers::answer_page;
 use crate::clerk::Clerk;
+use crate::days_shared::share_days;
 use crate::import_desk::ImportDesk;
 use crate::imported::Imported;
 use crate::notices_shared::answer_notices_shared;
@@ -150,7 +151,7 @@ fn answer_shared<'a, L: TwoWay, J: Naming, K: Keeper, C: Crew, R: Wait + Threads
         Asked::Day(day) => share_day(alloc, *day, keeper, link),
         Asked::Spent { day, xway, vid } => share_spent(alloc, *day, *xway, *vid, keeper, link),
         Asked::Vehicle { vid, from, to } => share_vehicle(alloc, *vid, *from, *to, keeper, link),
-        Asked::Days => answer_days(alloc, keeper, link),
+        Asked::Days => share_days(alloc, keeper, link),
         Asked::Page => answer_page(alloc, link),
         Asked::Import { day, length, early } => import_shared(
             rt,

@@ -37,12 +37,12 @@ returns-in-Vehicle-clause-shared g c =
 pub returns-in-Days-clause-shared : goal.returns-in-Days-clause-shared
 returns-in-Days-clause-shared g c =
     let l = c.args.link.now in
-    let a = c.answer_days in
+    let a = c.share_days in
     subst (λ asked. AnswersShared g.K.Keeper.told g.K.Keeper.faults g.K.Keeper.refuses g.C.Crew.exact c.args.limits.now asked
     (wire_of (g.L.Link.left l) (g.L.Link.plan l) (g.L.Link.written l) (g.L.Link.room l))
     (wire_of (g.L.Link.left a.new.link) (g.L.Link.plan a.new.link) (g.L.Link.written a.new.link)
     (g.L.Link.room a.new.link)) a.result)
-    (sym c.in-Days.is) (a.ensures.some, a.ensures.unread)
+    (sym c.in-Days.is) (a.ensures.listed, a.ensures.some, a.ensures.unread)
 
 pub returns-in-Page-clause-shared : goal.returns-in-Page-clause-shared
 returns-in-Page-clause-shared g c =
@@ -62,8 +62,7 @@ returns-in-Import-clause-shared g c =
     (wire_of (g.L.Link.left l) (g.L.Link.plan l) (g.L.Link.written l) (g.L.Link.room l))
     (wire_of (g.L.Link.left a.new.link) (g.L.Link.plan a.new.link) (g.L.Link.written a.new.link)
     (g.L.Link.room a.new.link)) a.result)
-    (sym c.in-Import.is)
-    (
+    (sym c.in-Import.is) (
       λ all known. a.ensures.posts all (ap (λ e. prepend_known e (g.L.Link.left l)) c.items.ensures ∙ known),
       subst
           (λ e. ImportsShared g.K.Keeper.told g.K.Keeper.refuses g.C.Crew.exact c.args.limits.now c.in-Import.day
