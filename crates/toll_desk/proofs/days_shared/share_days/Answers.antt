@@ -23,7 +23,11 @@ returns-in-Ok-clause-unavailable g c =
 
 pub returns-in-Err-clause-listed : goal.returns-in-Err-clause-listed
 returns-in-Err-clause-listed g c =
-    refused_list g.K.Keeper.told _ _ _ _ c.send_refusal.result
+    let l = c.args.link.now in
+    let n = c.send_refusal.new.link in
+    refused_list g.K.Keeper.told _ _
+    (wire_of (g.L.Link.left l) (g.L.Link.plan l) (g.L.Link.written l) (g.L.Link.room l))
+    (wire_of (g.L.Link.left n) (g.L.Link.plan n) (g.L.Link.written n) (g.L.Link.room n)) c.send_refusal.result
     (c.send_refusal.ensures.sent no_memory_reply _ _
     (failed_rose _ _ c.in-Err.fault c.in-Err.ensures.cause)
     (memory_still _ _ c.in-Err.fault c.in-Err.ensures.cause))
