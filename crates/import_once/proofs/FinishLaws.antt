@@ -1,6 +1,6 @@
 -- What an import did, from what its stages did.
 use Rattle.std.proofs.Common.{◌≡◌, ◌<◌, nat_le, inl, inr, ℕ, List, length, Option, Some, None, refl, sym, ap, subst}
-use Rattle.std.proofs.Common.{◌∙◌}
+use Rattle.std.proofs.Common.{◌∙◌, ◌⊎◌, []}
 use Rattle.std.proofs.Math.Seq.{take-length}
 use Rattle.std.proofs.lemmas.Bool.{cond-false, lt-leb}
 use Rattle.std.specs.Io.KnownBytes.{Appends}
@@ -30,7 +30,7 @@ use Rattle.day_rounds.specs.declared.fault.DayFault.{DayFault}
 use Rattle.day_rounds.specs.declared.fault.DayFault.TheVariants as stop
 use Rattle.import_once.specs.Imports.{DayAnswer, Work, work_by, worked_record, worked_office}
 use Rattle.import_once.specs.Imports.{import_worked, answers_worked, unless_passed, Does, Merges, KeepsAll, LeavesAlone, LeavesRead}
-use Rattle.import_once.specs.Imports.{IsOfNewDay, IsOfKeptDay}
+use Rattle.import_once.specs.Imports.{IsOfNewDay, IsOfKeptDay, KeepsUnlessRead}
 use Rattle.import_once.specs.Stages.{run_record, Stores, Finishes, Tells, IsReadWhole, IsOfEnd}
 use Rattle.day_rounds.specs.Faults.{WritesUpTo}
 use Rattle.import_once.specs.Runs.{stopped_outcome, WhereWorked}
@@ -172,6 +172,21 @@ pub whole_unrefused : (end : DayEnd) (bytes : List ℕ) (refused : Option (ℕ �
     IsReadWhole end → refused ≡ None
 whole_unrefused (Whole n digest) bytes refused e h = e.0
 whole_unrefused (RefusedAt line cause) bytes refused e h = absurd h
+
+-- what was kept where a day begins to be read is kept, or the source was read to its end and did not fail
+pub read_first : (before mid now : Option Office) (end : DayEnd) (bytes : List ℕ) (refused : Option (ℕ × Fault))
+    (left : Option (List ℕ)) (faults later : ℕ) → mid ≡ before → (now ≡ mid) ⊎ IsReadWhole end →
+    EndsReading end bytes refused → (refused ≡ None → left ≡ Some []) → later ≡ faults →
+    KeepsUnlessRead before now left faults later
+read_first before mid now end bytes refused left faults later same (inl still) ends rest passed = inl (still ∙ same)
+read_first before mid now end bytes refused left faults later same (inr whole) ends rest passed =
+    inr (rest (whole_unrefused end bytes refused ends whole), passed)
+
+-- the same behind a call that left what was kept
+pub read_after : (before mid now : Option Office) (left : Option (List ℕ)) (faults later : ℕ) → mid ≡ before →
+    KeepsUnlessRead mid now left faults later → KeepsUnlessRead before now left faults later
+read_after before mid now left faults later same (inl still) = inl (still ∙ same)
+read_after before mid now left faults later same (inr read) = inr read
 
 -- what is left of the source of a day that was answered, or whose refused line was named
 pub tells_leaves : (run' : WorkedDay) (end : DayEnd) (refused : Option (ℕ × Fault)) (bytes : List ℕ)

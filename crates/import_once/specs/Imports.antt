@@ -283,6 +283,10 @@ KeepsAll KeeperFault same = Unit {0}
 KeepsAll NoMemory same = Unit {0}
 KeepsAll _ same = same
 
+-- what is kept is as it was, or the source was read to its end and did not fail
+abbrev pub KeepsUnlessRead : Option Office → Option Office → Option (List ℕ) → ℕ → ℕ → Type 0
+KeepsUnlessRead before now left faults later = (now ≡ before) ⊎ ((left ≡ Some []) × (later ≡ faults))
+
 -- an end that no comparison with a kept day has
 abbrev pub IsUncompared : Outcome → Type 0
 IsUncompared (Already kept) = ⊥

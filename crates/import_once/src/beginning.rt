@@ -13,7 +13,7 @@ ghost use Rattle.road_io.specs.Blame.{FaultsByPlan, FaultsByRoom};
 ghost use Rattle.import_once.specs.Faults.{FaultsBeside, NamesNoOther};
 ghost use Rattle.import_once.specs.Asked.{AsksBy};
 ghost use Rattle.import_once.specs.Imports.{new_import, new_import_found, Does, LeavesRead, PutsOnce, KeepsAll};
-ghost use Rattle.import_once.specs.Imports.{IsOfNewDay};
+ghost use Rattle.import_once.specs.Imports.{IsOfNewDay, KeepsUnlessRead};
 ghost use Rattle.import_once.specs.Runs.{DoesByCrew, HasStartedJobs, HasDaySteps, PublishesDay};
 ghost use Rattle.import_once.specs.Planned.{WorksPlanned};
 ghost use Rattle.accounts.specs.Operations.{Posted};
@@ -73,6 +73,9 @@ fn import_under<S: Source, O: Sink, K: Keeper, C: Crew, P: Publisher, R: Threads
         (P.posted publisher.new) result }
     ensures puts { (o : Office) → K.told keeper.old ≡ Some o → PutsOnce number o (K.told keeper.new) }
     ensures keeps { KeepsAll result (K.told keeper.new ≡ K.told keeper.old) }
+    ensures read_first { (bytes : List ℕ) → S.left source.old ≡ Some bytes
+        → KeepsUnlessRead (K.told keeper.old) (K.told keeper.new) (S.left source.new) (S.faults source.old)
+        (S.faults source.new) }
     ensures whole { (bytes : List ℕ) (kept : DayRecord) → S.left source.old ≡ Some bytes → result ≡ Stored kept
         → S.left source.new ≡ Some [] }
     ensures leaves { (bytes : List ℕ) → S.left source.old ≡ Some bytes
@@ -141,6 +144,9 @@ pub(crate) fn import_begun<S: Source, O: Sink, K: Keeper, C: Crew, P: Publisher,
         (P.posted publisher.new) result }
     ensures puts { (o : Office) → K.told keeper.old ≡ Some o → PutsOnce number o (K.told keeper.new) }
     ensures keeps { KeepsAll result (K.told keeper.new ≡ K.told keeper.old) }
+    ensures read_first { (bytes : List ℕ) → S.left source.old ≡ Some bytes
+        → KeepsUnlessRead (K.told keeper.old) (K.told keeper.new) (S.left source.new) (S.faults source.old)
+        (S.faults source.new) }
     ensures whole { (bytes : List ℕ) (kept : DayRecord) → S.left source.old ≡ Some bytes → result ≡ Stored kept
         → S.left source.new ≡ Some [] }
     ensures leaves { (bytes : List ℕ) → S.left source.old ≡ Some bytes

@@ -10,7 +10,7 @@ ghost use Rattle.road_io.specs.Blame.{FaultsByPlan, FaultsByRoom};
 ghost use Rattle.import_once.specs.Faults.{FaultsBeside, NamesNoOther, FailsNext};
 ghost use Rattle.import_once.specs.Asked.{AsksBy};
 ghost use Rattle.import_once.specs.Imports.{import_answer, import_found, most_imported, Does, LeavesRest, LeavesAlone};
-ghost use Rattle.import_once.specs.Imports.{LeavesRead, PutsOnce, KeepsAll, IsUncompared};
+ghost use Rattle.import_once.specs.Imports.{LeavesRead, PutsOnce, KeepsAll, KeepsUnlessRead, IsUncompared};
 ghost use Rattle.import_once.specs.Runs.{DoesByCrew, HasStartedJobs, PublishesDay, PublishesUnderSome};
 ghost use Rattle.import_once.specs.Planned.{WorksPlanned};
 ghost use Rattle.accounts.specs.Operations.{Posted};
@@ -73,6 +73,9 @@ pub fn import<S: Source, O: Sink, K: Keeper, C: Crew, P: Publisher, R: Threads>(
         result }
     ensures puts { (o : Office) → K.told keeper.old ≡ Some o → PutsOnce day o (K.told keeper.new) }
     ensures keeps { KeepsAll result (K.told keeper.new ≡ K.told keeper.old) }
+    ensures read_first { (bytes : List ℕ) → S.left source.old ≡ Some bytes
+        → KeepsUnlessRead (K.told keeper.old) (K.told keeper.new) (S.left source.new) (S.faults source.old)
+        (S.faults source.new) }
     ensures whole { (bytes : List ℕ) (kept : DayRecord) → S.left source.old ≡ Some bytes → result ≡ Stored kept
         → S.left source.new ≡ Some [] }
     ensures leaves { (bytes : List ℕ) → S.left source.old ≡ Some bytes

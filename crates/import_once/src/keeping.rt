@@ -1,5 +1,5 @@
 // The record and the amounts of a day that was worked, and how it is put; what one comes to that is answered.
-ghost use Rattle.std.specs.Prelude.{◌≡◌, ◌≢◌, ℕ, Option, Some, IfOk, true};
+ghost use Rattle.std.specs.Prelude.{◌≡◌, ◌≢◌, ◌⊎◌, ℕ, Option, Some, IfOk, true};
 ghost use Rattle.keeper.specs.Office.{Office};
 ghost use Rattle.keeper.specs.Kept.{IsDayPut, IsLater};
 ghost use Rattle.keeper.specs.Calls.{IfTold};
@@ -82,6 +82,7 @@ pub fn finish_import<K: Keeper>(
     ensures puts { (o : Office) → K.told keeper.old ≡ Some o → PutsOnce number o (K.told keeper.new) }
     ensures keeps { KeepsAll result (K.told keeper.new ≡ K.told keeper.old) }
     ensures whole { (kept : DayRecordValue) → result ≡ Stored kept → IsReadWhole run.now.end }
+    ensures read_first { (K.told keeper.new ≡ K.told keeper.old) ⊎ IsReadWhole run.now.end }
     ensures of_end { IsOfEnd run.now.end result }
     ensures new_day { IsOfNewDay result }
     ensures unread { result ≢ ReadFault }

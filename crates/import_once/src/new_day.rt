@@ -12,7 +12,7 @@ ghost use Rattle.road_io.specs.Blame.{FaultsByPlan, FaultsByRoom};
 ghost use Rattle.import_once.specs.Faults.{FaultsBeside, NamesNoOther};
 ghost use Rattle.import_once.specs.Asked.{AsksBy};
 ghost use Rattle.import_once.specs.Imports.{new_import, new_import_found, unless_passed, Does, LeavesAlone, LeavesRead};
-ghost use Rattle.import_once.specs.Imports.{PutsOnce, KeepsAll, IsOfNewDay};
+ghost use Rattle.import_once.specs.Imports.{PutsOnce, KeepsAll, KeepsUnlessRead, IsOfNewDay};
 ghost use Rattle.import_once.specs.Runs.{DoesByCrew, HasStartedJobs, PublishesDay, PublishesUnderSome};
 ghost use Rattle.import_once.specs.Planned.{WorksPlanned};
 ghost use Rattle.accounts.specs.Operations.{Posted};
@@ -74,6 +74,9 @@ fn import_later<S: Source, O: Sink, K: Keeper, C: Crew, P: Publisher, R: Threads
         result }
     ensures puts { (o : Office) → K.told keeper.old ≡ Some o → PutsOnce number o (K.told keeper.new) }
     ensures keeps { KeepsAll result (K.told keeper.new ≡ K.told keeper.old) }
+    ensures read_first { (bytes : List ℕ) → S.left source.old ≡ Some bytes
+        → KeepsUnlessRead (K.told keeper.old) (K.told keeper.new) (S.left source.new) (S.faults source.old)
+        (S.faults source.new) }
     ensures whole { (bytes : List ℕ) (kept : DayRecord) → S.left source.old ≡ Some bytes → result ≡ Stored kept
         → S.left source.new ≡ Some [] }
     ensures leaves { (bytes : List ℕ) → S.left source.old ≡ Some bytes
@@ -146,6 +149,9 @@ pub(crate) fn import_new<S: Source, O: Sink, K: Keeper, C: Crew, P: Publisher, R
         result }
     ensures puts { (o : Office) → K.told keeper.old ≡ Some o → PutsOnce number o (K.told keeper.new) }
     ensures keeps { KeepsAll result (K.told keeper.new ≡ K.told keeper.old) }
+    ensures read_first { (bytes : List ℕ) → S.left source.old ≡ Some bytes
+        → KeepsUnlessRead (K.told keeper.old) (K.told keeper.new) (S.left source.new) (S.faults source.old)
+        (S.faults source.new) }
     ensures whole { (bytes : List ℕ) (kept : DayRecord) → S.left source.old ≡ Some bytes → result ≡ Stored kept
         → S.left source.new ≡ Some [] }
     ensures leaves { (bytes : List ℕ) → S.left source.old ≡ Some bytes

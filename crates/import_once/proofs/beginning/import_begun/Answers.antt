@@ -1,4 +1,4 @@
-use Rattle.std.proofs.Common.{inr}
+use Rattle.std.proofs.Common.{inl, inr, refl}
 use Rattle.import_once.proofs.JobLaws.{none_started, begun_published, refused_published}
 use Rattle.import_once.proofs.beginning.import_begun.Goals as goal
 
@@ -16,3 +16,6 @@ returns-in-Err-clause-jobs g c = λ bytes left. none_started _ _ _ _ _ tt
 
 pub returns-in-Err-clause-planned : goal.returns-in-Err-clause-planned
 returns-in-Err-clause-planned g c = λ bytes left. tt
+
+pub returns-in-Err-clause-read_first : goal.returns-in-Err-clause-read_first
+returns-in-Err-clause-read_first g c = λ bytes left. inl refl

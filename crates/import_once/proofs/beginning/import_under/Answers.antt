@@ -1,4 +1,4 @@
-use Rattle.std.proofs.Common.{◌≡◌, ◌∙◌, ℕ, List, Some, refl, sym, ap, subst}
+use Rattle.std.proofs.Common.{inl, ◌≡◌, ◌∙◌, ℕ, List, Some, refl, sym, ap, subst}
 use Rattle.road_time.specs.declared.road.Tuple.{Tuple}
 use Rattle.road_time.specs.Reads.{reads}
 use Rattle.road_time.specs.Rates.{Tariffs}
@@ -13,7 +13,7 @@ use Rattle.import_once.specs.Imports.{Work, work_of, work_by, import_worked, imp
 use Rattle.day_rounds.specs.Faults.{WritesUpTo}
 use Rattle.import_once.proofs.WorkLaws.{run_fits, right_work}
 use Rattle.import_once.proofs.FinishLaws.{finishes_does, does_merges, stops_does, text_worked, where_worked}
-use Rattle.import_once.proofs.FinishLaws.{stops_keeps, whole_unrefused, ends_leaves, stops_leaves}
+use Rattle.import_once.proofs.FinishLaws.{stops_keeps, whole_unrefused, ends_leaves, stops_leaves, read_first}
 use Rattle.import_once.specs.Runs.{HasStartedJobs, HasDaySteps}
 use Rattle.import_once.proofs.JobLaws.{started_all, started_first, stepped_all, stepped_some}
 use Rattle.import_once.specs.Planned.{WorksPlanned}
@@ -193,3 +193,13 @@ pub returns-in-Err-clause-asked : goal.returns-in-Err-clause-asked
 returns-in-Err-clause-asked g c =
     subst (λ (o : Outcome). AsksBy 0 o (g.K.Keeper.plan c.args.keeper.now) (g.K.Keeper.plan c.run_day.new.keeper))
     (sym c.stopped.ensures.is) (stopped_asked c.in-Err.fault _ _ c.in-Err.ensures.asked)
+
+pub returns-in-Ok-clause-read_first : goal.returns-in-Ok-clause-read_first
+returns-in-Ok-clause-read_first g c = λ bytes left.
+    let ends = (c.in-Ok.ensures.ran.read bytes left).1 in
+    read_first _ _ _ c.in-Ok.run'.end bytes (reads bytes c.args.limits.now c.args.late).refused _ _ _
+    c.run_day.ensures.same c.finish_import.ensures.read_first ends (c.in-Ok.ensures.rest bytes left)
+    c.in-Ok.ensures.source.passed
+
+pub returns-in-Err-clause-read_first : goal.returns-in-Err-clause-read_first
+returns-in-Err-clause-read_first g c = λ bytes left. inl c.run_day.ensures.same

@@ -1,9 +1,9 @@
-use Rattle.std.proofs.Common.{◌≡◌, ◌∙◌, Option, Some, None, Ok, Err, refl, sym, subst}
+use Rattle.std.proofs.Common.{◌≡◌, ◌∙◌, Option, Some, None, Ok, Err, inl, refl, sym, subst}
 use Rattle.road_time.specs.Reads.{reads}
 use Rattle.keeper.specs.declared.kept.DayRecord.{DayRecord}
 use Rattle.keeper.specs.Office.{record_of}
 use Rattle.import_once.specs.Imports.{import_read, import_merged, unless_recorded, Does, Merges}
-use Rattle.import_once.proofs.FinishLaws.{kept_alone, kept_leaves}
+use Rattle.import_once.proofs.FinishLaws.{kept_alone, kept_leaves, read_after}
 use Rattle.keeper.proofs.CallLaws.{reads_same, reads_ok}
 use Rattle.import_once.proofs.JobLaws.{refused_started, refused_planned, none_started, kept_unworked, refused_none}
 use Rattle.import_once.proofs.JobLaws.{none_published}
@@ -122,3 +122,19 @@ returns-in-Err-clause-asked g c =
     let here : c.day.result ≡ Err c.in-Err.fault = cc in
     subst (λ (o : Outcome). AsksBy 3 o (g.K.Keeper.plan c.args.keeper.now) (g.K.Keeper.plan c.day.new.self))
     (sym c.refused.ensures) (call_refused 3 _ _ c.day.result c.in-Err.fault c.day.ensures.planned here)
+
+pub returns-in-Ok-None-clause-read_first : goal.returns-in-Ok-None-clause-read_first
+returns-in-Ok-None-clause-read_first g c = λ bytes left.
+    let same = reads_same (g.K.Keeper.told c.args.keeper.now) (g.K.Keeper.told c.day.new.self) c.day.result
+    (λ p kept. kept ≡ record_of p c.args.day) c.day.ensures.state in
+    read_after _ _ _ _ _ _ same (c.import_new.ensures.read_first bytes left)
+
+pub returns-in-Ok-Some-clause-read_first : goal.returns-in-Ok-Some-clause-read_first
+returns-in-Ok-Some-clause-read_first g c = λ bytes left.
+    inl (reads_same (g.K.Keeper.told c.args.keeper.now) (g.K.Keeper.told c.day.new.self) c.day.result
+    (λ p kept. kept ≡ record_of p c.args.day) c.day.ensures.state)
+
+pub returns-in-Err-clause-read_first : goal.returns-in-Err-clause-read_first
+returns-in-Err-clause-read_first g c = λ bytes left.
+    inl (reads_same (g.K.Keeper.told c.args.keeper.now) (g.K.Keeper.told c.day.new.self) c.day.result
+    (λ p kept. kept ≡ record_of p c.args.day) c.day.ensures.state)

@@ -1,8 +1,8 @@
-use Rattle.std.proofs.Common.{◌≡◌, None, false, true, sym, subst}
+use Rattle.std.proofs.Common.{◌≡◌, None, false, true, inl, inr, refl, sym, subst}
 use Rattle.day_reading.specs.declared.whole_day.DayEnd.{DayEnd}
 use Rattle.day_reading.specs.declared.whole_day.DayEnd.TheVariants.{Whole}
 use Rattle.day_reading.specs.Days.{IsDigested}
-use Rattle.import_once.specs.Stages.{IsOfEnd}
+use Rattle.import_once.specs.Stages.{IsOfEnd, IsReadWhole}
 use Rattle.settling.proofs.AskLaws.{passes_none}
 use Rattle.import_once.proofs.keeping.finish_import.Goals as goal
 
@@ -20,3 +20,14 @@ returns-in-Ok-clause-of_end g c =
 
 pub returns-in-Refused-clause-asked : goal.returns-in-Refused-clause-asked
 returns-in-Refused-clause-asked g c = (0, passes_none (g.K.Keeper.plan c.args.keeper.now))
+
+pub returns-in-Refused-clause-read_first : goal.returns-in-Refused-clause-read_first
+returns-in-Refused-clause-read_first g c = inl refl
+
+pub returns-in-Ok-clause-read_first : goal.returns-in-Ok-clause-read_first
+returns-in-Ok-clause-read_first g c =
+    let is : c.args.run.now.end ≡ Whole c.in-Whole.bytes c.in-Whole.digest = cc in
+    inr (subst IsReadWhole (sym is) tt)
+
+pub returns-in-Err-clause-read_first : goal.returns-in-Err-clause-read_first
+returns-in-Err-clause-read_first g c = inl refl

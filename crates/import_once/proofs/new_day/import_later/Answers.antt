@@ -1,5 +1,6 @@
-use Rattle.std.proofs.Common.{◌≡◌, ◌∙◌, Some, Ok, Err, sym, subst}
+use Rattle.std.proofs.Common.{◌≡◌, ◌∙◌, Some, Ok, Err, inl, sym, subst}
 use Rattle.keeper.proofs.CallLaws.{reads_same, reads_ok}
+use Rattle.import_once.proofs.FinishLaws.{read_after}
 use Rattle.import_once.proofs.JobLaws.{refused_started, refused_planned, refused_none}
 use Rattle.import_once.specs.Asked.{AsksBy}
 use Rattle.import_once.specs.declared.outcomes.Outcome.{Outcome}
@@ -53,3 +54,14 @@ returns-in-Err-clause-asked g c =
     let here : c.tariffs.result ≡ Err c.in-Err.fault = cc in
     subst (λ (o : Outcome). AsksBy 1 o (g.K.Keeper.plan c.args.keeper.now) (g.K.Keeper.plan c.tariffs.new.self))
     (sym c.refused.ensures) (call_refused 1 _ _ c.tariffs.result c.in-Err.fault c.tariffs.ensures.planned here)
+
+pub returns-in-Ok-clause-read_first : goal.returns-in-Ok-clause-read_first
+returns-in-Ok-clause-read_first g c = λ bytes left.
+    let same = reads_same (g.K.Keeper.told c.args.keeper.now) (g.K.Keeper.told c.tariffs.new.self) c.tariffs.result
+    (λ p t. t ≡ p.tariffs) c.tariffs.ensures.state in
+    read_after _ _ _ _ _ _ same (c.import_begun.ensures.read_first bytes left)
+
+pub returns-in-Err-clause-read_first : goal.returns-in-Err-clause-read_first
+returns-in-Err-clause-read_first g c = λ bytes left.
+    inl (reads_same (g.K.Keeper.told c.args.keeper.now) (g.K.Keeper.told c.tariffs.new.self) c.tariffs.result
+    (λ p t. t ≡ p.tariffs) c.tariffs.ensures.state)

@@ -1,8 +1,8 @@
-use Rattle.std.proofs.Common.{◌≡◌, ◌∙◌, Some, Ok, Err, sym, subst, arith}
+use Rattle.std.proofs.Common.{◌≡◌, ◌∙◌, Some, Ok, Err, inl, sym, subst, arith}
 use Rattle.road_time.specs.Reads.{reads}
 use Rattle.keeper.specs.Office.{last_day}
 use Rattle.import_once.specs.Imports.{DayAnswer, import_read, import_merged, Does, Merges}
-use Rattle.import_once.proofs.FinishLaws.{new_is_read}
+use Rattle.import_once.proofs.FinishLaws.{new_is_read, read_after}
 use Rattle.keeper.proofs.CallLaws.{reads_same, reads_ok}
 use Rattle.import_once.proofs.JobLaws.{refused_started, refused_planned, none_started, refused_none, none_published}
 use Rattle.import_once.specs.Asked.{AsksBy}
@@ -101,3 +101,19 @@ returns-in-Err-clause-asked g c =
     let here : c.last_day.result ≡ Err c.in-Err.fault = cc in
     subst (λ (o : Outcome). AsksBy 2 o (g.K.Keeper.plan c.args.keeper.now) (g.K.Keeper.plan c.last_day.new.self))
     (sym c.refused.ensures) (call_refused 2 _ _ c.last_day.result c.in-Err.fault c.last_day.ensures.planned here)
+
+pub returns-else-last-number-clause-read_first : goal.returns-else-last-number-clause-read_first
+returns-else-last-number-clause-read_first g c = λ bytes left.
+    let same = reads_same (g.K.Keeper.told c.args.keeper.now) (g.K.Keeper.told c.last_day.new.self) c.last_day.result
+    (λ p last. last ≡ last_day p) c.last_day.ensures.state in
+    read_after _ _ _ _ _ _ same (c.import_later.ensures.read_first bytes left)
+
+pub returns-then-last-number-clause-read_first : goal.returns-then-last-number-clause-read_first
+returns-then-last-number-clause-read_first g c = λ bytes left.
+    inl (reads_same (g.K.Keeper.told c.args.keeper.now) (g.K.Keeper.told c.last_day.new.self) c.last_day.result
+    (λ p last. last ≡ last_day p) c.last_day.ensures.state)
+
+pub returns-in-Err-clause-read_first : goal.returns-in-Err-clause-read_first
+returns-in-Err-clause-read_first g c = λ bytes left.
+    inl (reads_same (g.K.Keeper.told c.args.keeper.now) (g.K.Keeper.told c.last_day.new.self) c.last_day.result
+    (λ p last. last ≡ last_day p) c.last_day.ensures.state)
