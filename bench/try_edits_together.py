@@ -38,7 +38,12 @@ class Place:
 
     def is_of(self, parts):
         """Whether a path of names, of a function or of a proof's folder, is this function's."""
-        return parts[-1] == self.function and (not self.kind or any(it.startswith(self.kind) for it in parts))
+        if parts[-1] != self.function:
+            return False
+        if self.kind:
+            return any(it.startswith(self.kind) for it in parts)
+        module = pathlib.Path(self.path).stem
+        return module in ("lib", "main") or module in parts[:-1]
 
     def has_line(self, line):
         """Whether a line of the file lies in the function, or in what stands above its first one."""
