@@ -34,7 +34,10 @@ class Place:
         self.function = last(r"^[ \t]*(?:pub(?:\([\w ]+\))? )?(?:const )?fn (\w+)", text, at)
         head = last(r"^(\}|impl.*)$", text, at) or "}"
         kind = re.search(r"for (\w+)", head) or re.search(r"impl(?:<[^{]*?>)? (\w+)", head)
+        trait = re.search(r"(\w+)(?:<[^{]*>)? for", head)
         self.kind = kind[1] if kind else ""
+        self.module = pathlib.Path(path).stem
+        self.whole = f"{self.kind}{trait[1] if trait else ''}" or ("" if self.module in ("lib", "main") else self.module)
 
     def is_of(self, parts):
         """Whether a path of names, of a function or of a proof's folder, is this function's."""
@@ -42,8 +45,11 @@ class Place:
             return False
         if self.kind:
             return any(it.startswith(self.kind) for it in parts)
-        module = pathlib.Path(self.path).stem
-        return module in ("lib", "main") or module in parts[:-1]
+        return self.module in ("lib", "main") or self.module in parts[:-1]
+
+    def path_end(self):
+        """The end of the function's path, as `--only` takes it."""
+        return f"{self.whole}::{self.function}" if self.whole else self.function
 
     def has_line(self, line):
         """Whether a line of the file lies in the function, or in what stands above its first one."""
@@ -154,7 +160,7 @@ def refusal(edit, said):
 
 def tried_alone(crate, edit, log):
     """What a check of the edit's function alone says against it, or none; told is what it came to."""
-    said = checked(crate, [edit], [] if edit.is_wide() else ["--only", edit.places[0].function], log)
+    said = checked(crate, [edit], [] if edit.is_wide() else ["--only", edit.places[0].path_end()], log)
     why = refusal(edit, said)
     if why:
         return why, "refused alone"
