@@ -139,17 +139,19 @@ def checked(crate, group, flags, log):
 
 def refusal(edit, said):
     """What the check says against the function of an edit, or of any where it lies in none; else none."""
-    failing = re.findall(r"^fn (.+?): (?:not proved|no proof: expected)", said, re.M)
-    names = [re.sub(r"<.*?>", "", it).split("::") for it in failing]
+    failing = re.findall(r"^(fn (.+?): (?:not proved|no proof: expected).*)$", said, re.M)
+    failing = [(line, re.sub(r"<.*?>", "", it).split("::")) for line, it in failing]
     told = [(it, re.match(r"(?:note: )?(?:\./)?(\S+?):(\d+):\d+: ", it)) for it in said.splitlines()]
     told = [(line, at) for line, at in told if at and not GONE.match(line)]
     told = [(line, at) for line, at in told if line.startswith("note: ") or ": error" in line]
     if edit.is_wide():
         return next((line for line, _ in told), "") if failing else ""
     for place in edit.places:
-        if not any(place.is_of(it) for it in names):
-            continue
-        for line, at in told:
+        own = [line for line, it in failing if place.is_of(it)]
+        for line in own:
+            if "did not prove" in line:
+                return line
+        for line, at in told if own else []:
             parts = at[1].split("/")
             if parts[0] == "proofs" and len(parts) > 2 and place.is_of(parts[1:-1]):
                 return line
