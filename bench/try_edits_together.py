@@ -6,8 +6,8 @@
 A proof rests on its own function's body and on contracts, so an edit of one function changes no other's proof. The edits are those
 of `crates/CRATE/must-fail` and `bench/edits/CRATE`. One is refused where the check says that its function is not proved, and of
 what in it; a proof file that only names what is gone does not count. One that is not refused so may have been hidden by an edit
-beside it: with `--alone` it is tried once more by itself, with a check of its function alone. The script prints each, and ends with
-status 1 if one is left.
+beside it: with `--alone` it is tried once more by itself, with a check of its function alone, and so is one with fewer than two others
+beside it. The script prints each, and ends with status 1 if one is left.
 
 `--most` is how many edits one check tries at most (each costs memory), `--logs` a folder for what the checks said, and `--edit`, which
 may be given again, names the edits to be tried in place of all. The libraries below have to be built in this clone, or `rt check`
@@ -23,6 +23,7 @@ import sys
 import tempfile
 
 TOP = pathlib.Path(__file__).resolve().parent.parent
+FEW = 3
 GONE = re.compile(r"(\./)?proofs/.*(has no field|is not in scope|has no `|was not admitted)")
 
 
@@ -160,13 +161,21 @@ def refusal(edit, said):
     return ""
 
 
+def tried_together(crate, group, log):
+    """What one check says against each edit of a group, or none."""
+    said = checked(crate, group, [], log)
+    is_read = re.search(r"^logic=not-proved", said, re.M)
+    return [refusal(edit, said) if is_read else "" for edit in group]
+
+
 def tried_alone(crate, edit, log):
-    """What a check of the edit's function alone says against it, or none; told is what it came to."""
+    """What a check of the edit's function alone says against it, or none; and what it came to."""
     said = checked(crate, [edit], [] if edit.is_wide() else ["--only", edit.places[0].path_end()], log)
     why = refusal(edit, said)
     if why:
         return why, "refused alone"
-    if re.search(r"^logic=proved", said, re.M):
+    only = re.search(r"^only=(\d+) proved=(\d+)", said, re.M)
+    if re.search(r"^logic=proved", said, re.M) or only and only[1] == only[2] != "0":
         return "", "PASSES"
     return "", "refused by a name that is gone" if any(map(GONE.match, said.splitlines())) else "BAD, or not to be told"
 
@@ -181,15 +190,14 @@ def tried(name, given):
         crate = to / "crates" / name
         left = []
         for number, group in enumerate(edits_of(TOP / "crates" / name, given.most, given.edit)):
-            log = logs and logs / f"{name}-{number}.log"
-            said = checked(crate, group, [], log) if group else ""
-            is_read = re.search(r"^logic=not-proved", said, re.M)
-            for edit in group:
-                why = refusal(edit, said) if is_read else ""
+            count += max(len(group), 1)
+            if given.alone and len(group) < FEW:
+                left += group
+                continue
+            for edit, why in zip(group, tried_together(crate, group, logs and logs / f"{name}-{number}.log")):
                 print(f"{edit.name}: {'refused: ' + why[:160] if why else 'NOT REFUSED in this check'}", flush=True)
                 refused += bool(why)
                 left += [] if why else [edit]
-            count += max(len(group), 1)
         for edit in left if given.alone else []:
             why, told = tried_alone(crate, edit, logs and logs / f"{edit.name.replace('/', '-')}.log")
             print(f"{edit.name}: {told}{': ' + why[:160] if why else ''}", flush=True)
