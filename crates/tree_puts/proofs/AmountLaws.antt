@@ -1,5 +1,5 @@
 -- What an amount's row and its entry make of their trees.
-use Rattle.std.proofs.Common.{◌≡◌, ◌≤◌, ℕ, ℤ, pos, ◌+ℤ◌, length, List, [], ◌∷◌, ◌++◌, map, drop, refl}
+use Rattle.std.proofs.Common.{◌≡◌, ◌≤◌, ◌+◌, ℕ, ℤ, pos, ◌+ℤ◌, length, List, [], ◌∷◌, ◌++◌, map, drop, refl}
 use Rattle.std.proofs.Common.{sym, ap}
 use Rattle.std.proofs.Common.{subst, subst₂, ◌∙◌, arith, Less, true, Option, Some, None, IfSome, IsSomeAnd, SomeIff, FitsSigned, w64}
 use Rattle.std.proofs.Common.{IsPermutation}
@@ -163,9 +163,9 @@ puts_both old mid new n r put inserted =
     }
 
 -- a number after one, if there is one, is the next
-pub some_next : {P : Type 0} (next : Option ℤ) (n : ℤ) → SomeIff next P n → IfSome next (λ m. m ≡ n)
-some_next None n h = tt
-some_next (Some m) n h = h.1
+pub some_next : (P : Type 0) (next : Option ℤ) (n : ℤ) → SomeIff next P n → IfSome next (λ m. m ≡ n)
+some_next P None n h = tt
+some_next P (Some m) n h = h.1
 
 -- there is one, where so many are numbers from there on
 pub some_numbers : (next : Option ℤ) (n : ℤ) (count : ℕ) → SomeIff next (FitsSigned w64 n) n → AreNumbers n count →

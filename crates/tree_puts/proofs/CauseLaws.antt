@@ -1,10 +1,11 @@
 -- Why the steps of a put fail, and what of them is why the put does.
 use Rattle.std.proofs.Common.{◌≡◌, ◌≤◌, ◌<◌, ◌*◌, ◌+◌, ◌⊎◌, inl, inr, ℕ, Bool, true, false, cond, true≢false, Result, Ok, Err}
-use Rattle.std.proofs.Common.{IfErr, IsTrue, List, [], ◌∷◌, length, refl, sym, ap, subst, ◌∙◌, arith}
+use Rattle.std.proofs.Common.{IfErr, IsErrAnd, IsTrue, List, [], ◌∷◌, length, refl, sym, ap, subst, ◌∙◌, arith}
 use Rattle.std.specs.Prelude.{sum_by}
 use Rattle.std.specs.List.{AllByRecursion}
 use Rattle.std.specs.Float.{NotNan}
 use Rattle.std.proofs.lemmas.Nat.Bits.{bit_at-zero}
+use Rattle.std.proofs.lemmas.List.Sums.{sum_by-cons}
 use Rattle.sqlite_disk.specs.Disk.{MoreFaults}
 use Rattle.sqlite_value.specs.declared.value.Value.{Value}
 use Rattle.sqlite_value.specs.declared.value.Value.TheVariants.{Null, Int, Real, Text, Blob}
@@ -90,17 +91,17 @@ broken_so a b m n undone broken closes = go a.is_open closes
     go : (o : Bool) → (o ≡ true → (b.is_open ≡ true) ⊎ MoreFaults m n) → (o ≡ false) ⊎ MoreFaults m n
     go false f = inl refl
     go true f = elim (f refl) [
-      | inl open ↦ absurd (true≢false (sym broken ∙ (undone.undone open).1))
+      | inl here ↦ absurd (true≢false (sym broken ∙ (undone.undone here).1))
       | inr more ↦ inr more
     ]
 
 -- after a rollback an open store has the shapes and the columns that are committed
 pub as_committed_now : (a b : View) → IsRolledBack a b → IsClean b → b.is_open ≡ true
     → (b.shape ≡ a.committed_shape) × (b.reals ≡ a.committed_reals)
-as_committed_now a b undone clean open =
+as_committed_now a b undone clean here =
     let kept = undone.kept clean in (
-      subst (λ (o : Bool). b.shape ≡ cond o a.committed_shape a.shape) open kept.shape,
-      subst (λ (o : Bool). b.reals ≡ cond o a.committed_reals a.reals) open kept.reals,
+      subst (λ (o : Bool). b.shape ≡ cond o a.committed_shape a.shape) here kept.shape,
+      subst (λ (o : Bool). b.reals ≡ cond o a.committed_reals a.reals) here kept.reals,
     )
 
 -- what puts write is nothing, a number, or a digest
@@ -130,7 +131,10 @@ plain_number (Blob b) h = zero_is_number
 -- so rows of it are short
 plain_sum : (row : Row) → AllByRecursion IsPlain row → sum_by (λ v. 18 + length (bytes v)) row ≤ 50 * length row
 plain_sum [] all = omega arith
-plain_sum (v ∷ row) all = omega (arith, plain_size v all.0, plain_sum row all.1)
+plain_sum (v ∷ row) all =
+    let one = plain_size v all.0 in
+    let more = plain_sum row all.1 in
+    omega (arith, one, more, sum_by-cons (λ (x : Value). 18 + length (bytes x)) v row)
 
 -- and have no NaN
 plain_numbers : (row : Row) → AllByRecursion IsPlain row → AllByRecursion (λ v. NotNan (number v)) row
@@ -164,6 +168,25 @@ pub entry_cause : (v : View) (F : Type 0) (t : ℕ) (entry : Row) (e : StoreErro
 entry_cause v F t entry e low all some few h =
     cause_weaker v F (¬ IsStorable (v.reals t) entry) (¬ HasNoReals v.reals) e
     (λ no none. no (plain_storable (v.reals t) entry (none t low) all some few)) h
+
+-- the same of answers
+pub row_err : {A : Type 0} (r : Result A StoreError) (v : View) (F : Type 0) (t : ℕ) (row : Row) → t < 6
+    → AllByRecursion IsPlain row → 1 < length row → length row ≤ 100
+    → IfErr r (HasCause v F (¬ IsStorableRow (v.reals t) row)) → IfErr r (HasCause v F (¬ HasNoReals v.reals))
+row_err (Ok x) v F t row low all some few h = tt
+row_err (Err e) v F t row low all some few h = row_cause v F t row e low all some few h
+
+pub entry_err : {A : Type 0} (r : Result A StoreError) (v : View) (F : Type 0) (t : ℕ) (entry : Row) → t < 6
+    → AllByRecursion IsPlain entry → 0 < length entry → length entry ≤ 100
+    → IfErr r (HasCause v F (¬ IsStorable (v.reals t) entry)) → IfErr r (HasCause v F (¬ HasNoReals v.reals))
+entry_err (Ok x) v F t entry low all some few h = tt
+entry_err (Err e) v F t entry low all some few h = entry_cause v F t entry e low all some few h
+
+-- an answer that hands an error on has what that has
+pub handed_on : {A : Type 0} (r : Result A StoreError) (e : StoreError) (P : StoreError → Type 0)
+    → IsErrAnd r (λ y. y ≡ e) → P e → IfErr r P
+handed_on (Ok x) e P h p = absurd h
+handed_on (Err y) e P h p = subst P (sym h) p
 
 -- where nothing of it can be refused for what it is, least of all for such a column
 pub plain_cause : (v : View) (F : Type 0) (e : StoreError) → HasCause v F ⊥ e → HasCause v F (¬ HasNoReals v.reals) e

@@ -1,12 +1,15 @@
 -- What taking rows away makes of trees, and of the office that they stand for.
 use Rattle.std.proofs.Common.{◌≡◌, ◌<◌, ℕ, suc, ℤ, Bool, true, false, not, cond, Result, Ok, Err, IfOk, IsTrue, List}
 use Rattle.std.proofs.Common.{[], ◌∷◌, ◌++◌, filter, length, Ordering, Less, Equal, Greater, refl}
-use Rattle.std.proofs.Common.{sym, ap, subst, subst₂, ◌∙◌, arith}
+use Rattle.std.proofs.Common.{sym, ap, subst, subst₂, ◌∙◌, true≢false, arith}
 use Rattle.std.specs.List.{AllByRecursion}
 use Rattle.std.specs.Ordering.{is_eq, ordering_reverse}
 use Rattle.std.proofs.lemmas.List.Sorted.{IsPermutation-refl}
 use Rattle.sqlite_value.specs.declared.value.Value.{Value}
 use Rattle.sqlite_value.specs.declared.value.Value.TheVariants.{Int}
+use Rattle.sqlite_value.specs.declared.value.ValueRef.{ValueRef}
+use Rattle.sqlite_value.specs.declared.value.ValueRef.TheVariants as Lent
+use Rattle.sqlite_value.specs.Value.{owned}
 use Rattle.sqlite_value.specs.declared.keys.Order.{Order}
 use Rattle.sqlite_value.specs.Order.{Row, value_cmp}
 use Rattle.sqlite_value.specs.Keys.{entry_cmp}
@@ -93,6 +96,15 @@ fewer_entries o entries entry last =
     alike (entry_cmp o entry entry) ((entry_cmp_total o).antisymm entry entry) in
     subst (λ (l : List Row). length (remove_entry o entry l) < length l) (sym last.1)
     (sifted (λ e. not (is_eq (entry_cmp o e entry))) last.0 entry (ap (λ (c : Ordering). not (is_eq c)) same))
+
+-- what a row lends of a column is a number, where that has one
+pub lends_number : (lent : ValueRef) (v : Value) → owned lent ≡ v → IsTrue (is_int v)
+    → ((n : ℤ) → lent ≡ Lent.Int n → ⊥) → ⊥
+lends_number (Lent.Int n) v is int none = none n refl
+lends_number Lent.Null v is int none = true≢false (sym (subst (λ (w : Value). IsTrue (is_int w)) (sym is) int))
+lends_number (Lent.Real x) v is int none = true≢false (sym (subst (λ (w : Value). IsTrue (is_int w)) (sym is) int))
+lends_number (Lent.Text t) v is int none = true≢false (sym (subst (λ (w : Value). IsTrue (is_int w)) (sym is) int))
+lends_number (Lent.Blob b) v is int none = true≢false (sym (subst (λ (w : Value). IsTrue (is_int w)) (sym is) int))
 
 -- the last row of a table has a number
 pub last_numbered : (rows : List Row) (row : Row) → IsShaped Table rows → IsLast rows row true → IsTrue (is_int (rowid row))

@@ -10,6 +10,6 @@ invariant-rows g l =
     let now = g.S.Store.view l.store in
     (IsClean now → OnlyWrites old now)
     × (IsClean now → OthersStay 2 old.trees now.trees)
-    × (IsClean now → length (now.trees 2) + l.turn ≤ length (old.trees 2))
+    × (IsClean now → length (now.trees 2) + l._turn ≤ length (old.trees 2))
     × KeepsSchema old now
     × IsQuiet g.S.Store.view g.S.Store.faults g.S.Store.recovers g.S.Store.is_shielded l.fn.store l.store
