@@ -1,7 +1,7 @@
-use Rattle.std.proofs.Common.{◌≡◌, length, sym, ap, subst, arith}
+use Rattle.std.proofs.Common.{◌≡◌, ℤ, length, IfOk, sym, ap, subst, to_z, of_z, w64, arith, rules}
 use Rattle.sqlite_trees.specs.Tree.{Trees}
 use Rattle.sqlite_trees.specs.View.{View, IsClean}
-use Rattle.tree_puts.specs.Room.{AreNumbers, HasNumbers, TakesAmounts}
+use Rattle.tree_puts.specs.Room.{IsDoneIf, AreNumbers, HasNumbers, TakesAmounts}
 use Rattle.tree_puts.proofs.StoreLaws.{done_if}
 use Rattle.tree_puts.proofs.amounts.put_amounts.Goals as goal
 
@@ -23,7 +23,8 @@ returns-clause-room g c clean =
     let early : IsClean mid = omega (arith, late, c.next_number.ensures.quiet.clean) in
     let same : mid.trees ≡ old.trees = ap (λ (v : View). v.trees) (c.in_ok-may_follow.ensures.same early) in
     let count = length c.args.rows.now in
-    done_if c.put_from.result _ (TakesAmounts c.args.rows.now old.trees)
+    let whole : to_z w64 (of_z w64 c.in-Some.first) ≡ c.in-Some.first = search rules in
+    done_if c.put_from.result (AreNumbers c.in-Some.first count) (TakesAmounts c.args.rows.now old.trees)
     (λ takes. rw c.in-Some.is at (c.in_ok-first.ensures.room late count
     (subst (λ (t : Trees). HasNumbers count (t 1)) (sym same) takes.numbers)))
-    (c.put_from.ensures.room clean)
+    (subst (λ (n : ℤ). IfOk c.put_from.result (IsDoneIf (AreNumbers n count))) whole (c.put_from.ensures.room clean))
