@@ -1,7 +1,8 @@
 -- Laws of a body that was read so far.
 use Rattle.std.proofs.Common.{◌≡◌, ◌≢◌, ◌≤◌, ◌<◌, ◌-◌, ◌+◌, ◌∙◌, ◌⊎◌, ℕ, Bool, List, [], ◌∷◌, ◌++◌, length}
 use Rattle.std.proofs.Common.{take, drop, zero, suc}
-use Rattle.std.proofs.Common.{Option, Some, None, inl, inr, refl, ap, subst, arith}
+use Rattle.std.proofs.Common.{Option, Some, None, inl, inr, refl, sym, ap, subst, arith}
+use Rattle.std.specs.Io.KnownBytes.{prepend_known}
 use Rattle.std.proofs.lemmas.List.{drop-drop, length-drop, length-append}
 use Rattle.road_io.specs.Faults.{Rose}
 use Rattle.road_io.specs.Plans.{NeverFails}
@@ -12,8 +13,9 @@ use Rattle.keeper.specs.Office.{Office}
 use Rattle.keeper.specs.declared.kept.DayRecord.{DayRecord}
 use Rattle.import_once.specs.declared.outcomes.Outcome.{Outcome}
 use Rattle.import_once.specs.declared.outcomes.Outcome.TheVariants.{Stored, ReadFault, WriteFault, KeeperFault}
+use Rattle.import_once.specs.Faults.{NamesNoOther}
 use Rattle.toll_requests.specs.Bodies.{filled, body_left, IsBehind, IsSure}
-use Rattle.toll_requests.proofs.BodyLaws.{sure_plan}
+use Rattle.toll_requests.proofs.BodyLaws.{sure_plan, none_left}
 use Rattle.toll_requests.specs.declared.session_end.SessionEnd.{SessionEnd}
 use Rattle.toll_desk.specs.declared.imported.ReadTo.{ReadTo}
 use Rattle.toll_desk.specs.declared.imported.ReadTo.TheVariants.{Open, Cut, LinkFault}
@@ -82,17 +84,47 @@ fits count bytes early known (Open left) h = h.0
 fits count bytes early known Cut h = tt
 fits count bytes early known LinkFault h = tt
 
+-- what came early of a body of which nothing is left is nothing, and what follows it is what is left of the link
+pub none_early : (left : ℕ) (early rest : List ℕ) (known : Option (List ℕ)) → length early ≤ left → left ≡ 0 →
+    prepend_known early known ≡ Some rest → known ≡ Some (drop left rest)
+none_early left [] rest None few none is = absurd (cc is)
+none_early left [] rest (Some xs) few none is = is ∙ ap (λ n. Some (drop n rest)) (sym none)
+none_early left (b ∷ early) rest known few none is = absurd (omega (arith, few, none))
+
+-- a day that is stored ended at no fault
+pub stored_unfailed : (outcome : Outcome) (kept : DayRecord) → outcome ≡ Stored kept →
+    (outcome ≢ ReadFault) × NamesNoOther outcome
+stored_unfailed outcome kept is = (λ bad. cc (sym is ∙ bad), (λ bad. cc (sym is ∙ bad), λ bad. cc (sym is ∙ bad)))
+
+-- what is so unless a body was read to its end without a fault is so unless it ended so
+pub unless_whole : (Same : Type 0) (left faults : ℕ) (early : List ℕ) (known : Option (List ℕ)) (read : ReadTo) →
+    Same ⊎ ((body_left left early known ≡ Some []) × (faults ≡ 0)) → (left ≡ 0 → faults ≡ 0 → HasNoneLeft read) →
+    Same ⊎ HasNoneLeft read
+unless_whole Same left faults early known read (inl same) over = inl same
+unless_whole Same left faults early known read (inr (whole, sound)) over =
+    inr (over (none_left left early known whole) sound)
+
+-- what is so unless nothing is left is so where something is
+unless_none : (Same : Type 0) (left n : ℕ) → n < left → Same ⊎ (left ≡ 0) → Same
+unless_none Same left n short (inl same) = same
+unless_none Same left n short (inr none) = absurd (omega (arith, short, none))
+
+-- what is so unless what never comes is so
+unless_never : (Same : Type 0) → Same ⊎ ⊥ → Same
+unless_never Same (inl same) = same
+unless_never Same (inr none) = absurd none
+
 -- what is answered behind the rest of a body is answered behind the body, and what is so of the bytes that it stands for
--- is so of it
-by_rest : (I : List ℕ → Type 0) (count left : ℕ) (all : List ℕ) (old mid new : Wire) (outcome : Outcome)
+-- is so of it; what is so unless nothing was left is so where it was cut or failed in
+by_rest : (I : List ℕ → Type 0) (Same : Type 0) (count left : ℕ) (all : List ℕ) (old mid new : Wire) (outcome : Outcome)
     (end : SessionEnd) →
     left ≤ count → count - left ≤ length all → mid.written ≡ old.written → mid.room ≡ old.room →
     (NeverFails old.plan → NeverFails mid.plan) → outcome ≢ ReadFault → outcome ≢ WriteFault →
-    ((kept : DayRecord) → outcome ≡ Stored kept → left ≡ 0) →
+    ((kept : DayRecord) → outcome ≡ Stored kept → left ≡ 0) → Same ⊎ (left ≡ 0) →
     I (filled count all) → FinishesBody left (drop (count - left) all) outcome mid new end →
     (AnswersBody count all outcome old new end × I (take count all))
-    ⊎ ((IsCutShort count all outcome old new end ⊎ FailsInBody old new end) × I (filled count all))
-by_rest I count left all old mid new outcome end less there written room sure unread unwritten stored imports
+    ⊎ ((IsCutShort count all outcome old new end ⊎ FailsInBody old new end) × Same × I (filled count all))
+by_rest I Same count left all old mid new outcome end less there written room sure unread unwritten stored still imports
     (inl (whole, rest, answers)) =
     let long = length-drop (count - left) all in
     let enough : count ≤ length all = omega (arith, less, there, long, whole) in
@@ -107,7 +139,7 @@ by_rest I count left all old mid new outcome end less there written room sure un
       ),
       subst I (filled_whole count all enough) imports,
     )
-by_rest I count left all old mid new outcome end less there written room sure unread unwritten stored imports
+by_rest I Same count left all old mid new outcome end less there written room sure unread unwritten stored still imports
     (inr (inl (cut, short, same))) =
     let long = length-drop (count - left) all in
     inr (
@@ -117,14 +149,51 @@ by_rest I count left all old mid new outcome end less there written room sure un
         same ∙ written,
         λ kept is. (let none = stored kept is in omega (arith, none, short)),
       ),
+      unless_none Same left _ short still,
       imports,
     )
-by_rest I count left all old mid new outcome end less there written room sure unread unwritten stored imports
-    (inr (inr (failed, same, never))) =
-    inr (inr (failed, same ∙ written, λ none. never (sure none)), imports)
+by_rest I Same count left all old mid new outcome end less there written room sure unread unwritten stored still imports
+    (inr (inr (some, (failed, same, never)))) =
+    inr (inr (failed, same ∙ written, λ none. never (sure none)), unless_none Same left 0 some still, imports)
 
 -- a body that was read so far, and then what is left to do of its request, are the body and its answer; what is so of
--- the bytes that it stands for is so of it
+-- the bytes that it stands for is so of it, and what is so unless it was read to its end is so where it was cut or
+-- failed in
+ends_as : (I : List ℕ → Type 0) (Same : Type 0) (count : ℕ) (all : List ℕ) (old mid new : Wire) (early : List ℕ)
+    (read : ReadTo) (outcome : Outcome) (end : SessionEnd) (before after : ℕ) →
+    IsReadTo count (Some all) early mid.left read →
+    HasReadCause old.plan before after read → mid.written ≡ old.written → mid.room ≡ old.room →
+    (NeverFails old.plan → NeverFails mid.plan) → (outcome ≡ ReadFault → IsStopped read) → outcome ≢ WriteFault →
+    ((kept : DayRecord) → outcome ≡ Stored kept → HasNoneLeft read) → Same ⊎ HasNoneLeft read →
+    I (filled count all) → Finishes early outcome mid new read end →
+    (AnswersBody count all outcome old new end × I (take count all))
+    ⊎ ((IsCutShort count all outcome old new end ⊎ FailsInBody old new end) × Same × I (filled count all))
+ends_as I Same count all old mid new early (Open left) outcome end before after reads cause written room sure unread
+    unwritten stored still imports finishes =
+    let (few, less, behind) = reads in
+    let (is, there) = behind all refl in
+    by_rest I Same count left all old mid new outcome end less there written room sure unread unwritten stored still
+    imports (finishes (drop (count - left) all) is)
+ends_as I Same count all old mid new early Cut outcome end before after reads cause written room sure unread unwritten
+    stored still imports finishes =
+    inr (
+      inl (finishes.0, reads all refl, finishes.1 ∙ written, λ kept is. absurd (stored kept is)),
+      unless_never Same still,
+      imports,
+    )
+ends_as I Same count all old mid new early LinkFault outcome end before after reads cause written room sure unread
+    unwritten stored still imports finishes =
+    inr (
+      inr (finishes.0, finishes.1 ∙ written, λ never. cause.1 (sure_plan old.plan never)),
+      unless_never Same still,
+      imports,
+    )
+
+unsaid : (A B C : Type 0) → A ⊎ (B × Unit {0} × C) → A ⊎ (B × C)
+unsaid A B C (inl whole) = inl whole
+unsaid A B C (inr (short, none, rest)) = inr (short, rest)
+
+-- the same, where nothing is said of what is kept
 pub finishes_as : (I : List ℕ → Type 0) (count : ℕ) (all : List ℕ) (old mid new : Wire) (early : List ℕ)
     (read : ReadTo) (outcome : Outcome) (end : SessionEnd) (before after : ℕ) →
     IsReadTo count (Some all) early mid.left read →
@@ -134,21 +203,10 @@ pub finishes_as : (I : List ℕ → Type 0) (count : ℕ) (all : List ℕ) (old 
     I (filled count all) → Finishes early outcome mid new read end →
     (AnswersBody count all outcome old new end × I (take count all))
     ⊎ ((IsCutShort count all outcome old new end ⊎ FailsInBody old new end) × I (filled count all))
-finishes_as I count all old mid new early (Open left) outcome end before after reads cause written room sure unread
-    unwritten stored imports finishes =
-    let (few, less, behind) = reads in
-    let (is, there) = behind all refl in
-    by_rest I count left all old mid new outcome end less there written room sure unread unwritten stored imports
-    (finishes (drop (count - left) all) is)
-finishes_as I count all old mid new early Cut outcome end before after reads cause written room sure unread unwritten
+finishes_as I count all old mid new early read outcome end before after reads cause written room sure unread unwritten
     stored imports finishes =
-    inr (
-      inl (finishes.0, reads all refl, finishes.1 ∙ written, λ kept is. absurd (stored kept is)),
-      imports,
-    )
-finishes_as I count all old mid new early LinkFault outcome end before after reads cause written room sure unread
-    unwritten stored imports finishes =
-    inr (inr (finishes.0, finishes.1 ∙ written, λ never. cause.1 (sure_plan old.plan never)), imports)
+    unsaid _ _ _ (ends_as I (Unit {0}) count all old mid new early read outcome end before after reads cause written
+    room sure unread unwritten stored (inl tt) imports finishes)
 
 -- an import, and then what is left to do of its request, are the import of a day and its answer
 pub composes : (w : WhenRefused) (exact : Bool) (day : ℕ) (limits : Limits) (count : ℕ) (all : List ℕ) (o : Office)
@@ -157,16 +215,16 @@ pub composes : (w : WhenRefused) (exact : Bool) (day : ℕ) (limits : Limits) (c
     (outcome ≡ KeeperFault → Rose was.faults now.faults) → IsReadTo count (Some all) early mid.left read →
     HasReadCause old.plan before after read → mid.written ≡ old.written → mid.room ≡ old.room →
     (NeverFails old.plan → NeverFails mid.plan) → (outcome ≡ ReadFault → IsStopped read) → outcome ≢ WriteFault →
-    ((kept : DayRecord) → outcome ≡ Stored kept → HasNoneLeft read) →
+    ((kept : DayRecord) → outcome ≡ Stored kept → HasNoneLeft read) → (now.told ≡ was.told) ⊎ HasNoneLeft read →
     Imports w exact day limits (filled count all) o now.told was.posted (Some now.posted) outcome →
     Finishes early outcome mid new read end → ImportsDay w exact day limits count all o was now old new end
 composes w exact day limits count all o was now old mid new early read outcome end before after rose reads cause
-    written room sure unread unwritten stored imports finishes = (
+    written room sure unread unwritten stored still imports finishes = (
       outcome,
       rose,
-      finishes_as (λ bytes. Imports w exact day limits bytes o now.told was.posted (Some now.posted) outcome) count all
-          old mid new early read outcome end before after reads cause written room sure unread unwritten stored imports
-          finishes,
+      ends_as (λ bytes. Imports w exact day limits bytes o now.told was.posted (Some now.posted) outcome)
+          (now.told ≡ was.told) count all old mid new early read outcome end before after reads cause written room sure
+          unread unwritten stored still imports finishes,
     )
 
 -- how a POST ends, whatever is kept

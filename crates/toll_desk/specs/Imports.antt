@@ -57,7 +57,8 @@ AnswersBody count all outcome old new end =
     (count ≤ length all) × (new.left ≡ Some (drop count all)) × IsOfBody outcome
     × AnswersOutcome outcome old.room old.written new.written end
 
--- a day is imported from a body of so many bytes; one that is cut or failed in counts as one that goes on with zeros
+-- a day is imported from a body of so many bytes; one that is cut or failed in counts as one that goes on with zeros,
+-- and what is kept is as it was
 abbrev pub ImportsDay : WhenRefused → Bool → ℕ → Limits → ℕ → List ℕ → Office → DeskState → DeskState → Wire → Wire →
     SessionEnd
     → Type 0
@@ -65,5 +66,5 @@ ImportsDay w exact day limits count all o was now old new end =
     (outcome : Outcome) × (outcome ≡ KeeperFault → Rose was.faults now.faults)
     × ((AnswersBody count all outcome old new end × Imports w exact day limits (take count all) o now.told was.posted
     (Some now.posted) outcome)
-    ⊎ ((IsCutShort count all outcome old new end ⊎ FailsInBody old new end)
+    ⊎ ((IsCutShort count all outcome old new end ⊎ FailsInBody old new end) × (now.told ≡ was.told)
     × Imports w exact day limits (filled count all) o now.told was.posted (Some now.posted) outcome))

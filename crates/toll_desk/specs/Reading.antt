@@ -31,11 +31,11 @@ IsStopped (Open left) = ⊥
 IsStopped Cut = Unit {0}
 IsStopped LinkFault = Unit {0}
 
--- nothing is left of a body, which was not cut
+-- nothing is left of a body, which was neither cut nor failed in
 abbrev pub HasNoneLeft : ReadTo → Type 0
 HasNoneLeft (Open left) = left ≡ 0
 HasNoneLeft Cut = ⊥
-HasNoneLeft LinkFault = Unit {0}
+HasNoneLeft LinkFault = ⊥
 
 -- what came early is no more than what is left
 abbrev pub FitsRead : List ℕ → ReadTo → Type 0
@@ -54,10 +54,14 @@ AnswersRest left rest outcome old new end =
 abbrev pub CutsRest : ℕ → List ℕ → Wire → Wire → SessionEnd → Type 0
 CutsRest left rest old new end = (end ≡ ends.Cut) × (length rest < left) × (new.written ≡ old.written)
 
+-- the link failed in what was left of a body, which was something: nothing is answered
+abbrev pub FailsInRest : ℕ → Wire → Wire → SessionEnd → Type 0
+FailsInRest left old new end = (0 < left) × FailsInBody old new end
+
 -- so much is left of a body, of these bytes: the answer is written behind it, or nothing is
 abbrev pub FinishesBody : ℕ → List ℕ → Outcome → Wire → Wire → SessionEnd → Type 0
 FinishesBody left rest outcome old new end =
-    AnswersRest left rest outcome old new end ⊎ (CutsRest left rest old new end ⊎ FailsInBody old new end)
+    AnswersRest left rest outcome old new end ⊎ (CutsRest left rest old new end ⊎ FailsInRest left old new end)
 
 -- what is left to do of a request whose day was imported: the rest of its body is read, and the outcome is answered;
 -- where the body was cut or failed in, nothing is

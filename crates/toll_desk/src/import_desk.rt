@@ -1,5 +1,5 @@
 // The part of a desk that imports.
-ghost use Rattle.std.specs.Prelude.{◌≡◌, ◌≢◌, ◌≤◌, ◌+◌, ℕ, List, [], Some, None, length};
+ghost use Rattle.std.specs.Prelude.{◌≡◌, ◌≢◌, ◌≤◌, ◌+◌, ◌⊎◌, ℕ, List, [], Some, None, length};
 ghost use Rattle.std.specs.Io.KnownBytes.{prepend_known};
 ghost use Rattle.road_io.specs.Plans.{NeverFails};
 ghost use Rattle.road_time.specs.Fits.{IsLimits};
@@ -69,6 +69,8 @@ impl<C: Crew, R: Wait + Threads + Drop> ImportDesk<C, R> {
         ensures read { result.outcome ≡ ReadFault → IsStopped result.read }
         ensures stored { (all : List ℕ) (kept : DayRecord) → prepend_known early.now (L.left link.old) ≡ Some all
             → result.outcome ≡ Stored kept → HasNoneLeft result.read }
+        ensures read_first { (all : List ℕ) → prepend_known early.now (L.left link.old) ≡ Some all
+            → (K.told keeper.new ≡ K.told keeper.old) ⊎ HasNoneLeft result.read }
         ensures crew { C.which self.new.crew ≡ C.which self.old.crew }
         ensures board { self.new.writer.board ≡ self.old.writer.board }
         ensures unwritten { L.written link.new ≡ L.written link.old }

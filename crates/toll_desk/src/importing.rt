@@ -1,5 +1,5 @@
 // Importing a day from the body of a request.
-ghost use Rattle.std.specs.Prelude.{◌≡◌, ◌≢◌, ◌≤◌, ◌<◌, ◌+◌, ℕ, false, List, [], Some, None, length};
+ghost use Rattle.std.specs.Prelude.{◌≡◌, ◌≢◌, ◌≤◌, ◌<◌, ◌+◌, ◌⊎◌, ℕ, false, List, [], Some, None, length};
 ghost use Rattle.std.specs.Io.KnownBytes.{prepend_known};
 ghost use Rattle.road_io.specs.Blame.{FaultsByPlan};
 ghost use Rattle.road_io.specs.Plans.{NeverFails};
@@ -34,7 +34,7 @@ pub fn read_to<L: Link, N: Start>(body: &Body<'_, '_, L, N>) -> ReadTo
     ensures read { IsReadTo N.total N.bytes body.now.early.now (L.left body.now.link.now) result }
     ensures cause { HasReadCause N.plan N.faults (L.faults body.now.link.now) result }
     ensures stopped { 0 < body.now.faults → IsStopped result }
-    ensures over { body.now.left ≡ 0 → HasNoneLeft result }
+    ensures over { body.now.left ≡ 0 → body.now.faults ≡ 0 → HasNoneLeft result }
     ensures rest { (left : ℕ) → result ≡ Open left → left ≡ body.now.left }
     ensures quiet { body.now.faults ≡ 0 → body.now.cut ≡ false → result ≡ Open body.now.left }
 {
@@ -84,6 +84,8 @@ fn import_from<'b, L: Link, K: Keeper, C: Crew, P: Publisher, R: Threads, N: Sta
     ensures read { result.outcome ≡ ReadFault → IsStopped result.read }
     ensures stored { (all : List ℕ) (kept : DayRecord) → N.bytes ≡ Some all → result.outcome ≡ Stored kept
         → HasNoneLeft result.read }
+    ensures read_first { (all : List ℕ) → N.bytes ≡ Some all
+        → (K.told keeper.new ≡ K.told keeper.old) ⊎ HasNoneLeft result.read }
     ensures idle { C.out crew.new ≡ [] }
     ensures crew { C.which crew.new ≡ C.which crew.old }
     ensures publisher { P.which publisher.new ≡ P.which publisher.old }
@@ -160,6 +162,8 @@ pub fn import_only<'b, L: Link, K: Keeper, C: Crew, P: Publisher, R: Threads>(
     ensures read { result.outcome ≡ ReadFault → IsStopped result.read }
     ensures stored { (all : List ℕ) (kept : DayRecord) → prepend_known early.now (L.left link.old) ≡ Some all
         → result.outcome ≡ Stored kept → HasNoneLeft result.read }
+    ensures read_first { (all : List ℕ) → prepend_known early.now (L.left link.old) ≡ Some all
+        → (K.told keeper.new ≡ K.told keeper.old) ⊎ HasNoneLeft result.read }
     ensures idle { C.out crew.new ≡ [] }
     ensures crew { C.which crew.new ≡ C.which crew.old }
     ensures publisher { P.which publisher.new ≡ P.which publisher.old }

@@ -107,6 +107,9 @@ fn finish_body<L: Link>(
     ensures cause { result ≡ LinkFault → Rose (L.faults link.old) (L.faults link.new) }
     ensures later { L.faults link.old ≤ L.faults link.new }
 {
+    if left == 0 {
+        return send_outcome(alloc, link, outcome);
+    }
     match skip_body(link, early, left) {
         BodyEnd::Whole => send_outcome(alloc, link, outcome),
         BodyEnd::Cut => SessionEnd::Cut,

@@ -6,7 +6,7 @@ use Rattle.toll_requests.specs.Bodies.{body_left, filled}
 use Rattle.toll_requests.proofs.BodyLaws.{body_told, none_left}
 use Rattle.toll_desk.proofs.ImportLaws.{alone_as, not_answered}
 use Rattle.toll_desk.specs.declared.imported.ReadTo.TheVariants.{Open}
-use Rattle.toll_desk.proofs.ReadLaws.{few_read}
+use Rattle.toll_desk.proofs.ReadLaws.{few_read, stored_unfailed, unless_whole}
 use Rattle.toll_desk.proofs.importing.import_from.Goals as goal
 
 pub returns-clause-imports : goal.returns-clause-imports
@@ -43,8 +43,17 @@ pub returns-clause-stored : goal.returns-clause-stored
 returns-clause-stored g c = λ all kept is stored.
     let told = body_told c.args.count c.args.early.now all (g.L.Link.left c.args.link.now) (c.requires.bytes ∙ is) in
     let b = c.import-outcome.new.source in
+    let sound = stored_unfailed c.import-outcome.result kept stored in
     c.read_to-read.ensures.over (none_left b.left b.early.now (g.L.Link.left b.link.now)
     (c.import-outcome.ensures.whole (filled c.args.count all) kept told stored))
+    (c.import-outcome.ensures.source.still sound.0 sound.1)
+
+pub returns-clause-read_first : goal.returns-clause-read_first
+returns-clause-read_first g c = λ all is.
+    let told = body_told c.args.count c.args.early.now all (g.L.Link.left c.args.link.now) (c.requires.bytes ∙ is) in
+    let b = c.import-outcome.new.source in
+    unless_whole _ b.left b.faults b.early.now (g.L.Link.left b.link.now) c.read_to-read.result
+    (c.import-outcome.ensures.read_first (filled c.args.count all) told) c.read_to-read.ensures.over
 
 pub returns-clause-posted : goal.returns-clause-posted
 returns-clause-posted g c = λ kept is.

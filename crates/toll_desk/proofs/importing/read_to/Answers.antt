@@ -9,7 +9,7 @@ returns-then-body-clause-read g c = λ all is.
     (b.cut_off c.if-body.true) all is
 
 pub returns-then-body-clause-over : goal.returns-then-body-clause-over
-returns-then-body-clause-over g c = λ none.
+returns-then-body-clause-over g c = λ none sound.
     let off = c.args.body.now.cut_off c.if-body.true in
     omega (arith, off.0, none)
 

@@ -32,7 +32,7 @@ returns-clause-imports g c = λ all o known told.
     (subst (λ bytes. IsReadTo c.args.count bytes i.result.early.now (g.L.Link.left m) i.result.read) known
     i.ensures.reads)
     i.ensures.link_cause i.ensures.unwritten i.ensures.room_kept i.ensures.link_sure i.ensures.read i.ensures.unfailed
-    (λ kept stored. i.ensures.stored all kept known stored)
+    (λ kept stored. i.ensures.stored all kept known stored) (i.ensures.read_first all known)
     (i.ensures.imports all o c.args.writer.now.posted known told refl) f.ensures.ends
 
 pub returns-clause-unavailable : goal.returns-clause-unavailable
