@@ -1,5 +1,7 @@
 -- What a shared desk does for a connection.
-use Rattle.std.specs.Prelude.{◌≡◌, ℕ, List, Option, Some, None}
+use Rattle.std.specs.Prelude.{◌≡◌, ℕ, Bool, List, Option, Some, None}
+use Rattle.road_time.specs.declared.day.Limits.{Limits}
+use Rattle.keeper.specs.Calls.{WhenRefused}
 use Rattle.keeper.specs.Office.{Office}
 use Rattle.live_board.specs.Passes.{Pass}
 use Rattle.toll_requests.specs.declared.session_end.SessionEnd.{SessionEnd}
@@ -15,7 +17,8 @@ desk_wire w = wire_of w.left w.plan w.written w.room
 
 -- one session over the connection, whose bytes are these where it tells them: a request is read and refused; or it is
 -- of the live board, and answered by the reader; or it is answered of the keeper that the desk shares
-abbrev pub Attends : {K : Type 0} → (K → Option Office) → (K → ℕ) → Pass → Pass → Wire → Wire → Type 0
-Attends told faults p q old new =
+abbrev pub Attends : {K : Type 0} → (K → Option Office) → (K → ℕ) → WhenRefused → Bool → Limits → Pass → Pass → Wire →
+    Wire → Type 0
+Attends told faults w exact limits p q old new =
     (bytes : List ℕ) → old.left ≡ Some bytes
-    → (end : SessionEnd) × Shares (AnswersShared told faults) bytes None None p q (desk_wire old) (desk_wire new) end
+    → (end : SessionEnd) × Shares (AnswersShared told faults w exact limits) bytes None None p q (desk_wire old) (desk_wire new) end

@@ -11,6 +11,7 @@ use lane_loops::Turn;
 use live_board::BoardReader;
 use partition_workers::Crew;
 use road_time::Limits;
+use shared_keeper::{Kept, Naming};
 use std::alloc::Global;
 use std::sync::{Mutex, Wait};
 use std::thread::Threads;
@@ -19,12 +20,12 @@ use two_way::TwoWay;
 
 /// Runs a session on a connection. A POST has the imports' lock until its day is imported, and then its turn is over.
 /// For each call of the keeper a request of what is kept takes the keeper's lock. No other takes a lock.
-pub fn attend<L: TwoWay, K: Keeper, C: Crew, R: Wait + Threads + Drop, T: Turn>(
+pub fn attend<L: TwoWay, J: Naming, K: Keeper, C: Crew, R: Wait + Threads + Drop, T: Turn>(
     rt: R,
     alloc: Global,
     plan: Plan,
     limits: Limits,
-    keeper: &Mutex<K>,
+    keeper: &Mutex<Kept<J, K>>,
     imports: &Mutex<ImportDesk<C, R>>,
     line: &mut L,
     turn: &mut T,
@@ -33,7 +34,7 @@ pub fn attend<L: TwoWay, K: Keeper, C: Crew, R: Wait + Threads + Drop, T: Turn>(
     requires some { 1 ≤ plan.width }
     requires few { plan.width ≤ 64 }
     requires within { IsLimits limits }
-    ensures attends { Attends K.told K.faults reader.old reader.new (wire_by L.left L.plan L.written L.room line.old)
+    ensures attends { Attends K.told K.faults K.refuses C.exact limits reader.old reader.new (wire_by L.left L.plan L.written L.room line.old)
         (wire_by L.left L.plan L.written L.room line.new) }
     ensures board { reader.new.board ≡ reader.old.board }
     ensures had { StartsWith reader.new.seen reader.old.seen }

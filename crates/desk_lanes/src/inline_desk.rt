@@ -10,6 +10,7 @@ use lane_loops::{Host, Turn};
 use live_board::{BoardReader, BoardWriter};
 use partition_workers::{Crew, InlineCrew};
 use road_time::Limits;
+use shared_keeper::{Kept, Naming};
 use std::alloc::Global;
 use std::sync::{Mutex, Wait};
 use std::thread::Threads;
@@ -17,21 +18,22 @@ use toll_desk::ImportDesk;
 use two_way::TwoWay;
 
 /// A desk that loops share, and that runs each job as it is started. Its keeper has a lock of its own.
-pub struct InlineDesk<K: Keeper, R: Wait + Threads + Drop + Copy> {
+pub struct InlineDesk<J: Naming, K: Keeper, R: Wait + Threads + Drop + Copy> {
     rt: R,
     plan: Plan,
     limits: Limits,
-    keeper: Mutex<K>,
+    keeper: Mutex<Kept<J, K>>,
     imports: Mutex<ImportDesk<InlineCrew, R>>,
     ghost some: { 1 ≤ plan.width },
     ghost few: { plan.width ≤ 64 },
     ghost within: { IsLimits limits },
 }
 
-impl<K: Keeper, R: Wait + Threads + Drop + Copy> Host for InlineDesk<K, R> {
+impl<J: Naming, K: Keeper, R: Wait + Threads + Drop + Copy> Host for InlineDesk<J, K, R> {
     ghost use Rattle.desk_lanes.specs.Attends.{Attends};
 
-    ghost attends = { λ _ p q old new. Attends K.told K.faults p q old new };
+    ghost attends = { λ desk p q old new.
+        Attends K.told K.faults K.refuses ⟦<InlineCrew as Crew>⟧.exact desk.limits p q old new };
 
     fn attend<L: TwoWay, T: Turn>(
         &self,
@@ -54,9 +56,12 @@ impl<K: Keeper, R: Wait + Threads + Drop + Copy> Host for InlineDesk<K, R> {
     }
 }
 
-impl<K: Keeper + Send, R: Wait + Threads + Drop + Copy + Send + Sync> DeskCrew<K, R>
-    for InlineCrew {
-    type Shared = InlineDesk<K, R>;
+impl<
+    J: Naming + Send + Sync,
+    K: Keeper + Send,
+    R: Wait + Threads + Drop + Copy + Send + Sync,
+> DeskCrew<Kept<J, K>, R> for InlineCrew {
+    type Shared = InlineDesk<J, K, R>;
 
     ghost out = { λ crew. ⟦<InlineCrew as Crew>⟧.out crew };
 
@@ -67,11 +72,11 @@ impl<K: Keeper + Send, R: Wait + Threads + Drop + Copy + Send + Sync> DeskCrew<K
     fn share(
         self,
         rt: R,
-        keeper: K,
+        keeper: Kept<J, K>,
         writer: BoardWriter<R>,
         plan: Plan,
         limits: Limits,
-    ) -> InlineDesk<K, R>
+    ) -> InlineDesk<J, K, R>
         requires idle { ⟦<InlineCrew as Crew>⟧.out self ≡ [] }
         requires some { 1 ≤ plan.width }
         requires few { plan.width ≤ 64 }
@@ -93,7 +98,7 @@ impl<K: Keeper + Send, R: Wait + Threads + Drop + Copy + Send + Sync> DeskCrew<K
         }
     }
 
-    fn end(shared: InlineDesk<K, R>) -> K {
+    fn end(shared: InlineDesk<J, K, R>) -> Kept<J, K> {
         let InlineDesk {
             rt: _,
             plan: _,

@@ -9,6 +9,7 @@ use lane_loops::{Host, Turn};
 use live_board::BoardReader;
 use partition_workers::Crew;
 use road_time::Limits;
+use shared_keeper::{Kept, Naming};
 use std::alloc::Global;
 use std::sync::{Mutex, Wait};
 use std::thread::Threads;
@@ -18,24 +19,24 @@ use two_way::TwoWay;
 /// A desk that loops in many threads share. It runs a session on each connection. Its keeper has a lock of its own,
 /// which is taken for one call at a time; a POST takes that of the imports too, until its day is imported. By which plan
 /// and within which limits a day is worked lies beside the locks.
-pub struct SharedDesk<K: Keeper, C: Crew, R: Wait + Threads + Drop + Copy> {
+pub struct SharedDesk<J: Naming, K: Keeper, C: Crew, R: Wait + Threads + Drop + Copy> {
     rt: R,
     pub(crate) plan: Plan,
     pub(crate) limits: Limits,
-    keeper: Mutex<K>,
+    keeper: Mutex<Kept<J, K>>,
     imports: Mutex<ImportDesk<C, R>>,
     ghost some: { 1 ≤ plan.width },
     ghost few: { plan.width ≤ 64 },
     ghost within: { IsLimits limits },
 }
 
-impl<K: Keeper, C: Crew, R: Wait + Threads + Drop + Copy> SharedDesk<K, C, R> {
+impl<J: Naming, K: Keeper, C: Crew, R: Wait + Threads + Drop + Copy> SharedDesk<J, K, C, R> {
     /// Puts a keeper and the part of a desk that imports under a lock each, and the plan and the limits beside them.
     pub(crate) fn new(
         rt: R,
         plan: Plan,
         limits: Limits,
-        keeper: K,
+        keeper: Kept<J, K>,
         imports: ImportDesk<C, R>,
     ) -> Self
         requires some { 1 ≤ plan.width }
@@ -54,7 +55,7 @@ impl<K: Keeper, C: Crew, R: Wait + Threads + Drop + Copy> SharedDesk<K, C, R> {
     }
 
     /// Takes the keeper and the part that imports out of their locks.
-    pub(crate) fn into_parts(self) -> (K, ImportDesk<C, R>) {
+    pub(crate) fn into_parts(self) -> (Kept<J, K>, ImportDesk<C, R>) {
         let SharedDesk {
             rt: _,
             plan: _,
@@ -66,10 +67,12 @@ impl<K: Keeper, C: Crew, R: Wait + Threads + Drop + Copy> SharedDesk<K, C, R> {
     }
 }
 
-impl<K: Keeper, C: Crew, R: Wait + Threads + Drop + Copy> Host for SharedDesk<K, C, R> {
+impl<J: Naming, K: Keeper, C: Crew, R: Wait + Threads + Drop + Copy> Host
+    for SharedDesk<J, K, C, R> {
     ghost use Rattle.desk_lanes.specs.Attends.{Attends};
 
-    ghost attends = { λ _ p q old new. Attends K.told K.faults p q old new };
+    ghost attends = { λ desk p q old new.
+        Attends K.told K.faults K.refuses C.exact desk.limits p q old new };
 
     fn attend<L: TwoWay, T: Turn>(
         &self,

@@ -9,16 +9,20 @@ use keeper::Keeper;
 use live_board::BoardWriter;
 use partition_workers::{Crew, NoGate, ThreadCrew, ThreadTicket};
 use road_time::Limits;
+use shared_keeper::{Kept, Naming};
 use std::sync::Wait;
 use std::thread::Threads;
 use toll_desk::ImportDesk;
 
-impl<K: Keeper + Send, R: Wait + Threads + Drop + Copy + Send + Sync> DeskCrew<K, R>
-    for ThreadCrew<R, NoGate>
+impl<
+    J: Naming + Send + Sync,
+    K: Keeper + Send,
+    R: Wait + Threads + Drop + Copy + Send + Sync,
+> DeskCrew<Kept<J, K>, R> for ThreadCrew<R, NoGate>
 where
     ThreadCrew<R, NoGate>: Crew<Ticket = ThreadTicket, Name = ()>,
 {
-    type Shared = SharedDesk<K, ThreadCrew<R, NoGate>, R>;
+    type Shared = SharedDesk<J, K, ThreadCrew<R, NoGate>, R>;
 
     ghost out = { λ crew. ⟦<ThreadCrew<R, NoGate> as Crew>⟧.out crew };
 
@@ -29,11 +33,11 @@ where
     fn share(
         self,
         rt: R,
-        keeper: K,
+        keeper: Kept<J, K>,
         writer: BoardWriter<R>,
         plan: Plan,
         limits: Limits,
-    ) -> SharedDesk<K, ThreadCrew<R, NoGate>, R>
+    ) -> SharedDesk<J, K, ThreadCrew<R, NoGate>, R>
         requires idle { ⟦<ThreadCrew<R, NoGate> as Crew>⟧.out self ≡ [] }
         requires some { 1 ≤ plan.width }
         requires few { plan.width ≤ 64 }
@@ -49,7 +53,7 @@ where
         SharedDesk::new(rt, plan, limits, keeper, imports)
     }
 
-    fn end(shared: SharedDesk<K, ThreadCrew<R, NoGate>, R>) -> K {
+    fn end(shared: SharedDesk<J, K, ThreadCrew<R, NoGate>, R>) -> Kept<J, K> {
         let (keeper, imports) = shared.into_parts();
         imports.end();
         keeper

@@ -1,6 +1,6 @@
 -- What ears count, in lanes and out of them.
 use Rattle.std.proofs.Common.{◌≡◌, ◌∙◌, ◌<◌, ◌||◌, ℕ, zero, suc, Bool, true, false, refl, sym, subst, List, [], ◌∷◌}
-use Rattle.std.proofs.Common.{inl, inr, ⊎_elim, map, length, arith, nat_lt, lt-ltb}
+use Rattle.std.proofs.Common.{inl, inr, ⊎_elim, map, length, arith, nat_lt, lt-ltb, Option, Some, None}
 use Rattle.std.specs.List.{All, AllZip}
 use Rattle.std.proofs.lemmas.Bool.{cases_Bool}
 use Rattle.road_io.specs.Faults.{Rose}
@@ -8,7 +8,10 @@ use Rattle.live_board.specs.Passes.{Pass}
 use Rattle.lane_loops.specs.Lanes.{AnyRose, LaneServes, LaneTurned}
 use Rattle.lane_loops.specs.declared.lane.Lane.{Lane}
 use Rattle.lane_doors.specs.Doors.{has_fault}
-use Rattle.desk_server.specs.Served.{EarServed}
+use Rattle.road_time.specs.declared.day.Limits.{Limits}
+use Rattle.import_plan.specs.declared.Plan.{Plan}
+use Rattle.server_words.specs.declared.serving.Serving.{Serving}
+use Rattle.desk_server.specs.Served.{EarServed, ServedAsSaid}
 
 -- lanes of ears that accepted nothing have accepted nothing
 pub fresh_in : {N : Type 0} (f h : N → ℕ) (lanes : List (Lane N)) →
@@ -62,3 +65,25 @@ ears_served faults accepted turn [] (y ∷ ys) a b = absurd a
 ears_served faults accepted turn (x ∷ xs) [] a b = absurd a
 ears_served faults accepted turn (x ∷ xs) (y ∷ ys) (serves, a) (turned, b) =
     (ear_served faults accepted turn x y serves turned, ears_served faults accepted turn xs ys a b)
+
+-- what desks served they served by what is seen of them
+pub served_seen : {N S T : Type 0} (f : S → T) (hears : N → ℕ → Type 0) (faults accepted : N → ℕ)
+    (turn : T → N → Pass → N → Pass → Type 0) (works : T → Plan) (bounds : T → Limits) (limits : Limits)
+    (meant : Option Serving) →
+    ServedAsSaid hears faults accepted (λ d. turn (f d)) (λ d. works (f d)) (λ d. bounds (f d)) limits meant →
+    ServedAsSaid hears faults accepted turn works bounds limits meant
+served_seen f hears faults accepted turn works bounds limits None h = absurd h
+served_seen f hears faults accepted turn works bounds limits (Some serving) h =
+    record {
+      opened = h.opened;
+      closed = h.closed;
+      heard = h.heard;
+      done =
+          record {
+            desk = f h.done.desk;
+            four = h.done.four;
+            within = h.done.within;
+            served = h.done.served;
+          };
+      all = h.all;
+    }

@@ -45,3 +45,12 @@ abbrev pub ServedAsSaid : {N S : Type 0} → (N → ℕ → Type 0) → (N → �
 ServedAsSaid hears faults accepted turn works bounds limits None = ⊥
 ServedAsSaid hears faults accepted turn works bounds limits (Some serving) =
     ServedAt hears faults accepted turn works bounds limits serving
+
+-- by which plan a desk works a day, and within which limits
+pub record Working : Type 0 where
+  pub plan : Plan
+  pub limits : Limits
+
+-- it, of these
+abbrev pub working : Plan → Limits → Working
+working plan limits = record { plan = plan; limits = limits }

@@ -7,17 +7,59 @@ ghost use Rattle.lane_loops.specs.Wires.{wire_by};
 ghost use Rattle.lane_loops.specs.Lanes.{TurnOf};
 ghost use Rattle.desk_lanes.specs.Attends.{Attends};
 ghost use Rattle.desk_server.specs.Endings.{counts_of, EndsWith, HasServed};
-ghost use Rattle.desk_server.specs.Served.{ServedAsSaid};
+ghost use Rattle.desk_server.specs.Served.{ServedAsSaid, Working};
 
 use crate::serving::serve_words;
-use desk_lanes::DeskCrew;
 use keeper::Keeper;
 use lane_doors::Door;
-use partition_workers::{NoGate, ThreadCrew};
+use partition_workers::{Crew, NoGate, ThreadCrew};
 use road_time::Limits;
+use shared_keeper::{Naming, Opened};
 use std::alloc::Global;
+use std::marker::Brand;
 use std::sync::Wait;
 use std::thread::Threads;
+
+/// The same over a keeper whose history was opened, under its name.
+fn serve_named<
+    D: Door,
+    J: Naming + Send + Sync,
+    K: Keeper + Send,
+    R: Wait + Threads + Drop + Copy + Send + Sync,
+>(
+    rt: R,
+    alloc: Global,
+    words: &[String],
+    limits: &Limits,
+    door: &mut D,
+    opened: Opened<K>,
+) -> (u8, K)
+    requires within { IsLimits limits.now }
+    requires unused { D.accepted door.old ≡ 0 }
+    requires book { opened.seen.book ≡ J.book }
+    ensures ends { EndsWith (serving_meant (map string_bytes words.now))
+        (counts_of (D.refused door.old) (D.faults door.old) (D.accepted door.old))
+        (counts_of (D.refused door.new) (D.faults door.new) (D.accepted door.new)) result.0 }
+    ensures served { result.0 ≡ 0 → HasServed (serving_meant (map string_bytes words.now))
+        (counts_of (D.refused door.new) (D.faults door.new) (D.accepted door.new)) }
+    ensures desk { result.0 ≡ 0 → ServedAsSaid D.hears D.Ear.faults D.Ear.accepted
+        (λ (desk : Working). TurnOf D.Ear.gives D.Ear.takes
+        (wire_by D.Ear.Line.left D.Ear.Line.plan D.Ear.Line.written D.Ear.Line.room)
+        (Attends K.told K.faults K.refuses ⟦<ThreadCrew<R, NoGate> as Crew>⟧.exact desk.limits))
+        (λ desk. desk.plan) (λ desk. desk.limits) limits.now (serving_meant (map string_bytes words.now)) }
+    ensures words { result.0 ≡ 1 → serving_meant (map string_bytes words.now) ≡ None }
+    ensures no_words { serving_meant (map string_bytes words.now) ≡ None → (result.0 ≡ 1) ⊎ (result.0 ≡ 8) }
+    ensures untouched { result.0 ≡ 1 → door.new ≡ door.old }
+    ensures refused { result.0 ≡ 2 → Rose (D.refused door.old) (D.refused door.new) }
+    ensures fault { result.0 ≡ 4 → Rose (D.faults door.old) (D.faults door.new) }
+    ensures refused_later { D.refused door.old ≤ D.refused door.new }
+    ensures faults_later { D.faults door.old ≤ D.faults door.new }
+{
+    let crew = ThreadCrew::new(rt, alloc, NoGate);
+    let kept = opened.named::<J>();
+    let (status, kept) = serve_words(rt, alloc, words, limits, door, kept, crew);
+    (status, kept.into_keeper())
+}
 
 /// Serves the desk as `serve_words` does, with a crew that runs each job in a thread of its own.
 pub fn serve_in_threads<D: Door, K: Keeper + Send, R: Wait + Threads + Drop + Copy + Send + Sync>(
@@ -36,10 +78,10 @@ pub fn serve_in_threads<D: Door, K: Keeper + Send, R: Wait + Threads + Drop + Co
     ensures served { result.0 ≡ 0 → HasServed (serving_meant (map string_bytes words.now))
         (counts_of (D.refused door.new) (D.faults door.new) (D.accepted door.new)) }
     ensures desk { result.0 ≡ 0 → ServedAsSaid D.hears D.Ear.faults D.Ear.accepted
-        (λ desk. TurnOf D.Ear.gives D.Ear.takes
-        (wire_by D.Ear.Line.left D.Ear.Line.plan D.Ear.Line.written D.Ear.Line.room) (Attends K.told K.faults))
-        ⟦<ThreadCrew<R, NoGate> as DeskCrew<K, R>>⟧.works ⟦<ThreadCrew<R, NoGate> as DeskCrew<K, R>>⟧.bounds
-        limits.now (serving_meant (map string_bytes words.now)) }
+        (λ (desk : Working). TurnOf D.Ear.gives D.Ear.takes
+        (wire_by D.Ear.Line.left D.Ear.Line.plan D.Ear.Line.written D.Ear.Line.room)
+        (Attends K.told K.faults K.refuses ⟦<ThreadCrew<R, NoGate> as Crew>⟧.exact desk.limits))
+        (λ desk. desk.plan) (λ desk. desk.limits) limits.now (serving_meant (map string_bytes words.now)) }
     ensures words { result.0 ≡ 1 → serving_meant (map string_bytes words.now) ≡ None }
     ensures no_words { serving_meant (map string_bytes words.now) ≡ None → (result.0 ≡ 1) ⊎ (result.0 ≡ 8) }
     ensures untouched { result.0 ≡ 1 → door.new ≡ door.old }
@@ -48,6 +90,5 @@ pub fn serve_in_threads<D: Door, K: Keeper + Send, R: Wait + Threads + Drop + Co
     ensures refused_later { D.refused door.old ≤ D.refused door.new }
     ensures faults_later { D.faults door.old ≤ D.faults door.new }
 {
-    let crew = ThreadCrew::new(rt, alloc, NoGate);
-    serve_words(rt, alloc, words, limits, door, keeper, crew)
+    serve_named::<D, Brand, K, R>(rt, alloc, words, limits, door, Opened::new(keeper))
 }

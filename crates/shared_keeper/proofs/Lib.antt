@@ -1,1 +1,3 @@
 pub mod TryLaws
+pub mod HistoryLaws
+pub mod HoldLaws

@@ -10,6 +10,7 @@ ghost use Rattle.shared_keeper.specs.Tries.{Tries};
 ghost use Rattle.shared_keeper.specs.Calls.{ReadsShared, PutsShared};
 
 use crate::counting::count;
+use crate::history::Naming;
 use crate::puts::{put_first_past, put_next_day, put_one_tariff};
 use crate::reads::{
     read_day, read_last_day, read_past, read_rows, read_spent, read_tariffs, read_vehicle_rows,
@@ -20,7 +21,7 @@ use road_time::{SpentRow, Tariff, Tariffs};
 use std::sync::Wait;
 
 /// Each call is one of the keeper under the lock, with the same arguments, between two states of it.
-impl<'a, K: Keeper, R: Wait> Keeper for SharedKeeper<'a, K, R> {
+impl<'a, J: Naming, K: Keeper, R: Wait> Keeper for SharedKeeper<'a, J, K, R> {
     ghost use Rattle.std.specs.Prelude.{true};
     ghost use Rattle.keeper.specs.Calls.{AllOrNothing};
 
@@ -42,8 +43,8 @@ impl<'a, K: Keeper, R: Wait> Keeper for SharedKeeper<'a, K, R> {
         ensures cause { CountsFaults self.old.faults self.new.faults result }
         ensures shared { ReadsShared K.told K.faults result (λ o last. last ≡ last_day_of o) }
     {
-        let mut keeper = self.keeper.lock(self.rt);
-        let answer = read_last_day(&mut *keeper);
+        let mut kept = self.keeper.lock(self.rt);
+        let answer = read_last_day(&mut *kept);
         count(&mut self.faults, answer)
     }
 
@@ -55,8 +56,8 @@ impl<'a, K: Keeper, R: Wait> Keeper for SharedKeeper<'a, K, R> {
         ensures cause { CountsFaults self.old.faults self.new.faults result }
         ensures shared { ReadsShared K.told K.faults result (λ o kept. kept ≡ record_of o day) }
     {
-        let mut keeper = self.keeper.lock(self.rt);
-        let answer = read_day(&mut *keeper, day);
+        let mut kept = self.keeper.lock(self.rt);
+        let answer = read_day(&mut *kept, day);
         count(&mut self.faults, answer)
     }
 
@@ -68,8 +69,8 @@ impl<'a, K: Keeper, R: Wait> Keeper for SharedKeeper<'a, K, R> {
         ensures cause { CountsFaults self.old.faults self.new.faults result }
         ensures shared { ReadsShared K.told K.faults result (λ o past. past ≡ o.past) }
     {
-        let mut keeper = self.keeper.lock(self.rt);
-        let answer = read_past(&mut *keeper);
+        let mut kept = self.keeper.lock(self.rt);
+        let answer = read_past(&mut *kept);
         count(&mut self.faults, answer)
     }
 
@@ -81,8 +82,8 @@ impl<'a, K: Keeper, R: Wait> Keeper for SharedKeeper<'a, K, R> {
         ensures cause { CountsFaults self.old.faults self.new.faults result }
         ensures shared { ReadsShared K.told K.faults result (λ o tolls. tolls ≡ paid o.rows day vid xway) }
     {
-        let mut keeper = self.keeper.lock(self.rt);
-        let answer = read_spent(&mut *keeper, day, vid, xway);
+        let mut kept = self.keeper.lock(self.rt);
+        let answer = read_spent(&mut *kept, day, vid, xway);
         count(&mut self.faults, answer)
     }
 
@@ -94,8 +95,8 @@ impl<'a, K: Keeper, R: Wait> Keeper for SharedKeeper<'a, K, R> {
         ensures cause { CountsFaults self.old.faults self.new.faults result }
         ensures shared { ReadsShared K.told K.faults result (λ o rows. rows.items ≡ rows_between o from to) }
     {
-        let mut keeper = self.keeper.lock(self.rt);
-        let answer = read_rows(&mut *keeper, from, to);
+        let mut kept = self.keeper.lock(self.rt);
+        let answer = read_rows(&mut *kept, from, to);
         count(&mut self.faults, answer)
     }
 
@@ -108,8 +109,8 @@ impl<'a, K: Keeper, R: Wait> Keeper for SharedKeeper<'a, K, R> {
         ensures cause { CountsFaults self.old.faults self.new.faults result }
         ensures shared { ReadsShared K.told K.faults result (λ o rows. rows.items ≡ vehicle_rows_between o vid from to) }
     {
-        let mut keeper = self.keeper.lock(self.rt);
-        let answer = read_vehicle_rows(&mut *keeper, vid, from, to);
+        let mut kept = self.keeper.lock(self.rt);
+        let answer = read_vehicle_rows(&mut *kept, vid, from, to);
         count(&mut self.faults, answer)
     }
 
@@ -120,38 +121,38 @@ impl<'a, K: Keeper, R: Wait> Keeper for SharedKeeper<'a, K, R> {
         ensures cause { CountsFaults self.old.faults self.new.faults result }
         ensures shared { ReadsShared K.told K.faults result (λ o tariffs. tariffs ≡ o.tariffs) }
     {
-        let mut keeper = self.keeper.lock(self.rt);
-        let answer = read_tariffs(&mut *keeper);
+        let mut kept = self.keeper.lock(self.rt);
+        let answer = read_tariffs(&mut *kept);
         count(&mut self.faults, answer)
     }
 
-    fn put_day(&mut self, kept: &DayRecord, rows: &[SpentRow]) -> Result<(), KeepFault>
-        requires fits { IsDayPut kept.now rows.now }
-        requires later { IfTold None (λ o. IsLater kept.now.day o) }
-        ensures state { Puts AllOrNothing None None result (with_day kept.now rows.now) }
+    fn put_day(&mut self, day: &DayRecord, rows: &[SpentRow]) -> Result<(), KeepFault>
+        requires fits { IsDayPut day.now rows.now }
+        requires later { IfTold None (λ o. IsLater day.now.day o) }
+        ensures state { Puts AllOrNothing None None result (with_day day.now rows.now) }
         ensures sound { SoundIfTold None }
         ensures planned { PutsAsPlanned AllOrNothing None None result }
         ensures cause { CountsFaults self.old.faults self.new.faults result }
         ensures shared { PutsShared K.told K.faults (λ o after.
-            Tries K.refuses (IsLater kept.now.day o) (with_day kept.now rows.now) o after result) }
+            Tries K.refuses (IsLater day.now.day o) (with_day day.now rows.now) o after result) }
     {
-        let mut keeper = self.keeper.lock(self.rt);
-        let answer = put_next_day(&mut *keeper, kept, rows);
+        let mut kept = self.keeper.lock(self.rt);
+        let answer = put_next_day(&mut *kept, day, rows);
         count(&mut self.faults, answer)
     }
 
-    fn put_past(&mut self, kept: &PastRecord, rows: &[SpentRow]) -> Result<(), KeepFault>
-        requires fits { IsPastPut kept.now rows.now }
+    fn put_past(&mut self, past: &PastRecord, rows: &[SpentRow]) -> Result<(), KeepFault>
+        requires fits { IsPastPut past.now rows.now }
         requires first { IfTold None HasNoDays }
-        ensures state { Puts AllOrNothing None None result (with_past kept.now rows.now) }
+        ensures state { Puts AllOrNothing None None result (with_past past.now rows.now) }
         ensures sound { SoundIfTold None }
         ensures planned { PutsAsPlanned AllOrNothing None None result }
         ensures cause { CountsFaults self.old.faults self.new.faults result }
         ensures shared { PutsShared K.told K.faults (λ o after.
-            Tries K.refuses (HasNoDays o) (with_past kept.now rows.now) o after result) }
+            Tries K.refuses (HasNoDays o) (with_past past.now rows.now) o after result) }
     {
-        let mut keeper = self.keeper.lock(self.rt);
-        let answer = put_first_past(&mut *keeper, kept, rows);
+        let mut kept = self.keeper.lock(self.rt);
+        let answer = put_first_past(&mut *kept, past, rows);
         count(&mut self.faults, answer)
     }
 
@@ -164,8 +165,8 @@ impl<'a, K: Keeper, R: Wait> Keeper for SharedKeeper<'a, K, R> {
         ensures shared { PutsShared K.told K.faults (λ o after.
             Puts K.refuses (Some o) after result (with_tariff_of xway tariff.now)) }
     {
-        let mut keeper = self.keeper.lock(self.rt);
-        let answer = put_one_tariff(&mut *keeper, xway, tariff);
+        let mut kept = self.keeper.lock(self.rt);
+        let answer = put_one_tariff(&mut *kept, xway, tariff);
         count(&mut self.faults, answer)
     }
 }

@@ -9,8 +9,19 @@
 
 mod calls;
 mod counting;
+mod held;
+mod held_calls;
+mod history;
+mod hold;
+mod kept;
+mod place;
 mod puts;
+mod puts_held;
 mod reads;
+mod reads_held;
 mod shared;
 
+pub use held::HeldKeeper;
+pub use history::Naming;
+pub use kept::{Kept, Opened};
 pub use shared::SharedKeeper;

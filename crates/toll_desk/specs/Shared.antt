@@ -1,13 +1,16 @@
 -- What a desk answers of a keeper that others may call between.
-use Rattle.std.specs.Prelude.{◌≡◌, ◌⊎◌, ℕ, List, Option, Some}
+use Rattle.std.specs.Prelude.{◌≡◌, ◌⊎◌, ℕ, Bool, List, Option, Some}
 use Rattle.std.specs.Io.KnownBytes.{prepend_known}
+use Rattle.road_time.specs.declared.day.Limits.{Limits}
 use Rattle.road_time.specs.declared.day.SpentRow.{SpentRow}
+use Rattle.keeper.specs.Calls.{WhenRefused}
 use Rattle.keeper.specs.declared.kept.DayRecord.{DayRecord}
 use Rattle.keeper.specs.Office.{Office, record_of}
 use Rattle.import_once.specs.declared.outcomes.Outcome.{Outcome}
 use Rattle.toll_texts.specs.Bodies.{spent_body}
 use Rattle.toll_texts.specs.Lists.{days_body, vehicle_body}
-use Rattle.toll_texts.specs.Replies.{Reply}
+use Rattle.toll_texts.specs.Replies.{Reply, no_memory_reply}
+use Rattle.toll_requests.specs.Sends.{SendsReply}
 use Rattle.toll_requests.specs.declared.asked.Asked.{Asked}
 use Rattle.toll_requests.specs.declared.asked.Asked.TheVariants.{Day, Import, Spent, Live, LiveTotal, Vehicle, Days, Page}
 use Rattle.toll_requests.specs.declared.asked.Asked.TheVariants.{Answers}
@@ -15,7 +18,8 @@ use Rattle.toll_requests.specs.declared.session_end.SessionEnd.{SessionEnd}
 use Rattle.toll_desk.specs.Answers.{Wire, AnswersReply, AnswersExactly, AnswersUnlessFailed, keeper_reply, good}
 use Rattle.toll_desk.specs.Answers.{day_reply, spent_reply, vehicle_reply}
 use Rattle.toll_desk.specs.Pages.{AnswersPage}
-use Rattle.toll_desk.specs.Imports.{AnswersBody, IsCutShort, FailsInBody}
+use Rattle.toll_desk.specs.Imports.{AnswersBody, IsCutShort, FailsInBody, DeskState, ImportsDay}
+use Rattle.toll_desk.specs.Streams.{AnswersDay}
 
 -- the keeper was asked once: the reply is that of the office which it kept then, in one of its states, and which it
 -- keeps in the next; or its count of faults rose, and exactly that it failed is answered
@@ -40,24 +44,58 @@ AnswersPost count early old new end =
     → (outcome : Outcome) × (AnswersBody count all outcome old new end
     ⊎ (IsCutShort count all outcome old new end ⊎ FailsInBody old new end))
 
+-- a day is imported exactly, from an office that the keeper told in one of its states, and what is kept then it told in
+-- one too
+pub record ImportsShared {K : Type 0} (told : K → Option Office) (w : WhenRefused) (exact : Bool) (limits : Limits)
+    (day count : ℕ) (early : List ℕ) (old new : Wire) (end : SessionEnd) : Type 0 where
+  pub was : K
+  pub now : K
+  pub before : DeskState
+  pub after : DeskState
+  pub told_before : before.told ≡ told was
+  pub told_after : after.told ≡ told now
+  pub imports : (all : List ℕ) (o : Office) → prepend_known early old.left ≡ Some all → told was ≡ Some o
+      → ImportsDay w exact day limits count all o before after old new end
+
+-- the notices of a day are streamed exactly, of an office that the keeper told in one of its states, and which it told
+-- in one behind them
+pub record StreamsShared {K : Type 0} (told : K → Option Office) (w : WhenRefused) (exact : Bool) (limits : Limits)
+    (day count : ℕ) (early : List ℕ) (old new : Wire) (end : SessionEnd) : Type 0 where
+  pub was : K
+  pub now : K
+  pub kept : told now ≡ told was
+  pub answers : (all : List ℕ) (o : Office) → prepend_known early old.left ≡ Some all → told was ≡ Some o
+      → AnswersDay w exact day limits count all o old.written new.written end
+
+-- so they are; or there was no second handle of the connection, which is answered as want of memory is
+abbrev pub AnswersNotices : {K : Type 0} → (K → Option Office) → WhenRefused → Bool → Limits → ℕ → ℕ → List ℕ → Wire →
+    Wire → SessionEnd → Type 0
+AnswersNotices told w exact limits day count early old new end =
+    StreamsShared told w exact limits day count early old new end
+    ⊎ SendsReply no_memory_reply old.written new.written end
+
 -- what is asked is answered of a keeper that others may call between: a day, an amount and a vehicle's bill of one of
--- its states, all days by one of the replies of days, the page, and a POST behind its body
-abbrev pub AnswersShared : {K : Type 0} → (K → Option Office) → (K → ℕ) → Asked → Wire → Wire → SessionEnd → Type 0
-AnswersShared told faults (Day day) old new end =
+-- its states, all days by one of the replies of days, the page, a POST behind its body and exactly of one of its
+-- states, and the notices of a day exactly of one too
+abbrev pub AnswersShared : {K : Type 0} → (K → Option Office) → (K → ℕ) → WhenRefused → Bool → Limits → Asked → Wire →
+    Wire → SessionEnd → Type 0
+AnswersShared told faults w exact limits (Day day) old new end =
     AnswersOf told faults (λ o. day_reply (record_of o day)) old new end × AnswersSome day_reply old new end
     × (new.left ≡ old.left)
-AnswersShared told faults (Spent day xway vid) old new end =
+AnswersShared told faults w exact limits (Spent day xway vid) old new end =
     AnswersOf told faults (λ o. spent_reply o day xway vid) old new end
     × AnswersSome {T = ℕ} (λ n. good (spent_body n)) old new end × (new.left ≡ old.left)
-AnswersShared told faults (Import day count early) old new end = AnswersPost count early old new end
-AnswersShared told faults (Vehicle vid from to) old new end =
+AnswersShared told faults w exact limits (Import day count early) old new end =
+    AnswersPost count early old new end × ImportsShared told w exact limits day count early old new end
+AnswersShared told faults w exact limits (Vehicle vid from to) old new end =
     AnswersOf told faults (λ o. vehicle_reply o vid from to) old new end
     × AnswersSome {T = List SpentRow} (λ rows. good (vehicle_body vid from to rows)) old new end
     × (new.left ≡ old.left)
-AnswersShared told faults Days old new end =
+AnswersShared told faults w exact limits Days old new end =
     AnswersSome {T = List DayRecord} (λ days. good (days_body days)) old new end × (new.left ≡ old.left)
-AnswersShared told faults Page old new end =
+AnswersShared told faults w exact limits Page old new end =
     AnswersPage old.room old.written new.written end × (new.left ≡ old.left)
-AnswersShared told faults (Answers day count early) old new end = Unit {0}
-AnswersShared told faults (Live vid) old new end = Unit {0}
-AnswersShared told faults LiveTotal old new end = Unit {0}
+AnswersShared told faults w exact limits (Answers day count early) old new end =
+    AnswersNotices told w exact limits day count early old new end
+AnswersShared told faults w exact limits (Live vid) old new end = Unit {0}
+AnswersShared told faults w exact limits LiveTotal old new end = Unit {0}

@@ -9,8 +9,9 @@ ghost use Rattle.keeper.specs.Office.{Office};
 ghost use Rattle.import_once.specs.declared.outcomes.Outcome.TheVariants.{WriteFault, KeeperFault};
 ghost use Rattle.toll_requests.specs.Bodies.{filled};
 ghost use Rattle.toll_requests.specs.declared.session_end.SessionEnd.TheVariants.{Answered, LinkFault};
-ghost use Rattle.toll_desk.specs.Answers.{TellsFault};
+ghost use Rattle.toll_desk.specs.Answers.{TellsFault, wire_of};
 ghost use Rattle.toll_desk.specs.Reading.{FitsRead};
+ghost use Rattle.toll_desk.specs.Shared.{AnswersNotices};
 ghost use Rattle.toll_desk.specs.Streams.{Streams, Closes};
 
 use crate::import_desk::ImportDesk;
@@ -23,6 +24,7 @@ use lane_loops::Turn;
 use partition_workers::Crew;
 use road_io::{Link, Sink};
 use road_time::Limits;
+use shared_keeper::{Naming, SharedKeeper};
 use std::alloc::Global;
 use std::sync::{Mutex, Wait};
 use std::thread::Threads;
@@ -108,7 +110,9 @@ fn finish_after<L: Link, O: Sink, T: Turn>(
 /// Streams the notices of a day with the imports locked. Once they are not, and the turn is over, the rest of the body
 /// is read, and the closing line is written.
 pub(crate) fn answer_notices_shared<
+    'a,
     L: TwoWay,
+    J: Naming,
     K: Keeper,
     C: Crew,
     R: Wait + Threads + Drop,
@@ -123,7 +127,7 @@ pub(crate) fn answer_notices_shared<
     day: u32,
     early: &[u8],
     count: u64,
-    keeper: &mut K,
+    keeper: &mut SharedKeeper<'a, J, K, R>,
     link: &mut L,
 ) -> SessionEnd
     requires low { 70 ≤ day }
@@ -131,9 +135,11 @@ pub(crate) fn answer_notices_shared<
     requires few { length early.now ≤ count }
     requires width { (1 ≤ plan.now.width) × (plan.now.width ≤ 64) }
     requires within { IsLimits limits.now }
-    ensures kept { K.told keeper.new ≡ K.told keeper.old }
+    ensures answers { AnswersNotices K.told K.refuses C.exact limits.now day count early.now
+        (wire_of (L.left link.old) (L.plan link.old) (L.written link.old) (L.room link.old))
+        (wire_of (L.left link.new) (L.plan link.new) (L.written link.new) (L.room link.new)) result }
     ensures unavailable { result ≢ Answered 503 }
-    ensures failed { K.faults keeper.old < K.faults keeper.new → TellsFault result }
+    ensures failed { keeper.old.faults < keeper.new.faults → TellsFault result }
     ensures sure { L.room link.old ≡ Endless → result ≢ LinkFault }
     ensures cause { result ≡ LinkFault → Rose (L.faults link.old) (L.faults link.new) }
     ensures later { L.faults link.old ≤ L.faults link.new }
@@ -142,9 +148,13 @@ pub(crate) fn answer_notices_shared<
         return send_no_memory(link);
     };
     let mut out = out;
-    let settled = imports.lock(rt).stream(
-        alloc, plan, limits, day, early, count, keeper, link, &mut out,
+    let mut desk = imports.lock(rt);
+    let mut held = keeper.hold();
+    let settled = desk.stream(
+        alloc, plan, limits, day, early, count, &mut held, link, &mut out,
     );
+    drop(desk);
+    keeper.counts(held);
     turn.over();
     let end = finish_after(alloc, day, settled, turn, link, &mut out);
     link.put_back(out);

@@ -14,17 +14,17 @@ use crate::answers::{send_day, send_made, send_refusal};
 use http::StatusCode;
 use keeper::Keeper;
 use road_io::Link;
-use shared_keeper::SharedKeeper;
+use shared_keeper::{Naming, SharedKeeper};
 use std::alloc::Global;
 use std::sync::Wait;
 use toll_requests::SessionEnd;
 use toll_texts::{spent_body, vehicle_body};
 
 /// Answers a day, if it is kept.
-pub fn share_day<'a, L: Link, K: Keeper, R: Wait>(
+pub fn share_day<'a, L: Link, J: Naming, K: Keeper, R: Wait>(
     alloc: Global,
     day: u32,
-    keeper: &mut SharedKeeper<'a, K, R>,
+    keeper: &mut SharedKeeper<'a, J, K, R>,
     link: &mut L,
 ) -> SessionEnd
     ensures shared { AnswersOf K.told K.faults (λ o. day_reply (record_of o day))
@@ -34,10 +34,10 @@ pub fn share_day<'a, L: Link, K: Keeper, R: Wait>(
         (wire_of (L.left link.old) (L.plan link.old) (L.written link.old) (L.room link.old))
         (wire_of (L.left link.new) (L.plan link.new) (L.written link.new) (L.room link.new)) result }
     ensures unavailable { result ≡ Answered 503
-        → Rose (⟦<SharedKeeper<'a, K, R> as Keeper>⟧.faults keeper.old)
-        (⟦<SharedKeeper<'a, K, R> as Keeper>⟧.faults keeper.new) }
-    ensures failed { ⟦<SharedKeeper<'a, K, R> as Keeper>⟧.faults keeper.old
-        < ⟦<SharedKeeper<'a, K, R> as Keeper>⟧.faults keeper.new
+        → Rose (⟦<SharedKeeper<'a, J, K, R> as Keeper>⟧.faults keeper.old)
+        (⟦<SharedKeeper<'a, J, K, R> as Keeper>⟧.faults keeper.new) }
+    ensures failed { ⟦<SharedKeeper<'a, J, K, R> as Keeper>⟧.faults keeper.old
+        < ⟦<SharedKeeper<'a, J, K, R> as Keeper>⟧.faults keeper.new
         → TellsFault result }
     ensures unread { L.left link.new ≡ L.left link.old }
     ensures sure { L.room link.old ≡ Endless → result ≢ LinkFault }
@@ -51,12 +51,12 @@ pub fn share_day<'a, L: Link, K: Keeper, R: Wait>(
 }
 
 /// Answers what a vehicle was charged on an expressway on a day.
-pub fn share_spent<'a, L: Link, K: Keeper, R: Wait>(
+pub fn share_spent<'a, L: Link, J: Naming, K: Keeper, R: Wait>(
     alloc: Global,
     day: u32,
     xway: u8,
     vid: u32,
-    keeper: &mut SharedKeeper<'a, K, R>,
+    keeper: &mut SharedKeeper<'a, J, K, R>,
     link: &mut L,
 ) -> SessionEnd
     ensures shared { AnswersOf K.told K.faults (λ o. spent_reply o day xway vid)
@@ -66,10 +66,10 @@ pub fn share_spent<'a, L: Link, K: Keeper, R: Wait>(
         (wire_of (L.left link.old) (L.plan link.old) (L.written link.old) (L.room link.old))
         (wire_of (L.left link.new) (L.plan link.new) (L.written link.new) (L.room link.new)) result }
     ensures unavailable { result ≡ Answered 503
-        → Rose (⟦<SharedKeeper<'a, K, R> as Keeper>⟧.faults keeper.old)
-        (⟦<SharedKeeper<'a, K, R> as Keeper>⟧.faults keeper.new) }
-    ensures failed { ⟦<SharedKeeper<'a, K, R> as Keeper>⟧.faults keeper.old
-        < ⟦<SharedKeeper<'a, K, R> as Keeper>⟧.faults keeper.new
+        → Rose (⟦<SharedKeeper<'a, J, K, R> as Keeper>⟧.faults keeper.old)
+        (⟦<SharedKeeper<'a, J, K, R> as Keeper>⟧.faults keeper.new) }
+    ensures failed { ⟦<SharedKeeper<'a, J, K, R> as Keeper>⟧.faults keeper.old
+        < ⟦<SharedKeeper<'a, J, K, R> as Keeper>⟧.faults keeper.new
         → TellsFault result }
     ensures unread { L.left link.new ≡ L.left link.old }
     ensures sure { L.room link.old ≡ Endless → result ≢ LinkFault }
@@ -83,12 +83,12 @@ pub fn share_spent<'a, L: Link, K: Keeper, R: Wait>(
 }
 
 /// Answers what a vehicle was charged on the days `from` to `to`, both included.
-pub fn share_vehicle<'a, L: Link, K: Keeper, R: Wait>(
+pub fn share_vehicle<'a, L: Link, J: Naming, K: Keeper, R: Wait>(
     alloc: Global,
     vid: u32,
     from: u32,
     to: u32,
-    keeper: &mut SharedKeeper<'a, K, R>,
+    keeper: &mut SharedKeeper<'a, J, K, R>,
     link: &mut L,
 ) -> SessionEnd
     ensures shared { AnswersOf K.told K.faults (λ o. vehicle_reply o vid from to)
@@ -98,10 +98,10 @@ pub fn share_vehicle<'a, L: Link, K: Keeper, R: Wait>(
         (wire_of (L.left link.old) (L.plan link.old) (L.written link.old) (L.room link.old))
         (wire_of (L.left link.new) (L.plan link.new) (L.written link.new) (L.room link.new)) result }
     ensures unavailable { result ≡ Answered 503
-        → Rose (⟦<SharedKeeper<'a, K, R> as Keeper>⟧.faults keeper.old)
-        (⟦<SharedKeeper<'a, K, R> as Keeper>⟧.faults keeper.new) }
-    ensures failed { ⟦<SharedKeeper<'a, K, R> as Keeper>⟧.faults keeper.old
-        < ⟦<SharedKeeper<'a, K, R> as Keeper>⟧.faults keeper.new
+        → Rose (⟦<SharedKeeper<'a, J, K, R> as Keeper>⟧.faults keeper.old)
+        (⟦<SharedKeeper<'a, J, K, R> as Keeper>⟧.faults keeper.new) }
+    ensures failed { ⟦<SharedKeeper<'a, J, K, R> as Keeper>⟧.faults keeper.old
+        < ⟦<SharedKeeper<'a, J, K, R> as Keeper>⟧.faults keeper.new
         → TellsFault result }
     ensures unread { L.left link.new ≡ L.left link.old }
     ensures sure { L.room link.old ≡ Endless → result ≢ LinkFault }

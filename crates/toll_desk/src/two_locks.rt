@@ -9,7 +9,7 @@ ghost use Rattle.toll_requests.specs.declared.session_end.SessionEnd.TheVariants
 ghost use Rattle.toll_desk.specs.Answers.{TellsFault, wire_of};
 ghost use Rattle.toll_desk.specs.Desk.{IsOfKept};
 ghost use Rattle.toll_desk.specs.Reading.{Finishes, FitsRead, IsStopped};
-ghost use Rattle.toll_desk.specs.Shared.{AnswersPost, AnswersShared};
+ghost use Rattle.toll_desk.specs.Shared.{AnswersPost, AnswersShared, ImportsShared};
 ghost use Rattle.toll_desk.specs.declared.imported.ReadTo.TheVariants as reading;
 ghost use Rattle.import_once.specs.declared.outcomes.AnsweredDay.{AnsweredDay};
 ghost use Rattle.import_once.specs.declared.outcomes.Outcome.TheVariants as outcomes;
@@ -29,7 +29,7 @@ use lane_loops::Turn;
 use partition_workers::Crew;
 use road_io::Link;
 use road_time::Limits;
-use shared_keeper::SharedKeeper;
+use shared_keeper::{Kept, Naming, SharedKeeper};
 use std::alloc::Global;
 use std::sync::{Mutex, Wait};
 use std::thread::Threads;
@@ -38,12 +38,12 @@ use two_way::TwoWay;
 
 /// Takes the lock of the imports for a POST until its day is imported, and the lock of the keeper for one call at a
 /// time: so who asks for what is kept waits for no POST, and POSTs wait for one another's imports alone. The turn is
-/// given back once a day is imported. It tells nothing.
+/// given back once a day is imported. It tells no request that it was passed.
 #[derive(Drop)]
-pub struct TwoLocks<'a, K: Keeper, C: Crew, R: Wait + Threads + Drop, T: Turn> {
+pub struct TwoLocks<'a, J: Naming, K: Keeper, C: Crew, R: Wait + Threads + Drop, T: Turn> {
     pub rt: R,
     pub work: Work,
-    pub keeper: &'a Mutex<K>,
+    pub keeper: &'a Mutex<Kept<J, K>>,
     pub imports: &'a Mutex<ImportDesk<C, R>>,
     pub turn: &'a mut T,
 }
@@ -77,7 +77,7 @@ fn finish_after<L: Link, T: Turn>(
 
 /// Imports the day of a POST with the imports locked. Once they are not, and its turn is over, the rest of its body is
 /// read, and it is answered.
-fn import_shared<L: Link, K: Keeper, C: Crew, R: Wait + Threads + Drop, T: Turn>(
+fn import_shared<'a, L: Link, J: Naming, K: Keeper, C: Crew, R: Wait + Threads + Drop, T: Turn>(
     rt: &R,
     alloc: Global,
     plan: &Plan,
@@ -87,7 +87,7 @@ fn import_shared<L: Link, K: Keeper, C: Crew, R: Wait + Threads + Drop, T: Turn>
     day: u32,
     early: &[u8],
     count: u64,
-    keeper: &mut K,
+    keeper: &mut SharedKeeper<'a, J, K, R>,
     link: &mut L,
 ) -> SessionEnd
     requires low { 70 ≤ day }
@@ -98,22 +98,27 @@ fn import_shared<L: Link, K: Keeper, C: Crew, R: Wait + Threads + Drop, T: Turn>
     ensures posts { AnswersPost count early.now
         (wire_of (L.left link.old) (L.plan link.old) (L.written link.old) (L.room link.old))
         (wire_of (L.left link.new) (L.plan link.new) (L.written link.new) (L.room link.new)) result }
-    ensures unavailable { result ≡ Answered 503 → Rose (K.faults keeper.old) (K.faults keeper.new) }
-    ensures failed { K.faults keeper.old < K.faults keeper.new → TellsFault result }
+    ensures imports { ImportsShared K.told K.refuses C.exact limits.now day count early.now
+        (wire_of (L.left link.old) (L.plan link.old) (L.written link.old) (L.room link.old))
+        (wire_of (L.left link.new) (L.plan link.new) (L.written link.new) (L.room link.new)) result }
+    ensures unavailable { result ≡ Answered 503 → Rose keeper.old.faults keeper.new.faults }
+    ensures failed { keeper.old.faults < keeper.new.faults → TellsFault result }
     ensures sure { NeverFails (L.plan link.old) → L.room link.old ≡ Endless → result ≢ LinkFault }
     ensures cause { result ≡ LinkFault → Rose (L.faults link.old) (L.faults link.new) }
     ensures later { L.faults link.old ≤ L.faults link.new }
 {
-    let imported = imports
-        .lock(rt)
-        .import(alloc, plan, limits, day, early, count, keeper, link);
+    let mut desk = imports.lock(rt);
+    let mut held = keeper.hold();
+    let imported = desk.import(alloc, plan, limits, day, early, count, &mut held, link);
+    drop(desk);
+    keeper.counts(held);
     turn.over();
     finish_after(alloc, imported, turn, link)
 }
 
 /// Answers a request of what is kept: of a day or an amount by the keeper alone, a POST with the imports
 /// locked until its day is imported.
-fn answer_shared<'a, L: TwoWay, K: Keeper, C: Crew, R: Wait + Threads + Drop, T: Turn>(
+fn answer_shared<'a, L: TwoWay, J: Naming, K: Keeper, C: Crew, R: Wait + Threads + Drop, T: Turn>(
     rt: &R,
     alloc: Global,
     plan: &Plan,
@@ -121,21 +126,21 @@ fn answer_shared<'a, L: TwoWay, K: Keeper, C: Crew, R: Wait + Threads + Drop, T:
     imports: &Mutex<ImportDesk<C, R>>,
     turn: &mut T,
     asked: &Asked,
-    keeper: &mut SharedKeeper<'a, K, R>,
+    keeper: &mut SharedKeeper<'a, J, K, R>,
     link: &mut L,
 ) -> SessionEnd
     requires asked { IsAsked asked.now }
     requires kept { IsOfKept asked.now }
     requires width { (1 ≤ plan.now.width) × (plan.now.width ≤ 64) }
     requires within { IsLimits limits.now }
-    ensures shared { AnswersShared K.told K.faults asked.now
+    ensures shared { AnswersShared K.told K.faults K.refuses C.exact limits.now asked.now
         (wire_of (L.left link.old) (L.plan link.old) (L.written link.old) (L.room link.old))
         (wire_of (L.left link.new) (L.plan link.new) (L.written link.new) (L.room link.new)) result }
     ensures unavailable { result ≡ Answered 503
-        → Rose (⟦<SharedKeeper<'a, K, R> as Keeper>⟧.faults keeper.old)
-        (⟦<SharedKeeper<'a, K, R> as Keeper>⟧.faults keeper.new) }
-    ensures failed { ⟦<SharedKeeper<'a, K, R> as Keeper>⟧.faults keeper.old
-        < ⟦<SharedKeeper<'a, K, R> as Keeper>⟧.faults keeper.new
+        → Rose (⟦<SharedKeeper<'a, J, K, R> as Keeper>⟧.faults keeper.old)
+        (⟦<SharedKeeper<'a, J, K, R> as Keeper>⟧.faults keeper.new) }
+    ensures failed { ⟦<SharedKeeper<'a, J, K, R> as Keeper>⟧.faults keeper.old
+        < ⟦<SharedKeeper<'a, J, K, R> as Keeper>⟧.faults keeper.new
         → TellsFault result }
     ensures sure { NeverFails (L.plan link.old) → L.room link.old ≡ Endless → result ≢ LinkFault }
     ensures cause { result ≡ LinkFault → Rose (L.faults link.old) (L.faults link.new) }
@@ -178,11 +183,13 @@ fn answer_shared<'a, L: TwoWay, K: Keeper, C: Crew, R: Wait + Threads + Drop, T:
     }
 }
 
-impl<'a, K: Keeper, C: Crew, R: Wait + Threads + Drop, T: Turn> Clerk for TwoLocks<'a, K, C, R, T> {
+impl<'a, J: Naming, K: Keeper, C: Crew, R: Wait + Threads + Drop, T: Turn> Clerk
+    for TwoLocks<'a, J, K, C, R, T> {
     ghost use Rattle.std.specs.Prelude.{None};
     ghost use Rattle.toll_desk.specs.Shared.{AnswersShared};
 
-    ghost answers = { λ _ asked old new end. AnswersShared K.told K.faults asked old new end };
+    ghost answers = { λ clerk asked old new end.
+        AnswersShared K.told K.faults K.refuses C.exact clerk.work.limits asked old new end };
 
     ghost passed = { λ _. None };
 

@@ -9,7 +9,9 @@ use live_board::{Board, BoardReader, board};
 use partition_workers::{InlineCrew, NoGate, ThreadCrew};
 use road_io::MemLink;
 use road_time::{Limits, NoMemory};
+use shared_keeper::{Kept, Naming, Opened};
 use std::alloc::Global;
+use std::marker::Brand;
 use std::sync::Wait;
 use std::thread::Threads;
 
@@ -56,27 +58,58 @@ fn lanes_of(
 }
 
 /// How serving so many sessions ends, over lanes of so many links each, and whether day 100 is kept then.
-fn serve_links<R: Threads + Wait + Drop + Copy + Send + Sync, C: DeskCrew<MemKeeper, R> + Drop>(
+fn serve_links<
+    J: Naming + Send + Sync,
+    R: Threads + Wait + Drop + Copy + Send + Sync,
+    C: DeskCrew<Kept<J, MemKeeper>, R> + Drop,
+>(
     rt: R,
     alloc: Global,
     crew: C,
+    kept: Kept<J, MemKeeper>,
     lanes: u8,
     links: u8,
     sessions: u64,
 ) -> Result<(ServeEnd, bool), NoMemory>
     requires { C.out crew ≡ [] }
 {
-    let keeper = MemKeeper::new(alloc, &[])?;
     let Board { writer, readers } = board(rt, alloc, lanes.clamp(1, 64))?;
     let mut lanes = lanes_of(alloc, readers.into_vec(), links)?;
-    let desk = crew.share(rt, keeper, writer, PLAN, Limits::DAY);
+    let desk = crew.share(rt, kept, writer, PLAN, Limits::DAY);
     let end = serve(&rt, alloc, &mut lanes, &desk, sessions);
-    let mut keeper = C::end(desk);
+    let mut keeper = C::end(desk).into_keeper();
     let kept = match keeper.day(100) {
         Ok(kept) => kept.is_some(),
         Err(_) => false,
     };
     Ok((end, kept))
+}
+
+/// The same of a desk that runs each job as it is started.
+fn serve_inline<J: Naming + Send + Sync, R: Threads + Wait + Drop + Copy + Send + Sync>(
+    rt: R,
+    alloc: Global,
+    opened: Opened<MemKeeper>,
+    lanes: u8,
+    links: u8,
+    sessions: u64,
+) -> Result<(ServeEnd, bool), NoMemory>
+    requires { opened.seen.book ≡ J.book }
+{
+    let crew = InlineCrew::new(alloc, false);
+    serve_links(rt, alloc, crew, opened.named::<J>(), lanes, links, sessions)
+}
+
+/// The same of a new keeper.
+fn serve_new<R: Threads + Wait + Drop + Copy + Send + Sync>(
+    rt: R,
+    alloc: Global,
+    lanes: u8,
+    links: u8,
+    sessions: u64,
+) -> Result<(ServeEnd, bool), NoMemory> {
+    let opened = Opened::new(MemKeeper::new(alloc, &[])?);
+    serve_inline::<Brand, R>(rt, alloc, opened, lanes, links, sessions)
 }
 
 /// Lanes accept as many connections as there are sessions, whichever lane comes first; where a listener has none left,
@@ -93,8 +126,7 @@ fn lanes_share_the_sessions(rt: HostRuntime) -> Result<(), NoMemory> {
         (2, 1, 3, ServeEnd::ListenFault),
     ];
     for (lanes, links, sessions, end) in rows {
-        let crew = InlineCrew::new(alloc, false);
-        let came = serve_links(rt, alloc, crew, lanes, links, sessions)?;
+        let came = serve_new(rt, alloc, lanes, links, sessions)?;
         assert_eq!(rt;
             came,
             (end, true),
@@ -105,17 +137,23 @@ fn lanes_share_the_sessions(rt: HostRuntime) -> Result<(), NoMemory> {
 }
 
 /// The same of two lanes of three links each, with a thread for each job.
-fn serve_by_threads<R: Threads + Wait + Drop + Copy + Send + Sync>(
+fn serve_by_threads<J: Naming + Send + Sync, R: Threads + Wait + Drop + Copy + Send + Sync>(
     rt: R,
     alloc: Global,
-) -> Result<(ServeEnd, bool), NoMemory> {
-    serve_links(rt, alloc, ThreadCrew::new(rt, alloc, NoGate), 2, 3, 3)
+    opened: Opened<MemKeeper>,
+) -> Result<(ServeEnd, bool), NoMemory>
+    requires { opened.seen.book ≡ J.book }
+{
+    let crew = ThreadCrew::new(rt, alloc, NoGate);
+    serve_links(rt, alloc, crew, opened.named::<J>(), 2, 3, 3)
 }
 
 /// So it is where each job has a thread.
 #[test]
 fn jobs_may_have_threads(rt: HostRuntime) -> Result<(), NoMemory> {
-    let came = serve_by_threads(rt, rt.alloc())?;
+    let alloc = rt.alloc();
+    let opened = Opened::new(MemKeeper::new(alloc, &[])?);
+    let came = serve_by_threads::<Brand, _>(rt, alloc, opened)?;
     assert_eq!(rt; came, (ServeEnd::Served, true));
     Ok(())
 }

@@ -9,7 +9,9 @@ use lane_loops::MemListener;
 use partition_workers::InlineCrew;
 use road_io::MemLink;
 use road_time::{Limits, NoMemory};
+use shared_keeper::{Naming, Opened};
 use std::alloc::Global;
+use std::marker::Brand;
 use std::sync::Wait;
 use std::thread::Threads;
 
@@ -47,12 +49,15 @@ fn door_of(alloc: Global, refuses: bool) -> Result<MemDoor, NoMemory>
 }
 
 /// The status of a run by these words, and whether the day is kept then.
-fn run<R: Wait + Threads + Drop + Copy + Send + Sync>(
+fn run_over<J: Naming + Send + Sync, R: Wait + Threads + Drop + Copy + Send + Sync>(
     rt: R,
     alloc: Global,
     words: &[String],
     refuses: bool,
-) -> Result<(u8, bool), NoMemory> {
+    opened: Opened<MemKeeper>,
+) -> Result<(u8, bool), NoMemory>
+    requires { opened.seen.book ≡ J.book }
+{
     let mut door = door_of(alloc, refuses)?;
     let (status, keeper) = serve_words(
         rt,
@@ -60,12 +65,23 @@ fn run<R: Wait + Threads + Drop + Copy + Send + Sync>(
         words,
         &Limits::DAY,
         &mut door,
-        MemKeeper::new(alloc, &[])?,
+        opened.named::<J>(),
         InlineCrew::new(alloc, false),
     );
-    let mut keeper = keeper;
+    let mut keeper = keeper.into_keeper();
     let kept = matches!(keeper.day(100), Ok(Some(_)));
     Ok((status, kept))
+}
+
+/// The same of a new keeper.
+fn run<R: Wait + Threads + Drop + Copy + Send + Sync>(
+    rt: R,
+    alloc: Global,
+    words: &[String],
+    refuses: bool,
+) -> Result<(u8, bool), NoMemory> {
+    let opened = Opened::new(MemKeeper::new(alloc, &[])?);
+    run_over::<Brand, R>(rt, alloc, words, refuses, opened)
 }
 
 #[test]

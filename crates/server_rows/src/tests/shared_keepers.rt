@@ -3,7 +3,8 @@ ghost use Rattle.std.specs.Prelude.{◌≡◌};
 
 use keeper::{DayRecord, Digest, Digester, KeepFault, Keeper, MemKeeper, PastRecord};
 use road_time::Tariff;
-use shared_keeper::SharedKeeper;
+use shared_keeper::{Kept, Naming, Opened, SharedKeeper};
+use std::marker::Brand;
 use std::sync::{Mutex, Wait};
 
 /// A history of no amounts before day 100.
@@ -45,7 +46,10 @@ fn empty_day(digest: Digest) -> DayRecord
 }
 
 /// What one puts the other has: a history, a day, a tariff.
-fn puts_reach<K: Keeper, R: Wait>(rt: &R, keeper: &Mutex<K>) -> Result<bool, KeepFault> {
+fn puts_reach<J: Naming, K: Keeper, R: Wait>(
+    rt: &R,
+    keeper: &Mutex<Kept<J, K>>,
+) -> Result<bool, KeepFault> {
     let digest = Digester::new().finish();
     let mut one = SharedKeeper::new(rt, keeper);
     let mut other = SharedKeeper::new(rt, keeper);
@@ -65,7 +69,10 @@ fn puts_reach<K: Keeper, R: Wait>(rt: &R, keeper: &Mutex<K>) -> Result<bool, Kee
 }
 
 /// What may not be put any more is refused, and nothing changes.
-fn refuses<K: Keeper, R: Wait>(rt: &R, keeper: &Mutex<K>) -> Result<bool, KeepFault> {
+fn refuses<J: Naming, K: Keeper, R: Wait>(
+    rt: &R,
+    keeper: &Mutex<Kept<J, K>>,
+) -> Result<bool, KeepFault> {
     let digest = Digester::new().finish();
     let mut one = SharedKeeper::new(rt, keeper);
     let day = one.put_day(&empty_day(digest), &[]) == Err(KeepFault::Failed);
@@ -73,16 +80,32 @@ fn refuses<K: Keeper, R: Wait>(rt: &R, keeper: &Mutex<K>) -> Result<bool, KeepFa
     Ok(day && past && one.last_day()? == 100)
 }
 
+/// What one puts is refused to the other then.
+fn share<J: Naming, R: Wait>(rt: &R, opened: Opened<MemKeeper>) -> Result<bool, KeepFault>
+    requires { opened.seen.book ≡ J.book }
+{
+    let keeper = Mutex::new(opened.named::<J>());
+    let reach = puts_reach(rt, &keeper)?;
+    Ok(reach && refuses(rt, &keeper)?)
+}
+
+/// The first call of a keeper fails, and the second does not.
+fn fails_once<J: Naming, R: Wait>(rt: &R, opened: Opened<MemKeeper>) -> bool
+    requires { opened.seen.book ≡ J.book }
+{
+    let keeper = Mutex::new(opened.named::<J>());
+    let mut one = SharedKeeper::new(rt, &keeper);
+    let first = one.day(100);
+    first == Err(KeepFault::Failed) && one.day(100) == Ok(None)
+}
+
 /// Two share a keeper: what one puts the other has, and no day is put twice.
 #[test]
 fn two_share_a_keeper(rt: HostRuntime) -> Result<(), KeepFault> {
     let alloc = rt.alloc();
-    let keeper = Mutex::new(MemKeeper::new(alloc, &[])?);
-    assert!(rt; puts_reach(&rt, &keeper)?);
-    assert!(rt; refuses(&rt, &keeper)?);
-    let failing = Mutex::new(MemKeeper::new(alloc, &[0])?);
-    let mut one = SharedKeeper::new(&rt, &failing);
-    assert_eq!(rt; one.day(100), Err(KeepFault::Failed));
-    assert_eq!(rt; one.day(100), Ok(None));
+    let sound = Opened::new(MemKeeper::new(alloc, &[])?);
+    assert!(rt; share::<Brand, _>(&rt, sound)?);
+    let failing = Opened::new(MemKeeper::new(alloc, &[0])?);
+    assert!(rt; fails_once::<Brand, _>(&rt, failing));
     Ok(())
 }

@@ -11,7 +11,9 @@ use live_board::{Board, BoardReader, board};
 use partition_workers::{InlineCrew, NoGate, ThreadCrew};
 use road_io::MemLink;
 use road_time::{Limits, NoMemory};
+use shared_keeper::{Kept, Naming, Opened};
 use std::alloc::Global;
+use std::marker::Brand;
 use std::sync::Wait;
 use std::sync::atomic::AtomicBool;
 use std::sync::atomic::Ordering::SeqCst;
@@ -122,34 +124,69 @@ fn post_beside<H: Host + Sync, R: Threads + Wait + Sync>(
 }
 
 /// The same of a new desk of a crew; and whether the day is kept when the desk has ended.
-fn share_beside<R: Threads + Wait + Drop + Copy + Send + Sync, C: DeskCrew<MemKeeper, R> + Drop>(
-    rt: R,
-    alloc: Global,
-    crew: C,
-) -> Result<(Beside, bool), NoMemory>
+fn share_beside<
+    J: Naming + Send + Sync,
+    R: Threads + Wait + Drop + Copy + Send + Sync,
+    C: DeskCrew<Kept<J, MemKeeper>, R> + Drop,
+>(rt: R, alloc: Global, crew: C, kept: Kept<J, MemKeeper>) -> Result<(Beside, bool), NoMemory>
     requires { C.out crew ≡ [] }
 {
-    let keeper = MemKeeper::new(alloc, &[])?;
     let Board { writer, readers } = board(rt, alloc, 2)?;
     let mut readers = readers.into_vec();
-    let desk = crew.share(rt, keeper, writer, PLAN, Limits::DAY);
+    let desk = crew.share(rt, kept, writer, PLAN, Limits::DAY);
     let came = match (readers.pop(), readers.pop()) {
         (Some(mut first), Some(mut second)) => {
             post_beside(&rt, alloc, &desk, &mut first, &mut second)
         }
         _ => Err(NoMemory),
     };
-    let mut keeper = C::end(desk);
+    let mut keeper = C::end(desk).into_keeper();
     let kept = matches!(keeper.day(100), Ok(Some(_)));
     Ok((came?, kept))
 }
 
-/// The same with a thread for each job.
-fn share_by_threads<R: Threads + Wait + Drop + Copy + Send + Sync>(
+/// The same of a desk that runs each job as it is started.
+fn share_inline<J: Naming + Send + Sync, R: Threads + Wait + Drop + Copy + Send + Sync>(
     rt: R,
     alloc: Global,
-) -> Result<(Beside, bool), NoMemory> {
-    share_beside(rt, alloc, ThreadCrew::new(rt, alloc, NoGate))
+    opened: Opened<MemKeeper>,
+) -> Result<(Beside, bool), NoMemory>
+    requires { opened.seen.book ≡ J.book }
+{
+    share_beside(
+        rt,
+        alloc,
+        InlineCrew::new(alloc, false),
+        opened.named::<J>(),
+    )
+}
+
+/// The same with a thread for each job.
+fn share_by_threads<J: Naming + Send + Sync, R: Threads + Wait + Drop + Copy + Send + Sync>(
+    rt: R,
+    alloc: Global,
+    opened: Opened<MemKeeper>,
+) -> Result<(Beside, bool), NoMemory>
+    requires { opened.seen.book ≡ J.book }
+{
+    share_beside(
+        rt,
+        alloc,
+        ThreadCrew::new(rt, alloc, NoGate),
+        opened.named::<J>(),
+    )
+}
+
+/// The same of a new keeper, each way.
+fn share_both<R: Threads + Wait + Drop + Copy + Send + Sync>(
+    rt: R,
+    alloc: Global,
+) -> Result<[(Beside, bool); 2], NoMemory> {
+    let inline = Opened::new(MemKeeper::new(alloc, &[])?);
+    let inline = share_inline::<Brand, R>(rt, alloc, inline)?;
+    let threads = Opened::new(MemKeeper::new(alloc, &[])?);
+    let threads = share_by_threads::<Brand, R>(rt, alloc, threads)?;
+    Ok([inline, threads])
 }
 
 /// What is kept is answered while a day is posted in another thread, as it was before; after it the day is kept.
@@ -157,9 +194,7 @@ fn share_by_threads<R: Threads + Wait + Drop + Copy + Send + Sync>(
 fn a_kept_day_waits_for_no_import(rt: HostRuntime) -> Result<(), NoMemory> {
     let alloc = rt.alloc();
     let wanted = answer_of(alloc, "200 OK", "{\"spent\":2}")?;
-    let inline = share_beside(rt, alloc, InlineCrew::new(alloc, false))?;
-    let threads = share_by_threads(rt, alloc)?;
-    for (came, kept) in [inline, threads] {
+    for (came, kept) in share_both(rt, alloc)? {
         assert!(rt; came.held && came.before && kept);
         assert_eq!(rt; came.after.as_slice(), wanted.as_bytes());
     }

@@ -5,13 +5,15 @@ use super::answer_of;
 use super::beside::{Caller, EMPTY_DAY_BEFORE, PLAN, ask};
 use super::held::{SlowLink, sees};
 use desk_lanes::DeskCrew;
-use keeper::{Keeper, MemKeeper};
+use keeper::MemKeeper;
 use lane_loops::Host;
 use live_board::{Board, BoardReader, board};
 use partition_workers::{InlineCrew, NoGate, ThreadCrew};
 use road_io::MemLink;
 use road_time::{Limits, NoMemory};
+use shared_keeper::{Kept, Naming, Opened};
 use std::alloc::Global;
+use std::marker::Brand;
 use std::sync::Wait;
 use std::sync::atomic::AtomicBool;
 use std::sync::atomic::Ordering::SeqCst;
@@ -74,18 +76,16 @@ fn post_behind<H: Host + Sync, R: Threads + Wait + Sync>(
 }
 
 /// The same of a new desk of a crew.
-fn share_behind<R: Threads + Wait + Drop + Copy + Send + Sync, C: DeskCrew<MemKeeper, R> + Drop>(
-    rt: R,
-    alloc: Global,
-    crew: C,
-    writes: bool,
-) -> Result<Behind, NoMemory>
+fn share_behind<
+    J: Naming + Send + Sync,
+    R: Threads + Wait + Drop + Copy + Send + Sync,
+    C: DeskCrew<Kept<J, MemKeeper>, R> + Drop,
+>(rt: R, alloc: Global, crew: C, kept: Kept<J, MemKeeper>, writes: bool) -> Result<Behind, NoMemory>
     requires { C.out crew ≡ [] }
 {
-    let keeper = MemKeeper::new(alloc, &[])?;
     let Board { writer, readers } = board(rt, alloc, 2)?;
     let mut readers = readers.into_vec();
-    let desk = crew.share(rt, keeper, writer, PLAN, Limits::DAY);
+    let desk = crew.share(rt, kept, writer, PLAN, Limits::DAY);
     let came = match (readers.pop(), readers.pop()) {
         (Some(mut first), Some(mut second)) => {
             post_behind(&rt, alloc, &desk, &mut first, &mut second, writes)
@@ -96,13 +96,53 @@ fn share_behind<R: Threads + Wait + Drop + Copy + Send + Sync, C: DeskCrew<MemKe
     came
 }
 
+/// The same of a desk that runs each job as it is started.
+fn share_inline<J: Naming + Send + Sync, R: Threads + Wait + Drop + Copy + Send + Sync>(
+    rt: R,
+    alloc: Global,
+    opened: Opened<MemKeeper>,
+    writes: bool,
+) -> Result<Behind, NoMemory>
+    requires { opened.seen.book ≡ J.book }
+{
+    share_behind(
+        rt,
+        alloc,
+        InlineCrew::new(alloc, false),
+        opened.named::<J>(),
+        writes,
+    )
+}
+
 /// The same with a thread for each job.
-fn share_by_threads<R: Threads + Wait + Drop + Copy + Send + Sync>(
+fn share_by_threads<J: Naming + Send + Sync, R: Threads + Wait + Drop + Copy + Send + Sync>(
+    rt: R,
+    alloc: Global,
+    opened: Opened<MemKeeper>,
+    writes: bool,
+) -> Result<Behind, NoMemory>
+    requires { opened.seen.book ≡ J.book }
+{
+    share_behind(
+        rt,
+        alloc,
+        ThreadCrew::new(rt, alloc, NoGate),
+        opened.named::<J>(),
+        writes,
+    )
+}
+
+/// The same of a new keeper, each way.
+fn share_both<R: Threads + Wait + Drop + Copy + Send + Sync>(
     rt: R,
     alloc: Global,
     writes: bool,
-) -> Result<Behind, NoMemory> {
-    share_behind(rt, alloc, ThreadCrew::new(rt, alloc, NoGate), writes)
+) -> Result<[Behind; 2], NoMemory> {
+    let inline = Opened::new(MemKeeper::new(alloc, &[])?);
+    let inline = share_inline::<Brand, R>(rt, alloc, inline, writes)?;
+    let threads = Opened::new(MemKeeper::new(alloc, &[])?);
+    let threads = share_by_threads::<Brand, R>(rt, alloc, threads, writes)?;
+    Ok([inline, threads])
 }
 
 /// While the rest of a passed day's body is read, and while it is answered, the next day is imported and answered.
@@ -111,9 +151,7 @@ fn a_passed_day_holds_no_import(rt: HostRuntime) -> Result<(), NoMemory> {
     let alloc = rt.alloc();
     let wanted = answer_of(alloc, "409 Conflict", "{\"error\":\"passed\",\"last\":99}")?;
     for writes in [false, true] {
-        let inline = share_behind(rt, alloc, InlineCrew::new(alloc, false), writes)?;
-        let threads = share_by_threads(rt, alloc, writes)?;
-        for came in [inline, threads] {
+        for came in share_both(rt, alloc, writes)? {
             assert!(rt; came.held && came.stored, "writes: {writes}");
             assert_eq!(rt; came.passed.as_slice(), wanted.as_bytes());
         }

@@ -14,7 +14,9 @@ use live_board::{Board, BoardReader, board};
 use partition_workers::{InlineCrew, NoGate, ThreadCrew};
 use road_io::{MemLink, MemSink};
 use road_time::{Limits, NoMemory};
+use shared_keeper::{Kept, Naming, Opened};
 use std::alloc::Global;
+use std::marker::Brand;
 use std::sync::Wait;
 use std::thread::Threads;
 use two_way::BothWays;
@@ -141,20 +143,23 @@ fn answers<H: Host>(
     }
 }
 
-/// The same of a new desk of a crew, whose keeper fails at these calls.
-fn share_for<R: Threads + Wait + Drop + Copy + Send + Sync, C: DeskCrew<MemKeeper, R> + Drop>(
+/// The same of a new desk of a crew.
+fn share_for<
+    J: Naming + Send + Sync,
+    R: Threads + Wait + Drop + Copy + Send + Sync,
+    C: DeskCrew<Kept<J, MemKeeper>, R> + Drop,
+>(
     rt: R,
     alloc: Global,
     crew: C,
-    fails: &[u32],
+    kept: Kept<J, MemKeeper>,
     asking: Asking<'_>,
 ) -> Result<bool, NoMemory>
     requires { C.out crew ≡ [] }
 {
-    let keeper = MemKeeper::new(alloc, fails)?;
     let Board { writer, readers } = board(rt, alloc, 1)?;
     let mut readers = readers.into_vec();
-    let desk = crew.share(rt, keeper, writer, PLAN, Limits::DAY);
+    let desk = crew.share(rt, kept, writer, PLAN, Limits::DAY);
     let right = match readers.pop() {
         Some(mut reader) => answers(alloc, &desk, &mut reader, asking),
         None => Err(NoMemory),
@@ -163,16 +168,53 @@ fn share_for<R: Threads + Wait + Drop + Copy + Send + Sync, C: DeskCrew<MemKeepe
     right
 }
 
-/// The same of a desk that runs each job as it is started, and of one with a thread for each.
+/// The same of a desk that runs each job as it is started.
+fn share_inline<J: Naming + Send + Sync, R: Threads + Wait + Drop + Copy + Send + Sync>(
+    rt: R,
+    alloc: Global,
+    opened: Opened<MemKeeper>,
+    asking: Asking<'_>,
+) -> Result<bool, NoMemory>
+    requires { opened.seen.book ≡ J.book }
+{
+    share_for(
+        rt,
+        alloc,
+        InlineCrew::new(alloc, false),
+        opened.named::<J>(),
+        asking,
+    )
+}
+
+/// The same of one with a thread for each job.
+fn share_by_threads<J: Naming + Send + Sync, R: Threads + Wait + Drop + Copy + Send + Sync>(
+    rt: R,
+    alloc: Global,
+    opened: Opened<MemKeeper>,
+    asking: Asking<'_>,
+) -> Result<bool, NoMemory>
+    requires { opened.seen.book ≡ J.book }
+{
+    share_for(
+        rt,
+        alloc,
+        ThreadCrew::new(rt, alloc, NoGate),
+        opened.named::<J>(),
+        asking,
+    )
+}
+
+/// The same of both, with a new keeper each, which fails at these calls.
 fn share_for_both<R: Threads + Wait + Drop + Copy + Send + Sync>(
     rt: R,
     alloc: Global,
     fails: &[u32],
     asking: Asking<'_>,
 ) -> Result<bool, NoMemory> {
-    let inline = share_for(rt, alloc, InlineCrew::new(alloc, false), fails, asking)?;
-    let threads = ThreadCrew::new(rt, alloc, NoGate);
-    Ok(inline && share_for(rt, alloc, threads, fails, asking)?)
+    let inline = Opened::new(MemKeeper::new(alloc, fails)?);
+    let inline = share_inline::<Brand, R>(rt, alloc, inline, asking)?;
+    let threads = Opened::new(MemKeeper::new(alloc, fails)?);
+    Ok(inline && share_by_threads::<Brand, R>(rt, alloc, threads, asking)?)
 }
 
 /// An amount is that of the day, the expressway and the vehicle that are asked for, over a desk that lanes share.

@@ -5,9 +5,9 @@ returns g c =
     record {
       shared =
           record {
-            was = c.args.keeper.now;
-            now = c.try_past.new.keeper;
-            did = c.try_past.ensures.tries;
-            later = c.try_past.ensures.later;
+            was = c.open_for_put.new.kept.keeper;
+            now = c.try_past-answer.new.keeper;
+            did = c.try_past-answer.ensures.tries;
+            later = c.try_past-answer.ensures.later;
           };
     }

@@ -5,9 +5,9 @@ returns g c =
     record {
       shared =
           record {
-            was = c.args.keeper.now;
-            now = c.try_day.new.keeper;
-            did = c.try_day.ensures.tries;
-            later = c.try_day.ensures.later;
+            was = c.open_for_put.new.kept.keeper;
+            now = c.try_day-answer.new.keeper;
+            did = c.try_day-answer.ensures.tries;
+            later = c.try_day-answer.ensures.later;
           };
     }

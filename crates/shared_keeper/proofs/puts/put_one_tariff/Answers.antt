@@ -5,16 +5,17 @@ use Rattle.shared_keeper.proofs.puts.put_one_tariff.Goals as goal
 
 pub returns : goal.returns
 returns g c =
+    let p = c.put_tariff-answer in
     record {
       shared =
           record {
-            was = c.args.keeper.now;
-            now = c.put_tariff.new.self;
+            was = c.open_for_put.new.kept.keeper;
+            now = p.new.self;
             did = λ o told.
                 subst
-                (λ t. Puts g.K.Keeper.refuses t (g.K.Keeper.told c.put_tariff.new.self) c.put_tariff.result
+                (λ t. Puts g.K.Keeper.refuses t (g.K.Keeper.told p.new.self) p.result
                 (with_tariff_of c.args.xway c.args.tariff.now))
-                told c.put_tariff.ensures.state;
-            later = c.put_tariff.ensures.cause.later;
+                told p.ensures.state;
+            later = p.ensures.cause.later;
           };
     }

@@ -1,14 +1,11 @@
 use Rattle.shared_keeper.proofs.reads.read_day.Goals as goal
 
-pub returns : goal.returns
-returns g c =
+pub returns-clause-shared : goal.returns-clause-shared
+returns-clause-shared g c =
     record {
-      shared =
-          record {
-            was = c.args.keeper.now;
-            now = c.day.new.self;
-            reads = c.day.ensures.state;
-            sound = c.day.ensures.sound;
-            counts = c.day.ensures.cause;
-          };
+      was = c.args.kept.now.keeper;
+      now = c.day.new.self;
+      reads = c.day.ensures.state;
+      sound = c.day.ensures.sound;
+      counts = c.day.ensures.cause;
     }

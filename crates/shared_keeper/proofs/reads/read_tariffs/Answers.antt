@@ -1,14 +1,11 @@
 use Rattle.shared_keeper.proofs.reads.read_tariffs.Goals as goal
 
-pub returns : goal.returns
-returns g c =
+pub returns-clause-shared : goal.returns-clause-shared
+returns-clause-shared g c =
     record {
-      shared =
-          record {
-            was = c.args.keeper.now;
-            now = c.tariffs.new.self;
-            reads = c.tariffs.ensures.state;
-            sound = c.tariffs.ensures.sound;
-            counts = c.tariffs.ensures.cause;
-          };
+      was = c.args.kept.now.keeper;
+      now = c.tariffs.new.self;
+      reads = c.tariffs.ensures.state;
+      sound = c.tariffs.ensures.sound;
+      counts = c.tariffs.ensures.cause;
     }

@@ -1,10 +1,14 @@
-use Rattle.std.proofs.Common.{subst, ◌∙◌}
+use Rattle.std.proofs.Common.{subst, ap, sym, ◌∙◌}
 use Rattle.std.specs.Io.KnownBytes.{prepend_known}
+use Rattle.shared_keeper.specs.History.{told_at}
+use Rattle.shared_keeper.proofs.HistoryLaws.{tells_of}
 use Rattle.toll_desk.specs.Answers.{wire_of}
+use Rattle.road_io.specs.Faults.{Rose}
+use Rattle.toll_desk.specs.Imports.{state_of}
 use Rattle.toll_desk.specs.Reading.{IsReadTo}
 use Rattle.toll_desk.proofs.SendLaws.{not_risen}
 use Rattle.toll_desk.proofs.ImportLaws.{keeper_failed}
-use Rattle.toll_desk.proofs.ReadLaws.{fits, never_failed, rose_by, finishes_as, posts_as}
+use Rattle.toll_desk.proofs.ReadLaws.{fits, never_failed, rose_by, finishes_as, posts_as, composes}
 use Rattle.toll_desk.proofs.two_locks.import_shared.Goals as goal
 
 pub finish_after-requires-clause-fits : goal.finish_after-requires-clause-fits
@@ -32,15 +36,53 @@ returns-clause-posts g c = λ all known.
           i.ensures.unfailed (λ kept stored. i.ensures.stored all kept known stored) tt f.ensures.ends),
     )
 
+pub returns-clause-imports : goal.returns-clause-imports
+returns-clause-imports g c =
+    let i = c.import-imported in
+    let f = c.finish_after in
+    let l = c.args.link.now in
+    let m = i.new.link in
+    let n = f.new.link in
+    let p = c.hold-held.result.hold.place in
+    let q = i.new.keeper.hold.place in
+    let was = tells_of g.K.Keeper.told p.seen.log p.count p.counted in
+    let now = tells_of g.K.Keeper.told q.seen.log q.count q.counted in
+    let before = state_of (told_at g.K.Keeper.told p.seen.log p.count) c.hold-held.result.faults
+    c.deref_mut.result.now.writer.posted in
+    let after = state_of (told_at g.K.Keeper.told q.seen.log q.count) i.new.keeper.faults i.new.self.writer.posted in
+    record {
+      was = was.0;
+      now = now.0;
+      before = before;
+      after = after;
+      told_before = was.1;
+      told_after = now.1;
+      imports = λ all o known told.
+          composes g.K.Keeper.refuses g.C.Crew.exact c.args.day c.args.limits.now c.args.count all o before after
+          (wire_of (g.L.Link.left l) (g.L.Link.plan l) (g.L.Link.written l) (g.L.Link.room l))
+          (wire_of (g.L.Link.left m) (g.L.Link.plan m) (g.L.Link.written m) (g.L.Link.room m))
+          (wire_of (g.L.Link.left n) (g.L.Link.plan n) (g.L.Link.written n) (g.L.Link.room n))
+          i.result.early.now i.result.read i.result.outcome f.result (g.L.Link.faults l) (g.L.Link.faults m)
+          i.ensures.keeper.cause
+          (subst (λ bytes. IsReadTo c.args.count bytes i.result.early.now (g.L.Link.left m) i.result.read) known
+          i.ensures.reads)
+          i.ensures.link_cause i.ensures.unwritten i.ensures.room_kept i.ensures.link_sure i.ensures.read
+          i.ensures.unfailed (λ kept stored. i.ensures.stored all kept known stored)
+          (i.ensures.imports all o known (was.1 ∙ told)) f.ensures.ends;
+    }
+
 pub returns-clause-unavailable : goal.returns-clause-unavailable
-returns-clause-unavailable g c =
-    λ is. c.import-imported.ensures.keeper.cause (c.finish_after.ensures.unavailable is)
+returns-clause-unavailable g c = λ is.
+    subst (Rose c.args.keeper.now.faults) (sym c.counts.ensures)
+    (subst (λ n. Rose n c.import-imported.new.keeper.faults) c.hold-held.ensures
+    (c.import-imported.ensures.keeper.cause (c.finish_after.ensures.unavailable is)))
 
 pub returns-clause-failed : goal.returns-clause-failed
 returns-clause-failed g c = λ rose.
     let i = c.import-imported in
     c.finish_after.ensures.told
-    (keeper_failed i.result.outcome (λ other. not_risen _ _ (i.ensures.keeper.still other) rose))
+    (keeper_failed i.result.outcome
+    (λ other. not_risen _ _ (c.counts.ensures ∙ (i.ensures.keeper.still other ∙ c.hold-held.ensures)) rose))
 
 pub returns-clause-sure : goal.returns-clause-sure
 returns-clause-sure g c = λ never endless.
