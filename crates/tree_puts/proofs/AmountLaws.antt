@@ -1,5 +1,5 @@
 -- What an amount's row and its entry make of their trees.
-use Rattle.std.proofs.Common.{◌≡◌, ◌≤◌, ◌+◌, ℕ, ℤ, pos, ◌+ℤ◌, length, List, [], ◌∷◌, ◌++◌, map, drop, refl}
+use Rattle.std.proofs.Common.{◌≡◌, ◌+◌, ℕ, ℤ, pos, ◌+ℤ◌, length, List, [], ◌∷◌, ◌++◌, map, drop, refl}
 use Rattle.std.proofs.Common.{sym, ap}
 use Rattle.std.proofs.Common.{subst, subst₂, ◌∙◌, arith, Less, true, Option, Some, None, IfSome, IsSomeAnd, SomeIff, FitsSigned, w64}
 use Rattle.std.proofs.Common.{IsPermutation}
@@ -27,7 +27,7 @@ use Rattle.kept_tables.specs.Stands.{AreAmountRows}
 use Rattle.kept_tables.proofs.SpentWriteLaws.{adds_then}
 use Rattle.tree_puts.specs.Trees.{database_of, key_columns}
 use Rattle.tree_puts.specs.Steps.{AreBelow, numbered, PutsBoth, AddsKept}
-use Rattle.tree_puts.specs.Room.{AreNumbers, HasNumbers, TakesAmounts}
+use Rattle.tree_puts.specs.Room.{AreNumbers}
 use Rattle.tree_puts.proofs.ListLaws.{take_front, take_whole, at_end, end_within, below_end}
 use Rattle.tree_puts.proofs.TreeLaws.{with_same, with_other}
 
