@@ -192,7 +192,7 @@ def try_bodies(program, folder):
     ]
     for sent, status in refused * 4:
         with server.connect() as wire:
-            sender = threading.Thread(target=push, args=(wire, sent + body[:900_000]))
+            sender = threading.Thread(target=push, args=(wire, sent + body))
             sender.start()
             taken = all_of(wire)
             sender.join()

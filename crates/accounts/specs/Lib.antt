@@ -1,4 +1,5 @@
 pub mod Sums
+pub mod Firsts
 pub mod Entries
 pub mod Books
 pub mod Operations

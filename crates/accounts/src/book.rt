@@ -7,7 +7,7 @@ ghost use Rattle.accounts.specs.Sums.{account_in, total_in, with_charge, AreRows
 
 use crate::rows::{list_firsts, list_further, sort_rows};
 use crate::sums::add_further;
-use crate::vehicle::{Vehicle, first_after, tell};
+use crate::vehicle::{FirstKept, Vehicle, first_after, tell};
 use road_time::{NoMemory, SpentRow};
 use std::alloc::Global;
 use std::collections::HashMap;
@@ -88,11 +88,12 @@ impl Book {
             unreachable!()
         };
         let toll = vehicle.told;
-        add_further(&mut self.further, vehicle.first, (vid, xway), toll)?;
+        let first = vehicle.first.get();
+        add_further(&mut self.further, first, (vid, xway), toll)?;
         *vehicle = Vehicle {
             told: next.unwrap_or(toll),
             sum: vehicle.sum + toll,
-            first: Some(first_after(vehicle.first, xway, toll)),
+            first: FirstKept::of(first_after(first, xway, toll)),
         };
         self.total += toll;
         self.made += 1;

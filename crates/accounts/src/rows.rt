@@ -38,7 +38,7 @@ pub fn list_firsts(
     ensures { OnOk result (rows.new.items ≡ rows.old.items ++ listed day (firsts vehicles.now.entries)) }
 {
     for (vid, vehicle) in vehicles {
-        if let Some(first) = vehicle.first {
+        if let Some(first) = vehicle.first.get() {
             list_sum(rows, day, *vid, first.xway, first.sum)?;
         }
     }

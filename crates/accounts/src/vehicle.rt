@@ -1,11 +1,12 @@
 // What is kept of each vehicle.
-ghost use Rattle.std.specs.Prelude.{◌≡◌, ℕ, ◌+◌, ◌^◌, ◌<◌, nat_eq, Some, OnOk, OnErr, if◌then◌else◌};
+ghost use Rattle.std.specs.Prelude.{◌≡◌, ℕ, ◌+◌, ◌^◌, ◌<◌, nat_eq, Some, None, OnOk, OnErr, if◌then◌else◌};
 ghost use Rattle.std.specs.Map.{lookup, keys_of};
 ghost use Rattle.std.specs.List.{IsDistinct};
 ghost use Rattle.accounts.specs.Entries.{vehicle_at, is_further, first_sum, first_after};
 
 use road_time::NoMemory;
 use std::collections::HashMap;
+use std::marker::Model;
 
 /// The expressway of a vehicle's first charge, and the sum of what it was charged there.
 #[derive(Clone, Copy, Debug, PartialEq, Eq)]
@@ -14,13 +15,74 @@ pub struct First {
     pub sum: u64,
 }
 
+/// The first charge, if there was one, in 16 bytes: an expressway of 256 says that there was none. Contracts see what
+/// it says.
+#[derive(Clone, Copy)]
+pub struct FirstKept {
+    sum: u64,
+    xway: u16,
+}
+
+impl Model for FirstKept {
+    ghost use Rattle.std.specs.Prelude.{Option};
+    ghost use Rattle.std.specs.Coded.{coded_option};
+    ghost use Rattle.accounts.specs.declared.vehicle.First.{First};
+    ghost use Rattle.accounts.specs.Firsts.{first_code, first_kept, xway_kept, sum_kept, IsKept};
+
+    ghost Value = { Option First };
+
+    ghost coded = { coded_option first_code };
+
+    ghost view = { λ k. first_kept k.xway k.sum };
+
+    ghost invariant = { λ k. IsKept k.xway k.sum };
+
+    ghost inverse = { λ first. record { sum = sum_kept first; xway = xway_kept first } };
+}
+
+impl FirstKept {
+    /// Nothing was charged.
+    #[inline(always)]
+    pub fn none() -> FirstKept
+        ensures { result ≡ None }
+    {
+        FirstKept { sum: 0, xway: 256 }
+    }
+
+    /// This was the first charge.
+    #[inline(always)]
+    pub fn of(first: First) -> FirstKept
+        ensures { result ≡ Some first }
+    {
+        FirstKept {
+            sum: first.sum,
+            xway: u16::from(first.xway),
+        }
+    }
+
+    /// The first charge, if there was one.
+    #[inline(always)]
+    pub fn get(self) -> Option<First>
+        ensures { result ≡ self }
+    {
+        if self.xway <= 255 {
+            Some(First {
+                xway: self.xway as u8,
+                sum: self.sum,
+            })
+        } else {
+            None
+        }
+    }
+}
+
 /// The toll that a vehicle was told last, the sum of what it was charged, and the part of it on the expressway of the
-/// first charge.
-#[derive(Clone, Copy, Debug, PartialEq, Eq)]
+/// first charge: 32 bytes.
+#[derive(Clone, Copy)]
 pub struct Vehicle {
     pub told: u64,
     pub sum: u64,
-    pub first: Option<First>,
+    pub first: FirstKept,
 }
 
 /// Keeps the toll that a vehicle is told.
@@ -51,7 +113,7 @@ pub fn tell(vehicles: &mut HashMap<u32, Vehicle>, vid: u32, toll: u64) -> Result
                 Vehicle {
                     told: toll,
                     sum: 0,
-                    first: None,
+                    first: FirstKept::none(),
                 },
             )?;
             Ok(())

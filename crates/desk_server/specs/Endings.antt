@@ -24,17 +24,17 @@ abbrev pub counts_of : ℕ → ℕ → ℕ → Counts
 counts_of refused faults accepted = record { refused = refused; faults = faults; accepted = accepted }
 
 -- How serving ends, by what its door counted before and after: all sessions were accepted; or the count that the end
--- names rose; or memory ran out.
+-- names rose, and not the other; or memory ran out, and neither rose. No opening was refused but where the end says so.
 abbrev pub EndsServing : Serving → Counts → Counts → ServerEnd → Type 0
-EndsServing serving old new Served = new.accepted ≡ serving.sessions
+EndsServing serving old new Served = (new.accepted ≡ serving.sessions) × (new.refused ≡ old.refused)
 EndsServing serving old new Words = ⊥
-EndsServing serving old new Refused = Rose old.refused new.refused
-EndsServing serving old new EarFault = Rose old.faults new.faults
-EndsServing serving old new NoMemory = Unit {0}
+EndsServing serving old new Refused = Rose old.refused new.refused × (new.faults ≡ old.faults)
+EndsServing serving old new EarFault = Rose old.faults new.faults × (new.refused ≡ old.refused)
+EndsServing serving old new NoMemory = (new.refused ≡ old.refused) × (new.faults ≡ old.faults)
 
 -- How a run ends, by what its words mean: words that mean nothing touch no door.
 abbrev pub EndsRun : Option Serving → Counts → Counts → ServerEnd → Type 0
-EndsRun None old new end = ((end ≡ Words) × (new ≡ old)) ⊎ (end ≡ NoMemory)
+EndsRun None old new end = ((end ≡ Words) ⊎ (end ≡ NoMemory)) × (new ≡ old)
 EndsRun (Some serving) old new end = EndsServing serving old new end
 
 -- a run of this status ends so

@@ -1,5 +1,5 @@
 // The server, with threads for its jobs.
-ghost use Rattle.std.specs.Prelude.{◌≡◌, ◌≤◌, ◌⊎◌, None, map, string_bytes};
+ghost use Rattle.std.specs.Prelude.{◌≡◌, ◌≢◌, ◌≤◌, ◌⊎◌, None, map, string_bytes};
 ghost use Rattle.road_io.specs.Faults.{Rose};
 ghost use Rattle.road_time.specs.Fits.{IsLimits};
 ghost use Rattle.server_words.specs.Meaning.{serving_meant};
@@ -89,6 +89,8 @@ pub fn serve_in_threads<D: Door, K: Keeper + Send, R: Wait + Threads + Drop + Co
     ensures fault { result.0 ≡ 4 → Rose (D.faults door.old) (D.faults door.new) }
     ensures refused_later { D.refused door.old ≤ D.refused door.new }
     ensures faults_later { D.faults door.old ≤ D.faults door.new }
+    ensures refused_still { result.0 ≢ 2 → D.refused door.new ≡ D.refused door.old }
+    ensures faults_still { result.0 ≢ 0 → result.0 ≢ 4 → D.faults door.new ≡ D.faults door.old }
 {
     serve_named::<D, Brand, K, R>(rt, alloc, words, limits, door, Opened::new(keeper))
 }

@@ -4,12 +4,13 @@ ghost use Rattle.std.specs.Prelude.{◌≡◌};
 use std::marker::Model;
 
 /// What the vehicle of the report at a position is to be told: the average in whole miles per hour, -1 for none, the
-/// toll of the stretch that it enters, and the segment of the nearest accident ahead.
+/// toll of the stretch that it enters, and the segment of the nearest accident ahead. Fields lie in memory as they are
+/// declared: in this order 16 bytes hold them.
 #[derive(Clone, Copy, Debug, PartialEq, Eq)]
 pub struct Finding {
+    pub toll: u64,
     pub position: u32,
     pub lav: i16,
-    pub toll: u64,
     pub alert: Option<u8>,
 }
 

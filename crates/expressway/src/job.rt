@@ -34,6 +34,16 @@ pub struct Done {
     pub result: Result<(), NoMemory>,
 }
 
+/// No findings yet, with room for so many where memory has it.
+fn room_for(alloc: Global, count: usize) -> Vec<Finding>
+    ensures { result.items ≡ [] }
+{
+    match Vec::with_capacity(alloc, count) {
+        Ok(found) => found,
+        Err(_) => Vec::new(alloc),
+    }
+}
+
 /// Keeps a finding, if there is one.
 fn keep(found: &mut Vec<Finding>, finding: Option<Finding>) -> Result<(), NoMemory>
     ensures kept { OnOk result (map shown found.new.items
@@ -82,8 +92,9 @@ pub fn run(alloc: Global, job: Job) -> Done
         mut carriage,
         events,
     } = job;
-    let mut found = Vec::new(alloc);
-    let result = run_each(&mut carriage, events.items(), &mut found);
+    let told = events.items();
+    let mut found = room_for(alloc, told.len());
+    let result = run_each(&mut carriage, told, &mut found);
     Done {
         worker,
         number,

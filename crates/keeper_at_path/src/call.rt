@@ -44,13 +44,17 @@ pub trait Reading {
 }
 
 /// A call of a keeper that puts, with what it is handed. `fits` is what may be handed in. Of an office that is kept,
-/// `asks` is what is asked and `next` what is kept then; `writes` are the texts, each with its values, that it writes.
+/// `asks` is what is asked and `next` what is kept then; `room` is what a store has to be like for it to be done there,
+/// and `writes` are the texts, each with its values, that it writes.
 pub trait Putting {
     ghost use Rattle.std.specs.Prelude.{ℕ, List};
     ghost use Rattle.sqlite_value.specs.Order.{Row};
+    ghost use Rattle.sqlite_trees.specs.View.{View};
     ghost use Rattle.keeper.specs.Office.{Office};
 
     ghost fits: { Self → Type 0 };
+
+    ghost room: { Self → View → Type 0 };
 
     ghost writes: { Self → List ℕ → Row → Type 0 };
 
@@ -62,7 +66,7 @@ pub trait Putting {
     /// there.
     fn store<S: Store>(&self, alloc: Global, store: &mut S) -> Result<bool, StoreError>
         requires { fits self.now }
-        ensures { Stores S.Store (asks self.now) (next self.now) store.old store.new result };
+        ensures { Stores S.Store (room self.now) (asks self.now) (next self.now) store.old store.new result };
 
     /// Makes the call of a keeper on a whole file.
     fn put<S: Shuts>(self, kept: &mut ProvedKeeper<S>) -> Result<(), KeepFault>

@@ -92,7 +92,7 @@ impl<S: Opens<P>, P: Pages + Drop> Database<S, P> {
     pub(crate) fn put<C: Putting + Drop>(&mut self, call: C) -> Result<(), KeepFault>
         requires { C.fits call }
         ensures does { AskedToPut self.old.kept self.new.kept (λ k. k.unmade ≢ Some NoMemory) (AreFound P.Pages)
-            (Stores S.Store (C.asks call) (C.next call)) (λ k. state S.Store k.conn)
+            (Stores S.Store (C.room call) (C.asks call) (C.next call)) (λ k. state S.Store k.conn)
             (λ k l. WasRefusedOf S.Store (C.writes call) k.conn l.conn)
             (C.asks call) (C.next call) result }
         ensures said { IsSaid result self.old.cause self.new.cause }
@@ -133,7 +133,7 @@ impl<S: Opens<P>, P: Pages + Drop> Database<S, P> {
         requires fits { C.fits call }
         requires none { self.old.kept ≡ None }
         ensures does { IsPut (λ k. k.unmade ≢ Some NoMemory) self.new.kept (AreFound P.Pages)
-            (Stores S.Store (C.asks call) (C.next call)) (λ k. state S.Store k.conn)
+            (Stores S.Store (C.room call) (C.asks call) (C.next call)) (λ k. state S.Store k.conn)
             (λ k l. WasRefusedOf S.Store (C.writes call) k.conn l.conn)
             (C.asks call) (C.next call) result }
         ensures said { IsSaid result self.old.cause self.new.cause }
@@ -158,7 +158,7 @@ impl<S: Opens<P>, P: Pages + Drop> Database<S, P> {
         requires fits { C.fits call }
         requires none { self.old.kept ≡ None }
         ensures does { IsPut (λ k. k.unmade ≢ Some NoMemory) self.new.kept (AreFound P.Pages)
-            (Stores S.Store (C.asks call) (C.next call)) (λ k. state S.Store k.conn)
+            (Stores S.Store (C.room call) (C.asks call) (C.next call)) (λ k. state S.Store k.conn)
             (λ k l. WasRefusedOf S.Store (C.writes call) k.conn l.conn)
             (C.asks call) (C.next call) result }
         ensures said { IsSaid result self.old.cause self.new.cause }

@@ -72,7 +72,7 @@ impl<D: AtPath> FileKeeper<D> {
         requires { C.fits call }
         ensures does { AskedToPut self.old.in_file.database.kept self.new.in_file.database.kept
             (λ k. k.unmade ≢ Some no_memory) (AreFound ⟦<Pool<D> as Pages>⟧)
-            (Stores ⟦<FileStore<D> as Store>⟧ (C.asks call) (C.next call))
+            (Stores ⟦<FileStore<D> as Store>⟧ (C.room call) (C.asks call) (C.next call))
             (λ k. state ⟦<FileStore<D> as Store>⟧ k.conn)
             (λ k l. WasRefusedOf ⟦<FileStore<D> as Store>⟧ (C.writes call) k.conn l.conn)
             (C.asks call) (C.next call) result }

@@ -10,6 +10,7 @@ ghost use Rattle.keeper.specs.declared.kept.KeepFault.TheVariants.{NoMemory};
 ghost use Rattle.kept_tables.specs.Steps.{FitsAny};
 ghost use Rattle.keeper_writes.specs.Causes.{WasRefusedIn, WasRefusedOf};
 ghost use Rattle.keeper_writes.specs.Writes.{WritesDay, WritesPast, WritesTariff};
+ghost use Rattle.tree_puts.specs.Room.{RoomForDay, RoomForPast, RoomForTariff};
 ghost use Rattle.tree_puts.specs.Stores.{Stores};
 ghost use Rattle.keeper_at_path.specs.Asked.{AskedToRead, AskedToPut};
 ghost use Rattle.keeper_at_path.specs.Causes.{IsSaid};
@@ -131,7 +132,7 @@ impl<S: Opens<P>, P: Pages + Drop> Keeper for KeeperIn<S, P> {
         ensures said { IsSaid result self.old.database.cause self.new.database.cause }
         ensures does { AskedToPut self.old.database.kept self.new.database.kept
             (λ k. k.unmade ≢ Some NoMemory) (AreFound P.Pages)
-            (Stores S.Store (IsLater kept.now.day) (with_day kept.now rows.now))
+            (Stores S.Store (RoomForDay kept.now rows.now) (IsLater kept.now.day) (with_day kept.now rows.now))
             (λ k. state S.Store k.conn)
             (λ k l. WasRefusedOf S.Store (WritesDay kept.now rows.now) k.conn l.conn)
             (IsLater kept.now.day) (with_day kept.now rows.now) result }
@@ -146,7 +147,7 @@ impl<S: Opens<P>, P: Pages + Drop> Keeper for KeeperIn<S, P> {
         ensures said { IsSaid result self.old.database.cause self.new.database.cause }
         ensures does { AskedToPut self.old.database.kept self.new.database.kept
             (λ k. k.unmade ≢ Some NoMemory) (AreFound P.Pages)
-            (Stores S.Store HasNoDays (with_past kept.now rows.now))
+            (Stores S.Store (RoomForPast rows.now) HasNoDays (with_past kept.now rows.now))
             (λ k. state S.Store k.conn)
             (λ k l. WasRefusedOf S.Store (WritesPast kept.now rows.now) k.conn l.conn)
             HasNoDays (with_past kept.now rows.now) result }
@@ -160,7 +161,7 @@ impl<S: Opens<P>, P: Pages + Drop> Keeper for KeeperIn<S, P> {
         ensures said { IsSaid result self.old.database.cause self.new.database.cause }
         ensures does { AskedToPut self.old.database.kept self.new.database.kept
             (λ k. k.unmade ≢ Some NoMemory) (AreFound P.Pages)
-            (Stores S.Store FitsAny (with_tariff_of xway tariff.now))
+            (Stores S.Store RoomForTariff FitsAny (with_tariff_of xway tariff.now))
             (λ k. state S.Store k.conn)
             (λ k l. WasRefusedOf S.Store (WritesTariff xway tariff.now) k.conn l.conn)
             FitsAny (with_tariff_of xway tariff.now) result }

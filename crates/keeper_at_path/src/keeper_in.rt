@@ -79,7 +79,7 @@ impl<S: Opens<P>, P: Pages + Drop> KeeperIn<S, P> {
         requires { C.fits call }
         ensures does { AskedToPut self.old.database.kept self.new.database.kept
             (λ k. k.unmade ≢ Some no_memory) (AreFound P.Pages)
-            (Stores S.Store (C.asks call) (C.next call))
+            (Stores S.Store (C.room call) (C.asks call) (C.next call))
             (λ k. state S.Store k.conn)
             (λ k l. WasRefusedOf S.Store (C.writes call) k.conn l.conn)
             (C.asks call) (C.next call) result }

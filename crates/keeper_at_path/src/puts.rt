@@ -18,8 +18,11 @@ pub struct PutDay<'a> {
 impl<'a> Putting for PutDay<'a> {
     ghost use Rattle.keeper.specs.Kept.{IsDayPut, IsLater, with_day};
     ghost use Rattle.keeper_writes.specs.Writes.{WritesDay};
+    ghost use Rattle.tree_puts.specs.Room.{RoomForDay};
 
     ghost fits = { λ put. IsDayPut put.kept.now put.rows.now };
+
+    ghost room = { λ put. RoomForDay put.kept.now put.rows.now };
 
     ghost writes = { λ put. WritesDay put.kept.now put.rows.now };
 
@@ -46,8 +49,11 @@ pub struct PutPast<'a> {
 impl<'a> Putting for PutPast<'a> {
     ghost use Rattle.keeper.specs.Kept.{IsPastPut, HasNoDays, with_past};
     ghost use Rattle.keeper_writes.specs.Writes.{WritesPast};
+    ghost use Rattle.tree_puts.specs.Room.{RoomForPast};
 
     ghost fits = { λ put. IsPastPut put.kept.now put.rows.now };
+
+    ghost room = { λ put. RoomForPast put.rows.now };
 
     ghost writes = { λ put. WritesPast put.kept.now put.rows.now };
 
@@ -76,8 +82,11 @@ impl<'a> Putting for PutTariff<'a> {
     ghost use Rattle.keeper.specs.Kept.{with_tariff_of};
     ghost use Rattle.kept_tables.specs.Steps.{FitsAny};
     ghost use Rattle.keeper_writes.specs.Writes.{WritesTariff};
+    ghost use Rattle.tree_puts.specs.Room.{RoomForTariff};
 
     ghost fits = { λ put. IsTariff put.tariff.now };
+
+    ghost room = { λ put. RoomForTariff };
 
     ghost writes = { λ put. WritesTariff put.xway put.tariff.now };
 

@@ -1,5 +1,5 @@
 // What a server opens to hear connections.
-ghost use Rattle.std.specs.Prelude.{ℕ, ◌≡◌, ◌≤◌, ◌<◌, ◌^◌, ◌+◌, All, Err, IfOk, length};
+ghost use Rattle.std.specs.Prelude.{ℕ, ◌≡◌, ◌≢◌, ◌≤◌, ◌<◌, ◌^◌, ◌+◌, All, Err, IfOk, length};
 ghost use Rattle.road_io.specs.Faults.{Rose};
 ghost use Rattle.lane_doors.specs.Doors.{accepted_in, has_fault, counted_where};
 ghost use Rattle.lane_doors.specs.declared.door.DoorFault.TheVariants.{Failed};
@@ -49,6 +49,7 @@ pub trait Door {
         ensures fresh { IfOk result (All (λ ear. (Self.Ear.accepted ear ≡ 0) × (Self.Ear.faults ear ≡ 0))) }
         ensures hears { IfOk result (All (λ ear. hears ear port)) }
         ensures cause { result ≡ Err Failed → Rose (refused self.old) (refused self.new) }
+        ensures still { result ≢ Err Failed → refused self.new ≡ refused self.old }
         ensures later { refused self.old ≤ refused self.new }
         ensures faults { faults self.new ≡ faults self.old }
         ensures accepted { accepted self.new ≡ accepted self.old };

@@ -1,5 +1,5 @@
 // What a door in memory does.
-ghost use Rattle.std.specs.Prelude.{◌≡◌, ◌↔◌, ◌≤◌, ◌<◌, ◌^◌, ◌+◌, ◌++◌, true, All, Err, IfOk, OnErr, length};
+ghost use Rattle.std.specs.Prelude.{◌≡◌, ◌≢◌, ◌↔◌, ◌≤◌, ◌<◌, ◌^◌, ◌+◌, ◌++◌, true, All, Err, IfOk, OnErr, length};
 ghost use Rattle.road_io.specs.Faults.{Rose};
 ghost use Rattle.lane_loops.specs.MemListeners.{accepted_by, faults_of};
 ghost use Rattle.lane_doors.specs.Doors.{accepted_in, has_fault, counted_where};
@@ -55,6 +55,7 @@ impl Door for MemDoor {
         ensures fresh { IfOk result (All (λ ear. (accepted_by ear ≡ 0) × (faults_of ear ≡ 0))) }
         ensures hears { IfOk result (All (λ ear. Unit {0})) }
         ensures cause { result ≡ Err Failed → Rose (refused_by self.old) (refused_by self.new) }
+        ensures still { result ≢ Err Failed → refused_by self.new ≡ refused_by self.old }
         ensures later { refused_by self.old ≤ refused_by self.new }
         ensures faults { faults_at self.new ≡ faults_at self.old }
         ensures accepted { accepted_at self.new ≡ accepted_at self.old }

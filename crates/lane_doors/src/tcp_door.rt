@@ -164,6 +164,7 @@ impl<R: Wait + Copy + Drop + Send + Sync> Door for TcpDoor<R> {
         ensures fresh { IfOk result (All (λ ear. (accepted_by ear ≡ 0) × (faults_of ear ≡ 0))) }
         ensures hears { IfOk result (All (λ ear. HearsAt ear port)) }
         ensures cause { result ≡ Err Failed → Rose (refused_by self.old) (refused_by self.new) }
+        ensures still { result ≢ Err Failed → refused_by self.new ≡ refused_by self.old }
         ensures later { refused_by self.old ≤ refused_by self.new }
         ensures faults { faults_at self.new ≡ faults_at self.old }
         ensures accepted { accepted_at self.new ≡ accepted_at self.old }

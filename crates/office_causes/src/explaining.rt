@@ -102,11 +102,11 @@ pub fn explained<
     ensures read { ReadFaults (S.faults source.old) (S.faults source.new) (A.faults aside.old) (A.faults aside.new)
         (uses_source (asked words.now) ≡ true → NeverFails (S.plan source.old))
         (uses_aside (asked words.now) ≡ true → NeverFails (A.plan aside.old)) (result ≡ 4)
-        ((result ≢ 5) × (result ≢ 6) × (result ≢ 8)) }
+        ((result ≢ 5) × (result ≢ 6)) }
     ensures sink { FaultsByRoom (O.faults sink.old) (O.faults sink.new) (O.room sink.old) (O.room sink.new)
         (result ≡ 5) }
     ensures keeper { FaultsBeside (K.faults keeper.old) (K.faults keeper.new) (K.plan keeper.old) (result ≡ 6)
-        ((result ≢ 5) × (result ≢ 8)) }
+        (result ≢ 5) }
 {
     let status = office(rt, alloc, words, limits, source, aside, sink, keeper, crew);
     say_why(status, keeper, why, err);

@@ -16,7 +16,7 @@ use Rattle.office_commands.proofs.KeepingLaws.{unchanged}
 use Rattle.office_commands.proofs.ClosingLaws.{IsOf, is_of}
 use Rattle.office_commands.specs.Endings.{Sort, Own, Unread, Unkept, Unroomed, sort_of, StandsBy, StandsBefore, Wrote}
 use Rattle.office_commands.specs.Endings.{LeftBy, KeepsBy, Keeps, Closes, Halted, HoldsBy, Did, SaysLine, Concludes}
-use Rattle.office_commands.specs.Endings.{HoldsSame, status_by}
+use Rattle.office_commands.specs.Endings.{HoldsSame, status_by, ClosesRun, TakesMemory}
 
 module _ (w : WhenRefused) (a : Answer) (was : Office) (old mid : Option (List ℕ)) (now : Option Office) where
   -- by the sort of the closing line
@@ -64,14 +64,14 @@ module _ (w : WhenRefused) (a : Answer) (was : Office) (old mid : Option (List �
     said_on text c wrote (inr h) =
         inr (h.0, (h.1.0, h.1.1, appends_on old mid new text (take h.1.0 (closing_line c)) _ wrote h.1.2 refl))
 
-    said : (text : List ℕ) (c : Closing) → Appends old mid text → Closes c status mid new
-        ⊎ Closes NoMemory status mid new → SaysLine text c status old new ⊎ SaysLine text NoMemory status old new
+    said : (text : List ℕ) (c : Closing) → Appends old mid text → ClosesRun c status mid new →
+        SaysLine text c status old new ⊎ (TakesMemory c × SaysLine text NoMemory status old new)
     said text c wrote (inl h) = inl (said_on text c wrote h)
-    said text c wrote (inr h) = inr (said_on text NoMemory wrote h)
+    said text c wrote (inr h) = inr (h.0, said_on text NoMemory wrote h.1)
 
     -- a run and its closing line
-    pub concluded : (c : Closing) → Did w a was old mid now (Ok (Some c)) → Closes c status mid new
-        ⊎ Closes NoMemory status mid new → Concludes w a was status old new now
+    pub concluded : (c : Closing) → Did w a was old mid now (Ok (Some c)) → ClosesRun c status mid new →
+        Concludes w a was status old new now
     concluded c did closes = inl (c, did.0, did.1, said did.0 c did.2 closes)
 
 -- a run without a closing line

@@ -1,5 +1,5 @@
 -- What was written and kept in all, from what a command wrote and kept and what closed it.
-use Rattle.std.proofs.Common.{◌≡◌, ◌≢◌, ◌⊎◌, inl, inr, ℕ, ◌++◌, List, take, Option, Some, None, Ok, refl, sym, ap}
+use Rattle.std.proofs.Common.{◌≡◌, ◌≢◌, inl, inr, ℕ, ◌++◌, List, take, Option, Some, None, Ok, refl, sym, ap}
 use Rattle.std.proofs.Common.{subst, ◌∙◌, arith}
 use Rattle.std.proofs.lemmas.List.{append-nil}
 use Rattle.std.specs.Io.KnownBytes.{Appends}
@@ -9,13 +9,13 @@ use Rattle.office_commands.specs.declared.closing.Closing.TheVariants.{ReadFault
 use Rattle.office_commands.specs.Closings.{closing_line, status_of}
 use Rattle.office_commands.specs.Commands.{Answer}
 use Rattle.office_commands.specs.Endings.{Sort, Own, Unread, Unkept, Unroomed, sort_of, IsTextFront, StandsBy, Wrote}
-use Rattle.office_commands.specs.Endings.{Closes, WroteAll, WroteFault, WroteSome, last_line, status_by}
+use Rattle.office_commands.specs.Endings.{ClosesRun, WroteAll, WroteFault, WroteSome, last_line, status_by}
 use Rattle.office_commands.proofs.ClosingLaws.{IsOf, is_of, front_of}
 
 module _ (a : Answer) (old mid new : Option (List ℕ)) (status : ℕ) where
   -- a closing line was written, or the sink failed in it, or memory ran out and its line was
   abbrev Closed : Closing → Type 0
-  Closed c = Closes c status mid new ⊎ Closes NoMemory status mid new
+  Closed c = ClosesRun c status mid new
 
   -- the whole text and the command's own line were written
   named : (c : Closing) (text : List ℕ) → Some c ≡ a.closing → text ≡ a.text → Appends old mid text →
@@ -39,8 +39,8 @@ module _ (a : Answer) (old mid new : Option (List ℕ)) (status : ℕ) where
   -- a run that met no fault wrote the whole text and the command's own closing line
   pub exact : (c : Closing) → Wrote a (Ok (Some c)) old mid → Closed c → status ≢ 4 → status ≢ 5 → status ≢ 6 →
       status ≢ 8 → (status ≡ status_by a.closing) × WroteAll a old new
-  exact c w (inr (inl h)) r f k m = absurd (m h.0)
-  exact c w (inr (inr h)) r f k m = absurd (f h.0)
+  exact c w (inr (takes, inl h)) r f k m = absurd (m h.0)
+  exact c w (inr (takes, inr h)) r f k m = absurd (f h.0)
   exact c w (inl (inr h)) r f k m = absurd (f h.0)
   exact c w (inl (inl h)) r f k m = go (sort_of c) (is_of c) w.1
     where
@@ -53,8 +53,8 @@ module _ (a : Answer) (old mid new : Option (List ℕ)) (status : ℕ) where
   -- a run ends with status 4 only after a read fault
   pub read_fault : (c : Closing) → Wrote a (Ok (Some c)) old mid → Closed c → status ≡ 4 →
       WroteFault a ReadFault old new
-  read_fault c w (inr (inl h)) e = absurd (omega (arith, h.0, e))
-  read_fault c w (inr (inr h)) e = absurd (omega (arith, h.0, e))
+  read_fault c w (inr (takes, inl h)) e = absurd (omega (arith, h.0, e))
+  read_fault c w (inr (takes, inr h)) e = absurd (omega (arith, h.0, e))
   read_fault c w (inl (inr h)) e = absurd (omega (arith, h.0, e))
   read_fault c w (inl (inl h)) e = go (sort_of c) (is_of c) w.1
     where
@@ -67,8 +67,8 @@ module _ (a : Answer) (old mid new : Option (List ℕ)) (status : ℕ) where
   -- with status 6 only after a keeper's
   pub keeper_fault : (c : Closing) → Wrote a (Ok (Some c)) old mid → Closed c → status ≡ 6 →
       WroteFault a KeeperFault old new
-  keeper_fault c w (inr (inl h)) e = absurd (omega (arith, h.0, e))
-  keeper_fault c w (inr (inr h)) e = absurd (omega (arith, h.0, e))
+  keeper_fault c w (inr (takes, inl h)) e = absurd (omega (arith, h.0, e))
+  keeper_fault c w (inr (takes, inr h)) e = absurd (omega (arith, h.0, e))
   keeper_fault c w (inl (inr h)) e = absurd (omega (arith, h.0, e))
   keeper_fault c w (inl (inl h)) e = go (sort_of c) (is_of c) w.1
     where
@@ -80,8 +80,8 @@ module _ (a : Answer) (old mid new : Option (List ℕ)) (status : ℕ) where
 
   -- and with status 8 only with the line of want of memory
   pub no_memory : (c : Closing) → Wrote a (Ok (Some c)) old mid → Closed c → status ≡ 8 → WroteFault a NoMemory old new
-  no_memory c w (inr (inl h)) e = faulted NoMemory NoMemory w.0 refl (front_of a c w.0 w.1) w.2 h.1
-  no_memory c w (inr (inr h)) e = absurd (omega (arith, h.0, e))
+  no_memory c w (inr (takes, inl h)) e = faulted NoMemory NoMemory w.0 refl (front_of a c w.0 w.1) w.2 h.1
+  no_memory c w (inr (takes, inr h)) e = absurd (omega (arith, h.0, e))
   no_memory c w (inl (inr h)) e = absurd (omega (arith, h.0, e))
   no_memory c w (inl (inl h)) e = go (sort_of c) (is_of c) w.1
     where
@@ -93,8 +93,8 @@ module _ (a : Answer) (old mid new : Option (List ℕ)) (status : ℕ) where
 
   -- where the sink failed at a closing line, some first bytes of it stand there
   pub write_fault : (c : Closing) → Wrote a (Ok (Some c)) old mid → Closed c → status ≡ 5 → WroteSome a old new
-  write_fault c w (inr (inl h)) e = absurd (omega (arith, h.0, e))
-  write_fault c w (inr (inr h)) e =
+  write_fault c w (inr (takes, inl h)) e = absurd (omega (arith, h.0, e))
+  write_fault c w (inr (takes, inr h)) e =
       inr (
         NoMemory,
         w.0,

@@ -1,16 +1,15 @@
 -- What is kept in all, from what a command kept and what closed it.
-use Rattle.std.proofs.Common.{◌≡◌, ◌≢◌, ◌⊎◌, inl, inr, ℕ, List, Option, Some, None, Result, Ok, Err, sym, ap, ◌∙◌}
+use Rattle.std.proofs.Common.{◌≡◌, ◌≢◌, inl, inr, ℕ, List, Option, Some, None, Result, Ok, Err, sym, ap, ◌∙◌}
 use Rattle.std.proofs.Common.{arith}
 use Rattle.road_io.specs.declared.source.Failed.{Failed}
 use Rattle.keeper.specs.declared.kept.KeepFault.{KeepFault}
 use Rattle.keeper.specs.Calls.{WhenRefused, PutsNothing, FailsLate, AllOrNothing, Leaves}
 use Rattle.keeper.specs.Office.{Office}
 use Rattle.office_commands.specs.declared.closing.Closing.{Closing}
-use Rattle.office_commands.specs.declared.closing.Closing.TheVariants.{NoMemory}
 use Rattle.office_commands.specs.Closings.{status_of}
 use Rattle.office_commands.specs.Commands.{Answer}
 use Rattle.office_commands.specs.Endings.{Sort, Own, Unread, Unkept, Unroomed, sort_of, LeftBy, KeepsBy, Keeps}
-use Rattle.office_commands.specs.Endings.{IsOldOrWhole, Closes, refusing}
+use Rattle.office_commands.specs.Endings.{IsOldOrWhole, ClosesRun, refusing}
 use Rattle.office_commands.proofs.ClosingLaws.{IsOf, is_of}
 use Rattle.keeper.specs.declared.kept.KeepFault.TheVariants as keeping
 
@@ -67,13 +66,13 @@ module _ (w : WhenRefused) (a : Answer) (was : Office) (now : Option Office) whe
 
   module _ (mid new : Option (List ℕ)) (status : ℕ) where
     abbrev ClosedBy : Closing → Type 0
-    ClosedBy c = Closes c status mid new ⊎ Closes NoMemory status mid new
+    ClosedBy c = ClosesRun c status mid new
 
     -- a run that met no fault keeps what is asked
     pub kept_exact : (c : Closing) → KeepsBy (sort_of c) w a was now → ClosedBy c → status ≢ 4 → status ≢ 5 → status ≢ 6
         → status ≢ 8 → now ≡ Some a.office
-    kept_exact c s (inr (inl h)) r f k m = absurd (m h.0)
-    kept_exact c s (inr (inr h)) r f k m = absurd (f h.0)
+    kept_exact c s (inr (takes, inl h)) r f k m = absurd (m h.0)
+    kept_exact c s (inr (takes, inr h)) r f k m = absurd (f h.0)
     kept_exact c s (inl (inr h)) r f k m = absurd (f h.0)
     kept_exact c s (inl (inl h)) r f k m = go (sort_of c) (is_of c) s
       where
@@ -86,8 +85,8 @@ module _ (w : WhenRefused) (a : Answer) (was : Office) (now : Option Office) whe
     -- after a keeper's fault what a refused put leaves is kept
     pub kept_refused : (c : Closing) → KeepsBy (sort_of c) w a was now → ClosedBy c → status ≡ 6 →
         LeftBy w keeping.Failed a was now
-    kept_refused c s (inr (inl h)) e = absurd (omega (arith, h.0, e))
-    kept_refused c s (inr (inr h)) e = absurd (omega (arith, h.0, e))
+    kept_refused c s (inr (takes, inl h)) e = absurd (omega (arith, h.0, e))
+    kept_refused c s (inr (takes, inr h)) e = absurd (omega (arith, h.0, e))
     kept_refused c s (inl (inr h)) e = absurd (omega (arith, h.0, e))
     kept_refused c s (inl (inl h)) e = go (sort_of c) (is_of c) s
       where

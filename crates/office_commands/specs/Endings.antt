@@ -112,6 +112,14 @@ Closes c status old new =
     ((status ≡ status_of c) × Appends old new (closing_line c))
     ⊎ ((status ≡ 5) × ((k : ℕ) × (k < length (closing_line c)) × Appends old new (take k (closing_line c))))
 
+-- a closing line is made in memory, but for those that say that the source or the keeper failed
+abbrev pub TakesMemory : Closing → Type 0
+TakesMemory c = (c ≢ ReadFault) × (c ≢ KeeperFault)
+
+-- a run's closing line closes it, or where that takes memory, the line of want of memory
+abbrev pub ClosesRun : Closing → ℕ → Option (List ℕ) → Option (List ℕ) → Type 0
+ClosesRun c status old new = Closes c status old new ⊎ (TakesMemory c × Closes NoMemory status old new)
+
 -- the closing line, if there is one
 abbrev pub last_line : Option Closing → List ℕ
 last_line None = []
@@ -197,11 +205,11 @@ SaysLine text c status old new =
     ((status ≡ status_of c) × Appends old new (text ++ closing_line c))
     ⊎ ((status ≡ 5) × ((k : ℕ) × (k < length (closing_line c)) × Appends old new (text ++ take k (closing_line c))))
 
--- a run with a closing line said it, or that memory ran out, behind what it wrote
+-- a run with a closing line said it behind what it wrote, or, where that line takes memory, that memory ran out
 abbrev pub SaidAll : WhenRefused → Answer → Office → ℕ → Option (List ℕ) → Option (List ℕ) → Option Office → Type 0
 SaidAll w a was status old new now =
     (c : Closing) × (text : List ℕ) × HoldsBy (sort_of c) w a was c text now
-    × (SaysLine text c status old new ⊎ SaysLine text NoMemory status old new)
+    × (SaysLine text c status old new ⊎ (TakesMemory c × SaysLine text NoMemory status old new))
 
 -- a run without one wrote all
 abbrev pub WroteAlone : Answer → ℕ → Option (List ℕ) → Option (List ℕ) → Option Office → Type 0

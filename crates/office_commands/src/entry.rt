@@ -1,5 +1,5 @@
 // The top call: words in, a command's text and its closing line out, and a status.
-ghost use Rattle.std.specs.Prelude.{◌≡◌, ◌≢◌, ◌⊎◌, ◌↔◌, ℕ, List, [], Some, None, Ok, IsOk, false, true, IsErr};
+ghost use Rattle.std.specs.Prelude.{◌≡◌, ◌≢◌, ◌↔◌, ℕ, List, [], Some, None, Ok, IsOk, false, true, IsErr};
 ghost use Rattle.road_io.specs.Plans.{NeverFails};
 ghost use Rattle.keeper.specs.Office.{Office};
 ghost use Rattle.keeper.specs.declared.kept.KeepFault.TheVariants as keep_fault;
@@ -8,7 +8,7 @@ ghost use Rattle.road_io.specs.Within.{ReadsWithin};
 ghost use Rattle.office_commands.specs.Closings.{closing_line, status_of};
 ghost use Rattle.office_commands.specs.Commands.{office_answer};
 ghost use Rattle.office_commands.specs.Endings.{Wrote, Keeps, Closes, Writes, KeepsTo, Did, Concludes, HoldsSame};
-ghost use Rattle.office_commands.specs.Endings.{code_of};
+ghost use Rattle.office_commands.specs.Endings.{code_of, ClosesRun, TakesMemory};
 ghost use Rattle.office_commands.specs.Rests.{LeavesAsKept, ReadsAsked};
 ghost use Rattle.office_commands.specs.declared.closing.Closing.TheVariants.{ReadFault, KeeperFault, NoMemory, Words};
 ghost use Rattle.office_commands.specs.Uses.{asked, IsTold, IsRightCrew, IsRightAside, SourceTells, KeeperTells};
@@ -43,17 +43,22 @@ fn finish<O: Sink>(closing: Closing, line: &[u8], sink: &mut O) -> u8
     }
 }
 
-/// Writes the closing line of a run, or that of want of memory where there is none for it.
+/// Writes the closing line of a run, or that of want of memory where there is none for it. The lines of a fault of the
+/// source and of the keeper take no memory, so that no such fault is told as want of it.
 fn close<O: Sink>(alloc: Global, closing: Closing, sink: &mut O) -> u8
-    ensures closes { Closes closing result (O.written sink.old) (O.written sink.new)
-        ⊎ Closes NoMemory result (O.written sink.old) (O.written sink.new) }
+    ensures closes { ClosesRun closing result (O.written sink.old) (O.written sink.new) }
     ensures sink { FaultsByRoom (O.faults sink.old) (O.faults sink.new) (O.room sink.old) (O.room sink.new)
         (result ≡ 5) }
     ensures status { result ≢ 5 → result ≢ 8 → result ≡ status_of closing }
+    ensures memory { result ≡ 8 → TakesMemory closing }
 {
-    match closing.line(alloc) {
-        Ok(line) => finish(closing, line.as_bytes(), sink),
-        Err(_) => finish(Closing::NoMemory, b"# no memory\n", sink),
+    match closing {
+        Closing::ReadFault => finish(Closing::ReadFault, b"# read fault\n", sink),
+        Closing::KeeperFault => finish(Closing::KeeperFault, b"# keeper fault\n", sink),
+        _ => match closing.line(alloc) {
+            Ok(line) => finish(closing, line.as_bytes(), sink),
+            Err(_) => finish(Closing::NoMemory, b"# no memory\n", sink),
+        },
     }
 }
 
@@ -208,11 +213,11 @@ pub fn office<S: Source, A: Source, O: Sink, K: Keeper, C: Crew, R: Threads + Sy
     ensures read { ReadFaults (S.faults source.old) (S.faults source.new) (A.faults aside.old) (A.faults aside.new)
         (uses_source (asked words.now) ≡ true → NeverFails (S.plan source.old))
         (uses_aside (asked words.now) ≡ true → NeverFails (A.plan aside.old)) (result ≡ 4)
-        ((result ≢ 5) × (result ≢ 6) × (result ≢ 8)) }
+        ((result ≢ 5) × (result ≢ 6)) }
     ensures sink { FaultsByRoom (O.faults sink.old) (O.faults sink.new) (O.room sink.old) (O.room sink.new)
         (result ≡ 5) }
     ensures keeper { FaultsBeside (K.faults keeper.old) (K.faults keeper.new) (K.plan keeper.old) (result ≡ 6)
-        ((result ≢ 5) × (result ≢ 8)) }
+        (result ≢ 5) }
 {
     let mut shards_seen = 0;
     match run(

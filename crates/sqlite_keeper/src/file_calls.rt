@@ -10,6 +10,7 @@ ghost use Rattle.keeper.specs.declared.kept.KeepFault.TheVariants.{NoMemory};
 ghost use Rattle.kept_tables.specs.Steps.{FitsAny};
 ghost use Rattle.keeper_writes.specs.Causes.{WasRefusedIn, WasRefusedOf};
 ghost use Rattle.keeper_writes.specs.Writes.{WritesDay, WritesPast, WritesTariff};
+ghost use Rattle.tree_puts.specs.Room.{RoomForDay, RoomForPast, RoomForTariff};
 ghost use Rattle.tree_puts.specs.Stores.{Stores};
 ghost use Rattle.keeper_at_path.specs.Asked.{AskedToRead, AskedToPut};
 ghost use Rattle.keeper_at_path.specs.Causes.{IsSaid};
@@ -133,7 +134,7 @@ impl Keeper for SqliteKeeper {
         ensures said { IsSaid result self.old.in_file.in_file.database.cause self.new.in_file.in_file.database.cause }
         ensures does { AskedToPut self.old.in_file.in_file.database.kept self.new.in_file.in_file.database.kept
             (λ k. k.unmade ≢ Some NoMemory) (AreFound ⟦<KeptPages as Pages>⟧)
-            (Stores ⟦<KeptStore as Store>⟧ (IsLater kept.now.day) (with_day kept.now rows.now))
+            (Stores ⟦<KeptStore as Store>⟧ (RoomForDay kept.now rows.now) (IsLater kept.now.day) (with_day kept.now rows.now))
             (λ k. state ⟦<KeptStore as Store>⟧ k.conn)
             (λ k l. WasRefusedOf ⟦<KeptStore as Store>⟧ (WritesDay kept.now rows.now) k.conn l.conn)
             (IsLater kept.now.day) (with_day kept.now rows.now) result }
@@ -148,7 +149,7 @@ impl Keeper for SqliteKeeper {
         ensures said { IsSaid result self.old.in_file.in_file.database.cause self.new.in_file.in_file.database.cause }
         ensures does { AskedToPut self.old.in_file.in_file.database.kept self.new.in_file.in_file.database.kept
             (λ k. k.unmade ≢ Some NoMemory) (AreFound ⟦<KeptPages as Pages>⟧)
-            (Stores ⟦<KeptStore as Store>⟧ HasNoDays (with_past kept.now rows.now))
+            (Stores ⟦<KeptStore as Store>⟧ (RoomForPast rows.now) HasNoDays (with_past kept.now rows.now))
             (λ k. state ⟦<KeptStore as Store>⟧ k.conn)
             (λ k l. WasRefusedOf ⟦<KeptStore as Store>⟧ (WritesPast kept.now rows.now) k.conn l.conn)
             HasNoDays (with_past kept.now rows.now) result }
@@ -162,7 +163,7 @@ impl Keeper for SqliteKeeper {
         ensures said { IsSaid result self.old.in_file.in_file.database.cause self.new.in_file.in_file.database.cause }
         ensures does { AskedToPut self.old.in_file.in_file.database.kept self.new.in_file.in_file.database.kept
             (λ k. k.unmade ≢ Some NoMemory) (AreFound ⟦<KeptPages as Pages>⟧)
-            (Stores ⟦<KeptStore as Store>⟧ FitsAny (with_tariff_of xway tariff.now))
+            (Stores ⟦<KeptStore as Store>⟧ RoomForTariff FitsAny (with_tariff_of xway tariff.now))
             (λ k. state ⟦<KeptStore as Store>⟧ k.conn)
             (λ k l. WasRefusedOf ⟦<KeptStore as Store>⟧ (WritesTariff xway tariff.now) k.conn l.conn)
             FitsAny (with_tariff_of xway tariff.now) result }

@@ -88,7 +88,7 @@ impl SqliteKeeper {
         requires { C.fits call }
         ensures does { AskedToPut self.old.in_file.in_file.database.kept self.new.in_file.in_file.database.kept
             (λ k. k.unmade ≢ Some no_memory) (AreFound ⟦<KeptPages as Pages>⟧)
-            (Stores ⟦<KeptStore as Store>⟧ (C.asks call) (C.next call))
+            (Stores ⟦<KeptStore as Store>⟧ (C.room call) (C.asks call) (C.next call))
             (λ k. state ⟦<KeptStore as Store>⟧ k.conn)
             (λ k l. WasRefusedOf ⟦<KeptStore as Store>⟧ (C.writes call) k.conn l.conn)
             (C.asks call) (C.next call) result }

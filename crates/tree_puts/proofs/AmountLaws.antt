@@ -1,10 +1,12 @@
 -- What an amount's row and its entry make of their trees.
-use Rattle.std.proofs.Common.{◌≡◌, ℕ, ℤ, pos, ◌+ℤ◌, length, List, [], ◌∷◌, ◌++◌, map, drop, refl}
+use Rattle.std.proofs.Common.{◌≡◌, ◌+◌, ℕ, ℤ, pos, ◌+ℤ◌, length, List, [], ◌∷◌, ◌++◌, map, drop, refl}
 use Rattle.std.proofs.Common.{sym, ap}
-use Rattle.std.proofs.Common.{subst, subst₂, ◌∙◌, arith, Less, true, Option, Some, None, IfSome, IsPermutation}
+use Rattle.std.proofs.Common.{subst, subst₂, ◌∙◌, arith, Less, true, Option, Some, None, IfSome, IsSomeAnd, SomeIff, FitsSigned, w64}
+use Rattle.std.proofs.Common.{IsPermutation}
 use Rattle.std.specs.List.{AllByRecursion}
 use Rattle.std.proofs.lemmas.Bool.Decides.{nat_tests}
 use Rattle.std.proofs.lemmas.Int.{ints}
+use Rattle.std.proofs.Math.IntN.{+ℤ_idr, +ℤ_assoc}
 use Rattle.std.proofs.lemmas.List.{map-append}
 use Rattle.std.proofs.lemmas.List.Sorted.{IsPermutation-trans, IsPermutation-cons, IsPermutation-sym}
 use Rattle.std.proofs.lemmas.List.Sorted.{IsPermutation-to_front}
@@ -25,6 +27,7 @@ use Rattle.kept_tables.specs.Stands.{AreAmountRows}
 use Rattle.kept_tables.proofs.SpentWriteLaws.{adds_then}
 use Rattle.tree_puts.specs.Trees.{database_of, key_columns}
 use Rattle.tree_puts.specs.Steps.{AreBelow, numbered, PutsBoth, AddsKept}
+use Rattle.tree_puts.specs.Room.{AreNumbers}
 use Rattle.tree_puts.proofs.ListLaws.{take_front, take_whole, at_end, end_within, below_end}
 use Rattle.tree_puts.proofs.TreeLaws.{with_same, with_other}
 
@@ -159,8 +162,23 @@ puts_both old mid new n r put inserted =
           ∙ with_other old.trees 1 rows t apart;
     }
 
+-- a number after one, if there is one, is the next
+pub some_next : (P : Type 0) (next : Option ℤ) (n : ℤ) → SomeIff next P n → IfSome next (λ m. m ≡ n)
+some_next P None n h = tt
+some_next P (Some m) n h = h.1
+
+-- there is one, where so many are numbers from there on
+pub some_numbers : (next : Option ℤ) (n : ℤ) (count : ℕ) → SomeIff next (FitsSigned w64 n) n → AreNumbers n count →
+    IsSomeAnd next (λ m. AreNumbers m count)
+some_numbers None n count h all = absurd (h (subst (FitsSigned w64) (+ℤ_idr n) (all 0 (omega arith))))
+some_numbers (Some m) n count h all = subst (λ k. AreNumbers k count) (sym h.1) all
+
 -- a number after one, if there is one, is above all that the next is above
 pub after_one : (rows : List Row) (n : ℤ) (next : Option ℤ) → IfSome next (λ m. m ≡ n +ℤ pos 1)
     → AreBelow (n +ℤ pos 1) rows → IfSome next (λ m. AreBelow m rows)
 after_one rows n None is below = tt
 after_one rows n (Some m) is below = subst (λ k. AreBelow k rows) (sym is) below
+
+-- counting goes on
+pub counted_on : (first : ℤ) (i : ℕ) → (first +ℤ pos i) +ℤ pos 1 ≡ first +ℤ pos (i + 1)
+counted_on first i = +ℤ_assoc first (pos i) (pos 1)

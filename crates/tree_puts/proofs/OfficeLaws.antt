@@ -1,7 +1,7 @@
 -- What whole puts make of the office that trees stand for.
 use Rattle.std.proofs.Common.{◌≡◌, pos, Bool, true, false, Result, Ok, Err, IfOk, [], ◌∷◌, ◌++◌, List, Some, refl}
 use Rattle.std.proofs.Common.{sym, ap}
-use Rattle.std.proofs.Common.{filter, subst, subst₂, ◌∙◌, arith}
+use Rattle.std.proofs.Common.{filter, length, subst, subst₂, ◌∙◌, arith}
 use Rattle.std.specs.List.{AllByRecursion}
 use Rattle.sqlite_value.specs.Order.{Row}
 use Rattle.sqlite_trees.specs.Tree.{Trees, has_rowid, put_row}
@@ -19,6 +19,8 @@ use Rattle.kept_tables.proofs.DayWriteLaws.{put_last}
 use Rattle.kept_tables.proofs.PutLaws.{days_before, adds_holds, day_stands, past_stands}
 use Rattle.tree_puts.specs.Trees.{database_of, key_columns, StandFor}
 use Rattle.tree_puts.specs.Steps.{IfDone, Joins, AddsKept, MayFollow, IsFreshDay, IsFreshPast}
+use Rattle.tree_puts.specs.Room.{HasNumbers, TakesAmounts, TakesDay, TakesPast, TakesAnew}
+use Rattle.tree_puts.specs.Clears.{ClearsAll}
 
 -- where neither the amounts nor their index changed, it is still theirs
 pub still_indexed : (a b : Trees) → b 1 ≡ a 1 → b 2 ≡ a 2 → IsIndexOf key_columns (a 1) (a 2)
@@ -106,6 +108,45 @@ past_fresh a b p rows one follow = record {
   unrecorded = one.free;
   after = subst (λ (l : List Row). MayFollow l rows) (one.others 2 (λ e. omega (arith, e))) follow;
 }
+
+-- where a day is taken, its amounts are once its record and seal have joined
+pub day_takes : (a b c : Trees) (r : DayRecord) (rows : List SpentRow) → Joins 0 (day_row r) (pos r.day) a b
+    → Joins 4 (seal_row r) (pos r.day) b c → TakesDay r rows a → TakesAmounts rows c
+day_takes a b c r rows one two takes = record {
+  after = subst (λ (l : List Row). MayFollow l rows)
+      (sym (two.others 2 (λ e. omega (arith, e)) ∙ one.others 2 (λ e. omega (arith, e)))) takes.fresh.after;
+  numbers = subst (HasNumbers (length rows))
+      (sym (two.others 1 (λ e. omega (arith, e)) ∙ one.others 1 (λ e. omega (arith, e)))) takes.numbers;
+}
+
+-- so of a history
+pub past_takes : (a b : Trees) (p : PastRecord) (rows : List SpentRow) → Joins 3 (past_row p) (pos 1) a b
+    → TakesPast rows a → TakesAmounts rows b
+past_takes a b p rows one takes = record {
+  after = subst (λ (l : List Row). MayFollow l rows) (sym (one.others 2 (λ e. omega (arith, e)))) takes.fresh.after;
+  numbers = subst (HasNumbers (length rows)) (sym (one.others 1 (λ e. omega (arith, e)))) takes.numbers;
+}
+
+-- trees that were emptied take a history
+pub anew_takes : (a b : Trees) (rows : List SpentRow) → ClearsAll a b → TakesAnew rows a → TakesPast rows b
+anew_takes a b rows gone takes = record {
+  fresh = record {
+    unrecorded = subst (λ (l : List Row). filter (has_rowid (pos 1)) l ≡ []) (sym gone.past) refl;
+    after = subst (λ (l : List Row). MayFollow l rows) (sym gone.key) (after_none rows);
+  };
+  numbers = record {
+    first = takes.numbers;
+    after = λ front last n is. absurd (never_empty front last (sym is ∙ gone.spent));
+  };
+}
+  where
+    never_empty : (front : List Row) (last : Row) → front ++ last ∷ [] ≡ [] → ⊥
+    never_empty [] last h = absurd (cc)
+    never_empty (x ∷ front) last h = absurd (cc)
+
+    after_none : (more : List SpentRow) → MayFollow [] more
+    after_none [] = tt
+    after_none (r ∷ more) = λ front last is. absurd (never_empty front last (sym is))
 
 -- what was so of a step that was done is so of an answer that tells the same
 pub told_so : {E : Type 0} (r : Result Bool E) (done : Bool) (P Q : Type 0) → IfOk r (λ is. is ≡ done) → IfDone done P

@@ -1,5 +1,5 @@
 -- How the steps of a put are one put.
-use Rattle.std.proofs.Common.{◌≡◌, ◌⊎◌, inl, inr, Bool, true, false, Result, Ok, Err, IfOk, sym}
+use Rattle.std.proofs.Common.{◌≡◌, ◌⊎◌, inl, inr, Bool, true, false, Result, Ok, Err, IfOk, IfErr, sym}
 use Rattle.std.proofs.Common.{ap, subst}
 use Rattle.std.proofs.Common.{◌∙◌}
 use Rattle.sqlite_trees.specs.declared.error.StoreError.{StoreError}
@@ -9,6 +9,8 @@ use Rattle.sqlite_trees.specs.View.{View, IsClean, KeepsCommitted, OnlyWrites}
 use Rattle.keeper.specs.Office.{Office}
 use Rattle.tree_puts.specs.Trees.{StandFor}
 use Rattle.tree_puts.specs.Steps.{IfDone}
+use Rattle.tree_puts.specs.Room.{IsDoneIf}
+use Rattle.tree_puts.specs.Causes.{PutCause}
 use Rattle.tree_puts.specs.Stores.{IsNotDone, StaysCommitted, Makes, Stores}
 
 -- a step that failed leaves what was committed
@@ -35,13 +37,17 @@ stays_then u v w p q = record {
 }
 
 -- a put that was not done
-pub refuses : {S : Type 0} (g : Ghosts S) (asks : Office → Type 0) (next : Office → Office) (old new : S)
-    (r : Result Bool StoreError) → IsNotDone r
+pub refuses : {S : Type 0} (g : Ghosts S) (room : View → Type 0) (asks : Office → Type 0) (next : Office → Office)
+    (old new : S) (r : Result Bool StoreError) → IsNotDone r
     → (IsClean (g.view new) → StaysCommitted (g.view old) (g.view new))
-    → ((db : Trees) → g.recovers new db → g.recovers old db) → Stores g asks next old new r
-refuses g asks next old new r none stays outcomes = record {
+    → (IsClean (g.view new) → IfOk r (IsDoneIf (room (g.view old))))
+    → (IsClean (g.view new) → IfErr r (PutCause g old new))
+    → ((db : Trees) → g.recovers new db → g.recovers old db) → Stores g room asks next old new r
+refuses g room asks next old new r none stays done because outcomes = record {
   makes = λ clean. nothing r none;
   stays = λ clean _. stays clean;
+  done = done;
+  because = because;
   crash = λ db found. inr (outcomes db found);
 }
   where
@@ -73,10 +79,21 @@ pub crashed_so : (asks : Office → Type 0) (next : Office → Office) (was old 
 crashed_so asks next was old now new done p q is makes =
     made_of asks next was old now new p q (subst (λ b. IfDone b (Makes asks next old now)) is makes)
 
+-- a step that has to be done where something holds has to be where more does
+pub done_if : {E : Type 0} (r : Result Bool E) (P Q : Type 0) → (Q → P) → IfOk r (IsDoneIf P) → IfOk r (IsDoneIf Q)
+done_if (Ok is) P Q f must = λ q. must (f q)
+done_if (Err e) P Q f must = tt
+
+-- an answer that tells whether a step was done tells it where that has to be
+pub done_so : {E : Type 0} (r : Result Bool E) (done : Bool) (P : Type 0) → IfOk r (λ is. is ≡ done) → IsDoneIf P done →
+    IfOk r (IsDoneIf P)
+done_so (Ok is) done P same must = λ fit. same ∙ must fit
+done_so (Err e) done P same must = tt
+
 -- a put that was begun, written and committed: what was written is what the office becomes, and a crash before the end
 -- finds what it found at first
-pub finished : {S : Type 0} (g : Ghosts S) (asks : Office → Type 0) (next : Office → Office) (a b c d : S) (done : Bool)
-    (r : Result Bool StoreError)
+pub finished : {S : Type 0} (g : Ghosts S) (room : View → Type 0) (asks : Office → Type 0) (next : Office → Office)
+    (a b c d : S) (done : Bool) (r : Result Bool StoreError)
     → (IsClean (g.view b) → (g.view b).trees ≡ (g.view a).committed)
     → (IsClean (g.view b) → StaysCommitted (g.view a) (g.view b))
     → ((db : Trees) → g.recovers b db → g.recovers a db)
@@ -91,9 +108,11 @@ pub finished : {S : Type 0} (g : Ghosts S) (asks : Office → Type 0) (next : Of
     → (IsClean (g.view d) → IsNotDone r → StaysCommitted (g.view c) (g.view d))
     → ((db : Trees) → g.recovers d db → (((g.view c).is_broken ≡ false) × (db ≡ (g.view c).trees) × (done ≡ true))
     ⊎ g.recovers c db)
-    → Stores g asks next a d r
-finished g asks next a b c d done r settled stays quiet clean_b wrote frame quieter sound clean_c same commits left
-    crash =
+    → (IsClean (g.view c) → IsDoneIf (room (g.view a)) done)
+    → (IsClean (g.view d) → IfErr r (PutCause g a d))
+    → Stores g room asks next a d r
+finished g room asks next a b c d done r settled stays quiet clean_b wrote frame quieter sound clean_c same commits left
+    crash must because =
     record {
       makes = λ clean.
           let in_c = clean_c clean in
@@ -105,6 +124,8 @@ finished g asks next a b c d done r settled stays quiet clean_b wrote frame quie
           let in_b = clean_b in_c in
           stays_then (g.view a) (g.view c) (g.view d)
           (stays_written (g.view a) (g.view b) (g.view c) (stays in_b) (frame in_c)) (left clean none);
+      done = λ clean. done_so r done (room (g.view a)) same (must (clean_c clean));
+      because = because;
       crash = λ db found. elim (crash db found) [
         | inl now ↦ inl (crashed_so asks next (g.view a).committed (g.view b).trees (g.view c).trees db done
             (settled (clean_b (sound now.0))) now.1 now.2 (wrote (sound now.0)))

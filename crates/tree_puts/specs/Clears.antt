@@ -1,14 +1,14 @@
 -- What the steps that take rows away make of trees.
-use Rattle.std.specs.Prelude.{◌≡◌, ◌<◌, ℕ, Bool, true, false, []}
+use Rattle.std.specs.Prelude.{◌≡◌, ◌<◌, ℕ, Bool, true, false, [], length}
 use Rattle.sqlite_trees.specs.Tree.{Trees}
 
 -- all trees but one are as they were
 abbrev pub OthersStay : ℕ → Trees → Trees → Type 0
 OthersStay tree old new = (t : ℕ) → (t ≡ tree → ⊥) → new t ≡ old t
 
--- one of a tree was taken away, or it had none
+-- one of a tree, or more, was taken away, or it had none
 abbrev pub Pops : ℕ → Bool → Trees → Trees → Type 0
-Pops tree true old new = OthersStay tree old new
+Pops tree true old new = (length (new tree) < length (old tree)) × OthersStay tree old new
 Pops tree false old new = (new tree ≡ []) × OthersStay tree old new
 
 -- a tree is empty now, and the others are as they were

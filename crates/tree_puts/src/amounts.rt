@@ -1,5 +1,6 @@
 // The amounts of a day or of a history.
-ghost use Rattle.std.specs.Prelude.{◌≡◌, ◌<◌, ◌^◌, ◌+ℤ◌, pos, false, IsTrue, IfOk, IfSome, OnOk, OnErr};
+ghost use Rattle.std.specs.Prelude.{◌≡◌, ◌≤◌, ◌<◌, ◌^◌, ◌+ℤ◌, pos, false, length, FitsSigned, ℕ, SomeIff, ◌↔◌, IsTrue, IsSomeAnd, IfOk, IfErr, IfSome, OnOk, OnErr};
+ghost use Rattle.std.specs.Int.{w64};
 ghost use Rattle.std.specs.declared.cmp.Ordering.TheVariants.{Less};
 ghost use Rattle.std.specs.List.{AllByRecursion};
 ghost use Rattle.sqlite_value.specs.Keys.{plain, prefix_cmp};
@@ -9,6 +10,8 @@ ghost use Rattle.sqlite_exec.specs.Calls.{OnlyReads};
 ghost use Rattle.kept_tables.specs.Stands.{FitsSpent};
 ghost use Rattle.tree_puts.specs.Trees.{AreOurs};
 ghost use Rattle.tree_puts.specs.Steps.{IfDone, AreBelow, PutsBoth, AddsKept, MayFollow};
+ghost use Rattle.tree_puts.specs.Room.{IsDoneIf, AreNumbers, HasNumbers, TakesAmounts};
+ghost use Rattle.tree_puts.specs.Causes.{StepCause};
 
 use crate::rows::{set_amount, set_entry, set_key};
 use road_time::SpentRow;
@@ -37,6 +40,7 @@ fn put_amount<S: Store>(
         → OnOk result (OnlyWrites (S.Store.view store.old) (S.Store.view store.new)) }
     ensures err { IsClean (S.Store.view store.new)
         → OnErr result (KeepsCommitted (S.Store.view store.old) (S.Store.view store.new)) }
+    ensures why { IsClean (S.Store.view store.new) → IfErr result (StepCause S.Store store.old store.new) }
     ensures schema { KeepsSchema (S.Store.view store.old) (S.Store.view store.new) }
     ensures quiet { IsQuiet S.Store.view S.Store.faults S.Store.recovers S.Store.is_shielded store.old store.new }
 {
@@ -52,7 +56,7 @@ fn put_amount<S: Store>(
 
 /// The number after one, if there is one.
 fn after(number: i64) -> Option<i64>
-    ensures { IfSome result (λ next. next ≡ number +ℤ pos 1) }
+    ensures { SomeIff result (FitsSigned w64 (number +ℤ pos 1)) (number +ℤ pos 1) }
 {
     number.checked_add(1)
 }
@@ -75,6 +79,9 @@ fn put_from<S: Store>(
         → OnOk result (OnlyWrites (S.Store.view store.old) (S.Store.view store.new)) }
     ensures err { IsClean (S.Store.view store.new)
         → OnErr result (KeepsCommitted (S.Store.view store.old) (S.Store.view store.new)) }
+    ensures room { IsClean (S.Store.view store.new)
+        → IfOk result (IsDoneIf (AreNumbers first (length rows.now))) }
+    ensures why { IsClean (S.Store.view store.new) → IfErr result (StepCause S.Store store.old store.new) }
     ensures schema { KeepsSchema (S.Store.view store.old) (S.Store.view store.new) }
     ensures quiet { IsQuiet S.Store.view S.Store.faults S.Store.recovers S.Store.is_shielded store.old store.new }
 {
@@ -94,10 +101,13 @@ fn next_number<S: Store>(store: &mut S, full: &mut Row) -> Result<Option<i64>, S
     requires { (S.Store.view store.old).shape 1 ≡ Table }
     ensures next { IsClean (S.Store.view store.new)
         → IfOk result (λ next. IfSome next (λ n. AreBelow n ((S.Store.view store.old).trees 1))) }
+    ensures room { IsClean (S.Store.view store.new) → IfOk result (λ next. (count : ℕ)
+        → HasNumbers count ((S.Store.view store.old).trees 1) → IsSomeAnd next (λ n. AreNumbers n count)) }
     ensures same { IsClean (S.Store.view store.new)
         → OnOk result (OnlyReads (S.Store.view store.old) (S.Store.view store.new)) }
     ensures err { IsClean (S.Store.view store.new)
         → OnErr result (KeepsCommitted (S.Store.view store.old) (S.Store.view store.new)) }
+    ensures why { IsClean (S.Store.view store.new) → IfErr result (StepCause S.Store store.old store.new) }
     ensures schema { KeepsSchema (S.Store.view store.old) (S.Store.view store.new) }
     ensures quiet { IsQuiet S.Store.view S.Store.faults S.Store.recovers S.Store.is_shielded store.old store.new }
 {
@@ -112,7 +122,7 @@ fn next_number<S: Store>(store: &mut S, full: &mut Row) -> Result<Option<i64>, S
 
 /// Whether an entry begins below a key.
 fn is_below(entry: &Row, key: &Row) -> bool
-    ensures { IsTrue result → prefix_cmp plain entry.now key.now ≡ Less }
+    ensures { IsTrue result ↔ (prefix_cmp plain entry.now key.now ≡ Less) }
 {
     entry.cmp_prefix(Order::PLAIN, key).is_lt()
 }
@@ -130,6 +140,9 @@ fn may_follow<S: Store>(
         → OnOk result (OnlyReads (S.Store.view store.old) (S.Store.view store.new)) }
     ensures err { IsClean (S.Store.view store.new)
         → OnErr result (KeepsCommitted (S.Store.view store.old) (S.Store.view store.new)) }
+    ensures room { IsClean (S.Store.view store.new)
+        → IfOk result (IsDoneIf (MayFollow ((S.Store.view store.old).trees 2) rows.now)) }
+    ensures why { IsClean (S.Store.view store.new) → IfErr result (StepCause S.Store store.old store.new) }
     ensures schema { KeepsSchema (S.Store.view store.old) (S.Store.view store.new) }
     ensures quiet { IsQuiet S.Store.view S.Store.faults S.Store.recovers S.Store.is_shielded store.old store.new }
 {
@@ -161,6 +174,9 @@ pub fn put_amounts<S: Store>(
         → OnOk result (OnlyWrites (S.Store.view store.old) (S.Store.view store.new)) }
     ensures err { IsClean (S.Store.view store.new)
         → OnErr result (KeepsCommitted (S.Store.view store.old) (S.Store.view store.new)) }
+    ensures room { IsClean (S.Store.view store.new)
+        → IfOk result (IsDoneIf (TakesAmounts rows.now (S.Store.view store.old).trees)) }
+    ensures why { IsClean (S.Store.view store.new) → IfErr result (StepCause S.Store store.old store.new) }
     ensures schema { KeepsSchema (S.Store.view store.old) (S.Store.view store.new) }
     ensures quiet { IsQuiet S.Store.view S.Store.faults S.Store.recovers S.Store.is_shielded store.old store.new }
 {

@@ -1,11 +1,13 @@
 // A history that all begins anew with, in one commit.
-ghost use Rattle.std.specs.Prelude.{◌≡◌, IfOk, OnOk, OnErr};
+ghost use Rattle.std.specs.Prelude.{◌≡◌, IfOk, IfErr, OnOk, OnErr};
 ghost use Rattle.sqlite_trees.specs.View.{IsClean, IsQuiet, KeepsCommitted, OnlyWrites};
 ghost use Rattle.keeper.specs.Kept.{IsPastPut};
 ghost use Rattle.renewal.specs.Renewed.{anew};
 ghost use Rattle.kept_tables.specs.Steps.{FitsAny};
 ghost use Rattle.tree_puts.specs.Trees.{AreOurs};
 ghost use Rattle.tree_puts.specs.Steps.{IfDone};
+ghost use Rattle.tree_puts.specs.Room.{IsDoneIf, TakesAnew, RoomAnew};
+ghost use Rattle.tree_puts.specs.Causes.{StepCause};
 ghost use Rattle.tree_puts.specs.Stores.{Makes, Stores};
 
 use crate::clearing::clear;
@@ -33,6 +35,9 @@ fn write_anew<S: Store>(
         → OnOk result (OnlyWrites (S.Store.view store.old) (S.Store.view store.new)) }
     ensures err { IsClean (S.Store.view store.new)
         → OnErr result (KeepsCommitted (S.Store.view store.old) (S.Store.view store.new)) }
+    ensures room { IsClean (S.Store.view store.new)
+        → IfOk result (IsDoneIf (TakesAnew rows.now (S.Store.view store.old).trees)) }
+    ensures why { IsClean (S.Store.view store.new) → IfErr result (StepCause S.Store store.old store.new) }
     ensures quiet { IsQuiet S.Store.view S.Store.faults S.Store.recovers S.Store.is_shielded store.old store.new }
 {
     if !clear(store, row)? {
@@ -49,7 +54,7 @@ pub fn put_anew<S: Store>(
     rows: &[SpentRow],
 ) -> Result<bool, StoreError>
     requires { IsPastPut kept.now rows.now }
-    ensures { Stores S.Store FitsAny (anew kept.now rows.now) store.old store.new result }
+    ensures { Stores S.Store (RoomAnew rows.now) FitsAny (anew kept.now rows.now) store.old store.new result }
 {
     if !begin(store)? {
         return Ok(false);

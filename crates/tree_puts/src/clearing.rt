@@ -1,10 +1,12 @@
 // Taking all rows away but the tariffs.
-ghost use Rattle.std.specs.Prelude.{◌≡◌, IfOk, OnOk, OnErr};
+ghost use Rattle.std.specs.Prelude.{◌≡◌, IfOk, IfErr, OnOk, OnErr};
 ghost use Rattle.sqlite_value.specs.Keys.{plain};
 ghost use Rattle.sqlite_trees.specs.declared.store.Shape.TheVariants.{Table, Index};
 ghost use Rattle.sqlite_trees.specs.View.{IsClean, IsQuiet, KeepsSchema, KeepsCommitted, OnlyWrites};
 ghost use Rattle.tree_puts.specs.Trees.{AreOurs};
 ghost use Rattle.tree_puts.specs.Steps.{IfDone};
+ghost use Rattle.tree_puts.specs.Room.{IsDoneIf, HasFew, HaveFew};
+ghost use Rattle.tree_puts.specs.Causes.{StepCause};
 ghost use Rattle.tree_puts.specs.Clears.{Pops, Clears, ClearsAmounts, ClearsDays, ClearsAll};
 
 use sqlite_exec::write::last;
@@ -22,6 +24,7 @@ fn pop_row<S: Store>(store: &mut S, table: u32, row: &mut Row) -> Result<bool, S
         → OnOk result (OnlyWrites (S.Store.view store.old) (S.Store.view store.new)) }
     ensures err { IsClean (S.Store.view store.new)
         → OnErr result (KeepsCommitted (S.Store.view store.old) (S.Store.view store.new)) }
+    ensures why { IsClean (S.Store.view store.new) → IfErr result (StepCause S.Store store.old store.new) }
     ensures schema { KeepsSchema (S.Store.view store.old) (S.Store.view store.new) }
     ensures quiet { IsQuiet S.Store.view S.Store.faults S.Store.recovers S.Store.is_shielded store.old store.new }
 {
@@ -44,6 +47,7 @@ fn pop_entry<S: Store>(store: &mut S, entry: &mut Row) -> Result<bool, StoreErro
         → OnOk result (OnlyWrites (S.Store.view store.old) (S.Store.view store.new)) }
     ensures err { IsClean (S.Store.view store.new)
         → OnErr result (KeepsCommitted (S.Store.view store.old) (S.Store.view store.new)) }
+    ensures why { IsClean (S.Store.view store.new) → IfErr result (StepCause S.Store store.old store.new) }
     ensures schema { KeepsSchema (S.Store.view store.old) (S.Store.view store.new) }
     ensures quiet { IsQuiet S.Store.view S.Store.faults S.Store.recovers S.Store.is_shielded store.old store.new }
 {
@@ -63,6 +67,9 @@ fn clear_table<S: Store>(store: &mut S, table: u32, row: &mut Row) -> Result<boo
         → OnOk result (OnlyWrites (S.Store.view store.old) (S.Store.view store.new)) }
     ensures err { IsClean (S.Store.view store.new)
         → OnErr result (KeepsCommitted (S.Store.view store.old) (S.Store.view store.new)) }
+    ensures room { IsClean (S.Store.view store.new)
+        → IfOk result (IsDoneIf (HasFew (S.Store.view store.old).trees table)) }
+    ensures why { IsClean (S.Store.view store.new) → IfErr result (StepCause S.Store store.old store.new) }
     ensures schema { KeepsSchema (S.Store.view store.old) (S.Store.view store.new) }
     ensures quiet { IsQuiet S.Store.view S.Store.faults S.Store.recovers S.Store.is_shielded store.old store.new }
 {
@@ -83,6 +90,9 @@ fn clear_index<S: Store>(store: &mut S, entry: &mut Row) -> Result<bool, StoreEr
         → OnOk result (OnlyWrites (S.Store.view store.old) (S.Store.view store.new)) }
     ensures err { IsClean (S.Store.view store.new)
         → OnErr result (KeepsCommitted (S.Store.view store.old) (S.Store.view store.new)) }
+    ensures room { IsClean (S.Store.view store.new)
+        → IfOk result (IsDoneIf (HasFew (S.Store.view store.old).trees 2)) }
+    ensures why { IsClean (S.Store.view store.new) → IfErr result (StepCause S.Store store.old store.new) }
     ensures schema { KeepsSchema (S.Store.view store.old) (S.Store.view store.new) }
     ensures quiet { IsQuiet S.Store.view S.Store.faults S.Store.recovers S.Store.is_shielded store.old store.new }
 {
@@ -103,6 +113,9 @@ fn clear_amounts<S: Store>(store: &mut S, row: &mut Row) -> Result<bool, StoreEr
         → OnOk result (OnlyWrites (S.Store.view store.old) (S.Store.view store.new)) }
     ensures err { IsClean (S.Store.view store.new)
         → OnErr result (KeepsCommitted (S.Store.view store.old) (S.Store.view store.new)) }
+    ensures room { IsClean (S.Store.view store.new)
+        → IfOk result (IsDoneIf (HaveFew (S.Store.view store.old).trees)) }
+    ensures why { IsClean (S.Store.view store.new) → IfErr result (StepCause S.Store store.old store.new) }
     ensures schema { KeepsSchema (S.Store.view store.old) (S.Store.view store.new) }
     ensures quiet { IsQuiet S.Store.view S.Store.faults S.Store.recovers S.Store.is_shielded store.old store.new }
 {
@@ -121,6 +134,9 @@ fn clear_days<S: Store>(store: &mut S, row: &mut Row) -> Result<bool, StoreError
         → OnOk result (OnlyWrites (S.Store.view store.old) (S.Store.view store.new)) }
     ensures err { IsClean (S.Store.view store.new)
         → OnErr result (KeepsCommitted (S.Store.view store.old) (S.Store.view store.new)) }
+    ensures room { IsClean (S.Store.view store.new)
+        → IfOk result (IsDoneIf (HaveFew (S.Store.view store.old).trees)) }
+    ensures why { IsClean (S.Store.view store.new) → IfErr result (StepCause S.Store store.old store.new) }
     ensures schema { KeepsSchema (S.Store.view store.old) (S.Store.view store.new) }
     ensures quiet { IsQuiet S.Store.view S.Store.faults S.Store.recovers S.Store.is_shielded store.old store.new }
 {
@@ -139,6 +155,9 @@ pub fn clear<S: Store>(store: &mut S, row: &mut Row) -> Result<bool, StoreError>
         → OnOk result (OnlyWrites (S.Store.view store.old) (S.Store.view store.new)) }
     ensures err { IsClean (S.Store.view store.new)
         → OnErr result (KeepsCommitted (S.Store.view store.old) (S.Store.view store.new)) }
+    ensures room { IsClean (S.Store.view store.new)
+        → IfOk result (IsDoneIf (HaveFew (S.Store.view store.old).trees)) }
+    ensures why { IsClean (S.Store.view store.new) → IfErr result (StepCause S.Store store.old store.new) }
     ensures schema { KeepsSchema (S.Store.view store.old) (S.Store.view store.new) }
     ensures quiet { IsQuiet S.Store.view S.Store.faults S.Store.recovers S.Store.is_shielded store.old store.new }
 {

@@ -1,12 +1,16 @@
 // Puts, each in one commit.
-ghost use Rattle.std.specs.Prelude.{◌≡◌, ◌≤◌, ◌⊎◌, true, false, IfOk, IsTrue, OnOk, OnErr};
+ghost use Rattle.std.specs.Prelude.{◌≡◌, ◌≤◌, ◌⊎◌, true, false, IfOk, IfErr, IsTrue, OnOk, OnErr};
+ghost use Rattle.sqlite_disk.specs.Disk.{MoreFaults};
 ghost use Rattle.sqlite_trees.specs.Tree.{Trees};
-ghost use Rattle.sqlite_trees.specs.View.{IsClean, IsQuiet, KeepsSchema, KeepsCommitted, OnlyWrites, doubt};
+ghost use Rattle.sqlite_trees.specs.View.{IsClean, IsQuiet, KeepsSchema, KeepsCommitted, OnlyWrites, HasCause};
+ghost use Rattle.sqlite_trees.specs.View.{doubt};
 ghost use Rattle.road_time.specs.Rates.{IsTariff};
 ghost use Rattle.keeper.specs.Kept.{IsDayPut, IsPastPut, IsLater, HasNoDays, with_day, with_past, with_tariff_of};
 ghost use Rattle.kept_tables.specs.Steps.{FitsAny};
 ghost use Rattle.tree_puts.specs.Trees.{AreOurs};
 ghost use Rattle.tree_puts.specs.Steps.{IfDone, IsFreshDay, IsFreshPast};
+ghost use Rattle.tree_puts.specs.Room.{IsDoneIf, TakesDay, TakesPast, RoomForDay, RoomForPast, RoomForTariff};
+ghost use Rattle.tree_puts.specs.Causes.{StepCause, PutCause};
 ghost use Rattle.tree_puts.specs.Stores.{Makes, StaysCommitted, Stores, IsNotDone};
 
 use crate::amounts::put_amounts;
@@ -23,6 +27,12 @@ use std::alloc::Global;
 /// Undoes what is under way, and says whether the trees are ours.
 pub(crate) fn begin<S: Store>(store: &mut S) -> Result<bool, StoreError>
     ensures ours { IfOk result (λ ours. IfDone ours (AreOurs (S.Store.view store.new).shape)) }
+    ensures room { IsClean (S.Store.view store.new)
+        → IfOk result (IsDoneIf (AreOurs (S.Store.view store.old).committed_shape)) }
+    ensures sound { IsClean (S.Store.view store.new) → OnOk result ((S.Store.view store.new).is_broken ≡ false) }
+    ensures reals { IsClean (S.Store.view store.new)
+        → OnOk result ((S.Store.view store.new).reals ≡ (S.Store.view store.old).committed_reals) }
+    ensures why { IsClean (S.Store.view store.new) → IfErr result (PutCause S.Store store.old store.new) }
     ensures settled { IsClean (S.Store.view store.new) → OnOk result (IsTrue (S.Store.view store.new).is_open
         × ((S.Store.view store.new).trees ≡ (S.Store.view store.old).committed)) }
     ensures stays { IsClean (S.Store.view store.new)
@@ -43,6 +53,9 @@ pub(crate) fn finish<S: Store>(store: &mut S, done: bool) -> Result<bool, StoreE
         ((S.Store.view store.new).committed ≡ (S.Store.view store.old).trees)) }
     ensures stays { IsClean (S.Store.view store.new) → IsNotDone result
         → StaysCommitted (S.Store.view store.old) (S.Store.view store.new) }
+    ensures why { IsClean (S.Store.view store.new) → IfErr result (HasCause (S.Store.view store.old)
+        (MoreFaults (S.Store.faults store.old) (S.Store.faults store.new)) ⊥) }
+    ensures counts { S.Store.faults store.old ≤ S.Store.faults store.new }
     ensures clean { doubt (S.Store.view store.old).is_clean ≤ doubt (S.Store.view store.new).is_clean }
     ensures crash { (db : Trees) → S.Store.recovers store.new db → (((S.Store.view store.old).is_broken ≡ false)
         × (db ≡ (S.Store.view store.old).trees) × (done ≡ true)) ⊎ S.Store.recovers store.old db }
@@ -73,6 +86,9 @@ fn write_day<S: Store>(
         → OnOk result (OnlyWrites (S.Store.view store.old) (S.Store.view store.new)) }
     ensures err { IsClean (S.Store.view store.new)
         → OnErr result (KeepsCommitted (S.Store.view store.old) (S.Store.view store.new)) }
+    ensures room { IsClean (S.Store.view store.new)
+        → IfOk result (IsDoneIf (TakesDay kept.now rows.now (S.Store.view store.old).trees)) }
+    ensures why { IsClean (S.Store.view store.new) → IfErr result (StepCause S.Store store.old store.new) }
     ensures quiet { IsQuiet S.Store.view S.Store.faults S.Store.recovers S.Store.is_shielded store.old store.new }
 {
     if !put_record(store, kept, row, spare)? {
@@ -92,7 +108,8 @@ pub fn put_day<S: Store>(
     rows: &[SpentRow],
 ) -> Result<bool, StoreError>
     requires { IsDayPut kept.now rows.now }
-    ensures stores { Stores S.Store (IsLater kept.now.day) (with_day kept.now rows.now) store.old store.new result }
+    ensures stores { Stores S.Store (RoomForDay kept.now rows.now) (IsLater kept.now.day)
+        (with_day kept.now rows.now) store.old store.new result }
     ensures fresh { IsClean (S.Store.view store.new) → IfOk result (λ done. IfDone done
         (IsFreshDay kept.now rows.now (S.Store.view store.old).committed)) }
 {
@@ -124,6 +141,9 @@ pub(crate) fn write_past<S: Store>(
         → OnOk result (OnlyWrites (S.Store.view store.old) (S.Store.view store.new)) }
     ensures err { IsClean (S.Store.view store.new)
         → OnErr result (KeepsCommitted (S.Store.view store.old) (S.Store.view store.new)) }
+    ensures room { IsClean (S.Store.view store.new)
+        → IfOk result (IsDoneIf (TakesPast rows.now (S.Store.view store.old).trees)) }
+    ensures why { IsClean (S.Store.view store.new) → IfErr result (StepCause S.Store store.old store.new) }
     ensures quiet { IsQuiet S.Store.view S.Store.faults S.Store.recovers S.Store.is_shielded store.old store.new }
 {
     if !put_history(store, kept, row, spare)? {
@@ -140,7 +160,8 @@ pub fn put_past<S: Store>(
     rows: &[SpentRow],
 ) -> Result<bool, StoreError>
     requires { IsPastPut kept.now rows.now }
-    ensures stores { Stores S.Store HasNoDays (with_past kept.now rows.now) store.old store.new result }
+    ensures stores { Stores S.Store (RoomForPast rows.now) HasNoDays (with_past kept.now rows.now)
+        store.old store.new result }
     ensures fresh { IsClean (S.Store.view store.new) → IfOk result (λ done. IfDone done
         (IsFreshPast rows.now (S.Store.view store.old).committed)) }
 {
@@ -161,7 +182,7 @@ pub fn put_tariff<S: Store>(
     tariff: &Tariff,
 ) -> Result<bool, StoreError>
     requires { IsTariff tariff.now }
-    ensures { Stores S.Store FitsAny (with_tariff_of xway tariff.now) store.old store.new result }
+    ensures { Stores S.Store RoomForTariff FitsAny (with_tariff_of xway tariff.now) store.old store.new result }
 {
     if !begin(store)? {
         return Ok(false);

@@ -4,10 +4,13 @@ ghost use Rattle.sqlite_disk.specs.Disk.{MoreFaults};
 ghost use Rattle.sqlite_value.specs.declared.value.Value.TheVariants.{Int, Null, Blob};
 ghost use Rattle.sqlite_trees.specs.declared.store.Shape.TheVariants.{Table};
 ghost use Rattle.sqlite_trees.specs.Tree.{rowid};
-ghost use Rattle.sqlite_trees.specs.View.{IsClean, IsQuiet, KeepsSchema, KeepsCommitted, OnlyWrites};
+ghost use Rattle.sqlite_trees.specs.View.{IsClean, IsQuiet, KeepsSchema, KeepsCommitted, OnlyWrites, HasCause};
+ghost use Rattle.sqlite_trees.specs.View.{IsStorableRow};
 ghost use Rattle.kept_tables.specs.Codec.{day_row, past_row};
 ghost use Rattle.kept_tables.specs.Stands.{IsWholeDigest, FitsPast};
 ghost use Rattle.tree_puts.specs.Steps.{IfDone, Joins};
+ghost use Rattle.tree_puts.specs.Room.{IsDoneIf, IsFree};
+ghost use Rattle.tree_puts.specs.Causes.{StepCause};
 
 use crate::rows::{set_day, set_past, set_seal};
 use keeper::{DayRecord, Digest, PastRecord};
@@ -32,6 +35,11 @@ fn put_new<S: Store>(
         → OnOk result (OnlyWrites (S.Store.view store.old) (S.Store.view store.new)) }
     ensures err { IsClean (S.Store.view store.new)
         → OnErr result (KeepsCommitted (S.Store.view store.old) (S.Store.view store.new)) }
+    ensures room { IsClean (S.Store.view store.new)
+        → IfOk result (IsDoneIf (IsFree number ((S.Store.view store.old).trees table))) }
+    ensures why { IsClean (S.Store.view store.new) → IfErr result (HasCause (S.Store.view store.old)
+        (MoreFaults (S.Store.faults store.old) (S.Store.faults store.new))
+        (¬ IsStorableRow ((S.Store.view store.old).reals table) row.now)) }
     ensures schema { KeepsSchema (S.Store.view store.old) (S.Store.view store.new) }
     ensures quiet { IsQuiet S.Store.view S.Store.faults S.Store.recovers S.Store.is_shielded store.old store.new }
 {
@@ -63,6 +71,9 @@ pub fn put_record<S: Store>(
         → OnOk result (OnlyWrites (S.Store.view store.old) (S.Store.view store.new)) }
     ensures err { IsClean (S.Store.view store.new)
         → OnErr result (KeepsCommitted (S.Store.view store.old) (S.Store.view store.new)) }
+    ensures room { IsClean (S.Store.view store.new)
+        → IfOk result (IsDoneIf (IsFree (pos kept.now.day) ((S.Store.view store.old).trees 0))) }
+    ensures why { IsClean (S.Store.view store.new) → IfErr result (StepCause S.Store store.old store.new) }
     ensures schema { KeepsSchema (S.Store.view store.old) (S.Store.view store.new) }
     ensures quiet { IsQuiet S.Store.view S.Store.faults S.Store.recovers S.Store.is_shielded store.old store.new }
 {
@@ -88,6 +99,9 @@ pub fn put_seal<S: Store>(
         → OnOk result (OnlyWrites (S.Store.view store.old) (S.Store.view store.new)) }
     ensures err { IsClean (S.Store.view store.new)
         → OnErr result (KeepsCommitted (S.Store.view store.old) (S.Store.view store.new)) }
+    ensures room { IsClean (S.Store.view store.new)
+        → IfOk result (IsDoneIf (IsFree (pos day) ((S.Store.view store.old).trees 4))) }
+    ensures why { IsClean (S.Store.view store.new) → IfErr result (StepCause S.Store store.old store.new) }
     ensures schema { KeepsSchema (S.Store.view store.old) (S.Store.view store.new) }
     ensures quiet { IsQuiet S.Store.view S.Store.faults S.Store.recovers S.Store.is_shielded store.old store.new }
 {
@@ -113,6 +127,9 @@ pub fn put_history<S: Store>(
         → OnOk result (OnlyWrites (S.Store.view store.old) (S.Store.view store.new)) }
     ensures err { IsClean (S.Store.view store.new)
         → OnErr result (KeepsCommitted (S.Store.view store.old) (S.Store.view store.new)) }
+    ensures room { IsClean (S.Store.view store.new)
+        → IfOk result (IsDoneIf (IsFree (pos 1) ((S.Store.view store.old).trees 3))) }
+    ensures why { IsClean (S.Store.view store.new) → IfErr result (StepCause S.Store store.old store.new) }
     ensures schema { KeepsSchema (S.Store.view store.old) (S.Store.view store.new) }
     ensures quiet { IsQuiet S.Store.view S.Store.faults S.Store.recovers S.Store.is_shielded store.old store.new }
 {

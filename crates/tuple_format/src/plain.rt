@@ -1,5 +1,5 @@
 // The plain form of a report line, read in one pass.
-ghost use Rattle.std.specs.Prelude.{◌≡◌, IfSome, Some, Ok, true};
+ghost use Rattle.std.specs.Prelude.{◌≡◌, ◌≤◌, ◌+◌, IfSome, Some, Ok, true};
 ghost use Rattle.road_time.specs.declared.road.Tuple.TheVariants.{Report as ReportTuple};
 ghost use Rattle.road_time.specs.Form.{form};
 ghost use Rattle.tuple_format.specs.Fields.{IsField, unused_text};
@@ -37,6 +37,14 @@ fn is_unused(text: &[u8]) -> bool
     true
 }
 
+/// The value of a digit, and more than 9 for any other byte: one comparison tells both.
+#[inline(always)]
+fn digit_or_more(b: u8) -> u64
+    ensures { result ≤ 9 → result + 48 ≡ b }
+{
+    u64::from(b).wrapping_sub(48)
+}
+
 /// A field of one to ten digits, and what follows its comma.
 #[inline(always)]
 fn digits(text: &[u8]) -> Option<(u64, &[u8])>
@@ -46,13 +54,14 @@ fn digits(text: &[u8]) -> Option<(u64, &[u8])>
     let mut value: u64 = 0;
     for i in 0..11usize {
         let b = head[i];
-        if b < b'0' || b > b'9' {
+        let d = digit_or_more(b);
+        if d > 9 {
             if b != b',' || i == 0 {
                 return None;
             }
             return Some((value, &text[i + 1..]));
         }
-        value = 10 * value + u64::from(b - b'0');
+        value = 10 * value + d;
     }
     None
 }
@@ -65,11 +74,11 @@ fn digit(text: &[u8]) -> Option<(u64, &[u8])>
     if text.len() < 2 {
         return None;
     }
-    let b = text[0];
-    if b < b'0' || b > b'9' || text[1] != b',' {
+    let d = digit_or_more(text[0]);
+    if d > 9 || text[1] != b',' {
         return None;
     }
-    Some((u64::from(b - b'0'), &text[2..]))
+    Some((d, &text[2..]))
 }
 
 /// The report of a text in the plain form; what it leaves, the general reader takes.

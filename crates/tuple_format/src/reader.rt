@@ -51,6 +51,10 @@ pub fn read_line(line: &[u8]) -> Result<Option<Tuple>, Cause>
     let text = trimmed(line);
     match plain_report(text) {
         Some(report) => Ok(Some(Tuple::Report(report))),
-        None => read_text(text),
+        // Not the answer as it came: what is given out by a pointer would keep the other arm's report in memory.
+        None => match read_text(text) {
+            Ok(tuple) => Ok(tuple),
+            Err(cause) => Err(cause),
+        },
     }
 }

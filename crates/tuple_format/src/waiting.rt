@@ -36,15 +36,17 @@ impl Model for Waiting {
     ghost invariant = { λ w. HasTurns w.only w.count w.turns.entries };
 }
 
-/// Gives a tuple its turn behind those that are not later.
+/// Gives a tuple its turn behind those that are not later. It takes a copy, so that the caller's stays in registers.
+#[cold]
+#[inline(never)]
 fn place(
     turns: &mut BTreeMap<WaitingTurn, Tuple>,
     count: &mut u64,
-    tuple: &Tuple,
+    tuple: Tuple,
 ) -> Result<(), NoMemory>
     requires { Keyed count.old turns.old.entries }
     ensures keyed { Keyed count.new turns.new.entries }
-    ensures put { OnOk result (values_of turns.new.entries ≡ placed (values_of turns.old.entries) tuple.now) }
+    ensures put { OnOk result (values_of turns.new.entries ≡ placed (values_of turns.old.entries) tuple) }
     ensures kept { OnErr result (turns.new.entries ≡ turns.old.entries) }
 {
     let Some(next) = count.checked_add(1) else {
@@ -54,7 +56,7 @@ fn place(
         time: tuple.time(),
         number: *count,
     };
-    turns.insert(turn, *tuple)?;
+    turns.insert(turn, tuple)?;
     *count = next;
     Ok(())
 }
@@ -82,12 +84,12 @@ impl Waiting {
                     self.only = Some(*tuple);
                     return Ok(());
                 }
-                place(&mut self.turns, &mut self.count, tuple)
+                place(&mut self.turns, &mut self.count, *tuple)
             }
             Some(first) => {
-                place(&mut self.turns, &mut self.count, &first)?;
+                place(&mut self.turns, &mut self.count, first)?;
                 self.only = None;
-                place(&mut self.turns, &mut self.count, tuple)
+                place(&mut self.turns, &mut self.count, *tuple)
             }
         }
     }

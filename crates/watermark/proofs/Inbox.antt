@@ -99,26 +99,30 @@ module _ (width position : ℕ) (r : Report) (tracked : Tracked) (w : ℕ) (d : 
   abbrev seen_event : LaneEvent
   seen_event = Seen position r tracked.begins tracked.stopped
 
+  -- that the vehicle was seen, after that it left a place, if it did
+  abbrev after_leave : Option Place → List LaneEvent
+  after_leave left = leave_of position r left ++ seen_event ∷ []
+
   -- a report that leaves no place
-  pub put_seen : (own : ℕ) (left : Option Place) → own ≡ worker_for (way_of (stretch_of r)) width → left ≡ None →
+  pub put_seen : (own : ℕ) → own ≡ worker_for (way_of (stretch_of r)) width → tracked.left ≡ None →
       IsDesk d (cond (w == own) (with_events (seen_event ∷ []) share) share) →
-      IsDesk d (with_events (told_to w width (tracked_events position r left tracked)) share)
-  put_seen own left e none h =
-      subst (λ o. IsDesk d (with_events (told_to w width (tracked_events position r o tracked)) share)) (sym none)
+      IsDesk d (with_events (told_to w width (tracked_events position r tracked)) share)
+  put_seen own e none h =
+      subst (λ o. IsDesk d (with_events (told_to w width (after_leave o)) share)) (sym none)
       (subst (λ v. IsDesk d (with_events (cond (v == w) (seen_event ∷ []) []) share)) e
       (one_more w own seen_event d share h))
 
   -- one that leaves a place
-  pub put_both : (own other : ℕ) (p : Place) (left : Option Place) → own ≡ worker_for (way_of (stretch_of r)) width →
-      other ≡ worker_for (way_of (stretch_around p)) width → left ≡ Some p → IsDesk d
+  pub put_both : (own other : ℕ) (p : Place) → own ≡ worker_for (way_of (stretch_of r)) width →
+      other ≡ worker_for (way_of (stretch_around p)) width → tracked.left ≡ Some p → IsDesk d
       (cond (w == own)
       (with_events (seen_event ∷ [])
       (cond (w == other) (with_events (Leave position r.time r.vid p ∷ []) share) share))
       (cond (w == other) (with_events (Leave position r.time r.vid p ∷ []) share) share)) →
-      IsDesk d (with_events (told_to w width (tracked_events position r left tracked)) share)
-  put_both own other p left e f some h =
+      IsDesk d (with_events (told_to w width (tracked_events position r tracked)) share)
+  put_both own other p e f some h =
       let leave = Leave position r.time r.vid p in
-      subst (λ o. IsDesk d (with_events (told_to w width (tracked_events position r o tracked)) share)) (sym some)
+      subst (λ o. IsDesk d (with_events (told_to w width (after_leave o)) share)) (sym some)
       (subst (λ v. IsDesk d
       (with_events
       (cond (v == w) (leave ∷ cond (worker_for (way_of (stretch_of r)) width == w) (seen_event ∷ []) [])
@@ -134,11 +138,10 @@ module _ (width position : ℕ) (r : Report) (tracked : Tracked) (w : ℕ) (d : 
       (one_more w own seen_event d (cond (w == other) (with_events (leave ∷ []) share) share) h)))))
 
 -- what the tracker tells of a report gives its events
-pub events_are : (day : List Tuple) (r : Report) (left : Option Place) (tracked : Tracked) →
-    left ≡ left_by (trail (reports day) r.vid) r → IsTracked tracked (trail (reports day) r.vid) r →
-    tracked_events (length day) r left tracked ≡ events_at (day, ReportTuple r)
-events_are day r left tracked e is =
-    ap (λ o. leave_of (length day) r o ++ Seen (length day) r tracked.begins tracked.stopped ∷ []) e
+pub events_are : (day : List Tuple) (r : Report) (tracked : Tracked) →
+    IsTracked tracked (trail (reports day) r.vid) r → tracked_events (length day) r tracked ≡ events_at (day, ReportTuple r)
+events_are day r tracked is =
+    ap (λ o. leave_of (length day) r o ++ Seen (length day) r tracked.begins tracked.stopped ∷ []) is.left
     ∙ ap (λ b. leave_of (length day) r (left_by (trail (reports day) r.vid) r) ++ Seen (length day) r b tracked.stopped
     ∷ []) (is.begins ∙ ap (λ prev. begins prev r) (newest_is day r.vid))
     ∙ ap (λ b. leave_of (length day) r (left_by (trail (reports day) r.vid) r) ++ Seen (length day) r

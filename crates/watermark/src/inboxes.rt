@@ -158,27 +158,27 @@ fn make_rooms(
 fn put_events(
     desks: &mut Vec<WorkerDesk>,
     width: u8,
+    worker: u8,
     position: u32,
     report: &Report,
-    left: Option<Place>,
     tracked: Tracked,
 )
     requires width { vec_len desks.old ≡ width }
     requires some { 1 ≤ width }
     requires few { width ≤ 64 }
-    requires seen_direction { report.now.dir ≤ 1 }
-    requires left_direction { IfSome left (λ p. p.dir ≤ 1) }
-    requires left_room { IfSome left (λ p. HasInboxRoom 2 desks.old.items (worker_for (way_of
+    requires worker { worker ≡ worker_for (way_of (stretch_of report.now)) width }
+    requires within { worker < vec_len desks.old }
+    requires left_direction { IfSome tracked.left (λ p. p.dir ≤ 1) }
+    requires left_room { IfSome tracked.left (λ p. HasInboxRoom 2 desks.old.items (worker_for (way_of
         (stretch_around p)) width)) }
-    requires seen_room { HasInboxRoom 2 desks.old.items (worker_for (way_of (stretch_of report.now)) width) }
+    requires seen_room { HasInboxRoom 2 desks.old.items worker }
     ensures len { vec_len desks.new ≡ vec_len desks.old }
     ensures put { (w : ℕ) (share : Share) → IsDeskAt desks.old.items w share
-        → IsDeskAt desks.new.items w (with_events (told_to w width (tracked_events position report.now left tracked))
+        → IsDeskAt desks.new.items w (with_events (told_to w width (tracked_events position report.now tracked))
         share) }
 {
-    let worker = worker_of_report(report, width);
     let event = seen(position, report, tracked);
-    match left {
+    match tracked.left {
         None => put(desks, worker, event),
         Some(place) => {
             let other = worker_of_place(place, width);
@@ -216,12 +216,19 @@ impl Inboxes {
         ensures refused { OnErr result ((day : List Fed) (share : ℕ → Share) → StandFor self.old day share
             → StandFor self.new day share) }
     {
-        let left = self.tracker.left(report);
+        let sighting = self.tracker.sight(report);
         let worker = worker_of_report(report, self.width);
-        make_rooms(&mut self.desks, self.width, worker, left)?;
-        let tracked = self.tracker.see(report)?;
-        put_events(&mut self.desks, self.width, position, report, left, tracked);
-        Ok(Due::of_report(report, &tracked))
+        make_rooms(&mut self.desks, self.width, worker, sighting.tracked.left)?;
+        self.tracker.keep(report, &sighting)?;
+        put_events(
+            &mut self.desks,
+            self.width,
+            worker,
+            position,
+            report,
+            sighting.tracked,
+        );
+        Ok(Due::of_report(report, &sighting.tracked))
     }
 
     /// The next tuple of the day comes in, at its position, and what it calls for is told. The one error is want of

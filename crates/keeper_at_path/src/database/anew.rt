@@ -3,6 +3,7 @@ ghost use Rattle.std.specs.Prelude.{◌≡◌, None};
 ghost use Rattle.keeper.specs.Kept.{IsPastPut};
 ghost use Rattle.renewal.specs.Renewed.{anew};
 ghost use Rattle.kept_tables.specs.Steps.{FitsAny};
+ghost use Rattle.tree_puts.specs.Room.{RoomAnew};
 ghost use Rattle.tree_puts.specs.Stores.{Stores};
 ghost use Rattle.keeper_at_path.specs.Anew.{AskedAnew};
 ghost use Rattle.keeper_at_path.specs.Causes.{IsSaid};
@@ -21,7 +22,7 @@ impl<S: Opens<P>, P: Pages + Drop> Database<S, P> {
     /// Begins anew with a history, in the store of the trees of the file, which has to be exactly ours.
     pub(crate) fn put_anew(&mut self, kept: &PastRecord, rows: &[SpentRow]) -> Result<(), KeepFault>
         requires { IsPastPut kept.now rows.now }
-        ensures does { AskedAnew self.new.kept (AreFound P.Pages) (Stores S.Store FitsAny (anew kept.now rows.now))
+        ensures does { AskedAnew self.new.kept (AreFound P.Pages) (Stores S.Store (RoomAnew rows.now) FitsAny (anew kept.now rows.now))
             result }
         ensures said { IsSaid result self.old.cause self.new.cause }
     {
@@ -48,7 +49,7 @@ impl<S: Opens<P>, P: Pages + Drop> Database<S, P> {
     ) -> Result<(), KeepFault>
         requires fits { IsPastPut kept.now rows.now }
         requires none { self.old.kept ≡ None }
-        ensures does { AskedAnew self.new.kept (AreFound P.Pages) (Stores S.Store FitsAny (anew kept.now rows.now))
+        ensures does { AskedAnew self.new.kept (AreFound P.Pages) (Stores S.Store (RoomAnew rows.now) FitsAny (anew kept.now rows.now))
             result }
         ensures said { IsSaid result self.old.cause self.new.cause }
     {

@@ -3,6 +3,7 @@ ghost use Rattle.keeper.specs.Kept.{IsPastPut};
 ghost use Rattle.keeper.specs.Calls.{CountsFaults};
 ghost use Rattle.renewal.specs.Renewed.{anew};
 ghost use Rattle.kept_tables.specs.Steps.{FitsAny};
+ghost use Rattle.tree_puts.specs.Room.{RoomAnew};
 ghost use Rattle.tree_puts.specs.Stores.{Stores};
 ghost use Rattle.keeper_at_path.specs.Anew.{AskedAnew};
 ghost use Rattle.keeper_at_path.specs.Causes.{IsSaid};
@@ -22,7 +23,7 @@ impl<D: AtPath> FileKeeper<D> {
     pub fn put_anew(&mut self, kept: &PastRecord, rows: &[SpentRow]) -> Result<(), KeepFault>
         requires { IsPastPut kept.now rows.now }
         ensures does { AskedAnew self.new.in_file.database.kept (AreFound ⟦<Pool<D> as Pages>⟧)
-            (Stores ⟦<FileStore<D> as Store>⟧ FitsAny (anew kept.now rows.now)) result }
+            (Stores ⟦<FileStore<D> as Store>⟧ (RoomAnew rows.now) FitsAny (anew kept.now rows.now)) result }
         ensures cause { CountsFaults self.old.in_file.faults self.new.in_file.faults result }
         ensures said { IsSaid result self.old.in_file.database.cause self.new.in_file.database.cause }
     {

@@ -3,6 +3,7 @@ ghost use Rattle.keeper.specs.Kept.{IsPastPut};
 ghost use Rattle.keeper.specs.Calls.{CountsFaults};
 ghost use Rattle.renewal.specs.Renewed.{anew};
 ghost use Rattle.kept_tables.specs.Steps.{FitsAny};
+ghost use Rattle.tree_puts.specs.Room.{RoomAnew};
 ghost use Rattle.tree_puts.specs.Stores.{Stores};
 ghost use Rattle.keeper_at_path.specs.Anew.{AskedAnew};
 ghost use Rattle.keeper_at_path.specs.Causes.{IsSaid};
@@ -20,7 +21,7 @@ impl<S: Opens<P>, P: Pages + Drop> KeeperIn<S, P> {
     pub fn put_anew(&mut self, kept: &PastRecord, rows: &[SpentRow]) -> Result<(), KeepFault>
         requires { IsPastPut kept.now rows.now }
         ensures does { AskedAnew self.new.database.kept (AreFound P.Pages)
-            (Stores S.Store FitsAny (anew kept.now rows.now)) result }
+            (Stores S.Store (RoomAnew rows.now) FitsAny (anew kept.now rows.now)) result }
         ensures cause { CountsFaults self.old.faults self.new.faults result }
         ensures said { IsSaid result self.old.database.cause self.new.database.cause }
     {

@@ -3,6 +3,7 @@ ghost use Rattle.keeper.specs.Kept.{IsPastPut};
 ghost use Rattle.keeper.specs.Calls.{CountsFaults};
 ghost use Rattle.renewal.specs.Renewed.{anew};
 ghost use Rattle.kept_tables.specs.Steps.{FitsAny};
+ghost use Rattle.tree_puts.specs.Room.{RoomAnew};
 ghost use Rattle.tree_puts.specs.Stores.{Stores};
 ghost use Rattle.keeper_at_path.specs.Anew.{AskedAnew};
 ghost use Rattle.keeper_at_path.specs.Causes.{IsSaid};
@@ -22,7 +23,7 @@ impl Renews for SqliteKeeper {
         ensures cause { CountsFaults self.old.in_file.in_file.faults self.new.in_file.in_file.faults result }
         ensures said { IsSaid result self.old.in_file.in_file.database.cause self.new.in_file.in_file.database.cause }
         ensures does { AskedAnew self.new.in_file.in_file.database.kept (AreFound ⟦<KeptPages as Pages>⟧)
-            (Stores ⟦<KeptStore as Store>⟧ FitsAny (anew kept.now rows.now)) result }
+            (Stores ⟦<KeptStore as Store>⟧ (RoomAnew rows.now) FitsAny (anew kept.now rows.now)) result }
     {
         self.in_file.put_anew(kept, rows)
     }

@@ -29,12 +29,12 @@ returns c =
         tariffs = ran.ensures.tariffs;
         carried =
             subst (λ es. OnOk ran.result ((before : List Event) → IsReady job.carriage before es →
-            StandsFor ran.new.carriage (before ++ es))) c.items.ensures ran.ensures.carried;
+            StandsFor ran.new.carriage (before ++ es))) c.items-told.ensures ran.ensures.carried;
       };
       found = subst
           (λ es. OnOk ran.result ((before : List Event) → IsReady job.carriage before es →
-          map shown fs ≡ findings before es tariffs)) c.items.ensures ran.ensures.found;
+          map shown fs ≡ findings before es tariffs)) c.items-told.ensures ran.ensures.found;
       first = subst
           (λ es. OnErr ran.result ((before : List Event) → IsReady job.carriage before es →
-          AreFirst (map shown fs) (findings before es tariffs))) c.items.ensures ran.ensures.first;
+          AreFirst (map shown fs) (findings before es tariffs))) c.items-told.ensures ran.ensures.first;
     })

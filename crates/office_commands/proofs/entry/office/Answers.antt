@@ -1,4 +1,4 @@
-use Rattle.std.proofs.Common.{◌≡◌, ◌∙◌, ℕ, inl, Option, Some, None, Result, Ok, refl, sym, ap, subst, arith}
+use Rattle.std.proofs.Common.{◌≡◌, ◌≢◌, ◌∙◌, ℕ, inl, Option, Some, None, Result, Ok, refl, sym, ap, subst, arith}
 use Rattle.std.proofs.Common.{IsErr}
 use Rattle.road_io.specs.declared.source.Failed.{Failed}
 use Rattle.office_commands.specs.declared.closing.Closing.{Closing}
@@ -242,12 +242,13 @@ returns-in-Ok-Some-clause-read g c =
       aside_later = f.aside_later;
       cause = λ is. f.cause (named is);
       still = λ well quiet.
-          let at : (k : Closing) → c.run.result ≡ Ok (Some k) → c.close.result ≡ status_of k =
-          λ k e. c.close.ensures.status quiet.0 quiet.2
-          ∙ ap status_of (closing_of c.in-Ok-Some.closing k c.run.result res e) in
-          f.still (λ e. well (at ReadFault e)) (
+          let as_said : (k : Closing) → (c.close.result ≡ 8 → c.in-Ok-Some.closing ≢ k) → c.run.result ≡ Ok (Some k) →
+          c.close.result ≡ status_of k =
+          λ k room e. (let is = closing_of c.in-Ok-Some.closing k c.run.result res e in
+          c.close.ensures.status quiet.0 (λ eight. room eight is) ∙ ap status_of is) in
+          f.still (λ e. well (as_said ReadFault (λ eight. (c.close.ensures.memory eight).0) e)) (
             no_failure c.run.result (Some c.in-Ok-Some.closing) res,
-            (λ e. quiet.1 (at KeeperFault e)),
+            (λ e. quiet.1 (as_said KeeperFault (λ eight. (c.close.ensures.memory eight).1) e)),
           );
       sure = λ source aside is. f.sure source aside (named is);
     }
@@ -277,8 +278,8 @@ returns-in-Ok-Some-clause-keeper g c =
     record {
       later = f.later;
       cause = λ is. f.cause (named is);
-      still = λ well quiet. f.still (λ e. well (c.close.ensures.status quiet.0 quiet.1
-          ∙ ap status_of (closing_of c.in-Ok-Some.closing KeeperFault c.run.result res e)));
+      still = λ well unbroken. f.still (λ e. (let is = closing_of c.in-Ok-Some.closing KeeperFault c.run.result res e in
+          well (c.close.ensures.status unbroken (λ eight. (c.close.ensures.memory eight).1 is) ∙ ap status_of is)));
       sure = λ fine is. f.sure fine (named is);
     }
 

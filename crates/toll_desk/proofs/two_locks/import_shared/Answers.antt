@@ -67,8 +67,8 @@ returns-clause-imports g c =
           (subst (λ bytes. IsReadTo c.args.count bytes i.result.early.now (g.L.Link.left m) i.result.read) known
           i.ensures.reads)
           i.ensures.link_cause i.ensures.unwritten i.ensures.room_kept i.ensures.link_sure i.ensures.read
-          i.ensures.unfailed (λ kept stored. i.ensures.stored all kept known stored) (i.ensures.read_first all known)
-          (i.ensures.imports all o known (was.1 ∙ told)) f.ensures.ends;
+          i.ensures.unfailed (λ kept stored. i.ensures.stored all kept known stored)
+          (i.ensures.read_first all known) (i.ensures.imports all o known (was.1 ∙ told)) f.ensures.ends;
     }
 
 pub returns-clause-unavailable : goal.returns-clause-unavailable

@@ -1,4 +1,4 @@
-use Rattle.std.proofs.Common.{◌≡◌, ℕ, ℤ, [], ◌∷◌, take, get_or, sym, ap, subst, ◌∙◌, to_z, of_z, w64, arith, rules}
+use Rattle.std.proofs.Common.{◌≡◌, ◌+ℤ◌, pos, ℕ, ℤ, [], ◌∷◌, take, get_or, sym, ap, subst, ◌∙◌, to_z, of_z, w64, arith, rules}
 use Rattle.std.specs.List.{AllByRecursion}
 use Rattle.std.proofs.lemmas.List.{take_more}
 use Rattle.sqlite_keyed.proofs.ListLemmas.{all-append}
@@ -8,11 +8,11 @@ use Rattle.road_time.specs.declared.day.SpentRow.{SpentRow}
 use Rattle.kept_tables.specs.Stands.{FitsSpent}
 use Rattle.tree_puts.specs.Trees.{AreOurs}
 use Rattle.tree_puts.specs.Steps.{AreBelow, AddsKept}
-use Rattle.tree_puts.proofs.AmountLaws.{amount_adds, adds_more}
+use Rattle.tree_puts.proofs.AmountLaws.{amount_adds, adds_more, counted_on}
 use Rattle.tree_puts.proofs.amounts.put_from.Goals as goal
 
 pub put_amount-requires-clause-shapes : goal.put_amount-requires-clause-shapes
-put_amount-requires-clause-shapes g c = subst AreOurs (sym c.rows.invariant.3.shape) c.requires.shapes
+put_amount-requires-clause-shapes g c = subst AreOurs (sym c.rows.invariant.4.shape) c.requires.shapes
 
 pub rows-preserved : goal.rows-preserved
 rows-preserved g c =
@@ -29,18 +29,19 @@ rows-preserved g c =
       λ clean below.
           let so_far = kept.1 (before clean) below in
           let shaped = subst (λ s. IsShaped s (mid.trees 1))
-          (ap (λ (f : ℕ → Shape). f 1) kept.3.shape ∙ c.requires.shapes.spent)
+          (ap (λ (f : ℕ → Shape). f 1) kept.4.shape ∙ c.requires.shapes.spent)
           (g.met.S.Store.ordered c.rows.store (c.in_ok-put_amount.ensures.sound clean) 1) in
           let step = amount_adds mid.trees new.trees (to_z w64 c.rows.number-bits) row shaped so_far.1
           (c.in_ok-put_amount.ensures.puts clean) in (
             subst (AddsKept old.trees new.trees) (sym more)
                 (adds_more old.trees mid.trees new.trees (take c.rows.row-index c.args.rows.now) (row ∷ [])
                 so_far.0 step.0),
-            subst (λ (n : ℤ). AreBelow n (new.trees 1)) (sym (whole ∙ c.in-Some.ensures)) step.1,
+            subst (λ (n : ℤ). AreBelow n (new.trees 1)) (sym (whole ∙ c.in-Some.ensures.1)) step.1,
           ),
       subst (AllByRecursion FitsSpent) (sym more)
           (all-append FitsSpent (take c.rows.row-index c.args.rows.now) (row ∷ []) kept.2
           (c.put_amount.ensures.fits, tt)),
+      whole ∙ c.in-Some.ensures.1 ∙ ap (λ (n : ℤ). n +ℤ pos 1) kept.3 ∙ counted_on _ c.rows.row-index,
       search rules,
       search rules,
     )

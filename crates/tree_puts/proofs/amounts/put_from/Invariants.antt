@@ -1,4 +1,4 @@
-use Rattle.std.proofs.Common.{take}
+use Rattle.std.proofs.Common.{◌≡◌, ◌+ℤ◌, pos, take}
 use Rattle.std.specs.List.{AllByRecursion}
 use Rattle.sqlite_trees.specs.View.{IsClean, IsQuiet, KeepsSchema, OnlyWrites}
 use Rattle.kept_tables.specs.Stands.{FitsSpent}
@@ -14,5 +14,6 @@ invariant-rows g l =
     × (IsClean now → AreBelow l.first (old.trees 1) →
     AddsKept old.trees now.trees (take l.row-index l.rows) × AreBelow l.number (now.trees 1))
     × AllByRecursion FitsSpent (take l.row-index l.rows)
+    × (l.number ≡ l.first +ℤ pos l.row-index)
     × KeepsSchema old now
     × IsQuiet g.S.Store.view g.S.Store.faults g.S.Store.recovers g.S.Store.is_shielded l.fn.store l.store

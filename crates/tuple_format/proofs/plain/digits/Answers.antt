@@ -5,8 +5,8 @@ use Rattle.tuple_format.proofs.TextLaws.{digit_more}
 use Rattle.tuple_format.proofs.FieldLaws.{field_at}
 use Rattle.tuple_format.proofs.plain.digits.Goals as goal
 
-pub returns-then-b-lt48 : goal.returns-then-b-lt48
-returns-then-b-lt48 c =
+pub returns-then-d-gt9 : goal.returns-then-d-gt9
+returns-then-d-gt9 c =
     let xs = c.args.text.now in
     let i = c.loop-i.i in
     let heads : c.in_ok-head.head.now ≡ take 11 xs = c.in_ok-head.ensures.cases.0 in
@@ -20,11 +20,12 @@ returns-then-b-lt48 c =
 
 pub loop-i-preserved : goal.loop-i-preserved
 loop-i-preserved c =
+    let is = c.digit_or_more-d.ensures c.if-d-gt9.false in
     let more = digit_more c.in_ok-head.head.now c.loop-i.i _ c.loop-i.value (omega arith) refl
-    (omega (arith, c.if-b-lt48.false)) (omega (arith, c.if-b-gt57.false)) c.loop-i.invariant.value
+    (omega (arith, is)) (omega (arith, is, c.if-d-gt9.false)) c.loop-i.invariant.value
     c.loop-i.invariant.digits c.loop-i.invariant.small in
     record {
-      value = omega (arith, more.0, c.from.ensures);
+      value = omega (arith, more.0, is);
       digits = more.1;
-      small = omega (arith, more.2, c.from.ensures);
+      small = omega (arith, more.2, is);
     }

@@ -10,6 +10,7 @@ use Rattle.std.proofs.lemmas.Result.{err_from_is_err_and}
 use Rattle.road_time.specs.declared.tariff.TheConstants.{GREATEST_TOLL}
 use Rattle.accounts.specs.declared.vehicle.Vehicle.{Vehicle}
 use Rattle.accounts.specs.Sums.{with_charge}
+use Rattle.accounts.specs.Entries.{first_after}
 use Rattle.accounts.specs.Books.{Accounts, retold, told_of, spent_sums}
 use Rattle.accounts.proofs.BookLaws.{book_made, get_told, told_after, next_few, told_few}
 use Rattle.accounts.proofs.BookLaws.{further_fits, first_fits, sum_fits, spent_charged, sound_charged}
@@ -37,8 +38,9 @@ pub first_after-requires : goal.first_after-requires
 first_after-requires c =
     let made : c.self.inside.made ≡ c.args.self.now.made = ap (λ (s : Accounts). s.made) c.self.view_is in
     let few : c.self.inside.made < 16000000 = omega (arith, made, c.requires.few) in
-    first_fits c.self.inside.vehicles.entries c.self.inside.further.entries c.self.inside.total c.self.inside.made
-    c.self.invariant c.args.vid c.in-Some.vehicle.now c.in-Some.ensures.value few c.args.xway
+    rw c.get-first.ensures
+    (first_fits c.self.inside.vehicles.entries c.self.inside.further.entries c.self.inside.total c.self.inside.made
+    c.self.invariant c.args.vid c.in-Some.vehicle.now c.in-Some.ensures.value few c.args.xway)
 
 pub overflow_add-vehicle : goal.overflow_add-vehicle
 overflow_add-vehicle c =
@@ -74,7 +76,7 @@ invariant_of-self-2 c =
       told = c.unwrap_or.result;
       sum =
           c.in-Some.vehicle.now.sum + c.in-Some.vehicle.now.told;
-      first = Some c.first_after.result;
+      first = c.of.result;
     } in
     let few_told : c.unwrap_or.result ≤ GREATEST_TOLL =
     subst (λ n. n ≤ GREATEST_TOLL) (sym c.unwrap_or.ensures)
@@ -84,12 +86,13 @@ invariant_of-self-2 c =
     sound_charged vehicles c.self.inside.further.entries c.self.inside.total c.self.inside.made c.self.invariant
     c.args.vid c.in-Some.vehicle.now c.in-Some.ensures.value few c.args.xway
     (c.get_mut.follows.lender is).entries c.add_further.new.sums.entries is few_told
-    refl (ap Some c.first_after.ensures)
+    refl (c.of.ensures ∙ ap Some c.first_after.ensures
+    ∙ ap (λ f. Some (first_after f c.args.xway c.in-Some.vehicle.now.told)) c.get-first.ensures)
     (subst (IsDistinct nat_eq)
     (sym (ap keys_of (c.get_mut.follows.holds is).0 ∙ keys-set_value (nat_eq c.args.vid) vehicles is))
     c.self.invariant.unique)
     (λ v. ((c.get_mut.follows.holds is).3 (search rules)).0 v)
-    c.in_ok-add_further.ensures.added
+    (rw (sym c.get-first.ensures) c.in_ok-add_further.ensures.added)
 
 pub returns-clause-toll : goal.returns-clause-toll
 returns-clause-toll c =
@@ -107,7 +110,7 @@ returns-clause-booked c =
       told = c.unwrap_or.result;
       sum =
           c.in-Some.vehicle.now.sum + c.in-Some.vehicle.now.told;
-      first = Some c.first_after.result;
+      first = c.of.result;
     } in
     let few_told : c.unwrap_or.result ≤ GREATEST_TOLL =
     subst (λ n. n ≤ GREATEST_TOLL) (sym c.unwrap_or.ensures)
@@ -121,12 +124,13 @@ returns-clause-booked c =
     (spent_charged vehicles c.self.inside.further.entries c.self.inside.total c.self.inside.made c.self.invariant
     c.args.vid c.in-Some.vehicle.now c.in-Some.ensures.value few c.args.xway
     (c.get_mut.follows.lender is).entries c.add_further.new.sums.entries is few_told
-    refl (ap Some c.first_after.ensures)
+    refl (c.of.ensures ∙ ap Some c.first_after.ensures
+    ∙ ap (λ f. Some (first_after f c.args.xway c.in-Some.vehicle.now.told)) c.get-first.ensures)
     (subst (IsDistinct nat_eq)
     (sym (ap keys_of (c.get_mut.follows.holds is).0 ∙ keys-set_value (nat_eq c.args.vid) vehicles is))
     c.self.invariant.unique)
     (λ v. ((c.get_mut.follows.holds is).3 (search rules)).0 v)
-    c.in_ok-add_further.ensures.added
+    (rw (sym c.get-first.ensures) c.in_ok-add_further.ensures.added)
     ∙ ap (λ (s : Accounts). with_charge s.spent
     (record { vid = c.args.vid; xway = c.args.xway; toll = c.in-Some.vehicle.now.told })) c.self.view_is)
     (ap (λ (s : Accounts). s.made + 1) c.self.view_is)

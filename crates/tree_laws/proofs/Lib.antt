@@ -1,0 +1,3 @@
+mod KeyLaws
+mod PassingLaws
+mod HandingLaws
