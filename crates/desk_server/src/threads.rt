@@ -54,6 +54,8 @@ fn serve_named<
     ensures fault { result.0 ≡ 4 → Rose (D.faults door.old) (D.faults door.new) }
     ensures refused_later { D.refused door.old ≤ D.refused door.new }
     ensures faults_later { D.faults door.old ≤ D.faults door.new }
+    ensures refused_still { result.0 ≢ 2 → D.refused door.new ≡ D.refused door.old }
+    ensures faults_still { result.0 ≢ 0 → result.0 ≢ 4 → D.faults door.new ≡ D.faults door.old }
 {
     let crew = ThreadCrew::new(rt, alloc, NoGate);
     let kept = opened.named::<J>();
