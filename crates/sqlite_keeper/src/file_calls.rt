@@ -134,7 +134,8 @@ impl Keeper for SqliteKeeper {
         ensures said { IsSaid result self.old.in_file.in_file.database.cause self.new.in_file.in_file.database.cause }
         ensures does { AskedToPut self.old.in_file.in_file.database.kept self.new.in_file.in_file.database.kept
             (λ k. k.unmade ≢ Some NoMemory) (AreFound ⟦<KeptPages as Pages>⟧)
-            (Stores ⟦<KeptStore as Store>⟧ (RoomForDay kept.now rows.now) (IsLater kept.now.day) (with_day kept.now rows.now))
+            (Stores ⟦<KeptStore as Store>⟧ (RoomForDay kept.now rows.now) (IsLater kept.now.day)
+            (with_day kept.now rows.now))
             (λ k. state ⟦<KeptStore as Store>⟧ k.conn)
             (λ k l. WasRefusedOf ⟦<KeptStore as Store>⟧ (WritesDay kept.now rows.now) k.conn l.conn)
             (IsLater kept.now.day) (with_day kept.now rows.now) result }

@@ -1,8 +1,8 @@
 -- What an amount's row and its entry make of their trees.
 use Rattle.std.proofs.Common.{◌≡◌, ◌+◌, ℕ, ℤ, pos, ◌+ℤ◌, length, List, [], ◌∷◌, ◌++◌, map, drop, refl}
 use Rattle.std.proofs.Common.{sym, ap}
-use Rattle.std.proofs.Common.{subst, subst₂, ◌∙◌, arith, Less, true, Option, Some, None, IfSome, IsSomeAnd, SomeIff, FitsSigned, w64}
-use Rattle.std.proofs.Common.{IsPermutation}
+use Rattle.std.proofs.Common.{subst, subst₂, ◌∙◌, arith, Less, true, Option, Some, None, IfSome, IsSomeAnd}
+use Rattle.std.proofs.Common.{SomeIff, FitsSigned, w64, IsPermutation}
 use Rattle.std.specs.List.{AllByRecursion}
 use Rattle.std.proofs.lemmas.Bool.Decides.{nat_tests}
 use Rattle.std.proofs.lemmas.Int.{ints}

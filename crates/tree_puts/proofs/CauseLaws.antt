@@ -1,5 +1,6 @@
 -- Why the steps of a put fail, and what of them is why the put does.
-use Rattle.std.proofs.Common.{◌≡◌, ◌≤◌, ◌<◌, ◌*◌, ◌+◌, ◌⊎◌, inl, inr, ℕ, Bool, true, false, cond, true≢false, Result, Ok, Err}
+use Rattle.std.proofs.Common.{◌≡◌, ◌≤◌, ◌<◌, ◌*◌, ◌+◌, ◌⊎◌, inl, inr, ℕ, Bool, true, false, cond}
+use Rattle.std.proofs.Common.{true≢false, Result, Ok, Err}
 use Rattle.std.proofs.Common.{IfErr, IsErrAnd, IsTrue, [], ◌∷◌, length, refl, sym, ap, subst, ◌∙◌, arith}
 use Rattle.std.specs.Prelude.{sum_by}
 use Rattle.std.specs.List.{AllByRecursion}

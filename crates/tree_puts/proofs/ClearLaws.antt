@@ -107,7 +107,8 @@ lends_number (Lent.Text t) v is int none = true≢false (sym (subst (λ (w : Val
 lends_number (Lent.Blob b) v is int none = true≢false (sym (subst (λ (w : Value). IsTrue (is_int w)) (sym is) int))
 
 -- the last row of a table has a number
-pub last_numbered : (rows : List Row) (row : Row) → IsShaped Table rows → IsLast rows row true → IsTrue (is_int (rowid row))
+pub last_numbered : (rows : List Row) (row : Row) → IsShaped Table rows → IsLast rows row true
+    → IsTrue (is_int (rowid row))
 last_numbered rows row shaped last =
     of_end (λ (r : Row). IsTrue (is_int (rowid r))) last.0 row
     (subst (AllByRecursion (λ (r : Row). IsTrue (is_int (rowid r)))) last.1 shaped.1)

@@ -1,5 +1,6 @@
 -- What trees have to be like for a put of them to be done.
-use Rattle.std.specs.Prelude.{◌≡◌, ◌<◌, ◌≤◌, ◌-◌, ◌^◌, ◌+ℤ◌, ℕ, ℤ, pos, FitsSigned, Bool, IsTrue, List, [], ◌∷◌, ◌++◌, filter, length}
+use Rattle.std.specs.Prelude.{◌≡◌, ◌<◌, ◌≤◌, ◌-◌, ◌^◌, ◌+ℤ◌, ℕ, ℤ, pos, FitsSigned, Bool, IsTrue, List, []}
+use Rattle.std.specs.Prelude.{◌∷◌, ◌++◌, filter, length}
 use Rattle.std.specs.Int.{w64}
 use Rattle.sqlite_value.specs.declared.value.Value.TheVariants.{Int}
 use Rattle.sqlite_value.specs.Order.{Row}

@@ -1,5 +1,6 @@
 // The amounts of a day or of a history.
-ghost use Rattle.std.specs.Prelude.{◌≡◌, ◌≤◌, ◌<◌, ◌^◌, ◌+ℤ◌, pos, false, length, FitsSigned, ℕ, SomeIff, ◌↔◌, IsTrue, IsSomeAnd, IfOk, IfErr, IfSome, OnOk, OnErr};
+ghost use Rattle.std.specs.Prelude.{◌≡◌, ◌↔◌, ◌<◌, ◌^◌, ◌+ℤ◌, ℕ, pos, false, length, FitsSigned, IsTrue, SomeIff};
+ghost use Rattle.std.specs.Prelude.{IsSomeAnd, IfOk, IfErr, IfSome, OnOk, OnErr};
 ghost use Rattle.std.specs.Int.{w64};
 ghost use Rattle.std.specs.declared.cmp.Ordering.TheVariants.{Less};
 ghost use Rattle.std.specs.List.{AllByRecursion};

@@ -22,8 +22,8 @@ impl<S: Opens<P>, P: Pages + Drop> Database<S, P> {
     /// Begins anew with a history, in the store of the trees of the file, which has to be exactly ours.
     pub(crate) fn put_anew(&mut self, kept: &PastRecord, rows: &[SpentRow]) -> Result<(), KeepFault>
         requires { IsPastPut kept.now rows.now }
-        ensures does { AskedAnew self.new.kept (AreFound P.Pages) (Stores S.Store (RoomAnew rows.now) FitsAny (anew kept.now rows.now))
-            result }
+        ensures does { AskedAnew self.new.kept (AreFound P.Pages)
+            (Stores S.Store (RoomAnew rows.now) FitsAny (anew kept.now rows.now)) result }
         ensures said { IsSaid result self.old.cause self.new.cause }
     {
         let ready = match self.ready() {
@@ -49,8 +49,8 @@ impl<S: Opens<P>, P: Pages + Drop> Database<S, P> {
     ) -> Result<(), KeepFault>
         requires fits { IsPastPut kept.now rows.now }
         requires none { self.old.kept ≡ None }
-        ensures does { AskedAnew self.new.kept (AreFound P.Pages) (Stores S.Store (RoomAnew rows.now) FitsAny (anew kept.now rows.now))
-            result }
+        ensures does { AskedAnew self.new.kept (AreFound P.Pages)
+            (Stores S.Store (RoomAnew rows.now) FitsAny (anew kept.now rows.now)) result }
         ensures said { IsSaid result self.old.cause self.new.cause }
     {
         let rt = self.rt;

@@ -19,7 +19,8 @@ returns-in-Int-clause-next g c clean =
     let last : IsLast rows row true = subst (IsLast rows row) c.if-not-branch.false (c.in_ok-last.ensures.ok clean) in
     let whole : to_z w64 (of_z w64 c.in-Int.number) ≡ c.in-Int.number = search rules in
     after_one rows c.in-Int.number c.after.result
-    (subst (λ (m : ℤ). IfSome c.after.result (λ next. next ≡ m +ℤ pos 1)) whole (some_next _ c.after.result _ c.after.ensures))
+    (subst (λ (m : ℤ). IfSome c.after.result (λ next. next ≡ m +ℤ pos 1)) whole
+    (some_next _ c.after.result _ c.after.ensures))
     (above_last rows row c.in-Int.number shaped.0 last is)
 
 pub returns-in-Int-clause-room : goal.returns-in-Int-clause-room

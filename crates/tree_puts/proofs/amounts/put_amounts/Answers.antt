@@ -19,7 +19,8 @@ pub returns-clause-room : goal.returns-clause-room
 returns-clause-room g c clean =
     let old = g.S.Store.view c.args.store.now in
     let mid = g.S.Store.view c.may_follow.new.store in
-    let late : IsClean (g.S.Store.view c.next_number.new.store) = omega (arith, clean, c.put_from.ensures.quiet.clean) in
+    let last = g.S.Store.view c.next_number.new.store in
+    let late : IsClean last = omega (arith, clean, c.put_from.ensures.quiet.clean) in
     let early : IsClean mid = omega (arith, late, c.next_number.ensures.quiet.clean) in
     let same : mid.trees ≡ old.trees = ap (λ (v : View). v.trees) (c.in_ok-may_follow.ensures.same early) in
     let count = length c.args.rows.now in

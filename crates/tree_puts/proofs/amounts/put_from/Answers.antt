@@ -1,4 +1,5 @@
-use Rattle.std.proofs.Common.{◌≡◌, ◌+ℤ◌, pos, ℕ, ℤ, [], ◌∷◌, take, get_or, sym, ap, subst, ◌∙◌, to_z, of_z, w64, arith, rules}
+use Rattle.std.proofs.Common.{◌≡◌, ◌+ℤ◌, pos, ℕ, ℤ, [], ◌∷◌, take, get_or, sym, ap, subst, ◌∙◌}
+use Rattle.std.proofs.Common.{to_z, of_z, w64, arith, rules}
 use Rattle.std.specs.List.{AllByRecursion}
 use Rattle.std.proofs.lemmas.List.{take_more}
 use Rattle.sqlite_keyed.proofs.ListLemmas.{all-append}

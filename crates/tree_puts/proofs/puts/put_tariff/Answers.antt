@@ -12,7 +12,8 @@ use Rattle.tree_puts.proofs.puts.put_tariff.Goals as goal
 pub returns : goal.returns
 returns g c =
     let written = c.write_tariff.new.store in
-    finished g.S.Store RoomForTariff FitsAny (with_tariff_of c.args.xway c.args.tariff.now) c.args.store.now c.begin.new.store written
+    finished g.S.Store RoomForTariff FitsAny (with_tariff_of c.args.xway c.args.tariff.now) c.args.store.now
+    c.begin.new.store written
     c.finish.new.store true c.finish.result (λ clean. (c.in_ok-begin.ensures.settled clean).1) c.begin.ensures.stays
     c.begin.ensures.quiet.outcomes (λ clean. omega (arith, c.write_tariff.ensures.quiet.clean))
     c.in_ok-write_tariff.ensures.wrote c.in_ok-write_tariff.ensures.frame c.write_tariff.ensures.quiet.outcomes
