@@ -24,7 +24,7 @@ import tempfile
 
 TOP = pathlib.Path(__file__).resolve().parent.parent
 FEW = 3
-GONE = re.compile(r"(\./)?proofs/.*(has no field|is not in scope|has no `|was not admitted)")
+GONE = re.compile(r"(\./)?proofs/.*(has no field|is not in scope|has no `|was not admitted|\(nearest: )")
 
 
 class Place:
