@@ -14,11 +14,14 @@ use crate::tally::Tally;
 use road_io::Source;
 use road_time::{Limits, NoMemory};
 use std::alloc::Global;
+use thiserror::Error;
 
 /// Why a check has no result.
-#[derive(Clone, Copy, Debug, PartialEq, Eq)]
+#[derive(Clone, Copy, Debug, PartialEq, Eq, Error)]
 pub enum CheckStop {
+    #[error("a read failed")]
     ReadFault,
+    #[error("no memory")]
     NoMemory,
 }
 

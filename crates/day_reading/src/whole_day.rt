@@ -17,6 +17,7 @@ use road_io::Source;
 use road_time::{Limits, Tuple};
 use std::alloc::Global;
 use std::thread::Threads;
+use thiserror::Error;
 use tuple_format::Cause;
 
 /// How the reading of a day ended.
@@ -36,9 +37,11 @@ pub struct Day {
 }
 
 /// Why a reading has no result.
-#[derive(Clone, Copy, Debug, PartialEq, Eq)]
+#[derive(Clone, Copy, Debug, PartialEq, Eq, Error)]
 pub enum ReadStop {
+    #[error("a read failed")]
     ReadFault,
+    #[error("no memory")]
     NoMemory,
 }
 

@@ -7,7 +7,7 @@ use Rattle.day_reading.specs.declared.whole_day.ReadStop.TheVariants as reading
 use Rattle.settling.specs.declared.fault.SettleFault.{SettleFault}
 use Rattle.settling.specs.declared.fault.SettleFault.TheVariants as settle
 use Rattle.settling.specs.Faults.{is_keeping, keeper_failed}
-use Rattle.settling.specs.Levels.{Level}
+use Rattle.road_io.specs.Levels.{Level}
 use Rattle.settling.specs.Asking.{AskingPlan, requests_of}
 use Rattle.settling.proofs.AskLaws.{passes_none, passes_on, fails_on}
 use Rattle.watermark.specs.Shares.{State}

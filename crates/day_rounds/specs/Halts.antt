@@ -9,6 +9,7 @@ use Rattle.day_reading.specs.declared.day_ahead.DayAhead.{DayAhead}
 use Rattle.day_reading.specs.Ahead.{IsAhead}
 use Rattle.expressway.specs.Results.{AreFirst}
 use Rattle.expressway.specs.declared.job.Job.{Job}
+use Rattle.partition_workers.specs.declared.crew.Crew.{Ghosts}
 use Rattle.partition_workers.specs.Told.{CrewTold}
 use Rattle.watermark.specs.Shares.{State}
 use Rattle.watermark.specs.Floors.{Setting}
@@ -49,3 +50,14 @@ pub record IsCutDay {S T : Type 0} (out : S → List ℕ) (number : T → ℕ) (
   pub stopped : Stopped out number holds gave jobs told width limits fed run crew
   pub front : exact ≡ true → HasDayFront fault e fed old new
   pub steps : exact ≡ true → HasSteps e.tariffs fed limits.backlog was posted
+
+-- the same two of a crew by all that it tells
+abbrev pub IsHaltedBy : {S T N : Type 0} → Ghosts S T N → DayFault → Setting → Option CrewTold → ℕ → Limits → ℕ →
+    State → List Tuple → DayAhead → Option (List ℕ) → Option (List ℕ) → Option (List ℕ) → Option Posted →
+    Option Posted → Import T → S → Type 0
+IsHaltedBy c = IsHalted c.out c.number c.holds c.gave c.exact c.jobs
+
+abbrev pub IsCutDayBy : {S T N : Type 0} → Ghosts S T N → DayFault → Setting → Option CrewTold → ℕ → Limits → ℕ →
+    DayAhead → Option (List ℕ) → Option (List ℕ) → Option (List ℕ) → Option Posted → Option Posted → Import T → S →
+    Type 0
+IsCutDayBy c = IsCutDay c.out c.number c.holds c.gave c.exact c.jobs

@@ -6,6 +6,7 @@ use Rattle.road_time.specs.declared.road.Tuple.{Tuple}
 use Rattle.expressway.specs.declared.job.Job.{Job}
 use Rattle.expressway.specs.declared.finding.Finding.{Finding}
 use Rattle.expressway.specs.Findings.{shown}
+use Rattle.partition_workers.specs.declared.crew.Crew.{Ghosts}
 use Rattle.partition_workers.specs.Told.{CrewTold}
 use Rattle.partition_workers.specs.Callers.{HasOut, IsListingWhereTold}
 use Rattle.watermark.specs.Shares.{JobStart, State, can_give, mark}
@@ -65,6 +66,15 @@ pub record Stopped {S T : Type 0} (out : S → List ℕ) (number : T → ℕ) (h
   pub since : List Job
   pub starts : HaveStarted width limits.backlog state (map start_of since)
   pub listing : IsListingWhereTold told since (out crew) true (jobs crew)
+
+-- the same two of a crew by all that it tells
+abbrev pub RunsBy : {S T N : Type 0} → Ghosts S T N → Setting → Option CrewTold → Option (List Finding) → Import T → S →
+    State → Type 0
+RunsBy c = Runs c.out c.number c.holds c.gave c.exact c.jobs c.answers
+
+abbrev pub StoppedBy : {S T N : Type 0} → Ghosts S T N → Option CrewTold → ℕ → Limits → List Tuple → Import T → S →
+    Type 0
+StoppedBy c = Stopped c.out c.number c.holds c.gave c.jobs
 
 -- a worker is given its next job, if there is one
 abbrev pub given_if : State → ℕ → State

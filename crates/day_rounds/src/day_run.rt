@@ -9,7 +9,7 @@ ghost use Rattle.settling.specs.Answers.{history_of};
 ghost use Rattle.settling.specs.Boards.{IsAbreast};
 ghost use Rattle.watermark.specs.Shares.{start};
 ghost use Rattle.watermark.specs.Floors.{Setting};
-ghost use Rattle.day_rounds.specs.Runs.{Runs};
+ghost use Rattle.day_rounds.specs.Runs.{RunsBy};
 ghost use Rattle.day_rounds.specs.Planned.{HasPlannedJobs};
 ghost use Rattle.day_rounds.specs.Faults.{IsCounted, IsCountedAhead};
 ghost use Rattle.day_rounds.specs.Asked.{AsksUntil, keeper_stopped};
@@ -57,49 +57,40 @@ pub fn run_opened<C: Crew, S: Source, K: Keeper, O: Sink, P: Publisher, R: Threa
     requires none { run.tickets.items ≡ [] }
     requires unfailed { HasFailedAhead ahead → ⊥ }
     requires runs { (e : Setting) × (late : ℕ)
-        × Runs C.out C.number C.holds C.gave C.exact C.jobs C.answers e (C.jobs crew.old) (C.answers crew.old) run
-        crew.old start
+        × RunsBy C.Crew e (C.jobs crew.old) (C.answers crew.old) run crew.old start
         × IsGatheringAhead ahead run.floor.limits late [] × (e.number ≡ day)
         × (e.history ≡ history_of (K.told keeper.old)) × IsAbreast (P.posted publisher.old) 0 }
     ensures idle { C.out crew.new ≡ [] }
     ensures crew { C.which crew.new ≡ C.which crew.old }
     ensures ran { IfOk result (λ r. (e : Setting) (late : ℕ)
-        → Runs C.out C.number C.holds C.gave C.exact C.jobs C.answers e (C.jobs crew.old) (C.answers crew.old) run
-        crew.old start
+        → RunsBy C.Crew e (C.jobs crew.old) (C.answers crew.old) run crew.old start
         → IsGatheringAhead ahead run.floor.limits late [] → e.number ≡ day → e.history ≡ history_of (K.told keeper.old)
-        → HasImported (task_of e run.floor.inboxes.width run.floor.limits late) C.exact
-        (λ bytes. IsAhead ahead run.floor.limits late (S.left source.old) bytes [])
-        (C.answers crew.old) (C.answers crew.new) (C.jobs crew.old) (C.jobs crew.new) (O.written sink.old)
-        (O.written sink.new) (P.posted publisher.old) (P.posted publisher.new) r) }
+        → HasImported (task_of e run.floor.inboxes.width run.floor.limits late) C.exact (λ bytes. IsAhead ahead
+        run.floor.limits late (S.left source.old) bytes []) (C.answers crew.old) (C.answers crew.new) (C.jobs crew.old)
+        (C.jobs crew.new) (O.written sink.old) (O.written sink.new) (P.posted publisher.old) (P.posted publisher.new) r) }
     ensures stopped { IfErr result (λ fault. (e : Setting) (late : ℕ)
-        → Runs C.out C.number C.holds C.gave C.exact C.jobs C.answers e (C.jobs crew.old) (C.answers crew.old) run
-        crew.old start
+        → RunsBy C.Crew e (C.jobs crew.old) (C.answers crew.old) run crew.old start
         → IsGatheringAhead ahead run.floor.limits late [] → e.number ≡ day → e.history ≡ history_of (K.told keeper.old)
-        → HasStopped (task_of e run.floor.inboxes.width run.floor.limits late) C.exact
-        (λ bytes. IsAhead ahead run.floor.limits late (S.left source.old) bytes [])
-        (C.jobs crew.old) (C.jobs crew.new) (O.written sink.old) (O.written sink.new) (P.posted publisher.old)
-        (P.posted publisher.new) fault) }
+        → HasStopped (task_of e run.floor.inboxes.width run.floor.limits late) C.exact (λ bytes. IsAhead ahead
+        run.floor.limits late (S.left source.old) bytes []) (C.jobs crew.old) (C.jobs crew.new) (O.written sink.old)
+        (O.written sink.new) (P.posted publisher.old) (P.posted publisher.new) fault) }
     ensures bounded { (bytes : List ℕ) → HasReadAhead ahead run.floor.limits.lines (S.left source.old) bytes
         → (count : ℕ) × (count ≤ most_of_day run.floor.limits) × (S.left source.new ≡ Some (drop count bytes)) }
     ensures leaves { IfOk result (λ r. (e : Setting) (late : ℕ)
-        → Runs C.out C.number C.holds C.gave C.exact C.jobs C.answers e (C.jobs crew.old) (C.answers crew.old) run
-        crew.old start
+        → RunsBy C.Crew e (C.jobs crew.old) (C.answers crew.old) run crew.old start
         → IsGatheringAhead ahead run.floor.limits late [] → e.number ≡ day → e.history ≡ history_of (K.told keeper.old)
         → (bytes : List ℕ) → IsAhead ahead run.floor.limits late (S.left source.old) bytes []
         → HasReadAhead ahead run.floor.limits.lines (S.left source.old) bytes
         → LeavesBehind r.end bytes (S.left source.new)) }
     ensures digested { IfOk result (λ r. IsDigested (is_digested ahead) r.end) }
     ensures planned { OnOk result ((e : Setting) (late : ℕ)
-        → Runs C.out C.number C.holds C.gave C.exact C.jobs C.answers e (C.jobs crew.old) (C.answers crew.old) run
-        crew.old start
+        → RunsBy C.Crew e (C.jobs crew.old) (C.answers crew.old) run crew.old start
         → IsGatheringAhead ahead run.floor.limits late [] → e.number ≡ day → e.history ≡ history_of (K.told keeper.old)
         → (bytes : List ℕ) → IsAhead ahead run.floor.limits late (S.left source.old) bytes []
-        → HasPlannedJobs plan.now.turns run.floor.inboxes.width run.floor.limits.backlog
-        (reads bytes run.floor.limits late).tuples (C.jobs crew.old) (C.jobs crew.new) (C.answers crew.old)
-        (C.answers crew.new)) }
+        → HasPlannedJobs plan.now.turns run.floor.inboxes.width run.floor.limits.backlog (reads bytes run.floor.limits
+        late).tuples (C.jobs crew.old) (C.jobs crew.new) (C.answers crew.old) (C.answers crew.new)) }
     ensures rest { OnOk result ((e : Setting) (late : ℕ)
-        → Runs C.out C.number C.holds C.gave C.exact C.jobs C.answers e (C.jobs crew.old) (C.answers crew.old) run
-        crew.old start
+        → RunsBy C.Crew e (C.jobs crew.old) (C.answers crew.old) run crew.old start
         → IsGatheringAhead ahead run.floor.limits late [] → e.number ≡ day → e.history ≡ history_of (K.told keeper.old)
         → (bytes : List ℕ) → IsAhead ahead run.floor.limits late (S.left source.old) bytes []
         → HasReadAhead ahead run.floor.limits.lines (S.left source.old) bytes

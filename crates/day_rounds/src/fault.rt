@@ -4,16 +4,21 @@ ghost use Rattle.day_rounds.specs.Faults.{of_settling, of_reading, of_round};
 
 use day_reading::ReadStop;
 use settling::SettleFault;
+use thiserror::Error;
 
 /// Why a day is stopped.
-#[derive(Clone, Copy, Debug, PartialEq, Eq)]
+#[derive(Clone, Copy, Debug, PartialEq, Eq, Error)]
 pub enum DayFault {
     /// The source failed, and counted it.
+    #[error("a read failed")]
     ReadFault,
     /// The sink failed, and counted it.
+    #[error("a write failed")]
     WriteFault,
     /// The keeper failed, and counted it.
+    #[error("the keeper failed")]
     KeeperFault,
+    #[error("no memory")]
     NoMemory,
 }
 

@@ -6,7 +6,7 @@ ghost use Rattle.expressway.specs.Results.{AreFirst};
 ghost use Rattle.partition_workers.specs.Told.{CrewTold};
 ghost use Rattle.watermark.specs.Shares.{State};
 ghost use Rattle.watermark.specs.Floors.{Setting};
-ghost use Rattle.day_rounds.specs.Runs.{Runs, Stopped, CameBack};
+ghost use Rattle.day_rounds.specs.Runs.{RunsBy, StoppedBy, CameBack};
 
 use crate::begun::Import;
 use partition_workers::{Crew, finish_among};
@@ -21,21 +21,17 @@ pub fn finish_one<C: Crew>(
 ) -> Result<(), NoMemory>
     requires within { place < length run.old.tickets.items }
     requires runs { (e : Setting) × (told : Option CrewTold) × (answered : Option (List Finding)) × (s : State)
-        × Runs C.out C.number C.holds C.gave C.exact C.jobs C.answers e told answered run.old crew.old s }
+        × RunsBy C.Crew e told answered run.old crew.old s }
     ensures width { run.new.floor.inboxes.width ≡ run.old.floor.inboxes.width }
     ensures limits { run.new.floor.limits ≡ run.old.floor.limits }
     ensures which { C.which crew.new ≡ C.which crew.old }
     ensures fewer { length run.new.tickets.items + 1 ≡ length run.old.tickets.items }
     ensures came { OnOk result ((e : Setting) (told : Option CrewTold) (answered : Option (List Finding)) (s : State)
-        → Runs C.out C.number C.holds C.gave C.exact C.jobs C.answers e told answered run.old crew.old s
-        → (now : State) × CameBack run.old.floor.inboxes.width place s now
-        × Runs C.out C.number C.holds C.gave C.exact C.jobs C.answers e told answered run.new crew.new now) }
+        → RunsBy C.Crew e told answered run.old crew.old s → (now : State)
+        × CameBack run.old.floor.inboxes.width place s now × RunsBy C.Crew e told answered run.new crew.new now) }
     ensures stopped { OnErr result ((e : Setting) (told : Option CrewTold) (answered : Option (List Finding))
-        (s : State)
-        → Runs C.out C.number C.holds C.gave C.exact C.jobs C.answers e told answered run.old crew.old s
-        → (day : List Tuple) → AreFirst s.fed day
-        → Stopped C.out C.number C.holds C.gave C.jobs told run.old.floor.inboxes.width run.old.floor.limits day run.new
-        crew.new) }
+        (s : State) → RunsBy C.Crew e told answered run.old crew.old s → (day : List Tuple) → AreFirst s.fed day
+        → StoppedBy C.Crew told run.old.floor.inboxes.width run.old.floor.limits day run.new crew.new) }
 {
     let Some(ticket) = run.tickets.remove(place) else {
         unreachable!();

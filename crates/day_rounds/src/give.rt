@@ -4,7 +4,7 @@ ghost use Rattle.expressway.specs.declared.finding.Finding.{Finding};
 ghost use Rattle.partition_workers.specs.Told.{CrewTold};
 ghost use Rattle.watermark.specs.Shares.{State};
 ghost use Rattle.watermark.specs.Floors.{Setting};
-ghost use Rattle.day_rounds.specs.Runs.{Runs, given_if};
+ghost use Rattle.day_rounds.specs.Runs.{RunsBy, given_if};
 
 use crate::begun::Import;
 use partition_workers::{Crew, start_beside};
@@ -19,18 +19,16 @@ pub fn give_one<C: Crew>(
 ) -> Result<(), NoMemory>
     requires within { worker < run.old.floor.inboxes.width }
     requires runs { (e : Setting) × (told : Option CrewTold) × (answered : Option (List Finding)) × (s : State)
-        × Runs C.out C.number C.holds C.gave C.exact C.jobs C.answers e told answered run.old crew.old s }
+        × RunsBy C.Crew e told answered run.old crew.old s }
     ensures width { run.new.floor.inboxes.width ≡ run.old.floor.inboxes.width }
     ensures limits { run.new.floor.limits ≡ run.old.floor.limits }
     ensures which { C.which crew.new ≡ C.which crew.old }
     ensures given { OnOk result ((e : Setting) (told : Option CrewTold) (answered : Option (List Finding)) (s : State)
-        → Runs C.out C.number C.holds C.gave C.exact C.jobs C.answers e told answered run.old crew.old s
-        → Runs C.out C.number C.holds C.gave C.exact C.jobs C.answers e told answered run.new crew.new
-        (given_if s worker)) }
+        → RunsBy C.Crew e told answered run.old crew.old s
+        → RunsBy C.Crew e told answered run.new crew.new (given_if s worker)) }
     ensures refused { OnErr result ((e : Setting) (told : Option CrewTold) (answered : Option (List Finding))
-        (s : State)
-        → Runs C.out C.number C.holds C.gave C.exact C.jobs C.answers e told answered run.old crew.old s
-        → Runs C.out C.number C.holds C.gave C.exact C.jobs C.answers e told answered run.new crew.new s) }
+        (s : State) → RunsBy C.Crew e told answered run.old crew.old s
+        → RunsBy C.Crew e told answered run.new crew.new s) }
 {
     run.tickets.reserve(1)?;
     let Some(job) = run.floor.give(worker) else {

@@ -9,7 +9,7 @@ ghost use Rattle.settling.specs.Answers.{PaidHistory};
 ghost use Rattle.watermark.specs.Terms.{AreTerms};
 ghost use Rattle.watermark.specs.Shares.{start};
 ghost use Rattle.watermark.specs.Floors.{StandsFor};
-ghost use Rattle.day_rounds.specs.Runs.{Stopped};
+ghost use Rattle.day_rounds.specs.Runs.{StoppedBy};
 ghost use Rattle.day_rounds.specs.Imports.{HaveFirstStarted};
 
 use crate::begun::Import;
@@ -44,13 +44,12 @@ pub fn begin<T: Drop>(
 /// Finishes all that is out after a refusal.
 pub fn stop<C: Crew>(run: Import<C::Ticket>, crew: &mut C)
     requires { (told : Option CrewTold) × (width : ℕ) × (limits : DayLimits) × (day : List RoadTuple)
-        × Stopped C.out C.number C.holds C.gave C.jobs told width limits day run crew.old }
+        × StoppedBy C.Crew told width limits day run crew.old }
     ensures idle { C.out crew.new ≡ [] }
     ensures which { C.which crew.new ≡ C.which crew.old }
     ensures jobs { (told : Option CrewTold) (width : ℕ) (limits : DayLimits) (day : List RoadTuple)
-        → Stopped C.out C.number C.holds C.gave C.jobs told width limits day run crew.old
-        → (since : List Job) × HaveFirstStarted width limits.backlog day since
-        × WhereTold (ListsFirst since) told (C.jobs crew.new) }
+        → StoppedBy C.Crew told width limits day run crew.old → (since : List Job)
+        × HaveFirstStarted width limits.backlog day since × WhereTold (ListsFirst since) told (C.jobs crew.new) }
 {
     let Import { tickets, .. } = run;
     finish_all(crew, tickets);

@@ -9,10 +9,10 @@ ghost use Rattle.settling.specs.Answers.{history_of};
 ghost use Rattle.settling.specs.Boards.{IsAbreast};
 ghost use Rattle.watermark.specs.Shares.{State, start};
 ghost use Rattle.watermark.specs.Floors.{Setting};
-ghost use Rattle.day_rounds.specs.Runs.{Runs};
+ghost use Rattle.day_rounds.specs.Runs.{RunsBy};
 ghost use Rattle.day_rounds.specs.Days.{IsOn};
 ghost use Rattle.day_rounds.specs.Planned.{IsPlanned};
-ghost use Rattle.day_rounds.specs.Halts.{IsCutDay};
+ghost use Rattle.day_rounds.specs.Halts.{IsCutDayBy};
 ghost use Rattle.day_rounds.specs.Faults.{IsCounted, IsCountedAhead};
 ghost use Rattle.day_rounds.specs.Asked.{AsksUntil, keeper_stopped};
 ghost use Rattle.day_rounds.specs.declared.fault.DayFault.TheVariants.{ReadFault, WriteFault, KeeperFault};
@@ -50,8 +50,7 @@ pub fn run_plan<C: Crew, S: Source, K: Keeper, O: Sink, P: Publisher, R: Threads
     requires none { run.old.tickets.items ≡ [] }
     requires unfailed { HasFailedAhead ahead.old → ⊥ }
     requires runs { (e : Setting) × (told : Option CrewTold) × (answered : Option (List Finding)) × (late : ℕ)
-        × Runs C.out C.number C.holds C.gave C.exact C.jobs C.answers e told answered run.old crew.old start
-        × IsGatheringAhead ahead.old run.old.floor.limits late []
+        × RunsBy C.Crew e told answered run.old crew.old start × IsGatheringAhead ahead.old run.old.floor.limits late []
         × (e.number ≡ day) × (e.history ≡ history_of (K.told keeper.old)) × IsAbreast (P.posted publisher.old) 0 }
     ensures width { run.new.floor.inboxes.width ≡ run.old.floor.inboxes.width }
     ensures limits { run.new.floor.limits ≡ run.old.floor.limits }
@@ -59,23 +58,20 @@ pub fn run_plan<C: Crew, S: Source, K: Keeper, O: Sink, P: Publisher, R: Threads
     ensures none { OnOk result (run.new.tickets.items ≡ []) }
     ensures ended { OnOk result (has_more ahead.new ≡ false) }
     ensures done { IfOk result (λ n. (e : Setting) (told : Option CrewTold) (answered : Option (List Finding))
-        (late : ℕ)
-        → Runs C.out C.number C.holds C.gave C.exact C.jobs C.answers e told answered run.old crew.old start
-        → IsGatheringAhead ahead.old run.old.floor.limits late []
-        → e.number ≡ day → e.history ≡ history_of (K.told keeper.old)
-        → (now : State) × IsOn run.old.floor.limits late e ahead.old ahead.new (S.left source.old) (S.left source.new)
-        (O.written sink.old) (O.written sink.new) (P.posted publisher.old) (P.posted publisher.new) now
-        × (now.settled ≡ length now.fed) × (n ≡ now.settled)
-        × Runs C.out C.number C.holds C.gave C.exact C.jobs C.answers e told answered run.new crew.new now
+        (late : ℕ) → RunsBy C.Crew e told answered run.old crew.old start
+        → IsGatheringAhead ahead.old run.old.floor.limits late [] → e.number ≡ day
+        → e.history ≡ history_of (K.told keeper.old) → (now : State)
+        × IsOn run.old.floor.limits late e ahead.old ahead.new (S.left source.old) (S.left source.new) (O.written
+        sink.old) (O.written sink.new) (P.posted publisher.old) (P.posted publisher.new) now
+        × (now.settled ≡ length now.fed) × (n ≡ now.settled) × RunsBy C.Crew e told answered run.new crew.new now
         × IsPlanned plan.now.turns run.old.floor.inboxes.width run.old.floor.limits.backlog now) }
-    ensures halted { IfErr result (λ fault.
-        (e : Setting) (told : Option CrewTold) (answered : Option (List Finding)) (late : ℕ)
-        → Runs C.out C.number C.holds C.gave C.exact C.jobs C.answers e told answered run.old crew.old start
-        → IsGatheringAhead ahead.old run.old.floor.limits late []
-        → e.number ≡ day → e.history ≡ history_of (K.told keeper.old)
-        → IsCutDay C.out C.number C.holds C.gave C.exact C.jobs fault e told run.old.floor.inboxes.width
-        run.old.floor.limits late ahead.old (S.left source.old)
-        (O.written sink.old) (O.written sink.new) (P.posted publisher.old) (P.posted publisher.new) run.new crew.new) }
+    ensures halted { IfErr result (λ fault. (e : Setting) (told : Option CrewTold) (answered : Option (List Finding))
+        (late : ℕ) → RunsBy C.Crew e told answered run.old crew.old start
+        → IsGatheringAhead ahead.old run.old.floor.limits late [] → e.number ≡ day
+        → e.history ≡ history_of (K.told keeper.old)
+        → IsCutDayBy C.Crew fault e told run.old.floor.inboxes.width run.old.floor.limits late ahead.old (S.left
+        source.old) (O.written sink.old) (O.written sink.new) (P.posted publisher.old) (P.posted publisher.new) run.new
+        crew.new) }
     ensures read { (lines : ℕ) (bytes : List ℕ) → HasReadAhead ahead.old lines (S.left source.old) bytes
         → HasReadAhead ahead.new lines (S.left source.new) bytes }
     ensures source_same { S.name source.new ≡ S.name source.old }

@@ -13,10 +13,10 @@ ghost use Rattle.settling.specs.Boards.{IsAbreast};
 ghost use Rattle.watermark.specs.Shares.{State};
 ghost use Rattle.watermark.specs.Written.{settled_charges};
 ghost use Rattle.watermark.specs.Floors.{Setting};
-ghost use Rattle.day_rounds.specs.Runs.{Runs, CanFeedAll};
+ghost use Rattle.day_rounds.specs.Runs.{RunsBy, CanFeedAll};
 ghost use Rattle.day_rounds.specs.Rounds.{IsSettled};
 ghost use Rattle.day_rounds.specs.Readers.{HasGiven};
-ghost use Rattle.day_rounds.specs.Halts.{IsHalted};
+ghost use Rattle.day_rounds.specs.Halts.{IsHaltedBy};
 ghost use Rattle.day_rounds.specs.Faults.{IsCounted, IsCountedAhead};
 ghost use Rattle.day_rounds.specs.Asked.{AsksUntil, keeper_stopped};
 ghost use Rattle.day_rounds.specs.declared.fault.DayFault.TheVariants.{ReadFault, WriteFault, KeeperFault};
@@ -53,39 +53,33 @@ pub fn next_round<C: Crew, S: Source, K: Keeper, O: Sink, P: Publisher, R: Threa
     requires unfailed { HasFailedAhead ahead.old → ⊥ }
     requires full { length these.old.items < run.old.floor.limits.backlog → has_more ahead.old ≡ false }
     requires runs { (e : Setting) × (told : Option CrewTold) × (answered : Option (List Finding)) × (s : State)
-        × Runs C.out C.number C.holds C.gave C.exact C.jobs C.answers e told answered run.old crew.old s
-        × CanFeedAll run.old.floor.limits s these.old.items
+        × RunsBy C.Crew e told answered run.old crew.old s × CanFeedAll run.old.floor.limits s these.old.items
         × (e.number ≡ day) × (e.history ≡ history_of (K.told keeper.old))
         × IsAbreast (P.posted publisher.old) (sum_of (settled_charges s)) × (s.settled ≡ length s.fed) }
     ensures width { run.new.floor.inboxes.width ≡ run.old.floor.inboxes.width }
     ensures limits { run.new.floor.limits ≡ run.old.floor.limits }
     ensures crew { C.which crew.new ≡ C.which crew.old }
     ensures none { OnOk result (run.new.tickets.items ≡ []) }
-    ensures done { IfOk result (λ n.
-        (e : Setting) (told : Option CrewTold) (answered : Option (List Finding)) (s : State)
-        → Runs C.out C.number C.holds C.gave C.exact C.jobs C.answers e told answered run.old crew.old s
-        → CanFeedAll run.old.floor.limits s these.old.items
-        → e.number ≡ day → e.history ≡ history_of (K.told keeper.old)
-        → (now : State)
+    ensures done { IfOk result (λ n. (e : Setting) (told : Option CrewTold) (answered : Option (List Finding))
+        (s : State) → RunsBy C.Crew e told answered run.old crew.old s
+        → CanFeedAll run.old.floor.limits s these.old.items → e.number ≡ day
+        → e.history ≡ history_of (K.told keeper.old) → (now : State)
         × IsSettled run.old.floor.inboxes.width run.old.floor.limits.backlog e s these.old.items (O.written sink.old)
-        (O.written sink.new)
-        (P.posted publisher.old) (P.posted publisher.new) now
-        × (n ≡ now.settled) × Runs C.out C.number C.holds C.gave C.exact C.jobs C.answers e told answered run.new
-        crew.new now
+        (O.written sink.new) (P.posted publisher.old) (P.posted publisher.new) now × (n ≡ now.settled)
+        × RunsBy C.Crew e told answered run.new crew.new now
         × IsAbreast (P.posted publisher.new) (sum_of (settled_charges now))) }
     ensures given { OnOk result ((limits : DayLimits) (late : ℕ)
         → HasGiven limits late these.new.items ahead.old ahead.new (S.left source.old) (S.left source.new)) }
     ensures few { OnOk result (length these.new.items ≤ run.old.floor.limits.backlog) }
     ensures ended { OnOk result (has_more ahead.old ≡ false → these.new.items ≡ []) }
     ensures full { OnOk result (length these.new.items < run.old.floor.limits.backlog → has_more ahead.new ≡ false) }
-    ensures halted { IfErr result (λ fault.
-        (e : Setting) (told : Option CrewTold) (answered : Option (List Finding)) (late : ℕ) (s : State)
-        → Runs C.out C.number C.holds C.gave C.exact C.jobs C.answers e told answered run.old crew.old s
-        → CanFeedAll run.old.floor.limits s these.old.items
-        → e.number ≡ day → e.history ≡ history_of (K.told keeper.old)
-        → IsHalted C.out C.number C.holds C.gave C.exact C.jobs fault e told run.old.floor.inboxes.width
-        run.old.floor.limits late s (s.fed ++ these.old.items) ahead.old (S.left source.old)
-        (O.written sink.old) (O.written sink.new) (P.posted publisher.old) (P.posted publisher.new) run.new crew.new) }
+    ensures halted { IfErr result (λ fault. (e : Setting) (told : Option CrewTold) (answered : Option (List Finding))
+        (late : ℕ) (s : State) → RunsBy C.Crew e told answered run.old crew.old s
+        → CanFeedAll run.old.floor.limits s these.old.items → e.number ≡ day
+        → e.history ≡ history_of (K.told keeper.old)
+        → IsHaltedBy C.Crew fault e told run.old.floor.inboxes.width run.old.floor.limits late s (s.fed ++
+        these.old.items) ahead.old (S.left source.old) (O.written sink.old) (O.written sink.new) (P.posted
+        publisher.old) (P.posted publisher.new) run.new crew.new) }
     ensures unfailed { OnOk result (HasFailedAhead ahead.new → ⊥) }
     ensures read { (lines : ℕ) (bytes : List ℕ) → HasReadAhead ahead.old lines (S.left source.old) bytes
         → HasReadAhead ahead.new lines (S.left source.new) bytes }

@@ -16,7 +16,7 @@ ghost use Rattle.settling.specs.Faults.{SinkFaults, KeeperFaults, keeper_failed}
 ghost use Rattle.watermark.specs.Shares.{State};
 ghost use Rattle.watermark.specs.Written.{settled_charges};
 ghost use Rattle.watermark.specs.Floors.{Setting};
-ghost use Rattle.day_rounds.specs.Runs.{Runs, Stopped, CanFeedAll};
+ghost use Rattle.day_rounds.specs.Runs.{RunsBy, StoppedBy, CanFeedAll};
 ghost use Rattle.day_rounds.specs.Readers.{HasReadOn};
 ghost use Rattle.day_rounds.specs.Rounds.{IsSettled};
 ghost use Rattle.day_rounds.specs.Published.{published_of};
@@ -58,8 +58,7 @@ pub fn round<C: Crew, S: Source, K: Keeper, O: Sink, P: Publisher, R: Threads>(
     requires unfailed { HasFailedAhead ahead.old → ⊥ }
     requires unstopped { stop.old ≡ None }
     requires runs { (e : Setting) × (told : Option CrewTold) × (answered : Option (List Finding)) × (s : State)
-        × Runs C.out C.number C.holds C.gave C.exact C.jobs C.answers e told answered run.old crew.old s
-        × CanFeedAll run.old.floor.limits s these.old.items
+        × RunsBy C.Crew e told answered run.old crew.old s × CanFeedAll run.old.floor.limits s these.old.items
         × (e.number ≡ day) × (e.history ≡ history_of (K.told keeper.old))
         × IsAbreast (P.posted publisher.old) (sum_of (settled_charges s)) }
     ensures width { run.new.floor.inboxes.width ≡ run.old.floor.inboxes.width }
@@ -67,30 +66,23 @@ pub fn round<C: Crew, S: Source, K: Keeper, O: Sink, P: Publisher, R: Threads>(
     ensures crew { C.which crew.new ≡ C.which crew.old }
     ensures none { OnOk result (run.new.tickets.items ≡ []) }
     ensures done { IfOk result (λ n. (e : Setting) (told : Option CrewTold) (answered : Option (List Finding))
-        (s : State)
-        → Runs C.out C.number C.holds C.gave C.exact C.jobs C.answers e told answered run.old crew.old s
-        → CanFeedAll run.old.floor.limits s these.old.items
-        → e.number ≡ day → e.history ≡ history_of (K.told keeper.old)
-        → (now : State)
+        (s : State) → RunsBy C.Crew e told answered run.old crew.old s
+        → CanFeedAll run.old.floor.limits s these.old.items → e.number ≡ day
+        → e.history ≡ history_of (K.told keeper.old) → (now : State)
         × IsSettled run.old.floor.inboxes.width run.old.floor.limits.backlog e s these.old.items (O.written sink.old)
-        (O.written sink.new)
-        (P.posted publisher.old) (P.posted publisher.new) now
-        × (n ≡ now.settled)
-        × Runs C.out C.number C.holds C.gave C.exact C.jobs C.answers e told answered run.new crew.new now
+        (O.written sink.new) (P.posted publisher.old) (P.posted publisher.new) now × (n ≡ now.settled)
+        × RunsBy C.Crew e told answered run.new crew.new now
         × IsAbreast (P.posted publisher.new) (sum_of (settled_charges now))) }
     ensures stopped { OnErr result ((e : Setting) (told : Option CrewTold) (answered : Option (List Finding))
-        (s : State)
-        → Runs C.out C.number C.holds C.gave C.exact C.jobs C.answers e told answered run.old crew.old s
-        → CanFeedAll run.old.floor.limits s these.old.items
-        → (whole : List RoadTuple) → AreFirst (s.fed ++ these.old.items) whole
-        → Stopped C.out C.number C.holds C.gave C.jobs told run.old.floor.inboxes.width run.old.floor.limits whole
-        run.new crew.new) }
-    ensures front { IfErr result (λ fault.
-        (e : Setting) (told : Option CrewTold) (answered : Option (List Finding)) (s : State)
-        → Runs C.out C.number C.holds C.gave C.exact C.jobs C.answers e told answered run.old crew.old s
-        → CanFeedAll run.old.floor.limits s these.old.items
-        → e.number ≡ day → e.history ≡ history_of (K.told keeper.old) → C.exact ≡ true
-        → (first : Option (List ℕ)) → HasText e s first (O.written sink.old)
+        (s : State) → RunsBy C.Crew e told answered run.old crew.old s
+        → CanFeedAll run.old.floor.limits s these.old.items → (whole : List RoadTuple)
+        → AreFirst (s.fed ++ these.old.items) whole
+        → StoppedBy C.Crew told run.old.floor.inboxes.width run.old.floor.limits whole run.new crew.new) }
+    ensures front { IfErr result (λ fault. (e : Setting) (told : Option CrewTold) (answered : Option (List Finding))
+        (s : State) → RunsBy C.Crew e told answered run.old crew.old s
+        → CanFeedAll run.old.floor.limits s these.old.items → e.number ≡ day
+        → e.history ≡ history_of (K.told keeper.old) → C.exact ≡ true → (first : Option (List ℕ))
+        → HasText e s first (O.written sink.old)
         → HasFront fault e (s.fed ++ these.old.items) first (O.written sink.new)) }
     ensures published { OnErr result (published_of (P.posted publisher.new) ≡ published_of (P.posted publisher.old)) }
     ensures read_on { OnOk result (HasReadOn stop.new count these.new.items ahead.old ahead.new

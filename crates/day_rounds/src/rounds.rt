@@ -11,7 +11,7 @@ ghost use Rattle.partition_workers.specs.Told.{CrewTold};
 ghost use Rattle.watermark.specs.Shares.{State};
 ghost use Rattle.watermark.specs.Floors.{Setting, StandsFor};
 ghost use Rattle.day_rounds.specs.Readers.{HasReadOn};
-ghost use Rattle.day_rounds.specs.Runs.{Runs, Stopped, CanFeedAll, OnlyTakesBack, HaveComeInOrder, IsDone, after_feeds};
+ghost use Rattle.day_rounds.specs.Runs.{RunsBy, StoppedBy, CanFeedAll, OnlyTakesBack, HaveComeInOrder, IsDone, after_feeds};
 ghost use Rattle.day_rounds.specs.Runs.{given_all};
 
 use crate::begun::Import;
@@ -48,19 +48,16 @@ pub fn give_all<C: Crew>(
 ) -> Result<(), NoMemory>
     requires width { width ≡ run.old.floor.inboxes.width }
     requires runs { (e : Setting) × (told : Option CrewTold) × (answered : Option (List Finding)) × (s : State)
-        × Runs C.out C.number C.holds C.gave C.exact C.jobs C.answers e told answered run.old crew.old s }
+        × RunsBy C.Crew e told answered run.old crew.old s }
     ensures width { run.new.floor.inboxes.width ≡ run.old.floor.inboxes.width }
     ensures limits { run.new.floor.limits ≡ run.old.floor.limits }
     ensures which { C.which crew.new ≡ C.which crew.old }
     ensures given { OnOk result ((e : Setting) (told : Option CrewTold) (answered : Option (List Finding)) (s : State)
-        → Runs C.out C.number C.holds C.gave C.exact C.jobs C.answers e told answered run.old crew.old s
-        → Runs C.out C.number C.holds C.gave C.exact C.jobs C.answers e told answered run.new crew.new
-        (given_all s width)) }
+        → RunsBy C.Crew e told answered run.old crew.old s
+        → RunsBy C.Crew e told answered run.new crew.new (given_all s width)) }
     ensures refused { OnErr result ((e : Setting) (told : Option CrewTold) (answered : Option (List Finding))
-        (s : State)
-        → Runs C.out C.number C.holds C.gave C.exact C.jobs C.answers e told answered run.old crew.old s
-        → (n : ℕ) × Runs C.out C.number C.holds C.gave C.exact C.jobs C.answers e told answered run.new crew.new
-        (given_all s n)) }
+        (s : State) → RunsBy C.Crew e told answered run.old crew.old s → (n : ℕ)
+        × RunsBy C.Crew e told answered run.new crew.new (given_all s n)) }
 {
     for worker in 0..width {
         give_one(run, crew, worker)?;
@@ -71,21 +68,17 @@ pub fn give_all<C: Crew>(
 /// Finishes all jobs that are out, in the order of their starts. After a refusal the floor serves no more.
 pub fn finish_firsts<C: Crew>(run: &mut Import<C::Ticket>, crew: &mut C) -> Result<(), NoMemory>
     requires runs { (e : Setting) × (told : Option CrewTold) × (answered : Option (List Finding)) × (s : State)
-        × Runs C.out C.number C.holds C.gave C.exact C.jobs C.answers e told answered run.old crew.old s }
+        × RunsBy C.Crew e told answered run.old crew.old s }
     ensures width { run.new.floor.inboxes.width ≡ run.old.floor.inboxes.width }
     ensures limits { run.new.floor.limits ≡ run.old.floor.limits }
     ensures which { C.which crew.new ≡ C.which crew.old }
     ensures none { OnOk result (run.new.tickets.items ≡ []) }
     ensures came { OnOk result ((e : Setting) (told : Option CrewTold) (answered : Option (List Finding)) (s : State)
-        → Runs C.out C.number C.holds C.gave C.exact C.jobs C.answers e told answered run.old crew.old s
-        → (now : State) × OnlyTakesBack s now × HaveComeInOrder s now
-        × Runs C.out C.number C.holds C.gave C.exact C.jobs C.answers e told answered run.new crew.new now) }
+        → RunsBy C.Crew e told answered run.old crew.old s → (now : State) × OnlyTakesBack s now × HaveComeInOrder s now
+        × RunsBy C.Crew e told answered run.new crew.new now) }
     ensures stopped { OnErr result ((e : Setting) (told : Option CrewTold) (answered : Option (List Finding))
-        (s : State)
-        → Runs C.out C.number C.holds C.gave C.exact C.jobs C.answers e told answered run.old crew.old s
-        → (day : List RoadTuple) → AreFirst s.fed day
-        → Stopped C.out C.number C.holds C.gave C.jobs told run.old.floor.inboxes.width run.old.floor.limits day run.new
-        crew.new) }
+        (s : State) → RunsBy C.Crew e told answered run.old crew.old s → (day : List RoadTuple) → AreFirst s.fed day
+        → StoppedBy C.Crew told run.old.floor.inboxes.width run.old.floor.limits day run.new crew.new) }
 {
     while !run.tickets.is_empty() {
         finish_one(run, crew, 0)?;
@@ -109,8 +102,7 @@ pub fn work_round<C: Crew, S: Source, R: Threads>(
 ) -> Result<(), NoMemory>
     requires width { width ≡ run.old.floor.inboxes.width }
     requires runs { (e : Setting) × (told : Option CrewTold) × (answered : Option (List Finding)) × (s : State)
-        × Runs C.out C.number C.holds C.gave C.exact C.jobs C.answers e told answered run.old crew.old s
-        × CanFeedAll run.old.floor.limits s these.old.items }
+        × RunsBy C.Crew e told answered run.old crew.old s × CanFeedAll run.old.floor.limits s these.old.items }
     requires none { run.old.tickets.items ≡ [] }
     requires unfailed { HasFailedAhead ahead.old → ⊥ }
     requires unstopped { stop.old ≡ None }
@@ -119,17 +111,14 @@ pub fn work_round<C: Crew, S: Source, R: Threads>(
     ensures which { C.which crew.new ≡ C.which crew.old }
     ensures none { OnOk result (run.new.tickets.items ≡ []) }
     ensures done { OnOk result ((e : Setting) (told : Option CrewTold) (answered : Option (List Finding)) (s : State)
-        → Runs C.out C.number C.holds C.gave C.exact C.jobs C.answers e told answered run.old crew.old s
-        → CanFeedAll run.old.floor.limits s these.old.items
+        → RunsBy C.Crew e told answered run.old crew.old s → CanFeedAll run.old.floor.limits s these.old.items
         → (now : State) × IsDone run.old.floor.inboxes.width s these.old.items now
-        × Runs C.out C.number C.holds C.gave C.exact C.jobs C.answers e told answered run.new crew.new now) }
+        × RunsBy C.Crew e told answered run.new crew.new now) }
     ensures stopped { OnErr result ((e : Setting) (told : Option CrewTold) (answered : Option (List Finding))
-        (s : State)
-        → Runs C.out C.number C.holds C.gave C.exact C.jobs C.answers e told answered run.old crew.old s
-        → CanFeedAll run.old.floor.limits s these.old.items
-        → (day : List RoadTuple) → AreFirst (s.fed ++ these.old.items) day
-        → Stopped C.out C.number C.holds C.gave C.jobs told run.old.floor.inboxes.width run.old.floor.limits day run.new
-        crew.new) }
+        (s : State) → RunsBy C.Crew e told answered run.old crew.old s
+        → CanFeedAll run.old.floor.limits s these.old.items → (day : List RoadTuple)
+        → AreFirst (s.fed ++ these.old.items) day
+        → StoppedBy C.Crew told run.old.floor.inboxes.width run.old.floor.limits day run.new crew.new) }
     ensures read_on { OnOk result (HasReadOn stop.new count these.new.items ahead.old ahead.new
         (S.left source.old) (S.left source.new)) }
     ensures read { (lines : ℕ) (bytes : List ℕ) → HasReadAhead ahead.old lines (S.left source.old) bytes

@@ -14,11 +14,11 @@ ghost use Rattle.draws.specs.Draws.{drawn};
 ghost use Rattle.watermark.specs.Shares.{State};
 ghost use Rattle.watermark.specs.Written.{settled_charges};
 ghost use Rattle.watermark.specs.Floors.{Setting};
-ghost use Rattle.day_rounds.specs.Runs.{Runs};
+ghost use Rattle.day_rounds.specs.Runs.{RunsBy};
 ghost use Rattle.day_rounds.specs.Turns.{IsTurned};
 ghost use Rattle.day_rounds.specs.Drawn.{DrawsTurn, HasMade};
 ghost use Rattle.day_rounds.specs.Readers.{HasGiven};
-ghost use Rattle.day_rounds.specs.Halts.{IsHalted};
+ghost use Rattle.day_rounds.specs.Halts.{IsHaltedBy};
 ghost use Rattle.day_rounds.specs.Faults.{IsCounted};
 ghost use Rattle.day_rounds.specs.Asked.{AsksUntil, keeper_stopped};
 ghost use Rattle.day_rounds.specs.declared.fault.DayFault.TheVariants.{ReadFault, WriteFault, KeeperFault};
@@ -70,39 +70,37 @@ pub fn next_turn<C: Crew, S: Source, K: Keeper, O: Sink, P: Publisher, R: Thread
 ) -> Result<u64, DayFault>
     requires width { width ≡ run.old.floor.inboxes.width }
     requires unfailed { HasFailedAhead ahead.old → ⊥ }
-    requires runs { (e : Setting) × (told : Option CrewTold) × (answered : Option (List Finding)) × (late : ℕ) ×
-        (s : State)
-        × Runs C.out C.number C.holds C.gave C.exact C.jobs C.answers e told answered run.old crew.old s
-        × IsGatheringAhead ahead.old run.old.floor.limits late s.fed
-        × (e.number ≡ day) × (e.history ≡ history_of (K.told keeper.old))
+    requires runs { (e : Setting) × (told : Option CrewTold) × (answered : Option (List Finding)) × (late : ℕ)
+        × (s : State) × RunsBy C.Crew e told answered run.old crew.old s
+        × IsGatheringAhead ahead.old run.old.floor.limits late s.fed × (e.number ≡ day)
+        × (e.history ≡ history_of (K.told keeper.old))
         × IsAbreast (P.posted publisher.old) (sum_of (settled_charges s)) }
     ensures width { run.new.floor.inboxes.width ≡ run.old.floor.inboxes.width }
     ensures limits { run.new.floor.limits ≡ run.old.floor.limits }
     ensures crew { C.which crew.new ≡ C.which crew.old }
     ensures done { IfOk result (λ n.
         (e : Setting) (told : Option CrewTold) (answered : Option (List Finding)) (late : ℕ) (s : State)
-        → Runs C.out C.number C.holds C.gave C.exact C.jobs C.answers e told answered run.old crew.old s
+        → RunsBy C.Crew e told answered run.old crew.old s
         → IsGatheringAhead ahead.old run.old.floor.limits late s.fed
         → e.number ≡ day → e.history ≡ history_of (K.told keeper.old)
         → (xs : List RoadTuple) × (now : State) × (k : ℕ)
         × HasGiven run.old.floor.limits late xs ahead.old ahead.new (S.left source.old) (S.left source.new)
         × IsTurned run.old.floor.inboxes.width run.old.floor.limits.backlog k e s xs (O.written sink.old)
         (O.written sink.new) (P.posted publisher.old) (P.posted publisher.new) now
-        × (n ≡ now.settled) × Runs C.out C.number C.holds C.gave C.exact C.jobs C.answers e told answered run.new
+        × (n ≡ now.settled) × RunsBy C.Crew e told answered run.new
         crew.new now
         × IsAbreast (P.posted publisher.new) (sum_of (settled_charges now))
         × (s.settled ≡ length s.fed → has_more ahead.old ≡ true → 1 ≤ length xs)
         × DrawsTurn run.old.floor.limits.backlog s rng.old xs (has_more ahead.old) (has_more ahead.new)
         × ((backs : List (ℕ × List (ℕ × RoadFinding))) × HasMade width run.old.floor.limits.backlog
         (record { before = s; generator = rng.old; more = has_more ahead.old; xs = xs; backs = backs }) now rng.new)) }
-    ensures halted { IfErr result (λ fault.
-        (e : Setting) (told : Option CrewTold) (answered : Option (List Finding)) (late : ℕ) (s : State)
-        → Runs C.out C.number C.holds C.gave C.exact C.jobs C.answers e told answered run.old crew.old s
-        → IsGatheringAhead ahead.old run.old.floor.limits late s.fed
-        → e.number ≡ day → e.history ≡ history_of (K.told keeper.old)
-        → IsHalted C.out C.number C.holds C.gave C.exact C.jobs fault e told run.old.floor.inboxes.width
-        run.old.floor.limits late s s.fed ahead.old (S.left source.old)
-        (O.written sink.old) (O.written sink.new) (P.posted publisher.old) (P.posted publisher.new) run.new crew.new) }
+    ensures halted { IfErr result (λ fault. (e : Setting) (told : Option CrewTold) (answered : Option (List Finding))
+        (late : ℕ) (s : State) → RunsBy C.Crew e told answered run.old crew.old s
+        → IsGatheringAhead ahead.old run.old.floor.limits late s.fed → e.number ≡ day
+        → e.history ≡ history_of (K.told keeper.old)
+        → IsHaltedBy C.Crew fault e told run.old.floor.inboxes.width run.old.floor.limits late s s.fed ahead.old (S.left
+        source.old) (O.written sink.old) (O.written sink.new) (P.posted publisher.old) (P.posted publisher.new) run.new
+        crew.new) }
     ensures unfailed { OnOk result (HasFailedAhead ahead.new → ⊥) }
     ensures read { (lines : ℕ) (bytes : List ℕ) → HasReadAhead ahead.old lines (S.left source.old) bytes
         → HasReadAhead ahead.new lines (S.left source.new) bytes }

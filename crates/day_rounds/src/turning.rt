@@ -8,7 +8,7 @@ ghost use Rattle.expressway.specs.declared.finding.Finding.{Finding};
 ghost use Rattle.partition_workers.specs.Told.{CrewTold};
 ghost use Rattle.watermark.specs.Shares.{State, mark};
 ghost use Rattle.watermark.specs.Floors.{Setting};
-ghost use Rattle.day_rounds.specs.Runs.{Runs, Stopped, after_backs};
+ghost use Rattle.day_rounds.specs.Runs.{RunsBy, StoppedBy, after_backs};
 ghost use Rattle.day_rounds.specs.Turns.{IsGiven, IsMoved};
 ghost use Rattle.day_rounds.specs.Tasks.{out_at};
 ghost use Rattle.day_rounds.specs.Drawn.{given_drawn, given_where, given_least, after_giving, ComeAsDrawn, AreFinished};
@@ -39,14 +39,13 @@ pub fn give_drawn<C: Crew>(
 ) -> Result<(), NoMemory>
     requires width { width ≡ run.old.floor.inboxes.width }
     requires runs { (e : Setting) × (told : Option CrewTold) × (answered : Option (List Finding)) × (s : State)
-        × Runs C.out C.number C.holds C.gave C.exact C.jobs C.answers e told answered run.old crew.old s }
+        × RunsBy C.Crew e told answered run.old crew.old s }
     ensures width { run.new.floor.inboxes.width ≡ run.old.floor.inboxes.width }
     ensures limits { run.new.floor.limits ≡ run.old.floor.limits }
     ensures which { C.which crew.new ≡ C.which crew.old }
     ensures given { (e : Setting) (told : Option CrewTold) (answered : Option (List Finding)) (s : State)
-        → Runs C.out C.number C.holds C.gave C.exact C.jobs C.answers e told answered run.old crew.old s
-        → (now : State) × (k : ℕ) × IsGiven run.old.floor.inboxes.width k s now
-        × Runs C.out C.number C.holds C.gave C.exact C.jobs C.answers e told answered run.new crew.new now
+        → RunsBy C.Crew e told answered run.old crew.old s → (now : State) × (k : ℕ)
+        × IsGiven run.old.floor.inboxes.width k s now × RunsBy C.Crew e told answered run.new crew.new now
         × OnOk result (now ≡ given_drawn width width rng.old s) }
     ensures drawn { OnOk result (rng.new ≡ after_draws width rng.old) }
 {
@@ -65,21 +64,19 @@ fn give_if_none<C: Crew>(
 ) -> Result<(), NoMemory>
     requires within { worker < run.old.floor.inboxes.width }
     requires runs { (e : Setting) × (told : Option CrewTold) × (answered : Option (List Finding)) × (s : State)
-        × Runs C.out C.number C.holds C.gave C.exact C.jobs C.answers e told answered run.old crew.old s }
+        × RunsBy C.Crew e told answered run.old crew.old s }
     ensures width { run.new.floor.inboxes.width ≡ run.old.floor.inboxes.width }
     ensures limits { run.new.floor.limits ≡ run.old.floor.limits }
     ensures which { C.which crew.new ≡ C.which crew.old }
     ensures given { OnOk result ((e : Setting) (told : Option CrewTold) (answered : Option (List Finding)) (s : State)
-        → Runs C.out C.number C.holds C.gave C.exact C.jobs C.answers e told answered run.old crew.old s
-        → (now : State) × (k : ℕ) × IsGiven run.old.floor.inboxes.width k s now
-        × Runs C.out C.number C.holds C.gave C.exact C.jobs C.answers e told answered run.new crew.new now
+        → RunsBy C.Crew e told answered run.old crew.old s → (now : State) × (k : ℕ)
+        × IsGiven run.old.floor.inboxes.width k s now × RunsBy C.Crew e told answered run.new crew.new now
         × (((run.old.tickets.items ≡ []) → (v : ℕ) → v < worker → (s.share v).waiting ≡ []) → run.new.tickets.items ≡ []
         → (v : ℕ) → v < worker + 1 → (now.share v).waiting ≡ [])
         × (now ≡ given_where (out_at s.share run.old.floor.inboxes.width) s worker)) }
     ensures refused { OnErr result ((e : Setting) (told : Option CrewTold) (answered : Option (List Finding))
-        (s : State)
-        → Runs C.out C.number C.holds C.gave C.exact C.jobs C.answers e told answered run.old crew.old s
-        → Runs C.out C.number C.holds C.gave C.exact C.jobs C.answers e told answered run.new crew.new s) }
+        (s : State) → RunsBy C.Crew e told answered run.old crew.old s
+        → RunsBy C.Crew e told answered run.new crew.new s) }
 {
     if !run.tickets.is_empty() {
         return Ok(());
@@ -95,21 +92,18 @@ pub fn give_least<C: Crew>(
 ) -> Result<(), NoMemory>
     requires width { width ≡ run.old.floor.inboxes.width }
     requires runs { (e : Setting) × (told : Option CrewTold) × (answered : Option (List Finding)) × (s : State)
-        × Runs C.out C.number C.holds C.gave C.exact C.jobs C.answers e told answered run.old crew.old s }
+        × RunsBy C.Crew e told answered run.old crew.old s }
     ensures width { run.new.floor.inboxes.width ≡ run.old.floor.inboxes.width }
     ensures limits { run.new.floor.limits ≡ run.old.floor.limits }
     ensures which { C.which crew.new ≡ C.which crew.old }
     ensures given { OnOk result ((e : Setting) (told : Option CrewTold) (answered : Option (List Finding)) (s : State)
-        → Runs C.out C.number C.holds C.gave C.exact C.jobs C.answers e told answered run.old crew.old s
-        → (now : State) × (k : ℕ) × IsGiven run.old.floor.inboxes.width k s now
-        × Runs C.out C.number C.holds C.gave C.exact C.jobs C.answers e told answered run.new crew.new now
+        → RunsBy C.Crew e told answered run.old crew.old s → (now : State) × (k : ℕ)
+        × IsGiven run.old.floor.inboxes.width k s now × RunsBy C.Crew e told answered run.new crew.new now
         × (run.new.tickets.items ≡ [] → (worker : ℕ) → worker < width → (now.share worker).waiting ≡ [])
         × (now ≡ given_least run.old.floor.inboxes.width width s)) }
     ensures refused { OnErr result ((e : Setting) (told : Option CrewTold) (answered : Option (List Finding))
-        (s : State)
-        → Runs C.out C.number C.holds C.gave C.exact C.jobs C.answers e told answered run.old crew.old s
-        → (now : State) × (k : ℕ) × IsGiven run.old.floor.inboxes.width k s now
-        × Runs C.out C.number C.holds C.gave C.exact C.jobs C.answers e told answered run.new crew.new now) }
+        (s : State) → RunsBy C.Crew e told answered run.old crew.old s → (now : State) × (k : ℕ)
+        × IsGiven run.old.floor.inboxes.width k s now × RunsBy C.Crew e told answered run.new crew.new now) }
 {
     for worker in 0..width {
         give_if_none(run, crew, worker)?;
@@ -124,25 +118,21 @@ pub fn finish_drawn<C: Crew>(
     rng: &mut Lcg64Xsh32,
 ) -> Result<(), NoMemory>
     requires runs { (e : Setting) × (told : Option CrewTold) × (answered : Option (List Finding)) × (s : State)
-        × Runs C.out C.number C.holds C.gave C.exact C.jobs C.answers e told answered run.old crew.old s }
+        × RunsBy C.Crew e told answered run.old crew.old s }
     ensures width { run.new.floor.inboxes.width ≡ run.old.floor.inboxes.width }
     ensures limits { run.new.floor.limits ≡ run.old.floor.limits }
     ensures which { C.which crew.new ≡ C.which crew.old }
     ensures came { OnOk result ((e : Setting) (told : Option CrewTold) (answered : Option (List Finding)) (s : State)
-        → Runs C.out C.number C.holds C.gave C.exact C.jobs C.answers e told answered run.old crew.old s
-        → (now : State) × (k : ℕ) × IsMoved run.old.floor.inboxes.width k s now
+        → RunsBy C.Crew e told answered run.old crew.old s → (now : State) × (k : ℕ)
+        × IsMoved run.old.floor.inboxes.width k s now
         × (length run.new.tickets.items + k ≡ length run.old.tickets.items)
-        × Runs C.out C.number C.holds C.gave C.exact C.jobs C.answers e told answered run.new crew.new now
-        × ((backs : List (ℕ × List (ℕ × RoadFinding))) × (now ≡ after_backs s backs) × (length backs ≡ k)
-        × ComeAsDrawn rng.old s backs)) }
+        × RunsBy C.Crew e told answered run.new crew.new now × ((backs : List (ℕ × List (ℕ × RoadFinding)))
+        × (now ≡ after_backs s backs) × (length backs ≡ k) × ComeAsDrawn rng.old s backs)) }
     ensures some { OnOk result (1 ≤ length run.old.tickets.items
         → length run.new.tickets.items + 1 ≤ length run.old.tickets.items) }
     ensures stopped { OnErr result ((e : Setting) (told : Option CrewTold) (answered : Option (List Finding))
-        (s : State)
-        → Runs C.out C.number C.holds C.gave C.exact C.jobs C.answers e told answered run.old crew.old s
-        → (day : List RoadTuple) → AreFirst s.fed day
-        → Stopped C.out C.number C.holds C.gave C.jobs told run.old.floor.inboxes.width run.old.floor.limits day run.new
-        crew.new) }
+        (s : State) → RunsBy C.Crew e told answered run.old crew.old s → (day : List RoadTuple) → AreFirst s.fed day
+        → StoppedBy C.Crew told run.old.floor.inboxes.width run.old.floor.limits day run.new crew.new) }
     ensures none { OnOk result (length run.old.tickets.items ≡ 0 → rng.new ≡ rng.old) }
     ensures drawn { OnOk result (1 ≤ length run.old.tickets.items
         → (length run.new.tickets.items + (1 + (drawn (length run.old.tickets.items) rng.old).0)
@@ -171,23 +161,19 @@ pub fn work_turn<C: Crew>(
 ) -> Result<(), NoMemory>
     requires width { width ≡ run.old.floor.inboxes.width }
     requires runs { (e : Setting) × (told : Option CrewTold) × (answered : Option (List Finding)) × (s : State)
-        × Runs C.out C.number C.holds C.gave C.exact C.jobs C.answers e told answered run.old crew.old s }
+        × RunsBy C.Crew e told answered run.old crew.old s }
     ensures width { run.new.floor.inboxes.width ≡ run.old.floor.inboxes.width }
     ensures limits { run.new.floor.limits ≡ run.old.floor.limits }
     ensures which { C.which crew.new ≡ C.which crew.old }
     ensures worked { OnOk result ((e : Setting) (told : Option CrewTold) (answered : Option (List Finding)) (s : State)
-        → Runs C.out C.number C.holds C.gave C.exact C.jobs C.answers e told answered run.old crew.old s
-        → (now : State) × (k : ℕ) × IsMoved run.old.floor.inboxes.width k s now
-        × Runs C.out C.number C.holds C.gave C.exact C.jobs C.answers e told answered run.new crew.new now
-        × (k ≡ 0 → mark run.old.floor.inboxes.width s ≡ length s.fed)
-        × ((backs : List (ℕ × List (ℕ × RoadFinding))) × (now ≡ after_backs (after_giving width rng.old s) backs)
+        → RunsBy C.Crew e told answered run.old crew.old s → (now : State) × (k : ℕ)
+        × IsMoved run.old.floor.inboxes.width k s now × RunsBy C.Crew e told answered run.new crew.new now × (k ≡ 0
+        → mark run.old.floor.inboxes.width s ≡ length s.fed) × ((backs : List (ℕ × List (ℕ × RoadFinding)))
+        × (now ≡ after_backs (after_giving width rng.old s) backs)
         × AreFinished (after_giving width rng.old s) (after_draws width rng.old) rng.new backs)) }
     ensures stopped { OnErr result ((e : Setting) (told : Option CrewTold) (answered : Option (List Finding))
-        (s : State)
-        → Runs C.out C.number C.holds C.gave C.exact C.jobs C.answers e told answered run.old crew.old s
-        → (day : List RoadTuple) → AreFirst s.fed day
-        → Stopped C.out C.number C.holds C.gave C.jobs told run.old.floor.inboxes.width run.old.floor.limits day run.new
-        crew.new) }
+        (s : State) → RunsBy C.Crew e told answered run.old crew.old s → (day : List RoadTuple) → AreFirst s.fed day
+        → StoppedBy C.Crew told run.old.floor.inboxes.width run.old.floor.limits day run.new crew.new) }
 {
     give_drawn(run, crew, width, rng)?;
     give_least(run, crew, width)?;

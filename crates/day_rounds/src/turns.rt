@@ -14,7 +14,7 @@ ghost use Rattle.settling.specs.Faults.{SinkFaults, KeeperFaults, keeper_failed}
 ghost use Rattle.watermark.specs.Shares.{State, mark};
 ghost use Rattle.watermark.specs.Written.{settled_charges};
 ghost use Rattle.watermark.specs.Floors.{Setting};
-ghost use Rattle.day_rounds.specs.Runs.{Runs, Stopped, CanFeedAll, after_feeds, after_backs, settled_all};
+ghost use Rattle.day_rounds.specs.Runs.{RunsBy, StoppedBy, CanFeedAll, after_feeds, after_backs, settled_all};
 ghost use Rattle.day_rounds.specs.Turns.{IsMoved, IsTurned};
 ghost use Rattle.day_rounds.specs.Drawn.{AreFinished, after_giving};
 ghost use Rattle.day_rounds.specs.Published.{published_of};
@@ -43,31 +43,23 @@ pub fn feed_turn<C: Crew>(
 ) -> Result<(), NoMemory>
     requires width { width ≡ run.old.floor.inboxes.width }
     requires runs { (e : Setting) × (told : Option CrewTold) × (answered : Option (List Finding)) × (s : State)
-        × Runs C.out C.number C.holds C.gave C.exact C.jobs C.answers e told answered run.old crew.old s
-        × CanFeedAll run.old.floor.limits s these.now }
+        × RunsBy C.Crew e told answered run.old crew.old s × CanFeedAll run.old.floor.limits s these.now }
     ensures width { run.new.floor.inboxes.width ≡ run.old.floor.inboxes.width }
     ensures limits { run.new.floor.limits ≡ run.old.floor.limits }
     ensures which { C.which crew.new ≡ C.which crew.old }
     ensures worked { OnOk result ((e : Setting) (told : Option CrewTold) (answered : Option (List Finding)) (s : State)
-        → Runs C.out C.number C.holds C.gave C.exact C.jobs C.answers e told answered run.old crew.old s
-        → CanFeedAll run.old.floor.limits s these.now
-        → (now : State) × (k : ℕ)
-        × IsMoved run.old.floor.inboxes.width k (after_feeds run.old.floor.inboxes.width s these.now) now
-        × Runs C.out C.number C.holds C.gave C.exact C.jobs C.answers e told answered run.new crew.new now
-        × (k ≡ 0
-        → mark run.old.floor.inboxes.width (after_feeds run.old.floor.inboxes.width s these.now)
-        ≡ length (after_feeds run.old.floor.inboxes.width s these.now).fed)
-        × ((backs : List (ℕ × List (ℕ × RoadFinding))) × (now ≡ after_backs (after_giving width rng.old
-        (after_feeds run.old.floor.inboxes.width s these.now)) backs)
-        × AreFinished (after_giving width rng.old (after_feeds run.old.floor.inboxes.width s these.now))
-        (after_draws width rng.old) rng.new backs)) }
+        → RunsBy C.Crew e told answered run.old crew.old s → CanFeedAll run.old.floor.limits s these.now → (now : State)
+        × (k : ℕ) × IsMoved run.old.floor.inboxes.width k (after_feeds run.old.floor.inboxes.width s these.now) now
+        × RunsBy C.Crew e told answered run.new crew.new now × (k ≡ 0
+        → mark run.old.floor.inboxes.width (after_feeds run.old.floor.inboxes.width s these.now) ≡ length (after_feeds
+        run.old.floor.inboxes.width s these.now).fed) × ((backs : List (ℕ × List (ℕ × RoadFinding)))
+        × (now ≡ after_backs (after_giving width rng.old (after_feeds run.old.floor.inboxes.width s these.now)) backs)
+        × AreFinished (after_giving width rng.old (after_feeds run.old.floor.inboxes.width s these.now)) (after_draws
+        width rng.old) rng.new backs)) }
     ensures stopped { OnErr result ((e : Setting) (told : Option CrewTold) (answered : Option (List Finding))
-        (s : State)
-        → Runs C.out C.number C.holds C.gave C.exact C.jobs C.answers e told answered run.old crew.old s
-        → CanFeedAll run.old.floor.limits s these.now
+        (s : State) → RunsBy C.Crew e told answered run.old crew.old s → CanFeedAll run.old.floor.limits s these.now
         → (whole : List RoadTuple) → AreFirst (s.fed ++ these.now) whole
-        → Stopped C.out C.number C.holds C.gave C.jobs told run.old.floor.inboxes.width run.old.floor.limits whole
-        run.new crew.new) }
+        → StoppedBy C.Crew told run.old.floor.inboxes.width run.old.floor.limits whole run.new crew.new) }
 {
     feed_these(run, these)?;
     work_turn(run, crew, width, rng)
@@ -88,42 +80,32 @@ pub fn turn<C: Crew, K: Keeper, O: Sink, P: Publisher>(
 ) -> Result<u64, SettleFault>
     requires width { width ≡ run.old.floor.inboxes.width }
     requires runs { (e : Setting) × (told : Option CrewTold) × (answered : Option (List Finding)) × (s : State)
-        × Runs C.out C.number C.holds C.gave C.exact C.jobs C.answers e told answered run.old crew.old s
-        × CanFeedAll run.old.floor.limits s these.now
+        × RunsBy C.Crew e told answered run.old crew.old s × CanFeedAll run.old.floor.limits s these.now
         × (e.number ≡ day) × (e.history ≡ history_of (K.told keeper.old))
         × IsAbreast (P.posted publisher.old) (sum_of (settled_charges s)) }
     ensures width { run.new.floor.inboxes.width ≡ run.old.floor.inboxes.width }
     ensures limits { run.new.floor.limits ≡ run.old.floor.limits }
     ensures crew { C.which crew.new ≡ C.which crew.old }
     ensures done { IfOk result (λ n. (e : Setting) (told : Option CrewTold) (answered : Option (List Finding))
-        (s : State)
-        → Runs C.out C.number C.holds C.gave C.exact C.jobs C.answers e told answered run.old crew.old s
-        → CanFeedAll run.old.floor.limits s these.now
-        → e.number ≡ day → e.history ≡ history_of (K.told keeper.old)
-        → (now : State) × (k : ℕ)
+        (s : State) → RunsBy C.Crew e told answered run.old crew.old s → CanFeedAll run.old.floor.limits s these.now
+        → e.number ≡ day → e.history ≡ history_of (K.told keeper.old) → (now : State) × (k : ℕ)
         × IsTurned run.old.floor.inboxes.width run.old.floor.limits.backlog k e s these.now (O.written sink.old)
-        (O.written sink.new) (P.posted publisher.old) (P.posted publisher.new) now
-        × (n ≡ now.settled) × Runs C.out C.number C.holds C.gave C.exact C.jobs C.answers e told answered run.new
-        crew.new now
-        × IsAbreast (P.posted publisher.new) (sum_of (settled_charges now))
-        × ((backs : List (ℕ × List (ℕ × RoadFinding))) × (now ≡ settled_all run.old.floor.inboxes.width (after_backs
-        (after_giving width rng.old (after_feeds run.old.floor.inboxes.width s these.now)) backs))
-        × AreFinished (after_giving width rng.old (after_feeds run.old.floor.inboxes.width s these.now))
-        (after_draws width rng.old) rng.new backs)) }
+        (O.written sink.new) (P.posted publisher.old) (P.posted publisher.new) now × (n ≡ now.settled)
+        × RunsBy C.Crew e told answered run.new crew.new now
+        × IsAbreast (P.posted publisher.new) (sum_of (settled_charges now)) × ((backs : List (ℕ × List (ℕ
+        × RoadFinding)))
+        × (now ≡ settled_all run.old.floor.inboxes.width (after_backs (after_giving width rng.old (after_feeds
+        run.old.floor.inboxes.width s these.now)) backs))
+        × AreFinished (after_giving width rng.old (after_feeds run.old.floor.inboxes.width s these.now)) (after_draws
+        width rng.old) rng.new backs)) }
     ensures stopped { OnErr result ((e : Setting) (told : Option CrewTold) (answered : Option (List Finding))
-        (s : State)
-        → Runs C.out C.number C.holds C.gave C.exact C.jobs C.answers e told answered run.old crew.old s
-        → CanFeedAll run.old.floor.limits s these.now
+        (s : State) → RunsBy C.Crew e told answered run.old crew.old s → CanFeedAll run.old.floor.limits s these.now
         → (whole : List RoadTuple) → AreFirst (s.fed ++ these.now) whole
-        → Stopped C.out C.number C.holds C.gave C.jobs told run.old.floor.inboxes.width run.old.floor.limits whole
-        run.new crew.new) }
-    ensures front { IfErr result (λ fault.
-        (e : Setting) (told : Option CrewTold) (answered : Option (List Finding)) (s : State)
-        → Runs C.out C.number C.holds C.gave C.exact C.jobs C.answers e told answered run.old crew.old s
-        → CanFeedAll run.old.floor.limits s these.now
-        → e.number ≡ day → e.history ≡ history_of (K.told keeper.old) → C.exact ≡ true
-        → (first : Option (List ℕ)) → HasText e s first (O.written sink.old)
-        → HasFront fault e (s.fed ++ these.now) first (O.written sink.new)) }
+        → StoppedBy C.Crew told run.old.floor.inboxes.width run.old.floor.limits whole run.new crew.new) }
+    ensures front { IfErr result (λ fault. (e : Setting) (told : Option CrewTold) (answered : Option (List Finding))
+        (s : State) → RunsBy C.Crew e told answered run.old crew.old s → CanFeedAll run.old.floor.limits s these.now
+        → e.number ≡ day → e.history ≡ history_of (K.told keeper.old) → C.exact ≡ true → (first : Option (List ℕ))
+        → HasText e s first (O.written sink.old) → HasFront fault e (s.fed ++ these.now) first (O.written sink.new)) }
     ensures published { OnErr result (published_of (P.posted publisher.new) ≡ published_of (P.posted publisher.old)) }
     ensures publisher { P.which publisher.new ≡ P.which publisher.old }
     ensures same { K.told keeper.new ≡ K.told keeper.old }

@@ -12,7 +12,7 @@ use Rattle.road_time.specs.Text.{out}
 use Rattle.settling.specs.declared.fault.SettleFault.{SettleFault}
 use Rattle.settling.specs.declared.fault.SettleFault.TheVariants.{KeeperFault, WriteFault, NoMemory}
 use Rattle.settling.specs.Answers.{PaidHistory, AreNotices}
-use Rattle.settling.specs.Levels.{Level, AddsFront, AddsPieces, FillsUp, Adds}
+use Rattle.road_io.specs.Levels.{Level, AddsFront, AddsPieces, FillsUp, Adds}
 use Rattle.settling.specs.Asking.{AskingPlan, requests_of}
 use Rattle.settling.specs.Runs.{TakesRun, StopsRun}
 use Rattle.settling.proofs.AnswerLaws.{notices_exact}

@@ -19,10 +19,10 @@ use Rattle.keeper.specs.declared.digest.Digest.{Digest}
 use Rattle.keeper.specs.declared.kept.DayRecord.{DayRecord}
 use Rattle.keeper.specs.declared.kept.KeepFault.{KeepFault}
 use Rattle.keeper.specs.declared.kept.KeepFault.TheVariants as keeping
-use Rattle.keeper.specs.Digests.{digest_of}
+use Rattle.keeper.specs.Digests.{digest_of, found_digest}
 use Rattle.road_time.specs.History.{paid}
 use Rattle.keeper.specs.Office.{Office, record_of, last_day}
-use Rattle.keeper.specs.Kept.{IsDayPut, seal_of, with_day, found_digest}
+use Rattle.keeper.specs.Kept.{IsDayPut, seal_of, with_day}
 use Rattle.keeper.specs.Calls.{WhenRefused, Leaves}
 use Rattle.settling.specs.Printing.{WritesFront, WritesLess}
 use Rattle.day_reading.specs.Days.{StopsSoon, most_of_day}

@@ -7,7 +7,8 @@ use Rattle.keeper.specs.declared.digest.Digest.{Digest}
 use Rattle.keeper.specs.declared.kept.DayRecord.{DayRecord}
 use Rattle.keeper.specs.declared.kept.KeepFault.TheVariants as keeping
 use Rattle.keeper.specs.Office.{Office, RowsRise, sum_of_rows}
-use Rattle.keeper.specs.Kept.{seal_of, with_day, found_digest}
+use Rattle.keeper.specs.Kept.{seal_of, with_day}
+use Rattle.keeper.specs.Digests.{found_digest}
 use Rattle.keeper.specs.Calls.{WhenRefused, Leaves}
 use Rattle.day_reading.specs.declared.whole_day.DayEnd.{DayEnd}
 use Rattle.day_reading.specs.declared.whole_day.DayEnd.TheVariants as end

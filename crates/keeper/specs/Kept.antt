@@ -1,5 +1,5 @@
 -- What may be put, and the office afterwards: a day, a history or a tariff more.
-use Rattle.std.specs.Prelude.{◌≡◌, ℕ, ◌+◌, ◌^◌, ◌<◌, ◌≤◌, List, [], ◌∷◌, ◌++◌, map, length, take, Option, Some, None}
+use Rattle.std.specs.Prelude.{◌≡◌, ℕ, ◌+◌, ◌^◌, ◌<◌, ◌≤◌, List, [], ◌∷◌, ◌++◌, map, length, Option, Some, None}
 use Rattle.std.specs.List.{AllByRecursion}
 use Rattle.road_time.specs.declared.day.SpentRow.{SpentRow}
 use Rattle.road_time.specs.declared.road.Tuple.{Tuple}
@@ -106,7 +106,3 @@ kept_record number bytes day o =
 -- the office after a day was imported
 abbrev pub next_office : ℕ → List ℕ → List Tuple → Office → Office
 next_office number bytes day o = with_day (kept_record number bytes day o) (rows_of day o.tariffs number) o
-
--- what a repeated import of a day of n bytes compares: the digest of one byte more, or of all if there are fewer
-abbrev pub found_digest : List ℕ → ℕ → Digest
-found_digest bytes n = digest_of (take (n + 1) bytes)

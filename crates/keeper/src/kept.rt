@@ -5,6 +5,7 @@ ghost use Rattle.keeper.specs.Kept.{sealed};
 use crate::digest::Digest;
 use road_time::NoMemory;
 use std::alloc::{AllocError, AllocFailed};
+use thiserror::Error;
 
 /// What is kept of a day: its number, the digest and length of its bytes, how many tuples it has, how many notices they
 /// cause, the digest of those, the seal of the tariffs that it was charged under, and what it charges in all.
@@ -61,10 +62,12 @@ pub struct PastRecord {
 }
 
 /// Why a keeper refuses a call.
-#[derive(Clone, Copy, Debug, PartialEq, Eq)]
+#[derive(Clone, Copy, Debug, PartialEq, Eq, Error)]
 pub enum KeepFault {
     /// The keeper failed, and counted it.
+    #[error("the keeper failed")]
     Failed,
+    #[error("no memory")]
     NoMemory,
 }
 

@@ -7,13 +7,16 @@ ghost use Rattle.lane_doors.specs.declared.door.DoorFault.TheVariants.{Failed};
 use crate::ears::Ears;
 use lane_loops::Listener;
 use std::alloc::Global;
+use thiserror::Error;
 
 /// Why a door was not opened.
-#[derive(Clone, Copy, Debug, PartialEq, Eq)]
+#[derive(Clone, Copy, Debug, PartialEq, Eq, Error)]
 pub enum DoorFault {
     /// The opening was refused.
+    #[error("the port was refused")]
     Failed,
     /// Memory ran out.
+    #[error("no memory")]
     NoMemory,
 }
 

@@ -6,7 +6,7 @@ use Rattle.road_time.specs.declared.day.Limits.{Limits}
 use Rattle.road_time.specs.declared.day.SpentRow.{SpentRow}
 use Rattle.keeper.specs.declared.kept.DayRecord.{DayRecord}
 use Rattle.keeper.specs.declared.kept.PastRecord.{PastRecord}
-use Rattle.keeper.specs.Kept.{found_digest}
+use Rattle.keeper.specs.Digests.{found_digest}
 use Rattle.keeper.specs.PastReads.{PastFault, past_reads}
 use Rattle.keeper.specs.Calls.{WhenRefused}
 use Rattle.keeper.specs.Office.{Office}

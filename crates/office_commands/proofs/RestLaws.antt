@@ -10,7 +10,7 @@ use Rattle.keeper.specs.declared.digest.Digest.{Digest}
 use Rattle.keeper.specs.declared.kept.DayRecord.{DayRecord}
 use Rattle.keeper.specs.declared.kept.KeepFault.{KeepFault}
 use Rattle.keeper.specs.Calls.{WhenRefused}
-use Rattle.keeper.specs.Kept.{found_digest}
+use Rattle.keeper.specs.Digests.{found_digest}
 use Rattle.keeper.specs.Office.{Office, last_day}
 use Rattle.day_reading.specs.Days.{EndsReading, LeavesBehind}
 use Rattle.day_reading.specs.declared.whole_day.DayEnd.{DayEnd}

@@ -1,6 +1,7 @@
 // The commands of the program, and why words are none.
 
 use import_plan::Plan;
+use thiserror::Error;
 
 /// How much traffic is generated: 1 to 5,000 vehicles, 1 to 1,440 minutes, 1 to 256 expressways, and up to 100 crashes,
 /// each of two of the vehicles.
@@ -108,10 +109,12 @@ pub enum Command {
 }
 
 /// Why there is no command.
-#[derive(Clone, Copy, Debug, PartialEq)]
+#[derive(Clone, Copy, Debug, PartialEq, Error)]
 pub enum WordFault {
     /// The words are of no stated form.
+    #[error("the words are of no stated form")]
     Words,
     /// Memory ran out.
+    #[error("no memory")]
     NoMemory,
 }

@@ -11,7 +11,8 @@ use Rattle.keeper.specs.declared.kept.DayRecord.{DayRecord}
 use Rattle.keeper.specs.declared.kept.PastRecord.{PastRecord}
 use Rattle.keeper.specs.declared.kept.KeepFault.{KeepFault}
 use Rattle.keeper.specs.Office.{Office, IsSound, last_day, last_from}
-use Rattle.keeper.specs.Kept.{HasNoDays, with_past, found_digest}
+use Rattle.keeper.specs.Kept.{HasNoDays, with_past}
+use Rattle.keeper.specs.Digests.{found_digest}
 use Rattle.keeper.specs.PastReads.{PastFault, OfLine, past_reads, past_record, past_kept, next_past}
 use Rattle.keeper.specs.Calls.{WhenRefused, Leaves, Puts, Reads, SoundIfTold, IfTold}
 use Rattle.past_file.specs.declared.outcomes.PastCause.{PastCause}

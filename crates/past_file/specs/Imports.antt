@@ -9,7 +9,8 @@ use Rattle.keeper.specs.declared.kept.PastRecord.{PastRecord}
 use Rattle.keeper.specs.declared.kept.KeepFault.{KeepFault}
 use Rattle.keeper.specs.declared.kept.KeepFault.TheVariants as keeping
 use Rattle.keeper.specs.Office.{Office, last_day}
-use Rattle.keeper.specs.Kept.{IsPastPut, with_past, found_digest}
+use Rattle.keeper.specs.Kept.{IsPastPut, with_past}
+use Rattle.keeper.specs.Digests.{found_digest}
 use Rattle.keeper.specs.PastReads.{PastFault, past_reads, past_record, next_past}
 use Rattle.keeper.specs.Calls.{WhenRefused, Leaves}
 use Rattle.day_reading.specs.Days.{StopsSoon}

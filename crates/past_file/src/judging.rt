@@ -10,15 +10,19 @@ use crate::amounts::Amounts;
 use crate::lines::read_row;
 use crate::outcomes::PastCause;
 use road_time::SpentRow;
+use thiserror::Error;
 
 /// Why no further line of a history is read.
-#[derive(Clone, Copy, Debug, PartialEq, Eq)]
+#[derive(Clone, Copy, Debug, PartialEq, Eq, Error)]
 pub enum PastStop {
     /// This line, counted from 1, is the first that is refused.
+    #[error("line {line} is refused: {cause}")]
     Row { line: u64, cause: PastCause },
     /// The source failed.
+    #[error("a read failed")]
     ReadFault,
     /// Memory ran out.
+    #[error("no memory")]
     NoMemory,
 }
 

@@ -3,13 +3,18 @@ ghost use Rattle.std.specs.Prelude.{◌≡◌};
 ghost use Rattle.reports.specs.Endings.{refused_as};
 
 use keeper::KeepFault;
+use thiserror::Error;
 
 /// The day is not kept, the keeper failed, the sink failed, or memory ran out.
-#[derive(Clone, Copy, Debug, PartialEq, Eq)]
+#[derive(Clone, Copy, Debug, PartialEq, Eq, Error)]
 pub enum ReportFault {
+    #[error("the day is not kept")]
     NoDay,
+    #[error("the keeper failed")]
     KeeperFault,
+    #[error("a write failed")]
     WriteFault,
+    #[error("no memory")]
     NoMemory,
 }
 

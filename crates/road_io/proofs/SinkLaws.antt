@@ -3,6 +3,7 @@ use Rattle.std.proofs.Common.{◌≡◌, ℕ, ◌+◌, ◌<◌, List, [], ◌++�
 use Rattle.std.specs.Io.KnownBytes.{Appends, Keeps}
 use Rattle.std.proofs.lemmas.List.{append-nil}
 use Rattle.road_io.specs.Rooms.{Room, Untold, Bound, Endless, Takes, Refuses}
+use Rattle.road_io.specs.Levels.{Fills}
 
 pub appends_none : (a : Option (List ℕ)) → Appends a a []
 appends_none None = tt
@@ -50,6 +51,18 @@ refuses_on (Bound x) (Bound y) (Bound z) m k h j e = (omega (arith, h, j.0), j.1
 refuses_on Endless Untold c m k h j e = absurd h
 refuses_on Endless (Bound y) c m k h j e = absurd h
 refuses_on Endless Endless c m k h j e = absurd j
+
+-- a room that was filled after some bytes were taken
+pub fills_on : (a b c : Room) (m : ℕ) → Takes a b m → Refuses b c 1 → Fills a c m
+fills_on Untold b c m h j = tt
+fills_on (Bound x) Untold c m h j = absurd h
+fills_on (Bound x) Endless c m h j = absurd h
+fills_on (Bound x) (Bound y) Untold m h j = absurd j
+fills_on (Bound x) (Bound y) Endless m h j = absurd j
+fills_on (Bound x) (Bound y) (Bound z) m h j = (omega (arith, h, j.0), ap Bound j.1)
+fills_on Endless Untold c m h j = absurd h
+fills_on Endless (Bound y) c m h j = absurd h
+fills_on Endless Endless c m h j = absurd j
 
 pub keeps_of_appends : (a b : Option (List ℕ)) → Appends a b [] → Keeps a b
 keeps_of_appends None b h = tt

@@ -3,6 +3,7 @@ pub mod Faults
 pub mod Plans
 pub mod Portions
 pub mod Rooms
+pub mod Levels
 pub mod Within
 pub mod Fakes
 pub mod Links

@@ -17,6 +17,7 @@ mod memory;
 mod retrying;
 mod sink;
 mod source;
+mod words;
 
 pub use cutter::{LineCutter, LineFault};
 pub use edges::{FileSource, StdSink, StdSource, StreamLink};
@@ -26,3 +27,4 @@ pub use linking::Linking;
 pub use memory::{MemLink, MemSink, MemSource};
 pub use sink::{Sink, VoidSink, Writing, put_all};
 pub use source::{Failed, Reading, Source};
+pub use words::words_of;

@@ -2,6 +2,7 @@
 ghost use Rattle.std.specs.Prelude.{ℕ, ◌≡◌, List, Option, ◌<◌, ◌≤◌, length, IfOk, OnOk, OnErr};
 ghost use Rattle.std.specs.Io.KnownBytes.{WriteAppends};
 ghost use Rattle.road_io.specs.Faults.{HasCause};
+ghost use Rattle.road_io.specs.Levels.{FillsUp};
 ghost use Rattle.road_io.specs.Portions.{Portion, AnyPart, Moves};
 ghost use Rattle.road_io.specs.Rooms.{Room, Untold, Takes, Refuses, PutsBytes};
 
@@ -33,11 +34,13 @@ pub trait Sink {
         ensures cause { HasCause (faults self.old) (faults self.new) result };
 }
 
-/// Writes all bytes. After a fault a prefix was written.
+/// Writes all bytes. After a fault the room is full, and as many of the first ones were written as it had place for.
 pub fn put_all<O: Sink>(sink: &mut O, bytes: &[u8]) -> Result<(), Failed>
     ensures bytes { PutsBytes (O.written sink.old) (O.written sink.new) result bytes.now }
     ensures took { OnOk result (Takes (O.room sink.old) (O.room sink.new) (length bytes.now)) }
     ensures full { OnErr result (Refuses (O.room sink.old) (O.room sink.new) (length bytes.now)) }
+    ensures fills { OnErr result (FillsUp bytes.now (O.written sink.old, O.room sink.old)
+        (O.written sink.new, O.room sink.new)) }
     ensures cause { HasCause (O.faults sink.old) (O.faults sink.new) result }
 {
     let mut at = 0;

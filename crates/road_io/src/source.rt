@@ -8,9 +8,11 @@ ghost use Rattle.road_io.specs.Portions.{Portion, AnyPart, Moves};
 
 use crate::counting::read_counting;
 use std::io::Read;
+use thiserror::Error;
 
 /// A read or a write that failed.
-#[derive(Clone, Copy, Debug, PartialEq, Eq)]
+#[derive(Clone, Copy, Debug, PartialEq, Eq, Error)]
+#[error("a read or a write failed")]
 pub struct Failed;
 
 /// Bytes in. `left` is what is still to be read and `plan` which reads to come fail, where it tells that; `most` is how

@@ -4,24 +4,12 @@ use Rattle.std.proofs.Common.{length-append}
 use Rattle.std.proofs.lemmas.List.{take-append-le}
 use Rattle.std.proofs.Math.Seq.{take-append-add, take-append_seam}
 use Rattle.std.specs.Io.KnownBytes.{Appends}
-use Rattle.road_io.specs.Rooms.{Room, Untold, Bound, Endless, Takes, Refuses}
+use Rattle.road_io.specs.Rooms.{Room, Untold, Bound, Endless, Takes}
 use Rattle.road_io.proofs.SinkLaws.{appends_none, appends_on, takes_none, takes_on}
-use Rattle.settling.specs.Levels.{Level, Adds, AddsFront, AddsPieces, Fills, FillsUp}
+use Rattle.road_io.specs.Levels.{Level, Adds, AddsFront, AddsPieces, Fills, FillsUp}
 use Rattle.settling.specs.declared.fault.SettleFault.{SettleFault}
 use Rattle.settling.specs.declared.fault.SettleFault.TheVariants.{KeeperFault, WriteFault, NoMemory}
 use Rattle.settling.specs.Printing.{WritesFront, WritesLess, AddsSome}
-
--- a room that was filled after some bytes were taken
-pub fills_on : (a b c : Room) (m : ℕ) → Takes a b m → Refuses b c 1 → Fills a c m
-fills_on Untold b c m h j = tt
-fills_on (Bound x) Untold c m h j = absurd h
-fills_on (Bound x) Endless c m h j = absurd h
-fills_on (Bound x) (Bound y) Untold m h j = absurd j
-fills_on (Bound x) (Bound y) Endless m h j = absurd j
-fills_on (Bound x) (Bound y) (Bound z) m h j = (omega (arith, h, j.0), ap Bound j.1)
-fills_on Endless Untold c m h j = absurd h
-fills_on Endless (Bound y) c m h j = absurd h
-fills_on Endless Endless c m h j = absurd j
 
 -- a room that was filled after some bytes were taken, by further ones
 pub fills_more : (a b c : Room) (m n : ℕ) → Takes a b m → Fills b c n → Fills a c (m + n)

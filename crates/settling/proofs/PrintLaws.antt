@@ -12,7 +12,7 @@ use Rattle.keeper.specs.Digests.{Took}
 use Rattle.settling.specs.declared.fault.SettleFault.{SettleFault}
 use Rattle.settling.specs.declared.fault.SettleFault.TheVariants.{KeeperFault, WriteFault, NoMemory}
 use Rattle.settling.specs.declared.printer.Printer.{Printer}
-use Rattle.settling.specs.Levels.{Level, Adds, AddsFront, AddsPieces, FillsUp}
+use Rattle.road_io.specs.Levels.{Level, Adds, AddsFront, AddsPieces, FillsUp}
 use Rattle.settling.specs.Printing.{Prints, HoldsPiece, IsPrinted, WritesFront, WritesLess, WritesSome, AddsSome, Says}
 use Rattle.settling.specs.Printing.{HandsOn}
 use Rattle.settling.proofs.LevelLaws.{fills_after, front_of, some_longer, adds_on}

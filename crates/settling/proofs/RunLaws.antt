@@ -24,7 +24,7 @@ use Rattle.settling.specs.declared.settler.Settler.{Settler}
 use Rattle.settling.specs.Slots.{slot_of, slots_of}
 use Rattle.settling.specs.Books.{IsBook, charges_in, book_after}
 use Rattle.settling.specs.Answers.{PaidHistory, AreNotices, IsSaid}
-use Rattle.settling.specs.Levels.{Level}
+use Rattle.road_io.specs.Levels.{Level}
 use Rattle.settling.specs.Asking.{AskingPlan, PassesCalls, requests_of}
 use Rattle.settling.specs.Printing.{HoldsPiece, HandsOn}
 use Rattle.settling.specs.Runs.{StandsFor, InRun, HasSettled, Waits, WritesRun, SettlesSlot, TakesRun}

@@ -5,7 +5,7 @@ use Rattle.settling.specs.declared.fault.SettleFault.{SettleFault}
 use Rattle.settling.specs.declared.fault.SettleFault.TheVariants.{KeeperFault, WriteFault, NoMemory}
 use Rattle.settling.specs.declared.printer.Printer.{Printer}
 use Rattle.settling.specs.declared.slot.Due.{Due}
-use Rattle.settling.specs.Levels.{Level}
+use Rattle.road_io.specs.Levels.{Level}
 use Rattle.settling.specs.Asking.{AskingPlan, PassesCalls, AsksOnce, slot_asked}
 use Rattle.settling.specs.Faults.{keeper_failed}
 use Rattle.settling.specs.Printing.{Says}

@@ -15,7 +15,7 @@ use Rattle.settling.specs.declared.fault.SettleFault.TheVariants.{KeeperFault, W
 use Rattle.settling.specs.declared.printer.Printer.{Printer}
 use Rattle.settling.specs.declared.settler.Settler.{Settler}
 use Rattle.settling.specs.Faults.{write_failed, keeper_failed}
-use Rattle.settling.specs.Levels.{Level, AddsFront, AddsPieces, FillsUp}
+use Rattle.road_io.specs.Levels.{Level, AddsFront, AddsPieces, FillsUp}
 use Rattle.settling.specs.Asking.{AskingPlan, PassesUpTo, FailsAfter, requests_of}
 use Rattle.settling.specs.Slots.{slot_of}
 use Rattle.settling.specs.Answers.{PaidHistory, AreNotices, IsSaid}

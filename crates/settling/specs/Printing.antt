@@ -7,7 +7,7 @@ use Rattle.keeper.specs.Digests.{Took}
 use Rattle.settling.specs.declared.fault.SettleFault.{SettleFault}
 use Rattle.settling.specs.declared.fault.SettleFault.TheVariants.{KeeperFault, WriteFault, NoMemory}
 use Rattle.settling.specs.declared.printer.Printer.{Printer}
-use Rattle.settling.specs.Levels.{Level, Adds, AddsFront, FillsUp}
+use Rattle.road_io.specs.Levels.{Level, Adds, AddsFront, FillsUp}
 
 -- after an earlier text, some first bytes of a run's text were handed on, and the rest is held
 pub record Prints (p : Printer) (earlier run : List ℕ) (old now : Level) : Type 0 where

@@ -18,7 +18,7 @@ use Rattle.settling.specs.Answers.{PaidHistory, AreNotices}
 use Rattle.settling.specs.declared.fault.SettleFault.TheVariants.{KeeperFault, WriteFault, NoMemory}
 use Rattle.settling.specs.declared.slot.Due.{Due}
 use Rattle.settling.specs.declared.printer.Printer.{Printer}
-use Rattle.settling.specs.Levels.{Level, Adds, AddsFront, AddsPieces, FillsUp}
+use Rattle.road_io.specs.Levels.{Level, Adds, AddsFront, AddsPieces, FillsUp}
 use Rattle.settling.specs.Asking.{AskingPlan, PassesCalls, PassesUpTo, FailsAfter, asked_by, requests_of, slot_asked}
 use Rattle.settling.specs.Printing.{HoldsPiece, WritesSome, Says}
 

@@ -2,14 +2,18 @@
 ghost use Rattle.std.specs.Prelude.{◌≡◌};
 
 use road_time::NoMemory;
+use thiserror::Error;
 
 /// Why settling is stopped.
-#[derive(Clone, Copy, Debug, PartialEq, Eq)]
+#[derive(Clone, Copy, Debug, PartialEq, Eq, Error)]
 pub enum SettleFault {
     /// The keeper failed, and counted it.
+    #[error("the keeper failed")]
     KeeperFault,
     /// The sink failed, and counted it.
+    #[error("a write failed")]
     WriteFault,
+    #[error("no memory")]
     NoMemory,
 }
 

@@ -6,10 +6,9 @@ ghost use Rattle.settling.specs.Faults.{SinkFaults, keeper_failed};
 ghost use Rattle.settling.specs.Answers.{alert_to, told_notices};
 
 use crate::fault::SettleFault;
-use crate::handing::hand_on;
 use crate::slot::Found;
 use keeper::{Digest, Digester};
-use road_io::Sink;
+use road_io::{Sink, put_all};
 use road_time::Notice;
 use std::alloc::Global;
 use tuple_format::put_notice;
@@ -46,7 +45,7 @@ impl Printer {
         ensures faults { SinkFaults (O.faults sink.old) (O.faults sink.new) (O.room sink.old) (O.room sink.new) result }
         ensures other { keeper_failed result ≡ false }
     {
-        match hand_on(sink, self.piece.as_slice()) {
+        match put_all(sink, self.piece.as_slice()) {
             Ok(()) => {
                 self.digester.add(&self.piece);
                 self.piece.clear();

@@ -5,9 +5,11 @@
 //! another hand's until it is read: it tells nothing of it.
 #![tactic(auto)]
 
+mod closing;
 mod file_calls;
 mod kept_file;
 
+pub use closing::close_said;
 pub use keeper_at_path::Cause;
 pub use kept_file::{KEPT_FILE, SqliteKeeper};
 

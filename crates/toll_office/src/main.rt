@@ -12,13 +12,11 @@ use office_causes::{explained, say_why};
 use office_commands::{ASIDE_FILE, Closing};
 use office_renewal::{begin_anew, renewal_base};
 use partition_workers::{Crew, NoGate};
-use road_io::{FileSource, StdSink, StdSource, Writing};
+use road_io::{FileSource, StdSink, StdSource, Writing, words_of};
 use road_time::Limits;
-use sqlite_keeper::{Cause, KEPT_FILE, SqliteKeeper};
+use sqlite_keeper::{Cause, KEPT_FILE, SqliteKeeper, close_said};
 use standing_crew::{Crewed, StandingCrew, beside, standing};
 use std::alloc::Global;
-use std::env;
-use std::io::ErrorKind;
 use std::process::ExitCode;
 use std::sync::Wait;
 use std::thread::Threads;
@@ -29,42 +27,11 @@ const CELLS: u8 = 64;
 /// How many helpers take jobs beside the office.
 const HELPERS: u8 = 4;
 
-/// The words after the program's name; none where they are no text.
-fn words_of(rt: &HostRuntime) -> Result<Vec<String>, Closing> {
-    let mut words = Vec::new(rt.alloc());
-    match env::args(rt) {
-        Ok(args) => {
-            for word in args.skip(1) {
-                if words.push(word).is_err() {
-                    return Err(Closing::NoMemory);
-                }
-            }
-        }
-        Err(error) => {
-            if error.kind() == ErrorKind::OutOfMemory {
-                return Err(Closing::NoMemory);
-            }
-        }
-    }
-    Ok(words)
-}
-
 /// The line of why a call of what is kept failed, none where there is no memory for it.
 fn line_of(alloc: Global, cause: Option<Cause>) -> Option<String> {
     match cause {
         Some(cause) => format!(in alloc; "toll_office: {}: {}\n", KEPT_FILE, cause).ok(),
         None => None,
-    }
-}
-
-/// Closes what is kept, and says on standard error where that failed. What was put stays either way: it lies in the log
-/// beside the file then.
-fn close(rt: &HostRuntime, keeper: SqliteKeeper) {
-    if let Err(cause) = keeper.end() {
-        let _ = eprintln!(rt;
-            "toll_office: {} is not closed, what was put lies in its log: {}",
-            KEPT_FILE, cause
-        );
     }
 }
 
@@ -112,9 +79,8 @@ fn run_office<R: Threads + Sync, C: Crew>(rt: &HostRuntime, threads: &R, crew: &
     ensures idle { C.out crew.new ≡ [] }
     ensures which { C.which crew.new ≡ C.which crew.old }
 {
-    let words = match words_of(rt) {
-        Ok(words) => words,
-        Err(closing) => return closing.status(),
+    let Ok(words) = words_of(rt) else {
+        return Closing::NoMemory.status();
     };
     let Ok(mut aside) = FileSource::at(rt.alloc(), *rt, ASIDE_FILE) else {
         return Closing::NoMemory.status();
@@ -123,7 +89,7 @@ fn run_office<R: Threads + Sync, C: Crew>(rt: &HostRuntime, threads: &R, crew: &
         return Closing::NoMemory.status();
     };
     let status = run_words(rt, threads, words.as_slice(), &mut aside, &mut keeper, crew);
-    close(rt, keeper);
+    close_said(rt, keeper, "toll_office");
     status
 }
 

@@ -7,47 +7,14 @@
 
 use desk_server::{ServerEnd, serve_in_threads};
 use lane_doors::TcpDoor;
+use road_io::words_of;
 use road_time::Limits;
-use sqlite_keeper::{KEPT_FILE, SqliteKeeper};
-use std::env;
-use std::io::ErrorKind;
+use sqlite_keeper::{KEPT_FILE, SqliteKeeper, close_said};
 use std::process::ExitCode;
 
-/// The words after the program's name; none where they are no text.
-fn words_of(rt: &HostRuntime) -> Result<Vec<String>, ServerEnd> {
-    let mut words = Vec::new(rt.alloc());
-    match env::args(rt) {
-        Ok(args) => {
-            for word in args.skip(1) {
-                if words.push(word).is_err() {
-                    return Err(ServerEnd::NoMemory);
-                }
-            }
-        }
-        Err(error) => {
-            if error.kind() == ErrorKind::OutOfMemory {
-                return Err(ServerEnd::NoMemory);
-            }
-        }
-    }
-    Ok(words)
-}
-
-/// Closes what is kept, and says on standard error where that failed. What was put stays either way: it lies in the log
-/// beside the file then.
-fn close(rt: &HostRuntime, keeper: SqliteKeeper) {
-    if let Err(cause) = keeper.end() {
-        let _ = eprintln!(rt;
-            "toll_serve: {} is not closed, what was put lies in its log: {}",
-            KEPT_FILE, cause
-        );
-    }
-}
-
 fn main(rt: HostRuntime) -> ExitCode {
-    let words = match words_of(&rt) {
-        Ok(words) => words,
-        Err(end) => return ExitCode::from(end.status()),
+    let Ok(words) = words_of(&rt) else {
+        return ExitCode::from(ServerEnd::NoMemory.status());
     };
     let Ok(keeper) = SqliteKeeper::at(rt.alloc(), rt, KEPT_FILE) else {
         return ExitCode::from(ServerEnd::NoMemory.status());
@@ -61,6 +28,6 @@ fn main(rt: HostRuntime) -> ExitCode {
         &mut door,
         keeper,
     );
-    close(&rt, keeper);
+    close_said(&rt, keeper, "toll_serve");
     ExitCode::from(status)
 }

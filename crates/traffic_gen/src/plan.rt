@@ -2,6 +2,8 @@
 ghost use Rattle.std.specs.Prelude.{◌≡◌};
 ghost use Rattle.traffic_gen.specs.Plans.{field_out};
 
+use thiserror::Error;
+
 /// The seed of the draws, and how many vehicles, minutes from midnight, expressways and crashes there are.
 #[derive(Clone, Copy, Debug, PartialEq, Eq)]
 pub struct GenPlan {
@@ -13,13 +15,16 @@ pub struct GenPlan {
 }
 
 /// Why there is no file, or not all of it.
-#[derive(Clone, Copy, Debug, PartialEq, Eq)]
+#[derive(Clone, Copy, Debug, PartialEq, Eq, Error)]
 pub enum GenFault {
     /// The number of the plan's first field that is out of its range.
+    #[error("number {0} of the plan is out of its range")]
     Size(u8),
     /// The sink failed.
+    #[error("a write failed")]
     WriteFault,
     /// Memory ran out.
+    #[error("no memory")]
     NoMemory,
 }
 

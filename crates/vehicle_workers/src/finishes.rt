@@ -13,7 +13,7 @@ ghost use Rattle.expressway.specs.Stands.{StandsFor};
 ghost use Rattle.partition_workers.specs.Told.{CrewTold, WhereTold};
 ghost use Rattle.partition_workers.specs.Callers.{IsListingWhereTold};
 ghost use Rattle.vehicle_workers.specs.Seen.{tracked_after};
-ghost use Rattle.vehicle_workers.specs.Jobs.{Running, HasStarted, HasFound, StartsAll, StartsFirst, AddsFindings};
+ghost use Rattle.vehicle_workers.specs.Jobs.{RunningBy, HasStarted, HasFound, StartsAll, StartsFirst, AddsFindings};
 
 use expressway::{Done, Finding};
 use partition_workers::{Crew, finish_among};
@@ -45,15 +45,14 @@ pub fn finish_rest<C: Crew>(
     found: &mut Vec<Finding>,
 ) -> bool
     requires out { (told : Option CrewTold) × (tariffs : TariffsValue) × (todo : List TheJob)
-        × Running C.out C.number C.holds C.gave C.jobs told crew.old tariffs tickets.items [] todo false }
+        × RunningBy C.Crew told crew.old tariffs tickets.items [] todo false }
     requires none { found.old.items ≡ [] }
     ensures idle { C.out crew.new ≡ [] }
     ensures told { (told : Option CrewTold) (tariffs : TariffsValue) (todo : List TheJob)
-        → Running C.out C.number C.holds C.gave C.jobs told crew.old tariffs tickets.items [] todo false
-        → (refused : Bool) × (result ≡ true → refused ≡ false)
-        × IsListingWhereTold told todo [] refused (C.jobs crew.new) }
+        → RunningBy C.Crew told crew.old tariffs tickets.items [] todo false → (refused : Bool) × (result ≡ true
+        → refused ≡ false) × IsListingWhereTold told todo [] refused (C.jobs crew.new) }
     ensures found { result ≡ true → (told : Option CrewTold) (tariffs : TariffsValue) (todo : List TheJob)
-        → Running C.out C.number C.holds C.gave C.jobs told crew.old tariffs tickets.items [] todo false
+        → RunningBy C.Crew told crew.old tariffs tickets.items [] todo false
         → HasFound C.exact C.answers (C.answers crew.old) crew.new tariffs todo found.new.items }
     ensures which { C.which crew.new ≡ C.which crew.old }
 {

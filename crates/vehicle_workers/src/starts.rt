@@ -13,7 +13,7 @@ ghost use Rattle.expressway.specs.Stands.{StandsFor};
 ghost use Rattle.partition_workers.specs.Told.{CrewTold, WhereTold};
 ghost use Rattle.partition_workers.specs.Callers.{IsListingWhereTold};
 ghost use Rattle.vehicle_workers.specs.Seen.{tracked_after};
-ghost use Rattle.vehicle_workers.specs.Jobs.{Running, HasStarted, HasFound, StartsAll, StartsFirst, AddsFindings};
+ghost use Rattle.vehicle_workers.specs.Jobs.{RunningBy, HasStartedBy, HasFound, StartsAll, StartsFirst, AddsFindings};
 
 use crate::routing::route;
 use crossings::Tracked;
@@ -31,12 +31,10 @@ fn start_job<C: Crew>(
 ) -> Result<(), NoMemory>
     requires ready { IsReady job.carriage [] job.events }
     requires room { (told : Option CrewTold) × (todo : List TheJob)
-        × Running C.out C.number C.holds C.gave C.jobs told crew.old job.carriage.tariffs tickets.old.items [] todo
-        false × (length todo < 64) }
+        × RunningBy C.Crew told crew.old job.carriage.tariffs tickets.old.items [] todo false × (length todo < 64) }
     ensures started { OnOk result ((told : Option CrewTold) (todo : List TheJob)
-        → Running C.out C.number C.holds C.gave C.jobs told crew.old job.carriage.tariffs tickets.old.items [] todo
-        false → Running C.out C.number C.holds C.gave C.jobs told crew.new job.carriage.tariffs tickets.new.items []
-        (todo ++ job ∷ []) false) }
+        → RunningBy C.Crew told crew.old job.carriage.tariffs tickets.old.items [] todo false
+        → RunningBy C.Crew told crew.new job.carriage.tariffs tickets.new.items [] (todo ++ job ∷ []) false) }
     ensures crew { OnErr result (crew.new ≡ crew.old) }
     ensures tickets { OnErr result (tickets.new.items ≡ tickets.old.items) }
     ensures which { C.which crew.new ≡ C.which crew.old }
@@ -87,12 +85,10 @@ fn start_worker<C: Crew>(
     requires worker { worker < width }
     requires few { width ≤ 64 }
     requires runs { (told : Option CrewTold)
-        × HasStarted C.out C.number C.holds C.gave C.jobs told crew.old tariffs.now tickets.old.items tuples.now width
-        worker }
+        × HasStartedBy C.Crew told crew.old tariffs.now tickets.old.items tuples.now width worker }
     ensures started { OnOk result ((told : Option CrewTold)
-        → HasStarted C.out C.number C.holds C.gave C.jobs told crew.old tariffs.now tickets.old.items tuples.now width
-        worker → HasStarted C.out C.number C.holds C.gave C.jobs told crew.new tariffs.now tickets.new.items tuples.now
-        width (worker + 1)) }
+        → HasStartedBy C.Crew told crew.old tariffs.now tickets.old.items tuples.now width worker
+        → HasStartedBy C.Crew told crew.new tariffs.now tickets.new.items tuples.now width (worker + 1)) }
     ensures crew { OnErr result (crew.new ≡ crew.old) }
     ensures tickets { OnErr result (tickets.new.items ≡ tickets.old.items) }
     ensures which { C.which crew.new ≡ C.which crew.old }
@@ -123,11 +119,10 @@ pub fn start_all<C: Crew>(
     requires few { width ≤ 64 }
     requires idle { C.out crew.old ≡ [] }
     requires none { tickets.old.items ≡ [] }
-    ensures all { OnOk result (HasStarted C.out C.number C.holds C.gave C.jobs (C.jobs crew.old) crew.new tariffs.now
-        tickets.new.items tuples.now width width) }
+    ensures all { OnOk result (HasStartedBy C.Crew (C.jobs crew.old) crew.new tariffs.now tickets.new.items tuples.now
+        width width) }
     ensures first { OnErr result ((workers : ℕ) × (workers ≤ width)
-        × HasStarted C.out C.number C.holds C.gave C.jobs (C.jobs crew.old) crew.new tariffs.now tickets.new.items
-        tuples.now width workers) }
+        × HasStartedBy C.Crew (C.jobs crew.old) crew.new tariffs.now tickets.new.items tuples.now width workers) }
     ensures which { C.which crew.new ≡ C.which crew.old }
     ensures answers { C.answers crew.new ≡ C.answers crew.old }
 {

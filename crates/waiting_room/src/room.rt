@@ -23,6 +23,7 @@ use std::net::{self, SocketAddr};
 use std::rt::HostRuntime;
 use std::sync::{Arc, Wait};
 use std::time::{Duration, Instant};
+use thiserror::Error;
 
 /// How many connections are heard after one wait at most.
 const EVENTS: usize = 256;
@@ -34,11 +35,13 @@ const TICK: u64 = 100;
 const BACK: usize = 64;
 
 /// Why a room was not opened.
-#[derive(Clone, Copy, Debug, PartialEq, Eq)]
+#[derive(Clone, Copy, Debug, PartialEq, Eq, Error)]
 pub enum RoomFault {
     /// The system refused it.
+    #[error("the system refused it")]
     Failed,
     /// Memory ran out.
+    #[error("no memory")]
     NoMemory,
 }
 

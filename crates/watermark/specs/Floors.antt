@@ -13,7 +13,7 @@ use Rattle.settling.specs.Slots.{slots_of}
 use Rattle.watermark.specs.Desks.{StandFor}
 use Rattle.settling.specs.declared.fault.SettleFault.{SettleFault}
 use Rattle.settling.specs.Answers.{PaidHistory}
-use Rattle.settling.specs.Levels.{Level}
+use Rattle.road_io.specs.Levels.{Level}
 use Rattle.settling.specs.Asking.{AskingPlan}
 use Rattle.settling.specs.Runs.{WritesRun, WritesSomeOfRun, TakesRun, StopsRun, StandsFor as SettlerStandsFor}
 

@@ -7,7 +7,7 @@ ghost use Rattle.road_time.specs.Tolls.{StretchTold};
 ghost use Rattle.settling.specs.Answers.{history_of};
 ghost use Rattle.settling.specs.Asking.{AskingPlan};
 ghost use Rattle.settling.specs.Faults.{SinkFaults, KeeperFaults};
-ghost use Rattle.settling.specs.Levels.{Level};
+ghost use Rattle.road_io.specs.Levels.{Level};
 ghost use Rattle.settling.specs.Slots.{slots_of};
 ghost use Rattle.settling.specs.Runs.{StandsFor, InRun, HasSettled, Waits, StopsRun};
 

@@ -6,7 +6,7 @@ use Rattle.settling.specs.Answers.{history_of}
 use Rattle.watermark.specs.Shares.{start}
 use Rattle.watermark.specs.Floors.{width_of}
 use Rattle.watermark.proofs.Truths.{true_start}
-use Rattle.settling.specs.Levels.{Level}
+use Rattle.road_io.specs.Levels.{Level}
 use Rattle.example_floor.specs.Turns.{after_fed}
 use Rattle.example_floor.specs.Stops.{TakesDay, StopsDay}
 use Rattle.example_floor.proofs.StopLaws.{all_taken}

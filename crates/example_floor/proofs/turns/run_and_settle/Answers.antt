@@ -5,7 +5,7 @@ use Rattle.road_time.specs.Text.{out}
 use Rattle.settling.specs.Boards.{IsAbreast}
 use Rattle.watermark.specs.Shares.{mark}
 use Rattle.example_floor.specs.Turns.{after_runs}
-use Rattle.settling.specs.Levels.{Level}
+use Rattle.road_io.specs.Levels.{Level}
 use Rattle.watermark.specs.Floors.{StopsSettling}
 use Rattle.example_floor.specs.Stops.{TakesDay, StopsDay}
 use Rattle.example_floor.proofs.StopLaws.{not_begun, day_took, day_stopped}

@@ -2,7 +2,7 @@ use Rattle.std.proofs.Common.{◌≡◌, ◌+◌, ◌∷◌, [], ◌++◌, lengt
 use Rattle.std.specs.Vec.{vec_len}
 use Rattle.road_time.specs.Text.{notice_text}
 use Rattle.settling.specs.declared.printer.Printer.{Printer}
-use Rattle.settling.specs.Levels.{Level}
+use Rattle.road_io.specs.Levels.{Level}
 use Rattle.settling.proofs.PrintLaws.{says_no_memory, says_short, says_piece}
 use Rattle.settling.proofs.printer.Printer.put.Goals as goal
 

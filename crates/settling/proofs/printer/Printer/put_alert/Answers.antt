@@ -1,6 +1,6 @@
 use Rattle.std.proofs.Common.{Ok, subst, sym}
 use Rattle.settling.specs.Answers.{alert_to}
-use Rattle.settling.specs.Levels.{Level}
+use Rattle.road_io.specs.Levels.{Level}
 use Rattle.settling.specs.Printing.{Says}
 use Rattle.settling.proofs.PrintLaws.{says_none}
 use Rattle.settling.proofs.printer.Printer.put_alert.Goals as goal

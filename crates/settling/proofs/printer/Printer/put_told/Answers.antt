@@ -1,7 +1,7 @@
 use Rattle.std.proofs.Common.{◌≡◌, [], ◌∷◌, subst, to_z, of_z, w16, rules}
 use Rattle.road_time.specs.declared.road.Notice.TheVariants.{Toll}
 use Rattle.settling.specs.Answers.{alert_to}
-use Rattle.settling.specs.Levels.{Level}
+use Rattle.road_io.specs.Levels.{Level}
 use Rattle.settling.specs.Printing.{Says}
 use Rattle.settling.proofs.PrintLaws.{says_then, says_longer}
 use Rattle.settling.proofs.printer.Printer.put_told.Goals as goal

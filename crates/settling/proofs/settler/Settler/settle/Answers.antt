@@ -1,7 +1,7 @@
 use Rattle.std.proofs.Common.{◌++◌, take, subst, ◌∙◌, arith}
 use Rattle.accounts.specs.Sums.{total_in}
 use Rattle.settling.specs.Answers.{history_of}
-use Rattle.settling.specs.Levels.{Level}
+use Rattle.road_io.specs.Levels.{Level}
 use Rattle.settling.specs.Runs.{TakesRun, StopsRun}
 use Rattle.settling.proofs.RunLaws.{run_total, run_fits, run_took, run_wrote, run_ends, run_long}
 use Rattle.settling.proofs.StopLaws.{run_unpublished, some_of_run}

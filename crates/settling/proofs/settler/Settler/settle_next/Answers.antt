@@ -4,7 +4,7 @@ use Rattle.accounts.specs.Operations.{charge_of}
 use Rattle.settling.specs.declared.settler.Settler.{Settler}
 use Rattle.settling.specs.Answers.{history_of, IsSaid}
 use Rattle.settling.specs.Books.{CanSettle, book_after, charges_in}
-use Rattle.settling.specs.Levels.{Level}
+use Rattle.road_io.specs.Levels.{Level}
 use Rattle.settling.specs.Runs.{InRun, SettlesSlot}
 use Rattle.settling.proofs.BookLaws.{can_settle, made_few, found_few}
 use Rattle.settling.proofs.RunLaws.{first_slot, waits_more, run_more, run_few}

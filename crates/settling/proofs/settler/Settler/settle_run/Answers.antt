@@ -1,7 +1,7 @@
 use Rattle.std.proofs.Common.{◌+◌, ◌++◌, ◌∷◌, [], List, Ok, take, drop, refl, sym, subst, append-nil, ◌∙◌, arith}
 use Rattle.road_time.specs.declared.road.Tuple.{Tuple}
 use Rattle.settling.specs.Answers.{history_of}
-use Rattle.settling.specs.Levels.{Level}
+use Rattle.road_io.specs.Levels.{Level}
 use Rattle.settling.specs.Runs.{InRun, Waits, StopsRun}
 use Rattle.settling.proofs.FaultLaws.{sink_then, keeper_then, sink_idle, keeper_idle}
 use Rattle.settling.proofs.RunLaws.{rest_more, run_begins}

@@ -3,7 +3,7 @@ use Rattle.road_time.specs.declared.road.Notice.TheVariants.{Balance as BalanceN
 use Rattle.settling.specs.declared.slot.Due.{Due}
 use Rattle.settling.specs.declared.slot.Due.TheVariants.{Report, Balance, Spent}
 use Rattle.settling.specs.Answers.{history_of, IsPaid, IsSaid, told_notices}
-use Rattle.settling.specs.Levels.{Level}
+use Rattle.road_io.specs.Levels.{Level}
 use Rattle.settling.specs.Runs.{SettlesSlot}
 use Rattle.settling.proofs.PrintLaws.{says_none}
 use Rattle.settling.proofs.AskLaws.{passes_none}

@@ -1,6 +1,6 @@
 use Rattle.std.proofs.Common.{◌≡◌, false, Ok, subst, sym, rules}
 use Rattle.settling.specs.Answers.{told_notices}
-use Rattle.settling.specs.Levels.{Level}
+use Rattle.road_io.specs.Levels.{Level}
 use Rattle.settling.specs.Printing.{Says}
 use Rattle.settling.proofs.PrintLaws.{says_none}
 use Rattle.settling.proofs.settler.Settler.tell.Goals as goal

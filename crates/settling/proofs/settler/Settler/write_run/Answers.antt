@@ -1,7 +1,7 @@
 use Rattle.std.proofs.Common.{take, refl, subst}
 use Rattle.settling.specs.declared.settler.Settler.{Settler}
 use Rattle.settling.specs.Answers.{history_of}
-use Rattle.settling.specs.Levels.{Level}
+use Rattle.road_io.specs.Levels.{Level}
 use Rattle.settling.specs.Runs.{StopsRun}
 use Rattle.settling.proofs.RunLaws.{run_flushed}
 use Rattle.settling.proofs.StopLaws.{run_unflushed, on_flush, if_unflushed}

@@ -4,7 +4,7 @@ use Rattle.road_time.specs.Day.{given}
 use Rattle.settling.specs.Answers.{history_of}
 use Rattle.settling.specs.Boards.{IsAbreast, PublishesStep, posted_if}
 use Rattle.settling.specs.Slots.{slots_of}
-use Rattle.settling.specs.Levels.{Level}
+use Rattle.road_io.specs.Levels.{Level}
 use Rattle.settling.specs.Runs.{WritesRun, WritesSomeOfRun, TakesRun, StopsRun, StandsFor as SettlerStandsFor}
 use Rattle.watermark.specs.declared.floor.Floor.{Floor}
 use Rattle.watermark.specs.Shares.{State, mark, least_of}
