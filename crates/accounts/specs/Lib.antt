@@ -1,3 +1,5 @@
+-- What vehicles owe on a day: charges added up, the book that holds them, and what a board shows of it.
+
 pub mod Sums
 pub mod Firsts
 pub mod Entries

@@ -1,3 +1,5 @@
+-- How a day is read: one tuple ahead, in the order of Time, up to its end or to the first refused line.
+
 pub mod Lines
 pub mod Readings
 pub mod Days

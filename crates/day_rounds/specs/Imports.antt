@@ -1,4 +1,5 @@
--- The jobs of an import.
+-- The jobs that an import starts, as parts of each worker's events, and findings that make the rules' notices.
+
 use Rattle.std.specs.Prelude.{◌≡◌, ℕ, ◌<◌, List, map}
 use Rattle.std.specs.List.{AllByRecursion}
 use Rattle.road_time.specs.declared.road.Tuple.{Tuple}

@@ -1,3 +1,5 @@
+-- How a day is worked, in rounds or in turns: tuples are fed, jobs go out and come back, and it is settled.
+
 pub mod Tasks
 pub mod Published
 pub mod Fronts

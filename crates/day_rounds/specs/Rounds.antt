@@ -1,4 +1,5 @@
--- What rounds that settle leave.
+-- What a round leaves once it is settled: its tuples fed, its jobs back, its text written, its charges published.
+
 use Rattle.std.specs.Prelude.{◌≡◌, ℕ, ◌++◌, List, length, Option}
 use Rattle.road_time.specs.declared.road.Tuple.{Tuple}
 use Rattle.accounts.specs.Operations.{Posted}

@@ -1,4 +1,5 @@
--- What holds of an import between two steps.
+-- What holds of an import between two steps: its floor, its tickets, and the jobs that are out under them.
+
 use Rattle.std.specs.Prelude.{◌≡◌, ℕ, zero, suc, ◌+◌, ◌≤◌, Bool, true, false, List, [], ◌∷◌, ◌++◌, length, map, Option}
 use Rattle.std.specs.Prelude.{Some, None, if◌then◌else◌, slice_get}
 use Rattle.road_time.specs.Tolls.{StretchTold as RoadFinding}

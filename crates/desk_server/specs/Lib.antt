@@ -1,2 +1,4 @@
+-- The server as a whole: how its run ends.
+
 pub mod Endings
 pub mod Served

@@ -1,4 +1,5 @@
--- Draws from the generator.
+-- The generator of a seed (PCG32), and a draw below a number.
+
 use Rattle.std.specs.Prelude.{ℕ, zero, suc, ◌%◌}
 use Rattle.rand_core.specs.Pcg32Seed.{pcg32_seed}
 use Rattle.rand_pcg.specs.Lcg.{Lcg}

@@ -1,1 +1,3 @@
+-- The generator that a seed makes, and what is drawn from it.
+
 pub mod Draws

@@ -1,3 +1,5 @@
+-- A worker's ways: which events of a day it is told, what it keeps of them, and what it finds for reports.
+
 pub mod Events
 pub mod Findings
 pub mod Runs

@@ -1,3 +1,5 @@
+-- What importing a day comes to: stored, kept already, passed, refused or failed, with what is written and left.
+
 pub mod Asked
 pub mod Faults
 pub mod Imports

@@ -1,4 +1,5 @@
--- What the stages of an import do.
+-- The stages of an import: the record that is made of a worked day, and that it may be put.
+
 use Rattle.std.specs.Prelude.{ℕ, ◌≡◌, ◌+◌, ◌<◌, ◌^◌, List, drop, Option, Some, None}
 use Rattle.std.specs.List.{AllByRecursion}
 use Rattle.road_time.specs.declared.day.SpentRow.{SpentRow}

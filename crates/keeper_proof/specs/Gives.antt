@@ -1,4 +1,5 @@
--- What answers give.
+-- What a call's answer says, where it has a value, finds no memory, or failed for a cause.
+
 use Rattle.std.specs.Prelude.{◌≡◌, ◌≤◌, Result, Ok, Err}
 use Rattle.keeper.specs.declared.kept.KeepFault.{KeepFault}
 use Rattle.keeper.specs.declared.kept.KeepFault.TheVariants.{Failed, NoMemory}

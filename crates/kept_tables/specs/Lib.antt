@@ -1,3 +1,5 @@
+-- The tables of an office: their texts, their statements, and which office a database stands for.
+
 pub mod Layout
 pub mod Texts
 pub mod Asks

@@ -1,4 +1,5 @@
--- What a door counts.
+-- What the ears of a door accepted in all, and whether one failed.
+
 use Rattle.std.specs.Prelude.{ℕ, ◌+◌, ◌-◌, ◌^◌, Bool, List, min, sum_by, nat_lt, if◌then◌else◌}
 use Rattle.std.specs.List.{list_any}
 

@@ -1,4 +1,5 @@
--- The turn of a connection of a waiting room.
+-- Whether a connection has the pass of the waiting room, which a POST of a day needs.
+
 use Rattle.std.specs.Prelude.{Bool, is_some}
 use Rattle.lane_doors.specs.declared.tcp_turn.TcpTurn.{TcpTurn}
 

@@ -1,4 +1,5 @@
--- What lanes do.
+-- What a lane did: it drew a ticket for each connection that it accepted, until none was left or it failed.
+
 use Rattle.std.specs.Prelude.{◌≡◌, ◌≤◌, ◌<◌, ◌+◌, ℕ, zero, suc, List, true, false, Any, sum_by, zip, length}
 use Rattle.std.specs.List.{AllZip, list_any}
 use Rattle.road_io.specs.Faults.{Rose}

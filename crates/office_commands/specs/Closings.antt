@@ -1,4 +1,5 @@
--- The closing lines.
+-- The closing line of each command, byte for byte, and its status.
+
 use Rattle.std.specs.Prelude.{ℕ, ◌==◌, List, ◌++◌, codes, if◌then◌else◌}
 use Rattle.std.specs.Fmt.{decimal}
 use Rattle.hex.specs.Hex.{encode_lower}

@@ -1,4 +1,5 @@
--- Days that are read whole.
+-- Days that are recomputed: how many lines one may have, and at which line its reading ends.
+
 use Rattle.std.specs.Prelude.{ℕ, ◌≡◌, Bool, true, false, min, Option, Some, None}
 use Rattle.std.specs.Option.{option_map}
 use Rattle.road_time.specs.declared.day.Limits.{Limits}

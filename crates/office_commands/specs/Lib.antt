@@ -1,3 +1,5 @@
+-- The commands of the office: what each writes, keeps, uses and ends with.
+
 pub mod Closings
 pub mod Traffic
 pub mod Days

@@ -1,4 +1,5 @@
--- What each command means.
+-- Which numbers each command takes, in which ranges, and what is meant where an option is left out.
+
 use Rattle.std.specs.Prelude.{◌≡◌, ◌≤◌, ◌&&◌, ◌*◌, ◌^◌, ◌-◌, ℕ, Bool, List, Option, Some, None, codes, length, nat_le}
 use Rattle.std.specs.Prelude.{find, false, if◌then◌else◌, option_and_then, option_map, Result, Ok, Err}
 use Rattle.std.specs.Option.{option_map_or}

@@ -1,4 +1,5 @@
--- The commands.
+-- Each command with its places and its options.
+
 use Rattle.std.specs.Prelude.{List, [], ◌∷◌, ◌++◌, codes}
 use Rattle.office_words.specs.Grammar.{Form, Text}
 

@@ -1,3 +1,5 @@
+-- Jobs that are out with a crew: their numbers and places, and what the crew tells of them and answers.
+
 pub mod Numbers
 pub mod Lists
 pub mod Told

@@ -1,3 +1,5 @@
+-- A history that is read from a file and kept, or refused at a line.
+
 pub mod Causes
 pub mod Rows
 pub mod Readings

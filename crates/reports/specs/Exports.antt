@@ -1,4 +1,5 @@
--- The export of a day.
+-- The export of a day as CSV: a line for each amount.
+
 use Rattle.std.specs.Prelude.{ℕ, List, ◌++◌, codes, Option}
 use Rattle.std.specs.List.{flat_map}
 use Rattle.std.specs.Option.{option_map}

@@ -1,3 +1,5 @@
+-- Texts of what is kept and of a day's accidents: lists, statements, exports and sums.
+
 pub mod AccidentLog
 pub mod Charges
 pub mod DayLists

@@ -1,3 +1,5 @@
+-- Bytes in and out: what sources, sinks and links hold, which of their calls fail, and how lines are cut.
+
 pub mod Blame
 pub mod Faults
 pub mod Plans

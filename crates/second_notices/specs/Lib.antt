@@ -1,1 +1,3 @@
+-- The notices of one second in any order.
+
 pub mod Seconds

@@ -1,4 +1,5 @@
--- When settling fails.
+-- Whether the sink or the keeper stopped the settling, and that the count of the one that did rose.
+
 use Rattle.std.specs.Prelude.{ℕ, ◌≡◌, ◌≤◌, Bool, true, false, Option, Result, Ok, Err}
 use Rattle.road_io.specs.Faults.{Rose}
 use Rattle.road_io.specs.Plans.{NeverFails}

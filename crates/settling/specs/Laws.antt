@@ -1,4 +1,5 @@
--- Laws of what is settled.
+-- Laws of slots and settlers, which no code runs.
+
 use Rattle.std.specs.Prelude.{ℕ, ◌≡◌, ◌+◌, ◌≤◌, ◌<◌, ◌^◌, ◌==◌, List, [], ◌∷◌, ◌++◌, length, take, drop, Option, Some}
 use Rattle.std.specs.Prelude.{None, slice_get, slice_set}
 use Rattle.std.specs.Map.{lookup}

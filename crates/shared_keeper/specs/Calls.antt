@@ -1,4 +1,5 @@
--- Calls of a keeper that others may call between.
+-- A call of a shared keeper, as a call of the keeper under the lock between two states that others may have made.
+
 use Rattle.std.specs.Prelude.{◌≡◌, ℕ, ◌≤◌, Option, Some, Result}
 use Rattle.keeper.specs.declared.kept.KeepFault.{KeepFault}
 use Rattle.keeper.specs.Office.{Office}

@@ -1,4 +1,5 @@
--- The helpers of a crew.
+-- Which helpers were made with a crew, by the cells that they look at.
+
 use Rattle.std.specs.Prelude.{◌≡◌, ℕ, List, length, All}
 use Rattle.atomic_table.specs.Seated.{TableId}
 use Rattle.standing_crew.specs.declared.board.CellBoard.{CellBoard}

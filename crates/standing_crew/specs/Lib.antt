@@ -1,3 +1,5 @@
+-- Helpers that take jobs from cells: the rule of the cells, and what each step at them knows and tells.
+
 pub mod Views
 pub mod Cells
 pub mod Steps

@@ -1,4 +1,5 @@
--- What stands while the tables of an office are made.
+-- What is there while the tables of an office are made, and that all of it is committed or nothing.
+
 use Rattle.std.specs.Prelude.{◌≡◌, ℕ, Bool, true, false, List, [], Result, Ok, Err, IsTrue}
 use Rattle.std.specs.List.{AllByRecursion}
 use Rattle.sqlite_trees.specs.Tree.{Trees}

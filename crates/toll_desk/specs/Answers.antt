@@ -1,4 +1,5 @@
--- What a desk sends.
+-- Which reply each request of what is kept is given, and that it is sent, or that for want of memory.
+
 use Rattle.std.specs.Prelude.{◌≡◌, ◌≢◌, ◌⊎◌, ℕ, Bool, List, length, Option, Some, None, codes}
 use Rattle.road_io.specs.Faults.{Rose}
 use Rattle.road_io.specs.Rooms.{Room}

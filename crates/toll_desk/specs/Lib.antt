@@ -1,3 +1,5 @@
+-- What the desk answers: of what is kept, of the live board, and of a day that is posted.
+
 pub mod Answers
 pub mod Days
 pub mod Pages

@@ -1,4 +1,5 @@
--- A whole session: one request, and its answer.
+-- A session: one request is read, and answered of what is kept or of the live board, or ended at once.
+
 use Rattle.std.specs.Prelude.{◌≡◌, ◌⊎◌, ℕ, Bool, List, Ok, Err}
 use Rattle.road_io.specs.Plans.{NeverFails}
 use Rattle.road_time.specs.declared.day.Limits.{Limits}

@@ -1,4 +1,5 @@
--- Laws of what a request asks.
+-- Laws of heads, which no code runs: bytes begin with at most one, and a bad one is not a cut one.
+
 use Rattle.std.specs.Prelude.{◌≡◌, ◌⊎◌, ℕ, ◌<◌, List, [], ◌++◌, length}
 use Rattle.httparse.specs.Grammar.{RequestHead, ReadsRequest, EndsInTarget}
 use Rattle.toll_heads.specs.Fronts.{HasHead, IsBadHead, IsCutHead}

@@ -1,3 +1,5 @@
+-- The head of a request: its fields and its path, what it asks, and why it may be refused at once.
+
 pub mod Numbers
 pub mod Paths
 pub mod Origins

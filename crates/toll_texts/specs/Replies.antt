@@ -1,4 +1,5 @@
--- The bytes of an answer.
+-- An answer's status line, fields and body, as bytes.
+
 use Rattle.std.specs.Prelude.{ℕ, List, ◌++◌, length, codes, decimal, unwrap_or}
 use Rattle.http.specs.StatusCode.{reason_phrase}
 use Rattle.toll_texts.specs.Bodies.{error_body}

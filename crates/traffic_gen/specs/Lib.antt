@@ -1,3 +1,5 @@
+-- Traffic that a plan draws: crashes and trips, their reports and requests, and the file of them.
+
 pub mod Plans
 pub mod Directions
 pub mod Reports

@@ -1,4 +1,5 @@
--- What a search finds.
+-- What a search in the trees finds: the first row of a key, and the amount that it has.
+
 use Rattle.std.specs.Prelude.{◌≡◌, ◌⊎◌, ℕ, Bool, true, false, List, [], ◌∷◌, pos}
 use Rattle.std.specs.List.{filter}
 use Rattle.std.specs.Ordering.{is_eq}

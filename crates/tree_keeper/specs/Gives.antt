@@ -1,4 +1,5 @@
--- What answers give.
+-- What a call by the pages answers, where it has a value, finds no memory, or failed for a cause.
+
 use Rattle.std.specs.Prelude.{Result, Ok, Err}
 use Rattle.sqlite_pages.specs.declared.error.Error.{Error}
 use Rattle.sqlite_pages.specs.declared.error.Error.TheVariants as pages

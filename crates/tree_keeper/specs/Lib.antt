@@ -1,3 +1,5 @@
+-- An office as it is read from the pages of its file: searches, walks, and what they give.
+
 pub mod Pages
 pub mod Finds
 pub mod Walks

@@ -1,3 +1,5 @@
+-- Puts by the trees of a store: the rows and entries that each step adds or takes away.
+
 pub mod Trees
 pub mod Steps
 pub mod Room

@@ -1,3 +1,5 @@
+-- Texts of tuples and notices as code reads them, why a line is refused, and how late tuples are sorted.
+
 pub mod Causes
 pub mod Fields
 pub mod Uses

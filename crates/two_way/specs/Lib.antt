@@ -1,1 +1,3 @@
+-- Where the bytes of a link go out, apart from the link.
+
 pub mod Outwards

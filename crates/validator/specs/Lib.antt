@@ -1,3 +1,5 @@
+-- The plain rules, step by step as simple code computes them over a whole day.
+
 pub mod Seen
 pub mod Flows
 pub mod Findings

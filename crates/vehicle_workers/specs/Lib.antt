@@ -1,3 +1,5 @@
+-- An audit: what vehicles did, by shards; what was found for them, by ways; and what they owe.
+
 pub mod Counted
 pub mod Seen
 pub mod Own

@@ -1,3 +1,5 @@
+-- Connections that wait for their head: what their bytes tell, how long one may wait, and which goes first.
+
 pub mod Addresses
 pub mod Fronts
 pub mod Heads
