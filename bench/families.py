@@ -51,15 +51,16 @@ standing_crew       /ways_standing
 
 # What is kept: an office, its tables, its file
 keeper              /keep_office
-renewal             keep_anew
+renewal             keep_anew                            > keeper
 kept_tables         keep_tables
 tree_keeper         keep_trees
 keeper_writes       keep_writes
 table_making        keep_making                          > keeper_writes
 keeper_proof        /keep_database
 tree_puts           keep_puts
+tree_laws           keep_laws                            > tree_puts
 keeper_at_path      keep_files
-sqlite_keeper       keep_sqlite
+sqlite_keeper       keep_sqlite                          > keeper_at_path
 shared_keeper       keep_shared                          >> toll_desk
 - digest_beside     keep_digest
 
@@ -76,7 +77,7 @@ asked_history       day_asked                            > past_file
 # The office: its words, commands and program
 reports             /office_reports
 vehicle_workers     /ways_audit
-second_notices      office_seconds
+second_notices      office_seconds                       > vehicle_workers
 office_words
 office_renewal                                           > office_causes
 office_commands
@@ -85,9 +86,9 @@ toll_office
 
 # The server: the live board, requests, desks, loops and program
 live_board          /serve_board
-toll_texts          serve_texts
-toll_heads          serve_heads
-toll_requests       serve_requests                       > toll_heads
+toll_texts          serve_texts                          > toll_heads
+toll_heads          serve_requests
+toll_requests       serve_asked                          > toll_heads
 lane_loops          serve_loops
 toll_desk           /serve_desk
 waiting_room        serve_room
