@@ -40,14 +40,14 @@ traffic_gen         /tuples_traffic
 validator           /road_rules
 
 # Ways: what a stretch, a way and a vehicle come to, and who works on them
-crossings           /ways_crossings
-speed_stats         /ways_speeds
-accidents           /ways_accidents
+crossings           /ways_crossings                      >> watermark
+speed_stats         /ways_speeds                         > expressway
+accidents           /ways_accidents                      > expressway
 toll_rule           /ways_tolls                          > expressway
 expressway          /ways_expressway
-accounts            /ways_accounts
+accounts            /ways_accounts                       >> watermark
 partition_workers   /ways_crews
-standing_crew       /ways_standing
+standing_crew       /ways_standing                       > partition_workers
 
 # What is kept: an office, its tables, its file
 keeper              /keep_office
