@@ -115,6 +115,14 @@ example_office
 # What a joined crate's modules are called where the first crate has such a name: crate, place, module, new name. Where a name
 # is taken and nothing stands here, the crate's name is put before it.
 MODULES = {
+    ("speed_stats", "specs", "Kept"): "KeptSpeeds",
+    ("speed_stats", "specs", "Stands"): "SpeedsStand",
+    ("accidents", "specs", "Kept"): "KeptAccidents",
+    ("accidents", "specs", "Stands"): "AccidentsStand",
+    ("standing_crew", "src", "crew"): "standing",
+    ("standing_crew", "src", "places"): "cell_places",
+    ("toll_requests", "specs", "Bodies"): "AskedBodies",
+    ("toll_requests", "proofs", "BodyLaws"): "AskedBodyLaws",
     ("asked_history", "src", "amounts"): "asked_amounts",
     ("asked_history", "proofs", "AmountLaws"): "AskedAmountLaws",
     ("server_words", "src", "serving"): "served_words",
