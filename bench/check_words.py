@@ -6,8 +6,8 @@ counts how long the pages for newcomers take to read.
 
 A word of a page is what stands between blanks and has a letter or a digit, in sentences, tables and blocks alike; 200 of them
 are a minute. All pages that README sends a newcomer to may take 60 minutes. The grammar is the table in
-`crates/office_words/specs/Table.antt`, beside it what `crates/office_renewal/specs/Words.antt` takes, and, of the server,
-`crates/server_words/specs/App.antt`.
+`crates/office_words/specs/Table.antt`, beside it what `crates/office_ends/specs/Words.antt` takes, and, of the server,
+`crates/serve_top/specs/App.antt`.
 The script ends with status 1 and names each word that a page lacks or has too much. If groff is there, the manual pages must
 give it no warning.
 """
@@ -45,13 +45,13 @@ def office():
     row = r'(?:stated|flagged)_form \(codes "(\w+)"\) (\[\]|\(.*?\[\]\)) (\(.*?\)|[\w\[\]]+) ?(\w*)$'
     rows = re.findall(row, body, re.M)
     forms = {name: (names(places), names(options) + names(flags)) for name, places, options, flags in rows}
-    beside = re.search(r'bytes_eq name \(codes "(\w+)"\)', text("crates/office_renewal/specs/Words.antt"))
+    beside = re.search(r'bytes_eq name \(codes "(\w+)"\)', text("crates/office_ends/specs/Words.antt"))
     return {**forms, beside.group(1): (["base"], [])}
 
 
 def server():
     """The options of the server."""
-    return re.findall(r'option_rule \(codes "(\w+)"\)', text("crates/server_words/specs/App.antt"))
+    return re.findall(r'option_rule \(codes "(\w+)"\)', text("crates/serve_top/specs/App.antt"))
 
 
 def completed(*words):

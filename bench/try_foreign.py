@@ -59,7 +59,7 @@ NO_ROOM = "there is no room for it on the disk"
 
 def tables():
     """The texts that make the six tables, as the definitions have them."""
-    text = (TOP / "crates/kept_tables/specs/Texts.antt").read_text()
+    text = (TOP / "crates/keep_tables/specs/Texts.antt").read_text()
     found = {}
     for name in ("days", "spent", "past", "day_tariffs", "tariffs", "form"):
         body = re.search(rf"^make_{name} =(.*?)(?=\n\n)", text, re.S | re.M).group(1)

@@ -4,7 +4,7 @@
     python3 bench/try_new_folder.py [PROGRAM]
 
 PROGRAM is the executable toll_office. Without it a stand-in takes its place: a small program of this script, which has the
-commands that the script calls, over a `tolls.db` that this script makes of the six tables' texts in `crates/kept_tables`.
+commands that the script calls, over a `tolls.db` that this script makes of the six tables' texts in `crates/keep_tables`.
 What the history must be is worked out here from the amounts. The script ends with status 1 at the first difference.
 """
 import os
@@ -70,7 +70,7 @@ def expect(what, found, wanted):
 
 def tables():
     """The texts that make the six tables, as the definitions have them."""
-    text = (TOP / "crates/kept_tables/specs/Texts.antt").read_text()
+    text = (TOP / "crates/keep_tables/specs/Texts.antt").read_text()
     found = []
     for name in ("days", "spent", "past", "day_tariffs", "tariffs", "form"):
         body = re.search(rf"^make_{name} =(.*?)(?=\n\n)", text, re.S | re.M).group(1)

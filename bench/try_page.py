@@ -4,7 +4,7 @@
     python3 bench/try_page.py [--server http://127.0.0.1:PORT] [--out FOLDER] [--chromium PROGRAM]
 
 Without `--server` the page is served by a small stand-in in this script, which answers `/`, `/live`, `/live/{vid}` and
-`/days` as the server does; the page is taken from the constants of `crates/toll_texts/src/page`. Pictures are made of an
+`/days` as the server does; the page is taken from the constants of `crates/serve_requests/src/page`. Pictures are made of an
 empty office, of a day that is going on (also in the dark and on a narrow window), of ten kept days, of a database that
 cannot be read, and of a server that has stopped.
 With `--server` one picture is made of what that server shows. Needs `chromium` (`apt-get install chromium`). The script ends
@@ -31,7 +31,7 @@ def page_of_the_program():
     """The page, from the constants of the program."""
     text = ""
     for file, name in PIECES:
-        source = (TOP / "crates/toll_texts/src/page" / f"{file}.rt").read_text()
+        source = (TOP / "crates/serve_requests/src/page" / f"{file}.rt").read_text()
         found = re.search(rf'const {name}: &str = "(.*?)";', source, re.S)
         if found is None:
             sys.exit(f"no constant {name} in {file}.rt")

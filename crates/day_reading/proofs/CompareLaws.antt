@@ -3,8 +3,8 @@ use Rattle.std.proofs.Common.{◌≡◌, ◌≤◌, ◌+◌, ◌++◌, ℕ, List
 use Rattle.std.proofs.Common.{arith, append_assoc, length-drop}
 use Rattle.std.proofs.lemmas.List.{take_all, drop_all, drop-drop}
 use Rattle.std.proofs.Math.Seq.{take-add}
-use Rattle.keeper.specs.declared.digest.Digester.{Digester}
-use Rattle.keeper.specs.Digests.{Took}
+use Rattle.road_digest.specs.declared.digest.Digester.{Digester}
+use Rattle.road_digest.specs.Digests.{Took}
 use Rattle.day_reading.specs.Pieces.{TakesPiece}
 
 -- so many of the first bytes were taken after some others, and the rest is left

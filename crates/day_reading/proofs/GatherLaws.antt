@@ -9,8 +9,8 @@ use Rattle.road_time.specs.Order.{by_time}
 use Rattle.road_time.specs.Reads.{line_fault, tuples_of, reading_at, accepts_after}
 use Rattle.road_time.proofs.ReadLaws.{accepted, allowed_none}
 use Rattle.road_time.proofs.AllowedLaws.{allowed_push, admitted, fit_by_time, fit_take}
-use Rattle.tuple_format.specs.Gates.{GateState}
-use Rattle.tuple_format.specs.Sorting.{Sorting, IsSorting}
+use Rattle.tuples_text.specs.Gates.{GateState}
+use Rattle.tuples_text.specs.Sorting.{Sorting, IsSorting}
 use Rattle.day_reading.specs.declared.ending.Ending.{Ending}
 use Rattle.day_reading.specs.declared.ending.Ending.TheVariants.{Whole, Stopped}
 use Rattle.day_reading.specs.declared.ending.ReadEnd.TheVariants.{Refused, ReadFault, NoMemory}

@@ -10,8 +10,8 @@ use Rattle.road_time.specs.Order.{by_time}
 use Rattle.road_time.specs.Reads.{accepts, accepts_after, reads, tuples_of}
 use Rattle.road_time.proofs.ReadLaws.{reads_fit}
 use Rattle.road_time.proofs.OrderLaws.{by_time_length}
-use Rattle.tuple_format.specs.Gates.{GateState}
-use Rattle.tuple_format.specs.Sorting.{Sorting, IsSorting}
+use Rattle.tuples_text.specs.Gates.{GateState}
+use Rattle.tuples_text.specs.Sorting.{Sorting, IsSorting}
 use Rattle.day_reading.specs.declared.consumed.Consumed.{Consumed}
 use Rattle.day_reading.specs.declared.ending.Ending.{Ending}
 use Rattle.day_reading.specs.declared.ending.Ending.TheVariants.{Whole, Stopped}

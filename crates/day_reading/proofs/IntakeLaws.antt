@@ -11,10 +11,10 @@ use Rattle.road_time.specs.Lines.{without_cr}
 use Rattle.road_time.specs.Form.{Fault, form}
 use Rattle.road_time.specs.Reads.{line_fault, fault_of_form, formed, tuples_of}
 use Rattle.road_time.proofs.ReadLaws.{tuples_push}
-use Rattle.tuple_format.specs.declared.cause.Cause.{Cause}
-use Rattle.tuple_format.specs.Causes.{reader_answer, cause_of}
-use Rattle.tuple_format.specs.Gates.{GateState, StandsFor}
-use Rattle.tuple_format.specs.Sorting.{Sorting, IsSorting}
+use Rattle.tuples_text.specs.declared.cause.Cause.{Cause}
+use Rattle.tuples_text.specs.Causes.{reader_answer, cause_of}
+use Rattle.tuples_text.specs.Gates.{GateState, StandsFor}
+use Rattle.tuples_text.specs.Sorting.{Sorting, IsSorting}
 use Rattle.day_reading.specs.declared.ending.Ending.{Ending}
 use Rattle.day_reading.specs.declared.ending.Ending.TheVariants.{Whole, Stopped}
 use Rattle.day_reading.specs.declared.ending.ReadEnd.TheVariants.{Refused, ReadFault, NoMemory}

@@ -1,3 +1,8 @@
+pub mod TallyLaws
+pub mod JudgeLaws
+pub mod LineLaws
+pub mod WholeLaws
+pub mod GoodLaws
 pub mod LinesLaws
 pub mod IntakeLaws
 pub mod FrontLaws

@@ -12,11 +12,11 @@ use Rattle.road_time.specs.Form.{Fault, Long}
 use Rattle.road_time.specs.Reads.{accepts, accepts_after, reading_at, line_fault, tuples_of}
 use Rattle.road_io.specs.Cutter.{Cuts, FirstHas}
 use Rattle.road_io.specs.declared.cutter.LineFault.TheVariants.{LongLine}
-use Rattle.tuple_format.specs.declared.cause.Cause.{Cause}
-use Rattle.tuple_format.specs.declared.cause.Cause.TheVariants as causes
-use Rattle.tuple_format.specs.Causes.{cause_of}
-use Rattle.tuple_format.specs.Gates.{GateState}
-use Rattle.tuple_format.specs.Sorting.{Sorting, IsSorting}
+use Rattle.tuples_text.specs.declared.cause.Cause.{Cause}
+use Rattle.tuples_text.specs.declared.cause.Cause.TheVariants as causes
+use Rattle.tuples_text.specs.Causes.{cause_of}
+use Rattle.tuples_text.specs.Gates.{GateState}
+use Rattle.tuples_text.specs.Sorting.{Sorting, IsSorting}
 use Rattle.day_reading.specs.declared.consumed.Consumed.{Consumed}
 use Rattle.day_reading.specs.declared.ending.Ending.{Ending}
 use Rattle.day_reading.specs.declared.ending.Ending.TheVariants.{Whole, Stopped}

@@ -4,9 +4,9 @@ use Rattle.std.specs.Prelude.{Bool, Option, Some, None, is_some}
 use Rattle.road_time.specs.declared.day.Limits.{Limits}
 use Rattle.road_time.specs.Lines.{lines_of}
 use Rattle.road_time.specs.Form.{Fault}
-use Rattle.tuple_format.specs.Causes.{cause_of}
-use Rattle.keeper.specs.declared.digest.Digest.{Digest}
-use Rattle.keeper.specs.Digests.{digest_of}
+use Rattle.tuples_text.specs.Causes.{cause_of}
+use Rattle.road_digest.specs.declared.digest.Digest.{Digest}
+use Rattle.road_digest.specs.Digests.{digest_of}
 use Rattle.day_reading.specs.declared.whole_day.DayEnd.{DayEnd}
 use Rattle.day_reading.specs.declared.whole_day.DayEnd.TheVariants.{Whole, Refused}
 

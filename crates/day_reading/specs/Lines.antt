@@ -4,10 +4,10 @@ use Rattle.std.specs.Option.{option_map}
 use Rattle.road_time.specs.declared.road.Tuple.{Tuple}
 use Rattle.road_time.specs.declared.day.Limits.{Limits}
 use Rattle.road_time.specs.Reads.{admit_fault, line_fault, tuples_of}
-use Rattle.tuple_format.specs.Causes.{cause_of}
-use Rattle.tuple_format.specs.declared.cause.Cause.{Cause}
-use Rattle.tuple_format.specs.Gates.{GateState, StandsFor}
-use Rattle.tuple_format.specs.Sorting.{Sorting, IsSorting}
+use Rattle.tuples_text.specs.Causes.{cause_of}
+use Rattle.tuples_text.specs.declared.cause.Cause.{Cause}
+use Rattle.tuples_text.specs.Gates.{GateState, StandsFor}
+use Rattle.tuples_text.specs.Sorting.{Sorting, IsSorting}
 use Rattle.day_reading.specs.declared.day_ahead.Following.{Following}
 use Rattle.day_reading.specs.declared.day_ahead.Following.TheVariants.{Stops}
 use Rattle.day_reading.specs.declared.ending.Ending.{Ending}

@@ -1,7 +1,7 @@
 -- Bytes that are taken piece by piece for a digest.
 use Rattle.std.specs.Prelude.{ℕ, ◌≡◌, ◌≤◌, ◌++◌, [], List, length, take, drop, Option, Some}
-use Rattle.keeper.specs.declared.digest.Digester.{Digester}
-use Rattle.keeper.specs.Digests.{Took}
+use Rattle.road_digest.specs.declared.digest.Digester.{Digester}
+use Rattle.road_digest.specs.Digests.{Took}
 
 -- so many bytes more were read, none only at the end, and taken for a digest after those before
 pub record TakesPiece (n : ℕ) (bytes before : List ℕ) (d : Digester) (left : Option (List ℕ)) : Type 0 where

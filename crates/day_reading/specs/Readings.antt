@@ -9,11 +9,11 @@ use Rattle.road_time.specs.Fits.{Allowed, Fit}
 use Rattle.road_time.specs.Order.{by_time}
 use Rattle.road_time.specs.Reads.{reads, accepts, accepts_after, tuples_of}
 use Rattle.road_io.specs.Cutter.{ahead, line_number}
-use Rattle.digest_beside.specs.Beside.{TookBeside}
-use Rattle.tuple_format.specs.Causes.{cause_of}
-use Rattle.tuple_format.specs.declared.cause.Cause.{Cause}
-use Rattle.tuple_format.specs.Gates.{GateState, StandsFor}
-use Rattle.tuple_format.specs.Sorting.{Sorting, IsSorting}
+use Rattle.road_digest.specs.Beside.{TookBeside}
+use Rattle.tuples_text.specs.Causes.{cause_of}
+use Rattle.tuples_text.specs.declared.cause.Cause.{Cause}
+use Rattle.tuples_text.specs.Gates.{GateState, StandsFor}
+use Rattle.tuples_text.specs.Sorting.{Sorting, IsSorting}
 use Rattle.day_reading.specs.declared.ending.Ending.{Ending}
 use Rattle.day_reading.specs.declared.ending.Ending.TheVariants.{Whole, Stopped}
 use Rattle.day_reading.specs.declared.ending.ReadEnd.{ReadEnd}

@@ -2,7 +2,7 @@
 ghost use Rattle.std.specs.Prelude.{◌≤◌};
 ghost use Rattle.day_reading.specs.declared.consumed.TheConstants.{GREATEST_CHUNK};
 
-use digest_beside::BesideDigester;
+use road_digest::BesideDigester;
 
 mod steps;
 

@@ -4,7 +4,7 @@ ghost use Rattle.day_reading.specs.Lines.{FollowsAfter};
 
 use crate::day_reader::DayReader;
 use road_time::Tuple;
-use tuple_format::Cause;
+use tuples_text::Cause;
 
 mod steps;
 

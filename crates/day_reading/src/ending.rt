@@ -1,5 +1,5 @@
 // How reading a day ends.
-use tuple_format::Cause;
+use tuples_text::Cause;
 
 /// Why no further tuple is given.
 #[derive(Clone, Copy, Debug, PartialEq, Eq)]

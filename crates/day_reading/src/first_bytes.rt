@@ -4,13 +4,13 @@ ghost use Rattle.std.specs.Prelude.{take, drop};
 ghost use Rattle.road_io.specs.Blame.{FaultsByPlan};
 ghost use Rattle.road_io.specs.Faults.{HasCause};
 ghost use Rattle.road_io.specs.Plans.{NeverFails};
-ghost use Rattle.keeper.specs.Digests.{Took, found_digest};
+ghost use Rattle.road_digest.specs.Digests.{Took, found_digest};
 ghost use Rattle.road_io.specs.Within.{ReadsWithin};
 ghost use Rattle.day_reading.specs.Pieces.{TakesPiece};
 ghost use Rattle.day_reading.specs.declared.whole_day.ReadStop.TheVariants.{ReadFault};
 
 use crate::whole_day::ReadStop;
-use keeper::{Digest, Digester};
+use road_digest::{Digest, Digester};
 use road_io::{Failed, Source};
 use road_time::NoMemory;
 use std::alloc::Global;

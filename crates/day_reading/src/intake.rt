@@ -1,8 +1,8 @@
 // One line of a day: judged, and its tuple put to those that wait.
 ghost use Rattle.std.specs.Prelude.{◌≡◌, ◌≤◌, ◌≢◌, [], ℕ, List, Some, length, IfNone, false};
 ghost use Rattle.road_time.specs.declared.day.Limits.{Limits as LimitsValue};
-ghost use Rattle.tuple_format.specs.Gates.{StandsFor};
-ghost use Rattle.tuple_format.specs.Sorting.{IsSorting};
+ghost use Rattle.tuples_text.specs.Gates.{StandsFor};
+ghost use Rattle.tuples_text.specs.Sorting.{IsSorting};
 ghost use Rattle.day_reading.specs.Lines.{TakesTuple, TakesLine, StopsAfter, refusal};
 ghost use Rattle.day_reading.specs.declared.ending.Ending.TheVariants.{Stopped};
 ghost use Rattle.day_reading.specs.declared.ending.ReadEnd.TheVariants.{ReadFault};
@@ -10,7 +10,7 @@ ghost use Rattle.day_reading.specs.declared.ending.ReadEnd.TheVariants.{ReadFaul
 use crate::ending::{Ending, ReadEnd};
 use road_time::{Limits, Tuple};
 use std::alloc::Global;
-use tuple_format::{AdmitFault, Cause, Gatekeeper, Sorter, read_line};
+use tuples_text::{AdmitFault, Cause, Gatekeeper, Sorter, read_line};
 
 /// Judges the lines of a day and keeps the tuples that wait.
 #[derive(Drop)]

@@ -12,13 +12,13 @@ ghost use Rattle.day_reading.specs.declared.whole_day.ReadStop.TheVariants.{Read
 
 use crate::day_reader::DayReader;
 use crate::ending::ReadEnd;
-use keeper::Digest;
+use road_digest::Digest;
 use road_io::Source;
 use road_time::{Limits, Tuple};
 use std::alloc::Global;
 use std::thread::Threads;
 use thiserror::Error;
-use tuple_format::Cause;
+use tuples_text::Cause;
 
 /// How the reading of a day ended.
 #[derive(Clone, Copy, Debug, PartialEq, Eq)]

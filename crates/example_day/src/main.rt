@@ -11,14 +11,14 @@ ghost use Rattle.road_time.specs.declared.day.TheConstants.Limits.{DAY};
 ghost use Rattle.road_time.specs.History.{paid, KeysDiffer};
 
 use day_reading::DayReader;
-use reports::accident_log;
+use office_reports::accident_log;
 use road_io::{Sink, Source, StdSink, StdSource, put_all};
+use road_rules::plain_notices;
 use road_time::{Limits, NoMemory, Notice, SpentRow, Tariffs, Tuple};
 use std::alloc::Global;
 use std::process::ExitCode;
 use std::thread::Threads;
-use tuple_format::put_notice;
-use validator::plain_notices;
+use tuples_text::put_notice;
 
 /// The number of the example day.
 const EXAMPLE_DAY: u32 = 100;

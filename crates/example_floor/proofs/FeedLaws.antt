@@ -9,9 +9,9 @@ use Rattle.road_time.specs.declared.road.Tuple.TheVariants.{Report as ReportTupl
 use Rattle.road_time.specs.Fits.{Fit}
 use Rattle.road_time.specs.Rates.{Tariffs}
 use Rattle.road_time.proofs.AllowedLaws.{fit_left}
-use Rattle.watermark.specs.Shares.{State}
-use Rattle.watermark.specs.Steps.{after_feed}
-use Rattle.watermark.specs.Sound.{CanFeed, IsTrue}
+use Rattle.day_floor.specs.Shares.{State}
+use Rattle.day_floor.specs.Steps.{after_feed}
+use Rattle.day_floor.specs.Sound.{CanFeed, IsTrue}
 use Rattle.example_floor.specs.Turns.{after_fed}
 
 -- the tuple that stands where there is none

@@ -11,29 +11,29 @@ use Rattle.std.specs.Io.KnownBytes.{Appends}
 use Rattle.road_time.specs.Sights.{moments, moments_after}
 use Rattle.road_time.specs.Day.{given, notices, merged}
 use Rattle.road_time.specs.Text.{out}
-use Rattle.settling.specs.Answers.{AreNotices}
-use Rattle.settling.proofs.AnswerLaws.{notices_exact}
-use Rattle.watermark.specs.Written.{settled_charges}
-use Rattle.watermark.proofs.Texts.{charged_same, not_settled, long_first}
-use Rattle.expressway.specs.declared.lane_event.LaneEvent.{LaneEvent}
+use Rattle.day_floor.specs.Answers.{AreNotices}
+use Rattle.day_floor.proofs.AnswerLaws.{notices_exact}
+use Rattle.day_floor.specs.Written.{settled_charges}
+use Rattle.day_floor.proofs.Texts.{charged_same, not_settled, long_first}
+use Rattle.ways_expressway.specs.declared.lane_event.LaneEvent.{LaneEvent}
 use Rattle.road_time.specs.Rates.{Tariffs}
 use Rattle.road_time.specs.declared.road.Tuple.{Tuple}
-use Rattle.expressway.specs.declared.job.Job.{Job}
-use Rattle.expressway.specs.declared.job.Done.{Done}
-use Rattle.expressway.specs.Findings.{shown, findings}
-use Rattle.expressway.specs.Ready.{IsReady}
-use Rattle.expressway.specs.Results.{IsResultOf}
-use Rattle.expressway.proofs.ShapeLaws.{shaped}
-use Rattle.watermark.specs.declared.floor.Floor.{Floor}
-use Rattle.watermark.specs.Shares.{State, events_ahead, ahead_of, can_give, mark}
-use Rattle.watermark.specs.Steps.{given_out, taken_back, after_give, after_back}
-use Rattle.watermark.specs.Sound.{SoundState, IsTrue}
-use Rattle.watermark.specs.Jobs.{IsNext, MayComeBack}
-use Rattle.watermark.specs.Floors.{Setting, StandsFor, StandsForSome, WritesText}
-use Rattle.watermark.proofs.Jobs.{next_ready, goes_out, some_out, comes_back, ok_is}
-use Rattle.watermark.proofs.Workers.{at_own, at_other}
-use Rattle.watermark.proofs.Marks.{all_back}
-use Rattle.watermark.proofs.Truths.{exact_notices, true_give, true_back}
+use Rattle.ways_expressway.specs.declared.job.Job.{Job}
+use Rattle.ways_expressway.specs.declared.job.Done.{Done}
+use Rattle.ways_expressway.specs.Findings.{shown, findings}
+use Rattle.ways_expressway.specs.Ready.{IsReady}
+use Rattle.ways_expressway.specs.Results.{IsResultOf}
+use Rattle.ways_expressway.proofs.ShapeLaws.{shaped}
+use Rattle.day_floor.specs.declared.floor.Floor.{Floor}
+use Rattle.day_floor.specs.Shares.{State, events_ahead, ahead_of, can_give, mark}
+use Rattle.day_floor.specs.Steps.{given_out, taken_back, after_give, after_back}
+use Rattle.day_floor.specs.Sound.{SoundState, IsTrue}
+use Rattle.day_floor.specs.Jobs.{IsNext, MayComeBack}
+use Rattle.day_floor.specs.Floors.{Setting, StandsFor, StandsForSome, WritesText}
+use Rattle.day_floor.proofs.Jobs.{next_ready, goes_out, some_out, comes_back, ok_is}
+use Rattle.day_floor.proofs.Workers.{at_own, at_other}
+use Rattle.day_floor.proofs.Marks.{all_back}
+use Rattle.day_floor.proofs.Truths.{exact_notices, true_give, true_back}
 use Rattle.example_floor.specs.Turns.{after_run, after_runs, AllHome, AreAnswered}
 
 -- what is no error is well

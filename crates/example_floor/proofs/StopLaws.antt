@@ -9,17 +9,17 @@ use Rattle.road_time.specs.Rates.{Tariffs}
 use Rattle.road_time.specs.Sights.{moments, moments_after}
 use Rattle.road_time.specs.Day.{given, notices, merged}
 use Rattle.road_time.specs.Text.{out}
-use Rattle.settling.specs.declared.fault.SettleFault.{SettleFault}
-use Rattle.settling.specs.declared.fault.SettleFault.TheVariants.{KeeperFault, WriteFault, NoMemory}
-use Rattle.settling.specs.Answers.{PaidHistory, AreNotices}
+use Rattle.day_floor.specs.declared.fault.SettleFault.{SettleFault}
+use Rattle.day_floor.specs.declared.fault.SettleFault.TheVariants.{KeeperFault, WriteFault, NoMemory}
+use Rattle.day_floor.specs.Answers.{PaidHistory, AreNotices}
 use Rattle.road_io.specs.Levels.{Level, AddsFront, AddsPieces, FillsUp, Adds}
-use Rattle.settling.specs.Asking.{AskingPlan, requests_of}
-use Rattle.settling.specs.Runs.{TakesRun, StopsRun}
-use Rattle.settling.proofs.AnswerLaws.{notices_exact}
-use Rattle.settling.proofs.AskLaws.{passes_none, up_to_all}
-use Rattle.settling.proofs.LevelLaws.{front_whole}
-use Rattle.watermark.specs.Shares.{State, mark}
-use Rattle.watermark.specs.Floors.{Setting, TakesSettled, StopsSettling}
+use Rattle.day_floor.specs.Asking.{AskingPlan, requests_of}
+use Rattle.day_floor.specs.SettlingRuns.{TakesRun, StopsRun}
+use Rattle.day_floor.proofs.AnswerLaws.{notices_exact}
+use Rattle.day_floor.proofs.AskLaws.{passes_none, up_to_all}
+use Rattle.day_floor.proofs.LevelLaws.{front_whole}
+use Rattle.day_floor.specs.Shares.{State, mark}
+use Rattle.day_floor.specs.Floors.{Setting, TakesSettled, StopsSettling}
 use Rattle.example_floor.specs.Turns.{AreAnswered}
 use Rattle.example_floor.specs.Stops.{TakesDay, StopsDay}
 

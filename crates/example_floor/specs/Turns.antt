@@ -3,10 +3,10 @@ use Rattle.std.specs.Prelude.{ℕ, zero, suc, ◌≡◌, ◌≤◌, take, List, 
 use Rattle.road_time.specs.declared.road.Tuple.{Tuple}
 use Rattle.road_time.specs.Rates.{Tariffs}
 use Rattle.road_time.specs.Day.{notices, merged}
-use Rattle.expressway.specs.Findings.{findings}
-use Rattle.watermark.specs.Shares.{State, can_give, mark}
-use Rattle.watermark.specs.Steps.{after_feed, after_give, after_back}
-use Rattle.watermark.specs.Sound.{IsTrue}
+use Rattle.ways_expressway.specs.Findings.{findings}
+use Rattle.day_floor.specs.Shares.{State, can_give, mark}
+use Rattle.day_floor.specs.Steps.{after_feed, after_give, after_back}
+use Rattle.day_floor.specs.Sound.{IsTrue}
 
 -- some tuples are fed, one after another
 abbrev pub after_fed : ℕ → State → List Tuple → State

@@ -1,12 +1,12 @@
 // A day's tuples are fed.
 ghost use Rattle.std.specs.Prelude.{◌≡◌, ◌≤◌, length, OnOk};
 ghost use Rattle.road_time.specs.Fits.{Fit};
-ghost use Rattle.watermark.specs.Shares.{start};
-ghost use Rattle.watermark.specs.Floors.{Setting, width_of, limits_of, StandsFor};
+ghost use Rattle.day_floor.specs.Shares.{start};
+ghost use Rattle.day_floor.specs.Floors.{Setting, width_of, limits_of, StandsFor};
 ghost use Rattle.example_floor.specs.Turns.{after_fed};
 
+use day_floor::Floor;
 use road_time::{NoMemory, Tuple};
-use watermark::Floor;
 
 /// Feeds the tuples of a day, before which none was fed. After a refusal some of them were fed.
 pub(crate) fn feed_all(floor: &mut Floor, tuples: &[Tuple]) -> Result<(), NoMemory>

@@ -7,25 +7,23 @@ ghost use Rattle.road_time.specs.Day.{notices};
 ghost use Rattle.road_time.specs.Text.{out};
 ghost use Rattle.road_io.specs.Fakes.{bytes_of, room_of};
 ghost use Rattle.road_time.specs.History.{paid};
-ghost use Rattle.keeper.specs.Memory.{kept_by, plan_of};
-ghost use Rattle.settling.specs.declared.fault.SettleFault.TheVariants.{KeeperFault, WriteFault};
-ghost use Rattle.settling.specs.Answers.{history_of};
-ghost use Rattle.settling.specs.Asking.{requests_of};
+ghost use Rattle.keep_office.specs.Memory.{kept_by, plan_of};
+ghost use Rattle.day_floor.specs.declared.fault.SettleFault.TheVariants.{KeeperFault, WriteFault};
+ghost use Rattle.day_floor.specs.Answers.{history_of};
+ghost use Rattle.day_floor.specs.Asking.{requests_of};
 ghost use Rattle.example_floor.specs.Stops.{TakesDay, StopsDay};
 
 use crate::feeding::feed_all;
 use crate::reading::read_day;
 use crate::showing::{show_end, show_floor};
 use crate::turns::{run_all, run_and_settle};
-use accounts::NoPublisher;
-use keeper::{Keeper, MemKeeper};
+use day_floor::{Closed, Floor, NoPublisher, SettleFault};
+use keep_office::{Keeper, MemKeeper};
 use road_io::{MemSink, MemSource, Sink};
 use road_time::{Limits, Tariffs, Tuple};
-use settling::{Closed, SettleFault};
 use std::rt::HostRuntime;
 use std::str;
 use std::thread::Threads;
-use watermark::Floor;
 
 /// The number of the day.
 const NUMBER: u32 = 100;

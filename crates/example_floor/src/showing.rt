@@ -1,8 +1,8 @@
 // What a row prints.
-use expressway::{Job, LaneEvent};
-use settling::{Closed, SettleFault};
+use day_floor::{Closed, SettleFault};
 use std::io;
 use std::rt::HostRuntime;
+use ways_expressway::{Job, LaneEvent};
 
 /// An event, on a line of its own.
 fn show_event(rt: HostRuntime, event: &LaneEvent) -> io::Result<()> {

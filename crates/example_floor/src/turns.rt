@@ -3,25 +3,23 @@ ghost use Rattle.std.specs.Prelude.{◌≡◌, ◌<◌, ℕ, Some, length, OnOk,
 ghost use Rattle.std.specs.Io.KnownBytes.{Appends};
 ghost use Rattle.road_time.specs.Day.{notices, sum_of};
 ghost use Rattle.road_time.specs.Text.{out};
-ghost use Rattle.settling.specs.Answers.{history_of};
-ghost use Rattle.settling.specs.Boards.{IsAbreast};
-ghost use Rattle.watermark.specs.Written.{settled_charges};
-ghost use Rattle.watermark.specs.Shares.{State};
-ghost use Rattle.watermark.specs.Steps.{after_settle};
-ghost use Rattle.watermark.specs.Floors.{Setting, width_of, limits_of, StandsFor, StandsForSome};
+ghost use Rattle.day_floor.specs.Answers.{history_of};
+ghost use Rattle.day_floor.specs.SettlingBoards.{IsAbreast};
+ghost use Rattle.day_floor.specs.Written.{settled_charges};
+ghost use Rattle.day_floor.specs.Shares.{State};
+ghost use Rattle.day_floor.specs.Steps.{after_settle};
+ghost use Rattle.day_floor.specs.Floors.{Setting, width_of, limits_of, StandsFor, StandsForSome};
 ghost use Rattle.example_floor.specs.Turns.{after_run, after_runs, AllHome, AreAnswered};
 ghost use Rattle.example_floor.specs.Stops.{TakesDay, StopsDay};
-ghost use Rattle.watermark.specs.Sound.{IsTrue};
+ghost use Rattle.day_floor.specs.Sound.{IsTrue};
 
 use crate::showing::{show_job, show_none};
-use accounts::Publisher;
-use expressway::run;
-use keeper::Keeper;
+use day_floor::{Floor, Publisher, SettleFault};
+use keep_office::Keeper;
 use road_io::Sink;
 use road_time::NoMemory;
-use settling::SettleFault;
 use std::rt::HostRuntime;
-use watermark::Floor;
+use ways_expressway::run;
 
 /// Gives a worker its next job, if there is one, and no other as long as it is out, runs it, and takes it back.
 /// After a refusal the floor serves no more.

@@ -3,7 +3,7 @@ ghost use Rattle.std.specs.Prelude.{◌≤◌};
 
 use road_time::{NoMemory, Report, Tuple};
 use std::alloc::Global;
-use tuple_format::put_tuple;
+use tuples_text::put_tuple;
 
 /// The turns of the day, half a minute each.
 const TURNS: u32 = 101;

@@ -1,16 +1,16 @@
 // The day is answered, audited, imported, and imported again.
 ghost use Rattle.std.specs.Prelude.{◌≡◌, ◌≤◌, []};
 
-use accounts::NoPublisher;
-use import_once::{Outcome, answers, import};
-use import_plan::Plan;
-use keeper::MemKeeper;
+use day_floor::NoPublisher;
+use day_import::{Outcome, answers, import};
+use day_plan::Plan;
+use keep_office::MemKeeper;
 use office_commands::office;
-use partition_workers::{InlineCrew, NoGate, ThreadCrew};
 use road_io::{MemSink, MemSource};
 use road_time::{Limits, NoMemory};
 use std::alloc::Global;
 use std::thread::Threads;
+use ways_crews::{InlineCrew, NoGate, ThreadCrew};
 
 /// The day's number.
 const NUMBER: u32 = 100;

@@ -1,6 +1,6 @@
 // What is printed of an outcome.
-use import_once::{AnsweredDay, Outcome};
-use keeper::DayRecord;
+use day_import::{AnsweredDay, Outcome};
+use keep_office::DayRecord;
 use std::io;
 use std::rt::HostRuntime;
 

@@ -2,11 +2,11 @@
 use Rattle.std.proofs.Common.{◌≡◌, [], ◌∷◌, refl, arith}
 use Rattle.std.specs.List.Sorted.{IsStrictlySortedBy}
 use Rattle.road_time.specs.declared.day.SpentRow.{SpentRow}
-use Rattle.keeper.specs.declared.digest.Digest.{Digest}
-use Rattle.keeper.specs.declared.kept.DayRecord.{DayRecord}
-use Rattle.keeper.specs.Office.{RowsRise}
-use Rattle.keeper.specs.Kept.{IsDayPut}
-use Rattle.keeper.proofs.WorkedLaws.{amount}
+use Rattle.road_digest.specs.declared.digest.Digest.{Digest}
+use Rattle.keep_office.specs.declared.kept.DayRecord.{DayRecord}
+use Rattle.keep_office.specs.Office.{RowsRise}
+use Rattle.keep_office.specs.Kept.{IsDayPut}
+use Rattle.keep_office.proofs.WorkedLaws.{amount}
 
 -- the amount of vehicle 8
 abbrev other_amount : SpentRow

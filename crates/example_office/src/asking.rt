@@ -1,9 +1,9 @@
 // What is asked of a keeper in a file, which is opened anew for it.
 ghost use Rattle.std.specs.Prelude.{◌≡◌, None};
 
-use keeper::{KeepFault, Keeper};
+use keep_files::SqliteKeeper;
+use keep_office::{KeepFault, Keeper};
 use road_time::NoMemory;
-use sqlite_keeper::SqliteKeeper;
 use std::rt::HostRuntime;
 
 /// What is asked of a keeper that tells nothing of what it keeps.

@@ -2,15 +2,15 @@
 use crate::asking::{Asks, ask_file, close_file};
 use crate::whole::{Works, on_whole};
 use crate::worked::put_day;
-use keeper::{DayRecord, KeepFault, Keeper, PastRecord};
-use keeper_at_path::{Kept, KeptDisk, open_to_read};
-use keeper_proof::{ProvedKeeper, Steady};
+use keep_database::{ProvedKeeper, Steady};
+use keep_files::{Kept, KeptDisk, open_to_read};
+use keep_office::{DayRecord, KeepFault, Keeper, PastRecord};
+use keep_trees::PageTrees;
 use road_time::{SpentRow, Tariff};
 use sqlite::Connection;
 use sqlite_pages::Pages;
 use std::alloc::Global;
 use std::rt::HostRuntime;
-use tree_keeper::PageTrees;
 
 /// What the seven calls that read answer of a file.
 #[derive(Drop)]

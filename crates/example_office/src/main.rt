@@ -21,14 +21,14 @@ mod tables;
 mod whole;
 mod worked;
 
-use keeper::{Keeper, MemKeeper};
+use keep_files::SqliteKeeper;
+use keep_office::{Keeper, MemKeeper};
 use office_commands::{ASIDE_FILE, office};
-use partition_workers::{NoGate, ThreadCrew};
 use road_io::{FileSource, MemSink, Source};
 use road_time::Limits;
-use sqlite_keeper::SqliteKeeper;
 use std::rt::HostRuntime;
 use std::thread::Threads;
+use ways_crews::{NoGate, ThreadCrew};
 
 /// A command, and the file that it reads in place of standard input: as the program runs it, with room for so many
 /// bytes of output, or where a history may have one line.

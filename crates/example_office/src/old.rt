@@ -2,8 +2,9 @@
 use crate::asking::{Asks, ask_file};
 use crate::whole::by_hand;
 use crate::worked::{history, put_day, row};
-use keeper::{DayRecord, Digester, KeepFault, Keeper};
-use keeper_proof::Steady;
+use keep_database::Steady;
+use keep_office::{DayRecord, KeepFault, Keeper};
+use road_digest::Digester;
 use road_time::Tariff;
 use sqlite::Connection;
 use std::rt::HostRuntime;

@@ -1,9 +1,9 @@
 // An import over a file, whose reads fail in turn.
 use crate::refused::is_without_day;
 use crate::{AMPLE, answer};
+use keep_files::SqliteKeeper;
 use road_io::{MemSink, MemSource};
 use road_time::Limits;
-use sqlite_keeper::SqliteKeeper;
 use std::rt::HostRuntime;
 use std::thread::Threads;
 

@@ -3,7 +3,8 @@ ghost use Rattle.std.specs.Prelude.{◌≤◌};
 
 use crate::asking::{Asks, ask_file};
 use crate::worked::{day, history, other_row, put_day, row};
-use keeper::{Digester, KeepFault, Keeper, MemKeeper};
+use keep_office::{KeepFault, Keeper, MemKeeper};
+use road_digest::Digester;
 use road_time::Tariff;
 use std::rt::HostRuntime;
 

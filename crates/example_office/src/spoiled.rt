@@ -2,7 +2,7 @@
 use crate::asking::{Asks, ask_file};
 use crate::whole::by_hand;
 use crate::worked::put_day;
-use keeper::{KeepFault, Keeper};
+use keep_office::{KeepFault, Keeper};
 use road_time::Tariff;
 use std::rt::HostRuntime;
 

@@ -1,8 +1,8 @@
 // The commands over a proved keeper, whose tables lie in memory.
 use crate::old::make_old;
 use crate::{Step, run};
-use keeper::KeepFault;
-use keeper_proof::{ProvedKeeper, Steady};
+use keep_database::{ProvedKeeper, Steady};
+use keep_office::KeepFault;
 use sqlite::{Connection, MemStore};
 use std::alloc::Global;
 use std::rt::HostRuntime;

@@ -1,7 +1,7 @@
 // What is done with a whole file that is opened for it.
-use keeper::KeepFault;
-use keeper_at_path::{KeptDisk, open_whole};
-use keeper_proof::Steady;
+use keep_database::Steady;
+use keep_files::{KeptDisk, open_whole};
+use keep_office::KeepFault;
 use sqlite::Connection;
 use std::rt::HostRuntime;
 

@@ -2,7 +2,8 @@
 ghost use Rattle.std.specs.Prelude.{◌≡◌};
 
 use crate::asking::{Asks, ask_file};
-use keeper::{DayRecord, Digest, Digester, KeepFault, Keeper, PastRecord};
+use keep_office::{DayRecord, KeepFault, Keeper, PastRecord};
+use road_digest::{Digest, Digester};
 use road_time::SpentRow;
 use std::rt::HostRuntime;
 

@@ -1,8 +1,8 @@
 -- A check that could not read.
 use Rattle.std.proofs.Common.{◌≡◌, ◌⊎◌, inl, inr, ℕ, List, [], Option, Some, Ok, refl, arith}
 use Rattle.road_io.proofs.SinkLaws.{appends_none}
-use Rattle.day_check.specs.declared.whole.CheckStop.{CheckStop}
-use Rattle.day_check.specs.declared.whole.CheckStop.TheVariants as checks
+use Rattle.day_reading.specs.declared.whole.CheckStop.{CheckStop}
+use Rattle.day_reading.specs.declared.whole.CheckStop.TheVariants as checks
 use Rattle.office_commands.specs.Commands.{Answer}
 use Rattle.office_commands.specs.Endings.{Wrote, stopping_check, code_of}
 use Rattle.office_commands.specs.Rests.{ReadsToEnd}

@@ -4,7 +4,7 @@ use Rattle.std.proofs.Common.{arith, [], ◌<◌, take, if◌then◌else◌}
 use Rattle.std.proofs.lemmas.List.{take_all, take-take, length-take}
 use Rattle.road_io.proofs.SinkLaws.{appends_none}
 use Rattle.road_io.specs.declared.source.Failed.{Failed}
-use Rattle.keeper.specs.declared.kept.KeepFault.{KeepFault}
+use Rattle.keep_office.specs.declared.kept.KeepFault.{KeepFault}
 use Rattle.day_reading.specs.declared.whole_day.ReadStop.{ReadStop}
 use Rattle.office_commands.specs.declared.closing.Closing.{Closing}
 use Rattle.office_commands.specs.declared.closing.Closing.TheVariants.{Words, ReadFault, KeeperFault, NoMemory}
@@ -13,7 +13,7 @@ use Rattle.office_commands.specs.Closings.{status_of}
 use Rattle.office_commands.specs.Commands.{Answer}
 use Rattle.office_commands.specs.Endings.{Sort, Own, Unread, Unkept, Unroomed, sort_of, IsTextFront, StandsBy}
 use Rattle.office_commands.specs.Endings.{StandsBefore, Wrote, stopping, refusing}
-use Rattle.keeper.specs.declared.kept.KeepFault.TheVariants as keeping
+use Rattle.keep_office.specs.declared.kept.KeepFault.TheVariants as keeping
 use Rattle.day_reading.specs.declared.whole_day.ReadStop.TheVariants as stops
 
 -- what a closing line of a sort is

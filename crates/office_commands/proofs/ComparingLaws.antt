@@ -1,8 +1,8 @@
 -- What is kept by a comparison, and by an accident log.
 use Rattle.std.proofs.Common.{◌≡◌, ℕ, List, Option, Some, None, refl}
 use Rattle.road_time.specs.declared.road.Tuple.{Tuple}
-use Rattle.keeper.specs.Office.{Office}
-use Rattle.tuple_format.specs.declared.cause.Cause.{Cause}
+use Rattle.keep_office.specs.Office.{Office}
+use Rattle.tuples_text.specs.declared.cause.Cause.{Cause}
 use Rattle.road_time.specs.declared.day.Limits.{Limits}
 use Rattle.road_time.specs.Lines.{lines_of}
 use Rattle.road_time.specs.Reads.{reads}

@@ -4,10 +4,10 @@ use Rattle.std.proofs.Common.{◌∙◌}
 use Rattle.std.specs.Io.KnownBytes.{Appends}
 use Rattle.road_io.proofs.SinkLaws.{appends_on}
 use Rattle.road_io.specs.declared.source.Failed.{Failed}
-use Rattle.keeper.specs.declared.kept.KeepFault.{KeepFault}
-use Rattle.keeper.specs.declared.kept.KeepFault.TheVariants as keeping
-use Rattle.keeper.specs.Calls.{WhenRefused}
-use Rattle.keeper.specs.Office.{Office}
+use Rattle.keep_office.specs.declared.kept.KeepFault.{KeepFault}
+use Rattle.keep_office.specs.declared.kept.KeepFault.TheVariants as keeping
+use Rattle.keep_office.specs.Calls.{WhenRefused}
+use Rattle.keep_office.specs.Office.{Office}
 use Rattle.office_commands.specs.declared.closing.Closing.{Closing}
 use Rattle.office_commands.specs.declared.closing.Closing.TheVariants.{NoMemory}
 use Rattle.office_commands.specs.Closings.{closing_line, status_of}

@@ -2,7 +2,7 @@
 use Rattle.std.proofs.Common.{◌≡◌, ◌≤◌, ℕ, min, List, Option, Some, sym, ap, ◌∙◌, arith}
 use Rattle.road_time.specs.declared.day.Limits.{Limits}
 use Rattle.road_time.specs.Form.{Fault}
-use Rattle.tuple_format.specs.declared.cause.Cause.{Cause}
+use Rattle.tuples_text.specs.declared.cause.Cause.{Cause}
 use Rattle.road_time.specs.Fits.{IsLimits}
 use Rattle.day_reading.specs.Days.{EndsReading}
 use Rattle.day_reading.specs.declared.whole_day.DayEnd.{DayEnd}

@@ -4,19 +4,19 @@ use Rattle.std.proofs.Common.{Some, None, refl, sym, ap, subst, arith}
 use Rattle.std.specs.Str.{bytes_eq}
 use Rattle.road_time.specs.declared.day.Limits.{Limits}
 use Rattle.road_time.specs.declared.day.SpentRow.{SpentRow}
-use Rattle.keeper.specs.declared.kept.DayRecord.{DayRecord}
-use Rattle.keeper.specs.declared.kept.PastRecord.{PastRecord}
-use Rattle.keeper.specs.Digests.{found_digest}
-use Rattle.keeper.specs.PastReads.{PastFault, past_reads}
-use Rattle.keeper.specs.Calls.{WhenRefused}
-use Rattle.keeper.specs.Office.{Office}
+use Rattle.keep_office.specs.declared.kept.DayRecord.{DayRecord}
+use Rattle.keep_office.specs.declared.kept.PastRecord.{PastRecord}
+use Rattle.road_digest.specs.Digests.{found_digest}
+use Rattle.keep_office.specs.PastReads.{PastFault, past_reads}
+use Rattle.keep_office.specs.Calls.{WhenRefused}
+use Rattle.keep_office.specs.Office.{Office}
 use Rattle.day_reading.specs.Days.{StopsSoon}
-use Rattle.past_file.specs.declared.outcomes.PastCause.{PastCause}
-use Rattle.past_file.specs.Imports.{PastAnswer, past_again, past_read, past_new, past_by_kept, DoesPast}
-use Rattle.past_file.specs.Imports.{LeavesPast, RefusesSoon, KeepsAllPast, IsPastUncompared}
-use Rattle.past_file.specs.declared.outcomes.PastOutcome.{PastOutcome}
-use Rattle.past_file.specs.declared.outcomes.PastOutcome.TheVariants.{Stored, Already, Row, PastLate, OtherBase}
-use Rattle.past_file.specs.declared.outcomes.PastOutcome.TheVariants.{Differs, ReadFault, KeeperFault, NoMemory}
+use Rattle.day_past.specs.declared.outcomes.PastCause.{PastCause}
+use Rattle.day_past.specs.Imports.{PastAnswer, past_again, past_read, past_new, past_by_kept, DoesPast}
+use Rattle.day_past.specs.Imports.{LeavesPast, RefusesSoon, KeepsAllPast, IsPastUncompared}
+use Rattle.day_past.specs.declared.outcomes.PastOutcome.{PastOutcome}
+use Rattle.day_past.specs.declared.outcomes.PastOutcome.TheVariants.{Stored, Already, Row, PastLate, OtherBase}
+use Rattle.day_past.specs.declared.outcomes.PastOutcome.TheVariants.{Differs, ReadFault, KeeperFault, NoMemory}
 use Rattle.office_commands.specs.declared.closing.Closing.{Closing}
 use Rattle.office_commands.specs.Commands.{past_closing, past_by}
 use Rattle.office_commands.specs.Closings.{status_of}

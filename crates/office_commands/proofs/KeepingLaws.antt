@@ -2,16 +2,16 @@
 use Rattle.std.proofs.Common.{◌≡◌, ◌≢◌, inl, inr, ℕ, List, Option, Some, None, Result, Ok, Err, sym, ap, ◌∙◌}
 use Rattle.std.proofs.Common.{arith}
 use Rattle.road_io.specs.declared.source.Failed.{Failed}
-use Rattle.keeper.specs.declared.kept.KeepFault.{KeepFault}
-use Rattle.keeper.specs.Calls.{WhenRefused, PutsNothing, FailsLate, AllOrNothing, Leaves}
-use Rattle.keeper.specs.Office.{Office}
+use Rattle.keep_office.specs.declared.kept.KeepFault.{KeepFault}
+use Rattle.keep_office.specs.Calls.{WhenRefused, PutsNothing, FailsLate, AllOrNothing, Leaves}
+use Rattle.keep_office.specs.Office.{Office}
 use Rattle.office_commands.specs.declared.closing.Closing.{Closing}
 use Rattle.office_commands.specs.Closings.{status_of}
 use Rattle.office_commands.specs.Commands.{Answer}
 use Rattle.office_commands.specs.Endings.{Sort, Own, Unread, Unkept, Unroomed, sort_of, LeftBy, KeepsBy, Keeps}
 use Rattle.office_commands.specs.Endings.{IsOldOrWhole, ClosesRun, refusing}
 use Rattle.office_commands.proofs.ClosingLaws.{IsOf, is_of}
-use Rattle.keeper.specs.declared.kept.KeepFault.TheVariants as keeping
+use Rattle.keep_office.specs.declared.kept.KeepFault.TheVariants as keeping
 
 -- what a refused put leaves is all or nothing
 leaves_whole : (w : WhenRefused) (fault : KeepFault) (a : Answer) (was : Office) (now : Option Office) (o : Office) →

@@ -3,14 +3,14 @@ use Rattle.std.proofs.Common.{◌≡◌, ◌≢◌, ◌⊎◌, ◌∙◌, inl, i
 use Rattle.std.proofs.Common.{Ok, Err, OnErr, refl, sym, ap, subst, arith, IsErr}
 use Rattle.std.specs.Io.KnownBytes.{Appends}
 use Rattle.road_io.specs.declared.source.Failed.{Failed}
-use Rattle.keeper.specs.declared.kept.KeepFault.{KeepFault}
-use Rattle.keeper.specs.Calls.{WhenRefused}
-use Rattle.keeper.specs.Office.{Office}
-use Rattle.import_once.specs.Imports.{Does, KeepsAll}
-use Rattle.import_once.specs.declared.outcomes.Outcome.{Outcome}
-use Rattle.import_once.specs.declared.outcomes.Outcome.TheVariants.{Stored, Already, Answered, Refused, DayPassed}
-use Rattle.import_once.specs.declared.outcomes.Outcome.TheVariants.{Differs, ReadFault, WriteFault, KeeperFault}
-use Rattle.import_once.specs.declared.outcomes.Outcome.TheVariants.{NoMemory}
+use Rattle.keep_office.specs.declared.kept.KeepFault.{KeepFault}
+use Rattle.keep_office.specs.Calls.{WhenRefused}
+use Rattle.keep_office.specs.Office.{Office}
+use Rattle.day_import.specs.Imports.{Does, KeepsAll}
+use Rattle.day_import.specs.declared.outcomes.Outcome.{Outcome}
+use Rattle.day_import.specs.declared.outcomes.Outcome.TheVariants.{Stored, Already, Answered, Refused, DayPassed}
+use Rattle.day_import.specs.declared.outcomes.Outcome.TheVariants.{Differs, ReadFault, WriteFault, KeeperFault}
+use Rattle.day_import.specs.declared.outcomes.Outcome.TheVariants.{NoMemory}
 use Rattle.office_commands.specs.declared.closing.Closing.{Closing}
 use Rattle.office_commands.specs.Commands.{closing_by, row_by}
 use Rattle.office_commands.specs.Closings.{status_of}
@@ -18,9 +18,9 @@ use Rattle.office_commands.specs.Endings.{Wrote, Keeps, EndsCommand, Halted, Did
 use Rattle.office_commands.proofs.ClosingLaws.{whole_front}
 use Rattle.road_io.specs.Blame.{FaultsByPlan, FaultsByRoom}
 use Rattle.road_io.specs.Rooms.{Room}
-use Rattle.keeper.specs.declared.kept.KeepFault.TheVariants as keeping
-use Rattle.import_once.specs.Imports as day
-use Rattle.import_once.specs.Faults.{FaultsBeside, NamesNoOther}
+use Rattle.keep_office.specs.declared.kept.KeepFault.TheVariants as keeping
+use Rattle.day_import.specs.Imports as day
+use Rattle.day_import.specs.Faults.{FaultsBeside, NamesNoOther}
 use Rattle.office_commands.specs.Faults.{TellsNoOther}
 use Rattle.office_commands.specs.declared.closing.Closing.TheVariants as closings
 

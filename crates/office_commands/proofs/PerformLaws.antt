@@ -1,7 +1,7 @@
 -- What a command does, from what the call does that carries it out.
 use Rattle.std.proofs.Common.{◌≡◌, inl, ℕ, Bool, true, List, [], Option, Some, Ok, refl, arith}
 use Rattle.road_io.specs.Blame.{FaultsByPlan}
-use Rattle.import_once.specs.Faults.{FaultsBeside}
+use Rattle.day_import.specs.Faults.{FaultsBeside}
 use Rattle.road_io.specs.Plans.{NeverFails}
 use Rattle.road_io.proofs.SinkLaws.{appends_none}
 use Rattle.office_words.specs.declared.command.Command.{Command}

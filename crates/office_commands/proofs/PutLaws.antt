@@ -1,6 +1,6 @@
 -- What is kept where nothing was put.
 use Rattle.std.proofs.Common.{◌≡◌, inl, refl, Option, Some}
-use Rattle.keeper.specs.Office.{Office}
+use Rattle.keep_office.specs.Office.{Office}
 use Rattle.office_words.specs.declared.command.Command.{Command}
 use Rattle.office_words.specs.declared.command.Command.TheVariants as command
 use Rattle.office_commands.specs.Uses.{PutsAsked}

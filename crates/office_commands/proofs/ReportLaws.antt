@@ -1,11 +1,11 @@
 -- What a command wrote, from what its report wrote.
 use Rattle.std.proofs.Common.{◌≡◌, ◌≢◌, ℕ, List, [], take, Option, Some, None, Result, Ok, Err, refl, sym, subst}
 use Rattle.road_io.specs.declared.source.Failed.{Failed}
-use Rattle.keeper.specs.Office.{Office}
-use Rattle.reports.specs.declared.report_fault.ReportFault.{ReportFault}
-use Rattle.reports.specs.declared.report_fault.ReportFault.TheVariants as reports
-use Rattle.reports.specs.Endings.{Reported}
-use Rattle.reports.specs.Endings as report
+use Rattle.keep_office.specs.Office.{Office}
+use Rattle.office_reports.specs.declared.report_fault.ReportFault.{ReportFault}
+use Rattle.office_reports.specs.declared.report_fault.ReportFault.TheVariants as reports
+use Rattle.office_reports.specs.Endings.{Reported}
+use Rattle.office_reports.specs.Endings as report
 use Rattle.office_commands.specs.declared.closing.Closing.{Closing}
 use Rattle.office_commands.specs.Commands.{report_command, text_alone}
 use Rattle.office_commands.specs.Endings.{Wrote, EndsReport}

@@ -5,22 +5,22 @@ use Rattle.std.specs.Str.{bytes_eq}
 use Rattle.road_time.specs.declared.road.Tuple.{Tuple}
 use Rattle.road_time.specs.Form.{Fault}
 use Rattle.road_io.specs.declared.source.Failed.{Failed}
-use Rattle.tuple_format.specs.declared.cause.Cause.{Cause}
-use Rattle.keeper.specs.declared.digest.Digest.{Digest}
-use Rattle.keeper.specs.declared.kept.DayRecord.{DayRecord}
-use Rattle.keeper.specs.declared.kept.KeepFault.{KeepFault}
-use Rattle.keeper.specs.Calls.{WhenRefused}
-use Rattle.keeper.specs.Digests.{found_digest}
-use Rattle.keeper.specs.Office.{Office, last_day}
+use Rattle.tuples_text.specs.declared.cause.Cause.{Cause}
+use Rattle.road_digest.specs.declared.digest.Digest.{Digest}
+use Rattle.keep_office.specs.declared.kept.DayRecord.{DayRecord}
+use Rattle.keep_office.specs.declared.kept.KeepFault.{KeepFault}
+use Rattle.keep_office.specs.Calls.{WhenRefused}
+use Rattle.road_digest.specs.Digests.{found_digest}
+use Rattle.keep_office.specs.Office.{Office, last_day}
 use Rattle.day_reading.specs.Days.{EndsReading, LeavesBehind}
 use Rattle.day_reading.specs.declared.whole_day.DayEnd.{DayEnd}
 use Rattle.day_reading.specs.declared.whole_day.ReadStop.{ReadStop}
-use Rattle.import_once.specs.Imports.{Work, import_worked, again, unwritten, unless_passed, unless_recorded, Merges}
-use Rattle.import_once.specs.Imports.{LeavesRest, LeavesRead, IsOfAnswers, IsUncompared}
-use Rattle.import_once.specs.declared.outcomes.Outcome.{Outcome}
-use Rattle.import_once.specs.declared.outcomes.Outcome.TheVariants.{Stored, Already, Answered, Refused, DayPassed}
-use Rattle.import_once.specs.declared.outcomes.Outcome.TheVariants.{Differs, ReadFault, WriteFault, KeeperFault}
-use Rattle.import_once.specs.declared.outcomes.Outcome.TheVariants.{NoMemory}
+use Rattle.day_import.specs.Imports.{Work, import_worked, again, unwritten, unless_passed, unless_recorded, Merges}
+use Rattle.day_import.specs.Imports.{LeavesRest, LeavesRead, IsOfAnswers, IsUncompared}
+use Rattle.day_import.specs.declared.outcomes.Outcome.{Outcome}
+use Rattle.day_import.specs.declared.outcomes.Outcome.TheVariants.{Stored, Already, Answered, Refused, DayPassed}
+use Rattle.day_import.specs.declared.outcomes.Outcome.TheVariants.{Differs, ReadFault, WriteFault, KeeperFault}
+use Rattle.day_import.specs.declared.outcomes.Outcome.TheVariants.{NoMemory}
 use Rattle.office_commands.specs.declared.closing.Closing.{Closing}
 use Rattle.office_commands.specs.Closings.{status_of}
 use Rattle.office_commands.specs.Commands.{closing_by}
@@ -29,7 +29,7 @@ use Rattle.office_commands.specs.Endings.{EndsCommand, code_of, stopping, refusi
 use Rattle.office_commands.specs.Entries.{IsComparison}
 use Rattle.office_commands.specs.Rests.{HasStoppedReading, HasEnded, HasReadTo, EndsAt, SaysBy, LeavesOfDay}
 use Rattle.office_commands.proofs.OutcomeLaws.{code_is, neither}
-use Rattle.keeper.specs.declared.kept.KeepFault.TheVariants as keeping
+use Rattle.keep_office.specs.declared.kept.KeepFault.TheVariants as keeping
 use Rattle.day_reading.specs.declared.whole_day.DayEnd.TheVariants as day_end
 use Rattle.day_reading.specs.declared.whole_day.ReadStop.TheVariants as stops
 use Rattle.office_words.specs.declared.command.Command.TheVariants as command

@@ -4,11 +4,11 @@ use Rattle.road_time.specs.declared.day.Limits.{Limits}
 use Rattle.road_time.specs.declared.road.Tuple.{Tuple}
 use Rattle.road_time.specs.Reads.{LinesRead, reads}
 use Rattle.road_io.specs.Within.{ReadsWithin}
-use Rattle.partition_workers.specs.Told.{CrewTold}
-use Rattle.keeper.specs.declared.kept.DayRecord.{DayRecord}
-use Rattle.keeper.specs.Office.{Office}
+use Rattle.ways_crews.specs.Told.{CrewTold}
+use Rattle.keep_office.specs.declared.kept.DayRecord.{DayRecord}
+use Rattle.keep_office.specs.Office.{Office}
 use Rattle.day_reading.specs.Days.{most_of_day}
-use Rattle.import_once.specs.Imports.{import_read, unless_kept, answers_read, most_imported}
+use Rattle.day_import.specs.Imports.{import_read, unless_kept, answers_read, most_imported}
 use Rattle.office_words.specs.declared.command.DayRun.{DayRun}
 use Rattle.office_commands.specs.Commands.{row_by, answers_command, import_command}
 use Rattle.office_commands.specs.Rests.{HasReadTo, HasReadDay, HasStoppedReading, StopsThere, ReadsUncompared}

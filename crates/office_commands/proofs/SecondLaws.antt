@@ -4,7 +4,7 @@ use Rattle.std.proofs.Common.{take, drop, get_or, Option, refl, sym, ap, subst, 
 use Rattle.std.proofs.lemmas.Bool.{cond-true, cond-false}
 use Rattle.std.proofs.lemmas.List.{at_drop_more, drop_all, take_all, take-append-le}
 use Rattle.road_time.specs.declared.road.Notice.{Notice}
-use Rattle.second_notices.specs.Seconds.{seconds, less}
+use Rattle.ways_audit.specs.Seconds.{seconds, less}
 use Rattle.office_commands.specs.declared.aside.AsideEntry.{AsideEntry}
 use Rattle.office_commands.specs.declared.entry_text.EntryText.{EntryText}
 use Rattle.office_commands.specs.declared.entry_text.EntryText.TheVariants.{Read}

@@ -7,21 +7,21 @@ use Rattle.road_time.specs.declared.road.Tuple.{Tuple}
 use Rattle.road_time.specs.Form.{Fault}
 use Rattle.road_time.specs.Reads.{reads}
 use Rattle.road_io.specs.declared.source.Failed.{Failed}
-use Rattle.partition_workers.specs.Told.{CrewTold, WhereTold}
-use Rattle.partition_workers.specs.Callers.{ListsFirst}
-use Rattle.keeper.specs.declared.kept.DayRecord.{DayRecord}
-use Rattle.keeper.specs.declared.kept.KeepFault.{KeepFault}
-use Rattle.keeper.specs.Calls.{WhenRefused}
-use Rattle.keeper.specs.Office.{Office, record_of}
+use Rattle.ways_crews.specs.Told.{CrewTold, WhereTold}
+use Rattle.ways_crews.specs.Callers.{ListsFirst}
+use Rattle.keep_office.specs.declared.kept.DayRecord.{DayRecord}
+use Rattle.keep_office.specs.declared.kept.KeepFault.{KeepFault}
+use Rattle.keep_office.specs.Calls.{WhenRefused}
+use Rattle.keep_office.specs.Office.{Office, record_of}
 use Rattle.day_reading.specs.declared.whole_day.ReadStop.{ReadStop}
-use Rattle.import_once.specs.Imports.{Work, import_worked, unless_recorded, Merges, IsOfAnswers}
-use Rattle.import_once.specs.declared.outcomes.Outcome.{Outcome}
-use Rattle.import_once.specs.declared.outcomes.Outcome.TheVariants.{Stored, Already, Answered, Refused, DayPassed}
-use Rattle.import_once.specs.declared.outcomes.Outcome.TheVariants.{Differs, ReadFault, WriteFault, KeeperFault}
-use Rattle.import_once.specs.declared.outcomes.Outcome.TheVariants.{NoMemory}
-use Rattle.import_once.specs.Runs.{HasStartedJobs}
-use Rattle.vehicle_workers.specs.Jobs.{StartsAll, StartsFirst, starts_of}
-use Rattle.traffic_gen.specs.Traffic.{generated}
+use Rattle.day_import.specs.Imports.{Work, import_worked, unless_recorded, Merges, IsOfAnswers}
+use Rattle.day_import.specs.declared.outcomes.Outcome.{Outcome}
+use Rattle.day_import.specs.declared.outcomes.Outcome.TheVariants.{Stored, Already, Answered, Refused, DayPassed}
+use Rattle.day_import.specs.declared.outcomes.Outcome.TheVariants.{Differs, ReadFault, WriteFault, KeeperFault}
+use Rattle.day_import.specs.declared.outcomes.Outcome.TheVariants.{NoMemory}
+use Rattle.day_import.specs.Runs.{HasStartedJobs}
+use Rattle.ways_audit.specs.Jobs.{StartsAll, StartsFirst, starts_of}
+use Rattle.tuples_traffic.specs.Traffic.{generated}
 use Rattle.office_words.specs.declared.command.Command.{Command}
 use Rattle.office_words.specs.declared.command.DayRun.{DayRun}
 use Rattle.office_words.specs.declared.command.Recomputing.{Recomputing}
@@ -36,7 +36,7 @@ use Rattle.office_commands.specs.Traffic.{plan_from_seed}
 use Rattle.office_commands.proofs.OutcomeLaws.{code_is}
 use Rattle.office_commands.proofs.RestLaws.{IsNew, is_new}
 use Rattle.day_reading.specs.declared.whole_day.ReadStop.TheVariants as stops
-use Rattle.keeper.specs.declared.kept.KeepFault.TheVariants as keeping
+use Rattle.keep_office.specs.declared.kept.KeepFault.TheVariants as keeping
 use Rattle.office_words.specs.declared.command.Command.TheVariants as command
 
 -- what is refused is not well

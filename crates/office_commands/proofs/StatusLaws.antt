@@ -1,14 +1,14 @@
 -- What is left of a source by the status that a run ends with.
 use Rattle.std.proofs.Common.{◌≡◌, ◌≢◌, ◌⊎◌, inl, inr, ℕ, Bool, true, false, List, Option, Some, refl, sym, ◌∙◌, arith}
 use Rattle.road_time.specs.Form.{Fault}
-use Rattle.keeper.specs.Office.{Office}
+use Rattle.keep_office.specs.Office.{Office}
 use Rattle.day_reading.proofs.BoundLaws.{nothing_read}
 use Rattle.day_reading.specs.Days.{most_of_day}
 use Rattle.office_words.specs.declared.command.Command.{Command}
 use Rattle.office_words.specs.declared.command.Recomputing.TheVariants.{Plainly}
 use Rattle.road_time.specs.declared.day.Limits.{Limits}
 use Rattle.road_time.specs.Reads.{reads}
-use Rattle.past_file.specs.Imports.{most_past}
+use Rattle.day_past.specs.Imports.{most_past}
 use Rattle.office_commands.specs.Days.{recomputed}
 use Rattle.office_commands.specs.Endings.{HoldsSame}
 use Rattle.office_commands.specs.Rests.{HasReadTo, HasReadDay, ReadsAsked, LeavesAsKept, ReadsUncompared, ReadsToEnd}

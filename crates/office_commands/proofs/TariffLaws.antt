@@ -1,8 +1,8 @@
 -- What a keeper keeps after a put.
 use Rattle.std.proofs.Common.{◌≡◌, Option, Some, None, Result, Ok, Err, refl, ap}
-use Rattle.keeper.specs.declared.kept.KeepFault.{KeepFault}
-use Rattle.keeper.specs.Calls.{WhenRefused, Puts, Leaves}
-use Rattle.keeper.specs.Office.{Office}
+use Rattle.keep_office.specs.declared.kept.KeepFault.{KeepFault}
+use Rattle.keep_office.specs.Calls.{WhenRefused, Puts, Leaves}
+use Rattle.keep_office.specs.Office.{Office}
 
 -- the office is the one that was to be, or what a refused put leaves
 abbrev pub PutBy : WhenRefused → Office → (Office → Office) → Option Office → Result (Unit {0}) KeepFault → Type 0

@@ -10,24 +10,24 @@ use Rattle.road_time.specs.Reads.{reads}
 use Rattle.road_io.specs.declared.source.Failed.{Failed}
 use Rattle.road_io.proofs.SinkLaws.{appends_none}
 use Rattle.std.specs.Io.KnownBytes.{Appends}
-use Rattle.keeper.specs.Calls.{WhenRefused}
-use Rattle.keeper.specs.Kept.{kept_record}
-use Rattle.keeper.specs.Office.{Office, nothing_kept}
-use Rattle.keeper.specs.declared.kept.DayRecord.{DayRecord}
-use Rattle.import_once.specs.Imports.{DayAnswer, Work, Does, Merges, work_of, work_by, worked_record, import_worked}
-use Rattle.import_once.specs.Imports.{unless_passed, import_answer, import_found}
-use Rattle.import_once.specs.declared.outcomes.Outcome.{Outcome}
-use Rattle.import_once.specs.declared.outcomes.Outcome.TheVariants.{Stored, Already, Answered, Refused, DayPassed}
-use Rattle.import_once.specs.declared.outcomes.Outcome.TheVariants.{Differs, ReadFault, WriteFault, KeeperFault}
-use Rattle.import_once.specs.declared.outcomes.Outcome.TheVariants.{NoMemory}
-use Rattle.traffic_gen.specs.declared.plan.GenPlan.{GenPlan}
-use Rattle.traffic_gen.specs.declared.plan.GenFault.{GenFault}
-use Rattle.traffic_gen.specs.declared.plan.GenFault.TheVariants as traffic
-use Rattle.traffic_gen.specs.Endings as generation
-use Rattle.traffic_gen.specs.Plans.{field_out}
-use Rattle.traffic_gen.specs.Traffic.{file_of, generated}
-use Rattle.traffic_gen.proofs.FileLaws.{accepted}
-use Rattle.traffic_gen.proofs.RangeLaws.{in_range}
+use Rattle.keep_office.specs.Calls.{WhenRefused}
+use Rattle.keep_office.specs.Kept.{kept_record}
+use Rattle.keep_office.specs.Office.{Office, nothing_kept}
+use Rattle.keep_office.specs.declared.kept.DayRecord.{DayRecord}
+use Rattle.day_import.specs.Imports.{DayAnswer, Work, Does, Merges, work_of, work_by, worked_record, import_worked}
+use Rattle.day_import.specs.Imports.{unless_passed, import_answer, import_found}
+use Rattle.day_import.specs.declared.outcomes.Outcome.{Outcome}
+use Rattle.day_import.specs.declared.outcomes.Outcome.TheVariants.{Stored, Already, Answered, Refused, DayPassed}
+use Rattle.day_import.specs.declared.outcomes.Outcome.TheVariants.{Differs, ReadFault, WriteFault, KeeperFault}
+use Rattle.day_import.specs.declared.outcomes.Outcome.TheVariants.{NoMemory}
+use Rattle.tuples_traffic.specs.declared.plan.GenPlan.{GenPlan}
+use Rattle.tuples_traffic.specs.declared.plan.GenFault.{GenFault}
+use Rattle.tuples_traffic.specs.declared.plan.GenFault.TheVariants as traffic
+use Rattle.tuples_traffic.specs.Endings as generation
+use Rattle.tuples_traffic.specs.Plans.{field_out}
+use Rattle.tuples_traffic.specs.Traffic.{file_of, generated}
+use Rattle.tuples_traffic.proofs.FileLaws.{accepted}
+use Rattle.tuples_traffic.proofs.RangeLaws.{in_range}
 use Rattle.office_commands.specs.declared.closing.Closing.{Closing}
 use Rattle.office_commands.specs.Commands.{text_alone}
 use Rattle.office_commands.specs.Endings.{Wrote}

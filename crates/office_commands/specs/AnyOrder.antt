@@ -3,7 +3,7 @@
 use Rattle.std.specs.Prelude.{ℕ, zero, suc, ◌+◌, nat_lt, nat_le, Bool, true, false, List, [], ◌∷◌, ◌++◌, length}
 use Rattle.std.specs.Prelude.{if◌then◌else◌}
 use Rattle.road_time.specs.declared.road.Notice.{Notice}
-use Rattle.second_notices.specs.Seconds.{seconds, count_in, less}
+use Rattle.ways_audit.specs.Seconds.{seconds, count_in, less}
 use Rattle.office_commands.specs.declared.entry_text.EntryText.{EntryText}
 use Rattle.office_commands.specs.declared.entry_text.EntryText.TheVariants.{Nothing, Read}
 use Rattle.office_commands.specs.declared.difference.DifferenceKind.TheVariants.{Missing, Additional}

@@ -4,8 +4,8 @@ use Rattle.std.specs.Prelude.{ℕ, ◌==◌, List, ◌++◌, codes, if◌then◌
 use Rattle.std.specs.Fmt.{decimal}
 use Rattle.hex.specs.Hex.{encode_lower}
 use Rattle.road_time.specs.Text.{notice_text}
-use Rattle.tuple_format.specs.Causes.{cause_text}
-use Rattle.past_file.specs.Causes.{past_cause_text}
+use Rattle.tuples_text.specs.Causes.{cause_text}
+use Rattle.day_past.specs.Causes.{past_cause_text}
 use Rattle.office_commands.specs.declared.entry_text.EntryText.{EntryText}
 use Rattle.office_commands.specs.declared.entry_text.EntryText.TheVariants.{Nothing, Malformed, Read}
 use Rattle.office_commands.specs.declared.closing.Closing.{Closing}

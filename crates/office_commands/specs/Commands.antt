@@ -8,24 +8,24 @@ use Rattle.road_time.specs.Reads.{reads}
 use Rattle.road_time.specs.Day.{notices}
 use Rattle.road_time.specs.Log.{log_of}
 use Rattle.road_time.specs.Tariffs.{tariffs_text}
-use Rattle.reports.specs.AccidentLog.{log_text}
-use Rattle.reports.specs.Statements.{day_report, vehicle_report}
-use Rattle.reports.specs.Exports.{export_report}
-use Rattle.reports.specs.DayLists.{list_text}
-use Rattle.reports.specs.Charges.{charges_report}
+use Rattle.office_reports.specs.AccidentLog.{log_text}
+use Rattle.office_reports.specs.Statements.{day_report, vehicle_report}
+use Rattle.office_reports.specs.Exports.{export_report}
+use Rattle.office_reports.specs.DayLists.{list_text}
+use Rattle.office_reports.specs.Charges.{charges_report}
 use Rattle.road_time.specs.History.{paid}
-use Rattle.keeper.specs.Office.{Office, last_day}
-use Rattle.keeper.specs.Kept.{with_tariff_of}
-use Rattle.import_once.specs.Imports.{import_answer, answers_answer}
-use Rattle.import_once.specs.Imports as day
-use Rattle.import_once.specs.declared.outcomes.Outcome.{Outcome}
-use Rattle.import_once.specs.declared.outcomes.Outcome.TheVariants as outcome
-use Rattle.past_file.specs.Imports.{PastAnswer, past_answer}
-use Rattle.past_file.specs.declared.outcomes.PastOutcome.{PastOutcome}
-use Rattle.past_file.specs.declared.outcomes.PastOutcome.TheVariants as pasts
+use Rattle.keep_office.specs.Office.{Office, last_day}
+use Rattle.keep_office.specs.Kept.{with_tariff_of}
+use Rattle.day_import.specs.Imports.{import_answer, answers_answer}
+use Rattle.day_import.specs.Imports as day
+use Rattle.day_import.specs.declared.outcomes.Outcome.{Outcome}
+use Rattle.day_import.specs.declared.outcomes.Outcome.TheVariants as outcome
+use Rattle.day_past.specs.Imports.{PastAnswer, past_answer}
+use Rattle.day_past.specs.declared.outcomes.PastOutcome.{PastOutcome}
+use Rattle.day_past.specs.declared.outcomes.PastOutcome.TheVariants as pasts
 use Rattle.office_words.specs.declared.command.Command.{Command}
 use Rattle.office_words.specs.declared.command.Command.TheVariants as command
-use Rattle.tuple_format.specs.declared.cause.Cause.{Cause}
+use Rattle.tuples_text.specs.declared.cause.Cause.{Cause}
 use Rattle.office_commands.specs.declared.closing.Closing.{Closing}
 use Rattle.office_commands.specs.declared.closing.Closing.TheVariants.{Answered, Stored, Already, TariffPut, PastStored}
 use Rattle.office_commands.specs.declared.closing.Closing.TheVariants.{PastAlready, Words, Refused, PastRefused}
@@ -33,12 +33,12 @@ use Rattle.office_commands.specs.declared.closing.Closing.TheVariants.{DayPassed
 use Rattle.office_commands.specs.declared.closing.Closing.TheVariants.{DiffersPast, ReadFault, KeeperFault, NoMemory}
 use Rattle.office_commands.specs.declared.closing.Closing.TheVariants.{Listed}
 use Rattle.office_commands.specs.declared.closing.Closing.TheVariants.{Checked as CheckedDay}
-use Rattle.day_check.specs.Checked.{Checked, checked, named_of, refusals_text}
+use Rattle.day_reading.specs.Checked.{Checked, checked, named_of, refusals_text}
 use Rattle.office_words.specs.declared.command.Comparison.{Comparison}
 use Rattle.office_words.specs.declared.command.DayRun.{DayRun}
 use Rattle.office_words.specs.declared.command.Recomputing.TheVariants.{Plainly}
 use Rattle.office_words.specs.declared.command.Size.{Size}
-use Rattle.traffic_gen.specs.Traffic.{file_of}
+use Rattle.tuples_traffic.specs.Traffic.{file_of}
 use Rattle.office_commands.specs.Traffic.{plan_from_seed, rehearsed_record, rehearsed}
 use Rattle.office_commands.specs.Days.{recomputed, refusal_of}
 use Rattle.office_commands.specs.AnyOrder.{compared_in, told_text}

@@ -4,8 +4,8 @@ use Rattle.std.specs.Prelude.{ℕ, ◌≡◌, Bool, true, false, min, Option, So
 use Rattle.std.specs.Option.{option_map}
 use Rattle.road_time.specs.declared.day.Limits.{Limits}
 use Rattle.road_time.specs.Form.{Fault}
-use Rattle.tuple_format.specs.Causes.{cause_of}
-use Rattle.tuple_format.specs.declared.cause.Cause.{Cause}
+use Rattle.tuples_text.specs.Causes.{cause_of}
+use Rattle.tuples_text.specs.declared.cause.Cause.{Cause}
 use Rattle.office_words.specs.declared.command.Recomputing.{Recomputing}
 use Rattle.office_words.specs.declared.command.Recomputing.TheVariants.{Plainly, InBulk}
 use Rattle.day_reading.specs.declared.whole_day.DayEnd.{DayEnd}

@@ -4,7 +4,7 @@ use Rattle.std.specs.Prelude.{if◌then◌else◌}
 use Rattle.std.specs.List.{flat_map}
 use Rattle.std.specs.Fmt.{decimal}
 use Rattle.road_time.specs.declared.road.Notice.{Notice}
-use Rattle.second_notices.specs.Seconds.{second_of}
+use Rattle.ways_audit.specs.Seconds.{second_of}
 use Rattle.office_commands.specs.declared.entry_text.EntryText.{EntryText}
 use Rattle.office_commands.specs.declared.entry_text.EntryText.TheVariants.{Nothing, Read}
 use Rattle.office_commands.specs.declared.difference.DifferenceKind.{DifferenceKind}

@@ -2,16 +2,16 @@
 use Rattle.std.specs.Prelude.{ℕ, ◌≡◌, ◌≢◌, ◌<◌, ◌⊎◌, List, [], ◌++◌, length, take, Option, Some, None, Result, Ok, Err}
 use Rattle.std.specs.Io.KnownBytes.{Appends}
 use Rattle.road_io.specs.declared.source.Failed.{Failed}
-use Rattle.keeper.specs.declared.kept.KeepFault.{KeepFault}
-use Rattle.keeper.specs.declared.kept.KeepFault.TheVariants as keeping
-use Rattle.keeper.specs.Calls.{WhenRefused, Leaves}
-use Rattle.keeper.specs.Office.{Office}
+use Rattle.keep_office.specs.declared.kept.KeepFault.{KeepFault}
+use Rattle.keep_office.specs.declared.kept.KeepFault.TheVariants as keeping
+use Rattle.keep_office.specs.Calls.{WhenRefused, Leaves}
+use Rattle.keep_office.specs.Office.{Office}
 use Rattle.day_reading.specs.declared.whole_day.ReadStop.{ReadStop}
 use Rattle.day_reading.specs.declared.whole_day.ReadStop.TheVariants as stops
-use Rattle.day_check.specs.declared.whole.CheckStop.{CheckStop}
-use Rattle.day_check.specs.declared.whole.CheckStop.TheVariants as checks
-use Rattle.reports.specs.declared.report_fault.ReportFault.{ReportFault}
-use Rattle.reports.specs.declared.report_fault.ReportFault.TheVariants as reports
+use Rattle.day_reading.specs.declared.whole.CheckStop.{CheckStop}
+use Rattle.day_reading.specs.declared.whole.CheckStop.TheVariants as checks
+use Rattle.office_reports.specs.declared.report_fault.ReportFault.{ReportFault}
+use Rattle.office_reports.specs.declared.report_fault.ReportFault.TheVariants as reports
 use Rattle.office_commands.specs.declared.closing.Closing.{Closing}
 use Rattle.office_commands.specs.declared.closing.Closing.TheVariants.{NoDay, ReadFault, KeeperFault, NoMemory}
 use Rattle.office_commands.specs.Closings.{closing_line, status_of}

@@ -3,14 +3,14 @@ use Rattle.std.specs.Prelude.{ℕ, ◌≡◌, ◌≢◌, ◌+◌, ◌⊎◌, Lis
 use Rattle.road_time.specs.declared.day.Limits.{Limits}
 use Rattle.road_time.specs.Form.{Fault}
 use Rattle.road_time.specs.Reads.{reads}
-use Rattle.tuple_format.specs.declared.cause.Cause.{Cause}
-use Rattle.keeper.specs.declared.kept.DayRecord.{DayRecord}
-use Rattle.keeper.specs.declared.kept.PastRecord.{PastRecord}
-use Rattle.keeper.specs.Office.{Office, record_of}
-use Rattle.keeper.specs.PastReads.{PastFault, past_reads}
+use Rattle.tuples_text.specs.declared.cause.Cause.{Cause}
+use Rattle.keep_office.specs.declared.kept.DayRecord.{DayRecord}
+use Rattle.keep_office.specs.declared.kept.PastRecord.{PastRecord}
+use Rattle.keep_office.specs.Office.{Office, record_of}
+use Rattle.keep_office.specs.PastReads.{PastFault, past_reads}
 use Rattle.day_reading.specs.Days.{StopsSoon, most_of_day}
 use Rattle.road_io.specs.Within.{ReadsWithin}
-use Rattle.past_file.specs.Imports.{most_past}
+use Rattle.day_past.specs.Imports.{most_past}
 use Rattle.office_words.specs.declared.command.Command.{Command}
 use Rattle.office_words.specs.declared.command.Command.TheVariants as command
 use Rattle.office_words.specs.declared.command.Recomputing.TheVariants.{Plainly}

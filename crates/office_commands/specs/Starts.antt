@@ -4,14 +4,14 @@ use Rattle.road_time.specs.declared.day.Limits.{Limits}
 use Rattle.road_time.specs.declared.day.TheConstants.Limits.{DAY}
 use Rattle.road_time.specs.declared.road.Tuple.{Tuple}
 use Rattle.road_time.specs.Reads.{reads}
-use Rattle.partition_workers.specs.Told.{CrewTold, WhereTold}
-use Rattle.keeper.specs.Office.{Office, record_of}
-use Rattle.import_once.specs.Planned.{StartsPlanned}
-use Rattle.import_once.specs.Runs.{HasStartedJobs}
-use Rattle.import_once.specs.declared.outcomes.Outcome.{Outcome}
-use Rattle.import_once.specs.declared.outcomes.Outcome.TheVariants.{Stored, Answered, Refused}
-use Rattle.vehicle_workers.specs.Jobs.{StartsAll, StartsFirst}
-use Rattle.traffic_gen.specs.Traffic.{generated}
+use Rattle.ways_crews.specs.Told.{CrewTold, WhereTold}
+use Rattle.keep_office.specs.Office.{Office, record_of}
+use Rattle.day_import.specs.Planned.{StartsPlanned}
+use Rattle.day_import.specs.Runs.{HasStartedJobs}
+use Rattle.day_import.specs.declared.outcomes.Outcome.{Outcome}
+use Rattle.day_import.specs.declared.outcomes.Outcome.TheVariants.{Stored, Answered, Refused}
+use Rattle.ways_audit.specs.Jobs.{StartsAll, StartsFirst}
+use Rattle.tuples_traffic.specs.Traffic.{generated}
 use Rattle.office_words.specs.declared.command.Command.{Command}
 use Rattle.office_words.specs.declared.command.Command.TheVariants as command
 use Rattle.office_words.specs.declared.command.DayRun.{DayRun}

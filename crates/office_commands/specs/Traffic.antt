@@ -1,13 +1,13 @@
 -- Generated traffic, and what is kept of it where it is imported alone.
 use Rattle.std.specs.Prelude.{ℕ, ◌≡◌, Option, Some, None, Result, Ok, Err}
 use Rattle.road_io.specs.declared.source.Failed.{Failed}
-use Rattle.keeper.specs.declared.kept.DayRecord.{DayRecord}
-use Rattle.keeper.specs.Kept.{kept_record}
-use Rattle.keeper.specs.Office.{nothing_kept}
-use Rattle.traffic_gen.specs.declared.plan.GenPlan.{GenPlan}
-use Rattle.traffic_gen.specs.declared.plan.GenFault.{GenFault}
-use Rattle.traffic_gen.specs.declared.plan.GenFault.TheVariants as traffic
-use Rattle.traffic_gen.specs.Traffic.{generated, file_of}
+use Rattle.keep_office.specs.declared.kept.DayRecord.{DayRecord}
+use Rattle.keep_office.specs.Kept.{kept_record}
+use Rattle.keep_office.specs.Office.{nothing_kept}
+use Rattle.tuples_traffic.specs.declared.plan.GenPlan.{GenPlan}
+use Rattle.tuples_traffic.specs.declared.plan.GenFault.{GenFault}
+use Rattle.tuples_traffic.specs.declared.plan.GenFault.TheVariants as traffic
+use Rattle.tuples_traffic.specs.Traffic.{generated, file_of}
 use Rattle.office_words.specs.declared.command.Size.{Size}
 use Rattle.office_commands.specs.declared.closing.Closing.{Closing}
 use Rattle.office_commands.specs.declared.closing.Closing.TheVariants.{NoMemory, Rehearsed}

@@ -1,7 +1,7 @@
 -- A list of differences on its way, where the notices of one second may stand in any order.
 use Rattle.std.specs.Prelude.{ℕ, ◌≡◌, ◌+◌, ◌-◌, ◌≤◌, Bool, true, false, List, [], ◌∷◌, ◌++◌, take, Option}
 use Rattle.road_time.specs.declared.road.Notice.{Notice}
-use Rattle.second_notices.specs.Seconds.{seconds}
+use Rattle.ways_audit.specs.Seconds.{seconds}
 use Rattle.office_commands.specs.declared.aside.AsideEntry.{AsideEntry}
 use Rattle.office_commands.specs.declared.aside.AsideEntry.TheVariants.{Line, Long, End}
 use Rattle.office_commands.specs.declared.entry_text.EntryText.{EntryText}

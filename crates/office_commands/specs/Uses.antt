@@ -4,11 +4,11 @@ use Rattle.std.specs.Prelude.{string_bytes}
 use Rattle.std.specs.Global.{Global}
 use Rattle.road_time.specs.declared.road.Tuple.{Tuple}
 use Rattle.road_time.specs.declared.day.Limits.{Limits}
-use Rattle.keeper.specs.Office.{Office, record_of, last_day}
-use Rattle.keeper.specs.Kept.{with_tariff_of}
+use Rattle.keep_office.specs.Office.{Office, record_of, last_day}
+use Rattle.keep_office.specs.Kept.{with_tariff_of}
 use Rattle.day_reading.specs.Days.{most_of_day}
-use Rattle.import_once.specs.Imports.{most_imported, PutsOnce}
-use Rattle.past_file.specs.Imports.{NeedsNone, PutsPast, most_kept}
+use Rattle.day_import.specs.Imports.{most_imported, PutsOnce}
+use Rattle.day_past.specs.Imports.{NeedsNone, PutsPast, most_kept}
 use Rattle.office_words.specs.Meaning.{means}
 use Rattle.office_words.specs.declared.command.Command.{Command}
 use Rattle.office_words.specs.declared.command.Command.TheVariants as command
@@ -17,7 +17,7 @@ use Rattle.office_words.specs.declared.command.Recomputing.TheVariants.{Plainly}
 use Rattle.office_commands.specs.Days.{recomputed, in_bulk}
 use Rattle.office_commands.specs.Commands.{notices_of_day, compared_tuples}
 use Rattle.office_commands.specs.Listings.{most_listed}
-use Rattle.day_check.specs.Checking.{most_checked}
+use Rattle.day_reading.specs.Checking.{most_checked}
 
 -- what words ask for, if they ask for a command
 abbrev pub asked : List (String Global) → Option Command

@@ -1,12 +1,12 @@
 // The command `answers DAY`: the output of a day.
 ghost use Rattle.std.specs.Prelude.{◌≡◌, ◌≢◌, ℕ, List, [], Some, Ok, true, IsErr};
-ghost use Rattle.keeper.specs.Office.{Office};
+ghost use Rattle.keep_office.specs.Office.{Office};
 ghost use Rattle.road_time.specs.Fits.{IsLimits};
 ghost use Rattle.road_time.specs.Reads.{reads};
 ghost use Rattle.day_reading.specs.Days.{most_of_day};
 ghost use Rattle.road_io.specs.Within.{ReadsWithin};
 ghost use Rattle.office_words.specs.Meaning.{IsRun};
-ghost use Rattle.import_once.specs.Faults.{FaultsBeside};
+ghost use Rattle.day_import.specs.Faults.{FaultsBeside};
 ghost use Rattle.office_commands.specs.Commands.{answers_command};
 ghost use Rattle.office_commands.specs.Faults.{TellsNoOther};
 ghost use Rattle.office_commands.specs.Endings.{Wrote, Keeps, Did, code_of};
@@ -17,13 +17,13 @@ ghost use Rattle.road_io.specs.Blame.{FaultsByPlan, FaultsByRoom};
 
 use crate::closing::Closing;
 use crate::outcome::ended;
-use keeper::Keeper;
+use keep_office::Keeper;
 use office_words::DayRun;
-use partition_workers::Crew;
 use road_io::{Failed, Sink, Source};
 use road_time::Limits;
 use std::alloc::Global;
 use std::thread::Threads;
+use ways_crews::Crew;
 
 /// Answers what the source has, up to the first line that is refused. Nothing is kept.
 pub fn answers<S: Source, O: Sink, K: Keeper, C: Crew, R: Threads>(
@@ -65,7 +65,7 @@ pub fn answers<S: Source, O: Sink, K: Keeper, C: Crew, R: Threads>(
     ensures keeper { FaultsByPlan (K.faults keeper.old) (K.faults keeper.new) (K.plan keeper.old)
         (result ≡ Ok (Some KeeperFault)) }
 {
-    let done = import_once::answers(
+    let done = day_import::answers(
         rt, alloc, run.day, &run.plan, run.late, limits, source, sink, keeper, crew,
     );
     ended(run.day, done)

@@ -7,7 +7,7 @@ ghost use Rattle.road_io.specs.Cutter.{ahead, line_of};
 ghost use Rattle.road_io.specs.Within.{ReadsWithin};
 ghost use Rattle.road_io.specs.Blame.{FaultsByPlan};
 ghost use Rattle.day_reading.specs.declared.whole_day.ReadStop.TheVariants.{ReadFault};
-ghost use Rattle.second_notices.specs.Seconds.{seconds};
+ghost use Rattle.ways_audit.specs.Seconds.{seconds};
 ghost use Rattle.office_commands.specs.declared.difference.Difference.{Difference as DifferenceValue};
 ghost use Rattle.office_commands.specs.AnyOrder.{differences_by_second, compared_in, differences_in};
 ghost use Rattle.office_commands.specs.Closings.{status_of};
@@ -25,8 +25,8 @@ use crate::second::{Reach, one_second};
 use day_reading::ReadStop;
 use road_io::{LineCutter, Source};
 use road_time::Notice;
-use second_notices::first_second;
 use std::alloc::Global;
+use ways_audit::first_second;
 
 /// The notices of the first second.
 fn first_some(notices: &[Notice], some: usize) -> &[Notice]

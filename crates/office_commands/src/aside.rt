@@ -20,7 +20,7 @@ use day_reading::ReadStop;
 use road_io::{LineCutter, LineFault, Source};
 use road_time::{NoMemory, Notice};
 use std::alloc::Global;
-use tuple_format::{put_notice, read_notice, trimmed};
+use tuples_text::{put_notice, read_notice, trimmed};
 
 /// What an aside has next.
 #[derive(Clone, Copy, Debug, PartialEq)]

@@ -2,16 +2,16 @@
 ghost use Rattle.std.specs.Prelude.{◌≡◌, ◌≢◌, ◌≤◌, ℕ, List, Some, Ok, IsErr};
 ghost use Rattle.road_io.specs.Within.{ReadsWithin};
 ghost use Rattle.road_io.specs.Blame.{FaultsByPlan, FaultsByRoom};
-ghost use Rattle.keeper.specs.Office.{Office};
-ghost use Rattle.day_check.specs.Checked.{Checked};
-ghost use Rattle.day_check.specs.Checking.{Tallies, most_checked};
+ghost use Rattle.keep_office.specs.Office.{Office};
+ghost use Rattle.day_reading.specs.Checked.{Checked};
+ghost use Rattle.day_reading.specs.Checking.{Tallies, most_checked};
 ghost use Rattle.office_commands.specs.Commands.{check_command, check_answer};
 ghost use Rattle.office_commands.specs.Endings.{Wrote, code_of, stopping_check};
 ghost use Rattle.office_commands.specs.Rests.{ReadsToEnd};
 ghost use Rattle.office_commands.specs.declared.closing.Closing.TheVariants.{ReadFault, KeeperFault, Words};
 
 use crate::closing::Closing;
-use day_check::{CheckStop, Tally, check_day, refusals_text};
+use day_reading::{CheckStop, Tally, check_day, refusals_text};
 use road_io::{Failed, Sink, Source, put_all};
 use road_time::{Limits, NoMemory};
 use std::alloc::Global;

@@ -10,11 +10,11 @@ use crate::entry_text::EntryText;
 use crate::past_lines::{
     differs_past, past_already, past_kept, past_late, past_refused, past_stored,
 };
-use keeper::Digest;
-use past_file::PastCause;
+use day_past::PastCause;
+use road_digest::Digest;
 use road_time::NoMemory;
 use std::alloc::Global;
-use tuple_format::Cause;
+use tuples_text::Cause;
 
 /// How a run ends, as its last line says.
 #[derive(Clone, Copy, Debug, PartialEq)]

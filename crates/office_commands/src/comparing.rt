@@ -4,8 +4,8 @@ ghost use Rattle.road_time.specs.Day.{notices};
 ghost use Rattle.road_time.specs.Fits.{IsDay, IsLimits};
 ghost use Rattle.road_time.specs.Lines.{lines_of};
 ghost use Rattle.road_io.specs.Plans.{NeverFails};
-ghost use Rattle.keeper.specs.Office.{Office};
-ghost use Rattle.keeper.specs.declared.kept.KeepFault.TheVariants.{Failed};
+ghost use Rattle.keep_office.specs.Office.{Office};
+ghost use Rattle.keep_office.specs.declared.kept.KeepFault.TheVariants.{Failed};
 ghost use Rattle.road_time.specs.History.{paid, KeysDiffer};
 ghost use Rattle.day_reading.specs.Days.{most_of_day};
 ghost use Rattle.road_io.specs.Within.{ReadsWithin};
@@ -29,16 +29,16 @@ use crate::day::{ReadDay, read_day, stopped};
 use crate::difference::Difference;
 use crate::listed::compare_and_list;
 use crate::refusal::refused;
-use asked_history::history_for;
-use keeper::{KeepFault, Keeper};
+use day_past::history_for;
+use keep_office::{KeepFault, Keeper};
 use office_words::{Comparison, Recomputing};
-use partition_workers::Crew;
 use road_io::Source;
+use road_rules::plain_notices;
 use road_time::{Limits, NoMemory, Notice, SpentRow, Tariffs, Tuple};
 use std::alloc::Global;
 use std::thread::Threads;
-use validator::plain_notices;
-use vehicle_workers::{NoticeList, bulk};
+use ways_audit::{NoticeList, bulk};
+use ways_crews::Crew;
 
 /// The notices of a day, recomputed by the plain rules or in bulk.
 fn recompute<C: Crew, R: Threads + Sync>(

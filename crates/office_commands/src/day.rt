@@ -17,7 +17,7 @@ use road_io::Source;
 use road_time::{Limits, Tuple};
 use std::alloc::Global;
 use std::thread::Threads;
-use tuple_format::Cause;
+use tuples_text::Cause;
 
 /// The tuples of a day in the order of Time, and the first line that was refused, if one was.
 #[derive(Drop)]

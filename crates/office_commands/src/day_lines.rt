@@ -5,7 +5,7 @@ ghost use Rattle.office_commands.specs.Closings.{closing_line, stored_line, alre
 ghost use Rattle.office_commands.specs.Closings.{differs_line, rehearsed_end, rehearsed_line};
 ghost use Rattle.office_commands.specs.declared.closing.Closing.TheVariants.{DiffersDay, Rehearsed, Listed, Checked};
 
-use keeper::Digest;
+use road_digest::Digest;
 use road_time::NoMemory;
 use std::alloc::Global;
 

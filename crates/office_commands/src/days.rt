@@ -1,6 +1,6 @@
 // The command `days`: a line for each kept day.
 ghost use Rattle.std.specs.Prelude.{◌≡◌, ◌≢◌, Some, Ok, IsErr};
-ghost use Rattle.keeper.specs.Office.{Office};
+ghost use Rattle.keep_office.specs.Office.{Office};
 ghost use Rattle.office_commands.specs.Commands.{days_command};
 ghost use Rattle.office_commands.specs.Endings.{Wrote, Keeps};
 ghost use Rattle.office_commands.specs.declared.closing.Closing.TheVariants.{ReadFault, KeeperFault, Words};
@@ -8,8 +8,8 @@ ghost use Rattle.road_io.specs.Blame.{FaultsByPlan, FaultsByRoom};
 
 use crate::closing::Closing;
 use crate::refusal::refused;
-use keeper::Keeper;
-use reports::day_list;
+use keep_office::Keeper;
+use office_reports::day_list;
 use road_io::{Failed, Sink, put_all};
 use std::alloc::Global;
 

@@ -1,8 +1,8 @@
 // The top call: words in, a command's text and its closing line out, and a status.
 ghost use Rattle.std.specs.Prelude.{◌≡◌, ◌≢◌, ◌↔◌, ℕ, List, [], Some, None, Ok, IsOk, false, true, IsErr};
 ghost use Rattle.road_io.specs.Plans.{NeverFails};
-ghost use Rattle.keeper.specs.Office.{Office};
-ghost use Rattle.keeper.specs.declared.kept.KeepFault.TheVariants as keep_fault;
+ghost use Rattle.keep_office.specs.Office.{Office};
+ghost use Rattle.keep_office.specs.declared.kept.KeepFault.TheVariants as keep_fault;
 ghost use Rattle.road_time.specs.Fits.{IsLimits};
 ghost use Rattle.road_io.specs.Within.{ReadsWithin};
 ghost use Rattle.office_commands.specs.Closings.{closing_line, status_of};
@@ -15,19 +15,19 @@ ghost use Rattle.office_commands.specs.Uses.{asked, IsTold, IsRightCrew, IsRight
 ghost use Rattle.office_commands.specs.Uses.{uses_crew, uses_source, uses_aside, uses_keeper, changes_kept, AsksPassed};
 ghost use Rattle.office_commands.specs.Uses.{PutsAsked, most_of, most_aside_of};
 ghost use Rattle.office_commands.specs.Starts.{StartsAsked, SeesAsked};
-ghost use Rattle.import_once.specs.Faults.{FaultsBeside};
+ghost use Rattle.day_import.specs.Faults.{FaultsBeside};
 ghost use Rattle.office_commands.specs.Faults.{ReadFaults, TellsNoOther};
 ghost use Rattle.road_io.specs.Blame.{FaultsByPlan, FaultsByRoom};
 
 use crate::closing::Closing;
 use crate::performing::perform;
-use keeper::Keeper;
+use keep_office::Keeper;
 use office_words::{WordFault, read_words};
-use partition_workers::Crew;
 use road_io::{Failed, Sink, Source, put_all};
 use road_time::Limits;
 use std::alloc::Global;
 use std::thread::Threads;
+use ways_crews::Crew;
 
 /// Writes a closing line.
 fn finish<O: Sink>(closing: Closing, line: &[u8], sink: &mut O) -> u8

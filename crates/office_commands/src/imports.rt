@@ -1,12 +1,12 @@
 // The command `import DAY`: the output of a day, which is kept from then on.
 ghost use Rattle.std.specs.Prelude.{◌≡◌, ◌≢◌, ℕ, List, [], Some, Ok, true, IsErr};
-ghost use Rattle.keeper.specs.Office.{Office, record_of};
+ghost use Rattle.keep_office.specs.Office.{Office, record_of};
 ghost use Rattle.road_time.specs.Fits.{IsLimits};
 ghost use Rattle.road_time.specs.Reads.{reads};
 ghost use Rattle.day_reading.specs.Days.{most_of_day};
 ghost use Rattle.road_io.specs.Within.{ReadsWithin};
-ghost use Rattle.import_once.specs.Faults.{FaultsBeside};
-ghost use Rattle.import_once.specs.Imports.{most_imported, PutsOnce};
+ghost use Rattle.day_import.specs.Faults.{FaultsBeside};
+ghost use Rattle.day_import.specs.Imports.{most_imported, PutsOnce};
 ghost use Rattle.office_words.specs.Meaning.{IsRun};
 ghost use Rattle.office_commands.specs.Commands.{import_command};
 ghost use Rattle.office_commands.specs.Faults.{TellsNoOther};
@@ -19,14 +19,14 @@ ghost use Rattle.road_io.specs.Blame.{FaultsByPlan, FaultsByRoom};
 
 use crate::closing::Closing;
 use crate::outcome::ended;
-use accounts::NoPublisher;
-use keeper::Keeper;
+use day_floor::NoPublisher;
+use keep_office::Keeper;
 use office_words::DayRun;
-use partition_workers::Crew;
 use road_io::{Failed, Sink, Source};
 use road_time::Limits;
 use std::alloc::Global;
 use std::thread::Threads;
+use ways_crews::Crew;
 
 /// Imports what the source has as a day, once.
 pub fn import<S: Source, O: Sink, K: Keeper, C: Crew, R: Threads>(
@@ -76,7 +76,7 @@ pub fn import<S: Source, O: Sink, K: Keeper, C: Crew, R: Threads>(
         (result ≡ Ok (Some KeeperFault)) }
 {
     let mut publisher = NoPublisher;
-    let done = import_once::import(
+    let done = day_import::import(
         rt,
         alloc,
         run.day,

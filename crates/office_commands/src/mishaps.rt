@@ -1,7 +1,7 @@
 // The command `accidents`: the accident log of a day.
 ghost use Rattle.std.specs.Prelude.{◌≡◌, ◌≢◌, ◌≤◌, ℕ, List, Some, Ok, IsErr};
 ghost use Rattle.road_time.specs.Fits.{IsDay, IsLimits};
-ghost use Rattle.keeper.specs.Office.{Office};
+ghost use Rattle.keep_office.specs.Office.{Office};
 ghost use Rattle.day_reading.specs.Days.{most_of_day};
 ghost use Rattle.road_io.specs.Within.{ReadsWithin};
 ghost use Rattle.office_words.specs.declared.command.Recomputing.TheVariants.{Plainly};
@@ -14,8 +14,8 @@ ghost use Rattle.road_io.specs.Blame.{FaultsByPlan, FaultsByRoom};
 
 use crate::closing::Closing;
 use crate::day::{ReadDay, read_day, stopped};
+use office_reports::{ReportFault, accident_log};
 use office_words::Recomputing;
-use reports::{ReportFault, accident_log};
 use road_io::{Failed, Sink, Source};
 use road_time::Limits;
 use std::alloc::Global;

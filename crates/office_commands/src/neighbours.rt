@@ -10,7 +10,7 @@ ghost use Rattle.office_commands.specs.Listings.{StandsAt};
 use crate::aside::{AsideEntry, is_text_of};
 use crate::entry_text::EntryText;
 use road_time::{NoMemory, Notice};
-use second_notices::second_of;
+use ways_audit::second_of;
 
 /// Whether what was found is a notice of a later second.
 pub(crate) fn is_after(notice: &Notice, found: EntryText) -> bool

@@ -1,12 +1,12 @@
 // How a day that is imported or answered ends, as a command.
 ghost use Rattle.std.specs.Prelude.{◌≡◌, ◌≢◌, Some, Ok, OnErr, IsErr};
-ghost use Rattle.import_once.specs.declared.outcomes.Outcome.TheVariants as outcome;
+ghost use Rattle.day_import.specs.declared.outcomes.Outcome.TheVariants as outcome;
 ghost use Rattle.office_commands.specs.Commands.{closing_by};
 ghost use Rattle.office_commands.specs.Endings.{EndsCommand};
 ghost use Rattle.office_commands.specs.declared.closing.Closing.TheVariants.{ReadFault, KeeperFault, NoMemory, Words};
 
 use crate::closing::Closing;
-use import_once::Outcome;
+use day_import::Outcome;
 use road_io::Failed;
 
 /// How the day with this number ends.

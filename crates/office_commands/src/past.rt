@@ -1,9 +1,9 @@
 // The command `past BASE`: the amounts of the 69 days before a day, which are kept from then on.
 ghost use Rattle.std.specs.Prelude.{◌≡◌, ◌≢◌, ◌≤◌, [], ℕ, List, Some};
-ghost use Rattle.keeper.specs.Office.{Office};
+ghost use Rattle.keep_office.specs.Office.{Office};
 ghost use Rattle.road_io.specs.Within.{ReadsWithin};
-ghost use Rattle.past_file.specs.Imports.{NeedsNone, PutsPast, most_kept, most_past};
-ghost use Rattle.past_file.specs.declared.outcomes.PastOutcome.TheVariants as outcome;
+ghost use Rattle.day_past.specs.Imports.{NeedsNone, PutsPast, most_kept, most_past};
+ghost use Rattle.day_past.specs.declared.outcomes.PastOutcome.TheVariants as outcome;
 ghost use Rattle.office_commands.specs.Commands.{past_closing, history_command};
 ghost use Rattle.office_commands.specs.Endings.{StandsBefore, HoldsSame, sort_of, KeepsBy};
 ghost use Rattle.office_commands.specs.Closings.{status_of};
@@ -12,8 +12,8 @@ ghost use Rattle.office_commands.specs.declared.closing.Closing.TheVariants.{Rea
 ghost use Rattle.road_io.specs.Blame.{FaultsByPlan};
 
 use crate::closing::Closing;
-use keeper::Keeper;
-use past_file::{PastOutcome, import_past};
+use day_past::{PastOutcome, import_past};
+use keep_office::Keeper;
 use road_io::Source;
 use road_time::Limits;
 use std::alloc::Global;

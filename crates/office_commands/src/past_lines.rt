@@ -5,8 +5,8 @@ ghost use Rattle.office_commands.specs.Closings.{closing_line, differs_past_line
 ghost use Rattle.office_commands.specs.declared.closing.Closing.TheVariants.{PastStored, PastAlready, PastRefused};
 ghost use Rattle.office_commands.specs.declared.closing.Closing.TheVariants.{PastLate, PastKept, DiffersPast};
 
-use keeper::Digest;
-use past_file::PastCause;
+use day_past::PastCause;
+use road_digest::Digest;
 use road_time::NoMemory;
 use std::alloc::Global;
 

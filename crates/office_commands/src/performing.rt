@@ -1,7 +1,7 @@
 // A command is done, but for the closing line.
 ghost use Rattle.std.specs.Prelude.{◌≡◌, ◌≢◌, ℕ, List, [], Some, Ok, false, true, IsErr};
 ghost use Rattle.road_io.specs.Plans.{NeverFails};
-ghost use Rattle.keeper.specs.Office.{Office};
+ghost use Rattle.keep_office.specs.Office.{Office};
 ghost use Rattle.road_time.specs.Fits.{IsLimits};
 ghost use Rattle.road_io.specs.Within.{ReadsWithin};
 ghost use Rattle.office_words.specs.Meaning.{IsInRange};
@@ -28,13 +28,13 @@ use crate::statements::{charges, day, export, vehicle};
 use crate::tariffs::{tariff, tariffs};
 use crate::telling::compare_and_tell;
 use crate::traffic::{generate, rehearse};
-use keeper::Keeper;
+use keep_office::Keeper;
 use office_words::Command;
-use partition_workers::Crew;
 use road_io::{Failed, Sink, Source};
 use road_time::Limits;
 use std::alloc::Global;
 use std::thread::Threads;
+use ways_crews::Crew;
 
 /// Does what a command asks, but for the closing line. By how many shards the vehicles of a compared day were seen
 /// stands in `shards_seen`.

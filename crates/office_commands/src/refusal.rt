@@ -3,7 +3,7 @@ ghost use Rattle.std.specs.Prelude.{◌≡◌};
 ghost use Rattle.office_commands.specs.Endings.{refusing};
 
 use crate::closing::Closing;
-use keeper::KeepFault;
+use keep_office::KeepFault;
 
 /// The closing of a command whose keeper refused.
 pub fn refused(fault: KeepFault) -> Closing

@@ -4,7 +4,7 @@ ghost use Rattle.road_io.specs.Plans.{NeverFails};
 ghost use Rattle.road_io.specs.Cutter.{ahead, line_of};
 ghost use Rattle.road_io.specs.Blame.{FaultsByPlan};
 ghost use Rattle.day_reading.specs.declared.whole_day.ReadStop.TheVariants.{ReadFault};
-ghost use Rattle.second_notices.specs.Seconds.{count_in, still};
+ghost use Rattle.ways_audit.specs.Seconds.{count_in, still};
 ghost use Rattle.office_commands.specs.declared.difference.Difference.{Difference as DifferenceValue};
 ghost use Rattle.office_commands.specs.declared.difference.DifferenceKind.TheVariants.{Missing};
 ghost use Rattle.office_commands.specs.declared.entry_text.EntryText.TheVariants.{Read};
@@ -21,8 +21,8 @@ use crate::turns::{Turn, found_at, next_turn};
 use day_reading::ReadStop;
 use road_io::{LineCutter, Source};
 use road_time::Notice;
-use second_notices::StillToCome;
 use std::alloc::Global;
+use ways_audit::StillToCome;
 
 /// How far a list came: behind a second and onward, or to its end, which is the end of all, or as many differences as
 /// are asked for.

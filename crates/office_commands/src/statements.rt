@@ -1,15 +1,15 @@
 // The commands `day DAY`, `vehicle VID FROM TO`, `export DAY` and `charges FROM TO`: what is kept, as texts.
 ghost use Rattle.std.specs.Prelude.{◌≡◌, ◌≢◌, Some, Ok, Err, OnErr, IsErr};
-ghost use Rattle.keeper.specs.Office.{Office};
-ghost use Rattle.reports.specs.declared.report_fault.ReportFault.TheVariants as report_fault;
+ghost use Rattle.keep_office.specs.Office.{Office};
+ghost use Rattle.office_reports.specs.declared.report_fault.ReportFault.TheVariants as report_fault;
 ghost use Rattle.office_commands.specs.Commands.{day_command, vehicle_command, export_command, charges_command};
 ghost use Rattle.office_commands.specs.Endings.{Wrote, Keeps, EndsReport};
 ghost use Rattle.office_commands.specs.declared.closing.Closing.TheVariants.{ReadFault, KeeperFault, Words};
 ghost use Rattle.road_io.specs.Blame.{FaultsByPlan, FaultsByRoom};
 
 use crate::closing::Closing;
-use keeper::Keeper;
-use reports::{ReportFault, charges_csv, day_statement, export_csv, vehicle_statement};
+use keep_office::Keeper;
+use office_reports::{ReportFault, charges_csv, day_statement, export_csv, vehicle_statement};
 use road_io::{Failed, Sink};
 use std::alloc::Global;
 

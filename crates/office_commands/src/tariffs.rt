@@ -1,6 +1,6 @@
 // The commands `tariff XWAY CROWD SPEED FACTOR` and `tariffs`.
 ghost use Rattle.std.specs.Prelude.{◌≡◌, ◌≢◌, ◌≤◌, [], Some, Ok, IsErr};
-ghost use Rattle.keeper.specs.Office.{Office};
+ghost use Rattle.keep_office.specs.Office.{Office};
 ghost use Rattle.office_commands.specs.Commands.{tariff_command, tariffs_command};
 ghost use Rattle.office_commands.specs.Endings.{StandsBefore, Wrote, sort_of, KeepsBy, Keeps};
 ghost use Rattle.office_commands.specs.declared.closing.Closing.TheVariants.{ReadFault, KeeperFault, Words};
@@ -8,7 +8,7 @@ ghost use Rattle.road_io.specs.Blame.{FaultsByPlan, FaultsByRoom};
 
 use crate::closing::Closing;
 use crate::refusal::refused;
-use keeper::Keeper;
+use keep_office::Keeper;
 use road_io::{Failed, Sink, put_all};
 use road_time::Tariff;
 use std::alloc::Global;

@@ -4,7 +4,7 @@ ghost use Rattle.road_time.specs.Fits.{IsLimits};
 ghost use Rattle.road_io.specs.Plans.{NeverFails};
 ghost use Rattle.road_io.specs.Within.{ReadsWithin};
 ghost use Rattle.road_io.specs.Blame.{FaultsByPlan, FaultsByRoom};
-ghost use Rattle.keeper.specs.Office.{Office};
+ghost use Rattle.keep_office.specs.Office.{Office};
 ghost use Rattle.day_reading.specs.Days.{most_of_day};
 ghost use Rattle.office_words.specs.Meaning.{IsComparing};
 ghost use Rattle.office_commands.specs.declared.closing.Closing.{Closing as ClosingValue};
@@ -22,13 +22,13 @@ ghost use Rattle.office_commands.specs.Uses.{most_noticed};
 use crate::closing::Closing;
 use crate::comparing::compare_source;
 use crate::difference::{Difference, differences_text};
-use keeper::Keeper;
+use keep_office::Keeper;
 use office_words::Comparison;
-use partition_workers::Crew;
 use road_io::{Failed, Sink, Source, put_all};
 use road_time::Limits;
 use std::alloc::Global;
 use std::thread::Threads;
+use ways_crews::Crew;
 
 /// Writes the lines of differences, where there are some, and names the closing line of the comparison.
 fn tell<O: Sink>(

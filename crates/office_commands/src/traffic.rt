@@ -3,11 +3,11 @@ ghost use Rattle.std.specs.Prelude.{◌≡◌, ◌≢◌, [], ℕ, true, Some, N
 ghost use Rattle.road_time.specs.declared.day.TheConstants.Limits.{DAY};
 ghost use Rattle.road_time.specs.Reads.{reads};
 ghost use Rattle.road_io.specs.Fakes.{bytes_of};
-ghost use Rattle.keeper.specs.Kept.{kept_record};
-ghost use Rattle.keeper.specs.Office.{Office, nothing_kept};
-ghost use Rattle.traffic_gen.specs.declared.plan.GenFault.TheVariants as gen_fault;
-ghost use Rattle.traffic_gen.specs.Plans.{field_out};
-ghost use Rattle.traffic_gen.specs.Traffic.{file_of, generated};
+ghost use Rattle.keep_office.specs.Kept.{kept_record};
+ghost use Rattle.keep_office.specs.Office.{Office, nothing_kept};
+ghost use Rattle.tuples_traffic.specs.declared.plan.GenFault.TheVariants as gen_fault;
+ghost use Rattle.tuples_traffic.specs.Plans.{field_out};
+ghost use Rattle.tuples_traffic.specs.Traffic.{file_of, generated};
 ghost use Rattle.office_words.specs.Meaning.{IsRun, IsSize};
 ghost use Rattle.office_commands.specs.Commands.{generate_command, rehearse_command};
 ghost use Rattle.office_commands.specs.Closings.{status_of};
@@ -19,16 +19,16 @@ ghost use Rattle.road_io.specs.Blame.{FaultsByRoom};
 
 use crate::closing::Closing;
 use crate::run_limits::run_limits;
-use accounts::NoPublisher;
-use import_once::Outcome;
-use keeper::{DayRecord, MemKeeper};
+use day_floor::NoPublisher;
+use day_import::Outcome;
+use keep_office::{DayRecord, MemKeeper};
 use office_words::{DayRun, Size};
-use partition_workers::Crew;
 use road_io::{Failed, MemSink, MemSource, Sink, VoidSink};
 use road_time::{Limits, NoMemory};
 use std::alloc::Global;
 use std::thread::Threads;
-use traffic_gen::{GenFault, GenPlan};
+use tuples_traffic::{GenFault, GenPlan};
+use ways_crews::Crew;
 
 /// What is to be generated.
 fn plan_for(seed: u64, size: Size) -> GenPlan
@@ -80,7 +80,7 @@ pub fn generate<O: Sink>(
         (IsErr result) }
 {
     let plan = plan_for(seed, size);
-    let done = traffic_gen::generate(alloc, &plan, sink);
+    let done = tuples_traffic::generate(alloc, &plan, sink);
     generated(done)
 }
 
@@ -90,7 +90,7 @@ fn file_in_memory(alloc: Global, plan: &GenPlan) -> Result<MemSink, NoMemory>
     ensures { IfOk result (λ s. bytes_of s ≡ file_of plan.now) }
 {
     let mut sink = MemSink::new(alloc, 40_000_000, 65_536)?;
-    match traffic_gen::generate(alloc, plan, &mut sink) {
+    match tuples_traffic::generate(alloc, plan, &mut sink) {
         Ok(_) => Ok(sink),
         Err(GenFault::Size(_)) => unreachable!(),
         Err(GenFault::WriteFault) => unreachable!(),
@@ -121,7 +121,7 @@ fn kept_alone<C: Crew, R: Threads>(
     let mut sink = VoidSink;
     let mut publisher = NoPublisher;
     let own = run_limits(&run, &Limits::DAY);
-    match import_once::import(
+    match day_import::import(
         rt,
         alloc,
         run.day,

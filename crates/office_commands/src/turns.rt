@@ -6,7 +6,7 @@ ghost use Rattle.road_io.specs.Plans.{NeverFails};
 ghost use Rattle.road_io.specs.Cutter.{ahead, line_of, line_number, fault_of};
 ghost use Rattle.road_io.specs.Blame.{FaultsByPlan};
 ghost use Rattle.day_reading.specs.declared.whole_day.ReadStop.TheVariants.{ReadFault};
-ghost use Rattle.second_notices.specs.Seconds.{still};
+ghost use Rattle.ways_audit.specs.Seconds.{still};
 ghost use Rattle.office_commands.specs.declared.difference.Difference.{Difference as DifferenceValue};
 ghost use Rattle.office_commands.specs.declared.difference.DifferenceKind.TheVariants.{Additional};
 ghost use Rattle.office_commands.specs.declared.entry_text.EntryText.TheVariants.{Nothing};
@@ -27,7 +27,7 @@ use crate::neighbours::is_after;
 use day_reading::ReadStop;
 use road_io::{LineCutter, Source};
 use road_time::Notice;
-use second_notices::StillToCome;
+use ways_audit::StillToCome;
 
 /// How far a turn came: behind a line that is a notice of the second, or behind another one; or the second is over
 /// before the line; or nothing is left to list.

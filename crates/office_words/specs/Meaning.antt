@@ -7,7 +7,7 @@ use Rattle.std.specs.Str.{bytes_eq}
 use Rattle.std.specs.Char.{is_ascii_digit}
 use Rattle.std.specs.List.{list_all}
 use Rattle.std.specs.Str.Parse.{digits_value}
-use Rattle.import_plan.specs.declared.Plan.{Plan}
+use Rattle.day_plan.specs.declared.work.Plan.{Plan}
 use Rattle.office_words.specs.Grammar.{Form, Text, Said, contains, is_said, lacks, spoken, stands}
 use Rattle.office_words.specs.Table.{forms}
 use Rattle.office_words.specs.declared.command.Command.{Command}

@@ -1,6 +1,6 @@
 // The commands of the program, and why words are none.
 
-use import_plan::Plan;
+use day_plan::Plan;
 use thiserror::Error;
 
 /// How much traffic is generated: 1 to 5,000 vehicles, 1 to 1,440 minutes, 1 to 256 expressways, and up to 100 crashes,

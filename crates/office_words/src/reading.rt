@@ -10,7 +10,7 @@ ghost use Rattle.office_words.specs.Meaning.{IsRecomputing, IsRun, IsSize, backl
 use crate::command::{Command, Comparison, DayRun, Recomputing, Size};
 use crate::numbers::{chosen, needed, optional};
 use clap::ArgMatches;
-use import_plan::Plan;
+use day_plan::Plan;
 
 fn day(m: &ArgMatches<'_>) -> Option<u32>
     ensures value { result ≡ day_in (first_value (found_of m.now)) }

@@ -8,18 +8,16 @@
 
 ghost use Rattle.std.specs.Prelude.{◌≡◌, []};
 
-use office_causes::{explained, say_why};
+use keep_files::{Cause, KEPT_FILE, SqliteKeeper, close_said};
 use office_commands::{ASIDE_FILE, Closing};
-use office_renewal::{begin_anew, renewal_base};
-use partition_workers::{Crew, NoGate};
+use office_ends::{begin_anew, explained, renewal_base, say_why};
 use road_io::{FileSource, StdSink, StdSource, Writing, words_of};
 use road_time::Limits;
-use sqlite_keeper::{Cause, KEPT_FILE, SqliteKeeper, close_said};
-use standing_crew::{Crewed, StandingCrew, beside, standing};
 use std::alloc::Global;
 use std::process::ExitCode;
 use std::sync::Wait;
 use std::thread::Threads;
+use ways_crews::{Crew, Crewed, NoGate, StandingCrew, beside, standing};
 
 /// How many jobs may lie ready or be done, each in a cell of its own: one for each of the most workers.
 const CELLS: u8 = 64;

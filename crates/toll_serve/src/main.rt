@@ -5,11 +5,10 @@
 //! prints nothing but where what is kept cannot be closed: that it says on standard error.
 #![tactic(auto)]
 
-use desk_server::{ServerEnd, serve_in_threads};
-use lane_doors::TcpDoor;
+use keep_files::{KEPT_FILE, SqliteKeeper, close_said};
 use road_io::words_of;
 use road_time::Limits;
-use sqlite_keeper::{KEPT_FILE, SqliteKeeper, close_said};
+use serve_top::{ServerEnd, TcpDoor, serve_in_threads};
 use std::process::ExitCode;
 
 fn main(rt: HostRuntime) -> ExitCode {

@@ -1,12 +1,11 @@
 // The bytes of the lines that were cut: taken, and left.
 ghost use Rattle.std.specs.Prelude.{◌≡◌, ◌+◌, ◌<◌, ◌^◌, ◌++◌, [], ℕ, List, is_some, length, true};
-ghost use Rattle.digest_beside.specs.Beside.{TookBeside};
+ghost use Rattle.road_digest.specs.Beside.{TookBeside};
 ghost use Rattle.day_reading.specs.Days.{IsDigestOf};
 ghost use Rattle.day_reading.specs.Readings.{HasTaken};
 
 use super::{Consumed, FIRST_CHUNK, GREATEST_CHUNK};
-use digest_beside::BesideDigester;
-use keeper::Digest;
+use road_digest::{BesideDigester, Digest};
 use std::alloc::Global;
 use std::thread::Threads;
 

@@ -18,12 +18,12 @@ use super::DayReader;
 use crate::consumed::Consumed;
 use crate::ending::{Ending, ReadEnd};
 use crate::intake::{Intake, refused};
-use keeper::Digest;
+use road_digest::Digest;
 use road_io::{LineCutter, LineFault, Source};
 use road_time::{Limits, NoMemory, Tuple};
 use std::alloc::Global;
 use std::thread::Threads;
-use tuple_format::Cause;
+use tuples_text::Cause;
 
 impl DayReader {
     /// A reader before the first line, with or without the digest. Lines may come late by up to so many seconds.

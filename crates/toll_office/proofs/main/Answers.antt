@@ -1,5 +1,5 @@
 use Rattle.std.proofs.Common.{rules, ◌≡◌, subst, sym}
-use Rattle.standing_crew.specs.Helpers.{AreHelpersOf, CrewName}
+use Rattle.ways_crews.specs.Helpers.{AreHelpersOf, CrewName}
 use Rattle.toll_office.proofs.main.Goals as goal
 
 pub close-requires-clause-helpers : goal.close-requires-clause-helpers

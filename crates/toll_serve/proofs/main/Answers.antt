@@ -1,6 +1,6 @@
 use denote.Exit.{no}
 use denote.Param.Send.{param_send, arg_send}
-use Rattle.sqlite_keeper.proofs.Moves.{keeper_moves}
+use Rattle.keep_files.proofs.Moves.{keeper_moves}
 use Rattle.toll_serve.proofs.main.Goals as goal
 
 -- the keeper may move between threads

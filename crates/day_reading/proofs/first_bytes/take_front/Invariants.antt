@@ -1,6 +1,6 @@
 use Rattle.std.proofs.Common.{◌≡◌, ◌≤◌, ◌-◌, ◌++◌, ℕ, List, length, take, drop, Some}
 use Rattle.road_io.specs.Plans.{NeverFails}
-use Rattle.keeper.specs.Digests.{Took}
+use Rattle.road_digest.specs.Digests.{Took}
 use Rattle.day_reading.proofs.first_bytes.take_front.Given as goal
 
 abbrev pub invariant-loop-rest : goal.invariant-loop-rest

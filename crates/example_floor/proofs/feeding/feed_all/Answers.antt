@@ -1,9 +1,9 @@
 use Rattle.std.proofs.Common.{take, length, sym, ap, ◌∙◌, arith, subst, slice_index_or}
 use Rattle.std.proofs.lemmas.List.{take_all, take_more}
-use Rattle.watermark.specs.Floors.{width_of, limits_of, StandsFor}
-use Rattle.watermark.specs.Shares.{start}
-use Rattle.watermark.specs.Sound.{CanFeed}
-use Rattle.watermark.specs.Steps.{after_feed}
+use Rattle.day_floor.specs.Floors.{width_of, limits_of, StandsFor}
+use Rattle.day_floor.specs.Shares.{start}
+use Rattle.day_floor.specs.Sound.{CanFeed}
+use Rattle.day_floor.specs.Steps.{after_feed}
 use Rattle.example_floor.specs.Turns.{after_fed}
 use Rattle.example_floor.proofs.FeedLaws.{can_next, fed_push, no_tuple, start_room}
 use Rattle.example_floor.proofs.feeding.feed_all.Goals as goal

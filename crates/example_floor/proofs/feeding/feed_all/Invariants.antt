@@ -1,6 +1,6 @@
 use Rattle.std.proofs.Common.{◌≡◌, take}
-use Rattle.watermark.specs.Shares.{start}
-use Rattle.watermark.specs.Floors.{Setting, width_of, limits_of, StandsFor}
+use Rattle.day_floor.specs.Shares.{start}
+use Rattle.day_floor.specs.Floors.{Setting, width_of, limits_of, StandsFor}
 use Rattle.example_floor.specs.Turns.{after_fed}
 use Rattle.example_floor.proofs.feeding.feed_all.Given as goal
 

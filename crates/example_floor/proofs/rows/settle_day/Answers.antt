@@ -2,10 +2,10 @@ use Rattle.std.proofs.Common.{[], length, refl, sym, ap, ◌∙◌, subst}
 use Rattle.std.specs.Io.KnownBytes.{Appends}
 use Rattle.road_time.specs.Day.{notices}
 use Rattle.road_time.specs.Text.{out}
-use Rattle.settling.specs.Answers.{history_of}
-use Rattle.watermark.specs.Shares.{start}
-use Rattle.watermark.specs.Floors.{width_of}
-use Rattle.watermark.proofs.Truths.{true_start}
+use Rattle.day_floor.specs.Answers.{history_of}
+use Rattle.day_floor.specs.Shares.{start}
+use Rattle.day_floor.specs.Floors.{width_of}
+use Rattle.day_floor.proofs.Truths.{true_start}
 use Rattle.road_io.specs.Levels.{Level}
 use Rattle.example_floor.specs.Turns.{after_fed}
 use Rattle.example_floor.specs.Stops.{TakesDay, StopsDay}

@@ -5,10 +5,10 @@ use Rattle.road_io.specs.Fakes.{bytes_of, room_of}
 use Rattle.road_time.specs.Day.{notices}
 use Rattle.road_time.specs.Text.{out}
 use Rattle.road_time.specs.History.{paid}
-use Rattle.keeper.specs.Memory.{kept_by, plan_of}
-use Rattle.settling.specs.Answers.{history_of}
-use Rattle.settling.specs.Asking.{requests_of}
-use Rattle.settling.proofs.AskLaws.{asked_both}
+use Rattle.keep_office.specs.Memory.{kept_by, plan_of}
+use Rattle.day_floor.specs.Answers.{history_of}
+use Rattle.day_floor.specs.Asking.{requests_of}
+use Rattle.day_floor.proofs.AskLaws.{asked_both}
 use Rattle.example_floor.specs.Stops.{StopsDay}
 use Rattle.example_floor.proofs.RunLaws.{on_ok}
 use Rattle.example_floor.proofs.rows.settle_in_memory.Goals as goal

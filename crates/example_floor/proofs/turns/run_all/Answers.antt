@@ -1,7 +1,7 @@
 use Rattle.std.proofs.Common.{◌≡◌, suc, ◌+◌, ◌≤◌, sym, ◌∙◌, arith, subst}
-use Rattle.watermark.specs.Sound.{SoundState, IsTrue}
-use Rattle.watermark.specs.Written.{settled_charges}
-use Rattle.watermark.specs.Floors.{StandsFor}
+use Rattle.day_floor.specs.Sound.{SoundState, IsTrue}
+use Rattle.day_floor.specs.Written.{settled_charges}
+use Rattle.day_floor.specs.Floors.{StandsFor}
 use Rattle.example_floor.specs.Turns.{after_runs}
 use Rattle.example_floor.proofs.RunLaws.{answered}
 use Rattle.example_floor.proofs.turns.run_all.Goals as goal

@@ -1,8 +1,8 @@
 use Rattle.std.proofs.Common.{◌≡◌}
-use Rattle.watermark.specs.Shares.{State}
-use Rattle.watermark.specs.Written.{settled_charges}
-use Rattle.watermark.specs.Floors.{Setting, StandsFor, StandsForSome}
-use Rattle.watermark.specs.Sound.{IsTrue}
+use Rattle.day_floor.specs.Shares.{State}
+use Rattle.day_floor.specs.Written.{settled_charges}
+use Rattle.day_floor.specs.Floors.{Setting, StandsFor, StandsForSome}
+use Rattle.day_floor.specs.Sound.{IsTrue}
 use Rattle.example_floor.specs.Turns.{after_runs}
 use Rattle.example_floor.proofs.turns.run_all.Given as goal
 

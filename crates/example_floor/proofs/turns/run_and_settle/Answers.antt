@@ -2,16 +2,16 @@ use Rattle.std.proofs.Common.{◌≡◌, rules, refl, sym, ap, ◌∙◌, subst}
 use Rattle.std.specs.Io.KnownBytes.{Appends}
 use Rattle.road_time.specs.Day.{notices, sum_of}
 use Rattle.road_time.specs.Text.{out}
-use Rattle.settling.specs.Boards.{IsAbreast}
-use Rattle.watermark.specs.Shares.{mark}
+use Rattle.day_floor.specs.SettlingBoards.{IsAbreast}
+use Rattle.day_floor.specs.Shares.{mark}
 use Rattle.example_floor.specs.Turns.{after_runs}
 use Rattle.road_io.specs.Levels.{Level}
-use Rattle.watermark.specs.Floors.{StopsSettling}
+use Rattle.day_floor.specs.Floors.{StopsSettling}
 use Rattle.example_floor.specs.Stops.{TakesDay, StopsDay}
 use Rattle.example_floor.proofs.StopLaws.{not_begun, day_took, day_stopped}
 use Rattle.example_floor.proofs.RunLaws.{well, if_stopped, when_both, runs_settled, all_written}
-use Rattle.watermark.proofs.Settled.{if_ok}
-use Rattle.watermark.proofs.Jobs.{ok_is}
+use Rattle.day_floor.proofs.Settled.{if_ok}
+use Rattle.day_floor.proofs.Jobs.{ok_is}
 use Rattle.example_floor.proofs.turns.run_and_settle.Goals as goal
 
 pub settle-requires : goal.settle-requires

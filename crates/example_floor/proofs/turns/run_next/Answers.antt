@@ -1,10 +1,10 @@
-use Rattle.watermark.specs.Written.{settled_charges}
+use Rattle.day_floor.specs.Written.{settled_charges}
 use Rattle.std.proofs.Common.{◌∙◌, ap, rules, sym, subst}
-use Rattle.watermark.specs.Steps.{after_give}
-use Rattle.watermark.specs.Sound.{SoundState, IsTrue}
-use Rattle.watermark.specs.Floors.{StandsFor}
+use Rattle.day_floor.specs.Steps.{after_give}
+use Rattle.day_floor.specs.Sound.{SoundState, IsTrue}
+use Rattle.day_floor.specs.Floors.{StandsFor}
 use Rattle.example_floor.proofs.RunLaws.{well, ready, may_come, run_is, none_run, run_true, charged_is}
-use Rattle.expressway.proofs.ShapeLaws.{ok_map}
+use Rattle.ways_expressway.proofs.ShapeLaws.{ok_map}
 use Rattle.example_floor.proofs.turns.run_next.Goals as goal
 
 pub returns-in_default-clause-ran : goal.returns-in_default-clause-ran

@@ -1,4 +1,4 @@
-use Rattle.keeper.proofs.WorkedLaws.{history_fits}
+use Rattle.keep_office.proofs.WorkedLaws.{history_fits}
 use Rattle.example_office.proofs.sequence.memory_history.Goals as goal
 
 pub put_past-requires-clause-fits : goal.put_past-requires-clause-fits

@@ -1,6 +1,6 @@
 use Rattle.std.proofs.Common.{◌≡◌}
-use Rattle.import_once.specs.declared.outcomes.Outcome.TheVariants.{WriteFault}
-use Rattle.import_once.specs.Imports.{answers_answer}
+use Rattle.day_import.specs.declared.outcomes.Outcome.TheVariants.{WriteFault}
+use Rattle.day_import.specs.Imports.{answers_answer}
 use Rattle.office_commands.proofs.OutcomeLaws.{wrote, keeps, by_sink, did, by_read, by_keeper}
 use Rattle.road_time.specs.Reads.{reads}
 use Rattle.office_commands.proofs.StartLaws.{answered_worked}

@@ -3,7 +3,7 @@ use Rattle.std.proofs.Common.{subst, arith, min}
 use Rattle.std.proofs.lemmas.List.{length-drop, length-take-le}
 use Rattle.road_time.specs.declared.road.Notice.{Notice}
 use Rattle.road_io.specs.Cutter.{ahead, line_of}
-use Rattle.second_notices.specs.Seconds.{seconds}
+use Rattle.ways_audit.specs.Seconds.{seconds}
 use Rattle.office_commands.specs.declared.difference.Difference.{Difference}
 use Rattle.office_commands.specs.declared.second.Reach.{Reach}
 use Rattle.office_commands.specs.AnyOrder.{differences_by_second}

@@ -1,6 +1,6 @@
 use Rattle.std.proofs.Common.{◌≡◌, ◌++◌, ℕ, List, [], sym, ap, subst}
 use Rattle.road_io.specs.Cutter.{ahead, line_of}
-use Rattle.second_notices.specs.Seconds.{seconds}
+use Rattle.ways_audit.specs.Seconds.{seconds}
 use Rattle.office_commands.specs.declared.difference.Difference.{Difference}
 use Rattle.office_commands.specs.declared.second.Reach.{Reach}
 use Rattle.office_commands.specs.AnyOrder.{differences_by_second}

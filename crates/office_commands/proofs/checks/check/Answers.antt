@@ -1,6 +1,6 @@
 use Rattle.std.proofs.Common.{sym, subst, Some, Ok}
 use Rattle.road_time.specs.Lines.{lines_of}
-use Rattle.day_check.specs.Checked.{checked}
+use Rattle.day_reading.specs.Checked.{checked}
 use Rattle.office_commands.specs.declared.closing.Closing.{Closing}
 use Rattle.office_commands.specs.Commands.{check_command}
 use Rattle.office_commands.specs.Endings.{Wrote, code_of}

@@ -1,7 +1,7 @@
 use Rattle.std.proofs.Common.{◌≡◌, ◌∙◌, ℕ, List, IsOk, length, [], Option, Some, None, refl, sym, ap, subst}
 use Rattle.road_time.specs.declared.road.Notice.{Notice}
 use Rattle.road_time.specs.Lines.{lines_of}
-use Rattle.tuple_format.specs.declared.cause.Cause.{Cause}
+use Rattle.tuples_text.specs.declared.cause.Cause.{Cause}
 use Rattle.road_io.specs.Within.{ReadsWithin}
 use Rattle.office_commands.specs.declared.closing.Closing.{Closing}
 use Rattle.office_commands.specs.Closings.{status_of}

@@ -2,8 +2,8 @@ use Rattle.std.proofs.Common.{◌≡◌, ℕ, List, Option, Some, Ok, [], refl, 
 use Rattle.road_time.specs.declared.road.Tuple.{Tuple}
 use Rattle.road_time.specs.Reads.{reads}
 use Rattle.road_time.specs.Lines.{lines_of}
-use Rattle.tuple_format.specs.declared.cause.Cause.{Cause}
-use Rattle.keeper.proofs.CallLaws.{reads_same, reads_ok}
+use Rattle.tuples_text.specs.declared.cause.Cause.{Cause}
+use Rattle.keep_office.proofs.CallLaws.{reads_same, reads_ok}
 use Rattle.office_commands.specs.declared.closing.Closing.{Closing}
 use Rattle.office_commands.specs.Days.{recomputed}
 use Rattle.office_commands.specs.Commands.{Answer, compare_command, comparison_of, unless_refused, compared_tuples}

@@ -4,7 +4,7 @@ use Rattle.road_time.specs.Reads.{reads}
 use Rattle.road_time.specs.Fits.{IsLimits}
 use Rattle.office_commands.specs.Days.{refusal_of, recomputed, refused_at}
 use Rattle.office_commands.proofs.DayLaws.{refused_same, recomputed_within}
-use Rattle.tuple_format.specs.declared.cause.Cause.{Cause}
+use Rattle.tuples_text.specs.declared.cause.Cause.{Cause}
 use Rattle.office_commands.specs.Rests.{EndsAt}
 use Rattle.office_commands.proofs.RestLaws.{ends_at}
 use Rattle.office_commands.proofs.day.read_day.Goals as goal

@@ -1,12 +1,12 @@
 use Rattle.std.proofs.Common.{◌≡◌, Option, subst}
-use Rattle.import_once.specs.declared.outcomes.Outcome.TheVariants.{WriteFault}
-use Rattle.import_once.specs.Imports.{import_answer, work_by, import_worked, unless_recorded, Merges}
+use Rattle.day_import.specs.declared.outcomes.Outcome.TheVariants.{WriteFault}
+use Rattle.day_import.specs.Imports.{import_answer, work_by, import_worked, unless_recorded, Merges}
 use Rattle.office_commands.proofs.OutcomeLaws.{wrote, keeps, by_sink, did, held, by_read, by_keeper}
 use Rattle.road_time.specs.Reads.{reads}
 use Rattle.day_reading.specs.Days.{most_of_day}
 use Rattle.road_io.specs.Within.{ReadsWithin}
-use Rattle.keeper.specs.Office.{record_of}
-use Rattle.keeper.specs.declared.kept.DayRecord.{DayRecord}
+use Rattle.keep_office.specs.Office.{record_of}
+use Rattle.keep_office.specs.declared.kept.DayRecord.{DayRecord}
 use Rattle.office_commands.proofs.StartLaws.{stored_worked, imported_worked}
 use Rattle.office_commands.proofs.RestLaws.{imported_to, imported_alone, rests}
 use Rattle.office_commands.proofs.imports.import.Goals as goal

@@ -1,7 +1,7 @@
 use Rattle.std.proofs.Common.{Option, ℕ, List, sym, subst, Some, Ok}
 use Rattle.road_time.specs.declared.road.Tuple.{Tuple}
 use Rattle.road_time.specs.Reads.{reads}
-use Rattle.tuple_format.specs.declared.cause.Cause.{Cause}
+use Rattle.tuples_text.specs.declared.cause.Cause.{Cause}
 use Rattle.office_commands.specs.declared.closing.Closing.{Closing}
 use Rattle.office_words.specs.declared.command.Recomputing.TheVariants.{Plainly}
 use Rattle.office_commands.specs.Days.{recomputed}

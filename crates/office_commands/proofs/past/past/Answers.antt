@@ -1,6 +1,6 @@
 use Rattle.std.proofs.Common.{◌≡◌}
 use Rattle.road_io.specs.Within.{ReadsWithin}
-use Rattle.past_file.specs.Imports.{past_answer, most_past}
+use Rattle.day_past.specs.Imports.{past_answer, most_past}
 use Rattle.office_commands.proofs.HistoryLaws.{past_stands, past_keeps, past_rest, past_held, past_alone}
 use Rattle.office_commands.proofs.past.past.Goals as goal
 

@@ -12,7 +12,7 @@ use Rattle.office_commands.proofs.ConcludeLaws.{did_unchanged, did_silent, closi
 use Rattle.office_commands.proofs.PerformLaws.{source_of, aside_of, keeper_of, crew_of, wrote_silent, by_source}
 use Rattle.office_commands.proofs.PerformLaws.{beside}
 use Rattle.office_commands.proofs.PerformLaws.{by_both}
-use Rattle.keeper.specs.Office.{record_of}
+use Rattle.keep_office.specs.Office.{record_of}
 use Rattle.office_commands.specs.Commands.{Answer}
 use Rattle.office_commands.specs.Endings.{Wrote, Keeps, Did}
 use Rattle.office_commands.proofs.RunLaws.{answers_same, import_same, within_same, imported_same, day_same, stops_same}

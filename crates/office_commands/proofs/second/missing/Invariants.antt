@@ -1,5 +1,5 @@
 use Rattle.std.proofs.Common.{◌≡◌, ◌≤◌, ◌++◌, List, length, drop}
-use Rattle.second_notices.specs.Seconds.{still}
+use Rattle.ways_audit.specs.Seconds.{still}
 use Rattle.office_commands.specs.declared.difference.Difference.{Difference}
 use Rattle.office_commands.specs.AnyOrder.{missing_at}
 use Rattle.office_commands.proofs.second.missing.Given as goal

@@ -3,7 +3,7 @@ use Rattle.std.proofs.Common.{arith, IfOk}
 use Rattle.std.proofs.lemmas.Result.{IfOk-weaker}
 use Rattle.road_time.specs.declared.road.Notice.{Notice}
 use Rattle.road_io.specs.Cutter.{ahead, line_of}
-use Rattle.second_notices.specs.Seconds.{still, count_in}
+use Rattle.ways_audit.specs.Seconds.{still, count_in}
 use Rattle.office_commands.specs.declared.difference.Difference.{Difference}
 use Rattle.office_commands.specs.declared.entry_text.EntryText.{EntryText}
 use Rattle.office_commands.specs.declared.turns.Turn.{Turn}

@@ -1,7 +1,7 @@
 use Rattle.std.proofs.Common.{◌≡◌, ◌+◌, ◌-◌, ◌≤◌, List, ℕ, length}
 use Rattle.road_io.specs.Plans.{NeverFails}
 use Rattle.road_io.specs.Cutter.{ahead, line_of}
-use Rattle.second_notices.specs.Seconds.{still, count_in}
+use Rattle.ways_audit.specs.Seconds.{still, count_in}
 use Rattle.office_commands.specs.declared.difference.Difference.{Difference}
 use Rattle.office_commands.specs.Entries.{HasReadEntries}
 use Rattle.office_commands.specs.Listings.{IsReady}

@@ -1,6 +1,6 @@
 use Rattle.std.proofs.Common.{◌≡◌, ◌∙◌, Err}
-use Rattle.reports.specs.Exports.{export_report}
-use Rattle.reports.specs.declared.report_fault.ReportFault.TheVariants.{WriteFault}
+use Rattle.office_reports.specs.Exports.{export_report}
+use Rattle.office_reports.specs.declared.report_fault.ReportFault.TheVariants.{WriteFault}
 use Rattle.office_commands.specs.Commands.{export_command}
 use Rattle.office_commands.proofs.KeepingLaws.{kept_same}
 use Rattle.office_commands.proofs.OutcomeLaws.{by_sink, by_keeper}

@@ -1,8 +1,8 @@
 use Rattle.std.proofs.Common.{◌≡◌, inr, [], Option, Result, Ok, Err, sym, subst}
-use Rattle.keeper.specs.declared.kept.KeepFault.{KeepFault}
-use Rattle.keeper.specs.Calls.{Puts}
-use Rattle.keeper.specs.Kept.{with_tariff_of}
-use Rattle.keeper.specs.Office.{Office}
+use Rattle.keep_office.specs.declared.kept.KeepFault.{KeepFault}
+use Rattle.keep_office.specs.Calls.{Puts}
+use Rattle.keep_office.specs.Kept.{with_tariff_of}
+use Rattle.keep_office.specs.Office.{Office}
 use Rattle.office_commands.specs.declared.closing.Closing.{Closing}
 use Rattle.office_commands.specs.Commands.{tariff_command}
 use Rattle.office_commands.specs.Endings.{StandsBefore, sort_of, KeepsBy}

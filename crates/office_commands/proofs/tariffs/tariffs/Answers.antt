@@ -3,7 +3,7 @@ use Rattle.road_io.proofs.SinkLaws.{appends_none}
 use Rattle.office_commands.specs.declared.closing.Closing.{Closing}
 use Rattle.office_commands.specs.Commands.{tariffs_command}
 use Rattle.office_commands.specs.Endings.{Wrote}
-use Rattle.keeper.proofs.CallLaws.{reads_same}
+use Rattle.keep_office.proofs.CallLaws.{reads_same}
 use Rattle.office_commands.proofs.KeepingLaws.{closing_same}
 use Rattle.office_commands.proofs.ClosingLaws.{refuses_empty}
 use Rattle.office_commands.proofs.tariffs.tariffs.Goals as goal

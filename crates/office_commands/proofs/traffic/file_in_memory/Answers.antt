@@ -1,7 +1,7 @@
 use Rattle.std.proofs.Common.{◌∙◌, Err, sym, ap, arith}
 use Rattle.std.proofs.lemmas.Option.{none-some}
-use Rattle.traffic_gen.proofs.FileLaws.{few_bytes}
-use Rattle.traffic_gen.proofs.RangeLaws.{in_range}
+use Rattle.tuples_traffic.proofs.FileLaws.{few_bytes}
+use Rattle.tuples_traffic.proofs.RangeLaws.{in_range}
 use Rattle.office_commands.proofs.traffic.file_in_memory.Goals as goal
 
 pub unreachable-requires : goal.unreachable-requires

@@ -1,8 +1,8 @@
 use Rattle.std.proofs.Common.{◌≡◌, ◌∙◌, Err, sym, subst}
 use Rattle.std.proofs.lemmas.Option.{none-some}
-use Rattle.traffic_gen.specs.declared.plan.GenPlan.{GenPlan}
-use Rattle.traffic_gen.specs.declared.plan.GenFault.TheVariants.{WriteFault}
-use Rattle.traffic_gen.specs.Traffic.{file_of}
+use Rattle.tuples_traffic.specs.declared.plan.GenPlan.{GenPlan}
+use Rattle.tuples_traffic.specs.declared.plan.GenFault.TheVariants.{WriteFault}
+use Rattle.tuples_traffic.specs.Traffic.{file_of}
 use Rattle.office_commands.specs.Commands.{text_alone}
 use Rattle.office_commands.specs.Endings.{Wrote}
 use Rattle.office_commands.proofs.OutcomeLaws.{by_sink}

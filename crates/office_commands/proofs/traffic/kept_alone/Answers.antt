@@ -1,12 +1,12 @@
 use Rattle.std.proofs.Common.{ap, refl, subst, sym, Some, ◌∙◌}
 use Rattle.std.proofs.lemmas.Result.{err_from_is_err_and}
 use Rattle.road_time.specs.declared.day.TheConstants.Limits.{DAY}
-use Rattle.keeper.specs.Calls.{PutsNothing}
+use Rattle.keep_office.specs.Calls.{PutsNothing}
 use Rattle.road_time.specs.Reads.{LinesRead, reads}
 use Rattle.office_commands.specs.Starts.{WasWorked, backlog_of}
 use Rattle.office_commands.proofs.StartLaws.{day_none, not_ok}
-use Rattle.keeper.specs.Office.{nothing_kept}
-use Rattle.import_once.specs.Imports.{import_answer, import_found, import_read, import_merged, unless_kept}
+use Rattle.keep_office.specs.Office.{nothing_kept}
+use Rattle.day_import.specs.Imports.{import_answer, import_found, import_read, import_merged, unless_kept}
 use Rattle.office_commands.proofs.RunLaws.{jobs_same}
 use Rattle.office_commands.proofs.TrafficLaws.{Stores, alone, alone_stored, found_stored, stores, stores_found}
 use Rattle.office_commands.proofs.TrafficLaws.{none_else}

@@ -3,8 +3,8 @@ use Rattle.office_commands.specs.declared.closing.Closing.{Closing}
 use Rattle.office_commands.specs.Commands.{rehearse_command}
 use Rattle.office_commands.specs.Endings.{StandsBefore}
 use Rattle.road_time.specs.declared.day.TheConstants.Limits.{DAY}
-use Rattle.traffic_gen.specs.declared.plan.GenPlan.{GenPlan}
-use Rattle.traffic_gen.specs.Traffic.{generated}
+use Rattle.tuples_traffic.specs.declared.plan.GenPlan.{GenPlan}
+use Rattle.tuples_traffic.specs.Traffic.{generated}
 use Rattle.office_commands.specs.declared.closing.Closing.TheVariants.{NoMemory}
 use Rattle.office_commands.specs.Closings.{status_of}
 use Rattle.office_commands.specs.Starts.{StartsDay, backlog_of}

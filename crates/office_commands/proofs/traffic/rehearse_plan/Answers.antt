@@ -5,7 +5,7 @@ use Rattle.road_time.specs.declared.road.Tuple.{Tuple}
 use Rattle.office_commands.specs.Starts.{StartsDay, backlog_of}
 use Rattle.office_commands.proofs.StartLaws.{day_none, not_ok}
 use Rattle.office_commands.proofs.TrafficLaws.{whole_file, alone_is, whole_tuples}
-use Rattle.traffic_gen.specs.Traffic.{file_of, generated}
+use Rattle.tuples_traffic.specs.Traffic.{file_of, generated}
 use Rattle.office_commands.proofs.traffic.rehearse_plan.Goals as goal
 
 pub kept_alone-requires-clause-whole : goal.kept_alone-requires-clause-whole

@@ -4,7 +4,7 @@ use Rattle.road_time.specs.Text.{read_notice}
 use Rattle.road_time.specs.declared.road.Notice.{Notice}
 use Rattle.day_reading.specs.declared.whole_day.ReadStop.{ReadStop}
 use Rattle.road_io.specs.Cutter.{ahead, line_of}
-use Rattle.second_notices.specs.Seconds.{still}
+use Rattle.ways_audit.specs.Seconds.{still}
 use Rattle.office_commands.specs.declared.turns.Turn.{Turn}
 use Rattle.office_commands.specs.declared.turns.Turn.TheVariants.{Came, Stayed, Behind, Ended}
 use Rattle.office_commands.specs.Asides.{entry_of, found_as}

@@ -1,7 +1,7 @@
 use Rattle.std.proofs.Common.{sym, subst}
 use Rattle.std.proofs.lemmas.Result.{IfOk-weaker}
 use Rattle.road_io.specs.Cutter.{ahead, line_of}
-use Rattle.second_notices.specs.Seconds.{still}
+use Rattle.ways_audit.specs.Seconds.{still}
 use Rattle.office_commands.specs.declared.aside.AsideEntry.{AsideEntry}
 use Rattle.office_commands.specs.declared.turns.Turn.{Turn}
 use Rattle.office_commands.specs.Turns.{ListsSecond, TurnsTo}

@@ -1,5 +1,5 @@
 use Rattle.std.proofs.Common.{◌≡◌, sym, subst}
-use Rattle.second_notices.specs.Seconds.{still}
+use Rattle.ways_audit.specs.Seconds.{still}
 use Rattle.office_commands.specs.declared.entry_text.EntryText.{EntryText}
 use Rattle.office_commands.specs.AnyOrder.{without_found}
 use Rattle.office_commands.proofs.turns.take_found.Goals as goal

@@ -1,8 +1,0 @@
-use Rattle.std.proofs.Common.{◌≡◌, ◌++◌}
-use Rattle.accounts.specs.Sums.{listed}
-use Rattle.accounts.specs.Entries.{firsts}
-use Rattle.accounts.proofs.rows.list_firsts.Given as goal
-
-abbrev pub invariant-loop-vid : goal.invariant-loop-vid
-invariant-loop-vid l = l.rows.items ++ listed l.day (firsts l.vid-iterator) ≡ l.fn.rows.items ++ listed l.day
-    (firsts l.vehicles.entries)

@@ -1,2 +1,0 @@
-mod HistoryLaws
-mod AmountLaws

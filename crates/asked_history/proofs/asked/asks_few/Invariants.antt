@@ -1,9 +1,0 @@
-use Rattle.std.proofs.Common.{◌≡◌, ◌+◌, length}
-use Rattle.asked_history.specs.Asks.{count_asks}
-use Rattle.asked_history.proofs.asked.asks_few.Given as goal
-
-abbrev pub invariant-loop-tuple : goal.invariant-loop-tuple
-invariant-loop-tuple l = count_asks l.tuples + l.more ≡ count_asks l.left + 4096
-
-abbrev pub decreases-loop-tuple : goal.decreases-loop-tuple
-decreases-loop-tuple l = length l.left

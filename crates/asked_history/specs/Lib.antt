@@ -1,3 +1,0 @@
--- Amounts of earlier days, as far as a day's tuples ask for them.
-
-pub mod Asks

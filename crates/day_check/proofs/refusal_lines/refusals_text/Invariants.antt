@@ -1,6 +1,0 @@
-use Rattle.std.proofs.Common.{◌≡◌, take}
-use Rattle.day_check.specs.Checked.{refusals_text}
-use Rattle.day_check.proofs.refusal_lines.refusals_text.Given as goal
-
-abbrev pub invariant-loop-refusal : goal.invariant-loop-refusal
-invariant-loop-refusal l = l.text.items ≡ refusals_text (take l.refusal-index l.refusals)

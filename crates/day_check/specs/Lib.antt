@@ -1,4 +1,0 @@
--- Days of which every refused line is named.
-
-pub mod Checked
-pub mod Checking

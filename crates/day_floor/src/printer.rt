@@ -1,0 +1,131 @@
+// Notices are written in large pieces, counted, and the digest of their text is taken on the way.
+ghost use Rattle.std.specs.Prelude.{◌≡◌, ◌+◌, ◌<◌, ◌^◌, ◌∷◌, [], ℕ, List, true, false, OnOk};
+ghost use Rattle.road_digest.specs.Digests.{Took, digest_of};
+ghost use Rattle.day_floor.specs.Printing.{Says, HandsOn};
+ghost use Rattle.day_floor.specs.Faults.{SinkFaults, keeper_failed};
+ghost use Rattle.day_floor.specs.Answers.{alert_to, told_notices};
+
+use crate::due_slot::Found;
+use crate::fault::SettleFault;
+use road_digest::{Digest, Digester};
+use road_io::{Sink, put_all};
+use road_time::Notice;
+use std::alloc::Global;
+use tuples_text::put_notice;
+
+/// A piece is handed on once it has so many bytes.
+const PIECE: usize = 65_536;
+
+/// The text that is not handed on yet, the digest of what is, and how many notices there were.
+#[derive(Drop)]
+pub struct Printer {
+    piece: Vec<u8>,
+    digester: Digester,
+    notices: u64,
+}
+
+impl Printer {
+    /// Nothing was printed. It takes no memory.
+    pub fn new(alloc: Global) -> Self
+        ensures held { result.piece.items ≡ [] }
+        ensures took { Took result.digester [] }
+        ensures count { result.notices ≡ 0 }
+    {
+        Printer {
+            piece: Vec::new(alloc),
+            digester: Digester::new(),
+            notices: 0,
+        }
+    }
+
+    /// Hands the piece on.
+    pub fn flush<O: Sink>(&mut self, sink: &mut O) -> Result<(), SettleFault>
+        ensures hands { HandsOn result self.old self.new (O.written sink.old, O.room sink.old)
+            (O.written sink.new, O.room sink.new) }
+        ensures faults { SinkFaults (O.faults sink.old) (O.faults sink.new) (O.room sink.old) (O.room sink.new) result }
+        ensures other { keeper_failed result ≡ false }
+    {
+        match put_all(sink, self.piece.as_slice()) {
+            Ok(()) => {
+                self.digester.add(&self.piece);
+                self.piece.clear();
+                Ok(())
+            }
+            Err(_) => Err(SettleFault::WriteFault),
+        }
+    }
+
+    /// Takes a notice.
+    #[inline(always)]
+    pub fn put<O: Sink>(&mut self, notice: &Notice, sink: &mut O) -> Result<(), SettleFault>
+        requires { self.old.notices + 1 < 2 ^ 64 }
+        ensures says { Says result self.old self.new (O.written sink.old, O.room sink.old)
+            (O.written sink.new, O.room sink.new) (notice.now ∷ []) }
+        ensures faults { SinkFaults (O.faults sink.old) (O.faults sink.new) (O.room sink.old) (O.room sink.new) result }
+        ensures other { keeper_failed result ≡ false }
+    {
+        if put_notice(&mut self.piece, notice).is_err() {
+            return Err(SettleFault::NoMemory);
+        }
+        self.notices += 1;
+        if self.piece.len() < PIECE {
+            return Ok(());
+        }
+        self.flush(sink)
+    }
+
+    /// Takes an alert, where there is an accident.
+    #[inline(always)]
+    fn put_alert<O: Sink>(
+        &mut self,
+        time: u32,
+        vid: u32,
+        alert: Option<u8>,
+        sink: &mut O,
+    ) -> Result<(), SettleFault>
+        requires { self.old.notices + 1 < 2 ^ 64 }
+        ensures says { Says result self.old self.new (O.written sink.old, O.room sink.old)
+            (O.written sink.new, O.room sink.new) (alert_to time vid alert) }
+        ensures faults { SinkFaults (O.faults sink.old) (O.faults sink.new) (O.room sink.old) (O.room sink.new) result }
+        ensures other { keeper_failed result ≡ false }
+    {
+        match alert {
+            Some(seg) => self.put(&Notice::Alert { time, vid, seg }, sink),
+            None => Ok(()),
+        }
+    }
+
+    /// Takes what a report is told: the alert before the toll.
+    pub fn put_told<O: Sink>(
+        &mut self,
+        time: u32,
+        vid: u32,
+        found: Found,
+        sink: &mut O,
+    ) -> Result<(), SettleFault>
+        requires { self.old.notices + 2 < 2 ^ 64 }
+        ensures says { Says result self.old self.new (O.written sink.old, O.room sink.old)
+            (O.written sink.new, O.room sink.new) (told_notices true time vid found) }
+        ensures faults { SinkFaults (O.faults sink.old) (O.faults sink.new) (O.room sink.old) (O.room sink.new) result }
+        ensures other { keeper_failed result ≡ false }
+    {
+        if let Err(fault) = self.put_alert(time, vid, found.alert, sink) {
+            return Err(fault);
+        }
+        let toll = Notice::Toll {
+            vid,
+            time,
+            lav: found.lav,
+            toll: found.toll,
+        };
+        self.put(&toll, sink)
+    }
+
+    /// How many notices were taken, and the digest of the text that was handed on.
+    pub fn end(self) -> (u64, Digest)
+        ensures count { result.0 ≡ self.notices }
+        ensures digest { (text : List ℕ) → Took self.digester text → result.1 ≡ digest_of text }
+    {
+        (self.notices, self.digester.finish())
+    }
+}

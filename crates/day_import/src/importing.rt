@@ -1,0 +1,113 @@
+// Importing a day.
+ghost use Rattle.std.specs.Prelude.{◌≡◌, ◌≤◌, List, ℕ, Some, None, [], true};
+ghost use Rattle.road_time.specs.Reads.{reads};
+ghost use Rattle.keep_office.specs.declared.kept.DayRecord.{DayRecord};
+ghost use Rattle.keep_office.specs.Office.{Office, record_of, last_day};
+ghost use Rattle.road_time.specs.Fits.{IsLimits};
+ghost use Rattle.day_reading.specs.Days.{most_of_day};
+ghost use Rattle.road_io.specs.Within.{ReadsWithin};
+ghost use Rattle.road_io.specs.Blame.{FaultsByPlan, FaultsByRoom};
+ghost use Rattle.day_import.specs.Faults.{FaultsBeside, NamesNoOther, FailsNext};
+ghost use Rattle.day_import.specs.Asked.{AsksBy};
+ghost use Rattle.day_import.specs.Imports.{import_answer, import_found, most_imported, Does, LeavesRest, LeavesAlone};
+ghost use Rattle.day_import.specs.Imports.{LeavesRead, PutsOnce, KeepsAll, KeepsUnlessRead, IsUncompared};
+ghost use Rattle.day_import.specs.Runs.{DoesByCrew, HasStartedJobs, PublishesDay, PublishesUnderSome};
+ghost use Rattle.day_import.specs.Planned.{WorksPlanned};
+ghost use Rattle.day_floor.specs.Operations.{Posted};
+ghost use Rattle.day_import.specs.declared.outcomes.Outcome.TheVariants.{Stored, ReadFault, WriteFault, KeeperFault};
+
+use crate::kept_day::compare;
+use crate::new_day::import_new;
+use crate::outcomes::{Outcome, refused};
+use day_floor::Publisher;
+use day_plan::Plan;
+use keep_office::Keeper;
+use road_io::{Sink, Source};
+use road_time::Limits;
+use std::alloc::Global;
+use std::thread::Threads;
+use ways_crews::Crew;
+
+/// Imports a day: writes the output of its tuples in their order and keeps the day with its amounts, or says why not. A
+/// day that is kept already is compared, and nothing changes.
+pub fn import<S: Source, O: Sink, K: Keeper, C: Crew, P: Publisher, R: Threads>(
+    rt: &R,
+    alloc: Global,
+    day: u32,
+    plan: &Plan,
+    late: u8,
+    limits: &Limits,
+    source: &mut S,
+    sink: &mut O,
+    keeper: &mut K,
+    crew: &mut C,
+    publisher: &mut P,
+) -> Outcome
+    requires low { 70 ≤ day }
+    requires high { day ≤ 1000000 }
+    requires width { (1 ≤ plan.now.width) × (plan.now.width ≤ 64) }
+    requires soon { late ≤ 120 }
+    requires within { IsLimits limits.now }
+    requires idle { C.out crew.old ≡ [] }
+    ensures does { C.exact ≡ true → (bytes : List ℕ) (o : Office) → S.left source.old ≡ Some bytes
+        → K.told keeper.old ≡ Some o
+        → Does K.refuses (import_answer day late limits.now bytes o) o (O.written sink.old) (O.written sink.new)
+        (K.told keeper.new) result }
+    ensures merged { (bytes : List ℕ) (o : Office) → S.left source.old ≡ Some bytes → K.told keeper.old ≡ Some o
+        → DoesByCrew K.refuses (λ found. import_found found day late limits.now bytes o) o (C.answers crew.old)
+        (C.answers crew.new) (O.written sink.old) (O.written sink.new) (K.told keeper.new) result }
+    ensures jobs { (bytes : List ℕ) → S.left source.old ≡ Some bytes
+        → HasStartedJobs plan.now.width limits.now.backlog (reads bytes limits.now late).tuples (C.jobs crew.old)
+        (C.jobs crew.new) result }
+    ensures planned { (bytes : List ℕ) → S.left source.old ≡ Some bytes
+        → WorksPlanned plan.now limits.now.backlog (reads bytes limits.now late).tuples (C.jobs crew.old)
+        (C.jobs crew.new) (C.answers crew.old) (C.answers crew.new) result }
+    ensures published { C.exact ≡ true → (bytes : List ℕ) (o : Office) (was : Posted) → S.left source.old ≡ Some bytes
+        → K.told keeper.old ≡ Some o
+        → P.posted publisher.old ≡ Some was
+        → PublishesDay o.tariffs (reads bytes limits.now late).tuples day limits.now.backlog was
+        (P.posted publisher.new) result }
+    ensures published_by { C.exact ≡ true → (bytes : List ℕ) (was : Posted) → S.left source.old ≡ Some bytes
+        → P.posted publisher.old ≡ Some was
+        → PublishesUnderSome (reads bytes limits.now late).tuples day limits.now.backlog was (P.posted publisher.new)
+        result }
+    ensures puts { (o : Office) → K.told keeper.old ≡ Some o → PutsOnce day o (K.told keeper.new) }
+    ensures keeps { KeepsAll result (K.told keeper.new ≡ K.told keeper.old) }
+    ensures read_first { (bytes : List ℕ) → S.left source.old ≡ Some bytes
+        → KeepsUnlessRead (K.told keeper.old) (K.told keeper.new) (S.left source.new) (S.faults source.old)
+        (S.faults source.new) }
+    ensures whole { (bytes : List ℕ) (kept : DayRecord) → S.left source.old ≡ Some bytes → result ≡ Stored kept
+        → S.left source.new ≡ Some [] }
+    ensures leaves { (bytes : List ℕ) → S.left source.old ≡ Some bytes
+        → LeavesRead result (reads bytes limits.now late).refused bytes (S.left source.new) }
+    ensures alone { LeavesAlone result (source.new ≡ source.old) ((sink.new ≡ sink.old)
+        × (publisher.new ≡ publisher.old) × (crew.new ≡ crew.old)) }
+    ensures rest { (bytes : List ℕ) (o : Office) → S.left source.old ≡ Some bytes → K.told keeper.old ≡ Some o
+        → LeavesRest result (record_of o day) bytes (S.left source.new) }
+    ensures unread { (o : Office) → K.told keeper.old ≡ Some o → record_of o day ≡ None → day ≤ last_day o
+        → source.new ≡ source.old }
+    ensures uncompared { IsUncompared result
+        → ReadsWithin (most_of_day limits.now) (S.left source.old) (S.left source.new) }
+    ensures bounded { (o : Office) → K.told keeper.old ≡ Some o
+        → ReadsWithin (most_imported (record_of o day) limits.now) (S.left source.old) (S.left source.new) }
+    ensures idle { C.out crew.new ≡ [] }
+    ensures crew { C.which crew.new ≡ C.which crew.old }
+    ensures publisher { P.which publisher.new ≡ P.which publisher.old }
+    ensures read_same { S.name source.new ≡ S.name source.old }
+    ensures source { FaultsBeside (S.faults source.old) (S.faults source.new) (S.plan source.old)
+        (result ≡ ReadFault) (NamesNoOther result) }
+    ensures sink { FaultsByRoom (O.faults sink.old) (O.faults sink.new) (O.room sink.old) (O.room sink.new)
+        (result ≡ WriteFault) }
+    ensures asked_first { FailsNext (K.plan keeper.old) → result ≡ KeeperFault }
+    ensures keeper { FaultsByPlan (K.faults keeper.old) (K.faults keeper.new) (K.plan keeper.old)
+        (result ≡ KeeperFault) }
+    ensures asked { AsksBy 3 result (K.plan keeper.old) (K.plan keeper.new) }
+{
+    match keeper.day(day) {
+        Ok(Some(kept)) => compare(alloc, &kept, source),
+        Ok(None) => import_new(
+            rt, alloc, day, plan, late, limits, source, sink, keeper, crew, publisher,
+        ),
+        Err(fault) => refused(fault),
+    }
+}

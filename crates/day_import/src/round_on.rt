@@ -1,0 +1,108 @@
+// A round over the next tuples of a day.
+ghost use Rattle.std.specs.Prelude.{false, ◌≡◌, ◌≤◌, ◌<◌, ◌++◌, [], ℕ, List, Option, IfOk, IfErr, OnOk};
+ghost use Rattle.std.specs.Prelude.{length};
+ghost use Rattle.road_time.specs.declared.day.Limits.{Limits as DayLimits};
+ghost use Rattle.road_time.specs.Day.{sum_of};
+ghost use Rattle.road_io.specs.Plans.{NeverFails};
+ghost use Rattle.road_io.specs.Rooms.{Endless};
+ghost use Rattle.day_reading.specs.Ahead.{has_more, HasReadAhead, HasFailedAhead};
+ghost use Rattle.ways_expressway.specs.declared.finding.Finding.{Finding};
+ghost use Rattle.ways_crews.specs.Told.{CrewTold};
+ghost use Rattle.day_floor.specs.Answers.{history_of};
+ghost use Rattle.day_floor.specs.SettlingBoards.{IsAbreast};
+ghost use Rattle.day_floor.specs.Shares.{State};
+ghost use Rattle.day_floor.specs.Written.{settled_charges};
+ghost use Rattle.day_floor.specs.Floors.{Setting};
+ghost use Rattle.day_import.specs.RoundRuns.{RunsBy, CanFeedAll};
+ghost use Rattle.day_import.specs.Rounds.{IsSettled};
+ghost use Rattle.day_import.specs.Readers.{HasGiven};
+ghost use Rattle.day_import.specs.Halts.{IsHaltedBy};
+ghost use Rattle.day_import.specs.DayFaults.{IsCounted, IsCountedAhead};
+ghost use Rattle.day_import.specs.AskedRounds.{AsksUntil, keeper_stopped};
+ghost use Rattle.day_import.specs.declared.fault.DayFault.TheVariants.{ReadFault, WriteFault, KeeperFault};
+
+use crate::begun::Import;
+use crate::fault::{DayFault, reading_stopped, round_stopped};
+use crate::rounding::round;
+use day_floor::Publisher;
+use day_reading::DayAhead;
+use keep_office::Keeper;
+use road_io::{Sink, Source};
+use road_time::Tuple;
+use std::thread::Threads;
+use ways_crews::Crew;
+
+/// A round over the next tuples of a day, which were read: as many as there is room for, or all that were left. Those
+/// after them are read meanwhile. It answers how many are settled. Where a read failed and memory ran out, the read is
+/// to blame.
+pub fn next_round<C: Crew, S: Source, K: Keeper, O: Sink, P: Publisher, R: Threads>(
+    rt: &R,
+    run: &mut Import<C::Ticket>,
+    crew: &mut C,
+    width: u8,
+    ahead: &mut DayAhead,
+    source: &mut S,
+    these: &mut Vec<Tuple>,
+    day: u32,
+    keeper: &mut K,
+    sink: &mut O,
+    publisher: &mut P,
+) -> Result<u64, DayFault>
+    requires width { width ≡ run.old.floor.inboxes.width }
+    requires none { run.old.tickets.items ≡ [] }
+    requires unfailed { HasFailedAhead ahead.old → ⊥ }
+    requires full { length these.old.items < run.old.floor.limits.backlog → has_more ahead.old ≡ false }
+    requires runs { (e : Setting) × (told : Option CrewTold) × (answered : Option (List Finding)) × (s : State)
+        × RunsBy C.Crew e told answered run.old crew.old s × CanFeedAll run.old.floor.limits s these.old.items
+        × (e.number ≡ day) × (e.history ≡ history_of (K.told keeper.old))
+        × IsAbreast (P.posted publisher.old) (sum_of (settled_charges s)) × (s.settled ≡ length s.fed) }
+    ensures width { run.new.floor.inboxes.width ≡ run.old.floor.inboxes.width }
+    ensures limits { run.new.floor.limits ≡ run.old.floor.limits }
+    ensures crew { C.which crew.new ≡ C.which crew.old }
+    ensures none { OnOk result (run.new.tickets.items ≡ []) }
+    ensures done { IfOk result (λ n. (e : Setting) (told : Option CrewTold) (answered : Option (List Finding))
+        (s : State) → RunsBy C.Crew e told answered run.old crew.old s
+        → CanFeedAll run.old.floor.limits s these.old.items → e.number ≡ day
+        → e.history ≡ history_of (K.told keeper.old) → (now : State)
+        × IsSettled run.old.floor.inboxes.width run.old.floor.limits.backlog e s these.old.items (O.written sink.old)
+        (O.written sink.new) (P.posted publisher.old) (P.posted publisher.new) now × (n ≡ now.settled)
+        × RunsBy C.Crew e told answered run.new crew.new now
+        × IsAbreast (P.posted publisher.new) (sum_of (settled_charges now))) }
+    ensures given { OnOk result ((limits : DayLimits) (late : ℕ)
+        → HasGiven limits late these.new.items ahead.old ahead.new (S.left source.old) (S.left source.new)) }
+    ensures few { OnOk result (length these.new.items ≤ run.old.floor.limits.backlog) }
+    ensures ended { OnOk result (has_more ahead.old ≡ false → these.new.items ≡ []) }
+    ensures full { OnOk result (length these.new.items < run.old.floor.limits.backlog → has_more ahead.new ≡ false) }
+    ensures halted { IfErr result (λ fault. (e : Setting) (told : Option CrewTold) (answered : Option (List Finding))
+        (late : ℕ) (s : State) → RunsBy C.Crew e told answered run.old crew.old s
+        → CanFeedAll run.old.floor.limits s these.old.items → e.number ≡ day
+        → e.history ≡ history_of (K.told keeper.old)
+        → IsHaltedBy C.Crew fault e told run.old.floor.inboxes.width run.old.floor.limits late s (s.fed ++
+        these.old.items) ahead.old (S.left source.old) (O.written sink.old) (O.written sink.new) (P.posted
+        publisher.old) (P.posted publisher.new) run.new crew.new) }
+    ensures unfailed { OnOk result (HasFailedAhead ahead.new → ⊥) }
+    ensures read { (lines : ℕ) (bytes : List ℕ) → HasReadAhead ahead.old lines (S.left source.old) bytes
+        → HasReadAhead ahead.new lines (S.left source.new) bytes }
+    ensures source_same { S.name source.new ≡ S.name source.old }
+    ensures publisher { P.which publisher.new ≡ P.which publisher.old }
+    ensures same { K.told keeper.new ≡ K.told keeper.old }
+    ensures source { IsCountedAhead ReadFault (S.faults source.old) (S.faults source.new)
+        (NeverFails (S.plan source.old)) (NeverFails (S.plan source.new)) result }
+    ensures sink { IsCounted WriteFault (O.faults sink.old) (O.faults sink.new) (O.room sink.old ≡ Endless)
+        (O.room sink.new ≡ Endless) result }
+    ensures keeper { IsCounted KeeperFault (K.faults keeper.old) (K.faults keeper.new) (NeverFails (K.plan keeper.old))
+        (NeverFails (K.plan keeper.new)) result }
+    ensures asked { AsksUntil (keeper_stopped result) (K.plan keeper.old) (K.plan keeper.new) }
+{
+    let room = run.floor.room() as usize;
+    let mut stop = None;
+    match round(
+        rt, run, crew, width, ahead, source, room, these, &mut stop, day, keeper, sink, publisher,
+    ) {
+        Err(fault) => Err(round_stopped(fault, stop)),
+        Ok(settled) => match stop {
+            None => Ok(settled),
+            Some(stop) => Err(reading_stopped(stop)),
+        },
+    }
+}

@@ -1,0 +1,10 @@
+mod HistoryLaws
+mod AskedAmountLaws
+pub mod LineLaws
+pub mod AmountLaws
+pub mod JudgeLaws
+pub mod ReadLaws
+pub mod KeepLaws
+pub mod PutLaws
+pub mod CauseLaws
+pub mod AskedLaws

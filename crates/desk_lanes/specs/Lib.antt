@@ -1,3 +1,0 @@
--- The desk over the loops of a server, beside the words of `toll_desk` and `lane_loops`.
-
-pub mod Attends

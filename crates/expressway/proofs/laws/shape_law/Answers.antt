@@ -1,5 +1,0 @@
-use Rattle.expressway.proofs.ShapeLaws.{shaped}
-use Rattle.expressway.proofs.laws.shape_law.Goals as goal
-
-pub returns : goal.returns
-returns c = λ job done is. shaped job done is

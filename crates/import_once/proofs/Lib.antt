@@ -1,6 +1,0 @@
-mod WorkLaws
-mod FinishLaws
-mod JobLaws
-mod RepeatLaws
-mod BlameLaws
-mod AskedLaws

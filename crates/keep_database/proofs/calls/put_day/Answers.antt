@@ -1,0 +1,66 @@
+use Rattle.std.proofs.Common.{refl, inl, sym, subst, arith}
+use Rattle.sqlite.specs.Effect.{Database}
+use Rattle.sqlite.specs.Held.{state}
+use Rattle.sqlite.specs.State.{HasCleanDisk}
+use Rattle.keep_office.specs.Kept.{IsLater, with_day}
+use Rattle.keep_tables.specs.Stands.{HasOffice}
+use Rattle.keep_writes.proofs.GrowLaws.{err_stands}
+use Rattle.keep_database.proofs.StandLaws.{put_stands, put_lasts, always}
+use Rattle.keep_database.proofs.CauseSteps.{causes_after, told_after, on_err}
+use Rattle.keep_writes.specs.Writes.{WritesDay}
+use Rattle.keep_writes.proofs.CauseLaws.{err_handed, cause_idle}
+use Rattle.keep_database.proofs.calls.put_day.Goals as goal
+
+pub returns-in_err-ready-clause-put : goal.returns-in_err-ready-clause-put
+returns-in_err-ready-clause-put g c clean here o stands fit =
+    err_stands (state g.S.Store c.args.conn.now) (state g.S.Store c.ready.new.conn) c.from_residual.result _ o
+    c.from_residual.ensures.0 here stands (c.in_err-ready.ensures.kept clean)
+
+pub returns-in_err-ready-clause-why : goal.returns-in_err-ready-clause-why
+returns-in_err-ready-clause-why g c clean o stands =
+    err_handed c.from_residual.result c.in_err-ready.field-0.0 _ c.from_residual.ensures.1
+    (cause_idle g.S.Store (WritesDay c.args.kept.now c.args.rows.now) c.args.conn.now c.ready.new.conn
+    c.in_err-ready.field-0.0 (c.in_err-ready.ensures.why clean o stands))
+
+pub returns-clause-put : goal.returns-clause-put
+returns-clause-put g c clean here o stands fit =
+    let mid = state g.S.Store c.ready.new.conn in
+    let early : HasCleanDisk mid = omega (arith, c.put_day.ensures.crash.clean) in
+    let there = c.in_ok-ready.ensures.stands early o stands in
+    let kept = (c.ready.ensures.kept early).committed there.0 in
+    put_stands (state g.S.Store c.args.conn.now) mid (state g.S.Store c.put_day.new.conn) c.put_day.result _ o here kept
+    stands
+    (c.put_day.ensures.put clean o (subst (λ (db : Database). HasOffice db o) (sym kept) there.1) fit)
+    (c.put_day.ensures.refused clean)
+
+pub returns-clause-why : goal.returns-clause-why
+returns-clause-why g c clean o stands =
+    causes_after g.S.Store c.args.conn.now c.ready.new.conn c.put_day.new.conn
+    (c.ready.ensures.kept (omega (arith, c.put_day.ensures.crash.clean))) c.ready.ensures.survives
+    (WritesDay c.args.kept.now c.args.rows.now) c.put_day.result
+    (c.put_day.ensures.why clean)
+
+pub returns-clause-crash : goal.returns-clause-crash
+returns-clause-crash g c =
+    put_lasts (state g.S.Store c.args.conn.now) (state g.S.Store c.ready.new.conn) (state g.S.Store c.put_day.new.conn)
+    (IsLater c.args.kept.now.day) (with_day c.args.kept.now c.args.rows.now)
+    (λ early o stands. c.in_ok-ready.ensures.stands early o stands) c.ready.ensures.kept c.ready.ensures.survives
+    c.put_day.ensures.crash
+
+pub returns-clause-version : goal.returns-clause-version
+returns-clause-version g c clean =
+    always c.put_day.result _
+    (record {
+      now = c.ready.new.conn;
+      shows = c.in_ok-ready.ensures.version (omega (arith, c.put_day.ensures.crash.clean));
+    })
+
+pub returns-in_err-ready-clause-told : goal.returns-in_err-ready-clause-told
+returns-in_err-ready-clause-told g c clean = on_err c.from_residual.result _ (inl refl)
+
+pub returns-clause-told : goal.returns-clause-told
+returns-clause-told g c clean =
+    told_after g.S.Store (WritesDay c.args.kept.now c.args.rows.now) c.args.conn.now c.ready.new.conn
+    c.put_day.new.conn
+    (c.ready.ensures.kept (omega (arith, c.put_day.ensures.crash.clean))) c.ready.ensures.survives c.put_day.result _ _
+    (c.put_day.ensures.told clean)

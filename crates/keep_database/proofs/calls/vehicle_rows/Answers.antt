@@ -1,0 +1,52 @@
+use Rattle.std.proofs.Common.{sym, subst, arith, Vec, Global}
+use Rattle.sqlite.specs.Effect.{Database}
+use Rattle.sqlite.specs.Held.{state}
+use Rattle.sqlite.specs.State.{HasCleanDisk}
+use Rattle.road_time.specs.declared.day.SpentRow.{SpentRow}
+use Rattle.keep_office.specs.Office.{vehicle_rows_between}
+use Rattle.keep_tables.specs.Stands.{HasOffice}
+use Rattle.keep_tables.proofs.PutLaws.{survives_both}
+use Rattle.keep_tables.proofs.StepLaws.{kept_then}
+use Rattle.keep_writes.specs.Causes.{WasRefusedIn}
+use Rattle.keep_database.proofs.GiveLaws.{refused_so, gives_weaker}
+use Rattle.keep_database.proofs.CauseSteps.{failure_is, failure_after}
+use Rattle.keep_database.proofs.StandLaws.{always}
+use Rattle.keep_database.proofs.calls.vehicle_rows.Goals as goal
+
+pub returns-in_err-ready-clause-gives : goal.returns-in_err-ready-clause-gives
+returns-in_err-ready-clause-gives g c clean o stands =
+    refused_so (WasRefusedIn g.S.Store c.args.conn.now c.ready.new.conn) (λ (v : Vec SpentRow Global). v.items) c.from_residual.result
+    c.in_err-ready.field-0.0 (vehicle_rows_between o c.args.vid c.args.from c.args.to) c.from_residual.ensures.1
+    (λ is. failure_is g.S.Store c.args.conn.now c.ready.new.conn _ (c.in_err-ready.ensures.why clean o stands) is)
+
+pub returns-clause-kept : goal.returns-clause-kept
+returns-clause-kept g c clean =
+    let mid = state g.S.Store c.ready.new.conn in
+    let early : HasCleanDisk mid = omega (arith, c.vehicle_rows.ensures.survives.clean) in
+    kept_then (state g.S.Store c.args.conn.now) mid (state g.S.Store c.vehicle_rows.new.conn)
+    (c.ready.ensures.kept early) (c.vehicle_rows.ensures.kept clean)
+
+pub returns-clause-gives : goal.returns-clause-gives
+returns-clause-gives g c clean o stands =
+    let early : HasCleanDisk (state g.S.Store c.ready.new.conn) =
+    omega (arith, c.vehicle_rows.ensures.survives.clean) in
+    let there = c.in_ok-ready.ensures.stands early o stands in
+    gives_weaker (WasRefusedIn g.S.Store c.ready.new.conn c.vehicle_rows.new.conn)
+    (WasRefusedIn g.S.Store c.args.conn.now c.vehicle_rows.new.conn) (λ (v : Vec SpentRow Global). v.items) c.vehicle_rows.result (vehicle_rows_between o c.args.vid c.args.from c.args.to)
+    (failure_after g.S.Store c.args.conn.now c.ready.new.conn c.vehicle_rows.new.conn (c.ready.ensures.kept early)
+    c.ready.ensures.survives)
+    (c.vehicle_rows.ensures.gives clean o
+    (subst (λ (db : Database). HasOffice db o) (sym ((c.ready.ensures.kept early).committed there.0)) there.1))
+
+pub returns-clause-survives : goal.returns-clause-survives
+returns-clause-survives g c =
+    survives_both (state g.S.Store c.args.conn.now) (state g.S.Store c.ready.new.conn)
+    (state g.S.Store c.vehicle_rows.new.conn) c.ready.ensures.survives c.vehicle_rows.ensures.survives
+
+pub returns-clause-version : goal.returns-clause-version
+returns-clause-version g c clean =
+    always c.vehicle_rows.result _
+    (record {
+      now = c.ready.new.conn;
+      shows = c.in_ok-ready.ensures.version (omega (arith, c.vehicle_rows.ensures.survives.clean));
+    })

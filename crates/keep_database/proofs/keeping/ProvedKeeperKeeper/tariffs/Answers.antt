@@ -1,0 +1,44 @@
+use Rattle.std.proofs.Common.{◌≡◌, true, IsTrue, sym, ◌∙◌}
+use Rattle.sqlite.specs.Held.{state}
+use Rattle.sqlite.specs.State.{HasCleanDisk}
+use Rattle.sqlite.proofs.StateLemmas.{clean_if_open}
+use Rattle.road_time.specs.Rates.{Tariffs}
+use Rattle.keep_tables.proofs.StandLaws.{told_sound}
+use Rattle.keep_writes.specs.Causes.{WasRefused, WasRefusedIn}
+use Rattle.keep_writes.proofs.CauseLaws.{was_refused}
+use Rattle.keep_database.proofs.GiveLaws.{gives_weaker, cause_given}
+use Rattle.keep_database.proofs.TellLaws.{reads_tell}
+use Rattle.keep_database.proofs.keeping.ProvedKeeperKeeper.tariffs.Goals as goal
+
+pub returns-clause-state : goal.returns-clause-state
+returns-clause-state g c =
+    let old = state g.S.Store c.args.self.now.conn in
+    let new = state g.S.Store c.tariffs-answer.new.conn in
+    let opens = λ (is : g.S.Steady.is_steady ≡ true). let h : IsTrue new.is_open =
+    g.met.S.Steady.open is c.tariffs-answer.new.conn.store in h in
+    let clean = λ (is : g.S.Steady.is_steady ≡ true). let h : HasCleanDisk new =
+    clean_if_open (g.S.Store.view c.tariffs-answer.new.conn.store)
+    (g.met.S.Store.shut_if_dirty c.tariffs-answer.new.conn.store) (opens is) in h in
+    rw c.count.ensures.same
+    (reads_tell g.S.Steady.is_steady old new (WasRefusedIn g.S.Store c.args.self.now.conn c.tariffs-answer.new.conn) (λ (x : Tariffs). x) c.tariffs-answer.result
+    (λ o. o.tariffs) opens clean c.tariffs-answer.ensures.kept c.tariffs-answer.ensures.gives)
+
+pub returns-clause-sound : goal.returns-clause-sound
+returns-clause-sound g c = told_sound _ _
+
+pub returns-clause-gives : goal.returns-clause-gives
+returns-clause-gives g c clean o stands =
+    rw c.count.ensures.same
+    (gives_weaker (WasRefusedIn g.S.Store c.args.self.now.conn c.tariffs-answer.new.conn) (WasRefused g.S.Store) (λ (x : Tariffs). x) c.tariffs-answer.result o.tariffs
+    (was_refused g.S.Store c.args.self.now.conn c.tariffs-answer.new.conn) (c.tariffs-answer.ensures.gives clean o stands))
+
+pub returns-clause-open : goal.returns-clause-open
+returns-clause-open g c clean = rw c.count.ensures.same (c.tariffs-answer.ensures.open clean)
+
+pub returns-clause-why : goal.returns-clause-why
+returns-clause-why g c clean o stands failed =
+    cause_given (WasRefusedIn g.S.Store c.args.self.now.conn c.tariffs-answer.new.conn) (λ (x : Tariffs). x) c.tariffs-answer.result o.tariffs
+    (c.tariffs-answer.ensures.gives clean o stands) (sym c.count.ensures.same ∙ failed)
+
+pub returns-clause-version : goal.returns-clause-version
+returns-clause-version g c clean = rw c.count.ensures.same (c.tariffs-answer.ensures.version clean)

@@ -1,0 +1,37 @@
+use Rattle.std.proofs.Common.{◌∙◌, ◌&&◌, nat_le, Vec, Global, refl}
+use Rattle.std.proofs.lemmas.List.Kept.{IsStrictlySortedBy-filter}
+use Rattle.sqlite_keyed.proofs.ListLemmas.{all-filter}
+use Rattle.road_time.specs.declared.day.SpentRow.{SpentRow}
+use Rattle.keep_office.specs.Office.{row_cmp, rows_between}
+use Rattle.keep_tables.specs.Stands.{FitsSpent}
+use Rattle.keep_tables.proofs.AskLaws.{list_spent_asks}
+use Rattle.keep_writes.specs.Causes.{WasRefusedIn}
+use Rattle.keep_database.proofs.GiveLaws.{gives_so, refused_so}
+use Rattle.keep_database.proofs.LookLaws.{rows_look}
+use Rattle.keep_database.proofs.CauseSteps.{failure_is}
+use Rattle.keep_database.proofs.StandLaws.{always}
+use Rattle.keep_database.proofs.reads.rows.Goals as goal
+
+pub look-requires : goal.look-requires
+look-requires g c = (list_spent_asks, (6, refl, refl))
+
+pub returns-in_err-found-clause-gives : goal.returns-in_err-found-clause-gives
+returns-in_err-found-clause-gives g c clean o has =
+    refused_so (WasRefusedIn g.S.Store c.args.conn.now c.look.new.conn) (λ (v : Vec SpentRow Global). v.items) c.from_residual.result
+    c.in_err-found.field-0.0 (rows_between o c.args.from c.args.to) c.from_residual.ensures.1
+    (λ is. failure_is g.S.Store c.args.conn.now c.look.new.conn _ (c.in_err-found.ensures.why clean) is)
+
+pub returns-clause-gives : goal.returns-clause-gives
+returns-clause-gives g c clean o has =
+    gives_so (WasRefusedIn g.S.Store c.args.conn.now c.look.new.conn) (λ (v : Vec SpentRow Global). v.items) c.amounts_of.result
+    (rows_between o c.args.from c.args.to)
+    (c.amounts_of.ensures.gives (rows_between o c.args.from c.args.to)
+    (all-filter FitsSpent (λ r. nat_le c.args.from r.day && nat_le r.day c.args.to) o.rows has.fits.rows)
+    (IsStrictlySortedBy-filter row_cmp (λ r. nat_le c.args.from r.day && nat_le r.day c.args.to) o.rows
+    has.sound.rows_rise)
+    (c.deref.ensures.value
+    ∙ rows_look g.S.Store c.args.conn.now c.look.new.conn o has c.in_ok-found.found.items c.args.from c.args.to
+    (rw (c.params-to_sql.ensures, c.params-to_sql-2.ensures) at (c.in_ok-found.ensures.shown clean))))
+
+pub returns-clause-open : goal.returns-clause-open
+returns-clause-open g c clean = always c.amounts_of.result _ (c.in_ok-found.ensures.shown clean).is_open

@@ -1,0 +1,125 @@
+// A keeper on a connection.
+ghost use Rattle.std.specs.Prelude.{◌≡◌, ◌↔◌, true, Some, None, Ok, Err, IsOk, IsTrue, MatchResult};
+ghost use Rattle.sqlite.specs.Held.{state};
+ghost use Rattle.sqlite.specs.State.{HasCleanDisk, KeepsCommit, Survives};
+ghost use Rattle.sqlite.specs.declared.error.Error.TheVariants.{SqliteFailure};
+ghost use Rattle.sqlite.specs.declared.error.ErrorCode.TheVariants.{OutOfMemory};
+ghost use Rattle.keep_office.specs.Office.{Office};
+ghost use Rattle.keep_office.specs.declared.kept.KeepFault.TheVariants.{NoMemory};
+ghost use Rattle.keep_tables.specs.Stands.{HasOffice, StandsForOffice};
+ghost use Rattle.keep_tables.specs.Told.{told_in};
+ghost use Rattle.keep_writes.specs.Growth.{CommitsSame};
+ghost use Rattle.keep_writes.specs.Objects.{MayBeMade};
+ghost use Rattle.keep_database.specs.Looks.{ShowsSecond};
+
+use crate::steady::Steady;
+use crate::versions::has_second;
+use keep_office::KeepFault;
+use keep_writes::make;
+use keep_writes::refusals::refusal;
+use sqlite::{Connection, Error};
+use std::alloc::Global;
+
+/// A keeper on a connection, which counts the calls that failed.
+#[derive(Drop)]
+pub struct ProvedKeeper<S: Steady> {
+    pub(crate) alloc: Global,
+    pub(crate) conn: Connection<S>,
+    pub(crate) faults: u64,
+    pub(crate) unmade: Option<KeepFault>,
+    pub(crate) refused: Option<Error>,
+}
+
+/// Why tables could not be made, none where they were.
+fn why_unmade(made: Result<(), Error>) -> Option<KeepFault>
+    ensures none { result ≡ None → IsOk made }
+    ensures made { IsOk made → result ≡ None }
+    ensures memory { (result ≡ Some NoMemory) ↔ (made ≡ Err (SqliteFailure OutOfMemory)) }
+{
+    match made {
+        Ok(()) => None,
+        Err(error) => Some(refusal(error)),
+    }
+}
+
+/// The database's error, none where the tables were made.
+fn error_of(made: Result<(), Error>) -> Option<Error>
+    ensures { MatchResult made (λ _. result ≡ None) (λ e. result ≡ Some e) }
+{
+    match made {
+        Ok(()) => None,
+        Err(error) => Some(error),
+    }
+}
+
+impl<S: Steady> ProvedKeeper<S> {
+    /// The keeper on a connection. What is under way in it is undone, and the tables are made where nothing is listed
+    /// or version 1 exactly; a database that lists anything else stays as it is. Where that is refused, `unmade` says
+    /// why, and all calls are refused until the connection is adopted anew.
+    pub fn adopt(alloc: Global, connection: Connection<S>) -> ProvedKeeper<S>
+        ensures tells { S.Steady.is_steady ≡ true → (o : Office)
+            → StandsForOffice (state S.Store connection).committed o
+            → told_in S.Steady.is_steady (state S.Store result.conn).committed ≡ Some o }
+        ensures stands { HasCleanDisk (state S.Store result.conn) → IsTrue (state S.Store result.conn).is_open
+            → (o : Office) → StandsForOffice (state S.Store connection).committed o
+            → StandsForOffice (state S.Store result.conn).committed o }
+        ensures made { HasCleanDisk (state S.Store result.conn) → IsTrue (state S.Store result.conn).is_open
+            → result.unmade ≡ None → (o : Office) → StandsForOffice (state S.Store connection).committed o
+            → HasOffice (state S.Store result.conn).committed o }
+        ensures left { HasCleanDisk (state S.Store result.conn) → ¬ MayBeMade (state S.Store connection).committed
+            → KeepsCommit (state S.Store connection) (state S.Store result.conn) }
+        ensures crash { Survives (state S.Store connection) (state S.Store result.conn) (CommitsSame
+            (state S.Store connection).committed) }
+        ensures faultless { result.faults ≡ 0 }
+        ensures quiet { result.unmade ≡ None → result.refused ≡ None }
+        ensures told { result.refused ≡ None → result.unmade ≡ None }
+    {
+        let mut conn = connection;
+        let made = make(&mut conn, alloc);
+        ProvedKeeper {
+            alloc,
+            conn,
+            faults: 0,
+            unmade: why_unmade(made),
+            refused: error_of(made),
+        }
+    }
+
+    /// Why the tables could not be made as the connection was adopted, none where they were.
+    pub fn unmade(&self) -> Option<KeepFault>
+        ensures { result ≡ self.now.unmade }
+    {
+        self.unmade
+    }
+
+    /// The error with which the database refused to make the tables, or a put since.
+    pub fn refused(&self) -> Option<Error>
+        ensures { result ≡ self.now.refused }
+    {
+        self.refused
+    }
+
+    /// Whether the database has version 2, where it can be asked.
+    pub fn has_second(&mut self) -> Result<bool, KeepFault>
+        ensures kept { HasCleanDisk (state S.Store self.new.conn)
+            → KeepsCommit (state S.Store self.old.conn) (state S.Store self.new.conn) }
+        ensures second { HasCleanDisk (state S.Store self.new.conn) → result ≡ Ok true
+            → ShowsSecond S.Store self.old.conn self.new.conn }
+    {
+        has_second(&mut self.conn)
+    }
+
+    /// The connection.
+    pub fn give_up(self) -> Connection<S>
+        ensures { result ≡ self.conn }
+    {
+        let ProvedKeeper {
+            alloc: _,
+            conn,
+            faults: _,
+            unmade: _,
+            refused: _,
+        } = self;
+        conn
+    }
+}

@@ -1,0 +1,76 @@
+-- What is ready for a call, and what was made of it.
+use Rattle.std.proofs.Common.{◌≡◌, ◌⊎◌, inl, inr, Bool, true, false, Option, Some, None, Result, Ok, Err, IsErr, refl}
+use Rattle.std.proofs.Common.{sym, subst, IfErr}
+use Rattle.sqlite_trees.specs.declared.error.StoreError.{StoreError}
+use Rattle.sqlite.specs.State.{State}
+use Rattle.keep_office.specs.declared.kept.KeepFault.{KeepFault}
+use Rattle.keep_office.specs.Office.{Office}
+use Rattle.keep_files.specs.declared.kept.Kept.{Kept}
+use Rattle.keep_files.specs.declared.kept.Kept.TheVariants.{Trees, Whole}
+use Rattle.keep_files.specs.Asked.{IsReady, IsReadyToRead, IsNotWhole, IsMade, IsStored, IsPut, AskedToPut}
+use Rattle.keep_files.specs.Asked.{IsToldAs, HoldsFound}
+
+module _ {T K : Type 0} (found : T → Type 0) (opened : K → Type 0) where
+  -- a keeper that is ready is the one that is held, or was opened
+  pub ready_whole : (old : Option (Kept T K)) (k : K) → IsReadyToRead found opened old (Whole k) → IsReady opened old k
+  ready_whole None k h = h
+  ready_whole (Some (Trees t)) k h = absurd (cc)
+  ready_whole (Some (Whole j)) k h = cc
+
+  -- where trees are ready, no keeper is held
+  pub ready_trees : (old : Option (Kept T K)) (t : T) → IsReadyToRead found opened old (Trees t) → IsNotWhole old
+  ready_trees None t h = tt
+  ready_trees (Some (Trees u)) t h = tt
+  ready_trees (Some (Whole k)) t h = absurd (cc)
+
+-- where nothing is held, no keeper is
+pub none_held : {T K : Type 0} (old : Option (Kept T K)) → old ≡ None → IsNotWhole old
+none_held None h = tt
+none_held (Some k) h = absurd (cc)
+
+module _ {T K : Type 0} (view : K → State) (cause : K → K → Type 0) (asks : Office → Type 0) (next : Office → Office)
+    (held : Option (Kept T K)) (result : Result (Unit {0}) KeepFault) where
+  -- a call was made of a keeper that is known to be fit
+  pub made_of : (may : K → Type 0) (kept : K) → may kept
+      → IsMade (λ k. k ≡ kept) view cause true asks (λ o u. Unit {0}) next held result
+      → IsMade may view cause true asks (λ o u. Unit {0}) next held result
+  made_of may kept fit made = record {
+    before = made.before;
+    after = made.after;
+    ready = subst may (sym made.ready) fit;
+    does = made.does;
+    kept = made.kept;
+  }
+
+module _ {T K X : Type 0} (found : T → Type 0) (see : X → X → Result Bool StoreError → Type 0) (view : K → State)
+    (cause : K → K → Type 0) (asks : Office → Type 0) (next : Office → Office) (held : Option (Kept T K))
+    (result : Result (Unit {0}) KeepFault) where
+  -- a keeper that was opened is ready where none was held
+  pub made_ready : (opened : K → Type 0) (old : Option (Kept T K)) → IsNotWhole old
+      → IsPut opened held found see view cause asks next result
+      → AskedToPut old held opened found see view cause asks next result
+  made_ready opened old none (inl made) = inl (record {
+    before = made.before;
+    after = made.after;
+    ready = fresh old none made.before made.ready;
+    does = made.does;
+    kept = made.kept;
+  })
+    where
+      fresh : (was : Option (Kept T K)) → IsNotWhole was → (k : K) → opened k → IsReady opened was k
+      fresh None apart k h = h
+      fresh (Some (Trees t)) apart k h = h
+      fresh (Some (Whole j)) apart k h = absurd apart
+  made_ready opened old none (inr other) = inr (none, other)
+
+  -- a call was made of a store
+  pub stored_so : (opened : K → Type 0) (before after : X) (answer : Result Bool StoreError) → see before after answer
+      → IsToldAs answer result → HoldsFound found held → IsPut opened held found see view cause asks next result
+  stored_so opened before after answer stores told kept = inr (inl (record {
+    before = before;
+    after = after;
+    answer = answer;
+    stores = stores;
+    told = told;
+    kept = kept;
+  }))

@@ -1,0 +1,4 @@
+pub mod DoesLaws
+pub mod AskedLaws
+pub mod AnewLaws
+pub mod Moves

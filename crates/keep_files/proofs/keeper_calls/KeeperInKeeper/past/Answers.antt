@@ -1,0 +1,4 @@
+use Rattle.keep_files.proofs.keeper_calls.KeeperInKeeper.past.Goals as goal
+
+pub returns-clause-does : goal.returns-clause-does
+returns-clause-does g c = c.read.ensures.does

@@ -1,0 +1,16 @@
+use Rattle.std.proofs.Common.{Option}
+use Rattle.keep_office.specs.declared.kept.PastRecord.{PastRecord}
+use Rattle.keep_office.specs.Office.{Office}
+use Rattle.sqlite.specs.Held.{state}
+use Rattle.keep_writes.specs.Causes.{WasRefused, WasRefusedIn}
+use Rattle.keep_files.proofs.DoesLaws.{read_does}
+use Rattle.keep_files.proofs.reads.PastReading.ask.Goals as goal
+
+pub returns-clause-does : goal.returns-clause-does
+returns-clause-does g c =
+    read_does (WasRefused g.S.Store) (WasRefusedIn g.S.Store c.args.kept.now.conn c.past.new.self.conn)
+    (λ (x : Option PastRecord). x)
+    (λ (o : Office). o.past)
+    (state g.S.Store c.args.kept.now.conn) (state g.S.Store c.past.new.self.conn)
+    c.past.result
+    c.past.ensures.kept c.past.ensures.gives c.past.ensures.why c.past.ensures.crash

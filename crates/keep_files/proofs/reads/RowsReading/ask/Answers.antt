@@ -1,0 +1,16 @@
+use Rattle.std.proofs.Common.{Vec, Global}
+use Rattle.road_time.specs.declared.day.SpentRow.{SpentRow}
+use Rattle.keep_office.specs.Office.{rows_between}
+use Rattle.sqlite.specs.Held.{state}
+use Rattle.keep_writes.specs.Causes.{WasRefused, WasRefusedIn}
+use Rattle.keep_files.proofs.DoesLaws.{read_does}
+use Rattle.keep_files.proofs.reads.RowsReading.ask.Goals as goal
+
+pub returns-clause-does : goal.returns-clause-does
+returns-clause-does g c =
+    read_does (WasRefused g.S.Store) (WasRefusedIn g.S.Store c.args.kept.now.conn c.rows.new.self.conn)
+    (λ (v : Vec SpentRow Global). v.items)
+    (λ o. rows_between o c.args.self.from c.args.self.to)
+    (state g.S.Store c.args.kept.now.conn) (state g.S.Store c.rows.new.self.conn)
+    c.rows.result
+    c.rows.ensures.kept c.rows.ensures.gives c.rows.ensures.why c.rows.ensures.crash

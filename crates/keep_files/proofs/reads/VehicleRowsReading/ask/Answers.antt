@@ -1,0 +1,16 @@
+use Rattle.std.proofs.Common.{Vec, Global}
+use Rattle.road_time.specs.declared.day.SpentRow.{SpentRow}
+use Rattle.keep_office.specs.Office.{vehicle_rows_between}
+use Rattle.sqlite.specs.Held.{state}
+use Rattle.keep_writes.specs.Causes.{WasRefused, WasRefusedIn}
+use Rattle.keep_files.proofs.DoesLaws.{read_does}
+use Rattle.keep_files.proofs.reads.VehicleRowsReading.ask.Goals as goal
+
+pub returns-clause-does : goal.returns-clause-does
+returns-clause-does g c =
+    read_does (WasRefused g.S.Store) (WasRefusedIn g.S.Store c.args.kept.now.conn c.vehicle_rows.new.self.conn)
+    (λ (v : Vec SpentRow Global). v.items)
+    (λ o. vehicle_rows_between o c.args.self.vid c.args.self.from c.args.self.to)
+    (state g.S.Store c.args.kept.now.conn) (state g.S.Store c.vehicle_rows.new.self.conn)
+    c.vehicle_rows.result
+    c.vehicle_rows.ensures.kept c.vehicle_rows.ensures.gives c.vehicle_rows.ensures.why c.vehicle_rows.ensures.crash

@@ -1,0 +1,116 @@
+-- What is held of a file, and how a call of it is made.
+use Rattle.std.specs.Prelude.{◌≡◌, ◌⊎◌, Bool, true, false, Option, Some, None, Result, Ok, Err, IsOk, IsErr}
+use Rattle.sqlite_trees.specs.declared.error.StoreError.{StoreError}
+use Rattle.sqlite_trees.specs.declared.error.StoreError.TheVariants.{OutOfMemory, Io, Corrupt, Full, Broken, Unstorable}
+use Rattle.sqlite.specs.State.{State}
+use Rattle.keep_office.specs.declared.kept.KeepFault.{KeepFault}
+use Rattle.keep_office.specs.declared.kept.KeepFault.TheVariants.{Failed, NoMemory}
+use Rattle.keep_office.specs.Office.{Office}
+use Rattle.keep_tables.specs.Steps.{FitsAny}
+use Rattle.keep_files.specs.declared.kept.Kept.{Kept}
+use Rattle.keep_files.specs.declared.kept.Kept.TheVariants.{Trees, Whole}
+use Rattle.keep_files.specs.Does.{Does}
+
+-- the keeper that is called is the one that is held, or one that was opened for the call
+abbrev pub IsReady : {T K : Type 0} → (K → Type 0) → Option (Kept T K) → K → Type 0
+IsReady opened None before = opened before
+IsReady opened (Some (Trees trees)) before = opened before
+IsReady opened (Some (Whole kept)) before = before ≡ kept
+
+-- trees or a keeper were found in a file
+abbrev pub IsFound : {T K : Type 0} → (T → Type 0) → (K → Type 0) → Kept T K → Type 0
+IsFound found opened (Trees trees) = found trees
+IsFound found opened (Whole kept) = opened kept
+
+-- what a call reads is what is held, or what was found for the call
+abbrev pub IsReadyToRead : {T K : Type 0} → (T → Type 0) → (K → Type 0) → Option (Kept T K) → Kept T K → Type 0
+IsReadyToRead found opened None before = IsFound found opened before
+IsReadyToRead found opened (Some kept) before = before ≡ kept
+
+-- no keeper is held
+abbrev pub IsNotWhole : {T K : Type 0} → Option (Kept T K) → Type 0
+IsNotWhole None = Unit {0}
+IsNotWhole (Some (Trees trees)) = Unit {0}
+IsNotWhole (Some (Whole kept)) = ⊥
+
+-- it is held afterwards, and where the call failed it is let go
+abbrev pub IsHeld : {A K : Type 0} → Result A KeepFault → Option K → K → Type 0
+IsHeld (Ok x) held after = held ≡ Some after
+IsHeld (Err NoMemory) held after = held ≡ Some after
+IsHeld (Err Failed) held after = held ≡ None
+
+-- a call was made of a keeper
+pub record IsMade {T K A : Type 0} (may : K → Type 0) (view : K → State) (cause : K → K → Type 0) (writes : Bool)
+    (asks : Office → Type 0) (gives : Office → A → Type 0) (next : Office → Office) (held : Option (Kept T K))
+    (result : Result A KeepFault) : Type 0 where
+  pub before : K
+  pub after : K
+  pub ready : may before
+  pub does : Does (cause before after) writes asks gives next (view before) (view after) result
+  pub kept : IsHeld result held (Whole after)
+
+-- a call was made of trees
+pub record IsLooked {T K A : Type 0} (may : T → Type 0) (see : T → T → Result A KeepFault → Type 0)
+    (held : Option (Kept T K)) (result : Result A KeepFault) : Type 0 where
+  pub before : T
+  pub after : T
+  pub ready : may before
+  pub looks : see before after result
+  pub kept : IsHeld result held (Trees after)
+
+-- a call that reads was made of trees or of a keeper, or nothing was held and nothing could be opened
+abbrev pub AskedToRead : {T K A : Type 0} → Option (Kept T K) → Option (Kept T K) → (T → Type 0) →
+    ((Office → A → Type 0) → T → T → Result A KeepFault → Type 0) → (K → Type 0) → (K → State) →
+    (K → K → Type 0) → (Office → A → Type 0) → Result A KeepFault → Type 0
+AskedToRead old held found looks opened view cause gives result =
+    IsLooked (λ t. IsReadyToRead found opened old (Trees t)) (looks gives) held result
+    ⊎ (IsMade (λ k. IsReadyToRead found opened old (Whole k)) view cause false FitsAny gives (λ o. o) held result
+    ⊎ ((old ≡ None) × (held ≡ None) × IsErr result))
+
+-- what an error of a store is to a keeper
+abbrev pub store_fault : StoreError → KeepFault
+store_fault OutOfMemory = NoMemory
+store_fault Io = Failed
+store_fault Corrupt = Failed
+store_fault Full = Failed
+store_fault Broken = Failed
+store_fault Unstorable = Failed
+
+-- the answer of a put is that of the store; a put that did not fit it is none
+abbrev pub IsToldAs : Result Bool StoreError → Result (Unit {0}) KeepFault → Type 0
+IsToldAs (Ok true) result = IsOk result
+IsToldAs (Ok false) result = ⊥
+IsToldAs (Err e) result = result ≡ Err (store_fault e)
+
+-- trees that were found in a file are held, or nothing is
+abbrev pub HoldsFound : {T K : Type 0} → (T → Type 0) → Option (Kept T K) → Type 0
+HoldsFound found None = Unit {0}
+HoldsFound found (Some (Trees trees)) = found trees
+HoldsFound found (Some (Whole kept)) = ⊥
+
+-- a call that puts was made of a store that was opened for it, and that is let go; trees of the file are held then
+pub record IsStored {T K X : Type 0} (found : T → Type 0) (see : X → X → Result Bool StoreError → Type 0)
+    (held : Option (Kept T K)) (result : Result (Unit {0}) KeepFault) : Type 0 where
+  pub before : X
+  pub after : X
+  pub answer : Result Bool StoreError
+  pub stores : see before after answer
+  pub told : IsToldAs answer result
+  pub kept : HoldsFound found held
+
+-- a call that puts was made of a store or of a keeper, or nothing could be opened and nothing is held
+abbrev pub IsPut : {T K X : Type 0} → (K → Type 0) → Option (Kept T K) → (T → Type 0) →
+    (X → X → Result Bool StoreError → Type 0) → (K → State) → (K → K → Type 0) → (Office → Type 0) →
+    (Office → Office) → Result (Unit {0}) KeepFault → Type 0
+IsPut may held found see view cause asks next result =
+    IsMade may view cause true asks (λ o u. Unit {0}) next held result
+    ⊎ (IsStored found see held result ⊎ ((held ≡ None) × IsErr result))
+
+-- a call that puts was made of the keeper that is held; or none was, and it was made of a store or of a keeper that was
+-- opened for the call, or none could be opened
+abbrev pub AskedToPut : {T K X : Type 0} → Option (Kept T K) → Option (Kept T K) → (K → Type 0) → (T → Type 0) →
+    (X → X → Result Bool StoreError → Type 0) → (K → State) → (K → K → Type 0) → (Office → Type 0) →
+    (Office → Office) → Result (Unit {0}) KeepFault → Type 0
+AskedToPut old held opened found see view cause asks next result =
+    IsMade (IsReady opened old) view cause true asks (λ o u. Unit {0}) next held result
+    ⊎ (IsNotWhole old × (IsStored found see held result ⊎ ((held ≡ None) × IsErr result)))

@@ -1,0 +1,58 @@
+-- Which cause an error of the database is, and what a keeper in a file says of its failures.
+use Rattle.std.specs.Prelude.{◌≡◌, ◌≢◌, Bool, true, false, Option, Result, Ok, Err, IsSome}
+use Rattle.sqlite.specs.declared.error.Error.{Error}
+use Rattle.sqlite.specs.declared.error.Error.TheVariants.{SqliteFailure}
+use Rattle.sqlite.specs.declared.error.ErrorCode.TheVariants.{DatabaseBusy, CannotOpen, DatabaseCorrupt, NotADatabase}
+use Rattle.sqlite.specs.declared.error.ErrorCode.TheVariants.{DiskFull, SystemIoFailure, Closed, OutOfMemory}
+use Rattle.sqlite_trees.specs.declared.error.StoreError.{StoreError}
+use Rattle.sqlite_trees.specs.declared.error.StoreError.TheVariants as Store
+use Rattle.sqlite_pages.specs.declared.error.Error.{Error as PageError}
+use Rattle.sqlite_pages.specs.declared.error.Error.TheVariants as Page
+use Rattle.keep_office.specs.declared.kept.KeepFault.{KeepFault}
+use Rattle.keep_office.specs.declared.kept.KeepFault.TheVariants.{Failed, NoMemory}
+use Rattle.keep_files.specs.declared.cause.Cause.{Cause}
+use Rattle.keep_files.specs.declared.cause.Cause.TheVariants.{InUse, Unopened, Spoiled, NotOurs, NoRoom}
+use Rattle.keep_files.specs.declared.cause.Cause.TheVariants.{DiskFailed, Shut, Memory, Odd}
+
+-- a cause is that of an error of the database
+abbrev pub IsCauseOf : Cause → Error → Type 0
+IsCauseOf InUse e = e ≡ SqliteFailure DatabaseBusy
+IsCauseOf Unopened e = e ≡ SqliteFailure CannotOpen
+IsCauseOf Spoiled e = e ≡ SqliteFailure DatabaseCorrupt
+IsCauseOf NotOurs e = e ≡ SqliteFailure NotADatabase
+IsCauseOf NoRoom e = e ≡ SqliteFailure DiskFull
+IsCauseOf DiskFailed e = e ≡ SqliteFailure SystemIoFailure
+IsCauseOf Shut e = e ≡ SqliteFailure Closed
+IsCauseOf Memory e = e ≡ SqliteFailure OutOfMemory
+IsCauseOf Odd e =
+    (e ≢ SqliteFailure DatabaseBusy) × (e ≢ SqliteFailure CannotOpen) × (e ≢ SqliteFailure DatabaseCorrupt)
+    × (e ≢ SqliteFailure NotADatabase) × (e ≢ SqliteFailure DiskFull) × (e ≢ SqliteFailure SystemIoFailure)
+    × (e ≢ SqliteFailure Closed) × (e ≢ SqliteFailure OutOfMemory)
+IsCauseOf other e = ⊥
+
+-- the cause that an error of a store of trees is
+abbrev pub cause_in_store : StoreError → Cause
+cause_in_store Store.OutOfMemory = Memory
+cause_in_store Store.Io = DiskFailed
+cause_in_store Store.Corrupt = Spoiled
+cause_in_store Store.Full = NoRoom
+cause_in_store Store.Broken = Shut
+cause_in_store Store.Unstorable = Odd
+
+-- the cause that an error of pages is as they are closed, by whether a write found no room
+abbrev pub close_cause : PageError → Bool → Cause
+close_cause Page.OutOfMemory no_room = Memory
+close_cause Page.Corrupt no_room = Spoiled
+close_cause Page.Full no_room = NoRoom
+close_cause Page.Io true = NoRoom
+close_cause Page.Io false = DiskFailed
+
+-- a failure says why, and want of memory leaves what was said
+abbrev pub IsSaidOf : KeepFault → Option Cause → Option Cause → Type 0
+IsSaidOf Failed old new = IsSome new
+IsSaidOf NoMemory old new = new ≡ old
+
+-- a call that failed says why, and no other call says anything
+abbrev pub IsSaid : {A : Type 0} → Result A KeepFault → Option Cause → Option Cause → Type 0
+IsSaid (Ok x) old new = new ≡ old
+IsSaid (Err fault) old new = IsSaidOf fault old new

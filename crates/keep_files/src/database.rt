@@ -1,0 +1,291 @@
+// A database that is opened when it is first asked for.
+ghost use Rattle.std.specs.Prelude.{◌≡◌, ◌≢◌, true, Some, None, IfOk, IfErr};
+ghost use Rattle.sqlite.specs.Held.{state};
+ghost use Rattle.keep_office.specs.declared.kept.KeepFault.TheVariants.{NoMemory};
+ghost use Rattle.keep_writes.specs.Causes.{WasRefusedIn, WasRefusedOf};
+ghost use Rattle.keep_puts.specs.Stores.{Stores};
+ghost use Rattle.keep_files.specs.Asked.{AskedToRead, AskedToPut, IsReadyToRead, IsMade, IsPut, HoldsFound};
+ghost use Rattle.keep_files.specs.Causes.{IsSaid};
+ghost use Rattle.keep_files.specs.Looks.{AreFound, Looks};
+
+mod anew;
+
+use crate::call::{Putting, Reading};
+use crate::cause::{Cause, say, say_of_store};
+use crate::kept::Kept;
+use crate::opens::Opens;
+use crate::whys::unless_failed;
+use keep_database::{ProvedKeeper, Steady};
+use keep_office::KeepFault;
+use keep_trees::PageTrees;
+use sqlite::Connection;
+use sqlite_pages::Pages;
+use std::alloc::Global;
+use std::rt::HostRuntime;
+
+/// A database that is opened when it is first asked for: by its trees where it is exactly ours or new, or whole. A
+/// call that puts is made of the store of the same trees, or of the whole. `cause` is why the last call failed that
+/// did.
+#[derive(Drop)]
+pub struct Database<S: Opens<P>, P: Pages + Drop> {
+    rt: HostRuntime,
+    path: String,
+    pub(crate) kept: Option<Kept<PageTrees<P>, ProvedKeeper<S>>>,
+    pub(crate) cause: Option<Cause>,
+}
+
+impl<S: Opens<P>, P: Pages + Drop> Database<S, P> {
+    /// The database at a path, which is not open.
+    pub(crate) fn new(rt: HostRuntime, path: String) -> Database<S, P>
+        ensures { result.cause ≡ None }
+    {
+        Database {
+            rt,
+            path,
+            kept: None,
+            cause: None,
+        }
+    }
+
+    /// The pages or the connection, if it is open.
+    pub(crate) fn give_up(self) -> Option<Kept<P, Connection<S>>> {
+        let Database {
+            rt: _,
+            path: _,
+            kept,
+            cause: _,
+        } = self;
+        match kept {
+            Some(Kept::Trees(trees)) => Some(Kept::Trees(trees.give_up())),
+            Some(Kept::Whole(kept)) => Some(Kept::Whole(kept.give_up())),
+            None => None,
+        }
+    }
+
+    /// Makes a call that reads, of what is held, or of what is opened for it. A failure lets it go, so that the next
+    /// call opens the file anew.
+    pub(crate) fn read<C: Reading + Drop>(&mut self, call: C) -> Result<C::Answer, KeepFault>
+        ensures answers { IfOk result C.answers }
+        ensures does { AskedToRead self.old.kept self.new.kept (AreFound P.Pages) (Looks P.Pages)
+            (λ k. k.unmade ≢ Some NoMemory) (λ k. state S.Store k.conn)
+            (λ k l. WasRefusedIn S.Store k.conn l.conn) (C.gives call) result }
+        ensures said { IsSaid result self.old.cause self.new.cause }
+    {
+        let ready = match self.ready() {
+            Ok(ready) => ready,
+            Err(cause) => return Err(say(&mut self.cause, cause)),
+        };
+        let mut trees = match ready {
+            Kept::Trees(trees) => trees,
+            Kept::Whole(mut kept) => {
+                let answer = call.ask(&mut kept);
+                self.kept = unless_failed(&answer, Kept::Whole(kept), &mut self.cause);
+                return answer;
+            }
+        };
+        let answer = call.look(self.rt.alloc(), &mut trees);
+        self.kept = unless_failed(&answer, Kept::Trees(trees), &mut self.cause);
+        answer
+    }
+
+    /// Makes a call that puts, of the keeper that is held, or of a store or a keeper that is opened for it.
+    pub(crate) fn put<C: Putting + Drop>(&mut self, call: C) -> Result<(), KeepFault>
+        requires { C.fits call }
+        ensures does { AskedToPut self.old.kept self.new.kept (λ k. k.unmade ≢ Some NoMemory) (AreFound P.Pages)
+            (Stores S.Store (C.room call) (C.asks call) (C.next call)) (λ k. state S.Store k.conn)
+            (λ k l. WasRefusedOf S.Store (C.writes call) k.conn l.conn)
+            (C.asks call) (C.next call) result }
+        ensures said { IsSaid result self.old.cause self.new.cause }
+    {
+        let ready = match self.ready() {
+            Ok(ready) => ready,
+            Err(cause) => return Err(say(&mut self.cause, cause)),
+        };
+        match ready {
+            Kept::Whole(kept) => self.put_whole(kept, call),
+            Kept::Trees(trees) => self.put_by_trees(trees, call),
+        }
+    }
+
+    /// Makes a call that puts, of a keeper. A failure lets it go.
+    fn put_whole<C: Putting + Drop>(
+        &mut self,
+        mut kept: ProvedKeeper<S>,
+        call: C,
+    ) -> Result<(), KeepFault>
+        requires { C.fits call }
+        ensures does { IsMade (λ k. k ≡ kept) (λ k. state S.Store k.conn)
+            (λ k l. WasRefusedOf S.Store (C.writes call) k.conn l.conn) true (C.asks call)
+            (λ o u. Unit {0}) (C.next call) self.new.kept result }
+        ensures said { IsSaid result self.old.cause self.new.cause }
+    {
+        let answer = call.put(&mut kept);
+        self.kept = unless_failed(&answer, Kept::Whole(kept), &mut self.cause);
+        answer
+    }
+
+    /// Makes a call that puts, of a keeper on a new connection.
+    fn put_over<C: Putting + Drop>(
+        &mut self,
+        conn: Result<Connection<S>, Cause>,
+        call: C,
+    ) -> Result<(), KeepFault>
+        requires fits { C.fits call }
+        requires none { self.old.kept ≡ None }
+        ensures does { IsPut (λ k. k.unmade ≢ Some NoMemory) self.new.kept (AreFound P.Pages)
+            (Stores S.Store (C.room call) (C.asks call) (C.next call)) (λ k. state S.Store k.conn)
+            (λ k l. WasRefusedOf S.Store (C.writes call) k.conn l.conn)
+            (C.asks call) (C.next call) result }
+        ensures said { IsSaid result self.old.cause self.new.cause }
+    {
+        let conn = match conn {
+            Ok(conn) => conn,
+            Err(cause) => return Err(say(&mut self.cause, cause)),
+        };
+        match adopted(self.rt.alloc(), conn) {
+            Ok(kept) => self.put_whole(kept, call),
+            Err(cause) => Err(say(&mut self.cause, cause)),
+        }
+    }
+
+    /// Makes a call that puts, of the store of some trees; or of a keeper on the whole file, where the trees are not
+    /// sound or the call does not fit what is there.
+    fn put_by_trees<C: Putting + Drop>(
+        &mut self,
+        trees: PageTrees<P>,
+        call: C,
+    ) -> Result<(), KeepFault>
+        requires fits { C.fits call }
+        requires none { self.old.kept ≡ None }
+        ensures does { IsPut (λ k. k.unmade ≢ Some NoMemory) self.new.kept (AreFound P.Pages)
+            (Stores S.Store (C.room call) (C.asks call) (C.next call)) (λ k. state S.Store k.conn)
+            (λ k l. WasRefusedOf S.Store (C.writes call) k.conn l.conn)
+            (C.asks call) (C.next call) result }
+        ensures said { IsSaid result self.old.cause self.new.cause }
+    {
+        let rt = self.rt;
+        let mut store = match S::to_put(&rt, trees.give_up()) {
+            Ok(Kept::Trees(store)) => store,
+            Ok(Kept::Whole(conn)) => return self.put_over(Ok(conn), call),
+            Err(cause) => return Err(say(&mut self.cause, cause)),
+        };
+        let done = match call.store(rt.alloc(), &mut store) {
+            Ok(done) => done,
+            Err(error) => return Err(say_of_store(&mut self.cause, error)),
+        };
+        if done {
+            self.kept = held_again(&rt, store);
+            return Ok(());
+        }
+        self.put_over(S::to_whole(&rt, store), call)
+    }
+
+    /// Takes what is held, or opens it.
+    fn ready(&mut self) -> Result<Kept<PageTrees<P>, ProvedKeeper<S>>, Cause>
+        ensures ready { IfOk result (IsReadyToRead (AreFound P.Pages) (λ k. k.unmade ≢ Some NoMemory) self.old.kept) }
+        ensures none { self.new.kept ≡ None }
+        ensures unsaid { self.new.cause ≡ self.old.cause }
+        ensures unopened { IfErr result (λ _. self.old.kept ≡ None) }
+    {
+        if let Some(kept) = self.kept.take() {
+            return Ok(kept);
+        }
+        self.opened()
+    }
+
+    /// The trees of the file, or a keeper on a new connection.
+    fn opened(&self) -> Result<Kept<PageTrees<P>, ProvedKeeper<S>>, Cause>
+        ensures { IfOk result (IsReadyToRead (AreFound P.Pages) (λ k. k.unmade ≢ Some NoMemory) None) }
+    {
+        let mut conn = match S::to_read(&self.rt, self.path.as_str()) {
+            Ok(Kept::Trees(trees)) => return Ok(Kept::Trees(trees)),
+            Ok(Kept::Whole(conn)) => conn,
+            Err(cause) => return Err(cause),
+        };
+        if lists_nothing(&mut conn) {
+            return self.made(conn);
+        }
+        whole(&self.rt, conn)
+    }
+
+    /// The trees of a new file, once a connection has made its tables; or a keeper on it, where they are not made.
+    fn made(&self, conn: Connection<S>) -> Result<Kept<PageTrees<P>, ProvedKeeper<S>>, Cause>
+        ensures { IfOk result (IsReadyToRead (AreFound P.Pages) (λ k. k.unmade ≢ Some NoMemory) None) }
+    {
+        let kept = match adopted(self.rt.alloc(), conn) {
+            Ok(kept) => kept,
+            Err(cause) => return Err(cause),
+        };
+        match kept.unmade() {
+            Some(_) => Ok(Kept::Whole(kept)),
+            None => self.taken_over(kept.give_up()),
+        }
+    }
+
+    /// The trees of the file of a connection that has made its tables. A file that is not ours even so, such as one
+    /// with pages of another size, is opened anew.
+    fn taken_over(&self, conn: Connection<S>) -> Result<Kept<PageTrees<P>, ProvedKeeper<S>>, Cause>
+        ensures { IfOk result (IsReadyToRead (AreFound P.Pages) (λ k. k.unmade ≢ Some NoMemory) None) }
+    {
+        match S::to_read_again(&self.rt, conn.into_store()) {
+            Some(trees) => Ok(Kept::Trees(trees)),
+            None => self.opened_anew(),
+        }
+    }
+
+    /// The trees of a file that is there, or a keeper on a new connection.
+    fn opened_anew(&self) -> Result<Kept<PageTrees<P>, ProvedKeeper<S>>, Cause>
+        ensures { IfOk result (IsReadyToRead (AreFound P.Pages) (λ k. k.unmade ≢ Some NoMemory) None) }
+    {
+        match S::to_read(&self.rt, self.path.as_str()) {
+            Ok(Kept::Trees(trees)) => Ok(Kept::Trees(trees)),
+            Ok(Kept::Whole(conn)) => whole(&self.rt, conn),
+            Err(cause) => Err(cause),
+        }
+    }
+}
+
+/// Whether a database lists nothing yet.
+fn lists_nothing<S: Steady>(conn: &mut Connection<S>) -> bool {
+    match conn.query_all("SELECT name FROM sqlite_schema", &[]) {
+        Ok(listed) => listed.is_empty(),
+        Err(_) => false,
+    }
+}
+
+/// A keeper on a new connection.
+fn whole<S: Opens<P>, P: Pages + Drop>(
+    rt: &HostRuntime,
+    conn: Connection<S>,
+) -> Result<Kept<PageTrees<P>, ProvedKeeper<S>>, Cause>
+    ensures { IfOk result (IsReadyToRead (AreFound P.Pages) (λ k. k.unmade ≢ Some NoMemory) None) }
+{
+    match adopted(rt.alloc(), conn) {
+        Ok(kept) => Ok(Kept::Whole(kept)),
+        Err(cause) => Err(cause),
+    }
+}
+
+/// What is held of the file of a store that a put was made of.
+fn held_again<S: Opens<P>, P: Pages + Drop>(
+    rt: &HostRuntime,
+    store: S,
+) -> Option<Kept<PageTrees<P>, ProvedKeeper<S>>>
+    ensures { HoldsFound (AreFound P.Pages) result }
+{
+    match S::to_read_again(rt, store) {
+        Some(trees) => Some(Kept::Trees(trees)),
+        None => None,
+    }
+}
+
+/// The keeper on a connection. Where there was no memory to make its tables, the connection is let go.
+fn adopted<S: Steady>(alloc: Global, conn: Connection<S>) -> Result<ProvedKeeper<S>, Cause>
+    ensures { IfOk result (λ kept. kept.unmade ≢ Some NoMemory) }
+{
+    let kept = ProvedKeeper::adopt(alloc, conn);
+    match kept.unmade() {
+        Some(KeepFault::NoMemory) => Err(Cause::Memory),
+        _ => Ok(kept),
+    }
+}

@@ -1,0 +1,72 @@
+// A history that all begins anew with, put into the file.
+ghost use Rattle.std.specs.Prelude.{◌≡◌, None};
+ghost use Rattle.keep_office.specs.Kept.{IsPastPut};
+ghost use Rattle.keep_office.specs.Renewed.{anew};
+ghost use Rattle.keep_tables.specs.Steps.{FitsAny};
+ghost use Rattle.keep_puts.specs.Room.{RoomAnew};
+ghost use Rattle.keep_puts.specs.Stores.{Stores};
+ghost use Rattle.keep_files.specs.Anew.{AskedAnew};
+ghost use Rattle.keep_files.specs.Causes.{IsSaid};
+ghost use Rattle.keep_files.specs.Looks.{AreFound};
+
+use super::{Database, held_again};
+use crate::cause::{Cause, say, say_of_store};
+use crate::kept::Kept;
+use crate::opens::Opens;
+use keep_office::{KeepFault, PastRecord};
+use keep_trees::PageTrees;
+use road_time::SpentRow;
+use sqlite_pages::Pages;
+
+impl<S: Opens<P>, P: Pages + Drop> Database<S, P> {
+    /// Begins anew with a history, in the store of the trees of the file, which has to be exactly ours.
+    pub(crate) fn put_anew(&mut self, kept: &PastRecord, rows: &[SpentRow]) -> Result<(), KeepFault>
+        requires { IsPastPut kept.now rows.now }
+        ensures does { AskedAnew self.new.kept (AreFound P.Pages)
+            (Stores S.Store (RoomAnew rows.now) FitsAny (anew kept.now rows.now)) result }
+        ensures said { IsSaid result self.old.cause self.new.cause }
+    {
+        let ready = match self.ready() {
+            Ok(ready) => ready,
+            Err(cause) => return Err(say(&mut self.cause, cause)),
+        };
+        let whole = match ready {
+            Kept::Trees(trees) => return self.put_anew_by(trees, kept, rows),
+            Kept::Whole(whole) => whole,
+        };
+        match S::to_read_again(&self.rt, whole.give_up().into_store()) {
+            Some(trees) => self.put_anew_by(trees, kept, rows),
+            None => Err(say(&mut self.cause, Cause::NotOurs)),
+        }
+    }
+
+    /// Begins anew with a history, in the store of some trees.
+    fn put_anew_by(
+        &mut self,
+        trees: PageTrees<P>,
+        kept: &PastRecord,
+        rows: &[SpentRow],
+    ) -> Result<(), KeepFault>
+        requires fits { IsPastPut kept.now rows.now }
+        requires none { self.old.kept ≡ None }
+        ensures does { AskedAnew self.new.kept (AreFound P.Pages)
+            (Stores S.Store (RoomAnew rows.now) FitsAny (anew kept.now rows.now)) result }
+        ensures said { IsSaid result self.old.cause self.new.cause }
+    {
+        let rt = self.rt;
+        let mut store = match S::to_put(&rt, trees.give_up()) {
+            Ok(Kept::Trees(store)) => store,
+            Ok(Kept::Whole(_)) => return Err(say(&mut self.cause, Cause::NotOurs)),
+            Err(cause) => return Err(say(&mut self.cause, cause)),
+        };
+        let done = match keep_puts::put_anew(&mut store, rt.alloc(), kept, rows) {
+            Ok(done) => done,
+            Err(error) => return Err(say_of_store(&mut self.cause, error)),
+        };
+        if !done {
+            return Err(say(&mut self.cause, Cause::NotOurs));
+        }
+        self.kept = held_again(&rt, store);
+        Ok(())
+    }
+}

@@ -1,0 +1,84 @@
+// A keeper in a file of some disk, whose callers see nothing of the store and of the pages behind it.
+ghost use Rattle.std.specs.Prelude.{◌≡◌, ◌≢◌, Some, None, IfOk};
+ghost use Rattle.sqlite.specs.Held.{state};
+ghost use Rattle.keep_office.specs.Calls.{CountsFaults};
+ghost use Rattle.keep_office.specs.declared.kept.KeepFault.TheVariants.{NoMemory as no_memory};
+ghost use Rattle.keep_writes.specs.Causes.{WasRefusedIn, WasRefusedOf};
+ghost use Rattle.keep_puts.specs.Stores.{Stores};
+ghost use Rattle.keep_files.specs.Asked.{AskedToRead, AskedToPut};
+ghost use Rattle.keep_files.specs.Causes.{IsSaid};
+ghost use Rattle.keep_files.specs.Looks.{AreFound, Looks};
+
+mod anew;
+
+use crate::at_path::AtPath;
+use crate::call::{Putting, Reading};
+use crate::cause::Cause;
+use crate::keeper_in::KeeperIn;
+use crate::kept::Kept;
+use keep_office::KeepFault;
+use road_time::NoMemory;
+use sqlite::{Connection, FileStore};
+use sqlite_pages::Pages;
+use sqlite_pool::Pool;
+use sqlite_trees::store::Store;
+use std::alloc::Global;
+use std::rt::HostRuntime;
+
+/// A keeper in a file.
+#[derive(Drop)]
+pub struct FileKeeper<D: AtPath> {
+    pub in_file: KeeperIn<FileStore<D>, Pool<D>>,
+}
+
+impl<D: AtPath> FileKeeper<D> {
+    /// The keeper in the file at a path.
+    pub fn at(alloc: Global, rt: HostRuntime, path: &str) -> Result<FileKeeper<D>, NoMemory>
+        ensures faultless { IfOk result (λ keeper. keeper.in_file.faults ≡ 0) }
+        ensures quiet { IfOk result (λ keeper. keeper.in_file.database.cause ≡ None) }
+    {
+        let in_file = KeeperIn::at(alloc, rt, path)?;
+        Ok(FileKeeper { in_file })
+    }
+
+    /// The pages or the connection, if the database is open.
+    pub fn give_up(self) -> Option<Kept<Pool<D>, Connection<FileStore<D>>>> {
+        let FileKeeper { in_file } = self;
+        in_file.give_up()
+    }
+
+    /// Why the last call failed that did, none while none failed.
+    pub fn cause(&self) -> Option<Cause>
+        ensures { result ≡ self.now.in_file.database.cause }
+    {
+        self.in_file.cause()
+    }
+
+    /// Makes a call that reads, and counts it where it failed.
+    pub fn read<C: Reading + Drop>(&mut self, call: C) -> Result<C::Answer, KeepFault>
+        ensures answers { IfOk result C.answers }
+        ensures does { AskedToRead self.old.in_file.database.kept self.new.in_file.database.kept
+            (AreFound ⟦<Pool<D> as Pages>⟧) (Looks ⟦<Pool<D> as Pages>⟧)
+            (λ k. k.unmade ≢ Some no_memory) (λ k. state ⟦<FileStore<D> as Store>⟧ k.conn)
+            (λ k l. WasRefusedIn ⟦<FileStore<D> as Store>⟧ k.conn l.conn) (C.gives call) result }
+        ensures cause { CountsFaults self.old.in_file.faults self.new.in_file.faults result }
+        ensures said { IsSaid result self.old.in_file.database.cause self.new.in_file.database.cause }
+    {
+        self.in_file.read(call)
+    }
+
+    /// Makes a call that puts, and counts it where it failed.
+    pub fn put<C: Putting + Drop>(&mut self, call: C) -> Result<(), KeepFault>
+        requires { C.fits call }
+        ensures does { AskedToPut self.old.in_file.database.kept self.new.in_file.database.kept
+            (λ k. k.unmade ≢ Some no_memory) (AreFound ⟦<Pool<D> as Pages>⟧)
+            (Stores ⟦<FileStore<D> as Store>⟧ (C.room call) (C.asks call) (C.next call))
+            (λ k. state ⟦<FileStore<D> as Store>⟧ k.conn)
+            (λ k l. WasRefusedOf ⟦<FileStore<D> as Store>⟧ (C.writes call) k.conn l.conn)
+            (C.asks call) (C.next call) result }
+        ensures cause { CountsFaults self.old.in_file.faults self.new.in_file.faults result }
+        ensures said { IsSaid result self.old.in_file.database.cause self.new.in_file.database.cause }
+    {
+        self.in_file.put(call)
+    }
+}

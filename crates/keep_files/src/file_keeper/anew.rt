@@ -1,0 +1,32 @@
+// A history that all begins anew with, by a keeper in a file.
+ghost use Rattle.keep_office.specs.Kept.{IsPastPut};
+ghost use Rattle.keep_office.specs.Calls.{CountsFaults};
+ghost use Rattle.keep_office.specs.Renewed.{anew};
+ghost use Rattle.keep_tables.specs.Steps.{FitsAny};
+ghost use Rattle.keep_puts.specs.Room.{RoomAnew};
+ghost use Rattle.keep_puts.specs.Stores.{Stores};
+ghost use Rattle.keep_files.specs.Anew.{AskedAnew};
+ghost use Rattle.keep_files.specs.Causes.{IsSaid};
+ghost use Rattle.keep_files.specs.Looks.{AreFound};
+
+use super::FileKeeper;
+use crate::at_path::AtPath;
+use keep_office::{KeepFault, PastRecord};
+use road_time::SpentRow;
+use sqlite::FileStore;
+use sqlite_pages::Pages;
+use sqlite_pool::Pool;
+use sqlite_trees::store::Store;
+
+impl<D: AtPath> FileKeeper<D> {
+    /// Begins anew with a history, and counts the call where it failed.
+    pub fn put_anew(&mut self, kept: &PastRecord, rows: &[SpentRow]) -> Result<(), KeepFault>
+        requires { IsPastPut kept.now rows.now }
+        ensures does { AskedAnew self.new.in_file.database.kept (AreFound ⟦<Pool<D> as Pages>⟧)
+            (Stores ⟦<FileStore<D> as Store>⟧ (RoomAnew rows.now) FitsAny (anew kept.now rows.now)) result }
+        ensures cause { CountsFaults self.old.in_file.faults self.new.in_file.faults result }
+        ensures said { IsSaid result self.old.in_file.database.cause self.new.in_file.database.cause }
+    {
+        self.in_file.put_anew(kept, rows)
+    }
+}

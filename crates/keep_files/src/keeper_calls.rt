@@ -1,0 +1,171 @@
+// The calls of a keeper in a database.
+ghost use Rattle.std.specs.Prelude.{◌≡◌, ◌≢◌, ◌≤◌, Some, None, IfOk, IfSome};
+ghost use Rattle.sqlite.specs.Held.{state};
+ghost use Rattle.road_time.specs.History.{paid};
+ghost use Rattle.road_time.specs.Rates.{IsTariff};
+ghost use Rattle.keep_office.specs.Office.{RowsRise, last_day as last_day_of, record_of, rows_between, vehicle_rows_between};
+ghost use Rattle.keep_office.specs.Kept.{IsDayPut, IsPastPut, IsLater, HasNoDays, with_day, with_past, with_tariff_of};
+ghost use Rattle.keep_office.specs.Calls.{CountsFaults, IfTold};
+ghost use Rattle.keep_office.specs.declared.kept.KeepFault.TheVariants.{NoMemory};
+ghost use Rattle.keep_tables.specs.Steps.{FitsAny};
+ghost use Rattle.keep_writes.specs.Causes.{WasRefusedIn, WasRefusedOf};
+ghost use Rattle.keep_writes.specs.Writes.{WritesDay, WritesPast, WritesTariff};
+ghost use Rattle.keep_puts.specs.Room.{RoomForDay, RoomForPast, RoomForTariff};
+ghost use Rattle.keep_puts.specs.Stores.{Stores};
+ghost use Rattle.keep_files.specs.Asked.{AskedToRead, AskedToPut};
+ghost use Rattle.keep_files.specs.Causes.{IsSaid};
+ghost use Rattle.keep_files.specs.Looks.{AreFound, Looks};
+
+use crate::keeper_in::KeeperIn;
+use crate::opens::Opens;
+use crate::puts::{PutDay, PutPast, PutTariff};
+use crate::reads::{AskedDay, AskedSpent, KeptTariffs, LastDay, Past, Rows, VehicleRows};
+use keep_office::{DayRecord, KeepFault, Keeper, PastRecord};
+use road_time::{SpentRow, Tariff, Tariffs};
+use sqlite_pages::Pages;
+
+impl<S: Opens<P>, P: Pages + Drop> Keeper for KeeperIn<S, P> {
+    ghost use Rattle.std.specs.Prelude.{true};
+    ghost use Rattle.keep_office.specs.Calls.{AllOrNothing};
+
+    ghost told = { λ k. None };
+
+    ghost faults = { λ k. k.faults };
+
+    ghost plan = { λ k. None };
+
+    ghost refuses = { AllOrNothing };
+
+    ghost needs_memory = { true };
+
+    fn last_day(&mut self) -> Result<u32, KeepFault>
+        ensures cause { CountsFaults self.old.faults self.new.faults result }
+        ensures said { IsSaid result self.old.database.cause self.new.database.cause }
+        ensures does { AskedToRead self.old.database.kept self.new.database.kept
+            (AreFound P.Pages) (Looks P.Pages)
+            (λ k. k.unmade ≢ Some NoMemory) (λ k. state S.Store k.conn)
+            (λ k l. WasRefusedIn S.Store k.conn l.conn)
+            (λ o last. last ≡ last_day_of o) result }
+    {
+        self.read(LastDay)
+    }
+
+    fn day(&mut self, day: u32) -> Result<Option<DayRecord>, KeepFault>
+        ensures cause { CountsFaults self.old.faults self.new.faults result }
+        ensures said { IsSaid result self.old.database.cause self.new.database.cause }
+        ensures does { AskedToRead self.old.database.kept self.new.database.kept
+            (AreFound P.Pages) (Looks P.Pages)
+            (λ k. k.unmade ≢ Some NoMemory) (λ k. state S.Store k.conn)
+            (λ k l. WasRefusedIn S.Store k.conn l.conn)
+            (λ o kept. kept ≡ record_of o day) result }
+    {
+        self.read(AskedDay { day })
+    }
+
+    fn past(&mut self) -> Result<Option<PastRecord>, KeepFault>
+        ensures based { IfOk result (λ past. IfSome past (λ p. 70 ≤ p.base)) }
+        ensures cause { CountsFaults self.old.faults self.new.faults result }
+        ensures said { IsSaid result self.old.database.cause self.new.database.cause }
+        ensures does { AskedToRead self.old.database.kept self.new.database.kept
+            (AreFound P.Pages) (Looks P.Pages)
+            (λ k. k.unmade ≢ Some NoMemory) (λ k. state S.Store k.conn)
+            (λ k l. WasRefusedIn S.Store k.conn l.conn)
+            (λ o past. past ≡ o.past) result }
+    {
+        self.read(Past)
+    }
+
+    fn spent(&mut self, day: u32, vid: u32, xway: u8) -> Result<u64, KeepFault>
+        ensures cause { CountsFaults self.old.faults self.new.faults result }
+        ensures said { IsSaid result self.old.database.cause self.new.database.cause }
+        ensures does { AskedToRead self.old.database.kept self.new.database.kept
+            (AreFound P.Pages) (Looks P.Pages)
+            (λ k. k.unmade ≢ Some NoMemory) (λ k. state S.Store k.conn)
+            (λ k l. WasRefusedIn S.Store k.conn l.conn)
+            (λ o tolls. tolls ≡ paid o.rows day vid xway) result }
+    {
+        self.read(AskedSpent { day, vid, xway })
+    }
+
+    fn rows(&mut self, from: u32, to: u32) -> Result<Vec<SpentRow>, KeepFault>
+        ensures rise { IfOk result (λ rows. RowsRise rows.items) }
+        ensures cause { CountsFaults self.old.faults self.new.faults result }
+        ensures said { IsSaid result self.old.database.cause self.new.database.cause }
+        ensures does { AskedToRead self.old.database.kept self.new.database.kept
+            (AreFound P.Pages) (Looks P.Pages)
+            (λ k. k.unmade ≢ Some NoMemory) (λ k. state S.Store k.conn)
+            (λ k l. WasRefusedIn S.Store k.conn l.conn)
+            (λ o rows. rows.items ≡ rows_between o from to) result }
+    {
+        self.read(Rows { from, to })
+    }
+
+    fn vehicle_rows(&mut self, vid: u32, from: u32, to: u32) -> Result<Vec<SpentRow>, KeepFault>
+        ensures rise { IfOk result (λ rows. RowsRise rows.items) }
+        ensures cause { CountsFaults self.old.faults self.new.faults result }
+        ensures said { IsSaid result self.old.database.cause self.new.database.cause }
+        ensures does { AskedToRead self.old.database.kept self.new.database.kept
+            (AreFound P.Pages) (Looks P.Pages)
+            (λ k. k.unmade ≢ Some NoMemory) (λ k. state S.Store k.conn)
+            (λ k l. WasRefusedIn S.Store k.conn l.conn)
+            (λ o rows. rows.items ≡ vehicle_rows_between o vid from to) result }
+    {
+        self.read(VehicleRows { vid, from, to })
+    }
+
+    fn tariffs(&mut self) -> Result<Tariffs, KeepFault>
+        ensures cause { CountsFaults self.old.faults self.new.faults result }
+        ensures said { IsSaid result self.old.database.cause self.new.database.cause }
+        ensures does { AskedToRead self.old.database.kept self.new.database.kept
+            (AreFound P.Pages) (Looks P.Pages)
+            (λ k. k.unmade ≢ Some NoMemory) (λ k. state S.Store k.conn)
+            (λ k l. WasRefusedIn S.Store k.conn l.conn)
+            (λ o tariffs. tariffs ≡ o.tariffs) result }
+    {
+        self.read(KeptTariffs)
+    }
+
+    fn put_day(&mut self, kept: &DayRecord, rows: &[SpentRow]) -> Result<(), KeepFault>
+        requires fits { IsDayPut kept.now rows.now }
+        requires later { IfTold None (λ o. IsLater kept.now.day o) }
+        ensures cause { CountsFaults self.old.faults self.new.faults result }
+        ensures said { IsSaid result self.old.database.cause self.new.database.cause }
+        ensures does { AskedToPut self.old.database.kept self.new.database.kept
+            (λ k. k.unmade ≢ Some NoMemory) (AreFound P.Pages)
+            (Stores S.Store (RoomForDay kept.now rows.now) (IsLater kept.now.day) (with_day kept.now rows.now))
+            (λ k. state S.Store k.conn)
+            (λ k l. WasRefusedOf S.Store (WritesDay kept.now rows.now) k.conn l.conn)
+            (IsLater kept.now.day) (with_day kept.now rows.now) result }
+    {
+        self.put(PutDay { kept, rows })
+    }
+
+    fn put_past(&mut self, kept: &PastRecord, rows: &[SpentRow]) -> Result<(), KeepFault>
+        requires fits { IsPastPut kept.now rows.now }
+        requires first { IfTold None HasNoDays }
+        ensures cause { CountsFaults self.old.faults self.new.faults result }
+        ensures said { IsSaid result self.old.database.cause self.new.database.cause }
+        ensures does { AskedToPut self.old.database.kept self.new.database.kept
+            (λ k. k.unmade ≢ Some NoMemory) (AreFound P.Pages)
+            (Stores S.Store (RoomForPast rows.now) HasNoDays (with_past kept.now rows.now))
+            (λ k. state S.Store k.conn)
+            (λ k l. WasRefusedOf S.Store (WritesPast kept.now rows.now) k.conn l.conn)
+            HasNoDays (with_past kept.now rows.now) result }
+    {
+        self.put(PutPast { kept, rows })
+    }
+
+    fn put_tariff(&mut self, xway: u8, tariff: &Tariff) -> Result<(), KeepFault>
+        requires valid { IsTariff tariff.now }
+        ensures cause { CountsFaults self.old.faults self.new.faults result }
+        ensures said { IsSaid result self.old.database.cause self.new.database.cause }
+        ensures does { AskedToPut self.old.database.kept self.new.database.kept
+            (λ k. k.unmade ≢ Some NoMemory) (AreFound P.Pages)
+            (Stores S.Store RoomForTariff FitsAny (with_tariff_of xway tariff.now))
+            (λ k. state S.Store k.conn)
+            (λ k l. WasRefusedOf S.Store (WritesTariff xway tariff.now) k.conn l.conn)
+            FitsAny (with_tariff_of xway tariff.now) result }
+    {
+        self.put(PutTariff { xway, tariff })
+    }
+}

@@ -1,0 +1,92 @@
+// A keeper in a database that is opened by a path: it counts the calls that failed.
+ghost use Rattle.std.specs.Prelude.{◌≡◌, ◌≢◌, Some, None, IfOk};
+ghost use Rattle.sqlite.specs.Held.{state};
+ghost use Rattle.keep_office.specs.Calls.{CountsFaults};
+ghost use Rattle.keep_office.specs.declared.kept.KeepFault.TheVariants.{NoMemory as no_memory};
+ghost use Rattle.keep_writes.specs.Causes.{WasRefusedIn, WasRefusedOf};
+ghost use Rattle.keep_puts.specs.Stores.{Stores};
+ghost use Rattle.keep_files.specs.Asked.{AskedToRead, AskedToPut};
+ghost use Rattle.keep_files.specs.Causes.{IsSaid};
+ghost use Rattle.keep_files.specs.Looks.{AreFound, Looks};
+
+mod anew;
+
+use crate::call::{Putting, Reading};
+use crate::cause::Cause;
+use crate::database::Database;
+use crate::kept::Kept;
+use crate::opens::Opens;
+use keep_office::KeepFault;
+use keep_writes::refusals::count;
+use road_time::NoMemory;
+use sqlite::Connection;
+use sqlite_pages::Pages;
+use std::alloc::Global;
+use std::rt::HostRuntime;
+
+/// A database that counts the calls that failed.
+#[derive(Drop)]
+pub struct KeeperIn<S: Opens<P>, P: Pages + Drop> {
+    database: Database<S, P>,
+    faults: u64,
+}
+
+impl<S: Opens<P>, P: Pages + Drop> KeeperIn<S, P> {
+    /// The keeper in the file at a path.
+    pub fn at(alloc: Global, rt: HostRuntime, path: &str) -> Result<KeeperIn<S, P>, NoMemory>
+        ensures faultless { IfOk result (λ keeper. keeper.faults ≡ 0) }
+        ensures quiet { IfOk result (λ keeper. keeper.database.cause ≡ None) }
+    {
+        let path = String::from_str(alloc, path)?;
+        Ok(KeeperIn {
+            database: Database::new(rt, path),
+            faults: 0,
+        })
+    }
+
+    /// The pages or the connection, if the database is open.
+    pub fn give_up(self) -> Option<Kept<P, Connection<S>>> {
+        let KeeperIn {
+            database,
+            faults: _,
+        } = self;
+        database.give_up()
+    }
+
+    /// Why the last call failed that did, none while none failed.
+    pub fn cause(&self) -> Option<Cause>
+        ensures { result ≡ self.now.database.cause }
+    {
+        self.database.cause
+    }
+
+    /// Makes a call that reads, and counts it where it failed.
+    pub fn read<C: Reading + Drop>(&mut self, call: C) -> Result<C::Answer, KeepFault>
+        ensures answers { IfOk result C.answers }
+        ensures does { AskedToRead self.old.database.kept self.new.database.kept
+            (AreFound P.Pages) (Looks P.Pages)
+            (λ k. k.unmade ≢ Some no_memory) (λ k. state S.Store k.conn)
+            (λ k l. WasRefusedIn S.Store k.conn l.conn) (C.gives call) result }
+        ensures cause { CountsFaults self.old.faults self.new.faults result }
+        ensures said { IsSaid result self.old.database.cause self.new.database.cause }
+    {
+        let answer = self.database.read(call);
+        count(&mut self.faults, answer)
+    }
+
+    /// Makes a call that puts, and counts it where it failed.
+    pub fn put<C: Putting + Drop>(&mut self, call: C) -> Result<(), KeepFault>
+        requires { C.fits call }
+        ensures does { AskedToPut self.old.database.kept self.new.database.kept
+            (λ k. k.unmade ≢ Some no_memory) (AreFound P.Pages)
+            (Stores S.Store (C.room call) (C.asks call) (C.next call))
+            (λ k. state S.Store k.conn)
+            (λ k l. WasRefusedOf S.Store (C.writes call) k.conn l.conn)
+            (C.asks call) (C.next call) result }
+        ensures cause { CountsFaults self.old.faults self.new.faults result }
+        ensures said { IsSaid result self.old.database.cause self.new.database.cause }
+    {
+        let answer = self.database.put(call);
+        count(&mut self.faults, answer)
+    }
+}

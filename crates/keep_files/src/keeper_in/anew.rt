@@ -1,0 +1,31 @@
+// A history that all begins anew with, by a keeper that counts the calls that failed.
+ghost use Rattle.keep_office.specs.Kept.{IsPastPut};
+ghost use Rattle.keep_office.specs.Calls.{CountsFaults};
+ghost use Rattle.keep_office.specs.Renewed.{anew};
+ghost use Rattle.keep_tables.specs.Steps.{FitsAny};
+ghost use Rattle.keep_puts.specs.Room.{RoomAnew};
+ghost use Rattle.keep_puts.specs.Stores.{Stores};
+ghost use Rattle.keep_files.specs.Anew.{AskedAnew};
+ghost use Rattle.keep_files.specs.Causes.{IsSaid};
+ghost use Rattle.keep_files.specs.Looks.{AreFound};
+
+use super::KeeperIn;
+use crate::opens::Opens;
+use keep_office::{KeepFault, PastRecord};
+use keep_writes::refusals::count;
+use road_time::SpentRow;
+use sqlite_pages::Pages;
+
+impl<S: Opens<P>, P: Pages + Drop> KeeperIn<S, P> {
+    /// Begins anew with a history, and counts the call where it failed.
+    pub fn put_anew(&mut self, kept: &PastRecord, rows: &[SpentRow]) -> Result<(), KeepFault>
+        requires { IsPastPut kept.now rows.now }
+        ensures does { AskedAnew self.new.database.kept (AreFound P.Pages)
+            (Stores S.Store (RoomAnew rows.now) FitsAny (anew kept.now rows.now)) result }
+        ensures cause { CountsFaults self.old.faults self.new.faults result }
+        ensures said { IsSaid result self.old.database.cause self.new.database.cause }
+    {
+        let answer = self.database.put_anew(kept, rows);
+        count(&mut self.faults, answer)
+    }
+}

@@ -1,0 +1,110 @@
+// A keeper in a SQLite file.
+ghost use Rattle.std.specs.Prelude.{◌≡◌, ◌≢◌, Some, None, IfOk};
+ghost use Rattle.sqlite.specs.Held.{state};
+ghost use Rattle.keep_office.specs.Calls.{CountsFaults};
+ghost use Rattle.keep_office.specs.declared.kept.KeepFault.TheVariants.{NoMemory as no_memory};
+ghost use Rattle.keep_writes.specs.Causes.{WasRefusedIn, WasRefusedOf};
+ghost use Rattle.keep_puts.specs.Stores.{Stores};
+ghost use Rattle.keep_files.specs.Asked.{AskedToRead, AskedToPut};
+ghost use Rattle.keep_files.specs.Causes.{IsSaid};
+ghost use Rattle.keep_files.specs.Looks.{AreFound, Looks};
+
+mod anew;
+
+use crate::at_path::{KeptDisk, KeptPages, KeptStore};
+use crate::call::{Putting, Reading};
+use crate::cause::{Cause, cause_of, fault_of};
+use crate::file_keeper::FileKeeper;
+use crate::kept::Kept;
+use crate::page_files::shut as shut_pages;
+use keep_office::KeepFault;
+use road_time::NoMemory;
+use sqlite::Connection;
+use sqlite_pages::Pages;
+use sqlite_trees::store::Store;
+use std::alloc::Global;
+use std::rt::HostRuntime;
+
+/// The file in which the programs keep all, in the folder where they run.
+pub const KEPT_FILE: &str = "tolls.db";
+
+/// A keeper in a SQLite file. The file is opened, and made where it is not there, at the first call, and anew at the
+/// call after one that failed. `close` ends it. It has no type parameter, so that a caller's check sees nothing of the
+/// database behind it.
+#[derive(Drop)]
+pub struct SqliteKeeper {
+    in_file: FileKeeper<KeptDisk>,
+}
+
+impl SqliteKeeper {
+    /// The keeper in the file at a path.
+    pub fn at(alloc: Global, rt: HostRuntime, path: &str) -> Result<SqliteKeeper, NoMemory>
+        ensures faultless { IfOk result (λ keeper. keeper.in_file.in_file.faults ≡ 0) }
+        ensures quiet { IfOk result (λ keeper. keeper.in_file.in_file.database.cause ≡ None) }
+    {
+        let in_file = FileKeeper::at(alloc, rt, path)?;
+        Ok(SqliteKeeper { in_file })
+    }
+
+    /// Why the last call failed that did, none while none failed.
+    pub fn cause(&self) -> Option<Cause>
+        ensures { result ≡ self.now.in_file.in_file.database.cause }
+    {
+        self.in_file.cause()
+    }
+
+    /// Closes the file, if it is open: what its log has is copied into it. Where that is Ok, the file alone has all
+    /// that is kept, and its log has nothing.
+    pub fn close(self) -> Result<(), KeepFault> {
+        match self.end() {
+            Ok(()) => Ok(()),
+            Err(cause) => Err(fault_of(cause)),
+        }
+    }
+
+    /// The same, and says why it failed.
+    pub fn end(self) -> Result<(), Cause> {
+        let SqliteKeeper { in_file } = self;
+        match in_file.give_up() {
+            Some(Kept::Trees(pages)) => shut_pages(pages),
+            Some(Kept::Whole(conn)) => shut(conn),
+            None => Ok(()),
+        }
+    }
+
+    /// Makes a call that reads. It and `put` alone hand calls on to the store of files, which a check takes longest at.
+    pub(crate) fn read<C: Reading + Drop>(&mut self, call: C) -> Result<C::Answer, KeepFault>
+        ensures answers { IfOk result C.answers }
+        ensures does { AskedToRead self.old.in_file.in_file.database.kept self.new.in_file.in_file.database.kept
+            (AreFound ⟦<KeptPages as Pages>⟧) (Looks ⟦<KeptPages as Pages>⟧)
+            (λ k. k.unmade ≢ Some no_memory) (λ k. state ⟦<KeptStore as Store>⟧ k.conn)
+            (λ k l. WasRefusedIn ⟦<KeptStore as Store>⟧ k.conn l.conn) (C.gives call) result }
+        ensures cause { CountsFaults self.old.in_file.in_file.faults self.new.in_file.in_file.faults result }
+        ensures said { IsSaid result self.old.in_file.in_file.database.cause self.new.in_file.in_file.database.cause }
+    {
+        self.in_file.read(call)
+    }
+
+    /// Makes a call that puts.
+    pub(crate) fn put<C: Putting + Drop>(&mut self, call: C) -> Result<(), KeepFault>
+        requires { C.fits call }
+        ensures does { AskedToPut self.old.in_file.in_file.database.kept self.new.in_file.in_file.database.kept
+            (λ k. k.unmade ≢ Some no_memory) (AreFound ⟦<KeptPages as Pages>⟧)
+            (Stores ⟦<KeptStore as Store>⟧ (C.room call) (C.asks call) (C.next call))
+            (λ k. state ⟦<KeptStore as Store>⟧ k.conn)
+            (λ k l. WasRefusedOf ⟦<KeptStore as Store>⟧ (C.writes call) k.conn l.conn)
+            (C.asks call) (C.next call) result }
+        ensures cause { CountsFaults self.old.in_file.in_file.faults self.new.in_file.in_file.faults result }
+        ensures said { IsSaid result self.old.in_file.in_file.database.cause self.new.in_file.in_file.database.cause }
+    {
+        self.in_file.put(call)
+    }
+}
+
+/// Closes the file of a connection.
+fn shut(conn: Connection<KeptStore>) -> Result<(), Cause> {
+    match conn.close() {
+        Ok(()) => Ok(()),
+        Err(error) => Err(cause_of(error)),
+    }
+}

@@ -1,0 +1,29 @@
+// A history that all begins anew with, put into the file.
+ghost use Rattle.keep_office.specs.Kept.{IsPastPut};
+ghost use Rattle.keep_office.specs.Calls.{CountsFaults};
+ghost use Rattle.keep_office.specs.Renewed.{anew};
+ghost use Rattle.keep_tables.specs.Steps.{FitsAny};
+ghost use Rattle.keep_puts.specs.Room.{RoomAnew};
+ghost use Rattle.keep_puts.specs.Stores.{Stores};
+ghost use Rattle.keep_files.specs.Anew.{AskedAnew};
+ghost use Rattle.keep_files.specs.Causes.{IsSaid};
+ghost use Rattle.keep_files.specs.Looks.{AreFound};
+
+use super::SqliteKeeper;
+use crate::at_path::{KeptPages, KeptStore};
+use keep_office::{KeepFault, PastRecord, Renews};
+use road_time::SpentRow;
+use sqlite_pages::Pages;
+use sqlite_trees::store::Store;
+
+impl Renews for SqliteKeeper {
+    fn put_anew(&mut self, kept: &PastRecord, rows: &[SpentRow]) -> Result<(), KeepFault>
+        requires fits { IsPastPut kept.now rows.now }
+        ensures cause { CountsFaults self.old.in_file.in_file.faults self.new.in_file.in_file.faults result }
+        ensures said { IsSaid result self.old.in_file.in_file.database.cause self.new.in_file.in_file.database.cause }
+        ensures does { AskedAnew self.new.in_file.in_file.database.kept (AreFound ⟦<KeptPages as Pages>⟧)
+            (Stores ⟦<KeptStore as Store>⟧ (RoomAnew rows.now) FitsAny (anew kept.now rows.now)) result }
+    {
+        self.in_file.put_anew(kept, rows)
+    }
+}

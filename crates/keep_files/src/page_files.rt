@@ -1,0 +1,255 @@
+// The two files of a database: by their trees where they are exactly ours, or whole.
+ghost use Rattle.std.specs.Prelude.{IsTrue, IfOk, IfSome};
+ghost use Rattle.sqlite_pool.specs.Opening.{AreUsable};
+ghost use Rattle.sqlite_store.specs.Unopened.{AreUsable as MayOpen};
+ghost use Rattle.keep_files.specs.Looks.{AreFound, FindsTrees};
+
+use crate::at_path::AtPath;
+use crate::cause::{Cause, cause_at_close, cause_of};
+use crate::kept::Kept;
+use crate::objects::our_objects;
+use keep_trees::{PageTrees, recovered};
+use sqlite::{Connection, FileStore, Files, Options};
+use sqlite_disk::Disk;
+use sqlite_pager::Pager;
+use sqlite_pages::Pages;
+use sqlite_pool::Pool;
+use sqlite_store::Unopened;
+use sqlite_wal::{PageSize, probe_first_page, probe_page_size};
+use std::alloc::Global;
+use std::hash::{BuildHasher, RandomState};
+use std::rt::HostRuntime;
+
+/// The page size of a file that the programs made.
+const PAGE_SIZE: usize = 4096;
+
+/// Bytes 20 to 23 of the first page where no byte of a page is set aside, as it would be for a sum.
+const NO_SUMS: u32 = 0x0040_2020;
+
+/// The size of the pages of files, where it is ours and the first page is that of a database whose pages have no sums.
+/// Nothing is written.
+fn our_page_size<D: Disk>(alloc: Global, files: &mut Files<D>) -> Option<PageSize>
+    requires log { IsTrue (D.Disk.is_usable files.old.log) }
+    requires db { IsTrue (D.Disk.is_usable files.old.db) }
+    ensures log { IsTrue (D.Disk.is_usable files.new.log) }
+    ensures db { IsTrue (D.Disk.is_usable files.new.db) }
+{
+    let Ok(Some(size)) = probe_page_size(files) else {
+        return None;
+    };
+    if size.bytes() != PAGE_SIZE {
+        return None;
+    }
+    let Ok(head) = probe_first_page(alloc, files, size) else {
+        return None;
+    };
+    if head.0 != b'S' || head.1 != NO_SUMS {
+        return None;
+    }
+    Some(size)
+}
+
+/// The pages of files, of which nothing is read yet.
+fn pool_over<D: Disk>(
+    alloc: Global,
+    files: Files<D>,
+    size: PageSize,
+    seed: u64,
+) -> Result<Pool<D>, Files<D>>
+    requires log { IsTrue (D.Disk.is_usable files.log) }
+    requires db { IsTrue (D.Disk.is_usable files.db) }
+    ensures { IfOk result AreUsable }
+{
+    let pager = match Pager::new(alloc, files, size, Options::new(seed)) {
+        Ok(pager) => pager,
+        Err(failed) => return Err(failed.value),
+    };
+    match Pool::new(alloc, pager, false) {
+        Ok(pool) => Ok(pool),
+        Err(failed) => Err(failed.value.close()),
+    }
+}
+
+/// The trees of files that are exactly ours. Other files are given back, and what they hold is as it was.
+pub fn trees_of<D: Disk + Drop>(
+    alloc: Global,
+    mut files: Files<D>,
+    seed: u64,
+) -> Result<PageTrees<Pool<D>>, Files<D>>
+    requires log { IsTrue (D.Disk.is_usable files.log) }
+    requires db { IsTrue (D.Disk.is_usable files.db) }
+    ensures { IfOk result (AreFound ⟦<Pool<D> as Pages>⟧) }
+{
+    let Some(size) = our_page_size(alloc, &mut files) else {
+        return Err(files);
+    };
+    let pool = match pool_over(alloc, files, size, seed) {
+        Ok(pool) => pool,
+        Err(files) => return Err(files),
+    };
+    let pool = match recovered(pool) {
+        Ok(pool) => pool,
+        Err((_, pool)) => return Err(pool.close()),
+    };
+    match listed(alloc, pool) {
+        Ok(trees) => Ok(trees),
+        Err(pool) => Err(pool.close()),
+    }
+}
+
+/// The trees of pages that list exactly ours. Other pages are given back.
+fn listed<P: Pages>(alloc: Global, pages: P) -> Result<PageTrees<P>, P>
+    ensures { IfOk result (AreFound P.Pages) }
+{
+    match PageTrees::open(alloc, pages) {
+        Ok(trees) => Ok(trees),
+        Err(pages) => Err(pages),
+    }
+}
+
+/// A connection over files, which are read and checked whole.
+pub fn connected<D: Disk + Drop>(
+    rt: &HostRuntime,
+    files: Files<D>,
+    seed: u64,
+) -> Result<Connection<FileStore<D>>, Cause> {
+    if !files.may_be_used() {
+        return Err(Cause::DiskFailed);
+    }
+    match Connection::open_files_with(rt.alloc(), files, Options::new(seed), false) {
+        Ok(mut conn) => {
+            conn.set_clock(rt);
+            Ok(conn)
+        }
+        Err((error, _)) => Err(cause_of(error)),
+    }
+}
+
+/// Copies into the database file what the log has, and lets both go.
+pub fn shut<D: Disk + Drop>(mut pool: Pool<D>) -> Result<(), Cause> {
+    let before = pool.tally().refused;
+    let copied = pool.checkpoint();
+    let no_room = before < pool.tally().refused;
+    drop(pool.close());
+    match copied {
+        Ok(()) => Ok(()),
+        Err(error) => Err(cause_at_close(error, no_room)),
+    }
+}
+
+/// A random number.
+pub fn seeded(rt: &HostRuntime) -> Result<u64, Cause> {
+    match RandomState::new(rt) {
+        Ok(random) => Ok(random.hash_one(&0u8)),
+        Err(_) => Err(Cause::Unopened),
+    }
+}
+
+/// The file at a path, whole.
+pub fn open_whole<D: AtPath>(
+    rt: &HostRuntime,
+    path: &str,
+) -> Result<Connection<FileStore<D>>, Cause> {
+    let seed = seeded(rt)?;
+    let files = D::open(rt, path)?;
+    connected(rt, files, seed)
+}
+
+/// The files of a store that is not open yet, of which nothing is read.
+fn unopened_over<D: Disk + Drop>(
+    alloc: Global,
+    files: Files<D>,
+    size: PageSize,
+    seed: u64,
+) -> Result<Unopened<D>, Files<D>>
+    requires log { IsTrue (D.Disk.is_usable files.log) }
+    requires db { IsTrue (D.Disk.is_usable files.db) }
+    ensures { IfOk result MayOpen }
+{
+    let pager = match Pager::new(alloc, files, size, Options::new(seed)) {
+        Ok(pager) => pager,
+        Err(failed) => return Err(failed.value),
+    };
+    match Unopened::new(alloc, pager, &our_objects()) {
+        Ok(unopened) => Ok(unopened),
+        Err(failed) => Err(failed.value.close()),
+    }
+}
+
+/// The store of files whose pages and trees are sound and ours. Other files are given back.
+fn checked<D: Disk + Drop>(
+    alloc: Global,
+    mut files: Files<D>,
+    seed: u64,
+) -> Result<FileStore<D>, Files<D>> {
+    if !files.may_be_used() {
+        return Err(files);
+    }
+    let Some(size) = our_page_size(alloc, &mut files) else {
+        return Err(files);
+    };
+    let unopened = match unopened_over(alloc, files, size, seed) {
+        Ok(unopened) => unopened,
+        Err(files) => return Err(files),
+    };
+    match unopened.open() {
+        Ok(store) => Ok(store),
+        Err((_, unopened)) => Err(unopened.close()),
+    }
+}
+
+/// The store of files, or a connection over them where it cannot be had.
+pub fn stored<D: Disk + Drop>(
+    rt: &HostRuntime,
+    files: Files<D>,
+) -> Result<Kept<FileStore<D>, Connection<FileStore<D>>>, Cause> {
+    let seed = seeded(rt)?;
+    let files = match checked(rt.alloc(), files, seed) {
+        Ok(store) => return Ok(Kept::Trees(store)),
+        Err(files) => files,
+    };
+    match connected(rt, files, seed) {
+        Ok(conn) => Ok(Kept::Whole(conn)),
+        Err(cause) => Err(cause),
+    }
+}
+
+/// The trees of files that a store gave back, if they are exactly ours. Else the files are let go.
+pub fn listed_again<D: Disk + Drop>(rt: &HostRuntime, files: Files<D>) -> Option<PageTrees<Pool<D>>>
+    ensures { IfSome result (AreFound ⟦<Pool<D> as Pages>⟧) }
+{
+    if !files.may_be_used() {
+        return None;
+    }
+    let Ok(seed) = seeded(rt) else {
+        return None;
+    };
+    match trees_of(rt.alloc(), files, seed) {
+        Ok(trees) => Some(trees),
+        Err(_) => None,
+    }
+}
+
+/// The trees of the file at a path where it is exactly ours, or else the file whole.
+pub fn open_to_read<D: AtPath>(
+    rt: &HostRuntime,
+    path: &str,
+) -> Result<Kept<PageTrees<Pool<D>>, Connection<FileStore<D>>>, Cause>
+    ensures { IfOk result (FindsTrees ⟦<Pool<D> as Pages>⟧) }
+{
+    let Ok(seed) = seeded(rt) else {
+        return Err(Cause::Unopened);
+    };
+    let files = match D::open(rt, path) {
+        Ok(files) => files,
+        Err(cause) => return Err(cause),
+    };
+    let files = match trees_of(rt.alloc(), files, seed) {
+        Ok(trees) => return Ok(Kept::Trees(trees)),
+        Err(files) => files,
+    };
+    match connected(rt, files, seed) {
+        Ok(conn) => Ok(Kept::Whole(conn)),
+        Err(cause) => Err(cause),
+    }
+}

@@ -1,0 +1,14 @@
+pub mod CallLaws
+pub mod HistoryLaws
+pub mod PastRows
+pub mod RowOrder
+pub mod SoundLaws
+pub mod StoredLaws
+pub mod TariffLaws
+pub mod WorkedLaws
+pub mod ListFacts
+pub mod AnewLaws
+pub mod RenewalHistoryLaws
+pub mod FileLaws
+pub mod DayLaws
+pub mod RenewLaws

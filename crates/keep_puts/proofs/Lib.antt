@@ -1,0 +1,11 @@
+mod KeyLaws
+mod PassingLaws
+mod HandingLaws
+pub mod ListLaws
+pub mod TreeLaws
+pub mod AmountLaws
+pub mod OfficeLaws
+pub mod CauseLaws
+pub mod StoreLaws
+pub mod TariffLaws
+pub mod ClearLaws

@@ -1,0 +1,33 @@
+use Rattle.std.proofs.Common.{sym, subst, arith}
+use Rattle.sqlite_trees.specs.View.{IsClean}
+use Rattle.sqlite.proofs.StateLemmas.{clean_if_open}
+use Rattle.sqlite.proofs.StreamLemmas.{is_open_now}
+use Rattle.keep_office.specs.Renewed.{anew}
+use Rattle.keep_tables.specs.Steps.{FitsAny}
+use Rattle.keep_puts.specs.Room.{RoomAnew, TakesAnew}
+use Rattle.keep_puts.proofs.CauseLaws.{commit_err}
+use Rattle.keep_puts.proofs.StoreLaws.{finished}
+use Rattle.keep_puts.proofs.anew.put_anew.Goals as goal
+
+pub returns : goal.returns
+returns g c =
+    let written = c.write_anew.new.store in
+    finished g.S.Store (RoomAnew c.args.rows.now) FitsAny (anew c.args.kept.now c.args.rows.now)
+    c.args.store.now c.begin.new.store written c.finish.new.store c.in_ok-done.done c.finish.result
+    (λ clean. (c.in_ok-begin.ensures.settled clean).1) c.begin.ensures.stays c.begin.ensures.quiet.outcomes
+    (λ clean. omega (arith, c.write_anew.ensures.quiet.clean)) c.in_ok-done.ensures.wrote
+    c.in_ok-done.ensures.frame c.write_anew.ensures.quiet.outcomes
+    (λ sound. clean_if_open (g.S.Store.view written) (g.met.S.Store.shut_if_dirty written)
+    (is_open_now g.S.Store written (g.met.S.Store.broken_if_shut written) sound))
+    (λ clean. omega (arith, c.finish.ensures.clean)) c.finish.ensures.same c.finish.ensures.commits
+    c.finish.ensures.stays c.finish.ensures.crash
+    (λ late room.
+    let early : IsClean (g.S.Store.view c.begin.new.store) = omega (arith, late, c.write_anew.ensures.quiet.clean) in
+    c.in_ok-done.ensures.room late
+    (subst (TakesAnew c.args.rows.now) (sym (c.in_ok-begin.ensures.settled early).1) room.takes))
+    (λ clean.
+    let late : IsClean (g.S.Store.view written) = omega (arith, clean, c.finish.ensures.clean) in
+    let early : IsClean (g.S.Store.view c.begin.new.store) = omega (arith, late, c.write_anew.ensures.quiet.clean) in
+    commit_err g.S.Store c.finish.result c.args.store.now c.begin.new.store written c.finish.new.store
+    c.begin.ensures.quiet.counts c.write_anew.ensures.quiet.counts (c.in_ok-begin.ensures.sound early)
+    (c.in_ok-done.ensures.frame late) (c.finish.ensures.why clean))

@@ -1,0 +1,95 @@
+use Rattle.std.proofs.Common.{◌≡◌, ℕ, [], ◌∷◌, pos, true, false, refl, sym, subst, subst₂, ◌∙◌, arith, List}
+use Rattle.std.proofs.lemmas.Result.{err_from_is_err_and}
+use Rattle.sqlite_pages.specs.PageMap.{PageMap}
+use Rattle.sqlite_value.specs.declared.value.Value.TheVariants.{Int}
+use Rattle.sqlite_value.specs.Order.{Row}
+use Rattle.sqlite_btree.proofs.Results.{within_limit}
+use Rattle.sqlite_store.specs.Db.{trees_in}
+use Rattle.sqlite_store.proofs.Causes.{Continues-trans}
+use Rattle.road_time.specs.declared.day.SpentRow.{SpentRow}
+use Rattle.keep_trees.specs.Pages.{our_trees, StandForOffice}
+use Rattle.keep_trees.specs.Walks.{StartsAt}
+use Rattle.keep_trees.specs.Rows.{is_within, Walking, IsWalkedTo}
+use Rattle.keep_trees.proofs.Premise.{key_at, listed}
+use Rattle.keep_trees.proofs.RowsLaws.{IsSkipped, resumes}
+use Rattle.keep_trees.proofs.WantedLaws.{early_days}
+use Rattle.sqlite_keyed.proofs.ListLemmas.{all_of}
+use Rattle.keep_trees.proofs.gathering.gathered.Goals as goal
+
+pub returns-in_err-found-clause-done : goal.returns-in_err-found-clause-done
+returns-in_err-found-clause-done g c clean o has =
+    let p = err_from_is_err_and c.from_residual-in_err-found.result c.from_residual-in_err-found.ensures.1 in
+    rw (p.1, p.2) ((c.in_err-found.ensures.done (omega arith)) 2 has.holds.db (key_at has) refl)
+
+pub returns-then-not-found-clause-done : goal.returns-then-not-found-clause-done
+returns-then-not-found-clause-done g c clean o has =
+    let size = g.P.Pages.size c.args.pages.now in
+    let pages = g.P.Pages.pages c.args.pages.now in
+    let key : c.set_day.new.key ≡ Int (pos c.args.from) ∷ [] = c.in_ok-set_day.ensures in
+    let starts =
+    subst₂ (λ (k : Row) f. StartsAt (has.holds.db.layouts 3) size pages
+    (trees_in size our_trees pages 2) k c.first_entry.new.batch c.first_entry.new.entry f)
+    key c.if-not-found.true ((c.in_ok-found.ensures.done (omega arith)) 2 has.holds.db (key_at has) refl) in
+    c.new-rows.ensures.items
+    ∙ resumes o (is_within c.args.from c.args.to) has.holds.db (Int (pos c.args.from) ∷ []) [] o.rows
+    (trees_in size our_trees pages 2) []
+    refl refl (listed has) refl (all_of (IsSkipped (is_within c.args.from c.args.to) (Int (pos c.args.from) ∷ []))
+    (early_days c.args.from c.args.to) o.rows)
+    c.first_entry.new.batch c.first_entry.new.entry false starts
+
+pub walk-init : goal.walk-init
+walk-init g c = (
+  c.first_entry.ensures.kept,
+  c.first_entry.ensures.pages,
+  λ clean o has.
+      let size = g.P.Pages.size c.args.pages.now in
+      let pages = g.P.Pages.pages c.args.pages.now in
+      let key : c.set_day.new.key ≡ Int (pos c.args.from) ∷ [] = c.in_ok-set_day.ensures in
+      let starts =
+      subst₂ (λ (k : Row) f. StartsAt (has.holds.db.layouts 3) size pages
+      (trees_in size our_trees pages 2) k c.first_entry.new.batch c.first_entry.new.entry f)
+      key c.if-not-found.false ((c.in_ok-found.ensures.done (omega arith)) 2 has.holds.db (key_at has) refl) in
+      subst (λ (l : List SpentRow). Walking size pages o
+      (is_within c.args.from c.args.to) c.first_entry.new.batch c.first_entry.new.entry l)
+      (sym c.new-rows.ensures.items)
+      (resumes o (is_within c.args.from c.args.to) has.holds.db (Int (pos c.args.from) ∷ []) [] o.rows
+      (trees_in size our_trees pages 2) []
+      refl refl (listed has) refl (all_of (IsSkipped (is_within c.args.from c.args.to) (Int (pos c.args.from) ∷ []))
+      (early_days c.args.from c.args.to) o.rows)
+      c.first_entry.new.batch c.first_entry.new.entry true starts),
+)
+
+pub returns-in_err-more-clause-done : goal.returns-in_err-more-clause-done
+returns-in_err-more-clause-done g c clean o has =
+    let size = g.P.Pages.size c.args.pages.now in
+    let pages = g.P.Pages.pages c.args.pages.now in
+    let kept = c.walk.invariant.0 in
+    let p = err_from_is_err_and c.from_residual-in_err-more.result c.from_residual-in_err-more.ensures.1 in
+    let w = c.walk.invariant.2 (omega (arith, c.step.ensures.kept.clean)) o has in
+    let cause =
+    (c.in_err-more.ensures.done (omega arith)) o
+    (subst₂ (λ n m. StandForOffice n m c.args.roots o) (sym kept.same_size) (sym c.walk.invariant.1) has)
+    (subst₂ (λ n m. Walking n m o (is_within c.args.from c.args.to) c.walk.hands.batch c.walk.hands.entry
+    c.walk.rows.items)
+    (sym kept.same_size) (sym c.walk.invariant.1) w) in
+    rw (p.1, p.2) (within_limit _ _ _ ⊥ _ kept.more_faults cause)
+
+pub walk-preserved : goal.walk-preserved
+walk-preserved g c = (
+  Continues-trans g.P.Pages g.met.P.Pages.follows_trans c.walk.invariant.0 c.step.ensures.kept,
+  c.step.ensures.pages ∙ c.walk.invariant.1,
+  λ clean o has.
+      let kept = c.walk.invariant.0 in
+      let w = c.walk.invariant.2 (omega (arith, c.step.ensures.kept.clean)) o has in
+      let done =
+      subst₂ (λ (n : ℕ) (m : PageMap). StandForOffice n m c.args.roots o
+      → Walking n m o (is_within c.args.from c.args.to) c.walk.hands.batch c.walk.hands.entry c.walk.rows.items
+      → IsWalkedTo n m o (is_within c.args.from c.args.to) c.step.new.hands.batch c.step.new.hands.entry
+      c.step.new.rows.items true)
+      kept.same_size c.walk.invariant.1
+      (λ there walking.
+      subst (IsWalkedTo (g.P.Pages.size c.walk.pages) (g.P.Pages.pages c.walk.pages) o
+      (is_within c.args.from c.args.to) c.step.new.hands.batch c.step.new.hands.entry c.step.new.rows.items)
+      c.if-not-more.false ((c.in_ok-more.ensures.done (omega arith)) o there walking)) in
+      done has w,
+)

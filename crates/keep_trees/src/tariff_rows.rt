@@ -1,0 +1,97 @@
+// The rows of tariffs.
+ghost use Rattle.std.specs.Prelude.{◌≡◌, ◌+◌, ℕ, IfOk, MatchResult};
+ghost use Rattle.sqlite_pages.specs.Calls.{IsClean, Continues, FailsFor};
+ghost use Rattle.road_time.specs.declared.tariff.Tariff.{Tariff as Fare};
+ghost use Rattle.road_time.specs.Rates.{IsTariff};
+ghost use Rattle.keep_office.specs.Office.{Office};
+ghost use Rattle.keep_tables.specs.Codec.{tariff_row};
+ghost use Rattle.keep_trees.specs.Pages.{StandForOffice};
+ghost use Rattle.keep_trees.specs.Own.{tariffs_below};
+
+use crate::finds::find_row;
+use crate::hands::Hands;
+use crate::roots::Roots;
+use crate::values::{number_8, number_32};
+use road_time::{Tariff, Tariffs};
+use sqlite_pages::{Error, Pages};
+use sqlite_value::row::Row;
+use std::alloc::Global;
+
+/// The tariff that a row is, which is valid.
+fn tariff_of(row: &Row) -> Result<Tariff, Error>
+    ensures valid { IfOk result IsTariff }
+    ensures gives { (xway : ℕ) (t : Fare) → IsTariff t → row.now ≡ tariff_row (xway, t)
+        → MatchResult result (λ own. own ≡ t) (λ e. ⊥) }
+{
+    let crowd = number_32(row, 2)?;
+    let speed = number_8(row, 3)?;
+    let factor = number_8(row, 4)?;
+    if crowd > 500_000 {
+        return Err(Error::Corrupt);
+    }
+    if speed > 100 {
+        return Err(Error::Corrupt);
+    }
+    if factor > 20 {
+        return Err(Error::Corrupt);
+    }
+    Ok(Tariff {
+        crowd,
+        speed,
+        factor,
+    })
+}
+
+/// Takes the tariff of an expressway up, if it has one of its own.
+fn add_tariff<P: Pages>(
+    pages: &mut P,
+    hands: &mut Hands,
+    roots: Roots,
+    xway: u8,
+    tariffs: &mut Tariffs,
+) -> Result<(), Error>
+    ensures done { IsClean P.Pages pages.new → (o : Office)
+        → StandForOffice (P.Pages.size pages.old) (P.Pages.pages pages.old) roots o
+        → tariffs.old ≡ tariffs_below xway o.tariffs
+        → MatchResult result (λ _. tariffs.new ≡ tariffs_below (xway + 1) o.tariffs)
+        (FailsFor P.Pages pages.old pages.new ⊥) }
+    ensures kept { Continues P.Pages pages.old pages.new }
+    ensures pages { P.Pages.pages pages.new ≡ P.Pages.pages pages.old }
+{
+    let there = find_row(
+        pages,
+        &mut hands.scratch,
+        roots.tariffs,
+        i64::from(xway),
+        &mut hands.payload,
+        &mut hands.row,
+    )?;
+    if !there {
+        return Ok(());
+    }
+    let tariff = tariff_of(&hands.row)?;
+    match tariffs.set(xway, &tariff) {
+        Ok(()) => Ok(()),
+        Err(_) => Err(Error::OutOfMemory),
+    }
+}
+
+/// The tariffs of the expressways that have their own.
+pub fn own_tariffs<P: Pages>(
+    pages: &mut P,
+    hands: &mut Hands,
+    roots: Roots,
+    alloc: Global,
+) -> Result<Tariffs, Error>
+    ensures done { IsClean P.Pages pages.new → (o : Office)
+        → StandForOffice (P.Pages.size pages.old) (P.Pages.pages pages.old) roots o
+        → MatchResult result (λ tariffs. tariffs ≡ o.tariffs) (FailsFor P.Pages pages.old pages.new ⊥) }
+    ensures kept { Continues P.Pages pages.old pages.new }
+    ensures pages { P.Pages.pages pages.new ≡ P.Pages.pages pages.old }
+{
+    let mut tariffs = Tariffs::new(alloc);
+    'xways: for xway in 0..256u32 {
+        add_tariff(pages, hands, roots, xway as u8, &mut tariffs)?;
+    }
+    Ok(tariffs)
+}

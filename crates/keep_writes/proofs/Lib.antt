@@ -1,0 +1,4 @@
+pub mod CauseLaws
+pub mod GrowLaws
+pub mod LeaveLaws
+pub mod ObjectLaws

@@ -1,0 +1,44 @@
+use Rattle.std.proofs.Common.{◌∙◌, IsTrue, arith}
+use Rattle.sqlite.specs.Held.{state}
+use Rattle.sqlite.specs.State.{HasCleanDisk}
+use Rattle.keep_tables.specs.Stands.{contents_of}
+use Rattle.keep_tables.proofs.PutLaws.{stays_then, shows_then, survives_both}
+use Rattle.keep_writes.proofs.GrowLaws.{on_ok}
+use Rattle.keep_writes.proofs.makings.finish_tables.Goals as goal
+
+pub returns-clause-wrote : goal.returns-clause-wrote
+returns-clause-wrote g c clean inside o has =
+    let first = state g.S.Store c.make_rest.new.tx.conn.now in
+    let second = state g.S.Store c.seal_tables.new.tx.conn.now in
+    let late : HasCleanDisk second = omega (arith, c.put_version.ensures.survives.clean) in
+    let early : HasCleanDisk first = omega (arith, late, c.seal_tables.ensures.survives.clean) in
+    let rest = c.in_ok-make_rest.ensures.made early inside o has in
+    let one = c.in_ok-make_rest.ensures.inside early inside in
+    let in_first : IsTrue first.in_transaction = one.mode ∙ inside in
+    let sealed = c.in_ok-seal_tables.ensures.seals late in_first o rest in
+    let in_second : IsTrue second.in_transaction = (c.in_ok-seal_tables.ensures.inside late one.is_open in_first).mode
+    ∙ in_first in
+    on_ok c.put_version.result _ _ (c.put_version.ensures.puts clean in_second (contents_of o) sealed)
+    (λ tables. record { tables = tables; fits = rest.fits; sound = rest.sound })
+
+pub returns-clause-inside : goal.returns-clause-inside
+returns-clause-inside g c clean inside =
+    let old = state g.S.Store c.args.tx.now.conn.now in
+    let first = state g.S.Store c.make_rest.new.tx.conn.now in
+    let second = state g.S.Store c.seal_tables.new.tx.conn.now in
+    let new = state g.S.Store c.put_version.new.tx.conn.now in
+    let late : HasCleanDisk second = omega (arith, c.put_version.ensures.survives.clean) in
+    let early : HasCleanDisk first = omega (arith, late, c.seal_tables.ensures.survives.clean) in
+    let one = c.in_ok-make_rest.ensures.inside early inside in
+    let two = c.in_ok-seal_tables.ensures.inside late one.is_open (one.mode ∙ inside) in
+    stays_then old second new c.put_version.result (shows_then old first second one two)
+    (c.put_version.ensures.inside clean (two.mode ∙ (one.mode ∙ inside)))
+
+pub returns-clause-survives : goal.returns-clause-survives
+returns-clause-survives g c =
+    let old = state g.S.Store c.args.tx.now.conn.now in
+    let first = state g.S.Store c.make_rest.new.tx.conn.now in
+    let second = state g.S.Store c.seal_tables.new.tx.conn.now in
+    survives_both old second (state g.S.Store c.put_version.new.tx.conn.now)
+    (survives_both old first second c.make_rest.ensures.survives c.seal_tables.ensures.survives)
+    c.put_version.ensures.survives

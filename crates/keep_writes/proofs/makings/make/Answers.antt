@@ -1,0 +1,40 @@
+use Rattle.std.proofs.Common.{sym, subst, ◌∙◌, arith}
+use Rattle.sqlite.specs.Effect.{Database}
+use Rattle.sqlite.specs.Held.{state}
+use Rattle.sqlite.specs.State.{HasCleanDisk}
+use Rattle.keep_tables.specs.Stands.{StandsForOffice}
+use Rattle.keep_writes.proofs.GrowLaws.{on_err, err_stands}
+use Rattle.keep_writes.proofs.LeaveLaws.{same_survives, left_there}
+use Rattle.keep_writes.proofs.makings.make.Goals as goal
+
+pub returns-in_err-settle-clause-stands : goal.returns-in_err-settle-clause-stands
+returns-in_err-settle-clause-stands g c clean here o stands =
+    err_stands (state g.S.Store c.args.conn.now) (state g.S.Store c.settle.new.conn) c.from_residual.result _ o
+    c.from_residual.ensures.0 here stands (c.settle.ensures.kept clean)
+
+pub returns-clause-stands : goal.returns-clause-stands
+returns-clause-stands g c clean here o stands =
+    let mid = state g.S.Store c.settle.new.conn in
+    let early : HasCleanDisk mid = omega (arith, c.make_here.ensures.crash.clean) in
+    let before = c.make_here.ensures.open clean here in
+    let now = c.in_ok-settle.ensures.settled early before in
+    let kept = (c.settle.ensures.kept early).committed before in (
+      c.make_here.ensures.made clean now o (subst (λ (d : Database). StandsForOffice d o) (sym (now ∙ kept)) stands),
+      on_err c.make_here.result _ _ (c.make_here.ensures.refused clean)
+          (λ same. subst (λ (d : Database). StandsForOffice d o) (sym (same.committed here ∙ kept)) stands),
+    )
+
+pub returns-clause-left : goal.returns-clause-left
+returns-clause-left g c clean foreign =
+    let mid = state g.S.Store c.settle.new.conn in
+    let early : HasCleanDisk mid = omega (arith, c.make_here.ensures.crash.clean) in
+    left_there (state g.S.Store c.args.conn.now) mid (state g.S.Store c.make_here.new.conn)
+    (c.make_here.ensures.open clean) (c.in_ok-settle.ensures.settled early) (c.settle.ensures.kept early)
+    (c.make_here.ensures.left clean) foreign
+
+pub returns-clause-crash : goal.returns-clause-crash
+returns-clause-crash g c =
+    same_survives (state g.S.Store c.args.conn.now) (state g.S.Store c.settle.new.conn)
+    (state g.S.Store c.make_here.new.conn)
+    (λ early here. c.in_ok-settle.ensures.settled early here) c.settle.ensures.kept c.settle.ensures.survives
+    c.make_here.ensures.crash

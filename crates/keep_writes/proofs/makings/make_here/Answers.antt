@@ -1,0 +1,48 @@
+use Rattle.std.proofs.Common.{Bool, sym, subst, ◌∙◌, arith}
+use Rattle.sqlite.specs.Effect.{Database}
+use Rattle.sqlite.specs.Held.{state}
+use Rattle.sqlite.specs.Listing.{understood}
+use Rattle.sqlite.specs.State.{HasCleanDisk}
+use Rattle.keep_tables.specs.Stands.{HasOffice, StandsForOffice}
+use Rattle.keep_tables.specs.Texts.{find_version}
+use Rattle.keep_writes.specs.Growth.{IsUnderstood, SaysIf, LacksVersion}
+use Rattle.keep_tables.proofs.StepLaws.{kept_then}
+use Rattle.keep_writes.specs.Objects.{MayBeMade}
+use Rattle.keep_writes.proofs.GrowLaws.{six_there}
+use Rattle.keep_writes.proofs.LeaveLaws.{open_survives}
+use Rattle.keep_writes.proofs.makings.make_here.Goals as goal
+
+pub returns-then-branch-clause-made : goal.returns-then-branch-clause-made
+returns-then-branch-clause-made g c clean same o stands =
+    let old = state g.S.Store c.args.conn.now in
+    let said = subst (λ (b : Bool). SaysIf b (IsUnderstood (understood old.now.schema find_version))) c.if-branch.true
+    (c.in_ok-is_there.ensures.says clean) in
+    subst (λ (d : Database). HasOffice d o) (sym ((c.in_ok-is_there.ensures.same clean).0.committed_is ∙ sym same))
+    (six_there old.now o stands said)
+
+pub returns-clause-made : goal.returns-clause-made
+returns-clause-made g c clean same o stands =
+    let old = state g.S.Store c.args.conn.now in
+    let early : HasCleanDisk (state g.S.Store c.is_there.new.conn) = omega (arith, c.grow_by.ensures.crash.clean) in
+    let lacks = subst (λ (b : Bool). SaysIf b (IsUnderstood (understood old.now.schema find_version))) c.if-branch.false
+    (c.in_ok-is_there.ensures.says early) in
+    let now = (c.in_ok-is_there.ensures.same early).0.now_is in
+    c.grow_by.ensures.grown clean (subst LacksVersion (sym now) lacks) o
+    (subst (λ (d : Database). StandsForOffice d o) (sym now) stands)
+
+pub returns-clause-left : goal.returns-clause-left
+returns-clause-left g c clean foreign =
+    let old = state g.S.Store c.args.conn.now in
+    let mid = state g.S.Store c.is_there.new.conn in
+    let early : HasCleanDisk mid = omega (arith, c.grow_by.ensures.crash.clean) in
+    kept_then old mid (state g.S.Store c.grow_by.new.conn) (c.is_there.ensures.kept early)
+    (c.grow_by.ensures.left clean
+    (λ made. foreign (subst MayBeMade (c.in_ok-is_there.ensures.same early).0.now_is made)))
+
+pub returns-clause-crash : goal.returns-clause-crash
+returns-clause-crash g c =
+    let old = state g.S.Store c.args.conn.now in
+    open_survives old (state g.S.Store c.is_there.new.conn) (state g.S.Store c.grow_by.new.conn)
+    c.in_ok-is_there.ensures.same
+    (λ early. subst (λ (b : Bool). SaysIf b (IsUnderstood (understood old.now.schema find_version))) c.if-branch.false
+    (c.in_ok-is_there.ensures.says early)) c.is_there.ensures.survives c.grow_by.ensures.crash

@@ -1,0 +1,84 @@
+use Rattle.std.proofs.Common.{sym, subst, ◌∙◌, arith, inl, inr}
+use Rattle.sqlite.specs.Held.{state}
+use Rattle.sqlite.specs.Effect.{Database}
+use Rattle.sqlite.specs.State.{HasCleanDisk}
+use Rattle.keep_tables.specs.Steps.{FitsAny}
+use Rattle.keep_tables.proofs.CrashLaws.{put_survives}
+use Rattle.keep_office.specs.Kept.{with_tariff_of}
+use Rattle.keep_tables.specs.Stands.{HasOffice}
+use Rattle.keep_writes.specs.Causes.{IsTold}
+use Rattle.keep_writes.specs.Writes.{WritesTariff}
+use Rattle.keep_writes.proofs.CauseLaws.{cause_of, refused_after, refused_idle}
+use Rattle.keep_tables.proofs.StepLaws.{kept_then}
+use Rattle.keep_writes.proofs.puts.put_tariff.Goals as goal
+
+pub returns-in-Err-clause-why : goal.returns-in-Err-clause-why
+returns-in-Err-clause-why g c clean =
+    let writes = WritesTariff c.args.xway c.args.tariff.now in
+    cause_of g.S.Store writes c.args.conn.now c.settle.new.conn c.refusal_told.result c.in-Err.error
+    c.refusal_told.ensures.fault
+    (refused_idle g.S.Store writes c.args.conn.now c.settle.new.conn c.in-Err.error (c.in-Err.ensures.refused clean))
+
+pub returns-in-Ok-clause-open : goal.returns-in-Ok-clause-open
+returns-in-Ok-clause-open g c clean = (c.in-Ok.ensures.open clean).1
+
+pub returns-in-Ok-clause-put : goal.returns-in-Ok-clause-put
+returns-in-Ok-clause-put g c clean o has =
+    let mid = state g.S.Store c.settle.new.conn in
+    let early : HasCleanDisk mid = omega (arith, c.replace.ensures.crash.clean) in
+    let before = (c.in-Ok.ensures.open clean).0 in
+    let now = c.in_default.ensures.settled early before ∙ (c.settle.ensures.kept early).committed before in
+    c.in-Ok.ensures.put clean o (subst (λ (db : Database). HasOffice db o) (sym now) has)
+
+pub returns-in-Ok-clause-crash : goal.returns-in-Ok-clause-crash
+returns-in-Ok-clause-crash g c =
+    put_survives (state g.S.Store c.args.conn.now) (state g.S.Store c.settle.new.conn)
+    (state g.S.Store c.replace.new.conn) FitsAny (with_tariff_of c.args.xway c.args.tariff.now)
+    (λ clean here. c.in_default.ensures.settled clean here) c.settle.ensures.kept c.settle.ensures.survives
+    c.replace.ensures.crash
+
+pub returns-in-Err-replace-clause-crash : goal.returns-in-Err-replace-clause-crash
+returns-in-Err-replace-clause-crash g c =
+    put_survives (state g.S.Store c.args.conn.now) (state g.S.Store c.settle.new.conn)
+    (state g.S.Store c.replace.new.conn) FitsAny (with_tariff_of c.args.xway c.args.tariff.now)
+    (λ clean here. c.in_default.ensures.settled clean here) c.settle.ensures.kept c.settle.ensures.survives
+    c.replace.ensures.crash
+
+pub returns-in-Err-replace-clause-refused : goal.returns-in-Err-replace-clause-refused
+returns-in-Err-replace-clause-refused g c clean =
+    kept_then (state g.S.Store c.args.conn.now) (state g.S.Store c.settle.new.conn) (state g.S.Store c.replace.new.conn)
+    (c.settle.ensures.kept (omega (arith, c.replace.ensures.crash.clean))) (c.in-Err-replace.ensures.refused clean)
+
+pub returns-in-Err-replace-clause-why : goal.returns-in-Err-replace-clause-why
+returns-in-Err-replace-clause-why g c clean =
+    let mid = state g.S.Store c.settle.new.conn in
+    let early : HasCleanDisk mid = omega (arith, c.replace.ensures.crash.clean) in
+    let calm = c.in_default.ensures.calm early in
+    elim (c.in-Err-replace.ensures.because clean) [
+      | inl inside ↦ absurd (let e = sym calm ∙ inside in cc)
+      | inr refused ↦ cause_of g.S.Store (WritesTariff c.args.xway c.args.tariff.now)
+          c.args.conn.now c.replace.new.conn c.refusal_told-in-Err-replace.result
+          c.in-Err-replace.error c.refusal_told-in-Err-replace.ensures.fault
+          (refused_after g.S.Store c.args.conn.now c.settle.new.conn c.replace.new.conn _ (c.settle.ensures.kept early)
+          c.settle.ensures.survives refused)
+    ]
+
+pub returns-in-Err-clause-told : goal.returns-in-Err-clause-told
+returns-in-Err-clause-told g c clean =
+    let writes = WritesTariff c.args.xway c.args.tariff.now in
+    subst (IsTold g.S.Store writes c.args.conn.now c.settle.new.conn) (sym c.refusal_told.ensures.says)
+    (refused_idle g.S.Store writes c.args.conn.now c.settle.new.conn c.in-Err.error (c.in-Err.ensures.refused clean))
+
+pub returns-in-Err-replace-clause-told : goal.returns-in-Err-replace-clause-told
+returns-in-Err-replace-clause-told g c clean =
+    let mid = state g.S.Store c.settle.new.conn in
+    let early : HasCleanDisk mid = omega (arith, c.replace.ensures.crash.clean) in
+    let calm = c.in_default.ensures.calm early in
+    elim (c.in-Err-replace.ensures.because clean) [
+      | inl inside ↦ absurd (let e = sym calm ∙ inside in cc)
+      | inr refused ↦ subst
+          (IsTold g.S.Store (WritesTariff c.args.xway c.args.tariff.now) c.args.conn.now c.replace.new.conn)
+          (sym c.refusal_told-in-Err-replace.ensures.says)
+          (refused_after g.S.Store c.args.conn.now c.settle.new.conn c.replace.new.conn _ (c.settle.ensures.kept early)
+          c.settle.ensures.survives refused)
+    ]

@@ -1,0 +1,75 @@
+use Rattle.std.proofs.Common.{◌≡◌, refl, sym, subst, rules, inl, inr, arith, true, [], ◌∷◌, pos, IsTrue}
+use Rattle.sqlite.specs.Held.{state}
+use Rattle.sqlite.specs.State.{HasCleanDisk, Survives}
+use Rattle.keep_office.specs.Kept.{with_tariff_of}
+use Rattle.keep_tables.specs.Steps.{CommitsNow, FitsAny}
+use Rattle.keep_tables.proofs.CrashLaws.{commit_survives}
+use Rattle.sqlite.specs.Steps.{FailsToCommit}
+use Rattle.sqlite_value.specs.declared.value.Value.TheVariants.{Int}
+use Rattle.keep_tables.specs.Texts.{drop_tariff}
+use Rattle.keep_writes.specs.Causes.{RefusedOf, WritesSome}
+use Rattle.keep_writes.specs.Writes.{WritesTariff}
+use Rattle.keep_writes.proofs.CauseLaws.{err_then, err_handed, on_then, commit_refused}
+use Rattle.keep_writes.proofs.CauseLaws.{refused_begun, refused_before}
+use Rattle.keep_writes.proofs.puts.replace.Goals as goal
+
+pub returns-in_err-write-clause-because : goal.returns-in_err-write-clause-because
+returns-in_err-write-clause-because g c clean =
+    let last = c.write.new.tx.conn.now in
+    let end = c.drop-tx.new.self.0 in
+    let begun = c.transaction-tx.ensures.begun in
+    let same : end ≡ c.conn-1.given.0 = search rules in
+    let late : HasCleanDisk (state g.S.Store end) = subst (λ h. HasCleanDisk (state g.S.Store h)) (sym same) clean in
+    let early : HasCleanDisk (state g.S.Store last) = omega (arith, late, c.drop-tx.ensures.survives.clean) in
+    err_handed c.from_residual.result c.in_err-write.field-0.0 _ c.from_residual.ensures.1
+    (inr
+    (subst (λ k. RefusedOf g.S.Store (WritesTariff c.args.xway c.args.tariff.now) c.args.conn.now k c.in_err-write.field-0.0) same
+    (refused_begun g.S.Store c.args.conn.now end _
+    (refused_before g.S.Store (record c.args.conn.now { in_transaction = true }) last end _
+    ((rw begun at (c.in_err-write.ensures.refused early)) refl) c.drop-tx.ensures.survives))))
+
+pub returns-clause-because : goal.returns-clause-because
+returns-clause-because g c clean =
+    let last = c.write.new.tx.conn.now in
+    let end = c.commit.new.self.0 in
+    let begun = c.transaction-tx.ensures.begun in
+    let same : end ≡ c.conn-2-1.given.0 = search rules in
+    let late : HasCleanDisk (state g.S.Store end) = subst (λ h. HasCleanDisk (state g.S.Store h)) (sym same) clean in
+    let early : HasCleanDisk (state g.S.Store last) = omega (arith, late, c.commit.ensures.survives.clean) in
+    let some : WritesSome (WritesTariff c.args.xway c.args.tariff.now) =
+    record { sql = drop_tariff; params = Int (pos c.args.xway) ∷ []; written = inl (refl, refl) } in
+    err_then c.commit.result (FailsToCommit (state g.S.Store last) (state g.S.Store end)) _ (c.commit.ensures.err late)
+    (λ e h. inr
+    (subst (λ k. RefusedOf g.S.Store (WritesTariff c.args.xway c.args.tariff.now) c.args.conn.now k e) same
+    (commit_refused g.S.Store (WritesTariff c.args.xway c.args.tariff.now) some c.args.conn.now last end e
+    ((rw begun at (c.in_ok-write.ensures.inside early)) refl)
+    (rw begun at c.write.ensures.survives) h)))
+
+pub returns-clause-open : goal.returns-clause-open
+returns-clause-open g c clean =
+    let last = c.write.new.tx.conn.now in
+    let end = c.commit.new.self.0 in
+    let begun = c.transaction-tx.ensures.begun in
+    let same : end ≡ c.conn-2-1.given.0 = search rules in
+    let late : HasCleanDisk (state g.S.Store end) = subst (λ h. HasCleanDisk (state g.S.Store h)) (sym same) clean in
+    let early : HasCleanDisk (state g.S.Store last) = omega (arith, late, c.commit.ensures.survives.clean) in
+    on_then c.commit.result _ _ (c.commit.ensures.ok late)
+    (λ h. (
+      ((rw begun at (c.in_ok-write.ensures.inside early)) refl).was_open,
+      subst (λ k. IsTrue (state g.S.Store k).is_open) same h.1.is_open,
+    ))
+
+pub returns-clause-crash : goal.returns-clause-crash
+returns-clause-crash g c =
+    let old = c.args.conn.now in
+    let last = c.write.new.tx.conn.now in
+    let end = c.commit.new.self.0 in
+    let begun = c.transaction-tx.ensures.begun in
+    let next = with_tariff_of c.args.xway c.args.tariff.now in
+    let whole = commit_survives g.S.Store old (state g.S.Store last) (state g.S.Store end) FitsAny next
+    (rw begun at c.write.ensures.survives) c.commit.ensures.survives
+    (λ late. (rw begun at (c.in_ok-write.ensures.inside late)) refl)
+    (λ late o has fit. (rw begun at (c.in_ok-write.ensures.wrote late)) refl o has) in
+    let same : end ≡ c.conn-2-1.given.0 = search rules in
+    subst (λ h. Survives (state g.S.Store old) (state g.S.Store h) (CommitsNow FitsAny next (state g.S.Store old))) same
+    whole

@@ -1,0 +1,45 @@
+use Rattle.std.proofs.Common.{◌≡◌, ◌<◌, pos, [], List, take, get_or, length, sym, ap, subst, ◌∙◌, arith}
+use Rattle.std.proofs.lemmas.List.{take_more}
+use Rattle.sqlite_value.specs.declared.value.Value.TheVariants.{Int}
+use Rattle.sqlite_value.specs.Order.{Row, column}
+use Rattle.sqlite.specs.Held.{state}
+use Rattle.sqlite.specs.State.{HasCleanDisk}
+use Rattle.sqlite.proofs.StateLemmas.{survives_then}
+use Rattle.keep_office.specs.declared.kept.DayRecord.{DayRecord}
+use Rattle.keep_tables.specs.Stands.{HoldsAs, contents_of}
+use Rattle.keep_tables.proofs.PutLaws.{shows_then}
+use Rattle.keep_writes.proofs.GrowLaws.{days_under, row_of_day, seal_at, no_day, same_number}
+use Rattle.keep_writes.proofs.seals.seal_days.Goals as goal
+
+pub days-preserved : goal.days-preserved
+days-preserved g c =
+    let old = state g.S.Store c.args.tx.now.conn.now in
+    let mid = state g.S.Store c.days.tx.conn.now in
+    let new = state g.S.Store c.put_seal.new.tx.conn.now in
+    let kept = c.days.invariant in
+    let i = c.days.row-index in
+    let before = λ (clean : HasCleanDisk new). let h : HasCleanDisk mid =
+    omega (arith, c.put_seal.ensures.survives.clean) in h in (
+      c.put_seal.ensures.same_reference ∙ kept.0,
+      survives_then old mid new (λ _. ⊥) (λ _. ⊥) (λ _. ⊥) (λ _ db none. none) (λ _ db none. none) kept.1
+          c.put_seal.ensures.survives,
+      λ clean inside. (c.in_ok-put_seal.ensures.inside clean (kept.2 (before clean) inside)).mode
+          ∙ kept.2 (before clean) inside,
+      λ clean here inside. shows_then old mid new (kept.3 (before clean) here inside)
+          (c.in_ok-put_seal.ensures.inside clean (kept.2 (before clean) inside)),
+      λ clean inside o unsealed seal is.
+          let so_far = kept.4 (before clean) inside o unsealed seal is in
+          let at = row_of_day o.days i c.row-item.result no_day
+          (subst (λ (l : List Row). i < length l) is c.days-test.true) in
+          let r : DayRecord = get_or o.days i no_day in
+          let row : column c.row-item.result 0 ≡ Int (pos r.day) =
+          ap (λ l. column l 0) (c.row-item.is ∙ ap (λ (l : List Row). get_or l i c.row-item.result) is ∙ at.1) in
+          let day : r.day ≡ c.in_ok-day.day = same_number r.day c.in_ok-day.day (sym row ∙ c.in_ok-day.ensures) in
+          let put =
+          c.in_ok-put_seal.ensures.puts clean (kept.2 (before clean) inside) []
+          (record (contents_of o) { sealed = take i o.days }) so_far r day
+          (seal_at o.days i no_day unsealed.seals at.0 ∙ sym seal)
+          (days_under o.days i no_day unsealed.sound.days_rise at.0) in
+          subst (λ (l : List DayRecord). HoldsAs [] new.now (record (contents_of o) { sealed = l }))
+          (sym (take_more o.days i no_day at.0)) put,
+    )

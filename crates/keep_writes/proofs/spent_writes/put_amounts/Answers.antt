@@ -1,0 +1,69 @@
+use Rattle.std.proofs.Common.{[], ◌∷◌, take, get_or, sym, subst, ◌∙◌, arith}
+use Rattle.std.proofs.lemmas.List.{take_more}
+use Rattle.std.specs.List.{AllByRecursion}
+use Rattle.sqlite_keyed.proofs.ListLemmas.{all-append}
+use Rattle.road_time.specs.declared.day.SpentRow.{SpentRow}
+use Rattle.keep_tables.specs.Stands.{FitsSpent}
+use Rattle.sqlite.specs.Held.{state}
+use Rattle.sqlite.specs.State.{HasCleanDisk}
+use Rattle.sqlite.proofs.StateLemmas.{survives_then}
+use Rattle.keep_tables.specs.Steps.{AddsAmounts}
+use Rattle.keep_tables.proofs.SpentWriteLaws.{adds_then}
+use Rattle.keep_tables.proofs.PutLaws.{shows_then}
+use Rattle.keep_tables.proofs.StepLaws.{kept_then}
+use Rattle.std.proofs.lemmas.Option.{slice_get-get_or}
+use Rattle.keep_writes.specs.Writes.{WritesAmount, WritesAmounts}
+use Rattle.keep_writes.proofs.CauseLaws.{err_handed, kept_inside, refused_after, refused_wider}
+use Rattle.keep_writes.proofs.spent_writes.put_amounts.Goals as goal
+
+pub rows-preserved : goal.rows-preserved
+rows-preserved g c =
+    let old = state g.S.Store c.args.tx.now.conn.now in
+    let mid = state g.S.Store c.rows.tx.conn.now in
+    let new = state g.S.Store c.put_amount.new.tx.conn.now in
+    let kept = c.rows.invariant in
+    let one : AllByRecursion FitsSpent
+    (get_or c.args.rows.now c.rows.row-index (record { day = 0; vid = 0; xway = 0; tolls = 0 }) ∷ []) =
+    (c.put_amount.ensures.fits, tt) in
+    let before = λ (clean : HasCleanDisk new). let h : HasCleanDisk mid =
+    omega (arith, c.put_amount.ensures.survives.clean) in h in
+    let more =
+    take_more c.args.rows.now c.rows.row-index (record { day = 0; vid = 0; xway = 0; tolls = 0 })
+    c.rows-test.true in (
+      c.put_amount.ensures.same_reference ∙ kept.0,
+      survives_then old mid new (λ _. ⊥) (λ _. ⊥) (λ _. ⊥) (λ _ db none. none) (λ _ db none. none) kept.1
+          c.put_amount.ensures.survives,
+      λ clean inside. (c.in_ok-put_amount.ensures.inside clean (kept.2 (before clean) inside)).mode
+          ∙ kept.2 (before clean) inside,
+      λ clean here inside. shows_then old mid new (kept.3 (before clean) here inside)
+          (c.in_ok-put_amount.ensures.inside clean (kept.2 (before clean) inside)),
+      λ clean inside schema.
+          let so_far = kept.4 (before clean) inside schema in
+          subst (AddsAmounts old.now new.now) (sym more)
+          (adds_then old.now mid.now new.now _ _ so_far
+          (c.in_ok-put_amount.ensures.adds clean (kept.2 (before clean) inside) so_far.schema)),
+      subst (AllByRecursion FitsSpent) (sym more)
+          (all-append FitsSpent (take c.rows.row-index c.args.rows.now)
+          (get_or c.args.rows.now c.rows.row-index (record { day = 0; vid = 0; xway = 0; tolls = 0 }) ∷ []) kept.5 one),
+      λ clean inside. kept_then old mid new (kept.6 (before clean) inside)
+          (kept_inside mid new (c.in_ok-put_amount.ensures.inside clean (kept.2 (before clean) inside))),
+    )
+
+pub returns-in_err-put_amount-clause-refused : goal.returns-in_err-put_amount-clause-refused
+returns-in_err-put_amount-clause-refused g c clean inside =
+    let mid = state g.S.Store c.rows.tx.conn.now in
+    let kept = c.rows.invariant in
+    let early : HasCleanDisk mid = omega (arith, c.put_amount.ensures.survives.clean) in
+    let none : SpentRow = record { day = 0; vid = 0; xway = 0; tolls = 0 } in
+    let row = get_or c.args.rows.now c.rows.row-index none in
+    err_handed c.from_residual.result c.in_err-put_amount.field-0.0 _ c.from_residual.ensures.1
+    (refused_after g.S.Store c.args.tx.now.conn.now c.rows.tx.conn.now c.put_amount.new.tx.conn.now _
+    (kept.6 early inside) kept.1
+    (refused_wider g.S.Store (WritesAmount row) (WritesAmounts c.args.rows.now)
+    (λ sql params is. record {
+      place = c.rows.row-index;
+      row = row;
+      is_one = slice_get-get_or c.args.rows.now c.rows.row-index none c.rows-test.true;
+      is_put = is;
+    }) c.rows.tx.conn.now c.put_amount.new.tx.conn.now _
+    (c.in_err-put_amount.ensures.refused clean (kept.2 early inside))))

@@ -1,0 +1,17 @@
+use Rattle.std.proofs.Common.{inl, inr, refl}
+use Rattle.sqlite.specs.Held.{state}
+use Rattle.keep_tables.specs.Texts.{drop_tariff}
+use Rattle.keep_tables.proofs.TariffWriteLaws.{drop_writes}
+use Rattle.keep_writes.proofs.CauseLaws.{refused_now}
+use Rattle.keep_writes.proofs.tariff_writes.take.Goals as goal
+
+pub returns-in-Ok-clause-took : goal.returns-in-Ok-clause-took
+returns-in-Ok-clause-took g c clean inside o has =
+    drop_writes (state g.S.Store c.args.tx.now.conn.now) (state g.S.Store c.execute.new.self.conn.now) c.args.xway
+    c.in-Ok.field-0 o has (rw (c.params-to_sql.ensures, c.from.ensures) at (c.in-Ok.ensures.runs clean inside)).0
+
+pub returns-in-Err-clause-refused : goal.returns-in-Err-clause-refused
+returns-in-Err-clause-refused g c clean inside =
+    let ran = rw (c.params-to_sql.ensures, c.from.ensures) at (c.in-Err.ensures.runs clean inside) in
+    refused_now g.S.Store c.args.tx.now.conn.now c.execute.new.self.conn.now drop_tariff _ c.in-Err.error
+    (inr (inr (inl ((refl, refl), (4, refl), inside, ran))))

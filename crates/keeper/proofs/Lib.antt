@@ -1,9 +1,0 @@
-pub mod CallLaws
-pub mod HistoryLaws
-pub mod PastRows
-pub mod RowOrder
-pub mod SoundLaws
-pub mod StoredLaws
-pub mod TariffLaws
-pub mod WorkedLaws
-pub mod ListFacts

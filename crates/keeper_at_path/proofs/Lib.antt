@@ -1,3 +1,0 @@
-pub mod DoesLaws
-pub mod AskedLaws
-pub mod AnewLaws

@@ -1,5 +1,0 @@
-use Rattle.keeper.proofs.WorkedLaws.{history_fits}
-use Rattle.kept_in_memory.proofs.days.put_history.Goals as goal
-
-pub put_past-requires-clause-fits : goal.put_past-requires-clause-fits
-put_past-requires-clause-fits g c = history_fits _ _ _ _ c.history.ensures c.row.ensures c.row-2.ensures

@@ -1,7 +1,0 @@
-use Rattle.std.proofs.Common.{All, sym, subst}
-use Rattle.lane_doors.specs.TcpDoors.{HearsAt}
-use Rattle.lane_doors.proofs.tcp_door.listen.Goals as goal
-
-pub returns-clause-hears : goal.returns-clause-hears
-returns-clause-hears g c =
-    subst (All (λ ear. HearsAt ear c.args.port)) (sym c.from_vec.ensures) c.in_ok-add-2.ensures.hears

@@ -1,0 +1,2 @@
+mod RoomLaws
+pub mod EndingLaws

@@ -1,0 +1,5 @@
+-- Why a run failed, in the words that standard error has for it.
+pub mod Says
+-- The command `renew BASE`: its words, and how it ends.
+pub mod Words
+pub mod Endings

@@ -1,4 +1,0 @@
--- The command `renew BASE`: its words, and how it ends.
-
-pub mod Words
-pub mod Endings

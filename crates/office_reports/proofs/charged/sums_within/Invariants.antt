@@ -1,0 +1,16 @@
+use Rattle.std.proofs.Common.{◌≡◌, ◌≤◌, Some}
+use Rattle.road_io.specs.Plans.{NeverFails}
+use Rattle.keep_office.specs.Office.{Office, IsSound}
+use Rattle.office_reports.specs.Spans.{in_span}
+use Rattle.office_reports.specs.Charges.{sums_of}
+use Rattle.office_reports.proofs.charged.sums_within.Given as goal
+
+abbrev pub invariant-loop-day : goal.invariant-loop-day
+invariant-loop-day g l = record {
+  kept : g.K.Keeper.told l.keeper ≡ g.K.Keeper.told l.fn.keeper;
+  faults : g.K.Keeper.faults l.keeper ≡ g.K.Keeper.faults l.fn.keeper;
+  plan : NeverFails (g.K.Keeper.plan l.fn.keeper) → NeverFails (g.K.Keeper.plan l.keeper);
+  low : l.fn.from ≤ l.day;
+  sums : (o : Office) → g.K.Keeper.told l.fn.keeper ≡ Some o → IsSound o →
+      l.sums.entries ≡ sums_of (in_span (λ r. r.day) l.fn.from l.day o.rows);
+}

@@ -1,0 +1,118 @@
+// What all vehicles were charged over some days, day by day.
+ghost use Rattle.std.specs.Prelude.{◌≡◌, ◌≢◌, ◌≤◌, Some, Err, IfOk, OnOk};
+ghost use Rattle.std.specs.List.{fold};
+ghost use Rattle.road_io.specs.Blame.{FaultsByPlan, FaultsByRoom};
+ghost use Rattle.road_io.specs.Plans.{NeverFails};
+ghost use Rattle.keep_office.specs.Office.{Office, IsSound, rows_between};
+ghost use Rattle.keep_office.specs.declared.kept.KeepFault.TheVariants.{Failed};
+ghost use Rattle.office_reports.specs.Charges.{with_amount, sums_of, charges_report};
+ghost use Rattle.office_reports.specs.Endings.{WroteText};
+ghost use Rattle.office_reports.specs.declared.report_fault.ReportFault.TheVariants.{NoDay, KeeperFault, WriteFault};
+
+use crate::charge_lines::charges_text;
+use crate::charge_sums::{Sums, add_rows};
+use crate::putting::put_text;
+use crate::report_fault::{ReportFault, refused};
+use keep_office::{KeepFault, Keeper};
+use road_io::Sink;
+use road_time::NoMemory;
+use std::alloc::Global;
+use std::collections::BTreeMap;
+
+/// Adds the amounts of a day.
+fn add_day<K: Keeper>(day: u32, keeper: &mut K, sums: &mut Sums) -> Result<(), KeepFault>
+    ensures added { (o : Office) → K.told keeper.old ≡ Some o
+        → OnOk result (sums.new.entries ≡ fold with_amount sums.old.entries (rows_between o day day)) }
+    ensures kept { K.told keeper.new ≡ K.told keeper.old }
+    ensures keeper { FaultsByPlan (K.faults keeper.old) (K.faults keeper.new) (K.plan keeper.old)
+        (result ≡ Err Failed) }
+    ensures still { NeverFails (K.plan keeper.old) → NeverFails (K.plan keeper.new) }
+{
+    match keeper.rows(day, day) {
+        Ok(rows) => match add_rows(sums, rows.as_slice()) {
+            Ok(()) => Ok(()),
+            Err(NoMemory) => Err(KeepFault::NoMemory),
+        },
+        Err(fault) => Err(fault),
+    }
+}
+
+/// The sums of the days from one to another, both included, where that is not after the last kept one.
+fn sums_within<K: Keeper>(
+    alloc: Global,
+    from: u32,
+    to: u32,
+    keeper: &mut K,
+) -> Result<Sums, KeepFault>
+    requires { from ≤ to }
+    ensures exact { (o : Office) → K.told keeper.old ≡ Some o → IsSound o
+        → IfOk result (λ sums. sums.entries ≡ sums_of (rows_between o from to)) }
+    ensures kept { K.told keeper.new ≡ K.told keeper.old }
+    ensures keeper { FaultsByPlan (K.faults keeper.old) (K.faults keeper.new) (K.plan keeper.old)
+        (result ≡ Err Failed) }
+{
+    let mut sums = BTreeMap::new(alloc);
+    for day in u64::from(from)..u64::from(to) + 1 {
+        match add_day(day as u32, keeper, &mut sums) {
+            Ok(()) => {}
+            Err(fault) => return Err(fault),
+        }
+    }
+    Ok(sums)
+}
+
+/// The sums of the days from one to another, both included. No day after the last kept one is asked for.
+fn find_sums<K: Keeper>(
+    alloc: Global,
+    from: u32,
+    to: u32,
+    keeper: &mut K,
+) -> Result<Sums, KeepFault>
+    ensures exact { (o : Office) → K.told keeper.old ≡ Some o
+        → IfOk result (λ sums. sums.entries ≡ sums_of (rows_between o from to)) }
+    ensures kept { K.told keeper.new ≡ K.told keeper.old }
+    ensures keeper { FaultsByPlan (K.faults keeper.old) (K.faults keeper.new) (K.plan keeper.old)
+        (result ≡ Err Failed) }
+{
+    let last = match keeper.last_day() {
+        Ok(last) => last,
+        Err(fault) => return Err(fault),
+    };
+    let to = to.min(last);
+    if from > to {
+        return Ok(BTreeMap::new(alloc));
+    }
+    match sums_within(alloc, from, to, keeper) {
+        Ok(sums) => Ok(sums),
+        Err(fault) => Err(fault),
+    }
+}
+
+/// Writes what all vehicles were charged on the days `from` to `to`, both included, as CSV: a line that names the
+/// columns, and a line for each vehicle and expressway with amounts, in the order of the two. The amounts of one day
+/// are held at a time. After a fault a prefix was written.
+pub fn charges_csv<K: Keeper, O: Sink>(
+    alloc: Global,
+    from: u32,
+    to: u32,
+    keeper: &mut K,
+    sink: &mut O,
+) -> Result<(), ReportFault>
+    ensures wrote { (o : Office) → K.told keeper.old ≡ Some o
+        → WroteText result (O.written sink.old) (O.written sink.new) (charges_report from to o) }
+    ensures own { result ≢ Err NoDay }
+    ensures kept { K.told keeper.new ≡ K.told keeper.old }
+    ensures keeper { FaultsByPlan (K.faults keeper.old) (K.faults keeper.new) (K.plan keeper.old)
+        (result ≡ Err KeeperFault) }
+    ensures sink { FaultsByRoom (O.faults sink.old) (O.faults sink.new) (O.room sink.old) (O.room sink.new)
+        (result ≡ Err WriteFault) }
+{
+    let sums = match find_sums(alloc, from, to, keeper) {
+        Ok(sums) => sums,
+        Err(fault) => return Err(refused(fault)),
+    };
+    match charges_text(alloc, &sums) {
+        Ok(text) => put_text(text.as_slice(), sink),
+        Err(NoMemory) => Err(ReportFault::NoMemory),
+    }
+}

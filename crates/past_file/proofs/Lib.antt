@@ -1,8 +1,0 @@
-pub mod LineLaws
-pub mod AmountLaws
-pub mod JudgeLaws
-pub mod ReadLaws
-pub mod KeepLaws
-pub mod PutLaws
-pub mod CauseLaws
-pub mod AskedLaws

@@ -1,8 +1,0 @@
-use Rattle.std.proofs.Common.{◌≡◌, ◌++◌, map, nat_lt}
-use Rattle.std.specs.List.{filter}
-use Rattle.past_file.specs.Rows.{amount_of}
-use Rattle.past_file.proofs.amounts.Amounts.kept.Given as goal
-
-abbrev pub invariant-loop-key : goal.invariant-loop-key
-invariant-loop-key l = l.rows.items ++ filter (λ r. nat_lt 0 r.tolls) (map amount_of l.key-iterator) ≡ filter
-    (λ r. nat_lt 0 r.tolls) (map amount_of l.self.by_key.entries)

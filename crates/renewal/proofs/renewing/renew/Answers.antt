@@ -1,8 +1,0 @@
-use Rattle.renewal.specs.Renewals.{renew_answer}
-use Rattle.renewal.proofs.RenewLaws.{all_or_nothing}
-use Rattle.renewal.proofs.renewing.renew.Goals as goal
-
-pub returns-clause-whole : goal.returns-clause-whole
-returns-clause-whole g c = λ o told.
-    all_or_nothing g.K.Keeper.refuses c.args.base o (g.K.Keeper.told c.begin_above.new.keeper) c.begin_above.result
-    (c.begin_above.ensures.does o told)

@@ -1,6 +1,0 @@
-use Rattle.std.proofs.Common.{◌≡◌, take}
-use Rattle.reports.specs.AccidentLog.{log_text}
-use Rattle.reports.proofs.mishaps.text_of.Given as goal
-
-abbrev pub invariant-loop-mishap : goal.invariant-loop-mishap
-invariant-loop-mishap l = l.text.items ≡ log_text (take l.mishap-index l.mishaps)

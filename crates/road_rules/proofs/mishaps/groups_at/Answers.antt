@@ -1,0 +1,19 @@
+use Rattle.std.proofs.Common.{◌≡◌, ◌+◌, ◌++◌, ◌∷◌, [], ap, sym, ◌∙◌, take, get_or}
+use Rattle.std.proofs.lemmas.List.{take_more}
+use Rattle.road_time.specs.declared.road.Place.{Place}
+use Rattle.road_rules.specs.Groups.{groups_of}
+use Rattle.road_rules.proofs.GroupLaws.{groups_push}
+use Rattle.road_rules.proofs.mishaps.groups_at.Goals as goal
+
+abbrev none : Place
+none = record { xway = 0; dir = 0; lane = 0; seg = 0; pos = 0 }
+
+pub loop-place-preserved : goal.loop-place-preserved
+loop-place-preserved c =
+    let i = c.loop-place.place-index in
+    let ps = c.args.places.now in
+    let hs = c.args.halts.now in
+    let here = get_or ps i none in
+    let more : take (i + 1) ps ≡ take i ps ++ here ∷ [] = take_more ps i none c.loop-place-test.true in
+    c.in_ok-add_group.ensures ∙ ap (λ gs. gs ++ groups_of hs (here ∷ [])) c.loop-place.invariant
+    ∙ sym (groups_push hs (take i ps) here) ∙ sym (ap (groups_of hs) more)

@@ -1,2 +1,0 @@
-pub mod SecondLaws
-pub mod CountLaws

@@ -1,7 +1,0 @@
-use Rattle.std.proofs.Common.{◌≡◌, take}
-use Rattle.road_time.specs.declared.road.Notice.{Notice}
-use Rattle.second_notices.specs.Seconds.{still, count_in}
-use Rattle.second_notices.proofs.still_to_come.StillToCome.new.Given as goal
-
-abbrev pub invariant-loop-notice : goal.invariant-loop-notice
-invariant-loop-notice l = (x : Notice) → still l.counts.entries x ≡ count_in (take l.notice-index l.notices) x

@@ -1,3 +1,0 @@
--- The notices of one second in any order.
-
-pub mod Seconds

@@ -1,0 +1,15 @@
+-- What the calls in `src/worked.rt` publish: a toll of day 100, and the begin of day 101.
+use Rattle.std.specs.Prelude.{List, [], ◌∷◌}
+use Rattle.day_floor.specs.Operations.{Operation, Begin, Step}
+
+-- day 100 began, and a toll of 2 that vehicle 100 owes was charged up to mark 54
+abbrev pub one_toll : List Operation
+one_toll = Begin 100 ∷ Step (record { vid = 100; xway = 0; toll = 2 } ∷ []) 54 ∷ []
+
+-- then day 101 began
+abbrev pub with_earlier_toll : List Operation
+with_earlier_toll = Begin 100 ∷ Step (record { vid = 100; xway = 0; toll = 2 } ∷ []) 54 ∷ Begin 101 ∷ []
+
+-- day 101 began after day 100, on which nothing was charged
+abbrev pub without_toll : List Operation
+without_toll = Begin 100 ∷ Begin 101 ∷ []

@@ -1,0 +1,19 @@
+use Rattle.std.proofs.Common.{◌≡◌, ap, ◌∙◌}
+use Rattle.serve_desk.specs.Days.{first_day}
+use Rattle.serve_desk.proofs.SendLaws.{kept_is}
+use Rattle.serve_desk.proofs.DayLaws.{counts_ok, counts_err}
+use Rattle.serve_desk.proofs.days_shared.first_shared.Goals as goal
+
+pub returns-in-Ok-clause-seen : goal.returns-in-Ok-clause-seen
+returns-in-Ok-clause-seen g c =
+    let s = c.in-Ok.ensures.shared in (
+      s.was,
+      λ o told. c.first_of.ensures ∙ ap first_day (kept_is (g.K.Keeper.told s.was) (g.K.Keeper.told s.now) o c.in-Ok.past (λ o past. past ≡ o.past) told
+          s.reads),
+    )
+
+pub returns-in-Ok-clause-cause : goal.returns-in-Ok-clause-cause
+returns-in-Ok-clause-cause g c = counts_ok _ _ c.in-Ok.past c.first_of.result c.in-Ok.ensures.cause
+
+pub returns-in-Err-clause-cause : goal.returns-in-Err-clause-cause
+returns-in-Err-clause-cause g c = counts_err _ _ c.in-Err.fault c.in-Err.ensures.cause

@@ -1,0 +1,65 @@
+use Rattle.std.proofs.Common.{◌∙◌, inl, inr, refl, subst, sym, ap, arith}
+use Rattle.std.specs.Io.KnownBytes.{prepend_known}
+use Rattle.serve_requests.specs.Replies.{no_memory_reply}
+use Rattle.serve_requests.specs.AskedBodies.{filled}
+use Rattle.serve_requests.specs.Sends.{SendsReply}
+use Rattle.serve_requests.proofs.StatusLaws.{memory_is_available}
+use Rattle.serve_desk.specs.Streams.{Streams, Closes}
+use Rattle.serve_desk.proofs.ImportLaws.{keeper_failed}
+use Rattle.serve_desk.proofs.SendLaws.{endless_has, not_risen}
+use Rattle.serve_desk.proofs.notices.answer_notices.Goals as goal
+
+pub returns-in_default-clause-answers : goal.returns-in_default-clause-answers
+returns-in_default-clause-answers g c = λ all o known told.
+    let s = c.send_no_memory in
+    inr (subst (λ w. SendsReply no_memory_reply w (g.L.Link.written s.new.link) s.result)
+    (c.outward.ensures.unwritten c.in_default.is) s.ensures.sent)
+
+pub returns-in_default-clause-unavailable : goal.returns-in_default-clause-unavailable
+returns-in_default-clause-unavailable g c = λ is. memory_is_available _ _ _ c.send_no_memory.ensures.sent is
+
+pub returns-in_default-clause-failed : goal.returns-in_default-clause-failed
+returns-in_default-clause-failed g c = λ rose. not_risen _ _ refl rose
+
+pub returns-in_default-clause-sure : goal.returns-in_default-clause-sure
+returns-in_default-clause-sure g c = λ endless.
+    c.send_no_memory.ensures.sure
+    (endless_has _ no_memory_reply (c.outward.ensures.room_kept c.in_default.is ∙ endless))
+
+pub returns-clause-answers : goal.returns-clause-answers
+returns-clause-answers g c = λ all o known told.
+    let s = c.stream_day-settled in
+    let f = c.finish_stream-end in
+    let bytes = filled c.args.count all in
+    let mid = g.L.Out.Sink.written s.new.out in
+    inl (
+      s.result.outcome,
+      mid,
+      λ exact. subst (λ x. Streams g.K.Keeper.refuses c.args.day c.args.limits.now bytes o x mid s.result.outcome)
+          c.in-Some.ensures.written
+          (s.ensures.streams all o (ap (λ l. prepend_known c.args.early.now l) c.outward.ensures.left ∙ known) told exact),
+      subst (λ y. Closes c.args.day s.result.outcome mid y f.result)
+          (sym (c.put_back.ensures.written c.in-Some.ensures.lends)) f.ensures.closes,
+    )
+
+pub returns-clause-failed : goal.returns-clause-failed
+returns-clause-failed g c = λ rose.
+    let s = c.stream_day-settled in
+    c.finish_stream-end.ensures.told
+    (keeper_failed s.result.outcome (λ other. not_risen _ _ (s.ensures.keeper.still other) rose))
+
+pub returns-clause-sure : goal.returns-clause-sure
+returns-clause-sure g c = λ endless.
+    let s = c.stream_day-settled in
+    let room = c.in-Some.ensures.room ∙ endless in
+    c.finish_stream-end.ensures.sure (s.ensures.sink_endless room) (s.ensures.sink_sure room)
+
+pub returns-clause-cause : goal.returns-clause-cause
+returns-clause-cause g c = λ is.
+    let s = c.stream_day-settled in
+    let f = c.finish_stream-end in
+    let none = c.in-Some.ensures.faultless in
+    let out = f.ensures.cause 0 (omega arith)
+    (λ fault. (let r = s.ensures.sink_cause fault in omega (arith, r, none))) is in
+    let link = c.put_back.ensures.cause c.in-Some.ensures.lends (omega (arith, out)) in
+    omega (arith, link, c.outward.ensures.faults, s.ensures.later, f.ensures.later)

@@ -1,0 +1,14 @@
+use Rattle.std.proofs.Common.{◌≡◌, length, ap, subst, arith, List, ◌∙◌, sym}
+use mathlib.Core.List.{IsPrefix}
+use Rattle.serve_desk.proofs.HistoryLaws.{as_long}
+use Rattle.serve_desk.proofs.place.Place.is.Goals as goal
+
+pub returns-clause-same : goal.returns-clause-same
+returns-clause-same g c _ =
+    let both = c.learn.new.self.log in
+    let mine = c.args.self.now in
+    let theirs = c.args.other.now in
+    let this : IsPrefix mine.seen.log both =
+    subst (λ l. IsPrefix l both) (ap (λ s. s.log) c.again-both.ensures) c.learn.ensures.2 in
+    let long : length mine.seen.log ≡ length theirs.seen.log = omega (arith, mine.counted, theirs.counted) in
+    as_long mine.seen.log theirs.seen.log both this c.learn.ensures.3 long

@@ -1,0 +1,112 @@
+// The part of a desk that imports.
+ghost use Rattle.std.specs.Prelude.{◌≡◌, ◌≢◌, ◌≤◌, ◌+◌, ◌⊎◌, ℕ, List, [], Some, None, length};
+ghost use Rattle.std.specs.Io.KnownBytes.{prepend_known};
+ghost use Rattle.road_io.specs.Plans.{NeverFails};
+ghost use Rattle.road_time.specs.Fits.{IsLimits};
+ghost use Rattle.road_io.specs.Blame.{FaultsByPlan};
+ghost use Rattle.keep_office.specs.Office.{Office, record_of, last_day};
+ghost use Rattle.keep_office.specs.declared.kept.DayRecord.{DayRecord};
+ghost use Rattle.day_import.specs.Imports.{most_imported};
+ghost use Rattle.day_import.specs.declared.outcomes.AnsweredDay.{AnsweredDay};
+ghost use Rattle.day_import.specs.declared.outcomes.Outcome.TheVariants as outcomes;
+ghost use Rattle.day_import.specs.declared.outcomes.Outcome.TheVariants.{Stored, ReadFault, WriteFault, KeeperFault};
+ghost use Rattle.serve_requests.specs.AskedBodies.{filled};
+ghost use Rattle.serve_desk.specs.declared.imported.ReadTo.TheVariants.{Open};
+ghost use Rattle.serve_desk.specs.Imports.{Imports};
+ghost use Rattle.serve_desk.specs.Reading.{IsReadTo, HasReadCause, IsStopped, HasNoneLeft};
+
+use crate::imported::Imported;
+use crate::importing::import_only;
+use day_plan::Plan;
+use keep_office::Keeper;
+use road_io::Link;
+use road_time::Limits;
+use serve_board::BoardWriter;
+use std::alloc::Global;
+use std::sync::Wait;
+use std::thread::Threads;
+use ways_crews::Crew;
+
+/// The part of a desk that imports: all of it but the keeper, the plan and the limits, which are handed in for each
+/// import.
+#[derive(Drop)]
+pub struct ImportDesk<C: Crew, R: Wait + Threads + Drop> {
+    pub rt: R,
+    pub crew: C,
+    pub writer: BoardWriter<R>,
+    ghost idle: { C.out crew ≡ [] },
+}
+
+impl<C: Crew, R: Wait + Threads + Drop> ImportDesk<C, R> {
+    /// Imports a day of the body of a POST, publishes its charges, and reads no more of the body than that takes. What
+    /// is left to do of the request needs its link alone.
+    pub fn import<'b, L: Link, K: Keeper>(
+        &mut self,
+        alloc: Global,
+        plan: &Plan,
+        limits: &Limits,
+        day: u32,
+        early: &'b [u8],
+        count: u64,
+        keeper: &mut K,
+        link: &mut L,
+    ) -> Imported<'b>
+        requires low { 70 ≤ day }
+        requires high { day ≤ 1000000 }
+        requires few { length early.now ≤ count }
+        requires width { (1 ≤ plan.now.width) × (plan.now.width ≤ 64) }
+        requires within { IsLimits limits.now }
+        ensures imports { (all : List ℕ) (o : Office) → prepend_known early.now (L.left link.old) ≡ Some all
+            → K.told keeper.old ≡ Some o → Imports K.refuses C.exact day limits.now (filled count all) o
+            (K.told keeper.new) self.old.writer.posted (Some self.new.writer.posted) result.outcome }
+        ensures reads { IsReadTo count (prepend_known early.now (L.left link.old)) result.early.now (L.left link.new)
+            result.read }
+        ensures few { (all : List ℕ) (o : Office) (left : ℕ) → prepend_known early.now (L.left link.old) ≡ Some all
+            → K.told keeper.old ≡ Some o → result.read ≡ Open left
+            → count ≤ left + most_imported (record_of o day) limits.now }
+        ensures unread { (o : Office) → K.told keeper.old ≡ Some o → record_of o day ≡ None → day ≤ last_day o
+            → (L.left link.new ≡ L.left link.old) × (result.read ≡ Open count) × (result.early.now ≡ early.now) }
+        ensures read { result.outcome ≡ ReadFault → IsStopped result.read }
+        ensures stored { (all : List ℕ) (kept : DayRecord) → prepend_known early.now (L.left link.old) ≡ Some all
+            → result.outcome ≡ Stored kept → HasNoneLeft result.read }
+        ensures read_first { (all : List ℕ) → prepend_known early.now (L.left link.old) ≡ Some all
+            → (K.told keeper.new ≡ K.told keeper.old) ⊎ HasNoneLeft result.read }
+        ensures crew { C.which self.new.crew ≡ C.which self.old.crew }
+        ensures board { self.new.writer.board ≡ self.old.writer.board }
+        ensures unwritten { L.written link.new ≡ L.written link.old }
+        ensures room_kept { L.room link.new ≡ L.room link.old }
+        ensures link_cause { HasReadCause (L.plan link.old) (L.faults link.old) (L.faults link.new) result.read }
+        ensures link_later { L.faults link.old ≤ L.faults link.new }
+        ensures link_sure { NeverFails (L.plan link.old) → NeverFails (L.plan link.new) }
+        ensures unfailed { result.outcome ≢ WriteFault }
+        ensures posted { (day : AnsweredDay) → result.outcome ≢ outcomes.Answered day }
+        ensures keeper { FaultsByPlan (K.faults keeper.old) (K.faults keeper.new) (K.plan keeper.old)
+            (result.outcome ≡ KeeperFault) }
+    {
+        import_only(
+            &self.rt,
+            alloc,
+            day,
+            plan,
+            limits,
+            early,
+            count,
+            link,
+            keeper,
+            &mut self.crew,
+            &mut self.writer,
+        )
+    }
+}
+
+impl<C: Crew + Drop, R: Wait + Threads + Drop> ImportDesk<C, R> {
+    /// Ends the writer of the board. It may wait for readers that are in the middle of an answer.
+    pub fn end(self) {
+        let ImportDesk {
+            rt: _,
+            crew: _,
+            writer,
+        } = self;
+        writer.end();
+    }
+}

@@ -1,0 +1,8 @@
+use Rattle.std.proofs.Common.{arith}
+use Rattle.road_io.proofs.PlanLaws.{plan_next}
+use Rattle.serve_loops.proofs.mem_listener.turn.Goals as goal
+
+pub returns-clause-next : goal.returns-clause-next
+returns-clause-next c = λ n.
+    plan_next c.args.fails.now c.args.call _ n (λ i. omega (arith, c.type_inv.fails i))
+    (omega (arith, c.saturating_add.ensures))

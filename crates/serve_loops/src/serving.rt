@@ -1,0 +1,119 @@
+// Serving a number of connections.
+ghost use Rattle.std.specs.Prelude.{◌≡◌, ◌≤◌, ◌↔◌, true, false, length, vec_len, All};
+ghost use Rattle.std.specs.List.{AllZip, list_any};
+ghost use Rattle.serve_loops.specs.Wires.{wire_by};
+ghost use Rattle.serve_loops.specs.Lanes.{LaneServes, HasFailedLane, AnyRose, accepted_in_all, TurnOf, LaneTurned};
+ghost use Rattle.serve_loops.specs.declared.serve_end.ServeEnd.TheVariants.{Served, ListenFault};
+
+use crate::host::Host;
+use crate::lane::Lane;
+use crate::lanes::Lanes;
+use crate::listener::Listener;
+use crate::running::run_all;
+use crate::serve_end::ServeEnd;
+use crate::stub::Stub;
+use crate::tickets::{Draws, Tickets};
+use std::alloc::Global;
+use std::marker::Brand;
+use std::sync::atomic::AtomicBool;
+use std::sync::ledger::{Blank, Ledger};
+use std::sync::{Mutex, Wait};
+use std::thread::Threads;
+
+/// Runs the loops of lanes over so many tickets, by two new ledgers.
+fn run_over<
+    N: Listener + Drop + Send,
+    H: Host + Sync,
+    D: Draws + Send + Sync,
+    E: Ledger + Send + Sync,
+    R: Threads + Wait + Sync,
+>(
+    rt: &R,
+    alloc: Global,
+    lanes: Vec<Lane<N>>,
+    host: &H,
+    sessions: u64,
+    drawn: Blank,
+    ends: Blank,
+) -> Vec<Lane<N>>
+    requires drawn_name { drawn.name ≡ D.name }
+    requires ends_name { ends.name ≡ E.name }
+    requires drawn_parts { (drawn.parts ≡ D.parts) × (D.parts ≡ vec_len lanes) }
+    requires ends_parts { (ends.parts ≡ E.parts) × (E.parts ≡ vec_len lanes) }
+    requires tickets { sessions ≡ D.tickets }
+    requires some { 1 ≤ vec_len lanes }
+    requires fresh { All (λ lane. N.accepted lane.listener ≡ 0) lanes.items }
+    ensures lanes { AllZip (LaneServes N.faults) lanes.items result.items }
+    ensures turns { AllZip (LaneTurned N.accepted
+        (TurnOf N.gives N.takes (wire_by N.Line.left N.Line.plan N.Line.written N.Line.room)
+        (H.attends host.now))) lanes.items result.items }
+    ensures within { accepted_in_all N.accepted result.items ≤ sessions }
+    ensures served { list_any (λ lane. lane.failed) result.items ≡ false
+        → accepted_in_all N.accepted result.items ≡ sessions }
+{
+    let (drawn, of_drawn) = drawn.open::<D>();
+    let (ends, of_ends) = ends.open::<E>();
+    let tickets = Mutex::new(Tickets {
+        left: sessions,
+        drawn,
+        ends,
+    });
+    let stub = Stub {
+        drawn: of_drawn,
+        ends: of_ends,
+    };
+    let stop = AtomicBool::new(false);
+    let (lanes, stub) = run_all(rt, alloc, host, &stop, &tickets, lanes, stub);
+    let mut stub = stub;
+    tickets.into_inner().settle(&mut stub);
+    lanes
+}
+
+/// Whether a lane failed.
+fn has_failed<N>(lanes: &[Lane<N>]) -> bool
+    ensures { result ≡ list_any (λ lane. lane.failed) lanes.now }
+{
+    lanes.iter().any(|lane| lane.failed)
+}
+
+/// Serves `sessions` connections over 1 to 64 lanes, whose listeners have accepted none: a loop for each lane, in a
+/// thread of its own, with the host on each connection. A loop ends where no connection is left to accept, or where its
+/// listener fails. Where a thread cannot be had all listeners give up. It waits.
+pub fn serve<N: Listener + Drop + Send, H: Host + Sync, R: Threads + Wait + Sync>(
+    rt: &R,
+    alloc: Global,
+    lanes: &mut Lanes<N>,
+    host: &H,
+    sessions: u64,
+) -> ServeEnd
+    requires some { 1 ≤ length lanes.old }
+    requires few { length lanes.old ≤ 64 }
+    requires fresh { All (λ lane. N.accepted lane.listener ≡ 0) lanes.old }
+    ensures lanes { AllZip (LaneServes N.faults) lanes.old lanes.new }
+    ensures turns { AllZip (LaneTurned N.accepted
+        (TurnOf N.gives N.takes (wire_by N.Line.left N.Line.plan N.Line.written N.Line.room)
+        (H.attends host.now))) lanes.old lanes.new }
+    ensures end { (result ≡ ListenFault) ↔ HasFailedLane lanes.new }
+    ensures cause { result ≡ ListenFault → AnyRose N.faults lanes.old lanes.new }
+    ensures served { result ≡ Served → accepted_in_all N.accepted lanes.new ≡ sessions }
+    ensures fault { result ≡ ListenFault → accepted_in_all N.accepted lanes.new ≤ sessions }
+{
+    let all = lanes.take(alloc);
+    let parts = all.len() as u64;
+    let done = run_over::<N, H, Brand, Brand, R>(
+        rt,
+        alloc,
+        all,
+        host,
+        sessions,
+        Blank::new(parts),
+        Blank::new(parts),
+    );
+    let failed = has_failed(done.as_slice());
+    *lanes = Lanes::from_vec(done);
+    if failed {
+        ServeEnd::ListenFault
+    } else {
+        ServeEnd::Served
+    }
+}

@@ -1,0 +1,14 @@
+pub mod PathLaws
+pub mod PartLaws
+pub mod FieldLaws
+pub mod OriginLaws
+pub mod FrontLaws
+pub mod HeadLaws
+pub mod RouteLaws
+pub mod PlaceLaws
+pub mod AsciiLaws
+pub mod ReplyLaws
+pub mod AskedBodyLaws
+pub mod StatusLaws
+pub mod PlainLaws
+pub mod BodyLaws

@@ -1,0 +1,56 @@
+// How long a connection that is served is waited for.
+ghost use Rattle.std.specs.Prelude.{◌≡◌, ◌≤◌, ◌<◌, ◌+◌, ◌-◌};
+ghost use Rattle.std.specs.Duration.{as_nanos};
+ghost use Rattle.serve_room.specs.Times.{portion, portion_time, left_of};
+
+use std::time::Duration;
+
+/// How many seconds are waited for the next portion at most.
+pub(crate) const PORTION_SECONDS: u64 = 30;
+
+/// How many bytes a portion has.
+const PORTION: usize = 65_536;
+
+/// What was waited for a portion, and how many of its bytes came.
+#[derive(Clone, Copy)]
+pub(crate) struct Patience {
+    waited: Duration,
+    came: usize,
+}
+
+impl Patience {
+    /// Nothing was waited.
+    pub(crate) fn whole() -> Patience
+        ensures left { left_of result ≡ portion_time }
+        ensures came { result.came ≡ 0 }
+    {
+        Patience {
+            waited: Duration::ZERO,
+            came: 0,
+        }
+    }
+
+    /// How long a read may still wait.
+    pub(crate) fn left(&self) -> Duration
+        ensures { as_nanos result ≡ left_of self.now }
+    {
+        Duration::from_secs(PORTION_SECONDS).saturating_sub(self.waited)
+    }
+
+    /// Notes a read. Behind a portion it begins anew.
+    pub(crate) fn note(&mut self, waited: Duration, count: usize)
+        ensures anew { portion ≤ self.old.came + count → left_of self.new ≡ portion_time }
+        ensures spent { self.old.came + count < portion → left_of self.new ≡ left_of self.old - as_nanos waited }
+        ensures came { self.old.came + count < portion → self.new.came ≡ self.old.came + count }
+    {
+        let came = self.came.saturating_add(count);
+        if came >= PORTION {
+            *self = Patience::whole();
+        } else {
+            *self = Patience {
+                waited: self.waited.saturating_add(waited),
+                came,
+            };
+        }
+    }
+}

@@ -1,0 +1,113 @@
+// A stream that is read with patience.
+ghost use Rattle.std.specs.Prelude.{◌≡◌, true, IsErr};
+ghost use Rattle.std.specs.Io.{ReadsAtMost, WritesAtMost};
+ghost use Rattle.std.specs.Io.KnownBytes.{ReadConsumes};
+ghost use Rattle.serve_room.specs.Times.{left_of};
+
+use crate::patience::Patience;
+use std::io::{self, ErrorKind, Read, Write};
+use std::net::TcpStream;
+use std::rt::HostRuntime;
+use std::time::{Duration, Instant};
+
+/// A stream that can be told how long a read may wait.
+pub(crate) trait Timed {
+    fn set_wait(&mut self, wait: Duration) -> io::Result<()>
+        ensures { self.new ≡ self.old };
+}
+
+impl Timed for TcpStream {
+    fn set_wait(&mut self, wait: Duration) -> io::Result<()> {
+        self.set_read_timeout(Some(wait))
+    }
+}
+
+/// A stream whose reads wait for it 30 seconds for each 64 KiB. Of one that is late nothing is read.
+#[derive(Drop)]
+pub struct Patient<S> {
+    rt: HostRuntime,
+    pub(crate) stream: S,
+    patience: Patience,
+    late: bool,
+}
+
+impl<S> Patient<S> {
+    /// Nothing was waited as yet.
+    pub(crate) fn new(rt: HostRuntime, stream: S, late: bool) -> Patient<S>
+        ensures stream { result.stream ≡ stream }
+        ensures late { result.late ≡ late }
+    {
+        Patient {
+            rt,
+            stream,
+            patience: Patience::whole(),
+            late,
+        }
+    }
+}
+
+/// How long it is since a moment; where that is not known, as long as was to be waited.
+fn waited_since(rt: &HostRuntime, start: Instant, most: Duration) -> Duration {
+    match start.elapsed(rt) {
+        Ok(waited) => waited,
+        Err(_) => most,
+    }
+}
+
+/// Reads once, where a stream may still be waited for.
+fn read_patiently<S: Read + Timed>(
+    rt: &HostRuntime,
+    stream: &mut S,
+    patience: &mut Patience,
+    buf: &mut [u8],
+) -> io::Result<usize>
+    ensures bound { ReadsAtMost result buf.new }
+    ensures bytes { ReadConsumes (S.remaining stream.old) (S.remaining stream.new) result buf.new }
+    ensures over { left_of patience.old ≡ 0 → IsErr result }
+{
+    let left = patience.left();
+    if left.is_zero() {
+        return Err(io::Error::from(ErrorKind::TimedOut));
+    }
+    if stream.set_wait(left).is_err() {
+        return Err(io::Error::from(ErrorKind::TimedOut));
+    }
+    let Ok(start) = Instant::now(rt) else {
+        return Err(io::Error::from(ErrorKind::TimedOut));
+    };
+    match stream.read(buf) {
+        Ok(count) => {
+            patience.note(waited_since(rt, start, left), count);
+            Ok(count)
+        }
+        Err(fault) => Err(fault),
+    }
+}
+
+impl<S: Read + Timed> Read for Patient<S> {
+    ghost remaining = { λ p. S.remaining p.stream };
+
+    fn read(&mut self, buf: &mut [u8]) -> io::Result<usize>
+        ensures bound { ReadsAtMost result buf.new }
+        ensures bytes { ReadConsumes (S.remaining self.old.stream) (S.remaining self.new.stream) result buf.new }
+        ensures late { self.old.late ≡ true → IsErr result }
+        ensures over { left_of self.old.patience ≡ 0 → IsErr result }
+    {
+        if self.late {
+            return Err(io::Error::from(ErrorKind::TimedOut));
+        }
+        read_patiently(&self.rt, &mut self.stream, &mut self.patience, buf)
+    }
+}
+
+impl<S: Write> Write for Patient<S> {
+    ghost contents = { λ p. S.contents p.stream };
+
+    fn write(&mut self, buf: &[u8]) -> io::Result<usize> {
+        self.stream.write(buf)
+    }
+
+    fn flush(&mut self) -> io::Result<()> {
+        self.stream.flush()
+    }
+}

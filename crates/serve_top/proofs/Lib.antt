@@ -1,0 +1,3 @@
+pub mod EarLaws
+pub mod Law
+pub mod Meant

@@ -1,0 +1,49 @@
+// A session over a desk that is shared.
+ghost use Rattle.std.specs.Prelude.{◌≡◌, ◌≤◌};
+ghost use Rattle.road_time.specs.Fits.{IsLimits};
+ghost use Rattle.serve_board.specs.Passes.{StartsWith};
+ghost use Rattle.serve_loops.specs.Wires.{wire_by};
+ghost use Rattle.serve_top.specs.Attends.{Attends};
+
+use day_plan::Plan;
+use keep_office::Keeper;
+use road_io::TwoWay;
+use road_time::Limits;
+use serve_board::BoardReader;
+use serve_desk::{ImportDesk, Kept, Naming, TwoLocks, Work, session_shared};
+use serve_loops::Turn;
+use std::alloc::Global;
+use std::sync::{Mutex, Wait};
+use std::thread::Threads;
+use ways_crews::Crew;
+
+/// Runs a session on a connection. A POST has the imports' lock until its day is imported, and then its turn is over.
+/// For each call of the keeper a request of what is kept takes the keeper's lock. No other takes a lock.
+pub fn attend<L: TwoWay, J: Naming, K: Keeper, C: Crew, R: Wait + Threads + Drop, T: Turn>(
+    rt: R,
+    alloc: Global,
+    plan: Plan,
+    limits: Limits,
+    keeper: &Mutex<Kept<J, K>>,
+    imports: &Mutex<ImportDesk<C, R>>,
+    line: &mut L,
+    turn: &mut T,
+    reader: &mut BoardReader,
+)
+    requires some { 1 ≤ plan.width }
+    requires few { plan.width ≤ 64 }
+    requires within { IsLimits limits }
+    ensures attends { Attends K.told K.faults K.refuses C.exact limits reader.old reader.new (wire_by L.left L.plan L.written L.room line.old)
+        (wire_by L.left L.plan L.written L.room line.new) }
+    ensures board { reader.new.board ≡ reader.old.board }
+    ensures had { StartsWith reader.new.seen reader.old.seen }
+{
+    let mut clerk = TwoLocks {
+        rt,
+        work: Work { plan, limits },
+        keeper,
+        imports,
+        turn,
+    };
+    session_shared(alloc, line, reader, &mut clerk);
+}

@@ -1,0 +1,46 @@
+// Crews whose desks loops share.
+ghost use Rattle.std.specs.Prelude.{◌≡◌, ◌≤◌, []};
+ghost use Rattle.road_time.specs.Fits.{IsLimits};
+
+use day_plan::Plan;
+use road_time::Limits;
+use serve_board::BoardWriter;
+use serve_loops::Host;
+use std::sync::Wait;
+
+/// A crew whose desk loops in many threads may share. `out` are the numbers of the tickets whose jobs are out; `works`
+/// is by which plan a desk works a day, and `bounds` within which limits.
+/// Each such crew has a shared desk of its own, since a desk of some crew could not be shared: of a crew that is not
+/// known, it is known in its own thread alone that its tickets may be let go.
+pub trait DeskCrew<K, R: Wait + Drop> {
+    ghost use Rattle.std.specs.Prelude.{ℕ, List};
+    ghost use Rattle.road_time.specs.declared.day.Limits.{Limits};
+    ghost use Rattle.day_plan.specs.declared.work.Plan.{Plan};
+
+    type Shared: Host + Send + Sync;
+
+    ghost out: { Self → List ℕ };
+
+    ghost works: { Self.Shared → Plan };
+
+    ghost bounds: { Self.Shared → Limits };
+
+    /// Makes a desk with this crew, and puts its keeper under one lock and the rest under another.
+    fn share(
+        self,
+        rt: R,
+        keeper: K,
+        writer: BoardWriter<R>,
+        plan: Plan,
+        limits: Limits,
+    ) -> Self::Shared
+        requires idle { out self ≡ [] }
+        requires some { 1 ≤ plan.width }
+        requires few { plan.width ≤ 64 }
+        requires within { IsLimits limits }
+        ensures works { works result ≡ plan }
+        ensures bounds { bounds result ≡ limits };
+
+    /// Ends the desk and the board's writer, and gives the keeper back. It may wait for readers.
+    fn end(shared: Self::Shared) -> K;
+}

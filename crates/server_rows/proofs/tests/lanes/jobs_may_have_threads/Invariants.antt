@@ -1,5 +1,0 @@
-use Rattle.server_rows.proofs.tests.lanes.jobs_may_have_threads.Given as goal
-
--- the history that was just opened
-abbrev pub ghosts-serve_by_threads : goal.ghosts-serve_by_threads
-ghosts-serve_by_threads g a = record { book = a.opened.seen.book }

@@ -1,5 +1,0 @@
-use Rattle.server_rows.proofs.tests.lanes.serve_new.Given as goal
-
--- the history that was just opened
-abbrev pub ghosts-serve_inline : goal.ghosts-serve_inline
-ghosts-serve_inline g a = record { book = a.opened.seen.book }

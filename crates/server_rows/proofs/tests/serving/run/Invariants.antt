@@ -1,5 +1,0 @@
-use Rattle.server_rows.proofs.tests.serving.run.Given as goal
-
--- the history that was just opened
-abbrev pub ghosts-run_over : goal.ghosts-run_over
-ghosts-run_over g a = record { book = a.opened.seen.book }

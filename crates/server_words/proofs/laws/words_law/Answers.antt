@@ -1,6 +1,0 @@
-use Rattle.std.proofs.Common.{map, string_bytes}
-use Rattle.server_words.proofs.Law.{law}
-use Rattle.server_words.proofs.laws.words_law.Goals as goal
-
-pub returns : goal.returns
-returns c = law (map string_bytes c.args.words.now)

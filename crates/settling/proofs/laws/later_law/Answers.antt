@@ -1,9 +1,0 @@
-use Rattle.std.proofs.Common.{◌++◌}
-use Rattle.road_time.specs.Day.{given}
-use Rattle.settling.proofs.GivenLaws.{given_later}
-use Rattle.settling.proofs.StayLaws.{stands_by}
-use Rattle.settling.proofs.laws.later_law.Goals as goal
-
-pub returns : goal.returns
-returns c = λ s found more number history before later h. stands_by s (given found) (given (found ++ more)) number
-    history before (given_later found more before later) h

@@ -1,6 +1,0 @@
-use Rattle.std.proofs.Common.{arith}
-use Rattle.road_time.proofs.BoundLaws.{total_few}
-use Rattle.settling.proofs.laws.total_law.Goals as goal
-
-pub returns : goal.returns
-returns c = λ finding before few short. let most = total_few finding few before in omega arith

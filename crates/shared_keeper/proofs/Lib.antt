@@ -1,3 +1,0 @@
-pub mod TryLaws
-pub mod HistoryLaws
-pub mod HoldLaws

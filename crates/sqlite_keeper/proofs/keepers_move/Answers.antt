@@ -1,8 +1,0 @@
-use denote.Exit.{no}
-use denote.Param.Send.{param_send, arg_send}
-use Rattle.sqlite_keeper.proofs.Moves.{keeper_moves}
-use Rattle.sqlite_keeper.proofs.keepers_move.Goals as goal
-
--- the keeper in a file may move
-pub can_move-requires-send-T : goal.can_move-requires-send-T
-can_move-requires-send-T c κs = param_send _ _ (arg_send _ no _ keeper_moves)

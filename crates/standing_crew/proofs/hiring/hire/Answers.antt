@@ -1,6 +1,0 @@
-use Rattle.std.proofs.Common.{rules}
-use Rattle.standing_crew.proofs.OtherSteps.{split_allowed}
-use Rattle.standing_crew.proofs.hiring.hire.Goals as goal
-
-pub split_seat-theirs-requires : goal.split_seat-theirs-requires
-split_seat-theirs-requires c = (search rules, search rules, split_allowed _ _)

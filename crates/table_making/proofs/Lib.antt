@@ -1,3 +1,0 @@
-pub mod GrowLaws
-pub mod LeaveLaws
-pub mod ObjectLaws

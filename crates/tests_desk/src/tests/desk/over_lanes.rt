@@ -1,0 +1,283 @@
+// What is asked of a desk that lanes share: what is kept, of a day, an expressway and a vehicle that differ from one
+// another; what is asked of a keeper that fails; a long day; and the notices of a day that is sent.
+ghost use Rattle.std.specs.Prelude.{◌≡◌, []};
+
+use super::beside::PLAN;
+use super::faults::KEPT;
+use super::listing::{AFTER_TWO_DAYS, LONG_DAY, charged_on_five, long_post};
+use super::streaming::{STREAMED, charged_day, is_stream, request_of};
+use super::{answer_of, charged_on_leaving};
+use keep_office::MemKeeper;
+use road_io::{BothWays, MemLink, MemSink};
+use road_time::{Limits, NoMemory};
+use serve_board::{Board, BoardReader, board};
+use serve_desk::{Kept, Naming, Opened};
+use serve_loops::{Host, NoTurn};
+use serve_top::DeskCrew;
+use std::alloc::Global;
+use std::marker::Brand;
+use std::sync::Wait;
+use std::thread::Threads;
+use ways_crews::{InlineCrew, NoGate, ThreadCrew};
+
+/// What is asked of a new desk that lanes share, and what it is to answer.
+#[derive(Clone, Copy)]
+enum Asking<'a> {
+    /// What is kept, once two days were posted.
+    TwoDays,
+    /// This, of a keeper that fails.
+    Fault(&'a [u8]),
+    /// A day of 100,000 bytes is posted.
+    LongDay,
+    /// This over a connection in pieces, which is to have this behind the head.
+    Notices {
+        request: &'a [u8],
+        piece: usize,
+        sent: &'a [u8],
+    },
+    /// Notices, over a connection whose outward direction cannot be taken out of it.
+    NoHandle,
+}
+
+/// What a host writes on a connection of these bytes.
+fn told<H: Host>(
+    alloc: Global,
+    host: &H,
+    reader: &mut BoardReader,
+    request: &[u8],
+    piece: usize,
+) -> Result<Vec<u8>, NoMemory> {
+    let mut link = MemLink::new(alloc, request, piece.max(1), 40_000, &[])?;
+    host.attend(alloc, &mut link, &mut NoTurn, reader);
+    let written = Vec::from_slice(alloc, link.bytes())?;
+    Ok(written)
+}
+
+/// Whether a host answers what is asked after two days as it is to be, once both were posted.
+fn answers_two_days<H: Host>(
+    alloc: Global,
+    host: &H,
+    reader: &mut BoardReader,
+) -> Result<bool, NoMemory> {
+    let first = charged_on_leaving(alloc)?;
+    told(alloc, host, reader, first.as_slice(), 100)?;
+    let second = charged_on_five(alloc)?;
+    told(alloc, host, reader, second.as_slice(), 100)?;
+    for row in AFTER_TWO_DAYS {
+        let written = told(alloc, host, reader, row.request, 100)?;
+        let wanted = answer_of(alloc, row.status, row.body)?;
+        if written.as_slice() != wanted.as_bytes() {
+            return Ok(false);
+        }
+    }
+    Ok(true)
+}
+
+/// Whether a host answers a request, which comes in pieces, with this status and this body.
+fn answers_so<H: Host>(
+    alloc: Global,
+    host: &H,
+    reader: &mut BoardReader,
+    request: &[u8],
+    piece: usize,
+    status: &str,
+    body: &str,
+) -> Result<bool, NoMemory> {
+    let written = told(alloc, host, reader, request, piece)?;
+    let wanted = answer_of(alloc, status, body)?;
+    Ok(written.as_slice() == wanted.as_bytes())
+}
+
+/// Whether a host writes this behind the head of a stream on a connection whose bytes go out apart from it, and keeps
+/// no day.
+fn streams<H: Host>(
+    alloc: Global,
+    host: &H,
+    reader: &mut BoardReader,
+    request: &[u8],
+    piece: usize,
+    sent: &[u8],
+) -> Result<bool, NoMemory> {
+    let input = MemLink::new(alloc, request, piece.max(1), 0, &[])?;
+    let output = MemSink::new(alloc, 10_000, piece.max(1))?;
+    let mut link = BothWays::new(input, output);
+    host.attend(alloc, &mut link, &mut NoTurn, reader);
+    let day = b"GET /days/100 HTTP/1.1\r\n\r\n";
+    let body = "{\"error\":\"no day\"}";
+    let none = answers_so(alloc, host, reader, day, 100, "404 Not Found", body)?;
+    Ok(none && is_stream(link.bytes(), sent))
+}
+
+/// Whether a host answers what is asked as it is to be.
+fn answers<H: Host>(
+    alloc: Global,
+    host: &H,
+    reader: &mut BoardReader,
+    asking: Asking<'_>,
+) -> Result<bool, NoMemory> {
+    match asking {
+        Asking::TwoDays => answers_two_days(alloc, host, reader),
+        Asking::Fault(request) => {
+            let status = "503 Service Unavailable";
+            let body = "{\"error\":\"keeper\"}";
+            answers_so(alloc, host, reader, request, 100, status, body)
+        }
+        Asking::LongDay => {
+            let request = long_post(alloc)?;
+            let long = request.as_slice();
+            answers_so(alloc, host, reader, long, 10_000, "200 OK", LONG_DAY)
+        }
+        Asking::Notices {
+            request,
+            piece,
+            sent,
+        } => streams(alloc, host, reader, request, piece, sent),
+        Asking::NoHandle => {
+            let request = request_of(alloc, b"", 0)?;
+            let empty = request.as_slice();
+            let status = "500 Internal Server Error";
+            let body = "{\"error\":\"memory\"}";
+            answers_so(alloc, host, reader, empty, 100, status, body)
+        }
+    }
+}
+
+/// The same of a new desk of a crew.
+fn share_for<
+    J: Naming + Send + Sync,
+    R: Threads + Wait + Drop + Copy + Send + Sync,
+    C: DeskCrew<Kept<J, MemKeeper>, R> + Drop,
+>(
+    rt: R,
+    alloc: Global,
+    crew: C,
+    kept: Kept<J, MemKeeper>,
+    asking: Asking<'_>,
+) -> Result<bool, NoMemory>
+    requires { C.out crew ≡ [] }
+{
+    let Board { writer, readers } = board(rt, alloc, 1)?;
+    let mut readers = readers.into_vec();
+    let desk = crew.share(rt, kept, writer, PLAN, Limits::DAY);
+    let right = match readers.pop() {
+        Some(mut reader) => answers(alloc, &desk, &mut reader, asking),
+        None => Err(NoMemory),
+    };
+    C::end(desk);
+    right
+}
+
+/// The same of a desk that runs each job as it is started.
+fn share_inline<J: Naming + Send + Sync, R: Threads + Wait + Drop + Copy + Send + Sync>(
+    rt: R,
+    alloc: Global,
+    opened: Opened<MemKeeper>,
+    asking: Asking<'_>,
+) -> Result<bool, NoMemory>
+    requires { opened.seen.book ≡ J.book }
+{
+    share_for(
+        rt,
+        alloc,
+        InlineCrew::new(alloc, false),
+        opened.named::<J>(),
+        asking,
+    )
+}
+
+/// The same of one with a thread for each job.
+fn share_by_threads<J: Naming + Send + Sync, R: Threads + Wait + Drop + Copy + Send + Sync>(
+    rt: R,
+    alloc: Global,
+    opened: Opened<MemKeeper>,
+    asking: Asking<'_>,
+) -> Result<bool, NoMemory>
+    requires { opened.seen.book ≡ J.book }
+{
+    share_for(
+        rt,
+        alloc,
+        ThreadCrew::new(rt, alloc, NoGate),
+        opened.named::<J>(),
+        asking,
+    )
+}
+
+/// The same of both, with a new keeper each, which fails at these calls.
+fn share_for_both<R: Threads + Wait + Drop + Copy + Send + Sync>(
+    rt: R,
+    alloc: Global,
+    fails: &[u32],
+    asking: Asking<'_>,
+) -> Result<bool, NoMemory> {
+    let inline = Opened::new(MemKeeper::new(alloc, fails)?);
+    let inline = share_inline::<Brand, R>(rt, alloc, inline, asking)?;
+    let threads = Opened::new(MemKeeper::new(alloc, fails)?);
+    Ok(inline && share_by_threads::<Brand, R>(rt, alloc, threads, asking)?)
+}
+
+/// An amount is that of the day, the expressway and the vehicle that are asked for, over a desk that lanes share.
+#[test]
+fn who_asks_over_lanes_is_told_of_that_very_one(rt: HostRuntime) -> Result<(), NoMemory> {
+    assert!(rt; share_for_both(rt, rt.alloc(), &[], Asking::TwoDays)?);
+    Ok(())
+}
+
+/// Who asks for what is kept over lanes is answered with 503 where the keeper fails.
+#[test]
+fn who_asks_over_lanes_is_told_of_a_fault(rt: HostRuntime) -> Result<(), NoMemory> {
+    for request in KEPT {
+        assert!(rt; share_for_both(rt, rt.alloc(), &[0], Asking::Fault(request))?);
+    }
+    Ok(())
+}
+
+/// A POST of 100,000 bytes in pieces of 10,000 is stored over lanes too.
+#[test]
+fn a_long_post_over_lanes_is_stored(rt: HostRuntime) -> Result<(), NoMemory> {
+    assert!(rt; share_for_both(rt, rt.alloc(), &[], Asking::LongDay)?);
+    Ok(())
+}
+
+/// Whether a desk that lanes share, whose keeper fails at these calls, streams this for a request.
+fn is_streamed<R: Threads + Wait + Drop + Copy + Send + Sync>(
+    rt: R,
+    alloc: Global,
+    fails: &[u32],
+    request: &[u8],
+    sent: &[u8],
+) -> Result<bool, NoMemory> {
+    let asking = Asking::Notices {
+        request,
+        piece: 7,
+        sent,
+    };
+    share_for_both(rt, alloc, fails, asking)
+}
+
+/// The notices of a day that is sent are streamed over lanes, to the closing line.
+#[test]
+fn notices_are_streamed_over_lanes(rt: HostRuntime) -> Result<(), NoMemory> {
+    let alloc = rt.alloc();
+    for row in &STREAMED {
+        let request = request_of(alloc, row.lines, 0)?;
+        assert!(rt; is_streamed(rt, alloc, &[], request.as_slice(), row.sent)?);
+    }
+    let (lines, sent) = charged_day(alloc)?;
+    let request = request_of(alloc, lines.as_slice(), 0)?;
+    assert!(rt; is_streamed(rt, alloc, &[], request.as_slice(), sent.as_slice())?);
+    Ok(())
+}
+
+/// Over lanes too a body that is cut and a keeper that fails are told behind the head; and where there is no second
+/// handle of a connection, want of memory is answered.
+#[test]
+fn a_stream_over_lanes_tells_its_faults(rt: HostRuntime) -> Result<(), NoMemory> {
+    let alloc = rt.alloc();
+    let cut = request_of(alloc, b"\n\n\n", 2)?;
+    assert!(rt; is_streamed(rt, alloc, &[], cut.as_slice(), b"# read fault\n")?);
+    let empty = request_of(alloc, b"", 0)?;
+    assert!(rt; is_streamed(rt, alloc, &[0], empty.as_slice(), b"# keeper fault\n")?);
+    assert!(rt; share_for_both(rt, alloc, &[], Asking::NoHandle)?);
+    Ok(())
+}

@@ -1,0 +1,133 @@
+// Which tuples are admitted, and in which order they are given.
+use road_time::{Limits, NoMemory, Report, Tuple};
+use std::alloc::Global;
+use std::test::Fail;
+use tuples_text::{AdmitFault, Cause, Gatekeeper, Sorter};
+
+/// A report of a vehicle at a Time.
+fn report(time: u32, vid: u32) -> Tuple {
+    Tuple::Report(Report {
+        time,
+        vid,
+        spd: 30,
+        xway: 0,
+        lane: 0,
+        dir: 0,
+        seg: 10,
+        pos: 52_800,
+    })
+}
+
+/// A tuple's Time and vehicle, and whether it is admitted.
+type Step = (u32, u32, Result<(), AdmitFault>);
+
+const ONE_VEHICLE: Limits = Limits {
+    vehicles: 1,
+    ..Limits::DAY
+};
+
+const LATE: Result<(), AdmitFault> = Err(AdmitFault::Refused(Cause::Late(10, 9)));
+
+const OFTEN: Result<(), AdmitFault> = Err(AdmitFault::Refused(Cause::TooOften(1, 1)));
+
+const MANY: Result<(), AdmitFault> = Err(AdmitFault::Refused(Cause::Vehicles(1)));
+
+const FAR: Result<(), AdmitFault> = Err(AdmitFault::Refused(Cause::Late(30, 0)));
+
+/// Days by their limits, their lateness and their first tuples.
+const DAYS: [(Limits, u8, [Step; 5]); 4] = [
+    (
+        Limits::DAY,
+        0,
+        [
+            (10, 1, Ok(())),
+            (9, 2, LATE),
+            (10, 3, Ok(())),
+            (10, 4, Ok(())),
+            (10, 5, Ok(())),
+        ],
+    ),
+    (
+        Limits::DAY,
+        0,
+        [
+            (0, 1, Ok(())),
+            (10, 1, Ok(())),
+            (20, 1, Ok(())),
+            (30, 1, Ok(())),
+            (40, 1, OFTEN),
+        ],
+    ),
+    (
+        ONE_VEHICLE,
+        0,
+        [
+            (0, 7, Ok(())),
+            (0, 8, MANY),
+            (0, 7, Ok(())),
+            (30, 7, Ok(())),
+            (30, 8, MANY),
+        ],
+    ),
+    (
+        Limits::DAY,
+        29,
+        [
+            (30, 1, Ok(())),
+            (0, 2, FAR),
+            (1, 2, Ok(())),
+            (60, 1, Ok(())),
+            (60, 2, Ok(())),
+        ],
+    ),
+];
+
+/// The number of the first tuple of a day that is not admitted as it is to be, their count where all are.
+fn first_misjudged(alloc: Global, limits: &Limits, lateness: u8, steps: &[Step]) -> usize {
+    if lateness > 120 {
+        return 0;
+    }
+    let mut gatekeeper = Gatekeeper::new(alloc, limits, lateness);
+    for (at, (time, vid, want)) in steps.iter().enumerate() {
+        if gatekeeper.admit(&report(*time, *vid)) != *want {
+            return at;
+        }
+    }
+    steps.len()
+}
+
+/// Whether a sorter of half a minute gives three tuples in the order of their Times.
+fn sorts(alloc: Global) -> Result<bool, NoMemory> {
+    let mut sorter = Sorter::new(alloc, 30);
+    for time in [30, 0, 60] {
+        sorter.put(&Tuple::Travel { time })?;
+    }
+    let taken = [sorter.take(), sorter.take(), sorter.take()];
+    let ended = [sorter.end(), sorter.end()];
+    let [first, second, third] = [0, 30, 60].map(|time| Some(Tuple::Travel { time }));
+    Ok(taken == [first, second, None] && ended == [third, None])
+}
+
+/// Whether a sorter that waits for none gives each tuple at once.
+fn sorts_at_once(alloc: Global) -> Result<bool, NoMemory> {
+    let mut prompt = Sorter::new(alloc, 0);
+    let mut same = true;
+    for vid in 0..3 {
+        prompt.put(&report(9, vid))?;
+        same = same && prompt.take() == Some(report(9, vid));
+    }
+    Ok(same)
+}
+
+#[test]
+fn tuples_of_a_day(rt: HostRuntime) -> Result<(), Fail> {
+    for (limits, lateness, steps) in &DAYS {
+        assert_eq!(rt;
+            first_misjudged(rt.alloc(), limits, *lateness, steps),
+            steps.len()
+        );
+    }
+    assert!(rt; sorts(rt.alloc())?);
+    assert!(rt; sorts_at_once(rt.alloc())?);
+    Ok(())
+}

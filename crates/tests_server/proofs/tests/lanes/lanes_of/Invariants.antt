@@ -1,0 +1,13 @@
+use Rattle.std.proofs.Common.{◌≡◌, ◌+◌, vec_len, All}
+use Rattle.serve_loops.specs.MemListeners.{accepted_by}
+use Rattle.tests_server.proofs.tests.lanes.lanes_of.Given as goal
+
+-- a lane for each reader that was taken, which accepted nothing
+abbrev pub invariant-loop-reader : goal.invariant-loop-reader
+invariant-loop-reader l =
+    (vec_len l.lanes + vec_len l.readers ≡ vec_len l.initial.readers)
+    × All (λ lane. accepted_by lane.listener ≡ 0) l.lanes.items
+
+-- the readers that are left
+abbrev pub decreases-loop-reader : goal.decreases-loop-reader
+decreases-loop-reader l = vec_len l.readers

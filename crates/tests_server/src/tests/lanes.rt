@@ -1,0 +1,159 @@
+// Serving over lanes in memory.
+ghost use Rattle.std.specs.Prelude.{◌≡◌, [], length, vec_len, All, IfOk};
+ghost use Rattle.serve_loops.specs.MemListeners.{accepted_by};
+
+use day_plan::Plan;
+use keep_office::{Keeper, MemKeeper};
+use road_io::MemLink;
+use road_time::{Limits, NoMemory};
+use serve_board::{Board, BoardReader, board};
+use serve_desk::{Kept, Naming, Opened};
+use serve_top::{DeskCrew, Lane, Lanes, MemListener, ServeEnd, serve};
+use std::alloc::Global;
+use std::marker::Brand;
+use std::sync::Wait;
+use std::thread::Threads;
+use ways_crews::{InlineCrew, NoGate, ThreadCrew};
+
+const EMPTY_DAY: &[u8] = b"POST /days/100 HTTP/1.1\r\nContent-Length: 0\r\n\r\n";
+
+const KEPT_DAY: &[u8] = b"GET /days/100 HTTP/1.1\r\n\r\n";
+
+/// Each day's work is done by four workers, in no drawn order.
+const PLAN: Plan = Plan {
+    width: 4,
+    turns: None,
+};
+
+/// A listener of a POST of an empty day, and then of requests for it.
+fn listener_of(alloc: Global, links: u8) -> Result<MemListener, NoMemory>
+    ensures { IfOk result (λ l. accepted_by l ≡ 0) }
+{
+    let mut all = Vec::new(alloc);
+    all.push(MemLink::new(alloc, EMPTY_DAY, 100, 1000, &[])?)?;
+    for _ in 1..links {
+        all.push(MemLink::new(alloc, KEPT_DAY, 100, 1000, &[])?)?;
+    }
+    MemListener::new(alloc, all, &[])
+}
+
+/// A lane for each reader, each with such a listener.
+fn lanes_of(
+    alloc: Global,
+    mut readers: Vec<BoardReader>,
+    links: u8,
+) -> Result<Lanes<MemListener>, NoMemory>
+    ensures len { IfOk result (λ lanes. length lanes ≡ vec_len readers) }
+    ensures unused { IfOk result (λ lanes. All (λ lane. accepted_by lane.listener ≡ 0) lanes) }
+{
+    let mut lanes = Vec::new(alloc);
+    while let Some(reader) = readers.pop() {
+        lanes.push(Lane {
+            listener: listener_of(alloc, links)?,
+            reader,
+            failed: true,
+        })?;
+    }
+    Ok(Lanes::from_vec(lanes))
+}
+
+/// How serving so many sessions ends, over lanes of so many links each, and whether day 100 is kept then.
+fn serve_links<
+    J: Naming + Send + Sync,
+    R: Threads + Wait + Drop + Copy + Send + Sync,
+    C: DeskCrew<Kept<J, MemKeeper>, R> + Drop,
+>(
+    rt: R,
+    alloc: Global,
+    crew: C,
+    kept: Kept<J, MemKeeper>,
+    lanes: u8,
+    links: u8,
+    sessions: u64,
+) -> Result<(ServeEnd, bool), NoMemory>
+    requires { C.out crew ≡ [] }
+{
+    let Board { writer, readers } = board(rt, alloc, lanes.clamp(1, 64))?;
+    let mut lanes = lanes_of(alloc, readers.into_vec(), links)?;
+    let desk = crew.share(rt, kept, writer, PLAN, Limits::DAY);
+    let end = serve(&rt, alloc, &mut lanes, &desk, sessions);
+    let mut keeper = C::end(desk).into_keeper();
+    let kept = match keeper.day(100) {
+        Ok(kept) => kept.is_some(),
+        Err(_) => false,
+    };
+    Ok((end, kept))
+}
+
+/// The same of a desk that runs each job as it is started.
+fn serve_inline<J: Naming + Send + Sync, R: Threads + Wait + Drop + Copy + Send + Sync>(
+    rt: R,
+    alloc: Global,
+    opened: Opened<MemKeeper>,
+    lanes: u8,
+    links: u8,
+    sessions: u64,
+) -> Result<(ServeEnd, bool), NoMemory>
+    requires { opened.seen.book ≡ J.book }
+{
+    let crew = InlineCrew::new(alloc, false);
+    serve_links(rt, alloc, crew, opened.named::<J>(), lanes, links, sessions)
+}
+
+/// The same of a new keeper.
+fn serve_new<R: Threads + Wait + Drop + Copy + Send + Sync>(
+    rt: R,
+    alloc: Global,
+    lanes: u8,
+    links: u8,
+    sessions: u64,
+) -> Result<(ServeEnd, bool), NoMemory> {
+    let opened = Opened::new(MemKeeper::new(alloc, &[])?);
+    serve_inline::<Brand, R>(rt, alloc, opened, lanes, links, sessions)
+}
+
+/// Lanes accept as many connections as there are sessions, whichever lane comes first; where a listener has none left,
+/// that is told. What was posted is kept in each case.
+#[test]
+fn lanes_share_the_sessions(rt: HostRuntime) -> Result<(), NoMemory> {
+    let alloc = rt.alloc();
+    let rows = [
+        (1, 1, 1, ServeEnd::Served),
+        (1, 1, 2, ServeEnd::ListenFault),
+        (1, 2, 2, ServeEnd::Served),
+        (1, 2, 3, ServeEnd::ListenFault),
+        (2, 3, 3, ServeEnd::Served),
+        (2, 1, 3, ServeEnd::ListenFault),
+    ];
+    for (lanes, links, sessions, end) in rows {
+        let came = serve_new(rt, alloc, lanes, links, sessions)?;
+        assert_eq!(rt;
+            came,
+            (end, true),
+            "{lanes} lanes of {links} links, {sessions} sessions"
+        );
+    }
+    Ok(())
+}
+
+/// The same of two lanes of three links each, with a thread for each job.
+fn serve_by_threads<J: Naming + Send + Sync, R: Threads + Wait + Drop + Copy + Send + Sync>(
+    rt: R,
+    alloc: Global,
+    opened: Opened<MemKeeper>,
+) -> Result<(ServeEnd, bool), NoMemory>
+    requires { opened.seen.book ≡ J.book }
+{
+    let crew = ThreadCrew::new(rt, alloc, NoGate);
+    serve_links(rt, alloc, crew, opened.named::<J>(), 2, 3, 3)
+}
+
+/// So it is where each job has a thread.
+#[test]
+fn jobs_may_have_threads(rt: HostRuntime) -> Result<(), NoMemory> {
+    let alloc = rt.alloc();
+    let opened = Opened::new(MemKeeper::new(alloc, &[])?);
+    let came = serve_by_threads::<Brand, _>(rt, alloc, opened)?;
+    assert_eq!(rt; came, (ServeEnd::Served, true));
+    Ok(())
+}

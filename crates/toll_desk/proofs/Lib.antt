@@ -1,8 +1,0 @@
-pub mod SendLaws
-pub mod DayLaws
-pub mod ImportLaws
-pub mod ReadLaws
-pub mod LiveLaws
-mod SharedLaws
-pub mod StreamLaws
-pub mod LimitLaws

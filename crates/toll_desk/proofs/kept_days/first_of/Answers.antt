@@ -1,9 +1,0 @@
-use Rattle.std.proofs.Common.{sym, ap}
-use Rattle.toll_desk.specs.Days.{first_day}
-use Rattle.toll_desk.proofs.kept_days.first_of.Goals as goal
-
-pub returns-in-Some : goal.returns-in-Some
-returns-in-Some c = sym (ap first_day c.in-Some.is)
-
-pub returns-in-None : goal.returns-in-None
-returns-in-None c = sym (ap first_day c.in-None.is)

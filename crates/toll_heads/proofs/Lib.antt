@@ -1,9 +1,0 @@
-pub mod PathLaws
-pub mod PartLaws
-pub mod FieldLaws
-pub mod OriginLaws
-pub mod FrontLaws
-pub mod HeadLaws
-pub mod RouteLaws
-pub mod PlaceLaws
-pub mod AsciiLaws

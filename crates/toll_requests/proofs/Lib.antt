@@ -1,3 +1,0 @@
-pub mod ReplyLaws
-pub mod BodyLaws
-pub mod StatusLaws

@@ -1,5 +1,0 @@
-use Rattle.toll_requests.proofs.BodyLaws.{never_faulty}
-use Rattle.toll_requests.proofs.skipping.skip_body.Goals as goal
-
-pub returns-clause-sure : goal.returns-clause-sure
-returns-clause-sure g c = λ never is. never_faulty _ _ _ c.skip_from.result c.skip_from.ensures.cause never is

@@ -1,9 +1,0 @@
-use Rattle.std.proofs.Common.{ap, ◌∙◌}
-use Rattle.serde_json.specs.Written.{compact_text, has_float}
-use Rattle.toll_texts.proofs.BodyLaws.{passed_shape}
-use Rattle.toll_texts.proofs.bodies.passed_body.Goals as goal
-
-pub returns : goal.returns
-returns c =
-    let is = c.in_ok-value.ensures in
-    c.in_ok-to_string.ensures.text (ap has_float is) ∙ ap compact_text is ∙ passed_shape c.args.last

@@ -1,7 +1,0 @@
-use Rattle.std.specs.Fmt.{digits}
-use Rattle.std.proofs.Common.{refl}
-use Rattle.toll_texts.proofs.replies.no_memory_text.Goals as goal
-
-pub returns : goal.returns
-unfolding digits
-returns c = refl

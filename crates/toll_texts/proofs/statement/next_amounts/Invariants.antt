@@ -1,7 +1,0 @@
-use Rattle.std.proofs.Common.{◌≡◌, string_bytes, take}
-use Rattle.std.specs.List.{flat_map}
-use Rattle.toll_texts.specs.Lists.{next_amount}
-use Rattle.toll_texts.proofs.statement.next_amounts.Given as goal
-
-abbrev pub invariant-loop-row : goal.invariant-loop-row
-invariant-loop-row l = string_bytes l.text ≡ flat_map next_amount (take l.row-index l.rows)

@@ -1,8 +1,0 @@
-use Rattle.std.proofs.Common.{◌≡◌, ◌++◌}
-use Rattle.traffic_gen.specs.Reports.{reports_before}
-use Rattle.traffic_gen.specs.Crashes.{crash_report}
-use Rattle.traffic_gen.proofs.crash.Crash.add_vehicle.Given as goal
-
-abbrev pub invariant-loop-k : goal.invariant-loop-k
-invariant-loop-k l =
-    l.tuples.items ≡ l.fn.tuples.items ++ reports_before l.fn.end (crash_report l.fn.self l.fn.vid l.fn.start) l.k

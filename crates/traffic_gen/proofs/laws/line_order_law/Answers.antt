@@ -1,6 +1,0 @@
-use Rattle.traffic_gen.proofs.RangeLaws.{in_range}
-use Rattle.traffic_gen.proofs.FileLaws.{in_line_order}
-use Rattle.traffic_gen.proofs.laws.line_order_law.Goals as goal
-
-pub returns : goal.returns
-returns c = λ plan e. in_line_order plan (in_range plan e)

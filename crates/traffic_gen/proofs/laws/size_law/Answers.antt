@@ -1,7 +1,0 @@
-use Rattle.std.proofs.Common.{arith}
-use Rattle.traffic_gen.proofs.RangeLaws.{in_range}
-use Rattle.traffic_gen.proofs.FileLaws.{few_lines, few_bytes}
-use Rattle.traffic_gen.proofs.laws.size_law.Goals as goal
-
-pub returns : goal.returns
-returns c = λ plan e. (omega (arith, few_lines plan (in_range plan e)), few_bytes plan (in_range plan e))

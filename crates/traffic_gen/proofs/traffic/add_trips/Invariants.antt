@@ -1,9 +1,0 @@
-use Rattle.std.proofs.Common.{◌≡◌, ◌++◌}
-use Rattle.traffic_gen.specs.Traffic.{before_trip, trip_traffic}
-use Rattle.traffic_gen.proofs.traffic.add_trips.Given as goal
-
-abbrev pub invariant-loop-number : goal.invariant-loop-number
-invariant-loop-number l = record {
-  tuples : l.tuples.items ≡ l.fn.tuples.items ++ trip_traffic l.fn.plan l.number;
-  drawn : l.rng ≡ before_trip l.fn.plan l.number;
-}

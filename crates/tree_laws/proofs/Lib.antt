@@ -1,3 +1,0 @@
-mod KeyLaws
-mod PassingLaws
-mod HandingLaws

@@ -1,5 +1,0 @@
-use Rattle.tree_laws.proofs.PassingLaws.{pages_found}
-use Rattle.tree_laws.proofs.passing.pages_find.Goals as goal
-
-pub returns : goal.returns
-returns g c = pages_found g.met.D.Disk.seen_may_stay c.args.store.now c.args.pages.now

@@ -1,5 +1,0 @@
-use Rattle.tree_laws.proofs.PassingLaws.{still_read}
-use Rattle.tree_laws.proofs.passing.reads_stay.Goals as goal
-
-pub returns : goal.returns
-returns g c = still_read c.args.old.now c.args.new.now

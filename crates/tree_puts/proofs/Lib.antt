@@ -1,8 +1,0 @@
-pub mod ListLaws
-pub mod TreeLaws
-pub mod AmountLaws
-pub mod OfficeLaws
-pub mod CauseLaws
-pub mod StoreLaws
-pub mod TariffLaws
-pub mod ClearLaws

@@ -1,8 +1,0 @@
--- Puts by the trees of a store: the rows and entries that each step adds or takes away.
-
-pub mod Trees
-pub mod Steps
-pub mod Room
-pub mod Causes
-pub mod Stores
-pub mod Clears

@@ -1,3 +1,0 @@
--- Where the bytes of a link go out, apart from the link.
-
-pub mod Outwards

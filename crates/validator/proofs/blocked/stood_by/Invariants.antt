@@ -1,7 +1,0 @@
-use Rattle.std.proofs.Common.{◌≡◌, ℕ, ◌≤◌, ◌<◌, false}
-use Rattle.road_time.specs.Stops.{has_accident}
-use Rattle.validator.specs.Halts.{halting}
-use Rattle.validator.proofs.blocked.stood_by.Given as goal
-
-abbrev pub invariant-loop-second : goal.invariant-loop-second
-invariant-loop-second l = (t : ℕ) → l.start ≤ t → t < l.second → has_accident (halting l.some.items t) l.stretch ≡ false

@@ -1,7 +1,0 @@
-use Rattle.std.proofs.Common.{◌≡◌, map, take}
-use Rattle.road_time.specs.Rows.{in_order}
-use Rattle.validator.specs.Accounts.{shown_charge}
-use Rattle.validator.proofs.rows.expressways.Given as goal
-
-abbrev pub invariant-loop-charge : goal.invariant-loop-charge
-invariant-loop-charge l = l.xways.keys ≡ in_order (map (λ c. c.xway) (map shown_charge (take l.charge-index l.charges)))

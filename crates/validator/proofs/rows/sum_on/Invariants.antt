@@ -1,8 +1,0 @@
-use Rattle.std.proofs.Common.{◌≡◌, map, take}
-use Rattle.road_time.specs.Day.{sum_of}
-use Rattle.road_time.specs.Rows.{charges_on}
-use Rattle.validator.specs.Accounts.{shown_charge}
-use Rattle.validator.proofs.rows.sum_on.Given as goal
-
-abbrev pub invariant-loop-charge : goal.invariant-loop-charge
-invariant-loop-charge l = l.total ≡ sum_of (charges_on l.xway (map shown_charge (take l.charge-index l.charges)))

@@ -1,0 +1,11 @@
+pub mod SecondLaws
+pub mod CountLaws
+pub mod OwnLaws
+pub mod TakenLaws
+pub mod RoutingLaws
+pub mod ClosingLaws
+pub mod JobLaws
+pub mod FinishLaws
+pub mod FoundLaws
+pub mod PositionLaws
+pub mod PaymentLaws

@@ -1,0 +1,13 @@
+use Rattle.std.proofs.Common.{◌≡◌}
+use Rattle.ways_audit.specs.Jobs.{HasStarted}
+use Rattle.ways_audit.proofs.starts.start_all.Given as goal
+
+abbrev pub invariant-loop-worker : goal.invariant-loop-worker
+invariant-loop-worker g l =
+    let k = g.C.Crew in
+    record {
+      runs : HasStarted k.out k.number k.holds k.gave k.jobs (k.jobs l.fn.crew) l.crew l.tariffs l.tickets.items
+          l.tuples l.width l.worker;
+      which : k.which l.crew ≡ k.which l.fn.crew;
+      answers : k.answers l.crew ≡ k.answers l.fn.crew;
+    }

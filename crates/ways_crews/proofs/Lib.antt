@@ -1,0 +1,15 @@
+pub mod Numbers
+pub mod Puts
+pub mod HeldJobs
+pub mod Tellings
+pub mod MarkLaws
+pub mod CallerLaws
+pub mod ListingLaws
+pub mod Takers
+pub mod Keeps
+pub mod CellSteps
+pub mod TakerSteps
+pub mod OtherSteps
+pub mod Asked
+pub mod Opening
+pub mod CrewSteps
