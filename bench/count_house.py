@@ -18,16 +18,16 @@ import sys
 # The calls that a byte goes through, in their order: TYPE::FUNCTION, or FUNCTION with a piece of the path that it stands in; of
 # several with a bar between them the first that is there.
 WALK = """
-main@toll_office run_office@ office@entry read_words@words perform@performing import@importing import_new@new_day
-import_later@new_day import_begun@ import_under@ run_day@ run_opened@ run_plan@ run_rounds@ next_round@ round@rounding
-work_round@ read_on@supply gather@supply next@day_ahead next@day_reader advance@cutter read@source next@day_reader
+main@toll_office run_office@ office@entry read_words@words perform@performing import@importing import_new@importing
+import_later@importing import_begun@ import_under@ run_day@ run_opened@ run_plan@ run_rounds@ next_round@ round@rounds
+work_round@ read_on@work gather@work next@day_ahead next@day_reader advance@cutter read@source next@day_reader
 add@consumed add@beside_digester add@beside_digester take@intake read_line@ admit@gatekeeper Sorter::put take@sorter
-take@intake next@day_reader next@day_ahead gather@supply read_on@supply work_round@ feed_these@ feed@floor
-feed_report@ see@tracker feed_report@ of_report@ feed@floor give_all@rounds give_one@ give@floor give_one@
+take@intake next@day_reader next@day_ahead gather@work read_on@work work_round@ feed_these@ feed@floor
+feed_report@ see@tracker feed_report@ of_report@ feed@floor give_all@work give_one@ give@floor give_one@
 start_beside@ start@inline_crew run@job next@carriage next@parts see@parts advance@parts advance@stops see@parts
 tell@parts find_if@ find_anew@ Speeds::cars find_anew@ nearest@stops find_anew@ toll@formula find_anew@ tell@parts
 run@job start@inline_crew start_beside@ give_one@ finish_firsts@ finish_one@ finish_among@ finish@inline_crew
-finish_one@ back@floor back@inboxes fill@slots said@slot fill@slots fill@slot back@floor round@rounding settle_done@
+finish_one@ back@floor back@inboxes fill@slots said@slot fill@slots fill@slot back@floor round@rounds settle_done@
 settle@floor settle@publishing write_run@ settle_run@ settle_next@ settle_slot@ settle_report@ charge@booking
 Book::charge settle_report@ notify@booking Book::notify settle_report@ put_told@printer put_notice@ flush@printer
 hand_on@handing|put_all@sink write@sink

@@ -25,7 +25,7 @@ use Rattle.day_reading.specs.Days.{EndsReading, LeavesBehind}
 use Rattle.day_import.specs.declared.outcomes.Outcome.{Outcome}
 use Rattle.day_import.specs.declared.outcomes.Outcome.TheVariants.{Stored, Already, Answered, Refused, Differs}
 use Rattle.day_import.specs.declared.outcomes.Outcome.TheVariants.{ReadFault, WriteFault, KeeperFault, NoMemory}
-use Rattle.day_import.specs.declared.day_run.WorkedDay.{WorkedDay}
+use Rattle.day_import.specs.declared.day.WorkedDay.{WorkedDay}
 use Rattle.day_import.specs.declared.fault.DayFault.{DayFault}
 use Rattle.day_import.specs.declared.fault.DayFault.TheVariants as stop
 use Rattle.day_import.specs.Imports.{DayAnswer, Work, work_by, worked_record, worked_office}

@@ -28,7 +28,7 @@ use Rattle.day_floor.proofs.Ones.{few_tolls}
 use Rattle.day_floor.specs.Shares.{State}
 use Rattle.day_floor.specs.Floors.{Setting}
 use Rattle.day_import.specs.declared.begun.Import.{Import}
-use Rattle.day_import.specs.declared.day_run.WorkedDay.{WorkedDay}
+use Rattle.day_import.specs.declared.day.WorkedDay.{WorkedDay}
 use Rattle.day_import.specs.declared.fault.DayFault.{DayFault}
 use Rattle.day_import.specs.declared.fault.DayFault.TheVariants.{ReadFault, NoMemory}
 use Rattle.day_import.specs.Days.{IsOn}

@@ -28,7 +28,7 @@ use Rattle.day_floor.specs.Closes.{IsClosed}
 use Rattle.day_floor.proofs.AnswerLaws.{notices_few, notices_exact}
 use Rattle.day_reading.specs.Days.{IsShortDay}
 use Rattle.day_import.specs.WorkedDays.{AreRightFor}
-use Rattle.day_import.specs.declared.day_run.WorkedDay.{WorkedDay}
+use Rattle.day_import.specs.declared.day.WorkedDay.{WorkedDay}
 use Rattle.day_import.specs.Imports.{work_of, work_by, worked_record, worked_sums}
 use Rattle.day_import.specs.Stages.{run_record, run_sums, CanPut}
 

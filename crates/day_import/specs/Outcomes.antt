@@ -22,7 +22,7 @@ use Rattle.day_floor.specs.Answers.{PaidHistory}
 use Rattle.day_floor.specs.Closes.{IsClosed}
 use Rattle.day_floor.specs.Floors.{Setting}
 use Rattle.day_import.specs.declared.fault.DayFault.{DayFault}
-use Rattle.day_import.specs.declared.day_run.WorkedDay.{WorkedDay}
+use Rattle.day_import.specs.declared.day.WorkedDay.{WorkedDay}
 use Rattle.day_import.specs.DayFaults.{WritesUpTo}
 use Rattle.day_import.specs.WorkedDays.{AreRightFor, HaveAllStarted, HaveFirstStarted}
 use Rattle.day_import.specs.Published.{AreStepsBy, HasSteps, published_of}

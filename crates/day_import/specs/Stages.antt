@@ -18,7 +18,7 @@ use Rattle.day_import.specs.declared.outcomes.Outcome.{Outcome}
 use Rattle.day_import.specs.declared.outcomes.AnsweredDay.{AnsweredDay}
 use Rattle.day_import.specs.declared.outcomes.Outcome.TheVariants.{Stored, Already, Answered, Refused, Differs}
 use Rattle.day_import.specs.declared.outcomes.Outcome.TheVariants.{ReadFault, KeeperFault, NoMemory}
-use Rattle.day_import.specs.declared.day_run.WorkedDay.{WorkedDay}
+use Rattle.day_import.specs.declared.day.WorkedDay.{WorkedDay}
 use Rattle.day_import.specs.Imports.{again}
 
 -- the record of a day that was worked

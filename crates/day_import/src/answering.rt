@@ -13,7 +13,7 @@ ghost use Rattle.day_import.specs.Runs.{DoesByCrew, HasStartedJobs};
 ghost use Rattle.day_import.specs.Planned.{WorksPlanned};
 ghost use Rattle.day_import.specs.declared.outcomes.Outcome.TheVariants.{ReadFault, WriteFault, KeeperFault};
 
-use crate::days::run_day;
+use crate::day::run_day;
 use crate::keeping::finish_answers;
 use crate::outcomes::{Outcome, refused, stopped};
 use day_floor::NoPublisher;

@@ -19,7 +19,7 @@ ghost use Rattle.day_import.specs.Planned.{WorksPlanned};
 ghost use Rattle.day_floor.specs.Operations.{Posted};
 ghost use Rattle.day_import.specs.declared.outcomes.Outcome.TheVariants.{Stored, ReadFault, WriteFault, KeeperFault};
 
-use crate::days::run_day;
+use crate::day::run_day;
 use crate::keeping::finish_import;
 use crate::outcomes::{Outcome, stopped};
 use day_floor::Publisher;

@@ -1,4 +1,4 @@
-// Importing a day.
+// Importing a day: looking whether it is kept, passed or new, and a new one.
 ghost use Rattle.std.specs.Prelude.{◌≡◌, ◌≤◌, List, ℕ, Some, None, [], true};
 ghost use Rattle.road_time.specs.Reads.{reads};
 ghost use Rattle.keep_office.specs.declared.kept.DayRecord.{DayRecord};
@@ -10,14 +10,17 @@ ghost use Rattle.road_io.specs.Blame.{FaultsByPlan, FaultsByRoom};
 ghost use Rattle.day_import.specs.Faults.{FaultsBeside, NamesNoOther, FailsNext};
 ghost use Rattle.day_import.specs.Asked.{AsksBy};
 ghost use Rattle.day_import.specs.Imports.{import_answer, import_found, most_imported, Does, LeavesRest, LeavesAlone};
-ghost use Rattle.day_import.specs.Imports.{LeavesRead, PutsOnce, KeepsAll, KeepsUnlessRead, IsUncompared};
+ghost use Rattle.day_import.specs.Imports.{LeavesRead, PutsOnce, KeepsAll, KeepsUnlessRead, IsUncompared, new_import};
+ghost use Rattle.day_import.specs.Imports.{new_import_found, unless_passed, IsOfNewDay};
 ghost use Rattle.day_import.specs.Runs.{DoesByCrew, HasStartedJobs, PublishesDay, PublishesUnderSome};
 ghost use Rattle.day_import.specs.Planned.{WorksPlanned};
 ghost use Rattle.day_floor.specs.Operations.{Posted};
 ghost use Rattle.day_import.specs.declared.outcomes.Outcome.TheVariants.{Stored, ReadFault, WriteFault, KeeperFault};
+ghost use Rattle.keep_office.specs.Kept.{IsLater};
+ghost use Rattle.keep_office.specs.Calls.{IfTold};
 
-use crate::kept_day::compare;
-use crate::new_day::import_new;
+use crate::beginning::import_begun;
+use crate::keeping::compare;
 use crate::outcomes::{Outcome, refused};
 use day_floor::Publisher;
 use day_plan::Plan;
@@ -108,6 +111,162 @@ pub fn import<S: Source, O: Sink, K: Keeper, C: Crew, P: Publisher, R: Threads>(
         Ok(None) => import_new(
             rt, alloc, day, plan, late, limits, source, sink, keeper, crew, publisher,
         ),
+        Err(why) => refused(why),
+    }
+}
+
+/// Imports a day that is later than all that is kept.
+fn import_later<S: Source, O: Sink, K: Keeper, C: Crew, P: Publisher, R: Threads>(
+    rt: &R,
+    alloc: Global,
+    number: u32,
+    plan: &Plan,
+    late: u8,
+    limits: &Limits,
+    source: &mut S,
+    sink: &mut O,
+    keeper: &mut K,
+    crew: &mut C,
+    publisher: &mut P,
+) -> Outcome
+    requires low { 70 ≤ number }
+    requires high { number ≤ 1000000 }
+    requires width { (1 ≤ plan.now.width) × (plan.now.width ≤ 64) }
+    requires soon { late ≤ 120 }
+    requires within { IsLimits limits.now }
+    requires idle { C.out crew.old ≡ [] }
+    requires later { IfTold (K.told keeper.old) (λ o. IsLater number o) }
+    ensures does { C.exact ≡ true → (bytes : List ℕ) (o : Office) → S.left source.old ≡ Some bytes
+        → K.told keeper.old ≡ Some o
+        → Does K.refuses (new_import number late limits.now bytes o) o (O.written sink.old) (O.written sink.new)
+        (K.told keeper.new) result }
+    ensures merged { (bytes : List ℕ) (o : Office) → S.left source.old ≡ Some bytes → K.told keeper.old ≡ Some o
+        → DoesByCrew K.refuses (λ found. new_import_found found number late limits.now bytes o) o (C.answers crew.old)
+        (C.answers crew.new) (O.written sink.old) (O.written sink.new) (K.told keeper.new) result }
+    ensures jobs { (bytes : List ℕ) → S.left source.old ≡ Some bytes
+        → HasStartedJobs plan.now.width limits.now.backlog (reads bytes limits.now late).tuples (C.jobs crew.old)
+        (C.jobs crew.new) result }
+    ensures planned { (bytes : List ℕ) → S.left source.old ≡ Some bytes
+        → WorksPlanned plan.now limits.now.backlog (reads bytes limits.now late).tuples (C.jobs crew.old)
+        (C.jobs crew.new) (C.answers crew.old) (C.answers crew.new) result }
+    ensures published { C.exact ≡ true → (bytes : List ℕ) (o : Office) (was : Posted) → S.left source.old ≡ Some bytes
+        → K.told keeper.old ≡ Some o
+        → P.posted publisher.old ≡ Some was
+        → PublishesDay o.tariffs (reads bytes limits.now late).tuples number limits.now.backlog was
+        (P.posted publisher.new) result }
+    ensures published_by { C.exact ≡ true → (bytes : List ℕ) (was : Posted) → S.left source.old ≡ Some bytes
+        → P.posted publisher.old ≡ Some was
+        → PublishesUnderSome (reads bytes limits.now late).tuples number limits.now.backlog was (P.posted publisher.new)
+        result }
+    ensures puts { (o : Office) → K.told keeper.old ≡ Some o → PutsOnce number o (K.told keeper.new) }
+    ensures keeps { KeepsAll result (K.told keeper.new ≡ K.told keeper.old) }
+    ensures read_first { (bytes : List ℕ) → S.left source.old ≡ Some bytes
+        → KeepsUnlessRead (K.told keeper.old) (K.told keeper.new) (S.left source.new) (S.faults source.old)
+        (S.faults source.new) }
+    ensures whole { (bytes : List ℕ) (kept : DayRecord) → S.left source.old ≡ Some bytes → result ≡ Stored kept
+        → S.left source.new ≡ Some [] }
+    ensures leaves { (bytes : List ℕ) → S.left source.old ≡ Some bytes
+        → LeavesRead result (reads bytes limits.now late).refused bytes (S.left source.new) }
+    ensures new_day { IsOfNewDay result }
+    ensures bounded { ReadsWithin (most_of_day limits.now) (S.left source.old) (S.left source.new) }
+    ensures idle { C.out crew.new ≡ [] }
+    ensures crew { C.which crew.new ≡ C.which crew.old }
+    ensures publisher { P.which publisher.new ≡ P.which publisher.old }
+    ensures read_same { S.name source.new ≡ S.name source.old }
+    ensures source { FaultsBeside (S.faults source.old) (S.faults source.new) (S.plan source.old)
+        (result ≡ ReadFault) (NamesNoOther result) }
+    ensures sink { FaultsByRoom (O.faults sink.old) (O.faults sink.new) (O.room sink.old) (O.room sink.new)
+        (result ≡ WriteFault) }
+    ensures keeper { FaultsByPlan (K.faults keeper.old) (K.faults keeper.new) (K.plan keeper.old)
+        (result ≡ KeeperFault) }
+    ensures asked { AsksBy 1 result (K.plan keeper.old) (K.plan keeper.new) }
+{
+    match keeper.tariffs() {
+        Ok(tariffs) => import_begun(
+            rt, alloc, number, plan, late, limits, &tariffs, source, sink, keeper, crew, publisher,
+        ),
+        Err(fault) => refused(fault),
+    }
+}
+
+/// Imports a day that is not kept.
+pub(crate) fn import_new<S: Source, O: Sink, K: Keeper, C: Crew, P: Publisher, R: Threads>(
+    rt: &R,
+    alloc: Global,
+    number: u32,
+    plan: &Plan,
+    late: u8,
+    limits: &Limits,
+    source: &mut S,
+    sink: &mut O,
+    keeper: &mut K,
+    crew: &mut C,
+    publisher: &mut P,
+) -> Outcome
+    requires low { 70 ≤ number }
+    requires high { number ≤ 1000000 }
+    requires width { (1 ≤ plan.now.width) × (plan.now.width ≤ 64) }
+    requires soon { late ≤ 120 }
+    requires within { IsLimits limits.now }
+    requires idle { C.out crew.old ≡ [] }
+    ensures does { C.exact ≡ true → (bytes : List ℕ) (o : Office) → S.left source.old ≡ Some bytes
+        → K.told keeper.old ≡ Some o
+        → Does K.refuses (unless_passed (new_import number late limits.now bytes o) number o) o (O.written sink.old)
+        (O.written sink.new) (K.told keeper.new) result }
+    ensures merged { (bytes : List ℕ) (o : Office) → S.left source.old ≡ Some bytes → K.told keeper.old ≡ Some o
+        → DoesByCrew K.refuses (λ found. unless_passed
+        (new_import_found found number late limits.now bytes o) number o) o (C.answers crew.old) (C.answers crew.new)
+        (O.written sink.old) (O.written sink.new) (K.told keeper.new) result }
+    ensures unread { (o : Office) → K.told keeper.old ≡ Some o → number ≤ last_day o → source.new ≡ source.old }
+    ensures jobs { (bytes : List ℕ) → S.left source.old ≡ Some bytes
+        → HasStartedJobs plan.now.width limits.now.backlog (reads bytes limits.now late).tuples (C.jobs crew.old)
+        (C.jobs crew.new) result }
+    ensures planned { (bytes : List ℕ) → S.left source.old ≡ Some bytes
+        → WorksPlanned plan.now limits.now.backlog (reads bytes limits.now late).tuples (C.jobs crew.old)
+        (C.jobs crew.new) (C.answers crew.old) (C.answers crew.new) result }
+    ensures published { C.exact ≡ true → (bytes : List ℕ) (o : Office) (was : Posted) → S.left source.old ≡ Some bytes
+        → K.told keeper.old ≡ Some o
+        → P.posted publisher.old ≡ Some was
+        → PublishesDay o.tariffs (reads bytes limits.now late).tuples number limits.now.backlog was
+        (P.posted publisher.new) result }
+    ensures published_by { C.exact ≡ true → (bytes : List ℕ) (was : Posted) → S.left source.old ≡ Some bytes
+        → P.posted publisher.old ≡ Some was
+        → PublishesUnderSome (reads bytes limits.now late).tuples number limits.now.backlog was (P.posted publisher.new)
+        result }
+    ensures puts { (o : Office) → K.told keeper.old ≡ Some o → PutsOnce number o (K.told keeper.new) }
+    ensures keeps { KeepsAll result (K.told keeper.new ≡ K.told keeper.old) }
+    ensures read_first { (bytes : List ℕ) → S.left source.old ≡ Some bytes
+        → KeepsUnlessRead (K.told keeper.old) (K.told keeper.new) (S.left source.new) (S.faults source.old)
+        (S.faults source.new) }
+    ensures whole { (bytes : List ℕ) (kept : DayRecord) → S.left source.old ≡ Some bytes → result ≡ Stored kept
+        → S.left source.new ≡ Some [] }
+    ensures leaves { (bytes : List ℕ) → S.left source.old ≡ Some bytes
+        → LeavesRead result (reads bytes limits.now late).refused bytes (S.left source.new) }
+    ensures alone { LeavesAlone result (source.new ≡ source.old) ((sink.new ≡ sink.old)
+        × (publisher.new ≡ publisher.old) × (crew.new ≡ crew.old)) }
+    ensures bounded { ReadsWithin (most_of_day limits.now) (S.left source.old) (S.left source.new) }
+    ensures idle { C.out crew.new ≡ [] }
+    ensures crew { C.which crew.new ≡ C.which crew.old }
+    ensures publisher { P.which publisher.new ≡ P.which publisher.old }
+    ensures read_same { S.name source.new ≡ S.name source.old }
+    ensures source { FaultsBeside (S.faults source.old) (S.faults source.new) (S.plan source.old)
+        (result ≡ ReadFault) (NamesNoOther result) }
+    ensures sink { FaultsByRoom (O.faults sink.old) (O.faults sink.new) (O.room sink.old) (O.room sink.new)
+        (result ≡ WriteFault) }
+    ensures keeper { FaultsByPlan (K.faults keeper.old) (K.faults keeper.new) (K.plan keeper.old)
+        (result ≡ KeeperFault) }
+    ensures asked { AsksBy 2 result (K.plan keeper.old) (K.plan keeper.new) }
+{
+    match keeper.last_day() {
+        Ok(last) => {
+            if last >= number {
+                Outcome::DayPassed { last }
+            } else {
+                import_later(
+                    rt, alloc, number, plan, late, limits, source, sink, keeper, crew, publisher,
+                )
+            }
+        }
         Err(fault) => refused(fault),
     }
 }

@@ -1,5 +1,5 @@
-// The record and the amounts of a day that was worked, and how it is put; what one comes to that is answered.
-ghost use Rattle.std.specs.Prelude.{◌≡◌, ◌≢◌, ◌⊎◌, ℕ, Option, Some, IfOk, true};
+// A day that is kept: it is stored with its amounts, or compared by its digest.
+ghost use Rattle.std.specs.Prelude.{◌≡◌, ◌≢◌, ◌⊎◌, ℕ, Option, Some, IfOk, true, ◌+◌, List};
 ghost use Rattle.keep_office.specs.Office.{Office};
 ghost use Rattle.keep_office.specs.Kept.{IsDayPut, IsLater};
 ghost use Rattle.keep_office.specs.Calls.{IfTold};
@@ -9,15 +9,19 @@ ghost use Rattle.day_reading.specs.declared.whole_day.DayEnd.TheVariants.{Whole}
 ghost use Rattle.day_reading.specs.Days.{IsDigested};
 ghost use Rattle.road_io.specs.Blame.{FaultsByPlan};
 ghost use Rattle.day_import.specs.Asked.{AsksBy};
-ghost use Rattle.day_import.specs.Imports.{IsOfNewDay, IsOfAnswers, PutsOnce, KeepsAll};
+ghost use Rattle.day_import.specs.Imports.{IsOfNewDay, IsOfAnswers, PutsOnce, KeepsAll, again, IsOfKeptDay};
+ghost use Rattle.day_import.specs.Imports.{IsUncompared};
 ghost use Rattle.day_import.specs.Stages.{run_record, CanPut, Stores, Finishes, Tells, IsReadWhole, IsOfEnd};
+ghost use Rattle.day_import.specs.Stages.{Compares};
 ghost use Rattle.day_import.specs.declared.outcomes.Outcome.TheVariants.{Stored, ReadFault, WriteFault, KeeperFault};
+ghost use Rattle.road_io.specs.Within.{ReadsWithin};
 
-use crate::day_run::WorkedDay;
+use crate::day::WorkedDay;
 use crate::outcomes::{Outcome, refused, sums_of};
-use day_reading::DayEnd;
+use day_reading::{DayEnd, ReadStop, find_digest};
 use keep_office::{DayRecord, Keeper, seal};
 use road_digest::Digest;
+use road_io::Source;
 use road_time::{NoMemory, SpentRow, Tariffs};
 use std::alloc::Global;
 
@@ -115,5 +119,41 @@ pub fn finish_answers(run: &WorkedDay) -> Outcome
     match run.end {
         DayEnd::Refused { line, cause } => Outcome::Refused { line, cause },
         DayEnd::Whole { bytes, .. } => Outcome::Answered(sums_of(bytes, run)),
+    }
+}
+
+/// Whether what was found is what is kept.
+fn same_or_not(kept: &DayRecord, found: Digest) -> Outcome
+    ensures is { result ≡ again kept.now found }
+    ensures kept_day { IsOfKeptDay result }
+    ensures compared { IsUncompared result → ⊥ }
+{
+    if found.bytes == kept.digest.bytes {
+        Outcome::Already(*kept)
+    } else {
+        Outcome::Differs {
+            kept: kept.digest,
+            found,
+        }
+    }
+}
+
+/// Compares the source with a day that is kept.
+pub fn compare<S: Source>(alloc: Global, kept: &DayRecord, source: &mut S) -> Outcome
+    ensures compares { (bytes : List ℕ) → S.left source.old ≡ Some bytes
+        → Compares kept.now bytes (S.left source.new) result }
+    ensures kept_day { IsOfKeptDay result }
+    ensures compared { IsUncompared result → ⊥ }
+    ensures bounded { ReadsWithin (kept.now.bytes + 1) (S.left source.old) (S.left source.new) }
+    ensures unwritten { result ≢ WriteFault }
+    ensures unasked { result ≢ KeeperFault }
+    ensures same { S.name source.new ≡ S.name source.old }
+    ensures source { FaultsByPlan (S.faults source.old) (S.faults source.new) (S.plan source.old)
+        (result ≡ ReadFault) }
+{
+    match find_digest(alloc, kept.bytes, source) {
+        Ok(found) => same_or_not(kept, found),
+        Err(ReadStop::ReadFault) => Outcome::ReadFault,
+        Err(ReadStop::NoMemory) => Outcome::NoMemory,
     }
 }

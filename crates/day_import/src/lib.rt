@@ -8,35 +8,21 @@
 #![tactic(auto)]
 
 mod answering;
-mod begin_stop;
 mod beginning;
 mod begun;
-mod day_run;
-mod days;
+mod day;
 mod fault;
-mod finish;
-mod give;
 mod importing;
 mod keeping;
-mod kept_day;
 pub mod laws;
-mod new_day;
 mod outcomes;
-mod planned;
-mod round_on;
-mod rounding;
 mod rounds;
-mod rounds_of_day;
-mod settled;
-mod supply;
-mod turn_on;
 mod turning;
 mod turns;
-mod turns_of_day;
+mod work;
 
 pub use answering::answers;
-pub use day_run::WorkedDay;
-pub use days::run_day;
+pub use day::{WorkedDay, run_day};
 pub use fault::DayFault;
 pub use importing::import;
 pub use outcomes::{AnsweredDay, Outcome};

@@ -6,7 +6,7 @@ ghost use Rattle.day_import.specs.Imports.{IsOfNewDay, IsOfAnswers};
 ghost use Rattle.day_import.specs.Stages.{run_sums};
 ghost use Rattle.day_import.specs.declared.outcomes.Outcome.TheVariants.{Stored};
 
-use crate::day_run::WorkedDay;
+use crate::day::WorkedDay;
 use crate::fault::DayFault;
 use keep_office::{DayRecord, KeepFault};
 use road_digest::Digest;
