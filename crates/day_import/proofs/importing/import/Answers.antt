@@ -62,7 +62,7 @@ returns-in-Ok-Some-clause-jobs g c =
 
 pub returns-in-Err-clause-jobs : goal.returns-in-Err-clause-jobs
 returns-in-Err-clause-jobs g c =
-    λ bytes left. refused_started _ _ _ _ c.in-Err.fault c.refused.result c.refused.ensures
+    λ bytes left. refused_started _ _ _ _ c.in-Err.why c.refused.result c.refused.ensures
 
 pub returns-in-Ok-Some-clause-leaves : goal.returns-in-Ok-Some-clause-leaves
 returns-in-Ok-Some-clause-leaves g c = λ bytes left.
@@ -79,7 +79,7 @@ returns-in-Ok-None-clause-published_by g c = λ exact bytes was left posted.
 
 pub returns-in-Err-clause-published_by : goal.returns-in-Err-clause-published_by
 returns-in-Err-clause-published_by g c = λ exact bytes was left posted.
-    refused_none _ _ _ was _ c.in-Err.fault c.refused.result c.refused.ensures posted
+    refused_none _ _ _ was _ c.in-Err.why c.refused.result c.refused.ensures posted
 
 pub returns-in-Ok-Some-clause-asked_first : goal.returns-in-Ok-Some-clause-asked_first
 returns-in-Ok-Some-clause-asked_first g c = λ fails.
@@ -93,8 +93,8 @@ returns-in-Ok-None-clause-asked_first g c = λ fails.
 
 pub returns-in-Err-clause-asked_first : goal.returns-in-Err-clause-asked_first
 returns-in-Err-clause-asked_first g c = λ fails.
-    let here : c.day.result ≡ Err c.in-Err.fault = cc in
-    fails_outcome c.day.result c.in-Err.fault c.refused.result c.refused.ensures here
+    let here : c.day.result ≡ Err c.in-Err.why = cc in
+    fails_outcome c.day.result c.in-Err.why c.refused.result c.refused.ensures here
     (fails_next _ _ c.day.result c.day.ensures.planned fails)
 
 pub returns-in-Ok-Some-clause-planned : goal.returns-in-Ok-Some-clause-planned
@@ -103,7 +103,7 @@ returns-in-Ok-Some-clause-planned g c = λ bytes left.
 
 pub returns-in-Err-clause-planned : goal.returns-in-Err-clause-planned
 returns-in-Err-clause-planned g c = λ bytes left.
-    refused_planned _ _ _ _ _ _ _ c.in-Err.fault c.refused.result c.refused.ensures
+    refused_planned _ _ _ _ _ _ _ c.in-Err.why c.refused.result c.refused.ensures
 
 pub returns-in-Ok-Some-clause-asked : goal.returns-in-Ok-Some-clause-asked
 returns-in-Ok-Some-clause-asked g c =
@@ -119,9 +119,9 @@ returns-in-Ok-None-clause-asked g c =
 
 pub returns-in-Err-clause-asked : goal.returns-in-Err-clause-asked
 returns-in-Err-clause-asked g c =
-    let here : c.day.result ≡ Err c.in-Err.fault = cc in
+    let here : c.day.result ≡ Err c.in-Err.why = cc in
     subst (λ (o : Outcome). AsksBy 3 o (g.K.Keeper.plan c.args.keeper.now) (g.K.Keeper.plan c.day.new.self))
-    (sym c.refused.ensures) (call_refused 3 _ _ c.day.result c.in-Err.fault c.day.ensures.planned here)
+    (sym c.refused.ensures) (call_refused 3 _ _ c.day.result c.in-Err.why c.day.ensures.planned here)
 
 pub returns-in-Ok-None-clause-read_first : goal.returns-in-Ok-None-clause-read_first
 returns-in-Ok-None-clause-read_first g c = λ bytes left.
