@@ -29,7 +29,8 @@ use Rattle.day_floor.proofs.SumLaws.{account_by, total_by as total_by_sums}
 use Rattle.day_floor.specs.declared.due_slot.Due.{Due}
 use Rattle.day_floor.specs.declared.due_slot.Due.TheVariants.{Nothing, Report, Balance, Spent}
 use Rattle.day_floor.specs.Slots.{slot_of, found_for}
-use Rattle.day_floor.specs.SettlingBooks.{told_last, IsBook, charges_for, charged_with, told_with, charges_in, book_after}
+use Rattle.day_floor.specs.SettlingBooks.{told_last, IsBook, charges_for, charged_with, told_with, charges_in}
+use Rattle.day_floor.specs.SettlingBooks.{book_after}
 use Rattle.day_floor.specs.SettlingBooks.{WasTold, CanSettle}
 
 module _ (finding : Sight → StretchTold) where

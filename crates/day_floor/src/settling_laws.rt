@@ -1,5 +1,6 @@
 //! Laws of what is settled, as contracts of functions that run nothing.
-ghost use Rattle.day_floor.specs.SettlingLaws.{ExactLaw, FedLaw, FeedLaw, SettledFindingLaw, LaterLaw, FillLaw, TotalLaw};
+ghost use Rattle.day_floor.specs.SettlingLaws.{ExactLaw, FedLaw, FeedLaw, SettledFindingLaw, LaterLaw, FillLaw};
+ghost use Rattle.day_floor.specs.SettlingLaws.{TotalLaw};
 ghost use Rattle.day_floor.specs.SettlingLaws.{MergedLaw, WroteLaw};
 
 /// After a history that is told, notices are those of the definitions.

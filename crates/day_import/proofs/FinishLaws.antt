@@ -29,7 +29,8 @@ use Rattle.day_import.specs.declared.day.WorkedDay.{WorkedDay}
 use Rattle.day_import.specs.declared.fault.DayFault.{DayFault}
 use Rattle.day_import.specs.declared.fault.DayFault.TheVariants as stop
 use Rattle.day_import.specs.Imports.{DayAnswer, Work, work_by, worked_record, worked_office}
-use Rattle.day_import.specs.Imports.{import_worked, answers_worked, unless_passed, Does, Merges, KeepsAll, LeavesAlone, LeavesRead}
+use Rattle.day_import.specs.Imports.{import_worked, answers_worked, unless_passed, Does, Merges, KeepsAll}
+use Rattle.day_import.specs.Imports.{LeavesAlone, LeavesRead}
 use Rattle.day_import.specs.Imports.{IsOfNewDay, IsOfKeptDay, KeepsUnlessRead}
 use Rattle.day_import.specs.Stages.{run_record, Stores, Finishes, Tells, IsReadWhole, IsOfEnd}
 use Rattle.day_import.specs.DayFaults.{WritesUpTo}

@@ -42,7 +42,8 @@ use Rattle.day_import.specs.Outcomes.{Task, task_of, HasStepsBy, HasImported, Ha
 use Rattle.day_import.proofs.FrontLaws.{front_before}
 use Rattle.day_import.proofs.GrowLaws.{front_grows, steps_grow, started_grows}
 use Rattle.day_import.proofs.HaltLaws.{steps_rules, stepped_rules}
-use Rattle.day_import.proofs.RoundJobLaws.{none_first, runs_all, runs_listed, runs_first, runs_merged, runs_exact, runs_right}
+use Rattle.day_import.proofs.RoundJobLaws.{none_first, runs_all, runs_listed, runs_first, runs_merged, runs_exact}
+use Rattle.day_import.proofs.RoundJobLaws.{runs_right}
 use Rattle.day_import.proofs.ReaderLaws.{given_first}
 
 -- the list of a publisher that has published some operations more

@@ -9,7 +9,8 @@ use Rattle.road_time.specs.Lines.{lines_of, without_cr}
 use Rattle.road_time.specs.Numbers.{number_of, fields_of_text}
 use Rattle.road_time.specs.Form.{Long, Many, Fields, first_odd, first_out}
 use Rattle.road_time.specs.History.{is_row}
-use Rattle.keep_office.specs.PastReads.{PastFault, OfLine, Twice, PastReading, past_uses, past_in_ranges, past_of_fields}
+use Rattle.keep_office.specs.PastReads.{PastFault, OfLine, Twice, PastReading, past_uses, past_in_ranges}
+use Rattle.keep_office.specs.PastReads.{past_of_fields}
 use Rattle.keep_office.specs.PastReads.{past_form, past_amounts, fault_of_past, past_fault, past_at, past_after}
 use Rattle.day_past.specs.Causes.{IsCause, past_cause_of}
 use Rattle.day_past.specs.Laws.{CausesLaw}

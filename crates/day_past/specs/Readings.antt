@@ -7,7 +7,8 @@ use Rattle.road_time.specs.declared.day.SpentRow.{SpentRow}
 use Rattle.road_time.specs.Lines.{lines_of}
 use Rattle.road_io.specs.Cutter.{ahead, line_number}
 use Rattle.road_time.specs.History.{is_row}
-use Rattle.keep_office.specs.PastReads.{PastFault, past_fault, past_amounts, past_reads, past_after, past_kept, past_record}
+use Rattle.keep_office.specs.PastReads.{PastFault, past_fault, past_amounts, past_reads, past_after, past_kept}
+use Rattle.keep_office.specs.PastReads.{past_record}
 use Rattle.day_reading.specs.declared.consumed.Consumed.{Consumed}
 use Rattle.day_reading.specs.Days.{StopsSoon}
 use Rattle.day_reading.specs.Readings.{HasTaken, HasReadLines}

@@ -1,5 +1,6 @@
 // The bytes of a day, cut into lines that are checked.
-ghost use Rattle.std.specs.Prelude.{◌≡◌, ◌≤◌, ◌++◌, ◌∷◌, [], ℕ, List, IfOk, OnOk, length, take, drop, true, not, ◌==◌, ◌<◌};
+ghost use Rattle.std.specs.Prelude.{◌≡◌, ◌≤◌, ◌++◌, ◌∷◌, [], ℕ, List, IfOk, OnOk, length, take, drop, true, not};
+ghost use Rattle.std.specs.Prelude.{◌==◌, ◌<◌};
 ghost use Rattle.std.specs.Prelude.{◌+◌};
 ghost use Rattle.std.specs.List.{list_all};
 ghost use Rattle.road_time.specs.declared.day.Limits.{Limits as LimitsValue};

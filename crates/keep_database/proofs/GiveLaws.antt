@@ -1,6 +1,7 @@
 -- What follows of answers that give.
 use Rattle.std.proofs.Common.{◌≡◌, ◌<◌, ◌≤◌, get_or, ◌^◌, ◌==◌, ℕ, pos, max, true, inl, inr, List, [], ◌∷◌, length}
-use Rattle.std.proofs.Common.{find, Option, Some, None, IfSome, arith, Result, Ok, Err, IfErr, IsErrAnd, refl, sym, ap, subst}
+use Rattle.std.proofs.Common.{find, Option, Some, None, IfSome, arith, Result, Ok, Err, IfErr, IsErrAnd, refl, sym}
+use Rattle.std.proofs.Common.{ap, subst}
 use Rattle.std.proofs.Common.{◌≢◌, ◌∙◌}
 use Rattle.std.specs.List.{AllByRecursion}
 use Rattle.std.proofs.lemmas.Bool.{cases_Bool}

@@ -3,7 +3,8 @@ ghost use Rattle.std.specs.Prelude.{◌≡◌, ◌≢◌, ◌≤◌, Some, None,
 ghost use Rattle.sqlite.specs.Held.{state};
 ghost use Rattle.road_time.specs.History.{paid};
 ghost use Rattle.road_time.specs.Rates.{IsTariff};
-ghost use Rattle.keep_office.specs.Office.{RowsRise, last_day as last_day_of, record_of, rows_between, vehicle_rows_between};
+ghost use Rattle.keep_office.specs.Office.{RowsRise, last_day as last_day_of, record_of, rows_between};
+ghost use Rattle.keep_office.specs.Office.{vehicle_rows_between};
 ghost use Rattle.keep_office.specs.Kept.{IsDayPut, IsPastPut, IsLater, HasNoDays, with_day, with_past, with_tariff_of};
 ghost use Rattle.keep_office.specs.Calls.{CountsFaults, IfTold};
 ghost use Rattle.keep_office.specs.declared.kept.KeepFault.TheVariants.{NoMemory};

@@ -1,5 +1,6 @@
 -- Lists that go by days, a day more at a time.
-use Rattle.std.proofs.Common.{◌≡◌, ℕ, ◌+◌, ◌<◌, ◌≤◌, ◌==◌, ◌&&◌, nat_le, nat_lt, min, max, ⊎_elim, true, false, List, []}
+use Rattle.std.proofs.Common.{◌≡◌, ℕ, ◌+◌, ◌<◌, ◌≤◌, ◌==◌, ◌&&◌, nat_le, nat_lt, min, max, ⊎_elim, true, false, List}
+use Rattle.std.proofs.Common.{[]}
 use Rattle.std.proofs.Common.{◌∷◌, ◌++◌, map, find, Option, Some, refl, sym, ap, ap₂, ◌∙◌, arith}
 use Rattle.std.specs.List.{AllByRecursion, cons_option, filter, fold}
 use Rattle.std.specs.List.Sorted.{IsStrictlySortedBy}
@@ -14,7 +15,8 @@ use Rattle.road_time.proofs.EachLaws.{weakened}
 use Rattle.road_time.specs.declared.day.SpentRow.{SpentRow}
 use Rattle.keep_office.specs.declared.kept.DayRecord.{DayRecord}
 use Rattle.keep_office.specs.declared.kept.PastRecord.{PastRecord}
-use Rattle.keep_office.specs.Office.{Office, row_cmp, RowsRise, greatest_day, last_from, last_day, rows_between, IsSound}
+use Rattle.keep_office.specs.Office.{Office, row_cmp, RowsRise, greatest_day, last_from, last_day, rows_between}
+use Rattle.keep_office.specs.Office.{IsSound}
 use Rattle.keep_office.proofs.ListFacts.{none_pass, pass_same}
 use Rattle.keep_office.proofs.SoundLaws.{greatest_least, rows_last}
 use Rattle.office_reports.specs.Spans.{in_span, on_day}

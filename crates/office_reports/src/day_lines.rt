@@ -1,7 +1,8 @@
 // The lines of a day's statement.
 ghost use Rattle.std.specs.Prelude.{◌≡◌, IfOk, get_or};
 ghost use Rattle.std.specs.String.{string_bytes};
-ghost use Rattle.office_reports.specs.Statements.{input_lines, count_lines, charge_lines, record_text, way_line, way_text};
+ghost use Rattle.office_reports.specs.Statements.{input_lines, count_lines, charge_lines, record_text, way_line};
+ghost use Rattle.office_reports.specs.Statements.{way_text};
 ghost use Rattle.office_reports.specs.Statements.{ways_text, day_text};
 
 use crate::way_sums::{WAYS, way_sums};

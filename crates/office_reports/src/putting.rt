@@ -2,7 +2,8 @@
 ghost use Rattle.std.specs.Prelude.{◌≡◌, ◌≢◌, Err};
 ghost use Rattle.road_io.specs.Blame.{FaultsByRoom};
 ghost use Rattle.office_reports.specs.Endings.{WroteText};
-ghost use Rattle.office_reports.specs.declared.report_fault.ReportFault.TheVariants.{WriteFault, NoDay, KeeperFault, NoMemory};
+ghost use Rattle.office_reports.specs.declared.report_fault.ReportFault.TheVariants.{WriteFault, NoDay, KeeperFault};
+ghost use Rattle.office_reports.specs.declared.report_fault.ReportFault.TheVariants.{NoMemory};
 
 use crate::report_fault::ReportFault;
 use road_io::{Failed, Sink, put_all};

@@ -8,7 +8,8 @@ use Rattle.road_time.specs.Tuples.{time_of}
 use Rattle.road_time.specs.Order.{by_time, greatest_time}
 use Rattle.road_time.specs.Lines.{lines_of, without_cr}
 use Rattle.road_time.specs.Form.{Fault, Long, Many, Late, form}
-use Rattle.road_time.specs.Reads.{vehicle_fault, fault_of_form, line_fault, tuples_of, LinesRead, reading_at, accepts_after}
+use Rattle.road_time.specs.Reads.{vehicle_fault, fault_of_form, line_fault, tuples_of, LinesRead, reading_at}
+use Rattle.road_time.specs.Reads.{accepts_after}
 use Rattle.road_time.specs.Reads.{reads}
 
 module _ (limits : Limits) (n : ℕ) where

@@ -5,7 +5,8 @@ use Rattle.road_time.specs.declared.day.Limits.{Limits}
 use Rattle.keep_office.specs.Calls.{WhenRefused}
 use Rattle.keep_office.specs.Office.{Office, record_of}
 use Rattle.serve_requests.specs.declared.asked.Asked.{Asked}
-use Rattle.serve_requests.specs.declared.asked.Asked.TheVariants.{Day, Import, Spent, Live, LiveTotal, Vehicle, Days, Page}
+use Rattle.serve_requests.specs.declared.asked.Asked.TheVariants.{Day, Import, Spent, Live, LiveTotal, Vehicle, Days}
+use Rattle.serve_requests.specs.declared.asked.Asked.TheVariants.{Page}
 use Rattle.serve_requests.specs.declared.asked.Asked.TheVariants.{Answers}
 use Rattle.serve_requests.specs.declared.session_end.SessionEnd.{SessionEnd}
 use Rattle.serve_desk.specs.Answers.{Wire, day_reply, spent_reply, days_reply, vehicle_reply, AnswersUnlessFailed}

@@ -7,7 +7,8 @@ use Rattle.serve_board.specs.Passes.{Pass, Sees, balance_on, total_on}
 use Rattle.serve_requests.specs.Bodies.{live_body, total_body}
 use Rattle.serve_requests.specs.Replies.{Reply, no_memory_reply}
 use Rattle.serve_requests.specs.declared.asked.Asked.{Asked}
-use Rattle.serve_requests.specs.declared.asked.Asked.TheVariants.{Day, Import, Spent, Live, LiveTotal, Vehicle, Days, Page}
+use Rattle.serve_requests.specs.declared.asked.Asked.TheVariants.{Day, Import, Spent, Live, LiveTotal, Vehicle, Days}
+use Rattle.serve_requests.specs.declared.asked.Asked.TheVariants.{Page}
 use Rattle.serve_requests.specs.declared.asked.Asked.TheVariants.{Answers}
 use Rattle.serve_requests.specs.declared.session_end.SessionEnd.{SessionEnd}
 use Rattle.serve_desk.specs.Answers.{Wire, AnswersReply, good}

@@ -12,7 +12,8 @@ use Rattle.serve_requests.specs.Lists.{days_body, vehicle_body}
 use Rattle.serve_requests.specs.Replies.{Reply, no_memory_reply}
 use Rattle.serve_requests.specs.Sends.{SendsReply}
 use Rattle.serve_requests.specs.declared.asked.Asked.{Asked}
-use Rattle.serve_requests.specs.declared.asked.Asked.TheVariants.{Day, Import, Spent, Live, LiveTotal, Vehicle, Days, Page}
+use Rattle.serve_requests.specs.declared.asked.Asked.TheVariants.{Day, Import, Spent, Live, LiveTotal, Vehicle, Days}
+use Rattle.serve_requests.specs.declared.asked.Asked.TheVariants.{Page}
 use Rattle.serve_requests.specs.declared.asked.Asked.TheVariants.{Answers}
 use Rattle.serve_requests.specs.declared.session_end.SessionEnd.{SessionEnd}
 use Rattle.serve_desk.specs.Answers.{Wire, AnswersReply, AnswersExactly, AnswersUnlessFailed, keeper_reply, good}

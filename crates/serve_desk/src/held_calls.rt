@@ -2,7 +2,8 @@
 ghost use Rattle.std.specs.Prelude.{◌≡◌, None, true, IfOk};
 ghost use Rattle.road_time.specs.Rates.{IsTariff};
 ghost use Rattle.road_time.specs.History.{paid};
-ghost use Rattle.keep_office.specs.Office.{RowsRise, record_of, last_day as last_day_of, rows_between, vehicle_rows_between};
+ghost use Rattle.keep_office.specs.Office.{RowsRise, record_of, last_day as last_day_of, rows_between};
+ghost use Rattle.keep_office.specs.Office.{vehicle_rows_between};
 ghost use Rattle.keep_office.specs.Kept.{IsDayPut, IsPastPut, IsLater, HasNoDays, with_day, with_past, with_tariff_of};
 ghost use Rattle.keep_office.specs.Calls.{SoundIfTold, IfTold, Reads, Puts, GoesAsPlanned, PutsAsPlanned};
 ghost use Rattle.keep_office.specs.Calls.{Wants, CountsFaults};

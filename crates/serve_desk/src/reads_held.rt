@@ -1,7 +1,8 @@
 // Calls that read at a place in the history of a keeper.
 ghost use Rattle.std.specs.Prelude.{◌≡◌, IfOk};
 ghost use Rattle.road_time.specs.History.{paid};
-ghost use Rattle.keep_office.specs.Office.{RowsRise, record_of, last_day as last_day_of, rows_between, vehicle_rows_between};
+ghost use Rattle.keep_office.specs.Office.{RowsRise, record_of, last_day as last_day_of, rows_between};
+ghost use Rattle.keep_office.specs.Office.{vehicle_rows_between};
 ghost use Rattle.keep_office.specs.Calls.{Reads, SoundIfTold};
 ghost use Rattle.serve_desk.specs.History.{told_at};
 

@@ -5,12 +5,14 @@ use Rattle.std.specs.Str.{bytes_eq}
 use Rattle.std.proofs.lemmas.Bool.{cond-true}
 use Rattle.matchit.specs.Seek.{first}
 use Rattle.serve_requests.specs.Numbers.{number_in}
-use Rattle.serve_requests.specs.Paths.{parts_of, begins_with, path_place, day_place, live_place, spent_place, spent_path}
+use Rattle.serve_requests.specs.Paths.{parts_of, begins_with, path_place, day_place, live_place, spent_place}
+use Rattle.serve_requests.specs.Paths.{spent_path}
 use Rattle.serve_requests.specs.Paths.{vehicle_place, vehicle_path, answers_place}
 use Rattle.serve_requests.specs.declared.place.DeskPlace.{DeskPlace}
 use Rattle.serve_requests.specs.declared.place.DeskPlace.TheVariants.{TotalPlace, VehiclePlace, DaysPlace, PagePlace}
 use Rattle.serve_requests.specs.declared.route.Route.{Route}
-use Rattle.serve_requests.specs.declared.route.Route.TheVariants.{OfDay, OfLive, OfTotal, OfSpent, OfDays, OfVehicle, OfPage}
+use Rattle.serve_requests.specs.declared.route.Route.TheVariants.{OfDay, OfLive, OfTotal, OfSpent, OfDays, OfVehicle}
+use Rattle.serve_requests.specs.declared.route.Route.TheVariants.{OfPage}
 use Rattle.serve_requests.specs.declared.route.Route.TheVariants.{OfAnswers}
 use Rattle.serve_requests.specs.Rows.{desk_rows, key_of}
 use Rattle.serve_requests.specs.Places.{route_of, place_by, PlacesHaveRoutes, RoutesHavePlaces}

@@ -6,7 +6,8 @@ use Rattle.httparse.specs.Spans.{IsRequestAt, IsRequestWithin}
 use Rattle.httparse.specs.declared.spans.HeaderSpan.{HeaderSpan}
 use Rattle.serve_requests.specs.Fronts.{front_of, NeverHasHead, MayGoOn, IsBadHead, IsCutHead}
 use Rattle.serve_requests.specs.declared.wanted.Wanted.{Wanted}
-use Rattle.serve_requests.specs.declared.wanted.Wanted.TheVariants.{Day, Import, Spent, Live, LiveTotal, Vehicle, Days, Page}
+use Rattle.serve_requests.specs.declared.wanted.Wanted.TheVariants.{Day, Import, Spent, Live, LiveTotal, Vehicle}
+use Rattle.serve_requests.specs.declared.wanted.Wanted.TheVariants.{Days, Page}
 use Rattle.serve_requests.specs.declared.wanted.Wanted.TheVariants.{Answers}
 use Rattle.serve_requests.specs.declared.fronts.Look.{Look}
 use Rattle.serve_requests.specs.declared.fronts.Look.TheVariants.{Whole, Open, Never}

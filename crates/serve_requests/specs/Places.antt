@@ -9,7 +9,8 @@ use Rattle.serve_requests.specs.declared.place.DeskPlace.{DeskPlace}
 use Rattle.serve_requests.specs.declared.place.DeskPlace.TheVariants.{DayPlace, SpentPlace, LivePlace, TotalPlace}
 use Rattle.serve_requests.specs.declared.place.DeskPlace.TheVariants.{VehiclePlace, DaysPlace, PagePlace, AnswersPlace}
 use Rattle.serve_requests.specs.declared.route.Route.{Route}
-use Rattle.serve_requests.specs.declared.route.Route.TheVariants.{OfDay, OfLive, OfTotal, OfSpent, OfDays, OfVehicle, OfPage}
+use Rattle.serve_requests.specs.declared.route.Route.TheVariants.{OfDay, OfLive, OfTotal, OfSpent, OfDays, OfVehicle}
+use Rattle.serve_requests.specs.declared.route.Route.TheVariants.{OfPage}
 use Rattle.serve_requests.specs.declared.route.Route.TheVariants.{OfAnswers}
 
 -- a place's route

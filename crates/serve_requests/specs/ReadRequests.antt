@@ -10,7 +10,8 @@ use Rattle.serve_requests.specs.declared.wanted.Refusal.TheVariants.{BadHead}
 use Rattle.serve_requests.specs.Replies.{no_memory_reply}
 use Rattle.serve_requests.specs.Sends.{SendsReply, refusal_reply}
 use Rattle.serve_requests.specs.declared.asked.Asked.{Asked}
-use Rattle.serve_requests.specs.declared.asked.Asked.TheVariants.{Day, Import, Spent, Live, LiveTotal, Vehicle, Days, Page}
+use Rattle.serve_requests.specs.declared.asked.Asked.TheVariants.{Day, Import, Spent, Live, LiveTotal, Vehicle, Days}
+use Rattle.serve_requests.specs.declared.asked.Asked.TheVariants.{Page}
 use Rattle.serve_requests.specs.declared.asked.Asked.TheVariants.{Answers}
 use Rattle.serve_requests.specs.declared.session_end.SessionEnd.{SessionEnd}
 use Rattle.serve_requests.specs.declared.session_end.SessionEnd.TheVariants.{Answered, Cut, LinkFault}

@@ -11,7 +11,8 @@ use Rattle.serve_requests.specs.declared.place.DeskPlace.{DeskPlace}
 use Rattle.serve_requests.specs.declared.place.DeskPlace.TheVariants.{DayPlace, SpentPlace, LivePlace, TotalPlace}
 use Rattle.serve_requests.specs.declared.place.DeskPlace.TheVariants.{VehiclePlace, DaysPlace, PagePlace, AnswersPlace}
 use Rattle.serve_requests.specs.declared.wanted.Wanted.{Wanted}
-use Rattle.serve_requests.specs.declared.wanted.Wanted.TheVariants.{Day, Import, Spent, Live, LiveTotal, Vehicle, Days, Page}
+use Rattle.serve_requests.specs.declared.wanted.Wanted.TheVariants.{Day, Import, Spent, Live, LiveTotal, Vehicle}
+use Rattle.serve_requests.specs.declared.wanted.Wanted.TheVariants.{Days, Page}
 use Rattle.serve_requests.specs.declared.wanted.Wanted.TheVariants.{Answers}
 use Rattle.serve_requests.specs.declared.wanted.Refusal.{Refusal}
 use Rattle.serve_requests.specs.declared.wanted.Refusal.TheVariants.{BadOrigin, NoPath, BadMethod, BadLength}

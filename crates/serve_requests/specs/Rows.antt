@@ -5,7 +5,8 @@ use Rattle.matchit.specs.Seek.{has_slash, first}
 use Rattle.matchit.specs.Router.{RouteOf}
 use Rattle.matchit.specs.Level.{IsText}
 use Rattle.serve_requests.specs.declared.route.Route.{Route}
-use Rattle.serve_requests.specs.declared.route.Route.TheVariants.{OfDay, OfLive, OfTotal, OfSpent, OfDays, OfVehicle, OfPage}
+use Rattle.serve_requests.specs.declared.route.Route.TheVariants.{OfDay, OfLive, OfTotal, OfSpent, OfDays, OfVehicle}
+use Rattle.serve_requests.specs.declared.route.Route.TheVariants.{OfPage}
 use Rattle.serve_requests.specs.declared.route.Route.TheVariants.{OfAnswers}
 
 -- the rows of `/answers/{day}`, `/days/{day}`, `/days`, `/live/{vid}`, `/live`, `/spent/{day}/{xway}/{vid}`,

@@ -6,7 +6,8 @@ ghost use Rattle.std.specs.Io.KnownBytes.{ReadConsumes};
 ghost use Rattle.road_io.specs.Faults.{HasCause};
 ghost use Rattle.road_io.specs.Portions.{AnyPart};
 ghost use Rattle.road_io.specs.Rooms.{Room, Untold};
-ghost use Rattle.serve_requests.specs.AskedBodies.{body_left, IsBehind, IsSure, HasCauses, IsCutOff, EndsBody, LeavesBody};
+ghost use Rattle.serve_requests.specs.AskedBodies.{body_left, IsBehind, IsSure, HasCauses, IsCutOff, EndsBody};
+ghost use Rattle.serve_requests.specs.AskedBodies.{LeavesBody};
 
 use crate::body_end::BodyEnd;
 use road_io::{Failed, Link, Source};

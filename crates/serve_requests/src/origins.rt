@@ -4,7 +4,8 @@ ghost use Rattle.std.specs.Char.{is_ascii_digit};
 ghost use Rattle.std.specs.List.{list_all};
 ghost use Rattle.httparse.specs.Spans.{IsHeaderWithin, header_bytes};
 ghost use Rattle.serve_requests.specs.Origins.{is_port as is_port_text, is_host_of as is_host_of_name};
-ghost use Rattle.serve_requests.specs.Origins.{is_own_host as is_own_host_text, is_foreign_field as is_foreign_field_of};
+ghost use Rattle.serve_requests.specs.Origins.{is_own_host as is_own_host_text};
+ghost use Rattle.serve_requests.specs.Origins.{is_foreign_field as is_foreign_field_of};
 ghost use Rattle.serve_requests.specs.Origins.{is_foreign as are_foreign};
 
 use crate::fields::is_named;

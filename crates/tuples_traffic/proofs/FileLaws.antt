@@ -17,7 +17,8 @@ use Rattle.tuples_traffic.specs.Plans.{InRange, end_of}
 use Rattle.tuples_traffic.specs.Crashes.{IsCrash, crash_vehicle, crash_tuples}
 use Rattle.tuples_traffic.specs.Trips.{IsTrip, trip_tuples}
 use Rattle.tuples_traffic.specs.Turns.{InLineOrder}
-use Rattle.tuples_traffic.specs.Traffic.{before_crash, before_trip, crash_of, trip_of, vid_of_trip, trips, crash_traffic}
+use Rattle.tuples_traffic.specs.Traffic.{before_crash, before_trip, crash_of, trip_of, vid_of_trip, trips}
+use Rattle.tuples_traffic.specs.Traffic.{crash_traffic}
 use Rattle.tuples_traffic.specs.Traffic.{trip_traffic, traffic, generated, file_of}
 use Rattle.tuples_traffic.proofs.StepLaws.{no_crash, no_trip, crashes_more, trips_more}
 use Rattle.tuples_traffic.proofs.RangeLaws.{crash_drawn, trip_drawn}

@@ -1,5 +1,6 @@
 use Rattle.std.specs.Prelude.{Some, slice_get}
-use Rattle.std.proofs.Common.{ℕ, suc, List, [], ◌∷◌, ◌≡◌, ◌<◌, ◌≤◌, ◌+◌, ◌-◌, ◌∙◌, length, refl, sym, ap, arith, rules, subst}
+use Rattle.std.proofs.Common.{ℕ, suc, List, [], ◌∷◌, ◌≡◌, ◌<◌, ◌≤◌, ◌+◌, ◌-◌, ◌∙◌, length, refl, sym, ap, arith}
+use Rattle.std.proofs.Common.{rules, subst}
 use Rattle.road_time.specs.Tolls.{StretchTold}
 use Rattle.day_plan.specs.Draws.{drawn, after_draws}
 use Rattle.day_plan.proofs.DrawLaws.{none_drawn, one_drawn}

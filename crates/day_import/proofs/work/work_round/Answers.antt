@@ -1,7 +1,8 @@
 use Rattle.std.proofs.Common.{◌<◌, ◌++◌, refl, sym, ◌∙◌, subst}
 use Rattle.ways_expressway.proofs.RunSteps.{on_refusal}
 use Rattle.ways_expressway.specs.Results.{AreFirst}
-use Rattle.day_import.specs.RoundRuns.{Stopped, CanFeedAll, OnlyTakesBack, HaveComeInOrder, IsDone, after_feeds, given_all}
+use Rattle.day_import.specs.RoundRuns.{Stopped, CanFeedAll, OnlyTakesBack, HaveComeInOrder, IsDone, after_feeds}
+use Rattle.day_import.specs.RoundRuns.{given_all}
 use Rattle.day_import.proofs.FeedLaws.{fed_runs, fed_are, first_left}
 use Rattle.day_import.proofs.RoundLaws.{all_home, none_outs, stopped_by, round_done, given_fed}
 use Rattle.day_import.proofs.work.work_round.Goals as goal

@@ -1,4 +1,5 @@
-use Rattle.std.proofs.Common.{Bool, ◌≡◌, None, ◌++◌, ◌∷◌, [], Option, Some, Result, Ok, Err, refl, sym, subst, ◌∙◌, arith}
+use Rattle.std.proofs.Common.{Bool, ◌≡◌, None, ◌++◌, ◌∷◌, [], Option, Some, Result, Ok, Err, refl, sym, subst, ◌∙◌}
+use Rattle.std.proofs.Common.{arith}
 use Rattle.std.proofs.lemmas.Bool.{cond-true}
 use Rattle.road_time.specs.declared.road.Tuple.{Tuple}
 use Rattle.day_reading.specs.declared.ending.ReadEnd.{ReadEnd}

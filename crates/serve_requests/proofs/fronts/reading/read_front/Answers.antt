@@ -2,7 +2,8 @@ use Rattle.std.proofs.Common.{◌≡◌, ◌+◌, ◌≤◌, ◌++◌, length, t
 use Rattle.std.specs.Io.KnownBytes.{Keeps, Consumes, prepend_known}
 use Rattle.std.proofs.lemmas.List.{length-take-le, length-drop}
 use Rattle.road_io.proofs.LineLaws.{take_sum}
-use Rattle.serve_requests.proofs.FrontLaws.{known_front, known_end, known_on, known_kept, keeps_none, read_within, sure_on}
+use Rattle.serve_requests.proofs.FrontLaws.{known_front, known_end, known_on, known_kept, keeps_none, read_within}
+use Rattle.serve_requests.proofs.FrontLaws.{sure_on}
 use Rattle.serve_requests.proofs.FrontLaws.{never_bad, open_bad, open_cut}
 use Rattle.serve_requests.proofs.fronts.reading.read_front.Goals as goal
 
