@@ -1,4 +1,6 @@
-//! The state of a floor, its laws, and the floor.
+//! The floor: where a day's vehicles are, what waits for findings, what is booked, and what is written in order.
+//!
+//! A `Floor` is fed tuples, gives each worker its jobs, takes findings back, and settles what lies below the mark.
 //!
 //! Where each vehicle was last, as the reports of a day come in: what begins a stay, who stopped, who left, and which
 //! stay is charged. One idea: of a vehicle's reports its newest place and the length of its newest run there, up to

@@ -1,4 +1,4 @@
-//! What a request asks of the desk, or why it is refused at once, by its head alone.
+//! Requests and answers: what a request asks of the desk, or why it is refused at once, and the texts of answers.
 //!
 //! `read_front` reads the head from a link, within its first 8,192 bytes and with at most 64 fields. `Routes` holds
 //! the desk's seven routes and finds the place that a path names. `wanted_of` judges in this order: whether a page of
