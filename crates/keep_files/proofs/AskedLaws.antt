@@ -1,14 +1,16 @@
 -- What is ready for a call, and what was made of it.
-use Rattle.std.proofs.Common.{◌≡◌, ◌⊎◌, inl, inr, Bool, true, false, Option, Some, None, Result, Ok, Err, IsErr, refl}
-use Rattle.std.proofs.Common.{sym, subst, IfErr}
+use Rattle.std.proofs.Common.{◌≡◌, ◌⊎◌, inl, inr, ℕ, Bool, true, false, List, Option, Some, None, Result, Ok, Err}
+use Rattle.std.proofs.Common.{sym, subst}
 use Rattle.sqlite_trees.specs.declared.error.StoreError.{StoreError}
 use Rattle.sqlite.specs.State.{State}
 use Rattle.keep_office.specs.declared.kept.KeepFault.{KeepFault}
 use Rattle.keep_office.specs.Office.{Office}
+use Rattle.keep_files.specs.declared.cause.Cause.{Cause}
 use Rattle.keep_files.specs.declared.kept.Kept.{Kept}
 use Rattle.keep_files.specs.declared.kept.Kept.TheVariants.{Trees, Whole}
 use Rattle.keep_files.specs.Asked.{IsReady, IsReadyToRead, IsNotWhole, IsMade, IsStored, IsPut, AskedToPut}
 use Rattle.keep_files.specs.Asked.{IsToldAs, HoldsFound}
+use Rattle.keep_files.specs.Openings.{Opening, WasUnopened, IsUnread, IsUnput, IsToldBy}
 
 module _ {T K : Type 0} (found : T → Type 0) (opened : K → Type 0) where
   -- a keeper that is ready is the one that is held, or was opened
@@ -42,13 +44,24 @@ module _ {T K : Type 0} (view : K → State) (cause : K → K → Type 0) (asks 
     kept = made.kept;
   }
 
-module _ {T K X : Type 0} (found : T → Type 0) (see : X → X → Result Bool StoreError → Type 0) (view : K → State)
+module _ {P S : Type 0} (refuses : Opening P S → Cause → Type 0) (path : List ℕ) where
+  -- what was not opened to read was not opened to put
+  pub unread_unput : (cause : Cause) → IsUnread refuses path cause → IsUnput refuses path cause
+  unread_unput cause h = inl h
+
+-- a cause that is known was told
+pub unopened_for : {A : Type 0} (knows : Cause → Type 0) (said : Option Cause) (result : Result A KeepFault)
+    (cause : Cause) → knows cause → IsToldBy said result cause → WasUnopened knows said result
+unopened_for knows said result cause known told = record { cause = cause; known = known; told = told }
+
+module _ {T K X P : Type 0} (found : T → Type 0) (see : X → X → Result Bool StoreError → Type 0) (view : K → State)
     (cause : K → K → Type 0) (asks : Office → Type 0) (next : Office → Office) (held : Option (Kept T K))
+    (refuses : Opening P X → Cause → Type 0) (path : List ℕ) (said : Option Cause)
     (result : Result (Unit {0}) KeepFault) where
   -- a keeper that was opened is ready where none was held
   pub made_ready : (opened : K → Type 0) (old : Option (Kept T K)) → IsNotWhole old
-      → IsPut opened held found see view cause asks next result
-      → AskedToPut old held opened found see view cause asks next result
+      → IsPut opened held found see view cause asks next refuses path said result
+      → AskedToPut old held opened found see view cause asks next refuses path said result
   made_ready opened old none (inl made) = inl (record {
     before = made.before;
     after = made.after;
@@ -65,7 +78,8 @@ module _ {T K X : Type 0} (found : T → Type 0) (see : X → X → Result Bool 
 
   -- a call was made of a store
   pub stored_so : (opened : K → Type 0) (before after : X) (answer : Result Bool StoreError) → see before after answer
-      → IsToldAs answer result → HoldsFound found held → IsPut opened held found see view cause asks next result
+      → IsToldAs said answer result → HoldsFound found held
+      → IsPut opened held found see view cause asks next refuses path said result
   stored_so opened before after answer stores told kept = inr (inl (record {
     before = before;
     after = after;
@@ -74,3 +88,8 @@ module _ {T K X : Type 0} (found : T → Type 0) (see : X → X → Result Bool 
     told = told;
     kept = kept;
   }))
+
+  -- nothing was opened to put
+  pub not_put : (opened : K → Type 0) (why : Cause) → held ≡ None → IsUnput refuses path why → IsToldBy said result why
+      → IsPut opened held found see view cause asks next refuses path said result
+  not_put opened why none known told = inr (inr (none, record { cause = why; known = known; told = told }))

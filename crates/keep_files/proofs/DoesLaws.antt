@@ -23,10 +23,12 @@ pub read_does : {T X : Type 0} (R C : Type 0) (see : T → X) (y : Office → X)
     (r : Result T KeepFault) → (HasCleanDisk new → KeepsCommit old new)
     → (HasCleanDisk new → (o : Office) → StandsForOffice old.committed o → GivesUnless R see r (y o)) →
     (HasCleanDisk new → (o : Office) → StandsForOffice old.committed o → r ≡ Err Failed → C) →
-    Survives old new (λ _. ⊥) → Does C false FitsAny (λ o x. see x ≡ y o) (λ o. o) old new r
-read_does R C see y old new r kept gives because survives = record {
+    Survives old new (λ _. ⊥) → (HasCleanDisk new → OnOk r (IsTrue new.is_open))
+    → Does C false FitsAny (λ o x. see x ≡ y o) (λ o. o) old new r
+read_does R C see y old new r kept gives because survives opened = record {
   kept = λ _ clean. kept clean;
   answers = λ clean o stands fit. ok_gives R see r (y o) (gives clean o stands);
+  opened = opened;
   leaves = λ clean here o stands fit. either r _ (still_stands old new o here stands (kept clean));
   because = because;
   crash =
@@ -50,11 +52,12 @@ pub put_does : (R : Type 0) (asks : Office → Type 0) (next : Office → Office
     → (HasCleanDisk new → IsTrue new.is_open → (o : Office) → StandsForOffice old.committed o → asks o →
     OnOk r (HasOffice new.committed (next o)) × OnErr r (StandsForOffice new.committed o))
     → (HasCleanDisk new → (o : Office) → StandsForOffice old.committed o → r ≡ Err Failed → R) →
-    Survives old new (CommitsFrom asks next old.committed)
+    Survives old new (CommitsFrom asks next old.committed) → (HasCleanDisk new → OnOk r (IsTrue new.is_open))
     → Does R true asks (λ o u. Unit {0}) next old new r
-put_does R asks next old new r put because survives = record {
+put_does R asks next old new r put because survives opened = record {
   kept = λ wrong. absurd (true≢false wrong);
   answers = λ clean o stands fit. any_ok r;
+  opened = opened;
   leaves = λ clean here o stands fit.
       let both = put clean here o stands fit in (
         done_then r (HasOffice new.committed (next o)) (StandsForOffice new.committed (next o)) both.0

@@ -1,5 +1,5 @@
 -- What is held of a file, and how a call of it is made.
-use Rattle.std.specs.Prelude.{◌≡◌, ◌⊎◌, Bool, true, false, Option, Some, None, Result, Ok, Err, IsOk, IsErr}
+use Rattle.std.specs.Prelude.{◌≡◌, ◌⊎◌, ℕ, Bool, true, false, List, Option, Some, None, Result, Ok, Err, IsOk}
 use Rattle.sqlite_trees.specs.declared.error.StoreError.{StoreError}
 use Rattle.sqlite_trees.specs.declared.error.StoreError.TheVariants.{OutOfMemory, Io, Corrupt, Full, Broken, Unstorable}
 use Rattle.sqlite.specs.State.{State}
@@ -7,9 +7,12 @@ use Rattle.keep_office.specs.declared.kept.KeepFault.{KeepFault}
 use Rattle.keep_office.specs.declared.kept.KeepFault.TheVariants.{Failed, NoMemory}
 use Rattle.keep_office.specs.Office.{Office}
 use Rattle.keep_tables.specs.Steps.{FitsAny}
+use Rattle.keep_files.specs.declared.cause.Cause.{Cause}
 use Rattle.keep_files.specs.declared.kept.Kept.{Kept}
 use Rattle.keep_files.specs.declared.kept.Kept.TheVariants.{Trees, Whole}
+use Rattle.keep_files.specs.Causes.{cause_in_store}
 use Rattle.keep_files.specs.Does.{Does}
+use Rattle.keep_files.specs.Openings.{Opening, WasUnopened, IsUnread, IsUnput}
 
 -- the keeper that is called is the one that is held, or one that was opened for the call
 abbrev pub IsReady : {T K : Type 0} → (K → Type 0) → Option (Kept T K) → K → Type 0
@@ -58,14 +61,15 @@ pub record IsLooked {T K A : Type 0} (may : T → Type 0) (see : T → T → Res
   pub looks : see before after result
   pub kept : IsHeld result held (Trees after)
 
--- a call that reads was made of trees or of a keeper, or nothing was held and nothing could be opened
-abbrev pub AskedToRead : {T K A : Type 0} → Option (Kept T K) → Option (Kept T K) → (T → Type 0) →
+-- a call that reads was made of trees or of a keeper; or nothing was held and nothing could be opened, for a cause
+abbrev pub AskedToRead : {T K A P S : Type 0} → Option (Kept T K) → Option (Kept T K) → (T → Type 0) →
     ((Office → A → Type 0) → T → T → Result A KeepFault → Type 0) → (K → Type 0) → (K → State) →
-    (K → K → Type 0) → (Office → A → Type 0) → Result A KeepFault → Type 0
-AskedToRead old held found looks opened view cause gives result =
+    (K → K → Type 0) → (Office → A → Type 0) → (Opening P S → Cause → Type 0) → List ℕ → Option Cause →
+    Result A KeepFault → Type 0
+AskedToRead old held found looks opened view cause gives refuses path said result =
     IsLooked (λ t. IsReadyToRead found opened old (Trees t)) (looks gives) held result
     ⊎ (IsMade (λ k. IsReadyToRead found opened old (Whole k)) view cause false FitsAny gives (λ o. o) held result
-    ⊎ ((old ≡ None) × (held ≡ None) × IsErr result))
+    ⊎ ((old ≡ None) × (held ≡ None) × WasUnopened (IsUnread refuses path) said result))
 
 -- what an error of a store is to a keeper
 abbrev pub store_fault : StoreError → KeepFault
@@ -76,11 +80,15 @@ store_fault Full = Failed
 store_fault Broken = Failed
 store_fault Unstorable = Failed
 
+-- an error of a store is told, and its cause is said where it is a failure
+abbrev pub IsToldOf : Option Cause → Result (Unit {0}) KeepFault → StoreError → Type 0
+IsToldOf said result e = (result ≡ Err (store_fault e)) × (result ≡ Err Failed → said ≡ Some (cause_in_store e))
+
 -- the answer of a put is that of the store; a put that did not fit it is none
-abbrev pub IsToldAs : Result Bool StoreError → Result (Unit {0}) KeepFault → Type 0
-IsToldAs (Ok true) result = IsOk result
-IsToldAs (Ok false) result = ⊥
-IsToldAs (Err e) result = result ≡ Err (store_fault e)
+abbrev pub IsToldAs : Option Cause → Result Bool StoreError → Result (Unit {0}) KeepFault → Type 0
+IsToldAs said (Ok true) result = IsOk result
+IsToldAs said (Ok false) result = ⊥
+IsToldAs said (Err e) result = IsToldOf said result e
 
 -- trees that were found in a file are held, or nothing is
 abbrev pub HoldsFound : {T K : Type 0} → (T → Type 0) → Option (Kept T K) → Type 0
@@ -90,27 +98,28 @@ HoldsFound found (Some (Whole kept)) = ⊥
 
 -- a call that puts was made of a store that was opened for it, and that is let go; trees of the file are held then
 pub record IsStored {T K X : Type 0} (found : T → Type 0) (see : X → X → Result Bool StoreError → Type 0)
-    (held : Option (Kept T K)) (result : Result (Unit {0}) KeepFault) : Type 0 where
+    (held : Option (Kept T K)) (said : Option Cause) (result : Result (Unit {0}) KeepFault) : Type 0 where
   pub before : X
   pub after : X
   pub answer : Result Bool StoreError
   pub stores : see before after answer
-  pub told : IsToldAs answer result
+  pub told : IsToldAs said answer result
   pub kept : HoldsFound found held
 
--- a call that puts was made of a store or of a keeper, or nothing could be opened and nothing is held
-abbrev pub IsPut : {T K X : Type 0} → (K → Type 0) → Option (Kept T K) → (T → Type 0) →
+-- a call that puts was made of a store or of a keeper; or nothing could be opened, for a cause, and nothing is held
+abbrev pub IsPut : {T K X P : Type 0} → (K → Type 0) → Option (Kept T K) → (T → Type 0) →
     (X → X → Result Bool StoreError → Type 0) → (K → State) → (K → K → Type 0) → (Office → Type 0) →
-    (Office → Office) → Result (Unit {0}) KeepFault → Type 0
-IsPut may held found see view cause asks next result =
+    (Office → Office) → (Opening P X → Cause → Type 0) → List ℕ → Option Cause → Result (Unit {0}) KeepFault → Type 0
+IsPut may held found see view cause asks next refuses path said result =
     IsMade may view cause true asks (λ o u. Unit {0}) next held result
-    ⊎ (IsStored found see held result ⊎ ((held ≡ None) × IsErr result))
+    ⊎ (IsStored found see held said result ⊎ ((held ≡ None) × WasUnopened (IsUnput refuses path) said result))
 
 -- a call that puts was made of the keeper that is held; or none was, and it was made of a store or of a keeper that was
--- opened for the call, or none could be opened
-abbrev pub AskedToPut : {T K X : Type 0} → Option (Kept T K) → Option (Kept T K) → (K → Type 0) → (T → Type 0) →
+-- opened for the call, or none could be opened, for a cause
+abbrev pub AskedToPut : {T K X P : Type 0} → Option (Kept T K) → Option (Kept T K) → (K → Type 0) → (T → Type 0) →
     (X → X → Result Bool StoreError → Type 0) → (K → State) → (K → K → Type 0) → (Office → Type 0) →
-    (Office → Office) → Result (Unit {0}) KeepFault → Type 0
-AskedToPut old held opened found see view cause asks next result =
+    (Office → Office) → (Opening P X → Cause → Type 0) → List ℕ → Option Cause → Result (Unit {0}) KeepFault → Type 0
+AskedToPut old held opened found see view cause asks next refuses path said result =
     IsMade (IsReady opened old) view cause true asks (λ o u. Unit {0}) next held result
-    ⊎ (IsNotWhole old × (IsStored found see held result ⊎ ((held ≡ None) × IsErr result)))
+    ⊎ (IsNotWhole old × (IsStored found see held said result ⊎ ((held ≡ None) × WasUnopened (IsUnput refuses path) said
+    result)))

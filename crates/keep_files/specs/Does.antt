@@ -14,11 +14,12 @@ abbrev pub CommitsIf : Bool → (Office → Type 0) → (Office → Office) → 
 CommitsIf writes asks next before trees = IsTrue writes × CommitsFrom asks next before trees
 
 -- a call that asks something of the office answers what the office gives, and leaves the next one; where it is refused,
--- it leaves the office, and where it failed it had a cause
+-- it leaves the office, and where it failed it had a cause; what it answered leaves the store open
 pub record Does {A : Type 0} (cause : Type 0) (writes : Bool) (asks : Office → Type 0) (gives : Office → A → Type 0)
     (next : Office → Office) (old new : State) (result : Result A KeepFault) : Type 0 where
   pub kept : writes ≡ false → HasCleanDisk new → KeepsCommit old new
   pub answers : HasCleanDisk new → (o : Office) → StandsForOffice old.committed o → asks o → IfOk result (gives o)
+  pub opened : HasCleanDisk new → OnOk result (IsTrue new.is_open)
   pub leaves : HasCleanDisk new → IsTrue new.is_open → (o : Office) → StandsForOffice old.committed o → asks o →
       OnOk result (StandsForOffice new.committed (next o)) × OnErr result (StandsForOffice new.committed o)
   pub because : HasCleanDisk new → (o : Office) → StandsForOffice old.committed o → result ≡ Err Failed → cause

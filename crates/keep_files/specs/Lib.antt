@@ -3,5 +3,6 @@
 pub mod Causes
 pub mod Does
 pub mod Looks
+pub mod Openings
 pub mod Asked
 pub mod Anew

@@ -1,11 +1,14 @@
 // Files that are opened by a path.
-ghost use Rattle.std.specs.Prelude.{IfOk, IsTrue};
+ghost use Rattle.std.specs.Prelude.{◌≡◌, IfOk, IfErr, IsTrue};
 ghost use Rattle.sqlite_std_file.specs.File.{file_is_usable};
+ghost use Rattle.keep_files.specs.declared.cause.Cause.TheVariants.{Unopened};
+ghost use Rattle.keep_files.specs.Openings.{IsOfOpening};
 
 use crate::cause::{Cause, cause_of_opening};
 use sqlite::{FileFrom, FileStore, Files, Start, Wary};
-use sqlite_disk::Disk;
+use sqlite_disk::{Disk, Memory};
 use sqlite_pool::Pool;
+use std::hash::{BuildHasher, RandomState};
 use std::rt::HostRuntime;
 
 /// A file of the machine. What a crash leaves of it is said without the hypothesis that a torn write leaves each byte
@@ -20,22 +23,78 @@ pub type KeptPages = Pool<KeptDisk>;
 
 /// Files that are opened by a path: the database and its log.
 pub trait AtPath: Disk + Drop {
+    ghost use Rattle.std.specs.Prelude.{ℕ, List};
+    ghost use Rattle.keep_files.specs.declared.cause.Cause.{Cause};
+
+    /// What is known where the files at a path are not opened, for a cause.
+    ghost refuses: { List ℕ → Cause → Type 0 };
+
+    /// What is known where no number is drawn, for a cause.
+    ghost undrawn: { Cause → Type 0 };
+
     /// The two files at a path. Nobody else opens them until they are let go.
     fn open(rt: &HostRuntime, path: &str) -> Result<Files<Self>, Cause>
-        ensures { IfOk result (λ files. IsTrue (Self.Disk.is_usable files.log)
-            × IsTrue (Self.Disk.is_usable files.db)) };
+        ensures usable { IfOk result (λ files. IsTrue (Self.Disk.is_usable files.log)
+            × IsTrue (Self.Disk.is_usable files.db)) }
+        ensures refused { IfErr result (refuses path.now) };
+
+    /// A number for the salt of a log.
+    fn draw(rt: &HostRuntime) -> Result<u64, Cause>
+        ensures { IfErr result undrawn };
 }
 
+// Nothing is known of the files of the machine but the causes for which they may be refused.
 impl AtPath for KeptDisk {
+    ghost use Rattle.std.specs.Prelude.{◌≡◌};
+    ghost use Rattle.keep_files.specs.declared.cause.Cause.TheVariants.{Unopened};
+    ghost use Rattle.keep_files.specs.Openings.{IsOfOpening};
+
+    ghost refuses = { λ path. IsOfOpening };
+
+    ghost undrawn = { λ cause. cause ≡ Unopened };
+
     fn open(rt: &HostRuntime, path: &str) -> Result<Files<KeptDisk>, Cause> {
         opened(rt, path, Wary)
+    }
+
+    fn draw(rt: &HostRuntime) -> Result<u64, Cause> {
+        drawn(rt)
+    }
+}
+
+/// Files in memory, which are new at each opening. None is ever refused.
+impl AtPath for Memory {
+    ghost refuses = { λ path cause. ⊥ };
+
+    ghost undrawn = { λ cause. ⊥ };
+
+    fn open(rt: &HostRuntime, _path: &str) -> Result<Files<Memory>, Cause> {
+        Ok(Files {
+            log: Memory::new(rt.alloc()),
+            db: Memory::new(rt.alloc()),
+        })
+    }
+
+    fn draw(_rt: &HostRuntime) -> Result<u64, Cause> {
+        Ok(1)
+    }
+}
+
+/// A random number.
+fn drawn(rt: &HostRuntime) -> Result<u64, Cause>
+    ensures { IfErr result (λ cause. cause ≡ Unopened) }
+{
+    match RandomState::new(rt) {
+        Ok(random) => Ok(random.hash_one(&0u8)),
+        Err(_) => Err(Cause::Unopened),
     }
 }
 
 /// The two files at a path.
 fn opened<S: Start>(rt: &HostRuntime, path: &str, start: S) -> Result<Files<FileFrom<S>>, Cause>
-    ensures { IfOk result (λ files. IsTrue (file_is_usable S.Start files.log)
+    ensures usable { IfOk result (λ files. IsTrue (file_is_usable S.Start files.log)
         × IsTrue (file_is_usable S.Start files.db)) }
+    ensures refused { IfErr result IsOfOpening }
 {
     if path == ":memory:" || path.starts_with("file:") {
         return Err(Cause::Unopened);

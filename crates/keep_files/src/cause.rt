@@ -6,6 +6,7 @@ ghost use Rattle.std.specs.Prelude.{Some};
 ghost use Rattle.keep_files.specs.declared.cause.Cause.TheVariants.{InUse, Journal, Memory};
 ghost use Rattle.keep_files.specs.Asked.{store_fault};
 ghost use Rattle.keep_files.specs.Causes.{IsCauseOf, IsSaidOf, cause_in_store, close_cause};
+ghost use Rattle.keep_files.specs.Openings.{IsOfOpening};
 
 use keep_office::KeepFault;
 use sqlite::{Error as Refused, ErrorCode};
@@ -70,6 +71,7 @@ pub fn cause_of_opening(error: OpenError) -> Cause
     ensures busy { error ≡ Busy → result ≡ InUse }
     ensures journal { error ≡ HotJournal → result ≡ Journal }
     ensures memory { error ≡ OutOfMemory → result ≡ Memory }
+    ensures opening { IsOfOpening result }
 {
     match error {
         OpenError::Busy => Cause::InUse,
@@ -80,7 +82,9 @@ pub fn cause_of_opening(error: OpenError) -> Cause
 }
 
 /// The cause that a refusal of the file system is.
-fn cause_of_kind(kind: ErrorKind) -> Cause {
+fn cause_of_kind(kind: ErrorKind) -> Cause
+    ensures { IsOfOpening result }
+{
     match kind {
         ErrorKind::PermissionDenied | ErrorKind::ReadOnlyFilesystem => Cause::ReadOnly,
         ErrorKind::StorageFull | ErrorKind::QuotaExceeded => Cause::NoRoom,

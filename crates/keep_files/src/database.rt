@@ -1,5 +1,5 @@
 // A database that is opened when it is first asked for.
-ghost use Rattle.std.specs.Prelude.{◌≡◌, ◌≢◌, true, Some, None, IfOk, IfErr};
+ghost use Rattle.std.specs.Prelude.{◌≡◌, ◌≢◌, true, Some, None, IfOk, IfErr, string_bytes};
 ghost use Rattle.sqlite.specs.Held.{state};
 ghost use Rattle.keep_office.specs.declared.kept.KeepFault.TheVariants.{NoMemory};
 ghost use Rattle.keep_writes.specs.Causes.{WasRefusedIn, WasRefusedOf};
@@ -7,6 +7,7 @@ ghost use Rattle.keep_puts.specs.Stores.{Stores};
 ghost use Rattle.keep_files.specs.Asked.{AskedToRead, AskedToPut, IsReadyToRead, IsMade, IsPut, HoldsFound};
 ghost use Rattle.keep_files.specs.Causes.{IsSaid};
 ghost use Rattle.keep_files.specs.Looks.{AreFound, Looks};
+ghost use Rattle.keep_files.specs.Openings.{LacksTables, IsUnread, IsUnput};
 
 mod anew;
 
@@ -37,7 +38,8 @@ pub struct Database<S: Opens<P>, P: Pages + Drop> {
 impl<S: Opens<P>, P: Pages + Drop> Database<S, P> {
     /// The database at a path, which is not open.
     pub(crate) fn new(rt: HostRuntime, path: String) -> Database<S, P>
-        ensures { result.cause ≡ None }
+        ensures quiet { result.cause ≡ None }
+        ensures named { result.path ≡ path }
     {
         Database {
             rt,
@@ -68,7 +70,8 @@ impl<S: Opens<P>, P: Pages + Drop> Database<S, P> {
         ensures answers { IfOk result C.answers }
         ensures does { AskedToRead self.old.kept self.new.kept (AreFound P.Pages) (Looks P.Pages)
             (λ k. k.unmade ≢ Some NoMemory) (λ k. state S.Store k.conn)
-            (λ k l. WasRefusedIn S.Store k.conn l.conn) (C.gives call) result }
+            (λ k l. WasRefusedIn S.Store k.conn l.conn) (C.gives call)
+            S.Opens.refuses (string_bytes self.old.path) self.new.cause result }
         ensures said { IsSaid result self.old.cause self.new.cause }
     {
         let ready = match self.ready() {
@@ -94,7 +97,8 @@ impl<S: Opens<P>, P: Pages + Drop> Database<S, P> {
         ensures does { AskedToPut self.old.kept self.new.kept (λ k. k.unmade ≢ Some NoMemory) (AreFound P.Pages)
             (Stores S.Store (C.room call) (C.asks call) (C.next call)) (λ k. state S.Store k.conn)
             (λ k l. WasRefusedOf S.Store (C.writes call) k.conn l.conn)
-            (C.asks call) (C.next call) result }
+            (C.asks call) (C.next call)
+            S.Opens.refuses (string_bytes self.old.path) self.new.cause result }
         ensures said { IsSaid result self.old.cause self.new.cause }
     {
         let ready = match self.ready() {
@@ -132,10 +136,12 @@ impl<S: Opens<P>, P: Pages + Drop> Database<S, P> {
     ) -> Result<(), KeepFault>
         requires fits { C.fits call }
         requires none { self.old.kept ≡ None }
+        requires known { IfErr conn (IsUnput S.Opens.refuses (string_bytes self.old.path)) }
         ensures does { IsPut (λ k. k.unmade ≢ Some NoMemory) self.new.kept (AreFound P.Pages)
             (Stores S.Store (C.room call) (C.asks call) (C.next call)) (λ k. state S.Store k.conn)
             (λ k l. WasRefusedOf S.Store (C.writes call) k.conn l.conn)
-            (C.asks call) (C.next call) result }
+            (C.asks call) (C.next call)
+            S.Opens.refuses (string_bytes self.old.path) self.new.cause result }
         ensures said { IsSaid result self.old.cause self.new.cause }
     {
         let conn = match conn {
@@ -160,7 +166,8 @@ impl<S: Opens<P>, P: Pages + Drop> Database<S, P> {
         ensures does { IsPut (λ k. k.unmade ≢ Some NoMemory) self.new.kept (AreFound P.Pages)
             (Stores S.Store (C.room call) (C.asks call) (C.next call)) (λ k. state S.Store k.conn)
             (λ k l. WasRefusedOf S.Store (C.writes call) k.conn l.conn)
-            (C.asks call) (C.next call) result }
+            (C.asks call) (C.next call)
+            S.Opens.refuses (string_bytes self.old.path) self.new.cause result }
         ensures said { IsSaid result self.old.cause self.new.cause }
     {
         let rt = self.rt;
@@ -185,7 +192,9 @@ impl<S: Opens<P>, P: Pages + Drop> Database<S, P> {
         ensures ready { IfOk result (IsReadyToRead (AreFound P.Pages) (λ k. k.unmade ≢ Some NoMemory) self.old.kept) }
         ensures none { self.new.kept ≡ None }
         ensures unsaid { self.new.cause ≡ self.old.cause }
+        ensures named { self.new.path ≡ self.old.path }
         ensures unopened { IfErr result (λ _. self.old.kept ≡ None) }
+        ensures refused { IfErr result (IsUnread S.Opens.refuses (string_bytes self.old.path)) }
     {
         if let Some(kept) = self.kept.take() {
             return Ok(kept);
@@ -195,7 +204,8 @@ impl<S: Opens<P>, P: Pages + Drop> Database<S, P> {
 
     /// The trees of the file, or a keeper on a new connection.
     fn opened(&self) -> Result<Kept<PageTrees<P>, ProvedKeeper<S>>, Cause>
-        ensures { IfOk result (IsReadyToRead (AreFound P.Pages) (λ k. k.unmade ≢ Some NoMemory) None) }
+        ensures ready { IfOk result (IsReadyToRead (AreFound P.Pages) (λ k. k.unmade ≢ Some NoMemory) None) }
+        ensures refused { IfErr result (IsUnread S.Opens.refuses (string_bytes self.now.path)) }
     {
         let mut conn = match S::to_read(&self.rt, self.path.as_str()) {
             Ok(Kept::Trees(trees)) => return Ok(Kept::Trees(trees)),
@@ -210,7 +220,8 @@ impl<S: Opens<P>, P: Pages + Drop> Database<S, P> {
 
     /// The trees of a new file, once a connection has made its tables; or a keeper on it, where they are not made.
     fn made(&self, conn: Connection<S>) -> Result<Kept<PageTrees<P>, ProvedKeeper<S>>, Cause>
-        ensures { IfOk result (IsReadyToRead (AreFound P.Pages) (λ k. k.unmade ≢ Some NoMemory) None) }
+        ensures ready { IfOk result (IsReadyToRead (AreFound P.Pages) (λ k. k.unmade ≢ Some NoMemory) None) }
+        ensures refused { IfErr result (IsUnread S.Opens.refuses (string_bytes self.now.path)) }
     {
         let kept = match adopted(self.rt.alloc(), conn) {
             Ok(kept) => kept,
@@ -225,7 +236,8 @@ impl<S: Opens<P>, P: Pages + Drop> Database<S, P> {
     /// The trees of the file of a connection that has made its tables. A file that is not ours even so, such as one
     /// with pages of another size, is opened anew.
     fn taken_over(&self, conn: Connection<S>) -> Result<Kept<PageTrees<P>, ProvedKeeper<S>>, Cause>
-        ensures { IfOk result (IsReadyToRead (AreFound P.Pages) (λ k. k.unmade ≢ Some NoMemory) None) }
+        ensures ready { IfOk result (IsReadyToRead (AreFound P.Pages) (λ k. k.unmade ≢ Some NoMemory) None) }
+        ensures refused { IfErr result (IsUnread S.Opens.refuses (string_bytes self.now.path)) }
     {
         match S::to_read_again(&self.rt, conn.into_store()) {
             Some(trees) => Ok(Kept::Trees(trees)),
@@ -235,7 +247,8 @@ impl<S: Opens<P>, P: Pages + Drop> Database<S, P> {
 
     /// The trees of a file that is there, or a keeper on a new connection.
     fn opened_anew(&self) -> Result<Kept<PageTrees<P>, ProvedKeeper<S>>, Cause>
-        ensures { IfOk result (IsReadyToRead (AreFound P.Pages) (λ k. k.unmade ≢ Some NoMemory) None) }
+        ensures ready { IfOk result (IsReadyToRead (AreFound P.Pages) (λ k. k.unmade ≢ Some NoMemory) None) }
+        ensures refused { IfErr result (IsUnread S.Opens.refuses (string_bytes self.now.path)) }
     {
         match S::to_read(&self.rt, self.path.as_str()) {
             Ok(Kept::Trees(trees)) => Ok(Kept::Trees(trees)),
@@ -258,7 +271,8 @@ fn whole<S: Opens<P>, P: Pages + Drop>(
     rt: &HostRuntime,
     conn: Connection<S>,
 ) -> Result<Kept<PageTrees<P>, ProvedKeeper<S>>, Cause>
-    ensures { IfOk result (IsReadyToRead (AreFound P.Pages) (λ k. k.unmade ≢ Some NoMemory) None) }
+    ensures ready { IfOk result (IsReadyToRead (AreFound P.Pages) (λ k. k.unmade ≢ Some NoMemory) None) }
+    ensures unmade { IfErr result (LacksTables S) }
 {
     match adopted(rt.alloc(), conn) {
         Ok(kept) => Ok(Kept::Whole(kept)),
@@ -281,7 +295,8 @@ fn held_again<S: Opens<P>, P: Pages + Drop>(
 
 /// The keeper on a connection. Where there was no memory to make its tables, the connection is let go.
 fn adopted<S: Steady>(alloc: Global, conn: Connection<S>) -> Result<ProvedKeeper<S>, Cause>
-    ensures { IfOk result (λ kept. kept.unmade ≢ Some NoMemory) }
+    ensures made { IfOk result (λ kept. kept.unmade ≢ Some NoMemory) }
+    ensures unmade { IfErr result (LacksTables S) }
 {
     let kept = ProvedKeeper::adopt(alloc, conn);
     match kept.unmade() {

@@ -1,5 +1,5 @@
 // The calls of a keeper in a SQLite file.
-ghost use Rattle.std.specs.Prelude.{◌≡◌, ◌≢◌, ◌≤◌, Some, None, IfOk, IfSome};
+ghost use Rattle.std.specs.Prelude.{◌≡◌, ◌≢◌, ◌≤◌, Some, None, IfOk, IfSome, string_bytes};
 ghost use Rattle.sqlite.specs.Held.{state};
 ghost use Rattle.road_time.specs.History.{paid};
 ghost use Rattle.road_time.specs.Rates.{IsTariff};
@@ -19,6 +19,7 @@ ghost use Rattle.keep_files.specs.Looks.{AreFound, Looks};
 
 use crate::at_path::{KeptPages, KeptStore};
 use crate::kept_file::SqliteKeeper;
+use crate::opens::Opens;
 use crate::puts::{PutDay, PutPast, PutTariff};
 use crate::reads::{AskedDay, AskedSpent, KeptTariffs, LastDay, Past, Rows, VehicleRows};
 use keep_office::{DayRecord, KeepFault, Keeper, PastRecord};
@@ -47,7 +48,9 @@ impl Keeper for SqliteKeeper {
             (AreFound ⟦<KeptPages as Pages>⟧) (Looks ⟦<KeptPages as Pages>⟧)
             (λ k. k.unmade ≢ Some NoMemory) (λ k. state ⟦<KeptStore as Store>⟧ k.conn)
             (λ k l. WasRefusedIn ⟦<KeptStore as Store>⟧ k.conn l.conn)
-            (λ o last. last ≡ last_day_of o) result }
+            (λ o last. last ≡ last_day_of o)
+            ⟦<KeptStore as Opens<KeptPages>>⟧.refuses (string_bytes self.old.in_file.in_file.database.path)
+            self.new.in_file.in_file.database.cause result }
     {
         self.read(LastDay)
     }
@@ -59,7 +62,9 @@ impl Keeper for SqliteKeeper {
             (AreFound ⟦<KeptPages as Pages>⟧) (Looks ⟦<KeptPages as Pages>⟧)
             (λ k. k.unmade ≢ Some NoMemory) (λ k. state ⟦<KeptStore as Store>⟧ k.conn)
             (λ k l. WasRefusedIn ⟦<KeptStore as Store>⟧ k.conn l.conn)
-            (λ o kept. kept ≡ record_of o day) result }
+            (λ o kept. kept ≡ record_of o day)
+            ⟦<KeptStore as Opens<KeptPages>>⟧.refuses (string_bytes self.old.in_file.in_file.database.path)
+            self.new.in_file.in_file.database.cause result }
     {
         self.read(AskedDay { day })
     }
@@ -72,7 +77,9 @@ impl Keeper for SqliteKeeper {
             (AreFound ⟦<KeptPages as Pages>⟧) (Looks ⟦<KeptPages as Pages>⟧)
             (λ k. k.unmade ≢ Some NoMemory) (λ k. state ⟦<KeptStore as Store>⟧ k.conn)
             (λ k l. WasRefusedIn ⟦<KeptStore as Store>⟧ k.conn l.conn)
-            (λ o past. past ≡ o.past) result }
+            (λ o past. past ≡ o.past)
+            ⟦<KeptStore as Opens<KeptPages>>⟧.refuses (string_bytes self.old.in_file.in_file.database.path)
+            self.new.in_file.in_file.database.cause result }
     {
         self.read(Past)
     }
@@ -84,7 +91,9 @@ impl Keeper for SqliteKeeper {
             (AreFound ⟦<KeptPages as Pages>⟧) (Looks ⟦<KeptPages as Pages>⟧)
             (λ k. k.unmade ≢ Some NoMemory) (λ k. state ⟦<KeptStore as Store>⟧ k.conn)
             (λ k l. WasRefusedIn ⟦<KeptStore as Store>⟧ k.conn l.conn)
-            (λ o tolls. tolls ≡ paid o.rows day vid xway) result }
+            (λ o tolls. tolls ≡ paid o.rows day vid xway)
+            ⟦<KeptStore as Opens<KeptPages>>⟧.refuses (string_bytes self.old.in_file.in_file.database.path)
+            self.new.in_file.in_file.database.cause result }
     {
         self.read(AskedSpent { day, vid, xway })
     }
@@ -97,7 +106,9 @@ impl Keeper for SqliteKeeper {
             (AreFound ⟦<KeptPages as Pages>⟧) (Looks ⟦<KeptPages as Pages>⟧)
             (λ k. k.unmade ≢ Some NoMemory) (λ k. state ⟦<KeptStore as Store>⟧ k.conn)
             (λ k l. WasRefusedIn ⟦<KeptStore as Store>⟧ k.conn l.conn)
-            (λ o rows. rows.items ≡ rows_between o from to) result }
+            (λ o rows. rows.items ≡ rows_between o from to)
+            ⟦<KeptStore as Opens<KeptPages>>⟧.refuses (string_bytes self.old.in_file.in_file.database.path)
+            self.new.in_file.in_file.database.cause result }
     {
         self.read(Rows { from, to })
     }
@@ -110,7 +121,9 @@ impl Keeper for SqliteKeeper {
             (AreFound ⟦<KeptPages as Pages>⟧) (Looks ⟦<KeptPages as Pages>⟧)
             (λ k. k.unmade ≢ Some NoMemory) (λ k. state ⟦<KeptStore as Store>⟧ k.conn)
             (λ k l. WasRefusedIn ⟦<KeptStore as Store>⟧ k.conn l.conn)
-            (λ o rows. rows.items ≡ vehicle_rows_between o vid from to) result }
+            (λ o rows. rows.items ≡ vehicle_rows_between o vid from to)
+            ⟦<KeptStore as Opens<KeptPages>>⟧.refuses (string_bytes self.old.in_file.in_file.database.path)
+            self.new.in_file.in_file.database.cause result }
     {
         self.read(VehicleRows { vid, from, to })
     }
@@ -122,7 +135,9 @@ impl Keeper for SqliteKeeper {
             (AreFound ⟦<KeptPages as Pages>⟧) (Looks ⟦<KeptPages as Pages>⟧)
             (λ k. k.unmade ≢ Some NoMemory) (λ k. state ⟦<KeptStore as Store>⟧ k.conn)
             (λ k l. WasRefusedIn ⟦<KeptStore as Store>⟧ k.conn l.conn)
-            (λ o tariffs. tariffs ≡ o.tariffs) result }
+            (λ o tariffs. tariffs ≡ o.tariffs)
+            ⟦<KeptStore as Opens<KeptPages>>⟧.refuses (string_bytes self.old.in_file.in_file.database.path)
+            self.new.in_file.in_file.database.cause result }
     {
         self.read(KeptTariffs)
     }
@@ -138,7 +153,9 @@ impl Keeper for SqliteKeeper {
             (with_day kept.now rows.now))
             (λ k. state ⟦<KeptStore as Store>⟧ k.conn)
             (λ k l. WasRefusedOf ⟦<KeptStore as Store>⟧ (WritesDay kept.now rows.now) k.conn l.conn)
-            (IsLater kept.now.day) (with_day kept.now rows.now) result }
+            (IsLater kept.now.day) (with_day kept.now rows.now)
+            ⟦<KeptStore as Opens<KeptPages>>⟧.refuses (string_bytes self.old.in_file.in_file.database.path)
+            self.new.in_file.in_file.database.cause result }
     {
         self.put(PutDay { kept, rows })
     }
@@ -153,7 +170,9 @@ impl Keeper for SqliteKeeper {
             (Stores ⟦<KeptStore as Store>⟧ (RoomForPast rows.now) HasNoDays (with_past kept.now rows.now))
             (λ k. state ⟦<KeptStore as Store>⟧ k.conn)
             (λ k l. WasRefusedOf ⟦<KeptStore as Store>⟧ (WritesPast kept.now rows.now) k.conn l.conn)
-            HasNoDays (with_past kept.now rows.now) result }
+            HasNoDays (with_past kept.now rows.now)
+            ⟦<KeptStore as Opens<KeptPages>>⟧.refuses (string_bytes self.old.in_file.in_file.database.path)
+            self.new.in_file.in_file.database.cause result }
     {
         self.put(PutPast { kept, rows })
     }
@@ -167,7 +186,9 @@ impl Keeper for SqliteKeeper {
             (Stores ⟦<KeptStore as Store>⟧ RoomForTariff FitsAny (with_tariff_of xway tariff.now))
             (λ k. state ⟦<KeptStore as Store>⟧ k.conn)
             (λ k l. WasRefusedOf ⟦<KeptStore as Store>⟧ (WritesTariff xway tariff.now) k.conn l.conn)
-            FitsAny (with_tariff_of xway tariff.now) result }
+            FitsAny (with_tariff_of xway tariff.now)
+            ⟦<KeptStore as Opens<KeptPages>>⟧.refuses (string_bytes self.old.in_file.in_file.database.path)
+            self.new.in_file.in_file.database.cause result }
     {
         self.put(PutTariff { xway, tariff })
     }

@@ -1,5 +1,5 @@
 // A keeper in a file of some disk, whose callers see nothing of the store and of the pages behind it.
-ghost use Rattle.std.specs.Prelude.{◌≡◌, ◌≢◌, Some, None, IfOk};
+ghost use Rattle.std.specs.Prelude.{◌≡◌, ◌≢◌, Some, None, IfOk, string_bytes};
 ghost use Rattle.sqlite.specs.Held.{state};
 ghost use Rattle.keep_office.specs.Calls.{CountsFaults};
 ghost use Rattle.keep_office.specs.declared.kept.KeepFault.TheVariants.{NoMemory as no_memory};
@@ -16,6 +16,7 @@ use crate::call::{Putting, Reading};
 use crate::cause::Cause;
 use crate::keeper_in::KeeperIn;
 use crate::kept::Kept;
+use crate::opens::Opens;
 use keep_office::KeepFault;
 use road_time::NoMemory;
 use sqlite::{Connection, FileStore};
@@ -36,6 +37,7 @@ impl<D: AtPath> FileKeeper<D> {
     pub fn at(alloc: Global, rt: HostRuntime, path: &str) -> Result<FileKeeper<D>, NoMemory>
         ensures faultless { IfOk result (λ keeper. keeper.in_file.faults ≡ 0) }
         ensures quiet { IfOk result (λ keeper. keeper.in_file.database.cause ≡ None) }
+        ensures named { IfOk result (λ keeper. string_bytes keeper.in_file.database.path ≡ path.now) }
     {
         let in_file = KeeperIn::at(alloc, rt, path)?;
         Ok(FileKeeper { in_file })
@@ -60,7 +62,9 @@ impl<D: AtPath> FileKeeper<D> {
         ensures does { AskedToRead self.old.in_file.database.kept self.new.in_file.database.kept
             (AreFound ⟦<Pool<D> as Pages>⟧) (Looks ⟦<Pool<D> as Pages>⟧)
             (λ k. k.unmade ≢ Some no_memory) (λ k. state ⟦<FileStore<D> as Store>⟧ k.conn)
-            (λ k l. WasRefusedIn ⟦<FileStore<D> as Store>⟧ k.conn l.conn) (C.gives call) result }
+            (λ k l. WasRefusedIn ⟦<FileStore<D> as Store>⟧ k.conn l.conn) (C.gives call)
+            ⟦<FileStore<D> as Opens<Pool<D>>>⟧.refuses (string_bytes self.old.in_file.database.path)
+            self.new.in_file.database.cause result }
         ensures cause { CountsFaults self.old.in_file.faults self.new.in_file.faults result }
         ensures said { IsSaid result self.old.in_file.database.cause self.new.in_file.database.cause }
     {
@@ -75,7 +79,9 @@ impl<D: AtPath> FileKeeper<D> {
             (Stores ⟦<FileStore<D> as Store>⟧ (C.room call) (C.asks call) (C.next call))
             (λ k. state ⟦<FileStore<D> as Store>⟧ k.conn)
             (λ k l. WasRefusedOf ⟦<FileStore<D> as Store>⟧ (C.writes call) k.conn l.conn)
-            (C.asks call) (C.next call) result }
+            (C.asks call) (C.next call)
+            ⟦<FileStore<D> as Opens<Pool<D>>>⟧.refuses (string_bytes self.old.in_file.database.path)
+            self.new.in_file.database.cause result }
         ensures cause { CountsFaults self.old.in_file.faults self.new.in_file.faults result }
         ensures said { IsSaid result self.old.in_file.database.cause self.new.in_file.database.cause }
     {

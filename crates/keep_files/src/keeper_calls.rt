@@ -1,5 +1,5 @@
 // The calls of a keeper in a database.
-ghost use Rattle.std.specs.Prelude.{◌≡◌, ◌≢◌, ◌≤◌, Some, None, IfOk, IfSome};
+ghost use Rattle.std.specs.Prelude.{◌≡◌, ◌≢◌, ◌≤◌, Some, None, IfOk, IfSome, string_bytes};
 ghost use Rattle.sqlite.specs.Held.{state};
 ghost use Rattle.road_time.specs.History.{paid};
 ghost use Rattle.road_time.specs.Rates.{IsTariff};
@@ -46,7 +46,8 @@ impl<S: Opens<P>, P: Pages + Drop> Keeper for KeeperIn<S, P> {
             (AreFound P.Pages) (Looks P.Pages)
             (λ k. k.unmade ≢ Some NoMemory) (λ k. state S.Store k.conn)
             (λ k l. WasRefusedIn S.Store k.conn l.conn)
-            (λ o last. last ≡ last_day_of o) result }
+            (λ o last. last ≡ last_day_of o)
+            S.Opens.refuses (string_bytes self.old.database.path) self.new.database.cause result }
     {
         self.read(LastDay)
     }
@@ -58,7 +59,8 @@ impl<S: Opens<P>, P: Pages + Drop> Keeper for KeeperIn<S, P> {
             (AreFound P.Pages) (Looks P.Pages)
             (λ k. k.unmade ≢ Some NoMemory) (λ k. state S.Store k.conn)
             (λ k l. WasRefusedIn S.Store k.conn l.conn)
-            (λ o kept. kept ≡ record_of o day) result }
+            (λ o kept. kept ≡ record_of o day)
+            S.Opens.refuses (string_bytes self.old.database.path) self.new.database.cause result }
     {
         self.read(AskedDay { day })
     }
@@ -71,7 +73,8 @@ impl<S: Opens<P>, P: Pages + Drop> Keeper for KeeperIn<S, P> {
             (AreFound P.Pages) (Looks P.Pages)
             (λ k. k.unmade ≢ Some NoMemory) (λ k. state S.Store k.conn)
             (λ k l. WasRefusedIn S.Store k.conn l.conn)
-            (λ o past. past ≡ o.past) result }
+            (λ o past. past ≡ o.past)
+            S.Opens.refuses (string_bytes self.old.database.path) self.new.database.cause result }
     {
         self.read(Past)
     }
@@ -83,7 +86,8 @@ impl<S: Opens<P>, P: Pages + Drop> Keeper for KeeperIn<S, P> {
             (AreFound P.Pages) (Looks P.Pages)
             (λ k. k.unmade ≢ Some NoMemory) (λ k. state S.Store k.conn)
             (λ k l. WasRefusedIn S.Store k.conn l.conn)
-            (λ o tolls. tolls ≡ paid o.rows day vid xway) result }
+            (λ o tolls. tolls ≡ paid o.rows day vid xway)
+            S.Opens.refuses (string_bytes self.old.database.path) self.new.database.cause result }
     {
         self.read(AskedSpent { day, vid, xway })
     }
@@ -96,7 +100,8 @@ impl<S: Opens<P>, P: Pages + Drop> Keeper for KeeperIn<S, P> {
             (AreFound P.Pages) (Looks P.Pages)
             (λ k. k.unmade ≢ Some NoMemory) (λ k. state S.Store k.conn)
             (λ k l. WasRefusedIn S.Store k.conn l.conn)
-            (λ o rows. rows.items ≡ rows_between o from to) result }
+            (λ o rows. rows.items ≡ rows_between o from to)
+            S.Opens.refuses (string_bytes self.old.database.path) self.new.database.cause result }
     {
         self.read(Rows { from, to })
     }
@@ -109,7 +114,8 @@ impl<S: Opens<P>, P: Pages + Drop> Keeper for KeeperIn<S, P> {
             (AreFound P.Pages) (Looks P.Pages)
             (λ k. k.unmade ≢ Some NoMemory) (λ k. state S.Store k.conn)
             (λ k l. WasRefusedIn S.Store k.conn l.conn)
-            (λ o rows. rows.items ≡ vehicle_rows_between o vid from to) result }
+            (λ o rows. rows.items ≡ vehicle_rows_between o vid from to)
+            S.Opens.refuses (string_bytes self.old.database.path) self.new.database.cause result }
     {
         self.read(VehicleRows { vid, from, to })
     }
@@ -121,7 +127,8 @@ impl<S: Opens<P>, P: Pages + Drop> Keeper for KeeperIn<S, P> {
             (AreFound P.Pages) (Looks P.Pages)
             (λ k. k.unmade ≢ Some NoMemory) (λ k. state S.Store k.conn)
             (λ k l. WasRefusedIn S.Store k.conn l.conn)
-            (λ o tariffs. tariffs ≡ o.tariffs) result }
+            (λ o tariffs. tariffs ≡ o.tariffs)
+            S.Opens.refuses (string_bytes self.old.database.path) self.new.database.cause result }
     {
         self.read(KeptTariffs)
     }
@@ -136,7 +143,8 @@ impl<S: Opens<P>, P: Pages + Drop> Keeper for KeeperIn<S, P> {
             (Stores S.Store (RoomForDay kept.now rows.now) (IsLater kept.now.day) (with_day kept.now rows.now))
             (λ k. state S.Store k.conn)
             (λ k l. WasRefusedOf S.Store (WritesDay kept.now rows.now) k.conn l.conn)
-            (IsLater kept.now.day) (with_day kept.now rows.now) result }
+            (IsLater kept.now.day) (with_day kept.now rows.now)
+            S.Opens.refuses (string_bytes self.old.database.path) self.new.database.cause result }
     {
         self.put(PutDay { kept, rows })
     }
@@ -151,7 +159,8 @@ impl<S: Opens<P>, P: Pages + Drop> Keeper for KeeperIn<S, P> {
             (Stores S.Store (RoomForPast rows.now) HasNoDays (with_past kept.now rows.now))
             (λ k. state S.Store k.conn)
             (λ k l. WasRefusedOf S.Store (WritesPast kept.now rows.now) k.conn l.conn)
-            HasNoDays (with_past kept.now rows.now) result }
+            HasNoDays (with_past kept.now rows.now)
+            S.Opens.refuses (string_bytes self.old.database.path) self.new.database.cause result }
     {
         self.put(PutPast { kept, rows })
     }
@@ -165,7 +174,8 @@ impl<S: Opens<P>, P: Pages + Drop> Keeper for KeeperIn<S, P> {
             (Stores S.Store RoomForTariff FitsAny (with_tariff_of xway tariff.now))
             (λ k. state S.Store k.conn)
             (λ k l. WasRefusedOf S.Store (WritesTariff xway tariff.now) k.conn l.conn)
-            FitsAny (with_tariff_of xway tariff.now) result }
+            FitsAny (with_tariff_of xway tariff.now)
+            S.Opens.refuses (string_bytes self.old.database.path) self.new.database.cause result }
     {
         self.put(PutTariff { xway, tariff })
     }

@@ -1,5 +1,5 @@
 // A keeper in a database that is opened by a path: it counts the calls that failed.
-ghost use Rattle.std.specs.Prelude.{◌≡◌, ◌≢◌, Some, None, IfOk};
+ghost use Rattle.std.specs.Prelude.{◌≡◌, ◌≢◌, Some, None, IfOk, string_bytes};
 ghost use Rattle.sqlite.specs.Held.{state};
 ghost use Rattle.keep_office.specs.Calls.{CountsFaults};
 ghost use Rattle.keep_office.specs.declared.kept.KeepFault.TheVariants.{NoMemory as no_memory};
@@ -36,6 +36,7 @@ impl<S: Opens<P>, P: Pages + Drop> KeeperIn<S, P> {
     pub fn at(alloc: Global, rt: HostRuntime, path: &str) -> Result<KeeperIn<S, P>, NoMemory>
         ensures faultless { IfOk result (λ keeper. keeper.faults ≡ 0) }
         ensures quiet { IfOk result (λ keeper. keeper.database.cause ≡ None) }
+        ensures named { IfOk result (λ keeper. string_bytes keeper.database.path ≡ path.now) }
     {
         let path = String::from_str(alloc, path)?;
         Ok(KeeperIn {
@@ -66,7 +67,8 @@ impl<S: Opens<P>, P: Pages + Drop> KeeperIn<S, P> {
         ensures does { AskedToRead self.old.database.kept self.new.database.kept
             (AreFound P.Pages) (Looks P.Pages)
             (λ k. k.unmade ≢ Some no_memory) (λ k. state S.Store k.conn)
-            (λ k l. WasRefusedIn S.Store k.conn l.conn) (C.gives call) result }
+            (λ k l. WasRefusedIn S.Store k.conn l.conn) (C.gives call)
+            S.Opens.refuses (string_bytes self.old.database.path) self.new.database.cause result }
         ensures cause { CountsFaults self.old.faults self.new.faults result }
         ensures said { IsSaid result self.old.database.cause self.new.database.cause }
     {
@@ -82,7 +84,8 @@ impl<S: Opens<P>, P: Pages + Drop> KeeperIn<S, P> {
             (Stores S.Store (C.room call) (C.asks call) (C.next call))
             (λ k. state S.Store k.conn)
             (λ k l. WasRefusedOf S.Store (C.writes call) k.conn l.conn)
-            (C.asks call) (C.next call) result }
+            (C.asks call) (C.next call)
+            S.Opens.refuses (string_bytes self.old.database.path) self.new.database.cause result }
         ensures cause { CountsFaults self.old.faults self.new.faults result }
         ensures said { IsSaid result self.old.database.cause self.new.database.cause }
     {

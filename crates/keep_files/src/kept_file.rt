@@ -1,5 +1,5 @@
 // A keeper in a SQLite file.
-ghost use Rattle.std.specs.Prelude.{◌≡◌, ◌≢◌, Some, None, IfOk};
+ghost use Rattle.std.specs.Prelude.{◌≡◌, ◌≢◌, Some, None, IfOk, string_bytes};
 ghost use Rattle.sqlite.specs.Held.{state};
 ghost use Rattle.keep_office.specs.Calls.{CountsFaults};
 ghost use Rattle.keep_office.specs.declared.kept.KeepFault.TheVariants.{NoMemory as no_memory};
@@ -16,6 +16,7 @@ use crate::call::{Putting, Reading};
 use crate::cause::{Cause, cause_of, fault_of};
 use crate::file_keeper::FileKeeper;
 use crate::kept::Kept;
+use crate::opens::Opens;
 use crate::page_files::shut as shut_pages;
 use keep_office::KeepFault;
 use road_time::NoMemory;
@@ -41,6 +42,7 @@ impl SqliteKeeper {
     pub fn at(alloc: Global, rt: HostRuntime, path: &str) -> Result<SqliteKeeper, NoMemory>
         ensures faultless { IfOk result (λ keeper. keeper.in_file.in_file.faults ≡ 0) }
         ensures quiet { IfOk result (λ keeper. keeper.in_file.in_file.database.cause ≡ None) }
+        ensures named { IfOk result (λ keeper. string_bytes keeper.in_file.in_file.database.path ≡ path.now) }
     {
         let in_file = FileKeeper::at(alloc, rt, path)?;
         Ok(SqliteKeeper { in_file })
@@ -78,7 +80,9 @@ impl SqliteKeeper {
         ensures does { AskedToRead self.old.in_file.in_file.database.kept self.new.in_file.in_file.database.kept
             (AreFound ⟦<KeptPages as Pages>⟧) (Looks ⟦<KeptPages as Pages>⟧)
             (λ k. k.unmade ≢ Some no_memory) (λ k. state ⟦<KeptStore as Store>⟧ k.conn)
-            (λ k l. WasRefusedIn ⟦<KeptStore as Store>⟧ k.conn l.conn) (C.gives call) result }
+            (λ k l. WasRefusedIn ⟦<KeptStore as Store>⟧ k.conn l.conn) (C.gives call)
+            ⟦<KeptStore as Opens<KeptPages>>⟧.refuses (string_bytes self.old.in_file.in_file.database.path)
+            self.new.in_file.in_file.database.cause result }
         ensures cause { CountsFaults self.old.in_file.in_file.faults self.new.in_file.in_file.faults result }
         ensures said { IsSaid result self.old.in_file.in_file.database.cause self.new.in_file.in_file.database.cause }
     {
@@ -93,7 +97,9 @@ impl SqliteKeeper {
             (Stores ⟦<KeptStore as Store>⟧ (C.room call) (C.asks call) (C.next call))
             (λ k. state ⟦<KeptStore as Store>⟧ k.conn)
             (λ k l. WasRefusedOf ⟦<KeptStore as Store>⟧ (C.writes call) k.conn l.conn)
-            (C.asks call) (C.next call) result }
+            (C.asks call) (C.next call)
+            ⟦<KeptStore as Opens<KeptPages>>⟧.refuses (string_bytes self.old.in_file.in_file.database.path)
+            self.new.in_file.in_file.database.cause result }
         ensures cause { CountsFaults self.old.in_file.in_file.faults self.new.in_file.in_file.faults result }
         ensures said { IsSaid result self.old.in_file.in_file.database.cause self.new.in_file.in_file.database.cause }
     {

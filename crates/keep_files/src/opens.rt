@@ -1,11 +1,12 @@
 // The ways in which the file at a path is opened.
-ghost use Rattle.std.specs.Prelude.{IfOk, IfSome};
+ghost use Rattle.std.specs.Prelude.{◌≡◌, None, IfOk, IfErr, IfSome};
 ghost use Rattle.keep_files.specs.Looks.{AreFound, FindsTrees};
+ghost use Rattle.keep_files.specs.Openings.{FromPath, FromPages, FromStore, IfWhole};
 
 use crate::at_path::AtPath;
 use crate::cause::Cause;
 use crate::kept::Kept;
-use crate::page_files::{connected, listed_again, open_to_read, seeded, stored};
+use crate::page_files::{listed_again, open_to_read, opened_whole, stored};
 use crate::shuts::Shuts;
 use keep_trees::PageTrees;
 use sqlite::{Connection, FileStore};
@@ -16,22 +17,43 @@ use std::rt::HostRuntime;
 /// A store of the trees of a file at a path, and the ways to it: by the pages of the file, by a connection to the
 /// whole, and by itself. From one way to another nobody else opens the file.
 pub trait Opens<P: Pages + Drop>: Shuts {
+    ghost use Rattle.keep_files.specs.Openings.{Opening};
+    ghost use Rattle.keep_files.specs.declared.cause.Cause.{Cause};
+
+    /// What is known where something is not opened, for a cause.
+    ghost refuses: { Opening P Self → Cause → Type 0 };
+
+    /// What is known where something is opened and found not to be exactly ours.
+    ghost foreign: { Opening P Self → Type 0 };
+
     /// The trees of the file at a path where it is exactly ours, or else the file whole.
     fn to_read(rt: &HostRuntime, path: &str) -> Result<Kept<PageTrees<P>, Connection<Self>>, Cause>
-        ensures { IfOk result (FindsTrees P.Pages) };
+        ensures found { IfOk result (FindsTrees P.Pages) }
+        ensures refused { IfErr result (refuses (FromPath path.now)) };
 
     /// The store of the file of some pages, which is checked page by page and tree by tree; or else the file whole.
-    fn to_put(rt: &HostRuntime, pages: P) -> Result<Kept<Self, Connection<Self>>, Cause>;
+    fn to_put(rt: &HostRuntime, pages: P) -> Result<Kept<Self, Connection<Self>>, Cause>
+        ensures whole { IfOk result (IfWhole (foreign (FromPages pages))) }
+        ensures refused { IfErr result (refuses (FromPages pages)) };
 
     /// The file of a store, whole.
-    fn to_whole(rt: &HostRuntime, store: Self) -> Result<Connection<Self>, Cause>;
+    fn to_whole(rt: &HostRuntime, store: Self) -> Result<Connection<Self>, Cause>
+        ensures { IfErr result (refuses (FromStore store)) };
 
     /// The trees of the file of a store, if it is exactly ours. Else the file is let go.
     fn to_read_again(rt: &HostRuntime, store: Self) -> Option<PageTrees<P>>
-        ensures { IfSome result (AreFound P.Pages) };
+        ensures found { IfSome result (AreFound P.Pages) }
+        ensures lost { result ≡ None → foreign (FromStore store) };
 }
 
+// That files are not found to be exactly ours may always be for want of memory, of which nothing is known.
 impl<D: AtPath> Opens<Pool<D>> for FileStore<D> {
+    ghost use Rattle.keep_files.specs.Openings.{FileRefuses};
+
+    ghost refuses = { FileRefuses D.Disk D.AtPath.refuses D.AtPath.undrawn };
+
+    ghost foreign = { λ _. Unit {0} };
+
     fn to_read(
         rt: &HostRuntime,
         path: &str,
@@ -47,8 +69,7 @@ impl<D: AtPath> Opens<Pool<D>> for FileStore<D> {
     }
 
     fn to_whole(rt: &HostRuntime, store: FileStore<D>) -> Result<Connection<FileStore<D>>, Cause> {
-        let seed = seeded(rt)?;
-        connected(rt, store.close(), seed)
+        opened_whole(rt, store.close())
     }
 
     fn to_read_again(rt: &HostRuntime, store: FileStore<D>) -> Option<PageTrees<Pool<D>>> {

@@ -1,8 +1,9 @@
 // The two files of a database: by their trees where they are exactly ours, or whole.
-ghost use Rattle.std.specs.Prelude.{IsTrue, IfOk, IfSome};
+ghost use Rattle.std.specs.Prelude.{IsTrue, IfOk, IfErr, IfSome};
 ghost use Rattle.sqlite_pool.specs.Opening.{AreUsable};
 ghost use Rattle.sqlite_store.specs.Unopened.{AreUsable as MayOpen};
 ghost use Rattle.keep_files.specs.Looks.{AreFound, FindsTrees};
+ghost use Rattle.keep_files.specs.Openings.{AreRefused, RefusesFiles, RefusesPath};
 
 use crate::at_path::AtPath;
 use crate::cause::{Cause, cause_at_close, cause_of};
@@ -17,7 +18,6 @@ use sqlite_pool::Pool;
 use sqlite_store::Unopened;
 use sqlite_wal::{PageSize, probe_first_page, probe_page_size};
 use std::alloc::Global;
-use std::hash::{BuildHasher, RandomState};
 use std::rt::HostRuntime;
 
 /// The page size of a file that the programs made.
@@ -112,7 +112,9 @@ pub fn connected<D: Disk + Drop>(
     rt: &HostRuntime,
     files: Files<D>,
     seed: u64,
-) -> Result<Connection<FileStore<D>>, Cause> {
+) -> Result<Connection<FileStore<D>>, Cause>
+    ensures { IfErr result (AreRefused D.Disk) }
+{
     if !files.may_be_used() {
         return Err(Cause::DiskFailed);
     }
@@ -121,7 +123,20 @@ pub fn connected<D: Disk + Drop>(
             conn.set_clock(rt);
             Ok(conn)
         }
-        Err((error, _)) => Err(cause_of(error)),
+        Err((error, _left)) => Err(cause_of(error)),
+    }
+}
+
+/// A connection over files, with a number that is drawn.
+pub fn opened_whole<D: AtPath>(
+    rt: &HostRuntime,
+    files: Files<D>,
+) -> Result<Connection<FileStore<D>>, Cause>
+    ensures { IfErr result (RefusesFiles D.Disk D.AtPath.undrawn) }
+{
+    match D::draw(rt) {
+        Ok(seed) => connected(rt, files, seed),
+        Err(cause) => Err(cause),
     }
 }
 
@@ -137,22 +152,17 @@ pub fn shut<D: Disk + Drop>(mut pool: Pool<D>) -> Result<(), Cause> {
     }
 }
 
-/// A random number.
-pub fn seeded(rt: &HostRuntime) -> Result<u64, Cause> {
-    match RandomState::new(rt) {
-        Ok(random) => Ok(random.hash_one(&0u8)),
-        Err(_) => Err(Cause::Unopened),
-    }
-}
-
 /// The file at a path, whole.
 pub fn open_whole<D: AtPath>(
     rt: &HostRuntime,
     path: &str,
-) -> Result<Connection<FileStore<D>>, Cause> {
-    let seed = seeded(rt)?;
-    let files = D::open(rt, path)?;
-    connected(rt, files, seed)
+) -> Result<Connection<FileStore<D>>, Cause>
+    ensures { IfErr result (RefusesPath D.Disk D.AtPath.refuses D.AtPath.undrawn path.now) }
+{
+    match D::open(rt, path) {
+        Ok(files) => opened_whole(rt, files),
+        Err(cause) => Err(cause),
+    }
 }
 
 /// The files of a store that is not open yet, of which nothing is read.
@@ -199,11 +209,16 @@ fn checked<D: Disk + Drop>(
 }
 
 /// The store of files, or a connection over them where it cannot be had.
-pub fn stored<D: Disk + Drop>(
+pub fn stored<D: AtPath>(
     rt: &HostRuntime,
     files: Files<D>,
-) -> Result<Kept<FileStore<D>, Connection<FileStore<D>>>, Cause> {
-    let seed = seeded(rt)?;
+) -> Result<Kept<FileStore<D>, Connection<FileStore<D>>>, Cause>
+    ensures { IfErr result (RefusesFiles D.Disk D.AtPath.undrawn) }
+{
+    let seed = match D::draw(rt) {
+        Ok(seed) => seed,
+        Err(cause) => return Err(cause),
+    };
     let files = match checked(rt.alloc(), files, seed) {
         Ok(store) => return Ok(Kept::Trees(store)),
         Err(files) => files,
@@ -215,13 +230,13 @@ pub fn stored<D: Disk + Drop>(
 }
 
 /// The trees of files that a store gave back, if they are exactly ours. Else the files are let go.
-pub fn listed_again<D: Disk + Drop>(rt: &HostRuntime, files: Files<D>) -> Option<PageTrees<Pool<D>>>
+pub fn listed_again<D: AtPath>(rt: &HostRuntime, files: Files<D>) -> Option<PageTrees<Pool<D>>>
     ensures { IfSome result (AreFound ⟦<Pool<D> as Pages>⟧) }
 {
     if !files.may_be_used() {
         return None;
     }
-    let Ok(seed) = seeded(rt) else {
+    let Ok(seed) = D::draw(rt) else {
         return None;
     };
     match trees_of(rt.alloc(), files, seed) {
@@ -235,10 +250,12 @@ pub fn open_to_read<D: AtPath>(
     rt: &HostRuntime,
     path: &str,
 ) -> Result<Kept<PageTrees<Pool<D>>, Connection<FileStore<D>>>, Cause>
-    ensures { IfOk result (FindsTrees ⟦<Pool<D> as Pages>⟧) }
+    ensures found { IfOk result (FindsTrees ⟦<Pool<D> as Pages>⟧) }
+    ensures refused { IfErr result (RefusesPath D.Disk D.AtPath.refuses D.AtPath.undrawn path.now) }
 {
-    let Ok(seed) = seeded(rt) else {
-        return Err(Cause::Unopened);
+    let seed = match D::draw(rt) {
+        Ok(seed) => seed,
+        Err(cause) => return Err(cause),
     };
     let files = match D::open(rt, path) {
         Ok(files) => files,

@@ -1,5 +1,5 @@
 // A history that all begins anew with, put into the file.
-ghost use Rattle.std.specs.Prelude.{◌≡◌, None};
+ghost use Rattle.std.specs.Prelude.{◌≡◌, None, string_bytes};
 ghost use Rattle.keep_office.specs.Kept.{IsPastPut};
 ghost use Rattle.keep_office.specs.Renewed.{anew};
 ghost use Rattle.keep_tables.specs.Steps.{FitsAny};
@@ -23,7 +23,9 @@ impl<S: Opens<P>, P: Pages + Drop> Database<S, P> {
     pub(crate) fn put_anew(&mut self, kept: &PastRecord, rows: &[SpentRow]) -> Result<(), KeepFault>
         requires { IsPastPut kept.now rows.now }
         ensures does { AskedAnew self.new.kept (AreFound P.Pages)
-            (Stores S.Store (RoomAnew rows.now) FitsAny (anew kept.now rows.now)) result }
+            (Stores S.Store (RoomAnew rows.now) FitsAny (anew kept.now rows.now))
+            S.Opens.refuses S.Opens.foreign
+            (string_bytes self.old.path) self.new.cause result }
         ensures said { IsSaid result self.old.cause self.new.cause }
     {
         let ready = match self.ready() {
@@ -50,7 +52,9 @@ impl<S: Opens<P>, P: Pages + Drop> Database<S, P> {
         requires fits { IsPastPut kept.now rows.now }
         requires none { self.old.kept ≡ None }
         ensures does { AskedAnew self.new.kept (AreFound P.Pages)
-            (Stores S.Store (RoomAnew rows.now) FitsAny (anew kept.now rows.now)) result }
+            (Stores S.Store (RoomAnew rows.now) FitsAny (anew kept.now rows.now))
+            S.Opens.refuses S.Opens.foreign
+            (string_bytes self.old.path) self.new.cause result }
         ensures said { IsSaid result self.old.cause self.new.cause }
     {
         let rt = self.rt;

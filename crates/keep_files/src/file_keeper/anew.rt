@@ -1,4 +1,5 @@
 // A history that all begins anew with, by a keeper in a file.
+ghost use Rattle.std.specs.Prelude.{string_bytes};
 ghost use Rattle.keep_office.specs.Kept.{IsPastPut};
 ghost use Rattle.keep_office.specs.Calls.{CountsFaults};
 ghost use Rattle.keep_office.specs.Renewed.{anew};
@@ -11,6 +12,7 @@ ghost use Rattle.keep_files.specs.Looks.{AreFound};
 
 use super::FileKeeper;
 use crate::at_path::AtPath;
+use crate::opens::Opens;
 use keep_office::{KeepFault, PastRecord};
 use road_time::SpentRow;
 use sqlite::FileStore;
@@ -23,7 +25,9 @@ impl<D: AtPath> FileKeeper<D> {
     pub fn put_anew(&mut self, kept: &PastRecord, rows: &[SpentRow]) -> Result<(), KeepFault>
         requires { IsPastPut kept.now rows.now }
         ensures does { AskedAnew self.new.in_file.database.kept (AreFound ⟦<Pool<D> as Pages>⟧)
-            (Stores ⟦<FileStore<D> as Store>⟧ (RoomAnew rows.now) FitsAny (anew kept.now rows.now)) result }
+            (Stores ⟦<FileStore<D> as Store>⟧ (RoomAnew rows.now) FitsAny (anew kept.now rows.now))
+            ⟦<FileStore<D> as Opens<Pool<D>>>⟧.refuses ⟦<FileStore<D> as Opens<Pool<D>>>⟧.foreign
+            (string_bytes self.old.in_file.database.path) self.new.in_file.database.cause result }
         ensures cause { CountsFaults self.old.in_file.faults self.new.in_file.faults result }
         ensures said { IsSaid result self.old.in_file.database.cause self.new.in_file.database.cause }
     {

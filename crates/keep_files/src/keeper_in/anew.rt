@@ -1,4 +1,5 @@
 // A history that all begins anew with, by a keeper that counts the calls that failed.
+ghost use Rattle.std.specs.Prelude.{string_bytes};
 ghost use Rattle.keep_office.specs.Kept.{IsPastPut};
 ghost use Rattle.keep_office.specs.Calls.{CountsFaults};
 ghost use Rattle.keep_office.specs.Renewed.{anew};
@@ -21,7 +22,9 @@ impl<S: Opens<P>, P: Pages + Drop> KeeperIn<S, P> {
     pub fn put_anew(&mut self, kept: &PastRecord, rows: &[SpentRow]) -> Result<(), KeepFault>
         requires { IsPastPut kept.now rows.now }
         ensures does { AskedAnew self.new.database.kept (AreFound P.Pages)
-            (Stores S.Store (RoomAnew rows.now) FitsAny (anew kept.now rows.now)) result }
+            (Stores S.Store (RoomAnew rows.now) FitsAny (anew kept.now rows.now))
+            S.Opens.refuses S.Opens.foreign
+            (string_bytes self.old.database.path) self.new.database.cause result }
         ensures cause { CountsFaults self.old.faults self.new.faults result }
         ensures said { IsSaid result self.old.database.cause self.new.database.cause }
     {

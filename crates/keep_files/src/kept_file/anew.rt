@@ -1,4 +1,5 @@
 // A history that all begins anew with, put into the file.
+ghost use Rattle.std.specs.Prelude.{string_bytes};
 ghost use Rattle.keep_office.specs.Kept.{IsPastPut};
 ghost use Rattle.keep_office.specs.Calls.{CountsFaults};
 ghost use Rattle.keep_office.specs.Renewed.{anew};
@@ -11,6 +12,7 @@ ghost use Rattle.keep_files.specs.Looks.{AreFound};
 
 use super::SqliteKeeper;
 use crate::at_path::{KeptPages, KeptStore};
+use crate::opens::Opens;
 use keep_office::{KeepFault, PastRecord, Renews};
 use road_time::SpentRow;
 use sqlite_pages::Pages;
@@ -22,7 +24,9 @@ impl Renews for SqliteKeeper {
         ensures cause { CountsFaults self.old.in_file.in_file.faults self.new.in_file.in_file.faults result }
         ensures said { IsSaid result self.old.in_file.in_file.database.cause self.new.in_file.in_file.database.cause }
         ensures does { AskedAnew self.new.in_file.in_file.database.kept (AreFound ⟦<KeptPages as Pages>⟧)
-            (Stores ⟦<KeptStore as Store>⟧ (RoomAnew rows.now) FitsAny (anew kept.now rows.now)) result }
+            (Stores ⟦<KeptStore as Store>⟧ (RoomAnew rows.now) FitsAny (anew kept.now rows.now))
+            ⟦<KeptStore as Opens<KeptPages>>⟧.refuses ⟦<KeptStore as Opens<KeptPages>>⟧.foreign
+            (string_bytes self.old.in_file.in_file.database.path) self.new.in_file.in_file.database.cause result }
     {
         self.in_file.put_anew(kept, rows)
     }

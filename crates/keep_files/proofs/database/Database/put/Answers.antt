@@ -16,7 +16,7 @@ returns-in-Whole-clause-does g c =
 -- of the store of trees
 pub returns-in-Trees-clause-does : goal.returns-in-Trees-clause-does
 returns-in-Trees-clause-does g c =
-    made_ready _ _ _ _ _ _ _ _ _ c.args.self.now.kept
+    made_ready _ _ _ _ _ _ _ _ _ _ _ _ c.args.self.now.kept
     (ready_trees _ _ c.args.self.now.kept _
     (subst (IsReadyToRead _ _ c.args.self.now.kept) c.in-Trees.is c.in-Ok.ensures.ready))
     c.put_by_trees.ensures.does

@@ -18,4 +18,4 @@ returns g c =
     (state g.S.Store c.args.kept.now.conn) (state g.S.Store c.put_day.new.self.conn)
     c.put_day.result c.put_day.ensures.put
     (λ clean o stands. failure_of g.S.Store writes c.args.kept.now.conn c.put_day.new.self.conn c.put_day.result
-    (c.put_day.ensures.why clean o stands)) c.put_day.ensures.crash
+    (c.put_day.ensures.why clean o stands)) c.put_day.ensures.crash c.put_day.ensures.open

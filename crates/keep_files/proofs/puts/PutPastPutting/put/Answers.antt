@@ -18,4 +18,4 @@ returns g c =
     (state g.S.Store c.args.kept.now.conn) (state g.S.Store c.put_past.new.self.conn)
     c.put_past.result c.put_past.ensures.put
     (λ clean o stands. failure_of g.S.Store writes c.args.kept.now.conn c.put_past.new.self.conn c.put_past.result
-    (c.put_past.ensures.why clean o stands)) c.put_past.ensures.crash
+    (c.put_past.ensures.why clean o stands)) c.put_past.ensures.crash c.put_past.ensures.open

@@ -15,4 +15,4 @@ returns g c =
     (state g.S.Store c.args.kept.now.conn) (state g.S.Store c.put_tariff.new.self.conn)
     c.put_tariff.result (λ clean here o stands fit. c.put_tariff.ensures.put clean here o stands)
     (λ clean o stands. failure_of g.S.Store writes c.args.kept.now.conn c.put_tariff.new.self.conn c.put_tariff.result
-    (c.put_tariff.ensures.why clean o stands)) c.put_tariff.ensures.crash
+    (c.put_tariff.ensures.why clean o stands)) c.put_tariff.ensures.crash c.put_tariff.ensures.open

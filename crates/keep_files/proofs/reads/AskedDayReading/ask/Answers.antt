@@ -13,4 +13,4 @@ returns-clause-does g c =
     (λ o. record_of o c.args.self.day)
     (state g.S.Store c.args.kept.now.conn) (state g.S.Store c.day.new.self.conn)
     c.day.result
-    c.day.ensures.kept c.day.ensures.gives c.day.ensures.why c.day.ensures.crash
+    c.day.ensures.kept c.day.ensures.gives c.day.ensures.why c.day.ensures.crash c.day.ensures.open

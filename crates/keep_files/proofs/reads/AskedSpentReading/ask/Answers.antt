@@ -13,4 +13,4 @@ returns-clause-does g c =
     (λ (o : Office). paid o.rows c.args.self.day c.args.self.vid c.args.self.xway)
     (state g.S.Store c.args.kept.now.conn) (state g.S.Store c.spent.new.self.conn)
     c.spent.result
-    c.spent.ensures.kept c.spent.ensures.gives c.spent.ensures.why c.spent.ensures.crash
+    c.spent.ensures.kept c.spent.ensures.gives c.spent.ensures.why c.spent.ensures.crash c.spent.ensures.open

@@ -12,4 +12,4 @@ returns-clause-does g c =
     (λ (o : Office). o.tariffs)
     (state g.S.Store c.args.kept.now.conn) (state g.S.Store c.tariffs.new.self.conn)
     c.tariffs.result
-    c.tariffs.ensures.kept c.tariffs.ensures.gives c.tariffs.ensures.why c.tariffs.ensures.crash
+    c.tariffs.ensures.kept c.tariffs.ensures.gives c.tariffs.ensures.why c.tariffs.ensures.crash c.tariffs.ensures.open

@@ -13,3 +13,4 @@ returns-clause-does g c =
     (state g.S.Store c.args.kept.now.conn) (state g.S.Store c.last_day.new.self.conn)
     c.last_day.result
     c.last_day.ensures.kept c.last_day.ensures.gives c.last_day.ensures.why c.last_day.ensures.crash
+    c.last_day.ensures.open

@@ -13,4 +13,4 @@ returns-clause-does g c =
     (λ (o : Office). o.past)
     (state g.S.Store c.args.kept.now.conn) (state g.S.Store c.past.new.self.conn)
     c.past.result
-    c.past.ensures.kept c.past.ensures.gives c.past.ensures.why c.past.ensures.crash
+    c.past.ensures.kept c.past.ensures.gives c.past.ensures.why c.past.ensures.crash c.past.ensures.open

@@ -13,4 +13,4 @@ returns-clause-does g c =
     (λ o. rows_between o c.args.self.from c.args.self.to)
     (state g.S.Store c.args.kept.now.conn) (state g.S.Store c.rows.new.self.conn)
     c.rows.result
-    c.rows.ensures.kept c.rows.ensures.gives c.rows.ensures.why c.rows.ensures.crash
+    c.rows.ensures.kept c.rows.ensures.gives c.rows.ensures.why c.rows.ensures.crash c.rows.ensures.open

@@ -14,3 +14,4 @@ returns-clause-does g c =
     (state g.S.Store c.args.kept.now.conn) (state g.S.Store c.vehicle_rows.new.self.conn)
     c.vehicle_rows.result
     c.vehicle_rows.ensures.kept c.vehicle_rows.ensures.gives c.vehicle_rows.ensures.why c.vehicle_rows.ensures.crash
+    c.vehicle_rows.ensures.open
