@@ -1,6 +1,6 @@
 -- What is ready for a call, and what was made of it.
 use Rattle.std.proofs.Common.{◌≡◌, ◌⊎◌, inl, inr, ℕ, Bool, true, false, List, Option, Some, None, Result, Ok, Err}
-use Rattle.std.proofs.Common.{sym, subst}
+use Rattle.std.proofs.Common.{IfOk, sym, subst}
 use Rattle.sqlite_trees.specs.declared.error.StoreError.{StoreError}
 use Rattle.sqlite.specs.State.{State}
 use Rattle.keep_office.specs.declared.kept.KeepFault.{KeepFault}
@@ -10,7 +10,7 @@ use Rattle.keep_files.specs.declared.kept.Kept.{Kept}
 use Rattle.keep_files.specs.declared.kept.Kept.TheVariants.{Trees, Whole}
 use Rattle.keep_files.specs.Asked.{IsReady, IsReadyToRead, IsNotWhole, IsMade, IsStored, IsPut, AskedToPut}
 use Rattle.keep_files.specs.Asked.{IsToldAs, HoldsFound}
-use Rattle.keep_files.specs.Openings.{Opening, WasUnopened, IsUnread, IsUnput, IsToldBy}
+use Rattle.keep_files.specs.Openings.{Opening, WasUnopened, IsUnread, IsUnput, IsToldBy, IfWhole}
 
 module _ {T K : Type 0} (found : T → Type 0) (opened : K → Type 0) where
   -- a keeper that is ready is the one that is held, or was opened
@@ -93,3 +93,9 @@ module _ {T K X P : Type 0} (found : T → Type 0) (see : X → X → Result Boo
   pub not_put : (opened : K → Type 0) (why : Cause) → held ≡ None → IsUnput refuses path why → IsToldBy said result why
       → IsPut opened held found see view cause asks next refuses path said result
   not_put opened why none known told = inr (inr (none, record { cause = why; known = known; told = told }))
+
+-- what is so anyway is so of what was opened whole
+pub whole_so : {T W E : Type 0} (so : Type 0) → so → (result : Result (Kept T W) E) → IfOk result (IfWhole so)
+whole_so so h (Ok (Trees trees)) = tt
+whole_so so h (Ok (Whole whole)) = h
+whole_so so h (Err e) = tt
