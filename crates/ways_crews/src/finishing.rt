@@ -10,10 +10,11 @@ ghost use Rattle.ways_crews.specs.Views.{input_of};
 ghost use Rattle.ways_crews.specs.declared.place.TicketPlace.TheVariants.{Cell};
 
 use crate::board::CellBoard;
-use crate::cell_places::{Ticket, take_out};
+use crate::cell_places::take_out;
 use crate::cells::CellSeat;
 use crate::gate::Gate;
 use crate::place::TicketPlace;
+use crate::places::Ticket;
 use crate::waiting::await_done;
 use road_time::NoMemory;
 use std::alloc::Global;
