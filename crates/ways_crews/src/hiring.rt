@@ -11,7 +11,7 @@ use crate::crew::Crew;
 use crate::gate::Gate;
 use crate::helper::{Helper, Helpers};
 use crate::plays::Hires;
-use crate::standing::StandingCrew;
+use crate::standing_crew::StandingCrew;
 use road_time::NoMemory;
 use std::alloc::Global;
 use std::sync::Wait;

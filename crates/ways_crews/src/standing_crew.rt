@@ -1,4 +1,4 @@
-// A crew whose helpers take its jobs out of cells, and how each of its calls goes.
+// A standing crew: its helpers take jobs from cells.
 ghost use Rattle.std.specs.Prelude.{◌≡◌, ◌≢◌, ◌≤◌, ℕ, [], length, true, None, IfSome, IfNone};
 ghost use Rattle.ways_expressway.specs.declared.job.Job.{Job as TheJob};
 ghost use Rattle.ways_crews.specs.Told.{TellsNone};
