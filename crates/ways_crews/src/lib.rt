@@ -12,7 +12,6 @@
 mod alongside;
 mod board;
 mod boards;
-mod cell_places;
 mod cells;
 pub mod crew;
 pub mod drain;
