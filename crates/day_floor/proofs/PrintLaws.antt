@@ -8,7 +8,7 @@ use Rattle.std.proofs.lemmas.Grind.{flat_map-append}
 use Rattle.std.specs.Io.KnownBytes.{Appends}
 use Rattle.road_time.specs.declared.road.Notice.{Notice}
 use Rattle.road_time.specs.Text.{notice_text, out}
-use Rattle.road_digest.specs.Digests.{Took}
+use Rattle.day_floor.specs.TextDigests.{TookText}
 use Rattle.day_floor.specs.declared.fault.SettleFault.{SettleFault}
 use Rattle.day_floor.specs.declared.fault.SettleFault.TheVariants.{KeeperFault, WriteFault, NoMemory}
 use Rattle.day_floor.specs.declared.printer.Printer.{Printer}
@@ -29,10 +29,11 @@ failed_piece p earlier run old mid new s h = fills_after old mid new s.handed p.
 -- a piece that was handed on whole
 pub whole_piece : (p q : Printer) (earlier run : List ℕ) (old mid new : Level) → Prints p earlier run old mid →
     Adds mid new p.piece.items → q.piece.items ≡ [] →
-    ((text : List ℕ) → Took p.digester text → Took q.digester (text ++ p.piece.items)) → IsPrinted q earlier run old new
+    ((text : List ℕ) → TookText p.digest text → TookText q.digest (text ++ p.piece.items)) →
+    IsPrinted q earlier run old new
 whole_piece p q earlier run old mid new s h none took = record {
   none_held = none;
-  took = subst (Took q.digester) (append_assoc earlier s.handed p.piece.items ∙ ap (λ t. earlier ++ t) (sym s.run_is))
+  took = subst (TookText q.digest) (append_assoc earlier s.handed p.piece.items ∙ ap (λ t. earlier ++ t) (sym s.run_is))
       (took (earlier ++ s.handed) s.took);
   wrote = adds_on old mid new s.handed p.piece.items run s.wrote h s.run_is;
 }
@@ -117,7 +118,7 @@ pub says_none : (p : Printer) (w : Level) → Says {T = Unit {0}} (Ok tt) p p w 
 says_none p w = (omega arith, λ earlier run old h. subst (λ t. HoldsPiece p earlier t old w) (sym (append-nil run)) h)
 
 module _ (p q : Printer) (n : Notice) (held : q.piece.items ≡ p.piece.items ++ (notice_text n ++ 10 ∷ []))
-    (same : q.digester ≡ p.digester) where
+    (same : q.digest ≡ p.digest) where
   -- a printer holds one notice more
   abbrev pub prints_one : (earlier run : List ℕ) (old w : Level) → Prints p earlier run old w →
       Prints q earlier (run ++ out (n ∷ [])) old w
@@ -125,7 +126,7 @@ module _ (p q : Printer) (n : Notice) (held : q.piece.items ≡ p.piece.items ++
     handed = h.handed;
     run_is = ap (λ t. t ++ out (n ∷ [])) h.run_is ∙ append_assoc h.handed p.piece.items (out (n ∷ []))
         ∙ ap (λ t. h.handed ++ t) (ap (λ t. p.piece.items ++ t) (append-nil (notice_text n ++ 10 ∷ [])) ∙ sym held);
-    took = subst (λ d. Took d (earlier ++ h.handed)) (sym same) h.took;
+    took = subst (λ d. TookText d (earlier ++ h.handed)) (sym same) h.took;
     wrote = h.wrote;
   }
 

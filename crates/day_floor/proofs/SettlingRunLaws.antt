@@ -18,7 +18,7 @@ use Rattle.day_floor.specs.declared.publisher.Charged.{Charged}
 use Rattle.day_floor.specs.Operations.{charge_of}
 use Rattle.day_floor.specs.Sums.{total_in}
 use Rattle.day_floor.specs.Books.{Accounts}
-use Rattle.road_digest.specs.Digests.{Took}
+use Rattle.day_floor.specs.TextDigests.{TookText}
 use Rattle.day_floor.specs.declared.due_slot.Slot.{Slot}
 use Rattle.day_floor.specs.declared.settler.Settler.{Settler}
 use Rattle.day_floor.specs.Slots.{slot_of, slots_of}
@@ -62,7 +62,7 @@ module _ (finding : Sight → StretchTold) (number : ℕ) (history : PaidHistory
             handed = [];
             run_is = sym h.none_held;
             took =
-                subst (Took s.printer.digester) (sym (append-nil (out h.told))) h.took;
+                subst (TookText s.printer.digest) (sym (append-nil (out h.told))) h.took;
             wrote = adds_none w;
           };
           short = subst (λ t. length t < 65536) (sym h.none_held) (omega arith);
@@ -163,8 +163,8 @@ module _ (finding : Sight → StretchTold) (number : ℕ) (history : PaidHistory
             (notices_both finding number history (moments before) (moments_after before run) h.earlier h.told
             h.earlier_are h.told_are);
         count = ap (λ p. p.notices) printer ∙ (h.count ∙ sym (length-append h.earlier h.told));
-        took = subst (λ p. Took p.digester (out (h.earlier ++ h.told))) (sym printer)
-            (subst (Took s.printer.digester) (sym (out_both h.earlier h.told)) h.took);
+        took = subst (λ p. TookText p.digest (out (h.earlier ++ h.told))) (sym printer)
+            (subst (TookText s.printer.digest) (sym (out_both h.earlier h.told)) h.took);
         none_held = ap (λ p. p.piece.items) printer ∙ h.none_held;
         none_charged = none;
       }

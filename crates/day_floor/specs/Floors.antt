@@ -1,5 +1,5 @@
 -- Which state a floor stands for, and what it writes and takes as it settles.
-use Rattle.std.specs.Prelude.{◌≡◌, ℕ, ◌-◌, true, false, List, Option, Some, None, slice_get, vec_len, take, drop}
+use Rattle.std.specs.Prelude.{◌≡◌, ℕ, ◌-◌, Bool, true, false, List, Option, Some, None, slice_get, vec_len, take, drop}
 use Rattle.road_time.specs.declared.day.Limits.{Limits}
 use Rattle.road_time.specs.Rates.{Tariffs}
 use Rattle.road_time.specs.Day.{given}
@@ -16,6 +16,7 @@ use Rattle.day_floor.specs.Answers.{PaidHistory}
 use Rattle.road_io.specs.Levels.{Level}
 use Rattle.day_floor.specs.Asking.{AskingPlan}
 use Rattle.day_floor.specs.SettlingRuns.{WritesRun, WritesSomeOfRun, TakesRun, StopsRun, StandsFor as SettlerStandsFor}
+use Rattle.day_floor.specs.SettlingRuns.{is_digested}
 
 -- a worker's carriage is out with a job, or it is at home and stands for the events that are back
 abbrev pub IsHome : Tariffs → Option KeptWays → Share → Type 0
@@ -34,11 +35,12 @@ width_of f = f.inboxes.width
 abbrev pub limits_of : Floor → Limits
 limits_of f = f.limits
 
--- under which tariffs a floor works, on which day, and after which history
+-- under which tariffs a floor works, on which day, after which history, and whether it takes the digest of its text
 pub record Setting : Type 0 where
   pub tariffs : Tariffs
   pub number : ℕ
   pub history : PaidHistory
+  pub digested : Bool
 
 -- a floor stands for a state, in a setting: its inboxes for the tuples fed, its slots for those that wait with what
 -- was found for them, its homes for the shares, and its settler for the tuples that are settled
@@ -52,6 +54,7 @@ pub record StandsFor (g : Setting) (f : Floor) (s : State) : Type 0 where
   pub settler : SettlerStandsFor f.settler (given s.found) g.number g.history (take s.settled s.fed)
   pub settled : f.settled ≡ s.settled
   pub given_is : f.given ≡ s.given
+  pub digested : is_digested f.settler ≡ g.digested
 
 -- a floor stands for some state
 pub record StandsForSome (f : Floor) : Type 0 where

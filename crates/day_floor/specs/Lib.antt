@@ -18,6 +18,7 @@ pub mod Slots
 pub mod SettlingBooks
 pub mod Answers
 pub mod Asking
+pub mod TextDigests
 pub mod Printing
 pub mod Faults
 pub mod SettlingBoards

@@ -3,7 +3,7 @@ use Rattle.std.specs.Prelude.{ℕ, ◌≡◌, ◌+◌, ◌<◌, ◌++◌, List, 
 use Rattle.std.specs.Io.KnownBytes.{Appends}
 use Rattle.road_time.specs.declared.road.Notice.{Notice}
 use Rattle.road_time.specs.Text.{out}
-use Rattle.road_digest.specs.Digests.{Took}
+use Rattle.day_floor.specs.TextDigests.{TookText}
 use Rattle.day_floor.specs.declared.fault.SettleFault.{SettleFault}
 use Rattle.day_floor.specs.declared.fault.SettleFault.TheVariants.{KeeperFault, WriteFault, NoMemory}
 use Rattle.day_floor.specs.declared.printer.Printer.{Printer}
@@ -13,7 +13,7 @@ use Rattle.road_io.specs.Levels.{Level, Adds, AddsFront, FillsUp}
 pub record Prints (p : Printer) (earlier run : List ℕ) (old now : Level) : Type 0 where
   pub handed : List ℕ
   pub run_is : run ≡ handed ++ p.piece.items
-  pub took : Took p.digester (earlier ++ handed)
+  pub took : TookText p.digest (earlier ++ handed)
   pub wrote : Adds old now handed
 
 -- what is held is less than a piece, and nothing of a shorter text was handed on
@@ -25,7 +25,7 @@ pub record HoldsPiece (p : Printer) (earlier run : List ℕ) (old now : Level) :
 -- a run's text was handed on whole
 pub record IsPrinted (p : Printer) (earlier run : List ℕ) (old now : Level) : Type 0 where
   pub none_held : p.piece.items ≡ []
-  pub took : Took p.digester (earlier ++ run)
+  pub took : TookText p.digest (earlier ++ run)
   pub wrote : Adds old now run
 
 -- some first bytes of a text were written

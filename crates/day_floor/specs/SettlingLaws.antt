@@ -14,7 +14,7 @@ use Rattle.road_time.specs.Day.{told_sight, charges_by, charges_between, notices
 use Rattle.std.specs.Io.KnownBytes.{Appends}
 use Rattle.road_time.specs.Text.{out}
 use Rattle.road_time.specs.Day.{HasFewTolls}
-use Rattle.road_digest.specs.Digests.{Took}
+use Rattle.day_floor.specs.TextDigests.{TookText}
 use Rattle.day_floor.specs.declared.due_slot.Slot.{Slot}
 use Rattle.day_floor.specs.declared.settler.Settler.{Settler}
 use Rattle.day_floor.specs.Answers.{PaidHistory, AreNotices}
@@ -80,7 +80,7 @@ abbrev pub MergedLaw : Type 0
 MergedLaw =
     (s : Settler) (found : List (ℕ × StretchTold)) (number : ℕ) (kept : ℕ → ℕ → ℕ → ℕ) (before : List Tuple) →
     StandsFor s (given found) number (Some kept) before →
-    Took s.printer.digester (out (merged before found number kept))
+    TookText s.printer.digest (out (merged before found number kept))
     × (s.printer.notices ≡ length (merged before found number kept))
 
 -- and what a run wrote is the text of its moments' notices, which goes on where the merged output of the tuples before

@@ -1,5 +1,6 @@
 -- What a settler stands for, and what settling some positions does.
 use Rattle.std.specs.Prelude.{ℕ, ◌≡◌, ◌+◌, ◌≤◌, List, [], ◌∷◌, ◌++◌, length, map, Option, Result, Ok, Err}
+use Rattle.std.specs.Prelude.{Bool}
 use Rattle.std.specs.Io.KnownBytes.{Appends}
 use Rattle.road_time.specs.declared.road.Tuple.{Tuple}
 use Rattle.road_time.specs.declared.road.Notice.{Notice}
@@ -8,7 +9,7 @@ use Rattle.road_time.specs.Tolls.{StretchTold}
 use Rattle.road_time.specs.Day.{charges_by, HasFewTolls}
 use Rattle.road_time.specs.Text.{out}
 use Rattle.day_floor.specs.Operations.{charge_of}
-use Rattle.road_digest.specs.Digests.{Took}
+use Rattle.day_floor.specs.TextDigests.{TookText}
 use Rattle.day_floor.specs.declared.due_slot.Slot.{Slot}
 use Rattle.day_floor.specs.declared.fault.SettleFault.{SettleFault}
 use Rattle.day_floor.specs.declared.settler.Settler.{Settler}
@@ -22,6 +23,10 @@ use Rattle.road_io.specs.Levels.{Level, Adds, AddsFront, AddsPieces, FillsUp}
 use Rattle.day_floor.specs.Asking.{AskingPlan, PassesCalls, PassesUpTo, FailsAfter, asked_by, requests_of, slot_asked}
 use Rattle.day_floor.specs.Printing.{HoldsPiece, WritesSome, Says}
 
+-- whether a settler takes the digest of its text
+abbrev pub is_digested : Settler → Bool
+is_digested s = s.printer.digest.asked
+
 -- a settler between two runs: its book is that of the tuples that are settled, and it took the text of their notices
 pub record StandsFor (s : Settler) (finding : Sight → StretchTold) (number : ℕ) (history : PaidHistory)
     (before : List Tuple) : Type 0 where
@@ -30,7 +35,7 @@ pub record StandsFor (s : Settler) (finding : Sight → StretchTold) (number : �
   pub told : List Notice
   pub told_are : AreNotices finding number history (moments before) told
   pub count : s.printer.notices ≡ length told
-  pub took : Took s.printer.digester (out told)
+  pub took : TookText s.printer.digest (out told)
   pub none_held : s.printer.piece.items ≡ []
   pub none_charged : s.charges.items ≡ []
 
@@ -61,7 +66,7 @@ pub record HasSettled (s : Settler) (finding : Sight → StretchTold) (number : 
   pub told : List Notice
   pub told_are : AreNotices finding number history (moments_after before run) told
   pub count : s.printer.notices ≡ length earlier + length told
-  pub took : Took s.printer.digester (out earlier ++ out told)
+  pub took : TookText s.printer.digest (out earlier ++ out told)
   pub none_held : s.printer.piece.items ≡ []
   pub wrote : Adds old now (out told)
   pub charged : map charge_of s.charges.items ≡ charges_by finding (moments_after before run)

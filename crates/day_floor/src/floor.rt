@@ -1,6 +1,6 @@
 // The floor: it hands a day's events to workers, and takes their findings back in any order.
 ghost use Rattle.std.specs.Prelude.{◌≡◌, ◌+◌, ◌-◌, ◌≤◌, ◌<◌, ℕ, IfErr, length, map, OnOk, OnErr, IsOk, IfOk, IfSome};
-ghost use Rattle.std.specs.Prelude.{IfNone, false};
+ghost use Rattle.std.specs.Prelude.{IfNone, false, is_some};
 ghost use Rattle.ways_expressway.specs.Findings.{shown};
 ghost use Rattle.day_floor.specs.Terms.{AreTerms};
 ghost use Rattle.day_floor.specs.Shares.{State, start, can_give, mark};
@@ -45,17 +45,23 @@ pub struct Floor {
 
 impl Floor {
     /// A floor of so many workers, 1 to 64, under these limits and tariffs. Nothing was fed. It asks of the limits a
-    /// backlog of at least one, and no more lines, vehicles and backlog than the greatest day's. The one error is want
-    /// of memory.
+    /// backlog of at least one, and no more lines, vehicles and backlog than the greatest day's. The digest of its text
+    /// is taken where it is asked. The one error is want of memory.
     pub fn new(
         alloc: Global,
         width: u8,
         limits: &Limits,
         tariffs: &Tariffs,
+        digested: bool,
     ) -> Result<Floor, NoMemory>
         requires { AreTerms width limits.now }
         ensures stands { IfOk result (λ floor. (number : ℕ) (history : PaidHistory)
-            → StandsFor (record { tariffs = tariffs.now; number = number; history = history }) floor start) }
+            → StandsFor (record {
+              tariffs = tariffs.now;
+              number = number;
+              history = history;
+              digested = digested;
+            }) floor start) }
         ensures width { IfOk result (λ floor. width_of floor ≡ width) }
         ensures limits { IfOk result (λ floor. limits_of floor ≡ limits.now) }
     {
@@ -67,7 +73,7 @@ impl Floor {
             inboxes,
             homes,
             slots: VecDeque::new(alloc),
-            settler: Settler::new(alloc),
+            settler: Settler::new(alloc, digested),
             settled: 0,
             given: 0,
         })
@@ -242,8 +248,10 @@ impl Floor {
     /// What is left of the day, under its number, where all tuples are settled. The one error is want of memory.
     pub fn close(self, day: u32) -> Result<Closed, NoMemory>
         requires { (g : Setting) × (s : State) × StandsFor g self s × (s.settled ≡ length s.fed) }
-        ensures { IfOk result (λ closed. (g : Setting) (s : State) → StandsFor g self s → s.settled ≡ length s.fed
-            → IsClosed closed day (given s.found) g.number g.history s.fed) }
+        ensures closed { IfOk result (λ closed. (g : Setting) (s : State) → StandsFor g self s
+            → s.settled ≡ length s.fed → IsClosed closed day (given s.found) g.number g.history s.fed) }
+        ensures digested { IfOk result (λ closed. (g : Setting) (s : State) → StandsFor g self s
+            → is_some closed.notices_digest ≡ g.digested) }
     {
         let Floor { settler, .. } = self;
         settler.close(day)

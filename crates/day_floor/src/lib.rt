@@ -40,6 +40,7 @@ pub mod sighting;
 mod slot;
 mod slots;
 mod sums;
+mod text_digest;
 pub mod tracked;
 pub mod tracker;
 mod vehicle;

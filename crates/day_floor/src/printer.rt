@@ -1,13 +1,14 @@
-// Notices are written in large pieces, counted, and the digest of their text is taken on the way.
-ghost use Rattle.std.specs.Prelude.{◌≡◌, ◌+◌, ◌<◌, ◌^◌, ◌∷◌, [], ℕ, List, true, false, OnOk};
-ghost use Rattle.road_digest.specs.Digests.{Took, digest_of};
+// Notices are written in large pieces, counted, and the digest of their text is taken on the way, if it is asked.
+ghost use Rattle.std.specs.Prelude.{◌≡◌, ◌+◌, ◌<◌, ◌^◌, ◌∷◌, [], ℕ, List, true, false, OnOk, is_some};
+ghost use Rattle.day_floor.specs.TextDigests.{TookText, IsDigestOf};
 ghost use Rattle.day_floor.specs.Printing.{Says, HandsOn};
 ghost use Rattle.day_floor.specs.Faults.{SinkFaults, keeper_failed};
 ghost use Rattle.day_floor.specs.Answers.{alert_to, told_notices};
 
 use crate::due_slot::Found;
 use crate::fault::SettleFault;
-use road_digest::{Digest, Digester};
+use crate::text_digest::TextDigest;
+use road_digest::Digest;
 use road_io::{Sink, put_all};
 use road_time::Notice;
 use std::alloc::Global;
@@ -16,24 +17,25 @@ use tuples_text::put_notice;
 /// A piece is handed on once it has so many bytes.
 const PIECE: usize = 65_536;
 
-/// The text that is not handed on yet, the digest of what is, and how many notices there were.
+/// The text that is not handed on yet, the digest of what is, if it is asked, and how many notices there were.
 #[derive(Drop)]
 pub struct Printer {
     piece: Vec<u8>,
-    digester: Digester,
+    digest: TextDigest,
     notices: u64,
 }
 
 impl Printer {
     /// Nothing was printed. It takes no memory.
-    pub fn new(alloc: Global) -> Self
+    pub fn new(alloc: Global, digested: bool) -> Self
         ensures held { result.piece.items ≡ [] }
-        ensures took { Took result.digester [] }
+        ensures took { TookText result.digest [] }
+        ensures digested { result.digest.asked ≡ digested }
         ensures count { result.notices ≡ 0 }
     {
         Printer {
             piece: Vec::new(alloc),
-            digester: Digester::new(),
+            digest: TextDigest::new(digested),
             notices: 0,
         }
     }
@@ -44,10 +46,11 @@ impl Printer {
             (O.written sink.new, O.room sink.new) }
         ensures faults { SinkFaults (O.faults sink.old) (O.faults sink.new) (O.room sink.old) (O.room sink.new) result }
         ensures other { keeper_failed result ≡ false }
+        ensures digested { self.new.digest.asked ≡ self.old.digest.asked }
     {
         match put_all(sink, self.piece.as_slice()) {
             Ok(()) => {
-                self.digester.add(&self.piece);
+                self.digest.add(&self.piece);
                 self.piece.clear();
                 Ok(())
             }
@@ -63,6 +66,7 @@ impl Printer {
             (O.written sink.new, O.room sink.new) (notice.now ∷ []) }
         ensures faults { SinkFaults (O.faults sink.old) (O.faults sink.new) (O.room sink.old) (O.room sink.new) result }
         ensures other { keeper_failed result ≡ false }
+        ensures digested { self.new.digest.asked ≡ self.old.digest.asked }
     {
         if put_notice(&mut self.piece, notice).is_err() {
             return Err(SettleFault::NoMemory);
@@ -88,6 +92,7 @@ impl Printer {
             (O.written sink.new, O.room sink.new) (alert_to time vid alert) }
         ensures faults { SinkFaults (O.faults sink.old) (O.faults sink.new) (O.room sink.old) (O.room sink.new) result }
         ensures other { keeper_failed result ≡ false }
+        ensures digested { self.new.digest.asked ≡ self.old.digest.asked }
     {
         match alert {
             Some(seg) => self.put(&Notice::Alert { time, vid, seg }, sink),
@@ -108,6 +113,7 @@ impl Printer {
             (O.written sink.new, O.room sink.new) (told_notices true time vid found) }
         ensures faults { SinkFaults (O.faults sink.old) (O.faults sink.new) (O.room sink.old) (O.room sink.new) result }
         ensures other { keeper_failed result ≡ false }
+        ensures digested { self.new.digest.asked ≡ self.old.digest.asked }
     {
         if let Err(fault) = self.put_alert(time, vid, found.alert, sink) {
             return Err(fault);
@@ -121,11 +127,12 @@ impl Printer {
         self.put(&toll, sink)
     }
 
-    /// How many notices were taken, and the digest of the text that was handed on.
-    pub fn end(self) -> (u64, Digest)
+    /// How many notices were taken, and the digest of the text that was handed on, if it was asked.
+    pub fn end(self) -> (u64, Option<Digest>)
         ensures count { result.0 ≡ self.notices }
-        ensures digest { (text : List ℕ) → Took self.digester text → result.1 ≡ digest_of text }
+        ensures digest { (text : List ℕ) → TookText self.digest text → IsDigestOf result.1 text }
+        ensures digested { is_some result.1 ≡ self.digest.asked }
     {
-        (self.notices, self.digester.finish())
+        (self.notices, self.digest.finish())
     }
 }

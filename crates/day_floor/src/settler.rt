@@ -3,7 +3,7 @@ ghost use Rattle.std.specs.Prelude.{ℕ, ◌≡◌, []};
 ghost use Rattle.road_time.specs.Sights.{Sight};
 ghost use Rattle.road_time.specs.Tolls.{StretchTold};
 ghost use Rattle.day_floor.specs.Answers.{PaidHistory};
-ghost use Rattle.day_floor.specs.SettlingRuns.{StandsFor};
+ghost use Rattle.day_floor.specs.SettlingRuns.{StandsFor, is_digested};
 
 mod closing;
 mod publishing;
@@ -28,14 +28,15 @@ pub struct Settler {
 }
 
 impl Settler {
-    /// Nothing is settled. It takes no memory.
-    pub fn new(alloc: Global) -> Self
-        ensures { (finding : Sight → StretchTold) (number : ℕ) (history : PaidHistory)
+    /// Nothing is settled. The digest of the text is taken where it is asked. It takes no memory.
+    pub fn new(alloc: Global, digested: bool) -> Self
+        ensures stands { (finding : Sight → StretchTold) (number : ℕ) (history : PaidHistory)
             → StandsFor result finding number history [] }
+        ensures digested { is_digested result ≡ digested }
     {
         Settler {
             book: Book::new(alloc),
-            printer: Printer::new(alloc),
+            printer: Printer::new(alloc, digested),
             charges: Vec::new(alloc),
             settled: 0,
         }

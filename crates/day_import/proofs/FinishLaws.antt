@@ -80,9 +80,9 @@ module _ (w : WhenRefused) (number : ℕ) (found : List (ℕ × StretchTold)) (b
       subst (λ (r : Option (ℕ × Fault)). Does w (import_worked (work_by found number day o) number bytes day r o) o old
       new now outcome) (sym e.0)
       (stores_does w (work_by found number day o) number bytes day o old new now wrote
-      (run_record number n digest run tariffs) run.closed.rows outcome
-      (record_is number found day o run closed bytes n digest tariffs count e.1 e.2 under)
-      (rows_are number found day o run closed) h)
+      (run_record number n digest h.0 run tariffs) run.closed.rows outcome
+      (record_is number found day o run closed bytes n digest h.0 tariffs count e.1 e.2 h.1 under)
+      (rows_are number found day o run closed) h.2)
   finishes_does (RefusedAt line cause) refused outcome e h =
       let fault = e.0 in
       subst (λ (r : Option (ℕ × Fault)). Does w (import_worked (work_by found number day o) number bytes day r o) o old

@@ -1,5 +1,5 @@
 -- What a day's work comes to as a record and its amounts.
-use Rattle.std.proofs.Common.{◌≡◌, ◌<◌, ◌≤◌, ◌^◌, ℕ, List, [], length, Some, sym, ap, subst, ◌∙◌, arith}
+use Rattle.std.proofs.Common.{◌≡◌, ◌<◌, ◌≤◌, ◌^◌, ℕ, List, [], length, Option, Some, sym, ap, subst, ◌∙◌, arith}
 use Rattle.road_time.specs.declared.tariff.TheConstants.{GREATEST_TOLL}
 use Rattle.road_time.specs.declared.road.Tuple.{Tuple}
 use Rattle.road_time.specs.declared.road.Notice.{Notice}
@@ -25,6 +25,7 @@ use Rattle.keep_office.specs.Kept.{IsDayPut}
 use Rattle.keep_office.proofs.HistoryLaws.{day_rows_law}
 use Rattle.day_floor.specs.Answers.{PaidHistory}
 use Rattle.day_floor.specs.Closes.{IsClosed}
+use Rattle.day_floor.specs.TextDigests.{IsDigestOf}
 use Rattle.day_floor.proofs.AnswerLaws.{notices_few, notices_exact}
 use Rattle.day_reading.specs.Days.{IsShortDay}
 use Rattle.day_import.specs.WorkedDays.{AreRightFor}
@@ -59,9 +60,9 @@ run_fits number limits found history day run within fit short count closed few =
     }
 
 -- what may be put may be put under its record
-pub record_fits : (number bytes : ℕ) (digest : Digest) (run : WorkedDay) (tariffs : Tariffs) → bytes < 2 ^ 63 →
-    CanPut number run → IsDayPut (run_record number bytes digest run tariffs) run.closed.rows
-record_fits number bytes digest run tariffs small can = record {
+pub record_fits : (number bytes : ℕ) (digest text : Digest) (run : WorkedDay) (tariffs : Tariffs) → bytes < 2 ^ 63 →
+    CanPut number run → IsDayPut (run_record number bytes digest text run tariffs) run.closed.rows
+record_fits number bytes digest text run tariffs small can = record {
   bytes = small;
   tuples = can.tuples;
   notices = can.notices;
@@ -79,14 +80,15 @@ module _ (number : ℕ) (found : List (ℕ × StretchTold)) (day : List Tuple) (
   told_is = notices_exact (given found) number (paid o.rows) (moments day) closed.told closed.told_are
 
   -- the record of a day that was worked is that of its work
-  pub record_is : (bytes : List ℕ) (n : ℕ) (digest : Digest) (tariffs : Tariffs) → run.tuples ≡ length day →
-      n ≡ length bytes → digest ≡ digest_of bytes → tariffs ≡ o.tariffs
-      → run_record number n digest run tariffs ≡ worked_record (work_by found number day o) number bytes day o
-  record_is bytes n digest tariffs count size hash under =
+  pub record_is : (bytes : List ℕ) (n : ℕ) (digest text : Digest) (tariffs : Tariffs) → run.tuples ≡ length day →
+      n ≡ length bytes → digest ≡ digest_of bytes → run.closed.notices_digest ≡ Some text → tariffs ≡ o.tariffs
+      → run_record number n digest text run tariffs ≡ worked_record (work_by found number day o) number bytes day o
+  record_is bytes n digest text tariffs count size hash taken under =
       let ns : List Notice = (work_by found number day o).told in
       let many : run.closed.notices ≡ length ns = closed.count ∙ ap length told_is in
-      let text : run.closed.notices_digest ≡ digest_of (out ns) = closed.digest
-      ∙ ap (λ ms. digest_of (out ms)) told_is in
+      let of_told : text ≡ digest_of (out closed.told) =
+      subst (λ (d : Option Digest). IsDigestOf d (out closed.told)) taken closed.digest in
+      let of_text : text ≡ digest_of (out ns) = of_told ∙ ap (λ ms. digest_of (out ms)) told_is in
       let sum : run.closed.total ≡ sum_of (work_by found number day o).charged = closed.total in
       cc
 

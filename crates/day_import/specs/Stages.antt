@@ -21,9 +21,9 @@ use Rattle.day_import.specs.declared.outcomes.Outcome.TheVariants.{ReadFault, Ke
 use Rattle.day_import.specs.declared.day.WorkedDay.{WorkedDay}
 use Rattle.day_import.specs.Imports.{again}
 
--- the record of a day that was worked
-abbrev pub run_record : ℕ → ℕ → Digest → WorkedDay → Tariffs → DayRecord
-run_record number bytes digest run tariffs =
+-- the record of a day that was worked, with the digests of its bytes and of its text
+abbrev pub run_record : ℕ → ℕ → Digest → Digest → WorkedDay → Tariffs → DayRecord
+run_record number bytes digest text run tariffs =
     record {
       day = number;
       digest = digest;
@@ -31,7 +31,7 @@ run_record number bytes digest run tariffs =
       tuples = run.tuples;
       notices =
           run.closed.notices;
-      notices_digest = run.closed.notices_digest;
+      notices_digest = text;
       tariffs = seal_of tariffs;
       total =
           run.closed.total;
@@ -57,12 +57,13 @@ Stores w kept rows was now NoMemory =
     (o : Office) × (now ≡ Some o) × Leaves w keeping.NoMemory o was (with_day kept rows was)
 Stores w kept rows was now _ = ⊥
 
--- a day that was read whole, with its digest, was put, or was refused; of another one the first refused line is named,
--- and nothing is put
+-- a day that was read whole, with its digest and that of its text, was put, or was refused; of another one the first
+-- refused line is named, and nothing is put
 abbrev pub Finishes : WhenRefused → ℕ → DayEnd → WorkedDay → Tariffs → Office → Option Office → Outcome → Type 0
 Finishes w number (end.Whole bytes None) run tariffs was now outcome = ⊥
 Finishes w number (end.Whole bytes (Some digest)) run tariffs was now outcome =
-    Stores w (run_record number bytes digest run tariffs) run.closed.rows was now outcome
+    (text : Digest) × (run.closed.notices_digest ≡ Some text)
+    × Stores w (run_record number bytes digest text run tariffs) run.closed.rows was now outcome
 Finishes w number (end.Refused line cause) run tariffs was now outcome =
     (outcome ≡ Refused line cause) × (now ≡ Some was)
 

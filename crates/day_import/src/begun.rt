@@ -26,21 +26,28 @@ pub struct Import<T> {
     pub(crate) tickets: VecDeque<T>,
 }
 
-/// An import of so many workers under these limits and tariffs, before its first tuple.
+/// An import of so many workers under these limits and tariffs, before its first tuple. The digest of its text is taken
+/// where it is asked.
 pub fn begin<T: Drop>(
     alloc: Global,
     width: u8,
     limits: &Limits,
     tariffs: &Tariffs,
+    digested: bool,
 ) -> Result<Import<T>, NoMemory>
     requires { AreTerms width limits.now }
     ensures stands { IfOk result (λ run. (number : ℕ) (history : PaidHistory)
-        → StandsFor (record { tariffs = tariffs.now; number = number; history = history }) run.floor start) }
+        → StandsFor (record {
+          tariffs = tariffs.now;
+          number = number;
+          history = history;
+          digested = digested;
+        }) run.floor start) }
     ensures width { IfOk result (λ run. run.floor.inboxes.width ≡ width) }
     ensures limits { IfOk result (λ run. run.floor.limits ≡ limits.now) }
     ensures tickets { IfOk result (λ run. run.tickets.items ≡ []) }
 {
-    let floor = Floor::new(alloc, width, limits, tariffs)?;
+    let floor = Floor::new(alloc, width, limits, tariffs, digested)?;
     Ok(Import {
         floor,
         tickets: VecDeque::new(alloc),

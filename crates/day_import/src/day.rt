@@ -1,6 +1,6 @@
 // A day on the floor: it is opened, run as its plan says, and closed.
 ghost use Rattle.std.specs.Prelude.{◌≡◌, ◌≤◌, [], ℕ, List, Some, None, IfOk, IfErr, OnOk, Option, drop, true, false};
-ghost use Rattle.std.specs.Prelude.{length};
+ghost use Rattle.std.specs.Prelude.{length, is_some};
 ghost use Rattle.road_time.specs.Reads.{reads};
 ghost use Rattle.road_io.specs.Plans.{NeverFails};
 ghost use Rattle.road_io.specs.Rooms.{Endless};
@@ -39,8 +39,8 @@ use std::thread::Threads;
 use ways_crews::Crew;
 
 /// Imports the tuples of a day to its end, or to the first line that is refused: it reads, and makes turns by the plan
-/// until all is settled. What is written is their output, by the findings that the crew answered. The digest of the
-/// bytes is taken where it is asked. On every exit the crew has nothing out.
+/// until all is settled. What is written is their output, by the findings that the crew answered. The digests of the
+/// bytes and of what is written are taken where they are asked. On every exit the crew has nothing out.
 pub fn run_day<C: Crew, S: Source, K: Keeper, O: Sink, P: Publisher, R: Threads>(
     rt: &R,
     alloc: Global,
@@ -89,6 +89,7 @@ pub fn run_day<C: Crew, S: Source, K: Keeper, O: Sink, P: Publisher, R: Threads>
     ensures leaves { IfOk result (λ run. (bytes : List ℕ) → S.left source.old ≡ Some bytes
         → LeavesBehind run.end bytes (S.left source.new)) }
     ensures digested { IfOk result (λ run. IsDigested digested run.end) }
+    ensures notices_digested { IfOk result (λ run. is_some run.closed.notices_digest ≡ digested) }
     ensures planned { OnOk result ((bytes : List ℕ) → S.left source.old ≡ Some bytes
         → HasPlannedJobs plan.now.turns plan.now.width limits.now.backlog (reads bytes limits.now late).tuples
         (C.jobs crew.old) (C.jobs crew.new) (C.answers crew.old) (C.answers crew.new)) }
@@ -105,7 +106,7 @@ pub fn run_day<C: Crew, S: Source, K: Keeper, O: Sink, P: Publisher, R: Threads>
         (NeverFails (K.plan keeper.new)) result }
     ensures asked { AsksUntil (keeper_stopped result) (K.plan keeper.old) (K.plan keeper.new) }
 {
-    let Ok(run) = begin(alloc, plan.width, limits, tariffs) else {
+    let Ok(run) = begin(alloc, plan.width, limits, tariffs, digested) else {
         return Err(DayFault::NoMemory);
     };
     match DayAhead::open(rt, alloc, limits, late, digested, source) {
@@ -175,6 +176,10 @@ pub fn run_opened<C: Crew, S: Source, K: Keeper, O: Sink, P: Publisher, R: Threa
         → HasReadAhead ahead run.floor.limits.lines (S.left source.old) bytes
         → LeavesBehind r.end bytes (S.left source.new)) }
     ensures digested { IfOk result (λ r. IsDigested (is_digested ahead) r.end) }
+    ensures notices_digested { IfOk result (λ r. (e : Setting) (late : ℕ)
+        → RunsBy C.Crew e (C.jobs crew.old) (C.answers crew.old) run crew.old start
+        → IsGatheringAhead ahead run.floor.limits late [] → e.number ≡ day → e.history ≡ history_of (K.told keeper.old)
+        → is_some r.closed.notices_digest ≡ e.digested) }
     ensures planned { OnOk result ((e : Setting) (late : ℕ)
         → RunsBy C.Crew e (C.jobs crew.old) (C.answers crew.old) run crew.old start
         → IsGatheringAhead ahead run.floor.limits late [] → e.number ≡ day → e.history ≡ history_of (K.told keeper.old)

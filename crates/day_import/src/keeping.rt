@@ -1,5 +1,5 @@
 // A day that is kept: it is stored with its amounts, or compared by its digest.
-ghost use Rattle.std.specs.Prelude.{◌≡◌, ◌≢◌, ◌⊎◌, ℕ, Option, Some, IfOk, true, ◌+◌, List};
+ghost use Rattle.std.specs.Prelude.{◌≡◌, ◌≢◌, ◌⊎◌, ℕ, Option, Some, IfOk, true, ◌+◌, List, is_some};
 ghost use Rattle.keep_office.specs.Office.{Office};
 ghost use Rattle.keep_office.specs.Kept.{IsDayPut, IsLater};
 ghost use Rattle.keep_office.specs.Calls.{IfTold};
@@ -25,16 +25,28 @@ use road_io::Source;
 use road_time::{NoMemory, SpentRow, Tariffs};
 use std::alloc::Global;
 
-/// The record of a day that was worked, of so many bytes with this digest.
+/// The digest of the text of a day that was worked, which was asked.
+fn notices_digest(run: &WorkedDay) -> Digest
+    requires { is_some run.now.closed.notices_digest ≡ true }
+    ensures { run.now.closed.notices_digest ≡ Some result }
+{
+    match run.closed.notices_digest {
+        Some(digest) => digest,
+        None => unreachable!(),
+    }
+}
+
+/// The record of a day that was worked, of so many bytes with this digest, and of a text with that one.
 fn record_for(
     alloc: Global,
     number: u32,
     bytes: u64,
     digest: Digest,
+    notices_digest: Digest,
     run: &WorkedDay,
     tariffs: &Tariffs,
 ) -> Result<DayRecord, NoMemory>
-    ensures { IfOk result (λ kept. kept ≡ run_record number bytes digest run.now tariffs.now) }
+    ensures { IfOk result (λ kept. kept ≡ run_record number bytes digest notices_digest run.now tariffs.now) }
 {
     let tariffs = seal(alloc, tariffs)?;
     Ok(DayRecord {
@@ -43,7 +55,7 @@ fn record_for(
         bytes,
         tuples: run.tuples,
         notices: run.closed.notices,
-        notices_digest: run.closed.notices_digest,
+        notices_digest,
         tariffs,
         total: run.closed.total,
     })
@@ -81,6 +93,7 @@ pub fn finish_import<K: Keeper>(
 ) -> Outcome
     requires can { CanPut number run.now }
     requires digested { IsDigested true run.now.end }
+    requires notices_digested { is_some run.now.closed.notices_digest ≡ true }
     requires later { IfTold (K.told keeper.old) (λ o. IsLater number o) }
     ensures finishes { (o : Office) → K.told keeper.old ≡ Some o
         → Finishes K.refuses number run.now.end run.now tariffs.now o (K.told keeper.new) result }
@@ -99,10 +112,13 @@ pub fn finish_import<K: Keeper>(
     match run.end {
         DayEnd::Refused { line, cause } => Outcome::Refused { line, cause },
         DayEnd::Whole { bytes, digest } => match digest {
-            Some(digest) => match record_for(alloc, number, bytes, digest, run, tariffs) {
-                Ok(kept) => store(&kept, run.closed.rows.items(), keeper),
-                Err(NoMemory) => Outcome::NoMemory,
-            },
+            Some(digest) => {
+                let text = notices_digest(run);
+                match record_for(alloc, number, bytes, digest, text, run, tariffs) {
+                    Ok(kept) => store(&kept, run.closed.rows.items(), keeper),
+                    Err(NoMemory) => Outcome::NoMemory,
+                }
+            }
             None => unreachable!(),
         },
     }

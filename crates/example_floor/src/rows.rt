@@ -53,7 +53,7 @@ fn settle_day<K: Keeper, O: Sink>(
         (O.written sink.new, O.room sink.new) (K.plan keeper.old) (K.plan keeper.new)) }
 {
     let tariffs = Tariffs::new(rt.alloc());
-    let Ok(mut floor) = Floor::new(rt.alloc(), width, &Limits::DAY, &tariffs) else {
+    let Ok(mut floor) = Floor::new(rt.alloc(), width, &Limits::DAY, &tariffs, true) else {
         return Err(SettleFault::NoMemory);
     };
     let Ok(()) = feed_all(&mut floor, tuples) else {

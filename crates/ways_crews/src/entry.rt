@@ -12,7 +12,7 @@ use std::alloc::Global;
 use ways_expressway::{Done, Findings, Job, run};
 
 /// What is answered of a job that was not listed: memory ran out before its first event.
-fn refused(alloc: Global, job: Job) -> Done
+pub(crate) fn refused(alloc: Global, job: Job) -> Done
     ensures of { IsResultOf job result }
     ensures err { is_err result.result ≡ true }
 {

@@ -10,29 +10,15 @@ ghost use Rattle.ways_crews.specs.Views.{input_of};
 ghost use Rattle.ways_crews.specs.declared.place.TicketPlace.TheVariants.{Cell};
 
 use crate::board::CellBoard;
-use crate::cell_places::{Ticket, take_out};
 use crate::cells::CellSeat;
+use crate::entry::refused;
 use crate::gate::Gate;
 use crate::place::TicketPlace;
+use crate::places::{Ticket, take_out};
 use crate::waiting::await_done;
-use road_time::NoMemory;
 use std::alloc::Global;
 use std::sync::Wait;
-use ways_expressway::{Done, Findings, Job};
-
-/// What is answered of a job that was not listed: memory ran out before its first event.
-fn refused(alloc: Global, job: Job) -> Done
-    ensures of { IsResultOf job result }
-    ensures err { is_err result.result ≡ true }
-{
-    Done {
-        worker: job.worker,
-        number: job.number,
-        carriage: job.carriage,
-        findings: Findings::from_vec(Vec::new(alloc)),
-        result: Err(NoMemory),
-    }
-}
+use ways_expressway::{Done, Job};
 
 /// What was done of the job of a number. It waits where the job lies in a cell.
 fn answer<R: Wait, G: Gate>(

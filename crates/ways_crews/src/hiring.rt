@@ -7,10 +7,11 @@ ghost use Rattle.ways_crews.specs.Helpers.{AreHelpersOf};
 
 use crate::board::CellBoard;
 use crate::cells::CellSeat;
+use crate::crew::Crew;
 use crate::gate::Gate;
 use crate::helper::{Helper, Helpers};
 use crate::plays::Hires;
-use crate::standing::{Crew, StandingCrew};
+use crate::standing_crew::StandingCrew;
 use road_time::NoMemory;
 use std::alloc::Global;
 use std::sync::Wait;

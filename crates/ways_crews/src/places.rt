@@ -39,7 +39,7 @@ pub struct ThreadPlaces {
 }
 
 /// The first place that is free.
-fn first_free<T>(items: &[Option<T>]) -> Option<usize>
+pub(crate) fn first_free<T>(items: &[Option<T>]) -> Option<usize>
     ensures { result ≡ position is_none items.now }
 {
     items.iter().position(|place| place.is_none())
@@ -70,7 +70,7 @@ fn taken<T>(items: &mut [Option<T>], at: usize) -> Option<T>
 }
 
 /// Takes the entry out of a place, which is free then.
-fn take_out<T>(items: &mut [Option<T>], number: u8) -> T
+pub(crate) fn take_out<T>(items: &mut [Option<T>], number: u8) -> T
     requires all { length items.old ≡ 64 }
     requires out { Contains (out_of items.old) number }
     ensures { IsTaken number result items.old items.new }

@@ -2,7 +2,7 @@
 
 use crate::gate::Gate;
 use crate::helper::Helper;
-use crate::standing::StandingCrew;
+use crate::standing_crew::StandingCrew;
 use std::sync::Wait;
 
 /// Asks that a value may go to another thread.

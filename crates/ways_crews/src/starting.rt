@@ -7,11 +7,11 @@ ghost use Rattle.ways_crews.specs.Crews.{AreFree, IsBegun, IsStarted, is_unliste
 ghost use Rattle.ways_crews.specs.Views.{CanBeRun, input_of};
 
 use crate::board::CellBoard;
-use crate::cell_places::{Ticket, first_free};
 use crate::cells::CellSeat;
 use crate::gate::Gate;
 use crate::moves::announce;
 use crate::place::TicketPlace;
+use crate::places::{Ticket, first_free};
 use crate::work::run_past;
 use std::alloc::Global;
 use ways_expressway::Job;

@@ -1,11 +1,11 @@
 // What is left of a day when all of it is settled.
-ghost use Rattle.std.specs.Prelude.{◌≡◌, ℕ, List, IfOk};
+ghost use Rattle.std.specs.Prelude.{◌≡◌, ℕ, List, IfOk, is_some};
 ghost use Rattle.road_time.specs.declared.road.Tuple.{Tuple};
 ghost use Rattle.road_time.specs.Sights.{Sight};
 ghost use Rattle.road_time.specs.Tolls.{StretchTold};
 ghost use Rattle.day_floor.specs.Answers.{PaidHistory};
 ghost use Rattle.day_floor.specs.Closes.{IsClosed};
-ghost use Rattle.day_floor.specs.SettlingRuns.{StandsFor};
+ghost use Rattle.day_floor.specs.SettlingRuns.{StandsFor, is_digested};
 
 use super::Settler;
 use road_digest::Digest;
@@ -47,21 +47,23 @@ impl SpentRows {
     }
 }
 
-/// What is left of a day: its amounts, what they come to, how many notices it has, and the digest of their text.
+/// What is left of a day: its amounts, what they come to, how many notices it has, and the digest of their text, if it
+/// was asked.
 #[derive(Drop)]
 pub struct Closed {
     pub rows: SpentRows,
     pub total: u64,
     pub notices: u64,
-    pub notices_digest: Digest,
+    pub notices_digest: Option<Digest>,
 }
 
 impl Settler {
     /// What is left of a day, under its number. The one error is want of memory.
     pub fn close(self, day: u32) -> Result<Closed, NoMemory>
-        ensures { IfOk result (λ closed.
+        ensures closed { IfOk result (λ closed.
             (finding : Sight → StretchTold) (number : ℕ) (history : PaidHistory) (before : List Tuple)
             → StandsFor self finding number history before → IsClosed closed day finding number history before) }
+        ensures digested { IfOk result (λ closed. is_some closed.notices_digest ≡ is_digested self) }
     {
         let rows = self.book.spent_rows(day)?;
         let total = self.book.total();

@@ -11,6 +11,7 @@ ghost use Rattle.day_floor.specs.Answers.{history_of};
 ghost use Rattle.day_floor.specs.SettlingBoards.{IsAbreast, PublishesStep};
 ghost use Rattle.day_floor.specs.Faults.{SinkFaults, KeeperFaults, write_failed, keeper_failed};
 ghost use Rattle.day_floor.specs.SettlingRuns.{StandsFor, Waits, WritesRun, WritesSomeOfRun, TakesRun, StopsRun};
+ghost use Rattle.day_floor.specs.SettlingRuns.{is_digested};
 
 use super::Settler;
 use crate::due_slot::Slot;
@@ -106,6 +107,7 @@ impl Settler {
         ensures sink { SinkFaults (O.faults sink.old) (O.faults sink.new) (O.room sink.old) (O.room sink.new) result }
         ensures keeper { KeeperFaults (K.faults keeper.old) (K.faults keeper.new) (K.plan keeper.old)
             (K.plan keeper.new) result }
+        ensures digested { is_digested self.new ≡ is_digested self.old }
     {
         if let Err(fault) = self.write_run(count, slots, number, keeper, sink) {
             return Err(fault);

@@ -6,6 +6,7 @@ ghost use Rattle.day_floor.specs.Answers.{told_notices};
 ghost use Rattle.day_floor.specs.SettlingBooks.{WasTold, charges_for, charged_with, told_with};
 ghost use Rattle.day_floor.specs.Faults.{SinkFaults, keeper_failed};
 ghost use Rattle.day_floor.specs.Printing.{Says};
+ghost use Rattle.day_floor.specs.SettlingRuns.{is_digested};
 
 use super::Settler;
 use crate::booking::book_report;
@@ -33,6 +34,7 @@ impl Settler {
         ensures settled { self.new.settled ≡ self.old.settled }
         ensures faults { SinkFaults (O.faults sink.old) (O.faults sink.new) (O.room sink.old) (O.room sink.new) result }
         ensures other { keeper_failed result ≡ false }
+        ensures digested { is_digested self.new ≡ is_digested self.old }
     {
         if !told {
             return Ok(());
@@ -64,6 +66,7 @@ impl Settler {
         ensures settled { self.new.settled ≡ self.old.settled }
         ensures faults { SinkFaults (O.faults sink.old) (O.faults sink.new) (O.room sink.old) (O.room sink.new) result }
         ensures other { keeper_failed result ≡ false }
+        ensures digested { is_digested self.new ≡ is_digested self.old }
     {
         if book_report(
             &mut self.book,

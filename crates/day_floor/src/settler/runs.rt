@@ -9,7 +9,7 @@ ghost use Rattle.day_floor.specs.Asking.{AskingPlan};
 ghost use Rattle.day_floor.specs.Faults.{SinkFaults, KeeperFaults};
 ghost use Rattle.road_io.specs.Levels.{Level};
 ghost use Rattle.day_floor.specs.Slots.{slots_of};
-ghost use Rattle.day_floor.specs.SettlingRuns.{StandsFor, InRun, HasSettled, Waits, StopsRun};
+ghost use Rattle.day_floor.specs.SettlingRuns.{StandsFor, InRun, HasSettled, Waits, StopsRun, is_digested};
 
 use super::Settler;
 use crate::due_slot::Slot;
@@ -53,6 +53,7 @@ impl Settler {
         ensures sink { SinkFaults (O.faults sink.old) (O.faults sink.new) (O.room sink.old) (O.room sink.new) result }
         ensures keeper { KeeperFaults (K.faults keeper.old) (K.faults keeper.new) (K.plan keeper.old)
             (K.plan keeper.new) result }
+        ensures digested { is_digested self.new ≡ is_digested self.old }
     {
         let Some(slot) = slots.pop_front() else {
             unreachable!()
@@ -93,6 +94,7 @@ impl Settler {
         ensures sink { SinkFaults (O.faults sink.old) (O.faults sink.new) (O.room sink.old) (O.room sink.new) result }
         ensures keeper { KeeperFaults (K.faults keeper.old) (K.faults keeper.new) (K.plan keeper.old)
             (K.plan keeper.new) result }
+        ensures digested { is_digested self.new ≡ is_digested self.old }
     {
         for _ in 0..count {
             if let Err(fault) = self.settle_next(slots, number, keeper, sink) {
@@ -131,6 +133,7 @@ impl Settler {
         ensures sink { SinkFaults (O.faults sink.old) (O.faults sink.new) (O.room sink.old) (O.room sink.new) result }
         ensures keeper { KeeperFaults (K.faults keeper.old) (K.faults keeper.new) (K.plan keeper.old)
             (K.plan keeper.new) result }
+        ensures digested { is_digested self.new ≡ is_digested self.old }
     {
         if let Err(fault) = self.settle_run(count, slots, number, keeper, sink) {
             return Err(fault);

@@ -6,7 +6,7 @@ ghost use Rattle.road_time.specs.declared.road.Notice.{Notice as NoticeValue};
 ghost use Rattle.day_floor.specs.Answers.{IsSaid, history_of};
 ghost use Rattle.day_floor.specs.SettlingBooks.{CanSettle, charges_in, book_after};
 ghost use Rattle.day_floor.specs.Faults.{SinkFaults, KeeperFaults};
-ghost use Rattle.day_floor.specs.SettlingRuns.{SettlesSlot};
+ghost use Rattle.day_floor.specs.SettlingRuns.{SettlesSlot, is_digested};
 
 use super::Settler;
 use crate::due_slot::{Due, Slot};
@@ -41,6 +41,7 @@ impl Settler {
         ensures sink { SinkFaults (O.faults sink.old) (O.faults sink.new) (O.room sink.old) (O.room sink.new) result }
         ensures keeper { KeeperFaults (K.faults keeper.old) (K.faults keeper.new) (K.plan keeper.old)
             (K.plan keeper.new) result }
+        ensures digested { is_digested self.new ≡ is_digested self.old }
     {
         match slot.due {
             Due::Nothing => Ok(()),

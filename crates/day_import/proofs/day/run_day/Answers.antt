@@ -61,7 +61,12 @@ run_opened-requires-clause-runs g c =
     let run = c.in-Ok.run' in
     let ahead = c.in-Ok-open.ahead in
     let history = history_of (g.K.Keeper.told c.args.keeper.now) in
-    let e : Setting = record { tariffs = c.args.tariffs.now; number = c.args.day; history = history } in
+    let e : Setting = record {
+      tariffs = c.args.tariffs.now;
+      number = c.args.day;
+      history = history;
+      digested = c.args.digested;
+    } in
     let h = begun_runs k.out k.number k.holds k.gave k.exact k.jobs k.answers e run c.args.crew.now
     (c.in-Ok.ensures.stands c.args.day history) c.in-Ok.ensures.tickets c.requires.idle in
     let gathers : IsGatheringAhead ahead run.floor.limits c.args.late [] =
@@ -76,7 +81,12 @@ returns-in-Ok-run_opened-clause-ran g c =
     let run = c.in-Ok.run' in
     let ahead = c.in-Ok-open.ahead in
     let history = history_of (g.K.Keeper.told c.args.keeper.now) in
-    let e : Setting = record { tariffs = c.args.tariffs.now; number = c.args.day; history = history } in
+    let e : Setting = record {
+      tariffs = c.args.tariffs.now;
+      number = c.args.day;
+      history = history;
+      digested = c.args.digested;
+    } in
     let h = begun_runs k.out k.number k.holds k.gave k.exact k.jobs k.answers e run c.args.crew.now
     (c.in-Ok.ensures.stands c.args.day history) c.in-Ok.ensures.tickets c.requires.idle in
     let gathers : IsGatheringAhead ahead run.floor.limits c.args.late [] =
@@ -104,7 +114,12 @@ returns-in-Err-run_opened-clause-stopped g c =
     let run = c.in-Ok.run' in
     let ahead = c.in-Ok-open.ahead in
     let history = history_of (g.K.Keeper.told c.args.keeper.now) in
-    let e : Setting = record { tariffs = c.args.tariffs.now; number = c.args.day; history = history } in
+    let e : Setting = record {
+      tariffs = c.args.tariffs.now;
+      number = c.args.day;
+      history = history;
+      digested = c.args.digested;
+    } in
     let h = begun_runs k.out k.number k.holds k.gave k.exact k.jobs k.answers e run c.args.crew.now
     (c.in-Ok.ensures.stands c.args.day history) c.in-Ok.ensures.tickets c.requires.idle in
     let gathers : IsGatheringAhead ahead run.floor.limits c.args.late [] =
@@ -154,7 +169,12 @@ returns-in-Ok-run_opened-clause-rest g c bytes told none =
     let run = c.in-Ok.run' in
     let ahead = c.in-Ok-open.ahead in
     let history = history_of (g.K.Keeper.told c.args.keeper.now) in
-    let e : Setting = record { tariffs = c.args.tariffs.now; number = c.args.day; history = history } in
+    let e : Setting = record {
+      tariffs = c.args.tariffs.now;
+      number = c.args.day;
+      history = history;
+      digested = c.args.digested;
+    } in
     let h = begun_runs k.out k.number k.holds k.gave k.exact k.jobs k.answers e run c.args.crew.now
     (c.in-Ok.ensures.stands c.args.day history) c.in-Ok.ensures.tickets c.requires.idle in
     let gathers : IsGatheringAhead ahead run.floor.limits c.args.late [] =
@@ -175,7 +195,12 @@ returns-in-Ok-run_opened-clause-leaves g c bytes told =
     let run = c.in-Ok.run' in
     let ahead = c.in-Ok-open.ahead in
     let history = history_of (g.K.Keeper.told c.args.keeper.now) in
-    let e : Setting = record { tariffs = c.args.tariffs.now; number = c.args.day; history = history } in
+    let e : Setting = record {
+      tariffs = c.args.tariffs.now;
+      number = c.args.day;
+      history = history;
+      digested = c.args.digested;
+    } in
     let h = begun_runs k.out k.number k.holds k.gave k.exact k.jobs k.answers e run c.args.crew.now
     (c.in-Ok.ensures.stands c.args.day history) c.in-Ok.ensures.tickets c.requires.idle in
     let gathers : IsGatheringAhead ahead run.floor.limits c.args.late [] =
@@ -193,6 +218,25 @@ returns-in-Ok-run_opened-clause-digested g c =
     subst (λ (asked : Bool). IsDigested asked c.in-Ok-run_opened.left.end) c.in-Ok-open.ensures.digested
     c.in-Ok-run_opened.ensures.digested
 
+pub returns-in-Ok-run_opened-clause-notices_digested : goal.returns-in-Ok-run_opened-clause-notices_digested
+returns-in-Ok-run_opened-clause-notices_digested g c =
+    let k = g.C.Crew in
+    let run = c.in-Ok.run' in
+    let ahead = c.in-Ok-open.ahead in
+    let history = history_of (g.K.Keeper.told c.args.keeper.now) in
+    let e : Setting = record {
+      tariffs = c.args.tariffs.now;
+      number = c.args.day;
+      history = history;
+      digested = c.args.digested;
+    } in
+    let h = begun_runs k.out k.number k.holds k.gave k.exact k.jobs k.answers e run c.args.crew.now
+    (c.in-Ok.ensures.stands c.args.day history) c.in-Ok.ensures.tickets c.requires.idle in
+    let gathers : IsGatheringAhead ahead run.floor.limits c.args.late [] =
+    subst (λ l. IsGatheringAhead ahead l c.args.late []) (sym c.in-Ok.ensures.limits)
+    c.in-Ok-open.ensures.gathering in
+    c.in-Ok-run_opened.ensures.notices_digested e c.args.late h gathers refl refl
+
 pub returns-in-Ok-run_opened-clause-planned : goal.returns-in-Ok-run_opened-clause-planned
 returns-in-Ok-run_opened-clause-planned g c bytes told =
     let k = g.C.Crew in
@@ -200,7 +244,12 @@ returns-in-Ok-run_opened-clause-planned g c bytes told =
     let run = c.in-Ok.run' in
     let ahead = c.in-Ok-open.ahead in
     let history = history_of (g.K.Keeper.told c.args.keeper.now) in
-    let e : Setting = record { tariffs = c.args.tariffs.now; number = c.args.day; history = history } in
+    let e : Setting = record {
+      tariffs = c.args.tariffs.now;
+      number = c.args.day;
+      history = history;
+      digested = c.args.digested;
+    } in
     let h = begun_runs k.out k.number k.holds k.gave k.exact k.jobs k.answers e run c.args.crew.now
     (c.in-Ok.ensures.stands c.args.day history) c.in-Ok.ensures.tickets c.requires.idle in
     let gathers : IsGatheringAhead ahead run.floor.limits c.args.late [] =

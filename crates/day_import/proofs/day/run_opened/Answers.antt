@@ -61,7 +61,7 @@ returns-in-Ok-close-clause-ran g c e late h gathers number history =
     (whole_run k.out k.number k.holds k.gave k.exact k.jobs k.answers e told answered last.run last.crew s runs f.limits
     late c.args.ahead last.ahead _ _ _ _ _ _ same_on all v.ended same_gathers v.none r is
     (subst (λ d. IsClosed r.closed d (given s.found) e.number e.history s.fed) (sym number)
-    (c.in-Ok-close.ensures e s runs.stands all))
+    (c.in-Ok-close.ensures.closed e s runs.stands all))
     c.end-end.ensures.exact
     (c.end-end.ensures.short last.run.floor.limits late s.fed (same_on.given.gathers [] same_gathers)
     runs.stands.terms.lines))
@@ -160,6 +160,13 @@ returns-in-Ok-close-clause-digested g c =
     let (s, on, all, count, runs, plan) =
     c.in-Ok.ensures.done e (k.jobs c.args.crew.now) (k.answers c.args.crew.now) late h gathers number history in
     subst (λ (asked : Bool). IsDigested asked c.end-end.result) on.given.digested c.end-end.ensures.digested
+
+pub returns-in-Ok-close-clause-notices_digested : goal.returns-in-Ok-close-clause-notices_digested
+returns-in-Ok-close-clause-notices_digested g c e late h gathers number history =
+    let k = g.C.Crew in
+    let (s, on, all, is, runs, plan) =
+    c.in-Ok.ensures.done e (k.jobs c.args.crew.now) (k.answers c.args.crew.now) late h gathers number history in
+    c.in-Ok-close.ensures.digested e s runs.stands
 
 pub returns-in-Ok-close-clause-planned : goal.returns-in-Ok-close-clause-planned
 returns-in-Ok-close-clause-planned g c e late h gathers number history bytes =

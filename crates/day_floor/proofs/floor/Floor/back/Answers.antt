@@ -72,4 +72,5 @@ returns-clause-back c = λ g s st may.
           (take s.settled s.fed) (long_first f.inboxes.width f.limits s st.sound)) st.settler;
       settled = st.settled;
       given_is = st.given_is;
+      digested = st.digested;
     }

@@ -30,6 +30,7 @@ roomier f n g s items st =
       settler = st.settler;
       settled = st.settled;
       given_is = st.given_is;
+      digested = st.digested;
     }
 
 pub feed-requires : goal.feed-requires
@@ -61,6 +62,7 @@ returns-in_err-due-clause-refused c =
       settler = st.settler;
       settled = st.settled;
       given_is = st.given_is;
+      digested = st.digested;
     })
 
 pub returns-else-is_err-clause-fed : goal.returns-else-is_err-clause-fed
@@ -87,4 +89,5 @@ returns-else-is_err-clause-fed c = λ g s st can.
           (sym (first_stay s.settled s.fed x st.sound.settled)) st.settler;
       settled = st.settled;
       given_is = st.given_is;
+      digested = st.digested;
     }

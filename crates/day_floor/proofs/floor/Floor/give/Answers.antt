@@ -23,6 +23,7 @@ returns-in_default-clause-none c = λ g s st.
         settler = st.settler;
         settled = st.settled;
         given_is = st.given_is;
+        digested = st.digested;
       },
     )
 
@@ -64,5 +65,6 @@ returns-in-Some-take_home-clause-some c = λ g s st.
         settler = st.settler;
         settled = st.settled;
         given_is = ap (λ n. n + 1) st.given_is;
+        digested = st.digested;
       },
     )

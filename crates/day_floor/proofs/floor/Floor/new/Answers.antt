@@ -14,7 +14,8 @@ returns-clause-stands c = λ number history.
       slots = search rules;
       homes_width = c.in_ok-homes.ensures.len ∙ sym width;
       homes = c.in_ok-homes.ensures.idle;
-      settler = c.new-3.ensures (given []) number history;
+      settler = c.new-3.ensures.stands (given []) number history;
       settled = search rules;
       given_is = search rules;
+      digested = c.new-3.ensures.digested;
     }

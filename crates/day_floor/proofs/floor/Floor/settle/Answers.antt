@@ -92,6 +92,7 @@ returns-in-Ok-clause-settled g c = λ e s st number history.
             (history_of (g.K.Keeper.told c.settle.new.keeper)) a) all.1));
         settled = to;
         given_is = st.given_is;
+        digested = c.in-Ok.ensures.digested ∙ st.digested;
       }),
     )
 

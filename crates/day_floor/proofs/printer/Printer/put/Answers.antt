@@ -15,7 +15,7 @@ pub returns-then-len-lt-PIECE-clause-says : goal.returns-then-len-lt-PIECE-claus
 returns-then-len-lt-PIECE-clause-says g c =
     let p = c.args.self.now in
     let n = c.args.notice.now in
-    let q : Printer = record { piece = c.put_notice.new.out; digester = p.digester; notices = p.notices + 1 } in
+    let q : Printer = record { piece = c.put_notice.new.out; digest = p.digest; notices = p.notices + 1 } in
     let w : Level = (g.O.Sink.written c.args.sink.now, g.O.Sink.room c.args.sink.now) in
     let held : q.piece.items ≡ p.piece.items ++ (notice_text n ++ 10 ∷ []) = search rules in
     let size : vec_len q.piece ≡ length q.piece.items = search rules in
@@ -25,7 +25,7 @@ pub returns-clause-says : goal.returns-clause-says
 returns-clause-says g c =
     let p = c.args.self.now in
     let n = c.args.notice.now in
-    let q : Printer = record { piece = c.put_notice.new.out; digester = p.digester; notices = p.notices + 1 } in
+    let q : Printer = record { piece = c.put_notice.new.out; digest = p.digest; notices = p.notices + 1 } in
     let w : Level = (g.O.Sink.written c.args.sink.now, g.O.Sink.room c.args.sink.now) in
     let z : Level = (g.O.Sink.written c.flush.new.sink, g.O.Sink.room c.flush.new.sink) in
     let held : q.piece.items ≡ p.piece.items ++ (notice_text n ++ 10 ∷ []) = search rules in

@@ -8,8 +8,8 @@ use Rattle.day_floor.proofs.SumLaws.{amount_by}
 use Rattle.day_floor.proofs.SettlingBookLaws.{total_is}
 use Rattle.day_floor.proofs.settler.Settler.close.Goals as goal
 
-pub returns : goal.returns
-returns c = λ finding number history before h.
+pub returns-clause-closed : goal.returns-clause-closed
+returns-clause-closed c = λ finding number history before h.
     let cs = charges_by finding (moments before) in
     let are = subst (λ m. AreRowsOf m c.args.day c.in_ok-rows.rows.items) h.book.spent c.in_ok-rows.ensures in
     record {

@@ -2,8 +2,8 @@ use Rattle.std.proofs.Common.{[], refl}
 use Rattle.day_floor.proofs.SettlingBookLaws.{book_none}
 use Rattle.day_floor.proofs.settler.Settler.new.Goals as goal
 
-pub returns : goal.returns
-returns c = λ finding number history. record {
+pub returns-clause-stands : goal.returns-clause-stands
+returns-clause-stands c = λ finding number history. record {
   settled = refl;
   book = book_none finding c.new.result c.new.ensures;
   told = [];

@@ -21,6 +21,7 @@ loop-init g c =
       same = refl;
       sink = sink_idle _ _ (Ok tt) refl;
       keeper = keeper_idle _ _ (Ok tt) refl;
+      digested = refl;
     }
 
 pub settle_next-requires : goal.settle_next-requires
@@ -84,4 +85,5 @@ loop-preserved g c =
       same = done.same ∙ inv.same;
       sink = sink_then tt _ _ _ _ _ _ (Ok tt) inv.sink done.sink;
       keeper = keeper_then tt _ _ _ _ _ _ (Ok tt) inv.keeper done.keeper;
+      digested = done.digested ∙ inv.digested;
     }

@@ -4,7 +4,7 @@ use Rattle.road_time.specs.Sights.{Sight}
 use Rattle.road_time.specs.Tolls.{StretchTold}
 use Rattle.day_floor.specs.Answers.{history_of}
 use Rattle.day_floor.specs.Faults.{SinkFaults, KeeperFaults}
-use Rattle.day_floor.specs.SettlingRuns.{StandsFor, InRun, Waits}
+use Rattle.day_floor.specs.SettlingRuns.{StandsFor, InRun, Waits, is_digested}
 use Rattle.day_floor.proofs.settler.Settler.settle_run.Given as goal
 
 abbrev pub invariant-loop : goal.invariant-loop
@@ -21,4 +21,5 @@ invariant-loop g l = record {
       (g.O.Sink.room l.sink) (Ok tt);
   keeper : KeeperFaults {T = Unit {0}} (g.K.Keeper.faults l.fn.keeper) (g.K.Keeper.faults l.keeper)
       (g.K.Keeper.plan l.fn.keeper) (g.K.Keeper.plan l.keeper) (Ok tt);
+  digested : is_digested l.self ≡ is_digested l.fn.self;
 }

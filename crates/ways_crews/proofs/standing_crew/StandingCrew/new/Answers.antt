@@ -5,7 +5,7 @@ use Rattle.ways_crews.proofs.Numbers.{free_all}
 use Rattle.ways_crews.proofs.Tellings.{new_tells}
 use Rattle.ways_crews.specs.Crews.{is_unlisted}
 use Rattle.ways_crews.proofs.Opening.{new_free, new_wide}
-use Rattle.ways_crews.proofs.standing.StandingCrew.new.Goals as goal
+use Rattle.ways_crews.proofs.standing_crew.StandingCrew.new.Goals as goal
 
 pub invariant_of-result : goal.invariant_of-result
 invariant_of-result g c = let long = c.from_fn.ensures.items.long in record {

@@ -6,7 +6,7 @@ use Rattle.ways_crews.proofs.Puts.{take_less}
 use Rattle.ways_crews.proofs.Tellings.{finish_tells, told_are_out}
 use Rattle.ways_crews.specs.Crews.{is_unlisted}
 use Rattle.ways_crews.proofs.CrewSteps.{answered_beside, answered_others, answered_free}
-use Rattle.ways_crews.proofs.standing.StandingCrewCrew.finish.Goals as goal
+use Rattle.ways_crews.proofs.standing_crew.StandingCrewCrew.finish.Goals as goal
 
 pub invariant_of-self : goal.invariant_of-self
 invariant_of-self g c =

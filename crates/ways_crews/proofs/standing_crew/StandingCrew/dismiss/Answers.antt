@@ -4,7 +4,7 @@ use Rattle.atomic_table.specs.Table.{Joins}
 use Rattle.ways_crews.specs.Cells.{CellRule}
 use Rattle.ways_crews.specs.Views.{new_helper}
 use Rattle.ways_crews.proofs.OtherSteps.{join_allowed}
-use Rattle.ways_crews.proofs.standing.StandingCrew.dismiss.Goals as goal
+use Rattle.ways_crews.proofs.standing_crew.StandingCrew.dismiss.Goals as goal
 
 pub join_seat-requires : goal.join_seat-requires
 join_seat-requires g c =

@@ -1,4 +1,4 @@
-// A crew whose helpers take its jobs out of cells, and how each of its calls goes.
+// A standing crew: its helpers take jobs from cells.
 ghost use Rattle.std.specs.Prelude.{◌≡◌, ◌≢◌, ◌≤◌, ℕ, [], length, true, None, IfSome, IfNone};
 ghost use Rattle.ways_expressway.specs.declared.job.Job.{Job as TheJob};
 ghost use Rattle.ways_crews.specs.Told.{TellsNone};
@@ -9,16 +9,16 @@ ghost use Rattle.ways_crews.specs.Helpers.{AreHelpersOf};
 ghost use Rattle.ways_crews.specs.Views.{new_crew};
 
 use crate::board::CellBoard;
-use crate::cell_places::Ticket;
 use crate::cells::CellSeat;
+use crate::crew::Crew;
 use crate::finishing::finish_at;
 use crate::gate::Gate;
 use crate::helper::{Helper, Helpers};
 use crate::job_list::{JobList, Started};
 use crate::moves::raise_stop;
 use crate::place::TicketPlace;
+use crate::places::Ticket;
 use crate::plays::Hires;
-use crate::standing::Crew;
 use crate::starting::start_at;
 use std::alloc::Global;
 use std::array;

@@ -5,7 +5,7 @@ use Rattle.ways_crews.proofs.Puts.{put_more}
 use Rattle.ways_crews.proofs.Tellings.{start_tells, told_are_out}
 use Rattle.ways_crews.specs.Crews.{is_unlisted}
 use Rattle.ways_crews.proofs.CrewSteps.{begun_beside, begun_held, begun_others, begun_free}
-use Rattle.ways_crews.proofs.standing.StandingCrewCrew.start.Goals as goal
+use Rattle.ways_crews.proofs.standing_crew.StandingCrewCrew.start.Goals as goal
 
 pub invariant_of-self : goal.invariant_of-self
 invariant_of-self g c =
