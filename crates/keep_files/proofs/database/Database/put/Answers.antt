@@ -1,7 +1,6 @@
-use Rattle.std.proofs.Common.{inl, inr, subst}
-use Rattle.sqlite.specs.Held.{state}
+use Rattle.std.proofs.Common.{inl, string_bytes, subst, sym}
 use Rattle.keep_files.specs.Asked.{IsReadyToRead}
-use Rattle.keep_files.proofs.AskedLaws.{ready_whole, ready_trees, none_held, made_of, made_ready}
+use Rattle.keep_files.proofs.AskedLaws.{ready_whole, ready_trees, made_of, made_ready}
 use Rattle.keep_files.proofs.database.Database.put.Goals as goal
 
 -- of a keeper that is held, or of the whole file
@@ -16,7 +15,8 @@ returns-in-Whole-clause-does g c =
 -- of the store of trees
 pub returns-in-Trees-clause-does : goal.returns-in-Trees-clause-does
 returns-in-Trees-clause-does g c =
-    made_ready _ _ _ _ _ _ _ _ _ _ _ _ c.args.self.now.kept
+    rw (sym c.in-Ok.ensures.named)
+    (made_ready _ _ _ _ _ _ _ g.S.Opens.refuses (string_bytes c.ready.new.self.path) _ _ _ c.args.self.now.kept
     (ready_trees _ _ c.args.self.now.kept _
     (subst (IsReadyToRead _ _ c.args.self.now.kept) c.in-Trees.is c.in-Ok.ensures.ready))
-    c.put_by_trees.ensures.does
+    c.put_by_trees.ensures.does)

@@ -1,0 +1,21 @@
+use Rattle.std.proofs.Common.{rules, ◌≡◌, Bool, inl, inr, false, subst, refl}
+use Rattle.keep_files.proofs.page_files.connected.Goals as goal
+
+-- files that an earlier failure left not to be used
+pub returns-then-not-may_be_used : goal.returns-then-not-may_be_used
+returns-then-not-may_be_used g c =
+    let spent : c.may_be_used.result ≡ false = search rules in
+    record { files = c.args.files; why = inl (subst (λ (b : Bool). b ≡ false) c.may_be_used.ensures spent, refl) }
+
+-- files that the database refused
+pub returns-in-Err : goal.returns-in-Err
+returns-in-Err g c = record {
+  files = c.args.files;
+  why = inr (record {
+    error = c.in-Err.error;
+    left = c.in-Err._left;
+    fails = c.in-Err.ensures.cause;
+    harmless = c.in-Err.ensures.unharmed;
+    names = c.cause_of.ensures;
+  });
+}
