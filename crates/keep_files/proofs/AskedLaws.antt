@@ -1,5 +1,5 @@
 -- What is ready for a call, and what was made of it.
-use Rattle.std.proofs.Common.{◌≡◌, ◌⊎◌, inl, inr, ℕ, Bool, true, false, List, Option, Some, None, Result, Ok, Err}
+use Rattle.std.proofs.Common.{◌≡◌, inl, inr, ℕ, Bool, true, List, Option, Some, None, Result, Ok, Err}
 use Rattle.std.proofs.Common.{IfOk, sym, subst}
 use Rattle.sqlite_trees.specs.declared.error.StoreError.{StoreError}
 use Rattle.sqlite.specs.State.{State}
@@ -8,7 +8,7 @@ use Rattle.keep_office.specs.Office.{Office}
 use Rattle.keep_files.specs.declared.cause.Cause.{Cause}
 use Rattle.keep_files.specs.declared.kept.Kept.{Kept}
 use Rattle.keep_files.specs.declared.kept.Kept.TheVariants.{Trees, Whole}
-use Rattle.keep_files.specs.Asked.{IsReady, IsReadyToRead, IsNotWhole, IsMade, IsStored, IsPut, AskedToPut}
+use Rattle.keep_files.specs.Asked.{IsReady, IsReadyToRead, IsNotWhole, IsMade, IsPut, AskedToPut}
 use Rattle.keep_files.specs.Asked.{IsToldAs, HoldsFound}
 use Rattle.keep_files.specs.Openings.{Opening, WasUnopened, IsUnread, IsUnput, IsToldBy, IfWhole}
 

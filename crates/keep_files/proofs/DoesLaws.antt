@@ -3,7 +3,7 @@ use Rattle.std.proofs.Common.{◌≡◌, true, false, true≢false, Result, Ok, 
 use Rattle.sqlite.specs.State.{State, HasCleanDisk, KeepsCommit, Survives}
 use Rattle.sqlite.proofs.StateLemmas.{survives_weaker}
 use Rattle.keep_office.specs.declared.kept.KeepFault.{KeepFault}
-use Rattle.keep_office.specs.declared.kept.KeepFault.TheVariants.{Failed, NoMemory}
+use Rattle.keep_office.specs.declared.kept.KeepFault.TheVariants.{Failed}
 use Rattle.keep_office.specs.Office.{Office}
 use Rattle.keep_tables.specs.Stands.{HasOffice, StandsForOffice}
 use Rattle.keep_tables.specs.Steps.{FitsAny}

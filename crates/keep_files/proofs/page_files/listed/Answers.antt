@@ -1,6 +1,5 @@
-use Rattle.std.proofs.Common.{◌≡◌, ℕ, sym, subst}
+use Rattle.std.proofs.Common.{ℕ, subst}
 use Rattle.sqlite_pages.specs.PageMap.{PageMap}
-use Rattle.keep_office.specs.Office.{Office}
 use Rattle.keep_trees.specs.Pages.{HoldOffice}
 use Rattle.keep_files.proofs.page_files.listed.Goals as goal
 
