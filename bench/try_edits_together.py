@@ -213,6 +213,8 @@ def main():
     words.add_argument("--edit", action="append", default=[])
     words.add_argument("crates", nargs="+")
     given = words.parse_args()
+    if given.logs:
+        pathlib.Path(given.logs).mkdir(parents=True, exist_ok=True)
     counts = [tried(name, given) for name in given.crates]
     count, refused = sum(it for it, _ in counts), sum(it for _, it in counts)
     print(f"{refused} of {count} refused")
