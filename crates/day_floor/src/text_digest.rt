@@ -6,11 +6,9 @@ use road_digest::{BesideDigester, Digest};
 use std::alloc::Global;
 use std::thread::Threads;
 
-/// So many bytes are gathered, at most, before the first thread takes them for the digest.
-const FIRST_CHUNK: usize = 262_144;
-
-/// So many bytes are gathered, at most, before any thread takes them: as many as of the bytes that are read.
-const GREATEST_CHUNK: usize = 4_194_304;
+/// So many bytes are gathered, at most, before a thread takes them for the digest: about as many as a round writes, so
+/// that the thread is done long before the next ones are.
+const CHUNK: usize = 524_288;
 
 /// Takes the digest of a text that comes in pieces, if it is asked, by a thread beside. Else it takes nothing. It cannot
 /// be dropped: `finish` and `close` end it, once no thread has a part of the text.
@@ -26,7 +24,7 @@ impl TextDigest {
         ensures asked { result.asked ≡ asked }
     {
         TextDigest {
-            digester: BesideDigester::new(alloc, FIRST_CHUNK, GREATEST_CHUNK),
+            digester: BesideDigester::new(alloc, CHUNK, CHUNK),
             asked,
         }
     }
