@@ -28,10 +28,11 @@ use road_io::Sink;
 use road_time::{Limits, NoMemory, Tariffs, Tuple};
 use std::alloc::Global;
 use std::collections::VecDeque;
+use std::thread::Threads;
 use ways_expressway::{Carriage, Done, Events, Job};
 
-/// The tuples that wait to be settled, with what was found for them, and what each worker has of the day.
-#[derive(Drop)]
+/// The tuples that wait to be settled, with what was found for them, and what each worker has of the day. It cannot be
+/// dropped: `close` and `leave` end it, once no thread has a part of its text.
 pub struct Floor {
     pub(crate) alloc: Global,
     pub(crate) limits: Limits,
@@ -188,8 +189,9 @@ impl Floor {
     /// Settles, in order, every position below the mark: it books, writes the notices and answers, publishes the
     /// charges with the new mark, and answers how many positions are settled so far. After a refusal some first bytes
     /// of the text were written, no step was published, and the floor serves no more.
-    pub fn settle<K: Keeper, O: Sink, P: Publisher>(
+    pub fn settle<R: Threads, K: Keeper, O: Sink, P: Publisher>(
         &mut self,
+        rt: &R,
         day: u32,
         keeper: &mut K,
         sink: &mut O,
@@ -235,7 +237,7 @@ impl Floor {
         let count = mark - self.settled;
         match self
             .settler
-            .settle(count, &mut self.slots, day, keeper, sink, publisher)
+            .settle(rt, count, &mut self.slots, day, keeper, sink, publisher)
         {
             Err(fault) => Err(fault),
             Ok(settled) => {
@@ -246,14 +248,38 @@ impl Floor {
     }
 
     /// What is left of the day, under its number, where all tuples are settled. The one error is want of memory.
-    pub fn close(self, day: u32) -> Result<Closed, NoMemory>
+    pub fn close<R: Threads>(self, rt: &R, day: u32) -> Result<Closed, NoMemory>
         requires { (g : Setting) × (s : State) × StandsFor g self s × (s.settled ≡ length s.fed) }
         ensures closed { IfOk result (λ closed. (g : Setting) (s : State) → StandsFor g self s
             → s.settled ≡ length s.fed → IsClosed closed day (given s.found) g.number g.history s.fed) }
         ensures digested { IfOk result (λ closed. (g : Setting) (s : State) → StandsFor g self s
             → is_some closed.notices_digest ≡ g.digested) }
     {
-        let Floor { settler, .. } = self;
-        settler.close(day)
+        let Floor {
+            alloc: _,
+            limits: _,
+            inboxes: _,
+            homes: _,
+            slots: _,
+            settler,
+            settled: _,
+            given: _,
+        } = self;
+        settler.close(rt, day)
+    }
+
+    /// Leaves the floor, once no thread has a part of its text.
+    pub fn leave<R: Threads>(self, rt: &R) {
+        let Floor {
+            alloc: _,
+            limits: _,
+            inboxes: _,
+            homes: _,
+            slots: _,
+            settler,
+            settled: _,
+            given: _,
+        } = self;
+        settler.leave(rt);
     }
 }

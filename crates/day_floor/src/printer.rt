@@ -12,13 +12,14 @@ use road_digest::Digest;
 use road_io::{Sink, put_all};
 use road_time::Notice;
 use std::alloc::Global;
+use std::thread::Threads;
 use tuples_text::put_notice;
 
 /// A piece is handed on once it has so many bytes.
 const PIECE: usize = 65_536;
 
 /// The text that is not handed on yet, the digest of what is, if it is asked, and how many notices there were.
-#[derive(Drop)]
+/// It cannot be dropped: `end` and `close` end it.
 pub struct Printer {
     piece: Vec<u8>,
     digest: TextDigest,
@@ -35,13 +36,13 @@ impl Printer {
     {
         Printer {
             piece: Vec::new(alloc),
-            digest: TextDigest::new(digested),
+            digest: TextDigest::new(alloc, digested),
             notices: 0,
         }
     }
 
     /// Hands the piece on.
-    pub fn flush<O: Sink>(&mut self, sink: &mut O) -> Result<(), SettleFault>
+    pub fn flush<R: Threads, O: Sink>(&mut self, rt: &R, sink: &mut O) -> Result<(), SettleFault>
         ensures hands { HandsOn result self.old self.new (O.written sink.old, O.room sink.old)
             (O.written sink.new, O.room sink.new) }
         ensures faults { SinkFaults (O.faults sink.old) (O.faults sink.new) (O.room sink.old) (O.room sink.new) result }
@@ -50,7 +51,7 @@ impl Printer {
     {
         match put_all(sink, self.piece.as_slice()) {
             Ok(()) => {
-                self.digest.add(&self.piece);
+                self.digest.add(rt, &self.piece);
                 self.piece.clear();
                 Ok(())
             }
@@ -60,7 +61,12 @@ impl Printer {
 
     /// Takes a notice.
     #[inline(always)]
-    pub fn put<O: Sink>(&mut self, notice: &Notice, sink: &mut O) -> Result<(), SettleFault>
+    pub fn put<R: Threads, O: Sink>(
+        &mut self,
+        rt: &R,
+        notice: &Notice,
+        sink: &mut O,
+    ) -> Result<(), SettleFault>
         requires { self.old.notices + 1 < 2 ^ 64 }
         ensures says { Says result self.old self.new (O.written sink.old, O.room sink.old)
             (O.written sink.new, O.room sink.new) (notice.now ∷ []) }
@@ -75,13 +81,14 @@ impl Printer {
         if self.piece.len() < PIECE {
             return Ok(());
         }
-        self.flush(sink)
+        self.flush(rt, sink)
     }
 
     /// Takes an alert, where there is an accident.
     #[inline(always)]
-    fn put_alert<O: Sink>(
+    fn put_alert<R: Threads, O: Sink>(
         &mut self,
+        rt: &R,
         time: u32,
         vid: u32,
         alert: Option<u8>,
@@ -95,14 +102,15 @@ impl Printer {
         ensures digested { self.new.digest.asked ≡ self.old.digest.asked }
     {
         match alert {
-            Some(seg) => self.put(&Notice::Alert { time, vid, seg }, sink),
+            Some(seg) => self.put(rt, &Notice::Alert { time, vid, seg }, sink),
             None => Ok(()),
         }
     }
 
     /// Takes what a report is told: the alert before the toll.
-    pub fn put_told<O: Sink>(
+    pub fn put_told<R: Threads, O: Sink>(
         &mut self,
+        rt: &R,
         time: u32,
         vid: u32,
         found: Found,
@@ -115,7 +123,7 @@ impl Printer {
         ensures other { keeper_failed result ≡ false }
         ensures digested { self.new.digest.asked ≡ self.old.digest.asked }
     {
-        if let Err(fault) = self.put_alert(time, vid, found.alert, sink) {
+        if let Err(fault) = self.put_alert(rt, time, vid, found.alert, sink) {
             return Err(fault);
         }
         let toll = Notice::Toll {
@@ -124,15 +132,30 @@ impl Printer {
             lav: found.lav,
             toll: found.toll,
         };
-        self.put(&toll, sink)
+        self.put(rt, &toll, sink)
     }
 
     /// How many notices were taken, and the digest of the text that was handed on, if it was asked.
-    pub fn end(self) -> (u64, Option<Digest>)
+    pub fn end<R: Threads>(self, rt: &R) -> (u64, Option<Digest>)
         ensures count { result.0 ≡ self.notices }
         ensures digest { (text : List ℕ) → TookText self.digest text → IsDigestOf result.1 text }
         ensures digested { is_some result.1 ≡ self.digest.asked }
     {
-        (self.notices, self.digest.finish())
+        let Printer {
+            piece: _,
+            digest,
+            notices,
+        } = self;
+        (notices, digest.finish(rt))
+    }
+
+    /// Leaves what was taken, once no thread has a part of it.
+    pub fn close<R: Threads>(self, rt: &R) {
+        let Printer {
+            piece: _,
+            digest,
+            notices: _,
+        } = self;
+        digest.close(rt);
     }
 }

@@ -18,8 +18,8 @@ pub use closing::{Closed, SpentRows};
 use std::alloc::Global;
 
 /// What is kept of the positions that are settled: the book, the text that was written, and how many there are.
-/// Between two runs no text is held and no charge is listed; their room is kept.
-#[derive(Drop)]
+/// Between two runs no text is held and no charge is listed; their room is kept. It cannot be dropped: `close` and `leave`
+/// end it.
 pub struct Settler {
     book: Book,
     printer: Printer,

@@ -16,11 +16,12 @@ use day_floor::Floor;
 use road_time::{Limits, NoMemory, Tariffs};
 use std::alloc::Global;
 use std::collections::VecDeque;
+use std::thread::Threads;
 use ways_crews::Crew;
 use ways_crews::drain::finish_all;
 
-/// The floor of a day, and the tickets of the jobs that are out, in the order of their starts.
-#[derive(Drop)]
+/// The floor of a day, and the tickets of the jobs that are out, in the order of their starts. It cannot be dropped, as
+/// its floor cannot.
 pub struct Import<T> {
     pub(crate) floor: Floor,
     pub(crate) tickets: VecDeque<T>,
@@ -54,8 +55,14 @@ pub fn begin<T: Drop>(
     })
 }
 
+/// Leaves an import before its first tuple.
+pub fn leave<T: Drop, R: Threads>(rt: &R, run: Import<T>) {
+    let Import { floor, tickets: _ } = run;
+    floor.leave(rt);
+}
+
 /// Finishes all that is out after a refusal.
-pub fn stop<C: Crew>(run: Import<C::Ticket>, crew: &mut C)
+pub fn stop<C: Crew, R: Threads>(rt: &R, run: Import<C::Ticket>, crew: &mut C)
     requires { (told : Option CrewTold) × (width : ℕ) × (limits : DayLimits) × (day : List RoadTuple)
         × StoppedBy C.Crew told width limits day run crew.old }
     ensures idle { C.out crew.new ≡ [] }
@@ -64,6 +71,7 @@ pub fn stop<C: Crew>(run: Import<C::Ticket>, crew: &mut C)
         → StoppedBy C.Crew told width limits day run crew.old → (since : List Job)
         × HaveFirstStarted width limits.backlog day since × WhereTold (ListsFirst since) told (C.jobs crew.new) }
 {
-    let Import { tickets, .. } = run;
+    let Import { floor, tickets } = run;
+    floor.leave(rt);
     finish_all(crew, tickets);
 }

@@ -24,7 +24,7 @@ ghost use Rattle.ways_crews.specs.Told.{CrewTold};
 ghost use Rattle.day_import.specs.Days.{IsOn};
 ghost use Rattle.day_import.specs.Halts.{IsCutDayBy};
 
-use crate::begun::{Import, begin, stop};
+use crate::begun::{Import, begin, leave, stop};
 use crate::fault::{DayFault, reading_stopped};
 use crate::rounds::run_rounds;
 use crate::turns::run_turns;
@@ -110,7 +110,10 @@ pub fn run_day<C: Crew, S: Source, K: Keeper, O: Sink, P: Publisher, R: Threads>
         return Err(DayFault::NoMemory);
     };
     match DayAhead::open(rt, alloc, limits, late, digested, source) {
-        Err(stop) => Err(reading_stopped(stop)),
+        Err(stop) => {
+            leave(rt, run);
+            Err(reading_stopped(stop))
+        }
         Ok(ahead) => {
             let these = Vec::new(alloc);
             match run_opened(
@@ -207,8 +210,8 @@ pub fn run_opened<C: Crew, S: Source, K: Keeper, O: Sink, P: Publisher, R: Threa
         rt, plan, &mut run, crew, &mut ahead, source, &mut these, day, keeper, sink, publisher,
     ) {
         Ok(tuples) => {
-            let Import { floor, .. } = run;
-            let Ok(closed) = floor.close(day) else {
+            let Import { floor, tickets: _ } = run;
+            let Ok(closed) = floor.close(rt, day) else {
                 ahead.close(rt);
                 return Err(DayFault::NoMemory);
             };
@@ -220,7 +223,7 @@ pub fn run_opened<C: Crew, S: Source, K: Keeper, O: Sink, P: Publisher, R: Threa
             })
         }
         Err(fault) => {
-            stop(run, crew);
+            stop(rt, run, crew);
             ahead.close(rt);
             Err(fault)
         }

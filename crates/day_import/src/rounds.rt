@@ -256,7 +256,7 @@ pub fn round<C: Crew, S: Source, K: Keeper, O: Sink, P: Publisher, R: Threads>(
     let Ok(()) = work_round(rt, run, crew, width, ahead, source, count, these, stop) else {
         return Err(SettleFault::NoMemory);
     };
-    match settle_done(&mut run.floor, day, keeper, sink, publisher) {
+    match settle_done(rt, &mut run.floor, day, keeper, sink, publisher) {
         Ok(settled) => Ok(settled),
         Err(fault) => Err(fault),
     }

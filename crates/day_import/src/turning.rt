@@ -31,6 +31,7 @@ use keep_office::Keeper;
 use rand_pcg::Lcg64Xsh32;
 use road_io::Sink;
 use road_time::{NoMemory, Tuple};
+use std::thread::Threads;
 use ways_crews::Crew;
 
 /// Some tuples are fed, and some jobs are given and finished as they are drawn.
@@ -67,7 +68,8 @@ pub fn feed_turn<C: Crew>(
 
 /// A turn over some tuples: they are fed, some jobs are given and finished as they are drawn, and what can be is
 /// settled.
-pub fn turn<C: Crew, K: Keeper, O: Sink, P: Publisher>(
+pub fn turn<C: Crew, K: Keeper, O: Sink, P: Publisher, R: Threads>(
+    rt: &R,
     run: &mut Import<C::Ticket>,
     crew: &mut C,
     width: u8,
@@ -117,7 +119,7 @@ pub fn turn<C: Crew, K: Keeper, O: Sink, P: Publisher>(
     let Ok(()) = feed_turn(run, crew, width, these, rng) else {
         return Err(SettleFault::NoMemory);
     };
-    settle_done(&mut run.floor, day, keeper, sink, publisher)
+    settle_done(rt, &mut run.floor, day, keeper, sink, publisher)
 }
 
 /// A worker, as it is drawn.

@@ -205,6 +205,7 @@ pub fn next_turn<C: Crew, S: Source, K: Keeper, O: Sink, P: Publisher, R: Thread
     match gather(rt, ahead, source, count, these) {
         Err(stop) => Err(reading_stopped(stop)),
         Ok(()) => match turn(
+            rt,
             run,
             crew,
             width,

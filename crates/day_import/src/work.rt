@@ -280,7 +280,8 @@ pub fn read_on<S: Source, R: Threads>(
 /// Settles every position below the mark. The text and the steps go on from what was written and published; after a
 /// refusal some first bytes of the output of any day that goes on from the tuples fed were written, where the findings
 /// are true, and no step was published.
-pub fn settle_done<K: Keeper, O: Sink, P: Publisher>(
+pub fn settle_done<K: Keeper, O: Sink, P: Publisher, R: Threads>(
+    rt: &R,
     floor: &mut Floor,
     day: u32,
     keeper: &mut K,
@@ -314,5 +315,5 @@ pub fn settle_done<K: Keeper, O: Sink, P: Publisher>(
         result }
     ensures asked { AsksUntil (keeper_failed result) (K.plan keeper.old) (K.plan keeper.new) }
 {
-    floor.settle(day, keeper, sink, publisher)
+    floor.settle(rt, day, keeper, sink, publisher)
 }

@@ -32,8 +32,9 @@ const NUMBER: u32 = 100;
 const PIECE: usize = 64;
 
 /// Feeds a day's tuples, runs each worker's job, settles and closes. What is written is the output of the rules.
-fn settle_day<K: Keeper, O: Sink>(
+fn settle_day<R: Threads, K: Keeper, O: Sink>(
     rt: HostRuntime,
+    threads: &R,
     width: u8,
     tuples: &[Tuple],
     keeper: &mut K,
@@ -57,11 +58,13 @@ fn settle_day<K: Keeper, O: Sink>(
         return Err(SettleFault::NoMemory);
     };
     let Ok(()) = feed_all(&mut floor, tuples) else {
+        floor.leave(threads);
         return Err(SettleFault::NoMemory);
     };
     let _before = show_floor(rt, floor.pending(), floor.room(), floor.mark()).is_ok();
     if let Err(fault) = run_and_settle(
         rt,
+        threads,
         &mut floor,
         width,
         NUMBER,
@@ -69,10 +72,11 @@ fn settle_day<K: Keeper, O: Sink>(
         sink,
         &mut NoPublisher,
     ) {
+        floor.leave(threads);
         return Err(fault);
     }
     let _after = show_floor(rt, floor.pending(), floor.room(), floor.mark()).is_ok();
-    match floor.close(NUMBER) {
+    match floor.close(threads, NUMBER) {
         Ok(closed) => Ok(closed),
         Err(_) => Err(SettleFault::NoMemory),
     }
@@ -80,8 +84,9 @@ fn settle_day<K: Keeper, O: Sink>(
 
 /// Settles a day into a sink in memory. Of a day that is longer than the sink's room it has as much as there is room
 /// for; and where the keeper fails, the first of its calls that was planned to fail is one of the day's requests.
-fn settle_in_memory(
+fn settle_in_memory<R: Threads>(
     rt: HostRuntime,
+    threads: &R,
     width: u8,
     tuples: &[Tuple],
     keeper: &mut MemKeeper,
@@ -102,7 +107,7 @@ fn settle_in_memory(
         → (i : ℕ) × (i < requests_of tuples.now) × (plan_of keeper.old i ≡ true)
         × ((j : ℕ) → j < i → plan_of keeper.old j ≡ false) }
 {
-    settle_day(rt, width, tuples, keeper, sink)
+    settle_day(rt, threads, width, tuples, keeper, sink)
 }
 
 /// Prints what is done with a day's lines: over so many workers, a keeper that fails at some calls, and a sink with
@@ -135,7 +140,14 @@ fn show_row<R: Threads>(
     let Ok(mut sink) = MemSink::new(rt.alloc(), room, PIECE) else {
         return false;
     };
-    let end = settle_in_memory(rt, width, tuples.as_slice(), &mut keeper, &mut sink);
+    let end = settle_in_memory(
+        rt,
+        threads,
+        width,
+        tuples.as_slice(),
+        &mut keeper,
+        &mut sink,
+    );
     let written = str::from_utf8(sink.bytes()).unwrap_or("");
     show_end(rt, &end, written).is_ok()
 }

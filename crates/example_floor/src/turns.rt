@@ -19,6 +19,7 @@ use keep_office::Keeper;
 use road_io::Sink;
 use road_time::NoMemory;
 use std::rt::HostRuntime;
+use std::thread::Threads;
 use ways_expressway::run;
 
 /// Gives a worker its next job, if there is one, and no other as long as it is out, runs it, and takes it back.
@@ -74,8 +75,9 @@ pub fn run_all(rt: HostRuntime, floor: &mut Floor, width: u8) -> Result<(), NoMe
 /// Runs the next job of each worker, and settles. Where no job was out, the findings were true and nothing was settled,
 /// it writes the output of the rules, or is stopped where the sink's room is full or the keeper's call was planned to
 /// fail.
-pub fn run_and_settle<K: Keeper, O: Sink, P: Publisher>(
+pub fn run_and_settle<R: Threads, K: Keeper, O: Sink, P: Publisher>(
     rt: HostRuntime,
+    threads: &R,
     floor: &mut Floor,
     width: u8,
     day: u32,
@@ -108,5 +110,5 @@ pub fn run_and_settle<K: Keeper, O: Sink, P: Publisher>(
     if run_all(rt, floor, width).is_err() {
         return Err(SettleFault::NoMemory);
     }
-    floor.settle(day, keeper, sink, publisher)
+    floor.settle(threads, day, keeper, sink, publisher)
 }

@@ -11,6 +11,7 @@ use super::Settler;
 use road_digest::Digest;
 use road_time::{NoMemory, SpentRow};
 use std::marker::Model;
+use std::thread::Threads;
 
 /// The amounts of a day, in the order of vehicles and expressways. Contracts see the list.
 #[derive(Drop)]
@@ -59,20 +60,40 @@ pub struct Closed {
 
 impl Settler {
     /// What is left of a day, under its number. The one error is want of memory.
-    pub fn close(self, day: u32) -> Result<Closed, NoMemory>
+    pub fn close<R: Threads>(self, rt: &R, day: u32) -> Result<Closed, NoMemory>
         ensures closed { IfOk result (λ closed.
             (finding : Sight → StretchTold) (number : ℕ) (history : PaidHistory) (before : List Tuple)
             → StandsFor self finding number history before → IsClosed closed day finding number history before) }
         ensures digested { IfOk result (λ closed. is_some closed.notices_digest ≡ is_digested self) }
     {
-        let rows = self.book.spent_rows(day)?;
-        let total = self.book.total();
-        let (notices, notices_digest) = self.printer.end();
+        let Settler {
+            book,
+            printer,
+            charges: _,
+            settled: _,
+        } = self;
+        let Ok(rows) = book.spent_rows(day) else {
+            printer.close(rt);
+            return Err(NoMemory);
+        };
+        let total = book.total();
+        let (notices, notices_digest) = printer.end(rt);
         Ok(Closed {
             rows: SpentRows::from_vec(rows),
             total,
             notices,
             notices_digest,
         })
+    }
+
+    /// Leaves what is settled, once no thread has a part of its text.
+    pub fn leave<R: Threads>(self, rt: &R) {
+        let Settler {
+            book: _,
+            printer,
+            charges: _,
+            settled: _,
+        } = self;
+        printer.close(rt);
     }
 }

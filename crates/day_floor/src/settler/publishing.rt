@@ -20,6 +20,7 @@ use crate::publisher::Publisher;
 use keep_office::Keeper;
 use road_io::Sink;
 use std::collections::VecDeque;
+use std::thread::Threads;
 
 impl Settler {
     /// Publishes the listed charges with the new mark, if any position was settled.
@@ -54,8 +55,9 @@ impl Settler {
     /// Settles the first positions that wait, so many, in order: it books, writes all of their notices and answers,
     /// publishes the charges with the new mark, and answers how many positions are settled so far. After a refusal some
     /// first bytes of their text were written, no step was published, and the settler serves no more.
-    pub fn settle<K: Keeper, O: Sink, P: Publisher>(
+    pub fn settle<R: Threads, K: Keeper, O: Sink, P: Publisher>(
         &mut self,
+        rt: &R,
         count: u32,
         slots: &mut VecDeque<Slot>,
         number: u32,
@@ -109,7 +111,7 @@ impl Settler {
             (K.plan keeper.new) result }
         ensures digested { is_digested self.new ≡ is_digested self.old }
     {
-        if let Err(fault) = self.write_run(count, slots, number, keeper, sink) {
+        if let Err(fault) = self.write_run(rt, count, slots, number, keeper, sink) {
             return Err(fault);
         }
         if let Err(fault) = self.publish(count, publisher) {

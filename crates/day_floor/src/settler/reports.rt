@@ -14,11 +14,13 @@ use crate::due_slot::Found;
 use crate::fault::SettleFault;
 use crate::tracked::Charge;
 use road_io::Sink;
+use std::thread::Threads;
 
 impl Settler {
     /// Writes what a report is told, if it is told.
-    fn tell<O: Sink>(
+    fn tell<R: Threads, O: Sink>(
         &mut self,
+        rt: &R,
         time: u32,
         vid: u32,
         told: bool,
@@ -39,13 +41,14 @@ impl Settler {
         if !told {
             return Ok(());
         }
-        self.printer.put_told(time, vid, found, sink)
+        self.printer.put_told(rt, time, vid, found, sink)
     }
 
     /// Settles a report: the stay that it leaves is charged the toll that was told last, and only then it is told its
     /// own.
-    pub(super) fn settle_report<O: Sink>(
+    pub(super) fn settle_report<R: Threads, O: Sink>(
         &mut self,
+        rt: &R,
         time: u32,
         vid: u32,
         charge: Charge,
@@ -80,6 +83,6 @@ impl Settler {
         {
             return Err(SettleFault::NoMemory);
         }
-        self.tell(time, vid, told, found, sink)
+        self.tell(rt, time, vid, told, found, sink)
     }
 }

@@ -17,11 +17,13 @@ use crate::fault::SettleFault;
 use keep_office::Keeper;
 use road_io::Sink;
 use std::collections::VecDeque;
+use std::thread::Threads;
 
 impl Settler {
     /// Settles the first position that waits.
-    fn settle_next<K: Keeper, O: Sink>(
+    fn settle_next<R: Threads, K: Keeper, O: Sink>(
         &mut self,
+        rt: &R,
         slots: &mut VecDeque<Slot>,
         number: u32,
         keeper: &mut K,
@@ -58,7 +60,7 @@ impl Settler {
         let Some(slot) = slots.pop_front() else {
             unreachable!()
         };
-        if let Err(fault) = self.settle_slot(slot, number, keeper, sink) {
+        if let Err(fault) = self.settle_slot(rt, slot, number, keeper, sink) {
             return Err(fault);
         }
         self.settled += 1;
@@ -66,8 +68,9 @@ impl Settler {
     }
 
     /// Settles the first positions that wait, so many.
-    pub(super) fn settle_run<K: Keeper, O: Sink>(
+    pub(super) fn settle_run<R: Threads, K: Keeper, O: Sink>(
         &mut self,
+        rt: &R,
         count: u32,
         slots: &mut VecDeque<Slot>,
         number: u32,
@@ -97,7 +100,7 @@ impl Settler {
         ensures digested { is_digested self.new ≡ is_digested self.old }
     {
         for _ in 0..count {
-            if let Err(fault) = self.settle_next(slots, number, keeper, sink) {
+            if let Err(fault) = self.settle_next(rt, slots, number, keeper, sink) {
                 return Err(fault);
             }
         }
@@ -105,8 +108,9 @@ impl Settler {
     }
 
     /// Settles the first positions that wait, so many, and writes all of their text.
-    pub(super) fn write_run<K: Keeper, O: Sink>(
+    pub(super) fn write_run<R: Threads, K: Keeper, O: Sink>(
         &mut self,
+        rt: &R,
         count: u32,
         slots: &mut VecDeque<Slot>,
         number: u32,
@@ -135,9 +139,9 @@ impl Settler {
             (K.plan keeper.new) result }
         ensures digested { is_digested self.new ≡ is_digested self.old }
     {
-        if let Err(fault) = self.settle_run(count, slots, number, keeper, sink) {
+        if let Err(fault) = self.settle_run(rt, count, slots, number, keeper, sink) {
             return Err(fault);
         }
-        self.printer.flush(sink)
+        self.printer.flush(rt, sink)
     }
 }

@@ -15,11 +15,13 @@ use crate::paying::paid_on;
 use keep_office::Keeper;
 use road_io::Sink;
 use road_time::Notice;
+use std::thread::Threads;
 
 impl Settler {
     /// Settles a position: it books, tells and answers as the slot says.
-    pub(super) fn settle_slot<K: Keeper, O: Sink>(
+    pub(super) fn settle_slot<R: Threads, K: Keeper, O: Sink>(
         &mut self,
+        rt: &R,
         slot: Slot,
         number: u32,
         keeper: &mut K,
@@ -50,11 +52,11 @@ impl Settler {
                 vid,
                 charge,
                 told,
-            } => self.settle_report(time, vid, charge, told, slot.found, sink),
+            } => self.settle_report(rt, time, vid, charge, told, slot.found, sink),
             Due::Balance { time, vid, qid } => {
                 let amount = self.book.balance(vid);
                 self.printer
-                    .put(&Notice::Balance { time, qid, amount }, sink)
+                    .put(rt, &Notice::Balance { time, qid, amount }, sink)
             }
             Due::Spent {
                 time,
@@ -63,7 +65,9 @@ impl Settler {
                 qid,
                 day,
             } => match paid_on(keeper, number.saturating_sub(u32::from(day)), vid, xway) {
-                Ok(amount) => self.printer.put(&Notice::Spent { time, qid, amount }, sink),
+                Ok(amount) => self
+                    .printer
+                    .put(rt, &Notice::Spent { time, qid, amount }, sink),
                 Err(fault) => Err(fault),
             },
         }

@@ -38,8 +38,8 @@ stop-requires g c =
     history in
     (k.jobs c.args.crew.now, f.inboxes.width, f.limits, cut.fed, cut.stopped)
 
-pub returns-in-Ok-close-clause-ran : goal.returns-in-Ok-close-clause-ran
-returns-in-Ok-close-clause-ran g c e late h gathers number history =
+pub returns-in-Ok-clause-ran : goal.returns-in-Ok-clause-ran
+returns-in-Ok-clause-ran g c e late h gathers number history =
     let k = g.C.Crew in
     let told = k.jobs c.args.crew.now in
     let answered = k.answers c.args.crew.now in
@@ -88,8 +88,8 @@ returns-in_default-clause-stopped g c e late h gathers number history =
     (whole_stopped k.out k.number k.holds k.gave k.exact k.jobs k.answers e told answered last.run last.crew s runs
     f.limits late c.args.ahead last.ahead _ _ _ _ _ _ same_on all v.ended same_gathers)
 
-pub returns-in-Err-clause-stopped : goal.returns-in-Err-clause-stopped
-returns-in-Err-clause-stopped g c e late h gathers number history =
+pub returns-clause-stopped : goal.returns-clause-stopped
+returns-clause-stopped g c e late h gathers number history =
     let k = g.C.Crew in
     let told = k.jobs c.args.crew.now in
     let f = c.args.run.floor in
@@ -99,8 +99,8 @@ returns-in-Err-clause-stopped g c e late h gathers number history =
     c.args.ahead _ _ _ _ _ last.run last.crew c.stop.new.crew cut
     (c.stop.ensures.jobs told f.inboxes.width f.limits cut.fed cut.stopped)
 
-pub returns-in-Ok-close-clause-idle : goal.returns-in-Ok-close-clause-idle
-returns-in-Ok-close-clause-idle g c =
+pub returns-in-Ok-clause-idle : goal.returns-in-Ok-clause-idle
+returns-in-Ok-clause-idle g c =
     let k = g.C.Crew in
     let (e, late, h, gathers, number, history, abreast) = c.requires.runs in
     let (s, on, all, is, runs, plan) =
@@ -117,8 +117,8 @@ returns-in_default-clause-idle g c =
     nothing_out k.out k.number k.holds k.gave k.exact k.jobs k.answers e (k.jobs c.args.crew.now)
     (k.answers c.args.crew.now) c.run_plan.new.run c.run_plan.new.crew s runs c.in-Ok.ensures.none
 
-pub returns-in-Ok-close-clause-bounded : goal.returns-in-Ok-close-clause-bounded
-returns-in-Ok-close-clause-bounded g c bytes had =
+pub returns-in-Ok-clause-bounded : goal.returns-in-Ok-clause-bounded
+returns-in-Ok-clause-bounded g c bytes had =
     ahead_within c.run_plan.new.ahead c.args.run.floor.limits (g.S.Source.left c.run_plan.new.source) bytes
     (c.in-Ok.ensures.read c.args.run.floor.limits.lines bytes had)
 
@@ -127,13 +127,13 @@ returns-in_default-clause-bounded g c bytes had =
     ahead_within c.run_plan.new.ahead c.args.run.floor.limits (g.S.Source.left c.run_plan.new.source) bytes
     (c.in-Ok.ensures.read c.args.run.floor.limits.lines bytes had)
 
-pub returns-in-Err-clause-bounded : goal.returns-in-Err-clause-bounded
-returns-in-Err-clause-bounded g c bytes had =
+pub returns-clause-bounded : goal.returns-clause-bounded
+returns-clause-bounded g c bytes had =
     ahead_within c.run_plan.new.ahead c.args.run.floor.limits (g.S.Source.left c.run_plan.new.source) bytes
     (c.in-Err.ensures.read c.args.run.floor.limits.lines bytes had)
 
-pub returns-in-Ok-close-clause-rest : goal.returns-in-Ok-close-clause-rest
-returns-in-Ok-close-clause-rest g c e late h gathers number history bytes is read none =
+pub returns-in-Ok-clause-rest : goal.returns-in-Ok-clause-rest
+returns-in-Ok-clause-rest g c e late h gathers number history bytes is read none =
     let k = g.C.Crew in
     let f = c.args.run.floor in
     let v = c.in-Ok.ensures in
@@ -143,8 +143,8 @@ returns-in-Ok-close-clause-rest g c e late h gathers number history bytes is rea
     nothing_left last.ahead f.limits late (g.S.Source.left last.source) bytes s.fed f.limits.lines v.ended none
     (on.given.reads bytes [] is) (v.read f.limits.lines bytes read)
 
-pub returns-in-Ok-close-clause-leaves : goal.returns-in-Ok-close-clause-leaves
-returns-in-Ok-close-clause-leaves g c e late h gathers number history bytes is read =
+pub returns-in-Ok-clause-leaves : goal.returns-in-Ok-clause-leaves
+returns-in-Ok-clause-leaves g c e late h gathers number history bytes is read =
     let k = g.C.Crew in
     let f = c.args.run.floor in
     let v = c.in-Ok.ensures in
@@ -153,23 +153,23 @@ returns-in-Ok-close-clause-leaves g c e late h gathers number history bytes is r
     c.end-end.ensures.left f.limits late (g.S.Source.left c.run_plan.new.source) bytes s.fed
     (on.given.reads bytes [] is) (v.read f.limits.lines bytes read)
 
-pub returns-in-Ok-close-clause-digested : goal.returns-in-Ok-close-clause-digested
-returns-in-Ok-close-clause-digested g c =
+pub returns-in-Ok-clause-digested : goal.returns-in-Ok-clause-digested
+returns-in-Ok-clause-digested g c =
     let k = g.C.Crew in
     let (e, late, h, gathers, number, history, abreast) = c.requires.runs in
     let (s, on, all, count, runs, plan) =
     c.in-Ok.ensures.done e (k.jobs c.args.crew.now) (k.answers c.args.crew.now) late h gathers number history in
     subst (λ (asked : Bool). IsDigested asked c.end-end.result) on.given.digested c.end-end.ensures.digested
 
-pub returns-in-Ok-close-clause-notices_digested : goal.returns-in-Ok-close-clause-notices_digested
-returns-in-Ok-close-clause-notices_digested g c e late h gathers number history =
+pub returns-in-Ok-clause-notices_digested : goal.returns-in-Ok-clause-notices_digested
+returns-in-Ok-clause-notices_digested g c e late h gathers number history =
     let k = g.C.Crew in
     let (s, on, all, is, runs, plan) =
     c.in-Ok.ensures.done e (k.jobs c.args.crew.now) (k.answers c.args.crew.now) late h gathers number history in
     c.in-Ok-close.ensures.digested e s runs.stands
 
-pub returns-in-Ok-close-clause-planned : goal.returns-in-Ok-close-clause-planned
-returns-in-Ok-close-clause-planned g c e late h gathers number history bytes =
+pub returns-in-Ok-clause-planned : goal.returns-in-Ok-clause-planned
+returns-in-Ok-clause-planned g c e late h gathers number history bytes =
     let k = g.C.Crew in
     let told = k.jobs c.args.crew.now in
     let answered = k.answers c.args.crew.now in

@@ -14,18 +14,18 @@ use Rattle.example_floor.proofs.RunLaws.{on_ok}
 use Rattle.example_floor.proofs.rows.settle_in_memory.Goals as goal
 
 pub returns-clause-fits : goal.returns-clause-fits
-returns-clause-fits c =
+returns-clause-fits g c =
     let a = c.args in
     let kept = paid (kept_by a.keeper.now).rows in
     on_ok c.settle_day.result (λ took. (let all = (took kept refl).0.1 in omega (arith, all))) c.settle_day.ensures.took
 
 pub returns-clause-passed : goal.returns-clause-passed
-returns-clause-passed c =
+returns-clause-passed g c =
     on_ok c.settle_day.result (λ took. (took (paid (kept_by c.args.keeper.now).rows) refl).1.0)
     c.settle_day.ensures.took
 
 pub returns-clause-full : goal.returns-clause-full
-returns-clause-full c = λ is.
+returns-clause-full g c = λ is.
     let a = c.args in
     let kept = paid (kept_by a.keeper.now).rows in
     let text = out (notices a.tuples.now [] 100 kept) in
@@ -37,7 +37,7 @@ returns-clause-full c = λ is.
     filled.2 ∙ ap (λ n. bytes_of a.sink.now ++ take n text) (sym filled.3.0)
 
 pub returns-clause-failed : goal.returns-clause-failed
-returns-clause-failed c = λ is.
+returns-clause-failed g c = λ is.
     let a = c.args in
     let kept = paid (kept_by a.keeper.now).rows in
     let at = subst (λ r. IfErr r (λ fault. (k : ℕ → ℕ → ℕ → ℕ) → history_of (Some (kept_by a.keeper.now)) ≡ Some k →

@@ -6,7 +6,7 @@ use Rattle.day_floor.proofs.Settled.{if_ok}
 use Rattle.day_floor.proofs.floor.Floor.close.Goals as goal
 
 pub returns-clause-closed : goal.returns-clause-closed
-returns-clause-closed c =
+returns-clause-closed g c =
     if_ok c.close.result
     (λ closed is g s st all.
     subst (IsClosed closed c.args.day (given s.found) g.number g.history)
@@ -15,4 +15,4 @@ returns-clause-closed c =
     c.close.ensures.closed
 
 pub returns-clause-digested : goal.returns-clause-digested
-returns-clause-digested c = if_ok c.close.result (λ closed is g s st. is ∙ st.digested) c.close.ensures.digested
+returns-clause-digested g c = if_ok c.close.result (λ closed is g s st. is ∙ st.digested) c.close.ensures.digested

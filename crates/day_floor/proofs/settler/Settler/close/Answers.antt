@@ -9,12 +9,12 @@ use Rattle.day_floor.proofs.SettlingBookLaws.{total_is}
 use Rattle.day_floor.proofs.settler.Settler.close.Goals as goal
 
 pub returns-clause-closed : goal.returns-clause-closed
-returns-clause-closed c = λ finding number history before h.
+returns-clause-closed g c = λ finding number history before h.
     let cs = charges_by finding (moments before) in
-    let are = subst (λ m. AreRowsOf m c.args.day c.in_ok-rows.rows.items) h.book.spent c.in_ok-rows.ensures in
+    let are = subst (λ m. AreRowsOf m c.args.day c.in-Ok.rows.items) h.book.spent c.in-Ok.ensures in
     record {
       rows = c.from_vec.ensures
-          ∙ only_rows cs c.args.day c.in_ok-rows.rows.items
+          ∙ only_rows cs c.args.day c.in-Ok.rows.items
           (record {
             in_order = are.in_order;
             of_day = are.of_day;
