@@ -1,10 +1,10 @@
 -- What is told at a place that is held.
-use Rattle.std.proofs.Common.{◌≡◌, ◌⊎◌, ◌∙◌, ℕ, Bool, true, false, inl, inr, Option, Some, None, Result, Ok, Err, IfOk}
-use Rattle.std.proofs.Common.{refl, sym, ap, subst}
+use Rattle.std.proofs.Common.{◌≡◌, ◌⊎◌, ℕ, Bool, true, false, inl, inr, Option, Some, None, Result, Err, IfOk}
+use Rattle.std.proofs.Common.{refl, sym, subst}
 use Rattle.keep_office.specs.declared.kept.KeepFault.{KeepFault}
 use Rattle.keep_office.specs.declared.kept.KeepFault.TheVariants.{NoMemory}
 use Rattle.keep_office.specs.Office.{Office, IsSound}
-use Rattle.keep_office.specs.Calls.{WhenRefused, PutsNothing, FailsLate, AllOrNothing, Reads, Puts, SoundIfTold, IfTold}
+use Rattle.keep_office.specs.Calls.{WhenRefused, PutsNothing, FailsLate, AllOrNothing, Reads, Puts, SoundIfTold}
 use Rattle.keep_office.specs.Calls.{PutsAsPlanned}
 
 -- an office that is told is sound

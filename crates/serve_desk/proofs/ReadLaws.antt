@@ -14,14 +14,17 @@ use Rattle.keep_office.specs.declared.kept.DayRecord.{DayRecord}
 use Rattle.day_import.specs.declared.outcomes.Outcome.{Outcome}
 use Rattle.day_import.specs.declared.outcomes.Outcome.TheVariants.{Stored, ReadFault, WriteFault, KeeperFault}
 use Rattle.day_import.specs.Faults.{NamesNoOther}
-use Rattle.serve_requests.specs.AskedBodies.{filled, body_left, IsBehind, IsSure}
+use Rattle.serve_requests.specs.AskedBodies.{filled, body_left, IsBehind, IsSure, LeavesBody, HasEndCause}
 use Rattle.serve_requests.proofs.AskedBodyLaws.{sure_plan, none_left}
+use Rattle.serve_requests.specs.declared.body_end.BodyEnd.{BodyEnd}
+use Rattle.serve_requests.specs.declared.body_end.BodyEnd.TheVariants as body
 use Rattle.serve_requests.specs.declared.session_end.SessionEnd.{SessionEnd}
 use Rattle.serve_desk.specs.declared.imported.ReadTo.{ReadTo}
 use Rattle.serve_desk.specs.declared.imported.ReadTo.TheVariants.{Open, Cut, LinkFault}
 use Rattle.serve_desk.specs.Answers.{Wire, AnswersOutcome}
 use Rattle.serve_desk.specs.Imports.{DeskState, Imports, ImportsDay, AnswersBody, IsCutShort, FailsInBody}
 use Rattle.serve_desk.specs.Reading.{IsReadTo, HasReadCause, IsStopped, HasNoneLeft, FitsRead, FinishesBody, Finishes}
+use Rattle.serve_desk.specs.Reading.{ReadsBody, ReadsOn, Skips}
 use Rattle.serve_desk.proofs.ImportLaws.{filled_whole}
 
 some_is : (xs ys : List ℕ) → Some xs ≡ Some ys → xs ≡ ys
@@ -235,3 +238,48 @@ pub posts_as : (count : ℕ) (all : List ℕ) (old new : Wire) (outcome : Outcom
     ⊎ (IsCutShort count all outcome old new end ⊎ FailsInBody old new end)
 posts_as count all old new outcome end (inl (whole, none)) = inl whole
 posts_as count all old new outcome end (inr (stopped, none)) = inr stopped
+
+-- a body that was skipped was read
+pub skipped : (left : ℕ) (rest : List ℕ) (old new : Wire) (before now : ℕ) (end : BodyEnd) →
+    LeavesBody left rest new.left end → HasEndCause old.plan before now end → ReadsBody left rest old new
+skipped left rest old new before now body.Whole leaves cause = inl leaves
+skipped left rest old new before now body.Cut leaves cause = inr (inl leaves)
+skipped left rest old new before now body.LinkFault leaves cause =
+    inr (inr (λ never. cause.1 (sure_plan old.plan never)))
+
+-- what was left of a body was read, and so the body was
+on_rest : (count left : ℕ) (all : List ℕ) (old mid new : Wire) → left ≤ count → count - left ≤ length all →
+    (NeverFails old.plan → NeverFails mid.plan) → ReadsBody left (drop (count - left) all) mid new →
+    ReadsBody count all old new
+on_rest count left all old mid new less there sure (inl (whole, rest)) =
+    let long = length-drop (count - left) all in
+    let enough : count ≤ length all = omega (arith, less, there, long, whole) in
+    let back : (count - left) + left ≡ count = omega (arith, less) in
+    inl (enough, rest ∙ ap Some (drop-drop left (count - left) all ∙ ap (λ n. drop n all) back))
+on_rest count left all old mid new less there sure (inr (inl short)) =
+    (let long = length-drop (count - left) all in inr (inl (omega (arith, less, there, long, short))))
+on_rest count left all old mid new less there sure (inr (inr never)) = inr (inr (λ none. never (sure none)))
+
+-- a body that was read so far, and then what is left of it, was read
+pub reads_on : (count : ℕ) (early : List ℕ) (old mid new : Wire) (later : List ℕ) (read : ReadTo) (before after : ℕ) →
+    IsReadTo count (prepend_known early old.left) later mid.left read → HasReadCause old.plan before after read →
+    (NeverFails old.plan → NeverFails mid.plan) → Skips later mid new read → ReadsOn count early old new
+reads_on count early old mid new later (Open left) before after reads cause sure skips = λ all known.
+    let (few, less, behind) = reads in
+    let (is, there) = behind all known in
+    on_rest count left all old mid new less there sure (skips (drop (count - left) all) is)
+reads_on count early old mid new later Cut before after reads cause sure skips =
+    λ all known. inr (inl (reads all known))
+reads_on count early old mid new later LinkFault before after reads cause sure skips =
+    λ all known. inr (inr (λ never. cause.1 (sure_plan old.plan never)))
+
+-- so it was by links that have the same left and fail alike
+pub reads_as : (count : ℕ) (early : List ℕ) (old new p q : Wire) → p.left ≡ old.left → p.plan ≡ old.plan →
+    q.left ≡ new.left → ReadsOn count early old new → ReadsOn count early p q
+reads_as count early old new p q left plan after reads = λ all known.
+    alike all (reads all (ap (λ l. prepend_known early l) (sym left) ∙ known))
+  where
+    alike : (all : List ℕ) → ReadsBody count all old new → ReadsBody count all p q
+    alike all (inl (some, rest)) = inl (some, after ∙ rest)
+    alike all (inr (inl short)) = inr (inl short)
+    alike all (inr (inr never)) = inr (inr (λ none. never (subst NeverFails plan none)))

@@ -1,6 +1,6 @@
 -- Laws of what is answered of a keeper that others may call between.
-use Rattle.std.proofs.Common.{◌≡◌, ◌≤◌, ◌+◌, ◌-◌, ◌<◌, ◌⊎◌, ◌++◌, ℕ, zero, suc, inl, inr, List, [], Option, Some, None}
-use Rattle.std.proofs.Common.{Result, Ok, Err, IfOk, OnOk, refl, sym, ap, subst, ◌∙◌, arith}
+use Rattle.std.proofs.Common.{◌≡◌, ◌≤◌, ◌+◌, ◌-◌, ◌<◌, ◌⊎◌, ◌++◌, ℕ, suc, inl, inr, List, [], Option, Some, None}
+use Rattle.std.proofs.Common.{Result, Ok, Err, IfOk, OnOk, refl, ap, subst, ◌∙◌, arith}
 use Rattle.std.specs.Global.{Vec}
 use Rattle.keep_office.specs.declared.kept.DayRecord.{DayRecord}
 use Rattle.keep_office.specs.declared.kept.KeepFault.{KeepFault}

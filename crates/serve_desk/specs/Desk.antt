@@ -42,7 +42,7 @@ AnswersKept w exact Page limits o was now old new end =
 AnswersKept w exact (Answers day count early) limits o was now old new end =
     (all : List ℕ) → prepend_known early old.left ≡ Some all
     → (now.told ≡ Some o) × (now.posted ≡ was.posted)
-    × AnswersDay w exact day limits count all o old.written new.written end
+    × AnswersDay w exact day limits count all o old new end
 AnswersKept w exact (Live vid) limits o was now old new end = Unit {0}
 AnswersKept w exact LiveTotal limits o was now old new end = Unit {0}
 

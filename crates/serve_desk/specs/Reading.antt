@@ -2,6 +2,7 @@
 use Rattle.std.specs.Prelude.{◌≡◌, ◌⊎◌, ◌≤◌, ◌<◌, ◌-◌, ℕ, Bool, List, length, drop, Option, Some}
 use Rattle.std.specs.Io.KnownBytes.{prepend_known}
 use Rattle.road_io.specs.Faults.{Rose}
+use Rattle.road_io.specs.Plans.{NeverFails}
 use Rattle.day_import.specs.declared.outcomes.Outcome.{Outcome}
 use Rattle.serve_requests.specs.AskedBodies.{IsBehind, IsSure}
 use Rattle.serve_requests.specs.declared.session_end.SessionEnd.{SessionEnd}
@@ -70,3 +71,21 @@ Finishes early outcome old new (Open left) end =
     (rest : List ℕ) → prepend_known early old.left ≡ Some rest → FinishesBody left rest outcome old new end
 Finishes early outcome old new Cut end = (end ≡ ends.Cut) × (new.written ≡ old.written)
 Finishes early outcome old new LinkFault end = (end ≡ ends.LinkFault) × (new.written ≡ old.written)
+
+-- a body of so many of these bytes was read to its end and no further; or the bytes end before it; or the link failed in
+-- it, which never comes where no read fails
+abbrev pub ReadsBody : ℕ → List ℕ → Wire → Wire → Type 0
+ReadsBody count all old new =
+    ((count ≤ length all) × (new.left ≡ Some (drop count all)))
+    ⊎ ((length all < count) ⊎ (NeverFails old.plan → ⊥))
+
+-- so is the body of a POST, of which these bytes came with its head
+abbrev pub ReadsOn : ℕ → List ℕ → Wire → Wire → Type 0
+ReadsOn count early old new =
+    (all : List ℕ) → prepend_known early old.left ≡ Some all → ReadsBody count all old new
+
+-- what is left of a body that was read so far is read; of one that was cut or failed in nothing more is
+abbrev pub Skips : List ℕ → Wire → Wire → ReadTo → Type 0
+Skips early old new (Open left) = ReadsOn left early old new
+Skips early old new Cut = new.left ≡ old.left
+Skips early old new LinkFault = new.left ≡ old.left

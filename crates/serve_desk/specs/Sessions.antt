@@ -3,6 +3,7 @@
 use Rattle.std.specs.Prelude.{◌≡◌, ◌⊎◌, ℕ, Bool, List, Ok, Err}
 use Rattle.road_io.specs.Plans.{NeverFails}
 use Rattle.road_time.specs.declared.day.Limits.{Limits}
+use Rattle.day_floor.specs.Operations.{Operation}
 use Rattle.keep_office.specs.Calls.{WhenRefused}
 use Rattle.keep_office.specs.Office.{Office}
 use Rattle.serve_board.specs.Passes.{Pass, StartsWith}
@@ -38,11 +39,18 @@ ServesLive bytes p q old new end =
     (asked : Asked) × (mid : Wire) × Asks bytes asked old mid × IsOfLive asked
     × AnswersLive (asked_of asked) p q mid new end
 
--- a session over a link with these bytes, a desk that keeps this office and a reader of its board: it ends at once; or
--- what is asked is answered of what is kept; or of the live board
+-- a reader is told all that is published: it knows that, and forgets nothing that it saw
+pub record Learns (all : List Operation) (old new : Pass) : Type 0 where
+  pub board : new.board ≡ old.board
+  pub had : StartsWith new.seen old.seen
+  pub told : StartsWith new.seen all
+  pub one : (new.seen ≡ old.seen) ⊎ (new.seen ≡ all)
+
+-- a session over a link with these bytes, a desk that keeps this office and a reader of its board, which is told all that
+-- is published: it ends at once; or what is asked is answered of what is kept; or of the live board
 abbrev pub Serves : WhenRefused → Bool → List ℕ → Limits → Office → DeskState → DeskState → Pass → Pass → Wire → Wire →
     SessionEnd → Type 0
 Serves w exact bytes limits o was now p q old new end =
-    (EndsAtOnce bytes old new end × (now ≡ was) × (q ≡ p))
+    (EndsAtOnce bytes old new end × (now ≡ was) × Learns was.posted.published p q)
     ⊎ (ServesKept w exact bytes limits o was now q old new end
-    ⊎ (ServesLive bytes p q old new end × (now ≡ was)))
+    ⊎ ((r : Pass) × Learns was.posted.published p r × ServesLive bytes r q old new end × (now ≡ was)))

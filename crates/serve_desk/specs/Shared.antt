@@ -10,7 +10,6 @@ use Rattle.day_import.specs.declared.outcomes.Outcome.{Outcome}
 use Rattle.serve_requests.specs.Bodies.{spent_body}
 use Rattle.serve_requests.specs.Lists.{days_body, vehicle_body}
 use Rattle.serve_requests.specs.Replies.{Reply, no_memory_reply}
-use Rattle.serve_requests.specs.Sends.{SendsReply}
 use Rattle.serve_requests.specs.declared.asked.Asked.{Asked}
 use Rattle.serve_requests.specs.declared.asked.Asked.TheVariants.{Day, Import, Spent, Live, LiveTotal, Vehicle, Days}
 use Rattle.serve_requests.specs.declared.asked.Asked.TheVariants.{Page}
@@ -21,7 +20,8 @@ use Rattle.serve_desk.specs.Answers.{day_reply, spent_reply, vehicle_reply}
 use Rattle.serve_desk.specs.Days.{first_day, as_list}
 use Rattle.serve_desk.specs.Pages.{AnswersPage}
 use Rattle.serve_desk.specs.Imports.{AnswersBody, IsCutShort, FailsInBody, DeskState, ImportsDay}
-use Rattle.serve_desk.specs.Streams.{AnswersDay}
+use Rattle.serve_desk.specs.Reading.{ReadsOn}
+use Rattle.serve_desk.specs.Streams.{WritesDay, HasNoHandle}
 
 -- the keeper was asked once: the reply is that of the office which it kept then, in one of its states, and which it
 -- keeps in the next; or its count of faults rose, and exactly that it failed is answered
@@ -93,14 +93,14 @@ pub record StreamsShared {K : Type 0} (told : K → Option Office) (w : WhenRefu
   pub now : K
   pub kept : told now ≡ told was
   pub answers : (all : List ℕ) (o : Office) → prepend_known early old.left ≡ Some all → told was ≡ Some o
-      → AnswersDay w exact day limits count all o old.written new.written end
+      → WritesDay w exact day limits count all o old.written new.written end
 
--- so they are; or there was no second handle of the connection, which is answered as want of memory is
+-- so they are, and the body is read to its end; or there was no second handle of the connection
 abbrev pub AnswersNotices : {K : Type 0} → (K → Option Office) → WhenRefused → Bool → Limits → ℕ → ℕ → List ℕ → Wire →
     Wire → SessionEnd → Type 0
 AnswersNotices told w exact limits day count early old new end =
-    StreamsShared told w exact limits day count early old new end
-    ⊎ SendsReply no_memory_reply old.written new.written end
+    (StreamsShared told w exact limits day count early old new end × ReadsOn count early old new)
+    ⊎ HasNoHandle old new end
 
 -- what is asked is answered of a keeper that others may call between: a day, an amount and a vehicle's bill of one of
 -- its states, all days day by day of its states, the page, a POST behind its body and exactly of one of its

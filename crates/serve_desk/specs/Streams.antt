@@ -16,6 +16,8 @@ use Rattle.serve_requests.specs.AskedBodies.{filled}
 use Rattle.serve_requests.specs.Sends.{SendsReply}
 use Rattle.serve_requests.specs.declared.session_end.SessionEnd.{SessionEnd}
 use Rattle.serve_requests.specs.declared.session_end.SessionEnd.TheVariants as ends
+use Rattle.serve_desk.specs.Answers.{Wire}
+use Rattle.serve_desk.specs.Reading.{ReadsBody}
 
 -- fewer of the first bytes of a text than all were written
 abbrev pub WritesPart : List ℕ → Option (List ℕ) → Option (List ℕ) → Type 0
@@ -66,12 +68,20 @@ Closes day outcome old new end =
     ⊎ (WritesLast (closing_of day outcome) (end_of outcome) old new end
     ⊎ WritesLast memory_line (end_of outcome) old new end)
 
--- the notices of a day of so many bytes are answered: over an exact crew the head, what the command `answers` writes of
--- the body, and its closing line; one that is cut or failed in counts as one that goes on with zeros. Or there was no
--- second handle of the connection, which is answered as want of memory is.
-abbrev pub AnswersDay : WhenRefused → Bool → ℕ → Limits → ℕ → List ℕ → Office → Option (List ℕ) → Option (List ℕ) →
+-- the notices of a day of so many bytes are written: over an exact crew the head, what the command `answers` writes of
+-- the body, and its closing line; one that is cut or failed in counts as one that goes on with zeros
+abbrev pub WritesDay : WhenRefused → Bool → ℕ → Limits → ℕ → List ℕ → Office → Option (List ℕ) → Option (List ℕ) →
     SessionEnd → Type 0
+WritesDay w exact day limits count all o old new end =
+    (outcome : Outcome) × (mid : Option (List ℕ))
+    × (exact ≡ true → Streams w day limits (filled count all) o old mid outcome) × Closes day outcome mid new end
+
+-- there was no second handle of the connection, which is answered as want of memory is: nothing is read
+abbrev pub HasNoHandle : Wire → Wire → SessionEnd → Type 0
+HasNoHandle old new end = SendsReply no_memory_reply old.written new.written end × (new.left ≡ old.left)
+
+-- they are, and the body is read to its end; or there was no second handle
+abbrev pub AnswersDay : WhenRefused → Bool → ℕ → Limits → ℕ → List ℕ → Office → Wire → Wire → SessionEnd → Type 0
 AnswersDay w exact day limits count all o old new end =
-    ((outcome : Outcome) × (mid : Option (List ℕ))
-    × (exact ≡ true → Streams w day limits (filled count all) o old mid outcome) × Closes day outcome mid new end)
-    ⊎ SendsReply no_memory_reply old new end
+    (WritesDay w exact day limits count all o old.written new.written end × ReadsBody count all old new)
+    ⊎ HasNoHandle old new end

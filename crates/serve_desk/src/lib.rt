@@ -2,9 +2,8 @@
 //!
 //! `session` reads a request and answers it: of what is kept by a `Desk`, which imports the body of a POST as the
 //! office imports a day and publishes its charges, and of the live board by its reader, which never waits.
-//! `session_shared` has a `Clerk` answer what is asked of what is kept: for many sessions at once a `Locked` desk,
-//! which answers one request at a time, or `TwoLocks`, where a keeper that is shared answers while a POST of an
-//! `ImportDesk` goes on; or a `OneClerk`, which remembers what it was asked.
+//! `session_shared` has a `Clerk` answer what is asked of what is kept: for many sessions at once `TwoLocks`, where a
+//! keeper that is shared answers while a POST of an `ImportDesk` goes on.
 //!
 //! A keeper that many share.
 //!
@@ -31,11 +30,8 @@ mod importing;
 mod kept;
 mod kept_days;
 mod live;
-mod locked;
 mod notices;
 mod notices_shared;
-mod one_clerk;
-mod passed;
 mod place;
 mod posting;
 mod puts;
@@ -58,10 +54,7 @@ pub use history::Naming;
 pub use import_desk::ImportDesk;
 pub use kept::{Kept, Opened};
 pub use live::live_answer;
-pub use locked::Locked;
-pub use one_clerk::OneClerk;
-pub use passed::Passed;
-pub use serve_requests::{Asked, Early, SessionEnd};
+pub use serve_requests::{Asked, Early, Routes, SessionEnd};
 pub use sessions::session;
 pub use shared::SharedKeeper;
 pub use sharing::session_shared;

@@ -6,7 +6,7 @@ ghost use Rattle.road_io.specs.Rooms.{Endless};
 ghost use Rattle.road_time.specs.Fits.{IsLimits};
 ghost use Rattle.keep_office.specs.Office.{Office};
 ghost use Rattle.serve_requests.specs.declared.session_end.SessionEnd.TheVariants.{Answered, LinkFault};
-ghost use Rattle.serve_desk.specs.Answers.{TellsFault};
+ghost use Rattle.serve_desk.specs.Answers.{TellsFault, wire_of};
 ghost use Rattle.serve_desk.specs.Streams.{AnswersDay};
 
 use crate::stream_ends::finish_stream;
@@ -41,7 +41,9 @@ pub fn answer_notices<L: TwoWay, K: Keeper, C: Crew, R: Threads>(
     requires few { length early.now ≤ count }
     ensures answers { (all : List ℕ) (o : Office) → prepend_known early.now (L.left link.old) ≡ Some all
         → K.told keeper.old ≡ Some o
-        → AnswersDay K.refuses C.exact day limits.now count all o (L.written link.old) (L.written link.new) result }
+        → AnswersDay K.refuses C.exact day limits.now count all o
+        (wire_of (L.left link.old) (L.plan link.old) (L.written link.old) (L.room link.old))
+        (wire_of (L.left link.new) (L.plan link.new) (L.written link.new) (L.room link.new)) result }
     ensures kept { K.told keeper.new ≡ K.told keeper.old }
     ensures idle { C.out crew.new ≡ [] }
     ensures crew { C.which crew.new ≡ C.which crew.old }

@@ -3,6 +3,7 @@ ghost use Rattle.std.specs.Prelude.{◌≡◌, ◌≢◌, ◌≤◌, ◌<◌, �
 ghost use Rattle.std.specs.Io.KnownBytes.{prepend_known};
 ghost use Rattle.road_io.specs.Blame.{FaultsByPlan};
 ghost use Rattle.road_io.specs.Faults.{Rose};
+ghost use Rattle.road_io.specs.Plans.{NeverFails};
 ghost use Rattle.road_io.specs.Rooms.{Endless};
 ghost use Rattle.road_time.specs.Fits.{IsLimits};
 ghost use Rattle.keep_office.specs.Office.{Office};
@@ -10,7 +11,7 @@ ghost use Rattle.day_import.specs.declared.outcomes.Outcome.TheVariants.{WriteFa
 ghost use Rattle.serve_requests.specs.AskedBodies.{filled};
 ghost use Rattle.serve_requests.specs.declared.session_end.SessionEnd.TheVariants.{Answered, LinkFault};
 ghost use Rattle.serve_desk.specs.Answers.{TellsFault, wire_of};
-ghost use Rattle.serve_desk.specs.Reading.{FitsRead};
+ghost use Rattle.serve_desk.specs.Reading.{FitsRead, IsReadTo, HasReadCause, Skips};
 ghost use Rattle.serve_desk.specs.Shared.{AnswersNotices};
 ghost use Rattle.serve_desk.specs.Streams.{Streams, Closes};
 
@@ -56,6 +57,10 @@ impl<C: Crew, R: Wait + Threads + Drop> ImportDesk<C, R> {
             → Streams K.refuses day limits.now (filled count all) o (O.written out.old) (O.written out.new)
             result.outcome }
         ensures kept { K.told keeper.new ≡ K.told keeper.old }
+        ensures reads { IsReadTo count (prepend_known early.now (L.left link.old)) result.early.now (L.left link.new)
+            result.read }
+        ensures link_cause { HasReadCause (L.plan link.old) (L.faults link.old) (L.faults link.new) result.read }
+        ensures link_sure { NeverFails (L.plan link.old) → NeverFails (L.plan link.new) }
         ensures fits { FitsRead result.early.now result.read }
         ensures writer { self.new.writer ≡ self.old.writer }
         ensures crew { C.which self.new.crew ≡ C.which self.old.crew }
@@ -95,6 +100,9 @@ fn finish_after<L: Link, O: Sink, T: Turn>(
     requires over { T.held turn.now ≡ false }
     requires fits { FitsRead settled.early.now settled.read }
     ensures closes { Closes day settled.entry.outcome (O.written out.old) (O.written out.new) result }
+    ensures skips { Skips settled.entry.early.now
+        (wire_of (L.left link.old) (L.plan link.old) (L.written link.old) (L.room link.old))
+        (wire_of (L.left link.new) (L.plan link.new) (L.written link.new) (L.room link.new)) settled.entry.read }
     ensures unavailable { result ≢ Answered 503 }
     ensures told { settled.entry.outcome ≡ KeeperFault → TellsFault result }
     ensures later { L.faults link.old ≤ L.faults link.new }

@@ -1,5 +1,5 @@
 // One request of a link, and its answer.
-ghost use Rattle.std.specs.Prelude.{◌≡◌, ◌≢◌, ◌≤◌, ◌<◌, ◌⊎◌, true, false, ℕ, List, Some};
+ghost use Rattle.std.specs.Prelude.{◌≡◌, ◌≢◌, ◌≤◌, ◌<◌, true, false, ℕ, List, Some};
 ghost use Rattle.road_io.specs.Faults.{Rose};
 ghost use Rattle.road_io.specs.Plans.{NeverFails};
 ghost use Rattle.road_io.specs.Rooms.{Endless};
@@ -11,14 +11,14 @@ ghost use Rattle.serve_desk.specs.Answers.{wire_of, TellsFault};
 ghost use Rattle.serve_desk.specs.Imports.{state_of};
 ghost use Rattle.serve_desk.specs.Desk.{AnswersKept, IsOfKept};
 ghost use Rattle.serve_desk.specs.Live.{IsOfLive};
-ghost use Rattle.serve_desk.specs.Sessions.{Serves};
+ghost use Rattle.serve_desk.specs.Sessions.{Serves, Learns};
 
 use crate::desk::Desk;
 use crate::live::live_answer;
 use keep_office::Keeper;
 use road_io::TwoWay;
-use serve_board::BoardReader;
-use serve_requests::{Asked, SessionEnd, read_asked};
+use serve_board::{BoardReader, BoardWriter};
+use serve_requests::{Asked, Routes, SessionEnd, read_asked};
 use std::alloc::Global;
 use std::sync::Wait;
 use std::thread::Threads;
@@ -78,10 +78,20 @@ fn answer_and_learn<L: TwoWay, K: Keeper, C: Crew, R: Wait + Threads + Drop>(
     end
 }
 
+/// Tells a reader all that is published.
+fn learn_all<R: Wait + Drop>(reader: &mut BoardReader, writer: &mut BoardWriter<R>)
+    requires board { reader.old.board ≡ writer.old.board }
+    ensures learns { Learns writer.old.posted.published reader.old reader.new }
+    ensures kept { writer.new ≡ writer.old }
+{
+    reader.learn(writer.tell());
+}
+
 /// Reads one request and answers it. The reader is of the board of the desk's writer, and is told what is published
-/// with each answer of what is kept.
+/// before the request is read, and with each answer of what is kept.
 pub fn session<L: TwoWay, K: Keeper, C: Crew, R: Wait + Threads + Drop>(
     alloc: Global,
+    routes: &Routes,
     link: &mut L,
     reader: &mut BoardReader,
     desk: &mut Desk<K, C, R>,
@@ -95,7 +105,7 @@ pub fn session<L: TwoWay, K: Keeper, C: Crew, R: Wait + Threads + Drop>(
         (wire_of (L.left link.new) (L.plan link.new) (L.written link.new) (L.room link.new)) result }
     ensures unavailable { result ≡ Answered 503 → Rose (K.faults desk.old.keeper) (K.faults desk.new.keeper) }
     ensures failed { K.faults desk.old.keeper < K.faults desk.new.keeper → TellsFault result }
-    ensures learns { (desk.new ≡ desk.old) ⊎ StartsWith reader.new.seen desk.new.writer.posted.published }
+    ensures learns { StartsWith reader.new.seen desk.new.writer.posted.published }
     ensures reader { reader.new.board ≡ reader.old.board }
     ensures had { StartsWith reader.new.seen reader.old.seen }
     ensures plan { desk.new.plan ≡ desk.old.plan }
@@ -107,7 +117,8 @@ pub fn session<L: TwoWay, K: Keeper, C: Crew, R: Wait + Threads + Drop>(
     ensures later { L.faults link.old ≤ L.faults link.new }
     ensures keeper_later { K.faults desk.old.keeper ≤ K.faults desk.new.keeper }
 {
-    match read_asked(alloc, link) {
+    learn_all(reader, &mut desk.writer);
+    match read_asked(alloc, routes, link) {
         Err(end) => end,
         Ok(asked) => {
             if is_live(&asked) {

@@ -4,8 +4,8 @@ ghost use Rattle.road_io.specs.Faults.{Rose};
 ghost use Rattle.road_io.specs.Rooms.{Endless};
 ghost use Rattle.day_import.specs.declared.outcomes.Outcome.TheVariants.{WriteFault, KeeperFault};
 ghost use Rattle.serve_requests.specs.declared.session_end.SessionEnd.TheVariants.{Answered, LinkFault};
-ghost use Rattle.serve_desk.specs.Answers.{TellsFault};
-ghost use Rattle.serve_desk.specs.Reading.{FitsRead};
+ghost use Rattle.serve_desk.specs.Answers.{TellsFault, wire_of};
+ghost use Rattle.serve_desk.specs.Reading.{FitsRead, Skips};
 ghost use Rattle.serve_desk.specs.Streams.{Closes, WritesLast, closing_of, end_of as end_by};
 
 use crate::imported::{Imported, ReadTo};
@@ -91,7 +91,10 @@ fn close_stream<O: Sink>(alloc: Global, day: u32, outcome: &Outcome, out: &mut O
 /// Reads what is left of a body, if it can be read on.
 fn skip_rest<L: Link>(early: &[u8], read: ReadTo, link: &mut L)
     requires { FitsRead early.now read }
-    ensures { L.faults link.old ≤ L.faults link.new }
+    ensures skips { Skips early.now
+        (wire_of (L.left link.old) (L.plan link.old) (L.written link.old) (L.room link.old))
+        (wire_of (L.left link.new) (L.plan link.new) (L.written link.new) (L.room link.new)) read }
+    ensures later { L.faults link.old ≤ L.faults link.new }
 {
     match read {
         ReadTo::Open(left) => {
@@ -112,6 +115,9 @@ pub fn finish_stream<L: Link, O: Sink>(
 ) -> SessionEnd
     requires { FitsRead settled.early.now settled.read }
     ensures closes { Closes day settled.entry.outcome (O.written out.old) (O.written out.new) result }
+    ensures skips { Skips settled.entry.early.now
+        (wire_of (L.left link.old) (L.plan link.old) (L.written link.old) (L.room link.old))
+        (wire_of (L.left link.new) (L.plan link.new) (L.written link.new) (L.room link.new)) settled.entry.read }
     ensures unavailable { result ≢ Answered 503 }
     ensures told { settled.entry.outcome ≡ KeeperFault → TellsFault result }
     ensures later { L.faults link.old ≤ L.faults link.new }

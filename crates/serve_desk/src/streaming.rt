@@ -3,14 +3,15 @@ ghost use Rattle.std.specs.Prelude.{◌≡◌, ◌≢◌, ◌≤◌, ℕ, List, 
 ghost use Rattle.std.specs.Io.KnownBytes.{prepend_known};
 ghost use Rattle.road_io.specs.Blame.{FaultsByPlan, FaultsByRoom};
 ghost use Rattle.road_io.specs.Faults.{Rose};
+ghost use Rattle.road_io.specs.Plans.{NeverFails};
 ghost use Rattle.road_io.specs.Rooms.{Endless};
 ghost use Rattle.road_time.specs.Fits.{IsLimits};
 ghost use Rattle.road_time.specs.Reads.{reads};
 ghost use Rattle.keep_office.specs.Office.{Office};
 ghost use Rattle.day_import.specs.Imports.{answers_answer, Does};
 ghost use Rattle.day_import.specs.declared.outcomes.Outcome.TheVariants.{WriteFault, KeeperFault};
-ghost use Rattle.serve_requests.specs.AskedBodies.{filled};
-ghost use Rattle.serve_desk.specs.Reading.{FitsRead, IsReadTo};
+ghost use Rattle.serve_requests.specs.AskedBodies.{filled, IsSure};
+ghost use Rattle.serve_desk.specs.Reading.{FitsRead, IsReadTo, HasReadCause};
 ghost use Rattle.serve_desk.specs.Streams.{Streams};
 
 use crate::imported::{Imported, ReadTo};
@@ -60,6 +61,8 @@ fn settle_from<'b, L: Link, O: Sink, K: Keeper, C: Crew, R: Threads, N: Start>(
     ensures idle { C.out crew.new ≡ [] }
     ensures crew { C.which crew.new ≡ C.which crew.old }
     ensures later { N.faults ≤ L.faults link.new }
+    ensures link_cause { HasReadCause N.plan N.faults (L.faults link.new) result.read }
+    ensures link_sure { IsSure N.plan → IsSure (L.plan link.new) }
     ensures sink { FaultsByRoom (O.faults out.old) (O.faults out.new) (O.room out.old) (O.room out.new)
         (result.outcome ≡ WriteFault) }
     ensures keeper { FaultsByPlan (K.faults keeper.old) (K.faults keeper.new) (K.plan keeper.old)
@@ -114,6 +117,8 @@ fn settle<'b, L: Link, O: Sink, K: Keeper, C: Crew, R: Threads>(
     ensures idle { C.out crew.new ≡ [] }
     ensures crew { C.which crew.new ≡ C.which crew.old }
     ensures later { L.faults link.old ≤ L.faults link.new }
+    ensures link_cause { HasReadCause (L.plan link.old) (L.faults link.old) (L.faults link.new) result.read }
+    ensures link_sure { NeverFails (L.plan link.old) → NeverFails (L.plan link.new) }
     ensures sink { FaultsByRoom (O.faults out.old) (O.faults out.new) (O.room out.old) (O.room out.new)
         (result.outcome ≡ WriteFault) }
     ensures keeper { FaultsByPlan (K.faults keeper.old) (K.faults keeper.new) (K.plan keeper.old)
@@ -165,6 +170,10 @@ pub fn stream_day<'b, L: Link, O: Sink, K: Keeper, C: Crew, R: Threads>(
         → Streams K.refuses day limits.now (filled count all) o (O.written out.old) (O.written out.new)
         result.outcome }
     ensures kept { K.told keeper.new ≡ K.told keeper.old }
+    ensures reads { IsReadTo count (prepend_known early.now (L.left link.old)) result.early.now (L.left link.new)
+        result.read }
+    ensures link_cause { HasReadCause (L.plan link.old) (L.faults link.old) (L.faults link.new) result.read }
+    ensures link_sure { NeverFails (L.plan link.old) → NeverFails (L.plan link.new) }
     ensures fits { FitsRead result.early.now result.read }
     ensures idle { C.out crew.new ≡ [] }
     ensures crew { C.which crew.new ≡ C.which crew.old }

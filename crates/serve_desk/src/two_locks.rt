@@ -40,7 +40,7 @@ use ways_crews::Crew;
 
 /// Takes the lock of the imports for a POST until its day is imported, and the lock of the keeper for one call at a
 /// time: so who asks for what is kept waits for no POST, and POSTs wait for one another's imports alone. The turn is
-/// given back once a day is imported. It tells no request that it was passed.
+/// given back once a day is imported.
 #[derive(Drop)]
 pub struct TwoLocks<'a, J: Naming, K: Keeper, C: Crew, R: Wait + Threads + Drop, T: Turn> {
     pub rt: R,
@@ -187,13 +187,10 @@ fn answer_shared<'a, L: TwoWay, J: Naming, K: Keeper, C: Crew, R: Wait + Threads
 
 impl<'a, J: Naming, K: Keeper, C: Crew, R: Wait + Threads + Drop, T: Turn> Clerk
     for TwoLocks<'a, J, K, C, R, T> {
-    ghost use Rattle.std.specs.Prelude.{None};
     ghost use Rattle.serve_desk.specs.Shared.{AnswersShared};
 
     ghost answers = { λ clerk asked old new end.
         AnswersShared K.told K.faults K.refuses C.exact clerk.work.limits asked old new end };
-
-    ghost passed = { λ _. None };
 
     fn answer<L: TwoWay>(&mut self, alloc: Global, asked: Asked, link: &mut L) -> SessionEnd {
         let mut keeper = SharedKeeper::new(&self.rt, self.keeper);

@@ -18,11 +18,12 @@ further xs ys zs (r, e) (s, f) = (r ++ s, f ∙ ap (λ l. l ++ s) e ∙ append_a
 
 -- a lane that is served, and served on without a failure, is served
 pub serves_on : {N : Type 0} (faults : N → ℕ) (old mid new : Lane N) → LaneServes faults old mid →
-    LaneServes faults mid new → new.failed ≡ false → LaneServes faults old new
-serves_on faults old mid new before more fine =
+    mid.failed ≡ false → LaneServes faults mid new → new.failed ≡ false → LaneServes faults old new
+serves_on faults old mid new before sound more fine =
     record {
       later = omega (arith, before.later, more.later);
       cause = λ failed. absurd (false≢true (sym fine ∙ failed));
+      still = λ _. more.still fine ∙ before.still sound;
       board = more.board ∙ before.board;
       had = further old.reader.seen mid.reader.seen new.reader.seen before.had more.had;
     }

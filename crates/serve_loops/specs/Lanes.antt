@@ -7,11 +7,12 @@ use Rattle.serve_board.specs.Passes.{Pass, StartsWith}
 use Rattle.serve_loops.specs.Wires.{Wire}
 use Rattle.serve_loops.specs.declared.lane.Lane.{Lane}
 
--- a lane served: its listener's faults did not fall, and rose where it failed; its reader is one of its board, and lost
--- nothing that it saw
+-- a lane served: its listener's faults rose where it failed, and stand where it did not; its reader is one of its board,
+-- and lost nothing that it saw
 pub record LaneServes {N : Type 0} (faults : N → ℕ) (old new : Lane N) : Type 0 where
   pub later : faults old.listener ≤ faults new.listener
   pub cause : new.failed ≡ true → Rose (faults old.listener) (faults new.listener)
+  pub still : new.failed ≡ false → faults new.listener ≡ faults old.listener
   pub board : new.reader.board ≡ old.reader.board
   pub had : StartsWith new.reader.seen old.reader.seen
 

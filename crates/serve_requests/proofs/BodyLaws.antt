@@ -1,7 +1,7 @@
 -- Laws of the text of JSON values.
-use Rattle.std.proofs.Common.{◌≡◌, ℕ, true, false, List, [], ◌∷◌, ◌++◌, codes, decimal, refl, sym, ap, ◌∙◌}
-use Rattle.serde_json.specs.Data.{Data, number, string, unsigned, object, member, no_members}
-use Rattle.serde_json.specs.Written.{compact_text, has_float}
+use Rattle.std.proofs.Common.{◌≡◌, ℕ, true, List, ◌∷◌, ◌++◌, codes, decimal, refl, ap, ◌∙◌}
+use Rattle.serde_json.specs.Data.{number, string, unsigned, object, member, no_members}
+use Rattle.serde_json.specs.Written.{compact_text}
 use Rattle.json.specs.Print.{quoted}
 use Rattle.serde_json.proofs.OnLiterals.{serde_json_on_literals}
 use Rattle.serve_requests.specs.Plain.{is_plain}

@@ -1,11 +1,12 @@
 -- Laws of what stands first in a link's bytes.
-use Rattle.std.proofs.Common.{◌≡◌, ℕ, Bool, Result, ◌+◌, ◌<◌, ◌≤◌, inl, inr, List, [], ◌∷◌, ◌++◌, length, drop, Option}
-use Rattle.std.proofs.Common.{Some, None, refl, sym, ap, subst, ◌∙◌, arith, append_assoc}
+use Rattle.std.proofs.Common.{◌≡◌, ℕ, Bool, Result, ◌+◌, ◌<◌, ◌≤◌, inl, inr, List, [], ◌∷◌, ◌++◌, length, take, drop}
+use Rattle.std.proofs.Common.{Option, Some, None, refl, sym, ap, subst, ◌∙◌, arith, append_assoc}
 use Rattle.std.specs.Io.KnownBytes.{Keeps, Consumes, IsAtEnd, prepend_known}
 use Rattle.std.proofs.lemmas.List.{append-nil, take_all, take-append-drop, take-append-le, take-take}
 use Rattle.road_io.specs.Plans.{AsPlanned, NeverFails}
 use Rattle.httparse.specs.Grammar.{HasNoRequest}
 use Rattle.serve_requests.specs.Fronts.{front_of, HasHead, HasNoHead, NeverHasHead, IsBadHead, MayGoOn, IsCutHead}
+use Rattle.serve_requests.specs.Fronts.{HeldSoon, ReadsSoon}
 
 -- what was read and what is left are all that there was
 pub known_front : (h bytes : List ℕ) (o : Option (List ℕ)) → Keeps (Some bytes) (prepend_known h o) → (more : List ℕ)
@@ -106,3 +107,24 @@ pub keeps_none : (before after : Option (List ℕ)) → Consumes before after []
 keeps_none None after e = tt
 keeps_none (Some xs) None e = absurd e
 keeps_none (Some xs) (Some ys) e = sym e
+
+-- what is held of some bytes are their first
+held_first : (h bytes : List ℕ) (o : Option (List ℕ)) → Keeps (Some bytes) (prepend_known h o) →
+    take (length h) bytes ≡ h
+held_first h bytes None k = absurd k
+held_first h bytes (Some more) k =
+    ap (take (length h)) (sym k) ∙ take-append-le (length h) h more (omega arith) ∙ take_all (length h) h (omega arith)
+
+-- a read behind what was held, in which no head stood first
+pub soon_on : (h bytes : List ℕ) (o : Option (List ℕ)) (most held n : ℕ) → Keeps (Some bytes) (prepend_known h o) →
+    length h ≡ held → HasNoRequest h → MayGoOn h → n ≤ most → HeldSoon most bytes (held + n)
+soon_on h bytes o most held n k size none may few =
+    (let first = sym (held_first h bytes o k) in
+    inr (length h, omega (arith, size, few), subst HasNoHead first (no_head h none), subst MayGoOn first may))
+
+-- what is held was read, and no more
+pub soon_left : (h bytes : List ℕ) (o : Option (List ℕ)) (most held : ℕ) → Keeps (Some bytes) (prepend_known h o) →
+    length h ≡ held → HeldSoon most bytes held → ReadsSoon most bytes o
+soon_left h bytes None most held k size soon = absurd k
+soon_left h bytes (Some more) most held k size soon =
+    (held, ap Some (sym (ap (drop held) (sym k) ∙ subst (λ n. drop n (h ++ more) ≡ more) size (drop_front h more))), soon)

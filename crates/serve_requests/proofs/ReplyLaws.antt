@@ -18,6 +18,7 @@ use Rattle.serve_requests.specs.declared.wanted.Refusal.TheVariants.{LengthNeede
 use Rattle.serve_requests.specs.Replies.{Reply, reply_bytes, no_memory_reply}
 use Rattle.serve_requests.specs.Sends.{SendsReply, HasRoom, HasRoomFor, refusal_reply, refusal_room}
 use Rattle.serve_requests.specs.ReadRequests.{asked_for, wanted_in, Heads, HasBody, IsRequestRefused, ReadsHeadAsked}
+use Rattle.serve_requests.specs.ReadRequests.{AsksWithBody}
 use Rattle.serve_requests.specs.declared.session_end.SessionEnd.{SessionEnd}
 use Rattle.serve_requests.specs.declared.session_end.SessionEnd.TheVariants.{Answered, Cut, LinkFault}
 
@@ -79,6 +80,13 @@ pub refused : (bytes : List ℕ) (left old new : Option (List ℕ)) (r : Refusal
 refused bytes left old new r (Answered s) is sent = inl (r, is, sent)
 refused bytes left old new r Cut is sent = absurd sent
 refused bytes left old new r LinkFault is sent = inr (inl (r, is, sent))
+
+-- want of memory for the first bytes of a body was answered
+pub starved : (bytes : List ℕ) (left old new : Option (List ℕ)) (end : SessionEnd) → AsksWithBody bytes →
+    SendsReply no_memory_reply old new end → ReadsHeadAsked bytes left old new (Err end)
+starved bytes left old new (Answered s) asks sent = inr (asks, sent)
+starved bytes left old new Cut asks sent = absurd sent
+starved bytes left old new LinkFault asks sent = inr (inr (asks, sent))
 
 -- a link with room for all bytes does not refuse them
 pub never_full : (room after : Room) (n : ℕ) → HasRoom room n → Refuses room after n → ⊥

@@ -1,5 +1,5 @@
 -- What a link's bytes begin with.
-use Rattle.std.specs.Prelude.{◌≡◌, ◌⊎◌, ℕ, ◌<◌, ◌≤◌, List, [], ◌++◌, length, take}
+use Rattle.std.specs.Prelude.{◌≡◌, ◌⊎◌, ℕ, ◌<◌, ◌≤◌, ◌+◌, List, [], ◌++◌, length, take, drop, Option, Some}
 use Rattle.httparse.specs.Grammar.{RequestHead, ReadsRequest, EndsInTarget}
 
 -- the most bytes in which a head must end
@@ -34,3 +34,14 @@ MayGoOn bytes = ((more : List ℕ) × (h : RequestHead) × ReadsRequest (bytes +
 -- a front ends before its head does
 abbrev pub IsCutHead : List ℕ → Type 0
 IsCutHead front = HasNoHead front × (length front < head_room) × MayGoOn front
+
+-- so many of these bytes are held, by reads of at most so many: before the last read no head stood first in what was
+-- held, and one might still come
+abbrev pub HeldSoon : ℕ → List ℕ → ℕ → Type 0
+HeldSoon most bytes held =
+    (held ≡ 0)
+    ⊎ ((before : ℕ) × (held ≤ before + most) × HasNoHead (take before bytes) × MayGoOn (take before bytes))
+
+-- no more of these bytes was read than it took to see a head, or that none comes
+abbrev pub ReadsSoon : ℕ → List ℕ → Option (List ℕ) → Type 0
+ReadsSoon most bytes left = (held : ℕ) × (left ≡ Some (drop held bytes)) × HeldSoon most bytes held

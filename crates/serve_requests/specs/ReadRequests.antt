@@ -76,8 +76,25 @@ IsRequestRefused bytes r =
     ((r ≡ BadHead) × IsBadHead (front_of bytes))
     ⊎ ((h : RequestHead) × (after : List ℕ) × Heads bytes h after × (wanted_of h ≡ Err r))
 
--- an answer of the reading: what is asked; or the request was refused, with its answer, or for want of memory; or the
--- bytes end before the head; or the link failed
+-- what is wanted has a body
+abbrev pub WantsBody : Wanted → Type 0
+WantsBody (wanted.Import day count) = Unit {0}
+WantsBody (wanted.Answers day count) = Unit {0}
+WantsBody (wanted.Day day) = ⊥
+WantsBody (wanted.Spent day xway vid) = ⊥
+WantsBody (wanted.Live vid) = ⊥
+WantsBody wanted.LiveTotal = ⊥
+WantsBody (wanted.Vehicle vid from to) = ⊥
+WantsBody wanted.Days = ⊥
+WantsBody wanted.Page = ⊥
+
+-- a head stands first that asks for what has a body
+abbrev pub AsksWithBody : List ℕ → Type 0
+AsksWithBody bytes =
+    (h : RequestHead) × (after : List ℕ) × (w : Wanted) × Heads bytes h after × (wanted_of h ≡ Ok w) × WantsBody w
+
+-- an answer of the reading: what is asked; or the request was refused, with its answer; or it has a body, of whose first
+-- bytes there was no memory; or the bytes end before the head; or the link failed
 abbrev pub ReadsHeadAsked : List ℕ → Option (List ℕ) → Option (List ℕ) → Option (List ℕ) → Result Asked SessionEnd →
     Type 0
 ReadsHeadAsked bytes left old new (Ok asked) =
@@ -86,8 +103,8 @@ ReadsHeadAsked bytes left old new (Ok asked) =
 ReadsHeadAsked bytes left old new (Err Cut) = IsCutHead (front_of bytes) × (new ≡ old)
 ReadsHeadAsked bytes left old new (Err (Answered status)) =
     ((r : Refusal) × IsRequestRefused bytes r × SendsReply (refusal_reply r) old new (Answered status))
-    ⊎ SendsReply no_memory_reply old new (Answered status)
+    ⊎ (AsksWithBody bytes × SendsReply no_memory_reply old new (Answered status))
 ReadsHeadAsked bytes left old new (Err LinkFault) =
     (new ≡ old)
     ⊎ (((r : Refusal) × IsRequestRefused bytes r × SendsReply (refusal_reply r) old new LinkFault)
-    ⊎ SendsReply no_memory_reply old new LinkFault)
+    ⊎ (AsksWithBody bytes × SendsReply no_memory_reply old new LinkFault))

@@ -1,7 +1,7 @@
 //! Requests and answers: what a request asks of the desk, or why it is refused at once, and the texts of answers.
 //!
 //! `read_front` reads the head from a link, within its first 8,192 bytes and with at most 64 fields. `Routes` holds
-//! the desk's seven routes and finds the place that a path names. `wanted_of` judges in this order: whether a page of
+//! the desk's eight routes and finds the place that a path names. `wanted_of` judges in this order: whether a page of
 //! the web may have sent the request, the path, then the method, then the length of the body of a POST.
 //!
 //! The texts of answers: their bodies in JSON, their status lines, and all the bytes of one.
@@ -52,7 +52,7 @@ pub use day_list::days_body;
 pub use fronts::{Front, read_front};
 pub use page::page_text;
 pub use place::DeskPlace;
-pub use reading::{read_asked, read_routed};
+pub use reading::read_asked;
 pub use refusing::refuse;
 pub use replies::{keeper_text, no_day_text, no_memory_text, reply_text};
 pub use routing::Routes;

@@ -1,13 +1,15 @@
 // Reading and routing a request.
-ghost use Rattle.std.specs.Prelude.{◌≡◌, ◌≢◌, ◌≤◌, ℕ, List, Some, Err, length, take, drop, IfOk};
+ghost use Rattle.std.specs.Prelude.{◌≡◌, ◌≢◌, ◌≤◌, ℕ, List, Some, Err, length, take, drop, IfOk, OnErr};
 ghost use Rattle.std.specs.Io.KnownBytes.{prepend_known};
 ghost use Rattle.road_io.specs.Faults.{Rose};
 ghost use Rattle.road_io.specs.Plans.{NeverFails};
 ghost use Rattle.httparse.specs.Grammar.{RequestHead};
 ghost use Rattle.httparse.specs.Spans.{IsRequestAt, IsRequestWithin};
+ghost use Rattle.road_io.specs.Portions.{UpTo};
 ghost use Rattle.road_io.specs.Within.{ReadsWithin};
+ghost use Rattle.serve_requests.specs.Fronts.{ReadsSoon};
 ghost use Rattle.serve_requests.specs.Asks.{IsWanted};
-ghost use Rattle.serve_requests.specs.ReadRequests.{asked_for, IsAsked, ReadsHeadAsked};
+ghost use Rattle.serve_requests.specs.ReadRequests.{asked_for, IsAsked, ReadsHeadAsked, WantsBody};
 ghost use Rattle.serve_requests.specs.Sends.{HasRoom, refusal_room};
 ghost use Rattle.serve_requests.specs.declared.session_end.SessionEnd.TheVariants.{Answered, LinkFault};
 
@@ -29,6 +31,7 @@ fn asked_of(alloc: Global, wanted: Wanted, rest: &[u8]) -> Result<Asked, NoMemor
     requires { IsWanted wanted }
     ensures asked { IfOk result (λ a. a ≡ asked_for wanted rest.now) }
     ensures ranges { IfOk result IsAsked }
+    ensures memory { OnErr result (WantsBody wanted) }
 {
     match wanted {
         Wanted::Day(day) => Ok(Asked::Day(day)),
@@ -85,7 +88,7 @@ fn ask<L: Link>(
 }
 
 /// Reads the head of a request and routes it, by routes that are kept. A request that is refused here is answered here.
-pub fn read_routed<L: Link>(
+pub fn read_asked<L: Link>(
     alloc: Global,
     routes: &Routes,
     link: &mut L,
@@ -93,6 +96,8 @@ pub fn read_routed<L: Link>(
     ensures reads { (bytes : List ℕ) → L.left link.old ≡ Some bytes
         → ReadsHeadAsked bytes (L.left link.new) (L.written link.old) (L.written link.new) result }
     ensures bounded { ReadsWithin 8192 (L.left link.old) (L.left link.new) }
+    ensures soon { (bytes : List ℕ) (most : ℕ) → L.left link.old ≡ Some bytes → L.most link.old ≡ UpTo most
+        → ReadsSoon most bytes (L.left link.new) }
     ensures ranges { IfOk result IsAsked }
     ensures room_kept { IfOk result (λ a. L.room link.new ≡ L.room link.old) }
     ensures available { result ≢ Err (Answered 503) }
@@ -108,25 +113,5 @@ pub fn read_routed<L: Link>(
         Front::Bad => Err(refuse(link, Refusal::BadHead)),
         Front::Cut => Err(SessionEnd::Cut),
         Front::LinkFault => Err(SessionEnd::LinkFault),
-    }
-}
-
-/// Reads the head of a request and routes it, by routes that are made for it. A request that is refused here is
-/// answered here.
-pub fn read_asked<L: Link>(alloc: Global, link: &mut L) -> Result<Asked, SessionEnd>
-    ensures reads { (bytes : List ℕ) → L.left link.old ≡ Some bytes
-        → ReadsHeadAsked bytes (L.left link.new) (L.written link.old) (L.written link.new) result }
-    ensures bounded { ReadsWithin 8192 (L.left link.old) (L.left link.new) }
-    ensures ranges { IfOk result IsAsked }
-    ensures room_kept { IfOk result (λ a. L.room link.new ≡ L.room link.old) }
-    ensures available { result ≢ Err (Answered 503) }
-    ensures cause { result ≡ Err LinkFault → Rose (L.faults link.old) (L.faults link.new) }
-    ensures later { L.faults link.old ≤ L.faults link.new }
-    ensures sure { NeverFails (L.plan link.old) → HasRoom (L.room link.old) refusal_room → result ≢ Err LinkFault }
-    ensures still { NeverFails (L.plan link.old) → NeverFails (L.plan link.new) }
-{
-    match Routes::new(alloc) {
-        Ok(routes) => read_routed(alloc, &routes, link),
-        Err(_) => Err(send_no_memory(link)),
     }
 }

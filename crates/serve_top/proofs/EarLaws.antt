@@ -5,7 +5,7 @@ use Rattle.std.specs.List.{All, AllZip}
 use Rattle.std.proofs.lemmas.Bool.{cases_Bool}
 use Rattle.road_io.specs.Faults.{Rose}
 use Rattle.serve_board.specs.Passes.{Pass}
-use Rattle.serve_loops.specs.Lanes.{AnyRose, LaneServes, LaneTurned}
+use Rattle.serve_loops.specs.Lanes.{AnyRose, HasFailedLane, LaneServes, LaneTurned}
 use Rattle.serve_loops.specs.declared.lane.Lane.{Lane}
 use Rattle.serve_top.specs.Doors.{has_fault}
 use Rattle.road_time.specs.declared.day.Limits.{Limits}
@@ -40,6 +40,27 @@ rose_fails f (o ∷ old) (n ∷ new) (zero, p, below, at, rose) =
     rw above refl
 rose_fails f (o ∷ old) (n ∷ new) (suc k, p, below, at, rose) =
     rw (rose_fails f old new (k, p, omega (arith, below), at, rose)) (or_true (nat_lt 0 (f n.listener)))
+
+-- where no lane failed of ears that had not failed, no ear has
+pub none_fails : {N : Type 0} (f h : N → ℕ) (old new : List (Lane N)) →
+    All (λ ear. (f ear ≡ 0) × (h ear ≡ 0)) (map (λ lane. lane.listener) old) → AllZip (LaneServes h) old new →
+    (HasFailedLane new → ⊥) → has_fault h (map (λ lane. lane.listener) new) ≡ false
+none_fails f h [] [] all served none = refl
+none_fails f h [] (y ∷ ys) all served none = absurd served
+none_fails f h (x ∷ xs) [] all served none = absurd served
+none_fails f h (x ∷ xs) (y ∷ ys) all (one, more) none =
+    rw still (none_fails f h xs ys (λ k d less. all (suc k) d (omega (arith, less))) more there)
+  where
+    fine : y.failed ≡ false
+    fine =
+        ⊎_elim (λ (yes : y.failed ≡ true). absurd (none (0, y, omega arith, refl, yes)))
+        (λ (no : y.failed ≡ false). no) (cases_Bool y.failed)
+
+    still : h y.listener ≡ 0
+    still = one.still fine ∙ (all 0 x.listener (omega arith)).1
+
+    there : HasFailedLane ys → ⊥
+    there (k, p, below, at, failed) = none (suc k, p, omega (arith, below), at, failed)
 
 -- what a lane served its ear served
 ear_served : {N : Type 0} (faults accepted : N → ℕ) (turn : N → Pass → N → Pass → Type 0) (x y : Lane N) →

@@ -23,10 +23,11 @@ pub record Counts : Type 0 where
 abbrev pub counts_of : ℕ → ℕ → ℕ → Counts
 counts_of refused faults accepted = record { refused = refused; faults = faults; accepted = accepted }
 
--- How serving ends, by what its door counted before and after: all sessions were accepted; or the count that the end
--- names rose, and not the other; or memory ran out, and neither rose. No opening was refused but where the end says so.
+-- How serving ends, by what its door counted before and after: all sessions were accepted, or memory ran out, and no
+-- count of faults rose; or the count that the end names rose, and not the other.
 abbrev pub EndsServing : Serving → Counts → Counts → ServerEnd → Type 0
-EndsServing serving old new Served = (new.accepted ≡ serving.sessions) × (new.refused ≡ old.refused)
+EndsServing serving old new Served =
+    (new.accepted ≡ serving.sessions) × (new.refused ≡ old.refused) × (new.faults ≡ old.faults)
 EndsServing serving old new Words = ⊥
 EndsServing serving old new Refused = Rose old.refused new.refused × (new.faults ≡ old.faults)
 EndsServing serving old new EarFault = Rose old.faults new.faults × (new.refused ≡ old.refused)

@@ -56,7 +56,6 @@ pub use door::{Door, DoorFault};
 pub use ear::Ear;
 pub use ears::Ears;
 pub use ending::ServerEnd;
-pub use inline_desk::InlineDesk;
 pub use laws::{spelling_law, words_law};
 pub use mem_door::MemDoor;
 pub use seats::{rise, seat};

@@ -1,5 +1,5 @@
 // Serving over an open door.
-ghost use Rattle.std.specs.Prelude.{◌≡◌, ◌≤◌, ◌<◌, ◌^◌, [], All, length, vec_len, vec_capacity, true};
+ghost use Rattle.std.specs.Prelude.{◌≡◌, ◌≤◌, ◌<◌, ◌^◌, [], All, length, vec_len, vec_capacity, true, false};
 ghost use Rattle.road_time.specs.Fits.{IsLimits};
 ghost use Rattle.serve_loops.specs.declared.serve_end.ServeEnd.TheVariants.{Served, ListenFault};
 ghost use Rattle.serve_loops.specs.Wires.{wire_by};
@@ -67,6 +67,7 @@ fn serve_over<
         (wire_by N.Line.left N.Line.plan N.Line.written N.Line.room) (C.Shared.attends desk))
         C.works C.bounds limits.now ears result.1 }
     ensures fault { result.0 ≡ ListenFault → has_fault N.faults result.1 ≡ true }
+    ensures sound { result.0 ≡ Served → has_fault N.faults result.1 ≡ false }
 {
     let Board { writer, readers } = board;
     let mut lanes = seat(lanes, ears, readers);

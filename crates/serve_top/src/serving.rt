@@ -22,7 +22,7 @@ use std::thread::Threads;
 /// Serves the desk by the words after the program's name, and gives the exit status, and the keeper back, which the
 /// caller is to close. The door has accepted nothing before. 0 comes only where the door has accepted as many
 /// connections as the words' sessions, 1 exactly where the words are of no stated form, 2 exactly where an opening was
-/// refused, 4 only where a listener failed, 8 for want of memory, and only where none of these did. It waits.
+/// refused, 4 exactly where a listener failed, 8 for want of memory, and only where none of these did. It waits.
 pub fn serve_words<
     D: Door,
     K,
@@ -57,7 +57,7 @@ pub fn serve_words<
     ensures refused_later { D.refused door.old ≤ D.refused door.new }
     ensures faults_later { D.faults door.old ≤ D.faults door.new }
     ensures refused_still { result.0 ≢ 2 → D.refused door.new ≡ D.refused door.old }
-    ensures faults_still { result.0 ≢ 0 → result.0 ≢ 4 → D.faults door.new ≡ D.faults door.old }
+    ensures faults_still { result.0 ≢ 4 → D.faults door.new ≡ D.faults door.old }
 {
     let (end, keeper) = match read_words(alloc, words) {
         Ok(serving) => serve_as(rt, alloc, &serving, limits, door, keeper, crew),

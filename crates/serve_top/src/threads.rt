@@ -55,7 +55,7 @@ fn serve_named<
     ensures refused_later { D.refused door.old ≤ D.refused door.new }
     ensures faults_later { D.faults door.old ≤ D.faults door.new }
     ensures refused_still { result.0 ≢ 2 → D.refused door.new ≡ D.refused door.old }
-    ensures faults_still { result.0 ≢ 0 → result.0 ≢ 4 → D.faults door.new ≡ D.faults door.old }
+    ensures faults_still { result.0 ≢ 4 → D.faults door.new ≡ D.faults door.old }
 {
     let crew = ThreadCrew::new(rt, alloc, NoGate);
     let kept = opened.named::<J>();
@@ -92,7 +92,7 @@ pub fn serve_in_threads<D: Door, K: Keeper + Send, R: Wait + Threads + Drop + Co
     ensures refused_later { D.refused door.old ≤ D.refused door.new }
     ensures faults_later { D.faults door.old ≤ D.faults door.new }
     ensures refused_still { result.0 ≢ 2 → D.refused door.new ≡ D.refused door.old }
-    ensures faults_still { result.0 ≢ 0 → result.0 ≢ 4 → D.faults door.new ≡ D.faults door.old }
+    ensures faults_still { result.0 ≢ 4 → D.faults door.new ≡ D.faults door.old }
 {
     serve_named::<D, Brand, K, R>(rt, alloc, words, limits, door, Opened::new(keeper))
 }

@@ -3,8 +3,10 @@ ghost use Rattle.std.specs.Prelude.{◌≡◌, ◌≢◌, ◌≤◌, ◌<◌, �
 ghost use Rattle.std.specs.Io.KnownBytes.{ReadConsumes};
 ghost use Rattle.road_io.specs.Faults.{Rose, HasCause};
 ghost use Rattle.road_io.specs.Plans.{AsPlanned, NeverFails};
+ghost use Rattle.road_io.specs.Portions.{Moves, UpTo};
 ghost use Rattle.road_io.specs.Within.{ReadsWithin};
 ghost use Rattle.serve_requests.specs.Asks.{IsLook, IsHeld, IsLinkFront};
+ghost use Rattle.serve_requests.specs.Fronts.{ReadsSoon};
 ghost use Rattle.serve_requests.specs.declared.fronts.Front.TheVariants.{LinkFault};
 
 use super::{Front, Look};
@@ -33,6 +35,8 @@ fn read_behind<L: Link>(link: &mut L, buffer: &mut [u8], held: usize) -> Result<
     ensures count { IfOk result (λ n. held + n ≤ length buffer.old) }
     ensures bytes { ReadConsumes (L.left link.old) (L.left link.new) result (drop held buffer.new) }
     ensures planned { AsPlanned (L.plan link.old) (L.plan link.new) result }
+    ensures portion { IfOk result (λ n. Moves (L.most link.old) (length (drop held buffer.old)) n) }
+    ensures most_kept { L.most link.new ≡ L.most link.old }
     ensures unwritten { L.written link.new ≡ L.written link.old }
     ensures room_kept { L.room link.new ≡ L.room link.old }
     ensures cause { HasCause (L.faults link.old) (L.faults link.new) result }
@@ -47,6 +51,8 @@ pub fn read_front<L: Link>(link: &mut L, buffer: &mut [u8], headers: &mut [Heade
     ensures front { (bytes : List ℕ) → L.left link.old ≡ Some bytes
         → IsLinkFront bytes buffer.new headers.new (L.left link.new) result }
     ensures bounded { ReadsWithin 8192 (L.left link.old) (L.left link.new) }
+    ensures soon { (bytes : List ℕ) (most : ℕ) → L.left link.old ≡ Some bytes → L.most link.old ≡ UpTo most
+        → ReadsSoon most bytes (L.left link.new) }
     ensures held { IsHeld buffer.new headers.new result }
     ensures size { length buffer.new ≡ 8192 }
     ensures unwritten { L.written link.new ≡ L.written link.old }

@@ -8,7 +8,6 @@ mod in_line;
 mod listing;
 mod over_lanes;
 mod rows;
-mod sharing;
 mod streaming;
 
 use day_plan::Plan;
@@ -18,7 +17,7 @@ use road_io::MemLink;
 use road_time::{Limits, NoMemory};
 use rows::{ROWS, Row};
 use serve_board::{Board, BoardReader, BoardWriter, board};
-use serve_desk::{Desk, SessionEnd, session};
+use serve_desk::{Desk, Routes, SessionEnd, session};
 use std::alloc::Global;
 use std::sync::Wait;
 use std::thread::Threads;
@@ -99,8 +98,9 @@ fn ask<K: Keeper, C: Crew, R: Wait + Threads + Drop>(
     requires board { reader.old.board ≡ desk.old.writer.board }
     ensures board { IfOk result (λ _. reader.new.board ≡ desk.new.writer.board) }
 {
+    let routes = Routes::new(alloc)?;
     let mut link = MemLink::new(alloc, input, piece.max(1), 40_000, &[])?;
-    let end = session(alloc, &mut link, reader, desk);
+    let end = session(alloc, &routes, &mut link, reader, desk);
     let written = Vec::from_slice(alloc, link.bytes())?;
     Ok((end, written))
 }

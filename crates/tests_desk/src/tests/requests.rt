@@ -4,7 +4,7 @@ mod rows;
 use road_io::{Link, MemLink};
 use road_time::NoMemory;
 use rows::{ASKED, BAD_HEAD, NO_LENGTH, REFUSED, Refused};
-use serve_requests::{Asked, BodyEnd, Routes, SessionEnd, read_asked, read_routed, skip_body};
+use serve_requests::{Asked, BodyEnd, Routes, SessionEnd, read_asked, skip_body};
 use std::alloc::Global;
 
 /// What came of a request.
@@ -47,7 +47,7 @@ fn comes(
     answer: &[u8],
 ) -> Result<bool, NoMemory> {
     let mut link = MemLink::new(alloc, input, piece.max(1), 1000, &[])?;
-    let read = read_routed(alloc, routes, &mut link);
+    let read = read_asked(alloc, routes, &mut link);
     Ok(came_of(&read) == came && link.bytes() == answer)
 }
 
@@ -164,8 +164,9 @@ fn post(
     piece: usize,
     fails: &[u32],
 ) -> Result<Option<(BodyEnd, usize)>, NoMemory> {
+    let routes = Routes::new(alloc)?;
     let mut link = MemLink::new(alloc, input, piece.max(1), 0, fails)?;
-    let Ok(Asked::Import { length, early, .. }) = read_asked(alloc, &mut link) else {
+    let Ok(Asked::Import { length, early, .. }) = read_asked(alloc, &routes, &mut link) else {
         return Ok(None);
     };
     if early.items().len() as u64 > length {
@@ -186,8 +187,9 @@ fn comes_over(
     came: Came,
     answer: &[u8],
 ) -> Result<bool, NoMemory> {
+    let routes = Routes::new(alloc)?;
     let mut link = MemLink::new(alloc, input, 10, room, fails)?;
-    let read = read_asked(alloc, &mut link);
+    let read = read_asked(alloc, &routes, &mut link);
     Ok(came_of(&read) == came && link.bytes() == answer)
 }
 

@@ -1,4 +1,4 @@
-use Rattle.std.proofs.Common.{◌≡◌, ◌++◌, List, Option, Some, Result, Ok, Err, OnOk}
+use Rattle.std.proofs.Common.{◌≡◌}
 use Rattle.keep_office.specs.Office.{record_of}
 use Rattle.serve_desk.proofs.SendLaws.{kept_is}
 use Rattle.serve_desk.proofs.DayLaws.{counts_quiet, counts_err}

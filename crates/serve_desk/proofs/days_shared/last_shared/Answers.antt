@@ -1,4 +1,4 @@
-use Rattle.std.proofs.Common.{◌≡◌, ap, ◌∙◌}
+use Rattle.std.proofs.Common.{◌≡◌}
 use Rattle.keep_office.specs.Office.{last_day}
 use Rattle.serve_desk.proofs.SendLaws.{kept_is}
 use Rattle.serve_desk.proofs.DayLaws.{counts_ok, counts_err}

@@ -1,5 +1,4 @@
-use Rattle.std.proofs.Common.{◌≡◌, ◌≤◌, ◌-◌, ◌+◌, ◌∙◌, ℕ, suc, inl, inr, refl, sym, ap, subst, arith}
-use Rattle.serve_desk.specs.Shared.{ListsFrom}
+use Rattle.std.proofs.Common.{◌∙◌, inl, inr, refl, arith}
 use Rattle.serve_desk.proofs.DayLaws.{counts_still, counts_later}
 use Rattle.serve_desk.proofs.SharedLaws.{lists_more, lists_none, lists_all}
 use Rattle.serve_desk.proofs.days_shared.list_from.Goals as goal

@@ -1,4 +1,4 @@
-use Rattle.std.proofs.Common.{◌∙◌, inl, inr, refl, subst, arith}
+use Rattle.std.proofs.Common.{◌≡◌, ◌-◌, ◌∙◌, inl, inr, refl, ap, subst, arith, drop, Some}
 use Rattle.std.specs.Io.KnownBytes.{prepend_known, Appends}
 use Rattle.day_import.specs.Imports.{answers_answer, Does}
 use Rattle.serve_requests.specs.AskedBodies.{filled}
@@ -30,6 +30,14 @@ returns-in-Ok-clause-fits g c =
     let s = c.settle in
     fits c.args.count (prepend_known c.args.early.now (g.L.Link.left c.args.link.now)) s.result.early.now
     (g.L.Link.left s.new.link) s.result.read s.ensures.reads
+
+pub returns-in-Err-clause-reads : goal.returns-in-Err-clause-reads
+returns-in-Err-clause-reads g c = (
+  c.requires.few,
+  omega arith,
+  λ all known. (let none : 0 ≡ c.args.count - c.args.count = omega arith in
+      (known ∙ ap (λ n. Some (drop n all)) none, omega arith)),
+)
 
 pub returns-in-Err-clause-streams : goal.returns-in-Err-clause-streams
 returns-in-Err-clause-streams g c = λ all o known told exact.

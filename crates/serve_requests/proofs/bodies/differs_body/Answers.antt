@@ -1,4 +1,4 @@
-use Rattle.std.proofs.Common.{ap, ◌∙◌, ◌≡◌, string_bytes, ◌++◌, codes, sym, rules, List, ℕ}
+use Rattle.std.proofs.Common.{ap, ◌∙◌, ◌≡◌, string_bytes, ◌++◌, codes, rules}
 use Rattle.serde_json.specs.Data.{string, object, member, no_members}
 use Rattle.serde_json.specs.View.{view}
 use Rattle.serde_json.specs.Written.{compact_text, has_float}

@@ -1,4 +1,3 @@
-use Rattle.std.proofs.Common.{refl}
 use Rattle.serve_requests.specs.Pages.{page_front}
 use Rattle.serve_requests.proofs.page.page_front.Goals as goal
 

@@ -2,7 +2,7 @@ use Rattle.std.proofs.Common.{◌≡◌, ◌-◌, ◌++◌, length, arith, drop,
 use Rattle.std.proofs.lemmas.List.{take_all, length-drop}
 use Rattle.serve_requests.specs.ReadRequests.{asked_for, wanted_in, HasBody}
 use Rattle.serve_requests.proofs.StatusLaws.{memory_is_available, refusal_is_available}
-use Rattle.serve_requests.proofs.ReplyLaws.{room_for_memory, heads_on, wanted_same, has_body, refused}
+use Rattle.serve_requests.proofs.ReplyLaws.{room_for_memory, heads_on, wanted_same, has_body, refused, starved}
 use Rattle.serve_requests.proofs.reading.ask.Goals as goal
 
 pub returns-in-Ok-asked_of-clause-reads : goal.returns-in-Ok-asked_of-clause-reads
@@ -23,6 +23,13 @@ returns-in-Ok-asked_of-clause-reads g c = λ h bytes at few known.
           (subst (λ a. HasBody a (rest ++ k.0) (Some k.0)) (sym asked) (has_body c.in-Ok.wanted rest k.0)),
       refl,
     )
+
+pub returns-in-Err-asked_of-clause-reads : goal.returns-in-Err-asked_of-clause-reads
+returns-in-Err-asked_of-clause-reads g c = λ h bytes at few known.
+    let k = heads_on c.args.buf.now bytes _ _ h (g.L.Link.left c.args.link.now) at few c.requires.short known in
+    starved bytes (g.L.Link.left c.send_no_memory.new.link) _ _ c.send_no_memory.result
+    (h, _, c.in-Ok.wanted, k.2, sym (c.wanted_of.ensures.wanted h at) ∙ c.in-Ok.is, c.in-Err-asked_of.ensures.memory)
+    c.send_no_memory.ensures.sent
 
 pub returns-in-Err-clause-reads : goal.returns-in-Err-clause-reads
 returns-in-Err-clause-reads g c = λ h bytes at few known.

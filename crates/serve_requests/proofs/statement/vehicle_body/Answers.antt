@@ -1,4 +1,4 @@
-use Rattle.std.proofs.Common.{◌≡◌, ◌++◌, codes, decimal, string_bytes, ap, ◌∙◌, List, ℕ}
+use Rattle.std.proofs.Common.{◌≡◌, ◌++◌, codes, decimal, string_bytes, ap, ◌∙◌}
 use Rattle.serve_requests.specs.Lists.{statement_front}
 use Rattle.serve_requests.proofs.statement.vehicle_body.Goals as goal
 

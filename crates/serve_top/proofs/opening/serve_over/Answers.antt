@@ -6,7 +6,7 @@ use Rattle.serve_top.specs.Doors.{has_fault}
 use Rattle.serve_loops.specs.Wires.{wire_by}
 use Rattle.serve_loops.specs.Lanes.{TurnOf}
 use Rattle.serve_top.specs.Served.{EarServed}
-use Rattle.serve_top.proofs.EarLaws.{fresh_in, rose_fails, ears_served}
+use Rattle.serve_top.proofs.EarLaws.{fresh_in, rose_fails, none_fails, ears_served}
 use Rattle.serve_top.proofs.opening.serve_over.Goals as goal
 
 pub serve-end-requires-clause-fresh : goal.serve-end-requires-clause-fresh
@@ -26,6 +26,14 @@ pub returns-clause-fault : goal.returns-clause-fault
 returns-clause-fault g c is =
     ap (has_fault g.N.Listener.faults) c.rise.ensures
     ∙ rose_fails g.N.Listener.faults c.seat-lanes.result c.serve-end.new.lanes (c.serve-end.ensures.cause is)
+
+pub returns-clause-sound : goal.returns-clause-sound
+returns-clause-sound g c is =
+    let n = g.N.Listener in
+    ap (has_fault n.faults) c.rise.ensures
+    ∙ none_fails n.accepted n.faults c.seat-lanes.result c.serve-end.new.lanes
+    (subst (All (λ ear. (n.accepted ear ≡ 0) × (n.faults ear ≡ 0))) (sym c.seat-lanes.ensures) c.requires.fresh)
+    c.serve-end.ensures.lanes (λ failed. cc (sym is ∙ c.serve-end.ensures.end.1 failed))
 
 pub returns-clause-desk : goal.returns-clause-desk
 returns-clause-desk g c =

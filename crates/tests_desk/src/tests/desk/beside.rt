@@ -1,4 +1,4 @@
-// What is kept, asked of a desk that lanes share while a day is posted.
+// What is kept, and a live account, asked of a desk that lanes share while a day is posted.
 ghost use Rattle.std.specs.Prelude.{◌≡◌, []};
 
 use super::held::HeldLink;
@@ -8,7 +8,7 @@ use keep_office::{Keeper, MemKeeper};
 use road_io::{MemLink, TwoWay};
 use road_time::{Limits, NoMemory};
 use serve_board::{Board, BoardReader, board};
-use serve_desk::{Kept, Naming, Opened};
+use serve_desk::{Kept, Naming, Opened, desk_moves};
 use serve_loops::{Host, NoTurn};
 use serve_top::DeskCrew;
 use std::alloc::Global;
@@ -32,6 +32,8 @@ const KEPT_DAY: &[u8] = b"GET /days/99 HTTP/1.1\r\n\r\n";
 const POSTED_DAY: &[u8] = b"GET /days/100 HTTP/1.1\r\n\r\n";
 
 const AMOUNT: &[u8] = b"GET /spent/100/0/100 HTTP/1.1\r\n\r\n";
+
+const ACCOUNT: &[u8] = b"GET /live/100 HTTP/1.1\r\n\r\n";
 
 /// One who has a host serve connections.
 #[derive(Drop)]
@@ -77,13 +79,27 @@ fn answers_before<H: Host>(
     )
 }
 
-/// Whether a POST was held until others were answered, whether they were answered of what was kept before it, and what
-/// its amount is then.
+/// Whether a POST was held until others were answered, whether they were answered of what was kept before it, and an
+/// account at all, and how the POST, its amount and the account were answered then.
 #[derive(Drop)]
 struct Beside {
     held: bool,
     before: bool,
+    shown: bool,
+    posted: Vec<u8>,
     after: Vec<u8>,
+    account: Vec<u8>,
+}
+
+/// Whether what was kept before a POST is answered, and an account at all.
+fn asks_before<H: Host>(
+    alloc: Global,
+    host: &H,
+    reader: &mut BoardReader,
+) -> Result<(bool, bool), NoMemory> {
+    let before = answers_before(alloc, host, reader)?;
+    let account = ask(alloc, host, reader, ACCOUNT)?;
+    Ok((before, account.starts_with(b"HTTP/1.1 200 OK\r\n")))
 }
 
 /// Posts a day over a link that holds its body until what is kept was answered in another thread.
@@ -108,17 +124,21 @@ fn post_beside<H: Host + Sync, R: Threads + Wait + Sync>(
         rt,
         || poster.call(alloc, &mut link, first),
         || {
-            let before = answers_before(alloc, host, second);
+            let before = asks_before(alloc, host, second);
             ended.store(true, SeqCst);
             before
         },
     );
-    let before = before?;
+    let (before, shown) = before?;
     let after = ask(alloc, host, second, AMOUNT)?;
+    let account = ask(alloc, host, second, ACCOUNT)?;
     Ok(Beside {
         held: link.saw,
         before,
+        shown,
+        posted: Vec::from_slice(alloc, link.inner.bytes())?,
         after,
+        account,
     })
 }
 
@@ -197,5 +217,19 @@ fn a_kept_day_waits_for_no_import(rt: HostRuntime) -> Result<(), NoMemory> {
         assert!(rt; came.held && came.before && kept);
         assert_eq!(rt; came.after.as_slice(), wanted.as_bytes());
     }
+    Ok(())
+}
+
+/// A live account is answered while a day is posted in another thread, and shows the day after both.
+#[test]
+fn an_account_waits_for_no_import(rt: HostRuntime) -> Result<(), NoMemory> {
+    let alloc = rt.alloc();
+    let wanted = answer_of(alloc, "200 OK", "{\"as_of\":56,\"balance\":2,\"day\":100}")?;
+    for (came, _) in share_both(rt, alloc)? {
+        assert!(rt; came.held && came.shown);
+        assert!(rt; came.posted.starts_with(b"HTTP/1.1 200 OK\r\n"));
+        assert_eq!(rt; came.account.as_slice(), wanted.as_bytes());
+    }
+    desk_moves::<MemKeeper, InlineCrew, HostRuntime>();
     Ok(())
 }

@@ -6,7 +6,7 @@ use keep_office::MemKeeper;
 use road_io::MemLink;
 use road_time::NoMemory;
 use serve_board::{Board, BoardReader, board};
-use serve_desk::{Desk, SessionEnd, session};
+use serve_desk::{Desk, Routes, SessionEnd, session};
 use std::alloc::Global;
 use std::sync::Wait;
 use std::thread::Threads;
@@ -23,7 +23,8 @@ fn then_an_empty_day<R: Wait + Threads + Drop>(
 ) -> Result<(SessionEnd, bool, SessionEnd), NoMemory>
     requires board { reader.old.board ≡ desk.old.writer.board }
 {
-    let end = session(alloc, link, reader, desk);
+    let routes = Routes::new(alloc)?;
+    let end = session(alloc, &routes, link, reader, desk);
     let silent = link.bytes().is_empty();
     let (next, _) = ask(alloc, desk, reader, EMPTY_DAY, 100)?;
     Ok((end, silent, next))

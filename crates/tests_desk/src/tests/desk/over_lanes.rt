@@ -6,7 +6,7 @@ use super::beside::PLAN;
 use super::faults::KEPT;
 use super::listing::{AFTER_TWO_DAYS, LONG_DAY, charged_on_five, long_post};
 use super::streaming::{STREAMED, charged_day, is_stream, request_of};
-use super::{answer_of, charged_on_leaving};
+use super::{EMPTY_DAY, answer_of, charged_on_leaving};
 use keep_office::MemKeeper;
 use road_io::{BothWays, MemLink, MemSink};
 use road_time::{Limits, NoMemory};
@@ -27,6 +27,8 @@ enum Asking<'a> {
     TwoDays,
     /// This, of a keeper that fails.
     Fault(&'a [u8]),
+    /// A live account, of a keeper that fails.
+    Account,
     /// A day of 100,000 bytes is posted.
     LongDay,
     /// This over a connection in pieces, which is to have this behind the head.
@@ -121,6 +123,11 @@ fn answers<H: Host>(
             let status = "503 Service Unavailable";
             let body = "{\"error\":\"keeper\"}";
             answers_so(alloc, host, reader, request, 100, status, body)
+        }
+        Asking::Account => {
+            let account = b"GET /live/100 HTTP/1.1\r\n\r\n";
+            let body = "{\"as_of\":0,\"balance\":0,\"day\":0}";
+            answers_so(alloc, host, reader, account, 7, "200 OK", body)
         }
         Asking::LongDay => {
             let request = long_post(alloc)?;
@@ -223,12 +230,20 @@ fn who_asks_over_lanes_is_told_of_that_very_one(rt: HostRuntime) -> Result<(), N
     Ok(())
 }
 
-/// Who asks for what is kept over lanes is answered with 503 where the keeper fails.
+/// Who asks for what is kept over lanes is answered with 503 where the keeper fails, and so is who posts a day.
 #[test]
 fn who_asks_over_lanes_is_told_of_a_fault(rt: HostRuntime) -> Result<(), NoMemory> {
     for request in KEPT {
         assert!(rt; share_for_both(rt, rt.alloc(), &[0], Asking::Fault(request))?);
     }
+    assert!(rt; share_for_both(rt, rt.alloc(), &[0], Asking::Fault(EMPTY_DAY))?);
+    Ok(())
+}
+
+/// A live account is answered of the board alone, whatever becomes of the keeper.
+#[test]
+fn an_account_asks_no_keeper(rt: HostRuntime) -> Result<(), NoMemory> {
+    assert!(rt; share_for_both(rt, rt.alloc(), &[0], Asking::Account)?);
     Ok(())
 }
 

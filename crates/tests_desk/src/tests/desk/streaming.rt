@@ -6,7 +6,7 @@ use keep_office::MemKeeper;
 use road_io::{BothWays, MemLink, MemSink};
 use road_time::NoMemory;
 use serve_board::{Board, BoardReader, board};
-use serve_desk::{Desk, SessionEnd, session};
+use serve_desk::{Desk, Routes, SessionEnd, session};
 use std::alloc::Global;
 use std::sync::Wait;
 use std::thread::Threads;
@@ -71,7 +71,8 @@ fn stream<R: Wait + Threads + Drop>(
     let input = MemLink::new(alloc, request, piece.max(1), 0, &[])?;
     let output = MemSink::new(alloc, 10_000, piece.max(1))?;
     let mut link = BothWays::new(input, output);
-    let end = session(alloc, &mut link, reader, desk);
+    let routes = Routes::new(alloc)?;
+    let end = session(alloc, &routes, &mut link, reader, desk);
     let sent = Vec::from_slice(alloc, link.bytes())?;
     let (day, _) = ask(alloc, desk, reader, b"GET /days/100 HTTP/1.1\r\n\r\n", 100)?;
     Ok(Seen {

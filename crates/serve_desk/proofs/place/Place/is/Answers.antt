@@ -1,4 +1,4 @@
-use Rattle.std.proofs.Common.{◌≡◌, length, ap, subst, arith, List, ◌∙◌, sym}
+use Rattle.std.proofs.Common.{◌≡◌, length, ap, subst, arith}
 use mathlib.Core.List.{IsPrefix}
 use Rattle.serve_desk.proofs.HistoryLaws.{as_long}
 use Rattle.serve_desk.proofs.place.Place.is.Goals as goal

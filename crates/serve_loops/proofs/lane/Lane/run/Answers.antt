@@ -21,7 +21,7 @@ loop-alloc-preserved g c =
     (λ (no : new.failed ≡ false). no) (cases_Bool new.failed) in
     let more = c.turn.ensures.accepts went in
     let drew = c.draw.ensures.drawn c.loop-alloc-test.true in (
-      serves_on n.faults old mid new inv.0 c.turn.ensures.serves fine,
+      serves_on n.faults old mid new inv.0 inv.1 c.turn.ensures.serves fine,
       fine,
       omega (arith, more, inv.2, drew),
       c.draw.ensures.drawn_parts ∙ inv.3,

@@ -3,7 +3,8 @@ use Rattle.std.specs.Io.KnownBytes.{Keeps, Consumes, prepend_known}
 use Rattle.std.proofs.lemmas.List.{length-take-le, length-drop}
 use Rattle.road_io.proofs.LineLaws.{take_sum}
 use Rattle.serve_requests.proofs.FrontLaws.{known_front, known_end, known_on, known_kept, keeps_none, read_within}
-use Rattle.serve_requests.proofs.FrontLaws.{sure_on}
+use Rattle.serve_requests.proofs.FrontLaws.{sure_on, soon_on, soon_left}
+use Rattle.road_io.specs.Portions.{Moves}
 use Rattle.serve_requests.proofs.FrontLaws.{never_bad, open_bad, open_cut}
 use Rattle.serve_requests.proofs.fronts.reading.read_front.Goals as goal
 
@@ -64,6 +65,14 @@ loop-held-preserved g c =
       room = read.room_kept ∙ c.loop-held.invariant.room;
       sure = λ never. sure_on _ _ _ (c.loop-held.invariant.sure never) read.planned;
       later = omega (arith, read.cause.later);
+      most_kept = read.most_kept ∙ c.loop-held.invariant.most_kept;
+      soon = λ bytes most is up.
+          let h = take held was in
+          let size : length h ≡ held = length-take-le held was (omega (arith, c.loop-held.invariant.size)) in
+          soon_on h bytes (g.L.Link.left c.loop-held.link) most held n
+          (subst (λ o. Keeps o (prepend_known h (g.L.Link.left c.loop-held.link))) is c.loop-held.invariant.ahead) size
+          c.in-Open.ensures.look.0 c.in-Open.ensures.look.1
+          (subst (λ p. Moves p (length (drop held was)) n) (c.loop-held.invariant.most_kept ∙ up) read.portion);
     }
 
 pub returns-in-Whole-clause-bounded : goal.returns-in-Whole-clause-bounded
@@ -125,3 +134,58 @@ returns-in-Ok-eq0-clause-still g c =
 
 pub returns-in-Err-clause-still : goal.returns-in-Err-clause-still
 returns-in-Err-clause-still g c = λ never. sure_on _ _ _ (c.loop-held.invariant.sure never) c.in-Err.ensures.planned
+
+pub returns-in-Whole-clause-soon : goal.returns-in-Whole-clause-soon
+returns-in-Whole-clause-soon g c = λ bytes most is up.
+    let h = take c.loop-held.held c.loop-held.buffer in
+    let size = length-take-le c.loop-held.held c.loop-held.buffer (omega arith) in
+    let k = subst (λ o. Keeps o (prepend_known h (g.L.Link.left c.loop-held.link))) is c.loop-held.invariant.ahead in
+    soon_left h bytes _ most c.loop-held.held k size (c.loop-held.invariant.soon bytes most is up)
+
+pub returns-in-Never-clause-soon : goal.returns-in-Never-clause-soon
+returns-in-Never-clause-soon g c = λ bytes most is up.
+    let h = take c.loop-held.held c.loop-held.buffer in
+    let size = length-take-le c.loop-held.held c.loop-held.buffer (omega arith) in
+    let k = subst (λ o. Keeps o (prepend_known h (g.L.Link.left c.loop-held.link))) is c.loop-held.invariant.ahead in
+    soon_left h bytes _ most c.loop-held.held k size (c.loop-held.invariant.soon bytes most is up)
+
+pub returns-in-Whole-look-clause-soon : goal.returns-in-Whole-look-clause-soon
+returns-in-Whole-look-clause-soon g c = λ bytes most is up.
+    let h = take c.loop-held.held c.loop-held.buffer in
+    let size = length-take-le c.loop-held.held c.loop-held.buffer (omega arith) in
+    let k = subst (λ o. Keeps o (prepend_known h (g.L.Link.left c.loop-held.link))) is c.loop-held.invariant.ahead in
+    soon_left h bytes _ most c.loop-held.held k size (c.loop-held.invariant.soon bytes most is up)
+
+pub returns-in-Open-look-clause-soon : goal.returns-in-Open-look-clause-soon
+returns-in-Open-look-clause-soon g c = λ bytes most is up.
+    let h = take c.loop-held.held c.loop-held.buffer in
+    let size = length-take-le c.loop-held.held c.loop-held.buffer (omega arith) in
+    let k = subst (λ o. Keeps o (prepend_known h (g.L.Link.left c.loop-held.link))) is c.loop-held.invariant.ahead in
+    soon_left h bytes _ most c.loop-held.held k size (c.loop-held.invariant.soon bytes most is up)
+
+pub returns-in-Never-look-clause-soon : goal.returns-in-Never-look-clause-soon
+returns-in-Never-look-clause-soon g c = λ bytes most is up.
+    let h = take c.loop-held.held c.loop-held.buffer in
+    let size = length-take-le c.loop-held.held c.loop-held.buffer (omega arith) in
+    let k = subst (λ o. Keeps o (prepend_known h (g.L.Link.left c.loop-held.link))) is c.loop-held.invariant.ahead in
+    soon_left h bytes _ most c.loop-held.held k size (c.loop-held.invariant.soon bytes most is up)
+
+pub returns-in-Ok-eq0-clause-soon : goal.returns-in-Ok-eq0-clause-soon
+returns-in-Ok-eq0-clause-soon g c = λ bytes most is up.
+    let h = take c.loop-held.held c.loop-held.buffer in
+    let size = length-take-le c.loop-held.held c.loop-held.buffer (omega arith) in
+    let before = subst (λ o. Keeps o (prepend_known h (g.L.Link.left c.loop-held.link))) is c.loop-held.invariant.ahead in
+    let none =
+    subst (λ n. Consumes (g.L.Link.left c.loop-held.link) (g.L.Link.left c.read_behind.new.link)
+    (take n (drop c.loop-held.held c.read_behind.new.buffer))) c.in-Ok-eq0.field-0-test
+    c.in-Ok-eq0.ensures.bytes.0 in
+    let k = known_kept h (Some bytes) _ _ before (keeps_none _ _ none) in
+    soon_left h bytes _ most c.loop-held.held k size (c.loop-held.invariant.soon bytes most is up)
+
+pub returns-in-Err-clause-soon : goal.returns-in-Err-clause-soon
+returns-in-Err-clause-soon g c = λ bytes most is up.
+    let h = take c.loop-held.held c.loop-held.buffer in
+    let size = length-take-le c.loop-held.held c.loop-held.buffer (omega arith) in
+    let before = subst (λ o. Keeps o (prepend_known h (g.L.Link.left c.loop-held.link))) is c.loop-held.invariant.ahead in
+    let k = known_kept h (Some bytes) _ _ before c.in-Err.ensures.bytes in
+    soon_left h bytes _ most c.loop-held.held k size (c.loop-held.invariant.soon bytes most is up)

@@ -1,6 +1,8 @@
-use Rattle.std.proofs.Common.{◌≡◌, ◌-◌, ◌≤◌, length, take}
+use Rattle.std.proofs.Common.{◌≡◌, ◌-◌, ◌≤◌, ℕ, List, Some, length, take}
 use Rattle.std.specs.Io.KnownBytes.{Keeps, prepend_known}
 use Rattle.road_io.specs.Plans.{NeverFails}
+use Rattle.road_io.specs.Portions.{UpTo}
+use Rattle.serve_requests.specs.Fronts.{HeldSoon}
 use Rattle.serve_requests.proofs.fronts.reading.read_front.Given as goal
 
 abbrev pub invariant-loop-held : goal.invariant-loop-held
@@ -13,6 +15,9 @@ invariant-loop-held g l = record {
   room : g.L.Link.room l.link ≡ g.L.Link.room l.initial.link;
   sure : NeverFails (g.L.Link.plan l.initial.link) → NeverFails (g.L.Link.plan l.link);
   later : g.L.Link.faults l.initial.link ≤ g.L.Link.faults l.link;
+  most_kept : g.L.Link.most l.link ≡ g.L.Link.most l.initial.link;
+  soon : (bytes : List ℕ) (most : ℕ) → g.L.Link.left l.initial.link ≡ Some bytes
+      → g.L.Link.most l.initial.link ≡ UpTo most → HeldSoon most bytes l.held;
 }
 
 abbrev pub decreases-loop-held : goal.decreases-loop-held
