@@ -6,97 +6,81 @@ use keep_database::{ProvedKeeper, Steady};
 use keep_files::{Kept, KeptDisk, open_to_read};
 use keep_office::{DayRecord, KeepFault, Keeper, PastRecord};
 use keep_trees::PageTrees;
-use road_time::{SpentRow, Tariff, Tariffs};
+use road_time::{SpentRow, Tariff};
 use sqlite::Connection;
 use sqlite_pages::Pages;
 use std::alloc::Global;
 use std::rt::HostRuntime;
 
-/// What the seven calls that read answer of a file, or that they fail.
+/// What the seven calls that read answer of a file.
 #[derive(Drop)]
 struct Answers {
-    last: Result<u32, KeepFault>,
-    day: Result<Option<DayRecord>, KeepFault>,
-    past: Result<Option<PastRecord>, KeepFault>,
-    first: Result<u64, KeepFault>,
-    none: Result<u64, KeepFault>,
-    rows: Result<Vec<SpentRow>, KeepFault>,
-    vehicle: Result<Vec<SpentRow>, KeepFault>,
-    tariffs: Result<[Tariff; 3], KeepFault>,
+    last: u32,
+    day: Option<DayRecord>,
+    past: Option<PastRecord>,
+    first: u64,
+    none: u64,
+    rows: Vec<SpentRow>,
+    vehicle: Vec<SpentRow>,
+    tariffs: [Tariff; 3],
 }
 
 impl Answers {
-    /// Whether each is the same, or fails in both.
+    /// Whether all are the same.
     fn are_those(&self, other: &Answers) -> [bool; 7] {
         [
             self.last == other.last,
             self.day == other.day,
             self.past == other.past,
             self.first == other.first && self.none == other.none,
-            are_same_rows(&self.rows, &other.rows),
-            are_same_rows(&self.vehicle, &other.vehicle),
+            self.rows.as_slice() == other.rows.as_slice(),
+            self.vehicle.as_slice() == other.vehicle.as_slice(),
             self.tariffs == other.tariffs,
         ]
     }
 }
 
-/// Whether two answers have the same amounts, or fail in the same way.
-fn are_same_rows(
-    one: &Result<Vec<SpentRow>, KeepFault>,
-    other: &Result<Vec<SpentRow>, KeepFault>,
-) -> bool {
-    match one {
-        Ok(rows) => match other {
-            Ok(same) => rows.as_slice() == same.as_slice(),
-            Err(_) => false,
-        },
-        Err(fault) => match other {
-            Ok(_) => false,
-            Err(same) => fault == same,
-        },
-    }
-}
-
-/// The tariffs of three expressways.
-fn three_of(tariffs: Result<Tariffs, KeepFault>) -> Result<[Tariff; 3], KeepFault> {
-    match tariffs {
-        Ok(tariffs) => Ok([tariffs.of(0), tariffs.of(3), tariffs.of(255)]),
-        Err(fault) => Err(fault),
-    }
-}
-
 /// What the trees of a file answer.
-fn of_trees<P: Pages>(alloc: Global, trees: &mut PageTrees<P>, day: u32) -> Answers {
-    Answers {
-        last: trees.last_day(),
-        day: trees.day(day),
-        past: trees.past(),
-        first: trees.spent(99, 7, 0),
-        none: trees.spent(98, 9, 0),
-        rows: trees.rows(alloc, 0, day),
-        vehicle: trees.vehicle_rows(alloc, 105, 31, day),
-        tariffs: three_of(trees.tariffs(alloc)),
-    }
+fn of_trees<P: Pages>(
+    alloc: Global,
+    trees: &mut PageTrees<P>,
+    day: u32,
+) -> Result<Answers, KeepFault> {
+    let tariffs = trees.tariffs(alloc)?;
+    Ok(Answers {
+        last: trees.last_day()?,
+        day: trees.day(day)?,
+        past: trees.past()?,
+        first: trees.spent(99, 7, 0)?,
+        none: trees.spent(98, 9, 0)?,
+        rows: trees.rows(alloc, 0, day)?,
+        vehicle: trees.vehicle_rows(alloc, 105, 31, day)?,
+        tariffs: [tariffs.of(0), tariffs.of(3), tariffs.of(255)],
+    })
 }
 
 /// What a keeper answers.
-fn of_keeper<K: Keeper>(keeper: &mut K, day: u32) -> Answers {
-    Answers {
-        last: keeper.last_day(),
-        day: keeper.day(day),
-        past: keeper.past(),
-        first: keeper.spent(99, 7, 0),
-        none: keeper.spent(98, 9, 0),
-        rows: keeper.rows(0, day),
-        vehicle: keeper.vehicle_rows(105, 31, day),
-        tariffs: three_of(keeper.tariffs()),
-    }
+fn of_keeper<K: Keeper>(keeper: &mut K, day: u32) -> Result<Answers, KeepFault> {
+    let tariffs = keeper.tariffs()?;
+    Ok(Answers {
+        last: keeper.last_day()?,
+        day: keeper.day(day)?,
+        past: keeper.past()?,
+        first: keeper.spent(99, 7, 0)?,
+        none: keeper.spent(98, 9, 0)?,
+        rows: keeper.rows(0, day)?,
+        vehicle: keeper.vehicle_rows(105, 31, day)?,
+        tariffs: [tariffs.of(0), tariffs.of(3), tariffs.of(255)],
+    })
 }
 
 /// What the trees of the file at a path answer; none where it is not exactly ours.
 fn by_trees(rt: HostRuntime, path: &str) -> Result<Option<Answers>, KeepFault> {
     match open_to_read::<KeptDisk>(&rt, path) {
-        Ok(Kept::Trees(mut trees)) => Ok(Some(of_trees(rt.alloc(), &mut trees, 100))),
+        Ok(Kept::Trees(mut trees)) => match of_trees(rt.alloc(), &mut trees, 100) {
+            Ok(answers) => Ok(Some(answers)),
+            Err(fault) => Err(fault),
+        },
         Ok(Kept::Whole(_)) => Ok(None),
         Err(_) => Err(KeepFault::Failed),
     }
@@ -113,12 +97,12 @@ impl Works for Whole {
 
     fn work<S: Steady>(self, conn: Connection<S>) -> Result<Answers, KeepFault> {
         let mut keeper = ProvedKeeper::adopt(self.alloc, conn);
-        Ok(of_keeper(&mut keeper, 100))
+        of_keeper(&mut keeper, 100)
     }
 }
 
-/// Whether each of the seven calls answers the same by the trees of a file and on the whole of it, or fails by both;
-/// none where the file is not exactly ours.
+/// Whether each of the seven calls answers the same by the trees of a file and on the whole of it; none where the file
+/// is not exactly ours.
 pub fn both(rt: HostRuntime, path: &str) -> Result<Option<[bool; 7]>, KeepFault> {
     let Some(trees) = by_trees(rt, path)? else {
         return Ok(None);

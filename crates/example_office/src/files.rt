@@ -1,10 +1,7 @@
 // What a keeper in a file keeps: the answers of the keeper in memory, a file of version 1, files that are spoiled, and
 // calls that are refused. It prints a line for each row.
-use crate::asking::close_file;
 use crate::spoiled::{Spoiled, answered, is_made};
-use crate::whole::by_hand;
 use crate::{by_trees, old, refused, sequence};
-use keep_office::KeepFault;
 use std::rt::HostRuntime;
 
 /// The last day of a file when it is new, after a history and after a day, each with what both keepers say then.
@@ -82,57 +79,20 @@ fn closed_file(rt: HostRuntime) -> anyhow::Result<()> {
     Ok(())
 }
 
-/// Files that are exactly ours: of the commands, with nothing kept, and with a row that is spoiled.
-const OURS: [&str; 13] = [
-    "example.db",
-    "empty.db",
-    "history.db",
-    "tariffs.db",
-    "kept.db",
-    "nothing.db",
-    "short_digest.db",
-    "negative_number.db",
-    "day_too_great.db",
-    "low_base.db",
-    "odd_tariff.db",
-    "benchmark.db",
-    "no_seal.db",
-];
-
-/// Files that are not.
-const OTHERS: [&str; 6] = [
-    "theirs.db",
-    "key_twice.db",
-    "other_version.db",
-    "no_version.db",
-    "no_table.db",
-    "index_more.db",
-];
-
-/// A file with nothing kept, to which another hand gives an index of its own.
-fn with_an_index(rt: HostRuntime, path: &str) -> Result<(), KeepFault> {
-    close_file(rt, path)?;
-    by_hand(rt, path, "CREATE INDEX by_tolls ON spent (tolls)")
-}
-
-/// Each of some files by its trees and whole.
-fn both_ways(rt: HostRuntime, paths: &[&str]) -> anyhow::Result<()> {
-    for path in paths {
-        let path = *path;
+/// The files of the commands, each by its trees and whole, and a file with a spoiled page.
+fn files_by_trees(rt: HostRuntime) -> anyhow::Result<()> {
+    for path in [
+        "example.db",
+        "empty.db",
+        "history.db",
+        "tariffs.db",
+        "kept.db",
+        "theirs.db",
+        "key_twice.db",
+    ] {
         let same = by_trees::both(rt, path);
         println!(rt; "{path} by its trees and whole the same: {same:?}")?;
     }
-    Ok(())
-}
-
-/// The files of the commands and of the rows before, each by its trees and whole, and a file with a spoiled page.
-fn files_by_trees(rt: HostRuntime) -> anyhow::Result<()> {
-    let made = close_file(rt, "nothing.db");
-    println!(rt; "a file with nothing kept: {made:?}")?;
-    let more = with_an_index(rt, "index_more.db");
-    println!(rt; "a file with an index more: {more:?}")?;
-    both_ways(rt, &OURS)?;
-    both_ways(rt, &OTHERS)?;
     let [last, spent, day, rows] = by_trees::spoiled_page(rt, "spoiled_page.db")?;
     println!(rt;
         "a spoiled page, last day: {last:?}, amount: {spent:?}, day: {day:?}, amounts: {rows:?}"
