@@ -18,8 +18,9 @@ use std::sync::{Mutex, Wait};
 use std::thread::Threads;
 use ways_crews::Crew;
 
-/// Runs a session on a connection, by routes that are made for it. A POST has the imports' lock until its day is imported, and then its turn is over.
-/// For each call of the keeper a request of what is kept takes the keeper's lock. No other takes a lock.
+/// Runs a session on a connection, by routes that are made for it. A POST has the imports' lock until its day is
+/// imported, and then its turn is over. For each call of the keeper a request of what is kept takes the keeper's lock.
+/// No other takes a lock.
 pub fn attend<L: TwoWay, J: Naming, K: Keeper, C: Crew, R: Wait + Threads + Drop, T: Turn>(
     rt: R,
     alloc: Global,
@@ -34,8 +35,8 @@ pub fn attend<L: TwoWay, J: Naming, K: Keeper, C: Crew, R: Wait + Threads + Drop
     requires some { 1 ≤ plan.width }
     requires few { plan.width ≤ 64 }
     requires within { IsLimits limits }
-    ensures attends { Attends K.told K.faults K.refuses C.exact limits reader.old reader.new (wire_by L.left L.plan L.written L.room line.old)
-        (wire_by L.left L.plan L.written L.room line.new) }
+    ensures attends { Attends K.told K.faults K.refuses C.exact limits reader.old reader.new
+        (wire_by L.left L.plan L.written L.room line.old) (wire_by L.left L.plan L.written L.room line.new) }
     ensures board { reader.new.board ≡ reader.old.board }
     ensures had { StartsWith reader.new.seen reader.old.seen }
 {
