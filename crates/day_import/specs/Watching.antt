@@ -2,6 +2,6 @@
 use Rattle.std.specs.Prelude.{ℕ, zero, suc, ◌+◌, ◌*◌}
 
 -- two numbers in one
-pub both : ℕ → ℕ → ℕ
+abbrev pub both : ℕ → ℕ → ℕ
 both zero b = 2 * b + 1
 both (suc a) b = 2 * both a b

@@ -171,11 +171,11 @@ pub fn read_rest<S: Source, R: Threads>(
     ensures sure { stop ≢ Some ReadFault → NeverFails (S.plan source.old)
         → (result ≢ Some ReadFault) × NeverFails (S.plan source.new) }
 {
-    if let Some(stop) = stop {
-        return Some(stop);
-    }
-    match gather_on(rt, ahead, source, count, these, true) {
-        Ok(()) => None,
-        Err(stop) => Some(stop),
+    match stop {
+        Some(stop) => Some(stop),
+        None => match gather_on(rt, ahead, source, count, these, true) {
+            Ok(()) => None,
+            Err(stop) => Some(stop),
+        },
     }
 }
