@@ -1,5 +1,5 @@
 -- How a keeper was asked, call after call.
-use Rattle.std.proofs.Common.{◌≡◌, ◌≢◌, ℕ, ◌+◌, Bool, true, false, Option, Some, None, Result, Ok, Err, is_err, refl}
+use Rattle.std.proofs.Common.{◌≡◌, ◌≢◌, ℕ, ◌+◌, Bool, true, false, Some, None, Result, Ok, Err, is_err, refl}
 use Rattle.std.proofs.Common.{ap}
 use Rattle.std.proofs.Common.{subst, arith}
 use Rattle.keep_office.specs.declared.kept.KeepFault.{KeepFault}
@@ -7,7 +7,7 @@ use Rattle.keep_office.specs.declared.kept.KeepFault.TheVariants as keeping
 use Rattle.keep_office.specs.Calls.{WhenRefused, PutsNothing, FailsLate, AllOrNothing, has_failed, GoesAsPlanned}
 use Rattle.keep_office.specs.Calls.{PutsAsPlanned}
 use Rattle.day_floor.specs.Asking.{AskingPlan, PassesCalls, FailsAfter}
-use Rattle.day_floor.proofs.AskLaws.{passes_none, passes_one, passes_on, fails_now, fails_on}
+use Rattle.day_floor.proofs.AskLaws.{passes_one, passes_on, fails_now, fails_on}
 use Rattle.day_import.specs.declared.fault.DayFault.{DayFault}
 use Rattle.day_import.specs.declared.fault.DayFault.TheVariants as stop
 use Rattle.day_import.specs.AskedRounds.{PassesSome, AsksUntil, is_keepers}

@@ -1,7 +1,6 @@
 -- What an import did, from what its stages did.
 use Rattle.std.proofs.Common.{◌≡◌, ◌<◌, nat_le, inl, inr, ℕ, List, length, Option, Some, None, refl, sym, ap, subst}
 use Rattle.std.proofs.Common.{◌∙◌, ◌⊎◌, []}
-use Rattle.std.proofs.Math.Seq.{take-length}
 use Rattle.std.proofs.lemmas.Bool.{cond-false, lt-leb}
 use Rattle.std.specs.Io.KnownBytes.{Appends}
 use Rattle.road_time.specs.declared.road.Tuple.{Tuple}

@@ -1,6 +1,7 @@
 -- a reader goes on
-use Rattle.std.proofs.Common.{◌≡◌, ℕ, ◌+◌, ◌≤◌, false, List, [], ◌∷◌, ◌++◌, length, drop, Option, Some, None, Result}
-use Rattle.std.proofs.Common.{Ok, refl, sym, ap, ◌∙◌, arith, subst, append_assoc, append-nil, length-append}
+use Rattle.std.proofs.Common.{◌≡◌, ℕ, zero, suc, ◌+◌, ◌≤◌, Bool, true, false, List, [], ◌∷◌, ◌++◌, length, drop}
+use Rattle.std.proofs.Common.{Option, Some, None, Result, Ok, refl, sym, ap, ◌∙◌, arith, subst, append_assoc}
+use Rattle.std.proofs.Common.{append-nil, length-append}
 use Rattle.std.proofs.lemmas.List.{take-append-drop}
 use Rattle.road_time.specs.declared.road.Tuple.{Tuple}
 use Rattle.road_time.specs.declared.day.Limits.{Limits}
@@ -20,7 +21,8 @@ use Rattle.day_reading.proofs.AheadLaws.{ahead_front, ahead_fit}
 use Rattle.ways_expressway.specs.Results.{AreFirst}
 use Rattle.day_floor.specs.Shares.{State}
 use Rattle.day_import.specs.RoundRuns.{CanFeedAll}
-use Rattle.day_import.specs.Readers.{HasGiven}
+use Rattle.day_import.specs.Readers.{HasGatheredOn, HasReadOn, HasGiven}
+use Rattle.day_import.specs.Watching.{both}
 
 -- nothing was given
 pub given_none : (limits : Limits) (late : ℕ) (d : DayAhead) (left : Option (List ℕ)) →
@@ -123,3 +125,46 @@ pub nothing_left : (d : DayAhead) (limits : Limits) (late : ℕ) (left : Option 
     IsAhead d limits late left bytes given → HasReadAhead d lines left bytes → left ≡ Some []
 nothing_left d limits late left bytes given lines ended none h read =
     left_by d.following d.reader limits late left bytes given lines ended none h read
+
+-- two numbers are found in one
+pub both_are : (a b c d : ℕ) → both a b ≡ both c d → (a ≡ c) × (b ≡ d)
+both_are zero b zero d e = (refl, omega (arith, e))
+both_are zero b (suc c) d e = absurd (omega (arith, e))
+both_are (suc a) b zero d e = absurd (omega (arith, e))
+both_are (suc a) b (suc c) d e =
+    let (is, same) = both_are a b c d (omega (arith, e)) in (ap (λ n. suc n) is, same)
+
+-- of a reader that was stopped nothing is said
+pub read_stopped : (whole : Bool) (stop : ReadStop) (count : ℕ) (xs : List Tuple) (old new : DayAhead)
+    (was left : Option (List ℕ)) → HasReadOn whole (Some stop) count xs old new was left
+read_stopped whole stop count xs old new was left = record {
+  given = λ e. absurd (let no : ⊥ = cc in no);
+  few = λ e. absurd (let no : ⊥ = cc in no);
+  full = λ w e. absurd (let no : ⊥ = cc in no);
+  ended = λ e. absurd (let no : ⊥ = cc in no);
+  unfailed = λ e. absurd (let no : ⊥ = cc in no);
+}
+
+-- some were read in place of none
+pub read_first : (whole : Bool) (count : ℕ) (xs ys : List Tuple) (old new : DayAhead) (was left : Option (List ℕ)) →
+    xs ≡ [] → HasGatheredOn whole count xs ys old new was left → HasReadOn whole None count ys old new was left
+read_first whole count xs ys old new was left none h = record {
+  given = λ e limits late. h.given limits late old was
+      (subst (λ zs. HasGiven limits late zs old old was was) (sym none) (given_none limits late old was));
+  few = λ e. h.few (let l = ap length none in omega (arith, l));
+  full = λ w e less. h.full w less;
+  ended = λ e gone. ((h.ended gone).0 ∙ none, (h.ended gone).1);
+  unfailed = λ e. h.unfailed;
+}
+
+-- and the rest behind them
+pub read_more : (count : ℕ) (xs ys : List Tuple) (first old new : DayAhead) (all was left : Option (List ℕ)) →
+    HasReadOn false None count xs first old all was → HasGatheredOn true count xs ys old new was left →
+    HasReadOn true None count ys first new all left
+read_more count xs ys first old new all was left a b = record {
+  given = λ e limits late. b.given limits late first all (a.given refl limits late);
+  few = λ e. b.few (a.few refl);
+  full = λ w e less. b.full refl less;
+  ended = λ e gone. let rest = b.ended (a.ended refl gone).1 in (rest.0 ∙ (a.ended refl gone).0, rest.1);
+  unfailed = λ e. b.unfailed;
+}

@@ -9,7 +9,7 @@ use Rattle.road_time.specs.Fits.{Fit, IsLimits}
 use Rattle.road_time.specs.Rates.{Tariffs}
 use Rattle.road_time.specs.Sights.{moments, Sight}
 use Rattle.road_time.specs.Tolls.{StretchTold}
-use Rattle.road_time.specs.Day.{ChargedToll, given, notices, charges_by, sum_of}
+use Rattle.road_time.specs.Day.{ChargedToll, given, charges_by, sum_of}
 use Rattle.road_time.specs.Rows.{rows_from}
 use Rattle.road_time.specs.Text.{out}
 use Rattle.road_time.proofs.BoundLaws.{total_few}

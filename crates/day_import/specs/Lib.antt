@@ -5,6 +5,7 @@ pub mod Fronts
 pub mod DayFaults
 pub mod AskedRounds
 pub mod Readers
+pub mod Watching
 pub mod Halts
 pub mod Days
 pub mod RoundRuns

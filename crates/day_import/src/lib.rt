@@ -16,9 +16,11 @@ mod importing;
 mod keeping;
 pub mod laws;
 mod outcomes;
+mod reading;
 mod rounds;
 mod turning;
 mod turns;
+mod watching;
 mod work;
 
 pub use answering::answers;

@@ -1,4 +1,4 @@
-// A day in rounds: its tuples are fed and worked on while the next ones are read, and then all is settled.
+// A day in rounds: its tuples are fed, and worked on while the next ones are read, and all is settled.
 ghost use Rattle.std.specs.Prelude.{true, false, ◌≡◌, [], ℕ, List, Option, IfOk, IfErr, OnOk, length, ◌≤◌, ◌<◌, ◌++◌};
 ghost use Rattle.std.specs.Prelude.{◌≢◌, ◌+◌, Some, None, OnErr};
 ghost use Rattle.road_io.specs.Plans.{NeverFails};
@@ -32,7 +32,8 @@ ghost use Rattle.day_import.specs.Fronts.{HasText, HasFront};
 
 use crate::begun::Import;
 use crate::fault::{DayFault, reading_stopped, round_stopped};
-use crate::work::{read_on, settle_done, work_round};
+use crate::reading::{read_on, read_rest};
+use crate::work::{settle_done, work_round};
 use day_floor::{Publisher, SettleFault};
 use day_reading::{DayAhead, ReadStop};
 use keep_office::Keeper;
@@ -42,7 +43,8 @@ use std::thread::Threads;
 use ways_crews::Crew;
 
 /// Rounds over a day, from the start, until no tuple is left. The tuples of a round are read while the jobs of the one
-/// before are out. It answers how many are settled, which is all.
+/// before are out, but for those that the source waits with: they are read once that one is settled. It answers how many
+/// are settled, which is all.
 pub fn run_rounds<C: Crew, S: Source, K: Keeper, O: Sink, P: Publisher, R: Threads>(
     rt: &R,
     run: &mut Import<C::Ticket>,
@@ -97,7 +99,7 @@ pub fn run_rounds<C: Crew, S: Source, K: Keeper, O: Sink, P: Publisher, R: Threa
     ensures asked { AsksUntil (keeper_stopped result) (K.plan keeper.old) (K.plan keeper.new) }
 {
     let room = run.floor.room() as usize;
-    if let Some(stop) = read_on(rt, ahead, source, room, these) {
+    if let Some(stop) = read_on(rt, ahead, source, room, these, true) {
         return Err(reading_stopped(stop));
     }
     let mut settled = 0;
@@ -113,8 +115,8 @@ pub fn run_rounds<C: Crew, S: Source, K: Keeper, O: Sink, P: Publisher, R: Threa
 }
 
 /// A round over the next tuples of a day, which were read: as many as there is room for, or all that were left. Those
-/// after them are read meanwhile. It answers how many are settled. Where a read failed and memory ran out, the read is
-/// to blame.
+/// after them are read too. It answers how many are settled. Where a read failed and memory ran out, the read is to
+/// blame.
 pub fn next_round<C: Crew, S: Source, K: Keeper, O: Sink, P: Publisher, R: Threads>(
     rt: &R,
     run: &mut Import<C::Ticket>,
@@ -187,9 +189,9 @@ pub fn next_round<C: Crew, S: Source, K: Keeper, O: Sink, P: Publisher, R: Threa
     }
 }
 
-/// A round over some tuples: they are fed, each worker's job is done while the next ones are read in their place, and
-/// all is settled. It answers how many are settled, and says why reading stopped, if it did, also where the round is
-/// stopped after that.
+/// A round over some tuples: they are fed, each worker's job is done while the next ones are read in their place, as far
+/// as the source does not wait, all is settled, and then the rest of the next ones is read. It answers how many are
+/// settled, and says why reading stopped, if it did, also where the round is stopped after that.
 pub fn round<C: Crew, S: Source, K: Keeper, O: Sink, P: Publisher, R: Threads>(
     rt: &R,
     run: &mut Import<C::Ticket>,
@@ -237,7 +239,7 @@ pub fn round<C: Crew, S: Source, K: Keeper, O: Sink, P: Publisher, R: Threads>(
         → HasText e s first (O.written sink.old)
         → HasFront fault e (s.fed ++ these.old.items) first (O.written sink.new)) }
     ensures published { OnErr result (published_of (P.posted publisher.new) ≡ published_of (P.posted publisher.old)) }
-    ensures read_on { OnOk result (HasReadOn stop.new count these.new.items ahead.old ahead.new
+    ensures read_on { OnOk result (HasReadOn true stop.new count these.new.items ahead.old ahead.new
         (S.left source.old) (S.left source.new)) }
     ensures read { (lines : ℕ) (bytes : List ℕ) → HasReadAhead ahead.old lines (S.left source.old) bytes
         → HasReadAhead ahead.new lines (S.left source.new) bytes }
@@ -257,7 +259,10 @@ pub fn round<C: Crew, S: Source, K: Keeper, O: Sink, P: Publisher, R: Threads>(
         return Err(SettleFault::NoMemory);
     };
     match settle_done(rt, &mut run.floor, day, keeper, sink, publisher) {
-        Ok(settled) => Ok(settled),
+        Ok(settled) => {
+            *stop = read_rest(rt, ahead, source, count, these, *stop);
+            Ok(settled)
+        }
         Err(fault) => Err(fault),
     }
 }

@@ -26,8 +26,8 @@ ghost use Rattle.day_import.specs.Readers.{HasGiven};
 
 use crate::begun::Import;
 use crate::fault::{DayFault, reading_stopped, settling_stopped};
+use crate::reading::gather;
 use crate::turning::turn;
-use crate::work::gather;
 use day_floor::Publisher;
 use day_plan::{Plan, draw};
 use day_reading::DayAhead;

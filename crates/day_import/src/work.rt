@@ -4,14 +4,14 @@ ghost use Rattle.std.specs.Prelude.{◌+◌, true, false, Err, IfOk, IfErr};
 ghost use Rattle.road_time.specs.declared.road.Tuple.{Tuple as RoadTuple, Tuple};
 ghost use Rattle.road_io.specs.Faults.{Rose};
 ghost use Rattle.road_io.specs.Plans.{NeverFails};
-ghost use Rattle.day_reading.specs.Ahead.{HasReadAhead, HasFailedAhead, has_more};
+ghost use Rattle.day_reading.specs.Ahead.{HasReadAhead, HasFailedAhead};
 ghost use Rattle.day_reading.specs.declared.whole_day.ReadStop.TheVariants.{ReadFault};
 ghost use Rattle.ways_expressway.specs.Results.{AreFirst};
 ghost use Rattle.ways_expressway.specs.declared.finding.Finding.{Finding};
 ghost use Rattle.ways_crews.specs.Told.{CrewTold};
 ghost use Rattle.day_floor.specs.Shares.{State, mark};
 ghost use Rattle.day_floor.specs.Floors.{Setting, StandsFor};
-ghost use Rattle.day_import.specs.Readers.{HasReadOn, HasGiven};
+ghost use Rattle.day_import.specs.Readers.{HasReadOn};
 ghost use Rattle.day_import.specs.RoundRuns.{RunsBy, StoppedBy, CanFeedAll, OnlyTakesBack, HaveComeInOrder, IsDone};
 ghost use Rattle.day_import.specs.RoundRuns.{after_feeds, given_all, given_if, CameBack};
 ghost use Rattle.road_time.specs.declared.day.Limits.{Limits as DayLimits};
@@ -29,6 +29,7 @@ ghost use Rattle.day_import.specs.Fronts.{HasText, HasFront};
 ghost use Rattle.day_import.specs.AskedRounds.{AsksUntil};
 
 use crate::begun::Import;
+use crate::reading::read_on;
 use day_floor::{Floor, Publisher, SettleFault};
 use day_reading::{DayAhead, ReadStop};
 use keep_office::Keeper;
@@ -99,9 +100,9 @@ pub fn finish_firsts<C: Crew>(run: &mut Import<C::Ticket>, crew: &mut C) -> Resu
     Ok(())
 }
 
-/// Feeds some tuples, gives each worker its job, reads the next tuples in their place while the jobs are out, and
-/// finishes all in the order of their starts: nothing is out or waits then, where nothing was out before. It says why
-/// reading stopped, if it did, also where memory ran out after that.
+/// Feeds some tuples, gives each worker its job, reads the next tuples in their place while the jobs are out, as far as
+/// the source does not wait, and finishes all in the order of their starts: nothing is out or waits then, where nothing
+/// was out before. It says why reading stopped, if it did, also where memory ran out after that.
 pub fn work_round<C: Crew, S: Source, R: Threads>(
     rt: &R,
     run: &mut Import<C::Ticket>,
@@ -132,7 +133,7 @@ pub fn work_round<C: Crew, S: Source, R: Threads>(
         → CanFeedAll run.old.floor.limits s these.old.items → (day : List RoadTuple)
         → AreFirst (s.fed ++ these.old.items) day
         → StoppedBy C.Crew told run.old.floor.inboxes.width run.old.floor.limits day run.new crew.new) }
-    ensures read_on { OnOk result (HasReadOn stop.new count these.new.items ahead.old ahead.new
+    ensures read_on { OnOk result (HasReadOn false stop.new count these.new.items ahead.old ahead.new
         (S.left source.old) (S.left source.new)) }
     ensures read { (lines : ℕ) (bytes : List ℕ) → HasReadAhead ahead.old lines (S.left source.old) bytes
         → HasReadAhead ahead.new lines (S.left source.new) bytes }
@@ -144,7 +145,7 @@ pub fn work_round<C: Crew, S: Source, R: Threads>(
 {
     feed_these(run, these.as_slice())?;
     give_all(run, crew, width)?;
-    *stop = read_on(rt, ahead, source, count, these);
+    *stop = read_on(rt, ahead, source, count, these, false);
     finish_firsts(run, crew)?;
     Ok(())
 }
@@ -207,74 +208,6 @@ pub fn finish_one<C: Crew>(
         return Err(NoMemory);
     }
     run.floor.back(done)
-}
-
-/// Reads the next tuples of a day, in place of those that were there: so many, or as many as are left.
-pub fn gather<S: Source, R: Threads>(
-    rt: &R,
-    ahead: &mut DayAhead,
-    source: &mut S,
-    count: usize,
-    these: &mut Vec<Tuple>,
-) -> Result<(), ReadStop>
-    requires unfailed { HasFailedAhead ahead.old → ⊥ }
-    ensures given { OnOk result ((limits : DayLimits) (late : ℕ)
-        → HasGiven limits late these.new.items ahead.old ahead.new (S.left source.old) (S.left source.new)) }
-    ensures few { OnOk result (length these.new.items ≤ count) }
-    ensures some { OnOk result (has_more ahead.old ≡ true → 1 ≤ count → 1 ≤ length these.new.items) }
-    ensures full { OnOk result (length these.new.items < count → has_more ahead.new ≡ false) }
-    ensures read { (lines : ℕ) (bytes : List ℕ) → HasReadAhead ahead.old lines (S.left source.old) bytes
-        → HasReadAhead ahead.new lines (S.left source.new) bytes }
-    ensures source_same { S.name source.new ≡ S.name source.old }
-    ensures unfailed { OnOk result (HasFailedAhead ahead.new → ⊥) }
-    ensures later { S.faults source.old ≤ S.faults source.new }
-    ensures cause { result ≡ Err ReadFault → Rose (S.faults source.old) (S.faults source.new) }
-    ensures stands { result ≢ Err ReadFault → S.faults source.new ≡ S.faults source.old }
-    ensures sure { NeverFails (S.plan source.old) → (result ≢ Err ReadFault) × NeverFails (S.plan source.new) }
-{
-    these.clear();
-    'gathering: while these.len() < count {
-        match ahead.next(rt, source) {
-            Ok(Some(tuple)) => {
-                if these.push(tuple).is_err() {
-                    return Err(ReadStop::NoMemory);
-                }
-            }
-            Ok(None) => return Ok(()),
-            Err(stop) => return Err(stop),
-        }
-    }
-    Ok(())
-}
-
-/// Reads the next tuples of a day, in place of those that were there: so many, or as many as are left. It says why it
-/// stopped, if it did.
-pub fn read_on<S: Source, R: Threads>(
-    rt: &R,
-    ahead: &mut DayAhead,
-    source: &mut S,
-    count: usize,
-    these: &mut Vec<Tuple>,
-) -> Option<ReadStop>
-    requires unfailed { HasFailedAhead ahead.old → ⊥ }
-    ensures read_on { HasReadOn result count these.new.items ahead.old ahead.new (S.left source.old)
-        (S.left source.new) }
-    ensures read { (lines : ℕ) (bytes : List ℕ) → HasReadAhead ahead.old lines (S.left source.old) bytes
-        → HasReadAhead ahead.new lines (S.left source.new) bytes }
-    ensures source_same { S.name source.new ≡ S.name source.old }
-    ensures later { S.faults source.old ≤ S.faults source.new }
-    ensures cause { result ≡ Some ReadFault → Rose (S.faults source.old) (S.faults source.new) }
-    ensures stands { result ≢ Some ReadFault → S.faults source.new ≡ S.faults source.old }
-    ensures sure { NeverFails (S.plan source.old) → (result ≢ Some ReadFault) × NeverFails (S.plan source.new) }
-{
-    if !ahead.more() {
-        these.clear();
-        return None;
-    }
-    match gather(rt, ahead, source, count, these) {
-        Ok(()) => None,
-        Err(stop) => Some(stop),
-    }
 }
 
 /// Settles every position below the mark. The text and the steps go on from what was written and published; after a

@@ -6,4 +6,5 @@ mod imports;
 mod jobs;
 mod marked;
 mod offices;
+mod slow;
 mod threads;

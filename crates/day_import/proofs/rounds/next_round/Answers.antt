@@ -37,7 +37,7 @@ returns-in-None-clause-full g c few =
     let (e, told, answered, s, h, can, number, history, abreast, all) = c.requires.runs in
     let has = c.room-room.ensures e s h.stands in
     let none : c.round.new.stop ≡ None = cc in
-    c.in-Ok.ensures.read_on.full none (omega (arith, has, all, few))
+    c.in-Ok.ensures.read_on.full refl none (omega (arith, has, all, few))
 
 pub returns-in-Some-clause-halted : goal.returns-in-Some-clause-halted
 returns-in-Some-clause-halted g c e told answered late s h can number history =
@@ -97,7 +97,7 @@ returns-in-Err-clause-halted g c e told answered late s h can number history =
 pub returns-in-None-clause-ended : goal.returns-in-None-clause-ended
 returns-in-None-clause-ended g c more =
     let none : c.round.new.stop ≡ None = cc in
-    c.in-Ok.ensures.read_on.ended none more
+    (c.in-Ok.ensures.read_on.ended none more).0
 
 pub returns-in-Err-clause-source : goal.returns-in-Err-clause-source
 returns-in-Err-clause-source g c =

@@ -82,3 +82,7 @@ returns-in-Err-clause-front g c e told answered s h can number history exact fir
 
 pub returns-in_default-clause-asked : goal.returns-in_default-clause-asked
 returns-in_default-clause-asked g c = none_asked (g.K.Keeper.plan c.args.keeper.now)
+
+pub returns-in-Ok-settle_done-clause-read : goal.returns-in-Ok-settle_done-clause-read
+returns-in-Ok-settle_done-clause-read g c lines bytes h =
+    c.read_rest.ensures.read lines bytes (c.in-Ok.ensures.read lines bytes h)

@@ -69,7 +69,7 @@ day-init g c =
       keeper_sure = λ e. e;
       asked = none_asked (g.K.Keeper.plan c.args.keeper.now);
       few = omega (arith, room, few);
-      full = λ less. r.read_on.full none (omega (arith, room, less));
+      full = λ less. r.read_on.full refl none (omega (arith, room, less));
       at = λ e told answered late h gathers number history.
           let on = on_start f.limits late e c.args.ahead.now (g.S.Source.left c.args.source.now)
           (g.O.Sink.written c.args.sink.now) (g.P.Publisher.posted c.args.publisher.now) in
