@@ -16,7 +16,7 @@ use road_time::Tuple;
 use std::thread::Threads;
 
 /// Reads the next tuples of a day behind those that are there: up to so many, or as many as are left. Where not the
-/// whole of them is asked, it ends behind a read that the source waited with.
+/// whole of them is asked, it ends where the source waits.
 fn gather_watched<'a, S: Source, R: Threads>(
     rt: &R,
     ahead: &mut DayAhead,
@@ -58,11 +58,12 @@ fn gather_watched<'a, S: Source, R: Threads>(
 }
 
 /// Reads the next tuples of a day behind those that are there: up to so many, or as many as are left. Where not the
-/// whole of them is asked, it ends behind the first read that the source waits with.
+/// whole of them is asked, it ends where the source waits, which may be at once.
 fn gather_on<S: Source, R: Threads>(
     rt: &R,
     ahead: &mut DayAhead,
     source: &mut S,
+    waits: &mut bool,
     count: usize,
     these: &mut Vec<Tuple>,
     whole: bool,
@@ -80,9 +81,11 @@ fn gather_on<S: Source, R: Threads>(
 {
     let mut watched = WatchedSource {
         source,
-        waits: false,
+        waits: *waits,
     };
-    match gather_watched(rt, ahead, &mut watched, count, these, whole) {
+    let gathered = gather_watched(rt, ahead, &mut watched, count, these, whole);
+    *waits = watched.waits;
+    match gathered {
         Ok(()) => Ok(()),
         Err(stop) => Err(stop),
     }
@@ -112,7 +115,8 @@ pub fn gather<S: Source, R: Threads>(
     ensures sure { NeverFails (S.plan source.old) → (result ≢ Err ReadFault) × NeverFails (S.plan source.new) }
 {
     these.clear();
-    match gather_on(rt, ahead, source, count, these, true) {
+    let mut waits = false;
+    match gather_on(rt, ahead, source, &mut waits, count, these, true) {
         Ok(()) => Ok(()),
         Err(stop) => Err(stop),
     }
@@ -124,6 +128,7 @@ pub fn read_on<S: Source, R: Threads>(
     rt: &R,
     ahead: &mut DayAhead,
     source: &mut S,
+    waits: &mut bool,
     count: usize,
     these: &mut Vec<Tuple>,
     whole: bool,
@@ -140,7 +145,7 @@ pub fn read_on<S: Source, R: Threads>(
     ensures sure { NeverFails (S.plan source.old) → (result ≢ Some ReadFault) × NeverFails (S.plan source.new) }
 {
     these.clear();
-    match gather_on(rt, ahead, source, count, these, whole) {
+    match gather_on(rt, ahead, source, waits, count, these, whole) {
         Ok(()) => None,
         Err(stop) => Some(stop),
     }
@@ -152,6 +157,7 @@ pub fn read_rest<S: Source, R: Threads>(
     rt: &R,
     ahead: &mut DayAhead,
     source: &mut S,
+    waits: &mut bool,
     count: usize,
     these: &mut Vec<Tuple>,
     stop: Option<ReadStop>,
@@ -173,7 +179,7 @@ pub fn read_rest<S: Source, R: Threads>(
 {
     match stop {
         Some(stop) => Some(stop),
-        None => match gather_on(rt, ahead, source, count, these, true) {
+        None => match gather_on(rt, ahead, source, waits, count, these, true) {
             Ok(()) => None,
             Err(stop) => Some(stop),
         },

@@ -43,8 +43,8 @@ use std::thread::Threads;
 use ways_crews::Crew;
 
 /// Rounds over a day, from the start, until no tuple is left. The tuples of a round are read while the jobs of the one
-/// before are out, but for those that the source waits with: they are read once that one is settled. It answers how many
-/// are settled, which is all.
+/// before are out, until the source waits, as it may from the start; the others once that one is settled. It answers how
+/// many are settled, which is all.
 pub fn run_rounds<C: Crew, S: Source, K: Keeper, O: Sink, P: Publisher, R: Threads>(
     rt: &R,
     run: &mut Import<C::Ticket>,
@@ -99,13 +99,14 @@ pub fn run_rounds<C: Crew, S: Source, K: Keeper, O: Sink, P: Publisher, R: Threa
     ensures asked { AsksUntil (keeper_stopped result) (K.plan keeper.old) (K.plan keeper.new) }
 {
     let room = run.floor.room() as usize;
-    if let Some(stop) = read_on(rt, ahead, source, room, these, true) {
+    let mut waits = true;
+    if let Some(stop) = read_on(rt, ahead, source, &mut waits, room, these, true) {
         return Err(reading_stopped(stop));
     }
     let mut settled = 0;
     'day: while !these.is_empty() {
         match next_round(
-            rt, run, crew, width, ahead, source, these, day, keeper, sink, publisher,
+            rt, run, crew, width, ahead, source, &mut waits, these, day, keeper, sink, publisher,
         ) {
             Ok(count) => settled = count,
             Err(fault) => return Err(fault),
@@ -124,6 +125,7 @@ pub fn next_round<C: Crew, S: Source, K: Keeper, O: Sink, P: Publisher, R: Threa
     width: u8,
     ahead: &mut DayAhead,
     source: &mut S,
+    waits: &mut bool,
     these: &mut Vec<Tuple>,
     day: u32,
     keeper: &mut K,
@@ -179,7 +181,8 @@ pub fn next_round<C: Crew, S: Source, K: Keeper, O: Sink, P: Publisher, R: Threa
     let room = run.floor.room() as usize;
     let mut stop = None;
     match round(
-        rt, run, crew, width, ahead, source, room, these, &mut stop, day, keeper, sink, publisher,
+        rt, run, crew, width, ahead, source, waits, room, these, &mut stop, day, keeper, sink,
+        publisher,
     ) {
         Err(fault) => Err(round_stopped(fault, stop)),
         Ok(settled) => match stop {
@@ -189,8 +192,8 @@ pub fn next_round<C: Crew, S: Source, K: Keeper, O: Sink, P: Publisher, R: Threa
     }
 }
 
-/// A round over some tuples: they are fed, each worker's job is done while the next ones are read in their place, as far
-/// as the source does not wait, all is settled, and then the rest of the next ones is read. It answers how many are
+/// A round over some tuples: they are fed, each worker's job is done while the next ones are read in their place, until
+/// the source waits, all is settled, and then the rest of the next ones is read. It answers how many are
 /// settled, and says why reading stopped, if it did, also where the round is stopped after that.
 pub fn round<C: Crew, S: Source, K: Keeper, O: Sink, P: Publisher, R: Threads>(
     rt: &R,
@@ -199,6 +202,7 @@ pub fn round<C: Crew, S: Source, K: Keeper, O: Sink, P: Publisher, R: Threads>(
     width: u8,
     ahead: &mut DayAhead,
     source: &mut S,
+    waits: &mut bool,
     count: usize,
     these: &mut Vec<Tuple>,
     stop: &mut Option<ReadStop>,
@@ -255,12 +259,14 @@ pub fn round<C: Crew, S: Source, K: Keeper, O: Sink, P: Publisher, R: Threads>(
         result }
     ensures asked { AsksUntil (keeper_failed result) (K.plan keeper.old) (K.plan keeper.new) }
 {
-    let Ok(()) = work_round(rt, run, crew, width, ahead, source, count, these, stop) else {
+    let Ok(()) = work_round(
+        rt, run, crew, width, ahead, source, waits, count, these, stop,
+    ) else {
         return Err(SettleFault::NoMemory);
     };
     match settle_done(rt, &mut run.floor, day, keeper, sink, publisher) {
         Ok(settled) => {
-            *stop = read_rest(rt, ahead, source, count, these, *stop);
+            *stop = read_rest(rt, ahead, source, waits, count, these, *stop);
             Ok(settled)
         }
         Err(fault) => Err(fault),

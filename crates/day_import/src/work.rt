@@ -100,9 +100,9 @@ pub fn finish_firsts<C: Crew>(run: &mut Import<C::Ticket>, crew: &mut C) -> Resu
     Ok(())
 }
 
-/// Feeds some tuples, gives each worker its job, reads the next tuples in their place while the jobs are out, as far as
-/// the source does not wait, and finishes all in the order of their starts: nothing is out or waits then, where nothing
-/// was out before. It says why reading stopped, if it did, also where memory ran out after that.
+/// Feeds some tuples, gives each worker its job, reads the next tuples in their place while the jobs are out, until the
+/// source waits, and finishes all in the order of their starts: nothing is out or waits then, where nothing was out
+/// before. It says why reading stopped, if it did, also where memory ran out after that.
 pub fn work_round<C: Crew, S: Source, R: Threads>(
     rt: &R,
     run: &mut Import<C::Ticket>,
@@ -110,6 +110,7 @@ pub fn work_round<C: Crew, S: Source, R: Threads>(
     width: u8,
     ahead: &mut DayAhead,
     source: &mut S,
+    waits: &mut bool,
     count: usize,
     these: &mut Vec<Tuple>,
     stop: &mut Option<ReadStop>,
@@ -145,7 +146,7 @@ pub fn work_round<C: Crew, S: Source, R: Threads>(
 {
     feed_these(run, these.as_slice())?;
     give_all(run, crew, width)?;
-    *stop = read_on(rt, ahead, source, count, these, false);
+    *stop = read_on(rt, ahead, source, waits, count, these, false);
     finish_firsts(run, crew)?;
     Ok(())
 }

@@ -34,6 +34,18 @@ const TWELVE_TOLD: &[u8] = b"0,10,100,-1,0\n0,11,101,-1,0\n0,12,102,-1,0\n0,13,1
 /// The bytes of a line.
 const LINE: usize = 45;
 
+/// A day of vehicles that come once each, and what they are told; how many lines a round has; how many bytes a read
+/// gives at most; and how many notices were written when each read was made.
+#[derive(Clone, Copy)]
+struct Row<'a> {
+    input: &'a [u8],
+    told: &'a [u8],
+    lines: u64,
+    backlog: u32,
+    piece: usize,
+    seen: &'a [usize],
+}
+
 /// Gives what another source has, and keeps how many notices were written when each read was made.
 #[derive(Drop)]
 struct LookingSource<'a, S> {
@@ -87,33 +99,31 @@ impl<'a, O: Sink> Sink for CountingSink<'a, O> {
     }
 }
 
-/// Whether the twelve are stored by so many workers in rounds of four, where a source gives so many bytes a read, and
-/// whether so many notices were written at each of its reads.
+/// Whether a day is stored by so many workers with its notices, which were written by the time of each read.
 fn is_seen<C: Crew, R: Threads>(
     rt: &R,
     alloc: Global,
     width: u8,
-    piece: usize,
-    seen: &[usize],
+    row: Row<'_>,
     crew: &mut C,
 ) -> Result<bool, NoMemory>
     requires few { (1 ≤ width) × (width ≤ 64) }
-    requires piece { 1 ≤ piece }
+    requires some { (1 ≤ row.backlog) × (row.backlog ≤ 65536) × (1 ≤ row.piece) }
     requires idle { C.out crew.old ≡ [] }
 {
     let limits = Limits {
-        backlog: 4,
+        backlog: row.backlog,
         ..Limits::DAY
     };
     let plan = Plan { width, turns: None };
     let written = AtomicUsize::new(0);
     let mut source = LookingSource {
-        source: MemSource::new(alloc, TWELVE, piece, &[])?,
+        source: MemSource::new(alloc, row.input, row.piece, &[])?,
         written: &written,
         seen: Vec::new(alloc),
     };
     let mut sink = CountingSink {
-        sink: MemSink::new(alloc, 4096, 65_536)?,
+        sink: MemSink::new(alloc, 65_536, 65_536)?,
         written: &written,
     };
     let mut keeper = MemKeeper::new(alloc, &[])?;
@@ -131,42 +141,78 @@ fn is_seen<C: Crew, R: Threads>(
         &mut NoPublisher,
     );
     let stored = match outcome {
-        Outcome::Stored(kept) => (kept.tuples, kept.notices, kept.total) == (12, 12, 0),
+        Outcome::Stored(kept) => (kept.tuples, kept.notices) == (row.lines, row.lines),
         _ => false,
     };
-    Ok(stored && sink.sink.bytes() == TWELVE_TOLD && source.seen.as_slice() == seen)
+    Ok(stored && sink.sink.bytes() == row.told && source.seen.as_slice() == row.seen)
 }
 
-/// The same by a crew that runs a job as it is started, and by one that runs it as it is finished.
-fn is_seen_by_both<R: Threads>(
-    rt: &R,
-    alloc: Global,
-    width: u8,
-    piece: usize,
-    seen: &[usize],
-) -> Result<bool, NoMemory>
-    requires few { (1 ≤ width) × (width ≤ 64) }
-    requires piece { 1 ≤ piece }
+/// The same by a crew that runs a job as it is started, and by one that runs it as it is finished, by one worker and by
+/// three.
+fn is_seen_by_each<R: Threads>(rt: &R, alloc: Global, row: Row<'_>) -> Result<bool, NoMemory>
+    requires some { (1 ≤ row.backlog) × (row.backlog ≤ 65536) × (1 ≤ row.piece) }
 {
-    let mut crew = InlineCrew::new(alloc, false);
-    let soon = is_seen(rt, alloc, width, piece, seen, &mut crew)?;
-    let mut crew = LateCrew::new(alloc, false);
-    let late = is_seen(rt, alloc, width, piece, seen, &mut crew)?;
-    Ok(soon && late)
+    let mut same = true;
+    for width in [1u8, 3] {
+        let mut crew = InlineCrew::new(alloc, false);
+        let soon = is_seen(rt, alloc, width, row, &mut crew)?;
+        let mut crew = LateCrew::new(alloc, false);
+        let late = is_seen(rt, alloc, width, row, &mut crew)?;
+        same = same && soon && late;
+    }
+    Ok(same)
+}
+
+/// Four thousand vehicles at one time, in lines of 46 bytes, and what they are told.
+fn thousands(alloc: Global) -> Result<(Vec<u8>, Vec<u8>), NoMemory> {
+    let mut input = Vec::new(alloc);
+    let mut told = Vec::new(alloc);
+    for vid in 1000..5000u32 {
+        let line = format!(in alloc; "0,60,{vid},30,0,1,0,10,52800,-1,-1,-1,-1,-1,-1\n")?;
+        input.extend_from_slice(line.as_bytes())?;
+        let notice = format!(in alloc; "0,{vid},60,-1,0\n")?;
+        told.extend_from_slice(notice.as_bytes())?;
+    }
+    Ok((input, told))
 }
 
 #[test]
-fn a_round_is_told_before_the_next_one_is_read(rt: HostRuntime) -> Result<(), NoMemory> {
+fn a_round_is_told_before_the_source_is_waited_for(rt: HostRuntime) -> Result<(), NoMemory> {
     let alloc = rt.alloc();
-    // A line a read: the fifth is read to know that one follows, the sixth beside the jobs of the first round.
-    let by_lines = [0, 0, 0, 0, 0, 0, 4, 4, 4, 4, 8, 8, 8];
-    // All lines in the first read; the second finds the end, beside the jobs of the second round.
-    let at_once = [0, 4];
-    for width in [1u8, 3] {
-        let slow = is_seen_by_both(&rt, alloc, width, LINE, &by_lines)?;
-        let fast = is_seen_by_both(&rt, alloc, width, 65_536, &at_once)?;
-        assert!(rt; slow, "a line a read, {width} workers");
-        assert!(rt; fast, "all lines at once, {width} workers");
-    }
+    // A line a read: the fifth is read to know that the second round comes.
+    let by_lines = Row {
+        input: TWELVE,
+        told: TWELVE_TOLD,
+        lines: 12,
+        backlog: 4,
+        piece: LINE,
+        seen: &[0, 0, 0, 0, 0, 4, 4, 4, 4, 8, 8, 8, 8],
+    };
+    // Six lines a read, and then the end: a round is told though more lines are there.
+    let by_sixes = Row {
+        piece: 270,
+        seen: &[0, 4, 8],
+        ..by_lines
+    };
+    assert!(rt; is_seen_by_each(&rt, alloc, by_lines)?, "a line a read");
+    assert!(rt; is_seen_by_each(&rt, alloc, by_sixes)?, "six lines a read");
+    Ok(())
+}
+
+#[test]
+fn a_source_that_does_not_wait_is_read_meanwhile(rt: HostRuntime) -> Result<(), NoMemory> {
+    let alloc = rt.alloc();
+    let (input, told) = thousands(alloc)?;
+    // The first two reads fill the buffer: 2,848 lines and a part. The third, of the rest, is made beside the jobs of
+    // the first round; the last finds the end once that is told.
+    let row = Row {
+        input: input.as_slice(),
+        told: told.as_slice(),
+        lines: 4000,
+        backlog: 2000,
+        piece: 65_536,
+        seen: &[0, 0, 0, 2000],
+    };
+    assert!(rt; is_seen_by_each(&rt, alloc, row)?);
     Ok(())
 }

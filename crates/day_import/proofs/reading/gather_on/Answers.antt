@@ -4,10 +4,10 @@ use Rattle.day_import.proofs.reading.gather_on.Goals as goal
 
 pub returns-in-Ok-clause-read : goal.returns-in-Ok-clause-read
 returns-in-Ok-clause-read g c lines bytes h =
-    subst (λ left. HasReadAhead c.gather_watched.new.ahead lines left bytes) (search rules)
-    (c.gather_watched.ensures.read lines bytes h)
+    subst (λ left. HasReadAhead c.gather_watched-gathered.new.ahead lines left bytes) (search rules)
+    (c.gather_watched-gathered.ensures.read lines bytes h)
 
 pub returns-in-Err-clause-read : goal.returns-in-Err-clause-read
 returns-in-Err-clause-read g c lines bytes h =
-    subst (λ left. HasReadAhead c.gather_watched.new.ahead lines left bytes) (search rules)
-    (c.gather_watched.ensures.read lines bytes h)
+    subst (λ left. HasReadAhead c.gather_watched-gathered.new.ahead lines left bytes) (search rules)
+    (c.gather_watched-gathered.ensures.read lines bytes h)
