@@ -8,7 +8,7 @@ use day_plan::Plan;
 use keep_office::Keeper;
 use road_time::Limits;
 use serve_board::BoardWriter;
-use serve_desk::{ImportDesk, Kept, Naming};
+use serve_desk::{ImportDesk, Kept, Naming, Routes};
 use std::sync::Wait;
 use std::thread::Threads;
 use ways_crews::{Crew, InlineCrew};
@@ -33,6 +33,7 @@ impl<
         writer: BoardWriter<R>,
         plan: Plan,
         limits: Limits,
+        routes: Routes,
     ) -> SharedDesk<J, K, InlineCrew, R>
         requires idle { ⟦<InlineCrew as Crew>⟧.out self ≡ [] }
         requires some { 1 ≤ plan.width }
@@ -46,7 +47,7 @@ impl<
             crew: self,
             writer,
         };
-        SharedDesk::new(rt, plan, limits, keeper, imports)
+        SharedDesk::new(rt, plan, limits, routes, keeper, imports)
     }
 
     fn end(shared: SharedDesk<J, K, InlineCrew, R>) -> Kept<J, K> {

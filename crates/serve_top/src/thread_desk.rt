@@ -8,7 +8,7 @@ use day_plan::Plan;
 use keep_office::Keeper;
 use road_time::Limits;
 use serve_board::BoardWriter;
-use serve_desk::{ImportDesk, Kept, Naming};
+use serve_desk::{ImportDesk, Kept, Naming, Routes};
 use std::sync::Wait;
 use std::thread::Threads;
 use ways_crews::{Crew, NoGate, ThreadCrew, ThreadTicket};
@@ -36,6 +36,7 @@ where
         writer: BoardWriter<R>,
         plan: Plan,
         limits: Limits,
+        routes: Routes,
     ) -> SharedDesk<J, K, ThreadCrew<R, NoGate>, R>
         requires idle { ⟦<ThreadCrew<R, NoGate> as Crew>⟧.out self ≡ [] }
         requires some { 1 ≤ plan.width }
@@ -49,7 +50,7 @@ where
             crew: self,
             writer,
         };
-        SharedDesk::new(rt, plan, limits, keeper, imports)
+        SharedDesk::new(rt, plan, limits, routes, keeper, imports)
     }
 
     fn end(shared: SharedDesk<J, K, ThreadCrew<R, NoGate>, R>) -> Kept<J, K> {
