@@ -18,7 +18,7 @@ impl<
     K: Keeper + Send,
     R: Wait + Threads + Drop + Copy + Send + Sync,
 > DeskCrew<Kept<J, K>, R> for InlineCrew {
-    type Shared = SharedDesk<J, K, InlineCrew, R>;
+    type Shared = SharedDesk<J, K, InlineCrew, R, Routes>;
 
     ghost out = { λ crew. ⟦<InlineCrew as Crew>⟧.out crew };
 
@@ -34,7 +34,7 @@ impl<
         plan: Plan,
         limits: Limits,
         routes: Routes,
-    ) -> SharedDesk<J, K, InlineCrew, R>
+    ) -> SharedDesk<J, K, InlineCrew, R, Routes>
         requires idle { ⟦<InlineCrew as Crew>⟧.out self ≡ [] }
         requires some { 1 ≤ plan.width }
         requires few { plan.width ≤ 64 }
@@ -50,7 +50,7 @@ impl<
         SharedDesk::new(rt, plan, limits, routes, keeper, imports)
     }
 
-    fn end(shared: SharedDesk<J, K, InlineCrew, R>) -> Kept<J, K> {
+    fn end(shared: SharedDesk<J, K, InlineCrew, R, Routes>) -> Kept<J, K> {
         let (keeper, imports) = shared.into_parts();
         imports.end();
         keeper

@@ -18,11 +18,12 @@ use ways_crews::Crew;
 /// A desk that loops in many threads share. It runs a session on each connection. Its keeper has a lock of its own,
 /// which is taken for one call at a time; a POST takes that of the imports too, until its day is imported. Beside the
 /// locks lie the routes, by which all sessions go, and by which plan and within which limits a day is worked.
-pub struct SharedDesk<J: Naming, K: Keeper, C: Crew, R: Wait + Threads + Drop + Copy> {
+/// `S` is the type of the routes, and is always `Routes`: as a parameter it is shown to cross threads by itself.
+pub struct SharedDesk<J: Naming, K: Keeper, C: Crew, R: Wait + Threads + Drop + Copy, S> {
     rt: R,
     pub(crate) plan: Plan,
     pub(crate) limits: Limits,
-    routes: Routes,
+    routes: S,
     keeper: Mutex<Kept<J, K>>,
     imports: Mutex<ImportDesk<C, R>>,
     ghost some: { 1 ≤ plan.width },
@@ -30,7 +31,13 @@ pub struct SharedDesk<J: Naming, K: Keeper, C: Crew, R: Wait + Threads + Drop + 
     ghost within: { IsLimits limits },
 }
 
-impl<J: Naming, K: Keeper, C: Crew, R: Wait + Threads + Drop + Copy> SharedDesk<J, K, C, R> {
+impl<J: Naming, K: Keeper, C: Crew, R: Wait + Threads + Drop + Copy> SharedDesk<
+    J,
+    K,
+    C,
+    R,
+    Routes,
+> {
     /// Puts a keeper and the part of a desk that imports under a lock each, and the plan, the limits and the routes
     /// beside them.
     pub(crate) fn new(
@@ -72,7 +79,7 @@ impl<J: Naming, K: Keeper, C: Crew, R: Wait + Threads + Drop + Copy> SharedDesk<
 }
 
 impl<J: Naming, K: Keeper, C: Crew, R: Wait + Threads + Drop + Copy> Host
-    for SharedDesk<J, K, C, R> {
+    for SharedDesk<J, K, C, R, Routes> {
     ghost use Rattle.serve_top.specs.Attends.{Attends};
 
     ghost attends = { λ desk p q old new.

@@ -21,7 +21,7 @@ impl<
 where
     ThreadCrew<R, NoGate>: Crew<Ticket = ThreadTicket, Name = ()>,
 {
-    type Shared = SharedDesk<J, K, ThreadCrew<R, NoGate>, R>;
+    type Shared = SharedDesk<J, K, ThreadCrew<R, NoGate>, R, Routes>;
 
     ghost out = { λ crew. ⟦<ThreadCrew<R, NoGate> as Crew>⟧.out crew };
 
@@ -37,7 +37,7 @@ where
         plan: Plan,
         limits: Limits,
         routes: Routes,
-    ) -> SharedDesk<J, K, ThreadCrew<R, NoGate>, R>
+    ) -> SharedDesk<J, K, ThreadCrew<R, NoGate>, R, Routes>
         requires idle { ⟦<ThreadCrew<R, NoGate> as Crew>⟧.out self ≡ [] }
         requires some { 1 ≤ plan.width }
         requires few { plan.width ≤ 64 }
@@ -53,7 +53,7 @@ where
         SharedDesk::new(rt, plan, limits, routes, keeper, imports)
     }
 
-    fn end(shared: SharedDesk<J, K, ThreadCrew<R, NoGate>, R>) -> Kept<J, K> {
+    fn end(shared: SharedDesk<J, K, ThreadCrew<R, NoGate>, R, Routes>) -> Kept<J, K> {
         let (keeper, imports) = shared.into_parts();
         imports.end();
         keeper
