@@ -55,7 +55,7 @@ pub use place::DeskPlace;
 pub use reading::read_asked;
 pub use refusing::refuse;
 pub use replies::{keeper_text, no_day_text, no_memory_text, reply_text};
-pub use routing::Routes;
+pub use routing::{Routes, routes_cross};
 pub use sending::{send_bytes, send_no_memory, send_page, send_reply};
 pub use session_end::SessionEnd;
 pub use skipping::skip_body;

@@ -12,12 +12,26 @@ use crate::route::Route;
 use matchit::{InsertError, Router};
 use road_time::NoMemory;
 use std::alloc::Global;
+use std::marker::Model;
 
-/// The routes of the desk. They are made once and kept.
+/// The routes of the desk. They are made once and kept, and threads may share them. Contracts see the router's rows.
 #[derive(Drop)]
 pub struct Routes {
     router: Router<Route>,
-    ghost rows: { rename key_at router ≡ desk_rows },
+}
+
+impl Model for Routes {
+    ghost use Rattle.std.specs.Prelude.{◌≡◌};
+    ghost use Rattle.matchit.specs.Rows.{RowsOf};
+    ghost use Rattle.matchit.specs.Router.{RouteOf, rename};
+    ghost use Rattle.serve_requests.specs.declared.route.Route.{Route};
+    ghost use Rattle.serve_requests.specs.Rows.{desk_rows, key_at};
+
+    ghost Value = { RowsOf (RouteOf Route) };
+
+    ghost view = { λ routes. routes.router };
+
+    ghost invariant = { λ routes. rename key_at routes.router ≡ desk_rows };
 }
 
 /// The router of the desk.
@@ -96,3 +110,10 @@ impl Routes {
         place_in(&self.router, path)
     }
 }
+
+/// Threads may share the routes, and hand them on.
+pub fn routes_cross() {
+    crosses::<Routes>();
+}
+
+fn crosses<T: Send + Sync>() {}

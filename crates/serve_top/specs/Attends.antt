@@ -1,11 +1,9 @@
 -- What a shared desk does for a connection.
-use Rattle.std.specs.Prelude.{◌≡◌, ◌⊎◌, ℕ, Bool, List, Option, Some}
+use Rattle.std.specs.Prelude.{◌≡◌, ℕ, Bool, List, Option, Some}
 use Rattle.road_time.specs.declared.day.Limits.{Limits}
 use Rattle.keep_office.specs.Calls.{WhenRefused}
 use Rattle.keep_office.specs.Office.{Office}
 use Rattle.serve_board.specs.Passes.{Pass}
-use Rattle.serve_requests.specs.Replies.{no_memory_reply}
-use Rattle.serve_requests.specs.Sends.{SendsReply}
 use Rattle.serve_requests.specs.declared.session_end.SessionEnd.{SessionEnd}
 use Rattle.serve_desk.specs.Answers.{wire_of}
 use Rattle.serve_desk.specs.Answers.{Wire as DeskWire}
@@ -17,17 +15,11 @@ use Rattle.serve_loops.specs.Wires.{Wire}
 abbrev pub desk_wire : Wire → DeskWire
 desk_wire w = wire_of w.left w.plan w.written w.room
 
--- there was no memory for the routes, and that is answered: nothing is read, and the reader stays as it was
-abbrev pub HasNoRoutes : Pass → Pass → Wire → Wire → SessionEnd → Type 0
-HasNoRoutes p q old new end =
-    SendsReply no_memory_reply old.written new.written end × (new.left ≡ old.left) × (q ≡ p)
-
 -- one session over the connection, whose bytes are these where it tells them: a request is read and refused; or it is
--- of the live board, and answered by the reader; or it is answered of the keeper that the desk shares; or there are no
--- routes for it
+-- of the live board, and answered by the reader; or it is answered of the keeper that the desk shares
 abbrev pub Attends : {K : Type 0} → (K → Option Office) → (K → ℕ) → WhenRefused → Bool → Limits → Pass → Pass → Wire →
     Wire → Type 0
 Attends told faults w exact limits p q old new =
     (bytes : List ℕ) → old.left ≡ Some bytes
-    → (end : SessionEnd) × (Shares (AnswersShared told faults w exact limits) bytes p q (desk_wire old)
-    (desk_wire new) end ⊎ HasNoRoutes p q old new end)
+    → (end : SessionEnd) × Shares (AnswersShared told faults w exact limits) bytes p q (desk_wire old)
+    (desk_wire new) end

@@ -12,20 +12,20 @@ use road_time::Limits;
 use serve_board::BoardReader;
 use serve_desk::{ImportDesk, Kept, Naming, Routes, TwoLocks, Work, session_shared};
 use serve_loops::Turn;
-use serve_requests::send_no_memory;
 use std::alloc::Global;
 use std::sync::{Mutex, Wait};
 use std::thread::Threads;
 use ways_crews::Crew;
 
-/// Runs a session on a connection, by routes that are made for it. A POST has the imports' lock until its day is
-/// imported, and then its turn is over. For each call of the keeper a request of what is kept takes the keeper's lock.
-/// No other takes a lock.
+/// Runs a session on a connection, by routes that are kept. A POST has the imports' lock until its day is imported,
+/// and then its turn is over. For each call of the keeper a request of what is kept takes the keeper's lock. No other
+/// takes a lock.
 pub fn attend<L: TwoWay, J: Naming, K: Keeper, C: Crew, R: Wait + Threads + Drop, T: Turn>(
     rt: R,
     alloc: Global,
     plan: Plan,
     limits: Limits,
+    routes: &Routes,
     keeper: &Mutex<Kept<J, K>>,
     imports: &Mutex<ImportDesk<C, R>>,
     line: &mut L,
@@ -40,10 +40,6 @@ pub fn attend<L: TwoWay, J: Naming, K: Keeper, C: Crew, R: Wait + Threads + Drop
     ensures board { reader.new.board ≡ reader.old.board }
     ensures had { StartsWith reader.new.seen reader.old.seen }
 {
-    let Ok(routes) = Routes::new(alloc) else {
-        send_no_memory(line);
-        return;
-    };
     let mut clerk = TwoLocks {
         rt,
         work: Work { plan, limits },
@@ -51,5 +47,5 @@ pub fn attend<L: TwoWay, J: Naming, K: Keeper, C: Crew, R: Wait + Threads + Drop
         imports,
         turn,
     };
-    session_shared(alloc, &routes, line, reader, &mut clerk);
+    session_shared(alloc, routes, line, reader, &mut clerk);
 }

@@ -5,6 +5,7 @@ ghost use Rattle.road_time.specs.Fits.{IsLimits};
 use day_plan::Plan;
 use road_time::Limits;
 use serve_board::BoardWriter;
+use serve_desk::Routes;
 use serve_loops::Host;
 use std::sync::Wait;
 
@@ -25,7 +26,8 @@ pub trait DeskCrew<K, R: Wait + Drop> {
 
     ghost bounds: { Self.Shared → Limits };
 
-    /// Makes a desk with this crew, and puts its keeper under one lock and the rest under another.
+    /// Makes a desk with this crew, and puts its keeper under one lock and the rest under another. All its sessions go
+    /// by these routes.
     fn share(
         self,
         rt: R,
@@ -33,6 +35,7 @@ pub trait DeskCrew<K, R: Wait + Drop> {
         writer: BoardWriter<R>,
         plan: Plan,
         limits: Limits,
+        routes: Routes,
     ) -> Self::Shared
         requires idle { out self ≡ [] }
         requires some { 1 ≤ plan.width }

@@ -8,7 +8,7 @@ use day_plan::Plan;
 use keep_office::Keeper;
 use road_time::Limits;
 use serve_board::BoardWriter;
-use serve_desk::{ImportDesk, Kept, Naming};
+use serve_desk::{ImportDesk, Kept, Naming, Routes};
 use std::sync::Wait;
 use std::thread::Threads;
 use ways_crews::{Crew, InlineCrew};
@@ -18,7 +18,7 @@ impl<
     K: Keeper + Send,
     R: Wait + Threads + Drop + Copy + Send + Sync,
 > DeskCrew<Kept<J, K>, R> for InlineCrew {
-    type Shared = SharedDesk<J, K, InlineCrew, R>;
+    type Shared = SharedDesk<J, K, InlineCrew, R, Routes>;
 
     ghost out = { λ crew. ⟦<InlineCrew as Crew>⟧.out crew };
 
@@ -33,7 +33,8 @@ impl<
         writer: BoardWriter<R>,
         plan: Plan,
         limits: Limits,
-    ) -> SharedDesk<J, K, InlineCrew, R>
+        routes: Routes,
+    ) -> SharedDesk<J, K, InlineCrew, R, Routes>
         requires idle { ⟦<InlineCrew as Crew>⟧.out self ≡ [] }
         requires some { 1 ≤ plan.width }
         requires few { plan.width ≤ 64 }
@@ -46,10 +47,10 @@ impl<
             crew: self,
             writer,
         };
-        SharedDesk::new(rt, plan, limits, keeper, imports)
+        SharedDesk::new(rt, plan, limits, routes, keeper, imports)
     }
 
-    fn end(shared: SharedDesk<J, K, InlineCrew, R>) -> Kept<J, K> {
+    fn end(shared: SharedDesk<J, K, InlineCrew, R, Routes>) -> Kept<J, K> {
         let (keeper, imports) = shared.into_parts();
         imports.end();
         keeper

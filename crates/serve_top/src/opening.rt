@@ -18,6 +18,7 @@ use crate::served_words::Serving;
 use day_plan::Plan;
 use road_time::Limits;
 use serve_board::{Board, board};
+use serve_desk::Routes;
 use serve_loops::{Lane, Listener, ServeEnd, serve};
 use std::alloc::Global;
 use std::sync::Wait;
@@ -29,8 +30,8 @@ const PLAN: Plan = Plan {
     turns: None,
 };
 
-/// Serves over ears, each of which has a reader of the board, and gives them and the keeper back. It ends the board's
-/// writer.
+/// Serves over ears, each of which has a reader of the board, by routes that are kept for all of them, and gives the
+/// ears and the keeper back. It ends the board's writer.
 fn serve_over<
     N: Listener + Send + Drop,
     K,
@@ -45,6 +46,7 @@ fn serve_over<
     board: Board<R>,
     lanes: Vec<Lane<N>>,
     room: Vec<N>,
+    routes: Routes,
     keeper: K,
     crew: C,
 ) -> (ServeEnd, Ears<N>, K)
@@ -71,7 +73,7 @@ fn serve_over<
 {
     let Board { writer, readers } = board;
     let mut lanes = seat(lanes, ears, readers);
-    let desk = crew.share(rt, keeper, writer, PLAN, *limits);
+    let desk = crew.share(rt, keeper, writer, PLAN, *limits, routes);
     let end = serve(&rt, alloc, &mut lanes, &desk, sessions);
     let keeper = C::end(desk);
     (end, rise(room, lanes), keeper)
@@ -93,6 +95,7 @@ fn serve_behind<
     board: Board<R>,
     lanes: Vec<Lane<D::Ear>>,
     room: Vec<D::Ear>,
+    routes: Routes,
     keeper: K,
     crew: C,
 ) -> (ServerEnd, K)
@@ -130,6 +133,7 @@ fn serve_behind<
                 board,
                 lanes,
                 room,
+                routes,
                 keeper,
                 crew,
             );
@@ -142,8 +146,8 @@ fn serve_behind<
     }
 }
 
-/// Serves as told, over as many lanes as the door has for the readers: makes the board and room for the lanes, and then
-/// serves behind the door.
+/// Serves as told, over as many lanes as the door has for the readers: makes the board, room for the lanes and the
+/// desk's routes, and then serves behind the door.
 pub fn serve_as<
     D: Door,
     K,
@@ -179,10 +183,13 @@ pub fn serve_as<
     let Ok(room) = Vec::with_capacity(alloc, count as usize) else {
         return (ServerEnd::NoMemory, keeper);
     };
+    let Ok(routes) = Routes::new(alloc) else {
+        return (ServerEnd::NoMemory, keeper);
+    };
     let Ok(board) = board(rt, alloc, count) else {
         return (ServerEnd::NoMemory, keeper);
     };
     serve_behind(
-        rt, alloc, serving, count, limits, door, board, lanes, room, keeper, crew,
+        rt, alloc, serving, count, limits, door, board, lanes, room, routes, keeper, crew,
     )
 }

@@ -8,7 +8,7 @@ use keep_office::Keeper;
 use road_io::TwoWay;
 use road_time::Limits;
 use serve_board::BoardReader;
-use serve_desk::{ImportDesk, Kept, Naming};
+use serve_desk::{ImportDesk, Kept, Naming, Routes};
 use serve_loops::{Host, Turn};
 use std::alloc::Global;
 use std::sync::{Mutex, Wait};
@@ -16,12 +16,14 @@ use std::thread::Threads;
 use ways_crews::Crew;
 
 /// A desk that loops in many threads share. It runs a session on each connection. Its keeper has a lock of its own,
-/// which is taken for one call at a time; a POST takes that of the imports too, until its day is imported. By which plan
-/// and within which limits a day is worked lies beside the locks.
-pub struct SharedDesk<J: Naming, K: Keeper, C: Crew, R: Wait + Threads + Drop + Copy> {
+/// which is taken for one call at a time; a POST takes that of the imports too, until its day is imported. Beside the
+/// locks lie the routes, by which all sessions go, and by which plan and within which limits a day is worked.
+/// `S` is the type of the routes, and is always `Routes`: as a parameter it is shown to cross threads by itself.
+pub struct SharedDesk<J: Naming, K: Keeper, C: Crew, R: Wait + Threads + Drop + Copy, S> {
     rt: R,
     pub(crate) plan: Plan,
     pub(crate) limits: Limits,
+    routes: S,
     keeper: Mutex<Kept<J, K>>,
     imports: Mutex<ImportDesk<C, R>>,
     ghost some: { 1 ≤ plan.width },
@@ -29,12 +31,20 @@ pub struct SharedDesk<J: Naming, K: Keeper, C: Crew, R: Wait + Threads + Drop + 
     ghost within: { IsLimits limits },
 }
 
-impl<J: Naming, K: Keeper, C: Crew, R: Wait + Threads + Drop + Copy> SharedDesk<J, K, C, R> {
-    /// Puts a keeper and the part of a desk that imports under a lock each, and the plan and the limits beside them.
+impl<J: Naming, K: Keeper, C: Crew, R: Wait + Threads + Drop + Copy> SharedDesk<
+    J,
+    K,
+    C,
+    R,
+    Routes,
+> {
+    /// Puts a keeper and the part of a desk that imports under a lock each, and the plan, the limits and the routes
+    /// beside them.
     pub(crate) fn new(
         rt: R,
         plan: Plan,
         limits: Limits,
+        routes: Routes,
         keeper: Kept<J, K>,
         imports: ImportDesk<C, R>,
     ) -> Self
@@ -48,6 +58,7 @@ impl<J: Naming, K: Keeper, C: Crew, R: Wait + Threads + Drop + Copy> SharedDesk<
             rt,
             plan,
             limits,
+            routes,
             keeper: Mutex::new(keeper),
             imports: Mutex::new(imports),
         }
@@ -59,6 +70,7 @@ impl<J: Naming, K: Keeper, C: Crew, R: Wait + Threads + Drop + Copy> SharedDesk<
             rt: _,
             plan: _,
             limits: _,
+            routes: _,
             keeper,
             imports,
         } = self;
@@ -67,7 +79,7 @@ impl<J: Naming, K: Keeper, C: Crew, R: Wait + Threads + Drop + Copy> SharedDesk<
 }
 
 impl<J: Naming, K: Keeper, C: Crew, R: Wait + Threads + Drop + Copy> Host
-    for SharedDesk<J, K, C, R> {
+    for SharedDesk<J, K, C, R, Routes> {
     ghost use Rattle.serve_top.specs.Attends.{Attends};
 
     ghost attends = { λ desk p q old new.
@@ -85,6 +97,7 @@ impl<J: Naming, K: Keeper, C: Crew, R: Wait + Threads + Drop + Copy> Host
             alloc,
             self.plan,
             self.limits,
+            &self.routes,
             &self.keeper,
             &self.imports,
             line,

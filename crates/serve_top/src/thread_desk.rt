@@ -8,7 +8,7 @@ use day_plan::Plan;
 use keep_office::Keeper;
 use road_time::Limits;
 use serve_board::BoardWriter;
-use serve_desk::{ImportDesk, Kept, Naming};
+use serve_desk::{ImportDesk, Kept, Naming, Routes};
 use std::sync::Wait;
 use std::thread::Threads;
 use ways_crews::{Crew, NoGate, ThreadCrew, ThreadTicket};
@@ -21,7 +21,7 @@ impl<
 where
     ThreadCrew<R, NoGate>: Crew<Ticket = ThreadTicket, Name = ()>,
 {
-    type Shared = SharedDesk<J, K, ThreadCrew<R, NoGate>, R>;
+    type Shared = SharedDesk<J, K, ThreadCrew<R, NoGate>, R, Routes>;
 
     ghost out = { λ crew. ⟦<ThreadCrew<R, NoGate> as Crew>⟧.out crew };
 
@@ -36,7 +36,8 @@ where
         writer: BoardWriter<R>,
         plan: Plan,
         limits: Limits,
-    ) -> SharedDesk<J, K, ThreadCrew<R, NoGate>, R>
+        routes: Routes,
+    ) -> SharedDesk<J, K, ThreadCrew<R, NoGate>, R, Routes>
         requires idle { ⟦<ThreadCrew<R, NoGate> as Crew>⟧.out self ≡ [] }
         requires some { 1 ≤ plan.width }
         requires few { plan.width ≤ 64 }
@@ -49,10 +50,10 @@ where
             crew: self,
             writer,
         };
-        SharedDesk::new(rt, plan, limits, keeper, imports)
+        SharedDesk::new(rt, plan, limits, routes, keeper, imports)
     }
 
-    fn end(shared: SharedDesk<J, K, ThreadCrew<R, NoGate>, R>) -> Kept<J, K> {
+    fn end(shared: SharedDesk<J, K, ThreadCrew<R, NoGate>, R, Routes>) -> Kept<J, K> {
         let (keeper, imports) = shared.into_parts();
         imports.end();
         keeper

@@ -7,7 +7,7 @@ use keep_office::{Keeper, MemKeeper};
 use road_io::MemLink;
 use road_time::{Limits, NoMemory};
 use serve_board::{Board, BoardReader, board};
-use serve_desk::{Kept, Naming, Opened};
+use serve_desk::{Kept, Naming, Opened, Routes};
 use serve_top::{DeskCrew, Lane, Lanes, MemListener, ServeEnd, serve};
 use std::alloc::Global;
 use std::marker::Brand;
@@ -73,9 +73,10 @@ fn serve_links<
 ) -> Result<(ServeEnd, bool), NoMemory>
     requires { C.out crew ≡ [] }
 {
+    let routes = Routes::new(alloc)?;
     let Board { writer, readers } = board(rt, alloc, lanes.clamp(1, 64))?;
     let mut lanes = lanes_of(alloc, readers.into_vec(), links)?;
-    let desk = crew.share(rt, kept, writer, PLAN, Limits::DAY);
+    let desk = crew.share(rt, kept, writer, PLAN, Limits::DAY, routes);
     let end = serve(&rt, alloc, &mut lanes, &desk, sessions);
     let mut keeper = C::end(desk).into_keeper();
     let kept = match keeper.day(100) {

@@ -8,7 +8,7 @@ use keep_office::{Keeper, MemKeeper};
 use road_io::{MemLink, TwoWay};
 use road_time::{Limits, NoMemory};
 use serve_board::{Board, BoardReader, board};
-use serve_desk::{Kept, Naming, Opened, desk_moves};
+use serve_desk::{Kept, Naming, Opened, Routes, desk_moves};
 use serve_loops::{Host, NoTurn};
 use serve_top::DeskCrew;
 use std::alloc::Global;
@@ -150,9 +150,10 @@ fn share_beside<
 >(rt: R, alloc: Global, crew: C, kept: Kept<J, MemKeeper>) -> Result<(Beside, bool), NoMemory>
     requires { C.out crew ≡ [] }
 {
+    let routes = Routes::new(alloc)?;
     let Board { writer, readers } = board(rt, alloc, 2)?;
     let mut readers = readers.into_vec();
-    let desk = crew.share(rt, kept, writer, PLAN, Limits::DAY);
+    let desk = crew.share(rt, kept, writer, PLAN, Limits::DAY, routes);
     let came = match (readers.pop(), readers.pop()) {
         (Some(mut first), Some(mut second)) => {
             post_beside(&rt, alloc, &desk, &mut first, &mut second)

@@ -8,7 +8,7 @@ use keep_office::MemKeeper;
 use road_io::MemLink;
 use road_time::{Limits, NoMemory};
 use serve_board::{Board, BoardReader, board};
-use serve_desk::{Kept, Naming, Opened};
+use serve_desk::{Kept, Naming, Opened, Routes};
 use serve_loops::Host;
 use serve_top::DeskCrew;
 use std::alloc::Global;
@@ -83,9 +83,10 @@ fn share_behind<
 >(rt: R, alloc: Global, crew: C, kept: Kept<J, MemKeeper>, writes: bool) -> Result<Behind, NoMemory>
     requires { C.out crew ≡ [] }
 {
+    let routes = Routes::new(alloc)?;
     let Board { writer, readers } = board(rt, alloc, 2)?;
     let mut readers = readers.into_vec();
-    let desk = crew.share(rt, kept, writer, PLAN, Limits::DAY);
+    let desk = crew.share(rt, kept, writer, PLAN, Limits::DAY, routes);
     let came = match (readers.pop(), readers.pop()) {
         (Some(mut first), Some(mut second)) => {
             post_behind(&rt, alloc, &desk, &mut first, &mut second, writes)

@@ -11,7 +11,7 @@ use keep_office::MemKeeper;
 use road_io::{BothWays, MemLink, MemSink};
 use road_time::{Limits, NoMemory};
 use serve_board::{Board, BoardReader, board};
-use serve_desk::{Kept, Naming, Opened};
+use serve_desk::{Kept, Naming, Opened, Routes};
 use serve_loops::{Host, NoTurn};
 use serve_top::DeskCrew;
 use std::alloc::Global;
@@ -163,9 +163,10 @@ fn share_for<
 ) -> Result<bool, NoMemory>
     requires { C.out crew ≡ [] }
 {
+    let routes = Routes::new(alloc)?;
     let Board { writer, readers } = board(rt, alloc, 1)?;
     let mut readers = readers.into_vec();
-    let desk = crew.share(rt, kept, writer, PLAN, Limits::DAY);
+    let desk = crew.share(rt, kept, writer, PLAN, Limits::DAY, routes);
     let right = match readers.pop() {
         Some(mut reader) => answers(alloc, &desk, &mut reader, asking),
         None => Err(NoMemory),
