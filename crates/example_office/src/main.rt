@@ -3,141 +3,26 @@
 //! each job in a thread of its own.
 //!
 //! What it must print was worked out apart from this code. Behind each command's text stands its status. `old.db` is a
-//! database of version 1 that sqlite3 made. Last come the rows of what a keeper in a file keeps, a line each, which
-//! makes its files where it runs, but for `theirs.db`: sqlite3 3.40.1 made it from `theirs.sql`.
+//! database of version 1 that sqlite3 made. Last comes an import over a file, whose reads fail in turn.
 #![tactic(auto)]
 
 ghost use Rattle.road_time.specs.Fits.{IsLimits};
 
-mod asking;
-mod by_trees;
-mod files;
-mod old;
-mod read_faults;
-mod refused;
-mod sequence;
-mod spoiled;
+mod steps;
 mod tables;
-mod whole;
-mod worked;
 
+use crate::steps::{
+    CHARGED_ON_LEAVING, EMPTY_DAY, EXAMPLE_DAY, HISTORY, LATE_LINES, OF_VERSION_1, ONE_LINE,
+    ROOM_OF_10, ROOM_OF_11, Step, TARIFFS,
+};
 use keep_files::SqliteKeeper;
 use keep_office::{Keeper, MemKeeper};
 use office_commands::{ASIDE_FILE, office};
-use road_io::{FileSource, MemSink, Source};
+use road_io::{FileSource, MemSink, MemSource, Source};
 use road_time::Limits;
 use std::rt::HostRuntime;
 use std::thread::Threads;
 use ways_crews::{NoGate, ThreadCrew};
-
-/// A command, and the file that it reads in place of standard input: as the program runs it, with room for so many
-/// bytes of output, or where a history may have one line.
-#[derive(Clone, Copy)]
-enum Step {
-    Run(&'static str, &'static str),
-    InRoom(usize, &'static str, &'static str),
-    OneLine(&'static str, &'static str),
-}
-
-/// The example day after its history.
-const EXAMPLE_DAY: [Step; 12] = [
-    Step::Run("past 100", "past.csv"),
-    Step::Run("past 100", "past.csv"),
-    Step::Run("answers 100 --workers 3", "day.csv"),
-    Step::Run("accidents", "day.csv"),
-    Step::Run("validate 100", "day.csv"),
-    Step::Run("audit 100 --shards 3 --workers 2", "day.csv"),
-    Step::Run("import 100 --workers 64 --turns 2", "day.csv"),
-    Step::Run("import 100", "day.csv"),
-    Step::Run("day 100", "empty.csv"),
-    Step::Run("vehicle 105 31 100", "empty.csv"),
-    Step::Run("export 100", "empty.csv"),
-    Step::Run("tariffs", "empty.csv"),
-];
-
-/// A day without a line; other bytes, a passed day and a history after it.
-const EMPTY_DAY: [Step; 13] = [
-    Step::Run("day 100", "empty.csv"),
-    Step::Run("export 100", "empty.csv"),
-    Step::Run("vehicle 7 31 99", "empty.csv"),
-    Step::Run("import 100", "empty.csv"),
-    Step::Run("day 100", "empty.csv"),
-    Step::Run("export 100", "empty.csv"),
-    Step::Run("import 100", "empty.csv"),
-    Step::Run("import 100", "abc.csv"),
-    Step::Run("import 99", "one.csv"),
-    Step::Run("day 99", "empty.csv"),
-    Step::Run("answers 99", "one.csv"),
-    Step::Run("day 100", "empty.csv"),
-    Step::Run("past 100", "two.csv"),
-];
-
-/// A vehicle is charged as it leaves a crowded stretch.
-const CHARGED_ON_LEAVING: [Step; 5] = [
-    Step::Run("import 100", "charged.csv"),
-    Step::Run("day 100", "empty.csv"),
-    Step::Run("export 100", "empty.csv"),
-    Step::Run("vehicle 100 100 100", "empty.csv"),
-    Step::Run("import 100", "charged.csv"),
-];
-
-/// Lines of a history that are refused, what a history answers, and histories and days beside it.
-const HISTORY: [Step; 12] = [
-    Step::Run("past 100", "short.csv"),
-    Step::Run("past 100", "twice.csv"),
-    Step::Run("past 100", "two.csv"),
-    Step::Run("past 100", "two.csv"),
-    Step::Run("answers 100", "asking.csv"),
-    Step::Run("vehicle 7 31 99", "empty.csv"),
-    Step::Run("day 99", "empty.csv"),
-    Step::Run("export 99", "empty.csv"),
-    Step::Run("import 99", "empty.csv"),
-    Step::Run("past 101", "two.csv"),
-    Step::Run("past 100", "empty.csv"),
-    Step::Run("import 100", "asking.csv"),
-];
-
-/// A refused day keeps nothing; an expressway has a tariff and loses it.
-const TARIFFS: [Step; 9] = [
-    Step::Run("import 100", "late.csv"),
-    Step::Run("day 100", "empty.csv"),
-    Step::Run("tariff 0 50 40 5", "empty.csv"),
-    Step::Run("tariffs", "empty.csv"),
-    Step::Run("import 100", "charged.csv"),
-    Step::Run("day 100", "empty.csv"),
-    Step::Run("tariff 0 50 40 2", "empty.csv"),
-    Step::Run("tariffs", "empty.csv"),
-    Step::Run("import 100", "charged.csv"),
-];
-
-/// A day that was kept before tariffs were.
-const OF_VERSION_1: [Step; 3] = [
-    Step::Run("day 100", "empty.csv"),
-    Step::Run("day 100", "empty.csv"),
-    Step::Run("import 100", "empty.csv"),
-];
-
-/// A day of one report, with room for its notice and a byte more, and then for all.
-const ROOM_OF_11: [Step; 2] = [
-    Step::InRoom(11, "import 100", "one.csv"),
-    Step::Run("import 100", "one.csv"),
-];
-
-/// The same with no room for the end of its notice.
-const ROOM_OF_10: [Step; 2] = [
-    Step::InRoom(10, "import 100", "one.csv"),
-    Step::Run("import 100", "one.csv"),
-];
-
-/// A history of two lines where one is allowed.
-const ONE_LINE: [Step; 1] = [Step::OneLine("past 100", "two.csv")];
-
-/// Lines that come late, by a second too much and in time.
-const LATE_LINES: [Step; 3] = [
-    Step::Run("import 100 --late 29", "turned.csv"),
-    Step::Run("import 100 --late 30", "turned.csv"),
-    Step::Run("export 100", "empty.csv"),
-];
 
 /// Room for all that a command writes here.
 const AMPLE: usize = 65_536;
@@ -180,7 +65,30 @@ fn answer<R: Threads + Sync + Copy, S: Source, K: Keeper>(
 }
 
 /// Runs a command over a keeper into a sink of so much room, and prints what it holds and the status.
-fn run_in_room<R: Threads + Sync + Copy, K: Keeper>(
+fn run_in_room<R: Threads + Sync + Copy, S: Source, K: Keeper>(
+    rt: HostRuntime,
+    threads: R,
+    command: &str,
+    source: &mut S,
+    limits: &Limits,
+    room: usize,
+    keeper: &mut K,
+) -> anyhow::Result<()>
+    requires { IsLimits limits.now }
+{
+    let mut sink = MemSink::new(rt.alloc(), room, 4096)?;
+    let status = answer(rt, threads, command, source, limits, &mut sink, keeper)?;
+    let text = String::from_utf8_lossy(rt.alloc(), sink.bytes())?;
+    print!(rt; "{text}")?;
+    if room < AMPLE {
+        println!(rt; "")?;
+    }
+    println!(rt; "status {status}")?;
+    Ok(())
+}
+
+/// Runs a command on a file over a keeper.
+fn run_on<R: Threads + Sync + Copy, K: Keeper>(
     rt: HostRuntime,
     threads: R,
     command: &str,
@@ -192,15 +100,29 @@ fn run_in_room<R: Threads + Sync + Copy, K: Keeper>(
     requires { IsLimits limits.now }
 {
     let mut source = FileSource::at(rt.alloc(), rt, file)?;
-    let mut sink = MemSink::new(rt.alloc(), room, 4096)?;
-    let status = answer(rt, threads, command, &mut source, limits, &mut sink, keeper)?;
-    let text = String::from_utf8_lossy(rt.alloc(), sink.bytes())?;
-    print!(rt; "{text}")?;
-    if room < AMPLE {
-        println!(rt; "")?;
-    }
-    println!(rt; "status {status}")?;
-    Ok(())
+    run_in_room(rt, threads, command, &mut source, limits, room, keeper)
+}
+
+/// Runs a command over a keeper, where a read of the file fails.
+fn run_failing<R: Threads + Sync + Copy, K: Keeper>(
+    rt: HostRuntime,
+    threads: R,
+    command: &str,
+    file: &str,
+    number: u32,
+    keeper: &mut K,
+) -> anyhow::Result<()> {
+    let bytes = std::fs::read(&rt, file)?;
+    let mut source = MemSource::new(rt.alloc(), bytes.as_slice(), 100, &[number])?;
+    run_in_room(
+        rt,
+        threads,
+        command,
+        &mut source,
+        &Limits::DAY,
+        AMPLE,
+        keeper,
+    )
 }
 
 /// Runs a step over a keeper.
@@ -216,13 +138,16 @@ fn run<R: Threads + Sync + Copy, K: Keeper>(
     };
     match step {
         Step::Run(command, file) => {
-            run_in_room(rt, threads, command, file, &Limits::DAY, AMPLE, keeper)
+            run_on(rt, threads, command, file, &Limits::DAY, AMPLE, keeper)
         }
         Step::InRoom(room, command, file) => {
-            run_in_room(rt, threads, command, file, &Limits::DAY, room, keeper)
+            run_on(rt, threads, command, file, &Limits::DAY, room, keeper)
         }
         Step::OneLine(command, file) => {
-            run_in_room(rt, threads, command, file, &one_line, AMPLE, keeper)
+            run_on(rt, threads, command, file, &one_line, AMPLE, keeper)
+        }
+        Step::ReadFails(number, command, file) => {
+            run_failing(rt, threads, command, file, number, keeper)
         }
     }
 }
@@ -263,8 +188,24 @@ fn over_each<R: Threads + Sync + Copy>(
     steps: &[Step],
 ) -> anyhow::Result<()> {
     in_memory(rt, threads, steps)?;
-    tables::over_tables(rt, threads, steps)?;
+    tables::over_tables(rt, threads, "", steps)?;
     over_file(rt, threads, path, steps)
+}
+
+/// Runs an import over a file whose reads fail in turn, the last of them in none, and asks for the day each time.
+fn each_read_fails<R: Threads + Sync + Copy>(rt: HostRuntime, threads: R) -> anyhow::Result<()> {
+    for number in 0..27u32 {
+        over_file(
+            rt,
+            threads,
+            "faults.db",
+            &[
+                Step::ReadFails(number, "import 100", "charged.csv"),
+                Step::Run("day 100", "empty.csv"),
+            ],
+        )?;
+    }
+    Ok(())
 }
 
 /// All runs.
@@ -279,11 +220,9 @@ fn all<R: Threads + Sync + Copy>(rt: HostRuntime, threads: R) -> anyhow::Result<
     over_each(rt, threads, "eleven.db", &ROOM_OF_11)?;
     over_each(rt, threads, "ten.db", &ROOM_OF_10)?;
     over_each(rt, threads, "line.db", &ONE_LINE)?;
-    tables::over_old_tables(rt, threads, &OF_VERSION_1)?;
+    tables::over_tables(rt, threads, tables::OLD, &OF_VERSION_1)?;
     over_file(rt, threads, "old.db", &OF_VERSION_1)?;
-    let faults = read_faults::each_read_fails(rt, threads, "faults.db")?;
-    println!(rt; "each read of an import fails: {faults:?}")?;
-    files::rows(rt)
+    each_read_fails(rt, threads)
 }
 
 fn main(rt: HostRuntime) -> anyhow::Result<()> {

@@ -1,61 +1,57 @@
 // The commands over a proved keeper, whose tables lie in memory.
-use crate::old::make_old;
-use crate::{Step, run};
+use crate::run;
+use crate::steps::Step;
 use keep_database::{ProvedKeeper, Steady};
-use keep_office::KeepFault;
 use sqlite::{Connection, MemStore};
-use std::alloc::Global;
 use std::rt::HostRuntime;
 use std::thread::Threads;
 
-/// A database in memory, without tables.
-fn new_memory(alloc: Global) -> Result<Connection<MemStore>, KeepFault> {
-    match Connection::open_in_memory(alloc) {
-        Ok(conn) => Ok(conn),
-        Err(_) => Err(KeepFault::NoMemory),
-    }
-}
+/// The tables of version 1 with day 100 without a tuple, and the history of vehicle 7 before it.
+pub const OLD: &str =
+    "CREATE TABLE days (day INTEGER PRIMARY KEY, digest BLOB NOT NULL, bytes INTEGER NOT NULL,
+  tuples INTEGER NOT NULL, notices INTEGER NOT NULL, notices_digest BLOB NOT NULL,
+  total INTEGER NOT NULL) STRICT;
+CREATE TABLE spent (day INTEGER NOT NULL, vid INTEGER NOT NULL, xway INTEGER NOT NULL,
+  tolls INTEGER NOT NULL, PRIMARY KEY (day, vid, xway)) STRICT;
+CREATE TABLE past (one INTEGER PRIMARY KEY CHECK (one = 1), base INTEGER NOT NULL,
+  digest BLOB NOT NULL, bytes INTEGER NOT NULL, rows_kept INTEGER NOT NULL) STRICT;
+INSERT INTO days VALUES (100, x'e3b0c44298fc1c149afbf4c8996fb92427ae41e4649b934ca495991b7852b855', 0, 0, 0,
+  x'e3b0c44298fc1c149afbf4c8996fb92427ae41e4649b934ca495991b7852b855', 0);
+INSERT INTO spent VALUES (99, 7, 0, 5), (31, 7, 0, 28);
+INSERT INTO past VALUES (1, 100, x'e3b0c44298fc1c149afbf4c8996fb92427ae41e4649b934ca495991b7852b855', 18, 2)";
 
-/// Runs commands over a proved keeper.
-fn over_proved<R: Threads + Sync + Copy, S: Steady>(
+/// Runs commands over a database in which statements made what is there.
+fn over_made<R: Threads + Sync + Copy, S: Steady>(
     rt: HostRuntime,
     threads: R,
-    mut keeper: ProvedKeeper<S>,
+    mut conn: Connection<S>,
+    text: &str,
     steps: &[Step],
 ) -> anyhow::Result<()> {
+    if conn.execute_batch(text).is_err() {
+        println!(rt; "statements that are refused")?;
+        return Ok(());
+    }
+    let mut keeper = ProvedKeeper::adopt(rt.alloc(), conn);
     for step in steps {
         run(rt, threads, *step, &mut keeper)?;
     }
     Ok(())
 }
 
-/// Runs commands over tables that are made in a database in memory.
+/// The same over a database in memory. A check takes longest at what names a store: only this function and
+/// `over_file` do.
 pub fn over_tables<R: Threads + Sync + Copy>(
     rt: HostRuntime,
     threads: R,
+    text: &str,
     steps: &[Step],
 ) -> anyhow::Result<()> {
-    let Ok(conn) = new_memory(rt.alloc()) else {
-        println!(rt; "no memory")?;
-        return Ok(());
-    };
-    over_proved(rt, threads, ProvedKeeper::adopt(rt.alloc(), conn), steps)
-}
-
-/// The same over tables of version 1, which are taken over.
-pub fn over_old_tables<R: Threads + Sync + Copy>(
-    rt: HostRuntime,
-    threads: R,
-    steps: &[Step],
-) -> anyhow::Result<()> {
-    let Ok(mut conn) = new_memory(rt.alloc()) else {
-        println!(rt; "no memory")?;
-        return Ok(());
-    };
-    let made = make_old(&mut conn);
-    if made.is_err() {
-        println!(rt; "no tables of version 1")?;
-        return Ok(());
+    match Connection::<MemStore>::open_in_memory(rt.alloc()) {
+        Ok(conn) => over_made(rt, threads, conn, text, steps),
+        Err(_) => {
+            println!(rt; "no memory")?;
+            Ok(())
+        }
     }
-    over_proved(rt, threads, ProvedKeeper::adopt(rt.alloc(), conn), steps)
 }

@@ -1,9 +1,18 @@
-// What is done with a whole file that is opened for it.
+// Whether a file is exactly ours, and what is done with the whole of it, which is opened for that.
 use keep_database::Steady;
-use keep_files::{KeptDisk, open_whole};
+use keep_files::{Kept, KeptDisk, open_to_read, open_whole};
 use keep_office::KeepFault;
 use sqlite::Connection;
 use std::rt::HostRuntime;
+
+/// Whether the file at a path is exactly ours, so that its trees are read.
+pub fn is_ours(rt: HostRuntime, path: &str) -> Result<bool, KeepFault> {
+    match open_to_read::<KeptDisk>(&rt, path) {
+        Ok(Kept::Trees(_)) => Ok(true),
+        Ok(Kept::Whole(_)) => Ok(false),
+        Err(_) => Err(KeepFault::Failed),
+    }
+}
 
 /// What is done with a connection.
 pub trait Works {

@@ -1,0 +1,111 @@
+// The commands of each run.
+
+/// A command, and the file that it reads in place of standard input: as the program runs it, with room for so many
+/// bytes of output, where a history may have one line, or where each read gives 100 bytes and that of a number fails.
+#[derive(Clone, Copy)]
+pub enum Step {
+    Run(&'static str, &'static str),
+    InRoom(usize, &'static str, &'static str),
+    OneLine(&'static str, &'static str),
+    ReadFails(u32, &'static str, &'static str),
+}
+
+/// The example day after its history.
+pub const EXAMPLE_DAY: [Step; 12] = [
+    Step::Run("past 100", "past.csv"),
+    Step::Run("past 100", "past.csv"),
+    Step::Run("answers 100 --workers 3", "day.csv"),
+    Step::Run("accidents", "day.csv"),
+    Step::Run("validate 100", "day.csv"),
+    Step::Run("audit 100 --shards 3 --workers 2", "day.csv"),
+    Step::Run("import 100 --workers 64 --turns 2", "day.csv"),
+    Step::Run("import 100", "day.csv"),
+    Step::Run("day 100", "empty.csv"),
+    Step::Run("vehicle 105 31 100", "empty.csv"),
+    Step::Run("export 100", "empty.csv"),
+    Step::Run("tariffs", "empty.csv"),
+];
+
+/// A day without a line; other bytes, a passed day and a history after it.
+pub const EMPTY_DAY: [Step; 13] = [
+    Step::Run("day 100", "empty.csv"),
+    Step::Run("export 100", "empty.csv"),
+    Step::Run("vehicle 7 31 99", "empty.csv"),
+    Step::Run("import 100", "empty.csv"),
+    Step::Run("day 100", "empty.csv"),
+    Step::Run("export 100", "empty.csv"),
+    Step::Run("import 100", "empty.csv"),
+    Step::Run("import 100", "abc.csv"),
+    Step::Run("import 99", "one.csv"),
+    Step::Run("day 99", "empty.csv"),
+    Step::Run("answers 99", "one.csv"),
+    Step::Run("day 100", "empty.csv"),
+    Step::Run("past 100", "two.csv"),
+];
+
+/// A vehicle is charged as it leaves a crowded stretch.
+pub const CHARGED_ON_LEAVING: [Step; 5] = [
+    Step::Run("import 100", "charged.csv"),
+    Step::Run("day 100", "empty.csv"),
+    Step::Run("export 100", "empty.csv"),
+    Step::Run("vehicle 100 100 100", "empty.csv"),
+    Step::Run("import 100", "charged.csv"),
+];
+
+/// Lines of a history that are refused, what a history answers, and histories and days beside it.
+pub const HISTORY: [Step; 12] = [
+    Step::Run("past 100", "short.csv"),
+    Step::Run("past 100", "twice.csv"),
+    Step::Run("past 100", "two.csv"),
+    Step::Run("past 100", "two.csv"),
+    Step::Run("answers 100", "asking.csv"),
+    Step::Run("vehicle 7 31 99", "empty.csv"),
+    Step::Run("day 99", "empty.csv"),
+    Step::Run("export 99", "empty.csv"),
+    Step::Run("import 99", "empty.csv"),
+    Step::Run("past 101", "two.csv"),
+    Step::Run("past 100", "empty.csv"),
+    Step::Run("import 100", "asking.csv"),
+];
+
+/// A refused day keeps nothing; an expressway has a tariff and loses it.
+pub const TARIFFS: [Step; 9] = [
+    Step::Run("import 100", "late.csv"),
+    Step::Run("day 100", "empty.csv"),
+    Step::Run("tariff 0 50 40 5", "empty.csv"),
+    Step::Run("tariffs", "empty.csv"),
+    Step::Run("import 100", "charged.csv"),
+    Step::Run("day 100", "empty.csv"),
+    Step::Run("tariff 0 50 40 2", "empty.csv"),
+    Step::Run("tariffs", "empty.csv"),
+    Step::Run("import 100", "charged.csv"),
+];
+
+/// A day that was kept before tariffs were.
+pub const OF_VERSION_1: [Step; 3] = [
+    Step::Run("day 100", "empty.csv"),
+    Step::Run("day 100", "empty.csv"),
+    Step::Run("import 100", "empty.csv"),
+];
+
+/// A day of one report, with room for its notice and a byte more, and then for all.
+pub const ROOM_OF_11: [Step; 2] = [
+    Step::InRoom(11, "import 100", "one.csv"),
+    Step::Run("import 100", "one.csv"),
+];
+
+/// The same with no room for the end of its notice.
+pub const ROOM_OF_10: [Step; 2] = [
+    Step::InRoom(10, "import 100", "one.csv"),
+    Step::Run("import 100", "one.csv"),
+];
+
+/// A history of two lines where one is allowed.
+pub const ONE_LINE: [Step; 1] = [Step::OneLine("past 100", "two.csv")];
+
+/// Lines that come late, by a second too much and in time.
+pub const LATE_LINES: [Step; 3] = [
+    Step::Run("import 100 --late 29", "turned.csv"),
+    Step::Run("import 100 --late 30", "turned.csv"),
+    Step::Run("export 100", "empty.csv"),
+];
