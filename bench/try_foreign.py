@@ -170,14 +170,19 @@ def in_use(program):
     """Another program, which waits for its input, has the file open."""
     with tempfile.TemporaryDirectory() as folder:
         make(pathlib.Path(folder) / "tolls.db", OURS)
-        other = subprocess.Popen([program, "import", "101"], cwd=folder, stdin=subprocess.PIPE, stdout=subprocess.DEVNULL)
+        words = [program, "import", "101"]
+        other = subprocess.Popen(words, cwd=folder, stdin=subprocess.PIPE, stdout=subprocess.DEVNULL)
         try:
             for _ in range(200):
+                if other.poll() is not None:
+                    # the look below had the file just then
+                    other = subprocess.Popen(words, cwd=folder, stdin=subprocess.PIPE, stdout=subprocess.DEVNULL)
+                    time.sleep(0.2)
                 if run(program, folder, "tariffs", "")[0] == 6:
                     break
                 time.sleep(0.05)
-            for words in COMMANDS:
-                refused(program, folder, "in use", words, IN_USE)
+            for command in COMMANDS:
+                refused(program, folder, "in use", command, IN_USE)
         finally:
             other.kill()
             other.wait()
