@@ -2,7 +2,8 @@
 //! version 1 and of other hands, odd rows and pages, and calls that are refused.
 //!
 //! It prints a line for each row, which was worked out apart from this code. It makes its files where it runs, but for
-//! `theirs.db`: sqlite3 3.40.1 made it from `theirs.sql`.
+//! `theirs.db`, which sqlite3 3.40.1 made from `theirs.sql`, and `example.db`, which `toll_office` made of a history, a
+//! tariff and the example day.
 #![tactic(auto)]
 
 mod answers;
@@ -112,6 +113,7 @@ fn closed_file(rt: HostRuntime) -> anyhow::Result<()> {
 fn main(rt: HostRuntime) -> anyhow::Result<()> {
     files_and_memory(rt)?;
     make_all(rt, &CHANGED)?;
+    show(rt, "example.db")?;
     refusals(rt)?;
     odd_files(rt)?;
     closed_file(rt)
