@@ -1,179 +1,89 @@
--- Amounts in a map, in the order in which they are kept.
-use Rattle.std.proofs.Common.{◌≡◌, ℕ, ◌==◌, ◌&&◌, ◌||◌, nat_lt, Bool, true, false, cond, List, [], ◌∷◌, ◌++◌, map, Some}
-use Rattle.std.proofs.Common.{None, refl, sym, ap, subst, ◌∙◌}
+-- Amounts in a list and in a map, in the order in which they are kept.
+use Rattle.std.proofs.Common.{◌≡◌, ℕ, ◌||◌, nat_lt, true, false, cond, List, [], ◌∷◌, ◌++◌, map, Some, None}
+use Rattle.std.proofs.Common.{refl, sym, ap, subst, ◌∙◌}
 use Rattle.std.specs.Prelude.{is_some}
-use Rattle.std.specs.List.{AllByRecursion, filter, fold, list_any}
+use Rattle.std.specs.List.{AllByRecursion, filter, list_any}
 use Rattle.std.specs.List.Sorted.{IsStrictlySortedBy}
 use Rattle.std.specs.Map.{lookup, keys_of}
 use Rattle.std.specs.BTreeMap.{is_at, insert_entry}
 use Rattle.std.specs.declared.cmp.Ordering.{Ordering}
 use Rattle.std.specs.declared.cmp.Ordering.TheVariants.{Less, Equal, Greater}
-use Rattle.std.specs.Ordering.{nat_cmp, ordering_then, ordering_reverse, match_ordering, is_eq}
-use Rattle.std.specs.FinMap.{nat_cmp-IsAntisymmetric}
-use Rattle.std.proofs.lemmas.Bool.{cond_both, cond-true, cond-false}
+use Rattle.std.specs.Ordering.{match_ordering, is_eq}
+use Rattle.std.proofs.lemmas.Bool.{cond-true, cond-false}
 use Rattle.std.proofs.lemmas.List.Sums.{fold-append}
 use Rattle.std.proofs.lemmas.List.Folds.{list_any-append}
-use Rattle.std.proofs.lemmas.List.Elements.{filter-append}
 use Rattle.road_time.specs.declared.day.SpentRow.{SpentRow}
 use Rattle.road_time.proofs.EachLaws as each
 use Rattle.road_time.specs.History.{is_row}
 use Rattle.keep_office.specs.Office.{row_cmp, RowsRise}
-use Rattle.keep_office.specs.PastReads.{with_row, past_kept}
-use Rattle.keep_office.proofs.RowOrder.{row_total, not_row, less_apart, greater_apart, then_parts}
-use Rattle.keep_office.proofs.ListFacts.{self_same}
+use Rattle.keep_office.specs.PastReads.{with_row}
+use Rattle.keep_office.proofs.RowOrder.{less_apart, greater_apart}
+use Rattle.keep_office.proofs.ListFacts.{rise_joined, rise_none, rise_one}
 use Rattle.day_past.specs.declared.amounts.Key.{Key}
 use Rattle.day_past.specs.declared.amounts.Amounts.{Amounts}
-use Rattle.day_past.specs.Rows.{amount_of, IsPastRow, HasRows, TakesAmount}
+use Rattle.day_past.specs.Rows.{amount_of, rows_in, IsPastRow, HasRows, TakesAmount}
+use Rattle.day_past.proofs.RisingLaws.{tied, apart, some_none, not_some, or_end, any_with, all_with, filter_with}
+use Rattle.day_past.proofs.RisingLaws.{kept_push, stands_last, none_behind}
 
--- rows that tie are of one day, vehicle and expressway
-tied : (r s : SpentRow) → row_cmp r s ≡ Equal → is_row r.day r.vid r.xway s ≡ true
-tied r s e =
-    let a = then_parts (nat_cmp r.day s.day) (ordering_then (nat_cmp r.vid s.vid) (nat_cmp r.xway s.xway)) e in
-    let b = then_parts (nat_cmp r.vid s.vid) (nat_cmp r.xway s.xway) a.1 in
-    rw (
-      nat_cmp-IsAntisymmetric r.day s.day a.0,
-      nat_cmp-IsAntisymmetric r.vid s.vid b.0,
-      nat_cmp-IsAntisymmetric r.xway
-          s.xway b.1,
+-- where the amounts stand
+pub in_list : (a : Amounts) → a.is_rising ≡ true → rows_in a ≡ a.rising.items
+in_list a e = cond-true a.is_rising _ _ e
+
+pub in_map : (a : Amounts) → a.is_rising ≡ false → rows_in a ≡ map amount_of a.by_key.entries
+in_map a e = cond-false a.is_rising _ _ e
+
+-- no amount was taken
+pub nothing : (a : Amounts) (base : ℕ) → rows_in a ≡ [] → HasRows a base []
+nothing a base e = record {
+  rise = subst RowsRise (sym e) (rise_none row_cmp);
+  entries = e;
+  same = λ day vid xway. ap (list_any (is_row day vid xway)) e;
+  kept = ap (filter (λ (r : SpentRow). nat_lt 0 r.tolls)) e;
+  valid = subst (AllByRecursion (IsPastRow base)) (sym e) tt;
+}
+
+-- a new amount is taken
+pub taken_more : (a b : Amounts) (base : ℕ) (rows : List SpentRow) (r : SpentRow) →
+    rows_in b ≡ with_row (rows_in a) r → list_any (is_row r.day r.vid r.xway) (rows_in a) ≡ false →
+    RowsRise (rows_in b) → IsPastRow base r → HasRows a base rows → TakesAmount true b base rows r
+taken_more a b base rows r more none rise valid h =
+    let pos = λ (s : SpentRow). nat_lt 0 s.tolls in (
+      sym (h.same r.day r.vid r.xway) ∙ none,
+      record {
+        rise = rise;
+        entries = more ∙ ap (λ xs. with_row xs r) h.entries ∙ sym (fold-append with_row [] rows (r ∷ []));
+        same = λ day vid xway. (
+            let p = is_row day vid xway in
+            ap (list_any p) more ∙ any_with p (rows_in a) r ∙ ap (λ c. p r || c) (h.same day vid xway)
+            ∙ or_end (p r) (list_any p rows) ∙ sym (list_any-append p rows (r ∷ [])));
+        kept = ap (filter pos) more ∙ filter_with pos (rows_in a) r h.rise none
+            ∙ ap (λ xs. cond (pos r) (with_row xs r) xs) h.kept ∙ sym (kept_push rows r);
+        valid = subst (AllByRecursion (IsPastRow base)) (sym more)
+            (all_with (IsPastRow base) (rows_in a) r h.valid valid);
+      },
     )
-    (ap (λ c. c && (s.vid == s.vid && s.xway == s.xway)) (self_same s.day)
-    ∙ ap (λ c. c && s.xway == s.xway) (self_same s.vid) ∙ self_same s.xway)
 
--- rows that do not tie are not
-apart : (r s : SpentRow) → (row_cmp r s ≡ Equal → ⊥) → is_row r.day r.vid r.xway s ≡ false
-apart r s no_tie = not_row r.day r.vid r.xway s (λ e. no_tie (row_total.antisymm r s ∙ ap ordering_reverse e))
+-- rows in order with one behind them are in order
+pub rise_behind : (xs : List SpentRow) (r : SpentRow) → RowsRise xs → AllByRecursion (λ s. row_cmp s r ≡ Less) xs →
+    RowsRise (xs ++ r ∷ [])
+rise_behind xs r rise behind =
+    rise_joined row_cmp xs (r ∷ []) rise (rise_one row_cmp r)
+    (each.weakened (λ s. row_cmp s r ≡ Less) (λ s. AllByRecursion (λ y. row_cmp s y ≡ Less) (r ∷ []))
+    (λ s less. (less, tt)) xs behind)
 
-some_none : (x : ℕ) → Some x ≡ None → ⊥
-some_none x e = cc
-
-or_swap : (a b c : Bool) → (a || (b || c)) ≡ (b || (a || c))
-or_swap true true c = refl
-or_swap true false c = refl
-or_swap false b c = refl
-
-or_end : (a b : Bool) → (a || b) ≡ (b || (a || false))
-or_end true true = refl
-or_end true false = refl
-or_end false true = refl
-or_end false false = refl
-
--- whether some row passes, with a row more
-pub any_with : (p : SpentRow → Bool) (xs : List SpentRow) (r : SpentRow) →
-    list_any p (with_row xs r) ≡ (p r || list_any p xs)
-any_with p [] r = refl
-any_with p (s ∷ ss) r = by_order (row_cmp r s) refl (any_with p ss r)
-  where
-    by_order : (o : Ordering) → row_cmp r s ≡ o → list_any p (with_row ss r) ≡ (p r || list_any p ss) →
-        list_any p (with_row (s ∷ ss) r) ≡ (p r || (p s || list_any p ss))
-    by_order Less e rest = ap (λ o. list_any p (match_ordering o (r ∷ s ∷ ss) (r ∷ s ∷ ss) (s ∷ with_row ss r))) e
-    by_order Equal e rest = ap (λ o. list_any p (match_ordering o (r ∷ s ∷ ss) (r ∷ s ∷ ss) (s ∷ with_row ss r))) e
-    by_order Greater e rest =
-        ap (λ o. list_any p (match_ordering o (r ∷ s ∷ ss) (r ∷ s ∷ ss) (s ∷ with_row ss r))) e
-        ∙ ap (λ b. p s || b) rest ∙ or_swap (p s) (p r) (list_any p ss)
-
--- what holds of each row, with a row more
-pub all_with : (P : SpentRow → Type 0) (xs : List SpentRow) (r : SpentRow) → AllByRecursion P xs → P r →
-    AllByRecursion P (with_row xs r)
-all_with P [] r h g = (g, tt)
-all_with P (s ∷ ss) r h g = by_order (row_cmp r s) refl (all_with P ss r h.1 g)
-  where
-    by_order : (o : Ordering) → row_cmp r s ≡ o → AllByRecursion P (with_row ss r) →
-        AllByRecursion P (with_row (s ∷ ss) r)
-    by_order Less e rest =
-        subst (λ o. AllByRecursion P (match_ordering o (r ∷ s ∷ ss) (r ∷ s ∷ ss) (s ∷ with_row ss r))) (sym e) (g, h)
-    by_order Equal e rest =
-        subst (λ o. AllByRecursion P (match_ordering o (r ∷ s ∷ ss) (r ∷ s ∷ ss) (s ∷ with_row ss r))) (sym e) (g, h)
-    by_order Greater e rest =
-        subst (λ o. AllByRecursion P (match_ordering o (r ∷ s ∷ ss) (r ∷ s ∷ ss) (s ∷ with_row ss r))) (sym e)
-        (h.0, rest)
-
--- a row below all stands first
-front : (ys : List SpentRow) (r : SpentRow) → AllByRecursion (λ y. row_cmp r y ≡ Less) ys → with_row ys r ≡ r ∷ ys
-front [] r h = refl
-front (y ∷ ys) r h = ap (λ o. match_ordering o (r ∷ y ∷ ys) (r ∷ y ∷ ys) (y ∷ with_row ys r)) h.0
-
-or_parts : (a b : Bool) → (a || b) ≡ false → (a ≡ false) × (b ≡ false)
-or_parts true b e = let bad : ⊥ = cc in absurd bad
-or_parts false b e = (refl, e)
-
-true_false : (b : Bool) → b ≡ true → b ≡ false → ⊥
-true_false b e f = cc
-
--- those of a list that pass, where the first passes or not
-filter_head : (p : SpentRow → Bool) (s : SpentRow) (ss : List SpentRow) (b : Bool) → p s ≡ b →
-    filter p (s ∷ ss) ≡ cond b (s ∷ filter p ss) (filter p ss)
-filter_head p s ss b e = ap (λ c. cond c (s ∷ filter p ss) (filter p ss)) e
-
--- a row that passes comes behind one that it is above, and one that does not is left out
-filter_above : (p : SpentRow → Bool) (s : SpentRow) (ss : List SpentRow) (r : SpentRow) (b c : Bool) → p s ≡ b →
-    p r ≡ c → row_cmp r s ≡ Greater
-    → filter p (with_row ss r) ≡ cond (p r) (with_row (filter p ss) r) (filter p ss) →
-    filter p (s ∷ with_row ss r) ≡ cond (p r) (with_row (filter p (s ∷ ss)) r) (filter p (s ∷ ss))
-filter_above p s ss r true true f g e rest =
-    filter_head p s (with_row ss r) true f ∙ ap (λ xs. s ∷ xs) (rest ∙ cond-true _ _ _ g)
-    ∙ sym (cond-true _ _ _ g ∙ ap (λ xs. with_row xs r) (filter_head p s ss true f)
-    ∙ ap (λ o. match_ordering o (r ∷ s ∷ filter p ss) (r ∷ s ∷ filter p ss) (s ∷ with_row (filter p ss) r)) e)
-filter_above p s ss r true false f g e rest =
-    filter_head p s (with_row ss r) true f ∙ ap (λ xs. s ∷ xs) (rest ∙ cond-false _ _ _ g)
-    ∙ sym (cond-false _ _ _ g ∙ filter_head p s ss true f)
-filter_above p s ss r false true f g e rest =
-    filter_head p s (with_row ss r) false f ∙ rest ∙ cond-true _ _ _ g
-    ∙ sym (cond-true _ _ _ g ∙ ap (λ xs. with_row xs r) (filter_head p s ss false f))
-filter_above p s ss r false false f g e rest =
-    filter_head p s (with_row ss r) false f ∙ rest ∙ cond-false _ _ _ g
-    ∙ sym (cond-false _ _ _ g ∙ filter_head p s ss false f)
-
--- a row below all that pass stands first, or is left out
-filter_below : (p : SpentRow → Bool) (xs : List SpentRow) (r : SpentRow) → AllByRecursion (λ y. row_cmp r y ≡ Less) xs →
-    filter p (r ∷ xs) ≡ cond (p r) (with_row (filter p xs) r) (filter p xs)
-filter_below p xs r h =
-    ap (λ zs. cond (p r) zs (filter p xs)) (sym (front (filter p xs) r (each.kept (λ y. row_cmp r y ≡ Less) p xs h)))
-
-filter_at : (p : SpentRow → Bool) (s : SpentRow) (ss : List SpentRow) (r : SpentRow) →
-    AllByRecursion (λ y. row_cmp s y ≡ Less) ss → is_row r.day r.vid r.xway s ≡ false → (o : Ordering) → row_cmp r s ≡ o
-    → filter p (with_row ss r) ≡ cond (p r) (with_row (filter p ss) r) (filter p ss) →
-    filter p (with_row (s ∷ ss) r) ≡ cond (p r) (with_row (filter p (s ∷ ss)) r) (filter p (s ∷ ss))
-filter_at p s ss r above off Less e rest =
-    ap (λ o. filter p (match_ordering o (r ∷ s ∷ ss) (r ∷ s ∷ ss) (s ∷ with_row ss r))) e
-    ∙ filter_below p (s ∷ ss) r (
-      e,
-      each.weakened (λ y. row_cmp s y ≡ Less) (λ y. row_cmp r y ≡ Less) (λ y less. row_total.trans r s y e less)
-          ss above,
-    )
-filter_at p s ss r above off Equal e rest = absurd (true_false (is_row r.day r.vid r.xway s) (tied r s e) off)
-filter_at p s ss r above off Greater e rest =
-    ap (λ o. filter p (match_ordering o (r ∷ s ∷ ss) (r ∷ s ∷ ss) (s ∷ with_row ss r))) e
-    ∙ filter_above p s ss r (p s) (p r) refl refl e rest
-
--- those that pass, with a row more
-pub filter_with : (p : SpentRow → Bool) (xs : List SpentRow) (r : SpentRow) → RowsRise xs →
-    list_any (is_row r.day r.vid r.xway) xs ≡ false →
-    filter p (with_row xs r) ≡ cond (p r) (with_row (filter p xs) r) (filter p xs)
-unfolding IsStrictlySortedBy
-filter_with p [] r rise off = refl
-filter_with p (s ∷ ss) r rise off =
-    let parts = or_parts (is_row r.day r.vid r.xway s) (list_any (is_row r.day r.vid r.xway) ss) off in
-    filter_at p s ss r rise.0 parts.0 (row_cmp r s) refl (filter_with p ss r rise.1 parts.1)
-
--- the amounts that are kept, with one more
-kept_push : (rows : List SpentRow) (r : SpentRow) →
-    past_kept (rows ++ r ∷ []) ≡ cond (nat_lt 0 r.tolls) (with_row (past_kept rows) r) (past_kept rows)
-kept_push rows r =
-    ap (fold with_row []) (filter-append (λ (s : SpentRow). nat_lt 0 s.tolls) rows (r ∷ []))
-    ∙ fold-append with_row [] (filter (λ (s : SpentRow). nat_lt 0 s.tolls) rows)
-    (cond (nat_lt 0 r.tolls) (r ∷ []) []) ∙ one (nat_lt 0 r.tolls) (past_kept rows)
-  where
-    one : (b : Bool) (xs : List SpentRow) → fold with_row xs (cond b (r ∷ []) []) ≡ cond b (with_row xs r) xs
-    one true xs = refl
-    one false xs = refl
-
--- rows in order, those of them that pass
-pub some_rise : (p : SpentRow → Bool) (xs : List SpentRow) → RowsRise xs → RowsRise (filter p xs)
-unfolding IsStrictlySortedBy
-some_rise p [] h = tt
-some_rise p (x ∷ xs) h =
-    cond_both (p x) (x ∷ filter p xs) (filter p xs) RowsRise
-    (λ _. (each.kept (λ y. row_cmp x y ≡ Less) p xs h.0, some_rise p xs h.1)) (λ _. some_rise p xs h.1)
+-- an amount behind all others is taken into the list
+pub taken_behind : (a b : Amounts) (base : ℕ) (rows : List SpentRow) (r : SpentRow) → a.is_rising ≡ true →
+    b.is_rising ≡ true → b.rising.items ≡ a.rising.items ++ r ∷ [] →
+    AllByRecursion (λ s. row_cmp s r ≡ Less) a.rising.items → IsPastRow base r → HasRows a base rows →
+    TakesAmount true b base rows r
+taken_behind a b base rows r was is e behind valid h =
+    let xs = a.rising.items in
+    let more : rows_in b ≡ with_row (rows_in a) r = in_list b is ∙ e ∙ sym (stands_last xs r behind)
+    ∙ ap (λ ys. with_row ys r) (sym (in_list a was)) in
+    let none : list_any (is_row r.day r.vid r.xway) (rows_in a) ≡ false =
+    ap (list_any (is_row r.day r.vid r.xway)) (in_list a was) ∙ none_behind xs r behind in
+    let rise = rise_behind xs r (subst RowsRise (in_list a was) h.rise) behind in
+    taken_more a b base rows r more none (subst RowsRise (sym (in_list b is ∙ e)) rise) valid h
 
 module _ (cmp : Key → Key → Ordering)
     (same : (k q : Key) (v w : ℕ) → cmp k q ≡ row_cmp (amount_of (k, v)) (amount_of (q, w))) where
@@ -238,34 +148,33 @@ module _ (cmp : Key → Key → Ordering)
   rows_rise (e ∷ es) h = (below e es h.0, rows_rise es h.1)
 
   -- where the map has a key, an amount of its vehicle, day and expressway was taken before
-  pub taken_before : (es : List (Key × ℕ)) (k : Key) (old : ℕ) (rows : List SpentRow) →
-      lookup (is_at (cmp k)) es ≡ Some old
-      → ((day vid xway : ℕ) → list_any (is_row day vid xway) (map amount_of es) ≡ list_any (is_row day vid xway) rows) →
+  pub taken_before : (a : Amounts) (base : ℕ) (rows : List SpentRow) (k : Key) (old : ℕ) → a.is_rising ≡ false →
+      lookup (is_at (cmp k)) a.by_key.entries ≡ Some old → HasRows a base rows →
       list_any (is_row k.day k.vid k.xway) rows ≡ true
-  taken_before es k old rows e h = sym (h k.day k.vid k.xway) ∙ any_found es k ∙ ap is_some e
+  taken_before a base rows k old was e h =
+      sym (h.same k.day k.vid k.xway) ∙ ap (list_any (is_row k.day k.vid k.xway)) (in_map a was)
+      ∙ any_found a.by_key.entries k ∙ ap is_some e
 
-  -- a new amount is taken
-  pub taken_new : (a b : Amounts) (base : ℕ) (rows : List SpentRow) (k : Key) (v : ℕ) →
-      lookup (is_at (cmp k)) a.by_key.entries ≡ None → b.by_key.entries ≡ insert_entry cmp a.by_key.entries k v
-      → IsStrictlySortedBy cmp (keys_of a.by_key.entries) → IsPastRow base (amount_of (k, v)) → HasRows a base rows →
-      TakesAmount true b base rows (amount_of (k, v))
-  taken_new a b base rows k v off e rise valid h =
+  -- an amount of a new key is taken into the map
+  pub taken_by_key : (a b : Amounts) (base : ℕ) (rows : List SpentRow) (k : Key) (v : ℕ) → a.is_rising ≡ false →
+      b.is_rising ≡ false → lookup (is_at (cmp k)) a.by_key.entries ≡ None →
+      b.by_key.entries ≡ insert_entry cmp a.by_key.entries k v → IsStrictlySortedBy cmp (keys_of b.by_key.entries) →
+      IsPastRow base (amount_of (k, v)) → HasRows a base rows → TakesAmount true b base rows (amount_of (k, v))
+  taken_by_key a b base rows k v was is off e rise valid h =
       let es = a.by_key.entries in
       let r = amount_of (k, v) in
-      let pos = λ (s : SpentRow). nat_lt 0 s.tolls in
-      let more : map amount_of b.by_key.entries ≡ with_row (map amount_of es) r = ap (λ xs. map amount_of xs) e
-      ∙ insert_with es k v off in
-      let none : list_any (is_row k.day k.vid k.xway) (map amount_of es) ≡ false = any_found es k ∙ ap is_some off in (
-        sym (h.same k.day k.vid k.xway) ∙ none,
-        record {
-          entries = more ∙ ap (λ xs. with_row xs r) h.entries ∙ sym (fold-append with_row [] rows (r ∷ []));
-          same = λ day vid xway. (
-              let p = is_row day vid xway in
-              ap (list_any p) more ∙ any_with p (map amount_of es) r ∙ ap (λ c. p r || c) (h.same day vid xway)
-              ∙ or_end (p r) (list_any p rows) ∙ sym (list_any-append p rows (r ∷ [])));
-          kept = ap (filter pos) more ∙ filter_with pos (map amount_of es) r (rows_rise es rise) none
-              ∙ ap (λ xs. cond (pos r) (with_row xs r) xs) h.kept ∙ sym (kept_push rows r);
-          valid = subst (AllByRecursion (IsPastRow base)) (sym more)
-              (all_with (IsPastRow base) (map amount_of es) r h.valid valid);
-        },
-      )
+      let more : rows_in b ≡ with_row (rows_in a) r = in_map b is ∙ ap (λ xs. map amount_of xs) e
+      ∙ insert_with es k v off ∙ ap (λ xs. with_row xs r) (sym (in_map a was)) in
+      let none : list_any (is_row k.day k.vid k.xway) (rows_in a) ≡ false =
+      ap (list_any (is_row k.day k.vid k.xway)) (in_map a was) ∙ any_found es k ∙ ap is_some off in
+      taken_more a b base rows r more none (subst RowsRise (sym (in_map b is)) (rows_rise b.by_key.entries rise)) valid h
+
+  -- an amount behind all others comes last in the map
+  pub insert_last : (es : List (Key × ℕ)) (k : Key) (v : ℕ) →
+      AllByRecursion (λ s. row_cmp s (amount_of (k, v)) ≡ Less) (map amount_of es) →
+      map amount_of (insert_entry cmp es k v) ≡ map amount_of es ++ amount_of (k, v) ∷ []
+  insert_last es k v h =
+      let none : list_any (is_row k.day k.vid k.xway) (map amount_of es) ≡ false =
+      none_behind (map amount_of es) (amount_of (k, v)) h in
+      insert_with es k v (not_some (lookup (is_at (cmp k)) es) (sym (any_found es k) ∙ none))
+      ∙ stands_last (map amount_of es) (amount_of (k, v)) h

@@ -1,5 +1,5 @@
 -- How a keeper was asked, call after call.
-use Rattle.std.proofs.Common.{◌≡◌, ℕ, ◌+◌, ◌≤◌, Bool, true, false, Option, Some, None, Result, Ok, Err, is_err, refl}
+use Rattle.std.proofs.Common.{◌≡◌, ℕ, ◌+◌, Bool, true, false, Some, None, Result, Ok, Err, is_err, refl}
 use Rattle.std.proofs.Common.{ap, ◌∙◌, subst, arith}
 use Rattle.keep_office.specs.declared.kept.KeepFault.{KeepFault}
 use Rattle.keep_office.specs.declared.kept.KeepFault.TheVariants as keeping

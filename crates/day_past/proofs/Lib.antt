@@ -1,6 +1,7 @@
 mod HistoryLaws
 mod AskedAmountLaws
 pub mod LineLaws
+pub mod RisingLaws
 pub mod AmountLaws
 pub mod JudgeLaws
 pub mod ReadLaws

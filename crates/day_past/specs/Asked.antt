@@ -1,5 +1,5 @@
 -- How a keeper was asked where a history was imported.
-use Rattle.std.specs.Prelude.{ℕ, ◌≡◌, ◌≤◌, ◌+◌, Bool, true, Some, None}
+use Rattle.std.specs.Prelude.{ℕ, ◌≡◌, ◌≤◌, ◌+◌, true, Some, None}
 use Rattle.day_floor.specs.Asking.{AskingPlan, PassesCalls, FailsAfter}
 use Rattle.day_past.specs.declared.outcomes.PastOutcome.{PastOutcome}
 use Rattle.day_past.specs.declared.outcomes.PastOutcome.TheVariants.{Stored, Already, Row, PastLate, OtherBase}

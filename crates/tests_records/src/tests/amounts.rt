@@ -29,8 +29,26 @@ fn amounts_above_zero(rt: HostRuntime) -> Result<(), NoMemory> {
     assert!(rt; amounts.take(&row(99, 5))?);
     assert!(rt; amounts.take(&row(31, 28))?);
     assert!(rt; amounts.take(&row(50, 0))?);
-    let kept = amounts.kept()?;
-    assert!(rt; kept.len() == 2);
+    assert!(rt; amounts.kept()?.len() == 2);
+    Ok(())
+}
+
+#[test]
+fn amounts_that_rise(rt: HostRuntime) -> Result<(), NoMemory> {
+    let mut amounts = Amounts::new(rt.alloc());
+    assert!(rt; amounts.take(&row(31, 28))?);
+    assert!(rt; amounts.take(&row(50, 0))?);
+    assert!(rt; amounts.take(&row(99, 5))?);
+    assert!(rt; amounts.kept()?.len() == 2);
+    Ok(())
+}
+
+#[test]
+fn an_amount_taken_before(rt: HostRuntime) -> Result<(), NoMemory> {
+    let mut amounts = Amounts::new(rt.alloc());
+    assert!(rt; amounts.take(&row(99, 5))?);
+    assert!(rt; amounts.take(&row(31, 28))?);
+    assert!(rt; amounts.take(&row(50, 0))?);
     assert!(rt; !amounts.take(&row(50, 3))?);
     Ok(())
 }

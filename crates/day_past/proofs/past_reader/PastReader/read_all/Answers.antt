@@ -1,4 +1,4 @@
-use Rattle.std.proofs.Common.{◌≡◌, ◌∙◌, Bool, Result, Ok, Err, true, false, subst, arith}
+use Rattle.std.proofs.Common.{◌≡◌, ◌∙◌, Bool, Result, Ok, Err, true, false, subst}
 use Rattle.std.specs.Prelude.{IfOk, ◌≤◌, None}
 use Rattle.road_io.specs.Cutter.{line_number, fault_of}
 use Rattle.day_past.specs.declared.judging.PastStop.{PastStop}
