@@ -30,7 +30,7 @@ pub none_held : {T K : Type 0} (old : Option (Kept T K)) → old ≡ None → Is
 none_held None h = tt
 none_held (Some k) h = absurd (cc)
 
-module _ {T K : Type 0} (view : K → State) (cause : K → K → Type 0) (asks : Office → Type 0) (next : Office → Office)
+module _ {T K : Type 0} (view : K → State) (cause : K → K → KeepFault → Type 0) (asks : Office → Type 0) (next : Office → Office)
     (held : Option (Kept T K)) (result : Result (Unit {0}) KeepFault) where
   -- a call was made of a keeper that is known to be fit
   pub made_of : (may : K → Type 0) (kept : K) → may kept
@@ -55,7 +55,7 @@ pub unopened_for : {A : Type 0} (knows : Cause → Type 0) (said : Option Cause)
 unopened_for knows said result cause known told = record { cause = cause; known = known; told = told }
 
 module _ {T K X P : Type 0} (found : T → Type 0) (see : X → X → Result Bool StoreError → Type 0) (view : K → State)
-    (cause : K → K → Type 0) (asks : Office → Type 0) (next : Office → Office) (held : Option (Kept T K))
+    (cause : K → K → KeepFault → Type 0) (asks : Office → Type 0) (next : Office → Office) (held : Option (Kept T K))
     (refuses : Opening P X → Cause → Type 0) (path : List ℕ) (said : Option Cause)
     (result : Result (Unit {0}) KeepFault) where
   -- a keeper that was opened is ready where none was held

@@ -43,7 +43,7 @@ IsHeld (Err NoMemory) held after = held ≡ Some after
 IsHeld (Err Failed) held after = held ≡ None
 
 -- a call was made of a keeper
-pub record IsMade {T K A : Type 0} (may : K → Type 0) (view : K → State) (cause : K → K → Type 0) (writes : Bool)
+pub record IsMade {T K A : Type 0} (may : K → Type 0) (view : K → State) (cause : K → K → KeepFault → Type 0) (writes : Bool)
     (asks : Office → Type 0) (gives : Office → A → Type 0) (next : Office → Office) (held : Option (Kept T K))
     (result : Result A KeepFault) : Type 0 where
   pub before : K
@@ -64,7 +64,7 @@ pub record IsLooked {T K A : Type 0} (may : T → Type 0) (see : T → T → Res
 -- a call that reads was made of trees or of a keeper; or nothing was held and nothing could be opened, for a cause
 abbrev pub AskedToRead : {T K A P S : Type 0} → Option (Kept T K) → Option (Kept T K) → (T → Type 0) →
     ((Office → A → Type 0) → T → T → Result A KeepFault → Type 0) → (K → Type 0) → (K → State) →
-    (K → K → Type 0) → (Office → A → Type 0) → (Opening P S → Cause → Type 0) → List ℕ → Option Cause →
+    (K → K → KeepFault → Type 0) → (Office → A → Type 0) → (Opening P S → Cause → Type 0) → List ℕ → Option Cause →
     Result A KeepFault → Type 0
 AskedToRead old held found looks opened view cause gives refuses path said result =
     IsLooked (λ t. IsReadyToRead found opened old (Trees t)) (looks gives) held result
@@ -108,7 +108,7 @@ pub record IsStored {T K X : Type 0} (found : T → Type 0) (see : X → X → R
 
 -- a call that puts was made of a store or of a keeper; or nothing could be opened, for a cause, and nothing is held
 abbrev pub IsPut : {T K X P : Type 0} → (K → Type 0) → Option (Kept T K) → (T → Type 0) →
-    (X → X → Result Bool StoreError → Type 0) → (K → State) → (K → K → Type 0) → (Office → Type 0) →
+    (X → X → Result Bool StoreError → Type 0) → (K → State) → (K → K → KeepFault → Type 0) → (Office → Type 0) →
     (Office → Office) → (Opening P X → Cause → Type 0) → List ℕ → Option Cause → Result (Unit {0}) KeepFault → Type 0
 IsPut may held found see view cause asks next refuses path said result =
     IsMade may view cause true asks (λ o u. Unit {0}) next held result
@@ -117,7 +117,7 @@ IsPut may held found see view cause asks next refuses path said result =
 -- a call that puts was made of the keeper that is held; or none was, and it was made of a store or of a keeper that was
 -- opened for the call, or none could be opened, for a cause
 abbrev pub AskedToPut : {T K X P : Type 0} → Option (Kept T K) → Option (Kept T K) → (K → Type 0) → (T → Type 0) →
-    (X → X → Result Bool StoreError → Type 0) → (K → State) → (K → K → Type 0) → (Office → Type 0) →
+    (X → X → Result Bool StoreError → Type 0) → (K → State) → (K → K → KeepFault → Type 0) → (Office → Type 0) →
     (Office → Office) → (Opening P X → Cause → Type 0) → List ℕ → Option Cause → Result (Unit {0}) KeepFault → Type 0
 AskedToPut old held opened found see view cause asks next refuses path said result =
     IsMade (IsReady opened old) view cause true asks (λ o u. Unit {0}) next held result

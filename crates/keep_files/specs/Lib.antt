@@ -6,3 +6,5 @@ pub mod Looks
 pub mod Openings
 pub mod Asked
 pub mod Anew
+pub mod Closes
+pub mod Says

@@ -2,9 +2,9 @@
 ghost use Rattle.std.specs.Prelude.{true, false, IfOk};
 ghost use Rattle.sqlite.specs.Held.{state};
 ghost use Rattle.keep_tables.specs.Steps.{FitsAny};
-ghost use Rattle.keep_writes.specs.Causes.{WasRefusedIn, WasRefusedOf};
+ghost use Rattle.keep_writes.specs.Causes.{HasCauseOf};
 ghost use Rattle.keep_puts.specs.Stores.{Stores};
-ghost use Rattle.keep_files.specs.Does.{Does};
+ghost use Rattle.keep_files.specs.Does.{Does, FailsFor};
 ghost use Rattle.keep_files.specs.Looks.{Looks};
 
 use crate::shuts::Shuts;
@@ -17,8 +17,9 @@ use sqlite_trees::store::Store;
 use std::alloc::Global;
 
 /// A call of a keeper that reads, with what it is handed. `answers` is what holds of each answer, `gives` what is
-/// answered of an office that is kept.
+/// answered of an office that is kept. `wants` is whether it may want memory of its own on a whole file.
 pub trait Reading {
+    ghost use Rattle.std.specs.Prelude.{Bool};
     ghost use Rattle.keep_office.specs.Office.{Office};
 
     type Answer;
@@ -27,10 +28,12 @@ pub trait Reading {
 
     ghost gives: { Self → Office → Self.Answer → Type 0 };
 
+    ghost wants: { Bool };
+
     /// Makes the call of a keeper on a whole file.
     fn ask<S: Steady>(self, kept: &mut ProvedKeeper<S>) -> Result<Self::Answer, KeepFault>
         ensures answers { IfOk result answers }
-        ensures does { Does (WasRefusedIn S.Store kept.old.conn kept.new.conn) false FitsAny (gives self) (λ o. o)
+        ensures does { Does (FailsFor S.Store wants kept.old.conn kept.new.conn) false FitsAny (gives self) (λ o. o)
             (state S.Store kept.old.conn) (state S.Store kept.new.conn) result };
 
     /// Makes the call of the trees of a file.
@@ -71,7 +74,7 @@ pub trait Putting {
     /// Makes the call of a keeper on a whole file.
     fn put<S: Shuts>(self, kept: &mut ProvedKeeper<S>) -> Result<(), KeepFault>
         requires { fits self }
-        ensures { Does (WasRefusedOf S.Store (writes self) kept.old.conn kept.new.conn) true (asks self)
+        ensures { Does (HasCauseOf S.Store (writes self) kept.old.conn kept.new.conn) true (asks self)
             (λ o u. Unit {0}) (next self)
             (state S.Store kept.old.conn) (state S.Store kept.new.conn) result };
 }

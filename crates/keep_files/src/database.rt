@@ -1,11 +1,13 @@
 // A database that is opened when it is first asked for.
-ghost use Rattle.std.specs.Prelude.{◌≡◌, ◌≢◌, true, Some, None, IfOk, IfErr, string_bytes};
+ghost use Rattle.std.specs.Prelude.{◌≡◌, ◌≢◌, true, Some, None, IfOk, IfErr, option_map, string_bytes};
 ghost use Rattle.sqlite.specs.Held.{state};
 ghost use Rattle.keep_office.specs.declared.kept.KeepFault.TheVariants.{NoMemory};
-ghost use Rattle.keep_writes.specs.Causes.{WasRefusedIn, WasRefusedOf};
+ghost use Rattle.keep_writes.specs.Causes.{HasCauseOf};
 ghost use Rattle.keep_puts.specs.Stores.{Stores};
 ghost use Rattle.keep_files.specs.Asked.{AskedToRead, AskedToPut, IsReadyToRead, IsMade, IsPut, HoldsFound};
 ghost use Rattle.keep_files.specs.Causes.{IsSaid};
+ghost use Rattle.keep_files.specs.Closes.{given_up};
+ghost use Rattle.keep_files.specs.Does.{FailsFor};
 ghost use Rattle.keep_files.specs.Looks.{AreFound, Looks};
 ghost use Rattle.keep_files.specs.Openings.{LacksTables, IsUnread, IsUnput};
 
@@ -29,8 +31,8 @@ use std::rt::HostRuntime;
 /// did.
 #[derive(Drop)]
 pub struct Database<S: Opens<P>, P: Pages + Drop> {
-    rt: HostRuntime,
-    path: String,
+    pub(crate) rt: HostRuntime,
+    pub(crate) path: String,
     pub(crate) kept: Option<Kept<PageTrees<P>, ProvedKeeper<S>>>,
     pub(crate) cause: Option<Cause>,
 }
@@ -50,7 +52,9 @@ impl<S: Opens<P>, P: Pages + Drop> Database<S, P> {
     }
 
     /// The pages or the connection, if it is open.
-    pub(crate) fn give_up(self) -> Option<Kept<P, Connection<S>>> {
+    pub(crate) fn give_up(self) -> Option<Kept<P, Connection<S>>>
+        ensures { result ≡ option_map given_up self.kept }
+    {
         let Database {
             rt: _,
             path: _,
@@ -70,9 +74,10 @@ impl<S: Opens<P>, P: Pages + Drop> Database<S, P> {
         ensures answers { IfOk result C.answers }
         ensures does { AskedToRead self.old.kept self.new.kept (AreFound P.Pages) (Looks P.Pages)
             (λ k. k.unmade ≢ Some NoMemory) (λ k. state S.Store k.conn)
-            (λ k l. WasRefusedIn S.Store k.conn l.conn) (C.gives call)
+            (λ k l. FailsFor S.Store C.wants k.conn l.conn) (C.gives call)
             S.Opens.refuses (string_bytes self.old.path) self.new.cause result }
         ensures said { IsSaid result self.old.cause self.new.cause }
+        ensures stays { self.new.path ≡ self.old.path }
     {
         let ready = match self.ready() {
             Ok(ready) => ready,
@@ -96,10 +101,11 @@ impl<S: Opens<P>, P: Pages + Drop> Database<S, P> {
         requires { C.fits call }
         ensures does { AskedToPut self.old.kept self.new.kept (λ k. k.unmade ≢ Some NoMemory) (AreFound P.Pages)
             (Stores S.Store (C.room call) (C.asks call) (C.next call)) (λ k. state S.Store k.conn)
-            (λ k l. WasRefusedOf S.Store (C.writes call) k.conn l.conn)
+            (λ k l. HasCauseOf S.Store (C.writes call) k.conn l.conn)
             (C.asks call) (C.next call)
             S.Opens.refuses (string_bytes self.old.path) self.new.cause result }
         ensures said { IsSaid result self.old.cause self.new.cause }
+        ensures stays { self.new.path ≡ self.old.path }
     {
         let ready = match self.ready() {
             Ok(ready) => ready,
@@ -119,9 +125,10 @@ impl<S: Opens<P>, P: Pages + Drop> Database<S, P> {
     ) -> Result<(), KeepFault>
         requires { C.fits call }
         ensures does { IsMade (λ k. k ≡ kept) (λ k. state S.Store k.conn)
-            (λ k l. WasRefusedOf S.Store (C.writes call) k.conn l.conn) true (C.asks call)
+            (λ k l. HasCauseOf S.Store (C.writes call) k.conn l.conn) true (C.asks call)
             (λ o u. Unit {0}) (C.next call) self.new.kept result }
         ensures said { IsSaid result self.old.cause self.new.cause }
+        ensures stays { self.new.path ≡ self.old.path }
     {
         let answer = call.put(&mut kept);
         self.kept = unless_failed(&answer, Kept::Whole(kept), &mut self.cause);
@@ -139,10 +146,11 @@ impl<S: Opens<P>, P: Pages + Drop> Database<S, P> {
         requires known { IfErr conn (IsUnput S.Opens.refuses (string_bytes self.old.path)) }
         ensures does { IsPut (λ k. k.unmade ≢ Some NoMemory) self.new.kept (AreFound P.Pages)
             (Stores S.Store (C.room call) (C.asks call) (C.next call)) (λ k. state S.Store k.conn)
-            (λ k l. WasRefusedOf S.Store (C.writes call) k.conn l.conn)
+            (λ k l. HasCauseOf S.Store (C.writes call) k.conn l.conn)
             (C.asks call) (C.next call)
             S.Opens.refuses (string_bytes self.old.path) self.new.cause result }
         ensures said { IsSaid result self.old.cause self.new.cause }
+        ensures stays { self.new.path ≡ self.old.path }
     {
         let conn = match conn {
             Ok(conn) => conn,
@@ -165,10 +173,11 @@ impl<S: Opens<P>, P: Pages + Drop> Database<S, P> {
         requires none { self.old.kept ≡ None }
         ensures does { IsPut (λ k. k.unmade ≢ Some NoMemory) self.new.kept (AreFound P.Pages)
             (Stores S.Store (C.room call) (C.asks call) (C.next call)) (λ k. state S.Store k.conn)
-            (λ k l. WasRefusedOf S.Store (C.writes call) k.conn l.conn)
+            (λ k l. HasCauseOf S.Store (C.writes call) k.conn l.conn)
             (C.asks call) (C.next call)
             S.Opens.refuses (string_bytes self.old.path) self.new.cause result }
         ensures said { IsSaid result self.old.cause self.new.cause }
+        ensures stays { self.new.path ≡ self.old.path }
     {
         let rt = self.rt;
         let mut store = match S::to_put(&rt, trees.give_up()) {

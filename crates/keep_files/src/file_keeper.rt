@@ -1,22 +1,26 @@
 // A keeper in a file of some disk, whose callers see nothing of the store and of the pages behind it.
-ghost use Rattle.std.specs.Prelude.{◌≡◌, ◌≢◌, Some, None, IfOk, string_bytes};
+ghost use Rattle.std.specs.Prelude.{◌≡◌, ◌≢◌, Some, None, IfOk, IfErr, IfSome, IsSomeAnd, OnOk, option_map, string_bytes};
 ghost use Rattle.sqlite.specs.Held.{state};
 ghost use Rattle.keep_office.specs.Calls.{CountsFaults};
 ghost use Rattle.keep_office.specs.declared.kept.KeepFault.TheVariants.{NoMemory as no_memory};
-ghost use Rattle.keep_writes.specs.Causes.{WasRefusedIn, WasRefusedOf};
+ghost use Rattle.keep_writes.specs.Causes.{HasCauseOf};
 ghost use Rattle.keep_puts.specs.Stores.{Stores};
 ghost use Rattle.keep_files.specs.Asked.{AskedToRead, AskedToPut};
-ghost use Rattle.keep_files.specs.Causes.{IsSaid};
+ghost use Rattle.keep_files.specs.Closes.{IsEnded, IsNotEnded, given_up};
+ghost use Rattle.keep_files.specs.Does.{FailsFor};
 ghost use Rattle.keep_files.specs.Looks.{AreFound, Looks};
+ghost use Rattle.keep_files.specs.Says.{Says};
 
 mod anew;
 
 use crate::at_path::AtPath;
 use crate::call::{Putting, Reading};
 use crate::cause::Cause;
+use crate::database::Database;
 use crate::keeper_in::KeeperIn;
 use crate::kept::Kept;
 use crate::opens::Opens;
+use crate::shutting::end;
 use keep_office::KeepFault;
 use road_time::NoMemory;
 use sqlite::{Connection, FileStore};
@@ -25,6 +29,8 @@ use sqlite_pool::Pool;
 use sqlite_trees::store::Store;
 use std::alloc::Global;
 use std::rt::HostRuntime;
+
+// `at` and `cause` make no call of `KeeperIn`: the proof of each call of it over a store of files costs half a minute.
 
 /// A keeper in a file.
 #[derive(Drop)]
@@ -39,21 +45,45 @@ impl<D: AtPath> FileKeeper<D> {
         ensures quiet { IfOk result (λ keeper. keeper.in_file.database.cause ≡ None) }
         ensures named { IfOk result (λ keeper. string_bytes keeper.in_file.database.path ≡ path.now) }
     {
-        let in_file = KeeperIn::at(alloc, rt, path)?;
+        let path = String::from_str(alloc, path)?;
+        let database = Database {
+            rt,
+            path,
+            kept: None,
+            cause: None,
+        };
+        let in_file = KeeperIn {
+            database,
+            faults: 0,
+        };
         Ok(FileKeeper { in_file })
     }
 
     /// The pages or the connection, if the database is open.
-    pub fn give_up(self) -> Option<Kept<Pool<D>, Connection<FileStore<D>>>> {
+    pub fn give_up(self) -> Option<Kept<Pool<D>, Connection<FileStore<D>>>>
+        ensures { result ≡ option_map given_up self.in_file.database.kept }
+    {
         let FileKeeper { in_file } = self;
         in_file.give_up()
+    }
+
+    /// Closes the file, if it is open: what its log has is copied into it. Where that failed, it says why.
+    pub fn end(self) -> Result<(), Cause>
+        ensures ended { OnOk result (IfSome (option_map given_up self.in_file.database.kept) IsEnded) }
+        ensures failed { IfErr result (λ cause. IsSomeAnd (option_map given_up self.in_file.database.kept)
+            (λ kept. IsNotEnded kept cause)) }
+    {
+        match self.give_up() {
+            Some(kept) => end(kept),
+            None => Ok(()),
+        }
     }
 
     /// Why the last call failed that did, none while none failed.
     pub fn cause(&self) -> Option<Cause>
         ensures { result ≡ self.now.in_file.database.cause }
     {
-        self.in_file.cause()
+        self.in_file.database.cause
     }
 
     /// Makes a call that reads, and counts it where it failed.
@@ -62,11 +92,11 @@ impl<D: AtPath> FileKeeper<D> {
         ensures does { AskedToRead self.old.in_file.database.kept self.new.in_file.database.kept
             (AreFound ⟦<Pool<D> as Pages>⟧) (Looks ⟦<Pool<D> as Pages>⟧)
             (λ k. k.unmade ≢ Some no_memory) (λ k. state ⟦<FileStore<D> as Store>⟧ k.conn)
-            (λ k l. WasRefusedIn ⟦<FileStore<D> as Store>⟧ k.conn l.conn) (C.gives call)
+            (λ k l. FailsFor ⟦<FileStore<D> as Store>⟧ C.wants k.conn l.conn) (C.gives call)
             ⟦<FileStore<D> as Opens<Pool<D>>>⟧.refuses (string_bytes self.old.in_file.database.path)
             self.new.in_file.database.cause result }
         ensures cause { CountsFaults self.old.in_file.faults self.new.in_file.faults result }
-        ensures said { IsSaid result self.old.in_file.database.cause self.new.in_file.database.cause }
+        ensures said { Says result self.old.in_file.database self.new.in_file.database }
     {
         self.in_file.read(call)
     }
@@ -78,12 +108,12 @@ impl<D: AtPath> FileKeeper<D> {
             (λ k. k.unmade ≢ Some no_memory) (AreFound ⟦<Pool<D> as Pages>⟧)
             (Stores ⟦<FileStore<D> as Store>⟧ (C.room call) (C.asks call) (C.next call))
             (λ k. state ⟦<FileStore<D> as Store>⟧ k.conn)
-            (λ k l. WasRefusedOf ⟦<FileStore<D> as Store>⟧ (C.writes call) k.conn l.conn)
+            (λ k l. HasCauseOf ⟦<FileStore<D> as Store>⟧ (C.writes call) k.conn l.conn)
             (C.asks call) (C.next call)
             ⟦<FileStore<D> as Opens<Pool<D>>>⟧.refuses (string_bytes self.old.in_file.database.path)
             self.new.in_file.database.cause result }
         ensures cause { CountsFaults self.old.in_file.faults self.new.in_file.faults result }
-        ensures said { IsSaid result self.old.in_file.database.cause self.new.in_file.database.cause }
+        ensures said { Says result self.old.in_file.database self.new.in_file.database }
     {
         self.in_file.put(call)
     }

@@ -1,5 +1,5 @@
 // The calls of a keeper in a database.
-ghost use Rattle.std.specs.Prelude.{◌≡◌, ◌≢◌, ◌≤◌, Some, None, IfOk, IfSome, string_bytes};
+ghost use Rattle.std.specs.Prelude.{◌≡◌, ◌≢◌, ◌≤◌, Some, None, IfOk, IfSome, string_bytes, true, false};
 ghost use Rattle.sqlite.specs.Held.{state};
 ghost use Rattle.road_time.specs.History.{paid};
 ghost use Rattle.road_time.specs.Rates.{IsTariff};
@@ -9,13 +9,14 @@ ghost use Rattle.keep_office.specs.Kept.{IsDayPut, IsPastPut, IsLater, HasNoDays
 ghost use Rattle.keep_office.specs.Calls.{CountsFaults, IfTold};
 ghost use Rattle.keep_office.specs.declared.kept.KeepFault.TheVariants.{NoMemory};
 ghost use Rattle.keep_tables.specs.Steps.{FitsAny};
-ghost use Rattle.keep_writes.specs.Causes.{WasRefusedIn, WasRefusedOf};
+ghost use Rattle.keep_writes.specs.Causes.{HasCauseOf};
 ghost use Rattle.keep_writes.specs.Writes.{WritesDay, WritesPast, WritesTariff};
 ghost use Rattle.keep_puts.specs.Room.{RoomForDay, RoomForPast, RoomForTariff};
 ghost use Rattle.keep_puts.specs.Stores.{Stores};
 ghost use Rattle.keep_files.specs.Asked.{AskedToRead, AskedToPut};
-ghost use Rattle.keep_files.specs.Causes.{IsSaid};
+ghost use Rattle.keep_files.specs.Does.{FailsFor};
 ghost use Rattle.keep_files.specs.Looks.{AreFound, Looks};
+ghost use Rattle.keep_files.specs.Says.{Says};
 
 use crate::keeper_in::KeeperIn;
 use crate::opens::Opens;
@@ -41,11 +42,11 @@ impl<S: Opens<P>, P: Pages + Drop> Keeper for KeeperIn<S, P> {
 
     fn last_day(&mut self) -> Result<u32, KeepFault>
         ensures cause { CountsFaults self.old.faults self.new.faults result }
-        ensures said { IsSaid result self.old.database.cause self.new.database.cause }
+        ensures said { Says result self.old.database self.new.database }
         ensures does { AskedToRead self.old.database.kept self.new.database.kept
             (AreFound P.Pages) (Looks P.Pages)
             (λ k. k.unmade ≢ Some NoMemory) (λ k. state S.Store k.conn)
-            (λ k l. WasRefusedIn S.Store k.conn l.conn)
+            (λ k l. FailsFor S.Store true k.conn l.conn)
             (λ o last. last ≡ last_day_of o)
             S.Opens.refuses (string_bytes self.old.database.path) self.new.database.cause result }
     {
@@ -54,11 +55,11 @@ impl<S: Opens<P>, P: Pages + Drop> Keeper for KeeperIn<S, P> {
 
     fn day(&mut self, day: u32) -> Result<Option<DayRecord>, KeepFault>
         ensures cause { CountsFaults self.old.faults self.new.faults result }
-        ensures said { IsSaid result self.old.database.cause self.new.database.cause }
+        ensures said { Says result self.old.database self.new.database }
         ensures does { AskedToRead self.old.database.kept self.new.database.kept
             (AreFound P.Pages) (Looks P.Pages)
             (λ k. k.unmade ≢ Some NoMemory) (λ k. state S.Store k.conn)
-            (λ k l. WasRefusedIn S.Store k.conn l.conn)
+            (λ k l. FailsFor S.Store true k.conn l.conn)
             (λ o kept. kept ≡ record_of o day)
             S.Opens.refuses (string_bytes self.old.database.path) self.new.database.cause result }
     {
@@ -68,11 +69,11 @@ impl<S: Opens<P>, P: Pages + Drop> Keeper for KeeperIn<S, P> {
     fn past(&mut self) -> Result<Option<PastRecord>, KeepFault>
         ensures based { IfOk result (λ past. IfSome past (λ p. 70 ≤ p.base)) }
         ensures cause { CountsFaults self.old.faults self.new.faults result }
-        ensures said { IsSaid result self.old.database.cause self.new.database.cause }
+        ensures said { Says result self.old.database self.new.database }
         ensures does { AskedToRead self.old.database.kept self.new.database.kept
             (AreFound P.Pages) (Looks P.Pages)
             (λ k. k.unmade ≢ Some NoMemory) (λ k. state S.Store k.conn)
-            (λ k l. WasRefusedIn S.Store k.conn l.conn)
+            (λ k l. FailsFor S.Store true k.conn l.conn)
             (λ o past. past ≡ o.past)
             S.Opens.refuses (string_bytes self.old.database.path) self.new.database.cause result }
     {
@@ -81,11 +82,11 @@ impl<S: Opens<P>, P: Pages + Drop> Keeper for KeeperIn<S, P> {
 
     fn spent(&mut self, day: u32, vid: u32, xway: u8) -> Result<u64, KeepFault>
         ensures cause { CountsFaults self.old.faults self.new.faults result }
-        ensures said { IsSaid result self.old.database.cause self.new.database.cause }
+        ensures said { Says result self.old.database self.new.database }
         ensures does { AskedToRead self.old.database.kept self.new.database.kept
             (AreFound P.Pages) (Looks P.Pages)
             (λ k. k.unmade ≢ Some NoMemory) (λ k. state S.Store k.conn)
-            (λ k l. WasRefusedIn S.Store k.conn l.conn)
+            (λ k l. FailsFor S.Store false k.conn l.conn)
             (λ o tolls. tolls ≡ paid o.rows day vid xway)
             S.Opens.refuses (string_bytes self.old.database.path) self.new.database.cause result }
     {
@@ -95,11 +96,11 @@ impl<S: Opens<P>, P: Pages + Drop> Keeper for KeeperIn<S, P> {
     fn rows(&mut self, from: u32, to: u32) -> Result<Vec<SpentRow>, KeepFault>
         ensures rise { IfOk result (λ rows. RowsRise rows.items) }
         ensures cause { CountsFaults self.old.faults self.new.faults result }
-        ensures said { IsSaid result self.old.database.cause self.new.database.cause }
+        ensures said { Says result self.old.database self.new.database }
         ensures does { AskedToRead self.old.database.kept self.new.database.kept
             (AreFound P.Pages) (Looks P.Pages)
             (λ k. k.unmade ≢ Some NoMemory) (λ k. state S.Store k.conn)
-            (λ k l. WasRefusedIn S.Store k.conn l.conn)
+            (λ k l. FailsFor S.Store true k.conn l.conn)
             (λ o rows. rows.items ≡ rows_between o from to)
             S.Opens.refuses (string_bytes self.old.database.path) self.new.database.cause result }
     {
@@ -109,11 +110,11 @@ impl<S: Opens<P>, P: Pages + Drop> Keeper for KeeperIn<S, P> {
     fn vehicle_rows(&mut self, vid: u32, from: u32, to: u32) -> Result<Vec<SpentRow>, KeepFault>
         ensures rise { IfOk result (λ rows. RowsRise rows.items) }
         ensures cause { CountsFaults self.old.faults self.new.faults result }
-        ensures said { IsSaid result self.old.database.cause self.new.database.cause }
+        ensures said { Says result self.old.database self.new.database }
         ensures does { AskedToRead self.old.database.kept self.new.database.kept
             (AreFound P.Pages) (Looks P.Pages)
             (λ k. k.unmade ≢ Some NoMemory) (λ k. state S.Store k.conn)
-            (λ k l. WasRefusedIn S.Store k.conn l.conn)
+            (λ k l. FailsFor S.Store true k.conn l.conn)
             (λ o rows. rows.items ≡ vehicle_rows_between o vid from to)
             S.Opens.refuses (string_bytes self.old.database.path) self.new.database.cause result }
     {
@@ -122,11 +123,11 @@ impl<S: Opens<P>, P: Pages + Drop> Keeper for KeeperIn<S, P> {
 
     fn tariffs(&mut self) -> Result<Tariffs, KeepFault>
         ensures cause { CountsFaults self.old.faults self.new.faults result }
-        ensures said { IsSaid result self.old.database.cause self.new.database.cause }
+        ensures said { Says result self.old.database self.new.database }
         ensures does { AskedToRead self.old.database.kept self.new.database.kept
             (AreFound P.Pages) (Looks P.Pages)
             (λ k. k.unmade ≢ Some NoMemory) (λ k. state S.Store k.conn)
-            (λ k l. WasRefusedIn S.Store k.conn l.conn)
+            (λ k l. FailsFor S.Store true k.conn l.conn)
             (λ o tariffs. tariffs ≡ o.tariffs)
             S.Opens.refuses (string_bytes self.old.database.path) self.new.database.cause result }
     {
@@ -137,12 +138,12 @@ impl<S: Opens<P>, P: Pages + Drop> Keeper for KeeperIn<S, P> {
         requires fits { IsDayPut kept.now rows.now }
         requires later { IfTold None (λ o. IsLater kept.now.day o) }
         ensures cause { CountsFaults self.old.faults self.new.faults result }
-        ensures said { IsSaid result self.old.database.cause self.new.database.cause }
+        ensures said { Says result self.old.database self.new.database }
         ensures does { AskedToPut self.old.database.kept self.new.database.kept
             (λ k. k.unmade ≢ Some NoMemory) (AreFound P.Pages)
             (Stores S.Store (RoomForDay kept.now rows.now) (IsLater kept.now.day) (with_day kept.now rows.now))
             (λ k. state S.Store k.conn)
-            (λ k l. WasRefusedOf S.Store (WritesDay kept.now rows.now) k.conn l.conn)
+            (λ k l. HasCauseOf S.Store (WritesDay kept.now rows.now) k.conn l.conn)
             (IsLater kept.now.day) (with_day kept.now rows.now)
             S.Opens.refuses (string_bytes self.old.database.path) self.new.database.cause result }
     {
@@ -153,12 +154,12 @@ impl<S: Opens<P>, P: Pages + Drop> Keeper for KeeperIn<S, P> {
         requires fits { IsPastPut kept.now rows.now }
         requires first { IfTold None HasNoDays }
         ensures cause { CountsFaults self.old.faults self.new.faults result }
-        ensures said { IsSaid result self.old.database.cause self.new.database.cause }
+        ensures said { Says result self.old.database self.new.database }
         ensures does { AskedToPut self.old.database.kept self.new.database.kept
             (λ k. k.unmade ≢ Some NoMemory) (AreFound P.Pages)
             (Stores S.Store (RoomForPast rows.now) HasNoDays (with_past kept.now rows.now))
             (λ k. state S.Store k.conn)
-            (λ k l. WasRefusedOf S.Store (WritesPast kept.now rows.now) k.conn l.conn)
+            (λ k l. HasCauseOf S.Store (WritesPast kept.now rows.now) k.conn l.conn)
             HasNoDays (with_past kept.now rows.now)
             S.Opens.refuses (string_bytes self.old.database.path) self.new.database.cause result }
     {
@@ -168,12 +169,12 @@ impl<S: Opens<P>, P: Pages + Drop> Keeper for KeeperIn<S, P> {
     fn put_tariff(&mut self, xway: u8, tariff: &Tariff) -> Result<(), KeepFault>
         requires valid { IsTariff tariff.now }
         ensures cause { CountsFaults self.old.faults self.new.faults result }
-        ensures said { IsSaid result self.old.database.cause self.new.database.cause }
+        ensures said { Says result self.old.database self.new.database }
         ensures does { AskedToPut self.old.database.kept self.new.database.kept
             (λ k. k.unmade ≢ Some NoMemory) (AreFound P.Pages)
             (Stores S.Store RoomForTariff FitsAny (with_tariff_of xway tariff.now))
             (λ k. state S.Store k.conn)
-            (λ k l. WasRefusedOf S.Store (WritesTariff xway tariff.now) k.conn l.conn)
+            (λ k l. HasCauseOf S.Store (WritesTariff xway tariff.now) k.conn l.conn)
             FitsAny (with_tariff_of xway tariff.now)
             S.Opens.refuses (string_bytes self.old.database.path) self.new.database.cause result }
     {

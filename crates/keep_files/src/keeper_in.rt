@@ -1,13 +1,15 @@
 // A keeper in a database that is opened by a path: it counts the calls that failed.
-ghost use Rattle.std.specs.Prelude.{◌≡◌, ◌≢◌, Some, None, IfOk, string_bytes};
+ghost use Rattle.std.specs.Prelude.{◌≡◌, ◌≢◌, Some, None, IfOk, option_map, string_bytes};
 ghost use Rattle.sqlite.specs.Held.{state};
 ghost use Rattle.keep_office.specs.Calls.{CountsFaults};
 ghost use Rattle.keep_office.specs.declared.kept.KeepFault.TheVariants.{NoMemory as no_memory};
-ghost use Rattle.keep_writes.specs.Causes.{WasRefusedIn, WasRefusedOf};
+ghost use Rattle.keep_writes.specs.Causes.{HasCauseOf};
 ghost use Rattle.keep_puts.specs.Stores.{Stores};
 ghost use Rattle.keep_files.specs.Asked.{AskedToRead, AskedToPut};
-ghost use Rattle.keep_files.specs.Causes.{IsSaid};
+ghost use Rattle.keep_files.specs.Closes.{given_up};
+ghost use Rattle.keep_files.specs.Does.{FailsFor};
 ghost use Rattle.keep_files.specs.Looks.{AreFound, Looks};
+ghost use Rattle.keep_files.specs.Says.{Says};
 
 mod anew;
 
@@ -27,8 +29,8 @@ use std::rt::HostRuntime;
 /// A database that counts the calls that failed.
 #[derive(Drop)]
 pub struct KeeperIn<S: Opens<P>, P: Pages + Drop> {
-    database: Database<S, P>,
-    faults: u64,
+    pub(crate) database: Database<S, P>,
+    pub(crate) faults: u64,
 }
 
 impl<S: Opens<P>, P: Pages + Drop> KeeperIn<S, P> {
@@ -46,7 +48,9 @@ impl<S: Opens<P>, P: Pages + Drop> KeeperIn<S, P> {
     }
 
     /// The pages or the connection, if the database is open.
-    pub fn give_up(self) -> Option<Kept<P, Connection<S>>> {
+    pub fn give_up(self) -> Option<Kept<P, Connection<S>>>
+        ensures { result ≡ option_map given_up self.database.kept }
+    {
         let KeeperIn {
             database,
             faults: _,
@@ -67,10 +71,10 @@ impl<S: Opens<P>, P: Pages + Drop> KeeperIn<S, P> {
         ensures does { AskedToRead self.old.database.kept self.new.database.kept
             (AreFound P.Pages) (Looks P.Pages)
             (λ k. k.unmade ≢ Some no_memory) (λ k. state S.Store k.conn)
-            (λ k l. WasRefusedIn S.Store k.conn l.conn) (C.gives call)
+            (λ k l. FailsFor S.Store C.wants k.conn l.conn) (C.gives call)
             S.Opens.refuses (string_bytes self.old.database.path) self.new.database.cause result }
         ensures cause { CountsFaults self.old.faults self.new.faults result }
-        ensures said { IsSaid result self.old.database.cause self.new.database.cause }
+        ensures said { Says result self.old.database self.new.database }
     {
         let answer = self.database.read(call);
         count(&mut self.faults, answer)
@@ -83,11 +87,11 @@ impl<S: Opens<P>, P: Pages + Drop> KeeperIn<S, P> {
             (λ k. k.unmade ≢ Some no_memory) (AreFound P.Pages)
             (Stores S.Store (C.room call) (C.asks call) (C.next call))
             (λ k. state S.Store k.conn)
-            (λ k l. WasRefusedOf S.Store (C.writes call) k.conn l.conn)
+            (λ k l. HasCauseOf S.Store (C.writes call) k.conn l.conn)
             (C.asks call) (C.next call)
             S.Opens.refuses (string_bytes self.old.database.path) self.new.database.cause result }
         ensures cause { CountsFaults self.old.faults self.new.faults result }
-        ensures said { IsSaid result self.old.database.cause self.new.database.cause }
+        ensures said { Says result self.old.database self.new.database }
     {
         let answer = self.database.put(call);
         count(&mut self.faults, answer)

@@ -1,26 +1,25 @@
 // A keeper in a SQLite file.
-ghost use Rattle.std.specs.Prelude.{◌≡◌, ◌≢◌, Some, None, IfOk, string_bytes};
+ghost use Rattle.std.specs.Prelude.{◌≡◌, ◌≢◌, Some, None, IfOk, IfErr, IfSome, IsSomeAnd, OnOk, option_map, string_bytes};
 ghost use Rattle.sqlite.specs.Held.{state};
 ghost use Rattle.keep_office.specs.Calls.{CountsFaults};
 ghost use Rattle.keep_office.specs.declared.kept.KeepFault.TheVariants.{NoMemory as no_memory};
-ghost use Rattle.keep_writes.specs.Causes.{WasRefusedIn, WasRefusedOf};
+ghost use Rattle.keep_writes.specs.Causes.{HasCauseOf};
 ghost use Rattle.keep_puts.specs.Stores.{Stores};
 ghost use Rattle.keep_files.specs.Asked.{AskedToRead, AskedToPut};
-ghost use Rattle.keep_files.specs.Causes.{IsSaid};
+ghost use Rattle.keep_files.specs.Closes.{FailsToEnd, IsEnded, IsNotEnded, given_up};
+ghost use Rattle.keep_files.specs.Does.{FailsFor};
 ghost use Rattle.keep_files.specs.Looks.{AreFound, Looks};
+ghost use Rattle.keep_files.specs.Says.{Says};
 
 mod anew;
 
 use crate::at_path::{KeptDisk, KeptPages, KeptStore};
 use crate::call::{Putting, Reading};
-use crate::cause::{Cause, cause_of, fault_of};
+use crate::cause::{Cause, fault_of};
 use crate::file_keeper::FileKeeper;
-use crate::kept::Kept;
 use crate::opens::Opens;
-use crate::page_files::shut as shut_pages;
 use keep_office::KeepFault;
 use road_time::NoMemory;
-use sqlite::Connection;
 use sqlite_pages::Pages;
 use sqlite_trees::store::Store;
 use std::alloc::Global;
@@ -57,7 +56,11 @@ impl SqliteKeeper {
 
     /// Closes the file, if it is open: what its log has is copied into it. Where that is Ok, the file alone has all
     /// that is kept, and its log has nothing.
-    pub fn close(self) -> Result<(), KeepFault> {
+    pub fn close(self) -> Result<(), KeepFault>
+        ensures ended { OnOk result (IfSome (option_map given_up self.in_file.in_file.database.kept) IsEnded) }
+        ensures failed { IfErr result (λ fault. IsSomeAnd (option_map given_up self.in_file.in_file.database.kept)
+            (λ kept. FailsToEnd kept fault)) }
+    {
         match self.end() {
             Ok(()) => Ok(()),
             Err(cause) => Err(fault_of(cause)),
@@ -65,13 +68,13 @@ impl SqliteKeeper {
     }
 
     /// The same, and says why it failed.
-    pub fn end(self) -> Result<(), Cause> {
+    pub fn end(self) -> Result<(), Cause>
+        ensures ended { OnOk result (IfSome (option_map given_up self.in_file.in_file.database.kept) IsEnded) }
+        ensures failed { IfErr result (λ cause. IsSomeAnd (option_map given_up self.in_file.in_file.database.kept)
+            (λ kept. IsNotEnded kept cause)) }
+    {
         let SqliteKeeper { in_file } = self;
-        match in_file.give_up() {
-            Some(Kept::Trees(pages)) => shut_pages(pages),
-            Some(Kept::Whole(conn)) => shut(conn),
-            None => Ok(()),
-        }
+        in_file.end()
     }
 
     /// Makes a call that reads. It and `put` alone hand calls on to the store of files, which a check takes longest at.
@@ -80,11 +83,11 @@ impl SqliteKeeper {
         ensures does { AskedToRead self.old.in_file.in_file.database.kept self.new.in_file.in_file.database.kept
             (AreFound ⟦<KeptPages as Pages>⟧) (Looks ⟦<KeptPages as Pages>⟧)
             (λ k. k.unmade ≢ Some no_memory) (λ k. state ⟦<KeptStore as Store>⟧ k.conn)
-            (λ k l. WasRefusedIn ⟦<KeptStore as Store>⟧ k.conn l.conn) (C.gives call)
+            (λ k l. FailsFor ⟦<KeptStore as Store>⟧ C.wants k.conn l.conn) (C.gives call)
             ⟦<KeptStore as Opens<KeptPages>>⟧.refuses (string_bytes self.old.in_file.in_file.database.path)
             self.new.in_file.in_file.database.cause result }
         ensures cause { CountsFaults self.old.in_file.in_file.faults self.new.in_file.in_file.faults result }
-        ensures said { IsSaid result self.old.in_file.in_file.database.cause self.new.in_file.in_file.database.cause }
+        ensures said { Says result self.old.in_file.in_file.database self.new.in_file.in_file.database }
     {
         self.in_file.read(call)
     }
@@ -96,21 +99,13 @@ impl SqliteKeeper {
             (λ k. k.unmade ≢ Some no_memory) (AreFound ⟦<KeptPages as Pages>⟧)
             (Stores ⟦<KeptStore as Store>⟧ (C.room call) (C.asks call) (C.next call))
             (λ k. state ⟦<KeptStore as Store>⟧ k.conn)
-            (λ k l. WasRefusedOf ⟦<KeptStore as Store>⟧ (C.writes call) k.conn l.conn)
+            (λ k l. HasCauseOf ⟦<KeptStore as Store>⟧ (C.writes call) k.conn l.conn)
             (C.asks call) (C.next call)
             ⟦<KeptStore as Opens<KeptPages>>⟧.refuses (string_bytes self.old.in_file.in_file.database.path)
             self.new.in_file.in_file.database.cause result }
         ensures cause { CountsFaults self.old.in_file.in_file.faults self.new.in_file.in_file.faults result }
-        ensures said { IsSaid result self.old.in_file.in_file.database.cause self.new.in_file.in_file.database.cause }
+        ensures said { Says result self.old.in_file.in_file.database self.new.in_file.in_file.database }
     {
         self.in_file.put(call)
-    }
-}
-
-/// Closes the file of a connection.
-fn shut(conn: Connection<KeptStore>) -> Result<(), Cause> {
-    match conn.close() {
-        Ok(()) => Ok(()),
-        Err(error) => Err(cause_of(error)),
     }
 }

@@ -33,6 +33,7 @@ mod page_files;
 mod puts;
 mod reads;
 mod shuts;
+mod shutting;
 mod whys;
 
 pub use at_path::{AtPath, KeptDisk, KeptPages, KeptStore};
@@ -44,10 +45,11 @@ pub use keeper_in::KeeperIn;
 pub use kept::Kept;
 pub use kept_file::{KEPT_FILE, SqliteKeeper};
 pub use opens::Opens;
-pub use page_files::{open_to_read, open_whole, shut};
+pub use page_files::{open_to_read, open_whole};
 pub use puts::{PutDay, PutPast, PutTariff};
 pub use reads::{AskedDay, AskedSpent, KeptTariffs, LastDay, Past, Rows, VehicleRows};
 pub use shuts::Shuts;
+pub use shutting::shut;
 
 /// Hands over what may move between threads.
 fn can_move<T: Send>() {}

@@ -6,7 +6,7 @@ ghost use Rattle.keep_files.specs.Looks.{AreFound, FindsTrees};
 ghost use Rattle.keep_files.specs.Openings.{AreRefused, RefusesFiles, RefusesPath};
 
 use crate::at_path::AtPath;
-use crate::cause::{Cause, cause_at_close, cause_of};
+use crate::cause::{Cause, cause_of};
 use crate::kept::Kept;
 use crate::objects::our_objects;
 use keep_trees::{PageTrees, recovered};
@@ -137,18 +137,6 @@ pub fn opened_whole<D: AtPath>(
     match D::draw(rt) {
         Ok(seed) => connected(rt, files, seed),
         Err(cause) => Err(cause),
-    }
-}
-
-/// Copies into the database file what the log has, and lets both go.
-pub fn shut<D: Disk + Drop>(mut pool: Pool<D>) -> Result<(), Cause> {
-    let before = pool.tally().refused;
-    let copied = pool.checkpoint();
-    let no_room = before < pool.tally().refused;
-    drop(pool.close());
-    match copied {
-        Ok(()) => Ok(()),
-        Err(error) => Err(cause_at_close(error, no_room)),
     }
 }
 

@@ -12,7 +12,7 @@ use std::alloc::Global;
 pub struct LastDay;
 
 impl Reading for LastDay {
-    ghost use Rattle.std.specs.Prelude.{◌≡◌};
+    ghost use Rattle.std.specs.Prelude.{◌≡◌, true};
     ghost use Rattle.keep_office.specs.Office.{last_day as last_day_of};
 
     type Answer = u32;
@@ -20,6 +20,8 @@ impl Reading for LastDay {
     ghost answers = { λ _. Unit {0} };
 
     ghost gives = { λ _ o last. last ≡ last_day_of o };
+
+    ghost wants = { true };
 
     fn ask<S: Steady>(self, kept: &mut ProvedKeeper<S>) -> Result<u32, KeepFault> {
         kept.last_day()
@@ -37,7 +39,7 @@ pub struct AskedDay {
 }
 
 impl Reading for AskedDay {
-    ghost use Rattle.std.specs.Prelude.{◌≡◌};
+    ghost use Rattle.std.specs.Prelude.{◌≡◌, true};
     ghost use Rattle.keep_office.specs.Office.{record_of};
 
     type Answer = Option<DayRecord>;
@@ -45,6 +47,8 @@ impl Reading for AskedDay {
     ghost answers = { λ _. Unit {0} };
 
     ghost gives = { λ ask o kept. kept ≡ record_of o ask.day };
+
+    ghost wants = { true };
 
     fn ask<S: Steady>(self, kept: &mut ProvedKeeper<S>) -> Result<Option<DayRecord>, KeepFault> {
         kept.day(self.day)
@@ -64,13 +68,15 @@ impl Reading for AskedDay {
 pub struct Past;
 
 impl Reading for Past {
-    ghost use Rattle.std.specs.Prelude.{◌≡◌, ◌≤◌, IfSome};
+    ghost use Rattle.std.specs.Prelude.{◌≡◌, ◌≤◌, IfSome, true};
 
     type Answer = Option<PastRecord>;
 
     ghost answers = { λ past. IfSome past (λ p. 70 ≤ p.base) };
 
     ghost gives = { λ _ o past. past ≡ o.past };
+
+    ghost wants = { true };
 
     fn ask<S: Steady>(self, kept: &mut ProvedKeeper<S>) -> Result<Option<PastRecord>, KeepFault> {
         kept.past()
@@ -94,7 +100,7 @@ pub struct AskedSpent {
 }
 
 impl Reading for AskedSpent {
-    ghost use Rattle.std.specs.Prelude.{◌≡◌};
+    ghost use Rattle.std.specs.Prelude.{◌≡◌, false};
     ghost use Rattle.road_time.specs.History.{paid};
 
     type Answer = u64;
@@ -102,6 +108,8 @@ impl Reading for AskedSpent {
     ghost answers = { λ _. Unit {0} };
 
     ghost gives = { λ ask o tolls. tolls ≡ paid o.rows ask.day ask.vid ask.xway };
+
+    ghost wants = { false };
 
     fn ask<S: Steady>(self, kept: &mut ProvedKeeper<S>) -> Result<u64, KeepFault> {
         kept.spent(self.day, self.vid, self.xway)
@@ -120,7 +128,7 @@ pub struct Rows {
 }
 
 impl Reading for Rows {
-    ghost use Rattle.std.specs.Prelude.{◌≡◌};
+    ghost use Rattle.std.specs.Prelude.{◌≡◌, true};
     ghost use Rattle.keep_office.specs.Office.{RowsRise, rows_between};
 
     type Answer = Vec<SpentRow>;
@@ -128,6 +136,8 @@ impl Reading for Rows {
     ghost answers = { λ rows. RowsRise rows.items };
 
     ghost gives = { λ ask o rows. rows.items ≡ rows_between o ask.from ask.to };
+
+    ghost wants = { true };
 
     fn ask<S: Steady>(self, kept: &mut ProvedKeeper<S>) -> Result<Vec<SpentRow>, KeepFault> {
         kept.rows(self.from, self.to)
@@ -151,7 +161,7 @@ pub struct VehicleRows {
 }
 
 impl Reading for VehicleRows {
-    ghost use Rattle.std.specs.Prelude.{◌≡◌};
+    ghost use Rattle.std.specs.Prelude.{◌≡◌, true};
     ghost use Rattle.keep_office.specs.Office.{RowsRise, vehicle_rows_between};
 
     type Answer = Vec<SpentRow>;
@@ -159,6 +169,8 @@ impl Reading for VehicleRows {
     ghost answers = { λ rows. RowsRise rows.items };
 
     ghost gives = { λ ask o rows. rows.items ≡ vehicle_rows_between o ask.vid ask.from ask.to };
+
+    ghost wants = { true };
 
     fn ask<S: Steady>(self, kept: &mut ProvedKeeper<S>) -> Result<Vec<SpentRow>, KeepFault> {
         kept.vehicle_rows(self.vid, self.from, self.to)
@@ -178,13 +190,15 @@ impl Reading for VehicleRows {
 pub struct KeptTariffs;
 
 impl Reading for KeptTariffs {
-    ghost use Rattle.std.specs.Prelude.{◌≡◌};
+    ghost use Rattle.std.specs.Prelude.{◌≡◌, true};
 
     type Answer = Tariffs;
 
     ghost answers = { λ _. Unit {0} };
 
     ghost gives = { λ _ o tariffs. tariffs ≡ o.tariffs };
+
+    ghost wants = { true };
 
     fn ask<S: Steady>(self, kept: &mut ProvedKeeper<S>) -> Result<Tariffs, KeepFault> {
         kept.tariffs()

@@ -27,6 +27,7 @@ impl<S: Opens<P>, P: Pages + Drop> Database<S, P> {
             S.Opens.refuses S.Opens.foreign
             (string_bytes self.old.path) self.new.cause result }
         ensures said { IsSaid result self.old.cause self.new.cause }
+        ensures stays { self.new.path ≡ self.old.path }
     {
         let ready = match self.ready() {
             Ok(ready) => ready,
@@ -56,6 +57,7 @@ impl<S: Opens<P>, P: Pages + Drop> Database<S, P> {
             S.Opens.refuses S.Opens.foreign
             (string_bytes self.old.path) self.new.cause result }
         ensures said { IsSaid result self.old.cause self.new.cause }
+        ensures stays { self.new.path ≡ self.old.path }
     {
         let rt = self.rt;
         let mut store = match S::to_put(&rt, trees.give_up()) {

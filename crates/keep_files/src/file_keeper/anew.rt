@@ -7,8 +7,8 @@ ghost use Rattle.keep_tables.specs.Steps.{FitsAny};
 ghost use Rattle.keep_puts.specs.Room.{RoomAnew};
 ghost use Rattle.keep_puts.specs.Stores.{Stores};
 ghost use Rattle.keep_files.specs.Anew.{AskedAnew};
-ghost use Rattle.keep_files.specs.Causes.{IsSaid};
 ghost use Rattle.keep_files.specs.Looks.{AreFound};
+ghost use Rattle.keep_files.specs.Says.{Says};
 
 use super::FileKeeper;
 use crate::at_path::AtPath;
@@ -29,7 +29,7 @@ impl<D: AtPath> FileKeeper<D> {
             ⟦<FileStore<D> as Opens<Pool<D>>>⟧.refuses ⟦<FileStore<D> as Opens<Pool<D>>>⟧.foreign
             (string_bytes self.old.in_file.database.path) self.new.in_file.database.cause result }
         ensures cause { CountsFaults self.old.in_file.faults self.new.in_file.faults result }
-        ensures said { IsSaid result self.old.in_file.database.cause self.new.in_file.database.cause }
+        ensures said { Says result self.old.in_file.database self.new.in_file.database }
     {
         self.in_file.put_anew(kept, rows)
     }

@@ -7,8 +7,8 @@ ghost use Rattle.keep_tables.specs.Steps.{FitsAny};
 ghost use Rattle.keep_puts.specs.Room.{RoomAnew};
 ghost use Rattle.keep_puts.specs.Stores.{Stores};
 ghost use Rattle.keep_files.specs.Anew.{AskedAnew};
-ghost use Rattle.keep_files.specs.Causes.{IsSaid};
 ghost use Rattle.keep_files.specs.Looks.{AreFound};
+ghost use Rattle.keep_files.specs.Says.{Says};
 
 use super::KeeperIn;
 use crate::opens::Opens;
@@ -26,7 +26,7 @@ impl<S: Opens<P>, P: Pages + Drop> KeeperIn<S, P> {
             S.Opens.refuses S.Opens.foreign
             (string_bytes self.old.database.path) self.new.database.cause result }
         ensures cause { CountsFaults self.old.faults self.new.faults result }
-        ensures said { IsSaid result self.old.database.cause self.new.database.cause }
+        ensures said { Says result self.old.database self.new.database }
     {
         let answer = self.database.put_anew(kept, rows);
         count(&mut self.faults, answer)

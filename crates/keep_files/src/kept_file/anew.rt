@@ -7,8 +7,8 @@ ghost use Rattle.keep_tables.specs.Steps.{FitsAny};
 ghost use Rattle.keep_puts.specs.Room.{RoomAnew};
 ghost use Rattle.keep_puts.specs.Stores.{Stores};
 ghost use Rattle.keep_files.specs.Anew.{AskedAnew};
-ghost use Rattle.keep_files.specs.Causes.{IsSaid};
 ghost use Rattle.keep_files.specs.Looks.{AreFound};
+ghost use Rattle.keep_files.specs.Says.{Says};
 
 use super::SqliteKeeper;
 use crate::at_path::{KeptPages, KeptStore};
@@ -22,7 +22,7 @@ impl Renews for SqliteKeeper {
     fn put_anew(&mut self, kept: &PastRecord, rows: &[SpentRow]) -> Result<(), KeepFault>
         requires fits { IsPastPut kept.now rows.now }
         ensures cause { CountsFaults self.old.in_file.in_file.faults self.new.in_file.in_file.faults result }
-        ensures said { IsSaid result self.old.in_file.in_file.database.cause self.new.in_file.in_file.database.cause }
+        ensures said { Says result self.old.in_file.in_file.database self.new.in_file.in_file.database }
         ensures does { AskedAnew self.new.in_file.in_file.database.kept (AreFound ⟦<KeptPages as Pages>⟧)
             (Stores ⟦<KeptStore as Store>⟧ (RoomAnew rows.now) FitsAny (anew kept.now rows.now))
             ⟦<KeptStore as Opens<KeptPages>>⟧.refuses ⟦<KeptStore as Opens<KeptPages>>⟧.foreign

@@ -1,8 +1,7 @@
 use Rattle.sqlite.specs.Held.{state}
 use Rattle.keep_office.specs.Kept.{IsLater, with_day}
-use Rattle.keep_writes.specs.Causes.{WasRefusedOf}
+use Rattle.keep_writes.specs.Causes.{HasCauseOf}
 use Rattle.keep_writes.specs.Writes.{WritesDay}
-use Rattle.keep_writes.proofs.CauseLaws.{failure_of}
 use Rattle.keep_database.proofs.TellLaws.{untold_fits}
 use Rattle.keep_files.proofs.DoesLaws.{put_does}
 use Rattle.keep_files.proofs.puts.PutDayPutting.put.Goals as goal
@@ -13,9 +12,8 @@ put_day-requires g c = record { fits = c.requires; later = untold_fits g.S.Stead
 pub returns : goal.returns
 returns g c =
     let writes = WritesDay c.args.self.kept.now c.args.self.rows.now in
-    put_does (WasRefusedOf g.S.Store writes c.args.kept.now.conn c.put_day.new.self.conn)
+    put_does (HasCauseOf g.S.Store writes c.args.kept.now.conn c.put_day.new.self.conn)
     (IsLater c.args.self.kept.now.day) (with_day c.args.self.kept.now c.args.self.rows.now)
     (state g.S.Store c.args.kept.now.conn) (state g.S.Store c.put_day.new.self.conn)
     c.put_day.result c.put_day.ensures.put
-    (λ clean o stands. failure_of g.S.Store writes c.args.kept.now.conn c.put_day.new.self.conn c.put_day.result
-    (c.put_day.ensures.why clean o stands)) c.put_day.ensures.crash c.put_day.ensures.open
+    c.put_day.ensures.why c.put_day.ensures.crash c.put_day.ensures.open

@@ -1,8 +1,7 @@
 use Rattle.sqlite.specs.Held.{state}
 use Rattle.keep_office.specs.Kept.{HasNoDays, with_past}
-use Rattle.keep_writes.specs.Causes.{WasRefusedOf}
+use Rattle.keep_writes.specs.Causes.{HasCauseOf}
 use Rattle.keep_writes.specs.Writes.{WritesPast}
-use Rattle.keep_writes.proofs.CauseLaws.{failure_of}
 use Rattle.keep_database.proofs.TellLaws.{untold_fits}
 use Rattle.keep_files.proofs.DoesLaws.{put_does}
 use Rattle.keep_files.proofs.puts.PutPastPutting.put.Goals as goal
@@ -13,9 +12,8 @@ put_past-requires g c = record { fits = c.requires; first = untold_fits g.S.Stea
 pub returns : goal.returns
 returns g c =
     let writes = WritesPast c.args.self.kept.now c.args.self.rows.now in
-    put_does (WasRefusedOf g.S.Store writes c.args.kept.now.conn c.put_past.new.self.conn) HasNoDays
+    put_does (HasCauseOf g.S.Store writes c.args.kept.now.conn c.put_past.new.self.conn) HasNoDays
     (with_past c.args.self.kept.now c.args.self.rows.now)
     (state g.S.Store c.args.kept.now.conn) (state g.S.Store c.put_past.new.self.conn)
     c.put_past.result c.put_past.ensures.put
-    (λ clean o stands. failure_of g.S.Store writes c.args.kept.now.conn c.put_past.new.self.conn c.put_past.result
-    (c.put_past.ensures.why clean o stands)) c.put_past.ensures.crash c.put_past.ensures.open
+    c.put_past.ensures.why c.put_past.ensures.crash c.put_past.ensures.open

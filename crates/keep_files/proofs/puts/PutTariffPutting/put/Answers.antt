@@ -1,18 +1,16 @@
 use Rattle.sqlite.specs.Held.{state}
 use Rattle.keep_office.specs.Kept.{with_tariff_of}
 use Rattle.keep_tables.specs.Steps.{FitsAny}
-use Rattle.keep_writes.specs.Causes.{WasRefusedOf}
+use Rattle.keep_writes.specs.Causes.{HasCauseOf}
 use Rattle.keep_writes.specs.Writes.{WritesTariff}
-use Rattle.keep_writes.proofs.CauseLaws.{failure_of}
 use Rattle.keep_files.proofs.DoesLaws.{put_does}
 use Rattle.keep_files.proofs.puts.PutTariffPutting.put.Goals as goal
 
 pub returns : goal.returns
 returns g c =
     let writes = WritesTariff c.args.self.xway c.args.self.tariff.now in
-    put_does (WasRefusedOf g.S.Store writes c.args.kept.now.conn c.put_tariff.new.self.conn) FitsAny
+    put_does (HasCauseOf g.S.Store writes c.args.kept.now.conn c.put_tariff.new.self.conn) FitsAny
     (with_tariff_of c.args.self.xway c.args.self.tariff.now)
     (state g.S.Store c.args.kept.now.conn) (state g.S.Store c.put_tariff.new.self.conn)
     c.put_tariff.result (λ clean here o stands fit. c.put_tariff.ensures.put clean here o stands)
-    (λ clean o stands. failure_of g.S.Store writes c.args.kept.now.conn c.put_tariff.new.self.conn c.put_tariff.result
-    (c.put_tariff.ensures.why clean o stands)) c.put_tariff.ensures.crash c.put_tariff.ensures.open
+    c.put_tariff.ensures.why c.put_tariff.ensures.crash c.put_tariff.ensures.open

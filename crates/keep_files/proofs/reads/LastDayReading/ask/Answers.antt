@@ -1,16 +1,19 @@
-use Rattle.std.proofs.Common.{ℕ}
+use Rattle.std.proofs.Common.{ℕ, true}
 use Rattle.keep_office.specs.Office.{last_day}
 use Rattle.sqlite.specs.Held.{state}
-use Rattle.keep_writes.specs.Causes.{WasRefused, WasRefusedIn}
-use Rattle.keep_files.proofs.DoesLaws.{read_does}
+use Rattle.keep_writes.specs.Causes.{WasRefused}
+use Rattle.keep_files.specs.Does.{FailsFor}
+use Rattle.keep_files.proofs.DoesLaws.{read_does, fails_own}
 use Rattle.keep_files.proofs.reads.LastDayReading.ask.Goals as goal
 
 pub returns-clause-does : goal.returns-clause-does
 returns-clause-does g c =
-    read_does (WasRefused g.S.Store) (WasRefusedIn g.S.Store c.args.kept.now.conn c.last_day.new.self.conn)
+    read_does (WasRefused g.S.Store) (FailsFor g.S.Store true c.args.kept.now.conn c.last_day.new.self.conn)
     (λ (x : ℕ). x)
     (last_day)
     (state g.S.Store c.args.kept.now.conn) (state g.S.Store c.last_day.new.self.conn)
     c.last_day.result
-    c.last_day.ensures.kept c.last_day.ensures.gives c.last_day.ensures.why c.last_day.ensures.crash
+    c.last_day.ensures.kept c.last_day.ensures.gives
+    (λ clean o stands. fails_own g.S.Store c.args.kept.now.conn c.last_day.new.self.conn c.last_day.result
+    (c.last_day.ensures.why clean o stands)) c.last_day.ensures.crash
     c.last_day.ensures.open

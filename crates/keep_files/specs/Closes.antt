@@ -1,0 +1,72 @@
+-- What the closing of a file does.
+use Rattle.std.specs.Prelude.{◌≡◌, ◌↔◌, Bool, IsTrue}
+use Rattle.sqlite_disk.specs.declared.Disk.{Ghosts}
+use Rattle.sqlite_disk.specs.declared.Files.{Files}
+use Rattle.sqlite_wal.specs.Reads.{AreClean}
+use Rattle.sqlite_pages.specs.Outcome.{IsExcused}
+use Rattle.sqlite_pages.specs.declared.error.Error.{Error as PageError}
+use Rattle.sqlite_pool.specs.declared.pool.Pool.{Pool}
+use Rattle.sqlite_pool.specs.Pool.{state, usable, ending, log_frames, HasSpilled}
+use Rattle.sqlite_store.specs.declared.store.FileStore.{FileStore}
+use Rattle.sqlite_store.specs.FileStore.{view}
+use Rattle.sqlite_trees.specs.View.{IsClean}
+use Rattle.sqlite.specs.declared.error.Error.{Error}
+use Rattle.sqlite.specs.Closing.{IsCopied}
+use Rattle.sqlite.specs.Files.{IsClosed, FailsToClose}
+use Rattle.sqlite.specs.Held.{Held}
+use Rattle.keep_office.specs.declared.kept.KeepFault.{KeepFault}
+use Rattle.keep_office.specs.declared.kept.KeepFault.TheVariants.{NoMemory}
+use Rattle.keep_trees.specs.declared.page_trees.PageTrees.{PageTrees}
+use Rattle.keep_database.specs.declared.proved.ProvedKeeper.{ProvedKeeper}
+use Rattle.keep_files.specs.declared.cause.Cause.{Cause}
+use Rattle.keep_files.specs.declared.cause.Cause.TheVariants.{Memory}
+use Rattle.keep_files.specs.declared.kept.Kept.{Kept}
+use Rattle.keep_files.specs.declared.kept.Kept.TheVariants.{Trees, Whole}
+use Rattle.keep_files.specs.Causes.{IsCauseOf, close_cause}
+
+module _ {D : Type 0} {g : Ghosts D} where
+  -- what the log of some pages had was copied into their file: they show the same, and the log has no frame
+  pub record IsEmptied (pool : Pool D g) : Type 0 where
+    pub last : Pool D g
+    pub empty : ¬ HasSpilled pool → log_frames last ≡ 0
+    pub same : IsTrue (state last).is_open → usable last ≡ usable pool
+
+  -- it was not copied, for an error of the pages that has this cause
+  pub record StaysFull (pool : Pool D g) (cause : Cause) : Type 0 where
+    pub last : Pool D g
+    pub error : PageError
+    pub no_room : Bool
+    pub excused : IsTrue (state last).is_clean → IsExcused (state pool).faults (ending last) error
+    pub names : cause ≡ close_cause error no_room
+
+  -- the files of a connection were closed, and that of the database alone has what it had committed
+  pub record IsShut (conn : Held (FileStore D g)) : Type 0 where
+    pub files : Files D
+    pub copied : AreClean g files.log files.db → IsCopied conn files
+
+  -- they were not, for an error of the database that has this cause
+  pub record StaysOpen (conn : Held (FileStore D g)) (cause : Cause) : Type 0 where
+    pub last : FileStore D g
+    pub error : Error
+    pub closed : IsClosed conn last
+    pub fails : IsClean (view last) → FailsToClose conn last error
+    pub names : IsCauseOf cause error
+
+  -- what was held of a file was closed
+  abbrev pub IsEnded : Kept (Pool D g) (Held (FileStore D g)) → Type 0
+  IsEnded (Trees pool) = IsEmptied pool
+  IsEnded (Whole conn) = IsShut conn
+
+  -- it was not, for a cause
+  abbrev pub IsNotEnded : Kept (Pool D g) (Held (FileStore D g)) → Cause → Type 0
+  IsNotEnded (Trees pool) cause = StaysFull pool cause
+  IsNotEnded (Whole conn) cause = StaysOpen conn cause
+
+  -- it was not, with want of memory or a failure as the cause is
+  abbrev pub FailsToEnd : Kept (Pool D g) (Held (FileStore D g)) → KeepFault → Type 0
+  FailsToEnd kept fault = (cause : Cause) × IsNotEnded kept cause × ((fault ≡ NoMemory) ↔ (cause ≡ Memory))
+
+-- what is given up of what is held: pages, or a connection
+abbrev pub given_up : {P S : Type 0} → Kept (PageTrees P) (ProvedKeeper S) → Kept P (Held S)
+given_up (Trees trees) = Trees trees.pages
+given_up (Whole kept) = Whole kept.conn
