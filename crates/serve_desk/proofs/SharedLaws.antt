@@ -1,19 +1,19 @@
 -- Laws of what is answered of a keeper that others may call between.
 use Rattle.std.proofs.Common.{◌≡◌, ◌≤◌, ◌+◌, ◌-◌, ◌<◌, ◌⊎◌, ◌++◌, ℕ, suc, inl, inr, List, [], Option, Some, None}
-use Rattle.std.proofs.Common.{Result, Ok, Err, IfOk, OnOk, refl, ap, subst, ◌∙◌, arith}
+use Rattle.std.proofs.Common.{Result, Ok, Err, IfOk, IfErr, OnOk, refl, ap, subst, ◌∙◌, arith}
 use Rattle.std.specs.Global.{Vec}
 use Rattle.keep_office.specs.declared.kept.DayRecord.{DayRecord}
 use Rattle.keep_office.specs.declared.kept.KeepFault.{KeepFault}
 use Rattle.keep_office.specs.declared.kept.KeepFault.TheVariants.{Failed, NoMemory}
 use Rattle.keep_office.specs.Calls.{Reads}
 use Rattle.keep_office.specs.Office.{Office, record_of, last_day}
-use Rattle.serve_desk.specs.Calls.{ReadsShared}
+use Rattle.serve_desk.specs.Calls.{ReadsShared, FailsShared}
 use Rattle.road_io.specs.Faults.{Rose}
 use Rattle.serve_requests.specs.Replies.{Reply, no_memory_reply}
 use Rattle.serve_requests.specs.declared.session_end.SessionEnd.{SessionEnd}
 use Rattle.serve_desk.specs.Answers.{Wire, AnswersReply, AnswersUnlessFailed}
 use Rattle.serve_desk.specs.Days.{first_day, as_list}
-use Rattle.serve_desk.specs.Shared.{AnswersOf, AnswersSome, AnswersListed, ListsFrom, ListsDays}
+use Rattle.serve_desk.specs.Shared.{AnswersOf, AnswersFailed, AnswersSome, AnswersListed, ListsFrom, ListsDays}
 use Rattle.serve_desk.proofs.SendLaws.{kept_is, office_is, failed_rose}
 use Rattle.serve_desk.proofs.DayLaws.{memory_still}
 
@@ -62,17 +62,69 @@ refused_of {K} {T} {P} told faults fault s answer old new end sent =
       );
     }
 
--- what is answered unless the keeper failed is one of some replies, or that it failed
-pub some_of : {T : Type 0} (reply : T → Reply) (x : T) (before now : ℕ) (old new : Wire) (end : SessionEnd) →
-    AnswersUnlessFailed (reply x) before now old.room old.written new.written end → AnswersSome reply old new end
-some_of reply x before now old new end (inl sent) = (x, inl sent.1)
-some_of reply x before now old new end (inr failed) = (x, inr failed.1)
+-- a call that was refused tells where it failed
+pub fails_of : {K T : Type 0} {P : Office → T → Type 0} (told : K → Option Office) (faults : K → ℕ)
+    (fault : KeepFault) → ReadsShared {T = T} told faults (Err fault) P → FailsShared faults fault
+fails_of {K} {T} {P} told faults fault s e =
+    (s.was, s.now, failed_rose {T = T} (faults s.was) (faults s.now) fault s.counts e)
 
--- what is answered unless the keeper failed, of whatever reply, is that it failed or want of memory
-pub refused_list : {K : Type 0} (told : K → Option Office) (before now : ℕ) (old new : Wire) (end : SessionEnd) →
-    AnswersUnlessFailed no_memory_reply before now old.room old.written new.written end → AnswersListed told old new end
-refused_list told before now old new end (inl sent) = inr (inr sent.1)
-refused_list told before now old new end (inr failed) = inr (inl failed.1)
+-- one that never fails tells that too
+pub fails_never : {K T : Type 0} (faults : K → ℕ) (r : Result T KeepFault) → (r ≡ Err Failed → ⊥) →
+    IfErr r (FailsShared faults)
+fails_never faults (Ok x) never = tt
+fails_never faults (Err Failed) never = absurd (never refl)
+fails_never faults (Err NoMemory) never = λ e. absurd (cc e)
+
+-- what is sent unless the keeper failed, whose count rose then
+unless_failed : {K : Type 0} (faults : K → ℕ) (was now : K) (reply : Reply) (old new : Wire) (end : SessionEnd) →
+    AnswersUnlessFailed reply (faults was) (faults now) old.room old.written new.written end →
+    AnswersReply reply old.room old.written new.written end ⊎ AnswersFailed faults old new end
+unless_failed faults was now reply old new end (inl sent) = inl sent.1
+unless_failed faults was now reply old new end (inr failed) = inr (was, now, failed.0, failed.1)
+
+-- where no count rose, the keeper did not fail
+unfailed : (reply : Reply) (old new : Wire) (end : SessionEnd) →
+    AnswersUnlessFailed reply 0 0 old.room old.written new.written end →
+    AnswersReply reply old.room old.written new.written end
+unfailed reply old new end (inl sent) = sent.1
+unfailed reply old new end (inr failed) = absurd (omega (arith, failed.0))
+
+-- how a call that was refused is answered, of whatever reply
+pub refused_so : {K : Type 0} (faults : K → ℕ) (fault : KeepFault) → FailsShared faults fault → (reply : Reply)
+    (old new : Wire) (end : SessionEnd) →
+    ((before now : ℕ) → (fault ≡ Failed → Rose before now) → (fault ≡ NoMemory → now ≡ before) →
+    AnswersUnlessFailed reply before now old.room old.written new.written end) →
+    AnswersReply reply old.room old.written new.written end ⊎ AnswersFailed faults old new end
+refused_so faults Failed fails reply old new end sent =
+    let (was, now, rose) = fails refl in
+    unless_failed faults was now reply old new end
+    (sent (faults was) (faults now) (λ _. rose) (λ e. absurd (cc e)))
+refused_so faults NoMemory fails reply old new end sent =
+    inl (unfailed reply old new end (sent 0 0 (λ e. absurd (cc e)) (λ _. refl)))
+
+-- so is one of the replies of its kind, or that the keeper failed
+pub some_of : {K T : Type 0} (faults : K → ℕ) (reply : T → Reply) (x : T) (fault : KeepFault) →
+    FailsShared faults fault → (old new : Wire) (end : SessionEnd) →
+    ((before now : ℕ) → (fault ≡ Failed → Rose before now) → (fault ≡ NoMemory → now ≡ before) →
+    AnswersUnlessFailed (reply x) before now old.room old.written new.written end) →
+    AnswersSome faults reply old new end
+some_of faults reply x fault fails old new end sent =
+    (x, refused_so faults fault fails (reply x) old new end sent)
+
+-- of all days it is that the keeper failed, or want of memory
+listed_so : {K : Type 0} (told : K → Option Office) (faults : K → ℕ) (old new : Wire) (end : SessionEnd) →
+    AnswersReply no_memory_reply old.room old.written new.written end ⊎ AnswersFailed faults old new end →
+    AnswersListed told faults old new end
+listed_so told faults old new end (inl sent) = inr (inr sent)
+listed_so told faults old new end (inr failed) = inr (inl failed)
+
+pub refused_list : {K : Type 0} (told : K → Option Office) (faults : K → ℕ) (fault : KeepFault) →
+    FailsShared faults fault → (old new : Wire) (end : SessionEnd) →
+    ((before now : ℕ) → (fault ≡ Failed → Rose before now) → (fault ≡ NoMemory → now ≡ before) →
+    AnswersUnlessFailed no_memory_reply before now old.room old.written new.written end) →
+    AnswersListed told faults old new end
+refused_list told faults fault fails old new end sent =
+    listed_so told faults old new end (refused_so faults fault fails no_memory_reply old new end sent)
 
 -- what was added of a day is what a state of the keeper kept of it
 pub added_of : {K : Type 0} (told : K → Option Office) (k : K) (kept : Option DayRecord) (day : ℕ)

@@ -1,7 +1,9 @@
 -- A call of a shared keeper, as a call of the keeper under the lock between two states that others may have made.
 
 use Rattle.std.specs.Prelude.{◌≡◌, ℕ, ◌≤◌, Option, Some, Result}
+use Rattle.road_io.specs.Faults.{Rose}
 use Rattle.keep_office.specs.declared.kept.KeepFault.{KeepFault}
+use Rattle.keep_office.specs.declared.kept.KeepFault.TheVariants.{Failed}
 use Rattle.keep_office.specs.Office.{Office}
 use Rattle.keep_office.specs.Calls.{Reads, SoundIfTold, CountsFaults}
 
@@ -14,6 +16,10 @@ pub record ReadsShared {K T : Type 0} (told : K → Option Office) (faults : K �
   pub reads : Reads (told was) (told now) r P
   pub sound : SoundIfTold (told now)
   pub counts : CountsFaults (faults was) (faults now) r
+
+-- where a call that was refused failed, the count of the keeper that is shared rose between two states that it had
+abbrev pub FailsShared : {K : Type 0} → (K → ℕ) → KeepFault → Type 0
+FailsShared {K} faults fault = fault ≡ Failed → (was : K) × (now : K) × Rose (faults was) (faults now)
 
 -- a put was one of the keeper that is shared: between two states that it had it did so to what it kept
 pub record PutsShared {K : Type 0} (told : K → Option Office) (faults : K → ℕ) (Did : Office → Option Office → Type 0) :

@@ -1,6 +1,7 @@
 -- What a desk answers of a keeper that others may call between.
 use Rattle.std.specs.Prelude.{◌≡◌, ◌⊎◌, ℕ, ◌+◌, ◌-◌, zero, suc, Bool, List, [], ◌++◌, Option, Some}
 use Rattle.std.specs.Io.KnownBytes.{prepend_known}
+use Rattle.road_io.specs.Faults.{Rose}
 use Rattle.road_time.specs.declared.day.Limits.{Limits}
 use Rattle.road_time.specs.declared.day.SpentRow.{SpentRow}
 use Rattle.keep_office.specs.Calls.{WhenRefused}
@@ -32,11 +33,16 @@ pub record AnswersOf {K : Type 0} (told : K → Option Office) (faults : K → �
   pub answers : (o : Office) → told was ≡ Some o → (told now ≡ Some o)
       × AnswersUnlessFailed (reply o) (faults was) (faults now) old.room old.written new.written end
 
--- whatever the keeper tells, one of these replies is sent, or exactly that the keeper failed
-abbrev pub AnswersSome : {T : Type 0} → (T → Reply) → Wire → Wire → SessionEnd → Type 0
-AnswersSome {T} reply old new end =
-    (x : T) × (AnswersReply (reply x) old.room old.written new.written end
-    ⊎ AnswersExactly keeper_reply old.room old.written new.written end)
+-- the count of the keeper rose between two of its states, and exactly that it failed is sent
+abbrev pub AnswersFailed : {K : Type 0} → (K → ℕ) → Wire → Wire → SessionEnd → Type 0
+AnswersFailed {K} faults old new end =
+    (was : K) × (now : K) × Rose (faults was) (faults now)
+    × AnswersExactly keeper_reply old.room old.written new.written end
+
+-- whatever the keeper tells, one of these replies is sent, or that the keeper failed, where its count rose
+abbrev pub AnswersSome : {K T : Type 0} → (K → ℕ) → (T → Reply) → Wire → Wire → SessionEnd → Type 0
+AnswersSome {K} {T} faults reply old new end =
+    (x : T) × (AnswersReply (reply x) old.room old.written new.written end ⊎ AnswersFailed faults old new end)
 
 -- a day was posted with a body of so many of these bytes, and its import had an outcome: that is answered behind the
 -- whole body; or the body was cut, or the link failed in it, and nothing is answered
@@ -64,13 +70,12 @@ pub record ListsDays {K : Type 0} (told : K → Option Office) (days : List DayR
   pub is_last : (o : Office) → told at_last ≡ Some o → last ≡ last_day o
   pub lists : ListsFrom told first ((last + 1) - first) days
 
--- the days that are listed are answered; or exactly that the keeper failed, or want of memory
-abbrev pub AnswersListed : {K : Type 0} → (K → Option Office) → Wire → Wire → SessionEnd → Type 0
-AnswersListed told old new end =
+-- the days that are listed are answered; or that the keeper failed, where its count rose; or want of memory
+abbrev pub AnswersListed : {K : Type 0} → (K → Option Office) → (K → ℕ) → Wire → Wire → SessionEnd → Type 0
+AnswersListed told faults old new end =
     ((days : List DayRecord) × ListsDays told days
     × AnswersReply (good (days_body days)) old.room old.written new.written end)
-    ⊎ (AnswersExactly keeper_reply old.room old.written new.written end
-    ⊎ AnswersReply no_memory_reply old.room old.written new.written end)
+    ⊎ (AnswersFailed faults old new end ⊎ AnswersReply no_memory_reply old.room old.written new.written end)
 
 -- a day is imported exactly, from an office that the keeper told in one of its states, and what is kept then it told in
 -- one too
@@ -108,19 +113,20 @@ AnswersNotices told w exact limits day count early old new end =
 abbrev pub AnswersShared : {K : Type 0} → (K → Option Office) → (K → ℕ) → WhenRefused → Bool → Limits → Asked → Wire →
     Wire → SessionEnd → Type 0
 AnswersShared told faults w exact limits (Day day) old new end =
-    AnswersOf told faults (λ o. day_reply (record_of o day)) old new end × AnswersSome day_reply old new end
+    AnswersOf told faults (λ o. day_reply (record_of o day)) old new end × AnswersSome faults day_reply old new end
     × (new.left ≡ old.left)
 AnswersShared told faults w exact limits (Spent day xway vid) old new end =
     AnswersOf told faults (λ o. spent_reply o day xway vid) old new end
-    × AnswersSome {T = ℕ} (λ n. good (spent_body n)) old new end × (new.left ≡ old.left)
+    × AnswersSome {T = ℕ} faults (λ n. good (spent_body n)) old new end × (new.left ≡ old.left)
 AnswersShared told faults w exact limits (Import day count early) old new end =
     AnswersPost count early old new end × ImportsShared told w exact limits day count early old new end
 AnswersShared told faults w exact limits (Vehicle vid from to) old new end =
     AnswersOf told faults (λ o. vehicle_reply o vid from to) old new end
-    × AnswersSome {T = List SpentRow} (λ rows. good (vehicle_body vid from to rows)) old new end
+    × AnswersSome {T = List SpentRow} faults (λ rows. good (vehicle_body vid from to rows)) old new end
     × (new.left ≡ old.left)
 AnswersShared told faults w exact limits Days old new end =
-    AnswersListed told old new end × AnswersSome {T = List DayRecord} (λ days. good (days_body days)) old new end × (new.left ≡ old.left)
+    AnswersListed told faults old new end
+    × AnswersSome {T = List DayRecord} faults (λ days. good (days_body days)) old new end × (new.left ≡ old.left)
 AnswersShared told faults w exact limits Page old new end =
     AnswersPage old.room old.written new.written end × (new.left ≡ old.left)
 AnswersShared told faults w exact limits (Answers day count early) old new end =

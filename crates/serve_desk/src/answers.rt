@@ -145,7 +145,7 @@ pub fn answer_spent<L: Link, K: Keeper>(
 pub fn answer_days<L: Link, K: Keeper>(alloc: Global, keeper: &mut K, link: &mut L) -> SessionEnd
     ensures sent { (o : Office) → K.told keeper.old ≡ Some o → AnswersUnlessFailed (days_reply o)
         (K.faults keeper.old) (K.faults keeper.new) (L.room link.old) (L.written link.old) (L.written link.new) result }
-    ensures some { AnswersSome {T = List TheDay} (λ days. good (body_of_days days))
+    ensures some { AnswersSome {T = List TheDay} K.faults (λ days. good (body_of_days days))
         (wire_of (L.left link.old) (L.plan link.old) (L.written link.old) (L.room link.old))
         (wire_of (L.left link.new) (L.plan link.new) (L.written link.new) (L.room link.new)) result }
     ensures told { (o : Office) → K.told keeper.old ≡ Some o → K.told keeper.new ≡ Some o }

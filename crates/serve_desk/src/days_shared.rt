@@ -1,5 +1,5 @@
 // All kept days of a keeper that others may call between, each looked for in a call of its own.
-ghost use Rattle.std.specs.Prelude.{◌≡◌, ◌≢◌, ◌≤◌, ◌<◌, ◌+◌, ◌-◌, ◌++◌, List, Option, Some, IfOk, OnOk};
+ghost use Rattle.std.specs.Prelude.{◌≡◌, ◌≢◌, ◌≤◌, ◌<◌, ◌+◌, ◌-◌, ◌++◌, List, Option, Some, IfOk, IfErr, OnOk};
 ghost use Rattle.road_io.specs.Faults.{Rose};
 ghost use Rattle.road_io.specs.Rooms.{Endless};
 ghost use Rattle.keep_office.specs.Calls.{CountsFaults};
@@ -8,6 +8,7 @@ ghost use Rattle.keep_office.specs.declared.kept.DayRecord.{DayRecord as TheDay}
 ghost use Rattle.serve_requests.specs.Lists.{days_body as body_of_days};
 ghost use Rattle.serve_requests.specs.declared.session_end.SessionEnd.TheVariants.{Answered, LinkFault};
 ghost use Rattle.serve_desk.specs.Answers.{good, wire_of, TellsFault};
+ghost use Rattle.serve_desk.specs.Calls.{FailsShared};
 ghost use Rattle.serve_desk.specs.Days.{first_day as first_of_past, as_list};
 ghost use Rattle.serve_desk.specs.Shared.{AnswersListed, AnswersSome, ListsDays, ListsFrom};
 
@@ -28,6 +29,7 @@ fn first_shared<'a, J: Naming, K: Keeper, R: Wait>(
 ) -> Result<u32, KeepFault>
     ensures seen { IfOk result (λ first. (k : K) × ((o : Office) → K.told k ≡ Some o → first ≡ first_of_past o.past)) }
     ensures cause { CountsFaults keeper.old.faults keeper.new.faults result }
+    ensures fails { IfErr result (FailsShared K.faults) }
 {
     match keeper.past() {
         Ok(past) => Ok(first_of(past)),
@@ -41,6 +43,7 @@ fn last_shared<'a, J: Naming, K: Keeper, R: Wait>(
 ) -> Result<u32, KeepFault>
     ensures seen { IfOk result (λ last. (k : K) × ((o : Office) → K.told k ≡ Some o → last ≡ last_day_of o)) }
     ensures cause { CountsFaults keeper.old.faults keeper.new.faults result }
+    ensures fails { IfErr result (FailsShared K.faults) }
 {
     match keeper.last_day() {
         Ok(last) => Ok(last),
@@ -57,6 +60,7 @@ fn add_shared<'a, J: Naming, K: Keeper, R: Wait>(
     ensures added { OnOk result ((k : K) × (kept : Option TheDay) × (days.new.items ≡ days.old.items ++ as_list kept)
         × ((o : Office) → K.told k ≡ Some o → kept ≡ record_of o day)) }
     ensures cause { CountsFaults keeper.old.faults keeper.new.faults result }
+    ensures fails { IfErr result (FailsShared K.faults) }
 {
     match keeper.day(day) {
         Ok(kept) => add(kept, days),
@@ -73,6 +77,7 @@ fn list_from<'a, J: Naming, K: Keeper, R: Wait>(
 ) -> Result<Vec<DayRecord>, KeepFault>
     ensures lists { IfOk result (λ days. ListsFrom K.told first ((last + 1) - first) days.items) }
     ensures cause { CountsFaults keeper.old.faults keeper.new.faults result }
+    ensures fails { IfErr result (FailsShared K.faults) }
 {
     let mut days = Vec::new(alloc);
     let mut day = u64::from(first);
@@ -94,6 +99,7 @@ fn list_to<'a, J: Naming, K: Keeper, R: Wait>(
     requires { (k : K) × ((o : Office) → K.told k ≡ Some o → last ≡ last_day_of o) }
     ensures lists { IfOk result (λ days. ListsDays K.told days.items) }
     ensures cause { CountsFaults keeper.old.faults keeper.new.faults result }
+    ensures fails { IfErr result (FailsShared K.faults) }
 {
     match first_shared(keeper) {
         Ok(first) => list_from(alloc, first, last, keeper),
@@ -108,6 +114,7 @@ fn list_shared<'a, J: Naming, K: Keeper, R: Wait>(
 ) -> Result<Vec<DayRecord>, KeepFault>
     ensures lists { IfOk result (λ days. ListsDays K.told days.items) }
     ensures cause { CountsFaults keeper.old.faults keeper.new.faults result }
+    ensures fails { IfErr result (FailsShared K.faults) }
 {
     match last_shared(keeper) {
         Ok(last) => list_to(alloc, last, keeper),
@@ -121,10 +128,10 @@ pub fn share_days<'a, L: Link, J: Naming, K: Keeper, R: Wait>(
     keeper: &mut SharedKeeper<'a, J, K, R>,
     link: &mut L,
 ) -> SessionEnd
-    ensures listed { AnswersListed K.told
+    ensures listed { AnswersListed K.told K.faults
         (wire_of (L.left link.old) (L.plan link.old) (L.written link.old) (L.room link.old))
         (wire_of (L.left link.new) (L.plan link.new) (L.written link.new) (L.room link.new)) result }
-    ensures some { AnswersSome {T = List TheDay} (λ days. good (body_of_days days))
+    ensures some { AnswersSome {T = List TheDay} K.faults (λ days. good (body_of_days days))
         (wire_of (L.left link.old) (L.plan link.old) (L.written link.old) (L.room link.old))
         (wire_of (L.left link.new) (L.plan link.new) (L.written link.new) (L.room link.new)) result }
     ensures unavailable { result ≡ Answered 503 → Rose keeper.old.faults keeper.new.faults }

@@ -30,7 +30,7 @@ pub fn share_day<'a, L: Link, J: Naming, K: Keeper, R: Wait>(
     ensures shared { AnswersOf K.told K.faults (λ o. day_reply (record_of o day))
         (wire_of (L.left link.old) (L.plan link.old) (L.written link.old) (L.room link.old))
         (wire_of (L.left link.new) (L.plan link.new) (L.written link.new) (L.room link.new)) result }
-    ensures some { AnswersSome day_reply
+    ensures some { AnswersSome K.faults day_reply
         (wire_of (L.left link.old) (L.plan link.old) (L.written link.old) (L.room link.old))
         (wire_of (L.left link.new) (L.plan link.new) (L.written link.new) (L.room link.new)) result }
     ensures unavailable { result ≡ Answered 503
@@ -62,7 +62,7 @@ pub fn share_spent<'a, L: Link, J: Naming, K: Keeper, R: Wait>(
     ensures shared { AnswersOf K.told K.faults (λ o. spent_reply o day xway vid)
         (wire_of (L.left link.old) (L.plan link.old) (L.written link.old) (L.room link.old))
         (wire_of (L.left link.new) (L.plan link.new) (L.written link.new) (L.room link.new)) result }
-    ensures some { AnswersSome {T = ℕ} (λ n. good (body_of_spent n))
+    ensures some { AnswersSome {T = ℕ} K.faults (λ n. good (body_of_spent n))
         (wire_of (L.left link.old) (L.plan link.old) (L.written link.old) (L.room link.old))
         (wire_of (L.left link.new) (L.plan link.new) (L.written link.new) (L.room link.new)) result }
     ensures unavailable { result ≡ Answered 503
@@ -94,7 +94,7 @@ pub fn share_vehicle<'a, L: Link, J: Naming, K: Keeper, R: Wait>(
     ensures shared { AnswersOf K.told K.faults (λ o. vehicle_reply o vid from to)
         (wire_of (L.left link.old) (L.plan link.old) (L.written link.old) (L.room link.old))
         (wire_of (L.left link.new) (L.plan link.new) (L.written link.new) (L.room link.new)) result }
-    ensures some { AnswersSome {T = List TheRow} (λ rows. good (body_of_vehicle vid from to rows))
+    ensures some { AnswersSome {T = List TheRow} K.faults (λ rows. good (body_of_vehicle vid from to rows))
         (wire_of (L.left link.old) (L.plan link.old) (L.written link.old) (L.room link.old))
         (wire_of (L.left link.new) (L.plan link.new) (L.written link.new) (L.room link.new)) result }
     ensures unavailable { result ≡ Answered 503

@@ -42,10 +42,13 @@ pub returns-in-Err-clause-some : goal.returns-in-Err-clause-some
 returns-in-Err-clause-some g c =
     let l = c.args.link.now in
     let n = c.send_refusal.new.link in
-    some_of {T = List DayRecord} (λ days. good (days_body days)) [] _ _
+    some_of {T = List DayRecord} g.K.Keeper.faults (λ days. good (days_body days)) [] c.in-Err.fault
+    (λ e. (
+      c.args.keeper.now,
+      c.kept_days.new.keeper,
+      failed_rose _ _ c.in-Err.fault c.in-Err.ensures.cause e,
+    ))
     (wire_of (g.L.Link.left l) (g.L.Link.plan l) (g.L.Link.written l) (g.L.Link.room l))
     (wire_of (g.L.Link.left n) (g.L.Link.plan n) (g.L.Link.written n) (g.L.Link.room n))
     c.send_refusal.result
-    (c.send_refusal.ensures.sent (good (days_body [])) _ _
-    (failed_rose _ _ c.in-Err.fault c.in-Err.ensures.cause)
-    (memory_still _ _ c.in-Err.fault c.in-Err.ensures.cause))
+    (c.send_refusal.ensures.sent (good (days_body [])))

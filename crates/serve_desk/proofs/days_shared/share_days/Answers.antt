@@ -4,8 +4,8 @@ use Rattle.serve_requests.specs.Lists.{days_body}
 use Rattle.serve_requests.specs.Replies.{no_memory_reply}
 use Rattle.serve_desk.specs.Answers.{wire_of, good}
 use Rattle.serve_desk.specs.Shared.{ListsDays}
-use Rattle.serve_desk.proofs.SendLaws.{failed_rose, not_risen}
-use Rattle.serve_desk.proofs.DayLaws.{memory_still, risen_failed}
+use Rattle.serve_desk.proofs.SendLaws.{not_risen}
+use Rattle.serve_desk.proofs.DayLaws.{risen_failed}
 use Rattle.serve_desk.proofs.SharedLaws.{some_of, refused_list}
 use Rattle.serve_desk.proofs.days_shared.share_days.Goals as goal
 
@@ -25,12 +25,10 @@ pub returns-in-Err-clause-listed : goal.returns-in-Err-clause-listed
 returns-in-Err-clause-listed g c =
     let l = c.args.link.now in
     let n = c.send_refusal.new.link in
-    refused_list g.K.Keeper.told _ _
+    refused_list g.K.Keeper.told g.K.Keeper.faults c.in-Err.fault c.in-Err.ensures.fails
     (wire_of (g.L.Link.left l) (g.L.Link.plan l) (g.L.Link.written l) (g.L.Link.room l))
     (wire_of (g.L.Link.left n) (g.L.Link.plan n) (g.L.Link.written n) (g.L.Link.room n)) c.send_refusal.result
-    (c.send_refusal.ensures.sent no_memory_reply _ _
-    (failed_rose _ _ c.in-Err.fault c.in-Err.ensures.cause)
-    (memory_still _ _ c.in-Err.fault c.in-Err.ensures.cause))
+    (c.send_refusal.ensures.sent no_memory_reply)
 
 pub returns-in-Ok-clause-failed : goal.returns-in-Ok-clause-failed
 returns-in-Ok-clause-failed g c = λ rose. not_risen _ _ (c.in-Ok.ensures.cause.still refl) rose
@@ -47,10 +45,9 @@ pub returns-in-Err-clause-some : goal.returns-in-Err-clause-some
 returns-in-Err-clause-some g c =
     let l = c.args.link.now in
     let n = c.send_refusal.new.link in
-    some_of {T = List DayRecord} (λ days. good (days_body days)) [] _ _
+    some_of {T = List DayRecord} g.K.Keeper.faults (λ days. good (days_body days)) [] c.in-Err.fault
+    c.in-Err.ensures.fails
     (wire_of (g.L.Link.left l) (g.L.Link.plan l) (g.L.Link.written l) (g.L.Link.room l))
     (wire_of (g.L.Link.left n) (g.L.Link.plan n) (g.L.Link.written n) (g.L.Link.room n))
     c.send_refusal.result
-    (c.send_refusal.ensures.sent (good (days_body [])) _ _
-    (failed_rose _ _ c.in-Err.fault c.in-Err.ensures.cause)
-    (memory_still _ _ c.in-Err.fault c.in-Err.ensures.cause))
+    (c.send_refusal.ensures.sent (good (days_body [])))

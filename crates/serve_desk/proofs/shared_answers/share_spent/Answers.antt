@@ -1,9 +1,9 @@
 use Rattle.std.proofs.Common.{◌≡◌, ℕ, inl, refl, ap, arith}
 use Rattle.serve_requests.specs.Bodies.{spent_body}
 use Rattle.serve_desk.specs.Answers.{wire_of, good, spent_reply}
-use Rattle.serve_desk.proofs.SendLaws.{failed_rose, not_risen}
-use Rattle.serve_desk.proofs.DayLaws.{memory_still, risen_failed}
-use Rattle.serve_desk.proofs.SharedLaws.{read_of, refused_of, some_of}
+use Rattle.serve_desk.proofs.SendLaws.{not_risen}
+use Rattle.serve_desk.proofs.DayLaws.{risen_failed}
+use Rattle.serve_desk.proofs.SharedLaws.{read_of, refused_of, fails_of, some_of}
 use Rattle.serve_desk.proofs.shared_answers.share_spent.Goals as goal
 
 pub returns-in-Ok-clause-shared : goal.returns-in-Ok-clause-shared
@@ -42,13 +42,12 @@ pub returns-in-Err-clause-some : goal.returns-in-Err-clause-some
 returns-in-Err-clause-some g c =
     let l = c.args.link.now in
     let n = c.send_refusal.new.link in
-    some_of {T = ℕ} (λ n. good (spent_body n)) 0 _ _
+    some_of {T = ℕ} g.K.Keeper.faults (λ n. good (spent_body n)) 0 c.in-Err.fault
+    (fails_of g.K.Keeper.told g.K.Keeper.faults c.in-Err.fault c.in-Err.ensures.shared)
     (wire_of (g.L.Link.left l) (g.L.Link.plan l) (g.L.Link.written l) (g.L.Link.room l))
     (wire_of (g.L.Link.left n) (g.L.Link.plan n) (g.L.Link.written n) (g.L.Link.room n))
     c.send_refusal.result
-    (c.send_refusal.ensures.sent (good (spent_body 0)) _ _
-    (failed_rose _ _ c.in-Err.fault c.in-Err.ensures.cause)
-    (memory_still _ _ c.in-Err.fault c.in-Err.ensures.cause))
+    (c.send_refusal.ensures.sent (good (spent_body 0)))
 
 pub returns-in-Err-clause-failed : goal.returns-in-Err-clause-failed
 returns-in-Err-clause-failed g c =

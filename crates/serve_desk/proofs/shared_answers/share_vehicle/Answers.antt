@@ -2,9 +2,9 @@ use Rattle.std.proofs.Common.{◌≡◌, ◌∙◌, List, [], inl, refl, ap, ari
 use Rattle.road_time.specs.declared.day.SpentRow.{SpentRow}
 use Rattle.serve_requests.specs.Lists.{vehicle_body}
 use Rattle.serve_desk.specs.Answers.{wire_of, good, vehicle_reply}
-use Rattle.serve_desk.proofs.SendLaws.{failed_rose, not_risen}
-use Rattle.serve_desk.proofs.DayLaws.{memory_still, risen_failed}
-use Rattle.serve_desk.proofs.SharedLaws.{read_of, refused_of, some_of}
+use Rattle.serve_desk.proofs.SendLaws.{not_risen}
+use Rattle.serve_desk.proofs.DayLaws.{risen_failed}
+use Rattle.serve_desk.proofs.SharedLaws.{read_of, refused_of, fails_of, some_of}
 use Rattle.serve_desk.proofs.shared_answers.share_vehicle.Goals as goal
 
 pub returns-in-Ok-clause-shared : goal.returns-in-Ok-clause-shared
@@ -53,13 +53,12 @@ returns-in-Err-clause-some g c =
     let vid = c.args.vid in
     let from = c.args.from in
     let to = c.args.to in
-    some_of {T = List SpentRow} (λ rows. good (vehicle_body vid from to rows)) [] _ _
+    some_of {T = List SpentRow} g.K.Keeper.faults (λ rows. good (vehicle_body vid from to rows)) [] c.in-Err.fault
+    (fails_of g.K.Keeper.told g.K.Keeper.faults c.in-Err.fault c.in-Err.ensures.shared)
     (wire_of (g.L.Link.left l) (g.L.Link.plan l) (g.L.Link.written l) (g.L.Link.room l))
     (wire_of (g.L.Link.left n) (g.L.Link.plan n) (g.L.Link.written n) (g.L.Link.room n))
     c.send_refusal.result
-    (c.send_refusal.ensures.sent (good (vehicle_body vid from to [])) _ _
-    (failed_rose _ _ c.in-Err.fault c.in-Err.ensures.cause)
-    (memory_still _ _ c.in-Err.fault c.in-Err.ensures.cause))
+    (c.send_refusal.ensures.sent (good (vehicle_body vid from to [])))
 
 pub returns-in-Err-clause-failed : goal.returns-in-Err-clause-failed
 returns-in-Err-clause-failed g c =
