@@ -25,8 +25,8 @@ pub trait Host {
         turn: &mut T,
         reader: &mut BoardReader,
     )
-        ensures attends { attends self.now reader.old reader.new (wire_by L.left L.plan L.written L.room line.old)
-            (wire_by L.left L.plan L.written L.room line.new) }
+        ensures attends { attends self.now reader.old reader.new (wire_by L.left L.plan L.written L.room L.faults line.old)
+            (wire_by L.left L.plan L.written L.room L.faults line.new) }
         ensures board { reader.new.board ≡ reader.old.board }
         ensures had { StartsWith reader.new.seen reader.old.seen };
 }

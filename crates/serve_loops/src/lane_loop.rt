@@ -25,7 +25,7 @@ impl<N: Listener> Lane<N> {
         ensures accepts { result ≡ true → N.accepted self.new.listener ≡ N.accepted self.old.listener + 1 }
         ensures refuses { result ≡ false → N.accepted self.new.listener ≡ N.accepted self.old.listener }
         ensures turns { result ≡ true
-            → TurnOf N.gives N.takes (wire_by N.Line.left N.Line.plan N.Line.written N.Line.room)
+            → TurnOf N.gives N.takes (wire_by N.Line.left N.Line.plan N.Line.written N.Line.room N.Line.faults)
             (H.attends host.now) self.old.listener self.old.reader self.new.listener self.new.reader }
         ensures stays { result ≡ false → self.new.reader ≡ self.old.reader }
         ensures failed { self.new.failed ≡ true → result ≡ false }
@@ -68,7 +68,7 @@ impl<N: Listener> Lane<N> {
         requires fresh { N.accepted self.old.listener ≡ stub.old.drawn.amount }
         ensures serves { LaneServes N.faults self.old self.new }
         ensures turned { LaneTurned N.accepted
-            (TurnOf N.gives N.takes (wire_by N.Line.left N.Line.plan N.Line.written N.Line.room)
+            (TurnOf N.gives N.takes (wire_by N.Line.left N.Line.plan N.Line.written N.Line.room N.Line.faults)
             (H.attends host.now)) self.old self.new }
         ensures served { self.new.failed ≡ false → N.accepted self.new.listener ≡ stub.new.drawn.amount }
         ensures over { self.new.failed ≡ false → 0 < stub.new.ends.amount }

@@ -31,7 +31,7 @@ fn run_lane<N: Listener, H: Host, D: Draws, E: Ledger, R: Wait>(
     requires unused { stub.drawn.amount ≡ 0 }
     requires fresh { N.accepted lane.listener ≡ 0 }
     ensures ran { LaneRan N.faults N.accepted
-        (TurnOf N.gives N.takes (wire_by N.Line.left N.Line.plan N.Line.written N.Line.room)
+        (TurnOf N.gives N.takes (wire_by N.Line.left N.Line.plan N.Line.written N.Line.room N.Line.faults)
         (H.attends host.now))
         lane result.0 result.1.drawn.amount result.1.ends.amount }
     ensures drawn { result.1.drawn.parts ≡ 1 }
@@ -95,7 +95,7 @@ fn run_beside<
     requires fresh { All (λ lane. N.accepted lane.listener ≡ 0) lanes.items }
     requires room { vec_len lanes < vec_capacity lanes }
     ensures ran { RanAll N.faults N.accepted
-        (TurnOf N.gives N.takes (wire_by N.Line.left N.Line.plan N.Line.written N.Line.room)
+        (TurnOf N.gives N.takes (wire_by N.Line.left N.Line.plan N.Line.written N.Line.room N.Line.faults)
         (H.attends host.now))
         (lanes.items ++ last ∷ []) result.0.items
         result.1.drawn.amount result.1.ends.amount }
@@ -112,7 +112,7 @@ fn run_beside<
             requires { (own.drawn.parts ≡ 1) × (own.ends.parts ≡ 1) × (own.drawn.amount ≡ 0)
                 × (N.accepted last.listener ≡ 0) }
             ensures ran { LaneRan N.faults N.accepted
-                (TurnOf N.gives N.takes (wire_by N.Line.left N.Line.plan N.Line.written N.Line.room)
+                (TurnOf N.gives N.takes (wire_by N.Line.left N.Line.plan N.Line.written N.Line.room N.Line.faults)
                 (H.attends host.entry.now))
                 last result.0 result.1.drawn.amount result.1.ends.amount }
             ensures parts { (result.1.drawn.parts ≡ 1) × (result.1.ends.parts ≡ 1) }
@@ -128,7 +128,7 @@ fn run_beside<
             requires unused { (stub.drawn.amount ≡ 0) × (stub.ends.amount ≡ 0) }
             requires fresh { All (λ lane. N.accepted lane.listener ≡ 0) lanes.items }
             ensures ran { RanAll N.faults N.accepted
-                (TurnOf N.gives N.takes (wire_by N.Line.left N.Line.plan N.Line.written N.Line.room)
+                (TurnOf N.gives N.takes (wire_by N.Line.left N.Line.plan N.Line.written N.Line.room N.Line.faults)
                 (H.attends host.entry.now))
                 lanes.items result.0.items
                 result.1.drawn.amount result.1.ends.amount }
@@ -166,7 +166,7 @@ pub fn run_all<
     requires unused { (stub.drawn.amount ≡ 0) × (stub.ends.amount ≡ 0) }
     requires fresh { All (λ lane. N.accepted lane.listener ≡ 0) lanes.items }
     ensures ran { RanAll N.faults N.accepted
-        (TurnOf N.gives N.takes (wire_by N.Line.left N.Line.plan N.Line.written N.Line.room)
+        (TurnOf N.gives N.takes (wire_by N.Line.left N.Line.plan N.Line.written N.Line.room N.Line.faults)
         (H.attends host.now))
         lanes.items result.0.items result.1.drawn.amount result.1.ends.amount }
     ensures len { vec_len result.0 ≡ vec_len lanes }

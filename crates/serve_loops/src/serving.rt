@@ -45,7 +45,7 @@ fn run_over<
     requires fresh { All (λ lane. N.accepted lane.listener ≡ 0) lanes.items }
     ensures lanes { AllZip (LaneServes N.faults) lanes.items result.items }
     ensures turns { AllZip (LaneTurned N.accepted
-        (TurnOf N.gives N.takes (wire_by N.Line.left N.Line.plan N.Line.written N.Line.room)
+        (TurnOf N.gives N.takes (wire_by N.Line.left N.Line.plan N.Line.written N.Line.room N.Line.faults)
         (H.attends host.now))) lanes.items result.items }
     ensures within { accepted_in_all N.accepted result.items ≤ sessions }
     ensures served { list_any (λ lane. lane.failed) result.items ≡ false
@@ -91,7 +91,7 @@ pub fn serve<N: Listener + Drop + Send, H: Host + Sync, R: Threads + Wait + Sync
     requires fresh { All (λ lane. N.accepted lane.listener ≡ 0) lanes.old }
     ensures lanes { AllZip (LaneServes N.faults) lanes.old lanes.new }
     ensures turns { AllZip (LaneTurned N.accepted
-        (TurnOf N.gives N.takes (wire_by N.Line.left N.Line.plan N.Line.written N.Line.room)
+        (TurnOf N.gives N.takes (wire_by N.Line.left N.Line.plan N.Line.written N.Line.room N.Line.faults)
         (H.attends host.now))) lanes.old lanes.new }
     ensures end { (result ≡ ListenFault) ↔ HasFailedLane lanes.new }
     ensures cause { result ≡ ListenFault → AnyRose N.faults lanes.old lanes.new }

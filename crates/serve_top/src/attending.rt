@@ -36,7 +36,7 @@ pub fn attend<L: TwoWay, J: Naming, K: Keeper, C: Crew, R: Wait + Threads + Drop
     requires few { plan.width ≤ 64 }
     requires within { IsLimits limits }
     ensures attends { Attends K.told K.faults K.refuses C.exact limits reader.old reader.new
-        (wire_by L.left L.plan L.written L.room line.old) (wire_by L.left L.plan L.written L.room line.new) }
+        (wire_by L.left L.plan L.written L.room L.faults line.old) (wire_by L.left L.plan L.written L.room L.faults line.new) }
     ensures board { reader.new.board ≡ reader.old.board }
     ensures had { StartsWith reader.new.seen reader.old.seen }
 {

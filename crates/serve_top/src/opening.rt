@@ -66,7 +66,7 @@ fn serve_over<
     ensures served { result.0 ≡ Served → accepted_in N.accepted result.1 ≡ sessions }
     ensures desk { ServedBy N.faults N.accepted
         (λ (desk : C.Shared). TurnOf N.gives N.takes
-        (wire_by N.Line.left N.Line.plan N.Line.written N.Line.room) (C.Shared.attends desk))
+        (wire_by N.Line.left N.Line.plan N.Line.written N.Line.room N.Line.faults) (C.Shared.attends desk))
         C.works C.bounds limits.now ears result.1 }
     ensures fault { result.0 ≡ ListenFault → has_fault N.faults result.1 ≡ true }
     ensures sound { result.0 ≡ Served → has_fault N.faults result.1 ≡ false }
@@ -115,7 +115,8 @@ fn serve_behind<
         (counts_of (D.refused door.new) (D.faults door.new) (D.accepted door.new)) result.0 }
     ensures desk { result.0 ≡ server.Served → ServedAt D.hears D.Ear.faults D.Ear.accepted
         (λ (desk : C.Shared). TurnOf D.Ear.gives D.Ear.takes
-        (wire_by D.Ear.Line.left D.Ear.Line.plan D.Ear.Line.written D.Ear.Line.room) (C.Shared.attends desk))
+        (wire_by D.Ear.Line.left D.Ear.Line.plan D.Ear.Line.written D.Ear.Line.room D.Ear.Line.faults)
+        (C.Shared.attends desk))
         C.works C.bounds limits.now serving.now }
     ensures refused { D.refused door.old ≤ D.refused door.new }
     ensures faults { D.faults door.old ≤ D.faults door.new }
@@ -171,7 +172,8 @@ pub fn serve_as<
         (counts_of (D.refused door.new) (D.faults door.new) (D.accepted door.new)) result.0 }
     ensures desk { result.0 ≡ server.Served → ServedAt D.hears D.Ear.faults D.Ear.accepted
         (λ (desk : C.Shared). TurnOf D.Ear.gives D.Ear.takes
-        (wire_by D.Ear.Line.left D.Ear.Line.plan D.Ear.Line.written D.Ear.Line.room) (C.Shared.attends desk))
+        (wire_by D.Ear.Line.left D.Ear.Line.plan D.Ear.Line.written D.Ear.Line.room D.Ear.Line.faults)
+        (C.Shared.attends desk))
         C.works C.bounds limits.now serving.now }
     ensures refused { D.refused door.old ≤ D.refused door.new }
     ensures faults { D.faults door.old ≤ D.faults door.new }

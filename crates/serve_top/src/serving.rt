@@ -47,7 +47,7 @@ pub fn serve_words<
         (counts_of (D.refused door.new) (D.faults door.new) (D.accepted door.new)) }
     ensures desk { result.0 ≡ 0 → ServedAsSaid D.hears D.Ear.faults D.Ear.accepted
         (λ (desk : C.Shared). TurnOf D.Ear.gives D.Ear.takes
-        (wire_by D.Ear.Line.left D.Ear.Line.plan D.Ear.Line.written D.Ear.Line.room) (C.Shared.attends desk))
+        (wire_by D.Ear.Line.left D.Ear.Line.plan D.Ear.Line.written D.Ear.Line.room D.Ear.Line.faults) (C.Shared.attends desk))
         C.works C.bounds limits.now (serving_meant (map string_bytes words.now)) }
     ensures words { result.0 ≡ 1 → serving_meant (map string_bytes words.now) ≡ None }
     ensures no_words { serving_meant (map string_bytes words.now) ≡ None → (result.0 ≡ 1) ⊎ (result.0 ≡ 8) }

@@ -44,7 +44,7 @@ fn serve_named<
         (counts_of (D.refused door.new) (D.faults door.new) (D.accepted door.new)) }
     ensures desk { result.0 ≡ 0 → ServedAsSaid D.hears D.Ear.faults D.Ear.accepted
         (λ (desk : Working). TurnOf D.Ear.gives D.Ear.takes
-        (wire_by D.Ear.Line.left D.Ear.Line.plan D.Ear.Line.written D.Ear.Line.room)
+        (wire_by D.Ear.Line.left D.Ear.Line.plan D.Ear.Line.written D.Ear.Line.room D.Ear.Line.faults)
         (Attends K.told K.faults K.refuses ⟦<ThreadCrew<R, NoGate> as Crew>⟧.exact desk.limits))
         (λ desk. desk.plan) (λ desk. desk.limits) limits.now (serving_meant (map string_bytes words.now)) }
     ensures words { result.0 ≡ 1 → serving_meant (map string_bytes words.now) ≡ None }
@@ -81,7 +81,7 @@ pub fn serve_in_threads<D: Door, K: Keeper + Send, R: Wait + Threads + Drop + Co
         (counts_of (D.refused door.new) (D.faults door.new) (D.accepted door.new)) }
     ensures desk { result.0 ≡ 0 → ServedAsSaid D.hears D.Ear.faults D.Ear.accepted
         (λ (desk : Working). TurnOf D.Ear.gives D.Ear.takes
-        (wire_by D.Ear.Line.left D.Ear.Line.plan D.Ear.Line.written D.Ear.Line.room)
+        (wire_by D.Ear.Line.left D.Ear.Line.plan D.Ear.Line.written D.Ear.Line.room D.Ear.Line.faults)
         (Attends K.told K.faults K.refuses ⟦<ThreadCrew<R, NoGate> as Crew>⟧.exact desk.limits))
         (λ desk. desk.plan) (λ desk. desk.limits) limits.now (serving_meant (map string_bytes words.now)) }
     ensures words { result.0 ≡ 1 → serving_meant (map string_bytes words.now) ≡ None }

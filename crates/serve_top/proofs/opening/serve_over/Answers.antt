@@ -39,7 +39,7 @@ pub returns-clause-desk : goal.returns-clause-desk
 returns-clause-desk g c =
     let n = g.N.Listener in
     let k = g.N.Line.Link in
-    let turn = TurnOf n.gives n.takes (wire_by k.left k.plan k.written k.room)
+    let turn = TurnOf n.gives n.takes (wire_by k.left k.plan k.written k.room k.faults)
     (g.C.Shared.Host.attends c.share-desk.result) in
     record {
       desk = c.share-desk.result;

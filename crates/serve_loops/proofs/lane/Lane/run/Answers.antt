@@ -26,6 +26,6 @@ loop-alloc-preserved g c =
       omega (arith, more, inv.2, drew),
       c.draw.ensures.drawn_parts ∙ inv.3,
       c.draw.ensures.ends_parts ∙ inv.4,
-      one_turn n.accepted (TurnOf n.gives n.takes (wire_by k.left k.plan k.written k.room)
+      one_turn n.accepted (TurnOf n.gives n.takes (wire_by k.left k.plan k.written k.room k.faults)
           (g.H.Host.attends c.args.host.now)) old mid new inv.5 inv.1 (c.turn.ensures.turns went) more,
     )

@@ -11,7 +11,7 @@ invariant-loop-alloc g l =
     LaneServes n.faults l.initial.self l.self × (l.self.failed ≡ false)
     × (n.accepted l.self.listener ≡ l.stub.drawn.amount)
     × (l.stub.drawn.parts ≡ l.initial.stub.drawn.parts) × (l.stub.ends.parts ≡ l.initial.stub.ends.parts)
-    × LaneTurned n.accepted (TurnOf n.gives n.takes (wire_by k.left k.plan k.written k.room)
+    × LaneTurned n.accepted (TurnOf n.gives n.takes (wire_by k.left k.plan k.written k.room k.faults)
     (g.H.Host.attends l.host)) l.initial.self l.self
 
 -- the tickets that may still be drawn
