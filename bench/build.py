@@ -5,8 +5,9 @@
 
 NAME is a program of crates.txt; without one it is toll_office. The crates are copied to a folder of their own, without their
 wrong edits, and `rt ci` proves them there from nothing: as many at a time as there are processors, if there are 4 GB of free
-memory for each; RT_JOBS sets another number. The kit keeps what passed, so a second run, and `rt ci` at the top, prove only what
-has changed since. `rt run` does not look there. The script ends with the status of `rt ci`, and leaves no program unless that is 0.
+memory for each; RT_JOBS sets another number. Where the kit keeps what passed (`rt help` says `rt ci NAME`), a second run, and
+`rt ci` at the top, prove only what has changed since; else each proves all. `rt run` does not look there. The script ends
+with the status of `rt ci`, and leaves no program unless that is 0.
 """
 import argparse
 import os

@@ -20,9 +20,9 @@ import sys
 WALK = """
 main@toll_office run_office@ office@entry read_words@words perform@performing import@importing import_new@importing
 import_later@importing import_begun@ import_under@ run_day@ run_opened@ run_plan@ run_rounds@ next_round@ round@rounds
-work_round@ read_on@work gather@work next@day_ahead next@day_reader advance@cutter read@source next@day_reader
+work_round@ read_on@reading gather@reading next@day_ahead next@day_reader advance@cutter read@source next@day_reader
 add@consumed add@beside_digester add@beside_digester take@intake read_line@ admit@gatekeeper Sorter::put take@sorter
-take@intake next@day_reader next@day_ahead gather@work read_on@work work_round@ feed_these@ feed@floor
+take@intake next@day_reader next@day_ahead gather@reading read_on@reading work_round@ feed_these@ feed@floor
 feed_report@ see@tracker feed_report@ of_report@ feed@floor give_all@work give_one@ give@floor give_one@
 start_beside@ start@inline_crew run@job next@carriage next@parts see@parts advance@parts advance@stops see@parts
 tell@parts find_if@ find_anew@ Speeds::cars find_anew@ nearest@stops find_anew@ toll@formula find_anew@ tell@parts

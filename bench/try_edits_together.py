@@ -1,7 +1,7 @@
 #!/usr/bin/env python3
 """Tries the edits of crates in few checks: in one check those that lie in different functions.
 
-    python3 bench/try_edits_together.py [--most N] [--alone] [--logs FOLDER] [--edit NAME] CRATE..
+    python3 bench/try_edits_together.py [--most N] [--alone] [--narrow] [--logs FOLDER] [--edit NAME] CRATE..
 
 A proof rests on its own function's body and on contracts, so an edit of one function changes no other's proof. The edits are those
 of `crates/CRATE/must-fail` and `bench/edits/CRATE`. One is refused where the check says that its function is not proved, and of
@@ -10,7 +10,8 @@ beside it: with `--alone` it is tried once more by itself, with a check of its f
 beside it. The script prints each, and ends with status 1 if one is left.
 
 `--most` is how many edits one check tries at most (each costs memory), `--logs` a folder for what the checks said, and `--edit`, which
-may be given again, names the edits to be tried in place of all. The libraries below have to be built in this clone, or `rt check`
+may be given again, names the edits to be tried in place of all. With `--narrow` a check of several edits proves their functions alone,
+and what these call, which is less where a crate has many others. The libraries below have to be built in this clone, or `rt check`
 proves them first.
 """
 import argparse
@@ -35,7 +36,7 @@ class Place:
         self.function = last(r"^[ \t]*(?:pub(?:\([\w ]+\))? )?(?:const )?fn (\w+)", text, at)
         head = last(r"^(\}|impl.*)$", text, at) or "}"
         kind = re.search(r"for (\w+)", head) or re.search(r"impl(?:<[^{]*?>)? (\w+)", head)
-        trait = re.search(r"(\w+)(?:<[^{]*>)? for", head)
+        trait = re.search(r"(\w+) for", bare(head, 1).replace("<", "").replace(">", ""))
         self.kind = kind[1] if kind else ""
         self.module = pathlib.Path(path).stem
         self.whole = f"{self.kind}{trait[1] if trait else ''}" or ("" if self.module in ("lib", "main") else self.module)
@@ -58,6 +59,16 @@ class Place:
         while line < len(lines) and lines[line - 1].lstrip().startswith(("#", "//")):
             line += 1
         return Place(self.path, self.text, sum(len(it) + 1 for it in lines[:line]) - 1).function == self.function
+
+
+def bare(head, depth):
+    """The head of an impl without its parameters, and without what stands so deep between angle brackets or deeper."""
+    head, open_ones, kept = re.sub(r"^impl(<.*?>)? (?=\w)", "impl ", head), 0, ""
+    for sign in head:
+        open_ones += sign == "<"
+        kept += sign if open_ones <= depth else ""
+        open_ones -= sign == ">"
+    return kept
 
 
 def last(pattern, text, at):
@@ -161,10 +172,12 @@ def refusal(edit, said):
     return ""
 
 
-def tried_together(crate, group, log):
+def tried_together(crate, group, log, narrow):
     """What one check says against each edit of a group, or none."""
-    said = checked(crate, group, [], log)
-    is_read = re.search(r"^logic=not-proved", said, re.M)
+    ends = sorted({it.path_end() for edit in group for it in edit.places if it.function})
+    narrow = narrow and not any(edit.is_wide() for edit in group)
+    said = checked(crate, group, [f"--only={it}" for it in ends] if narrow else [], log)
+    is_read = re.search(r"^only=\d+ proved=" if narrow else r"^logic=not-proved", said, re.M)
     return [refusal(edit, said) if is_read else "" for edit in group]
 
 
@@ -194,7 +207,8 @@ def tried(name, given):
             if given.alone and len(group) < FEW:
                 left += group
                 continue
-            for edit, why in zip(group, tried_together(crate, group, logs and logs / f"{name}-{number}.log")):
+            log = logs and logs / f"{name}-{number}.log"
+            for edit, why in zip(group, tried_together(crate, group, log, given.narrow)):
                 print(f"{edit.name}: {'refused: ' + why[:160] if why else 'NOT REFUSED in this check'}", flush=True)
                 refused += bool(why)
                 left += [] if why else [edit]
@@ -209,6 +223,7 @@ def main():
     words = argparse.ArgumentParser()
     words.add_argument("--most", type=int, default=1000)
     words.add_argument("--alone", action="store_true")
+    words.add_argument("--narrow", action="store_true")
     words.add_argument("--logs")
     words.add_argument("--edit", action="append", default=[])
     words.add_argument("crates", nargs="+")
