@@ -9,3 +9,5 @@ pub mod FinishLaws
 pub mod FoundLaws
 pub mod PositionLaws
 pub mod PaymentLaws
+pub mod PlaceLaws
+pub mod ListLaws

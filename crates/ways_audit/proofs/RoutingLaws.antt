@@ -1,6 +1,6 @@
 -- the events of a worker, tuple by tuple
-use Rattle.std.proofs.Common.{◌≡◌, ℕ, zero, suc, ◌+◌, ◌<◌, ◌==◌, List, [], ◌∷◌, ◌++◌, length, take, get_or}
-use Rattle.std.proofs.Common.{Option, Some, sym, ap, ◌∙◌, arith}
+use Rattle.std.proofs.Common.{◌≡◌, ℕ, zero, suc, ◌<◌, ◌==◌, Bool, true, false, cond, List, [], ◌∷◌, ◌++◌, length}
+use Rattle.std.proofs.Common.{take, get_or, Option, Some, None, refl, sym, ap, ◌∙◌, arith}
 use Rattle.std.specs.List.{flat_map}
 use Rattle.std.proofs.lemmas.List.{append-nil, append_assoc}
 use Rattle.std.proofs.lemmas.List.Concat.{flat_map-append}
@@ -8,14 +8,16 @@ use Rattle.std.proofs.lemmas.List.Elements.{filter-append}
 use Rattle.road_time.specs.declared.road.Tuple.{Tuple}
 use Rattle.road_time.specs.declared.road.Tuple.TheVariants.{Report as ReportTuple}
 use Rattle.road_time.specs.declared.road.Report.{Report}
-use Rattle.road_time.specs.Tuples.{reports, place_of}
+use Rattle.road_time.specs.declared.road.Place.{Place}
+use Rattle.road_time.specs.Tuples.{reports, place_of, stretch_of, stretch_around}
 use Rattle.road_time.specs.Sights.{moments, sights_of, previous}
 use Rattle.road_time.specs.Stays.{begins}
 use Rattle.road_time.specs.Stops.{trail, stands, left_by}
-use Rattle.road_time.specs.Ways.{worker_for}
+use Rattle.road_time.specs.Ways.{way_of, worker_for}
 use Rattle.road_time.proofs.SightLaws.{moments_push}
 use Rattle.day_floor.specs.declared.tracked.Tracked.{Tracked}
-use Rattle.ways_expressway.specs.declared.lane_event.LaneEvent.TheVariants.{Seen}
+use Rattle.ways_expressway.specs.declared.lane_event.LaneEvent.{LaneEvent}
+use Rattle.ways_expressway.specs.declared.lane_event.LaneEvent.TheVariants.{Seen, Leave}
 use Rattle.ways_expressway.specs.Events.{events_at, events_for, told_to, leave_of, events, way_told}
 use Rattle.ways_audit.specs.Seen.{tracked_of, tracked_by, tracked_after}
 use Rattle.ways_audit.specs.Routing.{tracked_events}
@@ -28,6 +30,33 @@ events_are before r =
     ap (λ own. leave_of (length before) r (left_by (trail (reports before) r.vid) r) ++ Seen (length before) r
     (begins (previous (sights_of before r.vid)) r) (stands own (place_of r)) ∷ [])
     (trail_more before r)
+
+-- a worker's events of a report that left no place
+pub seen_told : (w own width position : ℕ) (r : Report) (t : Tracked) → own ≡ worker_for (way_of (stretch_of r)) width →
+    t.left ≡ None → cond (own == w) (Seen position r t.begins t.stopped ∷ []) []
+    ≡ told_to w width (tracked_events position r t)
+seen_told w own width position r t is none =
+    let seen = Seen position r t.begins t.stopped in
+    ap (λ v. cond (v == w) (seen ∷ []) []) is
+    ∙ sym (ap (λ left. told_to w width (leave_of position r left ++ seen ∷ [])) none)
+
+first_told : (b : Bool) (e : LaneEvent) (es : List LaneEvent) → cond b (e ∷ []) [] ++ es ≡ cond b (e ∷ es) es
+first_told true e es = refl
+first_told false e es = refl
+
+-- and of one that left one
+pub both_told : (w own other width position : ℕ) (r : Report) (t : Tracked) (p : Place) →
+    own ≡ worker_for (way_of (stretch_of r)) width → other ≡ worker_for (way_of (stretch_around p)) width →
+    t.left ≡ Some p → cond (other == w) (Leave position r.time r.vid p ∷ []) []
+    ++ cond (own == w) (Seen position r t.begins t.stopped ∷ []) [] ≡ told_to w width (tracked_events position r t)
+both_told w own other width position r t p is left_is some =
+    let seen = Seen position r t.begins t.stopped in
+    let leave = Leave position r.time r.vid p in
+    first_told (other == w) leave (cond (own == w) (seen ∷ []) [])
+    ∙ ap (λ v. cond (v == w) (leave ∷ cond (own == w) (seen ∷ []) []) (cond (own == w) (seen ∷ []) [])) left_is
+    ∙ ap (λ v. cond (worker_for (way_of (stretch_around p)) width == w) (leave ∷ cond (v == w) (seen ∷ []) [])
+    (cond (v == w) (seen ∷ []) [])) is
+    ∙ sym (ap (λ left. told_to w width (leave_of position r left ++ seen ∷ [])) some)
 
 -- one answer
 pub same_told : (t u : Tracked) → ◌≡◌ {A = Option Tracked} (Some t) (Some u) → t ≡ u

@@ -1,5 +1,5 @@
 -- Where the first second of some notices ends.
-use Rattle.std.proofs.Common.{◌≡◌, ◌∙◌, ◌+◌, ◌==◌, ℕ, Bool, not, cond, true, false, suc, refl, sym, ap, subst, List, []}
+use Rattle.std.proofs.Common.{◌≡◌, ◌∙◌, ◌+◌, ◌==◌, ℕ, Bool, not, true, false, suc, refl, sym, ap, subst, List, []}
 use Rattle.std.proofs.Common.{◌∷◌, ◌<◌, take, drop, get_or, length, arith}
 use Rattle.std.specs.List.{position_or_len}
 use Rattle.std.proofs.lemmas.Bool.{eqb-true}

@@ -1,17 +1,15 @@
 -- what was told to the shards is taken from them, position by position
-use Rattle.std.proofs.Common.{◌≡◌, ℕ, ◌+◌, ◌<◌, false, List, [], ◌∷◌, ◌++◌, length, map, All, Option, refl, sym, ap}
+use Rattle.std.proofs.Common.{◌≡◌, ℕ, ◌<◌, false, List, [], ◌∷◌, ◌++◌, length, map, All, Option, refl, sym, ap}
 use Rattle.std.proofs.Common.{subst, ◌∙◌, slice_index_or}
 use Rattle.std.proofs.lemmas.List.{append-nil, append_assoc, map-append}
 use Rattle.road_time.specs.declared.road.Tuple.{Tuple}
-use Rattle.road_time.specs.Tuples.{reports}
 use Rattle.road_time.specs.Sights.{moments_after}
 use Rattle.road_time.proofs.SightLaws.{moments-append}
 use Rattle.day_floor.specs.declared.tracked.Tracked.{Tracked}
 use Rattle.day_floor.specs.Stands.{StandsFor}
 use Rattle.ways_audit.specs.declared.shard.Shard.{Shard}
 use Rattle.ways_audit.specs.Seen.{tracked_by, tracked_after}
-use Rattle.ways_audit.specs.Own.{told_after}
-use Rattle.ways_audit.specs.Stands.{HasSeen, HaveSeen, WentOver, Awaits, Await}
+use Rattle.ways_audit.specs.Stands.{HaveSeen, WentOver, Awaits, Await}
 
 -- what one more tuple tells
 pub tracked_push : (before xs : List Tuple) (x : Tuple) →

@@ -58,6 +58,7 @@ pub fn find_all<C: Crew>(
 ) -> Result<Vec<Finding>, NoMemory>
     requires day { IsDay tuples.now }
     requires tracked { tracked.now ≡ tracked_after [] tuples.now }
+    requires some { 1 ≤ width }
     requires few { width ≤ 64 }
     requires idle { C.out crew.old ≡ [] }
     ensures exact { C.exact ≡ true → IfOk result

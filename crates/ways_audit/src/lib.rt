@@ -22,6 +22,7 @@ mod routing;
 mod seconds;
 mod shard;
 mod shards;
+mod splitting;
 mod starts;
 mod still_to_come;
 mod tracked_list;

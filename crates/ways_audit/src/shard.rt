@@ -1,5 +1,5 @@
 // One shard of the vehicles.
-ghost use Rattle.std.specs.Prelude.{◌≡◌, ◌++◌, ◌∷◌, [], ◌<◌, ◌%◌, ◌==◌, true, false, Some, List, OnOk};
+ghost use Rattle.std.specs.Prelude.{◌≡◌, ◌++◌, ◌∷◌, [], ◌<◌, ◌%◌, ◌==◌, true, false, Some, List, OnOk, length};
 ghost use Rattle.std.specs.List.{cons_option};
 ghost use Rattle.road_time.specs.declared.road.Tuple.{Tuple as TupleValue};
 ghost use Rattle.road_time.specs.declared.road.Tuple.TheVariants.{Report as ReportTuple};
@@ -8,8 +8,10 @@ ghost use Rattle.day_floor.specs.declared.tracked.Tracked.{Tracked as TrackedVal
 ghost use Rattle.day_floor.specs.Stands.{StandsFor};
 ghost use Rattle.ways_audit.specs.Seen.{tracked_of};
 ghost use Rattle.ways_audit.specs.Own.{belongs as defined_belongs, own_of, own_tracked, told_after};
+ghost use Rattle.ways_audit.specs.Own.{places_from, HavePlaces};
 ghost use Rattle.ways_audit.specs.Stands.{WentOver};
 
+use crate::splitting::OwnPlaces;
 use day_floor::{Tracked, Tracker};
 use road_time::{NoMemory, Report, Tuple};
 use std::alloc::Global;
@@ -106,6 +108,53 @@ impl Shard {
         ensures { WentOver place count tuples.now self.old self.new }
     {
         if self.take_all(tuples, place, count).is_err() {
+            self.refused = true;
+        }
+    }
+
+    /// Sees the reports of its vehicles among tuples, which stand at these positions.
+    fn take_own(
+        &mut self,
+        tuples: &[Tuple],
+        places: &[u32],
+        place: usize,
+        count: usize,
+    ) -> Result<(), NoMemory>
+        requires some { 0 < count }
+        requires own { places.now ≡ places_from place count 0 tuples.now }
+        ensures tracked { OnOk result ((day : List TupleValue)
+            → StandsFor self.old.tracker (own_of place count (reports day))
+            → StandsFor self.new.tracker (own_of place count (reports (day ++ tuples.now)))) }
+        ensures told { OnOk result ((day : List TupleValue)
+            → StandsFor self.old.tracker (own_of place count (reports day))
+            → self.new.told.items ≡ self.old.told.items ++ told_after place count day tuples.now) }
+    {
+        for at in places {
+            self.take(&tuples[*at as usize], place, count)?;
+        }
+        Ok(())
+    }
+
+    /// Goes over the tuples as `go_over` does, where the positions of each shard's reports are given.
+    pub(crate) fn go_over_own(
+        &mut self,
+        tuples: &[Tuple],
+        lists: &[OwnPlaces],
+        place: usize,
+        count: usize,
+    )
+        requires some { 0 < count }
+        requires own { HavePlaces lists.now tuples.now count }
+        ensures { WentOver place count tuples.now self.old self.new }
+    {
+        let Some(own) = lists.get(place) else {
+            self.refused = true;
+            return;
+        };
+        if self
+            .take_own(tuples, own.places.as_slice(), place, count)
+            .is_err()
+        {
             self.refused = true;
         }
     }

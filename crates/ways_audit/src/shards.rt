@@ -4,9 +4,11 @@ ghost use Rattle.std.specs.Prelude.{slice_index_or};
 ghost use Rattle.road_time.specs.declared.road.Tuple.{Tuple as TupleValue};
 ghost use Rattle.ways_audit.specs.declared.shard.Shard.{Shard as ShardValue};
 ghost use Rattle.ways_audit.specs.Seen.{tracked_by, tracked_after};
+ghost use Rattle.ways_audit.specs.Own.{HavePlaces};
 ghost use Rattle.ways_audit.specs.Stands.{HaveSeen, WentOver, Await};
 
 use crate::shard::Shard;
+use crate::splitting::{OwnPlaces, split};
 use crate::tracked_list::TrackedList;
 use day_floor::Tracked;
 use road_time::{NoMemory, Tuple};
@@ -61,6 +63,56 @@ fn go_over_all<R: Threads + Sync>(rt: &R, shards: &mut [Shard], tuples: &[Tuple]
         count,
         &|place, shard| shard.go_over(tuples, place, count),
     );
+}
+
+/// Lets each shard go over the tuples, all at once, where the positions of each shard's reports are given.
+fn go_over_own<R: Threads + Sync>(
+    rt: &R,
+    shards: &mut [Shard],
+    tuples: &[Tuple],
+    lists: &[OwnPlaces],
+)
+    requires some { 0 < length shards.old }
+    requires own { HavePlaces lists.now tuples.now (length shards.old) }
+    ensures len { length shards.new ≡ length shards.old }
+    ensures each { (place : ℕ) (d : ShardValue) → place < length shards.old
+        → WentOver place (length shards.old) tuples.now (slice_index_or shards.old place d)
+        (slice_index_or shards.new place d) }
+{
+    let count = shards.len();
+    thread::for_each_mut(
+        rt,
+        shards,
+        count,
+        &|place, shard| shard.go_over_own(tuples, lists, place, count),
+    );
+}
+
+/// How many tuples are split by shards at most: those of a day.
+const MOST_SPLIT: usize = 16_000_000;
+
+/// Lets each shard go over the tuples, all at once. One alone looks at each; several are given the positions of their
+/// own.
+fn go_over_by<R: Threads + Sync>(
+    rt: &R,
+    alloc: Global,
+    shards: &mut [Shard],
+    tuples: &[Tuple],
+) -> Result<(), NoMemory>
+    requires { 0 < length shards.old }
+    ensures len { length shards.new ≡ length shards.old }
+    ensures each { OnOk result ((place : ℕ) (d : ShardValue) → place < length shards.old
+        → WentOver place (length shards.old) tuples.now (slice_index_or shards.old place d)
+        (slice_index_or shards.new place d)) }
+{
+    let count = shards.len();
+    if count < 2 || tuples.len() > MOST_SPLIT {
+        go_over_all(rt, shards, tuples);
+        return Ok(());
+    }
+    let lists = split(alloc, tuples, count)?;
+    go_over_own(rt, shards, tuples, lists.as_slice());
+    Ok(())
 }
 
 /// What a tuple told: it stands first in the queue of its shard, if it is a report.
@@ -129,7 +181,7 @@ fn see_by<R: Threads + Sync>(
     ensures seen { OnOk result ((given : List TupleValue) → HaveSeen shards.old given
         → HaveSeen shards.new (given ++ tuples.now)) }
 {
-    go_over_all(rt, shards, tuples);
+    go_over_by(rt, alloc, shards, tuples)?;
     if !all_serve(shards) {
         return Err(NoMemory);
     }

@@ -13,9 +13,11 @@ ghost use Rattle.ways_expressway.specs.Stands.{StandsFor};
 ghost use Rattle.ways_crews.specs.Told.{CrewTold, WhereTold};
 ghost use Rattle.ways_crews.specs.Callers.{IsListingWhereTold};
 ghost use Rattle.ways_audit.specs.Seen.{tracked_after};
+ghost use Rattle.ways_expressway.specs.Events.{events_for};
 ghost use Rattle.ways_audit.specs.Jobs.{RunningBy, HasStartedBy, HasFound, StartsAll, StartsFirst, AddsFindings};
+ghost use Rattle.ways_audit.specs.Routing.{HaveEvents};
 
-use crate::routing::route;
+use crate::routing::{WorkerEvents, route, take_events};
 use day_floor::Tracked;
 use road_time::{NoMemory, Tariffs, Tuple};
 use std::alloc::Global;
@@ -69,19 +71,19 @@ fn make_job(
     })
 }
 
-/// Starts the job of a worker, if it has events. Where memory runs out nothing is started.
+/// Starts the job of a worker of a day's, if it has events. Where memory runs out nothing is started.
 fn start_worker<C: Crew>(
     alloc: Global,
     crew: &mut C,
     tuples: &[Tuple],
-    tracked: &[Option<Tracked>],
+    events: Vec<Event>,
     tariffs: &Tariffs,
     worker: u8,
     width: u8,
     tickets: &mut VecDeque<C::Ticket>,
 ) -> Result<(), NoMemory>
     requires day { IsDay tuples.now }
-    requires tracked { tracked.now ≡ tracked_after [] tuples.now }
+    requires events { events.items ≡ events_for tuples.now worker width }
     requires worker { worker < width }
     requires few { width ≤ 64 }
     requires runs { (told : Option CrewTold)
@@ -94,12 +96,42 @@ fn start_worker<C: Crew>(
     ensures which { C.which crew.new ≡ C.which crew.old }
     ensures answers { C.answers crew.new ≡ C.answers crew.old }
 {
-    let events = route(alloc, tuples, tracked, worker, width)?;
     if events.is_empty() {
         return Ok(());
     }
     let job = make_job(alloc, tariffs, worker, tickets.len() as u32, events)?;
     start_job(crew, job, tickets)?;
+    Ok(())
+}
+
+/// Starts one job for each worker of a day's that has events, in the order of the workers, and moves its events into
+/// it. Where memory runs out those of the first workers are out.
+fn start_each<C: Crew>(
+    alloc: Global,
+    crew: &mut C,
+    tuples: &[Tuple],
+    lists: &mut [WorkerEvents],
+    tariffs: &Tariffs,
+    width: u8,
+    tickets: &mut VecDeque<C::Ticket>,
+) -> Result<(), NoMemory>
+    requires day { IsDay tuples.now }
+    requires len { length lists.old ≡ width }
+    requires events { HaveEvents lists.old tuples.now width 0 }
+    requires few { width ≤ 64 }
+    requires idle { C.out crew.old ≡ [] }
+    requires none { tickets.old.items ≡ [] }
+    ensures all { OnOk result (HasStartedBy C.Crew (C.jobs crew.old) crew.new tariffs.now tickets.new.items tuples.now
+        width width) }
+    ensures first { OnErr result ((workers : ℕ) × (workers ≤ width)
+        × HasStartedBy C.Crew (C.jobs crew.old) crew.new tariffs.now tickets.new.items tuples.now width workers) }
+    ensures which { C.which crew.new ≡ C.which crew.old }
+    ensures answers { C.answers crew.new ≡ C.answers crew.old }
+{
+    for worker in 0..width {
+        let events = take_events(alloc, lists, worker);
+        start_worker(alloc, crew, tuples, events, tariffs, worker, width, tickets)?;
+    }
     Ok(())
 }
 
@@ -116,6 +148,7 @@ pub fn start_all<C: Crew>(
 ) -> Result<(), NoMemory>
     requires day { IsDay tuples.now }
     requires tracked { tracked.now ≡ tracked_after [] tuples.now }
+    requires some { 1 ≤ width }
     requires few { width ≤ 64 }
     requires idle { C.out crew.old ≡ [] }
     requires none { tickets.old.items ≡ [] }
@@ -126,10 +159,15 @@ pub fn start_all<C: Crew>(
     ensures which { C.which crew.new ≡ C.which crew.old }
     ensures answers { C.answers crew.new ≡ C.answers crew.old }
 {
-    for worker in 0..width {
-        start_worker(
-            alloc, crew, tuples, tracked, tariffs, worker, width, tickets,
-        )?;
-    }
+    let mut lists = route(alloc, tuples, tracked, width)?;
+    start_each(
+        alloc,
+        crew,
+        tuples,
+        lists.as_mut_slice(),
+        tariffs,
+        width,
+        tickets,
+    )?;
     Ok(())
 }

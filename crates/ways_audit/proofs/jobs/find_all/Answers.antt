@@ -1,4 +1,4 @@
-use Rattle.std.proofs.Common.{◌≡◌, ◌≤◌, ℕ, [], ◌∙◌, subst, arith}
+use Rattle.std.proofs.Common.{[], ◌∙◌, subst, arith}
 use Rattle.ways_crews.specs.Told.{WhereTold}
 use Rattle.ways_crews.specs.Callers.{IsListingWhereTold}
 use Rattle.ways_audit.specs.Jobs.{HasStarted, AddsFindings}

@@ -1,4 +1,4 @@
-use Rattle.std.proofs.Common.{◌≡◌, ◌≤◌, ◌+◌, ◌∷◌, List, take, drop, suc, length, arith, sym, subst, ap, ◌∙◌}
+use Rattle.std.proofs.Common.{◌≡◌, ◌+◌, ◌∷◌, List, take, drop, suc, arith, sym, subst, ap, ◌∙◌}
 use Rattle.road_time.specs.declared.road.Notice.{Notice}
 use Rattle.ways_audit.specs.Seconds.{second_of, seconds}
 use Rattle.ways_audit.proofs.SecondLaws.{of_second, first_cut}

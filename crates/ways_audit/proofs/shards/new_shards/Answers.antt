@@ -1,4 +1,4 @@
-use Rattle.std.proofs.Common.{◌≡◌, ◌+◌, ap, sym, ◌∙◌, subst, arith, rules, vec_len, All}
+use Rattle.std.proofs.Common.{◌≡◌, ◌+◌, ap, sym, ◌∙◌, subst, rules, vec_len, All}
 use Rattle.std.proofs.lemmas.List.Elements.{All-push}
 use Rattle.ways_audit.proofs.TakenLaws.{IsNew, new_have_seen}
 use Rattle.ways_audit.proofs.shards.new_shards.Goals as goal

@@ -1,12 +1,9 @@
-use Rattle.std.proofs.Common.{◌≡◌, ◌<◌, ◌+◌, [], ◌∷◌, ◌++◌, false, length, map, ap, sym, subst, ◌∙◌, arith, rules}
+use Rattle.std.proofs.Common.{◌≡◌, ◌<◌, [], ◌∷◌, ◌++◌, false, length, sym, subst, ◌∙◌, arith, rules}
 use Rattle.ways_expressway.specs.Ready.{CanRun}
 use Rattle.road_time.specs.Rates.{Tariffs}
 use Rattle.ways_audit.specs.Jobs.{Running}
-use Rattle.ways_audit.proofs.JobLaws.{tracked_long, can_run, next_filled, none_for, few_started, tickets_few}
+use Rattle.ways_audit.proofs.JobLaws.{can_run, next_filled, few_started, tickets_few}
 use Rattle.ways_audit.proofs.starts.start_worker.Goals as goal
-
-pub route-requires-clause-len : goal.route-requires-clause-len
-route-requires-clause-len g c = ap length c.requires.tracked ∙ tracked_long [] c.args.tuples.now
 
 pub overflow_cast-len : goal.overflow_cast-len
 overflow_cast-len g c =
@@ -22,7 +19,7 @@ overflow_cast-len g c =
 pub start_job-requires-clause-ready : goal.start_job-requires-clause-ready
 start_job-requires-clause-ready g c = record {
   stands = c.in_ok-job.ensures.stands;
-  runs = subst (CanRun []) (sym (c.in_ok-job.ensures.events ∙ c.in_ok-events.ensures))
+  runs = subst (CanRun []) (sym (c.in_ok-job.ensures.events ∙ c.requires.events))
       (can_run c.args.tuples.now c.requires.day c.args.worker c.args.width);
 }
 
@@ -42,7 +39,7 @@ pub returns-clause-started : goal.returns-clause-started
 returns-clause-started g c = λ told h.
     let k = g.C.Crew in
     let job = c.in_ok-job.job in
-    let some : 0 < length c.in_ok-events.events.items = search rules in
+    let some : 0 < length c.args.events.items = search rules in
     let numbered : job.number ≡ length c.args.tickets.now.items = search rules in
     let runs =
     c.in_ok-start_job.ensures.started told h.todo
@@ -50,7 +47,7 @@ returns-clause-started g c = λ told h.
     c.args.tickets.now.items [] h.todo false) (sym c.in_ok-job.ensures.tariffs) h.runs) in
     next_filled k.out k.number k.holds k.gave k.jobs told c.args.crew.now c.start_job.new.crew c.args.tariffs.now
     c.args.tickets.now.items c.start_job.new.tickets.items c.args.tuples.now c.args.width c.args.worker
-    c.in_ok-events.events.items job h (sym c.in_ok-events.ensures) some c.in_ok-job.ensures.worker numbered
+    c.args.events.items job h (sym c.requires.events) some c.in_ok-job.ensures.worker numbered
     c.in_ok-job.ensures.events
     (subst (λ (t : Tariffs). Running k.out k.number k.holds k.gave k.jobs told c.start_job.new.crew t
     c.start_job.new.tickets.items [] (h.todo ++ job ∷ []) false) c.in_ok-job.ensures.tariffs runs)

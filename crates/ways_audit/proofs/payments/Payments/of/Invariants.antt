@@ -1,4 +1,4 @@
-use Rattle.std.proofs.Common.{◌≡◌, ◌++◌, ℕ, List, length}
+use Rattle.std.proofs.Common.{◌≡◌, ◌++◌, List, length}
 use Rattle.road_time.specs.declared.day.SpentRow.{SpentRow}
 use Rattle.ways_audit.proofs.PaymentLaws.{Pays}
 use Rattle.ways_audit.proofs.payments.Payments.of.Given as goal
