@@ -107,15 +107,25 @@ fn put_events_at(
     Ok(())
 }
 
-/// No events yet, of so many workers.
-fn new_lists(alloc: Global, width: u8) -> Result<Vec<WorkerEvents>, NoMemory>
+/// No events yet, with room for so many where memory has it.
+fn room_for(alloc: Global, count: usize) -> Vec<LaneEvent>
+    ensures { result.items ≡ [] }
+{
+    match Vec::with_capacity(alloc, count) {
+        Ok(events) => events,
+        Err(_) => Vec::new(alloc),
+    }
+}
+
+/// No events yet, of so many workers, each with room for so many where memory has it.
+fn new_lists(alloc: Global, width: u8, room: usize) -> Result<Vec<WorkerEvents>, NoMemory>
     ensures len { IfOk result (λ lists. length lists.items ≡ width) }
     ensures empty { IfOk result (λ lists. (w : ℕ) → HasEvents lists.items w []) }
 {
     let mut lists = Vec::with_capacity(alloc, usize::from(width))?;
     for _ in 0..width {
         lists.push(WorkerEvents {
-            events: Vec::new(alloc),
+            events: room_for(alloc, room),
         })?;
     }
     Ok(lists)
@@ -144,7 +154,7 @@ fn put_all(
 }
 
 /// The events of each worker, of so many: all that the day's tuples tell it, with their positions. It goes over the
-/// tuples once.
+/// tuples once. Each has room from the start for its share, were all the same, and an eighth more.
 pub(crate) fn route(
     alloc: Global,
     tuples: &[Tuple],
@@ -158,7 +168,8 @@ pub(crate) fn route(
     ensures len { IfOk result (λ lists. length lists.items ≡ width) }
     ensures events { IfOk result (λ lists. HaveEvents lists.items tuples.now width 0) }
 {
-    let mut lists = new_lists(alloc, width)?;
+    let share = tuples.len() / usize::from(width);
+    let mut lists = new_lists(alloc, width, share.saturating_add(share / 8))?;
     put_all(lists.as_mut_slice(), width, tuples, tracked)?;
     Ok(lists)
 }

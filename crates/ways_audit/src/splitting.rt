@@ -37,15 +37,25 @@ fn put_own(lists: &mut [OwnPlaces], position: u32, tuple: &Tuple) -> Result<(), 
     Ok(())
 }
 
-/// No positions yet, of so many shards.
-fn new_lists(alloc: Global, count: usize) -> Result<Vec<OwnPlaces>, NoMemory>
+/// No positions yet, with room for so many where memory has it.
+fn room_for(alloc: Global, count: usize) -> Vec<u32>
+    ensures { result.items ≡ [] }
+{
+    match Vec::with_capacity(alloc, count) {
+        Ok(places) => places,
+        Err(_) => Vec::new(alloc),
+    }
+}
+
+/// No positions yet, of so many shards, each with room for so many where memory has it.
+fn new_lists(alloc: Global, count: usize, room: usize) -> Result<Vec<OwnPlaces>, NoMemory>
     ensures len { IfOk result (λ lists. length lists.items ≡ count) }
     ensures empty { IfOk result (λ lists. (s : ℕ) → HasPlaces lists.items s []) }
 {
     let mut lists = Vec::with_capacity(alloc, count)?;
     for _ in 0..count {
         lists.push(OwnPlaces {
-            places: Vec::new(alloc),
+            places: room_for(alloc, room),
         })?;
     }
     Ok(lists)
@@ -65,7 +75,8 @@ fn put_all(lists: &mut [OwnPlaces], tuples: &[Tuple]) -> Result<(), NoMemory>
     Ok(())
 }
 
-/// The positions of each shard's reports, of so many shards. It goes over the tuples once.
+/// The positions of each shard's reports, of so many shards. It goes over the tuples once. Each has room from the start
+/// for its share, were all the same, and an eighth more.
 pub(crate) fn split(
     alloc: Global,
     tuples: &[Tuple],
@@ -76,7 +87,8 @@ pub(crate) fn split(
     ensures len { IfOk result (λ lists. length lists.items ≡ count) }
     ensures places { IfOk result (λ lists. HavePlaces lists.items tuples.now count) }
 {
-    let mut lists = new_lists(alloc, count)?;
+    let share = tuples.len() / count;
+    let mut lists = new_lists(alloc, count, share.saturating_add(share / 8))?;
     put_all(lists.as_mut_slice(), tuples)?;
     Ok(lists)
 }
