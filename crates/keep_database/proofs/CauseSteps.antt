@@ -9,6 +9,7 @@ use Rattle.keep_office.specs.declared.kept.KeepFault.TheVariants.{Failed, NoMemo
 use Rattle.sqlite_value.specs.Order.{Row}
 use Rattle.keep_writes.specs.Causes.{WasRefusedIn, HasCauseOf, HasCause, LackedMemory, IsTold}
 use Rattle.keep_writes.proofs.CauseLaws.{refused_after, err_handed}
+use Rattle.keep_database.specs.Gives.{WantsMemory}
 
 module _ {S : Type 0} (g : Ghosts S) (old mid new : Held S) (kept : KeepsCommit (state g old) (state g mid))
     (survives : Survives (state g old) (state g mid) (λ _. ⊥)) where
@@ -23,6 +24,11 @@ module _ {S : Type 0} (g : Ghosts S) (old mid new : Held S) (kept : KeepsCommit 
   -- so is its want of memory
   pub memory_after : LackedMemory g mid new → LackedMemory g old new
   memory_after h = refused_after g old mid new _ kept survives h
+
+  -- or there was something to take up
+  pub wants_after : (there : Type 0) → WantsMemory g mid new there → WantsMemory g old new there
+  wants_after there (inl h) = inl (memory_after h)
+  wants_after there (inr h) = inr h
 
   -- so is each fault's cause, whatever the call writes
   pub cause_after : (W : List ℕ → Row → Type 0) (f : KeepFault) → HasCauseOf g W mid new f → HasCauseOf g W old new f
@@ -65,6 +71,11 @@ module _ {S : Type 0} (g : Ghosts S) (old new : Held S) where
   pub memory_handed : {U : Type 0} (r : Result U KeepFault) (f : KeepFault) → IsErrAnd r (λ e. e ≡ f) →
       HasCause g old new f → r ≡ Err NoMemory → LackedMemory g old new
   memory_handed r f same h none = memory_of r (err_handed r f (HasCause g old new) same h) none
+
+  -- want of memory that is handed on is the database's
+  pub wants_handed : {U : Type 0} (there : Type 0) (r : Result U KeepFault) (f : KeepFault) → IsErrAnd r (λ e. e ≡ f) →
+      HasCause g old new f → r ≡ Err NoMemory → WantsMemory g old new there
+  wants_handed there r f same h none = inl (memory_handed r f same h none)
 
   -- a failure that is told has its cause
   pub failure_is : (f : KeepFault) → HasCause g old new f → f ≡ Failed → WasRefusedIn g old new

@@ -1,6 +1,6 @@
 -- What follows of answers that give.
 use Rattle.std.proofs.Common.{◌≡◌, ◌<◌, ◌≤◌, get_or, ◌^◌, ◌==◌, ℕ, pos, max, true, inl, inr, List, [], ◌∷◌, length}
-use Rattle.std.proofs.Common.{find, Option, Some, None, IfSome, arith, Result, Ok, Err, IfErr, IsErrAnd, refl, sym}
+use Rattle.std.proofs.Common.{find, Option, Some, None, IfSome, arith, Result, Ok, Err, IfErr, OnErr, IsSome, IsErrAnd, map, refl, sym}
 use Rattle.std.proofs.Common.{ap, subst}
 use Rattle.std.proofs.Common.{◌≢◌, ◌∙◌}
 use Rattle.std.specs.List.{AllByRecursion}
@@ -16,6 +16,7 @@ use Rattle.road_time.specs.declared.day.SpentRow.{SpentRow}
 use Rattle.keep_office.specs.Office.{IsPast, greatest_day}
 use Rattle.keep_tables.specs.Stands.{FitsDay, FitsPast}
 use Rattle.keep_tables.specs.Amounts.{HasAmount}
+use Rattle.keep_tables.specs.Shown.{row_if_any}
 use Rattle.keep_database.specs.Gives.{GivesUnless, Gives, FitsBased}
 
 -- an error that is no failure is none of another call
@@ -102,6 +103,29 @@ pub pure_handed : {T U : Type 0} (r : Result T KeepFault) (e : KeepFault) → Is
     ◌≢◌ {A = Result U KeepFault} (Err e) (Err NoMemory) → r ≢ Err NoMemory
 pure_handed (Ok t) e same pure is = absurd same
 pure_handed (Err f) e same pure is = let it : f ≡ NoMemory = cc in pure (ap Err (sym same ∙ it))
+
+-- a reader that wants no memory has no error where it gives what is there
+pub never_given : {T X : Type 0} (see : T → X) (e : KeepFault) (x : X) → Gives {T = T} see (Err e) x →
+    ◌≢◌ {A = Result T KeepFault} (Err e) (Err NoMemory) → ⊥
+never_given see NoMemory x h pure = pure refl
+never_given see Failed x h pure = h
+
+-- what is not so anyway is not so where a call fails
+pub always_not : {T E : Type 0} (r : Result T E) (P : Type 0) → ¬ P → OnErr r (¬ P)
+always_not (Ok x) P no = tt
+always_not (Err e) P no = no
+
+-- a row of what may be there is of what is there
+pub one_there : {X : Type 0} (row : X → Row) (x : Option X) (found : List Row) → found ≡ row_if_any row x →
+    0 < length found → IsSome x
+one_there row None found is some = absurd (omega (arith, ap (λ (l : List Row). length l) is, some))
+one_there row (Some x) found is some = refl
+
+-- so is a row of some
+pub some_there : {X : Type 0} (row : X → Row) (xs : List X) (found : List Row) → found ≡ map row xs →
+    0 < length found → xs ≢ []
+some_there row [] found is some none = omega (arith, ap (λ (l : List Row). length l) is, some)
+some_there row (x ∷ xs) found is some none = cc
 
 -- a fault that is neither a failure nor want of memory is none
 pub no_fault : {T : Type 0} (r : Result T KeepFault) (P : KeepFault → Type 0) → r ≢ Err Failed → r ≢ Err NoMemory →

@@ -1,6 +1,6 @@
 -- What a keeper on a steady store tells after a call.
 use Rattle.std.proofs.Common.{◌≡◌, Bool, true, false, IsTrue, Option, Some, None, Result, Ok, Err, IsOk, OnOk, OnErr}
-use Rattle.std.proofs.Common.{MatchResult, refl}
+use Rattle.std.proofs.Common.{MatchResult, refl, ◌↔◌, ◌∙◌, ap}
 use Rattle.std.proofs.Common.{inr, sym, subst}
 use Rattle.sqlite.specs.Effect.{Database}
 use Rattle.sqlite.specs.State.{State, HasCleanDisk, KeepsCommit}
@@ -86,6 +86,13 @@ pub quiet_made : {E : Type 0} (r : Result (Unit {0}) E) (told : Option E) → to
     MatchResult r (λ _. told ≡ None) (λ e. told ≡ Some e) → IsOk r
 quiet_made (Ok x) told none h = refl
 quiet_made (Err e) told none h = let bad : ⊥ = cc in absurd bad
+
+-- an error is told where it is the call's
+pub same_told : {E : Type 0} (r : Result (Unit {0}) E) (told : Option E) (e : E) →
+    MatchResult r (λ _. told ≡ None) (λ f. told ≡ Some f) → (r ≡ Err e) ↔ (told ≡ Some e)
+same_told (Ok x) told e h = (λ is. absurd (cc), λ is. absurd (let wrong = sym h ∙ is in cc))
+same_told (Err f) told e h =
+    (λ is. let same : f ≡ e = cc in h ∙ ap Some same, λ is. let both = sym h ∙ is in let same : f ≡ e = cc in ap Err same)
 
 -- where nothing is told, anything that is asked of it holds
 pub untold_fits : (steady : Bool) → steady ≡ false → (db : Database) (fits : Office → Type 0) →

@@ -43,6 +43,12 @@ pub record ShowsSecond {S : Type 0} (g : Ghosts S) (old new : Held S) : Type 0 w
   pub shown : ShowsCommitted g find_version [] old new rows
   pub second : IsSecond rows
 
+-- what was committed before a call has no version, or another
+pub record ShowsOther {S : Type 0} (g : Ghosts S) (old new : Held S) : Type 0 where
+  pub rows : List Row
+  pub shown : ShowsCommitted g find_version [] old new rows
+  pub other : ¬ IsSecond rows
+
 -- version 2 was shown of what was committed before a call
 pub record HasSecond {S : Type 0} (g : Ghosts S) (old : Held S) : Type 0 where
   pub now : Held S

@@ -28,6 +28,7 @@ pub fn amounts_of(alloc: Global, found: &[Row]) -> Result<Vec<SpentRow>, KeepFau
     ensures gives { (rows : List SpentRow) → AllByRecursion FitsSpent rows → RowsRise rows
         → found.now ≡ map spent_row rows → Gives (λ v. v.items) result rows }
     ensures rise { IfOk result (λ v. RowsRise v.items) }
+    ensures memory { result ≡ Err NoMemory → 0 < length found.now }
 {
     let rows = all_amounts(alloc, found)?;
     if rise(&rows) {
@@ -39,8 +40,9 @@ pub fn amounts_of(alloc: Global, found: &[Row]) -> Result<Vec<SpentRow>, KeepFau
 
 /// The amounts that rows are, in any order.
 fn all_amounts(alloc: Global, found: &[Row]) -> Result<Vec<SpentRow>, KeepFault>
-    ensures { (rows : List SpentRow) → AllByRecursion FitsSpent rows → found.now ≡ map spent_row rows
+    ensures gives { (rows : List SpentRow) → AllByRecursion FitsSpent rows → found.now ≡ map spent_row rows
         → Gives (λ v. v.items) result rows }
+    ensures memory { result ≡ Err NoMemory → 0 < length found.now }
 {
     let mut rows = Vec::new(alloc);
     'found: for row in found {
@@ -52,8 +54,9 @@ fn all_amounts(alloc: Global, found: &[Row]) -> Result<Vec<SpentRow>, KeepFault>
 
 /// The tariffs that rows are.
 pub fn tariffs_of(alloc: Global, found: &[Row]) -> Result<Tariffs, KeepFault>
-    ensures { (ts : Tariffs) → IsTariffs ts → AllByRecursion (λ e. e.0 < 2 ^ 8) ts
+    ensures gives { (ts : Tariffs) → IsTariffs ts → AllByRecursion (λ e. e.0 < 2 ^ 8) ts
         → found.now ≡ map tariff_columns ts → Gives (λ x. x) result ts }
+    ensures memory { result ≡ Err NoMemory → 0 < length found.now }
 {
     let mut tariffs = Tariffs::new(alloc);
     'found: for row in found {
@@ -68,6 +71,7 @@ pub fn past_of(found: &[Row]) -> Result<Option<PastRecord>, KeepFault>
     ensures gives { (p : Option PastRecord) → IfSome p FitsBased → found.now ≡ row_if_any past_values p
         → Gives (λ x. x) result p }
     ensures few { OnOk result (length found.now < 2) }
+    ensures memory { result ≡ Err NoMemory → 0 < length found.now }
     ensures based { IfOk result (λ p. IfSome p (λ q. 70 ≤ q.base)) }
 {
     match found {
@@ -86,6 +90,7 @@ pub fn day_of(day: u32, found: &[Row], seals: &[Row]) -> Result<Option<DayRecord
         → found.now ≡ row_if_any day_columns kept → seals.now ≡ row_if_any seal_columns kept →
         Gives (λ x. x) result kept }
     ensures none { result ≡ Ok None → length found.now ≡ 0 }
+    ensures memory { result ≡ Err NoMemory → 0 < length found.now }
     ensures sealed { IfOk result (λ kept. IfSome kept (λ r. (length found.now ≡ 1) × (length seals.now ≡ 1))) }
 {
     match found {
@@ -125,9 +130,10 @@ pub fn amount_in(found: &[Row]) -> Result<u64, KeepFault>
 
 /// The last day, by the answers for the days and for the history.
 pub fn last_of(days: &[Row], found: &[Row]) -> Result<u32, KeepFault>
-    ensures { (ds : List DayRecord) → (p : Option PastRecord) → AllByRecursion FitsDay ds → IfSome p FitsBased
+    ensures gives { (ds : List DayRecord) → (p : Option PastRecord) → AllByRecursion FitsDay ds → IfSome p FitsBased
         → days.now ≡ last_rows ds → found.now ≡ row_if_any past_values p
         → Gives (λ x. x) result (last_from ds p) }
+    ensures memory { result ≡ Err NoMemory → 0 < length found.now }
 {
     match days {
         [] => before(found),
@@ -138,8 +144,9 @@ pub fn last_of(days: &[Row], found: &[Row]) -> Result<u32, KeepFault>
 
 /// The day before a history's, 0 for none.
 fn before(found: &[Row]) -> Result<u32, KeepFault>
-    ensures { (p : Option PastRecord) → IfSome p FitsBased → found.now ≡ row_if_any past_values p
+    ensures gives { (p : Option PastRecord) → IfSome p FitsBased → found.now ≡ row_if_any past_values p
         → Gives (λ x. x) result (day_before p) }
+    ensures memory { result ≡ Err NoMemory → 0 < length found.now }
 {
     match past_of(found)? {
         Some(past) => Ok(past.base.saturating_sub(1)),

@@ -1,5 +1,5 @@
 // The calls on a database that stands for an office.
-ghost use Rattle.std.specs.Prelude.{◌≡◌, ◌≤◌, ◌⊎◌, Err, IsTrue, IfOk, IfErr, IfSome, OnOk, OnErr};
+ghost use Rattle.std.specs.Prelude.{◌≡◌, ◌≢◌, ◌≤◌, ◌⊎◌, [], Err, IsTrue, IfOk, IfErr, IfSome, IsSome, OnOk, OnErr};
 ghost use Rattle.sqlite.specs.Held.{state};
 ghost use Rattle.sqlite.specs.State.{HasCleanDisk, KeepsCommit, Survives};
 ghost use Rattle.road_time.specs.Rates.{IsTariff};
@@ -12,7 +12,7 @@ ghost use Rattle.keep_tables.specs.Stands.{HasOffice, StandsForOffice};
 ghost use Rattle.keep_tables.specs.Steps.{FitsAny};
 ghost use Rattle.keep_writes.specs.Causes.{WasRefusedIn, HasCauseOf, LackedMemory, IsTold};
 ghost use Rattle.keep_writes.specs.Writes.{WritesDay, WritesPast, WritesTariff};
-ghost use Rattle.keep_database.specs.Gives.{GivesUnless};
+ghost use Rattle.keep_database.specs.Gives.{GivesUnless, WantsMemory};
 ghost use Rattle.keep_database.specs.Looks.{CommitsFrom, HasSecond, IsSealed};
 
 use crate::reads;
@@ -30,6 +30,9 @@ pub fn last_day<S: Alter>(conn: &mut Connection<S>) -> Result<u32, KeepFault>
     ensures gives { HasCleanDisk (state S.Store conn.new) → (o : Office)
         → StandsForOffice (state S.Store conn.old).committed o
         → GivesUnless (WasRefusedIn S.Store conn.old conn.new) (λ x. x) result (last_day_of o) }
+    ensures memory { HasCleanDisk (state S.Store conn.new) → (o : Office)
+        → StandsForOffice (state S.Store conn.old).committed o → result ≡ Err NoMemory
+        → WantsMemory S.Store conn.old conn.new (IsSome o.past) }
     ensures version { HasCleanDisk (state S.Store conn.new) → OnOk result (HasSecond S.Store conn.old) }
     ensures open { HasCleanDisk (state S.Store conn.new) → OnOk result (IsTrue (state S.Store conn.new).is_open) }
     ensures survives { Survives (state S.Store conn.old) (state S.Store conn.new) (λ _. ⊥) }
@@ -45,6 +48,9 @@ pub fn day<S: Alter>(conn: &mut Connection<S>, day: u32) -> Result<Option<DayRec
     ensures gives { HasCleanDisk (state S.Store conn.new) → (o : Office)
         → StandsForOffice (state S.Store conn.old).committed o
         → GivesUnless (WasRefusedIn S.Store conn.old conn.new) (λ x. x) result (record_of o day) }
+    ensures memory { HasCleanDisk (state S.Store conn.new) → (o : Office)
+        → StandsForOffice (state S.Store conn.old).committed o → result ≡ Err NoMemory
+        → WantsMemory S.Store conn.old conn.new (IsSome (record_of o day)) }
     ensures sealed { HasCleanDisk (state S.Store conn.new)
         → IfOk result (λ kept. IfSome kept (λ r. IsSealed S.Store day conn.old)) }
     ensures version { HasCleanDisk (state S.Store conn.new) → OnOk result (HasSecond S.Store conn.old) }
@@ -62,6 +68,9 @@ pub fn past<S: Alter>(conn: &mut Connection<S>) -> Result<Option<PastRecord>, Ke
     ensures gives { HasCleanDisk (state S.Store conn.new) → (o : Office)
         → StandsForOffice (state S.Store conn.old).committed o
         → GivesUnless (WasRefusedIn S.Store conn.old conn.new) (λ x. x) result o.past }
+    ensures memory { HasCleanDisk (state S.Store conn.new) → (o : Office)
+        → StandsForOffice (state S.Store conn.old).committed o → result ≡ Err NoMemory
+        → WantsMemory S.Store conn.old conn.new (IsSome o.past) }
     ensures based { IfOk result (λ p. IfSome p (λ q. 70 ≤ q.base)) }
     ensures version { HasCleanDisk (state S.Store conn.new) → OnOk result (HasSecond S.Store conn.old) }
     ensures open { HasCleanDisk (state S.Store conn.new) → OnOk result (IsTrue (state S.Store conn.new).is_open) }
@@ -106,6 +115,9 @@ pub fn rows<S: Alter>(
     ensures gives { HasCleanDisk (state S.Store conn.new) → (o : Office)
         → StandsForOffice (state S.Store conn.old).committed o
         → GivesUnless (WasRefusedIn S.Store conn.old conn.new) (λ v. v.items) result (rows_between o from to) }
+    ensures memory { HasCleanDisk (state S.Store conn.new) → (o : Office)
+        → StandsForOffice (state S.Store conn.old).committed o → result ≡ Err NoMemory
+        → WantsMemory S.Store conn.old conn.new (rows_between o from to ≢ []) }
     ensures rise { IfOk result (λ v. RowsRise v.items) }
     ensures version { HasCleanDisk (state S.Store conn.new) → OnOk result (HasSecond S.Store conn.old) }
     ensures open { HasCleanDisk (state S.Store conn.new) → OnOk result (IsTrue (state S.Store conn.new).is_open) }
@@ -129,6 +141,9 @@ pub fn vehicle_rows<S: Alter>(
         → StandsForOffice (state S.Store conn.old).committed o
         → GivesUnless (WasRefusedIn S.Store conn.old conn.new) (λ v. v.items) result
         (vehicle_rows_between o vid from to) }
+    ensures memory { HasCleanDisk (state S.Store conn.new) → (o : Office)
+        → StandsForOffice (state S.Store conn.old).committed o → result ≡ Err NoMemory
+        → WantsMemory S.Store conn.old conn.new (vehicle_rows_between o vid from to ≢ []) }
     ensures rise { IfOk result (λ v. RowsRise v.items) }
     ensures version { HasCleanDisk (state S.Store conn.new) → OnOk result (HasSecond S.Store conn.old) }
     ensures open { HasCleanDisk (state S.Store conn.new) → OnOk result (IsTrue (state S.Store conn.new).is_open) }
@@ -145,6 +160,9 @@ pub fn tariffs<S: Alter>(conn: &mut Connection<S>, alloc: Global) -> Result<Tari
     ensures gives { HasCleanDisk (state S.Store conn.new) → (o : Office)
         → StandsForOffice (state S.Store conn.old).committed o
         → GivesUnless (WasRefusedIn S.Store conn.old conn.new) (λ x. x) result o.tariffs }
+    ensures memory { HasCleanDisk (state S.Store conn.new) → (o : Office)
+        → StandsForOffice (state S.Store conn.old).committed o → result ≡ Err NoMemory
+        → WantsMemory S.Store conn.old conn.new (o.tariffs ≢ []) }
     ensures version { HasCleanDisk (state S.Store conn.new) → OnOk result (HasSecond S.Store conn.old) }
     ensures open { HasCleanDisk (state S.Store conn.new) → OnOk result (IsTrue (state S.Store conn.new).is_open) }
     ensures survives { Survives (state S.Store conn.old) (state S.Store conn.new) (λ _. ⊥) }

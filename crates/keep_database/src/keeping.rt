@@ -1,5 +1,5 @@
 // The calls of a keeper on any store.
-ghost use Rattle.std.specs.Prelude.{◌≡◌, ◌≤◌, ◌⊎◌, Err, IsTrue, IfOk, IfErr, IfSome, OnOk, OnErr};
+ghost use Rattle.std.specs.Prelude.{◌≡◌, ◌≢◌, ◌≤◌, ◌⊎◌, [], Err, IsTrue, IfOk, IfErr, IfSome, IsSome, OnOk, OnErr};
 ghost use Rattle.sqlite.specs.Held.{state};
 ghost use Rattle.sqlite.specs.State.{HasCleanDisk, KeepsCommit, Survives};
 ghost use Rattle.road_time.specs.Rates.{IsTariff};
@@ -15,7 +15,7 @@ ghost use Rattle.keep_tables.specs.Told.{told_in};
 ghost use Rattle.keep_writes.specs.Causes.{WasRefused, WasRefusedIn, HasCauseOf, LackedMemory, IsTold};
 ghost use Rattle.keep_writes.specs.Writes.{WritesDay, WritesPast, WritesTariff};
 ghost use Rattle.keep_writes.specs.Counts.{faults_after};
-ghost use Rattle.keep_database.specs.Gives.{GivesUnless};
+ghost use Rattle.keep_database.specs.Gives.{GivesUnless, WantsMemory};
 ghost use Rattle.keep_database.specs.Looks.{CommitsFrom, HasSecond, IsSealed};
 
 use crate::calls;
@@ -54,6 +54,9 @@ impl<S: Steady> Keeper for ProvedKeeper<S> {
         ensures gives { HasCleanDisk (state S.Store self.new.conn) → (o : Office)
             → StandsForOffice (state S.Store self.old.conn).committed o
             → GivesUnless (WasRefused S.Store) (λ x. x) result (last_day_of o) }
+        ensures memory { HasCleanDisk (state S.Store self.new.conn) → (o : Office)
+            → StandsForOffice (state S.Store self.old.conn).committed o → result ≡ Err NoMemory
+            → WantsMemory S.Store self.old.conn self.new.conn (IsSome o.past) }
         ensures version { HasCleanDisk (state S.Store self.new.conn)
             → OnOk result (HasSecond S.Store self.old.conn) }
         ensures open { HasCleanDisk (state S.Store self.new.conn)
@@ -80,6 +83,9 @@ impl<S: Steady> Keeper for ProvedKeeper<S> {
         ensures gives { HasCleanDisk (state S.Store self.new.conn) → (o : Office)
             → StandsForOffice (state S.Store self.old.conn).committed o
             → GivesUnless (WasRefused S.Store) (λ x. x) result (record_of o day) }
+        ensures memory { HasCleanDisk (state S.Store self.new.conn) → (o : Office)
+            → StandsForOffice (state S.Store self.old.conn).committed o → result ≡ Err NoMemory
+            → WantsMemory S.Store self.old.conn self.new.conn (IsSome (record_of o day)) }
         ensures sealed { HasCleanDisk (state S.Store self.new.conn)
             → IfOk result (λ kept. IfSome kept (λ r. IsSealed S.Store day self.old.conn)) }
         ensures version { HasCleanDisk (state S.Store self.new.conn)
@@ -107,6 +113,9 @@ impl<S: Steady> Keeper for ProvedKeeper<S> {
         ensures gives { HasCleanDisk (state S.Store self.new.conn) → (o : Office)
             → StandsForOffice (state S.Store self.old.conn).committed o
             → GivesUnless (WasRefused S.Store) (λ x. x) result o.past }
+        ensures memory { HasCleanDisk (state S.Store self.new.conn) → (o : Office)
+            → StandsForOffice (state S.Store self.old.conn).committed o → result ≡ Err NoMemory
+            → WantsMemory S.Store self.old.conn self.new.conn (IsSome o.past) }
         ensures based { IfOk result (λ p. IfSome p (λ q. 70 ≤ q.base)) }
         ensures version { HasCleanDisk (state S.Store self.new.conn)
             → OnOk result (HasSecond S.Store self.old.conn) }
@@ -164,6 +173,9 @@ impl<S: Steady> Keeper for ProvedKeeper<S> {
         ensures gives { HasCleanDisk (state S.Store self.new.conn) → (o : Office)
             → StandsForOffice (state S.Store self.old.conn).committed o
             → GivesUnless (WasRefused S.Store) (λ v. v.items) result (rows_between o from to) }
+        ensures memory { HasCleanDisk (state S.Store self.new.conn) → (o : Office)
+            → StandsForOffice (state S.Store self.old.conn).committed o → result ≡ Err NoMemory
+            → WantsMemory S.Store self.old.conn self.new.conn (rows_between o from to ≢ []) }
         ensures version { HasCleanDisk (state S.Store self.new.conn)
             → OnOk result (HasSecond S.Store self.old.conn) }
         ensures open { HasCleanDisk (state S.Store self.new.conn)
@@ -191,6 +203,9 @@ impl<S: Steady> Keeper for ProvedKeeper<S> {
         ensures gives { HasCleanDisk (state S.Store self.new.conn) → (o : Office)
             → StandsForOffice (state S.Store self.old.conn).committed o
             → GivesUnless (WasRefused S.Store) (λ v. v.items) result (vehicle_rows_between o vid from to) }
+        ensures memory { HasCleanDisk (state S.Store self.new.conn) → (o : Office)
+            → StandsForOffice (state S.Store self.old.conn).committed o → result ≡ Err NoMemory
+            → WantsMemory S.Store self.old.conn self.new.conn (vehicle_rows_between o vid from to ≢ []) }
         ensures version { HasCleanDisk (state S.Store self.new.conn)
             → OnOk result (HasSecond S.Store self.old.conn) }
         ensures open { HasCleanDisk (state S.Store self.new.conn)
@@ -217,6 +232,9 @@ impl<S: Steady> Keeper for ProvedKeeper<S> {
         ensures gives { HasCleanDisk (state S.Store self.new.conn) → (o : Office)
             → StandsForOffice (state S.Store self.old.conn).committed o
             → GivesUnless (WasRefused S.Store) (λ x. x) result o.tariffs }
+        ensures memory { HasCleanDisk (state S.Store self.new.conn) → (o : Office)
+            → StandsForOffice (state S.Store self.old.conn).committed o → result ≡ Err NoMemory
+            → WantsMemory S.Store self.old.conn self.new.conn (o.tariffs ≢ []) }
         ensures version { HasCleanDisk (state S.Store self.new.conn)
             → OnOk result (HasSecond S.Store self.old.conn) }
         ensures open { HasCleanDisk (state S.Store self.new.conn)

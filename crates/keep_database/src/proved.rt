@@ -1,5 +1,5 @@
 // A keeper on a connection.
-ghost use Rattle.std.specs.Prelude.{◌≡◌, ◌↔◌, true, Some, None, Ok, Err, IsOk, IsTrue, MatchResult};
+ghost use Rattle.std.specs.Prelude.{◌≡◌, ◌↔◌, true, false, Some, None, Ok, Err, IsOk, IsTrue, IfErr, MatchResult};
 ghost use Rattle.sqlite.specs.Held.{state};
 ghost use Rattle.sqlite.specs.State.{HasCleanDisk, KeepsCommit, Survives};
 ghost use Rattle.sqlite.specs.declared.error.Error.TheVariants.{SqliteFailure};
@@ -8,9 +8,11 @@ ghost use Rattle.keep_office.specs.Office.{Office};
 ghost use Rattle.keep_office.specs.declared.kept.KeepFault.TheVariants.{NoMemory};
 ghost use Rattle.keep_tables.specs.Stands.{HasOffice, StandsForOffice};
 ghost use Rattle.keep_tables.specs.Told.{told_in};
+ghost use Rattle.keep_writes.specs.Causes.{HasCause};
 ghost use Rattle.keep_writes.specs.Growth.{CommitsSame};
 ghost use Rattle.keep_writes.specs.Objects.{MayBeMade};
-ghost use Rattle.keep_database.specs.Looks.{ShowsSecond};
+ghost use Rattle.keep_writes.specs.Unmade.{IsUnmadeBy};
+ghost use Rattle.keep_database.specs.Looks.{ShowsSecond, ShowsOther};
 
 use crate::steady::Steady;
 use crate::versions::has_second;
@@ -70,9 +72,12 @@ impl<S: Steady> ProvedKeeper<S> {
             → KeepsCommit (state S.Store connection) (state S.Store result.conn) }
         ensures crash { Survives (state S.Store connection) (state S.Store result.conn) (CommitsSame
             (state S.Store connection).committed) }
+        ensures why { HasCleanDisk (state S.Store result.conn)
+            → IsUnmadeBy S.Store connection result.conn result.refused }
         ensures faultless { result.faults ≡ 0 }
         ensures quiet { result.unmade ≡ None → result.refused ≡ None }
         ensures told { result.refused ≡ None → result.unmade ≡ None }
+        ensures memory { (result.unmade ≡ Some NoMemory) ↔ (result.refused ≡ Some (SqliteFailure OutOfMemory)) }
     {
         let mut conn = connection;
         let made = make(&mut conn, alloc);
@@ -105,6 +110,10 @@ impl<S: Steady> ProvedKeeper<S> {
             → KeepsCommit (state S.Store self.old.conn) (state S.Store self.new.conn) }
         ensures second { HasCleanDisk (state S.Store self.new.conn) → result ≡ Ok true
             → ShowsSecond S.Store self.old.conn self.new.conn }
+        ensures other { HasCleanDisk (state S.Store self.new.conn) → result ≡ Ok false
+            → ShowsOther S.Store self.old.conn self.new.conn }
+        ensures why { HasCleanDisk (state S.Store self.new.conn)
+            → IfErr result (HasCause S.Store self.old.conn self.new.conn) }
     {
         has_second(&mut self.conn)
     }

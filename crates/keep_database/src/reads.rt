@@ -1,5 +1,5 @@
 // What is read of the tables.
-ghost use Rattle.std.specs.Prelude.{◌≡◌, ◌≤◌, [], ◌∷◌, pos, Err, IsTrue, IfOk, IfSome, OnOk};
+ghost use Rattle.std.specs.Prelude.{◌≡◌, ◌≢◌, ◌≤◌, [], ◌∷◌, pos, Err, IsTrue, IfOk, IfSome, IsSome, OnOk};
 ghost use Rattle.sqlite.specs.Held.{state};
 ghost use Rattle.sqlite.specs.State.{HasCleanDisk, KeepsCommit, Survives};
 ghost use Rattle.keep_office.specs.Office.{Office, RowsRise, last_day as last_day_of, record_of, rows_between};
@@ -8,7 +8,7 @@ ghost use Rattle.road_time.specs.History.{paid};
 ghost use Rattle.keep_office.specs.declared.kept.KeepFault.TheVariants.{NoMemory};
 ghost use Rattle.keep_tables.specs.Stands.{HasOffice};
 ghost use Rattle.keep_writes.specs.Causes.{WasRefusedIn, LackedMemory};
-ghost use Rattle.keep_database.specs.Gives.{GivesUnless};
+ghost use Rattle.keep_database.specs.Gives.{GivesUnless, WantsMemory};
 ghost use Rattle.keep_database.specs.Looks.{IsSealed};
 
 use crate::answers::{amount_in, amounts_of, day_of, last_of, past_of, tariffs_of};
@@ -25,6 +25,9 @@ pub fn last_day<S: Alter>(conn: &mut Connection<S>) -> Result<u32, KeepFault>
     ensures gives { HasCleanDisk (state S.Store conn.new) → (o : Office)
         → HasOffice (state S.Store conn.old).committed o
         → GivesUnless (WasRefusedIn S.Store conn.old conn.new) (λ x. x) result (last_day_of o) }
+    ensures memory { HasCleanDisk (state S.Store conn.new) → (o : Office)
+        → HasOffice (state S.Store conn.old).committed o → result ≡ Err NoMemory
+        → WantsMemory S.Store conn.old conn.new (IsSome o.past) }
     ensures open { HasCleanDisk (state S.Store conn.new) → OnOk result (IsTrue (state S.Store conn.new).is_open) }
     ensures survives { Survives (state S.Store conn.old) (state S.Store conn.new) (λ _. ⊥) }
 {
@@ -44,6 +47,9 @@ pub fn day<S: Alter>(conn: &mut Connection<S>, day: u32) -> Result<Option<DayRec
     ensures gives { HasCleanDisk (state S.Store conn.new) → (o : Office)
         → HasOffice (state S.Store conn.old).committed o
         → GivesUnless (WasRefusedIn S.Store conn.old conn.new) (λ x. x) result (record_of o day) }
+    ensures memory { HasCleanDisk (state S.Store conn.new) → (o : Office)
+        → HasOffice (state S.Store conn.old).committed o → result ≡ Err NoMemory
+        → WantsMemory S.Store conn.old conn.new (IsSome (record_of o day)) }
     ensures sealed { HasCleanDisk (state S.Store conn.new)
         → IfOk result (λ kept. IfSome kept (λ r. IsSealed S.Store day conn.old)) }
     ensures open { HasCleanDisk (state S.Store conn.new) → OnOk result (IsTrue (state S.Store conn.new).is_open) }
@@ -69,6 +75,9 @@ pub fn past<S: Alter>(conn: &mut Connection<S>) -> Result<Option<PastRecord>, Ke
     ensures gives { HasCleanDisk (state S.Store conn.new) → (o : Office)
         → HasOffice (state S.Store conn.old).committed o
         → GivesUnless (WasRefusedIn S.Store conn.old conn.new) (λ x. x) result o.past }
+    ensures memory { HasCleanDisk (state S.Store conn.new) → (o : Office)
+        → HasOffice (state S.Store conn.old).committed o → result ≡ Err NoMemory
+        → WantsMemory S.Store conn.old conn.new (IsSome o.past) }
     ensures based { IfOk result (λ p. IfSome p (λ q. 70 ≤ q.base)) }
     ensures open { HasCleanDisk (state S.Store conn.new) → OnOk result (IsTrue (state S.Store conn.new).is_open) }
     ensures survives { Survives (state S.Store conn.old) (state S.Store conn.new) (λ _. ⊥) }
@@ -118,6 +127,9 @@ pub fn rows<S: Alter>(
     ensures gives { HasCleanDisk (state S.Store conn.new) → (o : Office)
         → HasOffice (state S.Store conn.old).committed o
         → GivesUnless (WasRefusedIn S.Store conn.old conn.new) (λ v. v.items) result (rows_between o from to) }
+    ensures memory { HasCleanDisk (state S.Store conn.new) → (o : Office)
+        → HasOffice (state S.Store conn.old).committed o → result ≡ Err NoMemory
+        → WantsMemory S.Store conn.old conn.new (rows_between o from to ≢ []) }
     ensures rise { IfOk result (λ v. RowsRise v.items) }
     ensures open { HasCleanDisk (state S.Store conn.new) → OnOk result (IsTrue (state S.Store conn.new).is_open) }
     ensures survives { Survives (state S.Store conn.old) (state S.Store conn.new) (λ _. ⊥) }
@@ -144,6 +156,9 @@ pub fn vehicle_rows<S: Alter>(
         → HasOffice (state S.Store conn.old).committed o
         → GivesUnless (WasRefusedIn S.Store conn.old conn.new) (λ v. v.items) result
         (vehicle_rows_between o vid from to) }
+    ensures memory { HasCleanDisk (state S.Store conn.new) → (o : Office)
+        → HasOffice (state S.Store conn.old).committed o → result ≡ Err NoMemory
+        → WantsMemory S.Store conn.old conn.new (vehicle_rows_between o vid from to ≢ []) }
     ensures rise { IfOk result (λ v. RowsRise v.items) }
     ensures open { HasCleanDisk (state S.Store conn.new) → OnOk result (IsTrue (state S.Store conn.new).is_open) }
     ensures survives { Survives (state S.Store conn.old) (state S.Store conn.new) (λ _. ⊥) }
@@ -163,6 +178,9 @@ pub fn tariffs<S: Alter>(conn: &mut Connection<S>, alloc: Global) -> Result<Tari
     ensures gives { HasCleanDisk (state S.Store conn.new) → (o : Office)
         → HasOffice (state S.Store conn.old).committed o
         → GivesUnless (WasRefusedIn S.Store conn.old conn.new) (λ x. x) result o.tariffs }
+    ensures memory { HasCleanDisk (state S.Store conn.new) → (o : Office)
+        → HasOffice (state S.Store conn.old).committed o → result ≡ Err NoMemory
+        → WantsMemory S.Store conn.old conn.new (o.tariffs ≢ []) }
     ensures open { HasCleanDisk (state S.Store conn.new) → OnOk result (IsTrue (state S.Store conn.new).is_open) }
     ensures survives { Survives (state S.Store conn.old) (state S.Store conn.new) (λ _. ⊥) }
 {

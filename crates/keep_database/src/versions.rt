@@ -1,5 +1,5 @@
 // Whether the tables are there, in version 2.
-ghost use Rattle.std.specs.Prelude.{◌≡◌, ◌≢◌, true, [], ◌∷◌, pos, Ok, Err, IsTrue, IfErr, OnOk};
+ghost use Rattle.std.specs.Prelude.{◌≡◌, ◌≢◌, true, false, [], ◌∷◌, pos, Ok, Err, IsTrue, IfErr, OnOk, OnErr};
 ghost use Rattle.sqlite_value.specs.Order.{column};
 ghost use Rattle.sqlite_value.specs.declared.value.Value.TheVariants.{Int};
 ghost use Rattle.sqlite.specs.Held.{state};
@@ -8,7 +8,7 @@ ghost use Rattle.keep_office.specs.Office.{Office};
 ghost use Rattle.keep_office.specs.declared.kept.KeepFault.TheVariants.{Failed, NoMemory};
 ghost use Rattle.keep_tables.specs.Stands.{HasOffice, StandsForOffice};
 ghost use Rattle.keep_writes.specs.Causes.{HasCause};
-ghost use Rattle.keep_database.specs.Looks.{IsSecond, ShowsSecond};
+ghost use Rattle.keep_database.specs.Looks.{IsSecond, ShowsSecond, ShowsOther};
 
 use crate::looks::look;
 use crate::values::number_63;
@@ -37,6 +37,9 @@ pub fn has_second<S: Alter>(conn: &mut Connection<S>) -> Result<bool, KeepFault>
         → KeepsCommit (state S.Store conn.old) (state S.Store conn.new) }
     ensures second { HasCleanDisk (state S.Store conn.new) → result ≡ Ok true
         → ShowsSecond S.Store conn.old conn.new }
+    ensures other { HasCleanDisk (state S.Store conn.new) → result ≡ Ok false
+        → ShowsOther S.Store conn.old conn.new }
+    ensures why { HasCleanDisk (state S.Store conn.new) → IfErr result (HasCause S.Store conn.old conn.new) }
 {
     let found = look(conn, "SELECT version FROM form WHERE one = 1", &[])?;
     match is_second(&found) {
@@ -49,6 +52,7 @@ pub fn has_second<S: Alter>(conn: &mut Connection<S>) -> Result<bool, KeepFault>
 fn is_second(found: &[Row]) -> Result<(), KeepFault>
     ensures there { found.now ≡ (Int (pos 2) ∷ []) ∷ [] → result ≢ Err Failed }
     ensures second { OnOk result (IsSecond found.now) }
+    ensures other { OnErr result (¬ IsSecond found.now) }
     ensures pure { result ≢ Err NoMemory }
 {
     match found {
@@ -61,6 +65,7 @@ fn is_second(found: &[Row]) -> Result<(), KeepFault>
 fn is_two(row: &Row) -> Result<(), KeepFault>
     ensures there { row.now ≡ Int (pos 2) ∷ [] → result ≢ Err Failed }
     ensures two { OnOk result (column row.now 0 ≡ Int (pos 2)) }
+    ensures other { OnErr result (column row.now 0 ≢ Int (pos 2)) }
     ensures pure { result ≢ Err NoMemory }
 {
     let version = number_63(row, 0)?;

@@ -2,3 +2,4 @@ pub mod CauseLaws
 pub mod GrowLaws
 pub mod LeaveLaws
 pub mod ObjectLaws
+pub mod UnmadeLaws

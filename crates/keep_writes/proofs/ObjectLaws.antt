@@ -1,8 +1,9 @@
 -- What a look at the texts of a database shows.
-use Rattle.std.proofs.Common.{◌≡◌, ◌≤◌, ◌<◌, true, Result, Ok, Err, IfOk, OnOk, List, [], ◌∷◌, length, get_or}
+use Rattle.std.proofs.Common.{◌≡◌, ◌≤◌, ◌<◌, ℕ, true, Result, Ok, Err, IfOk, OnOk, List, [], ◌∷◌, length, get_or}
 use Rattle.std.proofs.Common.{refl, sym, ap, ◌∙◌, arith}
 use Rattle.sqlite_value.specs.Order.{Row, column}
 use Rattle.sqlite_value.specs.declared.value.Value.{Value}
+use Rattle.sqlite_value.specs.declared.value.Value.TheVariants.{Text}
 use Rattle.sqlite_tied.specs.Compute.{everything}
 use Rattle.sqlite_resolve.specs.Compile.{first}
 use Rattle.sqlite.specs.declared.error.Error.{Error}
@@ -52,3 +53,7 @@ three_rows (k ∷ l ∷ []) a b c x y z some few p q r u v w = absurd (omega (ar
 three_rows (k ∷ l ∷ m ∷ []) a b c x y z some few p q r u v w =
     rw (sym p ∙ u, sym q ∙ v, sym r ∙ w) refl
 three_rows (k ∷ l ∷ m ∷ n ∷ more) a b c x y z some few p q r u v w = absurd (omega (arith, few))
+
+-- texts that are stored as the same value are the same
+pub same_bytes : (s t : List ℕ) → ◌≡◌ {A = Value} (Text s) (Text t) → s ≡ t
+same_bytes s t is = cc

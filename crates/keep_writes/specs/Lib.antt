@@ -5,3 +5,4 @@ pub mod Counts
 -- How the tables of an office are made: from none, or from those of version 1.
 pub mod Growth
 pub mod Objects
+pub mod Unmade

@@ -1,14 +1,16 @@
 // The statements of a put of a day.
 ghost use Rattle.sqlite_value.specs.Order.{Row};
-ghost use Rattle.std.specs.Prelude.{◌≡◌, ◌<◌, ◌^◌, List, IsTrue, IfErr, OnOk};
+ghost use Rattle.sqlite_value.specs.declared.value.Value.TheVariants.{Int, Blob};
+ghost use Rattle.std.specs.Prelude.{◌≡◌, ◌<◌, ◌^◌, List, [], ◌∷◌, pos, Err, IsTrue, IfErr, OnOk};
 ghost use Rattle.std.specs.List.{AllByRecursion};
 ghost use Rattle.sqlite.specs.Held.{state};
-ghost use Rattle.sqlite.specs.State.{HasCleanDisk, Survives};
+ghost use Rattle.sqlite.specs.State.{HasCleanDisk, ExecutesInside, Survives};
 ghost use Rattle.keep_office.specs.declared.kept.DayRecord.{DayRecord};
 ghost use Rattle.keep_office.specs.Office.{Office};
 ghost use Rattle.keep_office.specs.Kept.{IsDayPut, IsLater, with_day};
 ghost use Rattle.keep_tables.specs.Stands.{Contents, Holds, HoldsAs, HasOffice, IsWholeDigest, with_record, with_seal};
 ghost use Rattle.keep_tables.specs.Steps.{StaysInside};
+ghost use Rattle.keep_tables.specs.Texts.{put_seal as put_seal_text};
 ghost use Rattle.keep_writes.specs.Causes.{RefusedOf};
 ghost use Rattle.keep_writes.specs.Writes.{WritesDay, WritesRecord, WritesSeal};
 
@@ -98,6 +100,10 @@ pub fn put_seal<S: Alter>(tx: &mut Transaction<'_, S>, day: u32, seal: &Digest) 
     ensures refused { HasCleanDisk (state S.Store tx.new.conn.now)
         → IsTrue (state S.Store tx.old.conn.now).in_transaction
         → IfErr result (RefusedOf S.Store (WritesSeal day seal.now) tx.old.conn.now tx.new.conn.now) }
+    ensures text { HasCleanDisk (state S.Store tx.new.conn.now)
+        → IsTrue (state S.Store tx.old.conn.now).in_transaction
+        → IfErr result (λ e. ExecutesInside 0 put_seal_text (Int (pos day) ∷ Blob seal.now.bytes ∷ [])
+        (state S.Store tx.old.conn.now) (state S.Store tx.new.conn.now) (Err e)) }
     ensures survives { Survives (state S.Store tx.old.conn.now) (state S.Store tx.new.conn.now) (λ _. ⊥) }
 {
     let bytes = bytes_of(&seal.bytes);

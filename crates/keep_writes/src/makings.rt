@@ -1,16 +1,18 @@
 // The making of tables, in one transaction.
-ghost use Rattle.std.specs.Prelude.{◌≡◌, false, IsTrue, IfOk, IfErr, OnOk, OnErr};
+ghost use Rattle.std.specs.Prelude.{◌≡◌, ◌≢◌, ◌⊎◌, false, [], IsTrue, IfOk, IfErr, OnOk, OnErr};
 ghost use Rattle.sqlite.specs.Held.{state};
 ghost use Rattle.sqlite.specs.Listing.{understood};
-ghost use Rattle.sqlite.specs.State.{HasCleanDisk, Survives, KeepsCommit, IsUnchanged};
+ghost use Rattle.sqlite.specs.State.{HasCleanDisk, Survives, KeepsCommit, IsNotRun, IsUnchanged};
 ghost use Rattle.sqlite.specs.declared.error.Error.TheVariants.{SqlInputError};
 ghost use Rattle.sqlite_resolve.specs.declared.error.CompileError.{CompileError};
 ghost use Rattle.keep_office.specs.Office.{Office};
 ghost use Rattle.keep_tables.specs.Stands.{HasOffice, HasOld, StandsForOffice};
 ghost use Rattle.keep_tables.specs.Steps.{StaysInside};
+ghost use Rattle.keep_tables.specs.Texts.{list_days};
 ghost use Rattle.keep_writes.specs.Growth.{Stood, IsUnderstood, SaysIf, LacksVersion, CommitsGrown, CommitsHere};
 ghost use Rattle.keep_writes.specs.Growth.{CommitsListed, CommitsOpen, CommitsSame};
 ghost use Rattle.keep_writes.specs.Objects.{Lists, MayBeMade, texts_of};
+ghost use Rattle.keep_writes.specs.Unmade.{IsUnmade, SeesCommitted};
 
 use crate::objects::{are_texts, list_texts};
 use crate::seals::seal_tables;
@@ -27,6 +29,7 @@ pub fn make<S: Alter>(conn: &mut Connection<S>, alloc: Global) -> Result<(), Err
         × OnErr result (StandsForOffice (state S.Store conn.new).committed o) }
     ensures left { HasCleanDisk (state S.Store conn.new) → ¬ MayBeMade (state S.Store conn.old).committed
         → KeepsCommit (state S.Store conn.old) (state S.Store conn.new) }
+    ensures why { HasCleanDisk (state S.Store conn.new) → IfErr result (IsUnmade S.Store conn.old conn.new) }
     ensures crash { Survives (state S.Store conn.old) (state S.Store conn.new) (CommitsSame
         (state S.Store conn.old).committed) }
 {
@@ -46,6 +49,9 @@ fn make_here<S: Alter>(conn: &mut Connection<S>, alloc: Global) -> Result<(), Er
         → OnErr result (KeepsCommit (state S.Store conn.old) (state S.Store conn.new)) }
     ensures left { HasCleanDisk (state S.Store conn.new) → ¬ MayBeMade (state S.Store conn.old).now
         → KeepsCommit (state S.Store conn.old) (state S.Store conn.new) }
+    ensures why { HasCleanDisk (state S.Store conn.new) → SeesCommitted (state S.Store conn.old)
+        → IfErr result (λ e. IsTrue (state S.Store conn.old).in_transaction
+        ⊎ IsUnmade S.Store conn.old conn.new e) }
     ensures crash { Survives (state S.Store conn.old) (state S.Store conn.new) (CommitsOpen (state S.Store conn.old)) }
 {
     if is_there(conn, "SELECT version FROM form WHERE one = 1")? {
@@ -65,6 +71,9 @@ fn grow_by<S: Alter>(conn: &mut Connection<S>, alloc: Global) -> Result<(), Erro
         → OnErr result (KeepsCommit (state S.Store conn.old) (state S.Store conn.new)) }
     ensures left { HasCleanDisk (state S.Store conn.new) → ¬ MayBeMade (state S.Store conn.old).now
         → KeepsCommit (state S.Store conn.old) (state S.Store conn.new) }
+    ensures why { HasCleanDisk (state S.Store conn.new) → SeesCommitted (state S.Store conn.old)
+        → IfErr result (λ e. IsTrue (state S.Store conn.old).in_transaction
+        ⊎ IsUnmade S.Store conn.old conn.new e) }
     ensures crash { Survives (state S.Store conn.old) (state S.Store conn.new) (CommitsHere (state S.Store conn.old)) }
 {
     let is_old = is_there(conn, "SELECT day FROM days ORDER BY day")?;
@@ -81,6 +90,10 @@ fn grow_listed<S: Alter>(conn: &mut Connection<S>, alloc: Global, is_old: bool) 
         → OnErr result (KeepsCommit (state S.Store conn.old) (state S.Store conn.new)) }
     ensures left { HasCleanDisk (state S.Store conn.new) → ¬ Lists (state S.Store conn.old).now (texts_of is_old)
         → KeepsCommit (state S.Store conn.old) (state S.Store conn.new) }
+    ensures why { HasCleanDisk (state S.Store conn.new) → SeesCommitted (state S.Store conn.old)
+        → SaysIf is_old (IsUnderstood (understood (state S.Store conn.old).now.schema list_days))
+        → IfErr result (λ e. IsTrue (state S.Store conn.old).in_transaction
+        ⊎ IsUnmade S.Store conn.old conn.new e) }
     ensures crash { Survives (state S.Store conn.old) (state S.Store conn.new) (CommitsListed is_old
         (state S.Store conn.old)) }
 {
@@ -99,6 +112,9 @@ fn grow<S: Alter>(conn: &mut Connection<S>, alloc: Global, is_old: bool) -> Resu
         → IsTrue (state S.Store conn.old).is_open }
     ensures refused { HasCleanDisk (state S.Store conn.new)
         → OnErr result (KeepsCommit (state S.Store conn.old) (state S.Store conn.new)) }
+    ensures why { HasCleanDisk (state S.Store conn.new)
+        → IfErr result (λ e. IsTrue (state S.Store conn.old).in_transaction
+        ⊎ IsUnmade S.Store conn.old conn.new e) }
     ensures crash { Survives (state S.Store conn.old) (state S.Store conn.new) (CommitsGrown is_old
         (state S.Store conn.old)) }
 {
@@ -124,6 +140,9 @@ fn write_tables<S: Alter>(
     ensures inside { HasCleanDisk (state S.Store tx.new.conn.now)
         → IsTrue (state S.Store tx.old.conn.now).in_transaction
         → StaysInside (state S.Store tx.old.conn.now) (state S.Store tx.new.conn.now) result }
+    ensures refused { HasCleanDisk (state S.Store tx.new.conn.now)
+        → IsTrue (state S.Store tx.old.conn.now).in_transaction
+        → IfErr result (IsUnmade S.Store tx.old.conn.now tx.new.conn.now) }
     ensures survives { Survives (state S.Store tx.old.conn.now) (state S.Store tx.new.conn.now) (λ _. ⊥) }
 {
     if is_old {
@@ -142,6 +161,9 @@ fn finish_tables<S: Alter>(tx: &mut Transaction<'_, S>, alloc: Global) -> Result
     ensures inside { HasCleanDisk (state S.Store tx.new.conn.now)
         → IsTrue (state S.Store tx.old.conn.now).in_transaction
         → StaysInside (state S.Store tx.old.conn.now) (state S.Store tx.new.conn.now) result }
+    ensures refused { HasCleanDisk (state S.Store tx.new.conn.now)
+        → IsTrue (state S.Store tx.old.conn.now).in_transaction
+        → IfErr result (IsUnmade S.Store tx.old.conn.now tx.new.conn.now) }
     ensures survives { Survives (state S.Store tx.old.conn.now) (state S.Store tx.new.conn.now) (λ _. ⊥) }
 {
     make_rest(tx)?;
@@ -157,6 +179,9 @@ fn is_there<S: Alter>(conn: &mut Connection<S>, sql: &str) -> Result<bool, Error
         → OnOk result (IsUnchanged (state S.Store conn.old) (state S.Store conn.new)) }
     ensures kept { HasCleanDisk (state S.Store conn.new)
         → KeepsCommit (state S.Store conn.old) (state S.Store conn.new) }
+    ensures refused { HasCleanDisk (state S.Store conn.new)
+        → IfErr result (λ e. IsNotRun (state S.Store conn.old) (state S.Store conn.new) sql.now [] e
+        × ((fault : CompileError) → e ≢ SqlInputError fault)) }
     ensures survives { Survives (state S.Store conn.old) (state S.Store conn.new) (λ _. ⊥) }
 {
     let Err(error) = conn.prepare(sql) else {
@@ -168,7 +193,7 @@ fn is_there<S: Alter>(conn: &mut Connection<S>, sql: &str) -> Result<bool, Error
 /// Whether a refusal says that something is not there; handed on where it does not.
 fn misses(error: Error) -> Result<bool, Error>
     ensures missed { IfOk result (λ is. (is ≡ false) × ((fault : CompileError) × (error ≡ SqlInputError fault))) }
-    ensures own { IfErr result (λ e. e ≡ error) }
+    ensures own { IfErr result (λ e. (e ≡ error) × ((fault : CompileError) → e ≢ SqlInputError fault)) }
 {
     match error {
         Error::SqlInputError(_) => Ok(false),

@@ -1,11 +1,12 @@
 // The texts of the tables that a database lists.
-ghost use Rattle.std.specs.Prelude.{◌≡◌, [], ◌∷◌, true, IfOk, OnOk};
+ghost use Rattle.std.specs.Prelude.{◌≡◌, ◌↔◌, [], ◌∷◌, true, IfOk, IfErr, OnOk, IsTrue};
 ghost use Rattle.sqlite_value.specs.declared.value.Value.TheVariants.{Text};
 ghost use Rattle.sqlite.specs.Held.{state};
-ghost use Rattle.sqlite.specs.State.{HasCleanDisk, Survives, KeepsCommit, IsUnchanged};
-ghost use Rattle.keep_writes.specs.Objects.{Lists, texts_of};
+ghost use Rattle.sqlite.specs.State.{HasCleanDisk, FailsToQuery, Survives, KeepsCommit, IsUnchanged};
+ghost use Rattle.keep_writes.specs.Objects.{list_texts as the_query, Lists, texts_of};
 
 use crate::tables::{DAYS, PAST, SPENT};
+use sqlite::types::ValueRef;
 use sqlite::{Alter, Connection, Error, Row};
 
 /// The texts of all that a database lists, in their order. An index that a key makes has none.
@@ -16,6 +17,8 @@ pub fn list_texts<S: Alter>(conn: &mut Connection<S>) -> Result<Vec<Row>, Error>
         → OnOk result (IsUnchanged (state S.Store conn.old) (state S.Store conn.new)) }
     ensures kept { HasCleanDisk (state S.Store conn.new)
         → KeepsCommit (state S.Store conn.old) (state S.Store conn.new) }
+    ensures refused { HasCleanDisk (state S.Store conn.new)
+        → IfErr result (FailsToQuery the_query [] (state S.Store conn.old) (state S.Store conn.new)) }
     ensures survives { Survives (state S.Store conn.old) (state S.Store conn.new) (λ _. ⊥) }
 {
     conn.query_all(
@@ -26,7 +29,7 @@ pub fn list_texts<S: Alter>(conn: &mut Connection<S>) -> Result<Vec<Row>, Error>
 
 /// Whether texts are those of version 1, or none.
 pub fn are_texts(is_old: bool, texts: &[Row]) -> bool
-    ensures { result ≡ true → texts.now ≡ texts_of is_old }
+    ensures { IsTrue result ↔ texts.now ≡ texts_of is_old }
 {
     if is_old {
         return are_old(texts);
@@ -36,7 +39,7 @@ pub fn are_texts(is_old: bool, texts: &[Row]) -> bool
 
 /// Whether they are those of version 1.
 fn are_old(texts: &[Row]) -> bool
-    ensures { result ≡ true → texts.now ≡ texts_of true }
+    ensures { IsTrue result ↔ texts.now ≡ texts_of true }
 {
     let [days, past, spent] = texts else {
         return false;
@@ -52,13 +55,13 @@ fn are_old(texts: &[Row]) -> bool
 
 /// Whether a row is a text alone.
 fn is_text(row: &Row, text: &str) -> bool
-    ensures { result ≡ true → row.now ≡ Text text.now ∷ [] }
+    ensures { IsTrue result ↔ row.now ≡ Text text.now ∷ [] }
 {
     if row.column_count() != 1 {
         return false;
     }
-    match row.get::<String>(0) {
-        Ok(found) => found.as_str() == text,
-        Err(_) => false,
+    match row.get_ref(0) {
+        Ok(ValueRef::Text(found)) => found == text.as_bytes(),
+        _ => false,
     }
 }

@@ -1,9 +1,12 @@
 // The seals of days that were kept before tariffs were.
-ghost use Rattle.std.specs.Prelude.{◌≡◌, [], pos, map, IsTrue, IfOk, OnOk};
+ghost use Rattle.std.specs.Prelude.{◌≡◌, ◌⊎◌, [], pos, map, IsTrue, IfOk, IfErr, OnOk};
 ghost use Rattle.sqlite_value.specs.Order.{column};
 ghost use Rattle.sqlite_value.specs.declared.value.Value.TheVariants.{Int};
 ghost use Rattle.sqlite.specs.Held.{state};
-ghost use Rattle.sqlite.specs.State.{HasCleanDisk, Survives, KeepsCommit, IsUnchanged, Shown};
+ghost use Rattle.sqlite.specs.Reading.{IsReadError};
+ghost use Rattle.sqlite.specs.State.{HasCleanDisk, FailsToQuery, Survives, KeepsCommit, IsUnchanged, Shown};
+ghost use Rattle.sqlite.specs.declared.error.Error.TheVariants.{SqliteFailure};
+ghost use Rattle.sqlite.specs.declared.error.ErrorCode.TheVariants.{OutOfMemory};
 ghost use Rattle.keep_office.specs.Kept.{seal_of};
 ghost use Rattle.keep_office.specs.Office.{Office};
 ghost use Rattle.keep_tables.specs.Shown.{number_columns};
@@ -11,6 +14,7 @@ ghost use Rattle.keep_tables.specs.Stands.{HoldsAs, contents_of};
 ghost use Rattle.keep_tables.specs.Steps.{StaysInside};
 ghost use Rattle.keep_tables.specs.Texts.{list_days};
 ghost use Rattle.keep_writes.specs.Growth.{IsUnsealed};
+ghost use Rattle.keep_writes.specs.Unmade.{HasNoDay, IsUnmade};
 
 use crate::day_writes::put_seal;
 use keep_office::seal;
@@ -29,6 +33,9 @@ pub fn seal_tables<S: Alter>(tx: &mut Transaction<'_, S>, alloc: Global) -> Resu
     ensures inside { HasCleanDisk (state S.Store tx.new.conn.now) → IsTrue (state S.Store tx.old.conn.now).is_open
         → IsTrue (state S.Store tx.old.conn.now).in_transaction
         → StaysInside (state S.Store tx.old.conn.now) (state S.Store tx.new.conn.now) result }
+    ensures refused { HasCleanDisk (state S.Store tx.new.conn.now)
+        → IsTrue (state S.Store tx.old.conn.now).in_transaction
+        → IfErr result (IsUnmade S.Store tx.old.conn.now tx.new.conn.now) }
     ensures survives { Survives (state S.Store tx.old.conn.now) (state S.Store tx.new.conn.now) (λ _. ⊥) }
 {
     let seal = seal_of_none(alloc)?;
@@ -38,7 +45,8 @@ pub fn seal_tables<S: Alter>(tx: &mut Transaction<'_, S>, alloc: Global) -> Resu
 
 /// The seal of no tariffs.
 fn seal_of_none(alloc: Global) -> Result<Digest, Error>
-    ensures { IfOk result (λ digest. digest ≡ seal_of []) }
+    ensures sealed { IfOk result (λ digest. digest ≡ seal_of []) }
+    ensures memory { IfErr result (λ e. e ≡ SqliteFailure OutOfMemory) }
 {
     let tariffs = Tariffs::new(alloc);
     match seal(alloc, &tariffs) {
@@ -57,6 +65,10 @@ fn all_days<S: Alter>(tx: &mut Transaction<'_, S>) -> Result<Vec<Row>, Error>
         → OnOk result (IsUnchanged (state S.Store tx.old.conn.now) (state S.Store tx.new.conn.now)) }
     ensures kept { HasCleanDisk (state S.Store tx.new.conn.now)
         → KeepsCommit (state S.Store tx.old.conn.now) (state S.Store tx.new.conn.now) }
+    ensures refused { HasCleanDisk (state S.Store tx.new.conn.now)
+        → IsTrue (state S.Store tx.old.conn.now).in_transaction
+        → IfErr result (FailsToQuery list_days [] (state S.Store tx.old.conn.now)
+        (state S.Store tx.new.conn.now)) }
     ensures survives { Survives (state S.Store tx.old.conn.now) (state S.Store tx.new.conn.now) (λ _. ⊥) }
 {
     tx.query_all("SELECT day FROM days ORDER BY day", &[])
@@ -77,6 +89,9 @@ fn seal_days<S: Alter>(
     ensures inside { HasCleanDisk (state S.Store tx.new.conn.now) → IsTrue (state S.Store tx.old.conn.now).is_open
         → IsTrue (state S.Store tx.old.conn.now).in_transaction
         → StaysInside (state S.Store tx.old.conn.now) (state S.Store tx.new.conn.now) result }
+    ensures refused { HasCleanDisk (state S.Store tx.new.conn.now)
+        → IsTrue (state S.Store tx.old.conn.now).in_transaction
+        → IfErr result (λ e. HasNoDay days.now e ⊎ IsUnmade S.Store tx.old.conn.now tx.new.conn.now e) }
     ensures survives { Survives (state S.Store tx.old.conn.now) (state S.Store tx.new.conn.now) (λ _. ⊥) }
 {
     'days: for row in days {
@@ -88,7 +103,8 @@ fn seal_days<S: Alter>(
 
 /// The number in a row.
 fn number_of(row: &Row) -> Result<u32, Error>
-    ensures { IfOk result (λ day. column row.now 0 ≡ Int (pos day)) }
+    ensures number { IfOk result (λ day. column row.now 0 ≡ Int (pos day)) }
+    ensures unread { IfErr result (IsReadError 0 (column row.now 0)) }
 {
     row.get::<u32>(0)
 }

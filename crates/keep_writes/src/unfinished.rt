@@ -1,7 +1,8 @@
 // Undoes what is under way.
-ghost use Rattle.std.specs.Prelude.{◌≡◌, false, IsTrue, IfErr, OnOk};
+ghost use Rattle.std.specs.Prelude.{◌≡◌, false, [], Err, IsTrue, IfErr, OnOk};
 ghost use Rattle.sqlite.specs.Held.{state};
-ghost use Rattle.sqlite.specs.State.{HasCleanDisk, KeepsCommit, Survives};
+ghost use Rattle.sqlite.specs.State.{HasCleanDisk, Executes, KeepsCommit, Survives};
+ghost use Rattle.keep_tables.specs.Texts.{undo};
 ghost use Rattle.keep_writes.specs.Causes.{RefusedIn};
 
 use sqlite::{Alter, Connection, Error};
@@ -16,6 +17,9 @@ pub fn settle<S: Alter>(conn: &mut Connection<S>) -> Result<(), Error>
         → KeepsCommit (state S.Store conn.old) (state S.Store conn.new) }
     ensures refused { HasCleanDisk (state S.Store conn.new)
         → IfErr result (RefusedIn S.Store conn.old conn.new) }
+    ensures undo { HasCleanDisk (state S.Store conn.new)
+        → IfErr result (λ e. IsTrue (state S.Store conn.old).in_transaction
+        × Executes undo [] (state S.Store conn.old) (state S.Store conn.new) (Err e)) }
     ensures survives { Survives (state S.Store conn.old) (state S.Store conn.new) (λ _. ⊥) }
 {
     if conn.is_autocommit() {

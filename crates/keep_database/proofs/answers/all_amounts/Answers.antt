@@ -18,8 +18,8 @@ found-preserved c rows fits is =
     (next_item rows c.found.rows.items i amount at.within (c.found.invariant rows fits is)
     (c.in_ok-amount.ensures.gives (get_or rows i amount) at.has row))
 
-pub returns-in_err-amount : goal.returns-in_err-amount
-returns-in_err-amount c rows fits is =
+pub returns-in_err-amount-clause-gives : goal.returns-in_err-amount-clause-gives
+returns-in_err-amount-clause-gives c rows fits is =
     let i = c.found.row-index in
     let any : SpentRow = record { day = 0; vid = 0; xway = 0; tolls = 0 } in
     let at = item_at spent_row FitsSpent rows i c.row-item.result any

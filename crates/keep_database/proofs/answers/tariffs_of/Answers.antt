@@ -28,8 +28,8 @@ found-preserved c ts are low is =
     ap (λ (l : Tariffs). fold with_entry l (drop (i + 1) ts)) set
     ∙ sym (ap (fold with_entry c.found.tariffs) (drop_more ts i e at.within)) ∙ c.found.invariant ts are low is
 
-pub returns-in_err-own : goal.returns-in_err-own
-returns-in_err-own c ts are low is =
+pub returns-in_err-own-clause-gives : goal.returns-in_err-own-clause-gives
+returns-in_err-own-clause-gives c ts are low is =
     let i = c.found.row-index in
     let e : ℕ × Tariff = (0, record { crowd = 0; speed = 0; factor = 0 }) in
     let at = item_at tariff_columns (λ (x : ℕ × Tariff). (x.0 < 2 ^ 8) × IsTariff x.1) ts i c.row-item.result e

@@ -9,7 +9,7 @@ use Rattle.keep_tables.proofs.PutLaws.{survives_both}
 use Rattle.keep_tables.proofs.StepLaws.{kept_then}
 use Rattle.keep_writes.specs.Causes.{WasRefusedIn}
 use Rattle.keep_database.proofs.GiveLaws.{refused_so, gives_weaker}
-use Rattle.keep_database.proofs.CauseSteps.{failure_is, failure_after}
+use Rattle.keep_database.proofs.CauseSteps.{failure_is, failure_after, wants_handed, wants_after}
 use Rattle.keep_database.proofs.LookLaws.{some_then, sealed_before}
 use Rattle.keep_database.proofs.StandLaws.{always}
 use Rattle.keep_database.proofs.calls.day.Goals as goal
@@ -56,3 +56,17 @@ returns-clause-version g c clean =
       now = c.ready.new.conn;
       shows = c.in_ok-ready.ensures.version (omega (arith, c.day.ensures.survives.clean));
     })
+
+pub returns-in_err-ready-clause-memory : goal.returns-in_err-ready-clause-memory
+returns-in_err-ready-clause-memory g c clean o stands none =
+    wants_handed g.S.Store c.args.conn.now c.ready.new.conn _ c.from_residual.result c.in_err-ready.field-0.0
+    c.from_residual.ensures.1 (c.in_err-ready.ensures.why clean o stands) none
+
+pub returns-clause-memory : goal.returns-clause-memory
+returns-clause-memory g c clean o stands none =
+    let early : HasCleanDisk (state g.S.Store c.ready.new.conn) = omega (arith, c.day.ensures.survives.clean) in
+    let there = c.in_ok-ready.ensures.stands early o stands in
+    wants_after g.S.Store c.args.conn.now c.ready.new.conn c.day.new.conn (c.ready.ensures.kept early)
+    c.ready.ensures.survives _
+    (c.day.ensures.memory clean o
+    (subst (λ (db : Database). HasOffice db o) (sym ((c.ready.ensures.kept early).committed there.0)) there.1) none)

@@ -1,18 +1,19 @@
-use Rattle.std.proofs.Common.{◌≡◌, List, length, ◌∙◌, sym, subst, arith, Option, refl}
+use Rattle.std.proofs.Common.{inr, ◌≡◌, List, length, ◌∙◌, sym, subst, arith, Option, refl}
 use Rattle.sqlite_value.specs.Order.{Row}
 use Rattle.sqlite.specs.Effect.{Database}
 use Rattle.sqlite.specs.Held.{state}
 use Rattle.sqlite.specs.State.{HasCleanDisk}
 use Rattle.keep_office.specs.declared.kept.DayRecord.{DayRecord}
 use Rattle.keep_office.specs.Office.{record_of}
+use Rattle.keep_tables.specs.Shown.{day_columns}
 use Rattle.keep_tables.specs.Stands.{HasOffice}
 use Rattle.keep_tables.proofs.AskLaws.{find_day_asks, find_seal_asks}
 use Rattle.keep_tables.proofs.PutLaws.{survives_both}
 use Rattle.keep_tables.proofs.StepLaws.{kept_then}
 use Rattle.keep_writes.specs.Causes.{WasRefusedIn}
-use Rattle.keep_database.proofs.GiveLaws.{gives_so, refused_so, record_fits}
+use Rattle.keep_database.proofs.GiveLaws.{gives_so, refused_so, record_fits, one_there}
 use Rattle.keep_database.proofs.LookLaws.{day_looks, seal_looks, some_then, committed_before}
-use Rattle.keep_database.proofs.CauseSteps.{failure_is, failure_after}
+use Rattle.keep_database.proofs.CauseSteps.{failure_is, failure_after, wants_handed, wants_after}
 use Rattle.keep_database.proofs.StandLaws.{always}
 use Rattle.keep_database.proofs.reads.day.Goals as goal
 
@@ -102,3 +103,24 @@ returns-clause-sealed g c clean =
         one = subst (λ (l : List Row). length l ≡ 1) c.deref-2.ensures.value h.1;
       };
     })
+
+pub returns-in_err-found-clause-memory : goal.returns-in_err-found-clause-memory
+returns-in_err-found-clause-memory g c clean o has none =
+    wants_handed g.S.Store c.args.conn.now c.look.new.conn _ c.from_residual.result c.in_err-found.field-0.0
+    c.from_residual.ensures.1 (c.in_err-found.ensures.why clean) none
+
+pub returns-in_err-seals-clause-memory : goal.returns-in_err-seals-clause-memory
+returns-in_err-seals-clause-memory g c clean o has none =
+    wants_after g.S.Store c.args.conn.now c.look.new.conn c.look-2.new.conn
+    (c.look.ensures.kept (omega (arith, c.look-2.ensures.survives.clean))) c.look.ensures.survives _
+    (wants_handed g.S.Store c.look.new.conn c.look-2.new.conn _ c.from_residual-in_err-seals.result
+    c.in_err-seals.field-0.0 c.from_residual-in_err-seals.ensures.1 (c.in_err-seals.ensures.why clean) none)
+
+pub returns-clause-memory : goal.returns-clause-memory
+returns-clause-memory g c clean o has none =
+    let early : HasCleanDisk (state g.S.Store c.look.new.conn) = omega (arith, c.look-2.ensures.survives.clean) in
+    inr
+    (one_there day_columns (record_of o c.args.day) c.in_ok-found.found.items
+    (day_looks g.S.Store c.args.conn.now c.look.new.conn o has c.in_ok-found.found.items c.args.day
+    (rw (c.params-to_sql.ensures) at (c.in_ok-found.ensures.shown early)))
+    (rw (sym c.deref.ensures.value) (c.day_of.ensures.memory none)))

@@ -1,16 +1,17 @@
-use Rattle.std.proofs.Common.{◌∙◌, sym, subst, arith, ℕ, refl}
+use Rattle.std.proofs.Common.{inr, ◌∙◌, sym, subst, arith, ℕ, refl}
 use Rattle.sqlite.specs.Effect.{Database}
 use Rattle.sqlite.specs.Held.{state}
 use Rattle.sqlite.specs.State.{HasCleanDisk}
 use Rattle.keep_office.specs.Office.{last_day}
+use Rattle.keep_tables.specs.Codec.{past_values}
 use Rattle.keep_tables.specs.Stands.{HasOffice}
 use Rattle.keep_tables.proofs.AskLaws.{find_last_asks, find_past_asks}
 use Rattle.keep_tables.proofs.PutLaws.{survives_both}
 use Rattle.keep_tables.proofs.StepLaws.{kept_then}
 use Rattle.keep_writes.specs.Causes.{WasRefusedIn}
-use Rattle.keep_database.proofs.GiveLaws.{gives_so, refused_so, past_based}
+use Rattle.keep_database.proofs.GiveLaws.{gives_so, refused_so, past_based, one_there}
 use Rattle.keep_database.proofs.LookLaws.{last_looks, past_looks}
-use Rattle.keep_database.proofs.CauseSteps.{failure_is, failure_after}
+use Rattle.keep_database.proofs.CauseSteps.{failure_is, failure_after, wants_handed, wants_after}
 use Rattle.keep_database.proofs.StandLaws.{always}
 use Rattle.keep_database.proofs.reads.last_day.Goals as goal
 
@@ -64,7 +65,7 @@ returns-clause-gives g c clean o has =
     let second = c.deref-2.ensures.value
     ∙ past_looks g.S.Store c.look.new.conn c.look-2.new.conn o still c.in_ok-found.found.items two in
     gives_so (WasRefusedIn g.S.Store c.args.conn.now c.look-2.new.conn) (λ (x : ℕ). x) c.last_of.result (last_day o)
-    (c.last_of.ensures o.days o.past has.fits.days (past_based o.past o.days o.rows has.fits.past has.sound.past)
+    (c.last_of.ensures.gives o.days o.past has.fits.days (past_based o.past o.days o.rows has.fits.past has.sound.past)
     first second)
 
 pub returns-clause-survives : goal.returns-clause-survives
@@ -74,3 +75,26 @@ returns-clause-survives g c =
 
 pub returns-clause-open : goal.returns-clause-open
 returns-clause-open g c clean = always c.last_of.result _ (c.in_ok-found.ensures.shown clean).is_open
+
+pub returns-in_err-days-clause-memory : goal.returns-in_err-days-clause-memory
+returns-in_err-days-clause-memory g c clean o has none =
+    wants_handed g.S.Store c.args.conn.now c.look.new.conn _ c.from_residual.result c.in_err-days.field-0.0
+    c.from_residual.ensures.1 (c.in_err-days.ensures.why clean) none
+
+pub returns-in_err-found-clause-memory : goal.returns-in_err-found-clause-memory
+returns-in_err-found-clause-memory g c clean o has none =
+    wants_after g.S.Store c.args.conn.now c.look.new.conn c.look-2.new.conn
+    (c.look.ensures.kept (omega (arith, c.look-2.ensures.survives.clean))) c.look.ensures.survives _
+    (wants_handed g.S.Store c.look.new.conn c.look-2.new.conn _ c.from_residual-in_err-found.result
+    c.in_err-found.field-0.0 c.from_residual-in_err-found.ensures.1 (c.in_err-found.ensures.why clean) none)
+
+pub returns-clause-memory : goal.returns-clause-memory
+returns-clause-memory g c clean o has none =
+    let early : HasCleanDisk (state g.S.Store c.look.new.conn) = omega (arith, c.look-2.ensures.survives.clean) in
+    let one = c.in_ok-days.ensures.shown early in
+    let still =
+    subst (λ (db : Database). HasOffice db o) (sym ((c.look.ensures.kept early).committed one.is_open)) has in
+    inr
+    (one_there past_values o.past c.in_ok-found.found.items
+    (past_looks g.S.Store c.look.new.conn c.look-2.new.conn o still c.in_ok-found.found.items
+    (c.in_ok-found.ensures.shown clean)) (rw (sym c.deref-2.ensures.value) (c.last_of.ensures.memory none)))

@@ -1,10 +1,11 @@
-use Rattle.std.proofs.Common.{◌∙◌, Option, refl}
+use Rattle.std.proofs.Common.{inr, sym, ◌∙◌, Option, refl}
 use Rattle.keep_office.specs.declared.kept.PastRecord.{PastRecord}
+use Rattle.keep_tables.specs.Codec.{past_values}
 use Rattle.keep_tables.proofs.AskLaws.{find_past_asks}
 use Rattle.keep_writes.specs.Causes.{WasRefusedIn}
-use Rattle.keep_database.proofs.GiveLaws.{gives_so, refused_so, past_based}
+use Rattle.keep_database.proofs.GiveLaws.{gives_so, refused_so, past_based, one_there}
 use Rattle.keep_database.proofs.LookLaws.{past_looks}
-use Rattle.keep_database.proofs.CauseSteps.{failure_is}
+use Rattle.keep_database.proofs.CauseSteps.{failure_is, wants_handed}
 use Rattle.keep_database.proofs.StandLaws.{always}
 use Rattle.keep_database.proofs.reads.past.Goals as goal
 
@@ -25,3 +26,15 @@ returns-clause-gives g c clean o has =
 
 pub returns-clause-open : goal.returns-clause-open
 returns-clause-open g c clean = always c.past_of.result _ (c.in_ok-found.ensures.shown clean).is_open
+
+pub returns-in_err-found-clause-memory : goal.returns-in_err-found-clause-memory
+returns-in_err-found-clause-memory g c clean o has none =
+    wants_handed g.S.Store c.args.conn.now c.look.new.conn _ c.from_residual.result c.in_err-found.field-0.0
+    c.from_residual.ensures.1 (c.in_err-found.ensures.why clean) none
+
+pub returns-clause-memory : goal.returns-clause-memory
+returns-clause-memory g c clean o has none =
+    inr
+    (one_there past_values o.past c.in_ok-found.found.items
+    (past_looks g.S.Store c.args.conn.now c.look.new.conn o has c.in_ok-found.found.items
+    (c.in_ok-found.ensures.shown clean)) (rw (sym c.deref.ensures.value) (c.past_of.ensures.memory none)))

@@ -1,14 +1,15 @@
-use Rattle.std.proofs.Common.{◌∙◌, ◌&&◌, nat_le, Vec, Global, refl}
+use Rattle.std.proofs.Common.{inr, sym, ◌∙◌, ◌&&◌, nat_le, Vec, Global, refl}
 use Rattle.std.proofs.lemmas.List.Kept.{IsStrictlySortedBy-filter}
 use Rattle.sqlite_keyed.proofs.ListLemmas.{all-filter}
 use Rattle.road_time.specs.declared.day.SpentRow.{SpentRow}
 use Rattle.keep_office.specs.Office.{row_cmp, rows_between}
+use Rattle.keep_tables.specs.Codec.{spent_row}
 use Rattle.keep_tables.specs.Stands.{FitsSpent}
 use Rattle.keep_tables.proofs.AskLaws.{list_spent_asks}
 use Rattle.keep_writes.specs.Causes.{WasRefusedIn}
-use Rattle.keep_database.proofs.GiveLaws.{gives_so, refused_so}
+use Rattle.keep_database.proofs.GiveLaws.{gives_so, refused_so, some_there}
 use Rattle.keep_database.proofs.LookLaws.{rows_look}
-use Rattle.keep_database.proofs.CauseSteps.{failure_is}
+use Rattle.keep_database.proofs.CauseSteps.{failure_is, wants_handed}
 use Rattle.keep_database.proofs.StandLaws.{always}
 use Rattle.keep_database.proofs.reads.rows.Goals as goal
 
@@ -35,3 +36,16 @@ returns-clause-gives g c clean o has =
 
 pub returns-clause-open : goal.returns-clause-open
 returns-clause-open g c clean = always c.amounts_of.result _ (c.in_ok-found.ensures.shown clean).is_open
+
+pub returns-in_err-found-clause-memory : goal.returns-in_err-found-clause-memory
+returns-in_err-found-clause-memory g c clean o has none =
+    wants_handed g.S.Store c.args.conn.now c.look.new.conn _ c.from_residual.result c.in_err-found.field-0.0
+    c.from_residual.ensures.1 (c.in_err-found.ensures.why clean) none
+
+pub returns-clause-memory : goal.returns-clause-memory
+returns-clause-memory g c clean o has none =
+    inr
+    (some_there spent_row (rows_between o c.args.from c.args.to) c.in_ok-found.found.items
+    (rows_look g.S.Store c.args.conn.now c.look.new.conn o has c.in_ok-found.found.items c.args.from c.args.to
+    (rw (c.params-to_sql.ensures, c.params-to_sql-2.ensures) at (c.in_ok-found.ensures.shown clean)))
+    (rw (sym c.deref.ensures.value) (c.amounts_of.ensures.memory none)))

@@ -1,10 +1,11 @@
-use Rattle.std.proofs.Common.{◌∙◌, refl}
+use Rattle.std.proofs.Common.{inr, sym, ◌∙◌, refl}
 use Rattle.road_time.specs.Rates.{Tariffs}
+use Rattle.keep_tables.specs.Shown.{tariff_columns}
 use Rattle.keep_tables.proofs.AskLaws.{find_tariffs_asks}
 use Rattle.keep_writes.specs.Causes.{WasRefusedIn}
-use Rattle.keep_database.proofs.GiveLaws.{gives_so, refused_so}
+use Rattle.keep_database.proofs.GiveLaws.{gives_so, refused_so, some_there}
 use Rattle.keep_database.proofs.LookLaws.{tariffs_look}
-use Rattle.keep_database.proofs.CauseSteps.{failure_is}
+use Rattle.keep_database.proofs.CauseSteps.{failure_is, wants_handed}
 use Rattle.keep_database.proofs.StandLaws.{always}
 use Rattle.keep_database.proofs.reads.tariffs.Goals as goal
 
@@ -19,9 +20,21 @@ returns-in_err-found-clause-gives g c clean o has =
 pub returns-clause-gives : goal.returns-clause-gives
 returns-clause-gives g c clean o has =
     gives_so (WasRefusedIn g.S.Store c.args.conn.now c.look.new.conn) (λ (x : Tariffs). x) c.tariffs_of.result o.tariffs
-    (c.tariffs_of.ensures o.tariffs has.sound.tariffs has.fits.tariffs
+    (c.tariffs_of.ensures.gives o.tariffs has.sound.tariffs has.fits.tariffs
     (c.deref.ensures.value ∙ tariffs_look g.S.Store c.args.conn.now c.look.new.conn o has c.in_ok-found.found.items
     (c.in_ok-found.ensures.shown clean)))
 
 pub returns-clause-open : goal.returns-clause-open
 returns-clause-open g c clean = always c.tariffs_of.result _ (c.in_ok-found.ensures.shown clean).is_open
+
+pub returns-in_err-found-clause-memory : goal.returns-in_err-found-clause-memory
+returns-in_err-found-clause-memory g c clean o has none =
+    wants_handed g.S.Store c.args.conn.now c.look.new.conn _ c.from_residual.result c.in_err-found.field-0.0
+    c.from_residual.ensures.1 (c.in_err-found.ensures.why clean) none
+
+pub returns-clause-memory : goal.returns-clause-memory
+returns-clause-memory g c clean o has none =
+    inr
+    (some_there tariff_columns o.tariffs c.in_ok-found.found.items
+    (tariffs_look g.S.Store c.args.conn.now c.look.new.conn o has c.in_ok-found.found.items
+    (c.in_ok-found.ensures.shown clean)) (rw (sym c.deref.ensures.value) (c.tariffs_of.ensures.memory none)))

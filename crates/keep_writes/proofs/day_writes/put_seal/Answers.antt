@@ -31,3 +31,8 @@ returns-in-Ok-clause-fits g c = whole_by c.args.seal.now c.bytes_of-bytes.ensure
 
 pub returns-in-Err-clause-fits : goal.returns-in-Err-clause-fits
 returns-in-Err-clause-fits g c = whole_by c.args.seal.now c.bytes_of-bytes.ensures.long c.bytes_of-bytes.ensures.each
+
+pub returns-in-Err-clause-text : goal.returns-in-Err-clause-text
+returns-in-Err-clause-text g c clean inside =
+    rw (c.params-to_sql.ensures, c.params-to_sql-2.ensures, c.bytes_of-bytes.ensures.same) at
+    (c.in-Err.ensures.runs clean inside)

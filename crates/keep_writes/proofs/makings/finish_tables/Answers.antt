@@ -4,6 +4,8 @@ use Rattle.sqlite.specs.State.{HasCleanDisk}
 use Rattle.keep_tables.specs.Stands.{contents_of}
 use Rattle.keep_tables.proofs.PutLaws.{stays_then, shows_then, survives_both}
 use Rattle.keep_writes.proofs.GrowLaws.{on_ok}
+use Rattle.keep_writes.proofs.CauseLaws.{err_handed, kept_inside}
+use Rattle.keep_writes.proofs.UnmadeLaws.{unmade_after, unmade_inside}
 use Rattle.keep_writes.proofs.makings.finish_tables.Goals as goal
 
 pub returns-clause-wrote : goal.returns-clause-wrote
@@ -42,3 +44,34 @@ returns-clause-survives g c =
     survives_both old second (state g.S.Store c.put_version.new.tx.conn.now)
     (survives_both old first second c.make_rest.ensures.survives c.seal_tables.ensures.survives)
     c.put_version.ensures.survives
+
+pub returns-in_err-make_rest-clause-refused : goal.returns-in_err-make_rest-clause-refused
+returns-in_err-make_rest-clause-refused g c clean inside =
+    err_handed c.from_residual.result c.in_err-make_rest.field-0.0 _ c.from_residual.ensures.1
+    (c.in_err-make_rest.ensures.refused clean inside)
+
+pub returns-in_err-seal_tables-clause-refused : goal.returns-in_err-seal_tables-clause-refused
+returns-in_err-seal_tables-clause-refused g c clean inside =
+    let old = c.args.tx.now.conn.now in
+    let first = c.make_rest.new.tx.conn.now in
+    let early : HasCleanDisk (state g.S.Store first) = omega (arith, c.seal_tables.ensures.survives.clean) in
+    let one = c.in_ok-make_rest.ensures.inside early inside in
+    err_handed c.from_residual-in_err-seal_tables.result c.in_err-seal_tables.field-0.0 _
+    c.from_residual-in_err-seal_tables.ensures.1
+    (unmade_after g.S.Store old first c.seal_tables.new.tx.conn.now _
+    (kept_inside (state g.S.Store old) (state g.S.Store first) one) c.make_rest.ensures.survives
+    (c.in_err-seal_tables.ensures.refused clean (one.mode ∙ inside)))
+
+pub returns-clause-refused : goal.returns-clause-refused
+returns-clause-refused g c clean inside =
+    let old = state g.S.Store c.args.tx.now.conn.now in
+    let first = state g.S.Store c.make_rest.new.tx.conn.now in
+    let second = state g.S.Store c.seal_tables.new.tx.conn.now in
+    let late : HasCleanDisk second = omega (arith, c.put_version.ensures.survives.clean) in
+    let early : HasCleanDisk first = omega (arith, late, c.seal_tables.ensures.survives.clean) in
+    let one = c.in_ok-make_rest.ensures.inside early inside in
+    let two = c.in_ok-seal_tables.ensures.inside late one.is_open (one.mode ∙ inside) in
+    unmade_inside g.S.Store c.args.tx.now.conn.now c.seal_tables.new.tx.conn.now c.put_version.new.tx.conn.now
+    c.put_version.result (shows_then old first second one two)
+    (survives_both old first second c.make_rest.ensures.survives c.seal_tables.ensures.survives)
+    (c.put_version.ensures.refused clean (two.mode ∙ (one.mode ∙ inside)))

@@ -1,8 +1,12 @@
-use Rattle.std.proofs.Common.{◌≡◌, refl, subst, rules}
+use Rattle.std.proofs.Common.{◌≡◌, inr, true, refl, sym, subst, rules, arith}
 use Rattle.sqlite.specs.Held.{state}
-use Rattle.sqlite.specs.State.{Survives}
+use Rattle.sqlite.specs.State.{HasCleanDisk, Survives}
 use Rattle.keep_writes.specs.Growth.{CommitsGrown}
 use Rattle.keep_writes.proofs.LeaveLaws.{grown_survives}
+use Rattle.sqlite.specs.Steps.{FailsToCommit}
+use Rattle.keep_writes.specs.Unmade.{IsUnmade}
+use Rattle.keep_writes.proofs.CauseLaws.{err_then, err_handed}
+use Rattle.keep_writes.proofs.UnmadeLaws.{commit_unmade, unmade_begun, unmade_before}
 use Rattle.keep_writes.proofs.makings.grow.Goals as goal
 
 pub returns-clause-crash : goal.returns-clause-crash
@@ -18,3 +22,33 @@ returns-clause-crash g c =
     let same : end ≡ c.conn-2-1.given.0 = search rules in
     subst (λ h. Survives (state g.S.Store old) (state g.S.Store h) (CommitsGrown c.args.is_old (state g.S.Store old)))
     same whole
+
+pub returns-in_err-write_tables-clause-why : goal.returns-in_err-write_tables-clause-why
+returns-in_err-write_tables-clause-why g c clean =
+    let last = c.write_tables.new.tx.conn.now in
+    let end = c.drop-tx.new.self.0 in
+    let begun = c.transaction-tx.ensures.begun in
+    let same : end ≡ c.conn-1.given.0 = search rules in
+    let late : HasCleanDisk (state g.S.Store end) = subst (λ h. HasCleanDisk (state g.S.Store h)) (sym same) clean in
+    let early : HasCleanDisk (state g.S.Store last) = omega (arith, late, c.drop-tx.ensures.survives.clean) in
+    err_handed c.from_residual.result c.in_err-write_tables.field-0.0 _ c.from_residual.ensures.1
+    (inr
+    (subst (λ k. IsUnmade g.S.Store c.args.conn.now k c.in_err-write_tables.field-0.0) same
+    (unmade_begun g.S.Store c.args.conn.now end _
+    (unmade_before g.S.Store (record c.args.conn.now { in_transaction = true }) last end _
+    ((rw begun at (c.in_err-write_tables.ensures.refused early)) refl) c.drop-tx.ensures.survives))))
+
+pub returns-clause-why : goal.returns-clause-why
+returns-clause-why g c clean =
+    let last = c.write_tables.new.tx.conn.now in
+    let end = c.commit.new.self.0 in
+    let begun = c.transaction-tx.ensures.begun in
+    let same : end ≡ c.conn-2-1.given.0 = search rules in
+    let late : HasCleanDisk (state g.S.Store end) = subst (λ h. HasCleanDisk (state g.S.Store h)) (sym same) clean in
+    let early : HasCleanDisk (state g.S.Store last) = omega (arith, late, c.commit.ensures.survives.clean) in
+    err_then c.commit.result (FailsToCommit (state g.S.Store last) (state g.S.Store end)) _ (c.commit.ensures.err late)
+    (λ e h. inr
+    (subst (λ k. IsUnmade g.S.Store c.args.conn.now k e) same
+    (commit_unmade g.S.Store c.args.conn.now last end e
+    ((rw begun at (c.in_ok-write_tables.ensures.inside early)) refl)
+    (rw begun at c.write_tables.ensures.survives) h)))

@@ -1,12 +1,16 @@
-use Rattle.std.proofs.Common.{sym, subst, arith}
+use Rattle.std.proofs.Common.{sym, subst, arith, inl, inr, refl}
 use Rattle.sqlite.specs.Effect.{Database}
 use Rattle.sqlite.specs.Held.{state}
 use Rattle.sqlite.specs.State.{HasCleanDisk}
 use Rattle.keep_tables.proofs.StepLaws.{kept_then}
-use Rattle.keep_writes.specs.Growth.{Stood}
+use Rattle.sqlite.specs.Listing.{understood}
+use Rattle.keep_tables.specs.Texts.{list_days}
+use Rattle.keep_writes.specs.Growth.{Stood, IsUnderstood, SaysIf}
 use Rattle.keep_writes.specs.Objects.{Lists, texts_of}
 use Rattle.keep_writes.proofs.GrowLaws.{on_err, stood_by}
 use Rattle.keep_writes.proofs.LeaveLaws.{here_survives}
+use Rattle.keep_writes.proofs.CauseLaws.{err_handed}
+use Rattle.keep_writes.proofs.UnmadeLaws.{settled_on, unmade_now, unmade_then}
 use Rattle.keep_writes.proofs.makings.grow_by.Goals as goal
 
 pub returns-clause-grown : goal.returns-clause-grown
@@ -50,3 +54,21 @@ returns-clause-crash g c =
     here_survives (state g.S.Store c.args.conn.now) (state g.S.Store c.is_there.new.conn)
     (state g.S.Store c.grow_listed.new.conn) c.in_ok-is_old.is_old
     c.in_ok-is_old.ensures.same c.in_ok-is_old.ensures.says c.is_there.ensures.survives c.grow_listed.ensures.crash
+
+pub returns-in_err-is_old-clause-why : goal.returns-in_err-is_old-clause-why
+returns-in_err-is_old-clause-why g c clean settled =
+    let refused = c.in_err-is_old.ensures.refused clean in
+    err_handed c.from_residual.result c.in_err-is_old.field-0.0 _ c.from_residual.ensures.1
+    (inr (unmade_now g.S.Store c.args.conn.now c.is_there.new.conn _
+    (inr (inl (list_days, (1, refl), refused.0, refused.1, settled)))))
+
+pub returns-clause-why : goal.returns-clause-why
+returns-clause-why g c clean settled =
+    let early : HasCleanDisk (state g.S.Store c.is_there.new.conn) = omega (arith, c.grow_listed.ensures.crash.clean) in
+    let same = (c.in_ok-is_old.ensures.same early).0 in
+    unmade_then g.S.Store c.args.conn.now c.is_there.new.conn c.grow_listed.new.conn c.grow_listed.result same.mode
+    (c.is_there.ensures.kept early) c.is_there.ensures.survives
+    (c.grow_listed.ensures.why clean (settled_on (state g.S.Store c.args.conn.now) (state g.S.Store c.is_there.new.conn)
+    settled same)
+    (subst (λ (d : Database). SaysIf c.in_ok-is_old.is_old (IsUnderstood (understood d.schema list_days)))
+    (sym same.now_is) (c.in_ok-is_old.ensures.says early)))

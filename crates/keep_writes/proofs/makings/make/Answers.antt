@@ -1,10 +1,12 @@
-use Rattle.std.proofs.Common.{sym, subst, ◌∙◌, arith}
+use Rattle.std.proofs.Common.{sym, subst, ◌∙◌, arith, inl}
 use Rattle.sqlite.specs.Effect.{Database}
 use Rattle.sqlite.specs.Held.{state}
 use Rattle.sqlite.specs.State.{HasCleanDisk}
 use Rattle.keep_tables.specs.Stands.{StandsForOffice}
 use Rattle.keep_writes.proofs.GrowLaws.{on_err, err_stands}
 use Rattle.keep_writes.proofs.LeaveLaws.{same_survives, left_there}
+use Rattle.keep_writes.proofs.CauseLaws.{err_handed}
+use Rattle.keep_writes.proofs.UnmadeLaws.{unmade_now, unmade_settled}
 use Rattle.keep_writes.proofs.makings.make.Goals as goal
 
 pub returns-in_err-settle-clause-stands : goal.returns-in_err-settle-clause-stands
@@ -38,3 +40,16 @@ returns-clause-crash g c =
     (state g.S.Store c.make_here.new.conn)
     (λ early here. c.in_ok-settle.ensures.settled early here) c.settle.ensures.kept c.settle.ensures.survives
     c.make_here.ensures.crash
+
+pub returns-in_err-settle-clause-why : goal.returns-in_err-settle-clause-why
+returns-in_err-settle-clause-why g c clean =
+    err_handed c.from_residual.result c.in_err-settle.field-0.0 _ c.from_residual.ensures.1
+    (unmade_now g.S.Store c.args.conn.now c.settle.new.conn _ (inl (c.in_err-settle.ensures.undo clean)))
+
+pub returns-clause-why : goal.returns-clause-why
+returns-clause-why g c clean =
+    let mid = c.settle.new.conn in
+    let early : HasCleanDisk (state g.S.Store mid) = omega (arith, c.make_here.ensures.crash.clean) in
+    unmade_settled g.S.Store c.args.conn.now mid c.make_here.new.conn c.make_here.result
+    (c.in_ok-settle.ensures.calm early) (c.settle.ensures.kept early) c.settle.ensures.survives
+    (c.make_here.ensures.why clean (c.in_ok-settle.ensures.settled early))

@@ -1,4 +1,4 @@
-use Rattle.std.proofs.Common.{Bool, sym, subst, ◌∙◌, arith}
+use Rattle.std.proofs.Common.{Bool, sym, subst, ◌∙◌, arith, inl, inr, refl}
 use Rattle.sqlite.specs.Effect.{Database}
 use Rattle.sqlite.specs.Held.{state}
 use Rattle.sqlite.specs.Listing.{understood}
@@ -10,6 +10,8 @@ use Rattle.keep_tables.proofs.StepLaws.{kept_then}
 use Rattle.keep_writes.specs.Objects.{MayBeMade}
 use Rattle.keep_writes.proofs.GrowLaws.{six_there}
 use Rattle.keep_writes.proofs.LeaveLaws.{open_survives}
+use Rattle.keep_writes.proofs.CauseLaws.{err_handed}
+use Rattle.keep_writes.proofs.UnmadeLaws.{settled_on, unmade_now, unmade_then}
 use Rattle.keep_writes.proofs.makings.make_here.Goals as goal
 
 pub returns-then-branch-clause-made : goal.returns-then-branch-clause-made
@@ -46,3 +48,18 @@ returns-clause-crash g c =
     c.in_ok-is_there.ensures.same
     (λ early. subst (λ (b : Bool). SaysIf b (IsUnderstood (understood old.now.schema find_version))) c.if-branch.false
     (c.in_ok-is_there.ensures.says early)) c.is_there.ensures.survives c.grow_by.ensures.crash
+
+pub returns-in_err-is_there-clause-why : goal.returns-in_err-is_there-clause-why
+returns-in_err-is_there-clause-why g c clean settled =
+    let refused = c.in_err-is_there.ensures.refused clean in
+    err_handed c.from_residual.result c.in_err-is_there.field-0.0 _ c.from_residual.ensures.1
+    (inr (unmade_now g.S.Store c.args.conn.now c.is_there.new.conn _
+    (inr (inl (find_version, (0, refl), refused.0, refused.1, settled)))))
+
+pub returns-clause-why : goal.returns-clause-why
+returns-clause-why g c clean settled =
+    let early : HasCleanDisk (state g.S.Store c.is_there.new.conn) = omega (arith, c.grow_by.ensures.crash.clean) in
+    unmade_then g.S.Store c.args.conn.now c.is_there.new.conn c.grow_by.new.conn c.grow_by.result
+    (c.in_ok-is_there.ensures.same early).0.mode (c.is_there.ensures.kept early) c.is_there.ensures.survives
+    (c.grow_by.ensures.why clean (settled_on (state g.S.Store c.args.conn.now) (state g.S.Store c.is_there.new.conn)
+    settled (c.in_ok-is_there.ensures.same early).0))

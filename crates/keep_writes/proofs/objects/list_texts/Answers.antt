@@ -27,3 +27,6 @@ returns-clause-survives g c =
     survives_weaker (state g.S.Store c.args.conn.now) (state g.S.Store c.query_all.new.self) _ (λ _. ⊥)
     (λ _ db. asked_commits_nothing list_texts [] (state g.S.Store c.args.conn.now) db list_texts_asks)
     c.query_all.ensures.survives
+
+pub returns-clause-refused : goal.returns-clause-refused
+returns-clause-refused g c clean = c.query_all.ensures.err clean

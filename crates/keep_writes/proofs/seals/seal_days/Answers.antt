@@ -1,4 +1,4 @@
-use Rattle.std.proofs.Common.{◌≡◌, ◌<◌, pos, [], List, take, get_or, length, sym, ap, subst, ◌∙◌, arith}
+use Rattle.std.proofs.Common.{◌≡◌, ◌<◌, pos, [], List, Some, inl, inr, refl, take, get_or, length, sym, ap, subst, ◌∙◌, arith}
 use Rattle.std.proofs.lemmas.List.{take_more}
 use Rattle.sqlite_value.specs.declared.value.Value.TheVariants.{Int}
 use Rattle.sqlite_value.specs.Order.{Row, column}
@@ -9,6 +9,11 @@ use Rattle.keep_office.specs.declared.kept.DayRecord.{DayRecord}
 use Rattle.keep_tables.specs.Stands.{HoldsAs, contents_of}
 use Rattle.keep_tables.proofs.PutLaws.{shows_then}
 use Rattle.keep_writes.proofs.GrowLaws.{days_under, row_of_day, seal_at, no_day, same_number}
+use Rattle.std.proofs.lemmas.Option.{slice_get-get_or}
+use Rattle.keep_tables.specs.Texts.{put_seal}
+use Rattle.keep_tables.proofs.StepLaws.{kept_then}
+use Rattle.keep_writes.proofs.CauseLaws.{err_handed, kept_inside}
+use Rattle.keep_writes.proofs.UnmadeLaws.{text_unmade, unmade_after}
 use Rattle.keep_writes.proofs.seals.seal_days.Goals as goal
 
 pub days-preserved : goal.days-preserved
@@ -34,7 +39,7 @@ days-preserved g c =
           let r : DayRecord = get_or o.days i no_day in
           let row : column c.row-item.result 0 ≡ Int (pos r.day) =
           ap (λ l. column l 0) (c.row-item.is ∙ ap (λ (l : List Row). get_or l i c.row-item.result) is ∙ at.1) in
-          let day : r.day ≡ c.in_ok-day.day = same_number r.day c.in_ok-day.day (sym row ∙ c.in_ok-day.ensures) in
+          let day : r.day ≡ c.in_ok-day.day = same_number r.day c.in_ok-day.day (sym row ∙ c.in_ok-day.ensures.number) in
           let put =
           c.in_ok-put_seal.ensures.puts clean (kept.2 (before clean) inside) []
           (record (contents_of o) { sealed = take i o.days }) so_far r day
@@ -42,4 +47,29 @@ days-preserved g c =
           (days_under o.days i no_day unsealed.sound.days_rise at.0) in
           subst (λ (l : List DayRecord). HoldsAs [] new.now (record (contents_of o) { sealed = l }))
           (sym (take_more o.days i no_day at.0)) put,
+      λ clean inside. kept_then old mid new (kept.5 (before clean) inside)
+          (kept_inside mid new (c.in_ok-put_seal.ensures.inside clean (kept.2 (before clean) inside))),
     )
+
+pub returns-in_err-day-clause-refused : goal.returns-in_err-day-clause-refused
+returns-in_err-day-clause-refused g c clean inside =
+    err_handed c.from_residual.result c.in_err-day.field-0.0 _ c.from_residual.ensures.1
+    (inl (record {
+      place = c.days.row-index;
+      row = c.row-item.result;
+      is_one = slice_get-get_or c.args.days.now c.days.row-index c.row-item.result c.days-test.true
+          ∙ ap Some (sym c.row-item.is);
+      unread = c.in_err-day.ensures.unread;
+    }))
+
+pub returns-in_err-put_seal-clause-refused : goal.returns-in_err-put_seal-clause-refused
+returns-in_err-put_seal-clause-refused g c clean inside =
+    let mid = c.days.tx.conn.now in
+    let kept = c.days.invariant in
+    let early : HasCleanDisk (state g.S.Store mid) = omega (arith, c.put_seal.ensures.survives.clean) in
+    err_handed c.from_residual-in_err-put_seal.result c.in_err-put_seal.field-0.0 _
+    c.from_residual-in_err-put_seal.ensures.1
+    (inr (unmade_after g.S.Store c.args.tx.now.conn.now mid c.put_seal.new.tx.conn.now _ (kept.5 early inside) kept.1
+    (text_unmade g.S.Store mid c.put_seal.new.tx.conn.now _ put_seal _
+    (inr (c.in_ok-day.day, c.args.seal.now, (refl, refl))) (kept.2 early inside)
+    (c.in_err-put_seal.ensures.text clean (kept.2 early inside)))))

@@ -1,6 +1,6 @@
 use Rattle.std.proofs.Common.{◌≡◌, [], take, map, IsTrue}
 use Rattle.sqlite.specs.Held.{state}
-use Rattle.sqlite.specs.State.{HasCleanDisk, Survives, Shows}
+use Rattle.sqlite.specs.State.{HasCleanDisk, KeepsCommit, Survives, Shows}
 use Rattle.keep_office.specs.Kept.{seal_of}
 use Rattle.keep_office.specs.Office.{Office}
 use Rattle.keep_tables.specs.Shown.{number_columns}
@@ -20,3 +20,4 @@ invariant-days g l =
     × (HasCleanDisk now → IsTrue old.in_transaction → (o : Office) → IsUnsealed old.now o → l.seal ≡ seal_of [] →
     l.days ≡ map number_columns o.days
     → HoldsAs [] now.now (record (contents_of o) { sealed = take l.row-index o.days }))
+    × (HasCleanDisk now → IsTrue old.in_transaction → KeepsCommit old now)

@@ -1,10 +1,12 @@
-use Rattle.std.proofs.Common.{[], ◌∙◌, sym, subst, IsTrue, arith}
+use Rattle.std.proofs.Common.{[], ◌∙◌, inl, inr, sym, subst, IsTrue, arith}
 use Rattle.sqlite.specs.Effect.{Database}
 use Rattle.sqlite.specs.Held.{state}
 use Rattle.sqlite.specs.State.{HasCleanDisk}
 use Rattle.keep_tables.specs.Stands.{contents_of}
 use Rattle.keep_tables.proofs.DayReadLaws.{days_shown}
 use Rattle.keep_writes.specs.Growth.{IsUnsealed}
+use Rattle.keep_writes.proofs.CauseLaws.{err_handed, err_then}
+use Rattle.keep_writes.proofs.UnmadeLaws.{unmade_now, seals_unmade}
 use Rattle.keep_writes.proofs.seals.seal_tables.Goals as goal
 
 pub returns-clause-seals : goal.returns-clause-seals
@@ -17,4 +19,28 @@ returns-clause-seals g c clean inside o unsealed =
     unsealed.sound.days_rise (c.in_ok-days.ensures.shown early) in
     let still = subst (λ (d : Database). IsUnsealed d o) (sym same.0.now_is) unsealed in
     let within : IsTrue mid.in_transaction = same.0.mode ∙ inside in
-    c.seal_days.ensures.seals clean within o still c.in_ok-seal.ensures (c.deref.ensures.value ∙ listed)
+    c.seal_days.ensures.seals clean within o still c.in_ok-seal.ensures.sealed (c.deref.ensures.value ∙ listed)
+
+pub returns-in_err-seal-clause-refused : goal.returns-in_err-seal-clause-refused
+returns-in_err-seal-clause-refused g c clean inside =
+    err_handed c.from_residual.result c.in_err-seal.field-0.0 _ c.from_residual.ensures.1
+    (unmade_now g.S.Store c.args.tx.now.conn.now c.args.tx.now.conn.now _
+    (inr (inr (inr (inr (inr (inr (inside, c.in_err-seal.ensures.memory))))))))
+
+pub returns-in_err-days-clause-refused : goal.returns-in_err-days-clause-refused
+returns-in_err-days-clause-refused g c clean inside =
+    err_handed c.from_residual-in_err-days.result c.in_err-days.field-0.0 _ c.from_residual-in_err-days.ensures.1
+    (unmade_now g.S.Store c.args.tx.now.conn.now c.all_days.new.tx.conn.now _
+    (inr (inr (inl (inr (inside, c.in_err-days.ensures.refused clean inside))))))
+
+pub returns-clause-refused : goal.returns-clause-refused
+returns-clause-refused g c clean inside =
+    let old = c.args.tx.now.conn.now in
+    let mid = c.all_days.new.tx.conn.now in
+    let early : HasCleanDisk (state g.S.Store mid) = omega (arith, c.seal_days.ensures.survives.clean) in
+    let within : IsTrue (state g.S.Store mid).in_transaction = (c.in_ok-days.ensures.same early).0.mode ∙ inside in
+    err_then c.seal_days.result _ _ (c.seal_days.ensures.refused clean within)
+    (λ e h. seals_unmade g.S.Store old mid c.seal_days.new.tx.conn.now e c.in_ok-days.days.items _ c.deref.ensures.value
+    inside
+    (c.in_ok-days.ensures.shown early) (c.in_ok-days.ensures.kept early) c.all_days.ensures.survives
+    c.seal_days.ensures.survives h)

@@ -41,3 +41,6 @@ pub returns-in-Err-clause-refused : goal.returns-in-Err-clause-refused
 returns-in-Err-clause-refused g c clean =
     refused_now g.S.Store c.args.conn.now c.execute.new.self undo _ c.in-Err.error
     (inl (refl, refl, search rules, c.in-Err.ensures.runs clean))
+
+pub returns-in-Err-clause-undo : goal.returns-in-Err-clause-undo
+returns-in-Err-clause-undo g c clean = (search rules, c.in-Err.ensures.runs clean)

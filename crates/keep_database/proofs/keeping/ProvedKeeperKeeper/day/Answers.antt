@@ -47,3 +47,7 @@ returns-clause-sealed g c clean = rw c.count.ensures.same (c.day-answer.ensures.
 
 pub returns-clause-version : goal.returns-clause-version
 returns-clause-version g c clean = rw c.count.ensures.same (c.day-answer.ensures.version clean)
+
+pub returns-clause-memory : goal.returns-clause-memory
+returns-clause-memory g c clean o stands none =
+    c.day-answer.ensures.memory clean o stands (sym c.count.ensures.same ∙ none)

@@ -42,3 +42,7 @@ returns-clause-why g c clean o stands failed =
 
 pub returns-clause-version : goal.returns-clause-version
 returns-clause-version g c clean = rw c.count.ensures.same (c.tariffs-answer.ensures.version clean)
+
+pub returns-clause-memory : goal.returns-clause-memory
+returns-clause-memory g c clean o stands none =
+    c.tariffs-answer.ensures.memory clean o stands (sym c.count.ensures.same ∙ none)

@@ -1,10 +1,14 @@
 use Rattle.std.proofs.Common.{◌≡◌, Bool, IsTrue, Some, sym, subst}
 use Rattle.sqlite.specs.Held.{state}
 use Rattle.sqlite.specs.State.{HasCleanDisk}
+use Rattle.sqlite.specs.declared.error.Error.TheVariants.{SqliteFailure}
+use Rattle.sqlite.specs.declared.error.ErrorCode.TheVariants.{OutOfMemory}
 use Rattle.sqlite.proofs.StateLemmas.{clean_if_open}
 use Rattle.keep_tables.specs.Told.{told_in}
 use Rattle.keep_tables.proofs.StandLaws.{told_if_stands}
-use Rattle.keep_database.proofs.TellLaws.{either_stands, made_has, made_quiet, quiet_made}
+use Rattle.keep_writes.specs.Unmade.{IsUnmade}
+use Rattle.keep_writes.proofs.UnmadeLaws.{told_of, unmade_told}
+use Rattle.keep_database.proofs.TellLaws.{either_stands, made_has, made_quiet, quiet_made, same_told}
 use Rattle.keep_database.proofs.proved.ProvedKeeper.adopt.Goals as goal
 
 pub returns-clause-stands : goal.returns-clause-stands
@@ -35,3 +39,14 @@ returns-clause-quiet g c none =
 pub returns-clause-told : goal.returns-clause-told
 returns-clause-told g c none =
     c.why_unmade.ensures.made (quiet_made c.make-made.result c.error_of.result none c.error_of.ensures)
+
+pub returns-clause-why : goal.returns-clause-why
+returns-clause-why g c clean =
+    unmade_told g.S.Store c.args.connection c.make-made.new.conn c.error_of.result
+    (told_of c.make-made.result c.error_of.result (IsUnmade g.S.Store c.args.connection c.make-made.new.conn)
+    (c.make-made.ensures.why clean) c.error_of.ensures)
+
+pub returns-clause-memory : goal.returns-clause-memory
+returns-clause-memory g c =
+    let told = same_told c.make-made.result c.error_of.result (SqliteFailure OutOfMemory) c.error_of.ensures in
+    (λ is. told.0 (c.why_unmade.ensures.memory.0 is), λ is. c.why_unmade.ensures.memory.1 (told.1 is))
