@@ -112,8 +112,8 @@ never_given see Failed x h pure = h
 
 -- what is not so anyway is not so where a call fails
 pub always_not : {T E : Type 0} (r : Result T E) (P : Type 0) → ¬ P → OnErr r (¬ P)
-always_not (Ok x) P no = tt
-always_not (Err e) P no = no
+always_not (Ok x) P never = tt
+always_not (Err e) P never = never
 
 -- a row of what may be there is of what is there
 pub one_there : {X : Type 0} (row : X → Row) (x : Option X) (found : List Row) → found ≡ row_if_any row x →

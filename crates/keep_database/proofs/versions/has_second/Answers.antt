@@ -20,8 +20,8 @@ returns-in_err-found-clause-why g c clean =
     err_handed c.from_residual.result c.in_err-found.field-0.0 _ c.from_residual.ensures.1
     (c.in_err-found.ensures.why clean)
 
-pub returns-in-Err-clause-other : goal.returns-in-Err-clause-other
-returns-in-Err-clause-other g c clean is =
+pub returns-clause-other : goal.returns-clause-other
+returns-clause-other g c clean is =
     record {
       rows = c.in_ok-found.found.items;
       shown = c.in_ok-found.ensures.shown clean;
