@@ -23,7 +23,6 @@ use keep_office::KeepFault;
 use keep_trees::PageTrees;
 use sqlite::Connection;
 use sqlite_pages::Pages;
-use std::alloc::Global;
 use std::rt::HostRuntime;
 
 /// A database that is opened when it is first asked for: by its trees where it is exactly ours or new, or whole. A
@@ -156,7 +155,7 @@ impl<S: Opens<P>, P: Pages + Drop> Database<S, P> {
             Ok(conn) => conn,
             Err(cause) => return Err(say(&mut self.cause, cause)),
         };
-        match adopted(self.rt.alloc(), conn) {
+        match adopted(&self.rt, conn) {
             Ok(kept) => self.put_whole(kept, call),
             Err(cause) => Err(say(&mut self.cause, cause)),
         }
@@ -232,7 +231,7 @@ impl<S: Opens<P>, P: Pages + Drop> Database<S, P> {
         ensures ready { IfOk result (IsReadyToRead (AreFound P.Pages) (λ k. k.unmade ≢ Some NoMemory) None) }
         ensures refused { IfErr result (IsUnread S.Opens.refuses (string_bytes self.now.path)) }
     {
-        let kept = match adopted(self.rt.alloc(), conn) {
+        let kept = match adopted(&self.rt, conn) {
             Ok(kept) => kept,
             Err(cause) => return Err(cause),
         };
@@ -283,7 +282,7 @@ fn whole<S: Opens<P>, P: Pages + Drop>(
     ensures ready { IfOk result (IsReadyToRead (AreFound P.Pages) (λ k. k.unmade ≢ Some NoMemory) None) }
     ensures unmade { IfErr result (LacksTables S) }
 {
-    match adopted(rt.alloc(), conn) {
+    match adopted(rt, conn) {
         Ok(kept) => Ok(Kept::Whole(kept)),
         Err(cause) => Err(cause),
     }
@@ -302,12 +301,14 @@ fn held_again<S: Opens<P>, P: Pages + Drop>(
     }
 }
 
-/// The keeper on a connection. Where there was no memory to make its tables, the connection is let go.
-fn adopted<S: Steady>(alloc: Global, conn: Connection<S>) -> Result<ProvedKeeper<S>, Cause>
+/// The keeper on a connection, which gets its clock. Where there was no memory to make its tables, the connection is
+/// let go.
+fn adopted<S: Steady>(rt: &HostRuntime, mut conn: Connection<S>) -> Result<ProvedKeeper<S>, Cause>
     ensures made { IfOk result (λ kept. kept.unmade ≢ Some NoMemory) }
     ensures unmade { IfErr result (LacksTables S) }
 {
-    let kept = ProvedKeeper::adopt(alloc, conn);
+    conn.set_clock(rt);
+    let kept = ProvedKeeper::adopt(rt.alloc(), conn);
     match kept.unmade() {
         Some(KeepFault::NoMemory) => Err(Cause::Memory),
         _ => Ok(kept),

@@ -23,7 +23,6 @@ mod closing;
 mod database;
 mod file_calls;
 mod file_keeper;
-mod keeper_calls;
 mod keeper_in;
 mod kept;
 mod kept_file;

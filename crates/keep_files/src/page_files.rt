@@ -107,7 +107,9 @@ fn listed<P: Pages>(alloc: Global, pages: P) -> Result<PageTrees<P>, P>
     }
 }
 
-/// A connection over files, which are read and checked whole.
+// No clock is set here: the proof of a call of a connection over a store of files that is named costs twenty seconds.
+
+/// A connection over files, which are read and checked whole. Its clock is set as a keeper takes it over.
 pub fn connected<D: Disk + Drop>(
     rt: &HostRuntime,
     files: Files<D>,
@@ -119,10 +121,7 @@ pub fn connected<D: Disk + Drop>(
         return Err(Cause::DiskFailed);
     }
     match Connection::open_files_with(rt.alloc(), files, Options::new(seed), false) {
-        Ok(mut conn) => {
-            conn.set_clock(rt);
-            Ok(conn)
-        }
+        Ok(conn) => Ok(conn),
         Err((error, _left)) => Err(cause_of(error)),
     }
 }
