@@ -1,5 +1,5 @@
 -- what a writer posted, by its page and the posts that wait
-use Rattle.std.proofs.Common.{◌≡◌, List, [], ◌∷◌, ◌++◌, Some, refl, sym, ap, ◌∙◌}
+use Rattle.std.proofs.Common.{◌≡◌, List, [], ◌∷◌, ◌++◌, refl, sym, ap, ◌∙◌}
 use Rattle.std.proofs.lemmas.List.{append_assoc, append-nil}
 use Rattle.std.proofs.lemmas.List.Sums.{fold-append}
 use Rattle.std.specs.List.{fold}
@@ -10,7 +10,7 @@ use Rattle.serve_board.specs.declared.page.Post.{Post}
 use Rattle.serve_board.specs.declared.page.Post.TheVariants.{Changed, Reached}
 use Rattle.serve_board.specs.OperationLog.{Reach}
 use Rattle.serve_board.specs.Changes.{operation_of, operations_of, page_with, posted_on}
-use Rattle.serve_board.specs.Passes.{HoldsBeginning}
+use Rattle.serve_board.specs.Passes.{HasAll}
 
 -- a change that is put behind posts
 pub operations_more : (ps : List Post) (c : Change) →
@@ -79,26 +79,20 @@ log_is x y ps qs rs c f front had same is more shown =
     ∙ (append_assoc x.front.log (operations_of ps) (operation_of c ∷ [])
     ∙ (ap (λ os. x.front.log ++ os) (sym waits) ∙ ap (λ (p : Page). p.front.log ++ operations_of rs) (sym same))))
 
--- the beginning of the history has what is published and queued, where the change waits
-pub held_queued : (front next : Reach) (o : Operation) (p p' : Posted) → front.log ≡ p.published ++ p.queued →
-    next ≡ reach_with o front → p' ≡ queued_with o p → HoldsBeginning front.book p' (Some next)
-held_queued front next o p p' had is after f same =
-    let here : f ≡ reach_with o front = (let e : next ≡ f = cc same in sym e ∙ is) in (
-      ap (λ (r : Reach). r.book) here,
-      ap (λ (r : Reach). r.log) here
-          ∙ (ap (λ os. os ++ o ∷ []) had
-          ∙ (append_assoc p.published p.queued (o ∷ []) ∙ ap (λ (q : Posted). q.published ++ q.queued) (sym after))),
-    )
+-- the history has what is published and queued, where the change waits
+pub held_queued : (tip next : Reach) (o : Operation) (p p' : Posted) → HasAll tip.log p → next ≡ reach_with o tip →
+    p' ≡ queued_with o p → HasAll next.log p'
+held_queued tip next o p p' had is after =
+    ap (λ (r : Reach). r.log) is
+    ∙ (ap (λ os. os ++ o ∷ []) had
+    ∙ (append_assoc p.published p.queued (o ∷ []) ∙ ap (λ (q : Posted). q.published ++ q.queued) (sym after)))
 
 -- and where it is published
-pub held_posted : (front next : Reach) (o : Operation) (p p' : Posted) → front.log ≡ p.published ++ p.queued →
-    next ≡ reach_with o front → p' ≡ posted_with o p → HoldsBeginning front.book p' (Some next)
-held_posted front next o p p' had is after f same =
-    let here : f ≡ reach_with o front = (let e : next ≡ f = cc same in sym e ∙ is) in (
-      ap (λ (r : Reach). r.book) here,
-      ap (λ (r : Reach). r.log) here
-          ∙ (ap (λ os. os ++ o ∷ []) had
-          ∙ (append_assoc p.published p.queued (o ∷ [])
-          ∙ (sym (append-nil (p.published ++ (p.queued ++ o ∷ [])))
-          ∙ ap (λ (q : Posted). q.published ++ q.queued) (sym after)))),
-    )
+pub held_posted : (tip next : Reach) (o : Operation) (p p' : Posted) → HasAll tip.log p → next ≡ reach_with o tip →
+    p' ≡ posted_with o p → HasAll next.log p'
+held_posted tip next o p p' had is after =
+    ap (λ (r : Reach). r.log) is
+    ∙ (ap (λ os. os ++ o ∷ []) had
+    ∙ (append_assoc p.published p.queued (o ∷ [])
+    ∙ (sym (append-nil (p.published ++ (p.queued ++ o ∷ [])))
+    ∙ ap (λ (q : Posted). q.published ++ q.queued) (sym after))))

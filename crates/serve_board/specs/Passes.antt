@@ -1,8 +1,7 @@
 -- What a reader saw, what a writer published and tells, and what answers say.
-use Rattle.std.specs.Prelude.{◌≡◌, ℕ, ◌^◌, ◌<◌, List, [], ◌++◌, refl, Option, Some}
+use Rattle.std.specs.Prelude.{◌≡◌, ℕ, ◌^◌, ◌<◌, List, [], ◌++◌, refl}
 use Rattle.std.specs.Coded.{Coded, code_by, coded×, coded_ℕ, coded_list}
 use Rattle.day_floor.specs.Operations.{Operation, Posted}
-use Rattle.logbook.specs.Pages.{Book}
 use Rattle.day_floor.specs.Boards.{BoardState, board_after, account, all_accounts}
 use Rattle.serve_board.specs.declared.live.Live.{Live}
 use Rattle.serve_board.specs.Codes.{operations_code, posted_code}
@@ -68,6 +67,10 @@ balance_on b vid = record { day = b.number; as_of = b.mark; amount = account b v
 abbrev pub total_on : BoardState → Live
 total_on b = record { day = b.number; as_of = b.mark; amount = all_accounts b }
 
--- where a beginning of the history is had, it is the board's, and has what is published and queued
-abbrev pub HoldsBeginning : Book → Posted → Option Reach → Type 0
-HoldsBeginning b p o = (f : Reach) → o ≡ Some f → (f.book ≡ b) × (f.log ≡ p.published ++ p.queued)
+-- operations are all that is published and queued
+abbrev pub HasAll : List Operation → Posted → Type 0
+HasAll ops p = ops ≡ p.published ++ p.queued
+
+-- all that a reader saw or was told of was published, or is queued
+abbrev pub WasPosted : Posted → Pass → Type 0
+WasPosted p q = StartsWith (p.published ++ p.queued) q.seen

@@ -1,6 +1,8 @@
--- What the calls in `src/worked.rt` publish: a toll of day 100, and the begin of day 101.
-use Rattle.std.specs.Prelude.{List, [], ◌∷◌}
+-- What the calls in `src/worked.rt` publish: a toll of day 100, and the begin of day 101; and what a reader beside a writer
+-- is answered.
+use Rattle.std.specs.Prelude.{◌≡◌, ◌+◌, ◌*◌, ◌%◌, ◌/◌, ◌^◌, List, [], ◌∷◌}
 use Rattle.day_floor.specs.Operations.{Operation, Begin, Step}
+use Rattle.serve_board.specs.declared.live.Live.{Live}
 
 -- day 100 began, and a toll of 2 that vehicle 100 owes was charged up to mark 54
 abbrev pub one_toll : List Operation
@@ -13,3 +15,7 @@ with_earlier_toll = Begin 100 ∷ Step (record { vid = 100; xway = 0; toll = 2 }
 -- day 101 began after day 100, on which nothing was charged
 abbrev pub without_toll : List Operation
 without_toll = Begin 100 ∷ Begin 101 ∷ []
+
+-- an answer is the sum of all marks up to its own, in 64 bits
+abbrev pub IsSumOfMarks : Live → Type 0
+IsSumOfMarks live = live.amount ≡ ((live.as_of * ((live.as_of + 1) % 2 ^ 64)) % 2 ^ 64) / 2

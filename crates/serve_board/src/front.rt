@@ -1,21 +1,18 @@
 // A beginning of a board's history.
-ghost use Rattle.std.specs.Prelude.{◌≡◌, ◌++◌, ◌∷◌, [], IfSome, IsTrue, IsFalse};
-ghost use Rattle.serve_board.specs.OperationLog.{head_of};
-ghost use Rattle.serve_board.specs.Changes.{operation_of};
+ghost use Rattle.std.specs.Prelude.{◌≡◌, ◌+◌, ◌^◌, ◌<◌, [], IfSome, IsTrue, IsFalse};
+ghost use Rattle.serve_board.specs.OperationLog.{head_of, pen_for};
 ghost use Rattle.serve_board.specs.Passes.{StartsWith};
 
-use crate::change::Change;
-use crate::operation_log::{Add, Head, Logged, Nothing, OperationLog};
-use logbook::{Offer, Seen, Start, Word};
+use crate::operation_log::{Ask, GivePen, Head, Logged, Nothing, Opens, OperationLog};
+use logbook::{Offer, Pen, Seen, Start, Word};
 use std::marker::Model;
-use std::snapshot::Snapshot;
 
 /// That the history has reached some operations, and how many they are. Contracts see of which history, and the
 /// operations.
 #[derive(Drop)]
 pub struct Beginning {
-    count: u64,
-    seen: Seen<Logged, u64, OperationLog>,
+    pub(crate) count: u64,
+    pub(crate) seen: Seen<Logged, u64, OperationLog>,
 }
 
 impl Model for Beginning {
@@ -36,8 +33,9 @@ pub fn open_history() -> (Head, Beginning)
     ensures head { result.0 ≡ head_of result.1.book }
     ensures none { result.1.log ≡ [] }
 {
-    let (seen, mut first, _second) = Seen::open(Start::alone(), 0, 0);
-    let head = Word::tracked(0, &mut first);
+    let (seen, mut pens) = Seen::open_row::<(), Opens>(&(), Start::alone(), 1);
+    let mut pen = pens.take();
+    let head = Word::tracked(0, &mut pen);
     (head, Beginning { count: 0, seen })
 }
 
@@ -66,36 +64,30 @@ impl Beginning {
         true
     }
 
-    /// Adds a change's operation to the history, which is to have no more than this.
-    pub fn add(&self, head: &Head, about: &Snapshot<Change>) -> Option<Beginning>
-        requires { head.now ≡ head_of self.now.book }
-        ensures { IfSome result (λ f. f
-            ≡ record { book = self.now.book; log = self.now.log ++ operation_of about.now.value ∷ [] }) }
+    /// The pen for the operation that has so many before it: as many pens as these were given before. There is none
+    /// where there were more.
+    pub fn new_pen(&self, head: &Head, before: u64) -> Option<Pen>
+        requires head { head.now ≡ head_of self.now.book }
+        requires few { before + 1 < 2 ^ 64 }
+        ensures { IfSome result (λ p. (p.book ≡ self.now.book) × (p.nib ≡ pen_for before)) }
     {
-        if self.count == u64::MAX {
-            return None;
-        }
         let mut seen = self.seen.again();
-        let mut offer: Offer<Logged, u64, OperationLog, Nothing> = seen.plain::<
-            Nothing,
-            Snapshot<Change>,
-            Add,
-        >(about);
+        let mut offer: Offer<Logged, u64, OperationLog, Nothing> = seen.plain::<Nothing, (), Ask>(
+            &(),
+        );
         let mut pen = seen.no_pen();
-        let count = self.count;
-        let found = head.compare_exchange::<Add, Nothing>(
-            count,
-            count + 1,
+        let found = head.compare_exchange::<GivePen, Nothing>(
+            before,
+            before + 1,
             &mut seen,
             &mut offer,
             &mut pen,
         );
-        if found != count {
+        if found != before {
             return None;
         }
-        Some(Beginning {
-            count: count + 1,
-            seen,
-        })
+        let word: Head = Word::tracked(0, &mut pen);
+        drop(word);
+        Some(pen)
     }
 }

@@ -1,11 +1,15 @@
 // Making a board.
 ghost use Rattle.std.specs.Prelude.{◌≡◌, ◌<◌, ◌≤◌, [], Some, drop, replicate, IfOk};
 ghost use Rattle.left_right.specs.Sides.{view};
+ghost use Rattle.serve_board.specs.OperationLog.{numbers_of};
 ghost use Rattle.serve_board.specs.Passes.{unposted, pass_of};
 
-use crate::front::{Beginning, open_history};
+use crate::board_history::BoardHistory;
+use crate::front::Beginning;
+use crate::named::{NamedHistory, NamedReader, NamedWriter};
+use crate::naming::BoardNaming;
 use crate::page::Page;
-use crate::parts::{Board, Readers};
+use crate::parts::{Board, NamedBoard, NamedReaders, Readers};
 use crate::post::Keeping;
 use crate::reader::BoardReader;
 use crate::rule::{Meets, Notes};
@@ -14,6 +18,7 @@ use crate::writer::BoardWriter;
 use left_right::writer::Writer;
 use road_time::NoMemory;
 use std::alloc::Global;
+use std::marker::PhantomData;
 use std::sync::Wait;
 
 /// Makes a reader, which is told of which history the board is.
@@ -85,11 +90,67 @@ pub fn board<R: Wait + Drop>(rt: R, alloc: Global, readers: u8) -> Result<Board<
     ensures writer { IfOk result (λ b. b.writer.posted ≡ unposted) }
     ensures readers { IfOk result (λ b. b.readers ≡ replicate readers (record { board = b.writer.board; seen = [] })) }
 {
-    let (head, front) = open_history();
+    let (head, tip) = BoardHistory::new().into_parts();
+    let Some(tip) = tip else {
+        return Err(NoMemory);
+    };
+    let front = tip.front();
     let mut writer = open_writer(&rt, alloc, &front, readers as usize)?;
     match make_readers(alloc, &mut writer, &front, readers) {
         Ok(readers) => Ok(Board {
-            writer: BoardWriter::new(rt, alloc, writer, head, front),
+            writer: BoardWriter::new(rt, alloc, writer, head, tip),
+            readers,
+        }),
+        Err(error) => {
+            drop(writer.take(&rt));
+            Err(error)
+        }
+    }
+}
+
+/// Makes the readers of the board of this name, which saw nothing yet.
+fn make_named<J: BoardNaming>(
+    alloc: Global,
+    writer: &mut Keeping,
+    front: &Beginning,
+    count: u8,
+) -> Result<NamedReaders<J>, NoMemory>
+    requires board { view writer.old.desk.place ≡ Some front.now.book }
+    requires named { numbers_of front.now.book ≡ J.board }
+    ensures shown { writer.new.desk.shown ≡ writer.old.desk.shown }
+    ensures waits { (writer.new.log ≡ writer.old.log) × (writer.new.behind ≡ writer.old.behind) }
+    ensures readers { IfOk result (λ rs. rs ≡ replicate count (pass_of front.now)) }
+{
+    let mut items = Vec::with_capacity(alloc, count as usize)?;
+    for _ in 0..count {
+        items.push(NamedReader::new(make_reader(writer, front)?))?;
+    }
+    Ok(NamedReaders::from_vec(items))
+}
+
+/// Makes the board of this name, of a history that was opened before, as `board` does.
+pub fn named_board<J: BoardNaming, R: Wait + Drop>(
+    rt: R,
+    alloc: Global,
+    history: NamedHistory<J>,
+    readers: u8,
+) -> Result<NamedBoard<J, R>, NoMemory>
+    requires { (0 < readers) × (readers ≤ 64) }
+    ensures writer { IfOk result (λ b. b.writer.writer ≡ record { board = J.board; posted = unposted }) }
+    ensures readers { IfOk result (λ b. b.readers ≡ replicate readers (record { board = J.board; seen = [] })) }
+{
+    let (head, tip) = history.into_history().into_parts();
+    let Some(tip) = tip else {
+        return Err(NoMemory);
+    };
+    let front = tip.front();
+    let mut writer = open_writer(&rt, alloc, &front, readers as usize)?;
+    match make_named::<J>(alloc, &mut writer, &front, readers) {
+        Ok(readers) => Ok(NamedBoard {
+            writer: NamedWriter {
+                writer: BoardWriter::new(rt, alloc, writer, head, tip),
+                of: PhantomData,
+            },
             readers,
         }),
         Err(error) => {

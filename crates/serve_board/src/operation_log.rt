@@ -1,7 +1,7 @@
 // The history of a board: the list of its operations, which only grows. It exists in the proofs alone, beside a word
-// that counts it.
+// that counts its pens.
 use crate::change::Change;
-use logbook::{Gain, Plain, Play, Rule, Word};
+use logbook::{Gain, Opening, Plain, Play, Rule, Word};
 use std::marker::Model;
 use std::snapshot::Snapshot;
 
@@ -40,8 +40,17 @@ impl Rule<Logged, u64> for OperationLog {
     ghost moves = { λ ask before after answer. Unit {0} };
 }
 
-/// The word that counts a history.
+/// The word that counts the pens of a history.
 pub type Head = Word<Logged, u64, OperationLog>;
+
+/// A history begins with no operation.
+pub struct Opens;
+
+impl Opening<(), Logged> for Opens {
+    ghost use Rattle.std.specs.Prelude.{[]};
+
+    ghost log = { λ n nothing. [] };
+}
 
 /// Nothing is traded.
 pub struct Nothing;
@@ -50,6 +59,15 @@ impl Gain<Logged, u64> for Nothing {
     ghost use base.Fml.{ftrue};
 
     ghost after = { λ names about answer. ftrue };
+}
+
+/// A step that gives a pen.
+pub struct GivePen;
+
+impl Play<Logged, u64> for GivePen {
+    ghost use Rattle.serve_board.specs.OperationLog.{GivesPen};
+
+    ghost then = { GivesPen };
 }
 
 /// A step that adds a change's operation.
@@ -68,4 +86,25 @@ impl Plain<Snapshot<Change>, Logged, u64> for Add {
     ghost ask = { λ s. operation_of s.value };
 
     ghost state = { λ s. None };
+}
+
+/// A look at the whole history.
+pub struct SeeAll;
+
+impl Play<Logged, u64> for SeeAll {
+    ghost use Rattle.serve_board.specs.OperationLog.{SeesAll};
+
+    ghost then = { SeesAll };
+}
+
+/// What adds no operation asks for none.
+pub struct Ask;
+
+impl Plain<(), Logged, u64> for Ask {
+    ghost use Rattle.std.specs.Prelude.{None};
+    ghost use Rattle.day_floor.specs.Operations.{Begin};
+
+    ghost ask = { λ nothing. Begin 0 };
+
+    ghost state = { λ nothing. None };
 }

@@ -1,6 +1,8 @@
 // A board's writer and readers.
 ghost use Rattle.std.specs.Prelude.{◌≡◌};
 
+use crate::named::{NamedReader, NamedWriter};
+use crate::naming::BoardNaming;
 use crate::reader::BoardReader;
 use crate::writer::BoardWriter;
 use std::marker::Model;
@@ -47,4 +49,41 @@ impl Readers {
 pub struct Board<R: Wait + Drop> {
     pub writer: BoardWriter<R>,
     pub readers: Readers,
+}
+
+/// The readers of a board of this name. Contracts see the list.
+#[derive(Drop)]
+pub struct NamedReaders<J: BoardNaming> {
+    items: Vec<NamedReader<J>>,
+}
+
+impl<J: BoardNaming> Model for NamedReaders<J> {
+    ghost use Rattle.std.specs.Prelude.{List};
+    ghost use Rattle.serve_board.specs.Passes.{Pass};
+
+    ghost Value = { List Pass };
+
+    ghost view = { λ r. r.items.items };
+}
+
+impl<J: BoardNaming> NamedReaders<J> {
+    pub(crate) fn from_vec(items: Vec<NamedReader<J>>) -> Self
+        ensures { result ≡ items.items }
+    {
+        NamedReaders { items }
+    }
+
+    pub fn into_vec(self) -> Vec<NamedReader<J>>
+        ensures { result.items ≡ self }
+    {
+        let NamedReaders { items } = self;
+        items
+    }
+}
+
+/// A board of this name.
+#[derive(Drop)]
+pub struct NamedBoard<J: BoardNaming, R: Wait + Drop> {
+    pub writer: NamedWriter<J, R>,
+    pub readers: NamedReaders<J>,
 }

@@ -45,6 +45,13 @@ impl BoardReader {
         }
     }
 
+    /// What it saw or was told of.
+    pub(crate) fn front(&self) -> &Beginning
+        ensures { self.now ≡ pass_of result.now }
+    {
+        &self.front
+    }
+
     /// From now on this reader's answers are of operations that begin with all that was told. It asks that both are of
     /// one board.
     /// It keeps the longer one of what it had and what is told, which begins with the other.

@@ -1,6 +1,7 @@
 //! A writer and a reader of one board, each in a thread of its own, as its callers make them.
-ghost use Rattle.std.specs.Prelude.{◌≡◌};
+ghost use Rattle.std.specs.Prelude.{◌≡◌, ◌≤◌, ◌<◌, ◌⊎◌, IfSome, IfNone};
 ghost use Rattle.serve_board.specs.Passes.{unposted};
+ghost use Rattle.serve_board.specs.Worked.{IsSumOfMarks};
 
 use crate::live::Live;
 use crate::reader::BoardReader;
@@ -53,9 +54,15 @@ pub fn watch_marks(reader: &mut BoardReader, ended: &AtomicBool) -> Option<u64> 
 }
 
 /// An answer's mark, unless it is below an earlier one, or the answer is not the sum of all marks up to it.
-fn mark_of(live: Live, before: u64) -> Option<u64> {
+fn mark_of(live: Live, before: u64) -> Option<u64>
+    ensures some { IfSome result (λ mark. (mark ≡ live.as_of) × (before ≤ mark) × IsSumOfMarks live) }
+    ensures none { IfNone result ((live.as_of < before) ⊎ (IsSumOfMarks live → ⊥)) }
+{
     let twice = live.as_of.wrapping_mul(live.as_of.wrapping_add(1));
-    if live.as_of < before || live.amount != twice / 2 {
+    if live.as_of < before {
+        return None;
+    }
+    if live.amount != twice / 2 {
         return None;
     }
     Some(live.as_of)

@@ -4,12 +4,13 @@ ghost use Rattle.day_floor.specs.Operations.{posted_with, IsRefused};
 ghost use Rattle.day_floor.specs.Boards.{board_after, all_accounts};
 ghost use Rattle.serve_board.specs.OperationLog.{head_of, numbers_of};
 ghost use Rattle.serve_board.specs.Changes.{operation_of};
-ghost use Rattle.serve_board.specs.Passes.{unposted};
+ghost use Rattle.serve_board.specs.Passes.{unposted, WasPosted};
 
 use crate::change::Change;
-use crate::front::Beginning;
 use crate::operation_log::Head;
 use crate::post::{Keeping, submit};
+use crate::reader::BoardReader;
+use crate::tip::Tip;
 use crate::told::Told;
 use day_floor::{Charged, Publisher};
 use road_time::NoMemory;
@@ -23,16 +24,16 @@ pub struct BoardWriter<R: Wait + Drop> {
     alloc: Global,
     writer: Option<Keeping>,
     head: Head,
-    // All that is published and queued, unless the history had more than that, which no other writer adds.
-    front: Option<Beginning>,
+    // All that is published and queued.
+    tip: Option<Tip>,
 }
 
 impl<R: Wait + Drop> Model for BoardWriter<R> {
-    ghost use Rattle.std.specs.Prelude.{◌≡◌, Some, drop};
+    ghost use Rattle.std.specs.Prelude.{◌≡◌, [], Some, drop};
     ghost use Rattle.std.specs.Option.{option_map, unwrap_or};
     ghost use Rattle.serve_board.specs.OperationLog.{head_of, numbers_of};
     ghost use Rattle.serve_board.specs.Changes.{posted_on};
-    ghost use Rattle.serve_board.specs.Passes.{BoardWriting, writing_code, unposted, HoldsBeginning};
+    ghost use Rattle.serve_board.specs.Passes.{BoardWriting, writing_code, unposted, HasAll};
 
     ghost Value = { BoardWriting };
 
@@ -46,24 +47,25 @@ impl<R: Wait + Drop> Model for BoardWriter<R> {
 
     ghost invariant = { λ w. (w.head ≡ head_of w.head.book)
         × (option_map (λ s. s.desk.shown.value.front.book) w.writer ≡ Some w.head.book)
-        × HoldsBeginning w.head.book (unwrap_or (option_map
-        (λ s. posted_on s.desk.shown.value (drop s.behind s.log.items)) w.writer) unposted) w.front };
+        × (option_map (λ t. t.book) w.tip ≡ Some w.head.book)
+        × HasAll (unwrap_or (option_map (λ t. t.log) w.tip) []) (unwrap_or (option_map
+        (λ s. posted_on s.desk.shown.value (drop s.behind s.log.items)) w.writer) unposted) };
 }
 
 impl<R: Wait + Drop> BoardWriter<R> {
-    pub(crate) fn new(rt: R, alloc: Global, writer: Keeping, head: Head, front: Beginning) -> Self
-        requires head { head ≡ head_of front.book }
-        requires none { front.log ≡ [] }
-        requires shown { writer.desk.shown.value.front ≡ front }
+    pub(crate) fn new(rt: R, alloc: Global, writer: Keeping, head: Head, tip: Tip) -> Self
+        requires head { head ≡ head_of tip.book }
+        requires none { tip.log ≡ [] }
+        requires shown { writer.desk.shown.value.front ≡ tip }
         requires waits { drop writer.behind writer.log.items ≡ [] }
-        ensures { result ≡ record { board = numbers_of front.book; posted = unposted } }
+        ensures { result ≡ record { board = numbers_of tip.book; posted = unposted } }
     {
         BoardWriter {
             rt,
             alloc,
             writer: Some(writer),
             head,
-            front: Some(front),
+            tip: Some(tip),
         }
     }
 
@@ -74,18 +76,18 @@ impl<R: Wait + Drop> BoardWriter<R> {
         ensures ok { OnOk result (self.new.posted ≡ posted_with (operation_of change) self.old.posted) }
         ensures err { OnErr result (IsRefused (operation_of change) (Some self.old.posted) (Some self.new.posted)) }
     {
-        let Some(front) = self.front.take() else {
-            return Err(NoMemory);
+        let Some(tip) = self.tip.take() else {
+            unreachable!()
         };
         let Some(writer) = self.writer.take() else {
             unreachable!()
         };
-        let (writer, front, posted) = submit(&self.rt, writer, &self.head, front, change);
+        let (writer, tip, posted) = submit(&self.rt, writer, &self.head, tip, change);
         match self.writer.replace(writer) {
             None => {}
             Some(_) => unreachable!(),
         }
-        self.front = front;
+        self.tip = Some(tip);
         if posted.is_err() {
             return Err(NoMemory);
         }
@@ -103,6 +105,19 @@ impl<R: Wait + Drop> BoardWriter<R> {
         Told::of(writer.published().front.again())
     }
 
+    /// Looks at the history of the board. A reader of the same board saw nothing that was not published and is not
+    /// queued.
+    pub fn cover(&mut self, reader: &BoardReader)
+        requires board { reader.now.board ≡ self.old.board }
+        ensures kept { self.new ≡ self.old }
+        ensures posted { WasPosted self.old.posted reader.now }
+    {
+        let Some(tip) = self.tip.take() else {
+            unreachable!()
+        };
+        self.tip = Some(tip.cover(&self.head, reader.front()));
+    }
+
     /// Ends the writer. What is queued is dropped, and readers are answered `None` from now on. It may wait for
     /// readers that are in the middle of an answer.
     pub fn end(self) {
@@ -111,7 +126,7 @@ impl<R: Wait + Drop> BoardWriter<R> {
             alloc: _,
             writer,
             head: _,
-            front: _,
+            tip: _,
         } = self;
         match writer {
             Some(writer) => drop(writer.take(&rt)),

@@ -10,25 +10,17 @@ use Rattle.serve_board.proofs.PostLaws.{reach_with, change_waits, both_wait, all
 use Rattle.serve_board.proofs.PostLaws.{held_posted}
 use Rattle.serve_board.proofs.post.submit.Goals as goal
 
-pub returns-in_default-clause-err : goal.returns-in_default-clause-err
-returns-in_default-clause-err g c =
-    let w = c.args.writer in
-    let a = c.append.new.self in
-    let waits : drop a.behind a.log.items ≡ drop w.behind w.log.items ++ Changed c.args.change ∷ [] = search rules in
-    inr (change_waits w.desk.shown.value a.desk.shown.value (drop w.behind w.log.items) (drop a.behind a.log.items)
-    c.args.change (ap (λ d. d.shown.value) c.append.ensures.desk) waits)
-
-pub returns-then-is_err-2-clause-held : goal.returns-then-is_err-2-clause-held
-returns-then-is_err-2-clause-held g c =
+pub returns-then-is_err-2-clause-tip : goal.returns-then-is_err-2-clause-tip
+returns-then-is_err-2-clause-tip g c =
     let w = c.args.writer in
     let a = c.append.new.self in
     let b = c.append-2.new.self in
     let waits : drop a.behind a.log.items ≡ drop w.behind w.log.items ++ Changed c.args.change ∷ [] = search rules in
     let still : drop b.behind b.log.items ≡ drop a.behind a.log.items = search rules in
-    let next : c.in-Some.next ≡ reach_with (operation_of c.args.change) c.args.front = search rules in
-    held_queued c.args.front c.in-Some.next (operation_of c.args.change)
+    let next : c.add-tip.result ≡ reach_with (operation_of c.args.change) c.args.tip = search rules in
+    held_queued c.args.tip c.add-tip.result (operation_of c.args.change)
     (posted_on w.desk.shown.value (drop w.behind w.log.items))
-    (posted_on b.desk.shown.value (drop b.behind b.log.items)) c.requires.front next
+    (posted_on b.desk.shown.value (drop b.behind b.log.items)) c.requires.tip next
     (change_waits w.desk.shown.value b.desk.shown.value (drop w.behind w.log.items) (drop b.behind b.log.items)
     c.args.change (ap (λ d. d.shown.value) (c.append-2.ensures.desk ∙ c.append.ensures.desk)) (still ∙ waits))
 
@@ -52,37 +44,37 @@ publish_as-writer-requires g c after is =
     let ps = drop w.behind w.log.items in
     let qs = drop a.behind a.log.items in
     let rs = drop b.behind b.log.items in
-    let f = c.again.result in
+    let f = c.front.result in
     let waits : qs ≡ ps ++ Changed c.args.change ∷ [] = search rules in
     let more : rs ≡ qs ++ Reached f ∷ [] = search rules in
-    let reached : f ≡ reach_with (operation_of c.args.change) c.args.front = search rules in
+    let reached : f ≡ reach_with (operation_of c.args.change) c.args.tip = search rules in
     let same : y ≡ x = ap (λ d. d.shown.value) (c.append-2.ensures.desk ∙ c.append.ensures.desk) in
     let front : after.front ≡ f = front_is y after qs rs f more is in
     let book : after.front.book ≡ y.front.book = ap (λ (r : Reach). r.book) (front ∙ reached)
     ∙ (sym c.requires.book ∙ ap (λ (p : Page). p.front.book) (sym same)) in
     let posted : posted_on after [] ≡ _ =
-    all_posted x after ps [] c.args.change c.args.front c.requires.front (front ∙ reached) refl in
+    all_posted x after ps [] c.args.change c.args.tip c.requires.tip (front ∙ reached) refl in
     publishes b.desk.place.id b.desk.place.me.0.client y after rs is book
     (ap (λ (r : Reach). r.log) front
-    ∙ log_is x y ps qs rs c.args.change f c.args.front c.requires.front same waits more reached)
+    ∙ log_is x y ps qs rs c.args.change f c.args.tip c.requires.tip same waits more reached)
     (subst (λ p. all_accounts (board_after p.published) < 2 ^ 63) (sym posted) c.requires.below)
 
-pub returns-then-is_err-3-clause-held : goal.returns-then-is_err-3-clause-held
-returns-then-is_err-3-clause-held g c =
+pub returns-then-is_err-3-clause-tip : goal.returns-then-is_err-3-clause-tip
+returns-then-is_err-3-clause-tip g c =
     let w = c.args.writer in
     let a = c.append.new.self in
     let b = c.append-2.new.self in
     let p = c.publish_as-writer.result.0 in
     let waits : drop a.behind a.log.items ≡ drop w.behind w.log.items ++ Changed c.args.change ∷ [] = search rules in
-    let more : drop b.behind b.log.items ≡ drop a.behind a.log.items ++ Reached c.again.result ∷ [] = search rules in
+    let more : drop b.behind b.log.items ≡ drop a.behind a.log.items ++ Reached c.front.result ∷ [] = search rules in
     let still : drop p.behind p.log.items ≡ drop b.behind b.log.items = search rules in
     let shown : p.desk.shown.value ≡ b.desk.shown.value = search rules in
-    let next : c.in-Some.next ≡ reach_with (operation_of c.args.change) c.args.front = search rules in
-    held_queued c.args.front c.in-Some.next (operation_of c.args.change)
+    let next : c.add-tip.result ≡ reach_with (operation_of c.args.change) c.args.tip = search rules in
+    held_queued c.args.tip c.add-tip.result (operation_of c.args.change)
     (posted_on w.desk.shown.value (drop w.behind w.log.items))
-    (posted_on p.desk.shown.value (drop p.behind p.log.items)) c.requires.front next
+    (posted_on p.desk.shown.value (drop p.behind p.log.items)) c.requires.tip next
     (both_wait w.desk.shown.value p.desk.shown.value (drop w.behind w.log.items) (drop a.behind a.log.items)
-    (drop p.behind p.log.items) c.args.change c.again.result
+    (drop p.behind p.log.items) c.args.change c.front.result
     (shown ∙ ap (λ d. d.shown.value) (c.append-2.ensures.desk ∙ c.append.ensures.desk)) waits (still ∙ more))
 
 pub returns-then-is_err-3-clause-err : goal.returns-then-is_err-3-clause-err
@@ -92,11 +84,11 @@ returns-then-is_err-3-clause-err g c =
     let b = c.append-2.new.self in
     let p = c.publish_as-writer.result.0 in
     let waits : drop a.behind a.log.items ≡ drop w.behind w.log.items ++ Changed c.args.change ∷ [] = search rules in
-    let more : drop b.behind b.log.items ≡ drop a.behind a.log.items ++ Reached c.again.result ∷ [] = search rules in
+    let more : drop b.behind b.log.items ≡ drop a.behind a.log.items ++ Reached c.front.result ∷ [] = search rules in
     let still : drop p.behind p.log.items ≡ drop b.behind b.log.items = search rules in
     let shown : p.desk.shown.value ≡ b.desk.shown.value = search rules in
     inr (both_wait w.desk.shown.value p.desk.shown.value (drop w.behind w.log.items) (drop a.behind a.log.items)
-    (drop p.behind p.log.items) c.args.change c.again.result
+    (drop p.behind p.log.items) c.args.change c.front.result
     (shown ∙ ap (λ d. d.shown.value) (c.append-2.ensures.desk ∙ c.append.ensures.desk)) waits (still ∙ more))
 
 pub returns-clause-book : goal.returns-clause-book
@@ -104,31 +96,31 @@ returns-clause-book g c =
     let a = c.append.new.self in
     let b = c.append-2.new.self in
     let p = c.publish_as-writer.result.0 in
-    let more : drop b.behind b.log.items ≡ drop a.behind a.log.items ++ Reached c.again.result ∷ [] = search rules in
+    let more : drop b.behind b.log.items ≡ drop a.behind a.log.items ++ Reached c.front.result ∷ [] = search rules in
     let is : p.desk.shown.value ≡ fold page_with b.desk.shown.value (drop b.behind b.log.items) = search rules in
-    let reached : c.again.result ≡ reach_with (operation_of c.args.change) c.args.front = search rules in
+    let reached : c.front.result ≡ reach_with (operation_of c.args.change) c.args.tip = search rules in
     ap (λ (r : Reach). r.book)
     (front_is b.desk.shown.value p.desk.shown.value (drop a.behind a.log.items) (drop b.behind b.log.items)
-    c.again.result more is ∙ reached)
+    c.front.result more is ∙ reached)
 
-pub returns-clause-held : goal.returns-clause-held
-returns-clause-held g c =
+pub returns-clause-tip : goal.returns-clause-tip
+returns-clause-tip g c =
     let w = c.args.writer in
     let a = c.append.new.self in
     let b = c.append-2.new.self in
     let p = c.publish_as-writer.result.0 in
-    let more : drop b.behind b.log.items ≡ drop a.behind a.log.items ++ Reached c.again.result ∷ [] = search rules in
+    let more : drop b.behind b.log.items ≡ drop a.behind a.log.items ++ Reached c.front.result ∷ [] = search rules in
     let is : p.desk.shown.value ≡ fold page_with b.desk.shown.value (drop b.behind b.log.items) = search rules in
     let none : drop p.behind p.log.items ≡ [] = search rules in
-    let reached : c.again.result ≡ reach_with (operation_of c.args.change) c.args.front = search rules in
-    let next : c.in-Some.next ≡ reach_with (operation_of c.args.change) c.args.front = search rules in
-    held_posted c.args.front c.in-Some.next (operation_of c.args.change)
+    let reached : c.front.result ≡ reach_with (operation_of c.args.change) c.args.tip = search rules in
+    let next : c.add-tip.result ≡ reach_with (operation_of c.args.change) c.args.tip = search rules in
+    held_posted c.args.tip c.add-tip.result (operation_of c.args.change)
     (posted_on w.desk.shown.value (drop w.behind w.log.items))
-    (posted_on p.desk.shown.value (drop p.behind p.log.items)) c.requires.front next
+    (posted_on p.desk.shown.value (drop p.behind p.log.items)) c.requires.tip next
     (all_posted w.desk.shown.value p.desk.shown.value (drop w.behind w.log.items) (drop p.behind p.log.items)
-    c.args.change c.args.front c.requires.front
+    c.args.change c.args.tip c.requires.tip
     (front_is b.desk.shown.value p.desk.shown.value (drop a.behind a.log.items) (drop b.behind b.log.items)
-    c.again.result more is ∙ reached) none)
+    c.front.result more is ∙ reached) none)
 
 pub returns-clause-ok : goal.returns-clause-ok
 returns-clause-ok g c =
@@ -136,11 +128,11 @@ returns-clause-ok g c =
     let a = c.append.new.self in
     let b = c.append-2.new.self in
     let p = c.publish_as-writer.result.0 in
-    let more : drop b.behind b.log.items ≡ drop a.behind a.log.items ++ Reached c.again.result ∷ [] = search rules in
+    let more : drop b.behind b.log.items ≡ drop a.behind a.log.items ++ Reached c.front.result ∷ [] = search rules in
     let is : p.desk.shown.value ≡ fold page_with b.desk.shown.value (drop b.behind b.log.items) = search rules in
     let none : drop p.behind p.log.items ≡ [] = search rules in
-    let reached : c.again.result ≡ reach_with (operation_of c.args.change) c.args.front = search rules in
+    let reached : c.front.result ≡ reach_with (operation_of c.args.change) c.args.tip = search rules in
     all_posted w.desk.shown.value p.desk.shown.value (drop w.behind w.log.items) (drop p.behind p.log.items)
-    c.args.change c.args.front c.requires.front
+    c.args.change c.args.tip c.requires.tip
     (front_is b.desk.shown.value p.desk.shown.value (drop a.behind a.log.items) (drop b.behind b.log.items)
-    c.again.result more is ∙ reached) none
+    c.front.result more is ∙ reached) none
