@@ -1,7 +1,8 @@
 //! A writer and a reader of one board, each in a thread of its own, as its callers make them.
-ghost use Rattle.std.specs.Prelude.{◌≡◌, ◌≤◌, ◌<◌, ◌⊎◌, IfSome, IfNone};
-ghost use Rattle.serve_board.specs.Passes.{unposted};
-ghost use Rattle.serve_board.specs.Worked.{IsSumOfMarks};
+ghost use Rattle.std.specs.Prelude.{◌≡◌, ◌≤◌, ◌<◌, ◌⊎◌, true, [], IfSome, IfNone};
+ghost use Rattle.day_floor.specs.Shown.{shown_after};
+ghost use Rattle.serve_board.specs.Passes.{StartsWith, unposted, total_on};
+ghost use Rattle.serve_board.specs.Worked.{marks_to, IsSumOfMarks};
 
 use crate::live::Live;
 use crate::reader::BoardReader;
@@ -20,6 +21,8 @@ pub fn publish_marks<R: Wait + Drop>(
     ended: &AtomicBool,
 ) -> bool
     requires { writer.old.posted ≡ unposted }
+    ensures board { writer.new.board ≡ writer.old.board }
+    ensures all { result ≡ true → writer.new.posted ≡ record { published = marks_to last; queued = [] } }
 {
     let mut all = writer.begin(100).is_ok();
     for mark in 0..last {
@@ -40,7 +43,12 @@ pub fn publish_marks<R: Wait + Drop>(
 /// Looks at vehicle 100's account and at the total until a flag was raised, and once more. It gives the last mark that
 /// it saw.
 /// `None` where a mark fell, or where an answer was not the sum of all marks up to its own.
-pub fn watch_marks(reader: &mut BoardReader, ended: &AtomicBool) -> Option<u64> {
+pub fn watch_marks(reader: &mut BoardReader, ended: &AtomicBool) -> Option<u64>
+    ensures board { reader.new.board ≡ reader.old.board }
+    ensures had { StartsWith reader.new.seen reader.old.seen }
+    ensures last { IfSome result (λ mark. (mark ≡ (shown_after reader.new.seen).mark)
+        × IsSumOfMarks (total_on (shown_after reader.new.seen))) }
+{
     let mut mark = 0;
     for _ in 0..u64::MAX {
         let is_last = ended.load(SeqCst);

@@ -1,7 +1,8 @@
-use Rattle.std.proofs.Common.{◌≡◌, ◌*◌, ◌≤◌, [], true}
-use Rattle.day_floor.specs.Boards.{board_after, all_accounts}
+use Rattle.std.proofs.Common.{◌≡◌, [], true}
+use Rattle.serve_board.specs.Worked.{marks_to}
 use Rattle.serve_board.proofs.side_by_side.publish_marks.Given as goal
 
+-- while none was refused, each mark before this one was published, and nothing else
 abbrev pub invariant-loop-mark : goal.invariant-loop-mark
-invariant-loop-mark g l = l.all ≡ true → (l.writer.posted.queued ≡ [])
-    × (all_accounts (board_after l.writer.posted.published) ≤ 65536 * l.mark)
+invariant-loop-mark g l = (l.writer.board ≡ l.initial.writer.board)
+    × (l.all ≡ true → l.writer.posted ≡ record { published = marks_to l.mark; queued = [] })
