@@ -1,1 +1,1 @@
-pub mod LaneLaws
+pub mod AcceptorLaws

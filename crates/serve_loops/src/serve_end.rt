@@ -5,6 +5,6 @@
 pub enum ServeEnd {
     /// All connections were accepted.
     Served,
-    /// A lane's listener failed.
+    /// An acceptor's listener failed.
     ListenFault,
 }

@@ -2,12 +2,12 @@
 ghost use Rattle.std.specs.Prelude.{◌≡◌, ◌≤◌, ◌↔◌, true, false, length, vec_len, All};
 ghost use Rattle.std.specs.List.{AllZip, list_any};
 ghost use Rattle.serve_loops.specs.Wires.{wire_by};
-ghost use Rattle.serve_loops.specs.Lanes.{LaneServes, HasFailedLane, AnyRose, accepted_in_all, TurnOf, LaneTurned};
+ghost use Rattle.serve_loops.specs.Acceptors.{AcceptorServes, HasFailedAcceptor, AnyRose, accepted_in_all, TurnOf, AcceptorTurned};
 ghost use Rattle.serve_loops.specs.declared.serve_end.ServeEnd.TheVariants.{Served, ListenFault};
 
+use crate::acceptor::Acceptor;
+use crate::acceptors::Acceptors;
 use crate::host::Host;
-use crate::lane::Lane;
-use crate::lanes::Lanes;
 use crate::listener::Listener;
 use crate::running::run_all;
 use crate::serve_end::ServeEnd;
@@ -20,7 +20,7 @@ use std::sync::ledger::{Blank, Ledger};
 use std::sync::{Mutex, Wait};
 use std::thread::Threads;
 
-/// Runs the loops of lanes over so many tickets, by two new ledgers.
+/// Runs the loops of acceptors over so many tickets, by two new ledgers.
 fn run_over<
     N: Listener + Drop + Send,
     H: Host + Sync,
@@ -30,25 +30,25 @@ fn run_over<
 >(
     rt: &R,
     alloc: Global,
-    lanes: Vec<Lane<N>>,
+    acceptors: Vec<Acceptor<N>>,
     host: &H,
     sessions: u64,
     drawn: Blank,
     ends: Blank,
-) -> Vec<Lane<N>>
+) -> Vec<Acceptor<N>>
     requires drawn_name { drawn.name ≡ D.name }
     requires ends_name { ends.name ≡ E.name }
-    requires drawn_parts { (drawn.parts ≡ D.parts) × (D.parts ≡ vec_len lanes) }
-    requires ends_parts { (ends.parts ≡ E.parts) × (E.parts ≡ vec_len lanes) }
+    requires drawn_parts { (drawn.parts ≡ D.parts) × (D.parts ≡ vec_len acceptors) }
+    requires ends_parts { (ends.parts ≡ E.parts) × (E.parts ≡ vec_len acceptors) }
     requires tickets { sessions ≡ D.tickets }
-    requires some { 1 ≤ vec_len lanes }
-    requires fresh { All (λ lane. N.accepted lane.listener ≡ 0) lanes.items }
-    ensures lanes { AllZip (LaneServes N.faults) lanes.items result.items }
-    ensures turns { AllZip (LaneTurned N.accepted
+    requires some { 1 ≤ vec_len acceptors }
+    requires fresh { All (λ acceptor. N.accepted acceptor.listener ≡ 0) acceptors.items }
+    ensures acceptors { AllZip (AcceptorServes N.faults) acceptors.items result.items }
+    ensures turns { AllZip (AcceptorTurned N.accepted
         (TurnOf N.gives N.takes (wire_by N.Line.left N.Line.plan N.Line.written N.Line.room N.Line.faults)
-        (H.attends host.now))) lanes.items result.items }
+        (H.attends host.now))) acceptors.items result.items }
     ensures within { accepted_in_all N.accepted result.items ≤ sessions }
-    ensures served { list_any (λ lane. lane.failed) result.items ≡ false
+    ensures served { list_any (λ acceptor. acceptor.failed) result.items ≡ false
         → accepted_in_all N.accepted result.items ≡ sessions }
 {
     let (drawn, of_drawn) = drawn.open::<D>();
@@ -63,42 +63,42 @@ fn run_over<
         ends: of_ends,
     };
     let stop = AtomicBool::new(false);
-    let (lanes, stub) = run_all(rt, alloc, host, &stop, &tickets, lanes, stub);
+    let (acceptors, stub) = run_all(rt, alloc, host, &stop, &tickets, acceptors, stub);
     let mut stub = stub;
     tickets.into_inner().settle(&mut stub);
-    lanes
+    acceptors
 }
 
-/// Whether a lane failed.
-fn has_failed<N>(lanes: &[Lane<N>]) -> bool
-    ensures { result ≡ list_any (λ lane. lane.failed) lanes.now }
+/// Whether an acceptor failed.
+fn has_failed<N>(acceptors: &[Acceptor<N>]) -> bool
+    ensures { result ≡ list_any (λ acceptor. acceptor.failed) acceptors.now }
 {
-    lanes.iter().any(|lane| lane.failed)
+    acceptors.iter().any(|acceptor| acceptor.failed)
 }
 
-/// Serves `sessions` connections over 1 to 64 lanes, whose listeners have accepted none: a loop for each lane, in a
+/// Serves `sessions` connections over 1 to 64 acceptors, whose listeners have accepted none: a loop for each acceptor, in a
 /// thread of its own, with the host on each connection. A loop ends where no connection is left to accept, or where its
 /// listener fails. Where a thread cannot be had all listeners give up. It waits.
 pub fn serve<N: Listener + Drop + Send, H: Host + Sync, R: Threads + Wait + Sync>(
     rt: &R,
     alloc: Global,
-    lanes: &mut Lanes<N>,
+    acceptors: &mut Acceptors<N>,
     host: &H,
     sessions: u64,
 ) -> ServeEnd
-    requires some { 1 ≤ length lanes.old }
-    requires few { length lanes.old ≤ 64 }
-    requires fresh { All (λ lane. N.accepted lane.listener ≡ 0) lanes.old }
-    ensures lanes { AllZip (LaneServes N.faults) lanes.old lanes.new }
-    ensures turns { AllZip (LaneTurned N.accepted
+    requires some { 1 ≤ length acceptors.old }
+    requires few { length acceptors.old ≤ 64 }
+    requires fresh { All (λ acceptor. N.accepted acceptor.listener ≡ 0) acceptors.old }
+    ensures acceptors { AllZip (AcceptorServes N.faults) acceptors.old acceptors.new }
+    ensures turns { AllZip (AcceptorTurned N.accepted
         (TurnOf N.gives N.takes (wire_by N.Line.left N.Line.plan N.Line.written N.Line.room N.Line.faults)
-        (H.attends host.now))) lanes.old lanes.new }
-    ensures end { (result ≡ ListenFault) ↔ HasFailedLane lanes.new }
-    ensures cause { result ≡ ListenFault → AnyRose N.faults lanes.old lanes.new }
-    ensures served { result ≡ Served → accepted_in_all N.accepted lanes.new ≡ sessions }
-    ensures fault { result ≡ ListenFault → accepted_in_all N.accepted lanes.new ≤ sessions }
+        (H.attends host.now))) acceptors.old acceptors.new }
+    ensures end { (result ≡ ListenFault) ↔ HasFailedAcceptor acceptors.new }
+    ensures cause { result ≡ ListenFault → AnyRose N.faults acceptors.old acceptors.new }
+    ensures served { result ≡ Served → accepted_in_all N.accepted acceptors.new ≡ sessions }
+    ensures fault { result ≡ ListenFault → accepted_in_all N.accepted acceptors.new ≤ sessions }
 {
-    let all = lanes.take(alloc);
+    let all = acceptors.take(alloc);
     let parts = all.len() as u64;
     let done = run_over::<N, H, Brand, Brand, R>(
         rt,
@@ -110,7 +110,7 @@ pub fn serve<N: Listener + Drop + Send, H: Host + Sync, R: Threads + Wait + Sync
         Blank::new(parts),
     );
     let failed = has_failed(done.as_slice());
-    *lanes = Lanes::from_vec(done);
+    *acceptors = Acceptors::from_vec(done);
     if failed {
         ServeEnd::ListenFault
     } else {

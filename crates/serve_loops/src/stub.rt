@@ -1,9 +1,9 @@
-// What a lane holds of the tickets.
+// What an acceptor holds of the tickets.
 ghost use Rattle.std.specs.Prelude.{◌≡◌, ◌+◌, ◌≤◌};
 
 use std::sync::ledger::{Ledger, Share};
 
-/// A lane's share of the ledgers of tickets: what it drew, and how often it found none. It takes no bytes.
+/// An acceptor's share of the ledgers of tickets: what it drew, and how often it found none. It takes no bytes.
 #[derive(Drop)]
 pub struct Stub<D: Ledger, E: Ledger> {
     pub drawn: Share<D>,

@@ -1,4 +1,4 @@
-//! Where connections wait for their head, in one place and in no lane, and where they are drained once answered.
+//! Where connections wait for their head, in one place and in no acceptor, and where they are drained once answered.
 //!
 //! A `WaitingRoom` listens on a port of this machine. It has 1,024 seats, and a connection sits in one from its
 //! accept until its head is whole, or it ends, or ten seconds are over, whatever it sends meanwhile. `next` waits for

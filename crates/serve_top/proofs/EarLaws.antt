@@ -1,25 +1,25 @@
--- What ears count, in lanes and out of them.
+-- What ears count, in acceptors and out of them.
 use Rattle.std.proofs.Common.{◌≡◌, ◌∙◌, ◌<◌, ◌||◌, ℕ, zero, suc, Bool, true, false, refl, sym, subst, List, [], ◌∷◌}
 use Rattle.std.proofs.Common.{inl, inr, ⊎_elim, map, length, arith, nat_lt, lt-ltb, Option, Some, None}
 use Rattle.std.specs.List.{All, AllZip}
 use Rattle.std.proofs.lemmas.Bool.{cases_Bool}
 use Rattle.road_io.specs.Faults.{Rose}
 use Rattle.serve_board.specs.Passes.{Pass}
-use Rattle.serve_loops.specs.Lanes.{AnyRose, HasFailedLane, LaneServes, LaneTurned}
-use Rattle.serve_loops.specs.declared.lane.Lane.{Lane}
+use Rattle.serve_loops.specs.Acceptors.{AnyRose, HasFailedAcceptor, AcceptorServes, AcceptorTurned}
+use Rattle.serve_loops.specs.declared.acceptor.Acceptor.{Acceptor}
 use Rattle.serve_top.specs.Doors.{has_fault}
 use Rattle.road_time.specs.declared.day.Limits.{Limits}
 use Rattle.day_plan.specs.declared.work.Plan.{Plan}
 use Rattle.serve_top.specs.declared.served_words.Serving.{Serving}
 use Rattle.serve_top.specs.Served.{EarServed, ServedAsSaid}
 
--- lanes of ears that accepted nothing have accepted nothing
-pub fresh_in : {N : Type 0} (f h : N → ℕ) (lanes : List (Lane N)) →
-    All (λ ear. (f ear ≡ 0) × (h ear ≡ 0)) (map (λ lane. lane.listener) lanes) → All (λ lane. f lane.listener ≡ 0) lanes
+-- acceptors of ears that accepted nothing have accepted nothing
+pub fresh_in : {N : Type 0} (f h : N → ℕ) (acceptors : List (Acceptor N)) →
+    All (λ ear. (f ear ≡ 0) × (h ear ≡ 0)) (map (λ acceptor. acceptor.listener) acceptors) → All (λ acceptor. f acceptor.listener ≡ 0) acceptors
 fresh_in f h [] all k d below = absurd (omega arith)
-fresh_in f h (lane ∷ lanes) all zero d below = (all 0 d.listener (omega arith)).0
-fresh_in f h (lane ∷ lanes) all (suc k) d below =
-    fresh_in f h lanes (λ j e less. all (suc j) e (omega (arith, less))) k d (omega (arith, below))
+fresh_in f h (acceptor ∷ acceptors) all zero d below = (all 0 d.listener (omega arith)).0
+fresh_in f h (acceptor ∷ acceptors) all (suc k) d below =
+    fresh_in f h acceptors (λ j e less. all (suc j) e (omega (arith, less))) k d (omega (arith, below))
 
 -- a count that rose is not 0
 rose_above : (before now : ℕ) → Rose before now → nat_lt 0 now ≡ true
@@ -29,9 +29,9 @@ or_true : (b : Bool) → (b || true) ≡ true
 or_true true = refl
 or_true false = refl
 
--- where the count of a lane's listener rose, an ear failed
-pub rose_fails : {N : Type 0} (f : N → ℕ) (old new : List (Lane N)) → AnyRose f old new →
-    has_fault f (map (λ lane. lane.listener) new) ≡ true
+-- where the count of an acceptor's listener rose, an ear failed
+pub rose_fails : {N : Type 0} (f : N → ℕ) (old new : List (Acceptor N)) → AnyRose f old new →
+    has_fault f (map (λ acceptor. acceptor.listener) new) ≡ true
 rose_fails f [] new (k, p, below, at, rose) = absurd (omega (arith, below))
 rose_fails f (o ∷ old) [] (k, p, below, at, rose) = absurd (omega (arith, below))
 rose_fails f (o ∷ old) (n ∷ new) (zero, p, below, at, rose) =
@@ -41,10 +41,10 @@ rose_fails f (o ∷ old) (n ∷ new) (zero, p, below, at, rose) =
 rose_fails f (o ∷ old) (n ∷ new) (suc k, p, below, at, rose) =
     rw (rose_fails f old new (k, p, omega (arith, below), at, rose)) (or_true (nat_lt 0 (f n.listener)))
 
--- where no lane failed of ears that had not failed, no ear has
-pub none_fails : {N : Type 0} (f h : N → ℕ) (old new : List (Lane N)) →
-    All (λ ear. (f ear ≡ 0) × (h ear ≡ 0)) (map (λ lane. lane.listener) old) → AllZip (LaneServes h) old new →
-    (HasFailedLane new → ⊥) → has_fault h (map (λ lane. lane.listener) new) ≡ false
+-- where no acceptor failed of ears that had not failed, no ear has
+pub none_fails : {N : Type 0} (f h : N → ℕ) (old new : List (Acceptor N)) →
+    All (λ ear. (f ear ≡ 0) × (h ear ≡ 0)) (map (λ acceptor. acceptor.listener) old) → AllZip (AcceptorServes h) old new →
+    (HasFailedAcceptor new → ⊥) → has_fault h (map (λ acceptor. acceptor.listener) new) ≡ false
 none_fails f h [] [] all served none = refl
 none_fails f h [] (y ∷ ys) all served none = absurd served
 none_fails f h (x ∷ xs) [] all served none = absurd served
@@ -59,12 +59,12 @@ none_fails f h (x ∷ xs) (y ∷ ys) all (one, more) none =
     still : h y.listener ≡ 0
     still = one.still fine ∙ (all 0 x.listener (omega arith)).1
 
-    there : HasFailedLane ys → ⊥
+    there : HasFailedAcceptor ys → ⊥
     there (k, p, below, at, failed) = none (suc k, p, omega (arith, below), at, failed)
 
--- what a lane served its ear served
-ear_served : {N : Type 0} (faults accepted : N → ℕ) (turn : N → Pass → N → Pass → Type 0) (x y : Lane N) →
-    LaneServes faults x y → LaneTurned accepted turn x y → EarServed faults accepted turn x.listener y.listener
+-- what an acceptor served its ear served
+ear_served : {N : Type 0} (faults accepted : N → ℕ) (turn : N → Pass → N → Pass → Type 0) (x y : Acceptor N) →
+    AcceptorServes faults x y → AcceptorTurned accepted turn x y → EarServed faults accepted turn x.listener y.listener
 ear_served faults accepted turn x y serves turned =
     record {
       count = turned.count;
@@ -79,8 +79,8 @@ ear_served faults accepted turn x y serves turned =
 
 -- and so all of them
 pub ears_served : {N : Type 0} (faults accepted : N → ℕ) (turn : N → Pass → N → Pass → Type 0)
-    (xs ys : List (Lane N)) → AllZip (LaneServes faults) xs ys → AllZip (LaneTurned accepted turn) xs ys →
-    AllZip (EarServed faults accepted turn) (map (λ lane. lane.listener) xs) (map (λ lane. lane.listener) ys)
+    (xs ys : List (Acceptor N)) → AllZip (AcceptorServes faults) xs ys → AllZip (AcceptorTurned accepted turn) xs ys →
+    AllZip (EarServed faults accepted turn) (map (λ acceptor. acceptor.listener) xs) (map (λ acceptor. acceptor.listener) ys)
 ears_served faults accepted turn [] [] a b = tt
 ears_served faults accepted turn [] (y ∷ ys) a b = absurd a
 ears_served faults accepted turn (x ∷ xs) [] a b = absurd a

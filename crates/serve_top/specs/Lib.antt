@@ -1,4 +1,4 @@
--- The desk over the loops of a server, beside the words of `toll_desk` and `lane_loops`.
+-- The desk over the loops of a server, beside the words of `toll_desk` and `acceptor_loops`.
 pub mod Attends
 -- The server as a whole: how its run ends.
 pub mod Endings

@@ -5,7 +5,7 @@ use Rattle.road_io.specs.Faults.{Rose}
 use Rattle.road_time.specs.declared.day.Limits.{Limits}
 use Rattle.day_plan.specs.declared.work.Plan.{Plan}
 use Rattle.serve_board.specs.Passes.{Pass}
-use Rattle.serve_loops.specs.Lanes.{TakesTurns}
+use Rattle.serve_loops.specs.Acceptors.{TakesTurns}
 use Rattle.serve_top.specs.Doors.{accepted_in}
 use Rattle.serve_top.specs.declared.served_words.Serving.{Serving}
 

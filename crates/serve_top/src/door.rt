@@ -22,7 +22,7 @@ pub enum DoorFault {
 
 /// Opens ears on a port, and closes them. `refused` counts the openings that were refused, `faults` the closings of
 /// ears of which one had failed, and `accepted` the connections that closed ears had accepted. None of them falls.
-/// `lanes_for` is how many ears serve so many readers, and `hears` what is so of an ear on a port.
+/// `acceptors_for` is how many ears serve so many readers, and `hears` what is so of an ear on a port.
 pub trait Door {
     type Ear: Listener + Send + Drop;
 
@@ -32,15 +32,15 @@ pub trait Door {
 
     ghost accepted: { Self → ℕ };
 
-    ghost lanes_for: { ℕ → ℕ };
+    ghost acceptors_for: { ℕ → ℕ };
 
     ghost hears: { Self.Ear → ℕ → Type 0 };
 
     /// How many ears are opened for so many readers.
-    fn lanes(&self, readers: u8) -> u8
+    fn acceptors(&self, readers: u8) -> u8
         requires some { 1 ≤ readers }
         requires few { readers ≤ 64 }
-        ensures exact { result ≡ lanes_for readers }
+        ensures exact { result ≡ acceptors_for readers }
         ensures enough { readers ≤ result }
         ensures few { result ≤ 64 };
 

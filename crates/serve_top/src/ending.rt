@@ -11,7 +11,7 @@ pub enum ServerEnd {
     Words,
     /// The door was not opened.
     Refused,
-    /// A listener failed, or gave up, as no thread could be had for a lane.
+    /// A listener failed, or gave up, as no thread could be had for an acceptor.
     EarFault,
     /// Memory ran out.
     NoMemory,

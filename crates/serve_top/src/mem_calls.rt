@@ -42,11 +42,11 @@ impl Door for MemDoor {
 
     ghost accepted = { accepted_at };
 
-    ghost lanes_for = { λ readers. readers };
+    ghost acceptors_for = { λ readers. readers };
 
     ghost hears = { λ ear port. Unit {0} };
 
-    fn lanes(&self, readers: u8) -> u8 {
+    fn acceptors(&self, readers: u8) -> u8 {
         readers
     }
 

@@ -3,7 +3,7 @@ ghost use Rattle.std.specs.Prelude.{◌≡◌, ◌≤◌, ◌<◌, ◌^◌, [], 
 ghost use Rattle.road_time.specs.Fits.{IsLimits};
 ghost use Rattle.serve_loops.specs.declared.serve_end.ServeEnd.TheVariants.{Served, ListenFault};
 ghost use Rattle.serve_loops.specs.Wires.{wire_by};
-ghost use Rattle.serve_loops.specs.Lanes.{TurnOf};
+ghost use Rattle.serve_loops.specs.Acceptors.{TurnOf};
 ghost use Rattle.serve_top.specs.Doors.{accepted_in, has_fault};
 ghost use Rattle.serve_top.specs.Endings.{counts_of, EndsServing};
 ghost use Rattle.serve_top.specs.Served.{ServedBy, ServedAt};
@@ -19,7 +19,7 @@ use day_plan::Plan;
 use road_time::Limits;
 use serve_board::{Board, board};
 use serve_desk::Routes;
-use serve_loops::{Lane, Listener, ServeEnd, serve};
+use serve_loops::{Acceptor, Listener, ServeEnd, serve};
 use std::alloc::Global;
 use std::sync::Wait;
 use std::thread::Threads;
@@ -44,7 +44,7 @@ fn serve_over<
     limits: &Limits,
     ears: Ears<N>,
     board: Board<R>,
-    lanes: Vec<Lane<N>>,
+    acceptors: Vec<Acceptor<N>>,
     room: Vec<N>,
     routes: Routes,
     keeper: K,
@@ -54,9 +54,9 @@ fn serve_over<
     requires few { length ears ≤ 64 }
     requires fresh { All (λ ear. (N.accepted ear ≡ 0) × (N.faults ear ≡ 0)) ears }
     requires readers { length board.readers ≡ length ears }
-    requires no_lanes { lanes.items ≡ [] }
-    requires none_yet { vec_len lanes ≡ 0 }
-    requires for_lanes { length ears ≤ vec_capacity lanes }
+    requires no_acceptors { acceptors.items ≡ [] }
+    requires none_yet { vec_len acceptors ≡ 0 }
+    requires for_acceptors { length ears ≤ vec_capacity acceptors }
     requires no_ears { room.items ≡ [] }
     requires none_back { vec_len room ≡ 0 }
     requires for_ears { length ears ≤ vec_capacity room }
@@ -72,14 +72,14 @@ fn serve_over<
     ensures sound { result.0 ≡ Served → has_fault N.faults result.1 ≡ false }
 {
     let Board { writer, readers } = board;
-    let mut lanes = seat(lanes, ears, readers);
+    let mut acceptors = seat(acceptors, ears, readers);
     let desk = crew.share(rt, keeper, writer, PLAN, *limits, routes);
-    let end = serve(&rt, alloc, &mut lanes, &desk, sessions);
+    let end = serve(&rt, alloc, &mut acceptors, &desk, sessions);
     let keeper = C::end(desk);
-    (end, rise(room, lanes), keeper)
+    (end, rise(room, acceptors), keeper)
 }
 
-/// Opens a door for so many lanes, serves over it, and closes it.
+/// Opens a door for so many acceptors, serves over it, and closes it.
 fn serve_behind<
     D: Door,
     K,
@@ -93,7 +93,7 @@ fn serve_behind<
     limits: &Limits,
     door: &mut D,
     board: Board<R>,
-    lanes: Vec<Lane<D::Ear>>,
+    acceptors: Vec<Acceptor<D::Ear>>,
     room: Vec<D::Ear>,
     routes: Routes,
     keeper: K,
@@ -102,9 +102,9 @@ fn serve_behind<
     requires some { 1 ≤ count }
     requires few { count ≤ 64 }
     requires readers { length board.readers ≡ count }
-    requires no_lanes { lanes.items ≡ [] }
-    requires none_yet { vec_len lanes ≡ 0 }
-    requires for_lanes { count ≤ vec_capacity lanes }
+    requires no_acceptors { acceptors.items ≡ [] }
+    requires none_yet { vec_len acceptors ≡ 0 }
+    requires for_acceptors { count ≤ vec_capacity acceptors }
     requires no_ears { room.items ≡ [] }
     requires none_back { vec_len room ≡ 0 }
     requires for_ears { count ≤ vec_capacity room }
@@ -132,7 +132,7 @@ fn serve_behind<
                 limits,
                 ears,
                 board,
-                lanes,
+                acceptors,
                 room,
                 routes,
                 keeper,
@@ -147,7 +147,7 @@ fn serve_behind<
     }
 }
 
-/// Serves as told, over as many lanes as the door has for the readers: makes the board, room for the lanes and the
+/// Serves as told, over as many acceptors as the door has for the readers: makes the board, room for the acceptors and the
 /// desk's routes, and then serves behind the door.
 pub fn serve_as<
     D: Door,
@@ -178,8 +178,8 @@ pub fn serve_as<
     ensures refused { D.refused door.old ≤ D.refused door.new }
     ensures faults { D.faults door.old ≤ D.faults door.new }
 {
-    let count = door.lanes(serving.readers);
-    let Ok(lanes) = Vec::with_capacity(alloc, count as usize) else {
+    let count = door.acceptors(serving.readers);
+    let Ok(acceptors) = Vec::with_capacity(alloc, count as usize) else {
         return (ServerEnd::NoMemory, keeper);
     };
     let Ok(room) = Vec::with_capacity(alloc, count as usize) else {
@@ -192,6 +192,6 @@ pub fn serve_as<
         return (ServerEnd::NoMemory, keeper);
     };
     serve_behind(
-        rt, alloc, serving, count, limits, door, board, lanes, room, routes, keeper, crew,
+        rt, alloc, serving, count, limits, door, board, acceptors, room, routes, keeper, crew,
     )
 }

@@ -148,12 +148,12 @@ impl<R: Wait + Copy + Drop + Send + Sync> Door for TcpDoor<R> {
 
     ghost accepted = { accepted_at };
 
-    ghost lanes_for = { λ readers. max readers 3 };
+    ghost acceptors_for = { λ readers. max readers 3 };
 
     ghost hears = { HearsAt };
 
     /// Three at least, so that one is free while a day is posted and what is left of another POST is done.
-    fn lanes(&self, readers: u8) -> u8 {
+    fn acceptors(&self, readers: u8) -> u8 {
         readers.max(3)
     }
 

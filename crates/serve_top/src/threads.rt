@@ -4,7 +4,7 @@ ghost use Rattle.road_io.specs.Faults.{Rose};
 ghost use Rattle.road_time.specs.Fits.{IsLimits};
 ghost use Rattle.serve_top.specs.Meaning.{serving_meant};
 ghost use Rattle.serve_loops.specs.Wires.{wire_by};
-ghost use Rattle.serve_loops.specs.Lanes.{TurnOf};
+ghost use Rattle.serve_loops.specs.Acceptors.{TurnOf};
 ghost use Rattle.serve_top.specs.Attends.{Attends};
 ghost use Rattle.serve_top.specs.Endings.{counts_of, EndsWith, HasServed};
 ghost use Rattle.serve_top.specs.Served.{ServedAsSaid, Working};

@@ -1,4 +1,4 @@
-//! Rows of words and lanes: what is read of the words of commands and of the server, and what its lanes answer.
+//! Rows of words and acceptors: what is read of the words of commands and of the server, and what its acceptors answer.
 //!
 //! It has tests alone. They need nothing private of the crates below, and stand apart so that no crate is proved
 //! twice for them.

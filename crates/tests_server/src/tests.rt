@@ -1,8 +1,8 @@
-// The words of the programs, and the doors and lanes of the server.
+// The words of the programs, and the doors and acceptors of the server.
+mod acceptors;
 mod command_words;
 mod doors;
 mod fronts;
-mod lanes;
 mod serving;
 mod serving_words;
 mod shared_keepers;

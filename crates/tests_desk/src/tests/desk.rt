@@ -6,7 +6,7 @@ mod faults;
 mod held;
 mod in_line;
 mod listing;
-mod over_lanes;
+mod over_acceptors;
 mod rows;
 mod streaming;
 

@@ -1,4 +1,4 @@
-// Doors, the ears behind them, and lanes of ears.
+// Doors, the ears behind them, and acceptors of ears.
 ghost use Rattle.std.specs.Prelude.{◌≡◌, ◌∷◌, ◌+◌, ◌≤◌, ◌<◌, [], IfOk, IfSome, length};
 ghost use Rattle.serve_loops.specs.MemListeners.{accepted_by, faults_of};
 ghost use Rattle.serve_top.specs.MemDoors.{accepted_at};
@@ -70,7 +70,7 @@ fn count_next<N: Ear>(ear: &mut N) -> (u64, u64)
     (ear.accepted(), ear.faults())
 }
 
-/// Ears that sat in lanes, and rose from them again.
+/// Ears that sat in acceptors, and rose from them again.
 fn seated(
     alloc: Global,
     ears: Ears<MemListener>,
@@ -102,7 +102,7 @@ fn heard(alloc: Global, door: &mut MemDoor) -> Result<[(u64, u64); 2], NoMemory>
     Ok([first, second])
 }
 
-/// Has a door open an ear, which sits in a lane and rises again, and close it; how many ears that were.
+/// Has a door open an ear, which sits in an acceptor and rises again, and close it; how many ears that were.
 fn sat(alloc: Global, door: &mut MemDoor, readers: Readers) -> Result<usize, NoMemory>
     requires few { accepted_at door.old ≤ 2 }
     requires readers { length readers ≡ 1 }
@@ -116,7 +116,7 @@ fn sat(alloc: Global, door: &mut MemDoor, readers: Readers) -> Result<usize, NoM
     Ok(count)
 }
 
-/// A door gives its two ears, which count what they accept, sit in a lane and are closed; then it has none left.
+/// A door gives its two ears, which count what they accept, sit in an acceptor and are closed; then it has none left.
 #[test]
 fn a_door_gives_its_ears(rt: HostRuntime) -> Result<(), NoMemory> {
     let alloc = rt.alloc();

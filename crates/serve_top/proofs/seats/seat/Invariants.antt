@@ -4,8 +4,8 @@ use Rattle.serve_top.proofs.seats.seat.Given as goal
 
 abbrev pub invariant-loop-listener : goal.invariant-loop-listener
 invariant-loop-listener g l = record {
-  seated : map (λ lane. lane.listener) l.lanes.items ≡ l.yielded;
-  count : vec_len l.lanes ≡ length l.yielded;
-  room : vec_capacity l.lanes ≡ vec_capacity l.fn.room;
+  seated : map (λ acceptor. acceptor.listener) l.acceptors.items ≡ l.yielded;
+  count : vec_len l.acceptors ≡ length l.yielded;
+  room : vec_capacity l.acceptors ≡ vec_capacity l.fn.room;
   left : vec_len l.readers + length l.yielded ≡ length l.fn.ears;
 }

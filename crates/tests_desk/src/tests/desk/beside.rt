@@ -1,4 +1,4 @@
-// What is kept, and a live account, asked of a desk that lanes share while a day is posted.
+// What is kept, and a live account, asked of a desk that acceptors share while a day is posted.
 ghost use Rattle.std.specs.Prelude.{◌≡◌, []};
 
 use super::held::HeldLink;

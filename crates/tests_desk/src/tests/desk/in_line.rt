@@ -1,4 +1,4 @@
-// A POST of a day that is passed, beside the next one over a desk that lanes share.
+// A POST of a day that is passed, beside the next one over a desk that acceptors share.
 ghost use Rattle.std.specs.Prelude.{◌≡◌, []};
 
 use super::answer_of;

@@ -1,4 +1,4 @@
--- what lanes did in all
+-- what acceptors did in all
 use Rattle.std.proofs.Common.{◌≡◌, ◌≤◌, ◌+◌, ◌++◌, ◌∷◌, [], ℕ, List, Bool, true, false, suc, refl, sym, ap, subst}
 use Rattle.std.proofs.Common.{◌∙◌, ⊎_elim, arith, ◌||◌}
 use Rattle.std.specs.List.{list_any, AllZip}
@@ -9,16 +9,16 @@ use Rattle.std.proofs.lemmas.List.Elements.{AllZip-push}
 use Rattle.std.proofs.lemmas.List.Folds.{list_any-append}
 use Rattle.day_floor.specs.Operations.{Operation}
 use Rattle.serve_board.specs.Passes.{Pass, StartsWith}
-use Rattle.serve_loops.specs.declared.lane.Lane.{Lane}
-use Rattle.serve_loops.specs.Lanes.{LaneServes, LaneRan, RanAll, AnyRose, TakesTurns, LaneTurned}
+use Rattle.serve_loops.specs.declared.acceptor.Acceptor.{Acceptor}
+use Rattle.serve_loops.specs.Acceptors.{AcceptorServes, AcceptorRan, RanAll, AnyRose, TakesTurns, AcceptorTurned}
 
 -- what begins with operations that begin with others begins with those
 further : (xs ys zs : List Operation) → StartsWith ys xs → StartsWith zs ys → StartsWith zs xs
 further xs ys zs (r, e) (s, f) = (r ++ s, f ∙ ap (λ l. l ++ s) e ∙ append_assoc xs r s)
 
--- a lane that is served, and served on without a failure, is served
-pub serves_on : {N : Type 0} (faults : N → ℕ) (old mid new : Lane N) → LaneServes faults old mid →
-    mid.failed ≡ false → LaneServes faults mid new → new.failed ≡ false → LaneServes faults old new
+-- an acceptor that is served, and served on without a failure, is served
+pub serves_on : {N : Type 0} (faults : N → ℕ) (old mid new : Acceptor N) → AcceptorServes faults old mid →
+    mid.failed ≡ false → AcceptorServes faults mid new → new.failed ≡ false → AcceptorServes faults old new
 serves_on faults old mid new before sound more fine =
     record {
       later = omega (arith, before.later, more.later);
@@ -28,9 +28,9 @@ serves_on faults old mid new before sound more fine =
       had = further old.reader.seen mid.reader.seen new.reader.seen before.had more.had;
     }
 
--- a lane that did no turn
-pub no_turn : {N : Type 0} (accepted : N → ℕ) (turn : N → Pass → N → Pass → Type 0) (old new : Lane N) →
-    new.listener ≡ old.listener → new.reader ≡ old.reader → LaneTurned accepted turn old new
+-- an acceptor that did no turn
+pub no_turn : {N : Type 0} (accepted : N → ℕ) (turn : N → Pass → N → Pass → Type 0) (old new : Acceptor N) →
+    new.listener ≡ old.listener → new.reader ≡ old.reader → AcceptorTurned accepted turn old new
 no_turn accepted turn old new listener reader =
     let same = ap accepted listener in
     record {
@@ -41,11 +41,11 @@ no_turn accepted turn old new listener reader =
       over = λ _. listener;
     }
 
--- a lane that did one turn more
-pub one_turn : {N : Type 0} (accepted : N → ℕ) (turn : N → Pass → N → Pass → Type 0) (old mid new : Lane N) →
-    LaneTurned accepted turn old mid → mid.failed ≡ false →
+-- an acceptor that did one turn more
+pub one_turn : {N : Type 0} (accepted : N → ℕ) (turn : N → Pass → N → Pass → Type 0) (old mid new : Acceptor N) →
+    AcceptorTurned accepted turn old mid → mid.failed ≡ false →
     turn mid.listener mid.reader new.listener new.reader → accepted new.listener ≡ accepted mid.listener + 1 →
-    LaneTurned accepted turn old new
+    AcceptorTurned accepted turn old new
 one_turn accepted turn old mid new before fine turned more =
     record {
       count = suc before.count;
@@ -60,10 +60,10 @@ one_turn accepted turn old mid new before fine turned more =
       over = λ _. refl;
     }
 
--- a lane that failed in place of a turn
-pub failed_turn : {N : Type 0} (accepted : N → ℕ) (turn : N → Pass → N → Pass → Type 0) (old mid new : Lane N) →
-    LaneTurned accepted turn old mid → new.failed ≡ true → new.reader ≡ mid.reader →
-    accepted new.listener ≡ accepted mid.listener → LaneTurned accepted turn old new
+-- an acceptor that failed in place of a turn
+pub failed_turn : {N : Type 0} (accepted : N → ℕ) (turn : N → Pass → N → Pass → Type 0) (old mid new : Acceptor N) →
+    AcceptorTurned accepted turn old mid → new.failed ≡ true → new.reader ≡ mid.reader →
+    accepted new.listener ≡ accepted mid.listener → AcceptorTurned accepted turn old new
 failed_turn accepted turn old mid new before failed reader none =
     record {
       count = before.count;
@@ -73,9 +73,9 @@ failed_turn accepted turn old mid new before failed reader none =
       over = λ fine. absurd (false≢true (sym fine ∙ failed));
     }
 
--- a lane accepted at most as many connections as it drew tickets
-few : {N : Type 0} (faults accepted : N → ℕ) (turn : N → Pass → N → Pass → Type 0) (x y : Lane N) (d e : ℕ) →
-    LaneRan faults accepted turn x y d e → accepted y.listener ≤ d
+-- an acceptor accepted at most as many connections as it drew tickets
+few : {N : Type 0} (faults accepted : N → ℕ) (turn : N → Pass → N → Pass → Type 0) (x y : Acceptor N) (d e : ℕ) →
+    AcceptorRan faults accepted turn x y d e → accepted y.listener ≤ d
 few faults accepted turn x y d e one =
     ⊎_elim (λ (yes : y.failed ≡ true). omega (arith, one.failed yes))
     (λ (no : y.failed ≡ false). omega (arith, one.served no)) (cases_Bool y.failed)
@@ -86,24 +86,24 @@ neither true b e = absurd (false≢true (sym e))
 neither false true e = absurd (false≢true (sym e))
 neither false false e = (refl, refl)
 
--- no lane failed, the last one neither
-apart : {N : Type 0} (ys : List (Lane N)) (y : Lane N) → list_any (λ lane. lane.failed) (ys ++ y ∷ []) ≡ false →
-    (list_any (λ lane. lane.failed) ys ≡ false) × (y.failed ≡ false)
+-- no acceptor failed, the last one neither
+apart : {N : Type 0} (ys : List (Acceptor N)) (y : Acceptor N) → list_any (λ acceptor. acceptor.failed) (ys ++ y ∷ []) ≡ false →
+    (list_any (λ acceptor. acceptor.failed) ys ≡ false) × (y.failed ≡ false)
 apart ys y e =
-    neither (list_any (λ lane. lane.failed) ys) y.failed
-    (sym (list_any-append (λ lane. lane.failed) ys (y ∷ [])) ∙ e)
+    neither (list_any (λ acceptor. acceptor.failed) ys) y.failed
+    (sym (list_any-append (λ acceptor. acceptor.failed) ys (y ∷ [])) ∙ e)
 
--- one lane more ran
-ran_push : {N : Type 0} (faults accepted : N → ℕ) (turn : N → Pass → N → Pass → Type 0) (xs ys : List (Lane N))
-    (x y : Lane N) (a b d e : ℕ) →
-    RanAll faults accepted turn xs ys a b → LaneRan faults accepted turn x y d e →
+-- one acceptor more ran
+ran_push : {N : Type 0} (faults accepted : N → ℕ) (turn : N → Pass → N → Pass → Type 0) (xs ys : List (Acceptor N))
+    (x y : Acceptor N) (a b d e : ℕ) →
+    RanAll faults accepted turn xs ys a b → AcceptorRan faults accepted turn x y d e →
     RanAll faults accepted turn (xs ++ x ∷ []) (ys ++ y ∷ []) (a + d) (b + e)
 ran_push faults accepted turn xs ys x y a b d e all one =
-    let more = sum_by_push (λ lane. accepted lane.listener) ys y in
+    let more = sum_by_push (λ acceptor. accepted acceptor.listener) ys y in
     let less = few faults accepted turn x y d e one in
     record {
-      serves = AllZip-push (LaneServes faults) xs ys x y all.serves one.serves;
-      turned = AllZip-push (LaneTurned accepted turn) xs ys x y all.turned one.turned;
+      serves = AllZip-push (AcceptorServes faults) xs ys x y all.serves one.serves;
+      turned = AllZip-push (AcceptorTurned accepted turn) xs ys x y all.turned one.turned;
       within = omega (arith, more, less, all.within);
       served = λ none. (let (old, new) = apart ys y none in omega (arith, more, all.served old, one.served new));
       over = λ none some. omega (arith, one.over (apart ys y none).1);
@@ -111,16 +111,16 @@ ran_push faults accepted turn xs ys x y a b d e all one =
 
 -- the same, of a list and sums that are known to be so
 pub ran_behind : {N : Type 0} (faults accepted : N → ℕ) (turn : N → Pass → N → Pass → Type 0)
-    (xs ys done : List (Lane N)) (x y : Lane N) (a b d e drawn ends : ℕ) →
+    (xs ys done : List (Acceptor N)) (x y : Acceptor N) (a b d e drawn ends : ℕ) →
     done ≡ ys ++ y ∷ [] → drawn ≡ a + d → ends ≡ b + e →
-    RanAll faults accepted turn xs ys a b → LaneRan faults accepted turn x y d e →
+    RanAll faults accepted turn xs ys a b → AcceptorRan faults accepted turn x y d e →
     RanAll faults accepted turn (xs ++ x ∷ []) done drawn ends
 ran_behind faults accepted turn xs ys done x y a b d e drawn ends p q r many one =
     rw (p, q, r) (ran_push faults accepted turn xs ys x y a b d e many one)
 
--- where a lane failed, the count of its listener rose
-pub any_rose : {N : Type 0} (faults : N → ℕ) (xs ys : List (Lane N)) → AllZip (LaneServes faults) xs ys →
-    list_any (λ lane. lane.failed) ys ≡ true → AnyRose faults xs ys
+-- where an acceptor failed, the count of its listener rose
+pub any_rose : {N : Type 0} (faults : N → ℕ) (xs ys : List (Acceptor N)) → AllZip (AcceptorServes faults) xs ys →
+    list_any (λ acceptor. acceptor.failed) ys ≡ true → AnyRose faults xs ys
 any_rose faults [] [] z e = absurd (false≢true e)
 any_rose faults [] (y ∷ ys) z e = absurd z
 any_rose faults (x ∷ xs) [] z e = absurd z
@@ -130,7 +130,7 @@ any_rose faults (x ∷ xs) (y ∷ ys) (one, more) e =
     (cases_Bool y.failed)
   where
     rest : Bool
-    rest = list_any (λ lane. lane.failed) ys
+    rest = list_any (λ acceptor. acceptor.failed) ys
 
     there : AnyRose faults xs ys → AnyRose faults (x ∷ xs) (y ∷ ys)
     there (k, p, less, at, rose) = (suc k, p, omega (arith, less), at, rose)

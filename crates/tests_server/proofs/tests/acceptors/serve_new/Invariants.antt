@@ -1,4 +1,4 @@
-use Rattle.tests_server.proofs.tests.lanes.serve_new.Given as goal
+use Rattle.tests_server.proofs.tests.acceptors.serve_new.Given as goal
 
 -- the history that was just opened
 abbrev pub ghosts-serve_inline : goal.ghosts-serve_inline

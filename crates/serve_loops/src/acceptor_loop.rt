@@ -1,10 +1,10 @@
-// The loop of one lane.
+// The loop of one acceptor.
 ghost use Rattle.std.specs.Prelude.{◌≡◌, ◌+◌, ◌<◌, ◌-◌, ◌^◌, true, false};
 ghost use Rattle.serve_loops.specs.Wires.{wire_by};
-ghost use Rattle.serve_loops.specs.Lanes.{LaneServes, TurnOf, LaneTurned};
+ghost use Rattle.serve_loops.specs.Acceptors.{AcceptorServes, TurnOf, AcceptorTurned};
 
+use crate::acceptor::Acceptor;
 use crate::host::Host;
-use crate::lane::Lane;
 use crate::listener::Listener;
 use crate::stub::Stub;
 use crate::tickets::{Draws, Tickets, draw};
@@ -15,13 +15,13 @@ use std::sync::atomic::{AtomicBool, Ordering};
 use std::sync::ledger::Ledger;
 use std::sync::{Mutex, Wait};
 
-impl<N: Listener> Lane<N> {
+impl<N: Listener> Acceptor<N> {
     /// Accepts a connection, has it served, and gives it back, so that what was answered reaches the client. Its turn
-    /// is over then at the latest. Where the listener fails the lane failed; so it does where all loops are to stop.
+    /// is over then at the latest. Where the listener fails the acceptor failed; so it does where all loops are to stop.
     fn turn<H: Host>(&mut self, alloc: Global, host: &H, stop: &AtomicBool) -> bool
         requires room { N.accepted self.old.listener < 2 ^ 64 - 1 }
         requires goes { self.old.failed ≡ false }
-        ensures serves { LaneServes N.faults self.old self.new }
+        ensures serves { AcceptorServes N.faults self.old self.new }
         ensures accepts { result ≡ true → N.accepted self.new.listener ≡ N.accepted self.old.listener + 1 }
         ensures refuses { result ≡ false → N.accepted self.new.listener ≡ N.accepted self.old.listener }
         ensures turns { result ≡ true
@@ -53,7 +53,7 @@ impl<N: Listener> Lane<N> {
     }
 
     /// Turns, until no ticket is left, the listener fails or all loops are to stop.
-    #[tactic(auto, using(crate::proofs::LaneLaws::no_turn, crate::proofs::LaneLaws::failed_turn))]
+    #[tactic(auto, using(crate::proofs::AcceptorLaws::no_turn, crate::proofs::AcceptorLaws::failed_turn))]
     pub fn run<H: Host, D: Draws, E: Ledger, R: Wait>(
         &mut self,
         rt: &R,
@@ -66,8 +66,8 @@ impl<N: Listener> Lane<N> {
         requires drawn { 0 < stub.old.drawn.parts }
         requires ends { 0 < stub.old.ends.parts }
         requires fresh { N.accepted self.old.listener ≡ stub.old.drawn.amount }
-        ensures serves { LaneServes N.faults self.old self.new }
-        ensures turned { LaneTurned N.accepted
+        ensures serves { AcceptorServes N.faults self.old self.new }
+        ensures turned { AcceptorTurned N.accepted
             (TurnOf N.gives N.takes (wire_by N.Line.left N.Line.plan N.Line.written N.Line.room N.Line.faults)
             (H.attends host.now)) self.old self.new }
         ensures served { self.new.failed ≡ false → N.accepted self.new.listener ≡ stub.new.drawn.amount }

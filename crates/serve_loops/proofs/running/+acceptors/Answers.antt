@@ -1,8 +1,8 @@
-use Rattle.serve_loops.proofs.LaneLaws.{ran_behind}
-use Rattle.serve_loops.proofs.running.+lanes.Goals as goal
+use Rattle.serve_loops.proofs.AcceptorLaws.{ran_behind}
+use Rattle.serve_loops.proofs.running.+acceptors.Goals as goal
 
 pub run_beside-returns-clause-ran : goal.run_beside-returns-clause-ran
 run_beside-returns-clause-ran g t c =
     ran_behind g.N.Listener.faults g.N.Listener.accepted _ _ _ _ _ _ _ _ _ _ _ _
-    c.put_behind.ensures.lanes c.put_behind.ensures.drawn c.put_behind.ensures.ends
+    c.put_behind.ensures.acceptors c.put_behind.ensures.drawn c.put_behind.ensures.ends
     c.join-last.ensures.second.0 c.join-last.ensures.first.0

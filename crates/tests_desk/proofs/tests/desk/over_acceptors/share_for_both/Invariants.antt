@@ -1,4 +1,4 @@
-use Rattle.tests_desk.proofs.tests.desk.over_lanes.share_for_both.Given as goal
+use Rattle.tests_desk.proofs.tests.desk.over_acceptors.share_for_both.Given as goal
 
 -- the history that was just opened
 abbrev pub ghosts-share_inline : goal.ghosts-share_inline

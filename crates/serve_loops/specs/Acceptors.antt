@@ -1,22 +1,22 @@
--- What a lane did: it drew a ticket for each connection that it accepted, until none was left or it failed.
+-- What an acceptor did: it drew a ticket for each connection that it accepted, until none was left or it failed.
 
 use Rattle.std.specs.Prelude.{◌≡◌, ◌≤◌, ◌<◌, ◌+◌, ℕ, zero, suc, List, true, false, Any, sum_by, zip, length}
 use Rattle.std.specs.List.{AllZip, list_any}
 use Rattle.road_io.specs.Faults.{Rose}
 use Rattle.serve_board.specs.Passes.{Pass, StartsWith}
 use Rattle.serve_loops.specs.Wires.{Wire}
-use Rattle.serve_loops.specs.declared.lane.Lane.{Lane}
+use Rattle.serve_loops.specs.declared.acceptor.Acceptor.{Acceptor}
 
--- a lane served: its listener's faults rose where it failed, and stand where it did not; its reader is one of its board,
+-- an acceptor served: its listener's faults rose where it failed, and stand where it did not; its reader is one of its board,
 -- and lost nothing that it saw
-pub record LaneServes {N : Type 0} (faults : N → ℕ) (old new : Lane N) : Type 0 where
+pub record AcceptorServes {N : Type 0} (faults : N → ℕ) (old new : Acceptor N) : Type 0 where
   pub later : faults old.listener ≤ faults new.listener
   pub cause : new.failed ≡ true → Rose (faults old.listener) (faults new.listener)
   pub still : new.failed ≡ false → faults new.listener ≡ faults old.listener
   pub board : new.reader.board ≡ old.reader.board
   pub had : StartsWith new.reader.seen old.reader.seen
 
--- one turn of a lane, by its listener and its reader before and after it: the listener gave a connection, that was
+-- one turn of an acceptor, by its listener and its reader before and after it: the listener gave a connection, that was
 -- served, and the listener took back what it then was
 pub record TurnOf {N L : Type 0} (gives takes : N → N → L → Type 0) (wire : L → Wire)
     (attends : Pass → Pass → Wire → Wire → Type 0) (old : N) (p : Pass) (new : N) (q : Pass) : Type 0 where
@@ -32,8 +32,8 @@ abbrev pub TakesTurns : {N : Type 0} → (N → Pass → N → Pass → Type 0) 
 TakesTurns {N} turn zero old p new q = (new ≡ old) × (q ≡ p)
 TakesTurns {N} turn (suc n) old p new q = (mid : N) × (r : Pass) × TakesTurns turn n old p mid r × turn mid r new q
 
--- the turns of a lane: as many as its listener accepted connections; only a listener that failed is another behind them
-pub record LaneTurned {N : Type 0} (accepted : N → ℕ) (turn : N → Pass → N → Pass → Type 0) (old new : Lane N) :
+-- the turns of an acceptor: as many as its listener accepted connections; only a listener that failed is another behind them
+pub record AcceptorTurned {N : Type 0} (accepted : N → ℕ) (turn : N → Pass → N → Pass → Type 0) (old new : Acceptor N) :
     Type 0 where
   pub count : ℕ
   pub last : N
@@ -41,33 +41,33 @@ pub record LaneTurned {N : Type 0} (accepted : N → ℕ) (turn : N → Pass →
   pub turns : TakesTurns turn count old.listener old.reader last new.reader
   pub over : new.failed ≡ false → new.listener ≡ last
 
--- a lane failed
-abbrev pub HasFailedLane : {N : Type 0} → List (Lane N) → Type 0
-HasFailedLane lanes = Any (λ lane. lane.failed ≡ true) lanes
+-- an acceptor failed
+abbrev pub HasFailedAcceptor : {N : Type 0} → List (Acceptor N) → Type 0
+HasFailedAcceptor acceptors = Any (λ acceptor. acceptor.failed ≡ true) acceptors
 
--- the count of a lane's listener rose
-abbrev pub AnyRose : {N : Type 0} → (N → ℕ) → List (Lane N) → List (Lane N) → Type 0
+-- the count of an acceptor's listener rose
+abbrev pub AnyRose : {N : Type 0} → (N → ℕ) → List (Acceptor N) → List (Acceptor N) → Type 0
 AnyRose faults old new = Any (λ p. Rose (faults p.0.listener) (faults p.1.listener)) (zip old new)
 
--- the connections that lanes accepted in all
-abbrev pub accepted_in_all : {N : Type 0} → (N → ℕ) → List (Lane N) → ℕ
-accepted_in_all accepted lanes = sum_by (λ lane. accepted lane.listener) lanes
+-- the connections that acceptors accepted in all
+abbrev pub accepted_in_all : {N : Type 0} → (N → ℕ) → List (Acceptor N) → ℕ
+accepted_in_all accepted acceptors = sum_by (λ acceptor. accepted acceptor.listener) acceptors
 
--- a lane ran: it drew as many tickets as its listener accepted connections, and one more where it failed; where it did
+-- an acceptor ran: it drew as many tickets as its listener accepted connections, and one more where it failed; where it did
 -- not fail it found none left
-pub record LaneRan {N : Type 0} (faults accepted : N → ℕ) (turn : N → Pass → N → Pass → Type 0) (old new : Lane N)
+pub record AcceptorRan {N : Type 0} (faults accepted : N → ℕ) (turn : N → Pass → N → Pass → Type 0) (old new : Acceptor N)
     (drawn ends : ℕ) : Type 0 where
-  pub serves : LaneServes faults old new
-  pub turned : LaneTurned accepted turn old new
+  pub serves : AcceptorServes faults old new
+  pub turned : AcceptorTurned accepted turn old new
   pub served : new.failed ≡ false → accepted new.listener ≡ drawn
   pub over : new.failed ≡ false → 0 < ends
   pub failed : new.failed ≡ true → accepted new.listener + 1 ≡ drawn
 
--- lanes ran: so many tickets were drawn in all
+-- acceptors ran: so many tickets were drawn in all
 pub record RanAll {N : Type 0} (faults accepted : N → ℕ) (turn : N → Pass → N → Pass → Type 0)
-    (old new : List (Lane N)) (drawn ends : ℕ) : Type 0 where
-  pub serves : AllZip (LaneServes faults) old new
-  pub turned : AllZip (LaneTurned accepted turn) old new
+    (old new : List (Acceptor N)) (drawn ends : ℕ) : Type 0 where
+  pub serves : AllZip (AcceptorServes faults) old new
+  pub turned : AllZip (AcceptorTurned accepted turn) old new
   pub within : accepted_in_all accepted new ≤ drawn
-  pub served : list_any (λ lane. lane.failed) new ≡ false → accepted_in_all accepted new ≡ drawn
-  pub over : list_any (λ lane. lane.failed) new ≡ false → 0 < length new → 0 < ends
+  pub served : list_any (λ acceptor. acceptor.failed) new ≡ false → accepted_in_all accepted new ≡ drawn
+  pub over : list_any (λ acceptor. acceptor.failed) new ≡ false → 0 < length new → 0 < ends

@@ -1,4 +1,4 @@
-// Serving over lanes in memory.
+// Serving over acceptors in memory.
 ghost use Rattle.std.specs.Prelude.{◌≡◌, [], length, vec_len, All, IfOk};
 ghost use Rattle.serve_loops.specs.MemListeners.{accepted_by};
 
@@ -8,7 +8,7 @@ use road_io::MemLink;
 use road_time::{Limits, NoMemory};
 use serve_board::{Board, BoardReader, board};
 use serve_desk::{Kept, Naming, Opened, Routes};
-use serve_top::{DeskCrew, Lane, Lanes, MemListener, ServeEnd, serve};
+use serve_top::{Acceptor, Acceptors, DeskCrew, MemListener, ServeEnd, serve};
 use std::alloc::Global;
 use std::marker::Brand;
 use std::sync::Wait;
@@ -37,27 +37,27 @@ fn listener_of(alloc: Global, links: u8) -> Result<MemListener, NoMemory>
     MemListener::new(alloc, all, &[])
 }
 
-/// A lane for each reader, each with such a listener.
-fn lanes_of(
+/// An acceptor for each reader, each with such a listener.
+fn acceptors_of(
     alloc: Global,
     mut readers: Vec<BoardReader>,
     links: u8,
-) -> Result<Lanes<MemListener>, NoMemory>
-    ensures len { IfOk result (λ lanes. length lanes ≡ vec_len readers) }
-    ensures unused { IfOk result (λ lanes. All (λ lane. accepted_by lane.listener ≡ 0) lanes) }
+) -> Result<Acceptors<MemListener>, NoMemory>
+    ensures len { IfOk result (λ acceptors. length acceptors ≡ vec_len readers) }
+    ensures unused { IfOk result (λ acceptors. All (λ acceptor. accepted_by acceptor.listener ≡ 0) acceptors) }
 {
-    let mut lanes = Vec::new(alloc);
+    let mut acceptors = Vec::new(alloc);
     while let Some(reader) = readers.pop() {
-        lanes.push(Lane {
+        acceptors.push(Acceptor {
             listener: listener_of(alloc, links)?,
             reader,
             failed: true,
         })?;
     }
-    Ok(Lanes::from_vec(lanes))
+    Ok(Acceptors::from_vec(acceptors))
 }
 
-/// How serving so many sessions ends, over lanes of so many links each, and whether day 100 is kept then.
+/// How serving so many sessions ends, over acceptors of so many links each, and whether day 100 is kept then.
 fn serve_links<
     J: Naming + Send + Sync,
     R: Threads + Wait + Drop + Copy + Send + Sync,
@@ -67,17 +67,17 @@ fn serve_links<
     alloc: Global,
     crew: C,
     kept: Kept<J, MemKeeper>,
-    lanes: u8,
+    acceptors: u8,
     links: u8,
     sessions: u64,
 ) -> Result<(ServeEnd, bool), NoMemory>
     requires { C.out crew ≡ [] }
 {
     let routes = Routes::new(alloc)?;
-    let Board { writer, readers } = board(rt, alloc, lanes.clamp(1, 64))?;
-    let mut lanes = lanes_of(alloc, readers.into_vec(), links)?;
+    let Board { writer, readers } = board(rt, alloc, acceptors.clamp(1, 64))?;
+    let mut acceptors = acceptors_of(alloc, readers.into_vec(), links)?;
     let desk = crew.share(rt, kept, writer, PLAN, Limits::DAY, routes);
-    let end = serve(&rt, alloc, &mut lanes, &desk, sessions);
+    let end = serve(&rt, alloc, &mut acceptors, &desk, sessions);
     let mut keeper = C::end(desk).into_keeper();
     let kept = match keeper.day(100) {
         Ok(kept) => kept.is_some(),
@@ -91,32 +91,40 @@ fn serve_inline<J: Naming + Send + Sync, R: Threads + Wait + Drop + Copy + Send 
     rt: R,
     alloc: Global,
     opened: Opened<MemKeeper>,
-    lanes: u8,
+    acceptors: u8,
     links: u8,
     sessions: u64,
 ) -> Result<(ServeEnd, bool), NoMemory>
     requires { opened.seen.book ≡ J.book }
 {
     let crew = InlineCrew::new(alloc, false);
-    serve_links(rt, alloc, crew, opened.named::<J>(), lanes, links, sessions)
+    serve_links(
+        rt,
+        alloc,
+        crew,
+        opened.named::<J>(),
+        acceptors,
+        links,
+        sessions,
+    )
 }
 
 /// The same of a new keeper.
 fn serve_new<R: Threads + Wait + Drop + Copy + Send + Sync>(
     rt: R,
     alloc: Global,
-    lanes: u8,
+    acceptors: u8,
     links: u8,
     sessions: u64,
 ) -> Result<(ServeEnd, bool), NoMemory> {
     let opened = Opened::new(MemKeeper::new(alloc, &[])?);
-    serve_inline::<Brand, R>(rt, alloc, opened, lanes, links, sessions)
+    serve_inline::<Brand, R>(rt, alloc, opened, acceptors, links, sessions)
 }
 
-/// Lanes accept as many connections as there are sessions, whichever lane comes first; where a listener has none left,
+/// Acceptors accept as many connections as there are sessions, whichever acceptor comes first; where a listener has none left,
 /// that is told. What was posted is kept in each case.
 #[test]
-fn lanes_share_the_sessions(rt: HostRuntime) -> Result<(), NoMemory> {
+fn acceptors_share_the_sessions(rt: HostRuntime) -> Result<(), NoMemory> {
     let alloc = rt.alloc();
     let rows = [
         (1, 1, 1, ServeEnd::Served),
@@ -126,18 +134,18 @@ fn lanes_share_the_sessions(rt: HostRuntime) -> Result<(), NoMemory> {
         (2, 3, 3, ServeEnd::Served),
         (2, 1, 3, ServeEnd::ListenFault),
     ];
-    for (lanes, links, sessions, end) in rows {
-        let came = serve_new(rt, alloc, lanes, links, sessions)?;
+    for (acceptors, links, sessions, end) in rows {
+        let came = serve_new(rt, alloc, acceptors, links, sessions)?;
         assert_eq!(rt;
             came,
             (end, true),
-            "{lanes} lanes of {links} links, {sessions} sessions"
+            "{acceptors} acceptors of {links} links, {sessions} sessions"
         );
     }
     Ok(())
 }
 
-/// The same of two lanes of three links each, with a thread for each job.
+/// The same of two acceptors of three links each, with a thread for each job.
 fn serve_by_threads<J: Naming + Send + Sync, R: Threads + Wait + Drop + Copy + Send + Sync>(
     rt: R,
     alloc: Global,

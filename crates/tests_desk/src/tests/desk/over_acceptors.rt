@@ -1,4 +1,4 @@
-// What is asked of a desk that lanes share: what is kept, of a day, an expressway and a vehicle that differ from one
+// What is asked of a desk that acceptors share: what is kept, of a day, an expressway and a vehicle that differ from one
 // another; what is asked of a keeper that fails; a long day; and the notices of a day that is sent.
 ghost use Rattle.std.specs.Prelude.{◌≡◌, []};
 
@@ -20,7 +20,7 @@ use std::sync::Wait;
 use std::thread::Threads;
 use ways_crews::{InlineCrew, NoGate, ThreadCrew};
 
-/// What is asked of a new desk that lanes share, and what it is to answer.
+/// What is asked of a new desk that acceptors share, and what it is to answer.
 #[derive(Clone, Copy)]
 enum Asking<'a> {
     /// What is kept, once two days were posted.
@@ -224,16 +224,16 @@ fn share_for_both<R: Threads + Wait + Drop + Copy + Send + Sync>(
     Ok(inline && share_by_threads::<Brand, R>(rt, alloc, threads, asking)?)
 }
 
-/// An amount is that of the day, the expressway and the vehicle that are asked for, over a desk that lanes share.
+/// An amount is that of the day, the expressway and the vehicle that are asked for, over a desk that acceptors share.
 #[test]
-fn who_asks_over_lanes_is_told_of_that_very_one(rt: HostRuntime) -> Result<(), NoMemory> {
+fn who_asks_over_acceptors_is_told_of_that_very_one(rt: HostRuntime) -> Result<(), NoMemory> {
     assert!(rt; share_for_both(rt, rt.alloc(), &[], Asking::TwoDays)?);
     Ok(())
 }
 
-/// Who asks for what is kept over lanes is answered with 503 where the keeper fails, and so is who posts a day.
+/// Who asks for what is kept over acceptors is answered with 503 where the keeper fails, and so is who posts a day.
 #[test]
-fn who_asks_over_lanes_is_told_of_a_fault(rt: HostRuntime) -> Result<(), NoMemory> {
+fn who_asks_over_acceptors_is_told_of_a_fault(rt: HostRuntime) -> Result<(), NoMemory> {
     for request in KEPT {
         assert!(rt; share_for_both(rt, rt.alloc(), &[0], Asking::Fault(request))?);
     }
@@ -248,14 +248,14 @@ fn an_account_asks_no_keeper(rt: HostRuntime) -> Result<(), NoMemory> {
     Ok(())
 }
 
-/// A POST of 100,000 bytes in pieces of 10,000 is stored over lanes too.
+/// A POST of 100,000 bytes in pieces of 10,000 is stored over acceptors too.
 #[test]
-fn a_long_post_over_lanes_is_stored(rt: HostRuntime) -> Result<(), NoMemory> {
+fn a_long_post_over_acceptors_is_stored(rt: HostRuntime) -> Result<(), NoMemory> {
     assert!(rt; share_for_both(rt, rt.alloc(), &[], Asking::LongDay)?);
     Ok(())
 }
 
-/// Whether a desk that lanes share, whose keeper fails at these calls, streams this for a request.
+/// Whether a desk that acceptors share, whose keeper fails at these calls, streams this for a request.
 fn is_streamed<R: Threads + Wait + Drop + Copy + Send + Sync>(
     rt: R,
     alloc: Global,
@@ -271,9 +271,9 @@ fn is_streamed<R: Threads + Wait + Drop + Copy + Send + Sync>(
     share_for_both(rt, alloc, fails, asking)
 }
 
-/// The notices of a day that is sent are streamed over lanes, to the closing line.
+/// The notices of a day that is sent are streamed over acceptors, to the closing line.
 #[test]
-fn notices_are_streamed_over_lanes(rt: HostRuntime) -> Result<(), NoMemory> {
+fn notices_are_streamed_over_acceptors(rt: HostRuntime) -> Result<(), NoMemory> {
     let alloc = rt.alloc();
     for row in &STREAMED {
         let request = request_of(alloc, row.lines, 0)?;
@@ -285,10 +285,10 @@ fn notices_are_streamed_over_lanes(rt: HostRuntime) -> Result<(), NoMemory> {
     Ok(())
 }
 
-/// Over lanes too a body that is cut and a keeper that fails are told behind the head; and where there is no second
+/// Over acceptors too a body that is cut and a keeper that fails are told behind the head; and where there is no second
 /// handle of a connection, want of memory is answered.
 #[test]
-fn a_stream_over_lanes_tells_its_faults(rt: HostRuntime) -> Result<(), NoMemory> {
+fn a_stream_over_acceptors_tells_its_faults(rt: HostRuntime) -> Result<(), NoMemory> {
     let alloc = rt.alloc();
     let cut = request_of(alloc, b"\n\n\n", 2)?;
     assert!(rt; is_streamed(rt, alloc, &[], cut.as_slice(), b"# read fault\n")?);
