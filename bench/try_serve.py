@@ -688,7 +688,7 @@ def slow_post(server, day, begins):
 
 def try_passed(program, folder):
     """A passed day and a refused one whose bodies of some MB come slowly, and a client that does not take its answer: the next POST
-    does not wait for them. One more keeps all the lanes that POSTs may keep: who asks is answered, and a further POST waits."""
+    does not wait for them. One more keeps all the acceptors that POSTs may keep: who asks is answered, and a further POST waits."""
     server = Server(program, folder, 3_000)
     expect("the first day", server.ask("POST", "/days/100", b"")[0], 200)
     slow = [slow_post(server, 99, b""), slow_post(server, 101, LATE)]
@@ -798,7 +798,7 @@ def shim():
 
 
 def try_faults(program, folder):
-    """Two hundred faults of accept, after which all lanes answer."""
+    """Two hundred faults of accept, after which all acceptors answer."""
     library = shim()
     if library is None:
         print("no compiler: faults of accept were not tried")
@@ -811,12 +811,12 @@ def try_faults(program, folder):
         fail(f"{ACCEPT_FAULTS} faults of accept passed within {waited:.2f} s: none was waited for, or none came")
     answers, most = slowest(work(server, ["/live"] * 8, 2))
     expect("the server after faults of accept", server.child.poll(), None)
-    print(f"{ACCEPT_FAULTS} faults of accept: passed within {waited:.1f} s; {answers} answers over all lanes after them, the slowest {most:.1f} ms")
+    print(f"{ACCEPT_FAULTS} faults of accept: passed within {waited:.1f} s; {answers} answers over all acceptors after them, the slowest {most:.1f} ms")
     server.end()
 
 
 def try_threads(program, folder):
-    """Where a thread cannot be had for a lane the server ends with status 4, and does not go on with fewer lanes."""
+    """Where a thread cannot be had for an acceptor the server ends with status 4, and does not go on with fewer acceptors."""
     library = shim()
     if library is None:
         print("no compiler: a lack of threads was not tried")
@@ -828,11 +828,11 @@ def try_threads(program, folder):
         done = subprocess.run([program, str(free_port()), "--readers", "5"], cwd=folder, capture_output=True, timeout=60, env=environment)
         took.append(time.monotonic() - begin)
         expect(f"the status where {had} threads can be had", (done.returncode, done.stdout, done.stderr), (4, b"", b""))
-    print(f"0 to 3 threads for five lanes: status 4 each time, after {max(took):.1f} s at most")
+    print(f"0 to 3 threads for five acceptors: status 4 each time, after {max(took):.1f} s at most")
 
 
 def try_drains(program, folder):
-    """Clients that are answered and neither close nor end what they send: no lane waits for them."""
+    """Clients that are answered and neither close nor end what they send: no acceptor waits for them."""
     server = Server(program, folder, 3_000, readers=2)
     server.ask("GET", "/live")
     held = [server.connect() for _ in range(100)]
@@ -852,7 +852,7 @@ def try_drains(program, folder):
             gone += 1
         wire.close()
     expect("clients that stayed and were let go after two seconds", gone, len(held))
-    print(f"{len(held)} clients that are answered and stay: {answers} answers over two lanes meanwhile, the slowest {most:.1f} ms;"
+    print(f"{len(held)} clients that are answered and stay: {answers} answers over two acceptors meanwhile, the slowest {most:.1f} ms;"
           " each was let go")
     server.end()
 
