@@ -1,6 +1,6 @@
 -- What is ready for a call, and what was made of it.
 use Rattle.std.proofs.Common.{◌≡◌, inl, inr, ℕ, Bool, true, List, Option, Some, None, Result, Ok, Err}
-use Rattle.std.proofs.Common.{IfOk, sym, subst}
+use Rattle.std.proofs.Common.{IfOk, OnOk, sym, subst}
 use Rattle.sqlite_trees.specs.declared.error.StoreError.{StoreError}
 use Rattle.sqlite.specs.State.{State}
 use Rattle.keep_office.specs.declared.kept.KeepFault.{KeepFault}
@@ -30,18 +30,20 @@ pub none_held : {T K : Type 0} (old : Option (Kept T K)) → old ≡ None → Is
 none_held None h = tt
 none_held (Some k) h = absurd (cc)
 
-module _ {T K : Type 0} (view : K → State) (cause : K → K → KeepFault → Type 0) (asks : Office → Type 0) (next : Office → Office)
-    (held : Option (Kept T K)) (result : Result (Unit {0}) KeepFault) where
+module _ {T K : Type 0} (whys : Kept T K → Cause → Type 0) (view : K → State)
+    (cause : K → K → Office → KeepFault → Type 0) (asks : Office → Type 0) (next : Office → Office)
+    (held : Option (Kept T K)) (said : Option Cause) (result : Result (Unit {0}) KeepFault) where
   -- a call was made of a keeper that is known to be fit
   pub made_of : (may : K → Type 0) (kept : K) → may kept
-      → IsMade (λ k. k ≡ kept) view cause true asks (λ o u. Unit {0}) next held result
-      → IsMade may view cause true asks (λ o u. Unit {0}) next held result
+      → IsMade (λ k. k ≡ kept) whys view cause true asks (λ o u. Unit {0}) next held said result
+      → IsMade may whys view cause true asks (λ o u. Unit {0}) next held said result
   made_of may kept fit made = record {
     before = made.before;
     after = made.after;
     ready = subst may (sym made.ready) fit;
     does = made.does;
     kept = made.kept;
+    says = made.says;
   }
 
 module _ {P S : Type 0} (refuses : Opening P S → Cause → Type 0) (path : List ℕ) where
@@ -54,20 +56,22 @@ pub unopened_for : {A : Type 0} (knows : Cause → Type 0) (said : Option Cause)
     (cause : Cause) → knows cause → IsToldBy said result cause → WasUnopened knows said result
 unopened_for knows said result cause known told = record { cause = cause; known = known; told = told }
 
-module _ {T K X P : Type 0} (found : T → Type 0) (see : X → X → Result Bool StoreError → Type 0) (view : K → State)
-    (cause : K → K → KeepFault → Type 0) (asks : Office → Type 0) (next : Office → Office) (held : Option (Kept T K))
-    (refuses : Opening P X → Cause → Type 0) (path : List ℕ) (said : Option Cause)
+module _ {T K X P : Type 0} (found : T → Type 0) (see : X → X → Result Bool StoreError → Type 0)
+    (whys : Kept T K → Cause → Type 0) (view : K → State)
+    (cause : K → K → Office → KeepFault → Type 0) (asks : Office → Type 0) (next : Office → Office)
+    (held : Option (Kept T K)) (refuses : Opening P X → Cause → Type 0) (path : List ℕ) (said : Option Cause)
     (result : Result (Unit {0}) KeepFault) where
   -- a keeper that was opened is ready where none was held
   pub made_ready : (opened : K → Type 0) (old : Option (Kept T K)) → IsNotWhole old
-      → IsPut opened held found see view cause asks next refuses path said result
-      → AskedToPut old held opened found see view cause asks next refuses path said result
+      → IsPut opened held found see whys view cause asks next refuses path said result
+      → AskedToPut old held opened found see whys view cause asks next refuses path said result
   made_ready opened old none (inl made) = inl (record {
     before = made.before;
     after = made.after;
     ready = fresh old none made.before made.ready;
     does = made.does;
     kept = made.kept;
+    says = made.says;
   })
     where
       fresh : (was : Option (Kept T K)) → IsNotWhole was → (k : K) → opened k → IsReady opened was k
@@ -79,7 +83,7 @@ module _ {T K X P : Type 0} (found : T → Type 0) (see : X → X → Result Boo
   -- a call was made of a store
   pub stored_so : (opened : K → Type 0) (before after : X) (answer : Result Bool StoreError) → see before after answer
       → IsToldAs said answer result → HoldsFound found held
-      → IsPut opened held found see view cause asks next refuses path said result
+      → IsPut opened held found see whys view cause asks next refuses path said result
   stored_so opened before after answer stores told kept = inr (inl (record {
     before = before;
     after = after;
@@ -91,8 +95,13 @@ module _ {T K X P : Type 0} (found : T → Type 0) (see : X → X → Result Boo
 
   -- nothing was opened to put
   pub not_put : (opened : K → Type 0) (why : Cause) → held ≡ None → IsUnput refuses path why → IsToldBy said result why
-      → IsPut opened held found see view cause asks next refuses path said result
+      → IsPut opened held found see whys view cause asks next refuses path said result
   not_put opened why none known told = inr (inr (none, record { cause = why; known = known; told = told }))
+
+-- what is so anyway is so where a call went well
+pub ok_so : {A E : Type 0} (so : Type 0) → so → (result : Result A E) → OnOk result so
+ok_so so h (Ok x) = h
+ok_so so h (Err e) = tt
 
 -- what is so anyway is so of what was opened whole
 pub whole_so : {T W E : Type 0} (so : Type 0) → so → (result : Result (Kept T W) E) → IfOk result (IfWhole so)

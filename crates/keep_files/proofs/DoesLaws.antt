@@ -1,5 +1,6 @@
 -- What the clauses of a proved keeper say of a call.
-use Rattle.std.proofs.Common.{◌≡◌, true, false, true≢false, Result, Ok, Err, IfOk, IfErr, OnOk, OnErr, IsTrue, refl, inr}
+use Rattle.std.proofs.Common.{◌≡◌, true, false, true≢false, Result, Ok, Err, IfOk, IfErr, OnOk, OnErr, IsTrue}
+use Rattle.std.proofs.Common.{refl, inr}
 use Rattle.sqlite_trees.specs.declared.store.Store.{Ghosts}
 use Rattle.sqlite.specs.Held.{Held}
 use Rattle.sqlite.specs.State.{State, HasCleanDisk, KeepsCommit, Survives}
@@ -9,9 +10,9 @@ use Rattle.keep_office.specs.declared.kept.KeepFault.TheVariants.{Failed, NoMemo
 use Rattle.keep_office.specs.Office.{Office}
 use Rattle.keep_tables.specs.Stands.{HasOffice, StandsForOffice}
 use Rattle.keep_tables.specs.Steps.{FitsAny}
-use Rattle.keep_writes.specs.Causes.{WasRefusedIn, LackedMemory}
+use Rattle.keep_writes.specs.Causes.{WasRefusedIn}
 use Rattle.keep_writes.proofs.GrowLaws.{still_stands}
-use Rattle.keep_database.specs.Gives.{GivesUnless}
+use Rattle.keep_database.specs.Gives.{GivesUnless, WantsMemory}
 use Rattle.keep_database.specs.Looks.{CommitsFrom}
 use Rattle.keep_database.proofs.StandLaws.{ok_gives}
 use Rattle.keep_files.specs.Does.{Does, CommitsIf, FailsFor}
@@ -21,26 +22,19 @@ either : {T : Type 0} (r : Result T KeepFault) (P : Type 0) → P → OnOk r P �
 either (Ok x) P p = (p, tt)
 either (Err e) P p = (tt, p)
 
--- why a call that reads failed, which may want memory of its own
-pub fails_own : {S T : Type 0} (g : Ghosts S) (old new : Held S) (r : Result T KeepFault) →
-    (r ≡ Err Failed → WasRefusedIn g old new) → IfErr r (FailsFor g true old new)
-fails_own g old new (Ok x) why = tt
-fails_own g old new (Err Failed) why = why refl
-fails_own g old new (Err NoMemory) why = tt
-
--- the same of one that wants none
-pub fails_lean : {S T : Type 0} (g : Ghosts S) (old new : Held S) (r : Result T KeepFault) →
-    (r ≡ Err Failed → WasRefusedIn g old new) → (r ≡ Err NoMemory → LackedMemory g old new)
-    → IfErr r (FailsFor g false old new)
-fails_lean g old new (Ok x) why memory = tt
-fails_lean g old new (Err Failed) why memory = why refl
-fails_lean g old new (Err NoMemory) why memory = memory refl
+-- why a call that reads failed, which may want memory for what it takes up
+pub fails_for : {S T : Type 0} (g : Ghosts S) (takes : Office → Type 0) (old new : Held S) (o : Office)
+    (r : Result T KeepFault) → (r ≡ Err Failed → WasRefusedIn g old new)
+    → (r ≡ Err NoMemory → WantsMemory g old new (takes o)) → IfErr r (FailsFor g takes old new o)
+fails_for g takes old new o (Ok x) why memory = tt
+fails_for g takes old new o (Err Failed) why memory = why refl
+fails_for g takes old new o (Err NoMemory) why memory = memory refl
 
 -- a call that reads
-pub read_does : {T X : Type 0} (R : Type 0) (C : KeepFault → Type 0) (see : T → X) (y : Office → X) (old new : State)
-    (r : Result T KeepFault) → (HasCleanDisk new → KeepsCommit old new)
+pub read_does : {T X : Type 0} (R : Type 0) (C : Office → KeepFault → Type 0) (see : T → X) (y : Office → X)
+    (old new : State) (r : Result T KeepFault) → (HasCleanDisk new → KeepsCommit old new)
     → (HasCleanDisk new → (o : Office) → StandsForOffice old.committed o → GivesUnless R see r (y o)) →
-    (HasCleanDisk new → (o : Office) → StandsForOffice old.committed o → IfErr r C) →
+    (HasCleanDisk new → (o : Office) → StandsForOffice old.committed o → IfErr r (C o)) →
     Survives old new (λ _. ⊥) → (HasCleanDisk new → OnOk r (IsTrue new.is_open))
     → Does C false FitsAny (λ o x. see x ≡ y o) (λ o. o) old new r
 read_does R C see y old new r kept gives because survives opened = record {
@@ -65,11 +59,11 @@ done_then (Ok x) P Q p f = f p
 done_then (Err e) P Q p f = tt
 
 -- a call that writes
-pub put_does : (R : KeepFault → Type 0) (asks : Office → Type 0) (next : Office → Office) (old new : State)
+pub put_does : (R : Office → KeepFault → Type 0) (asks : Office → Type 0) (next : Office → Office) (old new : State)
     (r : Result (Unit {0}) KeepFault)
     → (HasCleanDisk new → IsTrue new.is_open → (o : Office) → StandsForOffice old.committed o → asks o →
     OnOk r (HasOffice new.committed (next o)) × OnErr r (StandsForOffice new.committed o))
-    → (HasCleanDisk new → (o : Office) → StandsForOffice old.committed o → IfErr r R) →
+    → (HasCleanDisk new → (o : Office) → StandsForOffice old.committed o → IfErr r (R o)) →
     Survives old new (CommitsFrom asks next old.committed) → (HasCleanDisk new → OnOk r (IsTrue new.is_open))
     → Does R true asks (λ o u. Unit {0}) next old new r
 put_does R asks next old new r put because survives opened = record {

@@ -9,27 +9,29 @@ use Rattle.keep_office.specs.declared.kept.KeepFault.{KeepFault}
 use Rattle.keep_office.specs.declared.kept.KeepFault.TheVariants.{Failed, NoMemory}
 use Rattle.keep_office.specs.Office.{Office}
 use Rattle.keep_tables.specs.Stands.{StandsForOffice}
-use Rattle.keep_writes.specs.Causes.{WasRefusedIn, LackedMemory}
+use Rattle.keep_writes.specs.Causes.{WasRefusedIn}
+use Rattle.keep_database.specs.Gives.{WantsMemory}
 use Rattle.keep_database.specs.Looks.{CommitsFrom}
 
 -- a call that reads commits nothing, and one that writes the office that comes next
 abbrev pub CommitsIf : Bool → (Office → Type 0) → (Office → Office) → Database → Trees → Type 0
 CommitsIf writes asks next before trees = IsTrue writes × CommitsFrom asks next before trees
 
--- a call that reads failed since a query was refused; want of memory is the database's, or may be the call's own
-abbrev pub FailsFor : {S : Type 0} → Ghosts S → Bool → Held S → Held S → KeepFault → Type 0
-FailsFor g own old new Failed = WasRefusedIn g old new
-FailsFor g true old new NoMemory = Unit {0}
-FailsFor g false old new NoMemory = LackedMemory g old new
+-- a call that reads failed since a query was refused; want of memory is the database's, or the office has what the call
+-- was to take up
+abbrev pub FailsFor : {S : Type 0} → Ghosts S → (Office → Type 0) → Held S → Held S → Office → KeepFault → Type 0
+FailsFor g takes old new o Failed = WasRefusedIn g old new
+FailsFor g takes old new o NoMemory = WantsMemory g old new (takes o)
 
 -- a call that asks something of the office answers what the office gives, and leaves the next one; where it is refused,
 -- it leaves the office, and had a cause; what it answered leaves the store open
-pub record Does {A : Type 0} (cause : KeepFault → Type 0) (writes : Bool) (asks : Office → Type 0) (gives : Office → A → Type 0)
-    (next : Office → Office) (old new : State) (result : Result A KeepFault) : Type 0 where
+pub record Does {A : Type 0} (cause : Office → KeepFault → Type 0) (writes : Bool) (asks : Office → Type 0)
+    (gives : Office → A → Type 0) (next : Office → Office) (old new : State) (result : Result A KeepFault) :
+    Type 0 where
   pub kept : writes ≡ false → HasCleanDisk new → KeepsCommit old new
   pub answers : HasCleanDisk new → (o : Office) → StandsForOffice old.committed o → asks o → IfOk result (gives o)
   pub opened : HasCleanDisk new → OnOk result (IsTrue new.is_open)
   pub leaves : HasCleanDisk new → IsTrue new.is_open → (o : Office) → StandsForOffice old.committed o → asks o →
       OnOk result (StandsForOffice new.committed (next o)) × OnErr result (StandsForOffice new.committed o)
-  pub because : HasCleanDisk new → (o : Office) → StandsForOffice old.committed o → IfErr result cause
+  pub because : HasCleanDisk new → (o : Office) → StandsForOffice old.committed o → IfErr result (cause o)
   pub crash : Survives old new (CommitsIf writes asks next old.committed)

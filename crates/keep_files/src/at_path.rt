@@ -1,6 +1,6 @@
 // Files that are opened by a path.
-ghost use Rattle.std.specs.Prelude.{◌≡◌, IfOk, IfErr, IsTrue};
-ghost use Rattle.sqlite_std_file.specs.File.{file_is_usable};
+ghost use Rattle.std.specs.Prelude.{◌≡◌, true, false, IfOk, IfErr, IsTrue};
+ghost use Rattle.sqlite_std_file.specs.File.{file_is_usable, IsFresh};
 ghost use Rattle.keep_files.specs.declared.cause.Cause.TheVariants.{Unopened};
 ghost use Rattle.keep_files.specs.Openings.{IsOfOpening};
 
@@ -24,7 +24,11 @@ pub type KeptPages = Pool<KeptDisk>;
 /// Files that are opened by a path: the database and its log.
 pub trait AtPath: Disk + Drop {
     ghost use Rattle.std.specs.Prelude.{ℕ, List};
+    ghost use Rattle.sqlite_disk.specs.declared.Files.{Files};
     ghost use Rattle.keep_files.specs.declared.cause.Cause.{Cause};
+
+    /// What is known of the files that are opened at a path.
+    ghost reaches: { List ℕ → Files Self → Type 0 };
 
     /// What is known where the files at a path are not opened, for a cause.
     ghost refuses: { List ℕ → Cause → Type 0 };
@@ -36,6 +40,7 @@ pub trait AtPath: Disk + Drop {
     fn open(rt: &HostRuntime, path: &str) -> Result<Files<Self>, Cause>
         ensures usable { IfOk result (λ files. IsTrue (Self.Disk.is_usable files.log)
             × IsTrue (Self.Disk.is_usable files.db)) }
+        ensures opened { IfOk result (reaches path.now) }
         ensures refused { IfErr result (refuses path.now) };
 
     /// A number for the salt of a log.
@@ -43,11 +48,15 @@ pub trait AtPath: Disk + Drop {
         ensures { IfErr result undrawn };
 }
 
-// Nothing is known of the files of the machine but the causes for which they may be refused.
+// Nothing is known of the files of the machine but that their opening settled them, and the causes for which they may
+// be refused.
 impl AtPath for KeptDisk {
-    ghost use Rattle.std.specs.Prelude.{◌≡◌};
+    ghost use Rattle.std.specs.Prelude.{◌≡◌, true, false};
     ghost use Rattle.keep_files.specs.declared.cause.Cause.TheVariants.{Unopened};
+    ghost use Rattle.sqlite_std_file.specs.File.{IsFresh};
     ghost use Rattle.keep_files.specs.Openings.{IsOfOpening};
+
+    ghost reaches = { λ path files. IsFresh true files.log × IsFresh false files.db };
 
     ghost refuses = { λ path. IsOfOpening };
 
@@ -64,6 +73,11 @@ impl AtPath for KeptDisk {
 
 /// Files in memory, which are new at each opening. None is ever refused.
 impl AtPath for Memory {
+    ghost use Rattle.std.specs.Prelude.{◌≡◌, []};
+    ghost use Rattle.sqlite_disk.specs.Memory.{memory_bytes};
+
+    ghost reaches = { λ path files. (memory_bytes files.log ≡ []) × (memory_bytes files.db ≡ []) };
+
     ghost refuses = { λ path cause. ⊥ };
 
     ghost undrawn = { λ cause. ⊥ };
@@ -94,6 +108,7 @@ fn drawn(rt: &HostRuntime) -> Result<u64, Cause>
 fn opened<S: Start>(rt: &HostRuntime, path: &str, start: S) -> Result<Files<FileFrom<S>>, Cause>
     ensures usable { IfOk result (λ files. IsTrue (file_is_usable S.Start files.log)
         × IsTrue (file_is_usable S.Start files.db)) }
+    ensures opened { IfOk result (λ files. IsFresh true files.log × IsFresh false files.db) }
     ensures refused { IfErr result IsOfOpening }
 {
     if path == ":memory:" || path.starts_with("file:") {

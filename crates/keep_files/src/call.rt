@@ -17,9 +17,9 @@ use sqlite_trees::store::Store;
 use std::alloc::Global;
 
 /// A call of a keeper that reads, with what it is handed. `answers` is what holds of each answer, `gives` what is
-/// answered of an office that is kept. `wants` is whether it may want memory of its own on a whole file.
+/// answered of an office that is kept. `takes` is where that has what is to be taken up, for which alone a call on a
+/// whole file may want memory of its own.
 pub trait Reading {
-    ghost use Rattle.std.specs.Prelude.{Bool};
     ghost use Rattle.keep_office.specs.Office.{Office};
 
     type Answer;
@@ -28,13 +28,13 @@ pub trait Reading {
 
     ghost gives: { Self → Office → Self.Answer → Type 0 };
 
-    ghost wants: { Bool };
+    ghost takes: { Self → Office → Type 0 };
 
     /// Makes the call of a keeper on a whole file.
     fn ask<S: Steady>(self, kept: &mut ProvedKeeper<S>) -> Result<Self::Answer, KeepFault>
         ensures answers { IfOk result answers }
-        ensures does { Does (FailsFor S.Store wants kept.old.conn kept.new.conn) false FitsAny (gives self) (λ o. o)
-            (state S.Store kept.old.conn) (state S.Store kept.new.conn) result };
+        ensures does { Does (FailsFor S.Store (takes self) kept.old.conn kept.new.conn) false FitsAny (gives self)
+            (λ o. o) (state S.Store kept.old.conn) (state S.Store kept.new.conn) result };
 
     /// Makes the call of the trees of a file.
     fn look<P: Pages>(
@@ -74,7 +74,7 @@ pub trait Putting {
     /// Makes the call of a keeper on a whole file.
     fn put<S: Shuts>(self, kept: &mut ProvedKeeper<S>) -> Result<(), KeepFault>
         requires { fits self }
-        ensures { Does (HasCauseOf S.Store (writes self) kept.old.conn kept.new.conn) true (asks self)
+        ensures { Does (λ _. HasCauseOf S.Store (writes self) kept.old.conn kept.new.conn) true (asks self)
             (λ o u. Unit {0}) (next self)
             (state S.Store kept.old.conn) (state S.Store kept.new.conn) result };
 }

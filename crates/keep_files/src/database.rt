@@ -1,7 +1,6 @@
 // A database that is opened when it is first asked for.
-ghost use Rattle.std.specs.Prelude.{◌≡◌, ◌≢◌, true, Some, None, IfOk, IfErr, option_map, string_bytes};
+ghost use Rattle.std.specs.Prelude.{◌≡◌, true, None, IfOk, IfErr, option_map, string_bytes};
 ghost use Rattle.sqlite.specs.Held.{state};
-ghost use Rattle.keep_office.specs.declared.kept.KeepFault.TheVariants.{NoMemory};
 ghost use Rattle.keep_writes.specs.Causes.{HasCauseOf};
 ghost use Rattle.keep_puts.specs.Stores.{Stores};
 ghost use Rattle.keep_files.specs.Asked.{AskedToRead, AskedToPut, IsReadyToRead, IsMade, IsPut, HoldsFound};
@@ -9,7 +8,8 @@ ghost use Rattle.keep_files.specs.Causes.{IsSaid};
 ghost use Rattle.keep_files.specs.Closes.{given_up};
 ghost use Rattle.keep_files.specs.Does.{FailsFor};
 ghost use Rattle.keep_files.specs.Looks.{AreFound, Looks};
-ghost use Rattle.keep_files.specs.Openings.{LacksTables, IsUnread, IsUnput};
+ghost use Rattle.keep_files.specs.Openings.{IsAdopted, LacksTables, IsUnread, IsUnput, Tries, TriesPath};
+ghost use Rattle.keep_files.specs.Whys.{IsWhyOf};
 
 mod anew;
 
@@ -72,9 +72,10 @@ impl<S: Opens<P>, P: Pages + Drop> Database<S, P> {
     pub(crate) fn read<C: Reading + Drop>(&mut self, call: C) -> Result<C::Answer, KeepFault>
         ensures answers { IfOk result C.answers }
         ensures does { AskedToRead self.old.kept self.new.kept (AreFound P.Pages) (Looks P.Pages)
-            (λ k. k.unmade ≢ Some NoMemory) (λ k. state S.Store k.conn)
-            (λ k l. FailsFor S.Store C.wants k.conn l.conn) (C.gives call)
+            (IsAdopted S.Store) (IsWhyOf S.Store) (λ k. state S.Store k.conn)
+            (λ k l. FailsFor S.Store (C.takes call) k.conn l.conn) (C.gives call)
             S.Opens.refuses (string_bytes self.old.path) self.new.cause result }
+        ensures tried { TriesPath S.Opens.refuses (string_bytes self.old.path) S.Opens.reaches self.old.kept }
         ensures said { IsSaid result self.old.cause self.new.cause }
         ensures stays { self.new.path ≡ self.old.path }
     {
@@ -98,11 +99,12 @@ impl<S: Opens<P>, P: Pages + Drop> Database<S, P> {
     /// Makes a call that puts, of the keeper that is held, or of a store or a keeper that is opened for it.
     pub(crate) fn put<C: Putting + Drop>(&mut self, call: C) -> Result<(), KeepFault>
         requires { C.fits call }
-        ensures does { AskedToPut self.old.kept self.new.kept (λ k. k.unmade ≢ Some NoMemory) (AreFound P.Pages)
-            (Stores S.Store (C.room call) (C.asks call) (C.next call)) (λ k. state S.Store k.conn)
-            (λ k l. HasCauseOf S.Store (C.writes call) k.conn l.conn)
+        ensures does { AskedToPut self.old.kept self.new.kept (IsAdopted S.Store) (AreFound P.Pages)
+            (Stores S.Store (C.room call) (C.asks call) (C.next call)) (IsWhyOf S.Store) (λ k. state S.Store k.conn)
+            (λ k l _. HasCauseOf S.Store (C.writes call) k.conn l.conn)
             (C.asks call) (C.next call)
             S.Opens.refuses (string_bytes self.old.path) self.new.cause result }
+        ensures tried { TriesPath S.Opens.refuses (string_bytes self.old.path) S.Opens.reaches self.old.kept }
         ensures said { IsSaid result self.old.cause self.new.cause }
         ensures stays { self.new.path ≡ self.old.path }
     {
@@ -123,9 +125,9 @@ impl<S: Opens<P>, P: Pages + Drop> Database<S, P> {
         call: C,
     ) -> Result<(), KeepFault>
         requires { C.fits call }
-        ensures does { IsMade (λ k. k ≡ kept) (λ k. state S.Store k.conn)
-            (λ k l. HasCauseOf S.Store (C.writes call) k.conn l.conn) true (C.asks call)
-            (λ o u. Unit {0}) (C.next call) self.new.kept result }
+        ensures does { IsMade (λ k. k ≡ kept) (IsWhyOf S.Store) (λ k. state S.Store k.conn)
+            (λ k l _. HasCauseOf S.Store (C.writes call) k.conn l.conn) true (C.asks call)
+            (λ o u. Unit {0}) (C.next call) self.new.kept self.new.cause result }
         ensures said { IsSaid result self.old.cause self.new.cause }
         ensures stays { self.new.path ≡ self.old.path }
     {
@@ -143,9 +145,9 @@ impl<S: Opens<P>, P: Pages + Drop> Database<S, P> {
         requires fits { C.fits call }
         requires none { self.old.kept ≡ None }
         requires known { IfErr conn (IsUnput S.Opens.refuses (string_bytes self.old.path)) }
-        ensures does { IsPut (λ k. k.unmade ≢ Some NoMemory) self.new.kept (AreFound P.Pages)
-            (Stores S.Store (C.room call) (C.asks call) (C.next call)) (λ k. state S.Store k.conn)
-            (λ k l. HasCauseOf S.Store (C.writes call) k.conn l.conn)
+        ensures does { IsPut (IsAdopted S.Store) self.new.kept (AreFound P.Pages)
+            (Stores S.Store (C.room call) (C.asks call) (C.next call)) (IsWhyOf S.Store) (λ k. state S.Store k.conn)
+            (λ k l _. HasCauseOf S.Store (C.writes call) k.conn l.conn)
             (C.asks call) (C.next call)
             S.Opens.refuses (string_bytes self.old.path) self.new.cause result }
         ensures said { IsSaid result self.old.cause self.new.cause }
@@ -170,9 +172,9 @@ impl<S: Opens<P>, P: Pages + Drop> Database<S, P> {
     ) -> Result<(), KeepFault>
         requires fits { C.fits call }
         requires none { self.old.kept ≡ None }
-        ensures does { IsPut (λ k. k.unmade ≢ Some NoMemory) self.new.kept (AreFound P.Pages)
-            (Stores S.Store (C.room call) (C.asks call) (C.next call)) (λ k. state S.Store k.conn)
-            (λ k l. HasCauseOf S.Store (C.writes call) k.conn l.conn)
+        ensures does { IsPut (IsAdopted S.Store) self.new.kept (AreFound P.Pages)
+            (Stores S.Store (C.room call) (C.asks call) (C.next call)) (IsWhyOf S.Store) (λ k. state S.Store k.conn)
+            (λ k l _. HasCauseOf S.Store (C.writes call) k.conn l.conn)
             (C.asks call) (C.next call)
             S.Opens.refuses (string_bytes self.old.path) self.new.cause result }
         ensures said { IsSaid result self.old.cause self.new.cause }
@@ -197,7 +199,8 @@ impl<S: Opens<P>, P: Pages + Drop> Database<S, P> {
 
     /// Takes what is held, or opens it.
     fn ready(&mut self) -> Result<Kept<PageTrees<P>, ProvedKeeper<S>>, Cause>
-        ensures ready { IfOk result (IsReadyToRead (AreFound P.Pages) (λ k. k.unmade ≢ Some NoMemory) self.old.kept) }
+        ensures tried { TriesPath S.Opens.refuses (string_bytes self.old.path) S.Opens.reaches self.old.kept }
+        ensures ready { IfOk result (IsReadyToRead (AreFound P.Pages) (IsAdopted S.Store) self.old.kept) }
         ensures none { self.new.kept ≡ None }
         ensures unsaid { self.new.cause ≡ self.old.cause }
         ensures named { self.new.path ≡ self.old.path }
@@ -212,7 +215,8 @@ impl<S: Opens<P>, P: Pages + Drop> Database<S, P> {
 
     /// The trees of the file, or a keeper on a new connection.
     fn opened(&self) -> Result<Kept<PageTrees<P>, ProvedKeeper<S>>, Cause>
-        ensures ready { IfOk result (IsReadyToRead (AreFound P.Pages) (λ k. k.unmade ≢ Some NoMemory) None) }
+        ensures tried { Tries S.Opens.refuses (string_bytes self.now.path) S.Opens.reaches }
+        ensures ready { IfOk result (IsReadyToRead (AreFound P.Pages) (IsAdopted S.Store) None) }
         ensures refused { IfErr result (IsUnread S.Opens.refuses (string_bytes self.now.path)) }
     {
         let mut conn = match S::to_read(&self.rt, self.path.as_str()) {
@@ -228,7 +232,7 @@ impl<S: Opens<P>, P: Pages + Drop> Database<S, P> {
 
     /// The trees of a new file, once a connection has made its tables; or a keeper on it, where they are not made.
     fn made(&self, conn: Connection<S>) -> Result<Kept<PageTrees<P>, ProvedKeeper<S>>, Cause>
-        ensures ready { IfOk result (IsReadyToRead (AreFound P.Pages) (λ k. k.unmade ≢ Some NoMemory) None) }
+        ensures ready { IfOk result (IsReadyToRead (AreFound P.Pages) (IsAdopted S.Store) None) }
         ensures refused { IfErr result (IsUnread S.Opens.refuses (string_bytes self.now.path)) }
     {
         let kept = match adopted(&self.rt, conn) {
@@ -244,7 +248,7 @@ impl<S: Opens<P>, P: Pages + Drop> Database<S, P> {
     /// The trees of the file of a connection that has made its tables. A file that is not ours even so, such as one
     /// with pages of another size, is opened anew.
     fn taken_over(&self, conn: Connection<S>) -> Result<Kept<PageTrees<P>, ProvedKeeper<S>>, Cause>
-        ensures ready { IfOk result (IsReadyToRead (AreFound P.Pages) (λ k. k.unmade ≢ Some NoMemory) None) }
+        ensures ready { IfOk result (IsReadyToRead (AreFound P.Pages) (IsAdopted S.Store) None) }
         ensures refused { IfErr result (IsUnread S.Opens.refuses (string_bytes self.now.path)) }
     {
         match S::to_read_again(&self.rt, conn.into_store()) {
@@ -255,7 +259,7 @@ impl<S: Opens<P>, P: Pages + Drop> Database<S, P> {
 
     /// The trees of a file that is there, or a keeper on a new connection.
     fn opened_anew(&self) -> Result<Kept<PageTrees<P>, ProvedKeeper<S>>, Cause>
-        ensures ready { IfOk result (IsReadyToRead (AreFound P.Pages) (λ k. k.unmade ≢ Some NoMemory) None) }
+        ensures ready { IfOk result (IsReadyToRead (AreFound P.Pages) (IsAdopted S.Store) None) }
         ensures refused { IfErr result (IsUnread S.Opens.refuses (string_bytes self.now.path)) }
     {
         match S::to_read(&self.rt, self.path.as_str()) {
@@ -279,7 +283,7 @@ fn whole<S: Opens<P>, P: Pages + Drop>(
     rt: &HostRuntime,
     conn: Connection<S>,
 ) -> Result<Kept<PageTrees<P>, ProvedKeeper<S>>, Cause>
-    ensures ready { IfOk result (IsReadyToRead (AreFound P.Pages) (λ k. k.unmade ≢ Some NoMemory) None) }
+    ensures ready { IfOk result (IsReadyToRead (AreFound P.Pages) (IsAdopted S.Store) None) }
     ensures unmade { IfErr result (LacksTables S) }
 {
     match adopted(rt, conn) {
@@ -304,7 +308,7 @@ fn held_again<S: Opens<P>, P: Pages + Drop>(
 /// The keeper on a connection, which gets its clock. Where there was no memory to make its tables, the connection is
 /// let go.
 fn adopted<S: Steady>(rt: &HostRuntime, mut conn: Connection<S>) -> Result<ProvedKeeper<S>, Cause>
-    ensures made { IfOk result (λ kept. kept.unmade ≢ Some NoMemory) }
+    ensures made { IfOk result (IsAdopted S.Store) }
     ensures unmade { IfErr result (LacksTables S) }
 {
     conn.set_clock(rt);

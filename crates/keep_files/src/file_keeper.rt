@@ -1,14 +1,15 @@
 // A keeper in a file of some disk, whose callers see nothing of the store and of the pages behind it.
-ghost use Rattle.std.specs.Prelude.{◌≡◌, ◌≢◌, Some, None, IfOk, IfErr, IfSome, IsSomeAnd, OnOk, option_map, string_bytes};
+ghost use Rattle.std.specs.Prelude.{◌≡◌, None, IfOk, IfErr, IfSome, IsSomeAnd, OnOk, option_map, string_bytes};
 ghost use Rattle.sqlite.specs.Held.{state};
 ghost use Rattle.keep_office.specs.Calls.{CountsFaults};
-ghost use Rattle.keep_office.specs.declared.kept.KeepFault.TheVariants.{NoMemory as no_memory};
 ghost use Rattle.keep_writes.specs.Causes.{HasCauseOf};
 ghost use Rattle.keep_puts.specs.Stores.{Stores};
 ghost use Rattle.keep_files.specs.Asked.{AskedToRead, AskedToPut};
 ghost use Rattle.keep_files.specs.Closes.{IsEnded, IsNotEnded, given_up};
 ghost use Rattle.keep_files.specs.Does.{FailsFor};
 ghost use Rattle.keep_files.specs.Looks.{AreFound, Looks};
+ghost use Rattle.keep_files.specs.Openings.{IsAdopted, TriesPath};
+ghost use Rattle.keep_files.specs.Whys.{IsWhyOf};
 ghost use Rattle.keep_files.specs.Says.{Says};
 
 mod anew;
@@ -91,10 +92,14 @@ impl<D: AtPath> FileKeeper<D> {
         ensures answers { IfOk result C.answers }
         ensures does { AskedToRead self.old.in_file.database.kept self.new.in_file.database.kept
             (AreFound ⟦<Pool<D> as Pages>⟧) (Looks ⟦<Pool<D> as Pages>⟧)
-            (λ k. k.unmade ≢ Some no_memory) (λ k. state ⟦<FileStore<D> as Store>⟧ k.conn)
-            (λ k l. FailsFor ⟦<FileStore<D> as Store>⟧ C.wants k.conn l.conn) (C.gives call)
+            (IsAdopted ⟦<FileStore<D> as Store>⟧) (IsWhyOf ⟦<FileStore<D> as Store>⟧)
+            (λ k. state ⟦<FileStore<D> as Store>⟧ k.conn)
+            (λ k l. FailsFor ⟦<FileStore<D> as Store>⟧ (C.takes call) k.conn l.conn) (C.gives call)
             ⟦<FileStore<D> as Opens<Pool<D>>>⟧.refuses (string_bytes self.old.in_file.database.path)
             self.new.in_file.database.cause result }
+        ensures tried { TriesPath ⟦<FileStore<D> as Opens<Pool<D>>>⟧.refuses
+            (string_bytes self.old.in_file.database.path) ⟦<FileStore<D> as Opens<Pool<D>>>⟧.reaches
+            self.old.in_file.database.kept }
         ensures cause { CountsFaults self.old.in_file.faults self.new.in_file.faults result }
         ensures said { Says result self.old.in_file.database self.new.in_file.database }
     {
@@ -105,13 +110,16 @@ impl<D: AtPath> FileKeeper<D> {
     pub fn put<C: Putting + Drop>(&mut self, call: C) -> Result<(), KeepFault>
         requires { C.fits call }
         ensures does { AskedToPut self.old.in_file.database.kept self.new.in_file.database.kept
-            (λ k. k.unmade ≢ Some no_memory) (AreFound ⟦<Pool<D> as Pages>⟧)
+            (IsAdopted ⟦<FileStore<D> as Store>⟧) (AreFound ⟦<Pool<D> as Pages>⟧)
             (Stores ⟦<FileStore<D> as Store>⟧ (C.room call) (C.asks call) (C.next call))
-            (λ k. state ⟦<FileStore<D> as Store>⟧ k.conn)
-            (λ k l. HasCauseOf ⟦<FileStore<D> as Store>⟧ (C.writes call) k.conn l.conn)
+            (IsWhyOf ⟦<FileStore<D> as Store>⟧) (λ k. state ⟦<FileStore<D> as Store>⟧ k.conn)
+            (λ k l _. HasCauseOf ⟦<FileStore<D> as Store>⟧ (C.writes call) k.conn l.conn)
             (C.asks call) (C.next call)
             ⟦<FileStore<D> as Opens<Pool<D>>>⟧.refuses (string_bytes self.old.in_file.database.path)
             self.new.in_file.database.cause result }
+        ensures tried { TriesPath ⟦<FileStore<D> as Opens<Pool<D>>>⟧.refuses
+            (string_bytes self.old.in_file.database.path) ⟦<FileStore<D> as Opens<Pool<D>>>⟧.reaches
+            self.old.in_file.database.kept }
         ensures cause { CountsFaults self.old.in_file.faults self.new.in_file.faults result }
         ensures said { Says result self.old.in_file.database self.new.in_file.database }
     {

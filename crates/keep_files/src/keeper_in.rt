@@ -1,14 +1,15 @@
 // A keeper in a database that is opened by a path: it counts the calls that failed.
-ghost use Rattle.std.specs.Prelude.{◌≡◌, ◌≢◌, Some, None, IfOk, option_map, string_bytes};
+ghost use Rattle.std.specs.Prelude.{◌≡◌, None, IfOk, option_map, string_bytes};
 ghost use Rattle.sqlite.specs.Held.{state};
 ghost use Rattle.keep_office.specs.Calls.{CountsFaults};
-ghost use Rattle.keep_office.specs.declared.kept.KeepFault.TheVariants.{NoMemory as no_memory};
 ghost use Rattle.keep_writes.specs.Causes.{HasCauseOf};
 ghost use Rattle.keep_puts.specs.Stores.{Stores};
 ghost use Rattle.keep_files.specs.Asked.{AskedToRead, AskedToPut};
 ghost use Rattle.keep_files.specs.Closes.{given_up};
 ghost use Rattle.keep_files.specs.Does.{FailsFor};
 ghost use Rattle.keep_files.specs.Looks.{AreFound, Looks};
+ghost use Rattle.keep_files.specs.Openings.{IsAdopted, TriesPath};
+ghost use Rattle.keep_files.specs.Whys.{IsWhyOf};
 ghost use Rattle.keep_files.specs.Says.{Says};
 
 mod anew;
@@ -70,9 +71,11 @@ impl<S: Opens<P>, P: Pages + Drop> KeeperIn<S, P> {
         ensures answers { IfOk result C.answers }
         ensures does { AskedToRead self.old.database.kept self.new.database.kept
             (AreFound P.Pages) (Looks P.Pages)
-            (λ k. k.unmade ≢ Some no_memory) (λ k. state S.Store k.conn)
-            (λ k l. FailsFor S.Store C.wants k.conn l.conn) (C.gives call)
+            (IsAdopted S.Store) (IsWhyOf S.Store) (λ k. state S.Store k.conn)
+            (λ k l. FailsFor S.Store (C.takes call) k.conn l.conn) (C.gives call)
             S.Opens.refuses (string_bytes self.old.database.path) self.new.database.cause result }
+        ensures tried { TriesPath S.Opens.refuses (string_bytes self.old.database.path)
+            S.Opens.reaches self.old.database.kept }
         ensures cause { CountsFaults self.old.faults self.new.faults result }
         ensures said { Says result self.old.database self.new.database }
     {
@@ -84,12 +87,14 @@ impl<S: Opens<P>, P: Pages + Drop> KeeperIn<S, P> {
     pub fn put<C: Putting + Drop>(&mut self, call: C) -> Result<(), KeepFault>
         requires { C.fits call }
         ensures does { AskedToPut self.old.database.kept self.new.database.kept
-            (λ k. k.unmade ≢ Some no_memory) (AreFound P.Pages)
+            (IsAdopted S.Store) (AreFound P.Pages)
             (Stores S.Store (C.room call) (C.asks call) (C.next call))
-            (λ k. state S.Store k.conn)
-            (λ k l. HasCauseOf S.Store (C.writes call) k.conn l.conn)
+            (IsWhyOf S.Store) (λ k. state S.Store k.conn)
+            (λ k l _. HasCauseOf S.Store (C.writes call) k.conn l.conn)
             (C.asks call) (C.next call)
             S.Opens.refuses (string_bytes self.old.database.path) self.new.database.cause result }
+        ensures tried { TriesPath S.Opens.refuses (string_bytes self.old.database.path)
+            S.Opens.reaches self.old.database.kept }
         ensures cause { CountsFaults self.old.faults self.new.faults result }
         ensures said { Says result self.old.database self.new.database }
     {

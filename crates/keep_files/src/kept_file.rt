@@ -1,14 +1,15 @@
 // A keeper in a SQLite file.
-ghost use Rattle.std.specs.Prelude.{◌≡◌, ◌≢◌, Some, None, IfOk, IfErr, IfSome, IsSomeAnd, OnOk, option_map, string_bytes};
+ghost use Rattle.std.specs.Prelude.{◌≡◌, None, IfOk, IfErr, IfSome, IsSomeAnd, OnOk, option_map, string_bytes};
 ghost use Rattle.sqlite.specs.Held.{state};
 ghost use Rattle.keep_office.specs.Calls.{CountsFaults};
-ghost use Rattle.keep_office.specs.declared.kept.KeepFault.TheVariants.{NoMemory as no_memory};
 ghost use Rattle.keep_writes.specs.Causes.{HasCauseOf};
 ghost use Rattle.keep_puts.specs.Stores.{Stores};
 ghost use Rattle.keep_files.specs.Asked.{AskedToRead, AskedToPut};
 ghost use Rattle.keep_files.specs.Closes.{FailsToEnd, IsEnded, IsNotEnded, given_up};
 ghost use Rattle.keep_files.specs.Does.{FailsFor};
 ghost use Rattle.keep_files.specs.Looks.{AreFound, Looks};
+ghost use Rattle.keep_files.specs.Openings.{IsAdopted, TriesPath};
+ghost use Rattle.keep_files.specs.Whys.{IsWhyOf};
 ghost use Rattle.keep_files.specs.Says.{Says};
 
 mod anew;
@@ -82,10 +83,14 @@ impl SqliteKeeper {
         ensures answers { IfOk result C.answers }
         ensures does { AskedToRead self.old.in_file.in_file.database.kept self.new.in_file.in_file.database.kept
             (AreFound ⟦<KeptPages as Pages>⟧) (Looks ⟦<KeptPages as Pages>⟧)
-            (λ k. k.unmade ≢ Some no_memory) (λ k. state ⟦<KeptStore as Store>⟧ k.conn)
-            (λ k l. FailsFor ⟦<KeptStore as Store>⟧ C.wants k.conn l.conn) (C.gives call)
+            (IsAdopted ⟦<KeptStore as Store>⟧) (IsWhyOf ⟦<KeptStore as Store>⟧)
+            (λ k. state ⟦<KeptStore as Store>⟧ k.conn)
+            (λ k l. FailsFor ⟦<KeptStore as Store>⟧ (C.takes call) k.conn l.conn) (C.gives call)
             ⟦<KeptStore as Opens<KeptPages>>⟧.refuses (string_bytes self.old.in_file.in_file.database.path)
             self.new.in_file.in_file.database.cause result }
+        ensures tried { TriesPath ⟦<KeptStore as Opens<KeptPages>>⟧.refuses
+            (string_bytes self.old.in_file.in_file.database.path) ⟦<KeptStore as Opens<KeptPages>>⟧.reaches
+            self.old.in_file.in_file.database.kept }
         ensures cause { CountsFaults self.old.in_file.in_file.faults self.new.in_file.in_file.faults result }
         ensures said { Says result self.old.in_file.in_file.database self.new.in_file.in_file.database }
     {
@@ -96,13 +101,16 @@ impl SqliteKeeper {
     pub(crate) fn put<C: Putting + Drop>(&mut self, call: C) -> Result<(), KeepFault>
         requires { C.fits call }
         ensures does { AskedToPut self.old.in_file.in_file.database.kept self.new.in_file.in_file.database.kept
-            (λ k. k.unmade ≢ Some no_memory) (AreFound ⟦<KeptPages as Pages>⟧)
+            (IsAdopted ⟦<KeptStore as Store>⟧) (AreFound ⟦<KeptPages as Pages>⟧)
             (Stores ⟦<KeptStore as Store>⟧ (C.room call) (C.asks call) (C.next call))
-            (λ k. state ⟦<KeptStore as Store>⟧ k.conn)
-            (λ k l. HasCauseOf ⟦<KeptStore as Store>⟧ (C.writes call) k.conn l.conn)
+            (IsWhyOf ⟦<KeptStore as Store>⟧) (λ k. state ⟦<KeptStore as Store>⟧ k.conn)
+            (λ k l _. HasCauseOf ⟦<KeptStore as Store>⟧ (C.writes call) k.conn l.conn)
             (C.asks call) (C.next call)
             ⟦<KeptStore as Opens<KeptPages>>⟧.refuses (string_bytes self.old.in_file.in_file.database.path)
             self.new.in_file.in_file.database.cause result }
+        ensures tried { TriesPath ⟦<KeptStore as Opens<KeptPages>>⟧.refuses
+            (string_bytes self.old.in_file.in_file.database.path) ⟦<KeptStore as Opens<KeptPages>>⟧.reaches
+            self.old.in_file.in_file.database.kept }
         ensures cause { CountsFaults self.old.in_file.in_file.faults self.new.in_file.in_file.faults result }
         ensures said { Says result self.old.in_file.in_file.database self.new.in_file.in_file.database }
     {

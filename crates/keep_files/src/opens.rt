@@ -1,5 +1,5 @@
 // The ways in which the file at a path is opened.
-ghost use Rattle.std.specs.Prelude.{◌≡◌, None, IfOk, IfErr, IfSome};
+ghost use Rattle.std.specs.Prelude.{◌≡◌, None, IfOk, IfErr, IfSome, OnOk};
 ghost use Rattle.keep_files.specs.Looks.{AreFound, FindsTrees};
 ghost use Rattle.keep_files.specs.Openings.{FromPath, FromPages, FromStore, IfWhole};
 
@@ -17,8 +17,12 @@ use std::rt::HostRuntime;
 /// A store of the trees of a file at a path, and the ways to it: by the pages of the file, by a connection to the
 /// whole, and by itself. From one way to another nobody else opens the file.
 pub trait Opens<P: Pages + Drop>: Shuts {
+    ghost use Rattle.std.specs.Prelude.{ℕ, List};
     ghost use Rattle.keep_files.specs.Openings.{Opening};
     ghost use Rattle.keep_files.specs.declared.cause.Cause.{Cause};
+
+    /// What is known where the file at a path is opened.
+    ghost reaches: { List ℕ → Type 0 };
 
     /// What is known where something is not opened, for a cause.
     ghost refuses: { Opening P Self → Cause → Type 0 };
@@ -29,6 +33,7 @@ pub trait Opens<P: Pages + Drop>: Shuts {
     /// The trees of the file at a path where it is exactly ours, or else the file whole.
     fn to_read(rt: &HostRuntime, path: &str) -> Result<Kept<PageTrees<P>, Connection<Self>>, Cause>
         ensures found { IfOk result (FindsTrees P.Pages) }
+        ensures opened { OnOk result (reaches path.now) }
         ensures refused { IfErr result (refuses (FromPath path.now)) };
 
     /// The store of the file of some pages, which is checked page by page and tree by tree; or else the file whole.
@@ -48,7 +53,9 @@ pub trait Opens<P: Pages + Drop>: Shuts {
 
 // That files are not found to be exactly ours may always be for want of memory, of which nothing is known.
 impl<D: AtPath> Opens<Pool<D>> for FileStore<D> {
-    ghost use Rattle.keep_files.specs.Openings.{FileRefuses};
+    ghost use Rattle.keep_files.specs.Openings.{FileRefuses, ReachesPath};
+
+    ghost reaches = { ReachesPath D.Disk D.AtPath.reaches };
 
     ghost refuses = { FileRefuses D.Disk D.AtPath.refuses D.AtPath.undrawn };
 

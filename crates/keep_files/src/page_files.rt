@@ -1,9 +1,9 @@
 // The two files of a database: by their trees where they are exactly ours, or whole.
-ghost use Rattle.std.specs.Prelude.{IsTrue, IfOk, IfErr, IfSome};
+ghost use Rattle.std.specs.Prelude.{IsTrue, IfOk, IfErr, IfSome, OnOk};
 ghost use Rattle.sqlite_pool.specs.Opening.{AreUsable};
 ghost use Rattle.sqlite_store.specs.Unopened.{AreUsable as MayOpen};
 ghost use Rattle.keep_files.specs.Looks.{AreFound, FindsTrees};
-ghost use Rattle.keep_files.specs.Openings.{AreRefused, RefusesFiles, RefusesPath};
+ghost use Rattle.keep_files.specs.Openings.{AreRefused, ReachesPath, RefusesFiles, RefusesPath};
 
 use crate::at_path::AtPath;
 use crate::cause::{Cause, cause_of};
@@ -144,7 +144,8 @@ pub fn open_whole<D: AtPath>(
     rt: &HostRuntime,
     path: &str,
 ) -> Result<Connection<FileStore<D>>, Cause>
-    ensures { IfErr result (RefusesPath D.Disk D.AtPath.refuses D.AtPath.undrawn path.now) }
+    ensures opened { OnOk result (ReachesPath D.Disk D.AtPath.reaches path.now) }
+    ensures refused { IfErr result (RefusesPath D.Disk D.AtPath.refuses D.AtPath.undrawn path.now) }
 {
     match D::open(rt, path) {
         Ok(files) => opened_whole(rt, files),
@@ -238,6 +239,7 @@ pub fn open_to_read<D: AtPath>(
     path: &str,
 ) -> Result<Kept<PageTrees<Pool<D>>, Connection<FileStore<D>>>, Cause>
     ensures found { IfOk result (FindsTrees ⟦<Pool<D> as Pages>⟧) }
+    ensures opened { OnOk result (ReachesPath D.Disk D.AtPath.reaches path.now) }
     ensures refused { IfErr result (RefusesPath D.Disk D.AtPath.refuses D.AtPath.undrawn path.now) }
 {
     let seed = match D::draw(rt) {

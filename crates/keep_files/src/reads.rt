@@ -12,7 +12,7 @@ use std::alloc::Global;
 pub struct LastDay;
 
 impl Reading for LastDay {
-    ghost use Rattle.std.specs.Prelude.{◌≡◌, true};
+    ghost use Rattle.std.specs.Prelude.{◌≡◌, IsSome};
     ghost use Rattle.keep_office.specs.Office.{last_day as last_day_of};
 
     type Answer = u32;
@@ -21,7 +21,7 @@ impl Reading for LastDay {
 
     ghost gives = { λ _ o last. last ≡ last_day_of o };
 
-    ghost wants = { true };
+    ghost takes = { λ _ o. IsSome o.past };
 
     fn ask<S: Steady>(self, kept: &mut ProvedKeeper<S>) -> Result<u32, KeepFault> {
         kept.last_day()
@@ -39,7 +39,7 @@ pub struct AskedDay {
 }
 
 impl Reading for AskedDay {
-    ghost use Rattle.std.specs.Prelude.{◌≡◌, true};
+    ghost use Rattle.std.specs.Prelude.{◌≡◌, IsSome};
     ghost use Rattle.keep_office.specs.Office.{record_of};
 
     type Answer = Option<DayRecord>;
@@ -48,7 +48,7 @@ impl Reading for AskedDay {
 
     ghost gives = { λ ask o kept. kept ≡ record_of o ask.day };
 
-    ghost wants = { true };
+    ghost takes = { λ ask o. IsSome (record_of o ask.day) };
 
     fn ask<S: Steady>(self, kept: &mut ProvedKeeper<S>) -> Result<Option<DayRecord>, KeepFault> {
         kept.day(self.day)
@@ -68,7 +68,7 @@ impl Reading for AskedDay {
 pub struct Past;
 
 impl Reading for Past {
-    ghost use Rattle.std.specs.Prelude.{◌≡◌, ◌≤◌, IfSome, true};
+    ghost use Rattle.std.specs.Prelude.{◌≡◌, ◌≤◌, IfSome, IsSome};
 
     type Answer = Option<PastRecord>;
 
@@ -76,7 +76,7 @@ impl Reading for Past {
 
     ghost gives = { λ _ o past. past ≡ o.past };
 
-    ghost wants = { true };
+    ghost takes = { λ _ o. IsSome o.past };
 
     fn ask<S: Steady>(self, kept: &mut ProvedKeeper<S>) -> Result<Option<PastRecord>, KeepFault> {
         kept.past()
@@ -100,7 +100,7 @@ pub struct AskedSpent {
 }
 
 impl Reading for AskedSpent {
-    ghost use Rattle.std.specs.Prelude.{◌≡◌, false};
+    ghost use Rattle.std.specs.Prelude.{◌≡◌};
     ghost use Rattle.road_time.specs.History.{paid};
 
     type Answer = u64;
@@ -109,7 +109,7 @@ impl Reading for AskedSpent {
 
     ghost gives = { λ ask o tolls. tolls ≡ paid o.rows ask.day ask.vid ask.xway };
 
-    ghost wants = { false };
+    ghost takes = { λ _ _. ⊥ };
 
     fn ask<S: Steady>(self, kept: &mut ProvedKeeper<S>) -> Result<u64, KeepFault> {
         kept.spent(self.day, self.vid, self.xway)
@@ -128,7 +128,7 @@ pub struct Rows {
 }
 
 impl Reading for Rows {
-    ghost use Rattle.std.specs.Prelude.{◌≡◌, true};
+    ghost use Rattle.std.specs.Prelude.{◌≡◌, ◌≢◌, []};
     ghost use Rattle.keep_office.specs.Office.{RowsRise, rows_between};
 
     type Answer = Vec<SpentRow>;
@@ -137,7 +137,7 @@ impl Reading for Rows {
 
     ghost gives = { λ ask o rows. rows.items ≡ rows_between o ask.from ask.to };
 
-    ghost wants = { true };
+    ghost takes = { λ ask o. rows_between o ask.from ask.to ≢ [] };
 
     fn ask<S: Steady>(self, kept: &mut ProvedKeeper<S>) -> Result<Vec<SpentRow>, KeepFault> {
         kept.rows(self.from, self.to)
@@ -161,7 +161,7 @@ pub struct VehicleRows {
 }
 
 impl Reading for VehicleRows {
-    ghost use Rattle.std.specs.Prelude.{◌≡◌, true};
+    ghost use Rattle.std.specs.Prelude.{◌≡◌, ◌≢◌, []};
     ghost use Rattle.keep_office.specs.Office.{RowsRise, vehicle_rows_between};
 
     type Answer = Vec<SpentRow>;
@@ -170,7 +170,7 @@ impl Reading for VehicleRows {
 
     ghost gives = { λ ask o rows. rows.items ≡ vehicle_rows_between o ask.vid ask.from ask.to };
 
-    ghost wants = { true };
+    ghost takes = { λ ask o. vehicle_rows_between o ask.vid ask.from ask.to ≢ [] };
 
     fn ask<S: Steady>(self, kept: &mut ProvedKeeper<S>) -> Result<Vec<SpentRow>, KeepFault> {
         kept.vehicle_rows(self.vid, self.from, self.to)
@@ -190,7 +190,7 @@ impl Reading for VehicleRows {
 pub struct KeptTariffs;
 
 impl Reading for KeptTariffs {
-    ghost use Rattle.std.specs.Prelude.{◌≡◌, true};
+    ghost use Rattle.std.specs.Prelude.{◌≡◌, ◌≢◌, []};
 
     type Answer = Tariffs;
 
@@ -198,7 +198,7 @@ impl Reading for KeptTariffs {
 
     ghost gives = { λ _ o tariffs. tariffs ≡ o.tariffs };
 
-    ghost wants = { true };
+    ghost takes = { λ _ o. o.tariffs ≢ [] };
 
     fn ask<S: Steady>(self, kept: &mut ProvedKeeper<S>) -> Result<Tariffs, KeepFault> {
         kept.tariffs()

@@ -1,10 +1,11 @@
 // The cause of a call that failed, by what is held of the file.
-ghost use Rattle.std.specs.Prelude.{◌≡◌, ◌≢◌, Some, IsSomeAnd};
+ghost use Rattle.std.specs.Prelude.{◌≡◌, ◌≢◌, Some, None, IsSomeAnd};
 ghost use Rattle.sqlite.specs.declared.error.Error.{Error};
 ghost use Rattle.sqlite.specs.declared.error.Error.TheVariants.{SqliteFailure};
 ghost use Rattle.sqlite.specs.declared.error.ErrorCode.TheVariants.{OutOfMemory};
-ghost use Rattle.keep_files.specs.Asked.{IsHeld};
+ghost use Rattle.keep_files.specs.Asked.{IsHeld, SaysOf};
 ghost use Rattle.keep_files.specs.Causes.{IsCauseOf, IsSaid};
+ghost use Rattle.keep_files.specs.Whys.{IsOddAs, IsWhy, IsWhyOf, TellsNone};
 
 use crate::cause::{Cause, cause_of};
 use crate::kept::Kept;
@@ -22,6 +23,7 @@ pub fn unless_failed<A, P: Pages + Drop, S: Steady>(
 ) -> Option<Kept<PageTrees<P>, ProvedKeeper<S>>>
     ensures held { IsHeld answer.now result kept }
     ensures said { IsSaid answer.now said.old said.new }
+    ensures says { SaysOf (IsWhyOf S.Store) kept said.new answer.now }
 {
     if let Err(KeepFault::Failed) = answer {
         *said = Some(why(&mut kept));
@@ -31,7 +33,9 @@ pub fn unless_failed<A, P: Pages + Drop, S: Steady>(
 }
 
 /// Why a call failed. The trees of a file say no more than that a page or a row of it is not as it should be.
-fn why<P: Pages, S: Steady>(kept: &mut Kept<PageTrees<P>, ProvedKeeper<S>>) -> Cause {
+fn why<P: Pages, S: Steady>(kept: &mut Kept<PageTrees<P>, ProvedKeeper<S>>) -> Cause
+    ensures { IsWhyOf S.Store kept.old result }
+{
     match kept {
         Kept::Trees(_) => Cause::Unreadable,
         Kept::Whole(kept) => why_whole(kept),
@@ -41,7 +45,7 @@ fn why<P: Pages, S: Steady>(kept: &mut Kept<PageTrees<P>, ProvedKeeper<S>>) -> C
 /// Why a call on a whole file failed: the database's own error where it refused the making of the tables or a put, or
 /// else what is odd in the file.
 fn why_whole<S: Steady>(kept: &mut ProvedKeeper<S>) -> Cause
-    ensures { (e : Error) → kept.old.refused ≡ Some e → e ≢ SqliteFailure OutOfMemory → IsCauseOf result e }
+    ensures { IsWhy S.Store kept.old result }
 {
     match told(kept.refused()) {
         Some(cause) => cause,
@@ -51,8 +55,9 @@ fn why_whole<S: Steady>(kept: &mut ProvedKeeper<S>) -> Cause
 
 /// The cause of an error that was told, none for want of memory.
 fn told(refused: Option<Refused>) -> Option<Cause>
-    ensures { (e : Error) → refused ≡ Some e → e ≢ SqliteFailure OutOfMemory
+    ensures told { (e : Error) → refused ≡ Some e → e ≢ SqliteFailure OutOfMemory
         → IsSomeAnd result (λ cause. IsCauseOf cause e) }
+    ensures none { TellsNone refused → result ≡ None }
 {
     match refused {
         None => None,
@@ -62,7 +67,9 @@ fn told(refused: Option<Refused>) -> Option<Cause>
 }
 
 /// What is odd in a file: its version, or a row.
-fn oddity<S: Steady>(kept: &mut ProvedKeeper<S>) -> Cause {
+fn oddity<S: Steady>(kept: &mut ProvedKeeper<S>) -> Cause
+    ensures { IsOddAs S.Store result kept.old.conn }
+{
     match kept.has_second() {
         Ok(true) => Cause::Odd,
         Ok(false) => Cause::OtherVersion,

@@ -7,14 +7,18 @@
 //!
 //! `renewal_base` says whether words ask for it, and `begin_anew` does it over any sink and any keeper that may begin anew:
 //! its contract says exactly what is written and kept, and which status comes.
+//!
+//! `answered` is the one or the other, by the words: what the program does over the edges that its `main` makes.
 #![tactic(auto)]
 
+mod answering;
 mod ending;
 mod entry;
 mod explaining;
 mod saying;
 mod words;
 
+pub use answering::answered;
 pub use ending::Ending;
 pub use entry::begin_anew;
 pub use explaining::explained;

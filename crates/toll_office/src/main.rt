@@ -1,16 +1,21 @@
 //! The tolling office of an expressway, over standard input and output and two files.
 //!
 //! `main` hands the words, standard input, the file `ASIDE_FILE`, standard output, what is kept in the file `KEPT_FILE`
-//! and standard error to `explained`, or to `begin_anew` where the words ask for that, beside helpers that take its
-//! jobs; then it closes the crew with its helpers and what is kept, and ends with the status. A helper whose thread
+//! and standard error to `answered`, beside helpers that take its jobs; then it closes the crew with its helpers and what is kept, and ends with the status. A helper whose thread
 //! cannot be had helps with nothing; with none of them the office's own thread runs all jobs.
 #![tactic(auto)]
 
-ghost use Rattle.std.specs.Prelude.{◌≡◌, []};
+ghost use Rattle.std.specs.Prelude.{◌≡◌, ◌≢◌, ◌↔◌, ℕ, [], Some, None, map, false};
+ghost use Rattle.std.specs.String.{string_bytes};
+ghost use Rattle.day_import.specs.Faults.{FaultsBeside};
+ghost use Rattle.office_commands.specs.Uses.{asked, uses_keeper};
+ghost use Rattle.office_ends.specs.Endings.{FaultsTold};
+ghost use Rattle.office_ends.specs.Words.{renewal_said};
 
 use keep_files::{Cause, KEPT_FILE, SqliteKeeper, close_said};
+use keep_office::Keeper;
 use office_commands::{ASIDE_FILE, Closing};
-use office_ends::{begin_anew, explained, renewal_base, say_why};
+use office_ends::answered;
 use road_io::{FileSource, StdSink, StdSource, Writing, words_of};
 use road_time::Limits;
 use std::alloc::Global;
@@ -33,8 +38,8 @@ fn line_of(alloc: Global, cause: Option<Cause>) -> Option<String> {
     }
 }
 
-/// The status of the office over standard input and output and the file beside it, by what it keeps and a crew. Where
-/// the words ask for it, it begins anew. Why it failed is said on standard error.
+/// The status of the office over standard input and output and the file beside it, by what it keeps and a crew, as
+/// `answered` has it. Why it failed is said on standard error.
 fn run_words<R: Threads + Sync, C: Crew>(
     rt: &HostRuntime,
     threads: &R,
@@ -44,6 +49,16 @@ fn run_words<R: Threads + Sync, C: Crew>(
     crew: &mut C,
 ) -> u8
     requires { C.out crew.old ≡ [] }
+    ensures words { renewal_said (map string_bytes words.now) ≡ None → result ≢ 5 → result ≢ 8
+        → (result ≡ 1 ↔ (asked words.now ≡ None)) }
+    ensures keeper { renewal_said (map string_bytes words.now) ≡ None
+        → FaultsBeside (⟦<SqliteKeeper as Keeper>⟧.faults keeper.old) (⟦<SqliteKeeper as Keeper>⟧.faults keeper.new)
+        (⟦<SqliteKeeper as Keeper>⟧.plan keeper.old) (result ≡ 6) (result ≢ 5) }
+    ensures keeper_unused { renewal_said (map string_bytes words.now) ≡ None
+        → uses_keeper (asked words.now) ≡ false → keeper.new ≡ keeper.old }
+    ensures renewing { (base : ℕ) → renewal_said (map string_bytes words.now) ≡ Some base
+        → FaultsTold (⟦<SqliteKeeper as Keeper>⟧.faults keeper.old) (⟦<SqliteKeeper as Keeper>⟧.faults keeper.new)
+        (⟦<SqliteKeeper as Keeper>⟧.plan keeper.old) result }
     ensures idle { C.out crew.new ≡ [] }
     ensures which { C.which crew.new ≡ C.which crew.old }
 {
@@ -51,24 +66,19 @@ fn run_words<R: Threads + Sync, C: Crew>(
     let mut sink = StdSink::new(rt.stdout());
     let mut err = Writing::new(rt.stderr());
     let why = |keeper: &SqliteKeeper| line_of(rt.alloc(), keeper.cause());
-    let Some(base) = renewal_base(words) else {
-        return explained(
-            threads,
-            rt.alloc(),
-            words,
-            &Limits::DAY,
-            &mut source,
-            aside,
-            &mut sink,
-            keeper,
-            &why,
-            &mut err,
-            crew,
-        );
-    };
-    let status = begin_anew(rt.alloc(), base, &mut sink, keeper);
-    say_why(status, keeper, &why, &mut err);
-    status
+    answered(
+        threads,
+        rt.alloc(),
+        words,
+        &Limits::DAY,
+        &mut source,
+        aside,
+        &mut sink,
+        keeper,
+        &why,
+        &mut err,
+        crew,
+    )
 }
 
 /// The same over the words and the two files.

@@ -8,6 +8,7 @@ ghost use Rattle.keep_puts.specs.Stores.{Stores};
 ghost use Rattle.keep_files.specs.Anew.{AskedAnew};
 ghost use Rattle.keep_files.specs.Causes.{IsSaid};
 ghost use Rattle.keep_files.specs.Looks.{AreFound};
+ghost use Rattle.keep_files.specs.Openings.{TriesPath};
 
 use super::{Database, held_again};
 use crate::cause::{Cause, say, say_of_store};
@@ -26,6 +27,7 @@ impl<S: Opens<P>, P: Pages + Drop> Database<S, P> {
             (Stores S.Store (RoomAnew rows.now) FitsAny (anew kept.now rows.now))
             S.Opens.refuses S.Opens.foreign
             (string_bytes self.old.path) self.new.cause result }
+        ensures tried { TriesPath S.Opens.refuses (string_bytes self.old.path) S.Opens.reaches self.old.kept }
         ensures said { IsSaid result self.old.cause self.new.cause }
         ensures stays { self.new.path ≡ self.old.path }
     {

@@ -8,6 +8,7 @@ ghost use Rattle.keep_puts.specs.Room.{RoomAnew};
 ghost use Rattle.keep_puts.specs.Stores.{Stores};
 ghost use Rattle.keep_files.specs.Anew.{AskedAnew};
 ghost use Rattle.keep_files.specs.Looks.{AreFound};
+ghost use Rattle.keep_files.specs.Openings.{TriesPath};
 ghost use Rattle.keep_files.specs.Says.{Says};
 
 use super::FileKeeper;
@@ -28,6 +29,9 @@ impl<D: AtPath> FileKeeper<D> {
             (Stores ⟦<FileStore<D> as Store>⟧ (RoomAnew rows.now) FitsAny (anew kept.now rows.now))
             ⟦<FileStore<D> as Opens<Pool<D>>>⟧.refuses ⟦<FileStore<D> as Opens<Pool<D>>>⟧.foreign
             (string_bytes self.old.in_file.database.path) self.new.in_file.database.cause result }
+        ensures tried { TriesPath ⟦<FileStore<D> as Opens<Pool<D>>>⟧.refuses
+            (string_bytes self.old.in_file.database.path) ⟦<FileStore<D> as Opens<Pool<D>>>⟧.reaches
+            self.old.in_file.database.kept }
         ensures cause { CountsFaults self.old.in_file.faults self.new.in_file.faults result }
         ensures said { Says result self.old.in_file.database self.new.in_file.database }
     {

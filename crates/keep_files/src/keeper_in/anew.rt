@@ -8,6 +8,7 @@ ghost use Rattle.keep_puts.specs.Room.{RoomAnew};
 ghost use Rattle.keep_puts.specs.Stores.{Stores};
 ghost use Rattle.keep_files.specs.Anew.{AskedAnew};
 ghost use Rattle.keep_files.specs.Looks.{AreFound};
+ghost use Rattle.keep_files.specs.Openings.{TriesPath};
 ghost use Rattle.keep_files.specs.Says.{Says};
 
 use super::KeeperIn;
@@ -25,6 +26,8 @@ impl<S: Opens<P>, P: Pages + Drop> KeeperIn<S, P> {
             (Stores S.Store (RoomAnew rows.now) FitsAny (anew kept.now rows.now))
             S.Opens.refuses S.Opens.foreign
             (string_bytes self.old.database.path) self.new.database.cause result }
+        ensures tried { TriesPath S.Opens.refuses (string_bytes self.old.database.path)
+            S.Opens.reaches self.old.database.kept }
         ensures cause { CountsFaults self.old.faults self.new.faults result }
         ensures said { Says result self.old.database self.new.database }
     {

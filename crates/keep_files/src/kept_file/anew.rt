@@ -8,6 +8,7 @@ ghost use Rattle.keep_puts.specs.Room.{RoomAnew};
 ghost use Rattle.keep_puts.specs.Stores.{Stores};
 ghost use Rattle.keep_files.specs.Anew.{AskedAnew};
 ghost use Rattle.keep_files.specs.Looks.{AreFound};
+ghost use Rattle.keep_files.specs.Openings.{TriesPath};
 ghost use Rattle.keep_files.specs.Says.{Says};
 
 use super::SqliteKeeper;
@@ -21,6 +22,9 @@ use sqlite_trees::store::Store;
 impl Renews for SqliteKeeper {
     fn put_anew(&mut self, kept: &PastRecord, rows: &[SpentRow]) -> Result<(), KeepFault>
         requires fits { IsPastPut kept.now rows.now }
+        ensures tried { TriesPath ⟦<KeptStore as Opens<KeptPages>>⟧.refuses
+            (string_bytes self.old.in_file.in_file.database.path) ⟦<KeptStore as Opens<KeptPages>>⟧.reaches
+            self.old.in_file.in_file.database.kept }
         ensures cause { CountsFaults self.old.in_file.in_file.faults self.new.in_file.in_file.faults result }
         ensures said { Says result self.old.in_file.in_file.database self.new.in_file.in_file.database }
         ensures does { AskedAnew self.new.in_file.in_file.database.kept (AreFound ⟦<KeptPages as Pages>⟧)

@@ -15,6 +15,7 @@ returns-in-Whole-clause-does g c =
           c.in-Whole.is c.in-Ok.ensures.ready;
       does = c.ask-answer.ensures.does;
       kept = c.unless_failed.ensures.held;
+      says = c.unless_failed.ensures.says;
     }))
 
 -- a call of trees
@@ -29,4 +30,5 @@ returns-clause-does g c =
           c.in-Trees.is c.in-Ok.ensures.ready;
       looks = c.look-answer.ensures.looks;
       kept = c.unless_failed-2.ensures.held;
+      says = c.unless_failed-2.ensures.says;
     })

@@ -12,7 +12,7 @@ put_day-requires g c = record { fits = c.requires; later = untold_fits g.S.Stead
 pub returns : goal.returns
 returns g c =
     let writes = WritesDay c.args.self.kept.now c.args.self.rows.now in
-    put_does (HasCauseOf g.S.Store writes c.args.kept.now.conn c.put_day.new.self.conn)
+    put_does (λ _. HasCauseOf g.S.Store writes c.args.kept.now.conn c.put_day.new.self.conn)
     (IsLater c.args.self.kept.now.day) (with_day c.args.self.kept.now c.args.self.rows.now)
     (state g.S.Store c.args.kept.now.conn) (state g.S.Store c.put_day.new.self.conn)
     c.put_day.result c.put_day.ensures.put

@@ -12,7 +12,7 @@ put_past-requires g c = record { fits = c.requires; first = untold_fits g.S.Stea
 pub returns : goal.returns
 returns g c =
     let writes = WritesPast c.args.self.kept.now c.args.self.rows.now in
-    put_does (HasCauseOf g.S.Store writes c.args.kept.now.conn c.put_past.new.self.conn) HasNoDays
+    put_does (λ _. HasCauseOf g.S.Store writes c.args.kept.now.conn c.put_past.new.self.conn) HasNoDays
     (with_past c.args.self.kept.now c.args.self.rows.now)
     (state g.S.Store c.args.kept.now.conn) (state g.S.Store c.put_past.new.self.conn)
     c.put_past.result c.put_past.ensures.put

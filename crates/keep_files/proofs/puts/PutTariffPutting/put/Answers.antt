@@ -9,7 +9,7 @@ use Rattle.keep_files.proofs.puts.PutTariffPutting.put.Goals as goal
 pub returns : goal.returns
 returns g c =
     let writes = WritesTariff c.args.self.xway c.args.self.tariff.now in
-    put_does (HasCauseOf g.S.Store writes c.args.kept.now.conn c.put_tariff.new.self.conn) FitsAny
+    put_does (λ _. HasCauseOf g.S.Store writes c.args.kept.now.conn c.put_tariff.new.self.conn) FitsAny
     (with_tariff_of c.args.self.xway c.args.self.tariff.now)
     (state g.S.Store c.args.kept.now.conn) (state g.S.Store c.put_tariff.new.self.conn)
     c.put_tariff.result (λ clean here o stands fit. c.put_tariff.ensures.put clean here o stands)

@@ -1,19 +1,21 @@
-use Rattle.std.proofs.Common.{ℕ, false}
+use Rattle.std.proofs.Common.{ℕ, inl}
 use Rattle.road_time.specs.History.{paid}
 use Rattle.keep_office.specs.Office.{Office}
 use Rattle.sqlite.specs.Held.{state}
 use Rattle.keep_writes.specs.Causes.{WasRefused}
 use Rattle.keep_files.specs.Does.{FailsFor}
-use Rattle.keep_files.proofs.DoesLaws.{read_does, fails_lean}
+use Rattle.keep_files.proofs.DoesLaws.{read_does, fails_for}
 use Rattle.keep_files.proofs.reads.AskedSpentReading.ask.Goals as goal
 
 pub returns-clause-does : goal.returns-clause-does
 returns-clause-does g c =
-    read_does (WasRefused g.S.Store) (FailsFor g.S.Store false c.args.kept.now.conn c.spent.new.self.conn)
+    let takes : Office → Type 0 = λ o. ⊥ in
+    read_does (WasRefused g.S.Store) (FailsFor g.S.Store takes c.args.kept.now.conn c.spent.new.self.conn)
     (λ (x : ℕ). x)
     (λ (o : Office). paid o.rows c.args.self.day c.args.self.vid c.args.self.xway)
     (state g.S.Store c.args.kept.now.conn) (state g.S.Store c.spent.new.self.conn)
     c.spent.result
     c.spent.ensures.kept c.spent.ensures.gives
-    (λ clean o stands. fails_lean g.S.Store c.args.kept.now.conn c.spent.new.self.conn c.spent.result
-    (c.spent.ensures.why clean o stands) (c.spent.ensures.memory clean o stands)) c.spent.ensures.crash c.spent.ensures.open
+    (λ clean o stands. fails_for g.S.Store takes c.args.kept.now.conn c.spent.new.self.conn o c.spent.result
+    (c.spent.ensures.why clean o stands) (λ none. inl (c.spent.ensures.memory clean o stands none)))
+    c.spent.ensures.crash c.spent.ensures.open
