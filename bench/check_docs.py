@@ -30,7 +30,8 @@ def shown():
             named = [TOP / it for it in re.findall(r"`(crates/[\w./]+\.(?:antt|rt))`", line)]
             path = named[-1] if named else path
         elif line.startswith("+"):
-            edits = (path.parent.parent / "must-fail").glob("*.edit")
+            crate = path.parent.parent
+            edits = [*(crate / "must-fail").glob("*.edit"), *(TOP / "bench/edits" / crate.name).glob("*.edit")]
             if not any("new: " + line[1:] in it.read_text() for it in edits):
                 wrong.append(f"docs/PROOF.md:{at}: no edit has {line}")
         elif line.lstrip("-").strip() not in {it.strip() for it in path.read_text().splitlines()}:

@@ -1,133 +1,34 @@
-//! The plain rules on the example day: its notices and its accident log.
+//! Days by the parts of the office: the example day by the plain rules, days of a few lines on a floor, and a day of a
+//! million lines and one.
 //!
-//! Reads the day from standard input. The day is day 100, and the history is that of the example.
+//! What it must print was worked out by hand, and apart from this code. Of each day of a few lines it prints what waits,
+//! the mark before and after the jobs, the jobs, and what is left; `turns::run_and_settle` is a proved caller of the
+//! floor: what it writes is the output of the rules. The long day is over a keeper in memory: it is answered by one
+//! worker, audited with its notices by three shards and three workers, imported by three, each job in a thread of its
+//! own, and imported again. Its lines were worked out by the day's rule alone, its notices and charges by a program that
+//! was written from the rules alone. A body that has no memory beyond a million lines fails here.
 #![tactic(auto)]
 
-ghost use Rattle.std.specs.Prelude.{◌≡◌, ◌≤◌, [], IfSome, IfOk};
-ghost use Rattle.road_time.specs.Fits.{IsDay, Fit};
-ghost use Rattle.road_time.specs.Day.{notices as notices_of};
-ghost use Rattle.road_time.specs.Text.{out};
-ghost use Rattle.road_time.specs.declared.day.TheConstants.Limits.{DAY};
-ghost use Rattle.road_time.specs.History.{paid, KeysDiffer};
+mod feeding;
+mod figures;
+mod long_day;
+mod plain;
+mod reading;
+mod rows;
+mod running;
+mod showing;
+mod turns;
 
-use day_reading::DayReader;
-use office_reports::accident_log;
-use road_io::{Sink, Source, StdSink, StdSource, put_all};
-use road_rules::plain_notices;
-use road_time::{Limits, NoMemory, Notice, SpentRow, Tariffs, Tuple};
-use std::alloc::Global;
 use std::process::ExitCode;
-use std::thread::Threads;
-use tuples_text::put_notice;
-
-/// The number of the example day.
-const EXAMPLE_DAY: u32 = 100;
-
-/// All tuples of a day, none where a line is refused, a read fails or memory ends.
-fn read_day<S: Source, R: Threads>(rt: &R, alloc: Global, source: &mut S) -> Option<Vec<Tuple>>
-    ensures { IfSome result (λ d. Fit d.items DAY) }
-{
-    let limits = Limits::DAY;
-    let Ok(mut reader) = DayReader::new(alloc, &limits, 0, false) else {
-        return None;
-    };
-    let mut tuples = Vec::new(alloc);
-    'reading: loop {
-        match reader.next(rt, source) {
-            Ok(Some(tuple)) => {
-                if tuples.push(tuple).is_err() {
-                    reader.close(rt);
-                    return None;
-                }
-            }
-            Ok(None) => {
-                reader.close(rt);
-                return Some(tuples);
-            }
-            Err(_) => {
-                reader.close(rt);
-                return None;
-            }
-        }
-    }
-}
-
-/// The text of notices, a line each.
-fn text_of(alloc: Global, notices: &[Notice]) -> Result<Vec<u8>, NoMemory>
-    ensures { IfOk result (λ text. text.items ≡ out notices.now) }
-{
-    let mut text = Vec::new(alloc);
-    for notice in notices {
-        put_notice(&mut text, notice)?;
-    }
-    Ok(text)
-}
-
-/// The text of all notices of a day with this number.
-fn notices_text(
-    alloc: Global,
-    tuples: &[Tuple],
-    day: u32,
-    history: &[SpentRow],
-) -> Result<Vec<u8>, NoMemory>
-    requires fit { IsDay tuples.now }
-    requires low { 70 ≤ day }
-    requires high { day ≤ 1000000 }
-    requires keys { KeysDiffer history.now }
-    ensures { IfOk result (λ text. text.items ≡ out (notices_of tuples.now [] day (paid history.now))) }
-{
-    let tariffs = Tariffs::new(alloc);
-    let told = plain_notices(alloc, tuples, &tariffs, day, history)?;
-    let text = text_of(alloc, told.as_slice())?;
-    Ok(text)
-}
+use std::rt::HostRuntime;
 
 fn main(rt: HostRuntime) -> ExitCode {
-    let mut source = StdSource::new(rt.stdin());
-    let mut sink = StdSink::new(rt.stdout());
-    let history = [
-        SpentRow {
-            day: 31,
-            vid: 7,
-            xway: 0,
-            tolls: 28,
-        },
-        SpentRow {
-            day: 98,
-            vid: 105,
-            xway: 0,
-            tolls: 1250,
-        },
-        SpentRow {
-            day: 98,
-            vid: 105,
-            xway: 1,
-            tolls: 75,
-        },
-        SpentRow {
-            day: 99,
-            vid: 7,
-            xway: 0,
-            tolls: 5,
-        },
-        SpentRow {
-            day: 99,
-            vid: 101,
-            xway: 0,
-            tolls: 450,
-        },
-    ];
-    let Some(day) = read_day(&rt, rt.alloc(), &mut source) else {
-        return ExitCode::FAILURE;
-    };
-    let Ok(text) = notices_text(rt.alloc(), day.as_slice(), EXAMPLE_DAY, &history) else {
-        return ExitCode::FAILURE;
-    };
-    let Ok(()) = put_all(&mut sink, text.as_slice()) else {
-        return ExitCode::FAILURE;
-    };
-    let Ok(()) = accident_log(rt.alloc(), day.as_slice(), &mut sink) else {
-        return ExitCode::FAILURE;
-    };
-    ExitCode::SUCCESS
+    let plain = plain::show_example_day(rt, &rt);
+    let few = rows::show_rows(rt, &rt);
+    let long = figures::show_long_day(rt, rt).is_ok();
+    if plain && few && long {
+        ExitCode::SUCCESS
+    } else {
+        ExitCode::FAILURE
+    }
 }

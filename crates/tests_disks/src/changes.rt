@@ -10,7 +10,7 @@ use std::alloc::Global;
 
 /// What is changed: the tables are made, those of version 1 are taken over, or something is put. A day after a tariff
 /// is put while the log still has the tariff.
-#[derive(Clone, Copy, Debug, PartialEq, Eq)]
+#[derive(Clone, Copy, Debug)]
 pub enum Change {
     Tables,
     TakenOver,
@@ -21,41 +21,29 @@ pub enum Change {
 }
 
 /// Which office is found.
-#[derive(Clone, Copy, Debug, PartialEq, Eq)]
+#[derive(Clone, Copy)]
 pub enum Which {
     Before,
     After,
     Neither,
 }
 
-/// Makes a database as it is before a change.
-pub fn make_before<S: Steady>(
-    alloc: Global,
-    change: Change,
-    conn: Connection<S>,
-) -> (Result<(), KeepFault>, Connection<S>) {
-    match change {
-        Change::Tables => (Ok(()), conn),
-        Change::TakenOver => {
-            let mut conn = conn;
-            let made = make_old(&mut conn);
-            (made, conn)
-        }
-        _ => make_tables(alloc, conn),
-    }
+/// What is done with a database: it is made as it is before a change, the change is made, or it is said which office is
+/// found.
+#[derive(Clone, Copy)]
+pub enum Task {
+    Before(Change),
+    Make(Change),
+    Find(Change),
 }
 
-/// Makes the tables of a database.
-pub fn make_tables<S: Steady>(
-    alloc: Global,
-    conn: Connection<S>,
-) -> (Result<(), KeepFault>, Connection<S>) {
-    let mut keeper = ProvedKeeper::adopt(alloc, conn);
-    let made = match keeper.last_day() {
-        Ok(_) => Ok(()),
-        Err(fault) => Err(fault),
-    };
-    (made, keeper.give_up())
+/// Makes the tables of version 1 in a database.
+fn made_old<S: Steady>(conn: Connection<S>) -> (Result<Which, KeepFault>, Connection<S>) {
+    let mut conn = conn;
+    match make_old(&mut conn) {
+        Ok(()) => (Ok(Which::Before), conn),
+        Err(fault) => (Err(fault), conn),
+    }
 }
 
 /// Makes a change; whether that was done.
@@ -75,16 +63,48 @@ fn put<K: Keeper>(keeper: &mut K, change: Change) -> Result<bool, KeepFault> {
     }
 }
 
-/// Makes a change; whether that was done, and the database then.
-pub fn changed<S: Steady>(
+/// Has a keeper do a task, whose tables could be made or not; which office is there then.
+fn done_by<K: Keeper>(keeper: &mut K, made: bool, task: Task) -> Result<Which, KeepFault> {
+    match task {
+        Task::Before(_) => {
+            keeper.last_day()?;
+            Ok(Which::Before)
+        }
+        Task::Make(change) => {
+            if put(keeper, change)? && made {
+                Ok(Which::After)
+            } else {
+                Ok(Which::Neither)
+            }
+        }
+        Task::Find(change) => found(keeper, change),
+    }
+}
+
+/// Adopts a database and does a task; which office is there then, and the database. A check takes long at each call of
+/// something that any keeper is passed to: only this function makes one for the disks.
+fn adopted<S: Steady>(
     alloc: Global,
-    change: Change,
     conn: Connection<S>,
-) -> (bool, Connection<S>) {
+    task: Task,
+) -> (Result<Which, KeepFault>, Connection<S>) {
     let mut keeper = ProvedKeeper::adopt(alloc, conn);
     let made = keeper.unmade() == None;
-    let done = put(&mut keeper, change) == Ok(true);
-    (made && done, keeper.give_up())
+    let which = done_by(&mut keeper, made, task);
+    (which, keeper.give_up())
+}
+
+/// Does a task with a database; which office is there then, and the database.
+pub fn done<S: Steady>(
+    alloc: Global,
+    conn: Connection<S>,
+    task: Task,
+) -> (Result<Which, KeepFault>, Connection<S>) {
+    match task {
+        Task::Before(Change::Tables) => (Ok(Which::Before), conn),
+        Task::Before(Change::TakenOver) => made_old(conn),
+        _ => adopted(alloc, conn, task),
+    }
 }
 
 /// The office before or the one after, by which of them a keeper has.
@@ -138,7 +158,7 @@ fn has_old<K: Keeper>(keeper: &mut K) -> Result<bool, KeepFault> {
 }
 
 /// Which office a keeper has. Making tables and taking them over leave the office as it was.
-pub fn found<K: Keeper>(keeper: &mut K, change: Change) -> Result<Which, KeepFault> {
+fn found<K: Keeper>(keeper: &mut K, change: Change) -> Result<Which, KeepFault> {
     let none = has_none(keeper)?;
     match change {
         Change::Tables => Ok(either(none && has_nothing(keeper)?, false)),

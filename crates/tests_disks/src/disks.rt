@@ -1,24 +1,16 @@
 // Disks in memory, and databases on them.
-use keep_database::Steady;
+use crate::changes::{Change, Task, Which, done};
 use keep_office::KeepFault;
 use sqlite::{Connection, FileStore, Files};
 use sqlite_disk::{Crash, Disk, Fuse, Memory};
 use sqlite_pager::Options;
 use std::alloc::Global;
 
-/// What is done with a database.
-pub trait Works {
-    type Answer;
-
-    /// Does it, and gives the database back.
-    fn work<S: Steady>(self, conn: Connection<S>) -> (Self::Answer, Connection<S>);
-}
-
-/// What was answered of a database on disks, whether it could be closed then, so that its log was copied, and the disks
-/// that are left.
+/// Which office is there once a task was done on disks, whether the database could be closed then, so that its log was
+/// copied, and the disks that are left.
 #[derive(Drop)]
-pub struct Worked<A, D: Disk> {
-    pub answer: A,
+pub struct Worked<D: Disk> {
+    pub which: Result<Which, KeepFault>,
     pub closed: bool,
     pub disks: Files<D>,
 }
@@ -30,22 +22,22 @@ pub fn copying(pages: usize) -> Options {
     options
 }
 
-/// Does something with the database on disks, and closes it. Where it cannot be opened, the disks are given back. A
-/// check takes longest at what names the store of files: only this function and the two below name it.
-pub fn work_on<D: Disk + Drop, W: Works + Drop>(
+/// Does a task with the database on disks, and closes it. Where it cannot be opened, the disks are given back. A check
+/// takes longest at what names the store of files: only this function and the two below name it.
+pub fn work_on<D: Disk + Drop>(
     alloc: Global,
     disks: Files<D>,
     options: Options,
-    works: W,
-) -> Result<Worked<W::Answer, D>, Files<D>> {
+    task: Task,
+) -> Result<Worked<D>, Files<D>> {
     let conn = match open(alloc, disks, options) {
         Ok(conn) => conn,
         Err(left) => return Err(left),
     };
-    let (answer, conn) = works.work(conn);
+    let (which, conn) = done(alloc, conn, task);
     let (closed, disks) = shut(conn);
     Ok(Worked {
-        answer,
+        which,
         closed,
         disks,
     })
@@ -111,19 +103,67 @@ fn empty_disks<D: Stopping>(alloc: Global) -> Files<D> {
     }
 }
 
-/// Disks on which a database was made, and closed.
-pub fn closed_disks<D: Stopping, W: Works<Answer = Result<(), KeepFault>> + Drop>(
-    alloc: Global,
-    works: W,
-) -> Result<Files<D>, KeepFault> {
-    let Ok(worked) = work_on(alloc, empty_disks(alloc), Options::new(1), works) else {
+/// Closed disks whose database is as it is before a change.
+pub fn disks_before<D: Stopping>(alloc: Global, change: Change) -> Result<Files<D>, KeepFault> {
+    let before = Task::Before(change);
+    let Ok(worked) = work_on(alloc, empty_disks(alloc), Options::new(1), before) else {
         return Err(KeepFault::Failed);
     };
-    worked.answer?;
+    worked.which?;
     if !worked.closed {
         return Err(KeepFault::Failed);
     }
     Ok(worked.disks)
+}
+
+/// How far a change went over disks: whether it was made with no call that failed, whether they were closed then, and
+/// the disks that are left.
+#[derive(Drop)]
+pub struct Changed<D: Disk> {
+    pub made: bool,
+    pub closed: bool,
+    pub disks: Files<D>,
+}
+
+/// Makes a change over disks, and closes them.
+pub fn change_over<D: Stopping>(
+    alloc: Global,
+    change: Change,
+    options: Options,
+    disks: Files<D>,
+) -> Changed<D> {
+    match work_on(alloc, disks, options, Task::Make(change)) {
+        Ok(worked) => Changed {
+            made: is_after(worked.which),
+            closed: worked.closed,
+            disks: worked.disks,
+        },
+        Err(left) => Changed {
+            made: false,
+            closed: false,
+            disks: left,
+        },
+    }
+}
+
+/// Whether the office after a change is there.
+fn is_after(which: Result<Which, KeepFault>) -> bool {
+    match which {
+        Ok(Which::After) => true,
+        _ => false,
+    }
+}
+
+/// Which office the next open finds on disks.
+pub fn found_on<D: Stopping>(
+    alloc: Global,
+    change: Change,
+    disks: Files<D>,
+) -> Result<Which, KeepFault> {
+    match work_on(alloc, disks, Options::new(1), Task::Find(change)) {
+        Ok(worked) => worked.which,
+        Err(_) => Ok(Which::Neither),
+    }
 }
 
 /// A disk with the bytes of another.
@@ -156,6 +196,20 @@ pub fn copied<D: Stopping>(
         log: D::over(log, of_log),
         db: D::over(db, of_file),
     })
+}
+
+/// The disks, of which one stops after some calls: that of the log, or that of the file.
+pub fn one_stops<D: Stopping>(
+    alloc: Global,
+    disks: &Files<D>,
+    of_log: bool,
+    calls: u64,
+) -> Result<Files<D>, KeepFault> {
+    if of_log {
+        copied(alloc, disks, calls, u64::MAX)
+    } else {
+        copied(alloc, disks, u64::MAX, calls)
+    }
 }
 
 /// What disks hold now.

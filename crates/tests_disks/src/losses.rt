@@ -6,7 +6,7 @@ use sqlite_disk::Memory;
 use std::alloc::Global;
 
 /// What a disk loses of what was not synced: nothing, all, or each second half of a kilobyte, so that a write is torn.
-#[derive(Clone, Copy, Debug, PartialEq, Eq)]
+#[derive(Clone, Copy)]
 pub enum Loss {
     Nothing,
     All,

@@ -16,6 +16,7 @@ mod same;
 mod stops;
 mod tables;
 
+use crate::disks::Stopping;
 use keep_database::Steady;
 use keep_office::KeepFault;
 use sqlite::{Connection, MemStore};
@@ -52,8 +53,13 @@ fn over_memory(rt: HostRuntime) -> io::Result<()> {
     over_tables(rt, new, other)
 }
 
+/// The rows over disks that stop.
+fn over_disks<D: Stopping>(rt: HostRuntime) -> io::Result<()> {
+    stops::both_stop::<D>(rt)?;
+    power::power_is_lost::<D>(rt)
+}
+
 fn main(rt: HostRuntime) -> io::Result<()> {
     over_memory(rt)?;
-    stops::both_stop::<Fuse<Memory>>(rt)?;
-    power::power_is_lost::<Fuse<Memory>>(rt)
+    over_disks::<Fuse<Memory>>(rt)
 }

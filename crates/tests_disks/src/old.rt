@@ -29,6 +29,11 @@ pub fn make_old<S: Steady>(conn: &mut Connection<S>) -> Result<(), KeepFault> {
     }
 }
 
+/// Whether a keeper has day 100, and the history.
+fn has_both<K: Keeper>(keeper: &mut K) -> Result<[bool; 2], KeepFault> {
+    Ok([has_day(keeper)?, has_history(keeper)?])
+}
+
 /// Whether a keeper has day 100 under the seal of no tariffs.
 pub fn has_day<K: Keeper>(keeper: &mut K) -> Result<bool, KeepFault> {
     let digest = Digester::new().finish();
@@ -58,8 +63,8 @@ pub fn taken_over<S: Steady>(alloc: Global, conn: Connection<S>) -> Result<[bool
     let mut conn = conn;
     make_old(&mut conn)?;
     let mut keeper = ProvedKeeper::adopt(alloc, conn);
-    let day = has_day(&mut keeper)?;
-    let history = has_history(&mut keeper)?;
+    let [day, history] = has_both(&mut keeper)?;
     let mut anew = ProvedKeeper::adopt(alloc, keeper.give_up());
-    Ok([day, history, has_day(&mut anew)?, has_history(&mut anew)?])
+    let [day_anew, history_anew] = has_both(&mut anew)?;
+    Ok([day, history, day_anew, history_anew])
 }

@@ -1,97 +1,18 @@
 // Changes in whose midst the power is lost.
-use crate::changes::{Change, Which, changed, found, make_before};
-use crate::disks::{Stopping, Works, closed_disks, copied, copying, held_by, work_on};
+use crate::changes::{Change, Which};
+use crate::disks::{Stopping, change_over, copying, disks_before, found_on, held_by, one_stops};
 use crate::losses::{LOSSES, disks_left};
-use keep_database::{ProvedKeeper, Steady};
 use keep_office::KeepFault;
-use sqlite::{Connection, Files};
-use sqlite_pager::Options;
+use sqlite::Files;
 use std::alloc::Global;
 use std::io;
 use std::rt::HostRuntime;
 
 /// How many losses left the office before, and how many the one after.
-#[derive(Clone, Copy, Debug, PartialEq, Eq)]
+#[derive(Clone, Copy, Debug)]
 struct Tally {
     before: u64,
     after: u64,
-}
-
-/// Makes what is before a change.
-#[derive(Clone, Copy)]
-struct Before {
-    alloc: Global,
-    change: Change,
-}
-
-impl Works for Before {
-    type Answer = Result<(), KeepFault>;
-
-    fn work<S: Steady>(self, conn: Connection<S>) -> (Result<(), KeepFault>, Connection<S>) {
-        make_before(self.alloc, self.change, conn)
-    }
-}
-
-/// Makes a change; whether no call failed.
-#[derive(Clone, Copy)]
-struct Changing {
-    alloc: Global,
-    change: Change,
-}
-
-impl Works for Changing {
-    type Answer = bool;
-
-    fn work<S: Steady>(self, conn: Connection<S>) -> (bool, Connection<S>) {
-        changed(self.alloc, self.change, conn)
-    }
-}
-
-/// Says which office is found.
-#[derive(Clone, Copy)]
-struct Finding {
-    alloc: Global,
-    change: Change,
-}
-
-impl Works for Finding {
-    type Answer = Result<Which, KeepFault>;
-
-    fn work<S: Steady>(self, conn: Connection<S>) -> (Result<Which, KeepFault>, Connection<S>) {
-        let mut keeper = ProvedKeeper::adopt(self.alloc, conn);
-        let which = found(&mut keeper, self.change);
-        (which, keeper.give_up())
-    }
-}
-
-/// Closed disks whose database is as it is before a change.
-fn disks_before<D: Stopping>(alloc: Global, change: Change) -> Result<Files<D>, KeepFault> {
-    closed_disks(alloc, Before { alloc, change })
-}
-
-/// Makes a change over disks, and closes them; whether no call failed, and the disks then.
-fn change_over<D: Stopping>(
-    alloc: Global,
-    change: Change,
-    pages: usize,
-    disks: Files<D>,
-) -> (bool, Files<D>) {
-    match work_on(alloc, disks, copying(pages), Changing { alloc, change }) {
-        Ok(worked) => (worked.answer && worked.closed, worked.disks),
-        Err(left) => (false, left),
-    }
-}
-
-/// Which office the next open finds on disks.
-fn found_on<D: Stopping>(
-    alloc: Global,
-    change: Change,
-    disks: Files<D>,
-) -> Result<Which, KeepFault> {
-    match work_on(alloc, disks, Options::new(1), Finding { alloc, change }) {
-        Ok(worked) => worked.answer,
-        Err(_) => Ok(Which::Neither),
-    }
 }
 
 /// Counts what each loss leaves of disks; none where one leaves neither office.
@@ -132,13 +53,10 @@ fn stops<D: Stopping>(
         after: 0,
     };
     for calls in 0..10_000u64 {
-        let run = if of_log {
-            copied(alloc, &disks, calls, u64::MAX)?
-        } else {
-            copied(alloc, &disks, u64::MAX, calls)?
-        };
-        let (done, left) = change_over(alloc, change, pages, run);
-        let Some(sum) = lose(alloc, change, left, tally)? else {
+        let run = one_stops(alloc, &disks, of_log, calls)?;
+        let changed = change_over(alloc, change, copying(pages), run);
+        let done = changed.made && changed.closed;
+        let Some(sum) = lose(alloc, change, changed.disks, tally)? else {
             return Ok((calls, tally, false));
         };
         tally = sum;

@@ -1,20 +1,11 @@
 // A realistic hour, over each crew.
-ghost use Rattle.std.specs.Prelude.{◌≡◌, []};
-ghost use Rattle.ways_crews.specs.Places.{out_of};
-
-use super::offices::{run, whole};
-use keep_office::MemKeeper;
-use road_time::{Limits, NoMemory};
+use super::crews::{Kind, Task, by};
+use super::offices::run_soon;
+use road_time::NoMemory;
 use std::alloc::Global;
 use std::process::Abort;
 use std::sync::Wait;
 use std::thread::Threads;
-use ways_crews::{
-    Crew, Crewed, InlineCrew, LateCrew, NoGate, StandingCrew, ThreadCrew, beside, standing,
-};
-
-/// What `office` wrote, and its status.
-type Run = (Vec<u8>, u8);
 
 /// The hour's seed and sizes.
 const HOUR: [&str; 7] = [
@@ -41,98 +32,23 @@ const WAYS: [&[&str]; 7] = [
     &["--turns=5", "--late=120"],
 ];
 
-/// Which crew does the jobs.
-#[derive(Clone, Copy)]
-enum Kind {
-    Soon,
-    Late,
-    Threads,
-    Standing,
-}
-
-/// A rehearsal of the hour over a crew.
-fn rehearsed_over<'a, C: Crew, R: Threads + Sync>(
-    rt: &R,
+/// A command of the hour, by some workers in some way.
+fn words_of<'a>(
     alloc: Global,
+    command: &'a str,
     workers: &'a str,
     way: &[&'a str],
-    crew: &mut C,
-) -> Result<Run, NoMemory>
-    requires idle { C.out crew.old ≡ [] }
-{
+) -> Result<Vec<&'a str>, NoMemory> {
     let mut words = Vec::new(alloc);
-    words.push("rehearse")?;
+    words.push(command)?;
     words.extend_from_slice(&HOUR)?;
     words.push(workers)?;
     words.extend_from_slice(way)?;
-    let mut keeper = MemKeeper::new(alloc, &[])?;
-    let none = whole(b"");
-    run(
-        rt,
-        alloc,
-        words.as_slice(),
-        &Limits::DAY,
-        none,
-        400,
-        &mut keeper,
-        crew,
-    )
+    Ok(words)
 }
 
-/// Whether a rehearsal of the hour over a crew ends well, with that line.
-fn ends_with<'a, C: Crew, R: Threads + Sync>(
-    rt: &R,
-    alloc: Global,
-    workers: &'a str,
-    way: &[&'a str],
-    line: &[u8],
-    crew: &mut C,
-) -> Result<bool, NoMemory>
-    requires idle { C.out crew.old ≡ [] }
-{
-    let (other, status) = rehearsed_over(rt, alloc, workers, way, crew)?;
-    Ok(other.as_slice() == line && status == 0)
-}
-
-/// The same by a standing crew, which is told to stop then.
-fn ends_and_stops<'a, R: Threads + Wait + Sync + Copy + Drop>(
-    rt: R,
-    alloc: Global,
-    workers: &'a str,
-    way: &[&'a str],
-    line: &[u8],
-    crew: StandingCrew<R, NoGate>,
-) -> Result<bool, NoMemory>
-    requires { out_of crew.places ≡ [] }
-{
-    let mut crew = crew;
-    let ends = ends_with(&rt, alloc, workers, way, line, &mut crew);
-    crew.stop();
-    ends
-}
-
-/// The same over a new crew of 64 cells, beside its four helpers.
-fn ends_with_beside<'a, R: Threads + Wait + Sync + Copy + Drop>(
-    rt: R,
-    alloc: Global,
-    workers: &'a str,
-    way: &[&'a str],
-    line: &[u8],
-) -> Result<bool, NoMemory> {
-    let Crewed { crew, helpers } = standing(rt, alloc, 64, 4, false, NoGate)?;
-    let (_, ends) = beside(
-        &rt,
-        &NoGate,
-        helpers,
-        move || -> Result<bool, NoMemory>
-            requires { out_of crew.places ≡ [] }
-        { ends_and_stops(rt, alloc, workers, way, line, crew) },
-    );
-    ends
-}
-
-/// The same over a new crew of a kind.
-fn ends_with_by<'a, R: Threads + Wait + Sync + Copy + Drop>(
+/// Whether a crew of a kind rehearses the hour with this line, by some workers in some way.
+fn is_rehearsed<'a, R: Threads + Wait + Sync + Copy + Drop>(
     rt: R,
     alloc: Global,
     kind: Kind,
@@ -140,21 +56,8 @@ fn ends_with_by<'a, R: Threads + Wait + Sync + Copy + Drop>(
     way: &[&'a str],
     line: &[u8],
 ) -> Result<bool, NoMemory> {
-    match kind {
-        Kind::Soon => {
-            let mut crew = InlineCrew::new(alloc, false);
-            ends_with(&rt, alloc, workers, way, line, &mut crew)
-        }
-        Kind::Late => {
-            let mut crew = LateCrew::new(alloc, false);
-            ends_with(&rt, alloc, workers, way, line, &mut crew)
-        }
-        Kind::Threads => {
-            let mut crew = ThreadCrew::new(rt, alloc, NoGate);
-            ends_with(&rt, alloc, workers, way, line, &mut crew)
-        }
-        Kind::Standing => ends_with_beside(rt, alloc, workers, way, line),
-    }
+    let words = words_of(alloc, "rehearse", workers, way)?;
+    by(rt, alloc, kind, Task::Words(words.as_slice(), line), None)
 }
 
 /// The hour ends with one and the same line, whoever does its jobs and however they are cut and ordered.
@@ -164,16 +67,16 @@ fn one_line<R: Threads + Wait + Sync + Copy + Drop>(
     alloc: Global,
     kind: Kind,
 ) -> Result<(), NoMemory> {
-    let mut soon = InlineCrew::new(alloc, false);
-    let (line, status) = rehearsed_over(&threads, alloc, "--workers=1", &[], &mut soon)?;
+    let words = words_of(alloc, "rehearse", "--workers=1", &[])?;
+    let (line, status) = run_soon(&threads, alloc, words.as_slice(), b"", 400)?;
     assert!(rt;
-        line.as_slice().starts_with(b"# rehearsed bytes "),
+        line.bytes().starts_with(b"# rehearsed bytes "),
         "rehearsed"
     );
     assert_eq!(rt; status, 0);
     for workers in WORKERS {
         for way in WAYS {
-            let ends = ends_with_by(threads, alloc, kind, workers, way, line.as_slice())?;
+            let ends = is_rehearsed(threads, alloc, kind, workers, way, line.bytes())?;
             assert!(rt; ends, "{workers}");
         }
     }
@@ -200,28 +103,6 @@ fn an_hour_by_jobs_in_cells_beside_helpers(rt: HostRuntime) -> Result<(), NoMemo
     one_line(&rt, rt, rt.alloc(), Kind::Standing)
 }
 
-/// What `office` writes by these words of an input.
-fn answered<R: Threads + Sync>(
-    rt: &R,
-    alloc: Global,
-    words: &[&str],
-    input: &[u8],
-    room: usize,
-) -> Result<Run, NoMemory> {
-    let mut crew = InlineCrew::new(alloc, false);
-    let mut keeper = MemKeeper::new(alloc, &[])?;
-    run(
-        rt,
-        alloc,
-        words,
-        &Limits::DAY,
-        whole(input),
-        room,
-        &mut keeper,
-        &mut crew,
-    )
-}
-
 /// The last line of a text, without its end.
 fn last_line(text: &[u8]) -> &[u8] {
     let all = text.strip_suffix(b"\n").unwrap_or(text);
@@ -242,24 +123,32 @@ fn after<'a>(line: &'a [u8], word: &[u8]) -> Option<&'a [u8]> {
     None
 }
 
+/// The command that makes the hour.
+const GENERATE: [&str; 8] = [
+    "generate",
+    "1",
+    "--vehicles",
+    "4000",
+    "--minutes",
+    "60",
+    "--crashes",
+    "2",
+];
+
 #[test]
 fn an_hour_that_is_generated_and_imported(rt: HostRuntime) -> Result<(), NoMemory> {
     let alloc = rt.alloc();
-    let mut soon = InlineCrew::new(alloc, false);
-    let (line, _) = rehearsed_over(&rt, alloc, "--workers=1", &[], &mut soon)?;
-    let mut words = Vec::new(alloc);
-    words.push("generate")?;
-    words.extend_from_slice(&HOUR)?;
-    let (file, made) = answered(&rt, alloc, words.as_slice(), b"", 40_000_000)?;
+    let words = words_of(alloc, "rehearse", "--workers=1", &[])?;
+    let (line, _) = run_soon(&rt, alloc, words.as_slice(), b"", 400)?;
+    let (file, made) = run_soon(&rt, alloc, &GENERATE, b"", 40_000_000)?;
     assert_eq!(rt; made, 0);
-    let (text, stored) = answered(&rt, alloc, &["import", "100"], file.as_slice(), 40_000_000)?;
+    let (text, stored) = run_soon(&rt, alloc, &["import", "100"], file.bytes(), 40_000_000)?;
     assert_eq!(rt; stored, 0);
-    let kept = last_line(text.as_slice());
+    let kept = last_line(text.bytes());
     assert!(rt; kept.starts_with(b"# stored day 100 "));
     for counted in [&b"tuples"[..], b"notices", b"total"] {
-        let there = after(last_line(line.as_slice()), counted);
-        assert!(rt; there.is_some());
-        assert!(rt; after(kept, counted) == there);
+        let there = after(last_line(line.bytes()), counted);
+        assert!(rt; there.is_some() && after(kept, counted) == there);
     }
     Ok(())
 }

@@ -1,16 +1,13 @@
 // A day by every plan, and one whose keeper fails: what else an import answers is told by the rows of the commands.
-ghost use Rattle.std.specs.Prelude.{◌≡◌, ◌≤◌, []};
-
-use super::days::charged_on_leaving;
-use day_floor::NoPublisher;
-use day_import::{Outcome, import};
-use day_plan::Plan;
-use keep_office::{DayRecord, KeepFault, MemKeeper};
-use road_io::{MemSink, MemSource};
-use road_time::Limits;
+use super::crews::{Day, Kind, Task, by};
+use super::days::{charged_on_leaving, told_with};
+use super::importing::{Given, Way, imported_day};
+use day_import::Outcome;
+use road_time::NoMemory;
 use std::alloc::Global;
+use std::sync::Wait;
 use std::thread::Threads;
-use ways_crews::{Crew, InlineCrew, LateCrew};
+use ways_crews::InlineCrew;
 
 /// One report.
 const ONE: &[u8] = b"0,0,7,30,0,0,0,10,52800,-1,-1,-1,-1,-1,-1\n";
@@ -20,103 +17,61 @@ const ASKING: &[u8] = b"3,0,7,-1,0,-1,-1,-1,-1,1,-1,-1,-1,-1,69\n\
 4,0,-1,-1,-1,-1,-1,-1,-1,-1,-1,-1,-1,-1,-1\n\
 3,0,7,-1,0,-1,-1,-1,-1,2,-1,-1,-1,-1,2\n";
 
-/// A day's work by one worker, in rounds.
-const ALONE: Plan = Plan {
-    width: 1,
-    turns: None,
-};
+/// What the vehicle of the charge is told behind its crowd.
+const CHARGED: &str = "0,100,60,30,2\n0,100,90,-1,0\n0,100,150,-1,0\n2,160,9,2\n";
 
-/// Tuples, notices and total of a kept day.
-fn counts(kept: DayRecord) -> [u64; 3] {
-    [kept.tuples, kept.notices, kept.total]
-}
+/// By which workers, in rounds, and in turns that a number draws.
+const PLANS: [(u8, Option<u64>); 9] = [
+    (1, None),
+    (1, Some(1)),
+    (1, Some(5)),
+    (3, None),
+    (3, Some(1)),
+    (3, Some(5)),
+    (64, None),
+    (64, Some(1)),
+    (64, Some(5)),
+];
 
-/// Whether a day was stored with these counts.
-fn is_stored(outcome: Outcome, wanted: [u64; 3]) -> bool {
-    match outcome {
-        Outcome::Stored(kept) => counts(kept) == wanted,
-        _ => false,
-    }
-}
-
-/// Whether the day of a charge is stored with its notices by a crew, so many workers and turns that a number draws,
-/// where few tuples may wait.
-fn is_charged_by<C: Crew, R: Threads>(
-    rt: &R,
+/// The day of a charge is the same by every number of workers, in rounds and in turns, and by two crews, where few
+/// tuples may wait.
+fn same_by_every_plan<R: Threads + Wait + Sync + Copy + Drop>(
+    rt: R,
     alloc: Global,
-    input: &[u8],
-    width: u8,
-    turns: Option<u64>,
-    crew: &mut C,
-) -> Result<bool, KeepFault>
-    requires few { (1 ≤ width) × (width ≤ 64) }
-    requires idle { C.out crew.old ≡ [] }
-    ensures idle { C.out crew.new ≡ [] }
-{
-    let mut limits = Limits::DAY;
-    limits.backlog = 4;
-    let plan = Plan { width, turns };
-    let mut source = MemSource::new(alloc, input, 7, &[])?;
-    let mut sink = MemSink::new(alloc, 4096, 100)?;
-    let mut keeper = MemKeeper::new(alloc, &[])?;
-    let outcome = import(
-        rt,
-        alloc,
-        100,
-        &plan,
-        0,
-        &limits,
-        &mut source,
-        &mut sink,
-        &mut keeper,
-        crew,
-        &mut NoPublisher,
-    );
-    let last = b"0,100,60,30,2\n0,100,90,-1,0\n0,100,150,-1,0\n2,160,9,2\n";
-    Ok(sink.bytes().ends_with(last) && is_stored(outcome, [56, 55, 2]))
-}
-
-/// The same by a crew that runs a job as it is started.
-fn is_charged_soon<R: Threads>(
-    rt: &R,
-    alloc: Global,
-    input: &[u8],
-    width: u8,
-    turns: Option<u64>,
-) -> Result<bool, KeepFault>
-    requires few { (1 ≤ width) × (width ≤ 64) }
-{
-    let mut crew = InlineCrew::new(alloc, false);
-    is_charged_by(rt, alloc, input, width, turns, &mut crew)
-}
-
-/// The same by a crew that runs a job as it is finished.
-fn is_charged_late<R: Threads>(
-    rt: &R,
-    alloc: Global,
-    input: &[u8],
-    width: u8,
-    turns: Option<u64>,
-) -> Result<bool, KeepFault>
-    requires few { (1 ≤ width) × (width ≤ 64) }
-{
-    let mut crew = LateCrew::new(alloc, false);
-    is_charged_by(rt, alloc, input, width, turns, &mut crew)
-}
-
-/// The day of a charge is the same by every number of workers, in rounds and in turns, and by two crews.
-fn same_by_every_plan<R: Threads>(rt: &R, alloc: Global) -> Result<bool, KeepFault> {
+) -> Result<bool, NoMemory> {
     let input = charged_on_leaving(alloc)?;
+    let told = told_with(alloc, 0, CHARGED)?;
+    let given = Given {
+        input: input.as_slice(),
+        read: 7,
+        written: 100,
+        fails: &[],
+    };
+    let day = Day {
+        given,
+        told: told.as_slice(),
+        counts: [56, 55, 2],
+    };
     let mut same = true;
-    for width in [1u8, 3, 64] {
-        for turns in [None, Some(1u64), Some(5)] {
-            let soon = is_charged_soon(rt, alloc, input.as_slice(), width, turns)?;
-            let late = is_charged_late(rt, alloc, input.as_slice(), width, turns)?;
-            same = same && soon && late;
+    for (width, turns) in PLANS {
+        let way = Way {
+            width,
+            turns,
+            backlog: 4,
+        };
+        for kind in [Kind::Soon, Kind::Late] {
+            same = by(rt, alloc, kind, Task::Day(day, way), None)? && same;
         }
     }
     Ok(same)
 }
+
+/// A day's work by one worker, in rounds.
+const ALONE: Way = Way {
+    width: 1,
+    turns: None,
+    backlog: 65_536,
+};
 
 /// How many bytes are written where this call of the keeper fails, and whether it is then that the import does.
 fn written_before<R: Threads>(
@@ -124,50 +79,39 @@ fn written_before<R: Threads>(
     alloc: Global,
     input: &[u8],
     call: u32,
-) -> Result<(usize, bool), KeepFault> {
-    let limits = Limits::DAY;
-    let mut keeper = MemKeeper::new(alloc, &[call])?;
-    let mut source = MemSource::new(alloc, input, 100, &[])?;
-    let mut sink = MemSink::new(alloc, 4096, 65_536)?;
+) -> Result<(usize, bool), NoMemory> {
+    let given = Given {
+        input,
+        read: 100,
+        written: 65_536,
+        fails: &[call],
+    };
     let mut crew = InlineCrew::new(alloc, false);
-    let outcome = import(
-        rt,
-        alloc,
-        100,
-        &ALONE,
-        0,
-        &limits,
-        &mut source,
-        &mut sink,
-        &mut keeper,
-        &mut crew,
-        &mut NoPublisher,
-    );
+    let (outcome, sink) = imported_day(rt, alloc, ALONE, given, &mut crew)?;
     Ok((sink.bytes().len(), outcome == Outcome::KeeperFault))
 }
 
 #[test]
-fn one_day_by_every_plan(rt: HostRuntime) -> Result<(), KeepFault> {
-    assert!(rt; same_by_every_plan(&rt, rt.alloc())?);
+fn one_day_by_every_plan(rt: HostRuntime) -> Result<(), NoMemory> {
+    assert!(rt; same_by_every_plan(rt, rt.alloc())?);
     Ok(())
 }
 
+/// A day, how many calls its import makes of the keeper, and its name.
+const CALLS: [(&[u8], u32, &str); 2] = [(ONE, 4, "four"), (ASKING, 6, "six")];
+
 #[test]
-fn a_keeper_fails_at_each_call(rt: HostRuntime) -> Result<(), KeepFault> {
-    let alloc = rt.alloc();
-    for call in 0..7u32 {
-        let (length, failed) = written_before(&rt, alloc, ONE, call)?;
-        assert!(rt; failed == (call < 4), "call {call} of four");
-        assert!(rt;
-            (length > 0) == (call > 2),
-            "written before call {call} of four"
-        );
-        let (length, failed) = written_before(&rt, alloc, ASKING, call)?;
-        assert!(rt; failed == (call < 6), "call {call} of six");
-        assert!(rt;
-            (length > 0) == (call > 4),
-            "written before call {call} of six"
-        );
+fn a_keeper_fails_at_each_call(rt: HostRuntime) -> Result<(), NoMemory> {
+    for (input, calls, name) in CALLS {
+        for call in 0..7u32 {
+            let (length, failed) = written_before(&rt, rt.alloc(), input, call)?;
+            let written = length > 0;
+            assert!(rt; failed == (call < calls), "call {call} of {name}");
+            assert!(rt;
+                written == (call + 1 >= calls),
+                "written before call {call} of {name}"
+            );
+        }
     }
     Ok(())
 }

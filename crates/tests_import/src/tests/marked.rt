@@ -1,8 +1,7 @@
 // What the workers find is what is written.
 use super::days::{charged_on_leaving, told_with};
-use super::offices::{run, whole};
-use keep_office::MemKeeper;
-use road_time::{Limits, NoMemory};
+use super::offices::run_by;
+use road_time::NoMemory;
 use std::alloc::Global;
 use std::thread::Threads;
 use ways_crews::MarkCrew;
@@ -19,21 +18,12 @@ fn is_marked<R: Threads + Sync>(
     input: &[u8],
     wanted: &[u8],
 ) -> Result<bool, NoMemory> {
-    let mut keeper = MemKeeper::new(alloc, &[])?;
     let mut crew = MarkCrew::new(alloc, 6);
-    let (text, status) = run(
-        rt,
-        alloc,
-        &["answers", "100", workers],
-        &Limits::DAY,
-        whole(input),
-        4096,
-        &mut keeper,
-        &mut crew,
-    )?;
+    let words = ["answers", "100", workers];
+    let (sink, status) = run_by(rt, alloc, &words, input, 4096, &mut crew)?;
     let six = crew.answered().iter().filter(|found| found.toll == 6);
     let counts = (crew.answered().len(), six.count());
-    Ok(text.as_slice() == wanted && (status, counts) == (0, (54, 54)))
+    Ok(sink.bytes() == wanted && (status, counts) == (0, (54, 54)))
 }
 
 #[test]

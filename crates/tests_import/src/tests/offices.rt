@@ -2,13 +2,13 @@
 ghost use Rattle.std.specs.Prelude.{◌≡◌, ◌≤◌, []};
 ghost use Rattle.road_time.specs.Fits.{IsLimits};
 
-use keep_office::Keeper;
+use keep_office::{Keeper, MemKeeper};
 use office_commands::office;
 use road_io::{MemSink, MemSource};
 use road_time::{Limits, NoMemory};
 use std::alloc::Global;
 use std::thread::Threads;
-use ways_crews::Crew;
+use ways_crews::{Crew, InlineCrew};
 
 /// What a run of `office` reads: an input in pieces of so many bytes, and the reads of it that fail.
 #[derive(Clone, Copy)]
@@ -27,7 +27,7 @@ pub fn whole(bytes: &[u8]) -> Input<'_> {
     }
 }
 
-/// The text and the status of `office`, over a keeper and a crew, into room for so many bytes.
+/// What `office` writes, and its status, over a keeper and a crew, into room for so many bytes.
 pub fn run<K: Keeper, C: Crew, R: Threads + Sync>(
     rt: &R,
     alloc: Global,
@@ -37,7 +37,7 @@ pub fn run<K: Keeper, C: Crew, R: Threads + Sync>(
     room: usize,
     keeper: &mut K,
     crew: &mut C,
-) -> Result<(Vec<u8>, u8), NoMemory>
+) -> Result<(MemSink, u8), NoMemory>
     requires limits { IsLimits limits.now }
     requires idle { C.out crew.old ≡ [] }
     ensures idle { C.out crew.new ≡ [] }
@@ -60,5 +60,41 @@ pub fn run<K: Keeper, C: Crew, R: Threads + Sync>(
         keeper,
         crew,
     );
-    Ok((Vec::from_slice(alloc, sink.bytes())?, status))
+    Ok((sink, status))
+}
+
+/// What `office` writes, and its status, by a crew where nothing is kept.
+pub fn run_by<C: Crew, R: Threads + Sync>(
+    rt: &R,
+    alloc: Global,
+    words: &[&str],
+    input: &[u8],
+    room: usize,
+    crew: &mut C,
+) -> Result<(MemSink, u8), NoMemory>
+    requires idle { C.out crew.old ≡ [] }
+{
+    let mut keeper = MemKeeper::new(alloc, &[])?;
+    run(
+        rt,
+        alloc,
+        words,
+        &Limits::DAY,
+        whole(input),
+        room,
+        &mut keeper,
+        crew,
+    )
+}
+
+/// The same by a crew that runs a job as it is started.
+pub fn run_soon<R: Threads + Sync>(
+    rt: &R,
+    alloc: Global,
+    words: &[&str],
+    input: &[u8],
+    room: usize,
+) -> Result<(MemSink, u8), NoMemory> {
+    let mut crew = InlineCrew::new(alloc, false);
+    run_by(rt, alloc, words, input, room, &mut crew)
 }

@@ -1,16 +1,16 @@
 // A source that makes its reader wait: when the notices of each round are written.
-ghost use Rattle.std.specs.Prelude.{◌≡◌, ◌≤◌, []};
+ghost use Rattle.std.specs.Prelude.{◌≡◌, []};
 
-use day_floor::NoPublisher;
-use day_import::{Outcome, import};
-use day_plan::Plan;
-use keep_office::MemKeeper;
+use super::crews::{Kind, Task, by};
+use super::importing::{Way, imported};
+use day_import::Outcome;
 use road_io::{Failed, MemSink, MemSource, Sink, Source};
-use road_time::{Limits, NoMemory};
+use road_time::NoMemory;
 use std::alloc::Global;
+use std::sync::Wait;
 use std::sync::atomic::{AtomicUsize, Ordering};
 use std::thread::Threads;
-use ways_crews::{Crew, InlineCrew, LateCrew};
+use ways_crews::Crew;
 
 /// Twelve vehicles, a second apart. The lines are of one length.
 const TWELVE: &[u8] = b"0,100,10,30,0,1,0,10,52800,-1,-1,-1,-1,-1,-1\n\
@@ -34,16 +34,15 @@ const TWELVE_TOLD: &[u8] = b"0,10,100,-1,0\n0,11,101,-1,0\n0,12,102,-1,0\n0,13,1
 /// The bytes of a line.
 const LINE: usize = 45;
 
-/// A day of vehicles that come once each, and what they are told; how many lines a round has; how many bytes a read
-/// gives at most; and how many notices were written when each read was made.
+/// A day of vehicles that come once each, and what they are told; how many lines it has; how many bytes a read gives at
+/// most; and how many notices were written when each read was made.
 #[derive(Clone, Copy)]
-struct Row<'a> {
-    input: &'a [u8],
-    told: &'a [u8],
-    lines: u64,
-    backlog: u32,
-    piece: usize,
-    seen: &'a [usize],
+pub struct Waited<'a> {
+    pub input: &'a [u8],
+    pub told: &'a [u8],
+    pub lines: u64,
+    pub piece: usize,
+    pub seen: &'a [usize],
 }
 
 /// Gives what another source has, and keeps how many notices were written when each read was made.
@@ -99,26 +98,19 @@ impl<'a, O: Sink> Sink for CountingSink<'a, O> {
     }
 }
 
-/// Whether a day is stored by so many workers with its notices, which were written by the time of each read.
-fn is_seen<C: Crew, R: Threads>(
+/// Whether a day is stored by a crew with its notices, which were written by the time of each read.
+pub fn is_seen<C: Crew, R: Threads>(
     rt: &R,
     alloc: Global,
-    width: u8,
-    row: Row<'_>,
+    waited: Waited<'_>,
+    way: Way,
     crew: &mut C,
 ) -> Result<bool, NoMemory>
-    requires few { (1 ≤ width) × (width ≤ 64) }
-    requires some { (1 ≤ row.backlog) × (row.backlog ≤ 65536) × (1 ≤ row.piece) }
     requires idle { C.out crew.old ≡ [] }
 {
-    let limits = Limits {
-        backlog: row.backlog,
-        ..Limits::DAY
-    };
-    let plan = Plan { width, turns: None };
     let written = AtomicUsize::new(0);
     let mut source = LookingSource {
-        source: MemSource::new(alloc, row.input, row.piece, &[])?,
+        source: MemSource::new(alloc, waited.input, waited.piece.max(1), &[])?,
         written: &written,
         seen: Vec::new(alloc),
     };
@@ -126,39 +118,32 @@ fn is_seen<C: Crew, R: Threads>(
         sink: MemSink::new(alloc, 65_536, 65_536)?,
         written: &written,
     };
-    let mut keeper = MemKeeper::new(alloc, &[])?;
-    let outcome = import(
-        rt,
-        alloc,
-        100,
-        &plan,
-        0,
-        &limits,
-        &mut source,
-        &mut sink,
-        &mut keeper,
-        crew,
-        &mut NoPublisher,
-    );
+    let outcome = imported(rt, alloc, way, &mut source, &mut sink, &[], crew)?;
     let stored = match outcome {
-        Outcome::Stored(kept) => (kept.tuples, kept.notices) == (row.lines, row.lines),
+        Outcome::Stored(kept) => (kept.tuples, kept.notices) == (waited.lines, waited.lines),
         _ => false,
     };
-    Ok(stored && sink.sink.bytes() == row.told && source.seen.as_slice() == row.seen)
+    Ok(stored && sink.sink.bytes() == waited.told && source.seen.as_slice() == waited.seen)
 }
 
 /// The same by a crew that runs a job as it is started, and by one that runs it as it is finished, by one worker and by
 /// three.
-fn is_seen_by_each<R: Threads>(rt: &R, alloc: Global, row: Row<'_>) -> Result<bool, NoMemory>
-    requires some { (1 ≤ row.backlog) × (row.backlog ≤ 65536) × (1 ≤ row.piece) }
-{
+fn is_seen_by_each<R: Threads + Wait + Sync + Copy + Drop>(
+    rt: R,
+    alloc: Global,
+    waited: Waited<'_>,
+    backlog: u32,
+) -> Result<bool, NoMemory> {
     let mut same = true;
     for width in [1u8, 3] {
-        let mut crew = InlineCrew::new(alloc, false);
-        let soon = is_seen(rt, alloc, width, row, &mut crew)?;
-        let mut crew = LateCrew::new(alloc, false);
-        let late = is_seen(rt, alloc, width, row, &mut crew)?;
-        same = same && soon && late;
+        for kind in [Kind::Soon, Kind::Late] {
+            let way = Way {
+                width,
+                turns: None,
+                backlog,
+            };
+            same = by(rt, alloc, kind, Task::Waited(waited, way), None)? && same;
+        }
     }
     Ok(same)
 }
@@ -176,43 +161,47 @@ fn thousands(alloc: Global) -> Result<(Vec<u8>, Vec<u8>), NoMemory> {
     Ok((input, told))
 }
 
+/// A line a read, four lines in a round: the fifth is read to know that the second round comes.
+const BY_LINES: Waited<'static> = Waited {
+    input: TWELVE,
+    told: TWELVE_TOLD,
+    lines: 12,
+    piece: LINE,
+    seen: &[0, 0, 0, 0, 0, 4, 4, 4, 4, 8, 8, 8, 8],
+};
+
+/// Six lines a read, and then the end: a round is told though more lines are there.
+const BY_SIXES: Waited<'static> = Waited {
+    piece: 270,
+    seen: &[0, 4, 8],
+    ..BY_LINES
+};
+
 #[test]
 fn a_round_is_told_before_the_source_is_waited_for(rt: HostRuntime) -> Result<(), NoMemory> {
-    let alloc = rt.alloc();
-    // A line a read: the fifth is read to know that the second round comes.
-    let by_lines = Row {
-        input: TWELVE,
-        told: TWELVE_TOLD,
-        lines: 12,
-        backlog: 4,
-        piece: LINE,
-        seen: &[0, 0, 0, 0, 0, 4, 4, 4, 4, 8, 8, 8, 8],
-    };
-    // Six lines a read, and then the end: a round is told though more lines are there.
-    let by_sixes = Row {
-        piece: 270,
-        seen: &[0, 4, 8],
-        ..by_lines
-    };
-    assert!(rt; is_seen_by_each(&rt, alloc, by_lines)?, "a line a read");
-    assert!(rt; is_seen_by_each(&rt, alloc, by_sixes)?, "six lines a read");
+    assert!(rt;
+        is_seen_by_each(rt, rt.alloc(), BY_LINES, 4)?,
+        "a line a read"
+    );
+    assert!(rt;
+        is_seen_by_each(rt, rt.alloc(), BY_SIXES, 4)?,
+        "six lines a read"
+    );
     Ok(())
 }
 
+/// The first two reads fill the buffer: 2,848 lines and a part. The third, of the rest, is made beside the jobs of the
+/// first round; the last finds the end once that is told.
 #[test]
 fn a_source_that_does_not_wait_is_read_meanwhile(rt: HostRuntime) -> Result<(), NoMemory> {
-    let alloc = rt.alloc();
-    let (input, told) = thousands(alloc)?;
-    // The first two reads fill the buffer: 2,848 lines and a part. The third, of the rest, is made beside the jobs of
-    // the first round; the last finds the end once that is told.
-    let row = Row {
+    let (input, told) = thousands(rt.alloc())?;
+    let waited = Waited {
         input: input.as_slice(),
         told: told.as_slice(),
         lines: 4000,
-        backlog: 2000,
         piece: 65_536,
         seen: &[0, 0, 0, 2000],
     };
-    assert!(rt; is_seen_by_each(&rt, alloc, row)?);
+    assert!(rt; is_seen_by_each(rt, rt.alloc(), waited, 2000)?);
     Ok(())
 }

@@ -33,7 +33,7 @@ fn all_jobs_are_finished_where_a_source_fails(rt: HostRuntime) -> Result<(), Kee
         &mut crew,
     )?;
     assert_eq!(rt; status, 4);
-    assert!(rt; text.as_slice().ends_with(b"# read fault\n"));
+    assert!(rt; text.bytes().ends_with(b"# read fault\n"));
     assert!(rt; crew.started > 0, "some were started");
     assert_eq!(rt; crew.finished, crew.started, "all were finished");
     assert_eq!(rt; keeper.last_day()?, 0, "nothing is stored");

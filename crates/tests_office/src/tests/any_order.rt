@@ -1,13 +1,7 @@
 // Audits where the notices of one second may stand in any order.
-use super::audits::{ELSEWHERE, TOLD};
-use super::days::{PAIR, day};
+use super::audits::{Compared, TOLD, each_compares};
 use super::differences::{LONG, NONE};
-use super::runs::{Ends, ends_with};
-use road_time::Limits;
 use std::test::Fail;
-
-/// Words behind `audit 100`, an aside, the text, and the status.
-type Compared = (&'static [&'static str], &'static [u8], &'static str, u8);
 
 /// Notices of one second the other way round, twice.
 const SWAPPED: &[u8] =
@@ -31,54 +25,77 @@ const MORE: &[u8] =
 
 /// How they compare with the day's notices, in any order and in theirs.
 const ROWS: [Compared; 11] = [
-    (&["--any-order"], TOLD, "# agree notices 6\n", 0),
-    (&["--any-order"], SWAPPED, "# agree notices 6\n", 0),
     (
-        &[],
+        &["audit", "100", "--any-order"],
+        TOLD,
+        "# agree notices 6\n",
+        0,
+    ),
+    (
+        &["audit", "100", "--any-order"],
+        SWAPPED,
+        "# agree notices 6\n",
+        0,
+    ),
+    (
+        &["audit", "100"],
         SWAPPED,
         "# differs line 1 wanted 0,1,0,-1,0 found 0,2,0,-1,0\n",
         7,
     ),
     (
-        &["--any-order", "--show", "10"],
+        &["audit", "100", "--any-order", "--show", "10"],
         ACROSS,
         "2 missing 0,2,0,-1,0\n3 additional 0,2,0,-1,0\n\
         # differs line 2 wanted 0,2,0,-1,0 found 0,2,130,-1,0\n",
         7,
     ),
     (
-        &["--show=10", "--any-order"],
+        &["audit", "100", "--show=10", "--any-order"],
         ANOTHER,
         "4 additional 0,9,180,-1,0\n6 missing 1,180,3,10\n# differs line 4 wanted none found 0,9,180,-1,0\n",
         7,
     ),
     (
-        &["--any-order"],
+        &["audit", "100", "--any-order"],
         ANOTHER,
         "# differs line 4 wanted none found 0,9,180,-1,0\n",
         7,
     ),
     (
-        &["--any-order", "--show", "2", "--shards", "2"],
+        &[
+            "audit",
+            "100",
+            "--any-order",
+            "--show",
+            "2",
+            "--shards",
+            "2",
+        ],
         TWICE,
         "2 additional 0,1,0,-1,0\n# differs line 2 wanted none found 0,1,0,-1,0\n",
         7,
     ),
     (
-        &["--any-order", "--show", "2"],
+        &["audit", "100", "--any-order", "--show", "2"],
         MORE,
         "7 additional 0,5,300,-1,0\n# differs line 7 wanted none found 0,5,300,-1,0\n",
         7,
     ),
     (
-        &["--any-order", "--show", "10"],
+        &["audit", "100", "--any-order", "--show", "10"],
         LONG,
         "2 additional malformed\n# differs line 2 wanted none found malformed\n",
         7,
     ),
-    (&["--any-order", "--show", "10"], b"# a comment\n", NONE, 7),
     (
-        &["--any-order", "--show", "2"],
+        &["audit", "100", "--any-order", "--show", "10"],
+        b"# a comment\n",
+        NONE,
+        7,
+    ),
+    (
+        &["audit", "100", "--any-order", "--show", "2"],
         b"",
         "1 missing 0,1,0,-1,0\n1 missing 0,2,0,-1,0\n# differs line 1 wanted 0,1,0,-1,0 found none\n",
         7,
@@ -87,22 +104,5 @@ const ROWS: [Compared; 11] = [
 
 #[test]
 fn seconds_in_any_order(rt: HostRuntime) -> Result<(), Fail> {
-    let input = day(rt.alloc(), &[], &[&PAIR, &ELSEWHERE])?;
-    for (options, aside, text, status) in &ROWS {
-        let mut words = Vec::new(rt.alloc());
-        words.extend_from_slice(&["audit", "100"])?;
-        words.extend_from_slice(options)?;
-        let ends = Ends::of(input.as_slice(), aside);
-        let right = ends_with(
-            &rt,
-            rt.alloc(),
-            &Limits::DAY,
-            words.as_slice(),
-            ends,
-            text.as_bytes(),
-            *status,
-        )?;
-        assert!(rt; right, "{text}");
-    }
-    Ok(())
+    each_compares(&rt, rt.alloc(), 2000, &ROWS)
 }

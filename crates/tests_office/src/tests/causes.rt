@@ -37,7 +37,7 @@ fn is_so<R: Threads + Sync>(rt: &R, alloc: Global, row: &Row) -> Result<bool, Fa
     for word in row.words {
         words.push(String::from_str(alloc, word)?)?;
     }
-    let mut source = MemSource::new(alloc, ONE.as_bytes(), 7, row.input_fails)?;
+    let mut source = MemSource::new(alloc, ONE, 7, row.input_fails)?;
     let mut aside = MemSource::new(alloc, b"", 7, &[])?;
     let mut sink = MemSink::new(alloc, 2000, 5)?;
     let mut err = MemSink::new(alloc, row.room, 5)?;

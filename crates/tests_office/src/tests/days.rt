@@ -1,7 +1,5 @@
 // Days by their lines, and what they end with.
-ghost use Rattle.std.specs.Prelude.{◌≤◌};
-
-use super::runs::{Ends, run};
+use super::runs::{Step, ends_so, one_step, run};
 use road_time::Limits;
 use std::alloc::Global;
 use std::process::Abort;
@@ -112,6 +110,17 @@ pub const BELOW_FORTY: [Crowd; 2] = [
     },
 ];
 
+/// How many bytes of a text are this one.
+pub fn count(text: &[u8], wanted: u8) -> usize {
+    let mut found = 0usize;
+    for byte in text {
+        if *byte == wanted {
+            found = found.saturating_add(1);
+        }
+    }
+    found
+}
+
 /// The lines of a crowd, and then these, each filled up with -1 to fifteen fields.
 pub fn day(alloc: Global, crowds: &[Crowd], lines: &[&[&str]]) -> Result<Vec<u8>, Fail> {
     let mut text = Vec::new(alloc);
@@ -125,8 +134,7 @@ pub fn day(alloc: Global, crowds: &[Crowd], lines: &[&[&str]]) -> Result<Vec<u8>
     for part in lines {
         for line in *part {
             text.extend_from_slice(line.as_bytes())?;
-            let commas = line.as_bytes().iter().filter(|b| **b == b',').count();
-            for _ in commas..14 {
+            for _ in count(line.as_bytes(), b',')..14 {
                 text.extend_from_slice(b",-1")?;
             }
             text.push(b'\n')?;
@@ -136,15 +144,15 @@ pub fn day(alloc: Global, crowds: &[Crowd], lines: &[&[&str]]) -> Result<Vec<u8>
 }
 
 /// What a crowd is told, and then this.
-pub fn told(alloc: Global, crowds: &[Crowd], text: &str) -> Result<Vec<u8>, Fail> {
-    let mut whole = Vec::new(alloc);
+pub fn told(alloc: Global, crowds: &[Crowd], text: &str) -> Result<String, Fail> {
+    let mut whole = String::new(alloc);
     for crowd in crowds {
         for vid in crowd.first..crowd.last.saturating_add(1) {
             let line = format!(in alloc; "0,{vid},0,-1,0\n")?;
-            whole.extend_from_slice(line.as_bytes())?;
+            whole.push_str(line.as_str())?;
         }
     }
-    whole.extend_from_slice(text.as_bytes())?;
+    whole.push_str(text)?;
     Ok(whole)
 }
 
@@ -153,58 +161,93 @@ const WORKED: [&[&str]; 3] = [&[], &["--workers=3"], &["--workers", "64", "--tur
 
 /// The words are those of the command `answers`.
 fn are_answers(words: &[&str]) -> bool {
-    words.iter().any(|word| *word == "answers")
+    match words.first() {
+        Some(word) => *word == "answers",
+        None => false,
+    }
 }
 
-/// A day's lines end so by the words, however the work is done.
-pub fn row<R: Abort + Threads + Sync>(
+/// Whether a step with more words ends so.
+fn ends_by<'a, R: Threads + Sync>(
     rt: &R,
     alloc: Global,
-    words: &[&str],
-    crowds: &[Crowd],
-    lines: &[&[&str]],
-    text: &str,
-    status: u8,
-) -> Result<(), Fail> {
+    step: &Step<'a>,
+    more: &[&'a str],
+) -> Result<bool, Fail> {
+    let mut words = Vec::new(alloc);
+    words.extend_from_slice(step.words)?;
+    words.extend_from_slice(more)?;
+    let step = Step {
+        words: words.as_slice(),
+        ..*step
+    };
+    ends_so(rt, alloc, &Limits::DAY, &step)
+}
+
+/// Whether another command agrees with what a step writes.
+fn agrees<'a, R: Threads + Sync>(
+    rt: &R,
+    alloc: Global,
+    command: &'a str,
+    step: &Step<'a>,
+) -> Result<bool, Fail> {
+    let mut words = Vec::new(alloc);
+    words.push(command)?;
+    words.extend_from_slice(step.words.get(1..).unwrap_or(&[]))?;
+    let step = Step {
+        words: words.as_slice(),
+        aside: step.text.as_bytes(),
+        ..*step
+    };
+    let (sink, status) = run(rt, alloc, &step)?;
+    Ok(sink.bytes().starts_with(b"# agree notices ") && status == 0)
+}
+
+/// Whether a day is answered so by any number of workers, in rounds and in turns, and if it is answered whole, whether
+/// its notices are these by the plain rules as well, and recomputed in bulk.
+fn is_answered<R: Threads + Sync>(rt: &R, alloc: Global, step: &Step<'_>) -> Result<bool, Fail> {
+    for worked in WORKED {
+        if !ends_by(rt, alloc, step, worked)? {
+            return Ok(false);
+        }
+    }
+    Ok(
+        step.status != 0
+            || agrees(rt, alloc, "validate", step)? && agrees(rt, alloc, "audit", step)?,
+    )
+}
+
+/// Words, crowds, the lines of a day in parts, what is written behind what the crowds are told, and the status.
+pub type DayRow = (
+    &'static [&'static str],
+    &'static [Crowd],
+    &'static [&'static [&'static str]],
+    &'static str,
+    u8,
+);
+
+/// Whether a day's lines end so by the words, however the work is done.
+fn is_day<R: Threads + Sync>(rt: &R, alloc: Global, row: &DayRow) -> Result<bool, Fail> {
+    let (words, crowds, lines, text, status) = *row;
     let input = day(alloc, crowds, lines)?;
     let wanted = told(alloc, crowds, text)?;
-    for worked in WORKED {
-        if !worked.is_empty() && !are_answers(words) {
-            continue;
-        }
-        let mut all = Vec::new(alloc);
-        all.extend_from_slice(words)?;
-        all.extend_from_slice(worked)?;
-        let ends = Ends::of(input.as_slice(), b"");
-        let got = run(rt, alloc, &Limits::DAY, all.as_slice(), ends)?;
-        assert!(rt; got.0.as_slice() == wanted.as_slice(), "{text}");
-        assert_eq!(rt; got.1, status, "{text}");
+    let row = one_step(words, input.as_slice(), b"", wanted.as_str(), status);
+    if are_answers(words) {
+        is_answered(rt, alloc, &row)
+    } else {
+        ends_so(rt, alloc, &Limits::DAY, &row)
     }
-    if are_answers(words) && status == 0 {
-        agree(
-            rt,
-            alloc,
-            words,
-            Ends::of(input.as_slice(), wanted.as_slice()),
-        )?;
-    }
-    Ok(())
 }
 
-/// By the plain rules, and recomputed in bulk, the day's notices are these as well.
-fn agree<R: Abort + Threads + Sync>(
+/// Each day ends so.
+pub fn each_day<R: Abort + Threads + Sync>(
     rt: &R,
     alloc: Global,
-    words: &[&str],
-    ends: Ends<'_>,
+    rows: &[DayRow],
 ) -> Result<(), Fail> {
-    for compared in ["validate", "audit"] {
-        let mut all = Vec::new(alloc);
-        all.push(compared)?;
-        all.extend_from_slice(words.get(1..).unwrap_or(&[]))?;
-        let got = run(rt, alloc, &Limits::DAY, all.as_slice(), ends)?;
-        assert!(rt; got.0.as_slice().starts_with(b"# agree notices "));
-        assert_eq!(rt; got.1, 0);
+    for row in rows {
+        let text = row.3;
+        assert!(rt; is_day(rt, alloc, row)?, "{text}");
     }
     Ok(())
 }

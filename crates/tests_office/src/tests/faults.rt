@@ -1,6 +1,6 @@
 // A source, a sink or a keeper that fails at each place of an import, and of a history.
 use super::days::{FIFTY_ONE, LEAVES, day, told};
-use super::runs::{Ends, ONE, run_on, writes};
+use super::runs::{ONE, STEP, Step, each_of_new, each_writes, run_on};
 use keep_office::{LateKeeper, MemKeeper};
 use road_time::Limits;
 use std::alloc::Global;
@@ -19,52 +19,48 @@ const LEFT: &str = "0,100,60,30,2\n0,100,90,-1,0\n0,100,150,-1,0\n2,160,9,2\n";
 const STORED: &str =
     "0,100,60,30,2\n0,100,90,-1,0\n0,100,150,-1,0\n2,160,9,2\n# stored day 100 tuples 56 notices 55 total 2\n";
 
-const ALREADY: &[u8] = b"# already day 100 tuples 56 notices 55 total 2\n";
+/// How it ends where its put fails.
+const NOT_STORED: &str =
+    "0,100,60,30,2\n0,100,90,-1,0\n0,100,150,-1,0\n2,160,9,2\n# keeper fault\n";
 
-const READ_FAULT: &[u8] = b"# read fault\n";
+const ALREADY: &str = "# already day 100 tuples 56 notices 55 total 2\n";
 
-const KEEPER_FAULT: &[u8] = b"# keeper fault\n";
+const READ_FAULT: &str = "# read fault\n";
 
-const NO_DAY: &[u8] = b"# no day 100\n";
+const KEEPER_FAULT: &str = "# keeper fault\n";
 
-const PAST: &[&str] = &["past", "100"];
+/// The day is imported once more.
+const AGAIN: Step<'static> = Step {
+    words: IMPORT,
+    text: ALREADY,
+    ..STEP
+};
 
-/// Two amounts of vehicle 7, and what a history of them ends with, and one that is kept already.
-const TWO: &str = "7,69,0,28\n7,1,0,5\n";
+/// Nothing is kept.
+const NO_DAY: Step<'static> = Step {
+    words: DAY,
+    text: "# no day 100\n",
+    status: 3,
+    ..STEP
+};
 
-const KEPT: &[u8] = b"# past base 100 rows 2\n";
-
-const KEPT_ALREADY: &[u8] = b"# already past base 100 rows 2\n";
-
-/// Nothing is kept, and then the day is stored once.
-fn stores_then<R: Abort + Threads + Sync>(
-    rt: &R,
-    alloc: Global,
-    input: &[u8],
-    keeper: &mut MemKeeper,
-) -> Result<(), Fail> {
-    let ends = Ends::of(input, b"");
-    let stored = told(alloc, &FIFTY_ONE, STORED)?;
-    writes(rt, alloc, DAY, ends, keeper, NO_DAY, 3)?;
-    writes(rt, alloc, IMPORT, ends, keeper, stored.as_slice(), 0)?;
-    writes(rt, alloc, IMPORT, ends, keeper, ALREADY, 0)
+/// The import of the day.
+fn import<'a>(input: &'a [u8], text: &'a str) -> Step<'a> {
+    Step {
+        words: IMPORT,
+        input,
+        text,
+        ..STEP
+    }
 }
 
-/// The import of a day in pieces of these sizes is one and the same.
-fn is_stored_in<R: Abort + Threads + Sync>(
-    rt: &R,
-    alloc: Global,
-    input: &[u8],
-    text: &[u8],
-    pieces: (usize, usize),
-) -> Result<(), Fail> {
-    let ends = Ends {
-        input_piece: pieces.0,
-        output_piece: pieces.1,
-        ..Ends::of(input, b"")
-    };
-    let mut keeper = MemKeeper::new(alloc, &[])?;
-    writes(rt, alloc, IMPORT, ends, &mut keeper, text, 0)
+/// Nothing is kept, and then the day is stored once.
+fn stores<'a>(input: &'a [u8], stored: &'a str) -> [Step<'a>; 3] {
+    [
+        Step { input, ..NO_DAY },
+        import(input, stored),
+        Step { input, ..AGAIN },
+    ]
 }
 
 /// However the input is cut and the output taken, it is one and the same.
@@ -72,8 +68,13 @@ fn is_stored_in<R: Abort + Threads + Sync>(
 fn pieces_of_any_size(rt: HostRuntime) -> Result<(), Fail> {
     let input = day(rt.alloc(), &FIFTY_ONE, &[&LEAVES])?;
     let stored = told(rt.alloc(), &FIFTY_ONE, STORED)?;
-    for pieces in [(1, 1), (7, 65_536), (65_536, 1), (65_536, 65_536)] {
-        is_stored_in(&rt, rt.alloc(), input.as_slice(), stored.as_slice(), pieces)?;
+    for (input_piece, output_piece) in [(1, 1), (7, 65_536), (65_536, 1), (65_536, 65_536)] {
+        let step = Step {
+            input_piece,
+            output_piece,
+            ..import(input.as_slice(), stored.as_str())
+        };
+        each_of_new(&rt, rt.alloc(), &[], &[step])?;
     }
     Ok(())
 }
@@ -83,21 +84,22 @@ fn fails_at_read<R: Abort + Threads + Sync>(
     rt: &R,
     alloc: Global,
     input: &[u8],
+    stored: &str,
     number: u32,
 ) -> Result<bool, Fail> {
-    let ends = Ends {
+    let step = Step {
         input_piece: 100,
         input_fails: &[number],
-        ..Ends::of(input, b"")
+        ..import(input, READ_FAULT)
     };
     let mut keeper = MemKeeper::new(alloc, &[])?;
-    let (text, status) = run_on(rt, alloc, &Limits::DAY, IMPORT, ends, &mut keeper)?;
+    let (sink, status) = run_on(rt, alloc, &Limits::DAY, &step, &mut keeper)?;
     if status == 0 {
         return Ok(false);
     }
     assert_eq!(rt; status, 4);
-    assert!(rt; text.as_slice() == READ_FAULT);
-    stores_then(rt, alloc, input, &mut keeper)?;
+    assert!(rt; sink.bytes() == READ_FAULT.as_bytes());
+    each_writes(rt, alloc, &mut keeper, &stores(input, stored))?;
     Ok(true)
 }
 
@@ -105,9 +107,10 @@ fn fails_at_read<R: Abort + Threads + Sync>(
 #[test]
 fn each_read_fails(rt: HostRuntime) -> Result<(), Fail> {
     let input = day(rt.alloc(), &FIFTY_ONE, &[&LEAVES])?;
+    let stored = told(rt.alloc(), &FIFTY_ONE, STORED)?;
     let mut failed = 0u32;
     for number in 0..40u32 {
-        if fails_at_read(&rt, rt.alloc(), input.as_slice(), number)? {
+        if fails_at_read(&rt, rt.alloc(), input.as_slice(), stored.as_str(), number)? {
             assert_eq!(rt; failed, number);
             failed = number.saturating_add(1);
         }
@@ -116,22 +119,22 @@ fn each_read_fails(rt: HostRuntime) -> Result<(), Fail> {
     Ok(())
 }
 
-/// Whether an import into so small a room writes what fits, with status 5, and what the next one writes is this.
-fn is_cut_off<R: Threads + Sync>(
+/// An import of an input into so small a room writes the front of a text, with status 5, and what the next one writes
+/// is this.
+fn is_cut_off<R: Abort + Threads + Sync>(
     rt: &R,
     alloc: Global,
     input: &[u8],
     room: usize,
-    stored: &[u8],
-    then: &[u8],
-) -> Result<bool, Fail> {
-    let whole = Ends::of(input, b"");
-    let small = Ends { room, ..whole };
-    let mut keeper = MemKeeper::new(alloc, &[])?;
-    let cut = run_on(rt, alloc, &Limits::DAY, IMPORT, small, &mut keeper)?;
-    let next = run_on(rt, alloc, &Limits::DAY, IMPORT, whole, &mut keeper)?;
-    let fits = cut.0.len() == room && stored.starts_with(cut.0.as_slice());
-    Ok(fits && (cut.1, next.1) == (5, 0) && next.0.as_slice() == then)
+    text: &str,
+    then: &str,
+) -> Result<(), Fail> {
+    let small = Step {
+        room,
+        status: 5,
+        ..import(input, text)
+    };
+    each_of_new(rt, alloc, &[], &[small, import(input, then)])
 }
 
 /// The sink has each room that is too small for all; the day is kept where all notices were written.
@@ -140,74 +143,130 @@ fn each_room_is_too_small(rt: HostRuntime) -> Result<(), Fail> {
     let input = day(rt.alloc(), &FIFTY_ONE, &[&LEAVES])?;
     let notices = told(rt.alloc(), &FIFTY_ONE, LEFT)?.len();
     let stored = told(rt.alloc(), &FIFTY_ONE, STORED)?;
-    for room in 0..stored.len() {
-        let text = stored.as_slice();
+    let text = stored.as_str();
+    for room in 0..text.len() {
+        let cut = text.get(..room).unwrap_or("");
         let then = if room < notices { text } else { ALREADY };
-        assert!(rt;
-            is_cut_off(&rt, rt.alloc(), input.as_slice(), room, text, then)?,
-            "{room}"
-        );
+        is_cut_off(&rt, rt.alloc(), input.as_slice(), room, cut, then)?;
     }
     Ok(())
 }
 
-/// The first calls of an import: nothing is written where one fails.
+/// A call of the keeper fails in an import: nothing is kept.
 fn fails_at_call<R: Abort + Threads + Sync>(
     rt: &R,
     alloc: Global,
     input: &[u8],
+    stored: &str,
     number: u32,
-    text: &[u8],
+    text: &str,
 ) -> Result<(), Fail> {
-    let mut keeper = MemKeeper::new(alloc, &[number])?;
-    let ends = Ends::of(input, b"");
-    writes(rt, alloc, IMPORT, ends, &mut keeper, text, 6)?;
-    stores_then(rt, alloc, input, &mut keeper)
+    let [none, import, again] = stores(input, stored);
+    let fault = Step {
+        text,
+        status: 6,
+        ..import
+    };
+    each_of_new(rt, alloc, &[number], &[fault, none, import, again])
 }
 
-/// The put fails after it was done.
-fn fails_late<R: Abort + Threads + Sync>(
+/// Each step over a new keeper whose call of a number fails after it is done.
+fn each_of_late<R: Abort + Threads + Sync>(
     rt: &R,
     alloc: Global,
-    input: &[u8],
-    text: &[u8],
+    number: u32,
+    steps: &[Step<'_>],
 ) -> Result<(), Fail> {
-    let mut keeper = LateKeeper::new(alloc, &[3])?;
-    let ends = Ends::of(input, b"");
-    writes(rt, alloc, IMPORT, ends, &mut keeper, text, 6)?;
-    writes(rt, alloc, IMPORT, ends, &mut keeper, ALREADY, 0)
+    let mut keeper = LateKeeper::new(alloc, &[number])?;
+    each_writes(rt, alloc, &mut keeper, steps)
 }
 
 /// The keeper fails at each of the four calls of an import; nothing is kept, but where a put fails after it was done.
 #[test]
 fn each_call_fails(rt: HostRuntime) -> Result<(), Fail> {
     let input = day(rt.alloc(), &FIFTY_ONE, &[&LEAVES])?;
-    for number in 0..3u32 {
-        fails_at_call(&rt, rt.alloc(), input.as_slice(), number, KEEPER_FAULT)?;
+    let stored = told(rt.alloc(), &FIFTY_ONE, STORED)?;
+    let not_stored = told(rt.alloc(), &FIFTY_ONE, NOT_STORED)?;
+    let (day, then, last) = (input.as_slice(), stored.as_str(), not_stored.as_str());
+    for (number, text) in [
+        (0, KEEPER_FAULT),
+        (1, KEEPER_FAULT),
+        (2, KEEPER_FAULT),
+        (3, last),
+    ] {
+        fails_at_call(&rt, rt.alloc(), day, then, number, text)?;
     }
-    let text = told(
+    let late = Step {
+        status: 6,
+        ..import(day, last)
+    };
+    each_of_late(
+        &rt,
         rt.alloc(),
-        &FIFTY_ONE,
-        "0,100,60,30,2\n0,100,90,-1,0\n0,100,150,-1,0\n2,160,9,2\n# keeper fault\n",
-    )?;
-    fails_at_call(&rt, rt.alloc(), input.as_slice(), 3, text.as_slice())?;
-    fails_late(&rt, rt.alloc(), input.as_slice(), text.as_slice())
+        3,
+        &[
+            late,
+            Step {
+                input: day,
+                ..AGAIN
+            },
+        ],
+    )
 }
 
-/// One line, by a sink of this room: what it holds, and what the same import answers then.
-fn one_line<R: Abort + Threads + Sync>(
-    rt: &R,
-    alloc: Global,
-    room: usize,
-    text: &[u8],
-    then: &[u8],
-) -> Result<(), Fail> {
-    let free = Ends::of(ONE.as_bytes(), b"");
-    let small = Ends { room, ..free };
-    let mut keeper = MemKeeper::new(alloc, &[])?;
-    writes(rt, alloc, IMPORT, small, &mut keeper, text, 5)?;
-    writes(rt, alloc, IMPORT, free, &mut keeper, then, 0)
-}
+/// What one line stores, and what it answers then.
+const ONE_STORED: &str = "0,7,0,-1,0\n# stored day 100 tuples 1 notices 1 total 0\n";
+
+const ONE_ALREADY: &str = "# already day 100 tuples 1 notices 1 total 0\n";
+
+/// One line, by a command.
+const LINE: Step<'static> = Step {
+    words: IMPORT,
+    input: ONE,
+    ..STEP
+};
+
+/// Room for its notice alone, and for one byte less, and what the same import writes then.
+const ROOMS: [[Step<'static>; 2]; 2] = [
+    [
+        Step {
+            room: 11,
+            text: "0,7,0,-1,0\n",
+            status: 5,
+            ..LINE
+        },
+        Step {
+            text: ONE_ALREADY,
+            ..LINE
+        },
+    ],
+    [
+        Step {
+            room: 10,
+            text: "0,7,0,-1,0",
+            status: 5,
+            ..LINE
+        },
+        Step {
+            text: ONE_STORED,
+            ..LINE
+        },
+    ],
+];
+
+/// The first read fails.
+const UNREAD: Step<'static> = Step {
+    input_fails: &[0],
+    text: READ_FAULT,
+    status: 4,
+    ..LINE
+};
+
+/// The keeper's first call fails, which this does not make.
+const UNASKED: Step<'static> = Step {
+    words: &["accidents"],
+    ..LINE
+};
 
 /// Commands that ask a keeper first.
 const COMMANDS: [&[&str]; 10] = [
@@ -223,69 +282,58 @@ const COMMANDS: [&[&str]; 10] = [
     &["charges", "31", "99"],
 ];
 
-/// One line by a command, where these reads and calls fail.
-fn fails_by<R: Abort + Threads + Sync>(
-    rt: &R,
-    alloc: Global,
-    words: &[&str],
-    fails: (&[u32], &[u32]),
-    text: &[u8],
-    status: u8,
-) -> Result<(), Fail> {
-    let ends = Ends {
-        input_fails: fails.0,
-        ..Ends::of(ONE.as_bytes(), b"")
-    };
-    let mut keeper = MemKeeper::new(alloc, fails.1)?;
-    writes(rt, alloc, words, ends, &mut keeper, text, status)
-}
-
 /// Room for the notice alone, room for one byte less, and a source and a keeper that fail at once.
 #[test]
 fn one_line_and_one_fault(rt: HostRuntime) -> Result<(), Fail> {
-    let stored: &[u8] = b"0,7,0,-1,0\n# stored day 100 tuples 1 notices 1 total 0\n";
-    let already: &[u8] = b"# already day 100 tuples 1 notices 1 total 0\n";
-    one_line(&rt, rt.alloc(), 11, b"0,7,0,-1,0\n", already)?;
-    one_line(&rt, rt.alloc(), 10, b"0,7,0,-1,0", stored)?;
-    fails_by(&rt, rt.alloc(), IMPORT, (&[0], &[]), READ_FAULT, 4)?;
-    for words in COMMANDS {
-        fails_by(&rt, rt.alloc(), words, (&[], &[0]), KEEPER_FAULT, 6)?;
+    for steps in &ROOMS {
+        each_of_new(&rt, rt.alloc(), &[], steps)?;
     }
-    fails_by(&rt, rt.alloc(), &["accidents"], (&[], &[0]), b"", 0)
+    for words in COMMANDS {
+        let fault = Step {
+            words,
+            text: KEEPER_FAULT,
+            status: 6,
+            ..LINE
+        };
+        each_of_new(&rt, rt.alloc(), &[0], &[fault])?;
+    }
+    each_of_new(&rt, rt.alloc(), &[], &[UNREAD])?;
+    each_of_new(&rt, rt.alloc(), &[0], &[UNASKED])
 }
 
-/// Where these reads of a history and these calls of its keeper fail, nothing is kept, and then the history is.
-fn kept_after<R: Abort + Threads + Sync>(
-    rt: &R,
-    alloc: Global,
-    fails: (&[u32], &[u32]),
-    text: &[u8],
-    status: u8,
-) -> Result<(), Fail> {
-    let whole = Ends::of(TWO.as_bytes(), b"");
-    let unread = Ends {
-        input_fails: fails.0,
-        ..whole
-    };
-    let mut keeper = MemKeeper::new(alloc, fails.1)?;
-    writes(rt, alloc, PAST, unread, &mut keeper, text, status)?;
-    writes(rt, alloc, PAST, whole, &mut keeper, KEPT, 0)
-}
+/// A history of two amounts of vehicle 7.
+const PAST: Step<'static> = Step {
+    words: &["past", "100"],
+    input: b"7,69,0,28\n7,1,0,5\n",
+    text: "# past base 100 rows 2\n",
+    ..STEP
+};
 
-/// Where the put of a history fails after it was done, the history is kept already.
-fn kept_late<R: Abort + Threads + Sync>(rt: &R, alloc: Global) -> Result<(), Fail> {
-    let whole = Ends::of(TWO.as_bytes(), b"");
-    let mut keeper = LateKeeper::new(alloc, &[2])?;
-    writes(rt, alloc, PAST, whole, &mut keeper, KEEPER_FAULT, 6)?;
-    writes(rt, alloc, PAST, whole, &mut keeper, KEPT_ALREADY, 0)
-}
+/// A call of its keeper fails.
+const PAST_FAULT: Step<'static> = Step {
+    text: KEEPER_FAULT,
+    status: 6,
+    ..PAST
+};
+
+/// It is kept already.
+const PAST_AGAIN: Step<'static> = Step {
+    text: "# already past base 100 rows 2\n",
+    ..PAST
+};
 
 /// Each read of a history and each call of its keeper fails; nothing is kept, but where a put fails after it was done.
 #[test]
 fn each_fault_of_a_history(rt: HostRuntime) -> Result<(), Fail> {
     for number in 0..3u32 {
-        kept_after(&rt, rt.alloc(), (&[number], &[]), READ_FAULT, 4)?;
-        kept_after(&rt, rt.alloc(), (&[], &[number]), KEEPER_FAULT, 6)?;
+        let unread = Step {
+            input_fails: &[number],
+            text: READ_FAULT,
+            status: 4,
+            ..PAST
+        };
+        each_of_new(&rt, rt.alloc(), &[], &[unread, PAST])?;
+        each_of_new(&rt, rt.alloc(), &[number], &[PAST_FAULT, PAST])?;
     }
-    kept_late(&rt, rt.alloc())
+    each_of_late(&rt, rt.alloc(), 2, &[PAST_FAULT, PAST_AGAIN])
 }

@@ -4,7 +4,7 @@ ghost use Rattle.road_time.specs.Fits.{IsLimits};
 
 mod rows;
 
-use super::runs::{Ending, Ends, ONE, ends_with, is_end};
+use super::runs::{ONE, STEP, Step, each_ends, ends_so};
 use road_time::Limits;
 use rows::{AFTER_NONE, ASIDES, FAULTS, LINES, REFUSED, THREE_LINES, TWO_VEHICLES, WORDS};
 use std::alloc::Global;
@@ -14,34 +14,36 @@ use std::thread::Threads;
 #[test]
 fn lines_and_their_answers(rt: HostRuntime) -> Result<(), Fail> {
     for (input, text, status) in &LINES {
-        let ends = Ends::of(input, b"");
-        let words = &["answers", "100"];
-        let right = ends_with(
-            &rt,
-            rt.alloc(),
-            &Limits::DAY,
-            words,
-            ends,
-            text.as_bytes(),
-            *status,
-        )?;
-        assert!(rt; right, "{text}");
+        let step = Step {
+            words: &["answers", "100"],
+            input,
+            text,
+            status: *status,
+            ..STEP
+        };
+        assert!(rt; ends_so(&rt, rt.alloc(), &Limits::DAY, &step)?, "{text}");
     }
     Ok(())
 }
 
 /// Whether a day that is past its limits is answered so.
-fn is_refused<R: Threads + Sync>(
+fn is_refused<'a, R: Threads + Sync>(
     rt: &R,
     alloc: Global,
     limits: &Limits,
-    input: &[u8],
-    text: &[u8],
+    input: &'a [u8],
+    text: &'a str,
 ) -> Result<bool, Fail>
     requires { IsLimits limits.now }
 {
-    let ends = Ends::of(input, b"");
-    ends_with(rt, alloc, limits, &["answers", "100"], ends, text, 2)
+    let step = Step {
+        words: &["answers", "100"],
+        input,
+        text,
+        status: 2,
+        ..STEP
+    };
+    ends_so(rt, alloc, limits, &step)
 }
 
 #[test]
@@ -58,9 +60,9 @@ fn small_limits(rt: HostRuntime) -> Result<(), Fail> {
         lines: 1,
         ..Limits::DAY
     };
-    let many = b"0,7,0,-1,0\n# refused line 3 many 2\n";
-    let vehicles = b"0,7,0,-1,0\n# refused line 2 vehicles 1\n";
-    let next = b"# refused line 2 many 1\n";
+    let many = "0,7,0,-1,0\n# refused line 3 many 2\n";
+    let vehicles = "0,7,0,-1,0\n# refused line 2 vehicles 1\n";
+    let next = "# refused line 2 many 1\n";
     assert!(rt; is_refused(&rt, rt.alloc(), &two_lines, THREE_LINES, many)?);
     assert!(rt; is_refused(&rt, rt.alloc(), &one_vehicle, TWO_VEHICLES, vehicles)?);
     assert!(rt; is_refused(&rt, rt.alloc(), &one_line, AFTER_NONE, next)?);
@@ -70,17 +72,15 @@ fn small_limits(rt: HostRuntime) -> Result<(), Fail> {
 #[test]
 fn words_and_their_ends(rt: HostRuntime) -> Result<(), Fail> {
     for (words, text, status) in &WORDS {
-        let ends = Ends::of(ONE.as_bytes(), b"0,7,0,-1,0\n");
-        let right = ends_with(
-            &rt,
-            rt.alloc(),
-            &Limits::DAY,
+        let step = Step {
             words,
-            ends,
-            text.as_bytes(),
-            *status,
-        )?;
-        assert!(rt; right, "{text}");
+            input: ONE,
+            aside: b"0,7,0,-1,0\n",
+            text,
+            status: *status,
+            ..STEP
+        };
+        assert!(rt; ends_so(&rt, rt.alloc(), &Limits::DAY, &step)?, "{text}");
     }
     Ok(())
 }
@@ -88,18 +88,15 @@ fn words_and_their_ends(rt: HostRuntime) -> Result<(), Fail> {
 #[test]
 fn asides_and_their_ends(rt: HostRuntime) -> Result<(), Fail> {
     for (aside, text, status) in &ASIDES {
-        let ends = Ends::of(ONE.as_bytes(), aside);
-        let words = &["validate", "100"];
-        let right = ends_with(
-            &rt,
-            rt.alloc(),
-            &Limits::DAY,
-            words,
-            ends,
-            text.as_bytes(),
-            *status,
-        )?;
-        assert!(rt; right, "{text}");
+        let step = Step {
+            words: &["validate", "100"],
+            input: ONE,
+            aside,
+            text,
+            status: *status,
+            ..STEP
+        };
+        assert!(rt; ends_so(&rt, rt.alloc(), &Limits::DAY, &step)?, "{text}");
     }
     Ok(())
 }
@@ -107,7 +104,7 @@ fn asides_and_their_ends(rt: HostRuntime) -> Result<(), Fail> {
 #[test]
 fn faults_and_their_ends(rt: HostRuntime) -> Result<(), Fail> {
     for (words, input_fails, aside_fails, room, text, status) in &FAULTS {
-        let row = Ending {
+        let step = Step {
             words,
             input: ONE,
             input_fails,
@@ -117,8 +114,7 @@ fn faults_and_their_ends(rt: HostRuntime) -> Result<(), Fail> {
             status: *status,
             ..REFUSED
         };
-        assert!(rt; is_end(&rt, rt.alloc(), &row)?, "{text}");
+        assert!(rt; ends_so(&rt, rt.alloc(), &Limits::DAY, &step)?, "{text}");
     }
-    assert!(rt; is_end(&rt, rt.alloc(), &REFUSED)?);
-    Ok(())
+    each_ends(&rt, rt.alloc(), &[REFUSED])
 }

@@ -1,9 +1,8 @@
 // An office that begins anew.
-ghost use Rattle.std.specs.Prelude.{◌≤◌};
-
 use super::days::{FIFTY_ONE, LEAVES, day};
-use super::runs::{Ends, ONE, run_on, writes};
-use keep_office::{AnewKeeper, Keeper, MemKeeper};
+use super::listings::LISTED;
+use super::runs::{ONE, STEP, Step, each_writes, is_right, run_on};
+use keep_office::{AnewKeeper, Keeper, MemKeeper, PastRecord};
 use office_ends::{begin_anew, renewal_base};
 use road_io::MemSink;
 use road_time::Limits;
@@ -16,21 +15,21 @@ use std::thread::Threads;
 const CALLS: u32 = 9;
 
 /// Amounts of the days 99, 98, 95, 94 and 31.
-const SEVERAL: &str = "9,1,3,4\n7,69,0,28\n7,1,0,5\n7,2,3,10\n2147483647,5,255,9999999999\n\
+const SEVERAL: &[u8] = b"9,1,3,4\n7,69,0,28\n7,1,0,5\n7,2,3,10\n2147483647,5,255,9999999999\n\
     2147483647,6,255,9999999999\n";
 
 /// What of them, and of day 100, on which vehicle 100 was charged 2, a history with the base 103 has: that of day 31
 /// is too old for it.
-const CARRIED: &str =
-    "2147483647,9,255,9999999999\n2147483647,8,255,9999999999\n7,5,3,10\n7,4,0,5\n9,4,3,4\n\
+const CARRIED: &[u8] =
+    b"2147483647,9,255,9999999999\n2147483647,8,255,9999999999\n7,5,3,10\n7,4,0,5\n9,4,3,4\n\
     100,3,0,2\n";
 
 /// The digest of that text, by another program.
 const CARRIED_DIGEST: &str = "61b0d69a6b81bb137f90e2d46a41645ebd4bbb596fc9cf760486537be3b79558";
 
 /// What a day asks for: the amounts of days 99, 100, 94 and 34.
-const ASKED: &str =
-    "3,0,7,-1,0,-1,-1,-1,-1,1,-1,-1,-1,-1,4\n3,0,100,-1,0,-1,-1,-1,-1,2,-1,-1,-1,-1,3\n\
+const ASKED: &[u8] =
+    b"3,0,7,-1,0,-1,-1,-1,-1,1,-1,-1,-1,-1,4\n3,0,100,-1,0,-1,-1,-1,-1,2,-1,-1,-1,-1,3\n\
     3,0,2147483647,-1,255,-1,-1,-1,-1,3,-1,-1,-1,-1,9\n3,0,7,-1,0,-1,-1,-1,-1,4,-1,-1,-1,-1,69\n";
 
 /// What it is answered.
@@ -46,102 +45,165 @@ fn kept<R: Abort + Threads + Sync>(
     let mut keeper = AnewKeeper::new(alloc, fails)?;
     let input = day(alloc, &FIFTY_ONE, &[&LEAVES])?;
     let rows: [(&[&str], &[u8]); 4] = [
-        (&["past", "100"], SEVERAL.as_bytes()),
+        (&["past", "100"], SEVERAL),
         (&["import", "100"], input.as_slice()),
-        (&["import", "102"], ONE.as_bytes()),
+        (&["import", "102"], ONE),
         (&["tariff", "5", "7", "8", "9"], b""),
     ];
     for (words, input) in rows {
-        let ends = Ends::of(input, b"");
-        let got = run_on(rt, alloc, &Limits::DAY, words, ends, &mut keeper)?;
-        assert_eq!(rt; got.1, 0);
+        let step = Step {
+            words,
+            input,
+            ..STEP
+        };
+        let (_, status) = run_on(rt, alloc, &Limits::DAY, &step, &mut keeper)?;
+        assert_eq!(rt; status, 0);
     }
     Ok(keeper)
 }
 
-/// Begins anew at a base, which writes this text and has this status.
-fn renews<R: Abort>(
+/// The base that words ask for.
+fn base_of(alloc: Global, words: &[&str]) -> Result<Option<u32>, Fail> {
+    let mut owned = Vec::new(alloc);
+    for word in words {
+        owned.push(String::from_str(alloc, word)?)?;
+    }
+    Ok(renewal_base(owned.as_slice()))
+}
+
+/// Whether an office that begins anew where the words ask for it, and else does what they do, writes a step's text and
+/// has its status.
+fn is_right_anew<R: Threads + Sync>(
     rt: &R,
     alloc: Global,
-    base: u32,
+    step: &Step<'_>,
     keeper: &mut AnewKeeper,
-    text: &[u8],
-    status: u8,
-) -> Result<(), Fail>
-    requires { 70 ≤ base }
-{
-    let mut sink = MemSink::new(alloc, 2000, 5)?;
-    let got = begin_anew(alloc, base, &mut sink, keeper);
-    assert_eq!(rt; got, status);
-    assert!(rt; sink.bytes() == text);
+) -> Result<bool, Fail> {
+    let Some(base) = base_of(alloc, step.words)? else {
+        return is_right(rt, alloc, &Limits::DAY, step, keeper);
+    };
+    if base < 70 {
+        return Ok(false);
+    }
+    let mut sink = MemSink::new(alloc, step.room, 5)?;
+    let status = begin_anew(alloc, base, &mut sink, keeper);
+    Ok(sink.bytes() == step.text.as_bytes() && status == step.status)
+}
+
+/// Each step, one after the other over one keeper, does.
+fn each_anew<R: Abort + Threads + Sync>(
+    rt: &R,
+    alloc: Global,
+    keeper: &mut AnewKeeper,
+    steps: &[Step<'_>],
+) -> Result<(), Fail> {
+    for step in steps {
+        let text = step.text;
+        assert!(rt; is_right_anew(rt, alloc, step, keeper)?, "{text}");
+    }
     Ok(())
+}
+
+/// A day that asks is answered, before it begins anew and then.
+const ANSWERS: Step<'static> = Step {
+    words: &["answers", "103"],
+    input: ASKED,
+    text: TOLD,
+    ..STEP
+};
+
+/// A base that is the last day.
+const EARLY: Step<'static> = Step {
+    words: &["renew", "102"],
+    text: "# renew early last 102\n",
+    status: 3,
+    ..STEP
+};
+
+/// The office begins anew; its days are gone, and its tariff is there.
+const RENEWED: [Step<'static>; 6] = [
+    ANSWERS,
+    EARLY,
+    Step {
+        words: &["renew", "103"],
+        text: "# renewed base 103 rows 6\n",
+        ..STEP
+    },
+    ANSWERS,
+    Step {
+        words: &["days"],
+        text: "# days 0 last 102\n",
+        ..STEP
+    },
+    Step {
+        words: &["tariffs"],
+        text: "5,7,8,9\n",
+        ..STEP
+    },
+];
+
+/// And once more, when nothing is young enough to be carried.
+const AGAIN: [Step<'static>; 2] = [
+    EARLY,
+    Step {
+        words: &["renew", "172"],
+        text: "# renewed base 172 rows 0\n",
+        ..STEP
+    },
+];
+
+/// The history of a new office that takes what is carried.
+fn carried<R: Abort + Threads + Sync>(rt: &R, alloc: Global) -> Result<Option<PastRecord>, Fail> {
+    let past = Step {
+        words: &["past", "103"],
+        input: CARRIED,
+        text: "# past base 103 rows 6\n",
+        ..STEP
+    };
+    let mut new = MemKeeper::new(alloc, &[])?;
+    each_writes(rt, alloc, &mut new, &[past])?;
+    Ok(new.past().unwrap_or(None))
 }
 
 /// The history, the tariffs and what a later day is answered are what they are to be; the days are gone.
 #[test]
 fn begun_anew_at_a_day(rt: HostRuntime) -> Result<(), Fail> {
     let alloc = rt.alloc();
-    let asked = Ends::of(ASKED.as_bytes(), b"");
-    let none = Ends::of(b"", b"");
     let mut keeper = kept(&rt, alloc, &[])?;
-    let answers: &[&str] = &["answers", "103"];
-    writes(&rt, alloc, answers, asked, &mut keeper, TOLD.as_bytes(), 0)?;
-    renews(&rt, alloc, 102, &mut keeper, b"# renew early last 102\n", 3)?;
-    renews(
-        &rt,
-        alloc,
-        103,
-        &mut keeper,
-        b"# renewed base 103 rows 6\n",
-        0,
-    )?;
-    writes(&rt, alloc, answers, asked, &mut keeper, TOLD.as_bytes(), 0)?;
-    let days: &[u8] = b"# days 0 last 102\n";
-    writes(&rt, alloc, &["days"], none, &mut keeper, days, 0)?;
-    writes(&rt, alloc, &["tariffs"], none, &mut keeper, b"5,7,8,9\n", 0)?;
-    let mut new = MemKeeper::new(alloc, &[])?;
-    let carried = Ends::of(CARRIED.as_bytes(), b"");
-    let past: &[&str] = &["past", "103"];
-    writes(
-        &rt,
-        alloc,
-        past,
-        carried,
-        &mut new,
-        b"# past base 103 rows 6\n",
-        0,
-    )?;
-    let there = keeper.past();
-    assert_eq!(rt; there, new.past());
+    each_anew(&rt, alloc, &mut keeper, &RENEWED)?;
+    let there = keeper.past().unwrap_or(None);
+    assert_eq!(rt; there, carried(&rt, alloc)?);
     let digest = match there {
-        Ok(Some(kept)) => kept.digest.text(alloc)?,
-        _ => String::from_str(alloc, "none")?,
+        Some(kept) => kept.digest.text(alloc)?,
+        None => String::from_str(alloc, "none")?,
     };
     assert_eq!(rt; digest.as_str(), CARRIED_DIGEST);
-    renews(&rt, alloc, 102, &mut keeper, b"# renew early last 102\n", 3)?;
-    renews(
-        &rt,
-        alloc,
-        172,
-        &mut keeper,
-        b"# renewed base 172 rows 0\n",
-        0,
-    )
+    each_anew(&rt, alloc, &mut keeper, &AGAIN)
 }
+
+/// A call of a renewal fails, and the office is as it was.
+const AS_BEFORE: [Step<'static>; 3] = [
+    Step {
+        words: &["renew", "103"],
+        text: "# keeper fault\n",
+        status: 6,
+        ..STEP
+    },
+    Step {
+        words: &["days"],
+        text: LISTED,
+        ..STEP
+    },
+    ANSWERS,
+];
 
 /// A call that fails leaves the office as it was.
 #[test]
 fn a_call_of_a_renewal_fails(rt: HostRuntime) -> Result<(), Fail> {
     let alloc = rt.alloc();
-    let asked = Ends::of(ASKED.as_bytes(), b"");
-    let none = Ends::of(b"", b"");
     for call in 0..3 {
         let mut keeper = kept(&rt, alloc, &[CALLS + call])?;
-        renews(&rt, alloc, 103, &mut keeper, b"# keeper fault\n", 6)?;
-        let got = run_on(&rt, alloc, &Limits::DAY, &["days"], none, &mut keeper)?;
-        assert!(rt; got.0.as_slice().ends_with(b"# days 2 last 102\n"));
-        let answers: &[&str] = &["answers", "103"];
-        writes(&rt, alloc, answers, asked, &mut keeper, TOLD.as_bytes(), 0)?;
+        each_anew(&rt, alloc, &mut keeper, &AS_BEFORE)?;
     }
     Ok(())
 }
@@ -166,11 +228,7 @@ const SAID: [(&[&str], Option<u32>); 12] = [
 #[test]
 fn words_of_a_renewal(rt: HostRuntime) -> Result<(), Fail> {
     for (words, base) in SAID {
-        let mut owned = Vec::new(rt.alloc());
-        for word in words {
-            owned.push(String::from_str(rt.alloc(), word)?)?;
-        }
-        assert_eq!(rt; renewal_base(owned.as_slice()), base);
+        assert_eq!(rt; base_of(rt.alloc(), words)?, base);
     }
     Ok(())
 }

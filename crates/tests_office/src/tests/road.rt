@@ -1,41 +1,21 @@
 // The worked rows of the road.
 mod rows;
 
-use super::days::{COMES, row};
+use super::days::each_day;
 use rows::{ACCIDENTS, AVERAGES, TOLLS};
 use std::test::Fail;
 
 #[test]
 fn tolls_of_the_road(rt: HostRuntime) -> Result<(), Fail> {
-    let alloc = rt.alloc();
-    for (crowds, more, text) in &TOLLS {
-        row(
-            &rt,
-            alloc,
-            &["answers", "100"],
-            crowds,
-            &[&COMES, more],
-            text,
-            0,
-        )?;
-    }
-    Ok(())
+    each_day(&rt, rt.alloc(), &TOLLS)
 }
 
 #[test]
 fn averages_requests_and_order(rt: HostRuntime) -> Result<(), Fail> {
-    let alloc = rt.alloc();
-    for (words, lines, text, status) in &AVERAGES {
-        row(&rt, alloc, words, &[], &[lines], text, *status)?;
-    }
-    Ok(())
+    each_day(&rt, rt.alloc(), &AVERAGES)
 }
 
 #[test]
 fn accidents_of_the_road(rt: HostRuntime) -> Result<(), Fail> {
-    let alloc = rt.alloc();
-    for (words, lines, text) in &ACCIDENTS {
-        row(&rt, alloc, words, &[], lines, text, 0)?;
-    }
-    Ok(())
+    each_day(&rt, rt.alloc(), &ACCIDENTS)
 }

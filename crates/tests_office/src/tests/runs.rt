@@ -1,86 +1,95 @@
-// One run of `office` over sources, a sink, a keeper in memory and a crew that does each job at once.
+// Commands of `office` over sources, a sink, a keeper in memory and a crew that does each job at once.
+//
+// A check takes by far the most time at what a function does besides one call. So a row is a step, its tests say which
+// steps, and only the functions below run them.
 ghost use Rattle.std.specs.Prelude.{◌≤◌};
 ghost use Rattle.road_time.specs.Fits.{IsLimits};
 
 use keep_office::{Keeper, MemKeeper};
 use office_commands::office;
 use road_io::{MemSink, MemSource};
-use road_time::{Limits, NoMemory};
+use road_time::Limits;
 use std::alloc::Global;
 use std::process::Abort;
 use std::test::Fail;
 use std::thread::Threads;
 use ways_crews::InlineCrew;
 
-pub const ONE: &str = "0,0,7,30,0,0,0,10,52800,-1,-1,-1,-1,-1,-1\n";
+pub const ONE: &[u8] = b"0,0,7,30,0,0,0,10,52800,-1,-1,-1,-1,-1,-1\n";
 
 pub const ANSWERED: &str = "0,7,0,-1,0\n# answered day 100 tuples 1 notices 1\n";
 
-/// What `office` reads and writes: a source and an aside that fail at some reads, and a sink of some room. The source
-/// is read in pieces, and the sink takes pieces.
+/// A command: its words, what it reads of a source and an aside, which reads of them fail, how many bytes a read of the
+/// source gives, how many its sink takes in all and at once, what it writes, and its status.
 #[derive(Clone, Copy)]
-pub struct Ends<'a> {
+pub struct Step<'a> {
+    pub words: &'a [&'a str],
     pub input: &'a [u8],
     pub aside: &'a [u8],
     pub input_fails: &'a [u32],
     pub aside_fails: &'a [u32],
-    pub room: usize,
     pub input_piece: usize,
+    pub room: usize,
     pub output_piece: usize,
+    pub text: &'a str,
+    pub status: u8,
 }
 
-impl<'a> Ends<'a> {
-    /// No read fails, and there is room.
-    pub fn of(input: &'a [u8], aside: &'a [u8]) -> Ends<'a> {
-        Ends {
-            input,
-            aside,
-            input_fails: &[],
-            aside_fails: &[],
-            room: 2000,
-            input_piece: 7,
-            output_piece: 5,
-        }
+/// No words, and nothing to read: no read fails, and there is room.
+pub const STEP: Step<'static> = Step {
+    words: &[],
+    input: b"",
+    aside: b"",
+    input_fails: &[],
+    aside_fails: &[],
+    input_piece: 7,
+    room: 2000,
+    output_piece: 5,
+    text: "",
+    status: 0,
+};
+
+/// What words are to write, and their status, of an input and an aside. References that do not live equally long come
+/// together in a call, and not where a struct is made.
+pub fn one_step<'a>(
+    words: &'a [&'a str],
+    input: &'a [u8],
+    aside: &'a [u8],
+    text: &'a str,
+    status: u8,
+) -> Step<'a> {
+    Step {
+        words,
+        input,
+        aside,
+        text,
+        status,
+        ..STEP
     }
 }
 
-/// The text and status of `office` where nothing is kept.
-pub fn run<R: Threads + Sync>(
-    rt: &R,
-    alloc: Global,
-    limits: &Limits,
-    words: &[&str],
-    ends: Ends<'_>,
-) -> Result<(Vec<u8>, u8), Fail>
-    requires { IsLimits limits.now }
-{
-    let mut keeper = MemKeeper::new(alloc, &[])?;
-    run_on(rt, alloc, limits, words, ends, &mut keeper)
-}
-
-/// The text and status of `office` over a keeper.
+/// What a step writes over a keeper, and its status.
 pub fn run_on<K: Keeper, R: Threads + Sync>(
     rt: &R,
     alloc: Global,
     limits: &Limits,
-    words: &[&str],
-    ends: Ends<'_>,
+    step: &Step<'_>,
     keeper: &mut K,
-) -> Result<(Vec<u8>, u8), Fail>
+) -> Result<(MemSink, u8), Fail>
     requires { IsLimits limits.now }
 {
-    let mut owned = Vec::new(alloc);
-    for word in words {
-        owned.push(String::from_str(alloc, word)?)?;
+    let mut words = Vec::new(alloc);
+    for word in step.words {
+        words.push(String::from_str(alloc, word)?)?;
     }
-    let mut source = MemSource::new(alloc, ends.input, ends.input_piece.max(1), ends.input_fails)?;
-    let mut aside = MemSource::new(alloc, ends.aside, 5, ends.aside_fails)?;
-    let mut sink = MemSink::new(alloc, ends.room, ends.output_piece.max(1))?;
+    let mut source = MemSource::new(alloc, step.input, step.input_piece.max(1), step.input_fails)?;
+    let mut aside = MemSource::new(alloc, step.aside, 5, step.aside_fails)?;
+    let mut sink = MemSink::new(alloc, step.room, step.output_piece.max(1))?;
     let mut crew = InlineCrew::new(alloc, false);
     let status = office(
         rt,
         alloc,
-        owned.as_slice(),
+        words.as_slice(),
         limits,
         &mut source,
         &mut aside,
@@ -88,95 +97,80 @@ pub fn run_on<K: Keeper, R: Threads + Sync>(
         keeper,
         &mut crew,
     );
-    Ok((Vec::from_slice(alloc, sink.bytes())?, status))
+    Ok((sink, status))
 }
 
-/// Whether `office` writes this text and has this status where nothing is kept.
-pub fn ends_with<R: Threads + Sync>(
+/// What a step writes where nothing is kept, and its status.
+pub fn run<R: Threads + Sync>(
+    rt: &R,
+    alloc: Global,
+    step: &Step<'_>,
+) -> Result<(MemSink, u8), Fail> {
+    let mut keeper = MemKeeper::new(alloc, &[])?;
+    run_on(rt, alloc, &Limits::DAY, step, &mut keeper)
+}
+
+/// Whether a step over a keeper writes its text and has its status.
+pub fn is_right<K: Keeper, R: Threads + Sync>(
     rt: &R,
     alloc: Global,
     limits: &Limits,
-    words: &[&str],
-    ends: Ends<'_>,
-    text: &[u8],
-    status: u8,
+    step: &Step<'_>,
+    keeper: &mut K,
 ) -> Result<bool, Fail>
     requires { IsLimits limits.now }
 {
-    let got = run(rt, alloc, limits, words, ends)?;
-    Ok(got.0.as_slice() == text && got.1 == status)
+    let (sink, status) = run_on(rt, alloc, limits, step, keeper)?;
+    Ok(sink.bytes() == step.text.as_bytes() && status == step.status)
 }
 
-/// A command, what it reads, which reads fail, the room of its sink, what it writes and its status.
-#[derive(Clone, Copy)]
-pub struct Ending {
-    pub words: &'static [&'static str],
-    pub input: &'static str,
-    pub aside: &'static [u8],
-    pub input_fails: &'static [u32],
-    pub aside_fails: &'static [u32],
-    pub room: usize,
-    pub text: &'static str,
-    pub status: u8,
-}
-
-/// Whether a command ends so.
-pub fn is_end<R: Threads + Sync>(rt: &R, alloc: Global, row: &Ending) -> Result<bool, Fail> {
-    let ends = Ends {
-        input_fails: row.input_fails,
-        aside_fails: row.aside_fails,
-        room: row.room,
-        ..Ends::of(row.input.as_bytes(), row.aside)
-    };
-    ends_with(
-        rt,
-        alloc,
-        &Limits::DAY,
-        row.words,
-        ends,
-        row.text.as_bytes(),
-        row.status,
-    )
-}
-
-/// A command over a keeper writes this text and has this status.
-pub fn writes<K: Keeper, R: Abort + Threads + Sync>(
+/// Whether a step does where nothing is kept.
+pub fn ends_so<R: Threads + Sync>(
     rt: &R,
     alloc: Global,
-    words: &[&str],
-    ends: Ends<'_>,
-    keeper: &mut K,
-    text: &[u8],
-    status: u8,
+    limits: &Limits,
+    step: &Step<'_>,
+) -> Result<bool, Fail>
+    requires { IsLimits limits.now }
+{
+    let mut keeper = MemKeeper::new(alloc, &[])?;
+    is_right(rt, alloc, limits, step, &mut keeper)
+}
+
+/// Each step does where nothing is kept.
+pub fn each_ends<R: Abort + Threads + Sync>(
+    rt: &R,
+    alloc: Global,
+    steps: &[Step<'_>],
 ) -> Result<(), Fail> {
-    let got = run_on(rt, alloc, &Limits::DAY, words, ends, keeper)?;
-    assert!(rt; got.0.as_slice() == text);
-    assert_eq!(rt; got.1, status);
+    for step in steps {
+        let text = step.text;
+        assert!(rt; ends_so(rt, alloc, &Limits::DAY, step)?, "{text}");
+    }
     Ok(())
 }
 
-/// A command, what it reads, what it writes and its status.
-#[derive(Clone, Copy)]
-pub struct Step<'a> {
-    pub words: &'a [&'a str],
-    pub input: &'a str,
-    pub text: &'a str,
-    pub status: u8,
-}
-
-/// Commands one after the other over one keeper.
+/// Each step, one after the other over one keeper, writes its text and has its status.
 pub fn each_writes<K: Keeper, R: Abort + Threads + Sync>(
     rt: &R,
     alloc: Global,
     keeper: &mut K,
-    all: &[Step<'_>],
+    steps: &[Step<'_>],
 ) -> Result<(), Fail> {
-    for one in all {
-        let ends = Ends::of(one.input.as_bytes(), b"");
-        let got = run_on(rt, alloc, &Limits::DAY, one.words, ends, keeper)?;
-        let text = one.text;
-        assert!(rt; got.0.as_slice() == text.as_bytes(), "{text}");
-        assert_eq!(rt; got.1, one.status, "{text}");
+    for step in steps {
+        let text = step.text;
+        assert!(rt; is_right(rt, alloc, &Limits::DAY, step, keeper)?, "{text}");
     }
     Ok(())
+}
+
+/// Each step does over a new keeper, of which these calls fail.
+pub fn each_of_new<R: Abort + Threads + Sync>(
+    rt: &R,
+    alloc: Global,
+    fails: &[u32],
+    steps: &[Step<'_>],
+) -> Result<(), Fail> {
+    let mut keeper = MemKeeper::new(alloc, fails)?;
+    each_writes(rt, alloc, &mut keeper, steps)
 }

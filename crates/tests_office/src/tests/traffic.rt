@@ -1,7 +1,5 @@
 // Traffic that a seed makes, and its rehearsal.
-use super::runs::{Ends, Step, each_writes, run};
-use keep_office::MemKeeper;
-use road_time::Limits;
+use super::runs::{STEP, Step, each_of_new, run};
 use std::alloc::{AllocError, Global};
 use std::test::Fail;
 use std::thread::Threads;
@@ -22,7 +20,8 @@ const FRONT: &[u8] =
     b"# rehearsed bytes 10897 digest 8ac83ba753b7ebcaf695edac1bce21276c84ac988aab905b1df0352e37e0fe6e tuples 240 \
         notices ";
 
-/// The sizes of that file, in several spellings, before and after its day is kept; and sizes that are out of range.
+/// The sizes of that file, in several spellings, before and after its day is kept by the fourth, which reads it; and
+/// sizes that are out of range.
 const OF_A_SMALL_FILE: [Step<'static>; 10] = [
     Step {
         words: &[
@@ -35,9 +34,8 @@ const OF_A_SMALL_FILE: [Step<'static>; 10] = [
             "--crashes",
             "1",
         ],
-        input: "",
         text: SMALL,
-        status: 0,
+        ..STEP
     },
     Step {
         words: &[
@@ -48,9 +46,9 @@ const OF_A_SMALL_FILE: [Step<'static>; 10] = [
             "--",
             "1",
         ],
-        input: "x",
+        input: b"x",
         text: SMALL,
-        status: 0,
+        ..STEP
     },
     Step {
         words: &[
@@ -60,15 +58,14 @@ const OF_A_SMALL_FILE: [Step<'static>; 10] = [
             "--minutes=1",
             "--crashes=1",
         ],
-        input: "x",
+        input: b"x",
         text: REHEARSED,
-        status: 0,
+        ..STEP
     },
     Step {
         words: &["import", "100"],
-        input: SMALL,
         text: "0,1,7,-1,0\n0,2,8,-1,0\n0,3,52,-1,0\n# stored day 100 tuples 5 notices 3 total 0\n",
-        status: 0,
+        ..STEP
     },
     Step {
         words: &[
@@ -79,46 +76,46 @@ const OF_A_SMALL_FILE: [Step<'static>; 10] = [
             "--crashes=1",
             "--late=120",
         ],
-        input: "",
         text: REHEARSED,
-        status: 0,
+        ..STEP
     },
     Step {
         words: &["generate", "1", "--vehicles", "5001"],
-        input: "",
         text: "# words\n",
         status: 1,
+        ..STEP
     },
     Step {
         words: &["generate", "1", "--vehicles", "3", "--crashes", "2"],
-        input: "",
         text: "# words\n",
         status: 1,
+        ..STEP
     },
     Step {
         words: &["generate", "1", "-x"],
-        input: "",
         text: "# words\n",
         status: 1,
+        ..STEP
     },
     Step {
         words: &["generate", "1", "--late", "0"],
-        input: "",
         text: "# words\n",
         status: 1,
+        ..STEP
     },
     Step {
         words: &["rehearse", "1", "--vehicles", "3", "--crashes", "2"],
-        input: "",
         text: "# words\n",
         status: 1,
+        ..STEP
     },
 ];
 
 #[test]
 fn a_small_file(rt: HostRuntime) -> Result<(), Fail> {
-    let mut keeper = MemKeeper::new(rt.alloc(), &[])?;
-    each_writes(&rt, rt.alloc(), &mut keeper, &OF_A_SMALL_FILE)
+    let mut steps = OF_A_SMALL_FILE;
+    steps[3].input = SMALL.as_bytes();
+    each_of_new(&rt, rt.alloc(), &[], &steps)
 }
 
 /// What stands between a text's space of this number and the next one.
@@ -135,6 +132,12 @@ fn word(alloc: Global, text: &[u8], number: usize) -> Result<Vec<u8>, AllocError
     Ok(found)
 }
 
+/// A file of twenty vehicles, or what is kept of it.
+const FILE: Step<'static> = Step {
+    room: 40_000,
+    ..STEP
+};
+
 /// Three spellings of the words of one file.
 const SPELLINGS: [&[&str]; 3] = [
     &["generate", "1", "--vehicles=20"],
@@ -144,33 +147,37 @@ const SPELLINGS: [&[&str]; 3] = [
 
 /// Whether these words make a file of 15,883 bytes, the same by the first spelling.
 fn is_one_file<R: Threads + Sync>(rt: &R, alloc: Global, words: &[&str]) -> Result<bool, Fail> {
-    let mut ends = Ends::of(b"", b"");
-    ends.room = 40_000;
-    let first = run(rt, alloc, &Limits::DAY, SPELLINGS[0], ends)?;
-    let file = run(rt, alloc, &Limits::DAY, words, ends)?;
-    Ok((file.0.len(), file.1) == (15_883, 0) && file.0.as_slice() == first.0.as_slice())
+    let first = Step {
+        words: SPELLINGS[0],
+        ..FILE
+    };
+    let (first, _) = run(rt, alloc, &first)?;
+    let (file, status) = run(rt, alloc, &Step { words, ..FILE })?;
+    Ok((file.bytes().len(), status) == (15_883, 0) && file.bytes() == first.bytes())
 }
 
-/// The sizes of a file, behind its command.
-const SIZES: [&str; 4] = ["1", "--vehicles=20", "--minutes=10", "--crashes=1"];
+/// The file of seed 1, twenty vehicles, ten minutes and a crash, and its rehearsal.
+const GENERATE: Step<'static> = Step {
+    words: &[
+        "generate",
+        "1",
+        "--vehicles=20",
+        "--minutes=10",
+        "--crashes=1",
+    ],
+    ..FILE
+};
 
-/// What a command writes of that file, and its status.
-fn of_sizes<R: Threads + Sync>(
-    rt: &R,
-    alloc: Global,
-    command: &'static str,
-) -> Result<(Vec<u8>, u8), Fail> {
-    let [seed, vehicles, minutes, crashes] = SIZES;
-    let mut ends = Ends::of(b"", b"");
-    ends.room = 40_000;
-    run(
-        rt,
-        alloc,
-        &Limits::DAY,
-        &[command, seed, vehicles, minutes, crashes],
-        ends,
-    )
-}
+const REHEARSE: Step<'static> = Step {
+    words: &[
+        "rehearse",
+        "1",
+        "--vehicles=20",
+        "--minutes=10",
+        "--crashes=1",
+    ],
+    ..FILE
+};
 
 /// Whether the closing line of the import of a file tells what its rehearsal tells: the words of these numbers.
 fn is_imported_as<R: Threads + Sync>(
@@ -179,12 +186,15 @@ fn is_imported_as<R: Threads + Sync>(
     file: &[u8],
     rehearsed: &[u8],
 ) -> Result<bool, Fail> {
-    let mut ends = Ends::of(file, b"");
-    ends.room = 40_000;
-    let (stored, status) = run(rt, alloc, &Limits::DAY, &["import", "100"], ends)?;
+    let import = Step {
+        words: &["import", "100"],
+        input: file,
+        ..FILE
+    };
+    let (stored, status) = run(rt, alloc, &import)?;
     let mut same = status == 0;
     for (one, other) in [(7, 5), (9, 7), (13, 9)] {
-        same = is_word(alloc, rehearsed, one, stored.as_slice(), other)? && same;
+        same = is_word(alloc, rehearsed, one, stored.bytes(), other)? && same;
     }
     Ok(same)
 }
@@ -207,12 +217,10 @@ fn a_file_rehearsed_and_imported(rt: HostRuntime) -> Result<(), Fail> {
     for words in SPELLINGS {
         assert!(rt; is_one_file(&rt, rt.alloc(), words)?);
     }
-    let rehearsed = of_sizes(&rt, rt.alloc(), "rehearse")?.0;
-    let again = of_sizes(&rt, rt.alloc(), "rehearse")?.0;
-    assert!(rt;
-        rehearsed.as_slice() == again.as_slice() && rehearsed.as_slice().starts_with(FRONT)
-    );
-    let file = of_sizes(&rt, rt.alloc(), "generate")?.0;
-    assert!(rt; is_imported_as(&rt, rt.alloc(), file.as_slice(), rehearsed.as_slice())?);
+    let (rehearsed, _) = run(&rt, rt.alloc(), &REHEARSE)?;
+    let (again, _) = run(&rt, rt.alloc(), &REHEARSE)?;
+    assert!(rt; rehearsed.bytes() == again.bytes() && rehearsed.bytes().starts_with(FRONT));
+    let (file, _) = run(&rt, rt.alloc(), &GENERATE)?;
+    assert!(rt; is_imported_as(&rt, rt.alloc(), file.bytes(), rehearsed.bytes())?);
     Ok(())
 }

@@ -1,10 +1,8 @@
 // How many tuples may wait: what was written of a day before its reading failed.
 use super::days::{Crowd, FIFTY_ONE, LEAVES, day, told};
-use super::runs::{Ends, ONE, run_on, writes};
-use keep_office::MemKeeper;
+use super::runs::{ANSWERED, ONE, STEP, Step, each_of_new, ends_so, one_step, run};
 use road_time::Limits;
 use std::alloc::Global;
-use std::process::Abort;
 use std::test::Fail;
 use std::thread::Threads;
 
@@ -15,65 +13,81 @@ const FORTY: [Crowd; 1] = [Crowd {
     spd: 30,
 }];
 
-/// What a command writes, and its status, where the read behind the first 2,000 bytes of a day fails.
-fn cut_short<R: Threads + Sync>(
-    rt: &R,
-    alloc: Global,
-    words: &[&str],
-) -> Result<(Vec<u8>, u8), Fail> {
+/// A command by which one tuple may wait, and the same by which all may.
+type Waiting = [&'static [&'static str]; 2];
+
+const COMMANDS: [Waiting; 2] = [
+    [&["answers", "100", "--backlog", "1"], &["answers", "100"]],
+    [&["import", "100", "--backlog", "1"], &["import", "100"]],
+];
+
+/// Whether the first forty are told before the read fails behind the first 2,000 bytes of a day, if one tuple may wait,
+/// and none if all may.
+fn is_told<R: Threads + Sync>(rt: &R, alloc: Global, words: Waiting) -> Result<bool, Fail> {
     let input = day(alloc, &FIFTY_ONE, &[&LEAVES])?;
-    let ends = Ends {
-        input_piece: 100,
+    let first = told(alloc, &FORTY, "")?;
+    let [one, all] = words;
+    let one = Step {
         input_fails: &[20],
-        ..Ends::of(input.as_slice(), b"")
+        input_piece: 100,
+        ..one_step(one, input.as_slice(), b"", "", 4)
     };
-    let mut keeper = MemKeeper::new(alloc, &[])?;
-    run_on(rt, alloc, &Limits::DAY, words, ends, &mut keeper)
+    let all = Step {
+        input_fails: &[20],
+        input_piece: 100,
+        ..one_step(all, input.as_slice(), b"", "# read fault\n", 4)
+    };
+    let (sink, status) = run(rt, alloc, &one)?;
+    let text = sink.bytes();
+    let cut = text.starts_with(first.as_bytes()) && text.ends_with(b"\n# read fault\n");
+    Ok(cut && status == 4 && ends_so(rt, alloc, &Limits::DAY, &all)?)
 }
 
 /// If one tuple may wait, the first forty of some forty-six are told before the fault; if all may, none is.
 #[test]
 fn told_before_a_read_fault(rt: HostRuntime) -> Result<(), Fail> {
-    let first = told(rt.alloc(), &FORTY, "")?;
-    for command in ["answers", "import"] {
-        let (text, status) = cut_short(&rt, rt.alloc(), &[command, "100", "--backlog", "1"])?;
-        assert_eq!(rt; status, 4);
-        assert!(rt;
-            text.starts_with(first.as_slice()) && text.ends_with(b"\n# read fault\n".as_slice())
-        );
-        let (text, status) = cut_short(&rt, rt.alloc(), &[command, "100"])?;
-        assert_eq!(rt; status, 4);
-        assert!(rt; text.as_slice() == b"# read fault\n".as_slice());
+    for words in COMMANDS {
+        assert!(rt; is_told(&rt, rt.alloc(), words)?);
     }
     Ok(())
 }
 
-/// A day by a backlog of so many tuples writes and keeps the same.
-fn same_by<R: Abort + Threads + Sync>(rt: &R, alloc: Global, backlog: &str) -> Result<(), Fail> {
-    let input = day(alloc, &FIFTY_ONE, &[&LEAVES])?;
-    let stored = told(
-        alloc,
-        &FIFTY_ONE,
-        "0,100,60,30,2\n0,100,90,-1,0\n0,100,150,-1,0\n2,160,9,2\n\
-         # stored day 100 tuples 56 notices 55 total 2\n",
-    )?;
-    let words: &[&str] = &["import", "100", "--backlog", backlog, "--workers", "2"];
-    let mut keeper = MemKeeper::new(alloc, &[])?;
-    let ends = Ends::of(input.as_slice(), b"");
-    writes(rt, alloc, words, ends, &mut keeper, stored.as_slice(), 0)?;
-    let already: &[u8] = b"# already day 100 tuples 56 notices 55 total 2\n";
-    writes(rt, alloc, &["import", "100"], ends, &mut keeper, already, 0)
-}
+/// What is told behind a crowd of fifty-one.
+const STORED: &str = "0,100,60,30,2\n0,100,90,-1,0\n0,100,150,-1,0\n2,160,9,2\n\
+    # stored day 100 tuples 56 notices 55 total 2\n";
+
+/// Imports by a backlog of so many tuples.
+const IMPORTS: [&[&str]; 7] = [
+    &["import", "100", "--backlog", "1", "--workers", "2"],
+    &["import", "100", "--backlog", "2", "--workers", "2"],
+    &["import", "100", "--backlog", "7", "--workers", "2"],
+    &["import", "100", "--backlog", "55", "--workers", "2"],
+    &["import", "100", "--backlog", "56", "--workers", "2"],
+    &["import", "100", "--backlog", "57", "--workers", "2"],
+    &["import", "100", "--backlog", "65536", "--workers", "2"],
+];
+
+/// One line, by a backlog of one tuple.
+const ONE_WAITS: Step<'static> = Step {
+    words: &["answers", "--backlog=1", "100"],
+    input: ONE,
+    text: ANSWERED,
+    ..STEP
+};
 
 /// No text and nothing that is kept depends on how many may wait.
 #[test]
 fn a_day_by_any_backlog(rt: HostRuntime) -> Result<(), Fail> {
-    for backlog in ["1", "2", "7", "55", "56", "57", "65536"] {
-        same_by(&rt, rt.alloc(), backlog)?;
+    let input = day(rt.alloc(), &FIFTY_ONE, &[&LEAVES])?;
+    let stored = told(rt.alloc(), &FIFTY_ONE, STORED)?;
+    for words in IMPORTS {
+        let import = one_step(words, input.as_slice(), b"", stored.as_str(), 0);
+        let again = Step {
+            words: &["import", "100"],
+            text: "# already day 100 tuples 56 notices 55 total 2\n",
+            ..import
+        };
+        each_of_new(&rt, rt.alloc(), &[], &[import, again])?;
     }
-    let one: &[u8] = b"0,7,0,-1,0\n# answered day 100 tuples 1 notices 1\n";
-    let ends = Ends::of(ONE.as_bytes(), b"");
-    let mut keeper = MemKeeper::new(rt.alloc(), &[])?;
-    let words: &[&str] = &["answers", "--backlog=1", "100"];
-    writes(&rt, rt.alloc(), words, ends, &mut keeper, one, 0)
+    each_of_new(&rt, rt.alloc(), &[], &[ONE_WAITS])
 }

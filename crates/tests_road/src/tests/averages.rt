@@ -1,18 +1,25 @@
 // The worked averages, with ample memory.
 use road_time::{Frac, NoMemory};
+use std::alloc::Global;
 use ways_expressway::worked::{speeds_move, two_minutes, two_vehicles};
 
-/// Vehicles and not reports have means, and each minute with cars counts once, for five minutes.
+/// Vehicles and not reports have means: two vehicles are there, and none five minutes later.
+fn vehicles_have_means(alloc: Global) -> Result<bool, NoMemory> {
+    let (second, seventh) = two_vehicles(alloc)?;
+    let there = second.cars == 2 && second.lav == Some(Frac { num: 1260, den: 24 });
+    Ok(there && seventh.cars == 0 && seventh.lav == None)
+}
+
+/// Each minute with cars counts once, for five minutes.
+fn minutes_count_once(alloc: Global) -> Result<bool, NoMemory> {
+    let (sixth, seventh) = two_minutes(alloc)?;
+    Ok(sixth == Some(Frac { num: 612, den: 24 }) && seventh == Some(Frac { num: 372, den: 12 }))
+}
+
 #[test]
 fn averages_of_a_few_notes(rt: HostRuntime) -> Result<(), NoMemory> {
-    let (second, seventh) = two_vehicles(rt.alloc())?;
-    assert_eq!(rt; second.cars, 2);
-    assert_eq!(rt; second.lav, Some(Frac { num: 1260, den: 24 }));
-    assert_eq!(rt; seventh.cars, 0);
-    assert_eq!(rt; seventh.lav, None);
-    let (sixth, seventh) = two_minutes(rt.alloc())?;
-    assert_eq!(rt; sixth, Some(Frac { num: 612, den: 24 }));
-    assert_eq!(rt; seventh, Some(Frac { num: 372, den: 12 }));
+    assert!(rt; vehicles_have_means(rt.alloc())?, "vehicles");
+    assert!(rt; minutes_count_once(rt.alloc())?, "minutes");
     speeds_move();
     Ok(())
 }

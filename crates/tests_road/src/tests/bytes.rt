@@ -87,14 +87,22 @@ fn is_cut(alloc: Global, piece: usize, row: &Row) -> Result<bool, NoMemory> {
     Ok((cutter.advance(&mut source), taken) == (row.end, row.taken))
 }
 
-#[test]
-fn lines_at_their_limits(rt: HostRuntime) -> Result<(), NoMemory> {
-    for piece in [1, 7, 65_536] {
-        for row in &ROWS {
-            assert!(rt; is_cut(rt.alloc(), piece, row)?);
+/// Whether each row's bytes are cut as they are to be, however they come in pieces.
+fn are_cut(alloc: Global) -> Result<bool, NoMemory> {
+    for row in &ROWS {
+        for piece in [1, 7, 65_536] {
+            if !is_cut(alloc, piece, row)? {
+                return Ok(false);
+            }
         }
     }
-    assert!(rt; is_cut(rt.alloc(), 1, &LATER)?);
+    Ok(true)
+}
+
+#[test]
+fn lines_at_their_limits(rt: HostRuntime) -> Result<(), NoMemory> {
+    assert!(rt; are_cut(rt.alloc())?, "in pieces");
+    assert!(rt; is_cut(rt.alloc(), 1, &LATER)?, "byte by byte");
     Ok(())
 }
 
@@ -121,26 +129,35 @@ fn gives_out(alloc: Global) -> Result<bool, NoMemory> {
     Ok(came == [Ok(2), Err(Failed), Ok(1), Ok(0)])
 }
 
+/// Whether a sink of nothing takes all.
+fn takes_all() -> bool {
+    put_all(&mut VoidSink, b"abc") == Ok(()) && VoidSink.write(b"abc") == Ok(3)
+}
+
 #[test]
 fn bytes_in_and_out(rt: HostRuntime) -> Result<(), NoMemory> {
     assert!(rt; fills_up(rt.alloc())?);
     assert!(rt; gives_out(rt.alloc())?);
-    let void = (put_all(&mut VoidSink, b"abc"), VoidSink.write(b"abc"));
-    assert!(rt; void == (Ok(()), Ok(3)));
+    assert!(rt; takes_all());
     Ok(())
+}
+
+/// Whether a link of three bytes, two at a time, with room for three fails at its second read, and takes three bytes of
+/// four.
+fn goes_both_ways(link: &mut MemLink) -> bool {
+    let mut buf = [0u8; 8];
+    let read = [link.read(&mut buf), link.read(&mut buf)];
+    let written = link.write(b"xyz");
+    let last = link.read(&mut buf);
+    let sent = send_all(link, b"st");
+    let came = [read[0], read[1], written, last] == [Ok(2), Err(Failed), Ok(2), Ok(1)];
+    came && sent == Err(Failed) && link.bytes() == b"xys".as_slice()
 }
 
 #[test]
 fn bytes_both_ways(rt: HostRuntime) -> Result<(), NoMemory> {
     let mut link = MemLink::new(rt.alloc(), b"abc", 2, 3, &[1])?;
-    let mut buf = [0u8; 8];
-    let read = (link.read(&mut buf), link.read(&mut buf));
-    let written = link.write(b"xyz");
-    let last = link.read(&mut buf);
-    let sent = send_all(&mut link, b"st");
-    assert!(rt; read == (Ok(2), Err(Failed)));
-    assert!(rt; (written, last, sent) == (Ok(2), Ok(1), Err(Failed)));
-    assert!(rt; link.bytes() == b"xys".as_slice());
+    assert!(rt; goes_both_ways(&mut link));
     Ok(())
 }
 
@@ -184,12 +201,29 @@ impl Write for Interrupted {
     }
 }
 
+/// Whether a read and a write that are interrupted three times are made again.
+fn are_made_again() -> bool {
+    let mut source = Reading::new(Interrupted { times: 3 });
+    let mut sink = Writing::new(Interrupted { times: 3 });
+    source.read(&mut [0u8; 8]) == Ok(1) && sink.write(b"abc") == Ok(1)
+}
+
 #[test]
 fn an_interrupted_call_is_made_again(rt: HostRuntime) {
-    let mut source = Reading::new(Interrupted { times: 3 });
-    assert!(rt; source.read(&mut [0u8; 8]) == Ok(1));
-    let mut sink = Writing::new(Interrupted { times: 3 });
-    assert!(rt; sink.write(b"abc") == Ok(1));
+    assert!(rt; are_made_again());
+}
+
+/// Whether a source gives the three bytes of its file, and then its end.
+fn gives_its_file<S: Source>(source: &mut S) -> bool {
+    let mut buf = [0u8; 8];
+    let came = source.read(&mut buf);
+    let ended = source.read(&mut [0u8; 8]);
+    came == Ok(3) && ended == Ok(0) && &buf[..3] == b"abc".as_slice()
+}
+
+/// Whether a read of a source fails.
+fn fails<S: Source>(source: &mut S) -> bool {
+    source.read(&mut [0u8; 8]) == Err(Failed)
 }
 
 #[test]
@@ -197,15 +231,12 @@ fn a_file_is_opened_once_at_its_first_read(rt: HostRuntime) -> Result<(), NoMemo
     let path = "a_file_that_road_io_reads";
     let mut later = FileSource::at(rt.alloc(), rt, path)?;
     let mut missing = FileSource::at(rt.alloc(), rt, path)?;
-    let mut buf = [0u8; 8];
-    let missed = missing.read(&mut buf);
+    let missed = fails(&mut missing);
     let made = std::fs::write(&rt, path, b"abc").is_ok();
-    let again = missing.read(&mut buf);
-    let came = later.read(&mut buf);
-    let ended = later.read(&mut [0u8; 8]);
+    let again = fails(&mut missing);
+    let came = gives_its_file(&mut later);
     let removed = std::fs::remove_file(&rt, path).is_ok();
-    assert!(rt; (made, removed) == (true, true));
-    assert!(rt; [missed, again, came, ended] == [Err(Failed), Err(Failed), Ok(3), Ok(0)]);
-    assert!(rt; &buf[..3] == b"abc".as_slice());
+    assert!(rt; made && removed, "the file");
+    assert!(rt; missed && again && came, "the reads");
     Ok(())
 }

@@ -65,77 +65,87 @@ macro_rules! told {
 }
 
 /// One report.
+const ONE_REPORT: [LaneEvent; 1] = [seen!(0, 0, 7, 30, 0, 0, 0, 10, 52800, true, false)];
+
 fn one_report() -> [LaneEvent; 1]
     ensures { can_be_run result ≡ true }
 {
-    [seen!(0, 0, 7, 30, 0, 0, 0, 10, 52800, true, false)]
+    ONE_REPORT
 }
 
 /// The pair clears: vehicle 2 leaves the place by a report of the same way, all of it for the first worker at each
 /// width.
+const PAIR_CLEARS: [LaneEvent; 12] = [
+    seen!(0, 0, 1, 0, 0, 2, 0, 10, 55000, true, false),
+    seen!(1, 0, 2, 0, 0, 2, 0, 10, 55000, true, false),
+    seen!(2, 30, 1, 0, 0, 2, 0, 10, 55000, false, false),
+    seen!(3, 30, 2, 0, 0, 2, 0, 10, 55000, false, false),
+    seen!(4, 60, 1, 0, 0, 2, 0, 10, 55000, false, false),
+    seen!(5, 60, 2, 0, 0, 2, 0, 10, 55000, false, false),
+    seen!(6, 90, 1, 0, 0, 2, 0, 10, 55000, false, true),
+    seen!(7, 90, 2, 0, 0, 2, 0, 10, 55000, false, true),
+    left!(8, 150, 2),
+    seen!(8, 150, 2, 30, 0, 2, 0, 10, 55440, false, false),
+    seen!(9, 180, 201, 50, 0, 1, 0, 10, 52800, true, false),
+    seen!(10, 240, 202, 50, 0, 1, 0, 10, 52800, true, false),
+];
+
 fn pair_clears() -> [LaneEvent; 12]
     ensures { can_be_run result ≡ true }
 {
-    [
-        seen!(0, 0, 1, 0, 0, 2, 0, 10, 55000, true, false),
-        seen!(1, 0, 2, 0, 0, 2, 0, 10, 55000, true, false),
-        seen!(2, 30, 1, 0, 0, 2, 0, 10, 55000, false, false),
-        seen!(3, 30, 2, 0, 0, 2, 0, 10, 55000, false, false),
-        seen!(4, 60, 1, 0, 0, 2, 0, 10, 55000, false, false),
-        seen!(5, 60, 2, 0, 0, 2, 0, 10, 55000, false, false),
-        seen!(6, 90, 1, 0, 0, 2, 0, 10, 55000, false, true),
-        seen!(7, 90, 2, 0, 0, 2, 0, 10, 55000, false, true),
-        left!(8, 150, 2),
-        seen!(8, 150, 2, 30, 0, 2, 0, 10, 55440, false, false),
-        seen!(9, 180, 201, 50, 0, 1, 0, 10, 52800, true, false),
-        seen!(10, 240, 202, 50, 0, 1, 0, 10, 52800, true, false),
-    ]
+    PAIR_CLEARS
 }
 
 /// Stopped on another way, for one worker of all ways.
+const STOPPED_ELSEWHERE: [LaneEvent; 12] = [
+    seen!(0, 0, 1, 0, 0, 2, 0, 10, 55000, true, false),
+    seen!(1, 0, 2, 0, 0, 2, 0, 10, 55000, true, false),
+    seen!(2, 30, 1, 0, 0, 2, 0, 10, 55000, false, false),
+    seen!(3, 30, 2, 0, 0, 2, 0, 10, 55000, false, false),
+    seen!(4, 60, 1, 0, 0, 2, 0, 10, 55000, false, false),
+    seen!(5, 60, 2, 0, 0, 2, 0, 10, 55000, false, false),
+    seen!(6, 90, 1, 0, 0, 2, 0, 10, 55000, false, true),
+    seen!(7, 90, 2, 0, 0, 2, 0, 10, 55000, false, true),
+    left!(8, 130, 2),
+    seen!(8, 130, 2, 50, 1, 0, 0, 3, 15840, true, false),
+    seen!(9, 180, 3, 50, 0, 1, 0, 10, 52800, true, false),
+    seen!(10, 240, 4, 50, 0, 1, 0, 10, 52800, true, false),
+];
+
 fn stopped_elsewhere() -> [LaneEvent; 12]
     ensures { can_be_run result ≡ true }
 {
-    [
-        seen!(0, 0, 1, 0, 0, 2, 0, 10, 55000, true, false),
-        seen!(1, 0, 2, 0, 0, 2, 0, 10, 55000, true, false),
-        seen!(2, 30, 1, 0, 0, 2, 0, 10, 55000, false, false),
-        seen!(3, 30, 2, 0, 0, 2, 0, 10, 55000, false, false),
-        seen!(4, 60, 1, 0, 0, 2, 0, 10, 55000, false, false),
-        seen!(5, 60, 2, 0, 0, 2, 0, 10, 55000, false, false),
-        seen!(6, 90, 1, 0, 0, 2, 0, 10, 55000, false, true),
-        seen!(7, 90, 2, 0, 0, 2, 0, 10, 55000, false, true),
-        left!(8, 130, 2),
-        seen!(8, 130, 2, 50, 1, 0, 0, 3, 15840, true, false),
-        seen!(9, 180, 3, 50, 0, 1, 0, 10, 52800, true, false),
-        seen!(10, 240, 4, 50, 0, 1, 0, 10, 52800, true, false),
-    ]
+    STOPPED_ELSEWHERE
 }
 
 /// Stopped on another way, for the worker of the place, of three or of sixty-four.
+const LEFT_FOR_ELSEWHERE: [LaneEvent; 11] = [
+    seen!(0, 0, 1, 0, 0, 2, 0, 10, 55000, true, false),
+    seen!(1, 0, 2, 0, 0, 2, 0, 10, 55000, true, false),
+    seen!(2, 30, 1, 0, 0, 2, 0, 10, 55000, false, false),
+    seen!(3, 30, 2, 0, 0, 2, 0, 10, 55000, false, false),
+    seen!(4, 60, 1, 0, 0, 2, 0, 10, 55000, false, false),
+    seen!(5, 60, 2, 0, 0, 2, 0, 10, 55000, false, false),
+    seen!(6, 90, 1, 0, 0, 2, 0, 10, 55000, false, true),
+    seen!(7, 90, 2, 0, 0, 2, 0, 10, 55000, false, true),
+    left!(8, 130, 2),
+    seen!(9, 180, 3, 50, 0, 1, 0, 10, 52800, true, false),
+    seen!(10, 240, 4, 50, 0, 1, 0, 10, 52800, true, false),
+];
+
 fn left_for_elsewhere() -> [LaneEvent; 11]
     ensures { can_be_run result ≡ true }
 {
-    [
-        seen!(0, 0, 1, 0, 0, 2, 0, 10, 55000, true, false),
-        seen!(1, 0, 2, 0, 0, 2, 0, 10, 55000, true, false),
-        seen!(2, 30, 1, 0, 0, 2, 0, 10, 55000, false, false),
-        seen!(3, 30, 2, 0, 0, 2, 0, 10, 55000, false, false),
-        seen!(4, 60, 1, 0, 0, 2, 0, 10, 55000, false, false),
-        seen!(5, 60, 2, 0, 0, 2, 0, 10, 55000, false, false),
-        seen!(6, 90, 1, 0, 0, 2, 0, 10, 55000, false, true),
-        seen!(7, 90, 2, 0, 0, 2, 0, 10, 55000, false, true),
-        left!(8, 130, 2),
-        seen!(9, 180, 3, 50, 0, 1, 0, 10, 52800, true, false),
-        seen!(10, 240, 4, 50, 0, 1, 0, 10, 52800, true, false),
-    ]
+    LEFT_FOR_ELSEWHERE
 }
 
 /// Stopped on another way, for the worker of the other way, of three or of sixty-four.
+const SEEN_ELSEWHERE: [LaneEvent; 1] = [seen!(8, 130, 2, 50, 1, 0, 0, 3, 15840, true, false)];
+
 fn seen_elsewhere() -> [LaneEvent; 1]
     ensures { can_be_run result ≡ true }
 {
-    [seen!(8, 130, 2, 50, 1, 0, 0, 3, 15840, true, false)]
+    SEEN_ELSEWHERE
 }
 
 fn moves<T: Send>() {}
@@ -204,55 +214,49 @@ fn finds_each(
     Ok(one_by_one(alloc, tariffs, events)?.as_slice() == wanted)
 }
 
+/// Whether each of the worked rows on one way finds what it is to find: one report; the pair clears, at widths 1, 3 and
+/// 64; the same, a job for each event.
+fn are_found_on_one_way(alloc: Global, plain: &Tariffs) -> Result<[bool; 3], NoMemory> {
+    let pair = pair_clears();
+    let one = finds(alloc, plain, &one_report(), &OF_ONE_REPORT)?;
+    let cleared = finds(alloc, plain, &pair, &OF_THE_PAIR)?;
+    let each = finds_each(alloc, plain, &pair, &OF_THE_PAIR)?;
+    Ok([one, cleared, each])
+}
+
+/// Whether each of the rows of one that stopped on another way does: at width 1; by the worker of the place, at widths 3
+/// and 64; the same, a job for each event; by the worker of the other way, at widths 3 and 64.
+fn are_found_on_two_ways(alloc: Global, plain: &Tariffs) -> Result<[bool; 4], NoMemory> {
+    let here = left_for_elsewhere();
+    let all = finds(alloc, plain, &stopped_elsewhere(), &OF_ALL_WAYS)?;
+    let place = finds(alloc, plain, &here, &OF_ITS_WAY)?;
+    let each = finds_each(alloc, plain, &here, &OF_ITS_WAY)?;
+    let other = finds(alloc, plain, &seen_elsewhere(), &OF_THE_OTHER_WAY)?;
+    Ok([all, place, each, other])
+}
+
 #[test]
 fn runs_find_what_the_worked_rows_say(rt: HostRuntime) -> Result<(), NoMemory> {
     let plain = Tariffs::new(rt.alloc());
-    assert!(rt;
-        finds(rt.alloc(), &plain, &one_report(), &OF_ONE_REPORT)?,
-        "one report"
-    );
-    let pair = pair_clears();
-    assert!(rt;
-        finds(rt.alloc(), &plain, &pair, &OF_THE_PAIR)?,
-        "the pair clears, at widths 1, 3 and 64"
-    );
-    assert!(rt;
-        finds_each(rt.alloc(), &plain, &pair, &OF_THE_PAIR)?,
-        "the pair clears, a job for each event"
-    );
-    let all = stopped_elsewhere();
-    assert!(rt;
-        finds(rt.alloc(), &plain, &all, &OF_ALL_WAYS)?,
-        "stopped on another way, at width 1"
-    );
-    let here = left_for_elsewhere();
-    assert!(rt;
-        finds(rt.alloc(), &plain, &here, &OF_ITS_WAY)?,
-        "stopped on another way, at widths 3 and 64"
-    );
-    assert!(rt;
-        finds_each(rt.alloc(), &plain, &here, &OF_ITS_WAY)?,
-        "one worker's ways, a job for each event"
-    );
-    let there = seen_elsewhere();
-    assert!(rt;
-        finds(rt.alloc(), &plain, &there, &OF_THE_OTHER_WAY)?,
-        "the other way, at widths 3 and 64"
-    );
+    assert_eq!(rt; are_found_on_one_way(rt.alloc(), &plain)?, [true; 3]);
+    assert_eq!(rt; are_found_on_two_ways(rt.alloc(), &plain)?, [true; 4]);
     Ok(())
+}
+
+/// Whether one report finds the same under another tariff.
+fn is_found_under_another(alloc: Global) -> Result<bool, NoMemory> {
+    let mut steep = Tariffs::new(alloc);
+    let tariff = Tariff {
+        crowd: 50,
+        speed: 40,
+        factor: 5,
+    };
+    steep.set(0, &tariff)?;
+    finds(alloc, &steep, &one_report(), &OF_ONE_REPORT)
 }
 
 #[test]
 fn one_report_finds_the_same_under_another_tariff(rt: HostRuntime) -> Result<(), NoMemory> {
-    let mut steep = Tariffs::new(rt.alloc());
-    steep.set(
-        0,
-        &Tariff {
-            crowd: 50,
-            speed: 40,
-            factor: 5,
-        },
-    )?;
-    assert!(rt; finds(rt.alloc(), &steep, &one_report(), &OF_ONE_REPORT)?);
+    assert!(rt; is_found_under_another(rt.alloc())?);
     Ok(())
 }

@@ -1,49 +1,72 @@
 // The rows on single calls, and that tariffs may move between threads.
 use road_time::{NoMemory, Tariff, Tariffs, Way, downstream, minute, worker_of};
+use std::alloc::Global;
 
 /// Takes what may move between threads.
-fn moves<T: Send>(value: T) -> T {
-    value
+fn moves<T: Send>(_value: &T) {}
+
+/// The minutes of a day's first seconds and of its last.
+fn minutes_begin_at_one() -> bool {
+    [minute(0), minute(59), minute(60), minute(86_399)] == [1, 1, 2, 1440]
+}
+
+/// One and two segments ahead of segment 98 eastbound, three and four ahead of segment 3 westbound.
+fn roads_have_ends() -> bool {
+    let east = [downstream(98, 0, 1), downstream(98, 0, 2)];
+    let west = [downstream(3, 1, 3), downstream(3, 1, 4)];
+    east == [Some(99), None] && west == [Some(0), None]
+}
+
+/// The worker of expressway 1 eastbound, of one, two, three and 64.
+fn workers_have_ways() -> bool {
+    let way = Way { xway: 1, dir: 0 };
+    let few = [worker_of(way, 1), worker_of(way, 2)];
+    let more = [worker_of(way, 3), worker_of(way, 64)];
+    few == [0, 0] && more == [2, 2]
 }
 
 #[test]
 fn minutes_segments_and_workers(rt: HostRuntime) {
-    for (second, want) in [(0, 1), (59, 1), (60, 2), (86_399, 1440)] {
-        assert_eq!(rt; minute(second), want, "at {second}");
-    }
-    let rows = [
-        (98, 0, 1, Some(99)),
-        (98, 0, 2, None),
-        (3, 1, 3, Some(0)),
-        (3, 1, 4, None),
-    ];
-    for (segment, dir, i, want) in rows {
-        assert_eq!(rt; downstream(segment, dir, i), want, "{i} ahead of {segment}");
-    }
-    for (width, want) in [(1, 0), (2, 0), (3, 2), (64, 2)] {
-        let way = Way { xway: 1, dir: 0 };
-        assert_eq!(rt; worker_of(way, width), want, "of {width}");
-    }
+    assert!(rt; minutes_begin_at_one(), "minutes");
+    assert!(rt; roads_have_ends(), "segments");
+    assert!(rt; workers_have_ways(), "workers");
+}
+
+const DEAR: Tariff = Tariff {
+    crowd: 50,
+    speed: 40,
+    factor: 5,
+};
+
+/// Whether these are the tariffs of the first two expressways.
+fn are_tariffs(tariffs: &Tariffs, first: Tariff, second: Tariff) -> bool {
+    tariffs.of(0) == first && tariffs.of(1) == second
+}
+
+/// Whether tariffs have these lines.
+fn have_lines(alloc: Global, tariffs: &Tariffs, lines: &[u8]) -> bool {
+    let mut text = Vec::new(alloc);
+    tariffs.lines(alloc, &mut text).is_ok() && text.as_slice() == lines
+}
+
+/// A tariff holds on its expressway alone, and not in a copy in which that of the benchmark is set; this one has no
+/// line.
+fn a_copy_is_apart(alloc: Global) -> Result<bool, NoMemory> {
+    let mut first = Tariffs::new(alloc);
+    moves(&first);
+    first.set(0, &DEAR)?;
+    let mut copy = first.copy()?;
+    copy.set(0, &Tariff::BENCHMARK)?;
+    let kept = are_tariffs(&first, DEAR, Tariff::BENCHMARK)
+        && have_lines(alloc, &first, b"0,50,40,5\n");
+    Ok(
+        kept && are_tariffs(&copy, Tariff::BENCHMARK, Tariff::BENCHMARK)
+            && have_lines(alloc, &copy, b""),
+    )
 }
 
 #[test]
 fn tariffs_of_expressways(rt: HostRuntime) -> Result<(), NoMemory> {
-    let alloc = rt.alloc();
-    let dear = Tariff {
-        crowd: 50,
-        speed: 40,
-        factor: 5,
-    };
-    let mut first = moves(Tariffs::new(alloc));
-    first.set(0, &dear)?;
-    let mut copy = first.copy()?;
-    copy.set(0, &Tariff::BENCHMARK)?;
-    assert_eq!(rt; first.of(0), dear);
-    assert_eq!(rt; first.of(1), Tariff::BENCHMARK);
-    assert_eq!(rt; copy.of(0), Tariff::BENCHMARK);
-    let mut text = Vec::new(alloc);
-    first.lines(alloc, &mut text)?;
-    copy.lines(alloc, &mut text)?;
-    assert!(rt; text.as_slice() == b"0,50,40,5\n".as_slice());
+    assert!(rt; a_copy_is_apart(rt.alloc())?);
     Ok(())
 }

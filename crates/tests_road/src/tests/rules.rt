@@ -152,17 +152,32 @@ fn are_found(alloc: Global, day: &[Tuple]) -> Result<bool, Fail>
     Ok(near == Some(10) && log.as_slice() == [ACCIDENT].as_slice())
 }
 
+/// Whether each call has its answer on the day of the crowd: cars and average; tolls; notices; the charge.
+fn answers_of_the_crowd(alloc: Global) -> Result<[bool; 4], Fail> {
+    let day = jam(alloc)?;
+    if !is_day(alloc, day.as_slice()) {
+        return Err("no day")?;
+    }
+    let counted = are_counted(alloc, day.as_slice())?;
+    let tolled = are_tolled(alloc, day.as_slice())?;
+    let told = are_told(alloc, day.as_slice())?;
+    let charged = is_charged(alloc, day.as_slice())?;
+    Ok([counted, tolled, told, charged])
+}
+
+/// Whether the calls on accidents have their answers on the day of the pair.
+fn is_answered_of_the_pair(alloc: Global) -> Result<bool, Fail> {
+    let day = pair(alloc)?;
+    if !is_day(alloc, day.as_slice()) {
+        return Err("no day")?;
+    }
+    are_found(alloc, day.as_slice())
+}
+
 #[test]
 fn single_calls_have_their_answers(rt: HostRuntime) -> Result<(), Fail> {
-    let day = jam(rt.alloc())?;
-    assert!(rt; is_day(rt.alloc(), day.as_slice()));
-    assert!(rt; are_counted(rt.alloc(), day.as_slice())?);
-    assert!(rt; are_tolled(rt.alloc(), day.as_slice())?);
-    assert!(rt; are_told(rt.alloc(), day.as_slice())?);
-    assert!(rt; is_charged(rt.alloc(), day.as_slice())?);
-    let stopped = pair(rt.alloc())?;
-    assert!(rt; is_day(rt.alloc(), stopped.as_slice()));
-    assert!(rt; are_found(rt.alloc(), stopped.as_slice())?);
+    assert_eq!(rt; answers_of_the_crowd(rt.alloc())?, [true; 4]);
+    assert!(rt; is_answered_of_the_pair(rt.alloc())?);
     Ok(())
 }
 
@@ -176,17 +191,26 @@ fn verdict_of(alloc: Global, notices: &[Notice]) -> Result<Verdict, Fail> {
     Ok(check(alloc, &day, &Tariffs::new(alloc), 100, &none, notices)?)
 }
 
+/// What a check says where it finds this in the place of the first notice.
+fn differs(found: Option<Notice>) -> Verdict {
+    Verdict::Differs {
+        line: 1,
+        wanted: Some(toll(7, 0, -1, 0)),
+        found,
+    }
+}
+
+/// Whether a check agrees with the notice, and names the first line where it is another, or none.
+fn is_named(alloc: Global) -> Result<[bool; 3], Fail> {
+    let other = toll(7, 0, -1, 2);
+    let agrees = verdict_of(alloc, &[toll(7, 0, -1, 0)])? == Verdict::Agree;
+    let another = verdict_of(alloc, &[other])? == differs(Some(other));
+    let none = verdict_of(alloc, &[])? == differs(None);
+    Ok([agrees, another, none])
+}
+
 #[test]
 fn a_check_names_the_first_line_that_differs(rt: HostRuntime) -> Result<(), Fail> {
-    let wanted = toll(7, 0, -1, 0);
-    let other = toll(7, 0, -1, 2);
-    let differs = |found: Option<Notice>| Verdict::Differs {
-        line: 1,
-        wanted: Some(wanted),
-        found,
-    };
-    assert!(rt; verdict_of(rt.alloc(), &[wanted])? == Verdict::Agree);
-    assert!(rt; verdict_of(rt.alloc(), &[other])? == differs(Some(other)));
-    assert!(rt; verdict_of(rt.alloc(), &[])? == differs(None));
+    assert_eq!(rt; is_named(rt.alloc())?, [true; 3]);
     Ok(())
 }

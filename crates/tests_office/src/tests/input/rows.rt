@@ -1,5 +1,5 @@
 // Lines, limits, words, asides and faults, and what is answered to each.
-use super::super::runs::{ANSWERED, Ending};
+use super::super::runs::{ANSWERED, STEP, Step};
 
 /// What is answered to no tuple.
 const NONE: &str = "# answered day 100 tuples 0 notices 0\n";
@@ -222,13 +222,12 @@ const DAY: &[&str] = &["answers", "100"];
 const COMPARED: &[&str] = &["validate", "100"];
 
 /// A line that is refused before the aside is read.
-pub const REFUSED: Ending = Ending {
+pub const REFUSED: Step<'static> = Step {
     words: COMPARED,
-    input: "x\n",
+    input: b"x\n",
     aside: b"0,7,0,-1,0\n",
-    input_fails: &[],
     aside_fails: &[0],
-    room: 2000,
     text: "# refused line 1 fields 1\n",
     status: 2,
+    ..STEP
 };

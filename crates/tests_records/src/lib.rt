@@ -1,8 +1,0 @@
-//! Rows of what is kept and stated: days, histories and digests in, against what was worked out by hand.
-//!
-//! It has tests alone. They need nothing private of the crates below, and stand apart so that no crate is proved
-//! twice for them.
-#![tactic(auto)]
-
-#[cfg(test)]
-mod tests;
