@@ -7,16 +7,16 @@ use Rattle.serve_desk.specs.Answers.{Wire}
 use Rattle.serve_desk.specs.Desk.{IsOfKept}
 use Rattle.serve_desk.specs.Sessions.{EndsAtOnce, Asks, ServesLive}
 
--- a request of what is kept is passed on as it was read, with nothing written before, its clerk answers it so, and the
--- clerk's end is the session's; the reader is left as it was
-abbrev pub PassesOn : (Asked → Wire → Wire → SessionEnd → Type 0) → List ℕ → Pass → Pass → Wire → Wire → SessionEnd →
-    Type 0
+-- a request of what is kept is passed on as it was read, with nothing written before, and with the reader as it was; its
+-- clerk answers it so, and the clerk's end is the session's
+abbrev pub PassesOn : (Asked → Pass → Pass → Wire → Wire → SessionEnd → Type 0) → List ℕ → Pass → Pass → Wire → Wire →
+    SessionEnd → Type 0
 PassesOn answers bytes p q old new end =
-    (asked : Asked) × (mid : Wire) × Asks bytes asked old mid × IsOfKept asked × answers asked mid new end × (q ≡ p)
+    (asked : Asked) × (mid : Wire) × Asks bytes asked old mid × IsOfKept asked × answers asked p q mid new end
 
 -- a session that passes on what is asked of what is kept, to a clerk that answers so; all else is answered
-abbrev pub Shares : (Asked → Wire → Wire → SessionEnd → Type 0) → List ℕ → Pass → Pass → Wire → Wire → SessionEnd →
-    Type 0
+abbrev pub Shares : (Asked → Pass → Pass → Wire → Wire → SessionEnd → Type 0) → List ℕ → Pass → Pass → Wire → Wire →
+    SessionEnd → Type 0
 Shares answers bytes p q old new end =
     (EndsAtOnce bytes old new end × (q ≡ p))
     ⊎ (PassesOn answers bytes p q old new end ⊎ ServesLive bytes p q old new end)

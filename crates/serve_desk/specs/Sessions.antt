@@ -3,10 +3,10 @@
 use Rattle.std.specs.Prelude.{◌≡◌, ◌⊎◌, ℕ, Bool, List, Ok, Err}
 use Rattle.road_io.specs.Plans.{NeverFails}
 use Rattle.road_time.specs.declared.day.Limits.{Limits}
-use Rattle.day_floor.specs.Operations.{Operation}
+use Rattle.day_floor.specs.Operations.{Operation, Posted}
 use Rattle.keep_office.specs.Calls.{WhenRefused}
 use Rattle.keep_office.specs.Office.{Office}
-use Rattle.serve_board.specs.Passes.{Pass, StartsWith}
+use Rattle.serve_board.specs.Passes.{Pass, StartsWith, WasPosted}
 use Rattle.serve_requests.specs.ReadRequests.{ReadsHeadAsked}
 use Rattle.serve_requests.specs.declared.asked.Asked.{Asked}
 use Rattle.serve_requests.specs.declared.session_end.SessionEnd.{SessionEnd}
@@ -45,6 +45,10 @@ pub record Learns (all : List Operation) (old new : Pass) : Type 0 where
   pub had : StartsWith new.seen old.seen
   pub told : StartsWith new.seen all
   pub one : (new.seen ≡ old.seen) ⊎ (new.seen ≡ all)
+
+-- a reader is told all that is published, and knows nothing that was not published and is not queued
+abbrev pub IsTaught : Posted → Pass → Pass → Type 0
+IsTaught posted p q = Learns posted.published p q × WasPosted posted q
 
 -- a session over a link with these bytes, a desk that keeps this office and a reader of its board, which is told all that
 -- is published: it ends at once; or what is asked is answered of what is kept; or of the live board

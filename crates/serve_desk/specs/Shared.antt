@@ -8,6 +8,7 @@ use Rattle.keep_office.specs.Calls.{WhenRefused}
 use Rattle.keep_office.specs.declared.kept.DayRecord.{DayRecord}
 use Rattle.keep_office.specs.Office.{Office, record_of, last_day}
 use Rattle.day_import.specs.declared.outcomes.Outcome.{Outcome}
+use Rattle.serve_board.specs.Passes.{Pass}
 use Rattle.serve_requests.specs.Bodies.{spent_body}
 use Rattle.serve_requests.specs.Lists.{days_body, vehicle_body}
 use Rattle.serve_requests.specs.Replies.{Reply, no_memory_reply}
@@ -22,6 +23,7 @@ use Rattle.serve_desk.specs.Days.{first_day, as_list}
 use Rattle.serve_desk.specs.Pages.{AnswersPage}
 use Rattle.serve_desk.specs.Imports.{AnswersBody, IsCutShort, FailsInBody, DeskState, ImportsDay}
 use Rattle.serve_desk.specs.Reading.{ReadsOn}
+use Rattle.serve_desk.specs.Sessions.{IsTaught}
 use Rattle.serve_desk.specs.Streams.{WritesDay, HasNoHandle}
 
 -- the keeper was asked once: the reply is that of the office which it kept then, in one of its states, and which it
@@ -78,9 +80,9 @@ AnswersListed told faults old new end =
     ⊎ (AnswersFailed faults old new end ⊎ AnswersReply no_memory_reply old.room old.written new.written end)
 
 -- a day is imported exactly, from an office that the keeper told in one of its states, and what is kept then it told in
--- one too
+-- one too; and the reader is told all that is published then, and knows nothing else but what may be queued
 pub record ImportsShared {K : Type 0} (told : K → Option Office) (w : WhenRefused) (exact : Bool) (limits : Limits)
-    (day count : ℕ) (early : List ℕ) (old new : Wire) (end : SessionEnd) : Type 0 where
+    (day count : ℕ) (early : List ℕ) (p q : Pass) (old new : Wire) (end : SessionEnd) : Type 0 where
   pub was : K
   pub now : K
   pub before : DeskState
@@ -89,6 +91,7 @@ pub record ImportsShared {K : Type 0} (told : K → Option Office) (w : WhenRefu
   pub told_after : after.told ≡ told now
   pub imports : (all : List ℕ) (o : Office) → prepend_known early old.left ≡ Some all → told was ≡ Some o
       → ImportsDay w exact day limits count all o before after old new end
+  pub taught : IsTaught after.posted p q
 
 -- the notices of a day are streamed exactly, of an office that the keeper told in one of its states, and which it told
 -- in one behind them
@@ -109,27 +112,28 @@ AnswersNotices told w exact limits day count early old new end =
 
 -- what is asked is answered of a keeper that others may call between: a day, an amount and a vehicle's bill of one of
 -- its states, all days day by day of its states, the page, a POST behind its body and exactly of one of its
--- states, and the notices of a day exactly of one too
-abbrev pub AnswersShared : {K : Type 0} → (K → Option Office) → (K → ℕ) → WhenRefused → Bool → Limits → Asked → Wire →
-    Wire → SessionEnd → Type 0
-AnswersShared told faults w exact limits (Day day) old new end =
+-- states, and the notices of a day exactly of one too; a POST teaches the reader, and all else leaves it as it was
+abbrev pub AnswersShared : {K : Type 0} → (K → Option Office) → (K → ℕ) → WhenRefused → Bool → Limits → Asked → Pass →
+    Pass → Wire → Wire → SessionEnd → Type 0
+AnswersShared told faults w exact limits (Day day) p q old new end =
     AnswersOf told faults (λ o. day_reply (record_of o day)) old new end × AnswersSome faults day_reply old new end
-    × (new.left ≡ old.left)
-AnswersShared told faults w exact limits (Spent day xway vid) old new end =
+    × (new.left ≡ old.left) × (q ≡ p)
+AnswersShared told faults w exact limits (Spent day xway vid) p q old new end =
     AnswersOf told faults (λ o. spent_reply o day xway vid) old new end
-    × AnswersSome {T = ℕ} faults (λ n. good (spent_body n)) old new end × (new.left ≡ old.left)
-AnswersShared told faults w exact limits (Import day count early) old new end =
-    AnswersPost count early old new end × ImportsShared told w exact limits day count early old new end
-AnswersShared told faults w exact limits (Vehicle vid from to) old new end =
+    × AnswersSome {T = ℕ} faults (λ n. good (spent_body n)) old new end × (new.left ≡ old.left) × (q ≡ p)
+AnswersShared told faults w exact limits (Import day count early) p q old new end =
+    AnswersPost count early old new end × ImportsShared told w exact limits day count early p q old new end
+AnswersShared told faults w exact limits (Vehicle vid from to) p q old new end =
     AnswersOf told faults (λ o. vehicle_reply o vid from to) old new end
     × AnswersSome {T = List SpentRow} faults (λ rows. good (vehicle_body vid from to rows)) old new end
-    × (new.left ≡ old.left)
-AnswersShared told faults w exact limits Days old new end =
+    × (new.left ≡ old.left) × (q ≡ p)
+AnswersShared told faults w exact limits Days p q old new end =
     AnswersListed told faults old new end
-    × AnswersSome {T = List DayRecord} faults (λ days. good (days_body days)) old new end × (new.left ≡ old.left)
-AnswersShared told faults w exact limits Page old new end =
-    AnswersPage old.room old.written new.written end × (new.left ≡ old.left)
-AnswersShared told faults w exact limits (Answers day count early) old new end =
-    AnswersNotices told w exact limits day count early old new end
-AnswersShared told faults w exact limits (Live vid) old new end = Unit {0}
-AnswersShared told faults w exact limits LiveTotal old new end = Unit {0}
+    × AnswersSome {T = List DayRecord} faults (λ days. good (days_body days)) old new end
+    × (new.left ≡ old.left) × (q ≡ p)
+AnswersShared told faults w exact limits Page p q old new end =
+    AnswersPage old.room old.written new.written end × (new.left ≡ old.left) × (q ≡ p)
+AnswersShared told faults w exact limits (Answers day count early) p q old new end =
+    AnswersNotices told w exact limits day count early old new end × (q ≡ p)
+AnswersShared told faults w exact limits (Live vid) p q old new end = Unit {0}
+AnswersShared told faults w exact limits LiveTotal p q old new end = Unit {0}

@@ -19,7 +19,7 @@ use day_plan::Plan;
 use keep_office::Keeper;
 use road_io::TwoWay;
 use road_time::Limits;
-use serve_board::BoardWriter;
+use serve_board::{BoardNaming, BoardWriter};
 use serve_requests::{Asked, SessionEnd};
 use std::alloc::Global;
 use std::sync::Wait;
@@ -133,9 +133,14 @@ impl<K: Keeper, C: Crew + Drop, R: Wait + Threads + Drop> Desk<K, C, R> {
 }
 
 /// A desk may move between threads, where its keeper, crew and runtime may, and so may the part of it that imports.
-pub fn desk_moves<K: Keeper + Send, C: Crew + Send, R: Wait + Threads + Drop + Send>() {
+pub fn desk_moves<
+    J: BoardNaming + Send,
+    K: Keeper + Send,
+    C: Crew + Send,
+    R: Wait + Threads + Drop + Send,
+>() {
     moves::<Desk<K, C, R>>();
-    moves::<ImportDesk<C, R>>();
+    moves::<ImportDesk<J, C, R>>();
 }
 
 fn moves<T: Send>() {}

@@ -14,6 +14,7 @@ ghost use Rattle.serve_requests.specs.AskedBodies.{filled};
 ghost use Rattle.serve_desk.specs.declared.imported.ReadTo.TheVariants.{Open};
 ghost use Rattle.serve_desk.specs.Imports.{Imports};
 ghost use Rattle.serve_desk.specs.Reading.{IsReadTo, HasReadCause, IsStopped, HasNoneLeft};
+ghost use Rattle.serve_desk.specs.Sessions.{IsTaught, Learns};
 
 use crate::imported::Imported;
 use crate::importing::import_only;
@@ -21,23 +22,61 @@ use day_plan::Plan;
 use keep_office::Keeper;
 use road_io::Link;
 use road_time::Limits;
-use serve_board::BoardWriter;
+use serve_board::laws::published_law;
+use serve_board::{BoardNaming, BoardWriter, NamedReader, NamedWriter};
 use std::alloc::Global;
+use std::marker::PhantomData;
 use std::sync::Wait;
 use std::thread::Threads;
 use ways_crews::Crew;
 
+/// Tells a reader of a board all that is published on it.
+fn learn_all<J: BoardNaming, R: Wait + Drop>(
+    reader: &mut NamedReader<J>,
+    writer: &mut BoardWriter<R>,
+)
+    requires named { writer.old.board ≡ J.board }
+    ensures learns { Learns writer.old.posted.published reader.old reader.new }
+    ensures kept { writer.new ≡ writer.old }
+{
+    reader.learn(writer.tell());
+}
+
 /// The part of a desk that imports: all of it but the keeper, the plan and the limits, which are handed in for each
-/// import.
+/// import. Its writer is of the board that has this name, also where it lies under a lock.
 #[derive(Drop)]
-pub struct ImportDesk<C: Crew, R: Wait + Threads + Drop> {
+pub struct ImportDesk<J: BoardNaming, C: Crew, R: Wait + Threads + Drop> {
     pub rt: R,
     pub crew: C,
     pub writer: BoardWriter<R>,
+    of: PhantomData<J>,
     ghost idle: { C.out crew ≡ [] },
+    ghost named: { writer.board ≡ J.board },
 }
 
-impl<C: Crew, R: Wait + Threads + Drop> ImportDesk<C, R> {
+impl<J: BoardNaming, C: Crew, R: Wait + Threads + Drop> ImportDesk<J, C, R> {
+    /// A crew that has no job out, and the writer of the board of this name.
+    pub fn new(rt: R, crew: C, writer: NamedWriter<J, R>) -> Self
+        requires idle { C.out crew ≡ [] }
+        ensures crew { result.crew ≡ crew }
+    {
+        ImportDesk {
+            rt,
+            crew,
+            writer: writer.into_writer(),
+            of: PhantomData,
+        }
+    }
+
+    /// Tells a reader of the board all that is published, and sees that it knows nothing else.
+    pub(crate) fn teach(&mut self, reader: &mut NamedReader<J>)
+        ensures taught { IsTaught self.old.writer.posted reader.old reader.new }
+        ensures kept { self.new.writer ≡ self.old.writer }
+    {
+        learn_all(reader, &mut self.writer);
+        published_law(&mut self.writer, reader.plain());
+    }
+
     /// Imports a day of the body of a POST, publishes its charges, and reads no more of the body than that takes. What
     /// is left to do of the request needs its link alone.
     pub fn import<'b, L: Link, K: Keeper>(
@@ -99,13 +138,14 @@ impl<C: Crew, R: Wait + Threads + Drop> ImportDesk<C, R> {
     }
 }
 
-impl<C: Crew + Drop, R: Wait + Threads + Drop> ImportDesk<C, R> {
+impl<J: BoardNaming, C: Crew + Drop, R: Wait + Threads + Drop> ImportDesk<J, C, R> {
     /// Ends the writer of the board. It may wait for readers that are in the middle of an answer.
     pub fn end(self) {
         let ImportDesk {
             rt: _,
             crew: _,
             writer,
+            of: _,
         } = self;
         writer.end();
     }

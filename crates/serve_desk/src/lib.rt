@@ -3,7 +3,8 @@
 //! `session` reads a request and answers it: of what is kept by a `Desk`, which imports the body of a POST as the
 //! office imports a day and publishes its charges, and of the live board by its reader, which never waits.
 //! `session_shared` has a `Clerk` answer what is asked of what is kept: for many sessions at once `TwoLocks`, where a
-//! keeper that is shared answers while a POST of an `ImportDesk` goes on.
+//! keeper that is shared answers while a POST of an `ImportDesk` goes on, and a POST tells the reader of its session
+//! what is published then.
 //!
 //! A keeper that many share.
 //!

@@ -10,7 +10,7 @@ ghost use Rattle.serve_desk.specs.Live.{asked_of, IsOfLive, AnswersLive, live_re
 use crate::answers::send_made;
 use http::StatusCode;
 use road_io::Link;
-use serve_board::{BoardReader, Live};
+use serve_board::{Live, Watch};
 use serve_requests::{Asked, SessionEnd, live_body, send_no_memory, total_body};
 use std::alloc::Global;
 
@@ -43,17 +43,17 @@ fn send_total<L: Link>(alloc: Global, shown: Live, link: &mut L) -> SessionEnd
 }
 
 /// Answers a vehicle's account, as the board shows it.
-fn answer_balance<L: Link>(
+fn answer_balance<L: Link, W: Watch>(
     alloc: Global,
-    reader: &mut BoardReader,
+    reader: &mut W,
     vid: u32,
     link: &mut L,
 ) -> SessionEnd
-    ensures answers { AnswersLive (Some vid) reader.old reader.new
+    ensures answers { AnswersLive (Some vid) (W.pass reader.old) (W.pass reader.new)
         (wire_of (L.left link.old) (L.plan link.old) (L.written link.old) (L.room link.old))
         (wire_of (L.left link.new) (L.plan link.new) (L.written link.new) (L.room link.new)) result }
-    ensures board { reader.new.board ≡ reader.old.board }
-    ensures had { StartsWith reader.new.seen reader.old.seen }
+    ensures board { (W.pass reader.new).board ≡ (W.pass reader.old).board }
+    ensures had { StartsWith (W.pass reader.new).seen (W.pass reader.old).seen }
     ensures unavailable { result ≢ Answered 503 }
     ensures unread { L.left link.new ≡ L.left link.old }
     ensures sure { L.room link.old ≡ Endless → result ≢ LinkFault }
@@ -67,12 +67,12 @@ fn answer_balance<L: Link>(
 }
 
 /// Answers what all vehicles owe, as the board shows it.
-fn answer_total<L: Link>(alloc: Global, reader: &mut BoardReader, link: &mut L) -> SessionEnd
-    ensures answers { AnswersLive None reader.old reader.new
+fn answer_total<L: Link, W: Watch>(alloc: Global, reader: &mut W, link: &mut L) -> SessionEnd
+    ensures answers { AnswersLive None (W.pass reader.old) (W.pass reader.new)
         (wire_of (L.left link.old) (L.plan link.old) (L.written link.old) (L.room link.old))
         (wire_of (L.left link.new) (L.plan link.new) (L.written link.new) (L.room link.new)) result }
-    ensures board { reader.new.board ≡ reader.old.board }
-    ensures had { StartsWith reader.new.seen reader.old.seen }
+    ensures board { (W.pass reader.new).board ≡ (W.pass reader.old).board }
+    ensures had { StartsWith (W.pass reader.new).seen (W.pass reader.old).seen }
     ensures unavailable { result ≢ Answered 503 }
     ensures unread { L.left link.new ≡ L.left link.old }
     ensures sure { L.room link.old ≡ Endless → result ≢ LinkFault }
@@ -86,18 +86,18 @@ fn answer_total<L: Link>(alloc: Global, reader: &mut BoardReader, link: &mut L) 
 }
 
 /// Answers what is asked of the live board. It never waits.
-pub fn live_answer<L: Link>(
+pub fn live_answer<L: Link, W: Watch>(
     alloc: Global,
-    reader: &mut BoardReader,
+    reader: &mut W,
     asked: &Asked,
     link: &mut L,
 ) -> SessionEnd
     requires { IsOfLive asked.now }
-    ensures answers { AnswersLive (asked_of asked.now) reader.old reader.new
+    ensures answers { AnswersLive (asked_of asked.now) (W.pass reader.old) (W.pass reader.new)
         (wire_of (L.left link.old) (L.plan link.old) (L.written link.old) (L.room link.old))
         (wire_of (L.left link.new) (L.plan link.new) (L.written link.new) (L.room link.new)) result }
-    ensures board { reader.new.board ≡ reader.old.board }
-    ensures had { StartsWith reader.new.seen reader.old.seen }
+    ensures board { (W.pass reader.new).board ≡ (W.pass reader.old).board }
+    ensures had { StartsWith (W.pass reader.new).seen (W.pass reader.old).seen }
     ensures unavailable { result ≢ Answered 503 }
     ensures unread { L.left link.new ≡ L.left link.old }
     ensures sure { L.room link.old ≡ Endless → result ≢ LinkFault }

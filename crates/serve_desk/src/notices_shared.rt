@@ -25,6 +25,7 @@ use day_plan::Plan;
 use keep_office::Keeper;
 use road_io::{Link, Sink, TwoWay};
 use road_time::Limits;
+use serve_board::BoardNaming;
 use serve_loops::Turn;
 use serve_requests::{SessionEnd, send_no_memory};
 use std::alloc::Global;
@@ -32,7 +33,7 @@ use std::sync::{Mutex, Wait};
 use std::thread::Threads;
 use ways_crews::Crew;
 
-impl<C: Crew, R: Wait + Threads + Drop> ImportDesk<C, R> {
+impl<J: BoardNaming, C: Crew, R: Wait + Threads + Drop> ImportDesk<J, C, R> {
     /// Sends the head of the answer, and behind it the notices of a day of the body of a POST, as they are settled.
     /// Nothing is kept or published.
     pub(crate) fn stream<'b, L: Link, O: Sink, K: Keeper>(
@@ -120,7 +121,7 @@ fn finish_after<L: Link, O: Sink, T: Turn>(
 pub(crate) fn answer_notices_shared<
     'a,
     L: TwoWay,
-    J: Naming,
+    J: Naming + BoardNaming,
     K: Keeper,
     C: Crew,
     R: Wait + Threads + Drop,
@@ -130,7 +131,7 @@ pub(crate) fn answer_notices_shared<
     alloc: Global,
     plan: &Plan,
     limits: &Limits,
-    imports: &Mutex<ImportDesk<C, R>>,
+    imports: &Mutex<ImportDesk<J, C, R>>,
     turn: &mut T,
     day: u32,
     early: &[u8],

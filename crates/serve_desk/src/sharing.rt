@@ -10,16 +10,16 @@ use crate::clerk::Clerk;
 use crate::live::live_answer;
 use crate::sessions::is_live;
 use road_io::TwoWay;
-use serve_board::BoardReader;
+use serve_board::{BoardNaming, NamedReader};
 use serve_requests::{Routes, SessionEnd, read_asked};
 use std::alloc::Global;
 
-/// Reads one request and answers it, or passes it on. It waits inside the clerk alone.
-pub fn session_shared<L: TwoWay, H: Clerk>(
+/// Reads one request and answers it, or passes it on, with the reader. It waits inside the clerk alone.
+pub fn session_shared<L: TwoWay, J: BoardNaming, H: Clerk<J>>(
     alloc: Global,
     routes: &Routes,
     link: &mut L,
-    reader: &mut BoardReader,
+    reader: &mut NamedReader<J>,
     clerk: &mut H,
 ) -> SessionEnd
     ensures shares { (bytes : List ℕ) → L.left link.old ≡ Some bytes
@@ -37,7 +37,7 @@ pub fn session_shared<L: TwoWay, H: Clerk>(
             if is_live(&asked) {
                 live_answer(alloc, reader, &asked, link)
             } else {
-                clerk.answer(alloc, asked, link)
+                clerk.answer(alloc, asked, link, reader)
             }
         }
     }

@@ -4,6 +4,7 @@ ghost use Rattle.road_io.specs.Faults.{Rose};
 ghost use Rattle.road_io.specs.Plans.{NeverFails};
 ghost use Rattle.road_io.specs.Rooms.{Endless};
 ghost use Rattle.road_time.specs.Fits.{IsLimits};
+ghost use Rattle.serve_board.specs.Passes.{StartsWith};
 ghost use Rattle.serve_requests.specs.ReadRequests.{IsAsked};
 ghost use Rattle.serve_requests.specs.declared.session_end.SessionEnd.TheVariants.{Answered, LinkFault};
 ghost use Rattle.serve_desk.specs.Answers.{TellsFault, wire_of};
@@ -31,6 +32,7 @@ use day_plan::Plan;
 use keep_office::Keeper;
 use road_io::{Link, TwoWay};
 use road_time::Limits;
+use serve_board::{BoardNaming, NamedReader};
 use serve_loops::Turn;
 use serve_requests::{Asked, SessionEnd};
 use std::alloc::Global;
@@ -40,13 +42,21 @@ use ways_crews::Crew;
 
 /// Takes the lock of the imports for a POST until its day is imported, and the lock of the keeper for one call at a
 /// time: so who asks for what is kept waits for no POST, and POSTs wait for one another's imports alone. The turn is
-/// given back once a day is imported.
+/// given back once a day is imported. A POST tells the reader of its session all that is published once its day is
+/// imported.
 #[derive(Drop)]
-pub struct TwoLocks<'a, J: Naming, K: Keeper, C: Crew, R: Wait + Threads + Drop, T: Turn> {
+pub struct TwoLocks<
+    'a,
+    J: Naming + BoardNaming,
+    K: Keeper,
+    C: Crew,
+    R: Wait + Threads + Drop,
+    T: Turn,
+> {
     pub rt: R,
     pub work: Work,
     pub keeper: &'a Mutex<Kept<J, K>>,
-    pub imports: &'a Mutex<ImportDesk<C, R>>,
+    pub imports: &'a Mutex<ImportDesk<J, C, R>>,
     pub turn: &'a mut T,
 }
 
@@ -77,20 +87,29 @@ fn finish_after<L: Link, T: Turn>(
     finish_import(alloc, imported, link)
 }
 
-/// Imports the day of a POST with the imports locked. Once they are not, and its turn is over, the rest of its body is
-/// read, and it is answered.
-fn import_shared<'a, L: Link, J: Naming, K: Keeper, C: Crew, R: Wait + Threads + Drop, T: Turn>(
+/// Imports the day of a POST with the imports locked, and tells the reader all that is published then. Once they are
+/// not, and its turn is over, the rest of its body is read, and it is answered.
+fn import_shared<
+    'a,
+    L: Link,
+    J: Naming + BoardNaming,
+    K: Keeper,
+    C: Crew,
+    R: Wait + Threads + Drop,
+    T: Turn,
+>(
     rt: &R,
     alloc: Global,
     plan: &Plan,
     limits: &Limits,
-    imports: &Mutex<ImportDesk<C, R>>,
+    imports: &Mutex<ImportDesk<J, C, R>>,
     turn: &mut T,
     day: u32,
     early: &[u8],
     count: u64,
     keeper: &mut SharedKeeper<'a, J, K, R>,
     link: &mut L,
+    reader: &mut NamedReader<J>,
 ) -> SessionEnd
     requires low { 70 ≤ day }
     requires high { day ≤ 1000000 }
@@ -100,19 +119,23 @@ fn import_shared<'a, L: Link, J: Naming, K: Keeper, C: Crew, R: Wait + Threads +
     ensures posts { AnswersPost count early.now
         (wire_of (L.left link.old) (L.plan link.old) (L.written link.old) (L.room link.old))
         (wire_of (L.left link.new) (L.plan link.new) (L.written link.new) (L.room link.new)) result }
-    ensures imports { ImportsShared K.told K.refuses C.exact limits.now day count early.now
+    ensures imports { ImportsShared K.told K.refuses C.exact limits.now day count early.now reader.old reader.new
         (wire_of (L.left link.old) (L.plan link.old) (L.written link.old) (L.room link.old))
         (wire_of (L.left link.new) (L.plan link.new) (L.written link.new) (L.room link.new)) result }
+    ensures reader { reader.new.board ≡ reader.old.board }
+    ensures had { StartsWith reader.new.seen reader.old.seen }
     ensures unavailable { result ≡ Answered 503 → Rose keeper.old.faults keeper.new.faults }
     ensures failed { keeper.old.faults < keeper.new.faults → TellsFault result }
     ensures sure { NeverFails (L.plan link.old) → L.room link.old ≡ Endless → result ≢ LinkFault }
     ensures cause { result ≡ LinkFault → Rose (L.faults link.old) (L.faults link.new) }
     ensures later { L.faults link.old ≤ L.faults link.new }
 {
-    let mut desk = imports.lock(rt);
+    let mut locked = imports.lock(rt);
     let mut held = keeper.hold();
+    let desk = &mut *locked;
     let imported = desk.import(alloc, plan, limits, day, early, count, &mut held, link);
-    drop(desk);
+    desk.teach(reader);
+    drop(locked);
     keeper.counts(held);
     turn.over();
     finish_after(alloc, imported, turn, link)
@@ -120,24 +143,36 @@ fn import_shared<'a, L: Link, J: Naming, K: Keeper, C: Crew, R: Wait + Threads +
 
 /// Answers a request of what is kept: of a day or an amount by the keeper alone, a POST with the imports
 /// locked until its day is imported.
-fn answer_shared<'a, L: TwoWay, J: Naming, K: Keeper, C: Crew, R: Wait + Threads + Drop, T: Turn>(
+#[tactic(auto, using(crate::proofs::LiveLaws::seen_itself))]
+fn answer_shared<
+    'a,
+    L: TwoWay,
+    J: Naming + BoardNaming,
+    K: Keeper,
+    C: Crew,
+    R: Wait + Threads + Drop,
+    T: Turn,
+>(
     rt: &R,
     alloc: Global,
     plan: &Plan,
     limits: &Limits,
-    imports: &Mutex<ImportDesk<C, R>>,
+    imports: &Mutex<ImportDesk<J, C, R>>,
     turn: &mut T,
     asked: &Asked,
     keeper: &mut SharedKeeper<'a, J, K, R>,
     link: &mut L,
+    reader: &mut NamedReader<J>,
 ) -> SessionEnd
     requires asked { IsAsked asked.now }
     requires kept { IsOfKept asked.now }
     requires width { (1 ≤ plan.now.width) × (plan.now.width ≤ 64) }
     requires within { IsLimits limits.now }
-    ensures shared { AnswersShared K.told K.faults K.refuses C.exact limits.now asked.now
+    ensures shared { AnswersShared K.told K.faults K.refuses C.exact limits.now asked.now reader.old reader.new
         (wire_of (L.left link.old) (L.plan link.old) (L.written link.old) (L.room link.old))
         (wire_of (L.left link.new) (L.plan link.new) (L.written link.new) (L.room link.new)) result }
+    ensures reader { reader.new.board ≡ reader.old.board }
+    ensures had { StartsWith reader.new.seen reader.old.seen }
     ensures unavailable { result ≡ Answered 503
         → Rose (⟦<SharedKeeper<'a, J, K, R> as Keeper>⟧.faults keeper.old)
         (⟦<SharedKeeper<'a, J, K, R> as Keeper>⟧.faults keeper.new) }
@@ -166,6 +201,7 @@ fn answer_shared<'a, L: TwoWay, J: Naming, K: Keeper, C: Crew, R: Wait + Threads
             *length,
             keeper,
             link,
+            reader,
         ),
         Asked::Answers { day, length, early } => answer_notices_shared(
             rt,
@@ -185,14 +221,20 @@ fn answer_shared<'a, L: TwoWay, J: Naming, K: Keeper, C: Crew, R: Wait + Threads
     }
 }
 
-impl<'a, J: Naming, K: Keeper, C: Crew, R: Wait + Threads + Drop, T: Turn> Clerk
+impl<'a, J: Naming + BoardNaming, K: Keeper, C: Crew, R: Wait + Threads + Drop, T: Turn> Clerk<J>
     for TwoLocks<'a, J, K, C, R, T> {
     ghost use Rattle.serve_desk.specs.Shared.{AnswersShared};
 
-    ghost answers = { λ clerk asked old new end.
-        AnswersShared K.told K.faults K.refuses C.exact clerk.work.limits asked old new end };
+    ghost answers = { λ clerk asked p q old new end.
+        AnswersShared K.told K.faults K.refuses C.exact clerk.work.limits asked p q old new end };
 
-    fn answer<L: TwoWay>(&mut self, alloc: Global, asked: Asked, link: &mut L) -> SessionEnd {
+    fn answer<L: TwoWay>(
+        &mut self,
+        alloc: Global,
+        asked: Asked,
+        link: &mut L,
+        reader: &mut NamedReader<J>,
+    ) -> SessionEnd {
         let mut keeper = SharedKeeper::new(&self.rt, self.keeper);
         answer_shared(
             &self.rt,
@@ -204,6 +246,7 @@ impl<'a, J: Naming, K: Keeper, C: Crew, R: Wait + Threads + Drop, T: Turn> Clerk
             &asked,
             &mut keeper,
             link,
+            reader,
         )
     }
 }

@@ -17,7 +17,7 @@ further : (xs ys zs : List Operation) → StartsWith ys xs → StartsWith zs ys 
 further xs ys zs (r, e) (s, f) = (r ++ s, f ∙ ap (λ l. l ++ s) e ∙ append_assoc xs r s)
 
 -- an acceptor that is served, and served on without a failure, is served
-pub serves_on : {N : Type 0} (faults : N → ℕ) (old mid new : Acceptor N) → AcceptorServes faults old mid →
+pub serves_on : {N : Type 0} (faults : N → ℕ) (old mid new : Acceptor N Pass) → AcceptorServes faults old mid →
     mid.failed ≡ false → AcceptorServes faults mid new → new.failed ≡ false → AcceptorServes faults old new
 serves_on faults old mid new before sound more fine =
     record {
@@ -29,7 +29,7 @@ serves_on faults old mid new before sound more fine =
     }
 
 -- an acceptor that did no turn
-pub no_turn : {N : Type 0} (accepted : N → ℕ) (turn : N → Pass → N → Pass → Type 0) (old new : Acceptor N) →
+pub no_turn : {N : Type 0} (accepted : N → ℕ) (turn : N → Pass → N → Pass → Type 0) (old new : Acceptor N Pass) →
     new.listener ≡ old.listener → new.reader ≡ old.reader → AcceptorTurned accepted turn old new
 no_turn accepted turn old new listener reader =
     let same = ap accepted listener in
@@ -42,7 +42,7 @@ no_turn accepted turn old new listener reader =
     }
 
 -- an acceptor that did one turn more
-pub one_turn : {N : Type 0} (accepted : N → ℕ) (turn : N → Pass → N → Pass → Type 0) (old mid new : Acceptor N) →
+pub one_turn : {N : Type 0} (accepted : N → ℕ) (turn : N → Pass → N → Pass → Type 0) (old mid new : Acceptor N Pass) →
     AcceptorTurned accepted turn old mid → mid.failed ≡ false →
     turn mid.listener mid.reader new.listener new.reader → accepted new.listener ≡ accepted mid.listener + 1 →
     AcceptorTurned accepted turn old new
@@ -61,7 +61,7 @@ one_turn accepted turn old mid new before fine turned more =
     }
 
 -- an acceptor that failed in place of a turn
-pub failed_turn : {N : Type 0} (accepted : N → ℕ) (turn : N → Pass → N → Pass → Type 0) (old mid new : Acceptor N) →
+pub failed_turn : {N : Type 0} (accepted : N → ℕ) (turn : N → Pass → N → Pass → Type 0) (old mid new : Acceptor N Pass) →
     AcceptorTurned accepted turn old mid → new.failed ≡ true → new.reader ≡ mid.reader →
     accepted new.listener ≡ accepted mid.listener → AcceptorTurned accepted turn old new
 failed_turn accepted turn old mid new before failed reader none =
@@ -74,7 +74,7 @@ failed_turn accepted turn old mid new before failed reader none =
     }
 
 -- an acceptor accepted at most as many connections as it drew tickets
-few : {N : Type 0} (faults accepted : N → ℕ) (turn : N → Pass → N → Pass → Type 0) (x y : Acceptor N) (d e : ℕ) →
+few : {N : Type 0} (faults accepted : N → ℕ) (turn : N → Pass → N → Pass → Type 0) (x y : Acceptor N Pass) (d e : ℕ) →
     AcceptorRan faults accepted turn x y d e → accepted y.listener ≤ d
 few faults accepted turn x y d e one =
     ⊎_elim (λ (yes : y.failed ≡ true). omega (arith, one.failed yes))
@@ -87,15 +87,15 @@ neither false true e = absurd (false≢true (sym e))
 neither false false e = (refl, refl)
 
 -- no acceptor failed, the last one neither
-apart : {N : Type 0} (ys : List (Acceptor N)) (y : Acceptor N) → list_any (λ acceptor. acceptor.failed) (ys ++ y ∷ []) ≡ false →
+apart : {N : Type 0} (ys : List (Acceptor N Pass)) (y : Acceptor N Pass) → list_any (λ acceptor. acceptor.failed) (ys ++ y ∷ []) ≡ false →
     (list_any (λ acceptor. acceptor.failed) ys ≡ false) × (y.failed ≡ false)
 apart ys y e =
     neither (list_any (λ acceptor. acceptor.failed) ys) y.failed
     (sym (list_any-append (λ acceptor. acceptor.failed) ys (y ∷ [])) ∙ e)
 
 -- one acceptor more ran
-ran_push : {N : Type 0} (faults accepted : N → ℕ) (turn : N → Pass → N → Pass → Type 0) (xs ys : List (Acceptor N))
-    (x y : Acceptor N) (a b d e : ℕ) →
+ran_push : {N : Type 0} (faults accepted : N → ℕ) (turn : N → Pass → N → Pass → Type 0) (xs ys : List (Acceptor N Pass))
+    (x y : Acceptor N Pass) (a b d e : ℕ) →
     RanAll faults accepted turn xs ys a b → AcceptorRan faults accepted turn x y d e →
     RanAll faults accepted turn (xs ++ x ∷ []) (ys ++ y ∷ []) (a + d) (b + e)
 ran_push faults accepted turn xs ys x y a b d e all one =
@@ -111,7 +111,7 @@ ran_push faults accepted turn xs ys x y a b d e all one =
 
 -- the same, of a list and sums that are known to be so
 pub ran_behind : {N : Type 0} (faults accepted : N → ℕ) (turn : N → Pass → N → Pass → Type 0)
-    (xs ys done : List (Acceptor N)) (x y : Acceptor N) (a b d e drawn ends : ℕ) →
+    (xs ys done : List (Acceptor N Pass)) (x y : Acceptor N Pass) (a b d e drawn ends : ℕ) →
     done ≡ ys ++ y ∷ [] → drawn ≡ a + d → ends ≡ b + e →
     RanAll faults accepted turn xs ys a b → AcceptorRan faults accepted turn x y d e →
     RanAll faults accepted turn (xs ++ x ∷ []) done drawn ends
@@ -119,7 +119,7 @@ ran_behind faults accepted turn xs ys done x y a b d e drawn ends p q r many one
     rw (p, q, r) (ran_push faults accepted turn xs ys x y a b d e many one)
 
 -- where an acceptor failed, the count of its listener rose
-pub any_rose : {N : Type 0} (faults : N → ℕ) (xs ys : List (Acceptor N)) → AllZip (AcceptorServes faults) xs ys →
+pub any_rose : {N : Type 0} (faults : N → ℕ) (xs ys : List (Acceptor N Pass)) → AllZip (AcceptorServes faults) xs ys →
     list_any (λ acceptor. acceptor.failed) ys ≡ true → AnyRose faults xs ys
 any_rose faults [] [] z e = absurd (false≢true e)
 any_rose faults [] (y ∷ ys) z e = absurd z

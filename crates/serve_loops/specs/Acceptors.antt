@@ -9,7 +9,7 @@ use Rattle.serve_loops.specs.declared.acceptor.Acceptor.{Acceptor}
 
 -- an acceptor served: its listener's faults rose where it failed, and stand where it did not; its reader is one of its board,
 -- and lost nothing that it saw
-pub record AcceptorServes {N : Type 0} (faults : N → ℕ) (old new : Acceptor N) : Type 0 where
+pub record AcceptorServes {N : Type 0} (faults : N → ℕ) (old new : Acceptor N Pass) : Type 0 where
   pub later : faults old.listener ≤ faults new.listener
   pub cause : new.failed ≡ true → Rose (faults old.listener) (faults new.listener)
   pub still : new.failed ≡ false → faults new.listener ≡ faults old.listener
@@ -33,7 +33,7 @@ TakesTurns {N} turn zero old p new q = (new ≡ old) × (q ≡ p)
 TakesTurns {N} turn (suc n) old p new q = (mid : N) × (r : Pass) × TakesTurns turn n old p mid r × turn mid r new q
 
 -- the turns of an acceptor: as many as its listener accepted connections; only a listener that failed is another behind them
-pub record AcceptorTurned {N : Type 0} (accepted : N → ℕ) (turn : N → Pass → N → Pass → Type 0) (old new : Acceptor N) :
+pub record AcceptorTurned {N : Type 0} (accepted : N → ℕ) (turn : N → Pass → N → Pass → Type 0) (old new : Acceptor N Pass) :
     Type 0 where
   pub count : ℕ
   pub last : N
@@ -42,20 +42,20 @@ pub record AcceptorTurned {N : Type 0} (accepted : N → ℕ) (turn : N → Pass
   pub over : new.failed ≡ false → new.listener ≡ last
 
 -- an acceptor failed
-abbrev pub HasFailedAcceptor : {N : Type 0} → List (Acceptor N) → Type 0
+abbrev pub HasFailedAcceptor : {N : Type 0} → List (Acceptor N Pass) → Type 0
 HasFailedAcceptor acceptors = Any (λ acceptor. acceptor.failed ≡ true) acceptors
 
 -- the count of an acceptor's listener rose
-abbrev pub AnyRose : {N : Type 0} → (N → ℕ) → List (Acceptor N) → List (Acceptor N) → Type 0
+abbrev pub AnyRose : {N : Type 0} → (N → ℕ) → List (Acceptor N Pass) → List (Acceptor N Pass) → Type 0
 AnyRose faults old new = Any (λ p. Rose (faults p.0.listener) (faults p.1.listener)) (zip old new)
 
 -- the connections that acceptors accepted in all
-abbrev pub accepted_in_all : {N : Type 0} → (N → ℕ) → List (Acceptor N) → ℕ
+abbrev pub accepted_in_all : {N : Type 0} → (N → ℕ) → List (Acceptor N Pass) → ℕ
 accepted_in_all accepted acceptors = sum_by (λ acceptor. accepted acceptor.listener) acceptors
 
 -- an acceptor ran: it drew as many tickets as its listener accepted connections, and one more where it failed; where it did
 -- not fail it found none left
-pub record AcceptorRan {N : Type 0} (faults accepted : N → ℕ) (turn : N → Pass → N → Pass → Type 0) (old new : Acceptor N)
+pub record AcceptorRan {N : Type 0} (faults accepted : N → ℕ) (turn : N → Pass → N → Pass → Type 0) (old new : Acceptor N Pass)
     (drawn ends : ℕ) : Type 0 where
   pub serves : AcceptorServes faults old new
   pub turned : AcceptorTurned accepted turn old new
@@ -65,7 +65,7 @@ pub record AcceptorRan {N : Type 0} (faults accepted : N → ℕ) (turn : N → 
 
 -- acceptors ran: so many tickets were drawn in all
 pub record RanAll {N : Type 0} (faults accepted : N → ℕ) (turn : N → Pass → N → Pass → Type 0)
-    (old new : List (Acceptor N)) (drawn ends : ℕ) : Type 0 where
+    (old new : List (Acceptor N Pass)) (drawn ends : ℕ) : Type 0 where
   pub serves : AllZip (AcceptorServes faults) old new
   pub turned : AllZip (AcceptorTurned accepted turn) old new
   pub within : accepted_in_all accepted new ≤ drawn

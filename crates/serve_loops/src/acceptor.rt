@@ -1,11 +1,9 @@
 // What one loop works with.
-use serve_board::BoardReader;
-
 /// What one loop works with: where its connections come from, the reader that answers of the live board, and whether
-/// its listener failed.
+/// its listener failed. `Q` is what the reader is.
 #[derive(Drop)]
-pub struct Acceptor<N> {
+pub struct Acceptor<N, Q> {
     pub listener: N,
-    pub reader: BoardReader,
+    pub reader: Q,
     pub failed: bool,
 }

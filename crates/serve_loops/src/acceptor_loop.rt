@@ -10,15 +10,16 @@ use crate::stub::Stub;
 use crate::tickets::{Draws, Tickets, draw};
 use crate::turn::Turn;
 use road_io::Failed;
+use serve_board::{BoardNaming, NamedReader};
 use std::alloc::Global;
 use std::sync::atomic::{AtomicBool, Ordering};
 use std::sync::ledger::Ledger;
 use std::sync::{Mutex, Wait};
 
-impl<N: Listener> Acceptor<N> {
+impl<N: Listener, J: BoardNaming> Acceptor<N, NamedReader<J>> {
     /// Accepts a connection, has it served, and gives it back, so that what was answered reaches the client. Its turn
     /// is over then at the latest. Where the listener fails the acceptor failed; so it does where all loops are to stop.
-    fn turn<H: Host>(&mut self, alloc: Global, host: &H, stop: &AtomicBool) -> bool
+    fn turn<H: Host<J>>(&mut self, alloc: Global, host: &H, stop: &AtomicBool) -> bool
         requires room { N.accepted self.old.listener < 2 ^ 64 - 1 }
         requires goes { self.old.failed ≡ false }
         ensures serves { AcceptorServes N.faults self.old self.new }
@@ -54,7 +55,7 @@ impl<N: Listener> Acceptor<N> {
 
     /// Turns, until no ticket is left, the listener fails or all loops are to stop.
     #[tactic(auto, using(crate::proofs::AcceptorLaws::no_turn, crate::proofs::AcceptorLaws::failed_turn))]
-    pub fn run<H: Host, D: Draws, E: Ledger, R: Wait>(
+    pub fn run<H: Host<J>, D: Draws, E: Ledger, R: Wait>(
         &mut self,
         rt: &R,
         alloc: Global,

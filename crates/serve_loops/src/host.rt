@@ -5,12 +5,13 @@ ghost use Rattle.serve_loops.specs.Wires.{wire_by};
 
 use crate::turn::Turn;
 use road_io::TwoWay;
-use serve_board::BoardReader;
+use serve_board::{BoardNaming, NamedReader};
 use std::alloc::Global;
 
-/// Whoever serves a connection that was accepted. Many loops share one host. `attends` is what it does: of the reader
-/// and of what the connection tells, before and after.
-pub trait Host {
+/// Whoever serves a connection that was accepted. Many loops share one host. Their readers are of the board of this name,
+/// so that it may tell them what is published there. `attends` is what it does: of the reader and of what the connection
+/// tells, before and after.
+pub trait Host<J: BoardNaming> {
     ghost use Rattle.serve_board.specs.Passes.{Pass};
     ghost use Rattle.serve_loops.specs.Wires.{Wire};
 
@@ -23,7 +24,7 @@ pub trait Host {
         alloc: Global,
         line: &mut L,
         turn: &mut T,
-        reader: &mut BoardReader,
+        reader: &mut NamedReader<J>,
     )
         ensures attends { attends self.now reader.old reader.new (wire_by L.left L.plan L.written L.room L.faults line.old)
             (wire_by L.left L.plan L.written L.room L.faults line.new) }

@@ -10,6 +10,7 @@ use crate::host::Host;
 use crate::listener::Listener;
 use crate::stub::Stub;
 use crate::tickets::{Draws, Tickets};
+use serve_board::{BoardNaming, NamedReader};
 use std::alloc::Global;
 use std::sync::atomic::{AtomicBool, Ordering};
 use std::sync::ledger::Ledger;
@@ -17,15 +18,15 @@ use std::sync::{Mutex, Wait};
 use std::thread::{Threads, join};
 
 /// Runs the loop of an acceptor that accepted nothing, with a stub of nothing.
-fn run_acceptor<N: Listener, H: Host, D: Draws, E: Ledger, R: Wait>(
+fn run_acceptor<N: Listener, J: BoardNaming, H: Host<J>, D: Draws, E: Ledger, R: Wait>(
     rt: &R,
     alloc: Global,
     host: &H,
     stop: &AtomicBool,
     tickets: &Mutex<Tickets<D, E>>,
-    acceptor: Acceptor<N>,
+    acceptor: Acceptor<N, NamedReader<J>>,
     stub: Stub<D, E>,
-) -> (Acceptor<N>, Stub<D, E>)
+) -> (Acceptor<N, NamedReader<J>>, Stub<D, E>)
     requires drawn { stub.drawn.parts ≡ 1 }
     requires ends { stub.ends.parts ≡ 1 }
     requires unused { stub.drawn.amount ≡ 0 }
@@ -44,12 +45,12 @@ fn run_acceptor<N: Listener, H: Host, D: Draws, E: Ledger, R: Wait>(
 }
 
 /// Puts an acceptor and its stub behind those that ran.
-fn put_behind<N: Listener, D: Ledger, E: Ledger>(
-    acceptors: Vec<Acceptor<N>>,
+fn put_behind<N: Listener, Q, D: Ledger, E: Ledger>(
+    acceptors: Vec<Acceptor<N, Q>>,
     stub: Stub<D, E>,
-    last: Acceptor<N>,
+    last: Acceptor<N, Q>,
     own: Stub<D, E>,
-) -> (Vec<Acceptor<N>>, Stub<D, E>)
+) -> (Vec<Acceptor<N, Q>>, Stub<D, E>)
     requires room { vec_len acceptors < vec_capacity acceptors }
     ensures acceptors { result.0.items ≡ acceptors.items ++ last ∷ [] }
     ensures room { vec_capacity acceptors ≤ vec_capacity result.0 }
@@ -72,7 +73,8 @@ fn put_behind<N: Listener, D: Ledger, E: Ledger>(
 #[cycle(acceptors)]
 fn run_beside<
     N: Listener + Drop + Send,
-    H: Host + Sync,
+    J: BoardNaming + Send + Sync,
+    H: Host<J> + Sync,
     D: Draws + Send + Sync,
     E: Ledger + Send + Sync,
     R: Threads + Wait + Sync,
@@ -82,11 +84,11 @@ fn run_beside<
     host: &H,
     stop: &AtomicBool,
     tickets: &Mutex<Tickets<D, E>>,
-    acceptors: Vec<Acceptor<N>>,
+    acceptors: Vec<Acceptor<N, NamedReader<J>>>,
     stub: Stub<D, E>,
-    last: Acceptor<N>,
+    last: Acceptor<N, NamedReader<J>>,
     own: Stub<D, E>,
-) -> (Vec<Acceptor<N>>, Stub<D, E>)
+) -> (Vec<Acceptor<N, NamedReader<J>>>, Stub<D, E>)
     requires own { (own.drawn.parts ≡ 1) × (own.ends.parts ≡ 1) × (own.drawn.amount ≡ 0) }
     requires last { N.accepted last.listener ≡ 0 }
     requires drawn { stub.drawn.parts ≡ vec_len acceptors }
@@ -108,7 +110,7 @@ fn run_beside<
     let begun = &begun;
     let ((last, own), (acceptors, stub)) = join(
         rt,
-        move || -> (Acceptor<N>, Stub<D, E>)
+        move || -> (Acceptor<N, NamedReader<J>>, Stub<D, E>)
             requires { (own.drawn.parts ≡ 1) × (own.ends.parts ≡ 1) × (own.drawn.amount ≡ 0)
                 × (N.accepted last.listener ≡ 0) }
             ensures ran { AcceptorRan N.faults N.accepted
@@ -120,8 +122,8 @@ fn run_beside<
             begun.store(true, Ordering::SeqCst);
             run_acceptor(rt, alloc, host, stop, tickets, last, own)
         },
-        move || -> (Vec<Acceptor<N>>, Stub<D, E>)
-            requires bounds { IsSync R.row × IsSync H.row × IsSend N.row × IsSend N.Line.row
+        move || -> (Vec<Acceptor<N, NamedReader<J>>>, Stub<D, E>)
+            requires bounds { IsSync R.row × IsSync H.row × IsSend J.row × IsSync J.row × IsSend N.row × IsSend N.Line.row
                 × IsSend N.Line.Out.row × IsSend N.Pass.row × IsSend D.row × IsSend E.row × IsSync D.row × IsSync E.row }
             requires drawn { stub.drawn.parts ≡ vec_len acceptors }
             requires ends { stub.ends.parts ≡ vec_len acceptors }
@@ -148,7 +150,8 @@ fn run_beside<
 #[cycle(acceptors)]
 pub fn run_all<
     N: Listener + Drop + Send,
-    H: Host + Sync,
+    J: BoardNaming + Send + Sync,
+    H: Host<J> + Sync,
     D: Draws + Send + Sync,
     E: Ledger + Send + Sync,
     R: Threads + Wait + Sync,
@@ -158,9 +161,9 @@ pub fn run_all<
     host: &H,
     stop: &AtomicBool,
     tickets: &Mutex<Tickets<D, E>>,
-    acceptors: Vec<Acceptor<N>>,
+    acceptors: Vec<Acceptor<N, NamedReader<J>>>,
     stub: Stub<D, E>,
-) -> (Vec<Acceptor<N>>, Stub<D, E>)
+) -> (Vec<Acceptor<N, NamedReader<J>>>, Stub<D, E>)
     requires drawn { stub.drawn.parts ≡ vec_len acceptors }
     requires ends { stub.ends.parts ≡ vec_len acceptors }
     requires unused { (stub.drawn.amount ≡ 0) × (stub.ends.amount ≡ 0) }

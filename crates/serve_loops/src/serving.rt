@@ -13,6 +13,7 @@ use crate::running::run_all;
 use crate::serve_end::ServeEnd;
 use crate::stub::Stub;
 use crate::tickets::{Draws, Tickets};
+use serve_board::{BoardNaming, NamedReader};
 use std::alloc::Global;
 use std::marker::Brand;
 use std::sync::atomic::AtomicBool;
@@ -23,19 +24,20 @@ use std::thread::Threads;
 /// Runs the loops of acceptors over so many tickets, by two new ledgers.
 fn run_over<
     N: Listener + Drop + Send,
-    H: Host + Sync,
+    J: BoardNaming + Send + Sync,
+    H: Host<J> + Sync,
     D: Draws + Send + Sync,
     E: Ledger + Send + Sync,
     R: Threads + Wait + Sync,
 >(
     rt: &R,
     alloc: Global,
-    acceptors: Vec<Acceptor<N>>,
+    acceptors: Vec<Acceptor<N, NamedReader<J>>>,
     host: &H,
     sessions: u64,
     drawn: Blank,
     ends: Blank,
-) -> Vec<Acceptor<N>>
+) -> Vec<Acceptor<N, NamedReader<J>>>
     requires drawn_name { drawn.name ≡ D.name }
     requires ends_name { ends.name ≡ E.name }
     requires drawn_parts { (drawn.parts ≡ D.parts) × (D.parts ≡ vec_len acceptors) }
@@ -70,7 +72,7 @@ fn run_over<
 }
 
 /// Whether an acceptor failed.
-fn has_failed<N>(acceptors: &[Acceptor<N>]) -> bool
+fn has_failed<N, Q>(acceptors: &[Acceptor<N, Q>]) -> bool
     ensures { result ≡ list_any (λ acceptor. acceptor.failed) acceptors.now }
 {
     acceptors.iter().any(|acceptor| acceptor.failed)
@@ -79,10 +81,15 @@ fn has_failed<N>(acceptors: &[Acceptor<N>]) -> bool
 /// Serves `sessions` connections over 1 to 64 acceptors, whose listeners have accepted none: a loop for each acceptor, in a
 /// thread of its own, with the host on each connection. A loop ends where no connection is left to accept, or where its
 /// listener fails. Where a thread cannot be had all listeners give up. It waits.
-pub fn serve<N: Listener + Drop + Send, H: Host + Sync, R: Threads + Wait + Sync>(
+pub fn serve<
+    N: Listener + Drop + Send,
+    J: BoardNaming + Send + Sync,
+    H: Host<J> + Sync,
+    R: Threads + Wait + Sync,
+>(
     rt: &R,
     alloc: Global,
-    acceptors: &mut Acceptors<N>,
+    acceptors: &mut Acceptors<N, NamedReader<J>>,
     host: &H,
     sessions: u64,
 ) -> ServeEnd
@@ -100,7 +107,7 @@ pub fn serve<N: Listener + Drop + Send, H: Host + Sync, R: Threads + Wait + Sync
 {
     let all = acceptors.take(alloc);
     let parts = all.len() as u64;
-    let done = run_over::<N, H, Brand, Brand, R>(
+    let done = run_over::<N, J, H, Brand, Brand, R>(
         rt,
         alloc,
         all,

@@ -5,6 +5,7 @@ pub mod OriginLaws
 pub mod FrontLaws
 pub mod HeadLaws
 pub mod RouteLaws
+pub mod RouteMoves
 pub mod PlaceLaws
 pub mod AsciiLaws
 pub mod ReplyLaws

@@ -14,7 +14,7 @@ use Rattle.serve_top.specs.declared.served_words.Serving.{Serving}
 use Rattle.serve_top.specs.Served.{EarServed, ServedAsSaid}
 
 -- acceptors of ears that accepted nothing have accepted nothing
-pub fresh_in : {N : Type 0} (f h : N → ℕ) (acceptors : List (Acceptor N)) →
+pub fresh_in : {N : Type 0} (f h : N → ℕ) (acceptors : List (Acceptor N Pass)) →
     All (λ ear. (f ear ≡ 0) × (h ear ≡ 0)) (map (λ acceptor. acceptor.listener) acceptors) → All (λ acceptor. f acceptor.listener ≡ 0) acceptors
 fresh_in f h [] all k d below = absurd (omega arith)
 fresh_in f h (acceptor ∷ acceptors) all zero d below = (all 0 d.listener (omega arith)).0
@@ -30,7 +30,7 @@ or_true true = refl
 or_true false = refl
 
 -- where the count of an acceptor's listener rose, an ear failed
-pub rose_fails : {N : Type 0} (f : N → ℕ) (old new : List (Acceptor N)) → AnyRose f old new →
+pub rose_fails : {N : Type 0} (f : N → ℕ) (old new : List (Acceptor N Pass)) → AnyRose f old new →
     has_fault f (map (λ acceptor. acceptor.listener) new) ≡ true
 rose_fails f [] new (k, p, below, at, rose) = absurd (omega (arith, below))
 rose_fails f (o ∷ old) [] (k, p, below, at, rose) = absurd (omega (arith, below))
@@ -42,7 +42,7 @@ rose_fails f (o ∷ old) (n ∷ new) (suc k, p, below, at, rose) =
     rw (rose_fails f old new (k, p, omega (arith, below), at, rose)) (or_true (nat_lt 0 (f n.listener)))
 
 -- where no acceptor failed of ears that had not failed, no ear has
-pub none_fails : {N : Type 0} (f h : N → ℕ) (old new : List (Acceptor N)) →
+pub none_fails : {N : Type 0} (f h : N → ℕ) (old new : List (Acceptor N Pass)) →
     All (λ ear. (f ear ≡ 0) × (h ear ≡ 0)) (map (λ acceptor. acceptor.listener) old) → AllZip (AcceptorServes h) old new →
     (HasFailedAcceptor new → ⊥) → has_fault h (map (λ acceptor. acceptor.listener) new) ≡ false
 none_fails f h [] [] all served none = refl
@@ -63,7 +63,7 @@ none_fails f h (x ∷ xs) (y ∷ ys) all (one, more) none =
     there (k, p, below, at, failed) = none (suc k, p, omega (arith, below), at, failed)
 
 -- what an acceptor served its ear served
-ear_served : {N : Type 0} (faults accepted : N → ℕ) (turn : N → Pass → N → Pass → Type 0) (x y : Acceptor N) →
+ear_served : {N : Type 0} (faults accepted : N → ℕ) (turn : N → Pass → N → Pass → Type 0) (x y : Acceptor N Pass) →
     AcceptorServes faults x y → AcceptorTurned accepted turn x y → EarServed faults accepted turn x.listener y.listener
 ear_served faults accepted turn x y serves turned =
     record {
@@ -79,7 +79,7 @@ ear_served faults accepted turn x y serves turned =
 
 -- and so all of them
 pub ears_served : {N : Type 0} (faults accepted : N → ℕ) (turn : N → Pass → N → Pass → Type 0)
-    (xs ys : List (Acceptor N)) → AllZip (AcceptorServes faults) xs ys → AllZip (AcceptorTurned accepted turn) xs ys →
+    (xs ys : List (Acceptor N Pass)) → AllZip (AcceptorServes faults) xs ys → AllZip (AcceptorTurned accepted turn) xs ys →
     AllZip (EarServed faults accepted turn) (map (λ acceptor. acceptor.listener) xs) (map (λ acceptor. acceptor.listener) ys)
 ears_served faults accepted turn [] [] a b = tt
 ears_served faults accepted turn [] (y ∷ ys) a b = absurd a

@@ -1,3 +1,4 @@
 pub mod EarLaws
 pub mod Law
 pub mod Meant
+pub mod CrewMoves

@@ -18,8 +18,9 @@ abbrev pub desk_wire : Wire → DeskWire
 desk_wire w = wire_of w.left w.plan w.written w.room
 
 -- one session over the connection, whose bytes are these where it tells them: a request is read and refused; or it is
--- of the live board, and answered by the reader; or it is answered of the keeper that the desk shares; where it ends as
--- one whose link failed, the count of the connection rose
+-- of the live board, and answered by the reader; or it is answered of the keeper that the desk shares, and where it is a
+-- POST the reader knows then all that is published; where it ends as one whose link failed, the count of the connection
+-- rose
 abbrev pub Attends : {K : Type 0} → (K → Option Office) → (K → ℕ) → WhenRefused → Bool → Limits → Pass → Pass → Wire →
     Wire → Type 0
 Attends told faults w exact limits p q old new =

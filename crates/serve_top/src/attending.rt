@@ -9,7 +9,7 @@ use day_plan::Plan;
 use keep_office::Keeper;
 use road_io::TwoWay;
 use road_time::Limits;
-use serve_board::BoardReader;
+use serve_board::{BoardNaming, NamedReader};
 use serve_desk::{ImportDesk, Kept, Naming, Routes, TwoLocks, Work, session_shared};
 use serve_loops::Turn;
 use std::alloc::Global;
@@ -20,17 +20,24 @@ use ways_crews::Crew;
 /// Runs a session on a connection, by routes that are kept. A POST has the imports' lock until its day is imported,
 /// and then its turn is over. For each call of the keeper a request of what is kept takes the keeper's lock. No other
 /// takes a lock.
-pub fn attend<L: TwoWay, J: Naming, K: Keeper, C: Crew, R: Wait + Threads + Drop, T: Turn>(
+pub fn attend<
+    L: TwoWay,
+    J: Naming + BoardNaming,
+    K: Keeper,
+    C: Crew,
+    R: Wait + Threads + Drop,
+    T: Turn,
+>(
     rt: R,
     alloc: Global,
     plan: Plan,
     limits: Limits,
     routes: &Routes,
     keeper: &Mutex<Kept<J, K>>,
-    imports: &Mutex<ImportDesk<C, R>>,
+    imports: &Mutex<ImportDesk<J, C, R>>,
     line: &mut L,
     turn: &mut T,
-    reader: &mut BoardReader,
+    reader: &mut NamedReader<J>,
 )
     requires some { 1 ≤ plan.width }
     requires few { plan.width ≤ 64 }

@@ -4,21 +4,21 @@ ghost use Rattle.road_time.specs.Fits.{IsLimits};
 
 use day_plan::Plan;
 use road_time::Limits;
-use serve_board::BoardWriter;
+use serve_board::BoardNaming;
 use serve_desk::Routes;
 use serve_loops::Host;
-use std::sync::Wait;
 
 /// A crew whose desk loops in many threads may share. `out` are the numbers of the tickets whose jobs are out; `works`
-/// is by which plan a desk works a day, and `bounds` within which limits.
+/// is by which plan a desk works a day, and `bounds` within which limits. Its readers are of the board of this name, and
+/// `W` is the writer of that board, `NamedWriter`: as a parameter it is one of which the trait asks nothing.
 /// Each such crew has a shared desk of its own, since a desk of some crew could not be shared: of a crew that is not
 /// known, it is known in its own thread alone that its tickets may be let go.
-pub trait DeskCrew<K, R: Wait + Drop> {
+pub trait DeskCrew<K, W, J: BoardNaming, R> {
     ghost use Rattle.std.specs.Prelude.{ℕ, List};
     ghost use Rattle.road_time.specs.declared.day.Limits.{Limits};
     ghost use Rattle.day_plan.specs.declared.work.Plan.{Plan};
 
-    type Shared: Host + Send + Sync;
+    type Shared: Host<J> + Send + Sync;
 
     ghost out: { Self → List ℕ };
 
@@ -32,7 +32,7 @@ pub trait DeskCrew<K, R: Wait + Drop> {
         self,
         rt: R,
         keeper: K,
-        writer: BoardWriter<R>,
+        writer: W,
         plan: Plan,
         limits: Limits,
         routes: Routes,

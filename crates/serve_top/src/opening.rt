@@ -17,7 +17,7 @@ use crate::seats::{rise, seat};
 use crate::served_words::Serving;
 use day_plan::Plan;
 use road_time::Limits;
-use serve_board::{Board, board};
+use serve_board::{BoardNaming, NamedBoard, NamedHistory, NamedReader, NamedWriter, named_board};
 use serve_desk::Routes;
 use serve_loops::{Acceptor, Listener, ServeEnd, serve};
 use std::alloc::Global;
@@ -35,7 +35,8 @@ const PLAN: Plan = Plan {
 fn serve_over<
     N: Listener + Send + Drop,
     K,
-    C: DeskCrew<K, R> + Drop,
+    J: BoardNaming + Send + Sync,
+    C: DeskCrew<K, NamedWriter<J, R>, J, R> + Drop,
     R: Wait + Threads + Drop + Copy + Send + Sync,
 >(
     rt: R,
@@ -43,8 +44,8 @@ fn serve_over<
     sessions: u64,
     limits: &Limits,
     ears: Ears<N>,
-    board: Board<R>,
-    acceptors: Vec<Acceptor<N>>,
+    board: NamedBoard<J, R>,
+    acceptors: Vec<Acceptor<N, NamedReader<J>>>,
     room: Vec<N>,
     routes: Routes,
     keeper: K,
@@ -71,8 +72,8 @@ fn serve_over<
     ensures fault { result.0 ≡ ListenFault → has_fault N.faults result.1 ≡ true }
     ensures sound { result.0 ≡ Served → has_fault N.faults result.1 ≡ false }
 {
-    let Board { writer, readers } = board;
-    let mut acceptors = seat(acceptors, ears, readers);
+    let NamedBoard { writer, readers } = board;
+    let mut acceptors = seat(acceptors, ears, readers.into_vec());
     let desk = crew.share(rt, keeper, writer, PLAN, *limits, routes);
     let end = serve(&rt, alloc, &mut acceptors, &desk, sessions);
     let keeper = C::end(desk);
@@ -83,7 +84,8 @@ fn serve_over<
 fn serve_behind<
     D: Door,
     K,
-    C: DeskCrew<K, R> + Drop,
+    J: BoardNaming + Send + Sync,
+    C: DeskCrew<K, NamedWriter<J, R>, J, R> + Drop,
     R: Wait + Threads + Drop + Copy + Send + Sync,
 >(
     rt: R,
@@ -92,8 +94,8 @@ fn serve_behind<
     count: u8,
     limits: &Limits,
     door: &mut D,
-    board: Board<R>,
-    acceptors: Vec<Acceptor<D::Ear>>,
+    board: NamedBoard<J, R>,
+    acceptors: Vec<Acceptor<D::Ear, NamedReader<J>>>,
     room: Vec<D::Ear>,
     routes: Routes,
     keeper: K,
@@ -147,12 +149,13 @@ fn serve_behind<
     }
 }
 
-/// Serves as told, over as many acceptors as the door has for the readers: makes the board, room for the acceptors and the
-/// desk's routes, and then serves behind the door.
+/// Serves as told, over as many acceptors as the door has for the readers: makes the board of this history, room for the
+/// acceptors and the desk's routes, and then serves behind the door.
 pub fn serve_as<
     D: Door,
     K,
-    C: DeskCrew<K, R> + Drop,
+    J: BoardNaming + Send + Sync,
+    C: DeskCrew<K, NamedWriter<J, R>, J, R> + Drop,
     R: Wait + Threads + Drop + Copy + Send + Sync,
 >(
     rt: R,
@@ -160,6 +163,7 @@ pub fn serve_as<
     serving: &Serving,
     limits: &Limits,
     door: &mut D,
+    history: NamedHistory<J>,
     keeper: K,
     crew: C,
 ) -> (ServerEnd, K)
@@ -188,7 +192,7 @@ pub fn serve_as<
     let Ok(routes) = Routes::new(alloc) else {
         return (ServerEnd::NoMemory, keeper);
     };
-    let Ok(board) = board(rt, alloc, count) else {
+    let Ok(board) = named_board(rt, alloc, history, count) else {
         return (ServerEnd::NoMemory, keeper);
     };
     serve_behind(

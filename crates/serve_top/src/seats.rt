@@ -2,19 +2,22 @@
 ghost use Rattle.std.specs.Prelude.{◌≡◌, ◌≤◌, [], map, length, vec_len, vec_capacity};
 
 use crate::ears::Ears;
-use serve_board::Readers;
 use serve_loops::{Acceptor, Acceptors};
 
 /// An acceptor for each ear, with a reader of its own, in their order. There is to be room for them.
-pub fn seat<N: Drop>(room: Vec<Acceptor<N>>, ears: Ears<N>, readers: Readers) -> Acceptors<N>
+pub fn seat<N: Drop, Q: Drop>(
+    room: Vec<Acceptor<N, Q>>,
+    ears: Ears<N>,
+    readers: Vec<Q>,
+) -> Acceptors<N, Q>
     requires empty { room.items ≡ [] }
     requires none { vec_len room ≡ 0 }
     requires room { length ears ≤ vec_capacity room }
-    requires readers { length readers ≡ length ears }
+    requires readers { vec_len readers ≡ length ears }
     ensures { map (λ acceptor. acceptor.listener) result ≡ ears }
 {
     let mut acceptors = room;
-    let mut readers = readers.into_vec();
+    let mut readers = readers;
     for listener in ears.into_vec() {
         let Some(reader) = readers.pop() else {
             unreachable!()
@@ -29,7 +32,7 @@ pub fn seat<N: Drop>(room: Vec<Acceptor<N>>, ears: Ears<N>, readers: Readers) ->
 }
 
 /// The ears of acceptors, in their order. There is to be room for them.
-pub fn rise<N: Drop>(room: Vec<N>, acceptors: Acceptors<N>) -> Ears<N>
+pub fn rise<N: Drop, Q: Drop>(room: Vec<N>, acceptors: Acceptors<N, Q>) -> Ears<N>
     requires empty { room.items ≡ [] }
     requires none { vec_len room ≡ 0 }
     requires room { length acceptors ≤ vec_capacity room }

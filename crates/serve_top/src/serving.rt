@@ -15,18 +15,21 @@ use crate::opening::serve_as;
 use crate::words::read_words;
 use office_words::WordFault;
 use road_time::Limits;
+use serve_board::{BoardNaming, NamedHistory, NamedWriter};
 use std::alloc::Global;
 use std::sync::Wait;
 use std::thread::Threads;
 
 /// Serves the desk by the words after the program's name, and gives the exit status, and the keeper back, which the
-/// caller is to close. The door has accepted nothing before. 0 comes only where the door has accepted as many
-/// connections as the words' sessions, 1 exactly where the words are of no stated form, 2 exactly where an opening was
-/// refused, 4 exactly where a listener failed, 8 for want of memory, and only where none of these did. It waits.
+/// caller is to close. The live board is made of the history. The door has accepted nothing before. 0 comes only where
+/// the door has accepted as many connections as the words' sessions, 1 exactly where the words are of no stated form, 2
+/// exactly where an opening was refused, 4 exactly where a listener failed, 8 for want of memory, and only where none of
+/// these did. It waits.
 pub fn serve_words<
     D: Door,
     K,
-    C: DeskCrew<K, R> + Drop,
+    J: BoardNaming + Send + Sync,
+    C: DeskCrew<K, NamedWriter<J, R>, J, R> + Drop,
     R: Wait + Threads + Drop + Copy + Send + Sync,
 >(
     rt: R,
@@ -34,6 +37,7 @@ pub fn serve_words<
     words: &[String],
     limits: &Limits,
     door: &mut D,
+    history: NamedHistory<J>,
     keeper: K,
     crew: C,
 ) -> (u8, K)
@@ -59,10 +63,11 @@ pub fn serve_words<
     ensures refused_still { result.0 ≢ 2 → D.refused door.new ≡ D.refused door.old }
     ensures faults_still { result.0 ≢ 4 → D.faults door.new ≡ D.faults door.old }
 {
-    let (end, keeper) = match read_words(alloc, words) {
-        Ok(serving) => serve_as(rt, alloc, &serving, limits, door, keeper, crew),
-        Err(WordFault::Words) => (ServerEnd::Words, keeper),
-        Err(WordFault::NoMemory) => (ServerEnd::NoMemory, keeper),
+    let serving = match read_words(alloc, words) {
+        Ok(serving) => serving,
+        Err(WordFault::Words) => return (ServerEnd::Words.status(), keeper),
+        Err(WordFault::NoMemory) => return (ServerEnd::NoMemory.status(), keeper),
     };
+    let (end, keeper) = serve_as(rt, alloc, &serving, limits, door, history, keeper, crew);
     (end.status(), keeper)
 }

@@ -7,7 +7,7 @@ use day_plan::Plan;
 use keep_office::Keeper;
 use road_io::TwoWay;
 use road_time::Limits;
-use serve_board::BoardReader;
+use serve_board::{BoardNaming, NamedReader};
 use serve_desk::{ImportDesk, Kept, Naming, Routes};
 use serve_loops::{Host, Turn};
 use std::alloc::Global;
@@ -17,21 +17,28 @@ use ways_crews::Crew;
 
 /// A desk that loops in many threads share. It runs a session on each connection. Its keeper has a lock of its own,
 /// which is taken for one call at a time; a POST takes that of the imports too, until its day is imported. Beside the
-/// locks lie the routes, by which all sessions go, and by which plan and within which limits a day is worked.
-/// `S` is the type of the routes, and is always `Routes`: as a parameter it is shown to cross threads by itself.
-pub struct SharedDesk<J: Naming, K: Keeper, C: Crew, R: Wait + Threads + Drop + Copy, S> {
+/// locks lie the routes, by which all sessions go, and by which plan and within which limits a day is worked. Its
+/// readers are of the board of its writer. `S` is the type of the routes, and is always `Routes`: as a parameter it is
+/// shown to cross threads by itself.
+pub struct SharedDesk<
+    J: Naming + BoardNaming,
+    K: Keeper,
+    C: Crew,
+    R: Wait + Threads + Drop + Copy,
+    S,
+> {
     rt: R,
     pub(crate) plan: Plan,
     pub(crate) limits: Limits,
     routes: S,
     keeper: Mutex<Kept<J, K>>,
-    imports: Mutex<ImportDesk<C, R>>,
+    imports: Mutex<ImportDesk<J, C, R>>,
     ghost some: { 1 ≤ plan.width },
     ghost few: { plan.width ≤ 64 },
     ghost within: { IsLimits limits },
 }
 
-impl<J: Naming, K: Keeper, C: Crew, R: Wait + Threads + Drop + Copy> SharedDesk<
+impl<J: Naming + BoardNaming, K: Keeper, C: Crew, R: Wait + Threads + Drop + Copy> SharedDesk<
     J,
     K,
     C,
@@ -46,7 +53,7 @@ impl<J: Naming, K: Keeper, C: Crew, R: Wait + Threads + Drop + Copy> SharedDesk<
         limits: Limits,
         routes: Routes,
         keeper: Kept<J, K>,
-        imports: ImportDesk<C, R>,
+        imports: ImportDesk<J, C, R>,
     ) -> Self
         requires some { 1 ≤ plan.width }
         requires few { plan.width ≤ 64 }
@@ -65,7 +72,7 @@ impl<J: Naming, K: Keeper, C: Crew, R: Wait + Threads + Drop + Copy> SharedDesk<
     }
 
     /// Takes the keeper and the part that imports out of their locks.
-    pub(crate) fn into_parts(self) -> (Kept<J, K>, ImportDesk<C, R>) {
+    pub(crate) fn into_parts(self) -> (Kept<J, K>, ImportDesk<J, C, R>) {
         let SharedDesk {
             rt: _,
             plan: _,
@@ -78,7 +85,7 @@ impl<J: Naming, K: Keeper, C: Crew, R: Wait + Threads + Drop + Copy> SharedDesk<
     }
 }
 
-impl<J: Naming, K: Keeper, C: Crew, R: Wait + Threads + Drop + Copy> Host
+impl<J: Naming + BoardNaming, K: Keeper, C: Crew, R: Wait + Threads + Drop + Copy> Host<J>
     for SharedDesk<J, K, C, R, Routes> {
     ghost use Rattle.serve_top.specs.Attends.{Attends};
 
@@ -90,7 +97,7 @@ impl<J: Naming, K: Keeper, C: Crew, R: Wait + Threads + Drop + Copy> Host
         alloc: Global,
         line: &mut L,
         turn: &mut T,
-        reader: &mut BoardReader,
+        reader: &mut NamedReader<J>,
     ) {
         attend(
             self.rt,

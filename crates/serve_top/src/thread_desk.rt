@@ -7,17 +7,17 @@ use crate::shared_desk::SharedDesk;
 use day_plan::Plan;
 use keep_office::Keeper;
 use road_time::Limits;
-use serve_board::BoardWriter;
+use serve_board::{BoardNaming, NamedWriter};
 use serve_desk::{ImportDesk, Kept, Naming, Routes};
 use std::sync::Wait;
 use std::thread::Threads;
 use ways_crews::{Crew, NoGate, ThreadCrew, ThreadTicket};
 
 impl<
-    J: Naming + Send + Sync,
+    J: Naming + BoardNaming + Send + Sync,
     K: Keeper + Send,
     R: Wait + Threads + Drop + Copy + Send + Sync,
-> DeskCrew<Kept<J, K>, R> for ThreadCrew<R, NoGate>
+> DeskCrew<Kept<J, K>, NamedWriter<J, R>, J, R> for ThreadCrew<R, NoGate>
 where
     ThreadCrew<R, NoGate>: Crew<Ticket = ThreadTicket, Name = ()>,
 {
@@ -33,7 +33,7 @@ where
         self,
         rt: R,
         keeper: Kept<J, K>,
-        writer: BoardWriter<R>,
+        writer: NamedWriter<J, R>,
         plan: Plan,
         limits: Limits,
         routes: Routes,
@@ -45,11 +45,7 @@ where
         ensures works { result.plan ≡ plan }
         ensures bounds { result.limits ≡ limits }
     {
-        let imports = ImportDesk {
-            rt,
-            crew: self,
-            writer,
-        };
+        let imports = ImportDesk::new(rt, self, writer);
         SharedDesk::new(rt, plan, limits, routes, keeper, imports)
     }
 

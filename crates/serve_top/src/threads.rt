@@ -13,6 +13,7 @@ use crate::door::Door;
 use crate::serving::serve_words;
 use keep_office::Keeper;
 use road_time::Limits;
+use serve_board::{BoardHistory, BoardNaming};
 use serve_desk::{Naming, Opened};
 use std::alloc::Global;
 use std::marker::Brand;
@@ -20,10 +21,10 @@ use std::sync::Wait;
 use std::thread::Threads;
 use ways_crews::{Crew, NoGate, ThreadCrew};
 
-/// The same over a keeper whose history was opened, under its name.
+/// The same over a keeper and a board whose histories were opened, under their names.
 fn serve_named<
     D: Door,
-    J: Naming + Send + Sync,
+    J: Naming + BoardNaming + Send + Sync,
     K: Keeper + Send,
     R: Wait + Threads + Drop + Copy + Send + Sync,
 >(
@@ -32,8 +33,10 @@ fn serve_named<
     words: &[String],
     limits: &Limits,
     door: &mut D,
+    history: BoardHistory,
     opened: Opened<K>,
 ) -> (u8, K)
+    requires named { history ≡ J.board }
     requires within { IsLimits limits.now }
     requires unused { D.accepted door.old ≡ 0 }
     requires book { opened.seen.book ≡ J.book }
@@ -59,7 +62,16 @@ fn serve_named<
 {
     let crew = ThreadCrew::new(rt, alloc, NoGate);
     let kept = opened.named::<J>();
-    let (status, kept) = serve_words(rt, alloc, words, limits, door, kept, crew);
+    let (status, kept) = serve_words(
+        rt,
+        alloc,
+        words,
+        limits,
+        door,
+        history.named::<J>(),
+        kept,
+        crew,
+    );
     (status, kept.into_keeper())
 }
 
@@ -94,5 +106,13 @@ pub fn serve_in_threads<D: Door, K: Keeper + Send, R: Wait + Threads + Drop + Co
     ensures refused_still { result.0 ≢ 2 → D.refused door.new ≡ D.refused door.old }
     ensures faults_still { result.0 ≢ 4 → D.faults door.new ≡ D.faults door.old }
 {
-    serve_named::<D, Brand, K, R>(rt, alloc, words, limits, door, Opened::new(keeper))
+    serve_named::<D, Brand, K, R>(
+        rt,
+        alloc,
+        words,
+        limits,
+        door,
+        BoardHistory::new(),
+        Opened::new(keeper),
+    )
 }

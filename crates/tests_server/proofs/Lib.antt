@@ -1,1 +1,2 @@
 mod EmptyLaws
+mod PartsMove

@@ -3,6 +3,7 @@ mod acceptors;
 mod command_words;
 mod doors;
 mod fronts;
+mod keepers;
 mod serving;
 mod serving_words;
 mod shared_keepers;

@@ -2,16 +2,18 @@
 ghost use Rattle.std.specs.Prelude.{◌≡◌, IfOk};
 
 mod beside;
+mod caller;
 mod faults;
 mod held;
 mod in_line;
 mod listing;
 mod over_acceptors;
 mod rows;
+mod sharing;
 mod streaming;
 
 use day_plan::Plan;
-use keep_office::{Keeper, MemKeeper};
+use keep_office::MemKeeper;
 use listing::{AFTER_TWO_DAYS, LISTED, charged_on_five};
 use road_io::MemLink;
 use road_time::{Limits, NoMemory};
@@ -21,7 +23,7 @@ use serve_desk::{Desk, Routes, SessionEnd, session};
 use std::alloc::Global;
 use std::sync::Wait;
 use std::thread::Threads;
-use ways_crews::{Crew, InlineCrew};
+use ways_crews::InlineCrew;
 
 pub const LEAVING: &[u8] =
     b"0,60,100,30,0,1,0,10,52800,-1,-1,-1,-1,-1,-1\n0,90,100,30,0,1,0,11,58080,-1,-1,-1,-1,-1,-1\n\
@@ -87,10 +89,29 @@ fn desk_of<R: Wait + Threads + Drop>(
     }
 }
 
-/// How a session over a link of these bytes ends, and what was written.
-fn ask<K: Keeper, C: Crew, R: Wait + Threads + Drop>(
+/// Ends a desk. The calls of a desk that name its keeper and its crew stand once in a function: each is dear to prove.
+fn end_desk<R: Wait + Threads + Drop>(desk: Desk<MemKeeper, InlineCrew, R>) {
+    desk.end();
+}
+
+/// How a session over a link ends.
+fn ask_over<R: Wait + Threads + Drop>(
     alloc: Global,
-    desk: &mut Desk<K, C, R>,
+    desk: &mut Desk<MemKeeper, InlineCrew, R>,
+    reader: &mut BoardReader,
+    link: &mut MemLink,
+) -> Result<SessionEnd, NoMemory>
+    requires board { reader.old.board ≡ desk.old.writer.board }
+    ensures board { IfOk result (λ _. reader.new.board ≡ desk.new.writer.board) }
+{
+    let routes = Routes::new(alloc)?;
+    Ok(session(alloc, &routes, link, reader, desk))
+}
+
+/// How a session over a link of these bytes ends, and what was written.
+fn ask<R: Wait + Threads + Drop>(
+    alloc: Global,
+    desk: &mut Desk<MemKeeper, InlineCrew, R>,
     reader: &mut BoardReader,
     input: &[u8],
     piece: usize,
@@ -98,17 +119,16 @@ fn ask<K: Keeper, C: Crew, R: Wait + Threads + Drop>(
     requires board { reader.old.board ≡ desk.old.writer.board }
     ensures board { IfOk result (λ _. reader.new.board ≡ desk.new.writer.board) }
 {
-    let routes = Routes::new(alloc)?;
     let mut link = MemLink::new(alloc, input, piece.max(1), 40_000, &[])?;
-    let end = session(alloc, &routes, &mut link, reader, desk);
+    let end = ask_over(alloc, desk, reader, &mut link)?;
     let written = Vec::from_slice(alloc, link.bytes())?;
     Ok((end, written))
 }
 
 /// The number of the first row that is not answered as it is to be, their count where all are.
-fn first_wrong<K: Keeper, C: Crew, R: Wait + Threads + Drop>(
+fn first_wrong<R: Wait + Threads + Drop>(
     alloc: Global,
-    desk: &mut Desk<K, C, R>,
+    desk: &mut Desk<MemKeeper, InlineCrew, R>,
     reader: &mut BoardReader,
     rows: &[Row],
     piece: usize,
@@ -246,7 +266,7 @@ fn asked_of_a_new_desk<R: Wait + Threads + Drop + Copy>(
         Some(mut reader) => asked(alloc, &mut desk, &mut reader, asking),
         None => Err(NoMemory),
     };
-    desk.end();
+    end_desk(desk);
     came
 }
 

@@ -37,6 +37,14 @@ fn came_of(read: &Result<Asked, SessionEnd>) -> Came {
     }
 }
 
+/// Reads a request over a link.
+fn read(alloc: Global, routes: &Routes, link: &mut MemLink) -> Result<Asked, SessionEnd> {
+    match read_asked(alloc, routes, link) {
+        Ok(asked) => Ok(asked),
+        Err(end) => Err(end),
+    }
+}
+
 /// Whether this comes of a request in pieces of this size, and this is answered.
 fn comes(
     alloc: Global,
@@ -47,8 +55,8 @@ fn comes(
     answer: &[u8],
 ) -> Result<bool, NoMemory> {
     let mut link = MemLink::new(alloc, input, piece.max(1), 1000, &[])?;
-    let read = read_asked(alloc, routes, &mut link);
-    Ok(came_of(&read) == came && link.bytes() == answer)
+    let asked = read(alloc, routes, &mut link);
+    Ok(came_of(&asked) == came && link.bytes() == answer)
 }
 
 /// Whether each request of a kind is refused so.
@@ -166,7 +174,7 @@ fn post(
 ) -> Result<Option<(BodyEnd, usize)>, NoMemory> {
     let routes = Routes::new(alloc)?;
     let mut link = MemLink::new(alloc, input, piece.max(1), 0, fails)?;
-    let Ok(Asked::Import { length, early, .. }) = read_asked(alloc, &routes, &mut link) else {
+    let Ok(Asked::Import { length, early, .. }) = read(alloc, &routes, &mut link) else {
         return Ok(None);
     };
     if early.items().len() as u64 > length {
@@ -189,8 +197,8 @@ fn comes_over(
 ) -> Result<bool, NoMemory> {
     let routes = Routes::new(alloc)?;
     let mut link = MemLink::new(alloc, input, 10, room, fails)?;
-    let read = read_asked(alloc, &routes, &mut link);
-    Ok(came_of(&read) == came && link.bytes() == answer)
+    let asked = read(alloc, &routes, &mut link);
+    Ok(came_of(&asked) == came && link.bytes() == answer)
 }
 
 const HEAD: &[u8] = b"POST /days/100 HTTP/1.1\r\nContent-Length: 5\r\n\r\n";

@@ -2,11 +2,14 @@
 ghost use Rattle.std.specs.Prelude.{◌≡◌, [], length, vec_len, All, IfOk};
 ghost use Rattle.serve_loops.specs.MemListeners.{accepted_by};
 
+use super::keepers::{has_day, kept_as, new_keeper};
 use day_plan::Plan;
-use keep_office::{Keeper, MemKeeper};
+use keep_office::MemKeeper;
 use road_io::MemLink;
 use road_time::{Limits, NoMemory};
-use serve_board::{Board, BoardReader, board};
+use serve_board::{
+    BoardHistory, BoardNaming, NamedBoard, NamedHistory, NamedReader, NamedWriter, named_board,
+};
 use serve_desk::{Kept, Naming, Opened, Routes};
 use serve_top::{Acceptor, Acceptors, DeskCrew, MemListener, ServeEnd, serve};
 use std::alloc::Global;
@@ -38,11 +41,11 @@ fn listener_of(alloc: Global, links: u8) -> Result<MemListener, NoMemory>
 }
 
 /// An acceptor for each reader, each with such a listener.
-fn acceptors_of(
+fn acceptors_of<J: BoardNaming>(
     alloc: Global,
-    mut readers: Vec<BoardReader>,
+    mut readers: Vec<NamedReader<J>>,
     links: u8,
-) -> Result<Acceptors<MemListener>, NoMemory>
+) -> Result<Acceptors<MemListener, NamedReader<J>>, NoMemory>
     ensures len { IfOk result (λ acceptors. length acceptors ≡ vec_len readers) }
     ensures unused { IfOk result (λ acceptors. All (λ acceptor. accepted_by acceptor.listener ≡ 0) acceptors) }
 {
@@ -59,13 +62,14 @@ fn acceptors_of(
 
 /// How serving so many sessions ends, over acceptors of so many links each, and whether day 100 is kept then.
 fn serve_links<
-    J: Naming + Send + Sync,
+    J: Naming + BoardNaming + Send + Sync,
     R: Threads + Wait + Drop + Copy + Send + Sync,
-    C: DeskCrew<Kept<J, MemKeeper>, R> + Drop,
+    C: DeskCrew<Kept<J, MemKeeper>, NamedWriter<J, R>, J, R> + Drop,
 >(
     rt: R,
     alloc: Global,
     crew: C,
+    history: NamedHistory<J>,
     kept: Kept<J, MemKeeper>,
     acceptors: u8,
     links: u8,
@@ -74,35 +78,36 @@ fn serve_links<
     requires { C.out crew ≡ [] }
 {
     let routes = Routes::new(alloc)?;
-    let Board { writer, readers } = board(rt, alloc, acceptors.clamp(1, 64))?;
+    let NamedBoard { writer, readers } = named_board(rt, alloc, history, acceptors.clamp(1, 64))?;
     let mut acceptors = acceptors_of(alloc, readers.into_vec(), links)?;
     let desk = crew.share(rt, kept, writer, PLAN, Limits::DAY, routes);
     let end = serve(&rt, alloc, &mut acceptors, &desk, sessions);
-    let mut keeper = C::end(desk).into_keeper();
-    let kept = match keeper.day(100) {
-        Ok(kept) => kept.is_some(),
-        Err(_) => false,
-    };
-    Ok((end, kept))
+    Ok((end, has_day(C::end(desk))))
 }
 
 /// The same of a desk that runs each job as it is started.
-fn serve_inline<J: Naming + Send + Sync, R: Threads + Wait + Drop + Copy + Send + Sync>(
+fn serve_inline<
+    J: Naming + BoardNaming + Send + Sync,
+    R: Threads + Wait + Drop + Copy + Send + Sync,
+>(
     rt: R,
     alloc: Global,
+    history: BoardHistory,
     opened: Opened<MemKeeper>,
     acceptors: u8,
     links: u8,
     sessions: u64,
 ) -> Result<(ServeEnd, bool), NoMemory>
-    requires { opened.seen.book ≡ J.book }
+    requires named { history ≡ J.board }
+    requires book { opened.seen.book ≡ J.book }
 {
     let crew = InlineCrew::new(alloc, false);
     serve_links(
         rt,
         alloc,
         crew,
-        opened.named::<J>(),
+        history.named::<J>(),
+        kept_as::<J>(opened),
         acceptors,
         links,
         sessions,
@@ -117,8 +122,9 @@ fn serve_new<R: Threads + Wait + Drop + Copy + Send + Sync>(
     links: u8,
     sessions: u64,
 ) -> Result<(ServeEnd, bool), NoMemory> {
-    let opened = Opened::new(MemKeeper::new(alloc, &[])?);
-    serve_inline::<Brand, R>(rt, alloc, opened, acceptors, links, sessions)
+    let opened = new_keeper(alloc, &[])?;
+    let history = BoardHistory::new();
+    serve_inline::<Brand, R>(rt, alloc, history, opened, acceptors, links, sessions)
 }
 
 /// Acceptors accept as many connections as there are sessions, whichever acceptor comes first; where a listener has none left,
@@ -146,23 +152,37 @@ fn acceptors_share_the_sessions(rt: HostRuntime) -> Result<(), NoMemory> {
 }
 
 /// The same of two acceptors of three links each, with a thread for each job.
-fn serve_by_threads<J: Naming + Send + Sync, R: Threads + Wait + Drop + Copy + Send + Sync>(
+fn serve_by_threads<
+    J: Naming + BoardNaming + Send + Sync,
+    R: Threads + Wait + Drop + Copy + Send + Sync,
+>(
     rt: R,
     alloc: Global,
+    history: BoardHistory,
     opened: Opened<MemKeeper>,
 ) -> Result<(ServeEnd, bool), NoMemory>
-    requires { opened.seen.book ≡ J.book }
+    requires named { history ≡ J.board }
+    requires book { opened.seen.book ≡ J.book }
 {
     let crew = ThreadCrew::new(rt, alloc, NoGate);
-    serve_links(rt, alloc, crew, opened.named::<J>(), 2, 3, 3)
+    serve_links(
+        rt,
+        alloc,
+        crew,
+        history.named::<J>(),
+        kept_as::<J>(opened),
+        2,
+        3,
+        3,
+    )
 }
 
 /// So it is where each job has a thread.
 #[test]
 fn jobs_may_have_threads(rt: HostRuntime) -> Result<(), NoMemory> {
     let alloc = rt.alloc();
-    let opened = Opened::new(MemKeeper::new(alloc, &[])?);
-    let came = serve_by_threads::<Brand, _>(rt, alloc, opened)?;
+    let opened = new_keeper(alloc, &[])?;
+    let came = serve_by_threads::<Brand, _>(rt, alloc, BoardHistory::new(), opened)?;
     assert_eq!(rt; came, (ServeEnd::Served, true));
     Ok(())
 }

@@ -82,7 +82,7 @@ fn seated(
 {
     let room = Vec::with_capacity(alloc, 1)?;
     let back = Vec::with_capacity(alloc, 1)?;
-    Ok(rise(back, seat(room, ears, readers)))
+    Ok(rise(back, seat(room, ears, readers.into_vec())))
 }
 
 /// What an ear of a door counts after each of two calls, of which the second finds no connection.

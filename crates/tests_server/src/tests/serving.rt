@@ -2,9 +2,11 @@
 ghost use Rattle.std.specs.Prelude.{◌≡◌, IfOk};
 ghost use Rattle.serve_top.specs.MemDoors.{accepted_at};
 
-use keep_office::{Keeper, MemKeeper};
+use super::keepers::{has_day, kept_as, new_keeper};
+use keep_office::MemKeeper;
 use road_io::MemLink;
 use road_time::{Limits, NoMemory};
+use serve_board::{BoardHistory, BoardNaming};
 use serve_desk::{Naming, Opened};
 use serve_loops::MemListener;
 use serve_top::{MemDoor, serve_words};
@@ -48,28 +50,29 @@ fn door_of(alloc: Global, refuses: bool) -> Result<MemDoor, NoMemory>
 }
 
 /// The status of a run by these words, and whether the day is kept then.
-fn run_over<J: Naming + Send + Sync, R: Wait + Threads + Drop + Copy + Send + Sync>(
+fn run_over<J: Naming + BoardNaming + Send + Sync, R: Wait + Threads + Drop + Copy + Send + Sync>(
     rt: R,
     alloc: Global,
     words: &[String],
     refuses: bool,
+    history: BoardHistory,
     opened: Opened<MemKeeper>,
 ) -> Result<(u8, bool), NoMemory>
-    requires { opened.seen.book ≡ J.book }
+    requires named { history ≡ J.board }
+    requires book { opened.seen.book ≡ J.book }
 {
     let mut door = door_of(alloc, refuses)?;
-    let (status, keeper) = serve_words(
+    let (status, kept) = serve_words(
         rt,
         alloc,
         words,
         &Limits::DAY,
         &mut door,
-        opened.named::<J>(),
+        history.named::<J>(),
+        kept_as::<J>(opened),
         InlineCrew::new(alloc, false),
     );
-    let mut keeper = keeper.into_keeper();
-    let kept = matches!(keeper.day(100), Ok(Some(_)));
-    Ok((status, kept))
+    Ok((status, has_day(kept)))
 }
 
 /// The same of a new keeper.
@@ -79,8 +82,8 @@ fn run<R: Wait + Threads + Drop + Copy + Send + Sync>(
     words: &[String],
     refuses: bool,
 ) -> Result<(u8, bool), NoMemory> {
-    let opened = Opened::new(MemKeeper::new(alloc, &[])?);
-    run_over::<Brand, R>(rt, alloc, words, refuses, opened)
+    let opened = new_keeper(alloc, &[])?;
+    run_over::<Brand, R>(rt, alloc, words, refuses, BoardHistory::new(), opened)
 }
 
 #[test]

@@ -1,6 +1,7 @@
 // A keeper that two share.
 ghost use Rattle.std.specs.Prelude.{◌≡◌};
 
+use super::keepers::{kept_as, new_keeper};
 use keep_office::{DayRecord, KeepFault, Keeper, MemKeeper, PastRecord};
 use road_digest::{Digest, Digester};
 use road_time::Tariff;
@@ -85,7 +86,7 @@ fn refuses<J: Naming, K: Keeper, R: Wait>(
 fn share<J: Naming, R: Wait>(rt: &R, opened: Opened<MemKeeper>) -> Result<bool, KeepFault>
     requires { opened.seen.book ≡ J.book }
 {
-    let keeper = Mutex::new(opened.named::<J>());
+    let keeper = Mutex::new(kept_as::<J>(opened));
     let reach = puts_reach(rt, &keeper)?;
     Ok(reach && refuses(rt, &keeper)?)
 }
@@ -94,7 +95,7 @@ fn share<J: Naming, R: Wait>(rt: &R, opened: Opened<MemKeeper>) -> Result<bool, 
 fn fails_once<J: Naming, R: Wait>(rt: &R, opened: Opened<MemKeeper>) -> bool
     requires { opened.seen.book ≡ J.book }
 {
-    let keeper = Mutex::new(opened.named::<J>());
+    let keeper = Mutex::new(kept_as::<J>(opened));
     let mut one = SharedKeeper::new(rt, &keeper);
     let first = one.day(100);
     first == Err(KeepFault::Failed) && one.day(100) == Ok(None)
@@ -104,9 +105,9 @@ fn fails_once<J: Naming, R: Wait>(rt: &R, opened: Opened<MemKeeper>) -> bool
 #[test]
 fn two_share_a_keeper(rt: HostRuntime) -> Result<(), KeepFault> {
     let alloc = rt.alloc();
-    let sound = Opened::new(MemKeeper::new(alloc, &[])?);
+    let sound = new_keeper(alloc, &[])?;
     assert!(rt; share::<Brand, _>(&rt, sound)?);
-    let failing = Opened::new(MemKeeper::new(alloc, &[0])?);
+    let failing = new_keeper(alloc, &[0])?;
     assert!(rt; fails_once::<Brand, _>(&rt, failing));
     Ok(())
 }

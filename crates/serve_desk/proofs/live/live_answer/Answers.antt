@@ -7,7 +7,7 @@ pub returns-in-Live-clause-answers : goal.returns-in-Live-clause-answers
 returns-in-Live-clause-answers g c =
     let l = c.args.link.now in
     let a = c.answer_balance in
-    subst (λ asked. AnswersLive (asked_of asked) c.args.reader.now a.new.reader
+    subst (λ asked. AnswersLive (asked_of asked) (g.W.Watch.pass c.args.reader.now) (g.W.Watch.pass a.new.reader)
     (wire_of (g.L.Link.left l) (g.L.Link.plan l) (g.L.Link.written l) (g.L.Link.room l))
     (wire_of (g.L.Link.left a.new.link) (g.L.Link.plan a.new.link) (g.L.Link.written a.new.link)
     (g.L.Link.room a.new.link)) a.result)
@@ -17,7 +17,7 @@ pub returns-in-LiveTotal-clause-answers : goal.returns-in-LiveTotal-clause-answe
 returns-in-LiveTotal-clause-answers g c =
     let l = c.args.link.now in
     let a = c.answer_total in
-    subst (λ asked. AnswersLive (asked_of asked) c.args.reader.now a.new.reader
+    subst (λ asked. AnswersLive (asked_of asked) (g.W.Watch.pass c.args.reader.now) (g.W.Watch.pass a.new.reader)
     (wire_of (g.L.Link.left l) (g.L.Link.plan l) (g.L.Link.written l) (g.L.Link.room l))
     (wire_of (g.L.Link.left a.new.link) (g.L.Link.plan a.new.link) (g.L.Link.written a.new.link)
     (g.L.Link.room a.new.link)) a.result)

@@ -29,8 +29,4 @@ returns-else-is_live-clause-shares g c = λ bytes is.
       (c.in-Ok.ensures.reads bytes is, c.in-Ok.ensures.room_kept, c.in-Ok.ensures.still),
       c.is_live.ensures.kept c.if-is_live.false,
       c.answer.ensures.answers,
-      refl,
     ))
-
-pub returns-else-is_live-clause-had : goal.returns-else-is_live-clause-had
-returns-else-is_live-clause-had g c = seen_itself _

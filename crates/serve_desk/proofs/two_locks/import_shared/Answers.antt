@@ -48,7 +48,7 @@ returns-clause-imports g c =
     let was = tells_of g.K.Keeper.told p.seen.log p.count p.counted in
     let now = tells_of g.K.Keeper.told q.seen.log q.count q.counted in
     let before = state_of (told_at g.K.Keeper.told p.seen.log p.count) c.hold-held.result.faults
-    c.deref_mut.result.now.writer.posted in
+    c.deref_mut-desk.result.now.writer.posted in
     let after = state_of (told_at g.K.Keeper.told q.seen.log q.count) i.new.keeper.faults i.new.self.writer.posted in
     record {
       was = was.0;
@@ -69,6 +69,7 @@ returns-clause-imports g c =
           i.ensures.link_cause i.ensures.unwritten i.ensures.room_kept i.ensures.link_sure i.ensures.read
           i.ensures.unfailed (λ kept stored. i.ensures.stored all kept known stored)
           (i.ensures.read_first all known) (i.ensures.imports all o known (was.1 ∙ told)) f.ensures.ends;
+      taught = c.teach.ensures.taught;
     }
 
 pub returns-clause-unavailable : goal.returns-clause-unavailable
@@ -98,3 +99,9 @@ returns-clause-cause g c = λ is.
     (g.L.Link.faults c.finish_after.new.link) i.result.read i.ensures.link_cause i.ensures.link_later
     c.finish_after.ensures.later
     (λ unfailed. c.finish_after.ensures.cause unfailed is)
+
+pub returns-clause-reader : goal.returns-clause-reader
+returns-clause-reader g c = c.teach.ensures.taught.0.board
+
+pub returns-clause-had : goal.returns-clause-had
+returns-clause-had g c = c.teach.ensures.taught.0.had

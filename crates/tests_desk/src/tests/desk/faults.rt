@@ -1,12 +1,12 @@
 // Links and keepers that fail, and what is answered after them.
 ghost use Rattle.std.specs.Prelude.{◌≡◌};
 
-use super::{EMPTY_DAY, ask, desk_of};
+use super::{EMPTY_DAY, ask, ask_over, desk_of, end_desk};
 use keep_office::MemKeeper;
 use road_io::MemLink;
 use road_time::NoMemory;
 use serve_board::{Board, BoardReader, board};
-use serve_desk::{Desk, Routes, SessionEnd, session};
+use serve_desk::{Desk, SessionEnd};
 use std::alloc::Global;
 use std::sync::Wait;
 use std::thread::Threads;
@@ -23,8 +23,7 @@ fn then_an_empty_day<R: Wait + Threads + Drop>(
 ) -> Result<(SessionEnd, bool, SessionEnd), NoMemory>
     requires board { reader.old.board ≡ desk.old.writer.board }
 {
-    let routes = Routes::new(alloc)?;
-    let end = session(alloc, &routes, link, reader, desk);
+    let end = ask_over(alloc, desk, reader, link)?;
     let silent = link.bytes().is_empty();
     let (next, _) = ask(alloc, desk, reader, EMPTY_DAY, 100)?;
     Ok((end, silent, next))
@@ -45,7 +44,7 @@ fn over_a_new_desk<R: Wait + Threads + Drop + Copy>(
         Some(mut reader) => then_an_empty_day(alloc, &mut desk, &mut reader, link),
         None => Err(NoMemory),
     };
-    desk.end();
+    end_desk(desk);
     came
 }
 

@@ -1,6 +1,6 @@
 // All kept days, the statements of vehicles, and the page.
 use super::rows::Row;
-use super::{Asking, answer_of, ask, asked_of_a_new_desk, charged_on, desk_of, post_of};
+use super::{Asking, answer_of, ask, asked_of_a_new_desk, charged_on, desk_of, end_desk, post_of};
 use keep_office::MemKeeper;
 use road_time::NoMemory;
 use serve_board::{Board, board};
@@ -224,7 +224,7 @@ fn ask_new<R: Wait + Threads + Drop + Copy>(
         Some(mut reader) => ask(alloc, &mut desk, &mut reader, input, piece),
         None => Err(NoMemory),
     };
-    desk.end();
+    end_desk(desk);
     came
 }
 

@@ -1,28 +1,22 @@
 // What is asked of a desk that acceptors share: what is kept, of a day, an expressway and a vehicle that differ from one
 // another; what is asked of a keeper that fails; a long day; and the notices of a day that is sent.
-ghost use Rattle.std.specs.Prelude.{◌≡◌, []};
-
-use super::beside::PLAN;
+use super::caller::told;
 use super::faults::KEPT;
 use super::listing::{AFTER_TWO_DAYS, LONG_DAY, charged_on_five, long_post};
+use super::sharing::{Came, Doing, Done, share_new};
 use super::streaming::{STREAMED, charged_day, is_stream, request_of};
 use super::{EMPTY_DAY, answer_of, charged_on_leaving};
-use keep_office::MemKeeper;
 use road_io::{BothWays, MemLink, MemSink};
-use road_time::{Limits, NoMemory};
-use serve_board::{Board, BoardReader, board};
-use serve_desk::{Kept, Naming, Opened, Routes};
+use road_time::NoMemory;
+use serve_board::{BoardNaming, NamedReader};
 use serve_loops::{Host, NoTurn};
-use serve_top::DeskCrew;
 use std::alloc::Global;
-use std::marker::Brand;
 use std::sync::Wait;
 use std::thread::Threads;
-use ways_crews::{InlineCrew, NoGate, ThreadCrew};
 
 /// What is asked of a new desk that acceptors share, and what it is to answer.
 #[derive(Clone, Copy)]
-enum Asking<'a> {
+pub enum Asking<'a> {
     /// What is kept, once two days were posted.
     TwoDays,
     /// This, of a keeper that fails.
@@ -41,25 +35,11 @@ enum Asking<'a> {
     NoHandle,
 }
 
-/// What a host writes on a connection of these bytes.
-fn told<H: Host>(
-    alloc: Global,
-    host: &H,
-    reader: &mut BoardReader,
-    request: &[u8],
-    piece: usize,
-) -> Result<Vec<u8>, NoMemory> {
-    let mut link = MemLink::new(alloc, request, piece.max(1), 40_000, &[])?;
-    host.attend(alloc, &mut link, &mut NoTurn, reader);
-    let written = Vec::from_slice(alloc, link.bytes())?;
-    Ok(written)
-}
-
 /// Whether a host answers what is asked after two days as it is to be, once both were posted.
-fn answers_two_days<H: Host>(
+fn answers_two_days<J: BoardNaming, H: Host<J>>(
     alloc: Global,
     host: &H,
-    reader: &mut BoardReader,
+    reader: &mut NamedReader<J>,
 ) -> Result<bool, NoMemory> {
     let first = charged_on_leaving(alloc)?;
     told(alloc, host, reader, first.as_slice(), 100)?;
@@ -76,10 +56,10 @@ fn answers_two_days<H: Host>(
 }
 
 /// Whether a host answers a request, which comes in pieces, with this status and this body.
-fn answers_so<H: Host>(
+fn answers_so<J: BoardNaming, H: Host<J>>(
     alloc: Global,
     host: &H,
-    reader: &mut BoardReader,
+    reader: &mut NamedReader<J>,
     request: &[u8],
     piece: usize,
     status: &str,
@@ -92,10 +72,10 @@ fn answers_so<H: Host>(
 
 /// Whether a host writes this behind the head of a stream on a connection whose bytes go out apart from it, and keeps
 /// no day.
-fn streams<H: Host>(
+fn streams<J: BoardNaming, H: Host<J>>(
     alloc: Global,
     host: &H,
-    reader: &mut BoardReader,
+    reader: &mut NamedReader<J>,
     request: &[u8],
     piece: usize,
     sent: &[u8],
@@ -111,10 +91,10 @@ fn streams<H: Host>(
 }
 
 /// Whether a host answers what is asked as it is to be.
-fn answers<H: Host>(
+pub fn answers<J: BoardNaming, H: Host<J>>(
     alloc: Global,
     host: &H,
-    reader: &mut BoardReader,
+    reader: &mut NamedReader<J>,
     asking: Asking<'_>,
 ) -> Result<bool, NoMemory> {
     match asking {
@@ -149,79 +129,20 @@ fn answers<H: Host>(
     }
 }
 
-/// The same of a new desk of a crew.
-fn share_for<
-    J: Naming + Send + Sync,
-    R: Threads + Wait + Drop + Copy + Send + Sync,
-    C: DeskCrew<Kept<J, MemKeeper>, R> + Drop,
->(
-    rt: R,
-    alloc: Global,
-    crew: C,
-    kept: Kept<J, MemKeeper>,
-    asking: Asking<'_>,
-) -> Result<bool, NoMemory>
-    requires { C.out crew ≡ [] }
-{
-    let routes = Routes::new(alloc)?;
-    let Board { writer, readers } = board(rt, alloc, 1)?;
-    let mut readers = readers.into_vec();
-    let desk = crew.share(rt, kept, writer, PLAN, Limits::DAY, routes);
-    let right = match readers.pop() {
-        Some(mut reader) => answers(alloc, &desk, &mut reader, asking),
-        None => Err(NoMemory),
-    };
-    C::end(desk);
-    right
+/// Whether a desk answered what was asked as it is to be.
+fn is_right(came: &Came) -> bool {
+    matches!(came.done, Done::Asked(true))
 }
 
-/// The same of a desk that runs each job as it is started.
-fn share_inline<J: Naming + Send + Sync, R: Threads + Wait + Drop + Copy + Send + Sync>(
-    rt: R,
-    alloc: Global,
-    opened: Opened<MemKeeper>,
-    asking: Asking<'_>,
-) -> Result<bool, NoMemory>
-    requires { opened.seen.book ≡ J.book }
-{
-    share_for(
-        rt,
-        alloc,
-        InlineCrew::new(alloc, false),
-        opened.named::<J>(),
-        asking,
-    )
-}
-
-/// The same of one with a thread for each job.
-fn share_by_threads<J: Naming + Send + Sync, R: Threads + Wait + Drop + Copy + Send + Sync>(
-    rt: R,
-    alloc: Global,
-    opened: Opened<MemKeeper>,
-    asking: Asking<'_>,
-) -> Result<bool, NoMemory>
-    requires { opened.seen.book ≡ J.book }
-{
-    share_for(
-        rt,
-        alloc,
-        ThreadCrew::new(rt, alloc, NoGate),
-        opened.named::<J>(),
-        asking,
-    )
-}
-
-/// The same of both, with a new keeper each, which fails at these calls.
+/// Whether a new desk of each crew answers so, with a new keeper each, which fails at these calls.
 fn share_for_both<R: Threads + Wait + Drop + Copy + Send + Sync>(
     rt: R,
     alloc: Global,
     fails: &[u32],
     asking: Asking<'_>,
 ) -> Result<bool, NoMemory> {
-    let inline = Opened::new(MemKeeper::new(alloc, fails)?);
-    let inline = share_inline::<Brand, R>(rt, alloc, inline, asking)?;
-    let threads = Opened::new(MemKeeper::new(alloc, fails)?);
-    Ok(inline && share_by_threads::<Brand, R>(rt, alloc, threads, asking)?)
+    let [inline, threads] = share_new(rt, alloc, fails, Doing::Asks(asking))?;
+    Ok(is_right(&inline) && is_right(&threads))
 }
 
 /// An amount is that of the day, the expressway and the vehicle that are asked for, over a desk that acceptors share.

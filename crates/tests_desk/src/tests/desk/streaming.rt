@@ -1,7 +1,7 @@
 // The notices of a day that is sent, streamed over a link in memory.
 ghost use Rattle.std.specs.Prelude.{◌≡◌};
 
-use super::{LEAVING, ask, desk_of};
+use super::{LEAVING, ask, desk_of, end_desk};
 use keep_office::MemKeeper;
 use road_io::{BothWays, MemLink, MemSink};
 use road_time::NoMemory;
@@ -98,7 +98,7 @@ fn stream_anew<R: Wait + Threads + Drop + Copy>(
         Some(mut reader) => stream(alloc, &mut desk, &mut reader, request, piece),
         None => Err(NoMemory),
     };
-    desk.end();
+    end_desk(desk);
     seen
 }
 

@@ -1,17 +1,18 @@
 use Rattle.std.proofs.Common.{◌≡◌, ◌∙◌, true, false, sym, rules, ⊎_elim, arith}
 use Rattle.std.proofs.lemmas.Bool.{cases_Bool, false≢true}
+use Rattle.serve_board.specs.Passes.{Pass}
 use Rattle.serve_loops.specs.Wires.{wire_by}
 use Rattle.serve_loops.specs.Acceptors.{TurnOf}
 use Rattle.serve_loops.specs.declared.acceptor.Acceptor.{Acceptor}
 use Rattle.serve_loops.proofs.AcceptorLaws.{serves_on, one_turn}
-use Rattle.serve_loops.proofs.acceptor.Acceptor.run.Goals as goal
+use Rattle.serve_loops.proofs.acceptor_loop.Acceptor+N+NamedReader+J.run.Goals as goal
 
 pub loop-alloc-preserved : goal.loop-alloc-preserved
 loop-alloc-preserved g c =
     let n = g.N.Listener in
     let k = g.N.Line.Link in
     let inv = c.loop-alloc.invariant in
-    let old : Acceptor g.row.N.Denot =
+    let old : Acceptor g.row.N.Denot Pass =
     record { listener = c.args.self.now.listener; reader = c.args.self.now.reader; failed = false } in
     let mid = c.loop-alloc.self in
     let new = c.turn.new.self in

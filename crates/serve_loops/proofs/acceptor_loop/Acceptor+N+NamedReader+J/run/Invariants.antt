@@ -1,7 +1,7 @@
 use Rattle.std.proofs.Common.{◌≡◌, ◌-◌, ◌^◌, false}
 use Rattle.serve_loops.specs.Wires.{wire_by}
 use Rattle.serve_loops.specs.Acceptors.{AcceptorServes, TurnOf, AcceptorTurned}
-use Rattle.serve_loops.proofs.acceptor.Acceptor.run.Given as goal
+use Rattle.serve_loops.proofs.acceptor_loop.Acceptor+N+NamedReader+J.run.Given as goal
 
 -- the acceptor did not fail, and its listener accepted as many connections as tickets were drawn and turns done
 abbrev pub invariant-loop-alloc : goal.invariant-loop-alloc
