@@ -1,8 +1,7 @@
 // Answering a day: its output is written, and nothing is kept.
-ghost use Rattle.std.specs.Prelude.{◌≡◌, ◌≤◌, List, ℕ, Some, [], true};
+ghost use Rattle.std.specs.Prelude.{◌≡◌, List, ℕ, Some, [], true};
 ghost use Rattle.road_time.specs.Reads.{reads};
 ghost use Rattle.keep_office.specs.Office.{Office};
-ghost use Rattle.road_time.specs.Fits.{IsLimits};
 ghost use Rattle.day_reading.specs.Days.{most_of_day};
 ghost use Rattle.road_io.specs.Within.{ReadsWithin};
 ghost use Rattle.road_io.specs.Blame.{FaultsByPlan, FaultsByRoom};
@@ -16,11 +15,11 @@ ghost use Rattle.day_import.specs.declared.outcomes.Outcome.TheVariants.{ReadFau
 use crate::day::run_day;
 use crate::keeping::finish_answers;
 use crate::outcomes::{Outcome, refused, stopped};
+use crate::terms::DayTerms;
 use day_floor::NoPublisher;
-use day_plan::Plan;
 use keep_office::Keeper;
 use road_io::{Sink, Source};
-use road_time::{Limits, Tariffs};
+use road_time::Tariffs;
 use std::alloc::Global;
 use std::thread::Threads;
 use ways_crews::Crew;
@@ -29,41 +28,33 @@ use ways_crews::Crew;
 fn answer_under<S: Source, O: Sink, K: Keeper, C: Crew, R: Threads>(
     rt: &R,
     alloc: Global,
-    number: u32,
-    plan: &Plan,
-    late: u8,
-    limits: &Limits,
+    terms: DayTerms,
     tariffs: &Tariffs,
     source: &mut S,
     sink: &mut O,
     keeper: &mut K,
     crew: &mut C,
 ) -> Outcome
-    requires low { 70 ≤ number }
-    requires high { number ≤ 1000000 }
-    requires width { (1 ≤ plan.now.width) × (plan.now.width ≤ 64) }
-    requires soon { late ≤ 120 }
-    requires within { IsLimits limits.now }
     requires idle { C.out crew.old ≡ [] }
     ensures does { C.exact ≡ true → (bytes : List ℕ) (o : Office) → S.left source.old ≡ Some bytes
         → K.told keeper.old ≡ Some o → tariffs.now ≡ o.tariffs
-        → Does K.refuses (answers_answer number late limits.now bytes o) o (O.written sink.old) (O.written sink.new)
-        (K.told keeper.new) result }
+        → Does K.refuses (answers_answer terms.day terms.late terms.limits bytes o) o (O.written sink.old)
+        (O.written sink.new) (K.told keeper.new) result }
     ensures merged { (bytes : List ℕ) (o : Office) → S.left source.old ≡ Some bytes → K.told keeper.old ≡ Some o
         → tariffs.now ≡ o.tariffs
-        → DoesByCrew K.refuses (λ found. answers_found found number late limits.now bytes o) o (C.answers crew.old)
-        (C.answers crew.new) (O.written sink.old) (O.written sink.new) (K.told keeper.new) result }
+        → DoesByCrew K.refuses (λ found. answers_found found terms.day terms.late terms.limits bytes o) o
+        (C.answers crew.old) (C.answers crew.new) (O.written sink.old) (O.written sink.new) (K.told keeper.new) result }
     ensures jobs { (bytes : List ℕ) → S.left source.old ≡ Some bytes
-        → HasStartedJobs plan.now.width limits.now.backlog (reads bytes limits.now late).tuples (C.jobs crew.old)
-        (C.jobs crew.new) result }
+        → HasStartedJobs terms.plan.width terms.limits.backlog (reads bytes terms.limits terms.late).tuples
+        (C.jobs crew.old) (C.jobs crew.new) result }
     ensures planned { (bytes : List ℕ) → S.left source.old ≡ Some bytes
-        → WorksPlanned plan.now limits.now.backlog (reads bytes limits.now late).tuples (C.jobs crew.old)
+        → WorksPlanned terms.plan terms.limits.backlog (reads bytes terms.limits terms.late).tuples (C.jobs crew.old)
         (C.jobs crew.new) (C.answers crew.old) (C.answers crew.new) result }
     ensures kept { K.told keeper.new ≡ K.told keeper.old }
     ensures own { IsOfAnswers result }
     ensures leaves { (bytes : List ℕ) → S.left source.old ≡ Some bytes
-        → LeavesRead result (reads bytes limits.now late).refused bytes (S.left source.new) }
-    ensures bounded { ReadsWithin (most_of_day limits.now) (S.left source.old) (S.left source.new) }
+        → LeavesRead result (reads bytes terms.limits terms.late).refused bytes (S.left source.new) }
+    ensures bounded { ReadsWithin (most_of_day terms.limits) (S.left source.old) (S.left source.new) }
     ensures idle { C.out crew.new ≡ [] }
     ensures crew { C.which crew.new ≡ C.which crew.old }
     ensures read_same { S.name source.new ≡ S.name source.old }
@@ -79,12 +70,12 @@ fn answer_under<S: Source, O: Sink, K: Keeper, C: Crew, R: Threads>(
     match run_day(
         rt,
         alloc,
-        plan,
-        limits,
-        late,
+        &terms.plan,
+        &terms.limits,
+        terms.late,
         false,
         tariffs,
-        number,
+        terms.day,
         source,
         keeper,
         sink,
@@ -101,39 +92,31 @@ fn answer_under<S: Source, O: Sink, K: Keeper, C: Crew, R: Threads>(
 pub fn answers<S: Source, O: Sink, K: Keeper, C: Crew, R: Threads>(
     rt: &R,
     alloc: Global,
-    day: u32,
-    plan: &Plan,
-    late: u8,
-    limits: &Limits,
+    terms: DayTerms,
     source: &mut S,
     sink: &mut O,
     keeper: &mut K,
     crew: &mut C,
 ) -> Outcome
-    requires low { 70 ≤ day }
-    requires high { day ≤ 1000000 }
-    requires width { (1 ≤ plan.now.width) × (plan.now.width ≤ 64) }
-    requires soon { late ≤ 120 }
-    requires within { IsLimits limits.now }
     requires idle { C.out crew.old ≡ [] }
     ensures does { C.exact ≡ true → (bytes : List ℕ) (o : Office) → S.left source.old ≡ Some bytes
         → K.told keeper.old ≡ Some o
-        → Does K.refuses (answers_answer day late limits.now bytes o) o (O.written sink.old) (O.written sink.new)
-        (K.told keeper.new) result }
+        → Does K.refuses (answers_answer terms.day terms.late terms.limits bytes o) o (O.written sink.old)
+        (O.written sink.new) (K.told keeper.new) result }
     ensures merged { (bytes : List ℕ) (o : Office) → S.left source.old ≡ Some bytes → K.told keeper.old ≡ Some o
-        → DoesByCrew K.refuses (λ found. answers_found found day late limits.now bytes o) o (C.answers crew.old)
-        (C.answers crew.new) (O.written sink.old) (O.written sink.new) (K.told keeper.new) result }
+        → DoesByCrew K.refuses (λ found. answers_found found terms.day terms.late terms.limits bytes o) o
+        (C.answers crew.old) (C.answers crew.new) (O.written sink.old) (O.written sink.new) (K.told keeper.new) result }
     ensures jobs { (bytes : List ℕ) → S.left source.old ≡ Some bytes
-        → HasStartedJobs plan.now.width limits.now.backlog (reads bytes limits.now late).tuples (C.jobs crew.old)
-        (C.jobs crew.new) result }
+        → HasStartedJobs terms.plan.width terms.limits.backlog (reads bytes terms.limits terms.late).tuples
+        (C.jobs crew.old) (C.jobs crew.new) result }
     ensures planned { (bytes : List ℕ) → S.left source.old ≡ Some bytes
-        → WorksPlanned plan.now limits.now.backlog (reads bytes limits.now late).tuples (C.jobs crew.old)
+        → WorksPlanned terms.plan terms.limits.backlog (reads bytes terms.limits terms.late).tuples (C.jobs crew.old)
         (C.jobs crew.new) (C.answers crew.old) (C.answers crew.new) result }
     ensures kept { K.told keeper.new ≡ K.told keeper.old }
     ensures own { IsOfAnswers result }
     ensures leaves { (bytes : List ℕ) → S.left source.old ≡ Some bytes
-        → LeavesRead result (reads bytes limits.now late).refused bytes (S.left source.new) }
-    ensures bounded { ReadsWithin (most_of_day limits.now) (S.left source.old) (S.left source.new) }
+        → LeavesRead result (reads bytes terms.limits terms.late).refused bytes (S.left source.new) }
+    ensures bounded { ReadsWithin (most_of_day terms.limits) (S.left source.old) (S.left source.new) }
     ensures idle { C.out crew.new ≡ [] }
     ensures crew { C.which crew.new ≡ C.which crew.old }
     ensures read_same { S.name source.new ≡ S.name source.old }
@@ -147,9 +130,7 @@ pub fn answers<S: Source, O: Sink, K: Keeper, C: Crew, R: Threads>(
     ensures asked { AsksBy 1 result (K.plan keeper.old) (K.plan keeper.new) }
 {
     match keeper.tariffs() {
-        Ok(tariffs) => answer_under(
-            rt, alloc, day, plan, late, limits, &tariffs, source, sink, keeper, crew,
-        ),
+        Ok(tariffs) => answer_under(rt, alloc, terms, &tariffs, source, sink, keeper, crew),
         Err(fault) => refused(fault),
     }
 }

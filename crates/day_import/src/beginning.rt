@@ -1,12 +1,11 @@
 // A day begins, and is imported under the kept tariffs.
-ghost use Rattle.std.specs.Prelude.{◌≡◌, ◌≤◌, List, ℕ, Some, [], true};
+ghost use Rattle.std.specs.Prelude.{◌≡◌, List, ℕ, Some, [], true};
 ghost use Rattle.road_time.specs.Reads.{reads};
 ghost use Rattle.keep_office.specs.declared.kept.DayRecord.{DayRecord};
 ghost use Rattle.keep_office.specs.Office.{Office};
 ghost use Rattle.keep_office.specs.Kept.{IsLater};
 ghost use Rattle.keep_office.specs.Calls.{IfTold};
 ghost use Rattle.day_floor.specs.SettlingBoards.{IsAbreast};
-ghost use Rattle.road_time.specs.Fits.{IsLimits};
 ghost use Rattle.day_reading.specs.Days.{most_of_day};
 ghost use Rattle.road_io.specs.Within.{ReadsWithin};
 ghost use Rattle.road_io.specs.Blame.{FaultsByPlan, FaultsByRoom};
@@ -22,11 +21,11 @@ ghost use Rattle.day_import.specs.declared.outcomes.Outcome.TheVariants.{Stored,
 use crate::day::run_day;
 use crate::keeping::finish_import;
 use crate::outcomes::{Outcome, stopped};
+use crate::terms::DayTerms;
 use day_floor::Publisher;
-use day_plan::Plan;
 use keep_office::Keeper;
 use road_io::{Sink, Source};
-use road_time::{Limits, Tariffs};
+use road_time::Tariffs;
 use std::alloc::Global;
 use std::thread::Threads;
 use ways_crews::Crew;
@@ -35,10 +34,7 @@ use ways_crews::Crew;
 fn import_under<S: Source, O: Sink, K: Keeper, C: Crew, P: Publisher, R: Threads>(
     rt: &R,
     alloc: Global,
-    number: u32,
-    plan: &Plan,
-    late: u8,
-    limits: &Limits,
+    terms: DayTerms,
     tariffs: &Tariffs,
     source: &mut S,
     sink: &mut O,
@@ -46,32 +42,27 @@ fn import_under<S: Source, O: Sink, K: Keeper, C: Crew, P: Publisher, R: Threads
     crew: &mut C,
     publisher: &mut P,
 ) -> Outcome
-    requires low { 70 ≤ number }
-    requires high { number ≤ 1000000 }
-    requires width { (1 ≤ plan.now.width) × (plan.now.width ≤ 64) }
-    requires soon { late ≤ 120 }
-    requires within { IsLimits limits.now }
     requires idle { C.out crew.old ≡ [] }
-    requires later { IfTold (K.told keeper.old) (λ o. IsLater number o) }
+    requires later { IfTold (K.told keeper.old) (λ o. IsLater terms.day o) }
     requires abreast { IsAbreast (P.posted publisher.old) 0 }
     ensures does { C.exact ≡ true → (bytes : List ℕ) (o : Office) → S.left source.old ≡ Some bytes
         → K.told keeper.old ≡ Some o → tariffs.now ≡ o.tariffs
-        → Does K.refuses (new_import number late limits.now bytes o) o (O.written sink.old) (O.written sink.new)
-        (K.told keeper.new) result }
+        → Does K.refuses (new_import terms.day terms.late terms.limits bytes o) o (O.written sink.old)
+        (O.written sink.new) (K.told keeper.new) result }
     ensures merged { (bytes : List ℕ) (o : Office) → S.left source.old ≡ Some bytes → K.told keeper.old ≡ Some o
         → tariffs.now ≡ o.tariffs
-        → DoesByCrew K.refuses (λ found. new_import_found found number late limits.now bytes o) o (C.answers crew.old)
-        (C.answers crew.new) (O.written sink.old) (O.written sink.new) (K.told keeper.new) result }
+        → DoesByCrew K.refuses (λ found. new_import_found found terms.day terms.late terms.limits bytes o) o
+        (C.answers crew.old) (C.answers crew.new) (O.written sink.old) (O.written sink.new) (K.told keeper.new) result }
     ensures jobs { (bytes : List ℕ) → S.left source.old ≡ Some bytes
-        → HasStartedJobs plan.now.width limits.now.backlog (reads bytes limits.now late).tuples (C.jobs crew.old)
-        (C.jobs crew.new) result }
+        → HasStartedJobs terms.plan.width terms.limits.backlog (reads bytes terms.limits terms.late).tuples
+        (C.jobs crew.old) (C.jobs crew.new) result }
     ensures planned { (bytes : List ℕ) → S.left source.old ≡ Some bytes
-        → WorksPlanned plan.now limits.now.backlog (reads bytes limits.now late).tuples (C.jobs crew.old)
+        → WorksPlanned terms.plan terms.limits.backlog (reads bytes terms.limits terms.late).tuples (C.jobs crew.old)
         (C.jobs crew.new) (C.answers crew.old) (C.answers crew.new) result }
     ensures stepped { C.exact ≡ true → (bytes : List ℕ) → S.left source.old ≡ Some bytes
-        → HasDaySteps tariffs.now (reads bytes limits.now late).tuples limits.now.backlog (P.posted publisher.old)
-        (P.posted publisher.new) result }
-    ensures puts { (o : Office) → K.told keeper.old ≡ Some o → PutsOnce number o (K.told keeper.new) }
+        → HasDaySteps tariffs.now (reads bytes terms.limits terms.late).tuples terms.limits.backlog
+        (P.posted publisher.old) (P.posted publisher.new) result }
+    ensures puts { (o : Office) → K.told keeper.old ≡ Some o → PutsOnce terms.day o (K.told keeper.new) }
     ensures keeps { KeepsAll result (K.told keeper.new ≡ K.told keeper.old) }
     ensures read_first { (bytes : List ℕ) → S.left source.old ≡ Some bytes
         → KeepsUnlessRead (K.told keeper.old) (K.told keeper.new) (S.left source.new) (S.faults source.old)
@@ -79,9 +70,9 @@ fn import_under<S: Source, O: Sink, K: Keeper, C: Crew, P: Publisher, R: Threads
     ensures whole { (bytes : List ℕ) (kept : DayRecord) → S.left source.old ≡ Some bytes → result ≡ Stored kept
         → S.left source.new ≡ Some [] }
     ensures leaves { (bytes : List ℕ) → S.left source.old ≡ Some bytes
-        → LeavesRead result (reads bytes limits.now late).refused bytes (S.left source.new) }
+        → LeavesRead result (reads bytes terms.limits terms.late).refused bytes (S.left source.new) }
     ensures new_day { IsOfNewDay result }
-    ensures bounded { ReadsWithin (most_of_day limits.now) (S.left source.old) (S.left source.new) }
+    ensures bounded { ReadsWithin (most_of_day terms.limits) (S.left source.old) (S.left source.new) }
     ensures idle { C.out crew.new ≡ [] }
     ensures crew { C.which crew.new ≡ C.which crew.old }
     ensures publisher { P.which publisher.new ≡ P.which publisher.old }
@@ -95,9 +86,21 @@ fn import_under<S: Source, O: Sink, K: Keeper, C: Crew, P: Publisher, R: Threads
     ensures asked { AsksBy 0 result (K.plan keeper.old) (K.plan keeper.new) }
 {
     match run_day(
-        rt, alloc, plan, limits, late, true, tariffs, number, source, keeper, sink, crew, publisher,
+        rt,
+        alloc,
+        &terms.plan,
+        &terms.limits,
+        terms.late,
+        true,
+        tariffs,
+        terms.day,
+        source,
+        keeper,
+        sink,
+        crew,
+        publisher,
     ) {
-        Ok(run) => finish_import(alloc, number, &run, tariffs, keeper),
+        Ok(run) => finish_import(alloc, terms.day, &run, tariffs, keeper),
         Err(fault) => stopped(fault),
     }
 }
@@ -106,10 +109,7 @@ fn import_under<S: Source, O: Sink, K: Keeper, C: Crew, P: Publisher, R: Threads
 pub(crate) fn import_begun<S: Source, O: Sink, K: Keeper, C: Crew, P: Publisher, R: Threads>(
     rt: &R,
     alloc: Global,
-    number: u32,
-    plan: &Plan,
-    late: u8,
-    limits: &Limits,
+    terms: DayTerms,
     tariffs: &Tariffs,
     source: &mut S,
     sink: &mut O,
@@ -117,32 +117,27 @@ pub(crate) fn import_begun<S: Source, O: Sink, K: Keeper, C: Crew, P: Publisher,
     crew: &mut C,
     publisher: &mut P,
 ) -> Outcome
-    requires low { 70 ≤ number }
-    requires high { number ≤ 1000000 }
-    requires width { (1 ≤ plan.now.width) × (plan.now.width ≤ 64) }
-    requires soon { late ≤ 120 }
-    requires within { IsLimits limits.now }
     requires idle { C.out crew.old ≡ [] }
-    requires later { IfTold (K.told keeper.old) (λ o. IsLater number o) }
+    requires later { IfTold (K.told keeper.old) (λ o. IsLater terms.day o) }
     ensures does { C.exact ≡ true → (bytes : List ℕ) (o : Office) → S.left source.old ≡ Some bytes
         → K.told keeper.old ≡ Some o → tariffs.now ≡ o.tariffs
-        → Does K.refuses (new_import number late limits.now bytes o) o (O.written sink.old) (O.written sink.new)
-        (K.told keeper.new) result }
+        → Does K.refuses (new_import terms.day terms.late terms.limits bytes o) o (O.written sink.old)
+        (O.written sink.new) (K.told keeper.new) result }
     ensures merged { (bytes : List ℕ) (o : Office) → S.left source.old ≡ Some bytes → K.told keeper.old ≡ Some o
         → tariffs.now ≡ o.tariffs
-        → DoesByCrew K.refuses (λ found. new_import_found found number late limits.now bytes o) o (C.answers crew.old)
-        (C.answers crew.new) (O.written sink.old) (O.written sink.new) (K.told keeper.new) result }
+        → DoesByCrew K.refuses (λ found. new_import_found found terms.day terms.late terms.limits bytes o) o
+        (C.answers crew.old) (C.answers crew.new) (O.written sink.old) (O.written sink.new) (K.told keeper.new) result }
     ensures jobs { (bytes : List ℕ) → S.left source.old ≡ Some bytes
-        → HasStartedJobs plan.now.width limits.now.backlog (reads bytes limits.now late).tuples (C.jobs crew.old)
-        (C.jobs crew.new) result }
+        → HasStartedJobs terms.plan.width terms.limits.backlog (reads bytes terms.limits terms.late).tuples
+        (C.jobs crew.old) (C.jobs crew.new) result }
     ensures planned { (bytes : List ℕ) → S.left source.old ≡ Some bytes
-        → WorksPlanned plan.now limits.now.backlog (reads bytes limits.now late).tuples (C.jobs crew.old)
+        → WorksPlanned terms.plan terms.limits.backlog (reads bytes terms.limits terms.late).tuples (C.jobs crew.old)
         (C.jobs crew.new) (C.answers crew.old) (C.answers crew.new) result }
     ensures published { C.exact ≡ true → (bytes : List ℕ) (was : Posted) → S.left source.old ≡ Some bytes
         → P.posted publisher.old ≡ Some was
-        → PublishesDay tariffs.now (reads bytes limits.now late).tuples number limits.now.backlog was
+        → PublishesDay tariffs.now (reads bytes terms.limits terms.late).tuples terms.day terms.limits.backlog was
         (P.posted publisher.new) result }
-    ensures puts { (o : Office) → K.told keeper.old ≡ Some o → PutsOnce number o (K.told keeper.new) }
+    ensures puts { (o : Office) → K.told keeper.old ≡ Some o → PutsOnce terms.day o (K.told keeper.new) }
     ensures keeps { KeepsAll result (K.told keeper.new ≡ K.told keeper.old) }
     ensures read_first { (bytes : List ℕ) → S.left source.old ≡ Some bytes
         → KeepsUnlessRead (K.told keeper.old) (K.told keeper.new) (S.left source.new) (S.faults source.old)
@@ -150,9 +145,9 @@ pub(crate) fn import_begun<S: Source, O: Sink, K: Keeper, C: Crew, P: Publisher,
     ensures whole { (bytes : List ℕ) (kept : DayRecord) → S.left source.old ≡ Some bytes → result ≡ Stored kept
         → S.left source.new ≡ Some [] }
     ensures leaves { (bytes : List ℕ) → S.left source.old ≡ Some bytes
-        → LeavesRead result (reads bytes limits.now late).refused bytes (S.left source.new) }
+        → LeavesRead result (reads bytes terms.limits terms.late).refused bytes (S.left source.new) }
     ensures new_day { IsOfNewDay result }
-    ensures bounded { ReadsWithin (most_of_day limits.now) (S.left source.old) (S.left source.new) }
+    ensures bounded { ReadsWithin (most_of_day terms.limits) (S.left source.old) (S.left source.new) }
     ensures idle { C.out crew.new ≡ [] }
     ensures crew { C.which crew.new ≡ C.which crew.old }
     ensures publisher { P.which publisher.new ≡ P.which publisher.old }
@@ -165,9 +160,9 @@ pub(crate) fn import_begun<S: Source, O: Sink, K: Keeper, C: Crew, P: Publisher,
         (result ≡ KeeperFault) }
     ensures asked { AsksBy 0 result (K.plan keeper.old) (K.plan keeper.new) }
 {
-    match publisher.begin(number) {
+    match publisher.begin(terms.day) {
         Ok(()) => import_under(
-            rt, alloc, number, plan, late, limits, tariffs, source, sink, keeper, crew, publisher,
+            rt, alloc, terms, tariffs, source, sink, keeper, crew, publisher,
         ),
         Err(_) => Outcome::NoMemory,
     }

@@ -3,7 +3,6 @@ ghost use Rattle.std.specs.Prelude.{◌≡◌, ◌≤◌, List, ℕ, Some, None,
 ghost use Rattle.road_time.specs.Reads.{reads};
 ghost use Rattle.keep_office.specs.declared.kept.DayRecord.{DayRecord};
 ghost use Rattle.keep_office.specs.Office.{Office, record_of, last_day};
-ghost use Rattle.road_time.specs.Fits.{IsLimits};
 ghost use Rattle.day_reading.specs.Days.{most_of_day};
 ghost use Rattle.road_io.specs.Within.{ReadsWithin};
 ghost use Rattle.road_io.specs.Blame.{FaultsByPlan, FaultsByRoom};
@@ -22,11 +21,10 @@ ghost use Rattle.keep_office.specs.Calls.{IfTold};
 use crate::beginning::import_begun;
 use crate::keeping::compare;
 use crate::outcomes::{Outcome, refused};
+use crate::terms::DayTerms;
 use day_floor::Publisher;
-use day_plan::Plan;
 use keep_office::Keeper;
 use road_io::{Sink, Source};
-use road_time::Limits;
 use std::alloc::Global;
 use std::thread::Threads;
 use ways_crews::Crew;
@@ -36,45 +34,37 @@ use ways_crews::Crew;
 pub fn import<S: Source, O: Sink, K: Keeper, C: Crew, P: Publisher, R: Threads>(
     rt: &R,
     alloc: Global,
-    day: u32,
-    plan: &Plan,
-    late: u8,
-    limits: &Limits,
+    terms: DayTerms,
     source: &mut S,
     sink: &mut O,
     keeper: &mut K,
     crew: &mut C,
     publisher: &mut P,
 ) -> Outcome
-    requires low { 70 ≤ day }
-    requires high { day ≤ 1000000 }
-    requires width { (1 ≤ plan.now.width) × (plan.now.width ≤ 64) }
-    requires soon { late ≤ 120 }
-    requires within { IsLimits limits.now }
     requires idle { C.out crew.old ≡ [] }
     ensures does { C.exact ≡ true → (bytes : List ℕ) (o : Office) → S.left source.old ≡ Some bytes
         → K.told keeper.old ≡ Some o
-        → Does K.refuses (import_answer day late limits.now bytes o) o (O.written sink.old) (O.written sink.new)
-        (K.told keeper.new) result }
+        → Does K.refuses (import_answer terms.day terms.late terms.limits bytes o) o (O.written sink.old)
+        (O.written sink.new) (K.told keeper.new) result }
     ensures merged { (bytes : List ℕ) (o : Office) → S.left source.old ≡ Some bytes → K.told keeper.old ≡ Some o
-        → DoesByCrew K.refuses (λ found. import_found found day late limits.now bytes o) o (C.answers crew.old)
-        (C.answers crew.new) (O.written sink.old) (O.written sink.new) (K.told keeper.new) result }
+        → DoesByCrew K.refuses (λ found. import_found found terms.day terms.late terms.limits bytes o) o
+        (C.answers crew.old) (C.answers crew.new) (O.written sink.old) (O.written sink.new) (K.told keeper.new) result }
     ensures jobs { (bytes : List ℕ) → S.left source.old ≡ Some bytes
-        → HasStartedJobs plan.now.width limits.now.backlog (reads bytes limits.now late).tuples (C.jobs crew.old)
-        (C.jobs crew.new) result }
+        → HasStartedJobs terms.plan.width terms.limits.backlog (reads bytes terms.limits terms.late).tuples
+        (C.jobs crew.old) (C.jobs crew.new) result }
     ensures planned { (bytes : List ℕ) → S.left source.old ≡ Some bytes
-        → WorksPlanned plan.now limits.now.backlog (reads bytes limits.now late).tuples (C.jobs crew.old)
+        → WorksPlanned terms.plan terms.limits.backlog (reads bytes terms.limits terms.late).tuples (C.jobs crew.old)
         (C.jobs crew.new) (C.answers crew.old) (C.answers crew.new) result }
     ensures published { C.exact ≡ true → (bytes : List ℕ) (o : Office) (was : Posted) → S.left source.old ≡ Some bytes
         → K.told keeper.old ≡ Some o
         → P.posted publisher.old ≡ Some was
-        → PublishesDay o.tariffs (reads bytes limits.now late).tuples day limits.now.backlog was
+        → PublishesDay o.tariffs (reads bytes terms.limits terms.late).tuples terms.day terms.limits.backlog was
         (P.posted publisher.new) result }
     ensures published_by { C.exact ≡ true → (bytes : List ℕ) (was : Posted) → S.left source.old ≡ Some bytes
         → P.posted publisher.old ≡ Some was
-        → PublishesUnderSome (reads bytes limits.now late).tuples day limits.now.backlog was (P.posted publisher.new)
-        result }
-    ensures puts { (o : Office) → K.told keeper.old ≡ Some o → PutsOnce day o (K.told keeper.new) }
+        → PublishesUnderSome (reads bytes terms.limits terms.late).tuples terms.day terms.limits.backlog was
+        (P.posted publisher.new) result }
+    ensures puts { (o : Office) → K.told keeper.old ≡ Some o → PutsOnce terms.day o (K.told keeper.new) }
     ensures keeps { KeepsAll result (K.told keeper.new ≡ K.told keeper.old) }
     ensures read_first { (bytes : List ℕ) → S.left source.old ≡ Some bytes
         → KeepsUnlessRead (K.told keeper.old) (K.told keeper.new) (S.left source.new) (S.faults source.old)
@@ -82,17 +72,17 @@ pub fn import<S: Source, O: Sink, K: Keeper, C: Crew, P: Publisher, R: Threads>(
     ensures whole { (bytes : List ℕ) (kept : DayRecord) → S.left source.old ≡ Some bytes → result ≡ Stored kept
         → S.left source.new ≡ Some [] }
     ensures leaves { (bytes : List ℕ) → S.left source.old ≡ Some bytes
-        → LeavesRead result (reads bytes limits.now late).refused bytes (S.left source.new) }
+        → LeavesRead result (reads bytes terms.limits terms.late).refused bytes (S.left source.new) }
     ensures alone { LeavesAlone result (source.new ≡ source.old) ((sink.new ≡ sink.old)
         × (publisher.new ≡ publisher.old) × (crew.new ≡ crew.old)) }
     ensures rest { (bytes : List ℕ) (o : Office) → S.left source.old ≡ Some bytes → K.told keeper.old ≡ Some o
-        → LeavesRest result (record_of o day) bytes (S.left source.new) }
-    ensures unread { (o : Office) → K.told keeper.old ≡ Some o → record_of o day ≡ None → day ≤ last_day o
+        → LeavesRest result (record_of o terms.day) bytes (S.left source.new) }
+    ensures unread { (o : Office) → K.told keeper.old ≡ Some o → record_of o terms.day ≡ None → terms.day ≤ last_day o
         → source.new ≡ source.old }
     ensures uncompared { IsUncompared result
-        → ReadsWithin (most_of_day limits.now) (S.left source.old) (S.left source.new) }
+        → ReadsWithin (most_of_day terms.limits) (S.left source.old) (S.left source.new) }
     ensures bounded { (o : Office) → K.told keeper.old ≡ Some o
-        → ReadsWithin (most_imported (record_of o day) limits.now) (S.left source.old) (S.left source.new) }
+        → ReadsWithin (most_imported (record_of o terms.day) terms.limits) (S.left source.old) (S.left source.new) }
     ensures idle { C.out crew.new ≡ [] }
     ensures crew { C.which crew.new ≡ C.which crew.old }
     ensures publisher { P.which publisher.new ≡ P.which publisher.old }
@@ -106,11 +96,9 @@ pub fn import<S: Source, O: Sink, K: Keeper, C: Crew, P: Publisher, R: Threads>(
         (result ≡ KeeperFault) }
     ensures asked { AsksBy 3 result (K.plan keeper.old) (K.plan keeper.new) }
 {
-    match keeper.day(day) {
+    match keeper.day(terms.day) {
         Ok(Some(kept)) => compare(alloc, &kept, source),
-        Ok(None) => import_new(
-            rt, alloc, day, plan, late, limits, source, sink, keeper, crew, publisher,
-        ),
+        Ok(None) => import_new(rt, alloc, terms, source, sink, keeper, crew, publisher),
         Err(why) => refused(why),
     }
 }
@@ -119,46 +107,38 @@ pub fn import<S: Source, O: Sink, K: Keeper, C: Crew, P: Publisher, R: Threads>(
 fn import_later<S: Source, O: Sink, K: Keeper, C: Crew, P: Publisher, R: Threads>(
     rt: &R,
     alloc: Global,
-    number: u32,
-    plan: &Plan,
-    late: u8,
-    limits: &Limits,
+    terms: DayTerms,
     source: &mut S,
     sink: &mut O,
     keeper: &mut K,
     crew: &mut C,
     publisher: &mut P,
 ) -> Outcome
-    requires low { 70 ≤ number }
-    requires high { number ≤ 1000000 }
-    requires width { (1 ≤ plan.now.width) × (plan.now.width ≤ 64) }
-    requires soon { late ≤ 120 }
-    requires within { IsLimits limits.now }
     requires idle { C.out crew.old ≡ [] }
-    requires later { IfTold (K.told keeper.old) (λ o. IsLater number o) }
+    requires later { IfTold (K.told keeper.old) (λ o. IsLater terms.day o) }
     ensures does { C.exact ≡ true → (bytes : List ℕ) (o : Office) → S.left source.old ≡ Some bytes
         → K.told keeper.old ≡ Some o
-        → Does K.refuses (new_import number late limits.now bytes o) o (O.written sink.old) (O.written sink.new)
-        (K.told keeper.new) result }
+        → Does K.refuses (new_import terms.day terms.late terms.limits bytes o) o (O.written sink.old)
+        (O.written sink.new) (K.told keeper.new) result }
     ensures merged { (bytes : List ℕ) (o : Office) → S.left source.old ≡ Some bytes → K.told keeper.old ≡ Some o
-        → DoesByCrew K.refuses (λ found. new_import_found found number late limits.now bytes o) o (C.answers crew.old)
-        (C.answers crew.new) (O.written sink.old) (O.written sink.new) (K.told keeper.new) result }
+        → DoesByCrew K.refuses (λ found. new_import_found found terms.day terms.late terms.limits bytes o) o
+        (C.answers crew.old) (C.answers crew.new) (O.written sink.old) (O.written sink.new) (K.told keeper.new) result }
     ensures jobs { (bytes : List ℕ) → S.left source.old ≡ Some bytes
-        → HasStartedJobs plan.now.width limits.now.backlog (reads bytes limits.now late).tuples (C.jobs crew.old)
-        (C.jobs crew.new) result }
+        → HasStartedJobs terms.plan.width terms.limits.backlog (reads bytes terms.limits terms.late).tuples
+        (C.jobs crew.old) (C.jobs crew.new) result }
     ensures planned { (bytes : List ℕ) → S.left source.old ≡ Some bytes
-        → WorksPlanned plan.now limits.now.backlog (reads bytes limits.now late).tuples (C.jobs crew.old)
+        → WorksPlanned terms.plan terms.limits.backlog (reads bytes terms.limits terms.late).tuples (C.jobs crew.old)
         (C.jobs crew.new) (C.answers crew.old) (C.answers crew.new) result }
     ensures published { C.exact ≡ true → (bytes : List ℕ) (o : Office) (was : Posted) → S.left source.old ≡ Some bytes
         → K.told keeper.old ≡ Some o
         → P.posted publisher.old ≡ Some was
-        → PublishesDay o.tariffs (reads bytes limits.now late).tuples number limits.now.backlog was
+        → PublishesDay o.tariffs (reads bytes terms.limits terms.late).tuples terms.day terms.limits.backlog was
         (P.posted publisher.new) result }
     ensures published_by { C.exact ≡ true → (bytes : List ℕ) (was : Posted) → S.left source.old ≡ Some bytes
         → P.posted publisher.old ≡ Some was
-        → PublishesUnderSome (reads bytes limits.now late).tuples number limits.now.backlog was (P.posted publisher.new)
-        result }
-    ensures puts { (o : Office) → K.told keeper.old ≡ Some o → PutsOnce number o (K.told keeper.new) }
+        → PublishesUnderSome (reads bytes terms.limits terms.late).tuples terms.day terms.limits.backlog was
+        (P.posted publisher.new) result }
+    ensures puts { (o : Office) → K.told keeper.old ≡ Some o → PutsOnce terms.day o (K.told keeper.new) }
     ensures keeps { KeepsAll result (K.told keeper.new ≡ K.told keeper.old) }
     ensures read_first { (bytes : List ℕ) → S.left source.old ≡ Some bytes
         → KeepsUnlessRead (K.told keeper.old) (K.told keeper.new) (S.left source.new) (S.faults source.old)
@@ -166,9 +146,9 @@ fn import_later<S: Source, O: Sink, K: Keeper, C: Crew, P: Publisher, R: Threads
     ensures whole { (bytes : List ℕ) (kept : DayRecord) → S.left source.old ≡ Some bytes → result ≡ Stored kept
         → S.left source.new ≡ Some [] }
     ensures leaves { (bytes : List ℕ) → S.left source.old ≡ Some bytes
-        → LeavesRead result (reads bytes limits.now late).refused bytes (S.left source.new) }
+        → LeavesRead result (reads bytes terms.limits terms.late).refused bytes (S.left source.new) }
     ensures new_day { IsOfNewDay result }
-    ensures bounded { ReadsWithin (most_of_day limits.now) (S.left source.old) (S.left source.new) }
+    ensures bounded { ReadsWithin (most_of_day terms.limits) (S.left source.old) (S.left source.new) }
     ensures idle { C.out crew.new ≡ [] }
     ensures crew { C.which crew.new ≡ C.which crew.old }
     ensures publisher { P.which publisher.new ≡ P.which publisher.old }
@@ -183,7 +163,7 @@ fn import_later<S: Source, O: Sink, K: Keeper, C: Crew, P: Publisher, R: Threads
 {
     match keeper.tariffs() {
         Ok(tariffs) => import_begun(
-            rt, alloc, number, plan, late, limits, &tariffs, source, sink, keeper, crew, publisher,
+            rt, alloc, terms, &tariffs, source, sink, keeper, crew, publisher,
         ),
         Err(fault) => refused(fault),
     }
@@ -193,47 +173,39 @@ fn import_later<S: Source, O: Sink, K: Keeper, C: Crew, P: Publisher, R: Threads
 pub(crate) fn import_new<S: Source, O: Sink, K: Keeper, C: Crew, P: Publisher, R: Threads>(
     rt: &R,
     alloc: Global,
-    number: u32,
-    plan: &Plan,
-    late: u8,
-    limits: &Limits,
+    terms: DayTerms,
     source: &mut S,
     sink: &mut O,
     keeper: &mut K,
     crew: &mut C,
     publisher: &mut P,
 ) -> Outcome
-    requires low { 70 ≤ number }
-    requires high { number ≤ 1000000 }
-    requires width { (1 ≤ plan.now.width) × (plan.now.width ≤ 64) }
-    requires soon { late ≤ 120 }
-    requires within { IsLimits limits.now }
     requires idle { C.out crew.old ≡ [] }
     ensures does { C.exact ≡ true → (bytes : List ℕ) (o : Office) → S.left source.old ≡ Some bytes
         → K.told keeper.old ≡ Some o
-        → Does K.refuses (unless_passed (new_import number late limits.now bytes o) number o) o (O.written sink.old)
-        (O.written sink.new) (K.told keeper.new) result }
+        → Does K.refuses (unless_passed (new_import terms.day terms.late terms.limits bytes o) terms.day o) o
+        (O.written sink.old) (O.written sink.new) (K.told keeper.new) result }
     ensures merged { (bytes : List ℕ) (o : Office) → S.left source.old ≡ Some bytes → K.told keeper.old ≡ Some o
         → DoesByCrew K.refuses (λ found. unless_passed
-        (new_import_found found number late limits.now bytes o) number o) o (C.answers crew.old) (C.answers crew.new)
-        (O.written sink.old) (O.written sink.new) (K.told keeper.new) result }
-    ensures unread { (o : Office) → K.told keeper.old ≡ Some o → number ≤ last_day o → source.new ≡ source.old }
+        (new_import_found found terms.day terms.late terms.limits bytes o) terms.day o) o (C.answers crew.old)
+        (C.answers crew.new) (O.written sink.old) (O.written sink.new) (K.told keeper.new) result }
+    ensures unread { (o : Office) → K.told keeper.old ≡ Some o → terms.day ≤ last_day o → source.new ≡ source.old }
     ensures jobs { (bytes : List ℕ) → S.left source.old ≡ Some bytes
-        → HasStartedJobs plan.now.width limits.now.backlog (reads bytes limits.now late).tuples (C.jobs crew.old)
-        (C.jobs crew.new) result }
+        → HasStartedJobs terms.plan.width terms.limits.backlog (reads bytes terms.limits terms.late).tuples
+        (C.jobs crew.old) (C.jobs crew.new) result }
     ensures planned { (bytes : List ℕ) → S.left source.old ≡ Some bytes
-        → WorksPlanned plan.now limits.now.backlog (reads bytes limits.now late).tuples (C.jobs crew.old)
+        → WorksPlanned terms.plan terms.limits.backlog (reads bytes terms.limits terms.late).tuples (C.jobs crew.old)
         (C.jobs crew.new) (C.answers crew.old) (C.answers crew.new) result }
     ensures published { C.exact ≡ true → (bytes : List ℕ) (o : Office) (was : Posted) → S.left source.old ≡ Some bytes
         → K.told keeper.old ≡ Some o
         → P.posted publisher.old ≡ Some was
-        → PublishesDay o.tariffs (reads bytes limits.now late).tuples number limits.now.backlog was
+        → PublishesDay o.tariffs (reads bytes terms.limits terms.late).tuples terms.day terms.limits.backlog was
         (P.posted publisher.new) result }
     ensures published_by { C.exact ≡ true → (bytes : List ℕ) (was : Posted) → S.left source.old ≡ Some bytes
         → P.posted publisher.old ≡ Some was
-        → PublishesUnderSome (reads bytes limits.now late).tuples number limits.now.backlog was (P.posted publisher.new)
-        result }
-    ensures puts { (o : Office) → K.told keeper.old ≡ Some o → PutsOnce number o (K.told keeper.new) }
+        → PublishesUnderSome (reads bytes terms.limits terms.late).tuples terms.day terms.limits.backlog was
+        (P.posted publisher.new) result }
+    ensures puts { (o : Office) → K.told keeper.old ≡ Some o → PutsOnce terms.day o (K.told keeper.new) }
     ensures keeps { KeepsAll result (K.told keeper.new ≡ K.told keeper.old) }
     ensures read_first { (bytes : List ℕ) → S.left source.old ≡ Some bytes
         → KeepsUnlessRead (K.told keeper.old) (K.told keeper.new) (S.left source.new) (S.faults source.old)
@@ -241,10 +213,10 @@ pub(crate) fn import_new<S: Source, O: Sink, K: Keeper, C: Crew, P: Publisher, R
     ensures whole { (bytes : List ℕ) (kept : DayRecord) → S.left source.old ≡ Some bytes → result ≡ Stored kept
         → S.left source.new ≡ Some [] }
     ensures leaves { (bytes : List ℕ) → S.left source.old ≡ Some bytes
-        → LeavesRead result (reads bytes limits.now late).refused bytes (S.left source.new) }
+        → LeavesRead result (reads bytes terms.limits terms.late).refused bytes (S.left source.new) }
     ensures alone { LeavesAlone result (source.new ≡ source.old) ((sink.new ≡ sink.old)
         × (publisher.new ≡ publisher.old) × (crew.new ≡ crew.old)) }
-    ensures bounded { ReadsWithin (most_of_day limits.now) (S.left source.old) (S.left source.new) }
+    ensures bounded { ReadsWithin (most_of_day terms.limits) (S.left source.old) (S.left source.new) }
     ensures idle { C.out crew.new ≡ [] }
     ensures crew { C.which crew.new ≡ C.which crew.old }
     ensures publisher { P.which publisher.new ≡ P.which publisher.old }
@@ -259,12 +231,10 @@ pub(crate) fn import_new<S: Source, O: Sink, K: Keeper, C: Crew, P: Publisher, R
 {
     match keeper.last_day() {
         Ok(last) => {
-            if last >= number {
+            if last >= terms.day {
                 Outcome::DayPassed { last }
             } else {
-                import_later(
-                    rt, alloc, number, plan, late, limits, source, sink, keeper, crew, publisher,
-                )
+                import_later(rt, alloc, terms, source, sink, keeper, crew, publisher)
             }
         }
         Err(fault) => refused(fault),

@@ -2,7 +2,7 @@
 ghost use Rattle.std.specs.Prelude.{◌≡◌, ◌≤◌, []};
 
 use day_floor::NoPublisher;
-use day_import::{Outcome, answers, import};
+use day_import::{DayTerms, Outcome, answers, import};
 use day_plan::Plan;
 use keep_office::MemKeeper;
 use office_commands::office;
@@ -41,25 +41,19 @@ fn answered<R: Threads>(
     lines: &[u8],
     keeper: &mut MemKeeper,
 ) -> Result<(Outcome, MemSink), NoMemory> {
-    let plan = Plan {
-        width: 1,
-        turns: None,
+    let terms = DayTerms {
+        day: NUMBER,
+        plan: Plan {
+            width: 1,
+            turns: None,
+        },
+        late: 0,
+        limits: Limits::DAY,
     };
     let mut source = MemSource::new(alloc, lines, PIECE, &[])?;
     let mut sink = MemSink::new(alloc, ROOM, PIECE)?;
     let mut crew = InlineCrew::new(alloc, false);
-    let outcome = answers(
-        rt,
-        alloc,
-        NUMBER,
-        &plan,
-        0,
-        &Limits::DAY,
-        &mut source,
-        &mut sink,
-        keeper,
-        &mut crew,
-    );
+    let outcome = answers(rt, alloc, terms, &mut source, &mut sink, keeper, &mut crew);
     Ok((outcome, sink))
 }
 
@@ -103,9 +97,14 @@ fn imported<R: Threads + Copy + Drop>(
     lines: &[u8],
     keeper: &mut MemKeeper,
 ) -> Result<Outcome, NoMemory> {
-    let plan = Plan {
-        width: 3,
-        turns: None,
+    let terms = DayTerms {
+        day: NUMBER,
+        plan: Plan {
+            width: 3,
+            turns: None,
+        },
+        late: 0,
+        limits: Limits::DAY,
     };
     let mut source = MemSource::new(alloc, lines, PIECE, &[])?;
     let mut sink = MemSink::new(alloc, ROOM, PIECE)?;
@@ -113,10 +112,7 @@ fn imported<R: Threads + Copy + Drop>(
     Ok(import(
         rt,
         alloc,
-        NUMBER,
-        &plan,
-        0,
-        &Limits::DAY,
+        terms,
         &mut source,
         &mut sink,
         keeper,

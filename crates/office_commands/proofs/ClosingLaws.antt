@@ -1,7 +1,9 @@
 -- What a closing line says, and what may stand before it.
 use Rattle.std.proofs.Common.{◌≡◌, ◌≢◌, ◌==◌, ℕ, Bool, true, false, List, length, Option, Some, Ok, refl, sym, ap, ◌∙◌}
-use Rattle.std.proofs.Common.{arith, [], ◌<◌, take, if◌then◌else◌}
+use Rattle.std.proofs.Common.{arith, [], ◌<◌, take, if◌then◌else◌, subst}
 use Rattle.std.proofs.lemmas.List.{take_all, take-take, length-take}
+use Rattle.std.proofs.lemmas.Option.{none-some}
+use Rattle.std.specs.Io.KnownBytes.{Appends}
 use Rattle.road_io.proofs.SinkLaws.{appends_none}
 use Rattle.road_io.specs.declared.source.Failed.{Failed}
 use Rattle.keep_office.specs.declared.kept.KeepFault.{KeepFault}
@@ -12,7 +14,7 @@ use Rattle.office_commands.specs.declared.closing.Closing.TheVariants.{Checked}
 use Rattle.office_commands.specs.Closings.{status_of}
 use Rattle.office_commands.specs.Commands.{Answer}
 use Rattle.office_commands.specs.Endings.{Sort, Own, Unread, Unkept, Unroomed, sort_of, IsTextFront, StandsBy}
-use Rattle.office_commands.specs.Endings.{StandsBefore, Wrote, stopping, refusing}
+use Rattle.office_commands.specs.Endings.{StandsBefore, StandsByFault, Wrote, WroteShort, stopping, refusing}
 use Rattle.keep_office.specs.declared.kept.KeepFault.TheVariants as keeping
 use Rattle.day_reading.specs.declared.whole_day.ReadStop.TheVariants as stops
 
@@ -75,38 +77,46 @@ is_words _ e = absurd (omega (arith, e))
 pub whole_front : (text whole : List ℕ) → text ≡ whole → IsTextFront text whole
 whole_front text whole e = (length whole, e ∙ sym (take_all (length whole) whole (omega arith)))
 
--- what may stand before any closing line is some first bytes of the text
-front_by : (s : Sort) (a : Answer) (c : Closing) (text : List ℕ) → StandsBy s a c text → IsTextFront text a.text
-front_by Own a c text h = whole_front text a.text h.1
-front_by _ a c text h = h
+-- what may stand before a closing line of any sort may stand before that of a fault
+fault_by : (s : Sort) (a : Answer) (c : Closing) (text : List ℕ) → StandsBy s a c text → StandsByFault a text
+fault_by Own a c text h = (whole_front text a.text h.1, λ none. absurd (none-some c (none ∙ sym h.0)))
+fault_by _ a c text h = h
 
--- and so before this one
-pub front_of : (a : Answer) (c : Closing) (text : List ℕ) → StandsBefore a c text → IsTextFront text a.text
-front_of a c text h = front_by (sort_of c) a c text h
+-- and so what may stand before this one
+pub fault_of : (a : Answer) (c : Closing) (text : List ℕ) → StandsBefore a c text → StandsByFault a text
+fault_of a c text h = fault_by (sort_of c) a c text h
 
--- some first bytes of these are some of the text too
-pub front_front : (text whole : List ℕ) (k : ℕ) → k < length text → IsTextFront text whole →
-    IsTextFront (take k text) whole
-front_front text whole k h front = (
-  k,
-  ap (take k) front.1
-      ∙ take-take k front.0 whole (omega (arith, h, ap length front.1, length-take front.0 whole)),
-)
+-- some first bytes of these, and not all, are some of the text, and not all
+pub short_of : (a : Answer) (c : Closing) (text : List ℕ) (old new : Option (List ℕ)) (k : ℕ) →
+    StandsBefore a c text → k < length text → Appends old new (take k text) → WroteShort a old new
+short_of a c text old new k stands short wrote =
+    let front = (fault_of a c text stands).0 in
+    let size = length-take front.0 a.text in
+    let same = ap (take k) front.1 ∙ take-take k front.0 a.text (omega (arith, short, ap length front.1, size)) in
+    (k, omega (arith, short, ap length front.1, size), subst (λ bytes. Appends old new bytes) same wrote)
 
--- a run that could not read wrote nothing
+-- nothing may stand before the closing line of any fault
+pub fault_empty : (a : Answer) → StandsByFault a []
+fault_empty a = ((0, refl), λ none. refl)
+
+-- a run that found no memory wrote nothing
+pub wrote_unroomed : (a : Answer) (old : Option (List ℕ)) → Wrote a (Ok (Some NoMemory)) old old
+wrote_unroomed a old = ([], fault_empty a, appends_none old)
+
+-- nor one that could not read
 pub wrote_nothing : (a : Answer) (s : ReadStop) (old : Option (List ℕ)) → Wrote a (Ok (Some (stopping s))) old old
-wrote_nothing a stops.ReadFault old = ([], (0, refl), appends_none old)
-wrote_nothing a stops.NoMemory old = ([], (0, refl), appends_none old)
+wrote_nothing a stops.ReadFault old = ([], fault_empty a, appends_none old)
+wrote_nothing a stops.NoMemory old = ([], fault_empty a, appends_none old)
 
 -- nothing stands before the closing line of a run that could not read
 pub stops_empty : (a : Answer) (s : ReadStop) → StandsBefore a (stopping s) []
-stops_empty a stops.ReadFault = (0, refl)
-stops_empty a stops.NoMemory = (0, refl)
+stops_empty a stops.ReadFault = fault_empty a
+stops_empty a stops.NoMemory = fault_empty a
 
 -- nor before that of a refusal
 pub refuses_empty : (a : Answer) (fault : KeepFault) → StandsBefore a (refusing fault) []
-refuses_empty a keeping.Failed = (0, refl)
-refuses_empty a keeping.NoMemory = (0, refl)
+refuses_empty a keeping.Failed = fault_empty a
+refuses_empty a keeping.NoMemory = fault_empty a
 
 -- the whole text stands before the own closing line of a command
 pub stands_whole : (a : Answer) (c : Closing) (text : List ℕ) → Some c ≡ a.closing → text ≡ a.text →
@@ -115,9 +125,9 @@ stands_whole a c text is whole = go (sort_of c)
   where
     go : (s : Sort) → StandsBy s a c text
     go Own = (is, whole)
-    go Unread = whole_front text a.text whole
-    go Unkept = whole_front text a.text whole
-    go Unroomed = whole_front text a.text whole
+    go Unread = fault_by Own a c text (is, whole)
+    go Unkept = fault_by Own a c text (is, whole)
+    go Unroomed = fault_by Own a c text (is, whole)
 
 -- nothing stands before the own closing line of a command without a text
 pub stands_alone : (a : Answer) (c : Closing) → Some c ≡ a.closing → [] ≡ a.text → StandsBefore a c []
@@ -125,6 +135,6 @@ stands_alone a c is none = go (sort_of c)
   where
     go : (s : Sort) → StandsBy s a c []
     go Own = (is, none)
-    go Unread = (0, refl)
-    go Unkept = (0, refl)
-    go Unroomed = (0, refl)
+    go Unread = fault_empty a
+    go Unkept = fault_empty a
+    go Unroomed = fault_empty a

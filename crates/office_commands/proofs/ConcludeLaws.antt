@@ -1,5 +1,5 @@
 -- What a run wrote and kept together, from what it wrote and what it kept.
-use Rattle.std.proofs.Common.{◌≡◌, ◌⊎◌, inl, inr, ℕ, List, [], take, Option, Some, None, Result, Ok, Err, refl, sym, ap}
+use Rattle.std.proofs.Common.{◌≡◌, ◌⊎◌, inl, inr, ℕ, List, [], take, Option, Some, None, Result, Ok, Err, refl, ap}
 use Rattle.std.proofs.Common.{◌∙◌}
 use Rattle.std.specs.Io.KnownBytes.{Appends}
 use Rattle.road_io.proofs.SinkLaws.{appends_on}
@@ -24,8 +24,8 @@ module _ (w : WhenRefused) (a : Answer) (was : Office) (old mid : Option (List �
       HoldsBy s w a was c text now
   same_holds Own c text same stands keeps = (stands.0, stands.1, keeps)
   same_holds Unread c text same stands keeps = (stands, keeps)
-  same_holds Unkept c text same stands keeps = inl (stands, same)
-  same_holds Unroomed c text same stands keeps = inl (stands, same)
+  same_holds Unkept c text same stands keeps = (stands.1, inl (stands.0, same))
+  same_holds Unroomed c text same stands keeps = (stands.1, inl (stands.0, same))
 
   -- a command that is to change nothing
   pub did_unchanged : (r : Result (Option Closing) Failed) → a.office ≡ was → Wrote a r old mid → Keeps w a was now r →
@@ -36,13 +36,12 @@ module _ (w : WhenRefused) (a : Answer) (was : Office) (old mid : Option (List �
     wrote.2,
   )
   did_unchanged (Ok None) still wrote keeps = (wrote.0, wrote.1, keeps)
-  did_unchanged (Err e) still wrote keeps =
-      (wrote.0, wrote.1, wrote.2, keeps, λ other. absurd (other (keeps ∙ ap Some (sym still))))
+  did_unchanged (Err e) still wrote keeps = (wrote, keeps)
 
   -- what a fault leaves
   silent_left : (fault : KeepFault) → [] ≡ a.text → LeftBy w fault a was now → Halted w fault a was [] now
-  silent_left fault none (inl same) = inl ((0, refl), same)
-  silent_left fault none (inr left) = inr (none, left)
+  silent_left fault none (inl same) = (λ alone. refl, inl ((0, refl), same))
+  silent_left fault none (inr left) = (λ alone. refl, inr (none, left))
 
   -- by the sort of the closing line
   silent_holds : (s : Sort) (c : Closing) → [] ≡ a.text → StandsBy s a c [] → KeepsBy s w a was now →

@@ -8,9 +8,9 @@ use Rattle.office_commands.specs.declared.closing.Closing.{Closing}
 use Rattle.office_commands.specs.declared.closing.Closing.TheVariants.{ReadFault, KeeperFault, NoMemory}
 use Rattle.office_commands.specs.Closings.{closing_line, status_of}
 use Rattle.office_commands.specs.Commands.{Answer}
-use Rattle.office_commands.specs.Endings.{Sort, Own, Unread, Unkept, Unroomed, sort_of, IsTextFront, StandsBy, Wrote}
+use Rattle.office_commands.specs.Endings.{Sort, Own, Unread, Unkept, Unroomed, sort_of, StandsBy, StandsByFault, Wrote}
 use Rattle.office_commands.specs.Endings.{ClosesRun, WroteAll, WroteFault, WroteSome, last_line, status_by}
-use Rattle.office_commands.proofs.ClosingLaws.{IsOf, is_of, front_of}
+use Rattle.office_commands.proofs.ClosingLaws.{IsOf, is_of, fault_of}
 
 module _ (a : Answer) (old mid new : Option (List ℕ)) (status : ℕ) where
   -- a closing line was written, or the sink failed in it, or memory ran out and its line was
@@ -27,11 +27,11 @@ module _ (a : Answer) (old mid new : Option (List ℕ)) (status : ℕ) where
   )
 
   -- a fault's line after some first bytes of the text
-  faulted : (c f : Closing) (text : List ℕ) → c ≡ f → IsTextFront text a.text → Appends old mid text →
+  faulted : (c f : Closing) (text : List ℕ) → c ≡ f → StandsByFault a text → Appends old mid text →
       Appends mid new (closing_line c) → WroteFault a f old new
-  faulted c f text is front w l = (
+  faulted c f text is stands w l = (
     text,
-    front,
+    stands,
     appends_on old mid new text (closing_line f) _ w
         (subst (λ x. Appends mid new (closing_line x)) is l) refl,
   )
@@ -80,7 +80,7 @@ module _ (a : Answer) (old mid new : Option (List ℕ)) (status : ℕ) where
 
   -- and with status 8 only with the line of want of memory
   pub no_memory : (c : Closing) → Wrote a (Ok (Some c)) old mid → Closed c → status ≡ 8 → WroteFault a NoMemory old new
-  no_memory c w (inr (takes, inl h)) e = faulted NoMemory NoMemory w.0 refl (front_of a c w.0 w.1) w.2 h.1
+  no_memory c w (inr (takes, inl h)) e = faulted NoMemory NoMemory w.0 refl (fault_of a c w.0 w.1) w.2 h.1
   no_memory c w (inr (takes, inr h)) e = absurd (omega (arith, h.0, e))
   no_memory c w (inl (inr h)) e = absurd (omega (arith, h.0, e))
   no_memory c w (inl (inl h)) e = go (sort_of c) (is_of c) w.1
@@ -99,7 +99,7 @@ module _ (a : Answer) (old mid new : Option (List ℕ)) (status : ℕ) where
         NoMemory,
         w.0,
         h.1.0,
-        front_of a c w.0 w.1,
+        fault_of a c w.0 w.1,
         h.1.1,
         appends_on old mid new w.0
             (take h.1.0 (closing_line NoMemory)) _ w.2 h.1.2 refl,

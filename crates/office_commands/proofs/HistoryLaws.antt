@@ -22,16 +22,16 @@ use Rattle.office_commands.specs.Commands.{past_closing, past_by}
 use Rattle.office_commands.specs.Closings.{status_of}
 use Rattle.office_commands.specs.Endings.{StandsBefore, HoldsSame, sort_of, KeepsBy}
 use Rattle.office_commands.specs.Rests.{LeavesOfPast, HasStoppedPast, HasReadPast}
-use Rattle.office_commands.proofs.ClosingLaws.{whole_front}
+use Rattle.office_commands.proofs.ClosingLaws.{fault_empty}
 use Rattle.office_commands.proofs.OutcomeLaws.{neither}
 
 module _ (w : WhenRefused) (base : ℕ) (a : PastAnswer) (was : Office) (now : Option Office) where
   -- the closing line of a history that was kept, or of why not
   stands_by : (done : PastOutcome) → DoesPast w a was now done →
       StandsBefore (past_by base a) (past_closing base done) []
-  stands_by ReadFault h = whole_front [] [] refl
-  stands_by KeeperFault h = whole_front [] [] refl
-  stands_by NoMemory h = whole_front [] [] refl
+  stands_by ReadFault h = fault_empty (past_by base a)
+  stands_by KeeperFault h = fault_empty (past_by base a)
+  stands_by NoMemory h = fault_empty (past_by base a)
   stands_by _ h = (ap (λ d. Some (past_closing base d)) h.outcome_is, refl)
 
   -- and what is kept after it

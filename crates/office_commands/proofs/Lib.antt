@@ -2,6 +2,7 @@ pub mod ClosingLaws
 pub mod EndingLaws
 pub mod KeepingLaws
 pub mod WordLaws
+pub mod NamedLaws
 pub mod OutcomeLaws
 pub mod ReportLaws
 pub mod TariffLaws

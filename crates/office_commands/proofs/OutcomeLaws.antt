@@ -1,6 +1,6 @@
 -- What a command wrote and kept, from what importing or answering its day did.
-use Rattle.std.proofs.Common.{◌≡◌, ◌≢◌, ◌⊎◌, ◌∙◌, inl, inr, ℕ, Bool, List, take, length-take, Option, Some, Result}
-use Rattle.std.proofs.Common.{Ok, Err, OnErr, refl, sym, ap, subst, arith, IsErr}
+use Rattle.std.proofs.Common.{◌≡◌, ◌≢◌, ◌⊎◌, ◌∙◌, inl, inr, ℕ, Bool, List, take, Option, Some, None, Result}
+use Rattle.std.proofs.Common.{Ok, Err, OnErr, refl, sym, ap, subst, IsErr}
 use Rattle.std.specs.Io.KnownBytes.{Appends}
 use Rattle.road_io.specs.declared.source.Failed.{Failed}
 use Rattle.keep_office.specs.declared.kept.KeepFault.{KeepFault}
@@ -39,17 +39,24 @@ module _ (w : WhenRefused) (number : ℕ) (a : day.DayAnswer) (was : Office) (ol
   KeepsIt r = Keeps w (row_by number a) was now r
 
   -- the text of a call that stored, answered, or said why not, and of one that was stopped
-  pub wrote : (done : Outcome) (r : Result (Option Closing) Failed) → EndsCommand (closing_by number done) r →
-      DoesIt done → WroteIt r
-  wrote ReadFault (Ok c) e h = subst (λ x. WroteIt (Ok x)) (sym e) (take h.0.0 a.text, (h.0.0, refl), h.0.1)
-  wrote KeeperFault (Ok c) e (inl h) = subst (λ x. WroteIt (Ok x)) (sym e) (take h.0.0 a.text, (h.0.0, refl), h.0.1)
-  wrote KeeperFault (Ok c) e (inr h) = subst (λ x. WroteIt (Ok x)) (sym e) (a.text, whole_front a.text a.text refl, h.0)
-  wrote NoMemory (Ok c) e (inl h) = subst (λ x. WroteIt (Ok x)) (sym e) (take h.0.0 a.text, (h.0.0, refl), h.0.1)
-  wrote NoMemory (Ok c) e (inr h) = subst (λ x. WroteIt (Ok x)) (sym e) (a.text, whole_front a.text a.text refl, h.0)
-  wrote WriteFault (Ok c) e h = absurd e
-  wrote WriteFault (Err x) e h = (take h.0.0 a.text, (h.0.0, refl), h.0.2)
-  wrote _ (Err x) e h = absurd e
-  wrote _ (Ok c) e h =
+  pub wrote : None ≢ closing_by number a.outcome → (done : Outcome) (r : Result (Option Closing) Failed) →
+      EndsCommand (closing_by number done) r → DoesIt done → WroteIt r
+  wrote named ReadFault (Ok c) e h =
+      subst (λ x. WroteIt (Ok x)) (sym e) (take h.0.0 a.text, ((h.0.0, refl), λ alone. absurd (named alone)), h.0.1)
+  wrote named KeeperFault (Ok c) e (inl h) =
+      subst (λ x. WroteIt (Ok x)) (sym e) (take h.0.0 a.text, ((h.0.0, refl), λ alone. absurd (named alone)), h.0.1)
+  wrote named KeeperFault (Ok c) e (inr h) =
+      subst (λ x. WroteIt (Ok x)) (sym e)
+      (a.text, (whole_front a.text a.text refl, λ alone. absurd (named alone)), h.0)
+  wrote named NoMemory (Ok c) e (inl h) =
+      subst (λ x. WroteIt (Ok x)) (sym e) (take h.0.0 a.text, ((h.0.0, refl), λ alone. absurd (named alone)), h.0.1)
+  wrote named NoMemory (Ok c) e (inr h) =
+      subst (λ x. WroteIt (Ok x)) (sym e)
+      (a.text, (whole_front a.text a.text refl, λ alone. absurd (named alone)), h.0)
+  wrote named WriteFault (Ok c) e h = absurd e
+  wrote named WriteFault (Err x) e h = h.0
+  wrote named _ (Err x) e h = absurd e
+  wrote named _ (Ok c) e h =
       subst (λ x. WroteIt (Ok x)) (sym e) (a.text, (ap (closing_by number) h.outcome_is, refl), h.wrote)
 
   -- and what is kept after it
@@ -74,43 +81,43 @@ module _ (w : WhenRefused) (number : ℕ) (a : day.DayAnswer) (was : Office) (ol
 module _ (w : WhenRefused) (number : ℕ) (a : day.DayAnswer) (was : Office) (old new : Option (List ℕ))
     (now : Option Office) where
   -- it is what a fault leaves behind some first bytes
-  stopped_did : (fault : KeepFault) → day.Halts w fault a was old new now → (text : List ℕ)
-      × Halted w fault (row_by number a) was text now × Appends old new text
-  stopped_did fault (inl h) = (take h.0.0 a.text, inl ((h.0.0, refl), h.1), h.0.1)
-  stopped_did fault (inr h) = (a.text, inr (refl, h.1), h.0)
+  stopped_did : (fault : KeepFault) → None ≢ closing_by number a.outcome → day.Halts w fault a was old new now →
+      (text : List ℕ) × Halted w fault (row_by number a) was text now × Appends old new text
+  stopped_did fault named (inl h) =
+      (take h.0.0 a.text, ((λ alone. absurd (named alone)), inl ((h.0.0, refl), h.1)), h.0.1)
+  stopped_did fault named (inr h) = (a.text, ((λ alone. absurd (named alone)), inr (refl, h.1)), h.0)
 
   -- what a command wrote and what is kept then
-  pub did : (done : Outcome) (r : Result (Option Closing) Failed) → EndsCommand (closing_by number done) r →
-      Does w a was old new now done → Did w (row_by number a) was old new now r
-  did (Stored kept) (Ok c) e h =
+  pub did : None ≢ closing_by number a.outcome → (done : Outcome) (r : Result (Option Closing) Failed) →
+      EndsCommand (closing_by number done) r → Does w a was old new now done → Did w (row_by number a) was old new now r
+  did named (Stored kept) (Ok c) e h =
       subst (λ x. Did w (row_by number a) was old new now (Ok x)) (sym e)
       (a.text, (ap (closing_by number) h.outcome_is, refl, h.kept), h.wrote)
-  did (Already kept) (Ok c) e h =
+  did named (Already kept) (Ok c) e h =
       subst (λ x. Did w (row_by number a) was old new now (Ok x)) (sym e)
       (a.text, (ap (closing_by number) h.outcome_is, refl, h.kept), h.wrote)
-  did (Answered kept) (Ok c) e h =
+  did named (Answered kept) (Ok c) e h =
       subst (λ x. Did w (row_by number a) was old new now (Ok x)) (sym e)
       (a.text, (ap (closing_by number) h.outcome_is, refl, h.kept), h.wrote)
-  did (Refused line cause) (Ok c) e h =
+  did named (Refused line cause) (Ok c) e h =
       subst (λ x. Did w (row_by number a) was old new now (Ok x)) (sym e)
       (a.text, (ap (closing_by number) h.outcome_is, refl, h.kept), h.wrote)
-  did (DayPassed last) (Ok c) e h =
+  did named (DayPassed last) (Ok c) e h =
       subst (λ x. Did w (row_by number a) was old new now (Ok x)) (sym e)
       (a.text, (ap (closing_by number) h.outcome_is, refl, h.kept), h.wrote)
-  did (Differs kept found) (Ok c) e h =
+  did named (Differs kept found) (Ok c) e h =
       subst (λ x. Did w (row_by number a) was old new now (Ok x)) (sym e)
       (a.text, (ap (closing_by number) h.outcome_is, refl, h.kept), h.wrote)
-  did ReadFault (Ok c) e h =
+  did named ReadFault (Ok c) e h =
       subst (λ x. Did w (row_by number a) was old new now (Ok x)) (sym e)
-      (take h.0.0 a.text, ((h.0.0, refl), h.1), h.0.1)
-  did KeeperFault (Ok c) e h =
-      subst (λ x. Did w (row_by number a) was old new now (Ok x)) (sym e) (stopped_did keeping.Failed h)
-  did NoMemory (Ok c) e h =
-      subst (λ x. Did w (row_by number a) was old new now (Ok x)) (sym e) (stopped_did keeping.NoMemory h)
-  did WriteFault (Ok c) e h = absurd e
-  did WriteFault (Err x) e h =
-      (take h.0.0 a.text, (h.0.0, refl), h.0.2, h.1, λ other. omega (arith, h.0.1, length-take h.0.0 a.text))
-  did _ (Err x) e h = absurd e
+      (take h.0.0 a.text, (((h.0.0, refl), λ alone. absurd (named alone)), h.1), h.0.1)
+  did named KeeperFault (Ok c) e h =
+      subst (λ x. Did w (row_by number a) was old new now (Ok x)) (sym e) (stopped_did keeping.Failed named h)
+  did named NoMemory (Ok c) e h =
+      subst (λ x. Did w (row_by number a) was old new now (Ok x)) (sym e) (stopped_did keeping.NoMemory named h)
+  did named WriteFault (Ok c) e h = absurd e
+  did named WriteFault (Err x) e h = h
+  did named _ (Err x) e h = absurd e
 
 -- the status of a run whose closing line is known
 pub code_is : (c : Option Closing) (k : Closing) → c ≡ Some k → code_of (Ok c) ≡ status_of k

@@ -1,5 +1,5 @@
 -- What a command wrote, from what its report wrote.
-use Rattle.std.proofs.Common.{◌≡◌, ◌≢◌, ℕ, List, [], take, Option, Some, None, Result, Ok, Err, refl, sym, subst}
+use Rattle.std.proofs.Common.{◌≡◌, ◌≢◌, ℕ, List, [], Option, Some, None, Result, Ok, Err, refl, sym, subst}
 use Rattle.road_io.specs.declared.source.Failed.{Failed}
 use Rattle.keep_office.specs.Office.{Office}
 use Rattle.office_reports.specs.declared.report_fault.ReportFault.{ReportFault}
@@ -9,6 +9,7 @@ use Rattle.office_reports.specs.Endings as report
 use Rattle.office_commands.specs.declared.closing.Closing.{Closing}
 use Rattle.office_commands.specs.Commands.{report_command, text_alone}
 use Rattle.office_commands.specs.Endings.{Wrote, EndsReport}
+use Rattle.office_commands.proofs.ClosingLaws.{fault_empty}
 
 -- a report changes nothing
 pub report_office : (number : ℕ) (text : Option (List ℕ)) (o : Office) → (report_command number text o).office ≡ o
@@ -25,17 +26,18 @@ module _ (number : ℕ) (o : Office) (old new : Option (List ℕ)) where
       subst (λ x. Wrote (report_command number None o) (Ok x) old new) (sym e) ([], (refl, refl), h)
   reported (Some t) (Err reports.NoDay) r e h = absurd h
   reported None (Err reports.KeeperFault) (Ok c) e h =
-      subst (λ x. Wrote (report_command number None o) (Ok x) old new) (sym e) ([], (0, refl), h)
+      subst (λ x. Wrote (report_command number None o) (Ok x) old new) (sym e)
+      ([], fault_empty (report_command number None o), h)
   reported (Some t) (Err reports.KeeperFault) (Ok c) e h =
-      subst (λ x. Wrote (text_alone t o) (Ok x) old new) (sym e) (take h.0 t, (h.0, refl), h.1)
-  reported None (Err reports.WriteFault) (Ok c) e h = absurd e
+      subst (λ x. Wrote (text_alone t o) (Ok x) old new) (sym e) ([], fault_empty (text_alone t o), h)
+  reported None (Err reports.WriteFault) r e h = absurd h
   reported (Some t) (Err reports.WriteFault) (Ok c) e h = absurd e
-  reported None (Err reports.WriteFault) (Err x) e h = ([], (0, refl), h)
-  reported (Some t) (Err reports.WriteFault) (Err x) e h = (take h.0 t, (h.0, refl), h.1)
+  reported (Some t) (Err reports.WriteFault) (Err x) e h = h
   reported None (Err reports.NoMemory) (Ok c) e h =
-      subst (λ x. Wrote (report_command number None o) (Ok x) old new) (sym e) ([], (0, refl), h)
+      subst (λ x. Wrote (report_command number None o) (Ok x) old new) (sym e)
+      ([], fault_empty (report_command number None o), h)
   reported (Some t) (Err reports.NoMemory) (Ok c) e h =
-      subst (λ x. Wrote (text_alone t o) (Ok x) old new) (sym e) (take h.0 t, (h.0, refl), h.1)
+      subst (λ x. Wrote (text_alone t o) (Ok x) old new) (sym e) ([], fault_empty (text_alone t o), h)
   reported (Some t) _ (Err x) e h = absurd e
   reported None _ (Err x) e h = absurd e
 
@@ -46,9 +48,9 @@ module _ (number : ℕ) (o : Office) (old new : Option (List ℕ)) where
   stated t (Ok u) (Ok c) e own h = subst (λ x. Wrote (text_alone t o) (Ok x) old new) (sym e) (refl, h)
   stated t (Err reports.NoDay) r e own h = absurd (own refl)
   stated t (Err reports.KeeperFault) (Ok c) e own h =
-      subst (λ x. Wrote (text_alone t o) (Ok x) old new) (sym e) (take h.0 t, (h.0, refl), h.1)
+      subst (λ x. Wrote (text_alone t o) (Ok x) old new) (sym e) ([], fault_empty (text_alone t o), h)
   stated t (Err reports.WriteFault) (Ok c) e own h = absurd e
-  stated t (Err reports.WriteFault) (Err x) e own h = (take h.0 t, (h.0, refl), h.1)
+  stated t (Err reports.WriteFault) (Err x) e own h = h
   stated t (Err reports.NoMemory) (Ok c) e own h =
-      subst (λ x. Wrote (text_alone t o) (Ok x) old new) (sym e) (take h.0 t, (h.0, refl), h.1)
+      subst (λ x. Wrote (text_alone t o) (Ok x) old new) (sym e) ([], fault_empty (text_alone t o), h)
   stated t _ (Err x) e own h = absurd e

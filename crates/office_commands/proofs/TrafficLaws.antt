@@ -1,5 +1,5 @@
 -- Generated traffic as a command, and what is kept of it.
-use Rattle.std.proofs.Common.{◌≡◌, ◌≢◌, ◌≤◌, ◌∙◌, ℕ, List, [], take, Option, None, Result, Ok, Err, refl, sym, ap}
+use Rattle.std.proofs.Common.{◌≡◌, ◌≢◌, ◌≤◌, ◌∙◌, ℕ, List, [], Option, None, Result, Ok, Err, refl, sym, ap}
 use Rattle.std.proofs.Common.{subst, arith}
 use Rattle.std.proofs.lemmas.Bool.{cond-false, lt-leb}
 use Rattle.road_time.specs.declared.day.TheConstants.Limits.{DAY}
@@ -32,6 +32,7 @@ use Rattle.office_commands.specs.declared.closing.Closing.{Closing}
 use Rattle.office_commands.specs.Commands.{text_alone}
 use Rattle.office_commands.specs.Endings.{Wrote}
 use Rattle.office_commands.specs.Traffic.{EndsTraffic, rehearsed_record}
+use Rattle.office_commands.proofs.ClosingLaws.{fault_empty}
 
 module _ (plan : GenPlan) (o : Office) (old new : Option (List ℕ)) where
   -- what a generation wrote, as a command
@@ -41,10 +42,10 @@ module _ (plan : GenPlan) (o : Office) (old new : Option (List ℕ)) where
   wrote_traffic (Ok n) (Err x) e h = absurd e
   wrote_traffic (Err (traffic.Size field)) r e h = absurd e
   wrote_traffic (Err traffic.WriteFault) (Ok c) e h = absurd e
-  wrote_traffic (Err traffic.WriteFault) (Err x) e h = (take h.0 (file_of plan), (h.0, refl), h.2)
+  wrote_traffic (Err traffic.WriteFault) (Err x) e h = h
   wrote_traffic (Err traffic.NoMemory) (Ok c) e h =
       subst (λ x. Wrote (text_alone (file_of plan) o) (Ok x) old new) (sym e)
-      ([], (0, refl), subst (λ now. Appends old now []) h (appends_none old))
+      ([], fault_empty (text_alone (file_of plan) o), subst (λ now. Appends old now []) h (appends_none old))
   wrote_traffic (Err traffic.NoMemory) (Err x) e h = absurd e
 
 -- the record of a whole file as a day, where nothing is kept

@@ -36,22 +36,34 @@ sort_of _ = Own
 abbrev pub IsTextFront : List ℕ → List ℕ → Type 0
 IsTextFront text whole = (k : ℕ) × (text ≡ take k whole)
 
+-- nothing stands before a fault's closing line of a command that has none of its own
+abbrev pub IsSilent : Answer → List ℕ → Type 0
+IsSilent a text = None ≡ a.closing → text ≡ []
+
+-- what may stand before the closing line of a fault: some first bytes of the text
+abbrev pub StandsByFault : Answer → List ℕ → Type 0
+StandsByFault a text = IsTextFront text a.text × IsSilent a text
+
 -- what may stand before a closing line of a sort: the whole text before the command's own, some first bytes of it
 -- before that of a fault
 abbrev pub StandsBy : Sort → Answer → Closing → List ℕ → Type 0
 StandsBy Own a c text = (Some c ≡ a.closing) × (text ≡ a.text)
-StandsBy _ a c text = IsTextFront text a.text
+StandsBy _ a c text = StandsByFault a text
 
 -- what may stand before a closing line
 abbrev pub StandsBefore : Answer → Closing → List ℕ → Type 0
 StandsBefore a c text = StandsBy (sort_of c) a c text
 
+-- some first bytes of a command's text were written, and not all
+abbrev pub WroteShort : Answer → Option (List ℕ) → Option (List ℕ) → Type 0
+WroteShort a old new = (k : ℕ) × (k < length a.text) × Appends old new (take k a.text)
+
 -- a command wrote what may stand before the closing line that it names, or all where it has none, or its sink failed
--- after some first bytes of its text
+-- after some first bytes of its text, and not all
 abbrev pub Wrote : Answer → Result (Option Closing) Failed → Option (List ℕ) → Option (List ℕ) → Type 0
 Wrote a (Ok (Some c)) old new = (text : List ℕ) × StandsBefore a c text × Appends old new text
 Wrote a (Ok None) old new = (None ≡ a.closing) × Appends old new a.text
-Wrote a (Err e) old new = (text : List ℕ) × IsTextFront text a.text × Appends old new text
+Wrote a (Err e) old new = WroteShort a old new
 
 -- what a fault or want of memory leaves: what was kept, or what a refused put leaves
 abbrev pub LeftBy : WhenRefused → KeepFault → Answer → Office → Option Office → Type 0
@@ -134,15 +146,15 @@ status_by (Some c) = status_of c
 abbrev pub WroteAll : Answer → Option (List ℕ) → Option (List ℕ) → Type 0
 WroteAll a old new = Appends old new (a.text ++ last_line a.closing)
 
--- some first bytes of the text were written, and then a fault's closing line
+-- what may stand before a fault's closing line was written, and then that line
 abbrev pub WroteFault : Answer → Closing → Option (List ℕ) → Option (List ℕ) → Type 0
-WroteFault a c old new = (text : List ℕ) × IsTextFront text a.text × Appends old new (text ++ closing_line c)
+WroteFault a c old new = (text : List ℕ) × StandsByFault a text × Appends old new (text ++ closing_line c)
 
--- some first bytes of the text were written; or all that may stand before a closing line, and then some first bytes of
--- that line and not all
+-- some first bytes of the text were written, and not all; or all that may stand before a closing line, and then some
+-- first bytes of that line, and not all
 abbrev pub WroteSome : Answer → Option (List ℕ) → Option (List ℕ) → Type 0
 WroteSome a old new =
-    ((text : List ℕ) × IsTextFront text a.text × Appends old new text)
+    WroteShort a old new
     ⊎ ((c : Closing) × (text : List ℕ) × (k : ℕ) × StandsBefore a c text × (k < length (closing_line c))
     × Appends old new (text ++ take k (closing_line c)))
 
@@ -172,25 +184,20 @@ code_of (Err e) = 5
 -- does and the put was refused
 abbrev pub Halted : WhenRefused → KeepFault → Answer → Office → List ℕ → Option Office → Type 0
 Halted w fault a was text now =
-    (IsTextFront text a.text × (now ≡ Some was))
-    ⊎ ((text ≡ a.text) × ((o : Office) × (now ≡ Some o) × Leaves w fault o was a.office))
+    IsSilent a text
+    × ((IsTextFront text a.text × (now ≡ Some was))
+    ⊎ ((text ≡ a.text) × ((o : Office) × (now ≡ Some o) × Leaves w fault o was a.office)))
 
 -- what stands before a closing line of a sort, and what is kept then
 abbrev pub HoldsBy : Sort → WhenRefused → Answer → Office → Closing → List ℕ → Option Office → Type 0
 HoldsBy Own w a was c text now = (Some c ≡ a.closing) × (text ≡ a.text) × (now ≡ Some a.office)
-HoldsBy Unread w a was c text now = IsTextFront text a.text × (now ≡ Some was)
+HoldsBy Unread w a was c text now = StandsByFault a text × (now ≡ Some was)
 HoldsBy Unkept w a was c text now = Halted w keeping.Failed a was text now
 HoldsBy Unroomed w a was c text now = Halted w keeping.NoMemory a was text now
 
--- a text is not whole, unless what is kept is what is asked
-abbrev pub IsShortText : Answer → List ℕ → Option Office → Type 0
-IsShortText a text now = now ≢ Some a.office → length text < length a.text
-
--- the sink failed in the text: some first bytes of it stand there, not all where a day is still to be kept, and what is
--- kept is as it was
+-- the sink failed in the text: some first bytes of it stand there, and not all, and what is kept is as it was
 abbrev pub Broke : Answer → Office → Option (List ℕ) → Option (List ℕ) → Option Office → Type 0
-Broke a was old new now =
-    (text : List ℕ) × IsTextFront text a.text × Appends old new text × (now ≡ Some was) × IsShortText a text now
+Broke a was old new now = WroteShort a old new × (now ≡ Some was)
 
 -- what a command wrote and what is kept then, by how it ended
 abbrev pub Did : WhenRefused → Answer → Office → Option (List ℕ) → Option (List ℕ) → Option Office

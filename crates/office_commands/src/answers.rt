@@ -17,6 +17,7 @@ ghost use Rattle.road_io.specs.Blame.{FaultsByPlan, FaultsByRoom};
 
 use crate::closing::Closing;
 use crate::outcome::ended;
+use day_import::DayTerms;
 use keep_office::Keeper;
 use office_words::DayRun;
 use road_io::{Failed, Sink, Source};
@@ -65,8 +66,12 @@ pub fn answers<S: Source, O: Sink, K: Keeper, C: Crew, R: Threads>(
     ensures keeper { FaultsByPlan (K.faults keeper.old) (K.faults keeper.new) (K.plan keeper.old)
         (result ≡ Ok (Some KeeperFault)) }
 {
-    let done = day_import::answers(
-        rt, alloc, run.day, &run.plan, run.late, limits, source, sink, keeper, crew,
-    );
+    let terms = DayTerms {
+        day: run.day,
+        plan: run.plan,
+        late: run.late,
+        limits: *limits,
+    };
+    let done = day_import::answers(rt, alloc, terms, source, sink, keeper, crew);
     ended(run.day, done)
 }

@@ -20,6 +20,7 @@ ghost use Rattle.road_io.specs.Blame.{FaultsByPlan, FaultsByRoom};
 use crate::closing::Closing;
 use crate::outcome::ended;
 use day_floor::NoPublisher;
+use day_import::DayTerms;
 use keep_office::Keeper;
 use office_words::DayRun;
 use road_io::{Failed, Sink, Source};
@@ -76,18 +77,12 @@ pub fn import<S: Source, O: Sink, K: Keeper, C: Crew, R: Threads>(
         (result ≡ Ok (Some KeeperFault)) }
 {
     let mut publisher = NoPublisher;
-    let done = day_import::import(
-        rt,
-        alloc,
-        run.day,
-        &run.plan,
-        run.late,
-        limits,
-        source,
-        sink,
-        keeper,
-        crew,
-        &mut publisher,
-    );
+    let terms = DayTerms {
+        day: run.day,
+        plan: run.plan,
+        late: run.late,
+        limits: *limits,
+    };
+    let done = day_import::import(rt, alloc, terms, source, sink, keeper, crew, &mut publisher);
     ended(run.day, done)
 }

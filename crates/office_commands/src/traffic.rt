@@ -20,7 +20,7 @@ ghost use Rattle.road_io.specs.Blame.{FaultsByRoom};
 use crate::closing::Closing;
 use crate::run_limits::run_limits;
 use day_floor::NoPublisher;
-use day_import::Outcome;
+use day_import::{DayTerms, Outcome};
 use keep_office::{DayRecord, MemKeeper};
 use office_words::{DayRun, Size};
 use road_io::{Failed, MemSink, MemSource, Sink, VoidSink};
@@ -121,13 +121,16 @@ fn kept_alone<C: Crew, R: Threads>(
     let mut sink = VoidSink;
     let mut publisher = NoPublisher;
     let own = run_limits(&run, &Limits::DAY);
+    let terms = DayTerms {
+        day: run.day,
+        plan: run.plan,
+        late: run.late,
+        limits: own,
+    };
     match day_import::import(
         rt,
         alloc,
-        run.day,
-        &run.plan,
-        run.late,
-        &own,
+        terms,
         &mut source,
         &mut sink,
         &mut keeper,

@@ -90,7 +90,7 @@ fn find_sums<K: Keeper>(
 
 /// Writes what all vehicles were charged on the days `from` to `to`, both included, as CSV: a line that names the
 /// columns, and a line for each vehicle and expressway with amounts, in the order of the two. The amounts of one day
-/// are held at a time. After a fault a prefix was written.
+/// are held at a time. After a `WriteFault` a prefix was written, and not all; after another fault nothing.
 pub fn charges_csv<K: Keeper, O: Sink>(
     alloc: Global,
     from: u32,

@@ -16,7 +16,8 @@ use road_time::NoMemory;
 use std::alloc::Global;
 
 /// Writes the amounts of a kept day as CSV: a line that names the columns, and a line for each vehicle and expressway.
-/// `NoDay` comes exactly where the day is not kept, and nothing was written then. After a fault a prefix was written.
+/// `NoDay` comes exactly where the day is not kept. After a `WriteFault` a prefix was written, and not all; after another
+/// fault nothing.
 pub fn export_csv<K: Keeper, O: Sink>(
     alloc: Global,
     day: u32,

@@ -61,7 +61,8 @@ fn text_for(alloc: Global, tuples: &[Tuple]) -> Result<Vec<u8>, NoMemory>
 }
 
 /// Writes a line `FROM,TO,XWAY,DIR,LANE,SEG,POS` for each accident of the day: its first second, its last or -1 where
-/// it stands at the end of the day, and its place. After a fault a prefix was written.
+/// it stands at the end of the day, and its place. After a `WriteFault` a prefix was written, and not all; after another
+/// fault nothing.
 pub fn accident_log<O: Sink>(
     alloc: Global,
     tuples: &[Tuple],

@@ -76,7 +76,8 @@ pub(crate) fn find_day<K: Keeper>(day: u32, keeper: &mut K) -> Result<KeptDay, R
 }
 
 /// Writes what is kept of a day: its record, an item a line, and for each expressway with tolls of that day their sum.
-/// `NoDay` comes exactly where the day is not kept, and nothing was written then. After a fault a prefix was written.
+/// `NoDay` comes exactly where the day is not kept. After a `WriteFault` a prefix was written, and not all; after another
+/// fault nothing.
 pub fn day_statement<K: Keeper, O: Sink>(
     alloc: Global,
     day: u32,

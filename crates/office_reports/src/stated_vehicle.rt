@@ -15,7 +15,8 @@ use road_time::NoMemory;
 use std::alloc::Global;
 
 /// Writes what is kept of a vehicle on the days `from` to `to`, both included: a line for each day and expressway,
-/// and the sum. A vehicle without amounts has the first and the last line. After a fault a prefix was written.
+/// and the sum. A vehicle without amounts has the first and the last line. After a `WriteFault` a prefix was written, and
+/// not all; after another fault nothing.
 pub fn vehicle_statement<K: Keeper, O: Sink>(
     alloc: Global,
     vid: u32,

@@ -15,6 +15,7 @@ use crate::answers::{answer_day, answer_days, answer_page, answer_spent, answer_
 use crate::import_desk::ImportDesk;
 use crate::notices::answer_notices;
 use crate::posting::answer_import;
+use crate::work::DayWork;
 use day_plan::Plan;
 use keep_office::Keeper;
 use road_io::TwoWay;
@@ -75,14 +76,15 @@ impl<K: Keeper, C: Crew, R: Wait + Threads + Drop> Desk<K, C, R> {
             Asked::Days => answer_days(alloc, &mut self.keeper, link),
             Asked::Page => answer_page(alloc, link),
             Asked::Import { day, length, early } => {
-                let plan = self.plan;
-                let limits = self.limits;
+                let work = DayWork {
+                    day: *day,
+                    plan: self.plan,
+                    limits: self.limits,
+                };
                 answer_import(
                     &self.rt,
                     alloc,
-                    *day,
-                    &plan,
-                    &limits,
+                    work,
                     early.items(),
                     *length,
                     &mut self.keeper,
@@ -92,14 +94,15 @@ impl<K: Keeper, C: Crew, R: Wait + Threads + Drop> Desk<K, C, R> {
                 )
             }
             Asked::Answers { day, length, early } => {
-                let plan = self.plan;
-                let limits = self.limits;
+                let work = DayWork {
+                    day: *day,
+                    plan: self.plan,
+                    limits: self.limits,
+                };
                 answer_notices(
                     &self.rt,
                     alloc,
-                    *day,
-                    &plan,
-                    &limits,
+                    work,
                     early.items(),
                     *length,
                     &mut self.keeper,

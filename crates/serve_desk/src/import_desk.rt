@@ -2,7 +2,6 @@
 ghost use Rattle.std.specs.Prelude.{◌≡◌, ◌≢◌, ◌≤◌, ◌+◌, ◌⊎◌, ℕ, List, [], Some, None, length};
 ghost use Rattle.std.specs.Io.KnownBytes.{prepend_known};
 ghost use Rattle.road_io.specs.Plans.{NeverFails};
-ghost use Rattle.road_time.specs.Fits.{IsLimits};
 ghost use Rattle.road_io.specs.Blame.{FaultsByPlan};
 ghost use Rattle.keep_office.specs.Office.{Office, record_of, last_day};
 ghost use Rattle.keep_office.specs.declared.kept.DayRecord.{DayRecord};
@@ -18,10 +17,9 @@ ghost use Rattle.serve_desk.specs.Sessions.{IsTaught, Learns};
 
 use crate::imported::Imported;
 use crate::importing::import_only;
-use day_plan::Plan;
+use crate::work::DayWork;
 use keep_office::Keeper;
 use road_io::Link;
-use road_time::Limits;
 use serve_board::laws::published_law;
 use serve_board::{BoardNaming, BoardWriter, NamedReader, NamedWriter};
 use std::alloc::Global;
@@ -82,28 +80,22 @@ impl<J: BoardNaming, C: Crew, R: Wait + Threads + Drop> ImportDesk<J, C, R> {
     pub fn import<'b, L: Link, K: Keeper>(
         &mut self,
         alloc: Global,
-        plan: &Plan,
-        limits: &Limits,
-        day: u32,
+        work: DayWork,
         early: &'b [u8],
         count: u64,
         keeper: &mut K,
         link: &mut L,
     ) -> Imported<'b>
-        requires low { 70 ≤ day }
-        requires high { day ≤ 1000000 }
         requires few { length early.now ≤ count }
-        requires width { (1 ≤ plan.now.width) × (plan.now.width ≤ 64) }
-        requires within { IsLimits limits.now }
         ensures imports { (all : List ℕ) (o : Office) → prepend_known early.now (L.left link.old) ≡ Some all
-            → K.told keeper.old ≡ Some o → Imports K.refuses C.exact day limits.now (filled count all) o
+            → K.told keeper.old ≡ Some o → Imports K.refuses C.exact work.day work.limits (filled count all) o
             (K.told keeper.new) self.old.writer.posted (Some self.new.writer.posted) result.outcome }
         ensures reads { IsReadTo count (prepend_known early.now (L.left link.old)) result.early.now (L.left link.new)
             result.read }
         ensures few { (all : List ℕ) (o : Office) (left : ℕ) → prepend_known early.now (L.left link.old) ≡ Some all
             → K.told keeper.old ≡ Some o → result.read ≡ Open left
-            → count ≤ left + most_imported (record_of o day) limits.now }
-        ensures unread { (o : Office) → K.told keeper.old ≡ Some o → record_of o day ≡ None → day ≤ last_day o
+            → count ≤ left + most_imported (record_of o work.day) work.limits }
+        ensures unread { (o : Office) → K.told keeper.old ≡ Some o → record_of o work.day ≡ None → work.day ≤ last_day o
             → (L.left link.new ≡ L.left link.old) × (result.read ≡ Open count) × (result.early.now ≡ early.now) }
         ensures read { result.outcome ≡ ReadFault → IsStopped result.read }
         ensures stored { (all : List ℕ) (kept : DayRecord) → prepend_known early.now (L.left link.old) ≡ Some all
@@ -125,9 +117,7 @@ impl<J: BoardNaming, C: Crew, R: Wait + Threads + Drop> ImportDesk<J, C, R> {
         import_only(
             &self.rt,
             alloc,
-            day,
-            plan,
-            limits,
+            work,
             early,
             count,
             link,

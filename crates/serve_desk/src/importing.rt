@@ -3,7 +3,6 @@ ghost use Rattle.std.specs.Prelude.{◌≡◌, ◌≢◌, ◌≤◌, ◌<◌, �
 ghost use Rattle.std.specs.Io.KnownBytes.{prepend_known};
 ghost use Rattle.road_io.specs.Blame.{FaultsByPlan};
 ghost use Rattle.road_io.specs.Plans.{NeverFails};
-ghost use Rattle.road_time.specs.Fits.{IsLimits};
 ghost use Rattle.day_floor.specs.Operations.{Posted};
 ghost use Rattle.keep_office.specs.Office.{Office, record_of, last_day};
 ghost use Rattle.keep_office.specs.declared.kept.DayRecord.{DayRecord};
@@ -17,12 +16,11 @@ ghost use Rattle.serve_desk.specs.Imports.{Imports};
 ghost use Rattle.serve_desk.specs.Reading.{IsReadTo, HasReadCause, IsStopped, HasNoneLeft};
 
 use crate::imported::{Imported, ReadTo};
+use crate::work::DayWork;
 use day_floor::Publisher;
-use day_import::import;
-use day_plan::Plan;
+use day_import::{DayTerms, import};
 use keep_office::Keeper;
 use road_io::{Link, VoidSink};
-use road_time::Limits;
 use serve_requests::{Body, Start};
 use std::alloc::Global;
 use std::marker::{Brand, PhantomData};
@@ -51,9 +49,7 @@ pub fn read_to<L: Link, N: Start>(body: &Body<'_, '_, L, N>) -> ReadTo
 fn import_from<'b, L: Link, K: Keeper, C: Crew, P: Publisher, R: Threads, N: Start>(
     rt: &R,
     alloc: Global,
-    day: u32,
-    plan: &Plan,
-    limits: &Limits,
+    work: DayWork,
     early: &'b [u8],
     count: u64,
     link: &mut L,
@@ -61,10 +57,6 @@ fn import_from<'b, L: Link, K: Keeper, C: Crew, P: Publisher, R: Threads, N: Sta
     crew: &mut C,
     publisher: &mut P,
 ) -> Imported<'b>
-    requires low { 70 ≤ day }
-    requires high { day ≤ 1000000 }
-    requires width { (1 ≤ plan.now.width) × (plan.now.width ≤ 64) }
-    requires within { IsLimits limits.now }
     requires idle { C.out crew.old ≡ [] }
     requires few { length early.now ≤ count }
     requires total { count ≡ N.total }
@@ -74,12 +66,12 @@ fn import_from<'b, L: Link, K: Keeper, C: Crew, P: Publisher, R: Threads, N: Sta
     requires plan { L.plan link.old ≡ N.plan }
     requires faults { L.faults link.old ≡ N.faults }
     ensures imports { (all : List ℕ) (o : Office) (was : Posted) → N.bytes ≡ Some all → K.told keeper.old ≡ Some o
-        → P.posted publisher.old ≡ Some was → Imports K.refuses C.exact day limits.now (filled count all) o
+        → P.posted publisher.old ≡ Some was → Imports K.refuses C.exact work.day work.limits (filled count all) o
         (K.told keeper.new) was (P.posted publisher.new) result.outcome }
     ensures reads { IsReadTo count N.bytes result.early.now (L.left link.new) result.read }
     ensures few { (all : List ℕ) (o : Office) (left : ℕ) → N.bytes ≡ Some all → K.told keeper.old ≡ Some o
-        → result.read ≡ Open left → count ≤ left + most_imported (record_of o day) limits.now }
-    ensures unread { (o : Office) → K.told keeper.old ≡ Some o → record_of o day ≡ None → day ≤ last_day o
+        → result.read ≡ Open left → count ≤ left + most_imported (record_of o work.day) work.limits }
+    ensures unread { (o : Office) → K.told keeper.old ≡ Some o → record_of o work.day ≡ None → work.day ≤ last_day o
         → (L.left link.new ≡ L.left link.old) × (result.read ≡ Open count) × (result.early.now ≡ early.now) }
     ensures read { result.outcome ≡ ReadFault → IsStopped result.read }
     ensures stored { (all : List ℕ) (kept : DayRecord) → N.bytes ≡ Some all → result.outcome ≡ Stored kept
@@ -110,10 +102,12 @@ fn import_from<'b, L: Link, K: Keeper, C: Crew, P: Publisher, R: Threads, N: Sta
     let outcome = import(
         rt,
         alloc,
-        day,
-        plan,
-        0,
-        limits,
+        DayTerms {
+            day: work.day,
+            plan: work.plan,
+            late: 0,
+            limits: work.limits,
+        },
         &mut body,
         &mut VoidSink,
         keeper,
@@ -133,9 +127,7 @@ fn import_from<'b, L: Link, K: Keeper, C: Crew, P: Publisher, R: Threads, N: Sta
 pub fn import_only<'b, L: Link, K: Keeper, C: Crew, P: Publisher, R: Threads>(
     rt: &R,
     alloc: Global,
-    day: u32,
-    plan: &Plan,
-    limits: &Limits,
+    work: DayWork,
     early: &'b [u8],
     count: u64,
     link: &mut L,
@@ -143,21 +135,18 @@ pub fn import_only<'b, L: Link, K: Keeper, C: Crew, P: Publisher, R: Threads>(
     crew: &mut C,
     publisher: &mut P,
 ) -> Imported<'b>
-    requires low { 70 ≤ day }
-    requires high { day ≤ 1000000 }
-    requires width { (1 ≤ plan.now.width) × (plan.now.width ≤ 64) }
-    requires within { IsLimits limits.now }
     requires idle { C.out crew.old ≡ [] }
     requires few { length early.now ≤ count }
     ensures imports { (all : List ℕ) (o : Office) (was : Posted) → prepend_known early.now (L.left link.old) ≡ Some all
-        → K.told keeper.old ≡ Some o → P.posted publisher.old ≡ Some was → Imports K.refuses C.exact day limits.now
-        (filled count all) o (K.told keeper.new) was (P.posted publisher.new) result.outcome }
+        → K.told keeper.old ≡ Some o → P.posted publisher.old ≡ Some was
+        → Imports K.refuses C.exact work.day work.limits (filled count all) o (K.told keeper.new) was
+        (P.posted publisher.new) result.outcome }
     ensures reads { IsReadTo count (prepend_known early.now (L.left link.old)) result.early.now (L.left link.new)
         result.read }
     ensures few { (all : List ℕ) (o : Office) (left : ℕ) → prepend_known early.now (L.left link.old) ≡ Some all
         → K.told keeper.old ≡ Some o → result.read ≡ Open left
-        → count ≤ left + most_imported (record_of o day) limits.now }
-    ensures unread { (o : Office) → K.told keeper.old ≡ Some o → record_of o day ≡ None → day ≤ last_day o
+        → count ≤ left + most_imported (record_of o work.day) work.limits }
+    ensures unread { (o : Office) → K.told keeper.old ≡ Some o → record_of o work.day ≡ None → work.day ≤ last_day o
         → (L.left link.new ≡ L.left link.old) × (result.read ≡ Open count) × (result.early.now ≡ early.now) }
     ensures read { result.outcome ≡ ReadFault → IsStopped result.read }
     ensures stored { (all : List ℕ) (kept : DayRecord) → prepend_known early.now (L.left link.old) ≡ Some all
@@ -178,6 +167,6 @@ pub fn import_only<'b, L: Link, K: Keeper, C: Crew, P: Publisher, R: Threads>(
         (result.outcome ≡ KeeperFault) }
 {
     import_from::<L, K, C, P, R, Brand>(
-        rt, alloc, day, plan, limits, early, count, link, keeper, crew, publisher,
+        rt, alloc, work, early, count, link, keeper, crew, publisher,
     )
 }

@@ -60,4 +60,4 @@ pub use sessions::session;
 pub use shared::SharedKeeper;
 pub use sharing::session_shared;
 pub use two_locks::TwoLocks;
-pub use work::Work;
+pub use work::{DayWork, Work};

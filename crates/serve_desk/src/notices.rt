@@ -3,7 +3,6 @@ ghost use Rattle.std.specs.Prelude.{◌≡◌, ◌≢◌, ◌≤◌, ◌<◌, �
 ghost use Rattle.std.specs.Io.KnownBytes.{prepend_known};
 ghost use Rattle.road_io.specs.Faults.{Rose};
 ghost use Rattle.road_io.specs.Rooms.{Endless};
-ghost use Rattle.road_time.specs.Fits.{IsLimits};
 ghost use Rattle.keep_office.specs.Office.{Office};
 ghost use Rattle.serve_requests.specs.declared.session_end.SessionEnd.TheVariants.{Answered, LinkFault};
 ghost use Rattle.serve_desk.specs.Answers.{TellsFault, wire_of};
@@ -11,10 +10,9 @@ ghost use Rattle.serve_desk.specs.Streams.{AnswersDay};
 
 use crate::stream_ends::finish_stream;
 use crate::streaming::stream_day;
-use day_plan::Plan;
+use crate::work::DayWork;
 use keep_office::Keeper;
 use road_io::TwoWay;
-use road_time::Limits;
 use serve_requests::{SessionEnd, send_no_memory};
 use std::alloc::Global;
 use std::thread::Threads;
@@ -24,24 +22,18 @@ use ways_crews::Crew;
 pub fn answer_notices<L: TwoWay, K: Keeper, C: Crew, R: Threads>(
     rt: &R,
     alloc: Global,
-    day: u32,
-    plan: &Plan,
-    limits: &Limits,
+    work: DayWork,
     early: &[u8],
     count: u64,
     keeper: &mut K,
     crew: &mut C,
     link: &mut L,
 ) -> SessionEnd
-    requires low { 70 ≤ day }
-    requires high { day ≤ 1000000 }
-    requires width { (1 ≤ plan.now.width) × (plan.now.width ≤ 64) }
-    requires within { IsLimits limits.now }
     requires idle { C.out crew.old ≡ [] }
     requires few { length early.now ≤ count }
     ensures answers { (all : List ℕ) (o : Office) → prepend_known early.now (L.left link.old) ≡ Some all
         → K.told keeper.old ≡ Some o
-        → AnswersDay K.refuses C.exact day limits.now count all o
+        → AnswersDay K.refuses C.exact work.day work.limits count all o
         (wire_of (L.left link.old) (L.plan link.old) (L.written link.old) (L.room link.old))
         (wire_of (L.left link.new) (L.plan link.new) (L.written link.new) (L.room link.new)) result }
     ensures kept { K.told keeper.new ≡ K.told keeper.old }
@@ -58,10 +50,8 @@ pub fn answer_notices<L: TwoWay, K: Keeper, C: Crew, R: Threads>(
         return send_no_memory(link);
     };
     let mut out = out;
-    let settled = stream_day(
-        rt, alloc, day, plan, limits, early, count, link, &mut out, keeper, crew,
-    );
-    let end = finish_stream(alloc, day, settled, link, &mut out);
+    let settled = stream_day(rt, alloc, work, early, count, link, &mut out, keeper, crew);
+    let end = finish_stream(alloc, work.day, settled, link, &mut out);
     link.put_back(out);
     end
 }

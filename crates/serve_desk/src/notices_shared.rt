@@ -5,7 +5,6 @@ ghost use Rattle.road_io.specs.Blame.{FaultsByPlan};
 ghost use Rattle.road_io.specs.Faults.{Rose};
 ghost use Rattle.road_io.specs.Plans.{NeverFails};
 ghost use Rattle.road_io.specs.Rooms.{Endless};
-ghost use Rattle.road_time.specs.Fits.{IsLimits};
 ghost use Rattle.keep_office.specs.Office.{Office};
 ghost use Rattle.day_import.specs.declared.outcomes.Outcome.TheVariants.{WriteFault, KeeperFault};
 ghost use Rattle.serve_requests.specs.AskedBodies.{filled};
@@ -21,10 +20,9 @@ use crate::imported::Imported;
 use crate::shared::SharedKeeper;
 use crate::stream_ends::finish_stream;
 use crate::streaming::stream_day;
-use day_plan::Plan;
+use crate::work::DayWork;
 use keep_office::Keeper;
 use road_io::{Link, Sink, TwoWay};
-use road_time::Limits;
 use serve_board::BoardNaming;
 use serve_loops::Turn;
 use serve_requests::{SessionEnd, send_no_memory};
@@ -39,23 +37,17 @@ impl<J: BoardNaming, C: Crew, R: Wait + Threads + Drop> ImportDesk<J, C, R> {
     pub(crate) fn stream<'b, L: Link, O: Sink, K: Keeper>(
         &mut self,
         alloc: Global,
-        plan: &Plan,
-        limits: &Limits,
-        day: u32,
+        work: DayWork,
         early: &'b [u8],
         count: u64,
         keeper: &mut K,
         link: &mut L,
         out: &mut O,
     ) -> Imported<'b>
-        requires low { 70 ≤ day }
-        requires high { day ≤ 1000000 }
         requires few { length early.now ≤ count }
-        requires width { (1 ≤ plan.now.width) × (plan.now.width ≤ 64) }
-        requires within { IsLimits limits.now }
         ensures streams { (all : List ℕ) (o : Office) → prepend_known early.now (L.left link.old) ≡ Some all
             → K.told keeper.old ≡ Some o → C.exact ≡ true
-            → Streams K.refuses day limits.now (filled count all) o (O.written out.old) (O.written out.new)
+            → Streams K.refuses work.day work.limits (filled count all) o (O.written out.old) (O.written out.new)
             result.outcome }
         ensures kept { K.told keeper.new ≡ K.told keeper.old }
         ensures reads { IsReadTo count (prepend_known early.now (L.left link.old)) result.early.now (L.left link.new)
@@ -76,9 +68,7 @@ impl<J: BoardNaming, C: Crew, R: Wait + Threads + Drop> ImportDesk<J, C, R> {
         stream_day(
             &self.rt,
             alloc,
-            day,
-            plan,
-            limits,
+            work,
             early,
             count,
             link,
@@ -129,22 +119,16 @@ pub(crate) fn answer_notices_shared<
 >(
     rt: &R,
     alloc: Global,
-    plan: &Plan,
-    limits: &Limits,
+    work: DayWork,
     imports: &Mutex<ImportDesk<J, C, R>>,
     turn: &mut T,
-    day: u32,
     early: &[u8],
     count: u64,
     keeper: &mut SharedKeeper<'a, J, K, R>,
     link: &mut L,
 ) -> SessionEnd
-    requires low { 70 ≤ day }
-    requires high { day ≤ 1000000 }
     requires few { length early.now ≤ count }
-    requires width { (1 ≤ plan.now.width) × (plan.now.width ≤ 64) }
-    requires within { IsLimits limits.now }
-    ensures answers { AnswersNotices K.told K.refuses C.exact limits.now day count early.now
+    ensures answers { AnswersNotices K.told K.refuses C.exact work.limits work.day count early.now
         (wire_of (L.left link.old) (L.plan link.old) (L.written link.old) (L.room link.old))
         (wire_of (L.left link.new) (L.plan link.new) (L.written link.new) (L.room link.new)) result }
     ensures unavailable { result ≢ Answered 503 }
@@ -159,13 +143,11 @@ pub(crate) fn answer_notices_shared<
     let mut out = out;
     let mut desk = imports.lock(rt);
     let mut held = keeper.hold();
-    let settled = desk.stream(
-        alloc, plan, limits, day, early, count, &mut held, link, &mut out,
-    );
+    let settled = desk.stream(alloc, work, early, count, &mut held, link, &mut out);
     drop(desk);
     keeper.counts(held);
     turn.over();
-    let end = finish_after(alloc, day, settled, turn, link, &mut out);
+    let end = finish_after(alloc, work.day, settled, turn, link, &mut out);
     link.put_back(out);
     end
 }

@@ -4,7 +4,6 @@ ghost use Rattle.std.specs.Io.KnownBytes.{prepend_known};
 ghost use Rattle.road_io.specs.Faults.{Rose};
 ghost use Rattle.road_io.specs.Plans.{NeverFails};
 ghost use Rattle.road_io.specs.Rooms.{Endless};
-ghost use Rattle.road_time.specs.Fits.{IsLimits};
 ghost use Rattle.keep_office.specs.Office.{Office};
 ghost use Rattle.day_import.specs.declared.outcomes.AnsweredDay.{AnsweredDay};
 ghost use Rattle.day_import.specs.declared.outcomes.Outcome.TheVariants as outcomes;
@@ -18,12 +17,11 @@ ghost use Rattle.serve_desk.specs.declared.imported.ReadTo.TheVariants as readin
 use crate::answers::{send_keeper_fault, send_made};
 use crate::imported::{Imported, ReadTo};
 use crate::importing::import_only;
+use crate::work::DayWork;
 use day_import::Outcome;
-use day_plan::Plan;
 use http::StatusCode;
 use keep_office::Keeper;
 use road_io::Link;
-use road_time::Limits;
 use serve_board::BoardWriter;
 use serve_requests::{
     BodyEnd, SessionEnd, differs_body, imported_body, passed_body, refused_body, send_no_memory,
@@ -149,9 +147,7 @@ pub fn finish_import<L: Link>(alloc: Global, imported: Imported<'_>, link: &mut 
 pub fn answer_import<L: Link, K: Keeper, C: Crew, R: Wait + Threads + Drop>(
     rt: &R,
     alloc: Global,
-    day: u32,
-    plan: &Plan,
-    limits: &Limits,
+    work: DayWork,
     early: &[u8],
     count: u64,
     keeper: &mut K,
@@ -159,14 +155,10 @@ pub fn answer_import<L: Link, K: Keeper, C: Crew, R: Wait + Threads + Drop>(
     writer: &mut BoardWriter<R>,
     link: &mut L,
 ) -> SessionEnd
-    requires low { 70 ≤ day }
-    requires high { day ≤ 1000000 }
-    requires width { (1 ≤ plan.now.width) × (plan.now.width ≤ 64) }
-    requires within { IsLimits limits.now }
     requires idle { C.out crew.old ≡ [] }
     requires few { length early.now ≤ count }
     ensures imports { (all : List ℕ) (o : Office) → prepend_known early.now (L.left link.old) ≡ Some all
-        → K.told keeper.old ≡ Some o → ImportsDay K.refuses C.exact day limits.now count all o
+        → K.told keeper.old ≡ Some o → ImportsDay K.refuses C.exact work.day work.limits count all o
         (state_of (K.told keeper.old) (K.faults keeper.old) writer.old.posted)
         (state_of (K.told keeper.new) (K.faults keeper.new) writer.new.posted)
         (wire_of (L.left link.old) (L.plan link.old) (L.written link.old) (L.room link.old))
@@ -181,8 +173,6 @@ pub fn answer_import<L: Link, K: Keeper, C: Crew, R: Wait + Threads + Drop>(
     ensures later { L.faults link.old ≤ L.faults link.new }
     ensures keeper_later { K.faults keeper.old ≤ K.faults keeper.new }
 {
-    let imported = import_only(
-        rt, alloc, day, plan, limits, early, count, link, keeper, crew, writer,
-    );
+    let imported = import_only(rt, alloc, work, early, count, link, keeper, crew, writer);
     finish_import(alloc, imported, link)
 }

@@ -16,8 +16,8 @@ ghost use Rattle.serve_desk.specs.Streams.{Streams};
 
 use crate::imported::{Imported, ReadTo};
 use crate::importing::read_to;
-use day_import::{Outcome, answers};
-use day_plan::Plan;
+use crate::work::DayWork;
+use day_import::{DayTerms, Outcome, answers};
 use keep_office::Keeper;
 use road_io::{Link, Sink, put_all};
 use road_time::Limits;
@@ -31,9 +31,7 @@ use ways_crews::Crew;
 fn settle_from<'b, L: Link, O: Sink, K: Keeper, C: Crew, R: Threads, N: Start>(
     rt: &R,
     alloc: Global,
-    day: u32,
-    plan: &Plan,
-    limits: &Limits,
+    work: DayWork,
     early: &'b [u8],
     count: u64,
     link: &mut L,
@@ -41,10 +39,6 @@ fn settle_from<'b, L: Link, O: Sink, K: Keeper, C: Crew, R: Threads, N: Start>(
     keeper: &mut K,
     crew: &mut C,
 ) -> Imported<'b>
-    requires low { 70 ≤ day }
-    requires high { day ≤ 1000000 }
-    requires width { (1 ≤ plan.now.width) × (plan.now.width ≤ 64) }
-    requires within { IsLimits limits.now }
     requires idle { C.out crew.old ≡ [] }
     requires few { length early.now ≤ count }
     requires total { count ≡ N.total }
@@ -54,7 +48,7 @@ fn settle_from<'b, L: Link, O: Sink, K: Keeper, C: Crew, R: Threads, N: Start>(
     requires plan { L.plan link.old ≡ N.plan }
     requires faults { L.faults link.old ≡ N.faults }
     ensures does { (all : List ℕ) (o : Office) → N.bytes ≡ Some all → K.told keeper.old ≡ Some o → C.exact ≡ true
-        → Does K.refuses (answers_answer day 0 limits.now (filled count all) o) o (O.written out.old)
+        → Does K.refuses (answers_answer work.day 0 work.limits (filled count all) o) o (O.written out.old)
         (O.written out.new) (K.told keeper.new) result.outcome }
     ensures kept { K.told keeper.new ≡ K.told keeper.old }
     ensures reads { IsReadTo count N.bytes result.early.now (L.left link.new) result.read }
@@ -77,7 +71,18 @@ fn settle_from<'b, L: Link, O: Sink, K: Keeper, C: Crew, R: Threads, N: Start>(
         of: PhantomData,
     };
     let outcome = answers(
-        rt, alloc, day, plan, 0, limits, &mut body, out, keeper, crew,
+        rt,
+        alloc,
+        DayTerms {
+            day: work.day,
+            plan: work.plan,
+            late: 0,
+            limits: work.limits,
+        },
+        &mut body,
+        out,
+        keeper,
+        crew,
     );
     let read = read_to(&body);
     Imported {
@@ -91,9 +96,7 @@ fn settle_from<'b, L: Link, O: Sink, K: Keeper, C: Crew, R: Threads, N: Start>(
 fn settle<'b, L: Link, O: Sink, K: Keeper, C: Crew, R: Threads>(
     rt: &R,
     alloc: Global,
-    day: u32,
-    plan: &Plan,
-    limits: &Limits,
+    work: DayWork,
     early: &'b [u8],
     count: u64,
     link: &mut L,
@@ -101,15 +104,11 @@ fn settle<'b, L: Link, O: Sink, K: Keeper, C: Crew, R: Threads>(
     keeper: &mut K,
     crew: &mut C,
 ) -> Imported<'b>
-    requires low { 70 ≤ day }
-    requires high { day ≤ 1000000 }
-    requires width { (1 ≤ plan.now.width) × (plan.now.width ≤ 64) }
-    requires within { IsLimits limits.now }
     requires idle { C.out crew.old ≡ [] }
     requires few { length early.now ≤ count }
     ensures does { (all : List ℕ) (o : Office) → prepend_known early.now (L.left link.old) ≡ Some all
         → K.told keeper.old ≡ Some o → C.exact ≡ true
-        → Does K.refuses (answers_answer day 0 limits.now (filled count all) o) o (O.written out.old)
+        → Does K.refuses (answers_answer work.day 0 work.limits (filled count all) o) o (O.written out.old)
         (O.written out.new) (K.told keeper.new) result.outcome }
     ensures kept { K.told keeper.new ≡ K.told keeper.old }
     ensures reads { IsReadTo count (prepend_known early.now (L.left link.old)) result.early.now (L.left link.new)
@@ -124,9 +123,7 @@ fn settle<'b, L: Link, O: Sink, K: Keeper, C: Crew, R: Threads>(
     ensures keeper { FaultsByPlan (K.faults keeper.old) (K.faults keeper.new) (K.plan keeper.old)
         (result.outcome ≡ KeeperFault) }
 {
-    settle_from::<L, O, K, C, R, Brand>(
-        rt, alloc, day, plan, limits, early, count, link, out, keeper, crew,
-    )
+    settle_from::<L, O, K, C, R, Brand>(rt, alloc, work, early, count, link, out, keeper, crew)
 }
 
 /// The most tuples that may lie between a report and its notice, where notices are streamed.
@@ -149,9 +146,7 @@ fn streamed(limits: &Limits) -> Limits
 pub fn stream_day<'b, L: Link, O: Sink, K: Keeper, C: Crew, R: Threads>(
     rt: &R,
     alloc: Global,
-    day: u32,
-    plan: &Plan,
-    limits: &Limits,
+    work: DayWork,
     early: &'b [u8],
     count: u64,
     link: &mut L,
@@ -159,15 +154,11 @@ pub fn stream_day<'b, L: Link, O: Sink, K: Keeper, C: Crew, R: Threads>(
     keeper: &mut K,
     crew: &mut C,
 ) -> Imported<'b>
-    requires low { 70 ≤ day }
-    requires high { day ≤ 1000000 }
-    requires width { (1 ≤ plan.now.width) × (plan.now.width ≤ 64) }
-    requires within { IsLimits limits.now }
     requires idle { C.out crew.old ≡ [] }
     requires few { length early.now ≤ count }
     ensures streams { (all : List ℕ) (o : Office) → prepend_known early.now (L.left link.old) ≡ Some all
         → K.told keeper.old ≡ Some o → C.exact ≡ true
-        → Streams K.refuses day limits.now (filled count all) o (O.written out.old) (O.written out.new)
+        → Streams K.refuses work.day work.limits (filled count all) o (O.written out.old) (O.written out.new)
         result.outcome }
     ensures kept { K.told keeper.new ≡ K.told keeper.old }
     ensures reads { IsReadTo count (prepend_known early.now (L.left link.old)) result.early.now (L.left link.new)
@@ -185,11 +176,13 @@ pub fn stream_day<'b, L: Link, O: Sink, K: Keeper, C: Crew, R: Threads>(
     ensures keeper { FaultsByPlan (K.faults keeper.old) (K.faults keeper.new) (K.plan keeper.old)
         (result.outcome ≡ KeeperFault) }
 {
-    let soon = streamed(limits);
+    let soon = DayWork {
+        day: work.day,
+        plan: work.plan,
+        limits: streamed(&work.limits),
+    };
     match put_all(out, stream_head()) {
-        Ok(()) => settle(
-            rt, alloc, day, plan, &soon, early, count, link, out, keeper, crew,
-        ),
+        Ok(()) => settle(rt, alloc, soon, early, count, link, out, keeper, crew),
         Err(_) => Imported {
             outcome: Outcome::WriteFault,
             read: ReadTo::Open(count),

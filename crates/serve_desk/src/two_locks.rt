@@ -3,7 +3,6 @@ ghost use Rattle.std.specs.Prelude.{◌≡◌, ◌≢◌, ◌≤◌, ◌<◌, fa
 ghost use Rattle.road_io.specs.Faults.{Rose};
 ghost use Rattle.road_io.specs.Plans.{NeverFails};
 ghost use Rattle.road_io.specs.Rooms.{Endless};
-ghost use Rattle.road_time.specs.Fits.{IsLimits};
 ghost use Rattle.serve_board.specs.Passes.{StartsWith};
 ghost use Rattle.serve_requests.specs.ReadRequests.{IsAsked};
 ghost use Rattle.serve_requests.specs.declared.session_end.SessionEnd.TheVariants.{Answered, LinkFault};
@@ -27,11 +26,9 @@ use crate::notices_shared::answer_notices_shared;
 use crate::posting::finish_import;
 use crate::shared::SharedKeeper;
 use crate::shared_answers::{share_day, share_spent, share_vehicle};
-use crate::work::Work;
-use day_plan::Plan;
+use crate::work::{DayWork, Work};
 use keep_office::Keeper;
 use road_io::{Link, TwoWay};
-use road_time::Limits;
 use serve_board::{BoardNaming, NamedReader};
 use serve_loops::Turn;
 use serve_requests::{Asked, SessionEnd};
@@ -100,26 +97,20 @@ fn import_shared<
 >(
     rt: &R,
     alloc: Global,
-    plan: &Plan,
-    limits: &Limits,
+    work: DayWork,
     imports: &Mutex<ImportDesk<J, C, R>>,
     turn: &mut T,
-    day: u32,
     early: &[u8],
     count: u64,
     keeper: &mut SharedKeeper<'a, J, K, R>,
     link: &mut L,
     reader: &mut NamedReader<J>,
 ) -> SessionEnd
-    requires low { 70 ≤ day }
-    requires high { day ≤ 1000000 }
     requires few { length early.now ≤ count }
-    requires width { (1 ≤ plan.now.width) × (plan.now.width ≤ 64) }
-    requires within { IsLimits limits.now }
     ensures posts { AnswersPost count early.now
         (wire_of (L.left link.old) (L.plan link.old) (L.written link.old) (L.room link.old))
         (wire_of (L.left link.new) (L.plan link.new) (L.written link.new) (L.room link.new)) result }
-    ensures imports { ImportsShared K.told K.refuses C.exact limits.now day count early.now reader.old reader.new
+    ensures imports { ImportsShared K.told K.refuses C.exact work.limits work.day count early.now reader.old reader.new
         (wire_of (L.left link.old) (L.plan link.old) (L.written link.old) (L.room link.old))
         (wire_of (L.left link.new) (L.plan link.new) (L.written link.new) (L.room link.new)) result }
     ensures reader { reader.new.board ≡ reader.old.board }
@@ -133,7 +124,7 @@ fn import_shared<
     let mut locked = imports.lock(rt);
     let mut held = keeper.hold();
     let desk = &mut *locked;
-    let imported = desk.import(alloc, plan, limits, day, early, count, &mut held, link);
+    let imported = desk.import(alloc, work, early, count, &mut held, link);
     desk.teach(reader);
     drop(locked);
     keeper.counts(held);
@@ -155,8 +146,7 @@ fn answer_shared<
 >(
     rt: &R,
     alloc: Global,
-    plan: &Plan,
-    limits: &Limits,
+    work: &Work,
     imports: &Mutex<ImportDesk<J, C, R>>,
     turn: &mut T,
     asked: &Asked,
@@ -166,9 +156,7 @@ fn answer_shared<
 ) -> SessionEnd
     requires asked { IsAsked asked.now }
     requires kept { IsOfKept asked.now }
-    requires width { (1 ≤ plan.now.width) × (plan.now.width ≤ 64) }
-    requires within { IsLimits limits.now }
-    ensures shared { AnswersShared K.told K.faults K.refuses C.exact limits.now asked.now reader.old reader.new
+    ensures shared { AnswersShared K.told K.faults K.refuses C.exact work.now.limits asked.now reader.old reader.new
         (wire_of (L.left link.old) (L.plan link.old) (L.written link.old) (L.room link.old))
         (wire_of (L.left link.new) (L.plan link.new) (L.written link.new) (L.room link.new)) result }
     ensures reader { reader.new.board ≡ reader.old.board }
@@ -192,11 +180,13 @@ fn answer_shared<
         Asked::Import { day, length, early } => import_shared(
             rt,
             alloc,
-            plan,
-            limits,
+            DayWork {
+                day: *day,
+                plan: work.plan,
+                limits: work.limits,
+            },
             imports,
             turn,
-            *day,
             early.items(),
             *length,
             keeper,
@@ -206,11 +196,13 @@ fn answer_shared<
         Asked::Answers { day, length, early } => answer_notices_shared(
             rt,
             alloc,
-            plan,
-            limits,
+            DayWork {
+                day: *day,
+                plan: work.plan,
+                limits: work.limits,
+            },
             imports,
             turn,
-            *day,
             early.items(),
             *length,
             keeper,
@@ -239,8 +231,7 @@ impl<'a, J: Naming + BoardNaming, K: Keeper, C: Crew, R: Wait + Threads + Drop, 
         answer_shared(
             &self.rt,
             alloc,
-            &self.work.plan,
-            &self.work.limits,
+            &self.work,
             self.imports,
             self.turn,
             &asked,

@@ -8,7 +8,7 @@ use super::importing::{Given, Way, imported_day, is_stored};
 use super::jobs::{JobRow, are_jobs};
 use super::offices::run_by;
 use super::slow::{Waited, is_seen};
-use road_time::NoMemory;
+use road_io::MemSink;
 use std::alloc::Global;
 use std::sync::Wait;
 use std::thread::Threads;
@@ -46,17 +46,14 @@ pub enum Task<'a> {
 }
 
 /// Whether a day is stored by a crew with its notices.
-fn is_day<C: Crew, R: Threads>(
-    rt: &R,
-    alloc: Global,
-    day: Day<'_>,
-    way: Way,
-    crew: &mut C,
-) -> Result<bool, NoMemory>
+fn is_day<C: Crew, R: Threads>(rt: &R, alloc: Global, day: Day<'_>, way: Way, crew: &mut C) -> bool
     requires idle { C.out crew.old ≡ [] }
 {
-    let (outcome, sink) = imported_day(rt, alloc, way, day.given, crew)?;
-    Ok(sink.bytes() == day.told && is_stored(outcome, day.counts))
+    let Ok(mut sink) = MemSink::new(alloc, 4096, day.given.written.max(1)) else {
+        return false;
+    };
+    let outcome = imported_day(rt, alloc, way, day.given, &mut sink, crew);
+    sink.bytes() == day.told && is_stored(outcome, day.counts)
 }
 
 /// Whether words end well by a crew, with this line.
@@ -66,20 +63,17 @@ fn is_line<C: Crew, R: Threads + Sync>(
     words: &[&str],
     line: &[u8],
     crew: &mut C,
-) -> Result<bool, NoMemory>
+) -> bool
     requires idle { C.out crew.old ≡ [] }
 {
-    let (sink, status) = run_by(rt, alloc, words, b"", 400, crew)?;
-    Ok(sink.bytes() == line && status == 0)
+    match run_by(rt, alloc, words, b"", 400, crew) {
+        Ok((sink, status)) => sink.bytes() == line && status == 0,
+        Err(_) => false,
+    }
 }
 
 /// Whether a crew does a task.
-fn is_done<C: Crew, R: Threads + Sync>(
-    rt: &R,
-    alloc: Global,
-    task: Task<'_>,
-    crew: &mut C,
-) -> Result<bool, NoMemory>
+fn is_done<C: Crew, R: Threads + Sync>(rt: &R, alloc: Global, task: Task<'_>, crew: &mut C) -> bool
     requires idle { C.out crew.old ≡ [] }
 {
     match task {
@@ -120,10 +114,9 @@ fn is_done_soon<R: Threads + Sync>(
     alloc: Global,
     task: Task<'_>,
     rows: Option<&[JobRow]>,
-) -> Result<bool, NoMemory> {
+) -> bool {
     let mut crew = InlineCrew::new(alloc, rows.is_some());
-    let done = is_done(rt, alloc, task, &mut crew)?;
-    Ok(done && are_told(crew.jobs(), rows))
+    is_done(rt, alloc, task, &mut crew) && are_told(crew.jobs(), rows)
 }
 
 /// The same by one that runs it as it is finished.
@@ -132,10 +125,9 @@ fn is_done_late<R: Threads + Sync>(
     alloc: Global,
     task: Task<'_>,
     rows: Option<&[JobRow]>,
-) -> Result<bool, NoMemory> {
+) -> bool {
     let mut crew = LateCrew::new(alloc, rows.is_some());
-    let done = is_done(rt, alloc, task, &mut crew)?;
-    Ok(done && are_told(crew.jobs(), rows))
+    is_done(rt, alloc, task, &mut crew) && are_told(crew.jobs(), rows)
 }
 
 /// The same by a standing crew, which is told to stop then.
@@ -145,13 +137,13 @@ fn is_done_and_stops<R: Threads + Wait + Sync + Copy + Drop>(
     task: Task<'_>,
     rows: Option<&[JobRow]>,
     crew: StandingCrew<R, NoGate>,
-) -> Result<bool, NoMemory>
+) -> bool
     requires { out_of crew.places ≡ [] }
 {
     let mut crew = crew;
     let done = is_done(&rt, alloc, task, &mut crew);
     crew.stop();
-    Ok(done? && are_told(crew.jobs(), rows))
+    done && are_told(crew.jobs(), rows)
 }
 
 /// The same by one of 64 cells, beside its four helpers.
@@ -160,13 +152,15 @@ fn is_done_beside<R: Threads + Wait + Sync + Copy + Drop>(
     alloc: Global,
     task: Task<'_>,
     rows: Option<&[JobRow]>,
-) -> Result<bool, NoMemory> {
-    let Crewed { crew, helpers } = standing(rt, alloc, 64, 4, rows.is_some(), NoGate)?;
+) -> bool {
+    let Ok(Crewed { crew, helpers }) = standing(rt, alloc, 64, 4, rows.is_some(), NoGate) else {
+        return false;
+    };
     let (_, done) = beside(
         &rt,
         &NoGate,
         helpers,
-        move || -> Result<bool, NoMemory>
+        move || -> bool
             requires { out_of crew.places ≡ [] }
         { is_done_and_stops(rt, alloc, task, rows, crew) },
     );
@@ -179,10 +173,9 @@ fn is_done_in_threads<R: Threads + Sync + Copy + Drop>(
     alloc: Global,
     task: Task<'_>,
     rows: Option<&[JobRow]>,
-) -> Result<bool, NoMemory> {
+) -> bool {
     let mut crew = CountedCrew::new(ThreadCrew::new(rt, alloc, NoGate));
-    let done = is_done(&rt, alloc, task, &mut crew)?;
-    Ok(done && are_counted(crew.started, crew.finished, rows))
+    is_done(&rt, alloc, task, &mut crew) && are_counted(crew.started, crew.finished, rows)
 }
 
 /// Whether a crew of a kind does a task, and is told these jobs, where some are wanted.
@@ -192,7 +185,7 @@ pub fn by<R: Threads + Wait + Sync + Copy + Drop>(
     kind: Kind,
     task: Task<'_>,
     rows: Option<&[JobRow]>,
-) -> Result<bool, NoMemory> {
+) -> bool {
     match kind {
         Kind::Soon => is_done_soon(&rt, alloc, task, rows),
         Kind::Late => is_done_late(&rt, alloc, task, rows),

@@ -1,9 +1,9 @@
 // A realistic hour, over each crew.
 use super::crews::{Kind, Task, by};
 use super::offices::run_soon;
+use road_io::MemSink;
 use road_time::NoMemory;
 use std::alloc::Global;
-use std::process::Abort;
 use std::sync::Wait;
 use std::thread::Threads;
 
@@ -17,9 +17,6 @@ const HOUR: [&str; 7] = [
     "--crashes",
     "2",
 ];
-
-/// By how many workers.
-const WORKERS: [&str; 3] = ["--workers=1", "--workers=3", "--workers=64"];
 
 /// In rounds, in turns that five numbers draw, and with lines that may come two minutes late.
 const WAYS: [&[&str]; 7] = [
@@ -55,52 +52,67 @@ fn is_rehearsed<'a, R: Threads + Wait + Sync + Copy + Drop>(
     workers: &'a str,
     way: &[&'a str],
     line: &[u8],
-) -> Result<bool, NoMemory> {
-    let words = words_of(alloc, "rehearse", workers, way)?;
-    by(rt, alloc, kind, Task::Words(words.as_slice(), line), None)
+) -> bool {
+    match words_of(alloc, "rehearse", workers, way) {
+        Ok(words) => by(rt, alloc, kind, Task::Words(words.as_slice(), line), None),
+        Err(_) => false,
+    }
 }
 
-/// The hour ends with one and the same line, whoever does its jobs and however they are cut and ordered.
-fn one_line<R: Threads + Wait + Sync + Copy + Drop>(
-    rt: &impl Abort,
-    threads: R,
+/// Whether it does in each way.
+fn is_rehearsed_in_each_way<'a, R: Threads + Wait + Sync + Copy + Drop>(
+    rt: R,
     alloc: Global,
     kind: Kind,
-) -> Result<(), NoMemory> {
-    let words = words_of(alloc, "rehearse", "--workers=1", &[])?;
-    let (line, status) = run_soon(&threads, alloc, words.as_slice(), b"", 400)?;
-    assert!(rt;
-        line.bytes().starts_with(b"# rehearsed bytes "),
-        "rehearsed"
-    );
-    assert_eq!(rt; status, 0);
-    for workers in WORKERS {
-        for way in WAYS {
-            let ends = is_rehearsed(threads, alloc, kind, workers, way, line.bytes())?;
-            assert!(rt; ends, "{workers}");
+    workers: &'a str,
+    ways: &[&'a [&'a str]],
+    line: &[u8],
+) -> bool {
+    for way in ways {
+        if !is_rehearsed(rt, alloc, kind, workers, way, line) {
+            return false;
         }
     }
-    Ok(())
+    true
+}
+
+/// The closing line of the hour's rehearsal.
+fn line_of<R: Threads + Sync>(rt: &R, alloc: Global) -> Result<(MemSink, u8), NoMemory> {
+    let words = words_of(alloc, "rehearse", "--workers=1", &[])?;
+    run_soon(rt, alloc, words.as_slice(), b"", 400)
+}
+
+/// Whether the hour ends with one and the same line, whoever does its jobs and however they are cut and ordered.
+fn has_one_line<R: Threads + Wait + Sync + Copy + Drop>(rt: R, alloc: Global, kind: Kind) -> bool {
+    let Ok((sink, status)) = line_of(&rt, alloc) else {
+        return false;
+    };
+    let line = sink.bytes();
+    status == 0
+        && line.starts_with(b"# rehearsed bytes ")
+        && is_rehearsed_in_each_way(rt, alloc, kind, "--workers=1", &WAYS, line)
+        && is_rehearsed_in_each_way(rt, alloc, kind, "--workers=3", &WAYS, line)
+        && is_rehearsed_in_each_way(rt, alloc, kind, "--workers=64", &WAYS, line)
 }
 
 #[test]
-fn an_hour_by_jobs_that_run_as_they_are_started(rt: HostRuntime) -> Result<(), NoMemory> {
-    one_line(&rt, rt, rt.alloc(), Kind::Soon)
+fn an_hour_by_jobs_that_run_as_they_are_started(rt: HostRuntime) {
+    assert!(rt; has_one_line(rt, rt.alloc(), Kind::Soon));
 }
 
 #[test]
-fn an_hour_by_jobs_that_run_as_they_are_finished(rt: HostRuntime) -> Result<(), NoMemory> {
-    one_line(&rt, rt, rt.alloc(), Kind::Late)
+fn an_hour_by_jobs_that_run_as_they_are_finished(rt: HostRuntime) {
+    assert!(rt; has_one_line(rt, rt.alloc(), Kind::Late));
 }
 
 #[test]
-fn an_hour_by_jobs_in_threads(rt: HostRuntime) -> Result<(), NoMemory> {
-    one_line(&rt, rt, rt.alloc(), Kind::Threads)
+fn an_hour_by_jobs_in_threads(rt: HostRuntime) {
+    assert!(rt; has_one_line(rt, rt.alloc(), Kind::Threads));
 }
 
 #[test]
-fn an_hour_by_jobs_in_cells_beside_helpers(rt: HostRuntime) -> Result<(), NoMemory> {
-    one_line(&rt, rt, rt.alloc(), Kind::Standing)
+fn an_hour_by_jobs_in_cells_beside_helpers(rt: HostRuntime) {
+    assert!(rt; has_one_line(rt, rt.alloc(), Kind::Standing));
 }
 
 /// The last line of a text, without its end.
@@ -135,20 +147,33 @@ const GENERATE: [&str; 8] = [
     "2",
 ];
 
+/// Whether a closing line has the same behind a word as another one.
+fn tells_the_same(kept: &[u8], line: &[u8], word: &[u8]) -> bool {
+    let there = after(line, word);
+    there.is_some() && after(kept, word) == there
+}
+
+/// Whether the hour is generated and then imported with the counts of its rehearsal.
+fn is_imported<R: Threads + Sync>(rt: &R, alloc: Global) -> bool {
+    let Ok((line, _)) = line_of(rt, alloc) else {
+        return false;
+    };
+    let Ok((file, made)) = run_soon(rt, alloc, &GENERATE, b"", 40_000_000) else {
+        return false;
+    };
+    let import = ["import", "100"];
+    let Ok((text, stored)) = run_soon(rt, alloc, &import, file.bytes(), 40_000_000) else {
+        return false;
+    };
+    let (kept, line) = (last_line(text.bytes()), last_line(line.bytes()));
+    [made, stored] == [0, 0]
+        && kept.starts_with(b"# stored day 100 ")
+        && tells_the_same(kept, line, b"tuples")
+        && tells_the_same(kept, line, b"notices")
+        && tells_the_same(kept, line, b"total")
+}
+
 #[test]
-fn an_hour_that_is_generated_and_imported(rt: HostRuntime) -> Result<(), NoMemory> {
-    let alloc = rt.alloc();
-    let words = words_of(alloc, "rehearse", "--workers=1", &[])?;
-    let (line, _) = run_soon(&rt, alloc, words.as_slice(), b"", 400)?;
-    let (file, made) = run_soon(&rt, alloc, &GENERATE, b"", 40_000_000)?;
-    assert_eq!(rt; made, 0);
-    let (text, stored) = run_soon(&rt, alloc, &["import", "100"], file.bytes(), 40_000_000)?;
-    assert_eq!(rt; stored, 0);
-    let kept = last_line(text.bytes());
-    assert!(rt; kept.starts_with(b"# stored day 100 "));
-    for counted in [&b"tuples"[..], b"notices", b"total"] {
-        let there = after(last_line(line.bytes()), counted);
-        assert!(rt; there.is_some() && after(kept, counted) == there);
-    }
-    Ok(())
+fn an_hour_that_is_generated_and_imported(rt: HostRuntime) {
+    assert!(rt; is_imported(&rt, rt.alloc()));
 }

@@ -2,11 +2,11 @@
 ghost use Rattle.std.specs.Prelude.{◌≡◌, ◌≤◌, []};
 
 use day_floor::NoPublisher;
-use day_import::{Outcome, import};
+use day_import::{DayTerms, Outcome, import};
 use day_plan::Plan;
 use keep_office::MemKeeper;
 use road_io::{MemSink, MemSource, Sink, Source};
-use road_time::{Limits, NoMemory};
+use road_time::Limits;
 use std::alloc::Global;
 use std::thread::Threads;
 use ways_crews::Crew;
@@ -29,7 +29,7 @@ pub fn imported<S: Source, O: Sink, C: Crew, R: Threads>(
     sink: &mut O,
     fails: &[u32],
     crew: &mut C,
-) -> Result<Outcome, NoMemory>
+) -> Outcome
     requires idle { C.out crew.old ≡ [] }
 {
     let Way {
@@ -38,27 +38,31 @@ pub fn imported<S: Source, O: Sink, C: Crew, R: Threads>(
         backlog,
     } = way;
     if width < 1 || width > 64 || backlog < 1 || backlog > 65_536 {
-        return Ok(Outcome::NoMemory);
+        return Outcome::NoMemory;
     }
     let limits = Limits {
         backlog,
         ..Limits::DAY
     };
-    let plan = Plan { width, turns };
-    let mut keeper = MemKeeper::new(alloc, fails)?;
-    Ok(import(
+    let terms = DayTerms {
+        day: 100,
+        plan: Plan { width, turns },
+        late: 0,
+        limits,
+    };
+    let Ok(mut keeper) = MemKeeper::new(alloc, fails) else {
+        return Outcome::NoMemory;
+    };
+    import(
         rt,
         alloc,
-        100,
-        &plan,
-        0,
-        &limits,
+        terms,
         source,
         sink,
         &mut keeper,
         crew,
         &mut NoPublisher,
-    ))
+    )
 }
 
 /// What a day in memory reads and writes at once, and which calls of its keeper fail.
@@ -70,20 +74,21 @@ pub struct Given<'a> {
     pub fails: &'a [u32],
 }
 
-/// How the import of a day in memory ends, and what it writes.
+/// How the import of a day in memory ends.
 pub fn imported_day<C: Crew, R: Threads>(
     rt: &R,
     alloc: Global,
     way: Way,
     given: Given<'_>,
+    sink: &mut MemSink,
     crew: &mut C,
-) -> Result<(Outcome, MemSink), NoMemory>
+) -> Outcome
     requires idle { C.out crew.old ≡ [] }
 {
-    let mut source = MemSource::new(alloc, given.input, given.read.max(1), &[])?;
-    let mut sink = MemSink::new(alloc, 4096, given.written.max(1))?;
-    let outcome = imported(rt, alloc, way, &mut source, &mut sink, given.fails, crew)?;
-    Ok((outcome, sink))
+    match MemSource::new(alloc, given.input, given.read.max(1), &[]) {
+        Ok(mut source) => imported(rt, alloc, way, &mut source, sink, given.fails, crew),
+        Err(_) => Outcome::NoMemory,
+    }
 }
 
 /// Whether a day is stored with so many tuples and notices and this total.

@@ -3,7 +3,7 @@ use super::crews::{Day, Kind, Task, by};
 use super::days::{charged_on_leaving, told_with};
 use super::importing::{Given, Way, imported_day};
 use day_import::Outcome;
-use road_time::NoMemory;
+use road_io::MemSink;
 use std::alloc::Global;
 use std::sync::Wait;
 use std::thread::Threads;
@@ -35,12 +35,13 @@ const PLANS: [(u8, Option<u64>); 9] = [
 
 /// The day of a charge is the same by every number of workers, in rounds and in turns, and by two crews, where few
 /// tuples may wait.
-fn same_by_every_plan<R: Threads + Wait + Sync + Copy + Drop>(
-    rt: R,
-    alloc: Global,
-) -> Result<bool, NoMemory> {
-    let input = charged_on_leaving(alloc)?;
-    let told = told_with(alloc, 0, CHARGED)?;
+fn same_by_every_plan<R: Threads + Wait + Sync + Copy + Drop>(rt: R, alloc: Global) -> bool {
+    let Ok(input) = charged_on_leaving(alloc) else {
+        return false;
+    };
+    let Ok(told) = told_with(alloc, 0, CHARGED) else {
+        return false;
+    };
     let given = Given {
         input: input.as_slice(),
         read: 7,
@@ -52,18 +53,28 @@ fn same_by_every_plan<R: Threads + Wait + Sync + Copy + Drop>(
         told: told.as_slice(),
         counts: [56, 55, 2],
     };
-    let mut same = true;
-    for (width, turns) in PLANS {
+    is_same_by_each(rt, alloc, day, &PLANS)
+}
+
+/// Whether a day is so by each of these plans.
+fn is_same_by_each<R: Threads + Wait + Sync + Copy + Drop>(
+    rt: R,
+    alloc: Global,
+    day: Day<'_>,
+    plans: &[(u8, Option<u64>)],
+) -> bool {
+    for (width, turns) in plans {
         let way = Way {
-            width,
-            turns,
+            width: *width,
+            turns: *turns,
             backlog: 4,
         };
-        for kind in [Kind::Soon, Kind::Late] {
-            same = by(rt, alloc, kind, Task::Day(day, way), None)? && same;
+        let task = Task::Day(day, way);
+        if !by(rt, alloc, Kind::Soon, task, None) || !by(rt, alloc, Kind::Late, task, None) {
+            return false;
         }
     }
-    Ok(same)
+    true
 }
 
 /// A day's work by one worker, in rounds.
@@ -73,45 +84,44 @@ const ALONE: Way = Way {
     backlog: 65_536,
 };
 
-/// How many bytes are written where this call of the keeper fails, and whether it is then that the import does.
-fn written_before<R: Threads>(
-    rt: &R,
-    alloc: Global,
-    input: &[u8],
-    call: u32,
-) -> Result<(usize, bool), NoMemory> {
+/// Whether an import that makes so many calls of the keeper fails where this one does, if it makes it; and whether
+/// something is written if that is the last one or none of them, and else nothing.
+fn is_right_at<R: Threads>(rt: &R, alloc: Global, input: &[u8], calls: u32, call: u32) -> bool {
     let given = Given {
         input,
         read: 100,
         written: 65_536,
         fails: &[call],
     };
+    let Ok(mut sink) = MemSink::new(alloc, 4096, given.written) else {
+        return false;
+    };
     let mut crew = InlineCrew::new(alloc, false);
-    let (outcome, sink) = imported_day(rt, alloc, ALONE, given, &mut crew)?;
-    Ok((sink.bytes().len(), outcome == Outcome::KeeperFault))
+    let outcome = imported_day(rt, alloc, ALONE, given, &mut sink, &mut crew);
+    let failed = outcome == Outcome::KeeperFault;
+    let written = !sink.bytes().is_empty();
+    failed == (call < calls) && written == (call.saturating_add(1) >= calls)
 }
 
-#[test]
-fn one_day_by_every_plan(rt: HostRuntime) -> Result<(), NoMemory> {
-    assert!(rt; same_by_every_plan(rt, rt.alloc())?);
-    Ok(())
-}
-
-/// A day, how many calls its import makes of the keeper, and its name.
-const CALLS: [(&[u8], u32, &str); 2] = [(ONE, 4, "four"), (ASKING, 6, "six")];
-
-#[test]
-fn a_keeper_fails_at_each_call(rt: HostRuntime) -> Result<(), NoMemory> {
-    for (input, calls, name) in CALLS {
-        for call in 0..7u32 {
-            let (length, failed) = written_before(&rt, rt.alloc(), input, call)?;
-            let written = length > 0;
-            assert!(rt; failed == (call < calls), "call {call} of {name}");
-            assert!(rt;
-                written == (call + 1 >= calls),
-                "written before call {call} of {name}"
-            );
+/// The first of seven calls that is not so, 7 where all are.
+fn first_wrong<R: Threads>(rt: &R, alloc: Global, input: &[u8], calls: u32) -> u32 {
+    for call in 0..7u32 {
+        if !is_right_at(rt, alloc, input, calls, call) {
+            return call;
         }
     }
-    Ok(())
+    7
+}
+
+#[test]
+fn one_day_by_every_plan(rt: HostRuntime) {
+    assert!(rt; same_by_every_plan(rt, rt.alloc()));
+}
+
+/// The import of one day makes four calls of the keeper, that of another one six.
+#[test]
+fn a_keeper_fails_at_each_call(rt: HostRuntime) {
+    let four = first_wrong(&rt, rt.alloc(), ONE, 4);
+    let six = first_wrong(&rt, rt.alloc(), ASKING, 6);
+    assert_eq!(rt; [four, six], [7, 7]);
 }

@@ -1,7 +1,9 @@
 // The jobs that an import starts, as its crew tells them.
 use super::crews::{Kind, STOPPED, Task, by};
 use super::importing::Way;
-use road_time::NoMemory;
+use std::alloc::Global;
+use std::sync::Wait;
+use std::thread::Threads;
 use ways_crews::Started;
 use ways_expressway::LaneEvent;
 
@@ -121,16 +123,10 @@ pub fn are_jobs(jobs: &[Started], rows: &[JobRow]) -> bool {
     same
 }
 
-/// The crews, by name.
-const CREWS: [(Kind, &str); 4] = [
-    (Kind::Soon, "soon"),
-    (Kind::Late, "late"),
-    (Kind::Standing, "beside helpers"),
-    (Kind::Threads, "in threads"),
-];
-
 /// By how many workers, how many lines may wait, and the jobs of the day of two who stop.
-const STARTED: [(u8, u32, &[JobRow]); 5] = [
+type Start = (u8, u32, &'static [JobRow]);
+
+const STARTED: [Start; 5] = [
     (3, 65_536, &BY_THREE),
     (3, 4, &BY_FOUR_LINES),
     (1, 1, &BY_EACH_LINE_ALONE),
@@ -138,24 +134,41 @@ const STARTED: [(u8, u32, &[JobRow]); 5] = [
     (64, 1, &BY_EACH_LINE),
 ];
 
-#[test]
-fn an_import_starts_the_jobs_of_its_rounds(rt: HostRuntime) -> Result<(), NoMemory> {
-    for (width, backlog, jobs) in STARTED {
-        let way = Way {
-            width,
-            turns: None,
-            backlog,
-        };
-        for (kind, name) in CREWS {
-            let stored = by(rt, rt.alloc(), kind, Task::Day(STOPPED, way), Some(jobs))?;
-            assert!(rt; stored, "{width} workers, {backlog} lines, {name}");
+/// Whether these jobs are started by each crew, and the day is stored by a late one in turns.
+fn are_started<R: Threads + Wait + Sync + Copy + Drop>(rt: R, alloc: Global, row: &Start) -> bool {
+    let (width, backlog, jobs) = *row;
+    let way = Way {
+        width,
+        turns: None,
+        backlog,
+    };
+    let turns = Way {
+        turns: Some(1),
+        ..way
+    };
+    let day = Task::Day(STOPPED, way);
+    by(rt, alloc, Kind::Soon, day, Some(jobs))
+        && by(rt, alloc, Kind::Late, day, Some(jobs))
+        && by(rt, alloc, Kind::Standing, day, Some(jobs))
+        && by(rt, alloc, Kind::Threads, day, Some(jobs))
+        && by(rt, alloc, Kind::Late, Task::Day(STOPPED, turns), None)
+}
+
+/// The number of the first row that is not so, their count where all are.
+fn first_wrong<R: Threads + Wait + Sync + Copy + Drop>(
+    rt: R,
+    alloc: Global,
+    rows: &[Start],
+) -> usize {
+    for (at, row) in rows.iter().enumerate() {
+        if !are_started(rt, alloc, row) {
+            return at;
         }
-        let turns = Way {
-            turns: Some(1),
-            ..way
-        };
-        let turned = by(rt, rt.alloc(), Kind::Late, Task::Day(STOPPED, turns), None)?;
-        assert!(rt; turned, "{width} workers, {backlog} lines, in turns");
     }
-    Ok(())
+    rows.len()
+}
+
+#[test]
+fn an_import_starts_the_jobs_of_its_rounds(rt: HostRuntime) {
+    assert_eq!(rt; first_wrong(rt, rt.alloc(), &STARTED), 5);
 }

@@ -105,25 +105,30 @@ pub fn is_seen<C: Crew, R: Threads>(
     waited: Waited<'_>,
     way: Way,
     crew: &mut C,
-) -> Result<bool, NoMemory>
+) -> bool
     requires idle { C.out crew.old ≡ [] }
 {
+    let Ok(source) = MemSource::new(alloc, waited.input, waited.piece.max(1), &[]) else {
+        return false;
+    };
+    let Ok(sink) = MemSink::new(alloc, 65_536, 65_536) else {
+        return false;
+    };
     let written = AtomicUsize::new(0);
     let mut source = LookingSource {
-        source: MemSource::new(alloc, waited.input, waited.piece.max(1), &[])?,
+        source,
         written: &written,
         seen: Vec::new(alloc),
     };
     let mut sink = CountingSink {
-        sink: MemSink::new(alloc, 65_536, 65_536)?,
+        sink,
         written: &written,
     };
-    let outcome = imported(rt, alloc, way, &mut source, &mut sink, &[], crew)?;
-    let stored = match outcome {
+    let stored = match imported(rt, alloc, way, &mut source, &mut sink, &[], crew) {
         Outcome::Stored(kept) => (kept.tuples, kept.notices) == (waited.lines, waited.lines),
         _ => false,
     };
-    Ok(stored && sink.sink.bytes() == waited.told && source.seen.as_slice() == waited.seen)
+    stored && sink.sink.bytes() == waited.told && source.seen.as_slice() == waited.seen
 }
 
 /// The same by a crew that runs a job as it is started, and by one that runs it as it is finished, by one worker and by
@@ -133,19 +138,17 @@ fn is_seen_by_each<R: Threads + Wait + Sync + Copy + Drop>(
     alloc: Global,
     waited: Waited<'_>,
     backlog: u32,
-) -> Result<bool, NoMemory> {
-    let mut same = true;
-    for width in [1u8, 3] {
-        for kind in [Kind::Soon, Kind::Late] {
-            let way = Way {
-                width,
-                turns: None,
-                backlog,
-            };
-            same = by(rt, alloc, kind, Task::Waited(waited, way), None)? && same;
-        }
-    }
-    Ok(same)
+) -> bool {
+    let one = Way {
+        width: 1,
+        turns: None,
+        backlog,
+    };
+    let three = Way { width: 3, ..one };
+    by(rt, alloc, Kind::Soon, Task::Waited(waited, one), None)
+        && by(rt, alloc, Kind::Late, Task::Waited(waited, one), None)
+        && by(rt, alloc, Kind::Soon, Task::Waited(waited, three), None)
+        && by(rt, alloc, Kind::Late, Task::Waited(waited, three), None)
 }
 
 /// Four thousand vehicles at one time, in lines of 46 bytes, and what they are told.
@@ -178,23 +181,18 @@ const BY_SIXES: Waited<'static> = Waited {
 };
 
 #[test]
-fn a_round_is_told_before_the_source_is_waited_for(rt: HostRuntime) -> Result<(), NoMemory> {
-    assert!(rt;
-        is_seen_by_each(rt, rt.alloc(), BY_LINES, 4)?,
-        "a line a read"
-    );
-    assert!(rt;
-        is_seen_by_each(rt, rt.alloc(), BY_SIXES, 4)?,
-        "six lines a read"
-    );
-    Ok(())
+fn a_round_is_told_before_the_source_is_waited_for(rt: HostRuntime) {
+    let lines = is_seen_by_each(rt, rt.alloc(), BY_LINES, 4);
+    let sixes = is_seen_by_each(rt, rt.alloc(), BY_SIXES, 4);
+    assert_eq!(rt; [lines, sixes], [true; 2]);
 }
 
 /// The first two reads fill the buffer: 2,848 lines and a part. The third, of the rest, is made beside the jobs of the
 /// first round; the last finds the end once that is told.
-#[test]
-fn a_source_that_does_not_wait_is_read_meanwhile(rt: HostRuntime) -> Result<(), NoMemory> {
-    let (input, told) = thousands(rt.alloc())?;
+fn are_read_meanwhile<R: Threads + Wait + Sync + Copy + Drop>(rt: R, alloc: Global) -> bool {
+    let Ok((input, told)) = thousands(alloc) else {
+        return false;
+    };
     let waited = Waited {
         input: input.as_slice(),
         told: told.as_slice(),
@@ -202,6 +200,10 @@ fn a_source_that_does_not_wait_is_read_meanwhile(rt: HostRuntime) -> Result<(), 
         piece: 65_536,
         seen: &[0, 0, 0, 2000],
     };
-    assert!(rt; is_seen_by_each(rt, rt.alloc(), waited, 2000)?);
-    Ok(())
+    is_seen_by_each(rt, alloc, waited, 2000)
+}
+
+#[test]
+fn a_source_that_does_not_wait_is_read_meanwhile(rt: HostRuntime) {
+    assert!(rt; are_read_meanwhile(rt, rt.alloc()));
 }

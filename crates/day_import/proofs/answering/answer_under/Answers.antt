@@ -27,8 +27,8 @@ pub returns-in-Ok-clause-does : goal.returns-in-Ok-clause-does
 returns-in-Ok-clause-does g c = λ exact bytes o left told under.
     let ran = c.in-Ok.ensures.ran in
     let w = g.K.Keeper.refuses in
-    let number = c.args.number in
-    let refused = (reads bytes c.args.limits.now c.args.late).refused in
+    let number = c.args.terms.day in
+    let refused = (reads bytes c.args.terms.limits c.args.terms.late).refused in
     let old = g.O.Sink.written c.args.sink.now in
     let new = g.O.Sink.written c.run_day.new.sink in
     let now = g.K.Keeper.told c.run_day.new.keeper in
@@ -51,8 +51,8 @@ pub returns-in-Ok-clause-merged : goal.returns-in-Ok-clause-merged
 returns-in-Ok-clause-merged g c = λ bytes o left told under.
     let ran = c.in-Ok.ensures.ran in
     let w = g.K.Keeper.refuses in
-    let number = c.args.number in
-    let refused = (reads bytes c.args.limits.now c.args.late).refused in
+    let number = c.args.terms.day in
+    let refused = (reads bytes c.args.terms.limits c.args.terms.late).refused in
     let old = g.O.Sink.written c.args.sink.now in
     let new = g.O.Sink.written c.run_day.new.sink in
     let now = g.K.Keeper.told c.run_day.new.keeper in
@@ -78,9 +78,9 @@ returns-in-Ok-clause-merged g c = λ bytes o left told under.
 pub returns-in-Err-clause-does : goal.returns-in-Err-clause-does
 returns-in-Err-clause-does g c = λ exact bytes o left told under.
     let w = g.K.Keeper.refuses in
-    let number = c.args.number in
-    let day = (reads bytes c.args.limits.now c.args.late).tuples in
-    let refused = (reads bytes c.args.limits.now c.args.late).refused in
+    let number = c.args.terms.day in
+    let day = (reads bytes c.args.terms.limits c.args.terms.late).tuples in
+    let refused = (reads bytes c.args.terms.limits c.args.terms.late).refused in
     let old = g.O.Sink.written c.args.sink.now in
     let new = g.O.Sink.written c.run_day.new.sink in
     let now = g.K.Keeper.told c.run_day.new.keeper in
@@ -98,8 +98,8 @@ returns-in-Err-clause-does g c = λ exact bytes o left told under.
 pub returns-in-Ok-clause-jobs : goal.returns-in-Ok-clause-jobs
 returns-in-Ok-clause-jobs g c = λ bytes left.
     let ran = c.in-Ok.ensures.ran in
-    let width = c.args.plan.now.width in
-    let backlog = c.args.limits.now.backlog in
+    let width = c.args.terms.plan.width in
+    let backlog = c.args.terms.limits.backlog in
     let told = g.C.Crew.jobs c.args.crew.now in
     let now = g.C.Crew.jobs c.run_day.new.crew in
     let all =
@@ -112,15 +112,15 @@ returns-in-Err-clause-jobs g c = λ bytes left.
     let some = c.in-Err.ensures.stopped.started bytes left in
     let told = g.C.Crew.jobs c.args.crew.now in
     let now = g.C.Crew.jobs c.run_day.new.crew in
-    let width = c.args.plan.now.width in
-    let backlog = c.args.limits.now.backlog in
-    let day = (reads bytes c.args.limits.now c.args.late).tuples in
+    let width = c.args.terms.plan.width in
+    let backlog = c.args.terms.limits.backlog in
+    let day = (reads bytes c.args.terms.limits c.args.terms.late).tuples in
     subst (HasStartedJobs width backlog day told now) (sym c.stopped.ensures.is)
     (started_first width backlog day told now c.in-Err.fault some.0 some.1 some.2)
 
 pub returns-in-Ok-clause-leaves : goal.returns-in-Ok-clause-leaves
 returns-in-Ok-clause-leaves g c = λ bytes left.
-    let refused = (reads bytes c.args.limits.now c.args.late).refused in
+    let refused = (reads bytes c.args.terms.limits c.args.terms.late).refused in
     let ends = (c.in-Ok.ensures.ran.read bytes left).1 in
     tells_leaves c.in-Ok.run' c.in-Ok.run'.end refused bytes
     (g.S.Source.left c.run_day.new.source) c.finish_answers.result ends (c.in-Ok.ensures.leaves bytes left)
@@ -128,7 +128,7 @@ returns-in-Ok-clause-leaves g c = λ bytes left.
 
 pub returns-in-Err-clause-leaves : goal.returns-in-Err-clause-leaves
 returns-in-Err-clause-leaves g c = λ bytes left.
-    let refused = (reads bytes c.args.limits.now c.args.late).refused in
+    let refused = (reads bytes c.args.terms.limits c.args.terms.late).refused in
     let rest = g.S.Source.left c.run_day.new.source in
     subst (λ (r : Outcome). LeavesRead r refused bytes rest) (sym c.stopped.ensures.is)
     (stops_leaves c.in-Err.fault refused bytes rest)
@@ -139,7 +139,8 @@ returns-in-Ok-clause-planned g c = λ bytes left.
 
 pub returns-in-Err-clause-planned : goal.returns-in-Err-clause-planned
 returns-in-Err-clause-planned g c = λ bytes left.
-    subst (WorksPlanned c.args.plan.now c.args.limits.now.backlog (reads bytes c.args.limits.now c.args.late).tuples
+    subst (WorksPlanned c.args.terms.plan c.args.terms.limits.backlog
+    (reads bytes c.args.terms.limits c.args.terms.late).tuples
     (g.C.Crew.jobs c.args.crew.now) (g.C.Crew.jobs c.run_day.new.crew) (g.C.Crew.answers c.args.crew.now)
     (g.C.Crew.answers c.run_day.new.crew)) (sym c.stopped.ensures.is)
     (stops_unworked c.in-Err.fault _)

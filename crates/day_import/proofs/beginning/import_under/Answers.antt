@@ -26,15 +26,15 @@ use Rattle.day_import.proofs.beginning.import_under.Goals as goal
 pub finish_import-requires-clause-can : goal.finish_import-requires-clause-can
 finish_import-requires-clause-can g c =
     let ran = c.in-Ok.ensures.ran in
-    run_fits c.args.number c.args.limits.now ran.found (history_of (g.K.Keeper.told c.args.keeper.now)) ran.day
-    c.in-Ok.run' c.requires.within ran.fit ran.short ran.count ran.closed ran.few
+    run_fits c.args.terms.day c.args.terms.limits ran.found (history_of (g.K.Keeper.told c.args.keeper.now)) ran.day
+    c.in-Ok.run' c.args.terms.within ran.fit ran.short ran.count ran.closed ran.few
 
 pub returns-in-Ok-clause-does : goal.returns-in-Ok-clause-does
 returns-in-Ok-clause-does g c = λ exact bytes o left told under.
     let ran = c.in-Ok.ensures.ran in
     let w = g.K.Keeper.refuses in
-    let number = c.args.number in
-    let refused = (reads bytes c.args.limits.now c.args.late).refused in
+    let number = c.args.terms.day in
+    let refused = (reads bytes c.args.terms.limits c.args.terms.late).refused in
     let old = g.O.Sink.written c.args.sink.now in
     let new = g.O.Sink.written c.run_day.new.sink in
     let now = g.K.Keeper.told c.finish_import.new.keeper in
@@ -57,8 +57,8 @@ pub returns-in-Ok-clause-merged : goal.returns-in-Ok-clause-merged
 returns-in-Ok-clause-merged g c = λ bytes o left told under.
     let ran = c.in-Ok.ensures.ran in
     let w = g.K.Keeper.refuses in
-    let number = c.args.number in
-    let refused = (reads bytes c.args.limits.now c.args.late).refused in
+    let number = c.args.terms.day in
+    let refused = (reads bytes c.args.terms.limits c.args.terms.late).refused in
     let old = g.O.Sink.written c.args.sink.now in
     let new = g.O.Sink.written c.run_day.new.sink in
     let now = g.K.Keeper.told c.finish_import.new.keeper in
@@ -84,9 +84,9 @@ returns-in-Ok-clause-merged g c = λ bytes o left told under.
 pub returns-in-Err-clause-does : goal.returns-in-Err-clause-does
 returns-in-Err-clause-does g c = λ exact bytes o left told under.
     let w = g.K.Keeper.refuses in
-    let number = c.args.number in
-    let day = (reads bytes c.args.limits.now c.args.late).tuples in
-    let refused = (reads bytes c.args.limits.now c.args.late).refused in
+    let number = c.args.terms.day in
+    let day = (reads bytes c.args.terms.limits c.args.terms.late).tuples in
+    let refused = (reads bytes c.args.terms.limits c.args.terms.late).refused in
     let old = g.O.Sink.written c.args.sink.now in
     let new = g.O.Sink.written c.run_day.new.sink in
     let now = g.K.Keeper.told c.run_day.new.keeper in
@@ -109,8 +109,8 @@ returns-in-Err-clause-keeps g c =
 pub returns-in-Ok-clause-jobs : goal.returns-in-Ok-clause-jobs
 returns-in-Ok-clause-jobs g c = λ bytes left.
     let ran = c.in-Ok.ensures.ran in
-    let width = c.args.plan.now.width in
-    let backlog = c.args.limits.now.backlog in
+    let width = c.args.terms.plan.width in
+    let backlog = c.args.terms.limits.backlog in
     let told = g.C.Crew.jobs c.args.crew.now in
     let now = g.C.Crew.jobs c.run_day.new.crew in
     let all =
@@ -123,9 +123,9 @@ returns-in-Err-clause-jobs g c = λ bytes left.
     let some = c.in-Err.ensures.stopped.started bytes left in
     let told = g.C.Crew.jobs c.args.crew.now in
     let now = g.C.Crew.jobs c.run_day.new.crew in
-    let width = c.args.plan.now.width in
-    let backlog = c.args.limits.now.backlog in
-    let day = (reads bytes c.args.limits.now c.args.late).tuples in
+    let width = c.args.terms.plan.width in
+    let backlog = c.args.terms.limits.backlog in
+    let day = (reads bytes c.args.terms.limits c.args.terms.late).tuples in
     subst (HasStartedJobs width backlog day told now) (sym c.stopped.ensures.is)
     (started_first width backlog day told now c.in-Err.fault some.0 some.1 some.2)
 
@@ -136,17 +136,17 @@ returns-in-Ok-clause-stepped g c = λ exact bytes left.
     let old = g.P.Publisher.posted c.args.publisher.now in
     let now = g.P.Publisher.posted c.run_day.new.publisher in
     let all = stepped_all _ ran.day old now c.finish_import.result (ran.stepped_right exact) in
-    subst (λ (day : List Tuple). HasDaySteps tariffs day c.args.limits.now.backlog old now c.finish_import.result)
+    subst (λ (day : List Tuple). HasDaySteps tariffs day c.args.terms.limits.backlog old now c.finish_import.result)
     (ran.read bytes left).0 all
 
 pub returns-in-Err-clause-stepped : goal.returns-in-Err-clause-stepped
 returns-in-Err-clause-stepped g c = λ exact bytes left.
     let tariffs = c.args.tariffs.now in
-    let day = (reads bytes c.args.limits.now c.args.late).tuples in
+    let day = (reads bytes c.args.terms.limits c.args.terms.late).tuples in
     let old = g.P.Publisher.posted c.args.publisher.now in
     let now = g.P.Publisher.posted c.run_day.new.publisher in
-    subst (HasDaySteps tariffs day c.args.limits.now.backlog old now) (sym c.stopped.ensures.is)
-    (stepped_some tariffs day c.args.limits.now.backlog old now c.in-Err.fault
+    subst (HasDaySteps tariffs day c.args.terms.limits.backlog old now) (sym c.stopped.ensures.is)
+    (stepped_some tariffs day c.args.terms.limits.backlog old now c.in-Err.fault
     (c.in-Err.ensures.stopped.steps exact bytes left))
 
 pub returns-in-Ok-clause-whole : goal.returns-in-Ok-clause-whole
@@ -157,14 +157,14 @@ returns-in-Ok-clause-whole g c = λ bytes kept left stored.
 
 pub returns-in-Ok-clause-leaves : goal.returns-in-Ok-clause-leaves
 returns-in-Ok-clause-leaves g c = λ bytes left.
-    let refused = (reads bytes c.args.limits.now c.args.late).refused in
+    let refused = (reads bytes c.args.terms.limits c.args.terms.late).refused in
     let ends = (c.in-Ok.ensures.ran.read bytes left).1 in
     ends_leaves c.in-Ok.run'.end refused bytes (g.S.Source.left c.run_day.new.source) c.finish_import.result ends
     (c.in-Ok.ensures.leaves bytes left) c.finish_import.ensures.new_day c.finish_import.ensures.of_end
 
 pub returns-in-Err-clause-leaves : goal.returns-in-Err-clause-leaves
 returns-in-Err-clause-leaves g c = λ bytes left.
-    let refused = (reads bytes c.args.limits.now c.args.late).refused in
+    let refused = (reads bytes c.args.terms.limits c.args.terms.late).refused in
     let rest = g.S.Source.left c.run_day.new.source in
     subst (λ (r : Outcome). LeavesRead r refused bytes rest) (sym c.stopped.ensures.is)
     (stops_leaves c.in-Err.fault refused bytes rest)
@@ -175,7 +175,8 @@ returns-in-Ok-clause-planned g c = λ bytes left.
 
 pub returns-in-Err-clause-planned : goal.returns-in-Err-clause-planned
 returns-in-Err-clause-planned g c = λ bytes left.
-    subst (WorksPlanned c.args.plan.now c.args.limits.now.backlog (reads bytes c.args.limits.now c.args.late).tuples
+    subst (WorksPlanned c.args.terms.plan c.args.terms.limits.backlog
+    (reads bytes c.args.terms.limits c.args.terms.late).tuples
     (g.C.Crew.jobs c.args.crew.now) (g.C.Crew.jobs c.run_day.new.crew) (g.C.Crew.answers c.args.crew.now)
     (g.C.Crew.answers c.run_day.new.crew)) (sym c.stopped.ensures.is)
     (stops_unworked c.in-Err.fault _)
@@ -197,7 +198,7 @@ returns-in-Err-clause-asked g c =
 pub returns-in-Ok-clause-read_first : goal.returns-in-Ok-clause-read_first
 returns-in-Ok-clause-read_first g c = λ bytes left.
     let ends = (c.in-Ok.ensures.ran.read bytes left).1 in
-    read_first _ _ _ c.in-Ok.run'.end bytes (reads bytes c.args.limits.now c.args.late).refused _ _ _
+    read_first _ _ _ c.in-Ok.run'.end bytes (reads bytes c.args.terms.limits c.args.terms.late).refused _ _ _
     c.run_day.ensures.same c.finish_import.ensures.read_first ends (c.in-Ok.ensures.rest bytes left)
     c.in-Ok.ensures.source.passed
 

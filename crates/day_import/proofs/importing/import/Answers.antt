@@ -21,14 +21,14 @@ returns-in-Ok-None-clause-does g c = λ exact bytes o left told.
     let before = g.K.Keeper.told c.args.keeper.now in
     let after = g.K.Keeper.told c.day.new.self in
     let kept : after ≡ Some o =
-    reads_same before after c.day.result (λ p kept. kept ≡ record_of p c.args.day) c.day.ensures.state ∙ told in
+    reads_same before after c.day.result (λ p kept. kept ≡ record_of p c.args.terms.day) c.day.ensures.state ∙ told in
     let ok : c.day.result ≡ Ok None = cc in
-    let none : None ≡ record_of o c.args.day =
-    reads_ok before after c.day.result (λ p kept. kept ≡ record_of p c.args.day) o None c.day.ensures.state told
+    let none : None ≡ record_of o c.args.terms.day =
+    reads_ok before after c.day.result (λ p kept. kept ≡ record_of p c.args.terms.day) o None c.day.ensures.state told
     ok in
-    let read = reads bytes c.args.limits.now c.args.late in
+    let read = reads bytes c.args.terms.limits c.args.terms.late in
     subst (λ (r : Option DayRecord). Does g.K.Keeper.refuses
-    (unless_recorded r (import_read c.args.day bytes read.tuples read.refused o) c.args.day bytes o) o
+    (unless_recorded r (import_read c.args.terms.day bytes read.tuples read.refused o) c.args.terms.day bytes o) o
     (g.O.Sink.written c.args.sink.now) (g.O.Sink.written c.import_new.new.sink)
     (g.K.Keeper.told c.import_new.new.keeper) c.import_new.result)
     none (c.import_new.ensures.does exact bytes o left kept)
@@ -38,19 +38,20 @@ returns-in-Ok-None-clause-merged g c = λ bytes o left told.
     let before = g.K.Keeper.told c.args.keeper.now in
     let after = g.K.Keeper.told c.day.new.self in
     let kept : after ≡ Some o =
-    reads_same before after c.day.result (λ p kept. kept ≡ record_of p c.args.day) c.day.ensures.state ∙ told in
+    reads_same before after c.day.result (λ p kept. kept ≡ record_of p c.args.terms.day) c.day.ensures.state ∙ told in
     let ok : c.day.result ≡ Ok None = cc in
-    let none : None ≡ record_of o c.args.day =
-    reads_ok before after c.day.result (λ p kept. kept ≡ record_of p c.args.day) o None c.day.ensures.state told
+    let none : None ≡ record_of o c.args.terms.day =
+    reads_ok before after c.day.result (λ p kept. kept ≡ record_of p c.args.terms.day) o None c.day.ensures.state told
     ok in
-    let read = reads bytes c.args.limits.now c.args.late in
+    let read = reads bytes c.args.terms.limits c.args.terms.late in
     let done = c.import_new.ensures.merged bytes o left kept in
     record {
       found = done.found;
       answers_are = done.answers_are;
       merges = subst
           (λ (r : Option DayRecord). Merges g.K.Keeper.refuses
-          (unless_recorded r (import_merged done.found c.args.day bytes read.tuples read.refused o) c.args.day bytes o)
+          (unless_recorded r (import_merged done.found c.args.terms.day bytes read.tuples read.refused o)
+          c.args.terms.day bytes o)
           o (g.O.Sink.written c.args.sink.now) (g.O.Sink.written c.import_new.new.sink)
           (g.K.Keeper.told c.import_new.new.keeper) c.import_new.result)
           none done.merges;
@@ -66,7 +67,7 @@ returns-in-Err-clause-jobs g c =
 
 pub returns-in-Ok-Some-clause-leaves : goal.returns-in-Ok-Some-clause-leaves
 returns-in-Ok-Some-clause-leaves g c = λ bytes left.
-    kept_leaves c.compare.result (reads bytes c.args.limits.now c.args.late).refused bytes
+    kept_leaves c.compare.result (reads bytes c.args.terms.limits c.args.terms.late).refused bytes
     (g.S.Source.left c.compare.new.source) c.compare.ensures.kept_day
 
 pub returns-in-Ok-Some-clause-published_by : goal.returns-in-Ok-Some-clause-published_by
@@ -126,15 +127,15 @@ returns-in-Err-clause-asked g c =
 pub returns-in-Ok-None-clause-read_first : goal.returns-in-Ok-None-clause-read_first
 returns-in-Ok-None-clause-read_first g c = λ bytes left.
     let same = reads_same (g.K.Keeper.told c.args.keeper.now) (g.K.Keeper.told c.day.new.self) c.day.result
-    (λ p kept. kept ≡ record_of p c.args.day) c.day.ensures.state in
+    (λ p kept. kept ≡ record_of p c.args.terms.day) c.day.ensures.state in
     read_after _ _ _ _ _ _ same (c.import_new.ensures.read_first bytes left)
 
 pub returns-in-Ok-Some-clause-read_first : goal.returns-in-Ok-Some-clause-read_first
 returns-in-Ok-Some-clause-read_first g c = λ bytes left.
     inl (reads_same (g.K.Keeper.told c.args.keeper.now) (g.K.Keeper.told c.day.new.self) c.day.result
-    (λ p kept. kept ≡ record_of p c.args.day) c.day.ensures.state)
+    (λ p kept. kept ≡ record_of p c.args.terms.day) c.day.ensures.state)
 
 pub returns-in-Err-clause-read_first : goal.returns-in-Err-clause-read_first
 returns-in-Err-clause-read_first g c = λ bytes left.
     inl (reads_same (g.K.Keeper.told c.args.keeper.now) (g.K.Keeper.told c.day.new.self) c.day.result
-    (λ p kept. kept ≡ record_of p c.args.day) c.day.ensures.state)
+    (λ p kept. kept ≡ record_of p c.args.terms.day) c.day.ensures.state)

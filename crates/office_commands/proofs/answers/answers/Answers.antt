@@ -1,6 +1,7 @@
 use Rattle.std.proofs.Common.{◌≡◌}
 use Rattle.day_import.specs.declared.outcomes.Outcome.TheVariants.{WriteFault}
 use Rattle.day_import.specs.Imports.{answers_answer}
+use Rattle.office_commands.proofs.NamedLaws.{answers_named}
 use Rattle.office_commands.proofs.OutcomeLaws.{wrote, keeps, by_sink, did, by_read, by_keeper}
 use Rattle.road_time.specs.Reads.{reads}
 use Rattle.office_commands.proofs.StartLaws.{answered_worked}
@@ -11,7 +12,8 @@ pub returns-clause-wrote : goal.returns-clause-wrote
 returns-clause-wrote g c = λ right bytes o left told.
     let a = answers_answer c.args.run.day c.args.run.late c.args.limits.now bytes o in
     wrote g.K.Keeper.refuses c.args.run.day a o (g.O.Sink.written c.args.sink.now)
-    (g.O.Sink.written c.answers-done.new.sink) (g.K.Keeper.told c.answers-done.new.keeper) c.answers-done.result
+    (g.O.Sink.written c.answers-done.new.sink) (g.K.Keeper.told c.answers-done.new.keeper)
+    (answers_named c.args.run.day c.args.run.late c.args.limits.now bytes o) c.answers-done.result
     c.ended.result c.ended.ensures.ends (c.answers-done.ensures.does right bytes o left told)
 
 pub returns-clause-keeps : goal.returns-clause-keeps
@@ -30,7 +32,8 @@ pub returns-clause-does : goal.returns-clause-does
 returns-clause-does g c = λ right bytes o left told.
     let a = answers_answer c.args.run.day c.args.run.late c.args.limits.now bytes o in
     did g.K.Keeper.refuses c.args.run.day a o (g.O.Sink.written c.args.sink.now)
-    (g.O.Sink.written c.answers-done.new.sink) (g.K.Keeper.told c.answers-done.new.keeper) c.answers-done.result
+    (g.O.Sink.written c.answers-done.new.sink) (g.K.Keeper.told c.answers-done.new.keeper)
+    (answers_named c.args.run.day c.args.run.late c.args.limits.now bytes o) c.answers-done.result
     c.ended.result c.ended.ensures.ends (c.answers-done.ensures.does right bytes o left told)
 
 pub returns-clause-reads : goal.returns-clause-reads

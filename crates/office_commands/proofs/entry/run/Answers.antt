@@ -176,7 +176,7 @@ returns-in-Err-Words-clause-words g c = λ ok some.
 
 pub returns-in-Err-NoMemory-clause-does : goal.returns-in-Err-NoMemory-clause-does
 returns-in-Err-NoMemory-clause-does g c = λ bytes lines o told kept.
-    ([], inl ((0, refl), kept), appends_none _)
+    ([], (λ alone. refl, inl ((0, refl), kept)), appends_none _)
 
 pub returns-in-Err-Words-clause-puts : goal.returns-in-Err-Words-clause-puts
 returns-in-Err-Words-clause-puts g c = λ o kept.

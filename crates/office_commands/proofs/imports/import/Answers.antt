@@ -1,6 +1,7 @@
 use Rattle.std.proofs.Common.{◌≡◌, Option, subst}
 use Rattle.day_import.specs.declared.outcomes.Outcome.TheVariants.{WriteFault}
 use Rattle.day_import.specs.Imports.{import_answer, work_by, import_worked, unless_recorded, Merges}
+use Rattle.office_commands.proofs.NamedLaws.{import_named}
 use Rattle.office_commands.proofs.OutcomeLaws.{wrote, keeps, by_sink, did, held, by_read, by_keeper}
 use Rattle.road_time.specs.Reads.{reads}
 use Rattle.day_reading.specs.Days.{most_of_day}
@@ -15,7 +16,8 @@ pub returns-clause-wrote : goal.returns-clause-wrote
 returns-clause-wrote g c = λ right bytes o left told.
     let a = import_answer c.args.run.day c.args.run.late c.args.limits.now bytes o in
     wrote g.K.Keeper.refuses c.args.run.day a o (g.O.Sink.written c.args.sink.now)
-    (g.O.Sink.written c.import-done.new.sink) (g.K.Keeper.told c.import-done.new.keeper) c.import-done.result
+    (g.O.Sink.written c.import-done.new.sink) (g.K.Keeper.told c.import-done.new.keeper)
+    (import_named c.args.run.day c.args.run.late c.args.limits.now bytes o) c.import-done.result
     c.ended.result c.ended.ensures.ends (c.import-done.ensures.does right bytes o left told)
 
 pub returns-clause-keeps : goal.returns-clause-keeps
@@ -34,7 +36,8 @@ pub returns-clause-does : goal.returns-clause-does
 returns-clause-does g c = λ right bytes o left told.
     let a = import_answer c.args.run.day c.args.run.late c.args.limits.now bytes o in
     did g.K.Keeper.refuses c.args.run.day a o (g.O.Sink.written c.args.sink.now)
-    (g.O.Sink.written c.import-done.new.sink) (g.K.Keeper.told c.import-done.new.keeper) c.import-done.result
+    (g.O.Sink.written c.import-done.new.sink) (g.K.Keeper.told c.import-done.new.keeper)
+    (import_named c.args.run.day c.args.run.late c.args.limits.now bytes o) c.import-done.result
     c.ended.result c.ended.ensures.ends (c.import-done.ensures.does right bytes o left told)
 
 pub returns-clause-stops : goal.returns-clause-stops

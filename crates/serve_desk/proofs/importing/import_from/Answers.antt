@@ -24,7 +24,7 @@ pub returns-clause-few : goal.returns-clause-few
 returns-clause-few g c = λ all o left is told is_open.
     let starts = body_told c.args.count c.args.early.now all (g.L.Link.left c.args.link.now) (c.requires.bytes ∙ is) in
     let b = c.import-outcome.new.source in
-    let within = subst (λ l. ReadsWithin (most_imported (record_of o c.args.day) c.args.limits.now) l
+    let within = subst (λ l. ReadsWithin (most_imported (record_of o c.args.work.day) c.args.work.limits) l
     (body_left b.left b.early.now (g.L.Link.left b.link.now))) starts (c.import-outcome.ensures.bounded o told) in
     let few = few_read c.args.count b.left _ b.early.now all (g.L.Link.left b.link.now) within in
     let same = c.read_to-read.ensures.rest left is_open in

@@ -51,11 +51,12 @@ returns-clause-answers g c = λ all o known told.
       (
         s.result.outcome,
         mid,
-        λ exact. subst (λ x. Streams g.K.Keeper.refuses c.args.day c.args.limits.now bytes o x mid s.result.outcome)
+        λ exact. subst
+            (λ x. Streams g.K.Keeper.refuses c.args.work.day c.args.work.limits bytes o x mid s.result.outcome)
             c.in-Some.ensures.written
             (s.ensures.streams all o (ap (λ l. prepend_known c.args.early.now l) c.outward.ensures.left ∙ known) told
             exact),
-        subst (λ y. Closes c.args.day s.result.outcome mid y f.result)
+        subst (λ y. Closes c.args.work.day s.result.outcome mid y f.result)
             (sym (c.put_back.ensures.written c.in-Some.ensures.lends)) f.ensures.closes,
       ),
       reads_as c.args.count c.args.early.now begun behind first last (sym c.outward.ensures.left)

@@ -61,11 +61,11 @@ returns-clause-answers g c =
               s.result.outcome,
               mid,
               λ exact. subst
-                  (λ x. Streams g.K.Keeper.refuses c.args.day c.args.limits.now bytes o x mid s.result.outcome)
+                  (λ x. Streams g.K.Keeper.refuses c.args.work.day c.args.work.limits bytes o x mid s.result.outcome)
                   c.in-Some.ensures.written
                   (s.ensures.streams all o
                   (ap (λ l. prepend_known c.args.early.now l) c.outward.ensures.left ∙ known) (was.1 ∙ told) exact),
-              subst (λ y. Closes c.args.day s.result.outcome mid y f.result)
+              subst (λ y. Closes c.args.work.day s.result.outcome mid y f.result)
                   (sym (c.put_back.ensures.written c.in-Some.ensures.lends)) f.ensures.closes,
             );
       },

@@ -21,7 +21,7 @@ returns-clause-imports g c = λ all o known told.
     let l = c.args.link.now in
     let m = i.new.link in
     let n = f.new.link in
-    composes g.K.Keeper.refuses g.C.Crew.exact c.args.day c.args.limits.now c.args.count all o
+    composes g.K.Keeper.refuses g.C.Crew.exact c.args.work.day c.args.work.limits c.args.count all o
     (state_of (g.K.Keeper.told c.args.keeper.now) (g.K.Keeper.faults c.args.keeper.now) c.args.writer.now.posted)
     (state_of (g.K.Keeper.told i.new.keeper) (g.K.Keeper.faults i.new.keeper) i.new.publisher.posted)
     (wire_of (g.L.Link.left l) (g.L.Link.plan l) (g.L.Link.written l) (g.L.Link.room l))

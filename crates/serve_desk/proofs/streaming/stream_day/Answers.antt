@@ -11,7 +11,7 @@ pub returns-in-Ok-clause-streams : goal.returns-in-Ok-clause-streams
 returns-in-Ok-clause-streams g c = λ all o known told exact.
     let s = c.settle in
     let p = c.put_all in
-    let soon = c.streamed-soon in
+    let soon = c.streamed in
     let old = g.O.Sink.written c.args.out.now in
     let mid = g.O.Sink.written p.new.sink in
     let new = g.O.Sink.written s.new.out in
@@ -19,9 +19,9 @@ returns-in-Ok-clause-streams g c = λ all o known told exact.
     inl (
       mid,
       subst (λ t. Appends old mid t) c.stream_head.ensures c.in-Ok.ensures.bytes,
-      same_answer g.K.Keeper.refuses c.args.day soon.result c.args.limits.now bytes o mid new _ s.result.outcome
+      same_answer g.K.Keeper.refuses c.args.work.day soon.result c.args.work.limits bytes o mid new _ s.result.outcome
           (soon.ensures.same bytes 0)
-          (subst (λ n. Does g.K.Keeper.refuses (answers_answer c.args.day 0 soon.result bytes o) o mid new n
+          (subst (λ n. Does g.K.Keeper.refuses (answers_answer c.args.work.day 0 soon.result bytes o) o mid new n
           s.result.outcome) (s.ensures.kept ∙ told) (s.ensures.does all o known told exact)),
     )
 

@@ -8,7 +8,8 @@ pub returns-in-Day-clause-shared : goal.returns-in-Day-clause-shared
 returns-in-Day-clause-shared g c =
     let l = c.args.link.now in
     let a = c.share_day in
-    subst (λ asked. AnswersShared g.K.Keeper.told g.K.Keeper.faults g.K.Keeper.refuses g.C.Crew.exact c.args.limits.now asked c.args.reader.now c.args.reader.now
+    subst (λ asked. AnswersShared g.K.Keeper.told g.K.Keeper.faults g.K.Keeper.refuses g.C.Crew.exact
+    c.args.work.now.limits asked c.args.reader.now c.args.reader.now
     (wire_of (g.L.Link.left l) (g.L.Link.plan l) (g.L.Link.written l) (g.L.Link.room l))
     (wire_of (g.L.Link.left a.new.link) (g.L.Link.plan a.new.link) (g.L.Link.written a.new.link)
     (g.L.Link.room a.new.link)) a.result)
@@ -18,7 +19,8 @@ pub returns-in-Spent-clause-shared : goal.returns-in-Spent-clause-shared
 returns-in-Spent-clause-shared g c =
     let l = c.args.link.now in
     let a = c.share_spent in
-    subst (λ asked. AnswersShared g.K.Keeper.told g.K.Keeper.faults g.K.Keeper.refuses g.C.Crew.exact c.args.limits.now asked c.args.reader.now c.args.reader.now
+    subst (λ asked. AnswersShared g.K.Keeper.told g.K.Keeper.faults g.K.Keeper.refuses g.C.Crew.exact
+    c.args.work.now.limits asked c.args.reader.now c.args.reader.now
     (wire_of (g.L.Link.left l) (g.L.Link.plan l) (g.L.Link.written l) (g.L.Link.room l))
     (wire_of (g.L.Link.left a.new.link) (g.L.Link.plan a.new.link) (g.L.Link.written a.new.link)
     (g.L.Link.room a.new.link)) a.result)
@@ -28,7 +30,8 @@ pub returns-in-Vehicle-clause-shared : goal.returns-in-Vehicle-clause-shared
 returns-in-Vehicle-clause-shared g c =
     let l = c.args.link.now in
     let a = c.share_vehicle in
-    subst (λ asked. AnswersShared g.K.Keeper.told g.K.Keeper.faults g.K.Keeper.refuses g.C.Crew.exact c.args.limits.now asked c.args.reader.now c.args.reader.now
+    subst (λ asked. AnswersShared g.K.Keeper.told g.K.Keeper.faults g.K.Keeper.refuses g.C.Crew.exact
+    c.args.work.now.limits asked c.args.reader.now c.args.reader.now
     (wire_of (g.L.Link.left l) (g.L.Link.plan l) (g.L.Link.written l) (g.L.Link.room l))
     (wire_of (g.L.Link.left a.new.link) (g.L.Link.plan a.new.link) (g.L.Link.written a.new.link)
     (g.L.Link.room a.new.link)) a.result)
@@ -38,7 +41,8 @@ pub returns-in-Days-clause-shared : goal.returns-in-Days-clause-shared
 returns-in-Days-clause-shared g c =
     let l = c.args.link.now in
     let a = c.share_days in
-    subst (λ asked. AnswersShared g.K.Keeper.told g.K.Keeper.faults g.K.Keeper.refuses g.C.Crew.exact c.args.limits.now asked c.args.reader.now c.args.reader.now
+    subst (λ asked. AnswersShared g.K.Keeper.told g.K.Keeper.faults g.K.Keeper.refuses g.C.Crew.exact
+    c.args.work.now.limits asked c.args.reader.now c.args.reader.now
     (wire_of (g.L.Link.left l) (g.L.Link.plan l) (g.L.Link.written l) (g.L.Link.room l))
     (wire_of (g.L.Link.left a.new.link) (g.L.Link.plan a.new.link) (g.L.Link.written a.new.link)
     (g.L.Link.room a.new.link)) a.result)
@@ -48,7 +52,8 @@ pub returns-in-Page-clause-shared : goal.returns-in-Page-clause-shared
 returns-in-Page-clause-shared g c =
     let l = c.args.link.now in
     let a = c.answer_page in
-    subst (λ asked. AnswersShared g.K.Keeper.told g.K.Keeper.faults g.K.Keeper.refuses g.C.Crew.exact c.args.limits.now asked c.args.reader.now c.args.reader.now
+    subst (λ asked. AnswersShared g.K.Keeper.told g.K.Keeper.faults g.K.Keeper.refuses g.C.Crew.exact
+    c.args.work.now.limits asked c.args.reader.now c.args.reader.now
     (wire_of (g.L.Link.left l) (g.L.Link.plan l) (g.L.Link.written l) (g.L.Link.room l))
     (wire_of (g.L.Link.left a.new.link) (g.L.Link.plan a.new.link) (g.L.Link.written a.new.link)
     (g.L.Link.room a.new.link)) a.result)
@@ -58,14 +63,15 @@ pub returns-in-Import-clause-shared : goal.returns-in-Import-clause-shared
 returns-in-Import-clause-shared g c =
     let l = c.args.link.now in
     let a = c.import_shared in
-    subst (λ asked. AnswersShared g.K.Keeper.told g.K.Keeper.faults g.K.Keeper.refuses g.C.Crew.exact c.args.limits.now asked c.args.reader.now a.new.reader
+    subst (λ asked. AnswersShared g.K.Keeper.told g.K.Keeper.faults g.K.Keeper.refuses g.C.Crew.exact
+    c.args.work.now.limits asked c.args.reader.now a.new.reader
     (wire_of (g.L.Link.left l) (g.L.Link.plan l) (g.L.Link.written l) (g.L.Link.room l))
     (wire_of (g.L.Link.left a.new.link) (g.L.Link.plan a.new.link) (g.L.Link.written a.new.link)
     (g.L.Link.room a.new.link)) a.result)
     (sym c.in-Import.is) (
       λ all known. a.ensures.posts all (ap (λ e. prepend_known e (g.L.Link.left l)) c.items.ensures ∙ known),
       subst
-          (λ e. ImportsShared g.K.Keeper.told g.K.Keeper.refuses g.C.Crew.exact c.args.limits.now c.in-Import.day
+          (λ e. ImportsShared g.K.Keeper.told g.K.Keeper.refuses g.C.Crew.exact c.args.work.now.limits c.in-Import.day
           c.in-Import.length e c.args.reader.now a.new.reader
           (wire_of (g.L.Link.left l) (g.L.Link.plan l) (g.L.Link.written l) (g.L.Link.room l))
           (wire_of (g.L.Link.left a.new.link) (g.L.Link.plan a.new.link) (g.L.Link.written a.new.link)
@@ -77,13 +83,14 @@ pub returns-in-Answers-clause-shared : goal.returns-in-Answers-clause-shared
 returns-in-Answers-clause-shared g c =
     let l = c.args.link.now in
     let a = c.answer_notices_shared in
-    subst (λ asked. AnswersShared g.K.Keeper.told g.K.Keeper.faults g.K.Keeper.refuses g.C.Crew.exact c.args.limits.now asked c.args.reader.now c.args.reader.now
+    subst (λ asked. AnswersShared g.K.Keeper.told g.K.Keeper.faults g.K.Keeper.refuses g.C.Crew.exact
+    c.args.work.now.limits asked c.args.reader.now c.args.reader.now
     (wire_of (g.L.Link.left l) (g.L.Link.plan l) (g.L.Link.written l) (g.L.Link.room l))
     (wire_of (g.L.Link.left a.new.link) (g.L.Link.plan a.new.link) (g.L.Link.written a.new.link)
     (g.L.Link.room a.new.link)) a.result)
     (sym c.in-Answers.is) (
       subst
-          (λ e. AnswersNotices g.K.Keeper.told g.K.Keeper.refuses g.C.Crew.exact c.args.limits.now c.in-Answers.day
+          (λ e. AnswersNotices g.K.Keeper.told g.K.Keeper.refuses g.C.Crew.exact c.args.work.now.limits c.in-Answers.day
           c.in-Answers.length e
           (wire_of (g.L.Link.left l) (g.L.Link.plan l) (g.L.Link.written l) (g.L.Link.room l))
           (wire_of (g.L.Link.left a.new.link) (g.L.Link.plan a.new.link) (g.L.Link.written a.new.link)

@@ -58,7 +58,7 @@ returns-clause-imports g c =
       told_before = was.1;
       told_after = now.1;
       imports = λ all o known told.
-          composes g.K.Keeper.refuses g.C.Crew.exact c.args.day c.args.limits.now c.args.count all o before after
+          composes g.K.Keeper.refuses g.C.Crew.exact c.args.work.day c.args.work.limits c.args.count all o before after
           (wire_of (g.L.Link.left l) (g.L.Link.plan l) (g.L.Link.written l) (g.L.Link.room l))
           (wire_of (g.L.Link.left m) (g.L.Link.plan m) (g.L.Link.written m) (g.L.Link.room m))
           (wire_of (g.L.Link.left n) (g.L.Link.plan n) (g.L.Link.written n) (g.L.Link.room n))
