@@ -68,57 +68,63 @@ const LATER: Row = Row {
 };
 
 /// Whether a row's bytes are cut as they are to be, in pieces of this size.
-fn is_cut(alloc: Global, piece: usize, row: &Row) -> Result<bool, NoMemory> {
-    let mut source = MemSource::new(alloc, row.bytes, piece.max(1), row.fails)?;
-    let mut cutter = LineCutter::new(alloc)?;
+fn is_cut(alloc: Global, piece: usize, row: &Row) -> bool {
+    let Ok(mut source) = MemSource::new(alloc, row.bytes, piece.max(1), row.fails) else {
+        return false;
+    };
+    match LineCutter::new(alloc) {
+        Ok(mut cutter) => cuts(&mut cutter, &mut source, row),
+        Err(_) => false,
+    }
+}
+
+/// Whether a cutter has a row's lines next, and its end.
+fn cuts(cutter: &mut LineCutter, source: &mut MemSource, row: &Row) -> bool {
     let mut taken: usize = 0;
     for length in row.lengths {
-        if cutter.number() > 1000 || cutter.advance(&mut source) != Ok(true) {
-            return Ok(false);
+        if cutter.number() > 1000 || cutter.advance(source) != Ok(true) {
+            return false;
         }
         if cutter.line().len() != *length {
-            return Ok(false);
+            return false;
         }
         taken = taken.saturating_add(cutter.rest().len());
     }
-    if cutter.number() > 1000 {
-        return Ok(false);
-    }
-    Ok((cutter.advance(&mut source), taken) == (row.end, row.taken))
+    cutter.number() <= 1000 && (cutter.advance(source), taken) == (row.end, row.taken)
 }
 
 /// Whether each row's bytes are cut as they are to be, however they come in pieces.
-fn are_cut(alloc: Global) -> Result<bool, NoMemory> {
-    for row in &ROWS {
-        for piece in [1, 7, 65_536] {
-            if !is_cut(alloc, piece, row)? {
-                return Ok(false);
-            }
+fn are_cut(alloc: Global, rows: &[Row]) -> bool {
+    for row in rows {
+        if !is_cut(alloc, 1, row) || !is_cut(alloc, 7, row) || !is_cut(alloc, 65_536, row) {
+            return false;
         }
     }
-    Ok(true)
+    true
 }
 
 #[test]
-fn lines_at_their_limits(rt: HostRuntime) -> Result<(), NoMemory> {
-    assert!(rt; are_cut(rt.alloc())?, "in pieces");
-    assert!(rt; is_cut(rt.alloc(), 1, &LATER)?, "byte by byte");
-    Ok(())
+fn lines_at_their_limits(rt: HostRuntime) {
+    let rows = [are_cut(rt.alloc(), &ROWS), is_cut(rt.alloc(), 1, &LATER)];
+    assert_eq!(rt; rows, [true; 2]);
 }
 
 /// Whether a sink with room for five bytes takes five, two at a time, and no more.
-fn fills_up(alloc: Global) -> Result<bool, NoMemory> {
-    let mut sink = MemSink::new(alloc, 5, 2)?;
-    let first = put_all(&mut sink, b"abc");
-    let second = put_all(&mut sink, b"def");
-    let third = sink.write(b"g");
-    let ends = (first, second, third) == (Ok(()), Err(Failed), Err(Failed));
-    Ok(ends && sink.bytes() == b"abcde".as_slice())
+fn fills_up(alloc: Global) -> bool {
+    let Ok(mut sink) = MemSink::new(alloc, 5, 2) else {
+        return false;
+    };
+    put_all(&mut sink, b"abc") == Ok(())
+        && put_all(&mut sink, b"def") == Err(Failed)
+        && sink.write(b"g") == Err(Failed)
+        && sink.bytes() == b"abcde".as_slice()
 }
 
 /// Whether a source gives three bytes, two at a time, and fails at its second read.
-fn gives_out(alloc: Global) -> Result<bool, NoMemory> {
-    let mut source = MemSource::new(alloc, b"abc", 2, &[1])?;
+fn gives_out(alloc: Global) -> bool {
+    let Ok(mut source) = MemSource::new(alloc, b"abc", 2, &[1]) else {
+        return false;
+    };
     let mut buf = [0u8; 8];
     let came = [
         source.read(&mut buf),
@@ -126,7 +132,7 @@ fn gives_out(alloc: Global) -> Result<bool, NoMemory> {
         source.read(&mut buf),
         source.read(&mut buf),
     ];
-    Ok(came == [Ok(2), Err(Failed), Ok(1), Ok(0)])
+    came == [Ok(2), Err(Failed), Ok(1), Ok(0)]
 }
 
 /// Whether a sink of nothing takes all.
@@ -135,11 +141,9 @@ fn takes_all() -> bool {
 }
 
 #[test]
-fn bytes_in_and_out(rt: HostRuntime) -> Result<(), NoMemory> {
-    assert!(rt; fills_up(rt.alloc())?);
-    assert!(rt; gives_out(rt.alloc())?);
-    assert!(rt; takes_all());
-    Ok(())
+fn bytes_in_and_out(rt: HostRuntime) {
+    let rows = [fills_up(rt.alloc()), gives_out(rt.alloc()), takes_all()];
+    assert_eq!(rt; rows, [true; 3]);
 }
 
 /// Whether a link of three bytes, two at a time, with room for three fails at its second read, and takes three bytes of
@@ -155,10 +159,12 @@ fn goes_both_ways(link: &mut MemLink) -> bool {
 }
 
 #[test]
-fn bytes_both_ways(rt: HostRuntime) -> Result<(), NoMemory> {
-    let mut link = MemLink::new(rt.alloc(), b"abc", 2, 3, &[1])?;
-    assert!(rt; goes_both_ways(&mut link));
-    Ok(())
+fn bytes_both_ways(rt: HostRuntime) {
+    let right = match MemLink::new(rt.alloc(), b"abc", 2, 3, &[1]) {
+        Ok(mut link) => goes_both_ways(&mut link),
+        Err(_) => false,
+    };
+    assert!(rt; right);
 }
 
 /// A reader and a writer of one byte a call, whose first calls are interrupted.

@@ -4,7 +4,7 @@ ghost use Rattle.ways_expressway.specs.Checks.{can_be_run};
 
 mod running;
 
-use road_time::{NoMemory, Place, Report, Tariff, Tariffs};
+use road_time::{Place, Report, Tariff, Tariffs};
 use running::{at_once, one_by_one};
 use std::alloc::Global;
 use ways_expressway::{Carriage, Done, Finding, Job, LaneEvent};
@@ -191,72 +191,68 @@ const OF_ITS_WAY: [Finding; 4] = [
 const OF_THE_OTHER_WAY: [Finding; 1] = [told!(8, -1, 0, None)];
 
 /// Whether events find this in one job.
-fn finds(
-    alloc: Global,
-    tariffs: &Tariffs,
-    events: &[LaneEvent],
-    wanted: &[Finding],
-) -> Result<bool, NoMemory>
+fn finds(alloc: Global, tariffs: &Tariffs, events: &[LaneEvent], wanted: &[Finding]) -> bool
     requires { can_be_run events.now ≡ true }
 {
-    Ok(at_once(alloc, tariffs, events)?.as_slice() == wanted)
+    match at_once(alloc, tariffs, events) {
+        Ok(found) => found.as_slice() == wanted,
+        Err(_) => false,
+    }
 }
 
 /// Whether they find it in a job for each.
-fn finds_each(
-    alloc: Global,
-    tariffs: &Tariffs,
-    events: &[LaneEvent],
-    wanted: &[Finding],
-) -> Result<bool, NoMemory>
+fn finds_each(alloc: Global, tariffs: &Tariffs, events: &[LaneEvent], wanted: &[Finding]) -> bool
     requires { can_be_run events.now ≡ true }
 {
-    Ok(one_by_one(alloc, tariffs, events)?.as_slice() == wanted)
+    match one_by_one(alloc, tariffs, events) {
+        Ok(found) => found.as_slice() == wanted,
+        Err(_) => false,
+    }
 }
 
 /// Whether each of the worked rows on one way finds what it is to find: one report; the pair clears, at widths 1, 3 and
 /// 64; the same, a job for each event.
-fn are_found_on_one_way(alloc: Global, plain: &Tariffs) -> Result<[bool; 3], NoMemory> {
+fn are_found_on_one_way(alloc: Global, plain: &Tariffs) -> [bool; 3] {
     let pair = pair_clears();
-    let one = finds(alloc, plain, &one_report(), &OF_ONE_REPORT)?;
-    let cleared = finds(alloc, plain, &pair, &OF_THE_PAIR)?;
-    let each = finds_each(alloc, plain, &pair, &OF_THE_PAIR)?;
-    Ok([one, cleared, each])
+    [
+        finds(alloc, plain, &one_report(), &OF_ONE_REPORT),
+        finds(alloc, plain, &pair, &OF_THE_PAIR),
+        finds_each(alloc, plain, &pair, &OF_THE_PAIR),
+    ]
 }
 
 /// Whether each of the rows of one that stopped on another way does: at width 1; by the worker of the place, at widths 3
 /// and 64; the same, a job for each event; by the worker of the other way, at widths 3 and 64.
-fn are_found_on_two_ways(alloc: Global, plain: &Tariffs) -> Result<[bool; 4], NoMemory> {
+fn are_found_on_two_ways(alloc: Global, plain: &Tariffs) -> [bool; 4] {
     let here = left_for_elsewhere();
-    let all = finds(alloc, plain, &stopped_elsewhere(), &OF_ALL_WAYS)?;
-    let place = finds(alloc, plain, &here, &OF_ITS_WAY)?;
-    let each = finds_each(alloc, plain, &here, &OF_ITS_WAY)?;
-    let other = finds(alloc, plain, &seen_elsewhere(), &OF_THE_OTHER_WAY)?;
-    Ok([all, place, each, other])
+    [
+        finds(alloc, plain, &stopped_elsewhere(), &OF_ALL_WAYS),
+        finds(alloc, plain, &here, &OF_ITS_WAY),
+        finds_each(alloc, plain, &here, &OF_ITS_WAY),
+        finds(alloc, plain, &seen_elsewhere(), &OF_THE_OTHER_WAY),
+    ]
 }
 
 #[test]
-fn runs_find_what_the_worked_rows_say(rt: HostRuntime) -> Result<(), NoMemory> {
+fn runs_find_what_the_worked_rows_say(rt: HostRuntime) {
     let plain = Tariffs::new(rt.alloc());
-    assert_eq!(rt; are_found_on_one_way(rt.alloc(), &plain)?, [true; 3]);
-    assert_eq!(rt; are_found_on_two_ways(rt.alloc(), &plain)?, [true; 4]);
-    Ok(())
+    let one = are_found_on_one_way(rt.alloc(), &plain);
+    let two = are_found_on_two_ways(rt.alloc(), &plain);
+    assert_eq!(rt; (one, two), ([true; 3], [true; 4]));
 }
 
 /// Whether one report finds the same under another tariff.
-fn is_found_under_another(alloc: Global) -> Result<bool, NoMemory> {
+fn is_found_under_another(alloc: Global) -> bool {
     let mut steep = Tariffs::new(alloc);
     let tariff = Tariff {
         crowd: 50,
         speed: 40,
         factor: 5,
     };
-    steep.set(0, &tariff)?;
-    finds(alloc, &steep, &one_report(), &OF_ONE_REPORT)
+    steep.set(0, &tariff).is_ok() && finds(alloc, &steep, &one_report(), &OF_ONE_REPORT)
 }
 
 #[test]
-fn one_report_finds_the_same_under_another_tariff(rt: HostRuntime) -> Result<(), NoMemory> {
-    assert!(rt; is_found_under_another(rt.alloc())?);
-    Ok(())
+fn one_report_finds_the_same_under_another_tariff(rt: HostRuntime) {
+    assert!(rt; is_found_under_another(rt.alloc()));
 }

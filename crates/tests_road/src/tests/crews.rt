@@ -97,35 +97,33 @@ fn serves<C: Crew + Drop>(alloc: Global, mut crew: C, toll: u64) -> Result<bool,
 
 /// The same over each crew: whether jobs are run as they are started, as they are finished, in threads, and with another
 /// toll.
-fn each_serves<R: Threads + Copy + Drop>(rt: R, alloc: Global) -> Result<[bool; 4], NoMemory> {
-    let at_once = serves(alloc, InlineCrew::new(alloc, true), 0)?;
-    let late = serves(alloc, LateCrew::new(alloc, true), 0)?;
-    let threads = serves(alloc, ThreadCrew::new(rt, alloc, NoGate), 0)?;
-    let mark = serves(alloc, MarkCrew::new(alloc, 6), 6)?;
-    Ok([at_once, late, threads, mark])
+fn each_serves<R: Threads + Copy + Drop>(rt: R, alloc: Global) -> [Result<bool, NoMemory>; 4] {
+    let at_once = serves(alloc, InlineCrew::new(alloc, true), 0);
+    let late = serves(alloc, LateCrew::new(alloc, true), 0);
+    let threads = serves(alloc, ThreadCrew::new(rt, alloc, NoGate), 0);
+    let mark = serves(alloc, MarkCrew::new(alloc, 6), 6);
+    [at_once, late, threads, mark]
 }
 
 /// Each crew answers each job with its own findings, in whatever order they are finished, with as many as 64 out.
 #[test]
-fn each_crew_answers_each_job(rt: HostRuntime) -> Result<(), NoMemory> {
-    assert_eq!(rt; each_serves(rt, rt.alloc())?, [true; 4]);
-    Ok(())
+fn each_crew_answers_each_job(rt: HostRuntime) {
+    assert!(rt; each_serves(rt, rt.alloc()) == [Ok(true); 4]);
 }
 
 /// Whether a `MarkCrew` tells both findings with the toll, that of the job finished first before the other.
-fn have_the_toll(alloc: Global) -> Result<bool, NoMemory> {
+fn have_the_toll(alloc: Global) -> bool {
     let mut mark = MarkCrew::new(alloc, 6);
-    let both = are_answered(alloc, &mut mark, (0, 1), 6)?;
+    let both = are_answered(alloc, &mut mark, (0, 1), 6) == Ok(true);
     let [second] = one_finding(1, 6);
     let [first] = one_finding(0, 6);
-    Ok(both && mark.answered() == [second, first].as_slice())
+    both && mark.answered() == [second, first].as_slice()
 }
 
 /// A `MarkCrew` tells the findings that it answered, each with its toll, in the order of the finishes.
 #[test]
-fn what_was_answered_has_the_toll(rt: HostRuntime) -> Result<(), NoMemory> {
-    assert!(rt; have_the_toll(rt.alloc())?);
-    Ok(())
+fn what_was_answered_has_the_toll(rt: HostRuntime) {
+    assert!(rt; have_the_toll(rt.alloc()));
 }
 
 /// Two jobs over a crew, the second finished first: whether the first was run, and the second.
@@ -145,24 +143,25 @@ fn is_told(job: Option<&Started>, worker: u8, number: u32, ran: bool) -> bool {
 }
 
 /// Whether job 0 is told, job 1, and no other; and none where none is to be told.
-fn are_listed(alloc: Global) -> Result<[bool; 4], NoMemory> {
+fn are_listed(alloc: Global) -> [bool; 4] {
     let mut crew = LateCrew::new(alloc, true);
-    let (first, second) = are_run(alloc, &mut crew)?;
+    let Ok((first, second)) = are_run(alloc, &mut crew) else {
+        return [false; 4];
+    };
     let mut listed = crew.jobs().iter();
     let zero = is_told(listed.next(), 2, 0, first);
     let one = is_told(listed.next(), 1, 1, second);
     let two = listed.next().is_none();
-    Ok([
+    [
         zero,
         one,
         two,
         InlineCrew::new(alloc, false).jobs().is_empty(),
-    ])
+    ]
 }
 
 /// Jobs are told as they are started. A job that cannot be listed ends the list, and is not run.
 #[test]
-fn jobs_are_told_as_they_are_started(rt: HostRuntime) -> Result<(), NoMemory> {
-    assert_eq!(rt; are_listed(rt.alloc())?, [true; 4]);
-    Ok(())
+fn jobs_are_told_as_they_are_started(rt: HostRuntime) {
+    assert_eq!(rt; are_listed(rt.alloc()), [true; 4]);
 }

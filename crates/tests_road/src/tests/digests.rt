@@ -1,6 +1,6 @@
 // The digests of known texts, in pieces and chunks of several sizes.
+use super::records::has_text;
 use road_digest::BesideDigester;
-use road_time::NoMemory;
 use std::alloc::Global;
 use std::thread::Threads;
 
@@ -27,31 +27,37 @@ fn is_digested<R: Threads>(
     row: &(&str, &str),
     chunk: usize,
     size: usize,
-) -> Result<bool, NoMemory> {
+) -> bool {
     let mut digester = BesideDigester::new(alloc, chunk, 262_144);
     for piece in row.0.as_bytes().chunks(size.max(1)) {
         digester.add(rt, piece);
     }
-    Ok(digester.finish(rt).text(alloc)?.as_str() == row.1)
+    has_text(alloc, &digester.finish(rt), row.1)
 }
 
-/// Whether each text has its digest; a digester that is closed gives none.
-fn are_digested<R: Threads>(rt: &R, alloc: Global) -> Result<bool, NoMemory> {
-    for row in &TEXTS {
-        for (chunk, size) in [(0, 1), (4, 3), (64, 7), (262_144, 64)] {
-            if !is_digested(rt, alloc, row, chunk, size)? {
-                return Ok(false);
-            }
+/// Whether each text has its digest.
+fn are_digested<R: Threads>(rt: &R, alloc: Global, texts: &[(&str, &str)]) -> bool {
+    for row in texts {
+        let same = is_digested(rt, alloc, row, 0, 1)
+            && is_digested(rt, alloc, row, 4, 3)
+            && is_digested(rt, alloc, row, 64, 7)
+            && is_digested(rt, alloc, row, 262_144, 64);
+        if !same {
+            return false;
         }
     }
+    true
+}
+
+/// A digester that is closed gives no digest.
+fn is_closed<R: Threads>(rt: &R, alloc: Global) {
     let mut left = BesideDigester::new(alloc, 0, 0);
     left.add(rt, b"abc");
     left.close(rt);
-    Ok(true)
 }
 
 #[test]
-fn known_texts_in_pieces(rt: HostRuntime) -> Result<(), NoMemory> {
-    assert!(rt; are_digested(&rt, rt.alloc())?);
-    Ok(())
+fn known_texts_in_pieces(rt: HostRuntime) {
+    assert!(rt; are_digested(&rt, rt.alloc(), &TEXTS));
+    is_closed(&rt, rt.alloc());
 }

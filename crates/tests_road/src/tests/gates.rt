@@ -1,5 +1,5 @@
 // Which tuples are admitted, and in which order they are given.
-use road_time::{Limits, NoMemory, Report, Tuple};
+use road_time::{Limits, Report, Tuple};
 use std::alloc::Global;
 use tuples_text::{AdmitFault, Cause, Gatekeeper, Sorter};
 
@@ -33,8 +33,10 @@ const MANY: Result<(), AdmitFault> = Err(AdmitFault::Refused(Cause::Vehicles(1))
 
 const FAR: Result<(), AdmitFault> = Err(AdmitFault::Refused(Cause::Late(30, 0)));
 
-/// Days by their limits, their lateness and their first tuples.
-const DAYS: [(Limits, u8, [Step; 5]); 4] = [
+/// A day by its limits, its lateness and its first tuples.
+type Day = (Limits, u8, [Step; 5]);
+
+const DAYS: [Day; 4] = [
     (
         Limits::DAY,
         0,
@@ -96,8 +98,8 @@ fn first_misjudged(alloc: Global, limits: &Limits, lateness: u8, steps: &[Step])
 }
 
 /// Whether the tuples of each day are admitted as they are to be.
-fn are_judged(alloc: Global) -> bool {
-    for (limits, lateness, steps) in &DAYS {
+fn are_judged(alloc: Global, days: &[Day]) -> bool {
+    for (limits, lateness, steps) in days {
         if first_misjudged(alloc, limits, *lateness, steps) != 5 {
             return false;
         }
@@ -111,31 +113,33 @@ fn asks(time: u32) -> Option<Tuple> {
 }
 
 /// Whether a sorter of half a minute gives three tuples in the order of their Times.
-fn sorts(alloc: Global) -> Result<bool, NoMemory> {
+fn sorts(alloc: Global) -> bool {
     let mut sorter = Sorter::new(alloc, 30);
-    for time in [30, 0, 60] {
-        sorter.put(&Tuple::Travel { time })?;
-    }
+    let put = [
+        sorter.put(&Tuple::Travel { time: 30 }),
+        sorter.put(&Tuple::Travel { time: 0 }),
+        sorter.put(&Tuple::Travel { time: 60 }),
+    ];
     let taken = [sorter.take(), sorter.take(), sorter.take()];
     let ended = [sorter.end(), sorter.end()];
-    Ok(taken == [asks(0), asks(30), None] && ended == [asks(60), None])
+    put == [Ok(()); 3] && taken == [asks(0), asks(30), None] && ended == [asks(60), None]
 }
 
-/// Whether a sorter that waits for none gives each tuple at once.
-fn sorts_at_once(alloc: Global) -> Result<bool, NoMemory> {
+/// Whether a sorter that waits for none gives a tuple at once.
+fn gives_at_once(sorter: &mut Sorter, vid: u32) -> bool {
+    let tuple = report(9, vid);
+    sorter.put(&tuple).is_ok() && sorter.take() == Some(tuple)
+}
+
+/// Whether one does so with three tuples.
+fn sorts_at_once(alloc: Global) -> bool {
     let mut prompt = Sorter::new(alloc, 0);
-    let mut same = true;
-    for vid in 0..3 {
-        prompt.put(&report(9, vid))?;
-        same = same && prompt.take() == Some(report(9, vid));
-    }
-    Ok(same)
+    gives_at_once(&mut prompt, 0) && gives_at_once(&mut prompt, 1) && gives_at_once(&mut prompt, 2)
 }
 
 #[test]
-fn tuples_of_a_day(rt: HostRuntime) -> Result<(), NoMemory> {
-    assert!(rt; are_judged(rt.alloc()), "days");
-    assert!(rt; sorts(rt.alloc())?, "half a minute");
-    assert!(rt; sorts_at_once(rt.alloc())?, "at once");
-    Ok(())
+fn tuples_of_a_day(rt: HostRuntime) {
+    let alloc = rt.alloc();
+    let rows = [are_judged(alloc, &DAYS), sorts(alloc), sorts_at_once(alloc)];
+    assert_eq!(rt; rows, [true; 3]);
 }

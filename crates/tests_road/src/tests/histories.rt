@@ -1,9 +1,9 @@
 // Histories as they are kept, from the worked rows.
 ghost use Rattle.std.specs.Prelude.{◌≤◌};
 
-use super::records::{amount, day_of};
+use super::records::{amount, are_amounts, day_of, has_text};
 use day_past::{PastCause, PastOutcome, import_past};
-use keep_office::{KeepFault, Keeper, LateKeeper, MemKeeper};
+use keep_office::{Keeper, LateKeeper, MemKeeper};
 use road_digest::Digester;
 use road_io::MemSource;
 use road_time::{Limits, NoMemory};
@@ -50,26 +50,28 @@ fn keep_ten<R: Threads>(
 }
 
 /// Whether a history is kept from now on, or was before, of so many amounts.
-fn is_kept(outcome: PastOutcome, again: bool, rows: u64) -> bool {
+fn is_kept(outcome: Result<PastOutcome, NoMemory>, again: bool, rows: u64) -> bool {
     match outcome {
-        PastOutcome::Stored(past) => !again && past.rows == rows,
-        PastOutcome::Already(past) => again && past.rows == rows,
+        Ok(PastOutcome::Stored(past)) => !again && past.rows == rows,
+        Ok(PastOutcome::Already(past)) => again && past.rows == rows,
         _ => false,
     }
 }
 
 /// Whether a keeper has the two amounts.
-fn has_two(keeper: &mut MemKeeper) -> Result<bool, KeepFault> {
-    let last = keeper.last_day()? == 99;
-    Ok(last && keeper.spent(31, 7, 0)? == 28 && keeper.spent(99, 7, 0)? == 5)
+fn has_two(keeper: &mut MemKeeper) -> bool {
+    let spent = [keeper.spent(31, 7, 0), keeper.spent(99, 7, 0)];
+    keeper.last_day() == Ok(99) && spent == [Ok(28), Ok(5)]
 }
 
 /// A history of two amounts, twice.
-fn stored_once<R: Threads>(rt: &R, alloc: Global) -> Result<bool, KeepFault> {
-    let mut keeper = MemKeeper::new(alloc, &[])?;
-    let first = keep_ten(rt, alloc, TWO, &[], &mut keeper)?;
-    let second = keep_ten(rt, alloc, TWO, &[], &mut keeper)?;
-    Ok(is_kept(first, false, 2) && is_kept(second, true, 2) && has_two(&mut keeper)?)
+fn stored_once<R: Threads>(rt: &R, alloc: Global) -> bool {
+    let Ok(mut keeper) = MemKeeper::new(alloc, &[]) else {
+        return false;
+    };
+    let first = keep_ten(rt, alloc, TWO, &[], &mut keeper);
+    let second = keep_ten(rt, alloc, TWO, &[], &mut keeper);
+    is_kept(first, false, 2) && is_kept(second, true, 2) && has_two(&mut keeper)
 }
 
 /// The digests of no byte and of the three that are found in its place.
@@ -78,90 +80,75 @@ const NOTHING: &str = "e3b0c44298fc1c149afbf4c8996fb92427ae41e4649b934ca495991b7
 const ABC: &str = "ca978112ca1bbdcafac231b39a23dc4da786eff8147c4e72b9807785afee48bb";
 
 /// Whether nothing is kept, and something else was found.
-fn differs(alloc: Global, outcome: PastOutcome) -> Result<bool, NoMemory> {
-    let PastOutcome::Differs { kept, found } = outcome else {
-        return Ok(false);
-    };
-    Ok(kept.text(alloc)?.as_str() == NOTHING && found.text(alloc)?.as_str() == ABC)
+fn differs(alloc: Global, outcome: Result<PastOutcome, NoMemory>) -> bool {
+    match outcome {
+        Ok(PastOutcome::Differs { kept, found }) => {
+            has_text(alloc, &kept, NOTHING) && has_text(alloc, &found, ABC)
+        }
+        _ => false,
+    }
 }
 
 /// Another history of that base, and one of another base.
-fn others<R: Threads>(rt: &R, alloc: Global) -> Result<bool, KeepFault> {
-    let mut keeper = MemKeeper::new(alloc, &[])?;
-    let _first = keep_ten(rt, alloc, b"", &[], &mut keeper)?;
-    let other = keep(rt, alloc, 101, 10, b"", &[0], &mut keeper)?;
-    let another = keep_ten(rt, alloc, b"abc", &[], &mut keeper)?;
-    Ok(other == PastOutcome::OtherBase { kept: 100 } && differs(alloc, another)?)
+fn others<R: Threads>(rt: &R, alloc: Global) -> bool {
+    let Ok(mut keeper) = MemKeeper::new(alloc, &[]) else {
+        return false;
+    };
+    let first = keep_ten(rt, alloc, b"", &[], &mut keeper);
+    let other = keep(rt, alloc, 101, 10, b"", &[0], &mut keeper);
+    let another = keep_ten(rt, alloc, b"abc", &[], &mut keeper);
+    let base = other == Ok(PastOutcome::OtherBase { kept: 100 });
+    first.is_ok() && base && differs(alloc, another)
 }
 
 /// A history after a day.
-fn late<R: Threads>(rt: &R, alloc: Global) -> Result<bool, KeepFault> {
-    let mut keeper = MemKeeper::new(alloc, &[])?;
-    keeper.put_day(&day_of(Digester::new().finish(), 0), &[])?;
-    let late = keep_ten(rt, alloc, TWO, &[0], &mut keeper)?;
-    Ok(late == PastOutcome::PastLate { last: 100 } && keeper.past()? == None)
+fn late<R: Threads>(rt: &R, alloc: Global) -> bool {
+    let Ok(mut keeper) = MemKeeper::new(alloc, &[]) else {
+        return false;
+    };
+    keeper.put_day(&day_of(Digester::new().finish(), 0), &[]) == Ok(())
+        && keep_ten(rt, alloc, TWO, &[0], &mut keeper) == Ok(PastOutcome::PastLate { last: 100 })
+        && keeper.past() == Ok(None)
 }
 
 /// The amounts above zero are kept, in order.
-fn zeros<R: Threads>(rt: &R, alloc: Global) -> Result<bool, KeepFault> {
+fn zeros<R: Threads>(rt: &R, alloc: Global) -> bool {
     let input = b"9,1,0,5\n8,2,0,0\n\n7,1,0,10\r\n".as_slice();
-    let mut keeper = MemKeeper::new(alloc, &[])?;
-    let outcome = keep(rt, alloc, 100, 4, input, &[], &mut keeper)?;
+    let Ok(mut keeper) = MemKeeper::new(alloc, &[]) else {
+        return false;
+    };
+    let outcome = keep(rt, alloc, 100, 4, input, &[], &mut keeper);
     let wanted = [amount(99, 7, 10), amount(99, 9, 5)];
-    Ok(is_kept(outcome, false, 2) && keeper.rows(31, 99)?.as_slice() == wanted.as_slice())
-}
-
-/// What is answered where one line is refused, and whether nothing is kept then.
-fn refused_at<R: Threads>(
-    rt: &R,
-    alloc: Global,
-    most: u32,
-    input: &[u8],
-) -> Result<(PastOutcome, bool), KeepFault> {
-    let mut keeper = MemKeeper::new(alloc, &[])?;
-    let outcome = keep(rt, alloc, 100, most, input, &[], &mut keeper)?;
-    let none = keeper.past()? == None && keeper.last_day()? == 0;
-    Ok((outcome, none))
-}
-
-/// What is answered where this read or this call of the keeper fails, and whether nothing is kept then.
-fn failed_at<R: Threads>(
-    rt: &R,
-    alloc: Global,
-    reads: &[u32],
-    calls: &[u32],
-) -> Result<(PastOutcome, bool), KeepFault> {
-    let mut keeper = MemKeeper::new(alloc, calls)?;
-    let outcome = keep_ten(rt, alloc, TWO, reads, &mut keeper)?;
-    let again = keep_ten(rt, alloc, TWO, &[], &mut keeper)?;
-    Ok((outcome, is_kept(again, false, 2)))
+    is_kept(outcome, false, 2) && are_amounts(keeper.rows(31, 99), &wanted)
 }
 
 /// A put that fails late is done.
-fn failed_late<R: Threads>(rt: &R, alloc: Global) -> Result<bool, KeepFault> {
-    let mut keeper = LateKeeper::new(alloc, &[2])?;
-    let failed = keep(rt, alloc, 100, 10, TWO, &[], &mut keeper)?;
-    let again = keep(rt, alloc, 100, 10, TWO, &[], &mut keeper)?;
-    Ok(failed == PastOutcome::KeeperFault && is_kept(again, true, 2))
-}
-
-/// Whether each row is answered: stored once, others, late, zeros, failed late.
-fn are_kept_once<R: Threads>(rt: &R, alloc: Global) -> Result<[bool; 5], KeepFault> {
-    let stored = stored_once(rt, alloc)?;
-    let others = others(rt, alloc)?;
-    let late = late(rt, alloc)?;
-    let zeros = zeros(rt, alloc)?;
-    Ok([stored, others, late, zeros, failed_late(rt, alloc)?])
+fn failed_late<R: Threads>(rt: &R, alloc: Global) -> bool {
+    let Ok(mut keeper) = LateKeeper::new(alloc, &[2]) else {
+        return false;
+    };
+    let failed = keep(rt, alloc, 100, 10, TWO, &[], &mut keeper);
+    let again = keep(rt, alloc, 100, 10, TWO, &[], &mut keeper);
+    failed == Ok(PastOutcome::KeeperFault) && is_kept(again, true, 2)
 }
 
 #[test]
-fn histories_are_kept_once(rt: HostRuntime) -> Result<(), KeepFault> {
-    assert_eq!(rt; are_kept_once(&rt, rt.alloc())?, [true; 5]);
-    Ok(())
+fn histories_are_kept_once(rt: HostRuntime) {
+    let alloc = rt.alloc();
+    let rows = [
+        stored_once(&rt, alloc),
+        others(&rt, alloc),
+        late(&rt, alloc),
+        zeros(&rt, alloc),
+        failed_late(&rt, alloc),
+    ];
+    assert_eq!(rt; rows, [true; 5]);
 }
 
-/// Histories, how many lines are lawful, and the line that is refused with its cause.
-const REFUSED: [(&[u8], u32, u64, PastCause); 7] = [
+/// A history, how many lines are lawful, and the line that is refused with its cause.
+type Refused = (&'static [u8], u32, u64, PastCause);
+
+const REFUSED: [Refused; 7] = [
     (TWO, 1, 2, PastCause::Many(1)),
     (&[b'7'; 201], 1, 1, PastCause::Long),
     (b"7,1,0\n", 9, 1, PastCause::Fields(3)),
@@ -172,38 +159,60 @@ const REFUSED: [(&[u8], u32, u64, PastCause); 7] = [
 ];
 
 /// Whether a history is refused at this line for this cause, and nothing is kept.
-fn is_refused<R: Threads>(
-    rt: &R,
-    alloc: Global,
-    history: (&[u8], u32),
-    line: u64,
-    cause: PastCause,
-) -> Result<bool, KeepFault> {
-    let (outcome, none) = refused_at(rt, alloc, history.1, history.0)?;
-    Ok(none && outcome == (PastOutcome::Row { line, cause }))
+fn is_refused<R: Threads>(rt: &R, alloc: Global, row: &Refused) -> bool {
+    let (input, most, line, cause) = *row;
+    let Ok(mut keeper) = MemKeeper::new(alloc, &[]) else {
+        return false;
+    };
+    keep(rt, alloc, 100, most, input, &[], &mut keeper) == Ok(PastOutcome::Row { line, cause })
+        && keeper.past() == Ok(None)
+        && keeper.last_day() == Ok(0)
+}
+
+/// The number of the first history that is not refused so, their count where all are.
+fn first_taken<R: Threads>(rt: &R, alloc: Global, rows: &[Refused]) -> usize {
+    for (at, row) in rows.iter().enumerate() {
+        if !is_refused(rt, alloc, row) {
+            return at;
+        }
+    }
+    rows.len()
 }
 
 #[test]
-fn lines_that_are_refused(rt: HostRuntime) -> Result<(), KeepFault> {
-    for (input, most, line, cause) in REFUSED {
-        assert!(rt;
-            is_refused(&rt, rt.alloc(), (input, most), line, cause)?,
-            "line {line}"
-        );
-    }
-    Ok(())
+fn lines_that_are_refused(rt: HostRuntime) {
+    assert_eq!(rt; first_taken(&rt, rt.alloc(), &REFUSED), 7);
+}
+
+/// Whether this is answered where these reads and calls of the keeper fail, and nothing is kept then.
+fn fails_with<R: Threads>(
+    rt: &R,
+    alloc: Global,
+    reads: &[u32],
+    calls: &[u32],
+    outcome: PastOutcome,
+) -> bool {
+    let Ok(mut keeper) = MemKeeper::new(alloc, calls) else {
+        return false;
+    };
+    let failed = keep_ten(rt, alloc, TWO, reads, &mut keeper);
+    let again = keep_ten(rt, alloc, TWO, &[], &mut keeper);
+    failed == Ok(outcome) && is_kept(again, false, 2)
 }
 
 /// Whether this read fails as it is to fail, and this call of the keeper, and nothing is kept.
-fn both_fail<R: Threads>(rt: &R, alloc: Global, at: u32) -> Result<bool, KeepFault> {
-    let read = failed_at(rt, alloc, &[at], &[])? == (PastOutcome::ReadFault, true);
-    Ok(read && failed_at(rt, alloc, &[], &[at])? == (PastOutcome::KeeperFault, true))
+fn both_fail<R: Threads>(rt: &R, alloc: Global, at: u32) -> bool {
+    fails_with(rt, alloc, &[at], &[], PastOutcome::ReadFault)
+        && fails_with(rt, alloc, &[], &[at], PastOutcome::KeeperFault)
 }
 
 #[test]
-fn reads_and_calls_that_fail(rt: HostRuntime) -> Result<(), KeepFault> {
-    for at in 0..3u32 {
-        assert!(rt; both_fail(&rt, rt.alloc(), at)?, "read and call {at}");
-    }
-    Ok(())
+fn reads_and_calls_that_fail(rt: HostRuntime) {
+    let alloc = rt.alloc();
+    let failed = [
+        both_fail(&rt, alloc, 0),
+        both_fail(&rt, alloc, 1),
+        both_fail(&rt, alloc, 2),
+    ];
+    assert_eq!(rt; failed, [true; 3]);
 }

@@ -1,7 +1,6 @@
 // Lines, and the texts of causes, tuples and notices.
-use road_time::{NoMemory, Notice, Report, Tuple};
+use road_time::{Notice, Report, Tuple};
 use std::alloc::Global;
-use std::test::Fail;
 use tuples_text::{Cause, put_notice, put_tuple, read_line, read_notice};
 
 const REPORT: Report = Report {
@@ -169,41 +168,42 @@ const NO_NOTICES: [&[u8]; 6] = [
 ];
 
 /// Whether a cause has this text.
-fn is_text_of(alloc: Global, cause: Cause, text: &[u8]) -> Result<bool, Fail> {
-    Ok(format!(in alloc; "{cause}")?.as_bytes() == text)
+fn is_text_of(alloc: Global, cause: Cause, text: &[u8]) -> bool {
+    match format!(in alloc; "{cause}") {
+        Ok(found) => found.as_bytes() == text,
+        Err(_) => false,
+    }
 }
 
 /// Whether each cause has its text.
-fn are_texts(alloc: Global) -> Result<bool, Fail> {
-    for (cause, text) in &CAUSES {
-        if !is_text_of(alloc, *cause, text)? {
-            return Ok(false);
+fn are_texts(alloc: Global, causes: &[(Cause, &[u8])]) -> bool {
+    for (cause, text) in causes {
+        if !is_text_of(alloc, *cause, text) {
+            return false;
         }
     }
-    Ok(true)
+    true
 }
 
 /// Whether a notice is written as this line.
-fn is_line_of(alloc: Global, notice: &Notice, line: &[u8]) -> Result<bool, NoMemory> {
+fn is_line_of(alloc: Global, notice: &Notice, line: &[u8]) -> bool {
     let mut out = Vec::new(alloc);
-    put_notice(&mut out, notice)?;
-    let end = out.pop();
-    Ok(end == Some(b'\n') && out.as_slice() == line)
+    put_notice(&mut out, notice).is_ok() && out.pop() == Some(b'\n') && out.as_slice() == line
 }
 
 /// Whether each notice is written and read.
-fn are_notices(alloc: Global) -> Result<bool, NoMemory> {
-    for (line, notice) in &NOTICES {
-        if read_notice(line) != Some(*notice) || !is_line_of(alloc, notice, line)? {
-            return Ok(false);
+fn are_notices(alloc: Global, notices: &[(&[u8], Notice)]) -> bool {
+    for (line, notice) in notices {
+        if read_notice(line) != Some(*notice) || !is_line_of(alloc, notice, line) {
+            return false;
         }
     }
-    Ok(true)
+    true
 }
 
 /// Whether lines of no notice are read as none.
-fn are_none() -> bool {
-    for line in NO_NOTICES {
+fn are_none(lines: &[&[u8]]) -> bool {
+    for line in lines {
         if read_notice(line) != None {
             return false;
         }
@@ -212,21 +212,20 @@ fn are_none() -> bool {
 }
 
 /// Whether a tuple is written as this line.
-fn is_line_of_tuple(alloc: Global, tuple: &Tuple, line: &[u8]) -> Result<bool, NoMemory> {
+fn is_line_of_tuple(alloc: Global, tuple: &Tuple, line: &[u8]) -> bool {
     let mut out = Vec::new(alloc);
-    put_tuple(&mut out, tuple)?;
-    Ok(out.as_slice() == line)
+    put_tuple(&mut out, tuple).is_ok() && out.as_slice() == line
 }
 
 #[test]
-fn texts_of_causes_and_notices(rt: HostRuntime) -> Result<(), Fail> {
-    assert!(rt; are_texts(rt.alloc())?, "causes");
-    assert!(rt; are_notices(rt.alloc())?, "notices");
-    assert!(rt; are_none(), "no notices");
+fn texts_of_causes_and_notices(rt: HostRuntime) {
+    let alloc = rt.alloc();
     let line = b"0,0,7,30,0,0,0,10,52800,-1,-1,-1,-1,-1,-1\n".as_slice();
-    assert!(rt;
-        is_line_of_tuple(rt.alloc(), &Tuple::Report(REPORT), line)?,
-        "a tuple"
-    );
-    Ok(())
+    let rows = [
+        are_texts(alloc, &CAUSES),
+        are_notices(alloc, &NOTICES),
+        are_none(&NO_NOTICES),
+        is_line_of_tuple(alloc, &Tuple::Report(REPORT), line),
+    ];
+    assert_eq!(rt; rows, [true; 4]);
 }

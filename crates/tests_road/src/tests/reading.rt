@@ -1,6 +1,7 @@
 // Days as they are read: whole, refused, late, and with a source that fails.
 mod late;
 
+use super::records::has_text;
 use day_reading::{DayAhead, DayEnd, DayReader, ReadEnd, ReadStop, find_digest};
 use road_digest::Digest;
 use road_io::MemSource;
@@ -204,102 +205,89 @@ fn end_of(refused: Option<(u64, Cause)>) -> Result<(), ReadEnd> {
 }
 
 /// Whether a day is read so, and the same a tuple ahead.
-fn is_read<R: Threads>(rt: &R, alloc: Global, row: &Row) -> Result<bool, NoMemory> {
+fn is_read<R: Threads>(rt: &R, alloc: Global, row: &Row) -> bool {
     let (input, limits, count, refused) = row;
     let end = end_of(*refused);
-    let ahead = count_ahead(rt, alloc, input, limits, false, &[])?;
-    let day = read_day(rt, alloc, input, limits, 0, WHOLE)?;
-    let same = day.end == end && is_same(&end, &ahead.1);
-    Ok(same && (day.tuples.len(), ahead.0) == (*count, *count))
+    let ahead = match count_ahead(rt, alloc, input, limits, false, &[]) {
+        Ok((found, ended)) => found == *count && is_same(&end, &ended),
+        Err(_) => false,
+    };
+    match read_day(rt, alloc, input, limits, 0, WHOLE) {
+        Ok(day) => ahead && day.end == end && day.tuples.len() == *count,
+        Err(_) => false,
+    }
+}
+
+/// The number of the first day that is not read so, their count where all are.
+fn first_misread<R: Threads>(rt: &R, alloc: Global, rows: &[Row]) -> usize {
+    for (at, row) in rows.iter().enumerate() {
+        if !is_read(rt, alloc, row) {
+            return at;
+        }
+    }
+    rows.len()
 }
 
 #[test]
-fn days_and_their_ends(rt: HostRuntime) -> Result<(), NoMemory> {
-    for row in &ROWS {
-        let input = row.0;
-        assert!(rt; is_read(&rt, rt.alloc(), row)?, "{input}");
-    }
-    Ok(())
+fn days_and_their_ends(rt: HostRuntime) {
+    assert_eq!(rt; first_misread(&rt, rt.alloc(), &ROWS), 11);
 }
 
 /// The digest of one line, where its day has one line, one tuple and 42 bytes.
-fn digest_of_one<R: Threads>(rt: &R, alloc: Global) -> Result<Option<Digest>, NoMemory> {
-    let one = read_day(rt, alloc, ONE, &Limits::DAY, 0, WHOLE)?;
-    if (one.lines, one.bytes, one.tuples.len()) == (1, 42, 1) {
-        Ok(one.digest)
-    } else {
-        Ok(None)
+fn digest_of_one<R: Threads>(rt: &R, alloc: Global) -> Option<Digest> {
+    match read_day(rt, alloc, ONE, &Limits::DAY, 0, WHOLE) {
+        Ok(one) if (one.lines, one.bytes, one.tuples.len()) == (1, 42, 1) => one.digest,
+        _ => None,
     }
 }
 
-/// Whether a digest has this text.
-fn has_text(alloc: Global, digest: &Digest, wanted: &str) -> Result<bool, NoMemory> {
-    Ok(digest.text(alloc)?.as_str() == wanted)
-}
-
 /// Whether the first 42 bytes of three lines have this digest.
-fn is_found(alloc: Global, digest: Digest) -> Result<bool, NoMemory> {
-    let mut source = MemSource::new(alloc, THREE.as_bytes(), 7, &[])?;
-    Ok(find_digest(alloc, 41, &mut source) == Ok(digest))
+fn is_found(alloc: Global, digest: Digest) -> bool {
+    match MemSource::new(alloc, THREE.as_bytes(), 7, &[]) {
+        Ok(mut source) => find_digest(alloc, 41, &mut source) == Ok(digest),
+        Err(_) => false,
+    }
 }
 
-/// Whether one line is read to this end, at once and a tuple ahead, with or without the digest.
-fn is_read_to<R: Threads>(
-    rt: &R,
-    alloc: Global,
-    digested: bool,
-    whole: DayEnd,
-) -> Result<bool, NoMemory> {
-    let mut source = MemSource::new(alloc, ONE.as_bytes(), 7, &[])?;
-    let read = day_reading::read_day(rt, alloc, &Limits::DAY, 0, digested, &mut source);
-    let ahead = count_ahead(rt, alloc, ONE, &Limits::DAY, digested, &[])?;
-    let at_once = read.map(|day| (day.tuples.len(), day.end)) == Ok((1, whole));
-    Ok(at_once && ahead == (1, Ok(whole)))
+/// How many tuples one line has, and how it is read to its end at once, with or without the digest.
+fn read_at_once<R: Threads>(rt: &R, alloc: Global, digested: bool) -> Option<(usize, DayEnd)> {
+    let Ok(mut source) = MemSource::new(alloc, ONE.as_bytes(), 7, &[]) else {
+        return None;
+    };
+    match day_reading::read_day(rt, alloc, &Limits::DAY, 0, digested, &mut source) {
+        Ok(day) => Some((day.tuples.len(), day.end)),
+        Err(_) => None,
+    }
 }
 
-const TEXT: &str = "fc2f0b2e7199ba75ff5a464f444f1d13574338c146416b399a7125bc0993cf7b";
-
-/// Whether one line has its digest, the first 42 bytes of three lines have it too, and a failed read comes before any
-/// tuple.
-fn have_the_digest<R: Threads>(
-    rt: &R,
-    alloc: Global,
-    digest: Digest,
-) -> Result<[bool; 3], NoMemory> {
-    let text = has_text(alloc, &digest, TEXT)?;
-    let cut = count_ahead(rt, alloc, PAIR, &Limits::DAY, true, &[1])?;
-    Ok([
-        text,
-        is_found(alloc, digest)?,
-        cut == (0, Err(ReadStop::ReadFault)),
-    ])
-}
-
-/// Whether one line is read with its digest, where that is asked for, and without.
-fn is_read_whole<R: Threads>(
-    rt: &R,
-    alloc: Global,
-    asked: Option<Digest>,
-) -> Result<bool, NoMemory> {
+/// Whether one line is read to its end, at once and a tuple ahead, with its digest, where that is asked for, or
+/// without.
+fn is_read_whole<R: Threads>(rt: &R, alloc: Global, asked: Option<Digest>) -> bool {
     let whole = DayEnd::Whole {
         bytes: 42,
         digest: asked,
     };
-    is_read_to(rt, alloc, asked.is_some(), whole)
+    let ahead = count_ahead(rt, alloc, ONE, &Limits::DAY, asked.is_some(), &[]);
+    ahead == Ok((1, Ok(whole))) && read_at_once(rt, alloc, asked.is_some()) == Some((1, whole))
 }
 
-/// Whether one line is read so, with its digest and without.
-fn is_one_line<R: Threads>(rt: &R, alloc: Global) -> Result<bool, NoMemory> {
-    let Some(digest) = digest_of_one(rt, alloc)? else {
-        return Ok(false);
+const TEXT: &str = "fc2f0b2e7199ba75ff5a464f444f1d13574338c146416b399a7125bc0993cf7b";
+
+/// Whether one line is read with its digest and without, has its digest, the first 42 bytes of three lines have it too,
+/// and a failed read comes before any tuple.
+fn is_one_line<R: Threads>(rt: &R, alloc: Global) -> bool {
+    let Some(digest) = digest_of_one(rt, alloc) else {
+        return false;
     };
-    let told = have_the_digest(rt, alloc, digest)? == [true; 3];
-    let with = is_read_whole(rt, alloc, Some(digest))?;
-    Ok(told && with && is_read_whole(rt, alloc, None)?)
+    has_text(alloc, &digest, TEXT)
+        && is_found(alloc, digest)
+        && count_ahead(rt, alloc, PAIR, &Limits::DAY, true, &[1])
+            == Ok((0, Err(ReadStop::ReadFault)))
+        && is_read_whole(rt, alloc, Some(digest))
+        && is_read_whole(rt, alloc, None)
 }
 
 #[test]
-fn one_line_and_its_digest(rt: HostRuntime) -> Result<(), NoMemory> {
-    assert!(rt; is_one_line(&rt, rt.alloc())?);
-    Ok(())
+fn one_line_and_its_digest(rt: HostRuntime) {
+    assert!(rt; is_one_line(&rt, rt.alloc()));
 }

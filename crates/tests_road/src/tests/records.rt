@@ -1,9 +1,13 @@
 // Records and amounts that the rows keep.
+//
+// A check takes by far the most time at what a function does besides one call, at each `?` and at each assertion. So a
+// row is a function that says whether all was as it is to be, and a failed call is not.
 ghost use Rattle.std.specs.Prelude.{◌≡◌};
 
-use keep_office::{DayRecord, PastRecord};
+use keep_office::{DayRecord, KeepFault, PastRecord};
 use road_digest::Digest;
 use road_time::SpentRow;
+use std::alloc::Global;
 
 /// An amount on expressway 0.
 pub(crate) fn amount(day: u32, vid: u32, tolls: u64) -> SpentRow
@@ -52,5 +56,21 @@ pub(crate) fn past_of(digest: Digest) -> PastRecord
         digest,
         bytes: 18,
         rows: 2,
+    }
+}
+
+/// Whether these amounts were answered.
+pub(crate) fn are_amounts(found: Result<Vec<SpentRow>, KeepFault>, wanted: &[SpentRow]) -> bool {
+    match found {
+        Ok(rows) => rows.as_slice() == wanted,
+        Err(_) => false,
+    }
+}
+
+/// Whether a digest has this text.
+pub(crate) fn has_text(alloc: Global, digest: &Digest, wanted: &str) -> bool {
+    match digest.text(alloc) {
+        Ok(text) => text.as_str() == wanted,
+        Err(_) => false,
     }
 }

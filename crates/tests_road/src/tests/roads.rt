@@ -1,5 +1,5 @@
 // The rows on single calls, and that tariffs may move between threads.
-use road_time::{NoMemory, Tariff, Tariffs, Way, downstream, minute, worker_of};
+use road_time::{Tariff, Tariffs, Way, downstream, minute, worker_of};
 use std::alloc::Global;
 
 /// Takes what may move between threads.
@@ -27,9 +27,12 @@ fn workers_have_ways() -> bool {
 
 #[test]
 fn minutes_segments_and_workers(rt: HostRuntime) {
-    assert!(rt; minutes_begin_at_one(), "minutes");
-    assert!(rt; roads_have_ends(), "segments");
-    assert!(rt; workers_have_ways(), "workers");
+    let rows = [
+        minutes_begin_at_one(),
+        roads_have_ends(),
+        workers_have_ways(),
+    ];
+    assert_eq!(rt; rows, [true; 3]);
 }
 
 const DEAR: Tariff = Tariff {
@@ -38,35 +41,29 @@ const DEAR: Tariff = Tariff {
     factor: 5,
 };
 
-/// Whether these are the tariffs of the first two expressways.
-fn are_tariffs(tariffs: &Tariffs, first: Tariff, second: Tariff) -> bool {
-    tariffs.of(0) == first && tariffs.of(1) == second
-}
-
-/// Whether tariffs have these lines.
-fn have_lines(alloc: Global, tariffs: &Tariffs, lines: &[u8]) -> bool {
+/// Whether this is the tariff of the first expressway, that of the benchmark the second one's, and these are their
+/// lines.
+fn are_tariffs(alloc: Global, tariffs: &Tariffs, first: Tariff, lines: &[u8]) -> bool {
     let mut text = Vec::new(alloc);
-    tariffs.lines(alloc, &mut text).is_ok() && text.as_slice() == lines
+    let told = tariffs.lines(alloc, &mut text).is_ok() && text.as_slice() == lines;
+    told && tariffs.of(0) == first && tariffs.of(1) == Tariff::BENCHMARK
 }
 
 /// A tariff holds on its expressway alone, and not in a copy in which that of the benchmark is set; this one has no
 /// line.
-fn a_copy_is_apart(alloc: Global) -> Result<bool, NoMemory> {
+fn a_copy_is_apart(alloc: Global) -> bool {
     let mut first = Tariffs::new(alloc);
     moves(&first);
-    first.set(0, &DEAR)?;
-    let mut copy = first.copy()?;
-    copy.set(0, &Tariff::BENCHMARK)?;
-    let kept = are_tariffs(&first, DEAR, Tariff::BENCHMARK)
-        && have_lines(alloc, &first, b"0,50,40,5\n");
-    Ok(
-        kept && are_tariffs(&copy, Tariff::BENCHMARK, Tariff::BENCHMARK)
-            && have_lines(alloc, &copy, b""),
-    )
+    let set = first.set(0, &DEAR).is_ok();
+    let Ok(mut copy) = first.copy() else {
+        return false;
+    };
+    set && copy.set(0, &Tariff::BENCHMARK).is_ok()
+        && are_tariffs(alloc, &first, DEAR, b"0,50,40,5\n")
+        && are_tariffs(alloc, &copy, Tariff::BENCHMARK, b"")
 }
 
 #[test]
-fn tariffs_of_expressways(rt: HostRuntime) -> Result<(), NoMemory> {
-    assert!(rt; a_copy_is_apart(rt.alloc())?);
-    Ok(())
+fn tariffs_of_expressways(rt: HostRuntime) {
+    assert!(rt; a_copy_is_apart(rt.alloc()));
 }

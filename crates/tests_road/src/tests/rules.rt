@@ -1,5 +1,4 @@
 // Single calls of the plain rules.
-ghost use Rattle.std.specs.Prelude.{◌≤◌};
 ghost use Rattle.road_time.specs.Fits.{IsDay};
 
 use super::days::is_day;
@@ -7,44 +6,72 @@ use road_rules::{
     Mishap, Verdict, check, plain_cars, plain_lav, plain_log, plain_near, plain_notices,
     plain_owed, plain_rows, plain_toll,
 };
-use road_time::{Notice, Place, Report, SpentRow, Stretch, Tariff, Tariffs, Tuple};
+use road_time::{NoMemory, Notice, Place, Report, SpentRow, Stretch, Tariff, Tariffs, Tuple};
 use std::alloc::Global;
-use std::test::Fail;
 
-/// A position report, in the order of the line's fields.
-fn report(time: u32, vid: u32, spd: u8, xway: u8, lane: u8, dir: u8, seg: u8, pos: u32) -> Tuple {
+/// A report of one of two vehicles that stand at one place from second 90 on.
+const STANDS: Report = Report {
+    time: 0,
+    vid: 1,
+    spd: 0,
+    xway: 0,
+    lane: 2,
+    dir: 0,
+    seg: 10,
+    pos: 55000,
+};
+
+/// Those two.
+const PAIR: [Tuple; 8] = [
+    Tuple::Report(STANDS),
+    Tuple::Report(Report { vid: 2, ..STANDS }),
+    Tuple::Report(Report { time: 30, ..STANDS }),
     Tuple::Report(Report {
-        time,
-        vid,
-        spd,
-        xway,
-        lane,
-        dir,
-        seg,
-        pos,
-    })
-}
+        time: 30,
+        vid: 2,
+        ..STANDS
+    }),
+    Tuple::Report(Report { time: 60, ..STANDS }),
+    Tuple::Report(Report {
+        time: 60,
+        vid: 2,
+        ..STANDS
+    }),
+    Tuple::Report(Report { time: 90, ..STANDS }),
+    Tuple::Report(Report {
+        time: 90,
+        vid: 2,
+        ..STANDS
+    }),
+];
 
-/// Vehicles 1 to `last` at second 0 in segment 10 eastbound.
-fn crowd(alloc: Global, last: u32, spd: u8) -> Result<Vec<Tuple>, Fail>
-    requires { last ≤ 100 }
-{
-    let mut day = Vec::new(alloc);
-    for vid in 1..last + 1 {
-        day.push(report(0, vid, spd, 0, 1, 0, 10, 52800))?;
-    }
-    Ok(day)
-}
+/// A report of a vehicle of a crowd in segment 10 eastbound.
+const DRIVES: Report = Report {
+    time: 0,
+    vid: 1,
+    spd: 30,
+    xway: 0,
+    lane: 1,
+    dir: 0,
+    seg: 10,
+    pos: 52800,
+};
 
-/// Two vehicles that stand at one place from second 90 on.
-fn pair(alloc: Global) -> Result<Vec<Tuple>, Fail> {
-    let mut day = Vec::new(alloc);
-    for time in [0, 30, 60, 90] {
-        day.push(report(time, 1, 0, 0, 2, 0, 10, 55000))?;
-        day.push(report(time, 2, 0, 0, 2, 0, 10, 55000))?;
-    }
-    Ok(day)
-}
+/// A vehicle that comes a minute later and leaves the stretch.
+const COMES: [Tuple; 2] = [
+    Tuple::Report(Report {
+        time: 60,
+        vid: 100,
+        ..DRIVES
+    }),
+    Tuple::Report(Report {
+        time: 90,
+        vid: 100,
+        seg: 11,
+        pos: 58080,
+        ..DRIVES
+    }),
+];
 
 fn toll(vid: u32, time: u32, lav: i16, toll: u64) -> Notice {
     Notice::Toll {
@@ -81,114 +108,118 @@ const ACCIDENT: Mishap = Mishap {
     },
 };
 
-/// A crowd of 51, and a vehicle that comes a minute later and leaves the stretch.
-fn jam(alloc: Global) -> Result<Vec<Tuple>, Fail> {
-    let mut day = crowd(alloc, 51, 30)?;
-    day.push(report(60, 100, 30, 0, 1, 0, 10, 52800))?;
-    day.push(report(90, 100, 30, 0, 1, 0, 11, 58080))?;
+/// A crowd of 51 at second 0, and that vehicle.
+fn jam(alloc: Global) -> Result<Vec<Tuple>, NoMemory> {
+    let mut day = Vec::new(alloc);
+    for vid in 1..52u32 {
+        day.push(Tuple::Report(Report { vid, ..DRIVES }))?;
+    }
+    day.extend_from_slice(&COMES)?;
     Ok(day)
 }
 
 /// Whether there are 51 cars at minute 2, and their average is 30.
-fn are_counted(alloc: Global, day: &[Tuple]) -> Result<bool, Fail>
+fn are_counted(alloc: Global, day: &[Tuple]) -> bool
     requires { IsDay day.now }
 {
-    let cars = plain_cars(alloc, day, 2, TEN)?;
-    let lav = plain_lav(alloc, day, 2, TEN)?.ok_or("no average")?;
-    Ok(cars == 51 && lav.num == 30 * lav.den)
+    let cars = plain_cars(alloc, day, 2, TEN) == Ok(51);
+    match plain_lav(alloc, day, 2, TEN) {
+        Ok(Some(lav)) => cars && lav.num == 30 * lav.den,
+        _ => false,
+    }
 }
 
 /// Whether the toll at minute 2 is 2, also where another tariff holds elsewhere, and 5 where that one holds here.
-fn are_tolled(alloc: Global, day: &[Tuple]) -> Result<bool, Fail>
+fn are_tolled(alloc: Global, day: &[Tuple]) -> bool
     requires { IsDay day.now }
 {
     let mut tariffs = Tariffs::new(alloc);
-    let plain = plain_toll(alloc, day, &tariffs, 2, TEN)?;
-    tariffs.set(1, &DEAR)?;
-    let elsewhere = plain_toll(alloc, day, &tariffs, 2, TEN)?;
-    tariffs.set(0, &DEAR)?;
-    let here = plain_toll(alloc, day, &tariffs, 2, TEN)?;
-    Ok([plain, elsewhere, here] == [2, 2, 5])
+    let plain = plain_toll(alloc, day, &tariffs, 2, TEN);
+    let set = tariffs.set(1, &DEAR).is_ok();
+    let elsewhere = plain_toll(alloc, day, &tariffs, 2, TEN);
+    let both = tariffs.set(0, &DEAR).is_ok();
+    let here = plain_toll(alloc, day, &tariffs, 2, TEN);
+    set && both && [plain, elsewhere, here] == [Ok(2), Ok(2), Ok(5)]
 }
 
 /// Whether vehicle 100 is told a toll of 2, and then of nothing.
-fn are_told(alloc: Global, day: &[Tuple]) -> Result<bool, Fail>
+fn are_told(alloc: Global, day: &[Tuple]) -> bool
     requires { IsDay day.now }
 {
     let none: [SpentRow; 0] = [];
-    let notices = plain_notices(alloc, day, &Tariffs::new(alloc), 100, &none)?;
-    Ok(
-        notices
-            .as_slice()
-            .ends_with(&[toll(100, 60, 30, 2), toll(100, 90, -1, 0)]),
-    )
+    let told = [toll(100, 60, 30, 2), toll(100, 90, -1, 0)];
+    match plain_notices(alloc, day, &Tariffs::new(alloc), 100, &none) {
+        Ok(notices) => notices.as_slice().ends_with(&told),
+        Err(_) => false,
+    }
 }
 
 /// Whether it is charged 2 as it leaves, and nothing else is charged that day.
-fn is_charged(alloc: Global, day: &[Tuple]) -> Result<bool, Fail>
+fn is_charged(alloc: Global, day: &[Tuple]) -> bool
     requires { IsDay day.now }
 {
     if day.len() != 53 {
-        return Ok(false);
+        return false;
     }
     let tariffs = Tariffs::new(alloc);
-    let owed = plain_owed(alloc, day, &tariffs, 52)?;
-    let rows = plain_rows(alloc, day, &tariffs, 100)?;
+    let owed = plain_owed(alloc, day, &tariffs, 52) == Ok(2);
     let row = SpentRow {
         day: 100,
         vid: 100,
         xway: 0,
         tolls: 2,
     };
-    Ok(owed == 2 && rows.as_slice() == [row].as_slice())
+    match plain_rows(alloc, day, &tariffs, 100) {
+        Ok(rows) => owed && rows.as_slice() == [row].as_slice(),
+        Err(_) => false,
+    }
 }
 
 /// Whether the accident of the pair is found, and is near four segments before it.
-fn are_found(alloc: Global, day: &[Tuple]) -> Result<bool, Fail>
+fn are_found(alloc: Global, day: &[Tuple]) -> bool
     requires { IsDay day.now }
 {
-    let near = plain_near(alloc, day, 3, Stretch { seg: 6, ..TEN })?;
-    let log = plain_log(alloc, day)?;
-    Ok(near == Some(10) && log.as_slice() == [ACCIDENT].as_slice())
+    let near = plain_near(alloc, day, 3, Stretch { seg: 6, ..TEN }) == Ok(Some(10));
+    match plain_log(alloc, day) {
+        Ok(log) => near && log.as_slice() == [ACCIDENT].as_slice(),
+        Err(_) => false,
+    }
 }
 
 /// Whether each call has its answer on the day of the crowd: cars and average; tolls; notices; the charge.
-fn answers_of_the_crowd(alloc: Global) -> Result<[bool; 4], Fail> {
-    let day = jam(alloc)?;
-    if !is_day(alloc, day.as_slice()) {
-        return Err("no day")?;
-    }
-    let counted = are_counted(alloc, day.as_slice())?;
-    let tolled = are_tolled(alloc, day.as_slice())?;
-    let told = are_told(alloc, day.as_slice())?;
-    let charged = is_charged(alloc, day.as_slice())?;
-    Ok([counted, tolled, told, charged])
+fn are_answered(alloc: Global, day: &[Tuple]) -> bool {
+    is_day(alloc, day)
+        && are_counted(alloc, day)
+        && are_tolled(alloc, day)
+        && are_told(alloc, day)
+        && is_charged(alloc, day)
 }
 
 /// Whether the calls on accidents have their answers on the day of the pair.
-fn is_answered_of_the_pair(alloc: Global) -> Result<bool, Fail> {
-    let day = pair(alloc)?;
-    if !is_day(alloc, day.as_slice()) {
-        return Err("no day")?;
-    }
-    are_found(alloc, day.as_slice())
+fn is_answered_of_the_pair(alloc: Global) -> bool {
+    is_day(alloc, &PAIR) && are_found(alloc, &PAIR)
 }
 
 #[test]
-fn single_calls_have_their_answers(rt: HostRuntime) -> Result<(), Fail> {
-    assert_eq!(rt; answers_of_the_crowd(rt.alloc())?, [true; 4]);
-    assert!(rt; is_answered_of_the_pair(rt.alloc())?);
+fn single_calls_have_their_answers(rt: HostRuntime) -> Result<(), NoMemory> {
+    let day = jam(rt.alloc())?;
+    let crowd = are_answered(rt.alloc(), day.as_slice());
+    assert!(rt; crowd && is_answered_of_the_pair(rt.alloc()));
     Ok(())
 }
 
-/// What a check of one report says of these notices.
-fn verdict_of(alloc: Global, notices: &[Notice]) -> Result<Verdict, Fail> {
-    let day = [report(0, 7, 30, 0, 0, 0, 10, 52800)];
-    if !is_day(alloc, &day) {
-        return Err("no day")?;
-    }
+/// A day of one report.
+const ONE: [Tuple; 1] = [Tuple::Report(Report {
+    vid: 7,
+    lane: 0,
+    ..DRIVES
+})];
+
+/// Whether a check of it says this of these notices.
+fn is_verdict(alloc: Global, notices: &[Notice], wanted: Verdict) -> bool {
     let none: [SpentRow; 0] = [];
-    Ok(check(alloc, &day, &Tariffs::new(alloc), 100, &none, notices)?)
+    is_day(alloc, &ONE)
+        && check(alloc, &ONE, &Tariffs::new(alloc), 100, &none, notices) == Ok(wanted)
 }
 
 /// What a check says where it finds this in the place of the first notice.
@@ -200,17 +231,15 @@ fn differs(found: Option<Notice>) -> Verdict {
     }
 }
 
-/// Whether a check agrees with the notice, and names the first line where it is another, or none.
-fn is_named(alloc: Global) -> Result<[bool; 3], Fail> {
-    let other = toll(7, 0, -1, 2);
-    let agrees = verdict_of(alloc, &[toll(7, 0, -1, 0)])? == Verdict::Agree;
-    let another = verdict_of(alloc, &[other])? == differs(Some(other));
-    let none = verdict_of(alloc, &[])? == differs(None);
-    Ok([agrees, another, none])
-}
-
+/// A check agrees with the notice, and names the first line where it is another, or none.
 #[test]
-fn a_check_names_the_first_line_that_differs(rt: HostRuntime) -> Result<(), Fail> {
-    assert_eq!(rt; is_named(rt.alloc())?, [true; 3]);
-    Ok(())
+fn a_check_names_the_first_line_that_differs(rt: HostRuntime) {
+    let alloc = rt.alloc();
+    let other = toll(7, 0, -1, 2);
+    let verdicts = [
+        is_verdict(alloc, &[toll(7, 0, -1, 0)], Verdict::Agree),
+        is_verdict(alloc, &[other], differs(Some(other))),
+        is_verdict(alloc, &[], differs(None)),
+    ];
+    assert_eq!(rt; verdicts, [true; 3]);
 }

@@ -59,9 +59,8 @@ fn are_run_alone<R: Threads + Wait + Sync + Copy + Drop>(
 /// A crew of two cells and no helper runs two jobs on the caller alone, before and after its stop, tells
 /// them, and is closed.
 #[test]
-fn two_jobs_are_run_on_the_caller_alone(rt: HostRuntime) -> Result<(), NoMemory> {
-    assert_eq!(rt; are_run_alone(rt, rt.alloc())?, [true; 3]);
-    Ok(())
+fn two_jobs_are_run_on_the_caller_alone(rt: HostRuntime) {
+    assert!(rt; are_run_alone(rt, rt.alloc()) == Ok([true; 3]));
 }
 
 /// Two jobs in order over a crew of two cells with so many helpers, all of which pass one gate.
@@ -98,16 +97,10 @@ fn sees_beside<R: Threads + Wait + Sync + Copy + Drop>(
 
 /// A job that is held sees the next one pass where there is a helper, and does not on the caller alone.
 #[test]
-fn a_held_job_sees_the_next_one_pass_beside_a_helper(rt: HostRuntime) -> Result<(), NoMemory> {
-    assert!(rt;
-        sees_beside(rt, rt.alloc(), 1)? == (true, true),
-        "beside a helper"
-    );
-    assert!(rt;
-        sees_beside(rt, rt.alloc(), 0)? == (true, false),
-        "on the caller"
-    );
-    Ok(())
+fn a_held_job_sees_the_next_one_pass_beside_a_helper(rt: HostRuntime) {
+    let beside = sees_beside(rt, rt.alloc(), 1);
+    let on_caller = sees_beside(rt, rt.alloc(), 0);
+    assert!(rt; [beside, on_caller] == [Ok((true, true)), Ok((true, false))]);
 }
 
 /// Two jobs over a crew, and its stop.
@@ -149,10 +142,8 @@ fn answered_and_closed<R: Threads + Wait + Sync + Copy + Drop>(
 
 /// Four helpers help beside two jobs, come back, and are closed with their crew.
 #[test]
-fn four_helpers_help_and_come_back(rt: HostRuntime) -> Result<(), NoMemory> {
-    let right = answered_and_closed(rt, rt.alloc(), 4)?;
-    assert!(rt; right, "each its own, and all helpers");
-    Ok(())
+fn four_helpers_help_and_come_back(rt: HostRuntime) {
+    assert!(rt; answered_and_closed(rt, rt.alloc(), 4) == Ok(true));
 }
 
 /// A helper that begins after the stop of its crew is handed back, and closed with it.
@@ -174,6 +165,6 @@ fn is_closed_with_its_helper<R: Threads + Wait + Sync + Copy + Drop>(
 
 /// A helper that begins after the stop is handed back at once.
 #[test]
-fn a_helper_after_the_stop_is_handed_back(rt: HostRuntime) -> Result<(), NoMemory> {
-    is_closed_with_its_helper(rt, rt.alloc())
+fn a_helper_after_the_stop_is_handed_back(rt: HostRuntime) {
+    assert!(rt; is_closed_with_its_helper(rt, rt.alloc()).is_ok());
 }

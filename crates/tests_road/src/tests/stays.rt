@@ -1,6 +1,6 @@
 // What a tracker tells of the reports of a few worked rows, each written out with its answer.
 use day_floor::{Charge, Tracked, Tracker};
-use road_time::{NoMemory, Place, Report};
+use road_time::{Place, Report};
 use std::alloc::Global;
 
 /// A place to the east: expressway, lane, segment and feet.
@@ -169,26 +169,30 @@ fn at(time: u32, vid: u32, place: East) -> Report {
 }
 
 /// Whether each report of a row has its answer.
-fn are_told(alloc: Global, rows: &[Seen]) -> Result<bool, NoMemory> {
-    let mut tracker = Tracker::new(alloc);
+fn are_told(tracker: &mut Tracker, rows: &[Seen]) -> bool {
     for (time, vid, place, want) in rows {
         let report = at(*time, *vid, *place);
-        let left = tracker.left(&report);
-        let told = tracker.see(&report)?;
-        if told != *want || left != want.left {
-            return Ok(false);
+        if tracker.left(&report) != want.left || tracker.see(&report) != Ok(*want) {
+            return false;
         }
     }
-    Ok(true)
+    true
 }
 
-fn moves<T: Send>(_value: &T) {}
+/// The number of the first row that has another answer, their count where none has.
+fn first_wrong(alloc: Global, rows: &[Row]) -> usize {
+    for (at, (_, reports)) in rows.iter().enumerate() {
+        if !are_told(&mut Tracker::new(alloc), reports) {
+            return at;
+        }
+    }
+    rows.len()
+}
+
+fn moves<T: Send>() {}
 
 #[test]
-fn a_tracker_tells_the_worked_rows(rt: HostRuntime) -> Result<(), NoMemory> {
-    moves(&Tracker::new(rt.alloc()));
-    for (name, reports) in &ROWS {
-        assert!(rt; are_told(rt.alloc(), reports)?, "{name}");
-    }
-    Ok(())
+fn a_tracker_tells_the_worked_rows(rt: HostRuntime) {
+    moves::<Tracker>();
+    assert_eq!(rt; first_wrong(rt.alloc(), &ROWS), 7);
 }

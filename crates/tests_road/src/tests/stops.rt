@@ -1,5 +1,5 @@
 // What stops answer after the entries of a few worked rows, each written out with its answers.
-use road_time::{NoMemory, Place, Stretch};
+use road_time::{Place, Stretch};
 use std::alloc::Global;
 use ways_expressway::Stops;
 
@@ -181,21 +181,16 @@ const ROWS: [Row; 10] = [
 ];
 
 /// Takes one step, where an answer about this direction is asked of this place: whether it is as it is to be.
-fn is_right(stops: &mut Stops, place: Place, dir: u8, step: Step) -> Result<bool, NoMemory> {
+fn is_right(stops: &mut Stops, place: Place, dir: u8, step: Step) -> bool {
     match step {
-        Step::To(second) => Ok(comes_to(stops, second)),
-        Step::Stop(vid) => {
-            stops.stop(place, vid)?;
-            Ok(true)
-        }
+        Step::To(second) => comes_to(stops, second),
+        Step::Stop(vid) => stops.stop(place, vid).is_ok(),
         Step::Leave(vid) => {
             stops.leave(place, vid);
-            Ok(true)
+            true
         }
-        Step::Nearest(seg, want) => Ok(is_nearest(stops, dir, seg, want)),
-        Step::Stood(seg, want) => {
-            Ok(stops.stood_last_minute(Stretch { xway: 0, dir, seg }) == want)
-        }
+        Step::Nearest(seg, want) => is_nearest(stops, dir, seg, want),
+        Step::Stood(seg, want) => stops.stood_last_minute(Stretch { xway: 0, dir, seg }) == want,
     }
 }
 
@@ -214,22 +209,29 @@ fn is_nearest(stops: &Stops, dir: u8, seg: u8, want: Option<u8>) -> bool {
 }
 
 /// Whether the answers about this direction are those of the steps, at this place.
-fn follows(alloc: Global, place: Place, dir: u8, steps: &[Step]) -> Result<bool, NoMemory> {
-    let mut stops = Stops::new(alloc);
-    let mut right = true;
+fn are_right(stops: &mut Stops, place: Place, dir: u8, steps: &[Step]) -> bool {
     for step in steps {
-        right = is_right(&mut stops, place, dir, *step)? && right;
+        if !is_right(stops, place, dir, *step) {
+            return false;
+        }
     }
-    Ok(right)
+    true
 }
 
-fn moves<T: Send>(_value: &T) {}
+/// The number of the first row whose answers are others, their count where none is.
+fn first_wrong(alloc: Global, rows: &[Row]) -> usize {
+    for (at, (_, place, dir, steps)) in rows.iter().enumerate() {
+        if !are_right(&mut Stops::new(alloc), *place, *dir, steps) {
+            return at;
+        }
+    }
+    rows.len()
+}
+
+fn moves<T: Send>() {}
 
 #[test]
-fn stops_answer_the_worked_rows(rt: HostRuntime) -> Result<(), NoMemory> {
-    moves(&Stops::new(rt.alloc()));
-    for (name, place, dir, steps) in &ROWS {
-        assert!(rt; follows(rt.alloc(), *place, *dir, steps)?, "{name}");
-    }
-    Ok(())
+fn stops_answer_the_worked_rows(rt: HostRuntime) {
+    moves::<Stops>();
+    assert_eq!(rt; first_wrong(rt.alloc(), &ROWS), 10);
 }

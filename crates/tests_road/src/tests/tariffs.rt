@@ -41,9 +41,12 @@ fn averages_are_whole_in_print() -> bool {
 
 #[test]
 fn tolls_of_the_benchmark(rt: HostRuntime) {
-    assert!(rt; crowds_are_charged(), "crowds");
-    assert!(rt; slow_stretches_are_charged(), "averages");
-    assert!(rt; averages_are_whole_in_print(), "in print");
+    let rows = [
+        crowds_are_charged(),
+        slow_stretches_are_charged(),
+        averages_are_whole_in_print(),
+    ];
+    assert_eq!(rt; rows, [true; 3]);
 }
 
 fn tariff(crowd: u32, speed: u8, factor: u8) -> Tariff

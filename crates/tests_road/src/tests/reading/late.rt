@@ -1,7 +1,7 @@
 // Lines that are late, however they are cut, and with each read failing in turn.
 use super::{Reads, end_of, read_day};
 use day_reading::ReadEnd;
-use road_time::{Limits, NoMemory, Report, Tuple};
+use road_time::{Limits, Report, Tuple};
 use std::alloc::Global;
 use std::thread::Threads;
 use tuples_text::Cause;
@@ -32,14 +32,16 @@ fn is_turned<R: Threads>(
     late: u8,
     tuples: &[Tuple],
     refused: Option<(u64, Cause)>,
-) -> Result<bool, NoMemory> {
+) -> bool {
     let reads = Reads { piece, fails: &[] };
-    let day = read_day(rt, alloc, TURNED, &Limits::DAY, late, reads)?;
-    Ok(day.end == end_of(refused) && day.tuples.as_slice() == tuples)
+    match read_day(rt, alloc, TURNED, &Limits::DAY, late, reads) {
+        Ok(day) => day.end == end_of(refused) && day.tuples.as_slice() == tuples,
+        Err(_) => false,
+    }
 }
 
 /// Whether that day is sorted by half a minute, and refused by less, in pieces of this size.
-fn is_turned_in_pieces<R: Threads>(rt: &R, alloc: Global, piece: usize) -> Result<bool, NoMemory> {
+fn is_turned_in_pieces<R: Threads>(rt: &R, alloc: Global, piece: usize) -> bool {
     let balance = Tuple::Balance {
         time: 0,
         vid: 1,
@@ -47,49 +49,47 @@ fn is_turned_in_pieces<R: Threads>(rt: &R, alloc: Global, piece: usize) -> Resul
     };
     let sorted = [balance, report(0, 2), report(30, 1)];
     let refused = Some((2, Cause::Late(30, 0)));
-    let whole = is_turned(rt, alloc, piece, 30, &sorted, None)?;
-    Ok(whole && is_turned(rt, alloc, piece, 29, &[report(30, 1)], refused)?)
+    is_turned(rt, alloc, piece, 30, &sorted, None)
+        && is_turned(rt, alloc, piece, 29, &[report(30, 1)], refused)
 }
 
 #[test]
-fn late_lines(rt: HostRuntime) -> Result<(), NoMemory> {
-    for piece in [1, 7, 65_536] {
-        assert!(rt; is_turned_in_pieces(&rt, rt.alloc(), piece)?, "{piece}");
-    }
-    Ok(())
+fn late_lines(rt: HostRuntime) {
+    let alloc = rt.alloc();
+    let turned = [
+        is_turned_in_pieces(&rt, alloc, 1),
+        is_turned_in_pieces(&rt, alloc, 7),
+        is_turned_in_pieces(&rt, alloc, 65_536),
+    ];
+    assert_eq!(rt; turned, [true; 3]);
 }
 
 /// How many tuples of that day are given where this read fails, and how it ends.
-fn failed_at<R: Threads>(
-    rt: &R,
-    alloc: Global,
-    read: u32,
-) -> Result<(usize, Result<(), ReadEnd>), NoMemory> {
+fn failed_at<R: Threads>(rt: &R, alloc: Global, read: u32) -> Option<(usize, Result<(), ReadEnd>)> {
     let reads = Reads {
         piece: 10,
         fails: &[read],
     };
-    let day = read_day(rt, alloc, TURNED, &Limits::DAY, 30, reads)?;
-    Ok((day.tuples.len(), day.end))
+    match read_day(rt, alloc, TURNED, &Limits::DAY, 30, reads) {
+        Ok(day) => Some((day.tuples.len(), day.end)),
+        Err(_) => None,
+    }
 }
 
 /// Whether each read fails in turn with fewer tuples than three, until none does and all three are given.
-fn are_given_until_a_read_fails<R: Threads>(rt: &R, alloc: Global) -> Result<bool, NoMemory> {
+fn are_given_until_a_read_fails<R: Threads>(rt: &R, alloc: Global) -> bool {
     for read in 0..100u32 {
-        let (count, end) = failed_at(rt, alloc, read)?;
-        if end == Ok(()) {
-            return Ok(count == 3);
-        }
-        if end != Err(ReadEnd::ReadFault) || count >= 3 {
-            return Ok(false);
+        match failed_at(rt, alloc, read) {
+            Some((count, Ok(()))) => return count == 3,
+            Some((count, Err(ReadEnd::ReadFault))) if count < 3 => {}
+            _ => return false,
         }
     }
-    Ok(false)
+    false
 }
 
 /// Each read fails in turn, until none does.
 #[test]
-fn each_read_of_late_lines_fails(rt: HostRuntime) -> Result<(), NoMemory> {
-    assert!(rt; are_given_until_a_read_fails(&rt, rt.alloc())?);
-    Ok(())
+fn each_read_of_late_lines_fails(rt: HostRuntime) {
+    assert!(rt; are_given_until_a_read_fails(&rt, rt.alloc()));
 }

@@ -1,1 +1,0 @@
--- No words of its own: these rows are said in those of the tables and of the proved keeper.
