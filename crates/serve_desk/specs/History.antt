@@ -1,5 +1,5 @@
 -- The history of a keeper under a lock: what it was from time to time, and the word that counts that.
-use Rattle.std.specs.Prelude.{◌≡◌, ℕ, ◌+◌, ◌==◌, true, List, [], ◌∷◌, ◌++◌, length, Option, Some, None, slice_get}
+use Rattle.std.specs.Prelude.{◌≡◌, ℕ, ◌+◌, ◌-◌, ◌==◌, true, List, [], ◌∷◌, ◌++◌, length, Option, Some, None, slice_get}
 use Rattle.std.specs.Bool.{MatchBool}
 use Rattle.logbook.specs.Pages.{Cell, View, Book, Named}
 use Rattle.logbook.specs.Pages as logbook
@@ -27,3 +27,11 @@ told_by told (Some k) = told k
 -- what the keeper told where so many came before in its history
 abbrev pub told_at : {K : Type 0} → (K → Option Office) → List K → ℕ → Option Office
 told_at told log n = told_by told (slice_get log n)
+
+-- what the keeper told at the last of its history
+abbrev pub told_last : {K : Type 0} → (K → Option Office) → List K → Option Office
+told_last told log = told_at told log (length log - 1)
+
+-- a history goes on from another
+abbrev pub GoesOn : {K : Type 0} → List K → List K → Type 0
+GoesOn {K} old new = (more : List K) × (new ≡ old ++ more)

@@ -2,6 +2,7 @@
 pub mod Calls
 pub mod Tries
 pub mod History
+pub mod Seats
 -- What the desk answers: of what is kept, of the live board, and of a day that is posted.
 pub mod Answers
 pub mod Days

@@ -1,5 +1,5 @@
 -- What a desk answers of a keeper that others may call between.
-use Rattle.std.specs.Prelude.{◌≡◌, ◌⊎◌, ℕ, ◌+◌, ◌-◌, zero, suc, Bool, List, [], ◌++◌, Option, Some}
+use Rattle.std.specs.Prelude.{◌≡◌, ◌⊎◌, ℕ, ◌≤◌, ◌+◌, ◌-◌, zero, suc, Bool, List, [], ◌++◌, length, Option, Some}
 use Rattle.std.specs.Io.KnownBytes.{prepend_known}
 use Rattle.road_io.specs.Faults.{Rose}
 use Rattle.road_time.specs.declared.day.Limits.{Limits}
@@ -8,7 +8,6 @@ use Rattle.keep_office.specs.Calls.{WhenRefused}
 use Rattle.keep_office.specs.declared.kept.DayRecord.{DayRecord}
 use Rattle.keep_office.specs.Office.{Office, record_of, last_day}
 use Rattle.day_import.specs.declared.outcomes.Outcome.{Outcome}
-use Rattle.serve_board.specs.Passes.{Pass}
 use Rattle.serve_requests.specs.Bodies.{spent_body}
 use Rattle.serve_requests.specs.Lists.{days_body, vehicle_body}
 use Rattle.serve_requests.specs.Replies.{Reply, no_memory_reply}
@@ -23,6 +22,8 @@ use Rattle.serve_desk.specs.Days.{first_day, as_list}
 use Rattle.serve_desk.specs.Pages.{AnswersPage}
 use Rattle.serve_desk.specs.Imports.{AnswersBody, IsCutShort, FailsInBody, DeskState, ImportsDay}
 use Rattle.serve_desk.specs.Reading.{ReadsOn}
+use Rattle.serve_desk.specs.History.{GoesOn, told_at, told_last}
+use Rattle.serve_desk.specs.Seats.{Seated}
 use Rattle.serve_desk.specs.Sessions.{IsTaught}
 use Rattle.serve_desk.specs.Streams.{WritesDay, HasNoHandle}
 
@@ -79,19 +80,22 @@ AnswersListed told faults old new end =
     × AnswersReply (good (days_body days)) old.room old.written new.written end)
     ⊎ (AnswersFailed faults old new end ⊎ AnswersReply no_memory_reply old.room old.written new.written end)
 
--- a day is imported exactly, from an office that the keeper told in one of its states, and what is kept then it told in
--- one too; and the reader is told all that is published then, and knows nothing else but what may be queued
+-- a day is imported exactly, over the office at a place in the history of the keeper that is no earlier than any which was
+-- seen before; what is kept then comes next in that history, or nothing was put and it ends with that place; and the
+-- reader is told all that is published then, and knows nothing else but what may be queued
 pub record ImportsShared {K : Type 0} (told : K → Option Office) (w : WhenRefused) (exact : Bool) (limits : Limits)
-    (day count : ℕ) (early : List ℕ) (p q : Pass) (old new : Wire) (end : SessionEnd) : Type 0 where
-  pub was : K
-  pub now : K
+    (day count : ℕ) (early : List ℕ) (p q : Seated K) (old new : Wire) (end : SessionEnd) : Type 0 where
+  pub at : ℕ
   pub before : DeskState
   pub after : DeskState
-  pub told_before : before.told ≡ told was
-  pub told_after : after.told ≡ told now
-  pub imports : (all : List ℕ) (o : Office) → prepend_known early old.left ≡ Some all → told was ≡ Some o
+  pub from : length p.log ≤ at + 1
+  pub had : GoesOn p.log q.log
+  pub told_before : before.told ≡ told_at told q.log at
+  pub told_after : after.told ≡ told_last told q.log
+  pub next : ((length q.log ≡ at + 1) × (after.told ≡ before.told)) ⊎ (length q.log ≡ at + 2)
+  pub imports : (all : List ℕ) (o : Office) → prepend_known early old.left ≡ Some all → before.told ≡ Some o
       → ImportsDay w exact day limits count all o before after old new end
-  pub taught : IsTaught after.posted p q
+  pub taught : IsTaught after.posted p.reader q.reader
 
 -- the notices of a day are streamed exactly, of an office that the keeper told in one of its states, and which it told
 -- in one behind them
@@ -112,9 +116,10 @@ AnswersNotices told w exact limits day count early old new end =
 
 -- what is asked is answered of a keeper that others may call between: a day, an amount and a vehicle's bill of one of
 -- its states, all days day by day of its states, the page, a POST behind its body and exactly of one of its
--- states, and the notices of a day exactly of one too; a POST teaches the reader, and all else leaves it as it was
-abbrev pub AnswersShared : {K : Type 0} → (K → Option Office) → (K → ℕ) → WhenRefused → Bool → Limits → Asked → Pass →
-    Pass → Wire → Wire → SessionEnd → Type 0
+-- states, and the notices of a day exactly of one too; a POST teaches the reader, and its seat goes on to what it kept,
+-- and all else leaves both as they were
+abbrev pub AnswersShared : {K : Type 0} → (K → Option Office) → (K → ℕ) → WhenRefused → Bool → Limits → Asked →
+    Seated K → Seated K → Wire → Wire → SessionEnd → Type 0
 AnswersShared told faults w exact limits (Day day) p q old new end =
     AnswersOf told faults (λ o. day_reply (record_of o day)) old new end × AnswersSome faults day_reply old new end
     × (new.left ≡ old.left) × (q ≡ p)

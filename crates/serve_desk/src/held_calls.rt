@@ -9,6 +9,7 @@ ghost use Rattle.keep_office.specs.Calls.{SoundIfTold, IfTold, Reads, Puts, Goes
 ghost use Rattle.keep_office.specs.Calls.{Wants, CountsFaults};
 ghost use Rattle.serve_desk.specs.History.{told_at};
 
+use crate::begun::Begun;
 use crate::counting::count;
 use crate::held::HeldKeeper;
 use crate::history::Naming;
@@ -22,7 +23,7 @@ use std::sync::Wait;
 
 /// It tells what the keeper told at the place that it holds. Where the keeper has gone on from there, each call fails
 /// and changes nothing.
-impl<'a, J: Naming, K: Keeper, R: Wait> Keeper for HeldKeeper<'a, J, K, R> {
+impl<'a, J: Naming, K: Keeper, R: Wait, N: Begun> Keeper for HeldKeeper<'a, J, K, R, N> {
     ghost use Rattle.std.specs.Prelude.{None, true};
     ghost use Rattle.serve_desk.specs.History.{told_at};
 

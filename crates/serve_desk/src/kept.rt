@@ -1,9 +1,9 @@
 // What lies under the lock of a keeper that is shared.
 ghost use Rattle.std.proofs.Props.{props};
-ghost use Rattle.std.specs.Prelude.{◌≡◌, ◌∷◌, [], true, false, Some, IfSome, OnOk};
+ghost use Rattle.std.specs.Prelude.{◌≡◌, ◌+◌, ◌∷◌, [], true, false, Some, None, IfSome, OnOk};
 ghost use Rattle.keep_office.specs.Office.{Office, IsSound};
 ghost use Rattle.keep_office.specs.Calls.{SoundIfTold};
-ghost use Rattle.serve_desk.specs.History.{head_of, told_at};
+ghost use Rattle.serve_desk.specs.History.{head_of, told_at, GoesOn};
 
 use crate::history::{Head, History, Naming};
 use crate::hold::Hold;
@@ -79,6 +79,26 @@ impl<J: Naming, K: Keeper> Kept<J, K> {
         Hold {
             place: self.place.again(),
             trouble: looked.err(),
+            from: None,
+        }
+    }
+
+    /// What who is to put once behind a place that was seen holds on to. Where the last place is before that, which does
+    /// not come, no call can be made.
+    pub(crate) fn hold_behind(&mut self, seen: &Place<J, K>) -> Hold<J, K>
+        ensures went { GoesOn seen.now.seen.log result.place.seen.log }
+        ensures from { result.from ≡ Some result.place.count }
+        ensures told { result.trouble ≡ None → told_at K.told result.place.seen.log result.place.count
+            ≡ told_at K.told self.new.place.seen.log self.new.place.count }
+    {
+        let hold = self.hold();
+        if seen.is_reached(&hold.place) {
+            return hold.once();
+        }
+        Hold {
+            place: seen.again(),
+            trouble: Some(KeepFault::Failed),
+            from: Some(seen.count),
         }
     }
 
@@ -87,6 +107,7 @@ impl<J: Naming, K: Keeper> Kept<J, K> {
         ensures settled { OnOk result (self.now.settled ≡ true) }
         ensures told { OnOk result (K.told self.now.keeper
             ≡ told_at K.told hold.now.place.seen.log hold.now.place.count) }
+        ensures count { OnOk result (self.now.place.count ≡ hold.now.place.count) }
     {
         if let Some(fault) = &hold.trouble {
             return Err(*fault);
@@ -104,6 +125,7 @@ impl<J: Naming, K: Keeper> Kept<J, K> {
     pub(crate) fn unsettle(&mut self)
         requires { SoundIfTold (told_at K.told self.old.place.seen.log self.old.place.count) }
         ensures kept { self.new.keeper ≡ self.old.keeper }
+        ensures place { self.new.place ≡ self.old.place }
         ensures unsettled { self.new.settled ≡ false }
     {
         self.settled = false;
@@ -115,6 +137,7 @@ impl<J: Naming, K: Keeper> Kept<J, K> {
         requires { SoundIfTold (K.told self.old.keeper) }
         ensures kept { self.new.keeper ≡ self.old.keeper }
         ensures told { IfSome result (λ p. told_at K.told p.seen.log p.count ≡ K.told self.old.keeper) }
+        ensures count { IfSome result (λ p. p.count ≡ self.old.place.count + 1) }
     {
         let Some(place) = self.place.add(&self.head, &self.keeper) else {
             return None;

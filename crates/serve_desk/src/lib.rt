@@ -16,6 +16,7 @@
 #![tactic(auto)]
 
 mod answers;
+mod begun;
 mod calls;
 mod clerk;
 mod counting;
@@ -23,6 +24,7 @@ mod days_shared;
 mod desk;
 mod held;
 mod held_calls;
+mod held_import;
 mod history;
 mod hold;
 mod import_desk;
@@ -39,6 +41,7 @@ mod puts;
 mod puts_held;
 mod reads;
 mod reads_held;
+mod seat;
 mod sessions;
 mod shared;
 mod shared_answers;
@@ -48,6 +51,7 @@ mod streaming;
 mod two_locks;
 mod work;
 
+pub use begun::{Begun, Often};
 pub use clerk::Clerk;
 pub use desk::{Desk, desk_moves};
 pub use held::HeldKeeper;
@@ -55,6 +59,7 @@ pub use history::Naming;
 pub use import_desk::ImportDesk;
 pub use kept::{Kept, Opened};
 pub use live::live_answer;
+pub use seat::Seat;
 pub use serve_requests::{Asked, Early, Routes, SessionEnd};
 pub use sessions::session;
 pub use shared::SharedKeeper;

@@ -1,5 +1,5 @@
 // Puts at a place in the history of a keeper, which go to the next place.
-ghost use Rattle.std.specs.Prelude.{◌≡◌, ◌⊎◌, None, Err};
+ghost use Rattle.std.specs.Prelude.{◌≡◌, ◌⊎◌, ℕ, Some, None, Err};
 ghost use Rattle.road_time.specs.Rates.{IsTariff};
 ghost use Rattle.keep_office.specs.Kept.{IsDayPut, IsPastPut, IsLater, HasNoDays, with_day, with_past, with_tariff_of};
 ghost use Rattle.keep_office.specs.Calls.{SoundIfTold, IfTold, Puts, PutsAsPlanned};
@@ -19,12 +19,15 @@ fn follow<J: Naming, K: Keeper>(
     hold: &mut Hold<J, K>,
     answer: Result<(), KeepFault>,
 ) -> Result<(), KeepFault>
-    requires { SoundIfTold (K.told kept.old.keeper) }
-    ensures { ((result ≡ answer)
+    requires sound { SoundIfTold (K.told kept.old.keeper) }
+    requires here { kept.old.place.count ≡ hold.old.place.count }
+    requires first { (n : ℕ) → hold.old.from ≡ Some n → hold.old.place.count ≡ n }
+    ensures went { ((result ≡ answer)
         × (told_at K.told hold.new.place.seen.log hold.new.place.count ≡ K.told kept.old.keeper))
         ⊎ ((result ≡ Err faults.NoMemory)
         × (told_at K.told hold.new.place.seen.log hold.new.place.count
         ≡ told_at K.told hold.old.place.seen.log hold.old.place.count)) }
+    ensures from { hold.new.from ≡ hold.old.from }
 {
     let Some(place) = kept.settle() else {
         return Err(KeepFault::NoMemory);
@@ -46,7 +49,11 @@ pub fn put_day_at<J: Naming, K: Keeper>(
         (told_at K.told hold.new.place.seen.log hold.new.place.count) result (with_day day.now rows.now) }
     ensures sound { SoundIfTold (told_at K.told hold.new.place.seen.log hold.new.place.count) }
     ensures planned { PutsAsPlanned K.refuses None None result }
+    ensures from { hold.new.from ≡ hold.old.from }
 {
+    if hold.has_put() {
+        return Err(KeepFault::NoMemory);
+    }
     if kept.stands(hold).is_err() {
         return Err(KeepFault::NoMemory);
     }
@@ -68,7 +75,11 @@ pub fn put_past_at<J: Naming, K: Keeper>(
         (told_at K.told hold.new.place.seen.log hold.new.place.count) result (with_past past.now rows.now) }
     ensures sound { SoundIfTold (told_at K.told hold.new.place.seen.log hold.new.place.count) }
     ensures planned { PutsAsPlanned K.refuses None None result }
+    ensures from { hold.new.from ≡ hold.old.from }
 {
+    if hold.has_put() {
+        return Err(KeepFault::NoMemory);
+    }
     if kept.stands(hold).is_err() {
         return Err(KeepFault::NoMemory);
     }
@@ -89,7 +100,11 @@ pub fn put_tariff_at<J: Naming, K: Keeper>(
         (told_at K.told hold.new.place.seen.log hold.new.place.count) result (with_tariff_of xway tariff.now) }
     ensures sound { SoundIfTold (told_at K.told hold.new.place.seen.log hold.new.place.count) }
     ensures planned { PutsAsPlanned K.refuses None None result }
+    ensures from { hold.new.from ≡ hold.old.from }
 {
+    if hold.has_put() {
+        return Err(KeepFault::NoMemory);
+    }
     if kept.stands(hold).is_err() {
         return Err(KeepFault::NoMemory);
     }

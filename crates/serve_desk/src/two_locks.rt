@@ -3,12 +3,12 @@ ghost use Rattle.std.specs.Prelude.{◌≡◌, ◌≢◌, ◌≤◌, ◌<◌, fa
 ghost use Rattle.road_io.specs.Faults.{Rose};
 ghost use Rattle.road_io.specs.Plans.{NeverFails};
 ghost use Rattle.road_io.specs.Rooms.{Endless};
-ghost use Rattle.serve_board.specs.Passes.{StartsWith};
 ghost use Rattle.serve_requests.specs.ReadRequests.{IsAsked};
 ghost use Rattle.serve_requests.specs.declared.session_end.SessionEnd.TheVariants.{Answered, LinkFault};
 ghost use Rattle.serve_desk.specs.Answers.{TellsFault, wire_of};
 ghost use Rattle.serve_desk.specs.Desk.{IsOfKept};
 ghost use Rattle.serve_desk.specs.Reading.{Finishes, FitsRead, IsStopped};
+ghost use Rattle.serve_desk.specs.Seats.{Follows, seated};
 ghost use Rattle.serve_desk.specs.Shared.{AnswersPost, AnswersShared, ImportsShared};
 ghost use Rattle.serve_desk.specs.declared.imported.ReadTo.TheVariants as reading;
 ghost use Rattle.day_import.specs.declared.outcomes.AnsweredDay.{AnsweredDay};
@@ -18,12 +18,15 @@ ghost use Rattle.day_import.specs.declared.outcomes.Outcome.TheVariants.{ReadFau
 use crate::answers::answer_page;
 use crate::clerk::Clerk;
 use crate::days_shared::share_days;
+use crate::held_import::import_held;
 use crate::history::Naming;
 use crate::import_desk::ImportDesk;
 use crate::imported::Imported;
 use crate::kept::Kept;
 use crate::notices_shared::answer_notices_shared;
+use crate::place::Place;
 use crate::posting::finish_import;
+use crate::seat::Seat;
 use crate::shared::SharedKeeper;
 use crate::shared_answers::{share_day, share_spent, share_vehicle};
 use crate::work::{DayWork, Work};
@@ -33,6 +36,7 @@ use serve_board::{BoardNaming, NamedReader};
 use serve_loops::Turn;
 use serve_requests::{Asked, SessionEnd};
 use std::alloc::Global;
+use std::marker::Brand;
 use std::sync::{Mutex, Wait};
 use std::thread::Threads;
 use ways_crews::Crew;
@@ -40,7 +44,7 @@ use ways_crews::Crew;
 /// Takes the lock of the imports for a POST until its day is imported, and the lock of the keeper for one call at a
 /// time: so who asks for what is kept waits for no POST, and POSTs wait for one another's imports alone. The turn is
 /// given back once a day is imported. A POST tells the reader of its session all that is published once its day is
-/// imported.
+/// imported, and its seat goes on to the place of what was kept then.
 #[derive(Drop)]
 pub struct TwoLocks<
     'a,
@@ -84,8 +88,9 @@ fn finish_after<L: Link, T: Turn>(
     finish_import(alloc, imported, link)
 }
 
-/// Imports the day of a POST with the imports locked, and tells the reader all that is published then. Once they are
-/// not, and its turn is over, the rest of its body is read, and it is answered.
+/// Imports the day of a POST with the imports locked, over what is kept then, and tells the reader all that is published
+/// then. What was kept comes next in the history, and the place goes on to it. Once the imports are not locked, and its
+/// turn is over, the rest of its body is read, and it is answered.
 fn import_shared<
     'a,
     L: Link,
@@ -105,16 +110,17 @@ fn import_shared<
     keeper: &mut SharedKeeper<'a, J, K, R>,
     link: &mut L,
     reader: &mut NamedReader<J>,
+    place: &mut Place<J, K>,
 ) -> SessionEnd
     requires few { length early.now ≤ count }
     ensures posts { AnswersPost count early.now
         (wire_of (L.left link.old) (L.plan link.old) (L.written link.old) (L.room link.old))
         (wire_of (L.left link.new) (L.plan link.new) (L.written link.new) (L.room link.new)) result }
-    ensures imports { ImportsShared K.told K.refuses C.exact work.limits work.day count early.now reader.old reader.new
+    ensures imports { ImportsShared K.told K.refuses C.exact work.limits work.day count early.now
+        (seated reader.old place.old.seen.log) (seated reader.new place.new.seen.log)
         (wire_of (L.left link.old) (L.plan link.old) (L.written link.old) (L.room link.old))
         (wire_of (L.left link.new) (L.plan link.new) (L.written link.new) (L.room link.new)) result }
-    ensures reader { reader.new.board ≡ reader.old.board }
-    ensures had { StartsWith reader.new.seen reader.old.seen }
+    ensures follows { Follows (seated reader.old place.old.seen.log) (seated reader.new place.new.seen.log) }
     ensures unavailable { result ≡ Answered 503 → Rose keeper.old.faults keeper.new.faults }
     ensures failed { keeper.old.faults < keeper.new.faults → TellsFault result }
     ensures sure { NeverFails (L.plan link.old) → L.room link.old ≡ Endless → result ≢ LinkFault }
@@ -122,19 +128,20 @@ fn import_shared<
     ensures later { L.faults link.old ≤ L.faults link.new }
 {
     let mut locked = imports.lock(rt);
-    let mut held = keeper.hold();
+    let first = keeper.hold_behind(place);
     let desk = &mut *locked;
-    let imported = desk.import(alloc, work, early, count, &mut held, link);
+    let (imported, last) = import_held::<L, J, K, C, R, Brand>(
+        alloc, work, desk, early, count, keeper, first, link,
+    );
     desk.teach(reader);
     drop(locked);
-    keeper.counts(held);
+    *place = last;
     turn.over();
     finish_after(alloc, imported, turn, link)
 }
 
 /// Answers a request of what is kept: of a day or an amount by the keeper alone, a POST with the imports
 /// locked until its day is imported.
-#[tactic(auto, using(crate::proofs::LiveLaws::seen_itself))]
 fn answer_shared<
     'a,
     L: TwoWay,
@@ -153,14 +160,15 @@ fn answer_shared<
     keeper: &mut SharedKeeper<'a, J, K, R>,
     link: &mut L,
     reader: &mut NamedReader<J>,
+    place: &mut Place<J, K>,
 ) -> SessionEnd
     requires asked { IsAsked asked.now }
     requires kept { IsOfKept asked.now }
-    ensures shared { AnswersShared K.told K.faults K.refuses C.exact work.now.limits asked.now reader.old reader.new
+    ensures shared { AnswersShared K.told K.faults K.refuses C.exact work.now.limits asked.now
+        (seated reader.old place.old.seen.log) (seated reader.new place.new.seen.log)
         (wire_of (L.left link.old) (L.plan link.old) (L.written link.old) (L.room link.old))
         (wire_of (L.left link.new) (L.plan link.new) (L.written link.new) (L.room link.new)) result }
-    ensures reader { reader.new.board ≡ reader.old.board }
-    ensures had { StartsWith reader.new.seen reader.old.seen }
+    ensures follows { Follows (seated reader.old place.old.seen.log) (seated reader.new place.new.seen.log) }
     ensures unavailable { result ≡ Answered 503
         → Rose (⟦<SharedKeeper<'a, J, K, R> as Keeper>⟧.faults keeper.old)
         (⟦<SharedKeeper<'a, J, K, R> as Keeper>⟧.faults keeper.new) }
@@ -192,6 +200,7 @@ fn answer_shared<
             keeper,
             link,
             reader,
+            place,
         ),
         Asked::Answers { day, length, early } => answer_notices_shared(
             rt,
@@ -213,7 +222,7 @@ fn answer_shared<
     }
 }
 
-impl<'a, J: Naming + BoardNaming, K: Keeper, C: Crew, R: Wait + Threads + Drop, T: Turn> Clerk<J>
+impl<'a, J: Naming + BoardNaming, K: Keeper, C: Crew, R: Wait + Threads + Drop, T: Turn> Clerk<J, K>
     for TwoLocks<'a, J, K, C, R, T> {
     ghost use Rattle.serve_desk.specs.Shared.{AnswersShared};
 
@@ -225,7 +234,7 @@ impl<'a, J: Naming + BoardNaming, K: Keeper, C: Crew, R: Wait + Threads + Drop, 
         alloc: Global,
         asked: Asked,
         link: &mut L,
-        reader: &mut NamedReader<J>,
+        seat: &mut Seat<J, K>,
     ) -> SessionEnd {
         let mut keeper = SharedKeeper::new(&self.rt, self.keeper);
         answer_shared(
@@ -237,7 +246,8 @@ impl<'a, J: Naming + BoardNaming, K: Keeper, C: Crew, R: Wait + Threads + Drop, 
             &asked,
             &mut keeper,
             link,
-            reader,
+            &mut seat.reader,
+            &mut seat.place,
         )
     }
 }

@@ -10,19 +10,18 @@ use crate::stub::Stub;
 use crate::tickets::{Draws, Tickets, draw};
 use crate::turn::Turn;
 use road_io::Failed;
-use serve_board::{BoardNaming, NamedReader};
 use std::alloc::Global;
 use std::sync::atomic::{AtomicBool, Ordering};
 use std::sync::ledger::Ledger;
 use std::sync::{Mutex, Wait};
 
-impl<N: Listener, J: BoardNaming> Acceptor<N, NamedReader<J>> {
+impl<N: Listener, Q: Drop> Acceptor<N, Q> {
     /// Accepts a connection, has it served, and gives it back, so that what was answered reaches the client. Its turn
     /// is over then at the latest. Where the listener fails the acceptor failed; so it does where all loops are to stop.
-    fn turn<H: Host<J>>(&mut self, alloc: Global, host: &H, stop: &AtomicBool) -> bool
+    fn turn<H: Host<Q>>(&mut self, alloc: Global, host: &H, stop: &AtomicBool) -> bool
         requires room { N.accepted self.old.listener < 2 ^ 64 - 1 }
         requires goes { self.old.failed ≡ false }
-        ensures serves { AcceptorServes N.faults self.old self.new }
+        ensures serves { AcceptorServes N.faults H.follows self.old self.new }
         ensures accepts { result ≡ true → N.accepted self.new.listener ≡ N.accepted self.old.listener + 1 }
         ensures refuses { result ≡ false → N.accepted self.new.listener ≡ N.accepted self.old.listener }
         ensures turns { result ≡ true
@@ -55,7 +54,7 @@ impl<N: Listener, J: BoardNaming> Acceptor<N, NamedReader<J>> {
 
     /// Turns, until no ticket is left, the listener fails or all loops are to stop.
     #[tactic(auto, using(crate::proofs::AcceptorLaws::no_turn, crate::proofs::AcceptorLaws::failed_turn))]
-    pub fn run<H: Host<J>, D: Draws, E: Ledger, R: Wait>(
+    pub fn run<H: Host<Q>, D: Draws, E: Ledger, R: Wait>(
         &mut self,
         rt: &R,
         alloc: Global,
@@ -67,7 +66,7 @@ impl<N: Listener, J: BoardNaming> Acceptor<N, NamedReader<J>> {
         requires drawn { 0 < stub.old.drawn.parts }
         requires ends { 0 < stub.old.ends.parts }
         requires fresh { N.accepted self.old.listener ≡ stub.old.drawn.amount }
-        ensures serves { AcceptorServes N.faults self.old self.new }
+        ensures serves { AcceptorServes N.faults H.follows self.old self.new }
         ensures turned { AcceptorTurned N.accepted
             (TurnOf N.gives N.takes (wire_by N.Line.left N.Line.plan N.Line.written N.Line.room N.Line.faults)
             (H.attends host.now)) self.old self.new }

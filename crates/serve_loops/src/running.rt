@@ -10,7 +10,6 @@ use crate::host::Host;
 use crate::listener::Listener;
 use crate::stub::Stub;
 use crate::tickets::{Draws, Tickets};
-use serve_board::{BoardNaming, NamedReader};
 use std::alloc::Global;
 use std::sync::atomic::{AtomicBool, Ordering};
 use std::sync::ledger::Ledger;
@@ -18,20 +17,20 @@ use std::sync::{Mutex, Wait};
 use std::thread::{Threads, join};
 
 /// Runs the loop of an acceptor that accepted nothing, with a stub of nothing.
-fn run_acceptor<N: Listener, J: BoardNaming, H: Host<J>, D: Draws, E: Ledger, R: Wait>(
+fn run_acceptor<N: Listener, Q: Drop, H: Host<Q>, D: Draws, E: Ledger, R: Wait>(
     rt: &R,
     alloc: Global,
     host: &H,
     stop: &AtomicBool,
     tickets: &Mutex<Tickets<D, E>>,
-    acceptor: Acceptor<N, NamedReader<J>>,
+    acceptor: Acceptor<N, Q>,
     stub: Stub<D, E>,
-) -> (Acceptor<N, NamedReader<J>>, Stub<D, E>)
+) -> (Acceptor<N, Q>, Stub<D, E>)
     requires drawn { stub.drawn.parts ≡ 1 }
     requires ends { stub.ends.parts ≡ 1 }
     requires unused { stub.drawn.amount ≡ 0 }
     requires fresh { N.accepted acceptor.listener ≡ 0 }
-    ensures ran { AcceptorRan N.faults N.accepted
+    ensures ran { AcceptorRan N.faults N.accepted H.follows
         (TurnOf N.gives N.takes (wire_by N.Line.left N.Line.plan N.Line.written N.Line.room N.Line.faults)
         (H.attends host.now))
         acceptor result.0 result.1.drawn.amount result.1.ends.amount }
@@ -73,8 +72,8 @@ fn put_behind<N: Listener, Q, D: Ledger, E: Ledger>(
 #[cycle(acceptors)]
 fn run_beside<
     N: Listener + Drop + Send,
-    J: BoardNaming + Send + Sync,
-    H: Host<J> + Sync,
+    Q: Drop + Send,
+    H: Host<Q> + Sync,
     D: Draws + Send + Sync,
     E: Ledger + Send + Sync,
     R: Threads + Wait + Sync,
@@ -84,11 +83,11 @@ fn run_beside<
     host: &H,
     stop: &AtomicBool,
     tickets: &Mutex<Tickets<D, E>>,
-    acceptors: Vec<Acceptor<N, NamedReader<J>>>,
+    acceptors: Vec<Acceptor<N, Q>>,
     stub: Stub<D, E>,
-    last: Acceptor<N, NamedReader<J>>,
+    last: Acceptor<N, Q>,
     own: Stub<D, E>,
-) -> (Vec<Acceptor<N, NamedReader<J>>>, Stub<D, E>)
+) -> (Vec<Acceptor<N, Q>>, Stub<D, E>)
     requires own { (own.drawn.parts ≡ 1) × (own.ends.parts ≡ 1) × (own.drawn.amount ≡ 0) }
     requires last { N.accepted last.listener ≡ 0 }
     requires drawn { stub.drawn.parts ≡ vec_len acceptors }
@@ -96,7 +95,7 @@ fn run_beside<
     requires unused { (stub.drawn.amount ≡ 0) × (stub.ends.amount ≡ 0) }
     requires fresh { All (λ acceptor. N.accepted acceptor.listener ≡ 0) acceptors.items }
     requires room { vec_len acceptors < vec_capacity acceptors }
-    ensures ran { RanAll N.faults N.accepted
+    ensures ran { RanAll N.faults N.accepted H.follows
         (TurnOf N.gives N.takes (wire_by N.Line.left N.Line.plan N.Line.written N.Line.room N.Line.faults)
         (H.attends host.now))
         (acceptors.items ++ last ∷ []) result.0.items
@@ -110,10 +109,10 @@ fn run_beside<
     let begun = &begun;
     let ((last, own), (acceptors, stub)) = join(
         rt,
-        move || -> (Acceptor<N, NamedReader<J>>, Stub<D, E>)
+        move || -> (Acceptor<N, Q>, Stub<D, E>)
             requires { (own.drawn.parts ≡ 1) × (own.ends.parts ≡ 1) × (own.drawn.amount ≡ 0)
                 × (N.accepted last.listener ≡ 0) }
-            ensures ran { AcceptorRan N.faults N.accepted
+            ensures ran { AcceptorRan N.faults N.accepted H.follows
                 (TurnOf N.gives N.takes (wire_by N.Line.left N.Line.plan N.Line.written N.Line.room N.Line.faults)
                 (H.attends host.entry.now))
                 last result.0 result.1.drawn.amount result.1.ends.amount }
@@ -122,14 +121,14 @@ fn run_beside<
             begun.store(true, Ordering::SeqCst);
             run_acceptor(rt, alloc, host, stop, tickets, last, own)
         },
-        move || -> (Vec<Acceptor<N, NamedReader<J>>>, Stub<D, E>)
-            requires bounds { IsSync R.row × IsSync H.row × IsSend J.row × IsSync J.row × IsSend N.row × IsSend N.Line.row
+        move || -> (Vec<Acceptor<N, Q>>, Stub<D, E>)
+            requires bounds { IsSync R.row × IsSync H.row × IsSend Q.row × IsSend N.row × IsSend N.Line.row
                 × IsSend N.Line.Out.row × IsSend N.Pass.row × IsSend D.row × IsSend E.row × IsSync D.row × IsSync E.row }
             requires drawn { stub.drawn.parts ≡ vec_len acceptors }
             requires ends { stub.ends.parts ≡ vec_len acceptors }
             requires unused { (stub.drawn.amount ≡ 0) × (stub.ends.amount ≡ 0) }
             requires fresh { All (λ acceptor. N.accepted acceptor.listener ≡ 0) acceptors.items }
-            ensures ran { RanAll N.faults N.accepted
+            ensures ran { RanAll N.faults N.accepted H.follows
                 (TurnOf N.gives N.takes (wire_by N.Line.left N.Line.plan N.Line.written N.Line.room N.Line.faults)
                 (H.attends host.entry.now))
                 acceptors.items result.0.items
@@ -150,8 +149,8 @@ fn run_beside<
 #[cycle(acceptors)]
 pub fn run_all<
     N: Listener + Drop + Send,
-    J: BoardNaming + Send + Sync,
-    H: Host<J> + Sync,
+    Q: Drop + Send,
+    H: Host<Q> + Sync,
     D: Draws + Send + Sync,
     E: Ledger + Send + Sync,
     R: Threads + Wait + Sync,
@@ -161,14 +160,14 @@ pub fn run_all<
     host: &H,
     stop: &AtomicBool,
     tickets: &Mutex<Tickets<D, E>>,
-    acceptors: Vec<Acceptor<N, NamedReader<J>>>,
+    acceptors: Vec<Acceptor<N, Q>>,
     stub: Stub<D, E>,
-) -> (Vec<Acceptor<N, NamedReader<J>>>, Stub<D, E>)
+) -> (Vec<Acceptor<N, Q>>, Stub<D, E>)
     requires drawn { stub.drawn.parts ≡ vec_len acceptors }
     requires ends { stub.ends.parts ≡ vec_len acceptors }
     requires unused { (stub.drawn.amount ≡ 0) × (stub.ends.amount ≡ 0) }
     requires fresh { All (λ acceptor. N.accepted acceptor.listener ≡ 0) acceptors.items }
-    ensures ran { RanAll N.faults N.accepted
+    ensures ran { RanAll N.faults N.accepted H.follows
         (TurnOf N.gives N.takes (wire_by N.Line.left N.Line.plan N.Line.written N.Line.room N.Line.faults)
         (H.attends host.now))
         acceptors.items result.0.items result.1.drawn.amount result.1.ends.amount }

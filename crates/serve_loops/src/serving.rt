@@ -13,7 +13,6 @@ use crate::running::run_all;
 use crate::serve_end::ServeEnd;
 use crate::stub::Stub;
 use crate::tickets::{Draws, Tickets};
-use serve_board::{BoardNaming, NamedReader};
 use std::alloc::Global;
 use std::marker::Brand;
 use std::sync::atomic::AtomicBool;
@@ -24,20 +23,20 @@ use std::thread::Threads;
 /// Runs the loops of acceptors over so many tickets, by two new ledgers.
 fn run_over<
     N: Listener + Drop + Send,
-    J: BoardNaming + Send + Sync,
-    H: Host<J> + Sync,
+    Q: Drop + Send,
+    H: Host<Q> + Sync,
     D: Draws + Send + Sync,
     E: Ledger + Send + Sync,
     R: Threads + Wait + Sync,
 >(
     rt: &R,
     alloc: Global,
-    acceptors: Vec<Acceptor<N, NamedReader<J>>>,
+    acceptors: Vec<Acceptor<N, Q>>,
     host: &H,
     sessions: u64,
     drawn: Blank,
     ends: Blank,
-) -> Vec<Acceptor<N, NamedReader<J>>>
+) -> Vec<Acceptor<N, Q>>
     requires drawn_name { drawn.name ≡ D.name }
     requires ends_name { ends.name ≡ E.name }
     requires drawn_parts { (drawn.parts ≡ D.parts) × (D.parts ≡ vec_len acceptors) }
@@ -45,7 +44,7 @@ fn run_over<
     requires tickets { sessions ≡ D.tickets }
     requires some { 1 ≤ vec_len acceptors }
     requires fresh { All (λ acceptor. N.accepted acceptor.listener ≡ 0) acceptors.items }
-    ensures acceptors { AllZip (AcceptorServes N.faults) acceptors.items result.items }
+    ensures acceptors { AllZip (AcceptorServes N.faults H.follows) acceptors.items result.items }
     ensures turns { AllZip (AcceptorTurned N.accepted
         (TurnOf N.gives N.takes (wire_by N.Line.left N.Line.plan N.Line.written N.Line.room N.Line.faults)
         (H.attends host.now))) acceptors.items result.items }
@@ -83,20 +82,14 @@ fn has_failed<N, Q>(acceptors: &[Acceptor<N, Q>]) -> bool
 /// listener fails. Where a thread cannot be had all listeners give up. It waits.
 pub fn serve<
     N: Listener + Drop + Send,
-    J: BoardNaming + Send + Sync,
-    H: Host<J> + Sync,
+    Q: Drop + Send,
+    H: Host<Q> + Sync,
     R: Threads + Wait + Sync,
->(
-    rt: &R,
-    alloc: Global,
-    acceptors: &mut Acceptors<N, NamedReader<J>>,
-    host: &H,
-    sessions: u64,
-) -> ServeEnd
+>(rt: &R, alloc: Global, acceptors: &mut Acceptors<N, Q>, host: &H, sessions: u64) -> ServeEnd
     requires some { 1 ≤ length acceptors.old }
     requires few { length acceptors.old ≤ 64 }
     requires fresh { All (λ acceptor. N.accepted acceptor.listener ≡ 0) acceptors.old }
-    ensures acceptors { AllZip (AcceptorServes N.faults) acceptors.old acceptors.new }
+    ensures acceptors { AllZip (AcceptorServes N.faults H.follows) acceptors.old acceptors.new }
     ensures turns { AllZip (AcceptorTurned N.accepted
         (TurnOf N.gives N.takes (wire_by N.Line.left N.Line.plan N.Line.written N.Line.room N.Line.faults)
         (H.attends host.now))) acceptors.old acceptors.new }
@@ -107,7 +100,7 @@ pub fn serve<
 {
     let all = acceptors.take(alloc);
     let parts = all.len() as u64;
-    let done = run_over::<N, J, H, Brand, Brand, R>(
+    let done = run_over::<N, Q, H, Brand, Brand, R>(
         rt,
         alloc,
         all,

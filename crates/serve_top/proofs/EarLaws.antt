@@ -4,7 +4,6 @@ use Rattle.std.proofs.Common.{inl, inr, ⊎_elim, map, length, arith, nat_lt, lt
 use Rattle.std.specs.List.{All, AllZip}
 use Rattle.std.proofs.lemmas.Bool.{cases_Bool}
 use Rattle.road_io.specs.Faults.{Rose}
-use Rattle.serve_board.specs.Passes.{Pass}
 use Rattle.serve_loops.specs.Acceptors.{AnyRose, HasFailedAcceptor, AcceptorServes, AcceptorTurned}
 use Rattle.serve_loops.specs.declared.acceptor.Acceptor.{Acceptor}
 use Rattle.serve_top.specs.Doors.{has_fault}
@@ -14,7 +13,7 @@ use Rattle.serve_top.specs.declared.served_words.Serving.{Serving}
 use Rattle.serve_top.specs.Served.{EarServed, ServedAsSaid}
 
 -- acceptors of ears that accepted nothing have accepted nothing
-pub fresh_in : {N : Type 0} (f h : N → ℕ) (acceptors : List (Acceptor N Pass)) →
+pub fresh_in : {N Q : Type 0} (f h : N → ℕ) (acceptors : List (Acceptor N Q)) →
     All (λ ear. (f ear ≡ 0) × (h ear ≡ 0)) (map (λ acceptor. acceptor.listener) acceptors) → All (λ acceptor. f acceptor.listener ≡ 0) acceptors
 fresh_in f h [] all k d below = absurd (omega arith)
 fresh_in f h (acceptor ∷ acceptors) all zero d below = (all 0 d.listener (omega arith)).0
@@ -30,7 +29,7 @@ or_true true = refl
 or_true false = refl
 
 -- where the count of an acceptor's listener rose, an ear failed
-pub rose_fails : {N : Type 0} (f : N → ℕ) (old new : List (Acceptor N Pass)) → AnyRose f old new →
+pub rose_fails : {N Q : Type 0} (f : N → ℕ) (old new : List (Acceptor N Q)) → AnyRose f old new →
     has_fault f (map (λ acceptor. acceptor.listener) new) ≡ true
 rose_fails f [] new (k, p, below, at, rose) = absurd (omega (arith, below))
 rose_fails f (o ∷ old) [] (k, p, below, at, rose) = absurd (omega (arith, below))
@@ -42,14 +41,14 @@ rose_fails f (o ∷ old) (n ∷ new) (suc k, p, below, at, rose) =
     rw (rose_fails f old new (k, p, omega (arith, below), at, rose)) (or_true (nat_lt 0 (f n.listener)))
 
 -- where no acceptor failed of ears that had not failed, no ear has
-pub none_fails : {N : Type 0} (f h : N → ℕ) (old new : List (Acceptor N Pass)) →
-    All (λ ear. (f ear ≡ 0) × (h ear ≡ 0)) (map (λ acceptor. acceptor.listener) old) → AllZip (AcceptorServes h) old new →
+pub none_fails : {N Q : Type 0} (f h : N → ℕ) (follows : Q → Q → Type 0) (old new : List (Acceptor N Q)) →
+    All (λ ear. (f ear ≡ 0) × (h ear ≡ 0)) (map (λ acceptor. acceptor.listener) old) → AllZip (AcceptorServes h follows) old new →
     (HasFailedAcceptor new → ⊥) → has_fault h (map (λ acceptor. acceptor.listener) new) ≡ false
-none_fails f h [] [] all served none = refl
-none_fails f h [] (y ∷ ys) all served none = absurd served
-none_fails f h (x ∷ xs) [] all served none = absurd served
-none_fails f h (x ∷ xs) (y ∷ ys) all (one, more) none =
-    rw still (none_fails f h xs ys (λ k d less. all (suc k) d (omega (arith, less))) more there)
+none_fails f h follows [] [] all served none = refl
+none_fails f h follows [] (y ∷ ys) all served none = absurd served
+none_fails f h follows (x ∷ xs) [] all served none = absurd served
+none_fails f h follows (x ∷ xs) (y ∷ ys) all (one, more) none =
+    rw still (none_fails f h follows xs ys (λ k d less. all (suc k) d (omega (arith, less))) more there)
   where
     fine : y.failed ≡ false
     fine =
@@ -63,9 +62,9 @@ none_fails f h (x ∷ xs) (y ∷ ys) all (one, more) none =
     there (k, p, below, at, failed) = none (suc k, p, omega (arith, below), at, failed)
 
 -- what an acceptor served its ear served
-ear_served : {N : Type 0} (faults accepted : N → ℕ) (turn : N → Pass → N → Pass → Type 0) (x y : Acceptor N Pass) →
-    AcceptorServes faults x y → AcceptorTurned accepted turn x y → EarServed faults accepted turn x.listener y.listener
-ear_served faults accepted turn x y serves turned =
+ear_served : {N Q : Type 0} (faults accepted : N → ℕ) (follows : Q → Q → Type 0) (turn : N → Q → N → Q → Type 0) (x y : Acceptor N Q) →
+    AcceptorServes faults follows x y → AcceptorTurned accepted turn x y → EarServed faults accepted turn x.listener y.listener
+ear_served faults accepted follows turn x y serves turned =
     record {
       count = turned.count;
       last = turned.last;
@@ -78,18 +77,18 @@ ear_served faults accepted turn x y serves turned =
     }
 
 -- and so all of them
-pub ears_served : {N : Type 0} (faults accepted : N → ℕ) (turn : N → Pass → N → Pass → Type 0)
-    (xs ys : List (Acceptor N Pass)) → AllZip (AcceptorServes faults) xs ys → AllZip (AcceptorTurned accepted turn) xs ys →
+pub ears_served : {N Q : Type 0} (faults accepted : N → ℕ) (follows : Q → Q → Type 0) (turn : N → Q → N → Q → Type 0)
+    (xs ys : List (Acceptor N Q)) → AllZip (AcceptorServes faults follows) xs ys → AllZip (AcceptorTurned accepted turn) xs ys →
     AllZip (EarServed faults accepted turn) (map (λ acceptor. acceptor.listener) xs) (map (λ acceptor. acceptor.listener) ys)
-ears_served faults accepted turn [] [] a b = tt
-ears_served faults accepted turn [] (y ∷ ys) a b = absurd a
-ears_served faults accepted turn (x ∷ xs) [] a b = absurd a
-ears_served faults accepted turn (x ∷ xs) (y ∷ ys) (serves, a) (turned, b) =
-    (ear_served faults accepted turn x y serves turned, ears_served faults accepted turn xs ys a b)
+ears_served faults accepted follows turn [] [] a b = tt
+ears_served faults accepted follows turn [] (y ∷ ys) a b = absurd a
+ears_served faults accepted follows turn (x ∷ xs) [] a b = absurd a
+ears_served faults accepted follows turn (x ∷ xs) (y ∷ ys) (serves, a) (turned, b) =
+    (ear_served faults accepted follows turn x y serves turned, ears_served faults accepted follows turn xs ys a b)
 
 -- what desks served they served by what is seen of them
-pub served_seen : {N S T : Type 0} (f : S → T) (hears : N → ℕ → Type 0) (faults accepted : N → ℕ)
-    (turn : T → N → Pass → N → Pass → Type 0) (works : T → Plan) (bounds : T → Limits) (limits : Limits)
+pub served_seen : {N S T Q : Type 0} (f : S → T) (hears : N → ℕ → Type 0) (faults accepted : N → ℕ)
+    (turn : T → N → Q → N → Q → Type 0) (works : T → Plan) (bounds : T → Limits) (limits : Limits)
     (meant : Option Serving) →
     ServedAsSaid hears faults accepted (λ d. turn (f d)) (λ d. works (f d)) (λ d. bounds (f d)) limits meant →
     ServedAsSaid hears faults accepted turn works bounds limits meant

@@ -4,25 +4,24 @@ use Rattle.std.specs.List.{All, AllZip}
 use Rattle.road_io.specs.Faults.{Rose}
 use Rattle.road_time.specs.declared.day.Limits.{Limits}
 use Rattle.day_plan.specs.declared.work.Plan.{Plan}
-use Rattle.serve_board.specs.Passes.{Pass}
 use Rattle.serve_loops.specs.Acceptors.{TakesTurns}
 use Rattle.serve_top.specs.Doors.{accepted_in}
 use Rattle.serve_top.specs.declared.served_words.Serving.{Serving}
 
--- an ear served, with a reader of its own: as many turns as it accepted connections, one after another; only an ear that
+-- an ear served, with what its loop has of its own: as many turns as it accepted connections, one after another; only an ear that
 -- failed is another behind them
-pub record EarServed {N : Type 0} (faults accepted : N → ℕ) (turn : N → Pass → N → Pass → Type 0) (old new : N) :
+pub record EarServed {N Q : Type 0} (faults accepted : N → ℕ) (turn : N → Q → N → Q → Type 0) (old new : N) :
     Type 0 where
   pub count : ℕ
   pub last : N
-  pub first : Pass
-  pub behind : Pass
+  pub first : Q
+  pub behind : Q
   pub counted : accepted new ≡ accepted old + count
   pub turns : TakesTurns turn count old first last behind
   pub over : (new ≡ last) ⊎ Rose (faults old) (faults new)
 
 -- ears served by turns of one desk, which works a day over four workers in no drawn order, and within these limits
-pub record ServedBy {N S : Type 0} (faults accepted : N → ℕ) (turn : S → N → Pass → N → Pass → Type 0)
+pub record ServedBy {N S Q : Type 0} (faults accepted : N → ℕ) (turn : S → N → Q → N → Q → Type 0)
     (works : S → Plan) (bounds : S → Limits) (limits : Limits) (old new : List N) : Type 0 where
   pub desk : S
   pub four : works desk ≡ record { width = 4; turns = None }
@@ -30,8 +29,8 @@ pub record ServedBy {N S : Type 0} (faults accepted : N → ℕ) (turn : S → N
   pub served : AllZip (EarServed faults accepted (turn desk)) old new
 
 -- ears that heard at a port served so, and accepted so many connections in all
-pub record ServedAt {N S : Type 0} (hears : N → ℕ → Type 0) (faults accepted : N → ℕ)
-    (turn : S → N → Pass → N → Pass → Type 0) (works : S → Plan) (bounds : S → Limits) (limits : Limits)
+pub record ServedAt {N S Q : Type 0} (hears : N → ℕ → Type 0) (faults accepted : N → ℕ)
+    (turn : S → N → Q → N → Q → Type 0) (works : S → Plan) (bounds : S → Limits) (limits : Limits)
     (serving : Serving) : Type 0 where
   pub opened : List N
   pub closed : List N
@@ -40,8 +39,8 @@ pub record ServedAt {N S : Type 0} (hears : N → ℕ → Type 0) (faults accept
   pub all : accepted_in accepted closed ≡ serving.sessions
 
 -- what the words say was served so
-abbrev pub ServedAsSaid : {N S : Type 0} → (N → ℕ → Type 0) → (N → ℕ) → (N → ℕ) →
-    (S → N → Pass → N → Pass → Type 0) → (S → Plan) → (S → Limits) → Limits → Option Serving → Type 0
+abbrev pub ServedAsSaid : {N S Q : Type 0} → (N → ℕ → Type 0) → (N → ℕ) → (N → ℕ) →
+    (S → N → Q → N → Q → Type 0) → (S → Plan) → (S → Limits) → Limits → Option Serving → Type 0
 ServedAsSaid hears faults accepted turn works bounds limits None = ⊥
 ServedAsSaid hears faults accepted turn works bounds limits (Some serving) =
     ServedAt hears faults accepted turn works bounds limits serving

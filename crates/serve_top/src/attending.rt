@@ -1,7 +1,7 @@
 // A session over a desk that is shared.
 ghost use Rattle.std.specs.Prelude.{◌≡◌, ◌≤◌};
 ghost use Rattle.road_time.specs.Fits.{IsLimits};
-ghost use Rattle.serve_board.specs.Passes.{StartsWith};
+ghost use Rattle.serve_desk.specs.Seats.{Follows};
 ghost use Rattle.serve_loops.specs.Wires.{wire_by};
 ghost use Rattle.serve_top.specs.Attends.{Attends};
 
@@ -9,8 +9,8 @@ use day_plan::Plan;
 use keep_office::Keeper;
 use road_io::TwoWay;
 use road_time::Limits;
-use serve_board::{BoardNaming, NamedReader};
-use serve_desk::{ImportDesk, Kept, Naming, Routes, TwoLocks, Work, session_shared};
+use serve_board::BoardNaming;
+use serve_desk::{ImportDesk, Kept, Naming, Routes, Seat, TwoLocks, Work, session_shared};
 use serve_loops::Turn;
 use std::alloc::Global;
 use std::sync::{Mutex, Wait};
@@ -37,15 +37,14 @@ pub fn attend<
     imports: &Mutex<ImportDesk<J, C, R>>,
     line: &mut L,
     turn: &mut T,
-    reader: &mut NamedReader<J>,
+    seat: &mut Seat<J, K>,
 )
     requires some { 1 ≤ plan.width }
     requires few { plan.width ≤ 64 }
     requires within { IsLimits limits }
-    ensures attends { Attends K.told K.faults K.refuses C.exact limits reader.old reader.new
+    ensures attends { Attends K.told K.faults K.refuses C.exact limits seat.old seat.new
         (wire_by L.left L.plan L.written L.room L.faults line.old) (wire_by L.left L.plan L.written L.room L.faults line.new) }
-    ensures board { reader.new.board ≡ reader.old.board }
-    ensures had { StartsWith reader.new.seen reader.old.seen }
+    ensures follows { Follows seat.old seat.new }
 {
     let mut clerk = TwoLocks {
         rt,
@@ -54,5 +53,5 @@ pub fn attend<
         imports,
         turn,
     };
-    session_shared(alloc, routes, line, reader, &mut clerk);
+    session_shared(alloc, routes, line, seat, &mut clerk);
 }

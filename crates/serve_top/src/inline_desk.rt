@@ -7,8 +7,8 @@ use crate::shared_desk::SharedDesk;
 use day_plan::Plan;
 use keep_office::Keeper;
 use road_time::Limits;
-use serve_board::{BoardNaming, NamedWriter};
-use serve_desk::{ImportDesk, Kept, Naming, Routes};
+use serve_board::{BoardNaming, NamedReader, NamedWriter};
+use serve_desk::{ImportDesk, Kept, Naming, Routes, Seat};
 use std::sync::Wait;
 use std::thread::Threads;
 use ways_crews::{Crew, InlineCrew};
@@ -17,7 +17,7 @@ impl<
     J: Naming + BoardNaming + Send + Sync,
     K: Keeper + Send,
     R: Wait + Threads + Drop + Copy + Send + Sync,
-> DeskCrew<Kept<J, K>, NamedWriter<J, R>, J, R> for InlineCrew {
+> DeskCrew<Kept<J, K>, NamedWriter<J, R>, NamedReader<J>, Seat<J, K>, R> for InlineCrew {
     type Shared = SharedDesk<J, K, InlineCrew, R, Routes>;
 
     ghost out = { λ crew. ⟦<InlineCrew as Crew>⟧.out crew };
@@ -25,6 +25,10 @@ impl<
     ghost works = { λ desk. desk.plan };
 
     ghost bounds = { λ desk. desk.limits };
+
+    fn seat(keeper: &Kept<J, K>, reader: NamedReader<J>) -> Seat<J, K> {
+        keeper.seat(reader)
+    }
 
     fn share(
         self,

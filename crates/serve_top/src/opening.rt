@@ -36,8 +36,9 @@ fn serve_over<
     N: Listener + Send + Drop,
     K,
     J: BoardNaming + Send + Sync,
-    C: DeskCrew<K, NamedWriter<J, R>, J, R> + Drop,
+    C: DeskCrew<K, NamedWriter<J, R>, NamedReader<J>, Q, R> + Drop,
     R: Wait + Threads + Drop + Copy + Send + Sync,
+    Q: Drop + Send,
 >(
     rt: R,
     alloc: Global,
@@ -45,7 +46,7 @@ fn serve_over<
     limits: &Limits,
     ears: Ears<N>,
     board: NamedBoard<J, R>,
-    acceptors: Vec<Acceptor<N, NamedReader<J>>>,
+    acceptors: Vec<Acceptor<N, Q>>,
     room: Vec<N>,
     routes: Routes,
     keeper: K,
@@ -73,7 +74,12 @@ fn serve_over<
     ensures sound { result.0 ≡ Served → has_fault N.faults result.1 ≡ false }
 {
     let NamedBoard { writer, readers } = board;
-    let mut acceptors = seat(acceptors, ears, readers.into_vec());
+    let mut acceptors = seat::<N, K, NamedWriter<J, R>, NamedReader<J>, C, R, Q>(
+        acceptors,
+        ears,
+        readers.into_vec(),
+        &keeper,
+    );
     let desk = crew.share(rt, keeper, writer, PLAN, *limits, routes);
     let end = serve(&rt, alloc, &mut acceptors, &desk, sessions);
     let keeper = C::end(desk);
@@ -85,8 +91,9 @@ fn serve_behind<
     D: Door,
     K,
     J: BoardNaming + Send + Sync,
-    C: DeskCrew<K, NamedWriter<J, R>, J, R> + Drop,
+    C: DeskCrew<K, NamedWriter<J, R>, NamedReader<J>, Q, R> + Drop,
     R: Wait + Threads + Drop + Copy + Send + Sync,
+    Q: Drop + Send,
 >(
     rt: R,
     alloc: Global,
@@ -95,7 +102,7 @@ fn serve_behind<
     limits: &Limits,
     door: &mut D,
     board: NamedBoard<J, R>,
-    acceptors: Vec<Acceptor<D::Ear, NamedReader<J>>>,
+    acceptors: Vec<Acceptor<D::Ear, Q>>,
     room: Vec<D::Ear>,
     routes: Routes,
     keeper: K,
@@ -155,8 +162,9 @@ pub fn serve_as<
     D: Door,
     K,
     J: BoardNaming + Send + Sync,
-    C: DeskCrew<K, NamedWriter<J, R>, J, R> + Drop,
+    C: DeskCrew<K, NamedWriter<J, R>, NamedReader<J>, Q, R> + Drop,
     R: Wait + Threads + Drop + Copy + Send + Sync,
+    Q: Drop + Send,
 >(
     rt: R,
     alloc: Global,

@@ -1,14 +1,17 @@
 // Ears in acceptors, each with a reader, and out of them.
 ghost use Rattle.std.specs.Prelude.{◌≡◌, ◌≤◌, [], map, length, vec_len, vec_capacity};
 
+use crate::desk_crew::DeskCrew;
 use crate::ears::Ears;
 use serve_loops::{Acceptor, Acceptors};
 
-/// An acceptor for each ear, with a reader of its own, in their order. There is to be room for them.
-pub fn seat<N: Drop, Q: Drop>(
+/// An acceptor for each ear, with a reader of its own beside what the keeper is now, in their order. There is to be room
+/// for them.
+pub fn seat<N: Drop, K, W, V: Drop, C: DeskCrew<K, W, V, Q, R>, R, Q: Drop>(
     room: Vec<Acceptor<N, Q>>,
     ears: Ears<N>,
-    readers: Vec<Q>,
+    readers: Vec<V>,
+    keeper: &K,
 ) -> Acceptors<N, Q>
     requires empty { room.items ≡ [] }
     requires none { vec_len room ≡ 0 }
@@ -24,7 +27,7 @@ pub fn seat<N: Drop, Q: Drop>(
         };
         acceptors.push_reserved(Acceptor {
             listener,
-            reader,
+            reader: C::seat(keeper, reader),
             failed: false,
         });
     }

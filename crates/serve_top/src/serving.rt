@@ -15,7 +15,7 @@ use crate::opening::serve_as;
 use crate::words::read_words;
 use office_words::WordFault;
 use road_time::Limits;
-use serve_board::{BoardNaming, NamedHistory, NamedWriter};
+use serve_board::{BoardNaming, NamedHistory, NamedReader, NamedWriter};
 use std::alloc::Global;
 use std::sync::Wait;
 use std::thread::Threads;
@@ -29,8 +29,9 @@ pub fn serve_words<
     D: Door,
     K,
     J: BoardNaming + Send + Sync,
-    C: DeskCrew<K, NamedWriter<J, R>, J, R> + Drop,
+    C: DeskCrew<K, NamedWriter<J, R>, NamedReader<J>, Q, R> + Drop,
     R: Wait + Threads + Drop + Copy + Send + Sync,
+    Q: Drop + Send,
 >(
     rt: R,
     alloc: Global,

@@ -7,8 +7,8 @@ use day_plan::Plan;
 use keep_office::Keeper;
 use road_io::TwoWay;
 use road_time::Limits;
-use serve_board::{BoardNaming, NamedReader};
-use serve_desk::{ImportDesk, Kept, Naming, Routes};
+use serve_board::BoardNaming;
+use serve_desk::{ImportDesk, Kept, Naming, Routes, Seat};
 use serve_loops::{Host, Turn};
 use std::alloc::Global;
 use std::sync::{Mutex, Wait};
@@ -18,7 +18,7 @@ use ways_crews::Crew;
 /// A desk that loops in many threads share. It runs a session on each connection. Its keeper has a lock of its own,
 /// which is taken for one call at a time; a POST takes that of the imports too, until its day is imported. Beside the
 /// locks lie the routes, by which all sessions go, and by which plan and within which limits a day is worked. Its
-/// readers are of the board of its writer. `S` is the type of the routes, and is always `Routes`: as a parameter it is
+/// readers are of the board of its writer, and their places in the history of its keeper. `S` is the type of the routes, and is always `Routes`: as a parameter it is
 /// shown to cross threads by itself.
 pub struct SharedDesk<
     J: Naming + BoardNaming,
@@ -85,19 +85,22 @@ impl<J: Naming + BoardNaming, K: Keeper, C: Crew, R: Wait + Threads + Drop + Cop
     }
 }
 
-impl<J: Naming + BoardNaming, K: Keeper, C: Crew, R: Wait + Threads + Drop + Copy> Host<J>
+impl<J: Naming + BoardNaming, K: Keeper, C: Crew, R: Wait + Threads + Drop + Copy> Host<Seat<J, K>>
     for SharedDesk<J, K, C, R, Routes> {
+    ghost use Rattle.serve_desk.specs.Seats.{Follows, stays as seat_stays, follows_on};
     ghost use Rattle.serve_top.specs.Attends.{Attends};
 
     ghost attends = { λ desk p q old new.
         Attends K.told K.faults K.refuses C.exact desk.limits p q old new };
+
+    ghost follows = { Follows };
 
     fn attend<L: TwoWay, T: Turn>(
         &self,
         alloc: Global,
         line: &mut L,
         turn: &mut T,
-        reader: &mut NamedReader<J>,
+        seat: &mut Seat<J, K>,
     ) {
         attend(
             self.rt,
@@ -109,7 +112,11 @@ impl<J: Naming + BoardNaming, K: Keeper, C: Crew, R: Wait + Threads + Drop + Cop
             &self.imports,
             line,
             turn,
-            reader,
+            seat,
         );
     }
+
+    ghost stays = { seat_stays };
+
+    ghost goes_on = { follows_on };
 }

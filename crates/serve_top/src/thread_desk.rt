@@ -7,8 +7,8 @@ use crate::shared_desk::SharedDesk;
 use day_plan::Plan;
 use keep_office::Keeper;
 use road_time::Limits;
-use serve_board::{BoardNaming, NamedWriter};
-use serve_desk::{ImportDesk, Kept, Naming, Routes};
+use serve_board::{BoardNaming, NamedReader, NamedWriter};
+use serve_desk::{ImportDesk, Kept, Naming, Routes, Seat};
 use std::sync::Wait;
 use std::thread::Threads;
 use ways_crews::{Crew, NoGate, ThreadCrew, ThreadTicket};
@@ -17,7 +17,7 @@ impl<
     J: Naming + BoardNaming + Send + Sync,
     K: Keeper + Send,
     R: Wait + Threads + Drop + Copy + Send + Sync,
-> DeskCrew<Kept<J, K>, NamedWriter<J, R>, J, R> for ThreadCrew<R, NoGate>
+> DeskCrew<Kept<J, K>, NamedWriter<J, R>, NamedReader<J>, Seat<J, K>, R> for ThreadCrew<R, NoGate>
 where
     ThreadCrew<R, NoGate>: Crew<Ticket = ThreadTicket, Name = ()>,
 {
@@ -28,6 +28,10 @@ where
     ghost works = { λ desk. desk.plan };
 
     ghost bounds = { λ desk. desk.limits };
+
+    fn seat(keeper: &Kept<J, K>, reader: NamedReader<J>) -> Seat<J, K> {
+        keeper.seat(reader)
+    }
 
     fn share(
         self,

@@ -10,7 +10,7 @@ use road_time::{Limits, NoMemory};
 use serve_board::{
     BoardHistory, BoardNaming, NamedBoard, NamedHistory, NamedReader, NamedWriter, named_board,
 };
-use serve_desk::{Kept, Naming, Opened, Routes};
+use serve_desk::{Kept, Naming, Opened, Routes, Seat};
 use serve_top::{Acceptor, Acceptors, DeskCrew, MemListener, ServeEnd, serve};
 use std::alloc::Global;
 use std::marker::Brand;
@@ -40,12 +40,13 @@ fn listener_of(alloc: Global, links: u8) -> Result<MemListener, NoMemory>
     MemListener::new(alloc, all, &[])
 }
 
-/// An acceptor for each reader, each with such a listener.
-fn acceptors_of<J: BoardNaming>(
+/// An acceptor for each reader, at what the keeper is now, each with such a listener.
+fn acceptors_of<J: Naming + BoardNaming>(
     alloc: Global,
+    kept: &Kept<J, MemKeeper>,
     mut readers: Vec<NamedReader<J>>,
     links: u8,
-) -> Result<Acceptors<MemListener, NamedReader<J>>, NoMemory>
+) -> Result<Acceptors<MemListener, Seat<J, MemKeeper>>, NoMemory>
     ensures len { IfOk result (λ acceptors. length acceptors ≡ vec_len readers) }
     ensures unused { IfOk result (λ acceptors. All (λ acceptor. accepted_by acceptor.listener ≡ 0) acceptors) }
 {
@@ -53,7 +54,7 @@ fn acceptors_of<J: BoardNaming>(
     while let Some(reader) = readers.pop() {
         acceptors.push(Acceptor {
             listener: listener_of(alloc, links)?,
-            reader,
+            reader: kept.seat(reader),
             failed: true,
         })?;
     }
@@ -64,7 +65,8 @@ fn acceptors_of<J: BoardNaming>(
 fn serve_links<
     J: Naming + BoardNaming + Send + Sync,
     R: Threads + Wait + Drop + Copy + Send + Sync,
-    C: DeskCrew<Kept<J, MemKeeper>, NamedWriter<J, R>, J, R> + Drop,
+    C: DeskCrew<Kept<J, MemKeeper>, NamedWriter<J, R>, NamedReader<J>, Seat<J, MemKeeper>, R>
+        + Drop,
 >(
     rt: R,
     alloc: Global,
@@ -79,7 +81,7 @@ fn serve_links<
 {
     let routes = Routes::new(alloc)?;
     let NamedBoard { writer, readers } = named_board(rt, alloc, history, acceptors.clamp(1, 64))?;
-    let mut acceptors = acceptors_of(alloc, readers.into_vec(), links)?;
+    let mut acceptors = acceptors_of(alloc, &kept, readers.into_vec(), links)?;
     let desk = crew.share(rt, kept, writer, PLAN, Limits::DAY, routes);
     let end = serve(&rt, alloc, &mut acceptors, &desk, sessions);
     Ok((end, has_day(C::end(desk))))

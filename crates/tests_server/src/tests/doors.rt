@@ -1,13 +1,13 @@
 // Doors, the ears behind them, and acceptors of ears.
-ghost use Rattle.std.specs.Prelude.{◌≡◌, ◌∷◌, ◌+◌, ◌≤◌, ◌<◌, [], IfOk, IfSome, length};
+ghost use Rattle.std.specs.Prelude.{◌≡◌, ◌∷◌, ◌+◌, ◌≤◌, ◌<◌, [], IfOk, IfSome, map, length, vec_len, vec_capacity};
 ghost use Rattle.serve_loops.specs.MemListeners.{accepted_by, faults_of};
 ghost use Rattle.serve_top.specs.MemDoors.{accepted_at};
 
 use road_io::{Link, MemLink};
 use road_time::NoMemory;
 use serve_board::{Board, Readers, board};
-use serve_loops::{Listener, MemListener, Turn};
-use serve_top::{Door, DoorFault, Ear, Ears, MemDoor, TcpDoor, TcpEar, rise, seat};
+use serve_loops::{Acceptor, Acceptors, Listener, MemListener, Turn};
+use serve_top::{Door, DoorFault, Ear, Ears, MemDoor, TcpDoor, TcpEar, rise};
 use std::alloc::{AllocError, Global};
 use std::io;
 use std::io::{Read, Write};
@@ -70,6 +70,33 @@ fn count_next<N: Ear>(ear: &mut N) -> (u64, u64)
     (ear.accepted(), ear.faults())
 }
 
+/// An acceptor for each ear, with a reader of its own, in their order. There is to be room for them.
+fn seat_each<N: Drop, Q: Drop>(
+    room: Vec<Acceptor<N, Q>>,
+    ears: Ears<N>,
+    readers: Vec<Q>,
+) -> Acceptors<N, Q>
+    requires empty { room.items ≡ [] }
+    requires none { vec_len room ≡ 0 }
+    requires room { length ears ≤ vec_capacity room }
+    requires readers { vec_len readers ≡ length ears }
+    ensures { map (λ acceptor. acceptor.listener) result ≡ ears }
+{
+    let mut acceptors = room;
+    let mut readers = readers;
+    for listener in ears.into_vec() {
+        let Some(reader) = readers.pop() else {
+            unreachable!()
+        };
+        acceptors.push_reserved(Acceptor {
+            listener,
+            reader,
+            failed: false,
+        });
+    }
+    Acceptors::from_vec(acceptors)
+}
+
 /// Ears that sat in acceptors, and rose from them again.
 fn seated(
     alloc: Global,
@@ -82,7 +109,7 @@ fn seated(
 {
     let room = Vec::with_capacity(alloc, 1)?;
     let back = Vec::with_capacity(alloc, 1)?;
-    Ok(rise(back, seat(room, ears, readers.into_vec())))
+    Ok(rise(back, seat_each(room, ears, readers.into_vec())))
 }
 
 /// What an ear of a door counts after each of two calls, of which the second finds no connection.

@@ -4,7 +4,7 @@ use Rattle.serve_loops.proofs.running.+acceptors.Goals as goal
 
 pub run_beside-returns-clause-ran : goal.run_beside-returns-clause-ran
 run_beside-returns-clause-ran g t c =
-    ran_behind g.N.Listener.faults g.N.Listener.accepted _ _ _ _ _ _ _ _ _ _ _ _
+    ran_behind g.N.Listener.faults g.N.Listener.accepted g.H.Host.follows _ _ _ _ _ _ _ _ _ _ _ _
     c.put_behind.ensures.acceptors c.put_behind.ensures.drawn c.put_behind.ensures.ends
     c.join-last.ensures.second.0 c.join-last.ensures.first.0
 

@@ -13,5 +13,5 @@ returns-then-failed-clause-end g c =
 pub returns-then-failed-clause-cause : goal.returns-then-failed-clause-cause
 returns-then-failed-clause-cause g c = λ _.
     let failed : list_any (λ acceptor. acceptor.failed) c.from_vec.result ≡ true = search rules in
-    let served : AllZip (AcceptorServes g.N.Listener.faults) c.args.acceptors.now c.from_vec.result = search rules in
-    any_rose g.N.Listener.faults c.args.acceptors.now c.from_vec.result served failed
+    let served : AllZip (AcceptorServes g.N.Listener.faults g.H.Host.follows) c.args.acceptors.now c.from_vec.result = search rules in
+    any_rose g.N.Listener.faults g.H.Host.follows c.args.acceptors.now c.from_vec.result served failed

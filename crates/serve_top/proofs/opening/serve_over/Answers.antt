@@ -31,7 +31,7 @@ pub returns-clause-sound : goal.returns-clause-sound
 returns-clause-sound g c is =
     let n = g.N.Listener in
     ap (has_fault n.faults) c.rise.ensures
-    ∙ none_fails n.accepted n.faults c.seat-acceptors.result c.serve-end.new.acceptors
+    ∙ none_fails n.accepted n.faults g.C.Shared.Host.follows c.seat-acceptors.result c.serve-end.new.acceptors
     (subst (All (λ ear. (n.accepted ear ≡ 0) × (n.faults ear ≡ 0))) (sym c.seat-acceptors.ensures) c.requires.fresh)
     c.serve-end.ensures.acceptors (λ failed. cc (sym is ∙ c.serve-end.ensures.end.1 failed))
 
@@ -48,6 +48,6 @@ returns-clause-desk g c =
       served = subst (λ ears. AllZip (EarServed n.faults n.accepted turn) ears c.rise.result) c.seat-acceptors.ensures
           (subst (λ ears. AllZip (EarServed n.faults n.accepted turn) (map (λ acceptor. acceptor.listener) c.seat-acceptors.result)
           ears) (sym c.rise.ensures)
-          (ears_served n.faults n.accepted turn c.seat-acceptors.result c.serve-end.new.acceptors c.serve-end.ensures.acceptors
+          (ears_served n.faults n.accepted g.C.Shared.Host.follows turn c.seat-acceptors.result c.serve-end.new.acceptors c.serve-end.ensures.acceptors
           c.serve-end.ensures.turns));
     }

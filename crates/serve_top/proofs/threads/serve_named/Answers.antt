@@ -20,13 +20,13 @@ returns-clause-desk g c zero =
 -- the desk that loops share may move between threads: its type is an argument of the call
 pub serve_words-status-requires-send-C-Shared : goal.serve_words-status-requires-send-C-Shared
 serve_words-status-requires-send-C-Shared g c κs within =
-    param_send 9 _ (arg_send _ no _ (DeskMoves.the_send (param 1 g.row.J) _ (ThreadCrew.the_row (copied 3 g.row.R)
+    param_send 10 _ (arg_send _ no _ (DeskMoves.the_send (param 1 g.row.J) _ (ThreadCrew.the_row (copied 3 g.row.R)
     NoGate.the_row) (copied 3 g.row.R) Routes.the_row ThreadTicket.the_row unit _ _ _ _ c.type_bounds.send-K
     (crew_moves _ c.type_bounds.send-R) c.type_bounds.send-R routes_move))
 
 -- and they may share it
 pub serve_words-status-requires-sync-C-Shared : goal.serve_words-status-requires-sync-C-Shared
 serve_words-status-requires-sync-C-Shared g c κs within =
-    param_sync 9 _ (arg_sync _ no _ (DeskMoves.the_sync (param 1 g.row.J) _ (ThreadCrew.the_row (copied 3 g.row.R)
+    param_sync 10 _ (arg_sync _ no _ (DeskMoves.the_sync (param 1 g.row.J) _ (ThreadCrew.the_row (copied 3 g.row.R)
     NoGate.the_row) (copied 3 g.row.R) Routes.the_row ThreadTicket.the_row unit _ _ _ _ c.type_bounds.send-K
     (crew_moves _ c.type_bounds.send-R) c.type_bounds.send-R c.type_bounds.sync-R routes_are_shared))

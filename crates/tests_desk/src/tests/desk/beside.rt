@@ -6,7 +6,6 @@ use super::{answer_of, charged_on_leaving};
 use keep_office::MemKeeper;
 use road_io::MemLink;
 use road_time::NoMemory;
-use serve_board::{BoardNaming, NamedReader};
 use serve_desk::desk_moves;
 use serve_loops::Host;
 use std::alloc::Global;
@@ -29,14 +28,10 @@ const AMOUNT: &[u8] = b"GET /spent/100/0/100 HTTP/1.1\r\n\r\n";
 const ACCOUNT: &[u8] = b"GET /live/100 HTTP/1.1\r\n\r\n";
 
 /// Whether the day before is answered as kept, the day that is posted as not kept, and none of its amounts.
-fn answers_before<J: BoardNaming, H: Host<J>>(
-    alloc: Global,
-    host: &H,
-    reader: &mut NamedReader<J>,
-) -> Result<bool, NoMemory> {
-    let kept = ask(alloc, host, reader, KEPT_DAY)?;
-    let posted = ask(alloc, host, reader, POSTED_DAY)?;
-    let amount = ask(alloc, host, reader, AMOUNT)?;
+fn answers_before<Q, H: Host<Q>>(alloc: Global, host: &H, seat: &mut Q) -> Result<bool, NoMemory> {
+    let kept = ask(alloc, host, seat, KEPT_DAY)?;
+    let posted = ask(alloc, host, seat, POSTED_DAY)?;
+    let amount = ask(alloc, host, seat, AMOUNT)?;
     let no_day = answer_of(alloc, "404 Not Found", "{\"error\":\"no day\"}")?;
     let no_amount = answer_of(alloc, "200 OK", "{\"spent\":0}")?;
     Ok(
@@ -59,23 +54,23 @@ pub struct Beside {
 }
 
 /// Whether what was kept before a POST is answered, and an account at all.
-fn asks_before<J: BoardNaming, H: Host<J>>(
+fn asks_before<Q, H: Host<Q>>(
     alloc: Global,
     host: &H,
-    reader: &mut NamedReader<J>,
+    seat: &mut Q,
 ) -> Result<(bool, bool), NoMemory> {
-    let before = answers_before(alloc, host, reader)?;
-    let account = ask(alloc, host, reader, ACCOUNT)?;
+    let before = answers_before(alloc, host, seat)?;
+    let account = ask(alloc, host, seat, ACCOUNT)?;
     Ok((before, account.starts_with(b"HTTP/1.1 200 OK\r\n")))
 }
 
 /// Posts a day over a link that holds its body until what is kept was answered in another thread.
-pub fn post_beside<J: BoardNaming + Send + Sync, H: Host<J> + Sync, R: Threads + Wait + Sync>(
+pub fn post_beside<Q: Send, H: Host<Q> + Sync, R: Threads + Wait + Sync>(
     rt: &R,
     alloc: Global,
     host: &H,
-    first: &mut NamedReader<J>,
-    second: &mut NamedReader<J>,
+    first: &mut Q,
+    second: &mut Q,
 ) -> Result<Beside, NoMemory> {
     ask(alloc, host, second, EMPTY_DAY_BEFORE)?;
     let request = charged_on_leaving(alloc)?;

@@ -6,7 +6,6 @@ use super::held::{SlowLink, sees};
 use super::sharing::{Came, Doing, Done, share_new};
 use road_io::MemLink;
 use road_time::NoMemory;
-use serve_board::{BoardNaming, NamedReader};
 use serve_loops::Host;
 use std::alloc::Global;
 use std::sync::Wait;
@@ -32,12 +31,12 @@ pub struct Behind {
 
 /// Posts a passed day over a link that holds a read of its body, or its answer, until the next day was posted in
 /// another thread.
-pub fn post_behind<J: BoardNaming + Send + Sync, H: Host<J> + Sync, R: Threads + Wait + Sync>(
+pub fn post_behind<Q: Send, H: Host<Q> + Sync, R: Threads + Wait + Sync>(
     rt: &R,
     alloc: Global,
     host: &H,
-    first: &mut NamedReader<J>,
-    second: &mut NamedReader<J>,
+    first: &mut Q,
+    second: &mut Q,
     writes: bool,
 ) -> Result<Behind, NoMemory> {
     ask(alloc, host, second, EMPTY_DAY_BEFORE)?;

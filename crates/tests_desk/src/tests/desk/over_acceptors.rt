@@ -8,7 +8,6 @@ use super::streaming::{STREAMED, charged_day, is_stream, request_of};
 use super::{EMPTY_DAY, answer_of, charged_on_leaving};
 use road_io::{BothWays, MemLink, MemSink};
 use road_time::NoMemory;
-use serve_board::{BoardNaming, NamedReader};
 use serve_loops::{Host, NoTurn};
 use std::alloc::Global;
 use std::sync::Wait;
@@ -36,17 +35,17 @@ pub enum Asking<'a> {
 }
 
 /// Whether a host answers what is asked after two days as it is to be, once both were posted.
-fn answers_two_days<J: BoardNaming, H: Host<J>>(
+fn answers_two_days<Q, H: Host<Q>>(
     alloc: Global,
     host: &H,
-    reader: &mut NamedReader<J>,
+    seat: &mut Q,
 ) -> Result<bool, NoMemory> {
     let first = charged_on_leaving(alloc)?;
-    told(alloc, host, reader, first.as_slice(), 100)?;
+    told(alloc, host, seat, first.as_slice(), 100)?;
     let second = charged_on_five(alloc)?;
-    told(alloc, host, reader, second.as_slice(), 100)?;
+    told(alloc, host, seat, second.as_slice(), 100)?;
     for row in AFTER_TWO_DAYS {
-        let written = told(alloc, host, reader, row.request, 100)?;
+        let written = told(alloc, host, seat, row.request, 100)?;
         let wanted = answer_of(alloc, row.status, row.body)?;
         if written.as_slice() != wanted.as_bytes() {
             return Ok(false);
@@ -56,26 +55,26 @@ fn answers_two_days<J: BoardNaming, H: Host<J>>(
 }
 
 /// Whether a host answers a request, which comes in pieces, with this status and this body.
-fn answers_so<J: BoardNaming, H: Host<J>>(
+fn answers_so<Q, H: Host<Q>>(
     alloc: Global,
     host: &H,
-    reader: &mut NamedReader<J>,
+    seat: &mut Q,
     request: &[u8],
     piece: usize,
     status: &str,
     body: &str,
 ) -> Result<bool, NoMemory> {
-    let written = told(alloc, host, reader, request, piece)?;
+    let written = told(alloc, host, seat, request, piece)?;
     let wanted = answer_of(alloc, status, body)?;
     Ok(written.as_slice() == wanted.as_bytes())
 }
 
 /// Whether a host writes this behind the head of a stream on a connection whose bytes go out apart from it, and keeps
 /// no day.
-fn streams<J: BoardNaming, H: Host<J>>(
+fn streams<Q, H: Host<Q>>(
     alloc: Global,
     host: &H,
-    reader: &mut NamedReader<J>,
+    seat: &mut Q,
     request: &[u8],
     piece: usize,
     sent: &[u8],
@@ -83,48 +82,48 @@ fn streams<J: BoardNaming, H: Host<J>>(
     let input = MemLink::new(alloc, request, piece.max(1), 0, &[])?;
     let output = MemSink::new(alloc, 10_000, piece.max(1))?;
     let mut link = BothWays::new(input, output);
-    host.attend(alloc, &mut link, &mut NoTurn, reader);
+    host.attend(alloc, &mut link, &mut NoTurn, seat);
     let day = b"GET /days/100 HTTP/1.1\r\n\r\n";
     let body = "{\"error\":\"no day\"}";
-    let none = answers_so(alloc, host, reader, day, 100, "404 Not Found", body)?;
+    let none = answers_so(alloc, host, seat, day, 100, "404 Not Found", body)?;
     Ok(none && is_stream(link.bytes(), sent))
 }
 
 /// Whether a host answers what is asked as it is to be.
-pub fn answers<J: BoardNaming, H: Host<J>>(
+pub fn answers<Q, H: Host<Q>>(
     alloc: Global,
     host: &H,
-    reader: &mut NamedReader<J>,
+    seat: &mut Q,
     asking: Asking<'_>,
 ) -> Result<bool, NoMemory> {
     match asking {
-        Asking::TwoDays => answers_two_days(alloc, host, reader),
+        Asking::TwoDays => answers_two_days(alloc, host, seat),
         Asking::Fault(request) => {
             let status = "503 Service Unavailable";
             let body = "{\"error\":\"keeper\"}";
-            answers_so(alloc, host, reader, request, 100, status, body)
+            answers_so(alloc, host, seat, request, 100, status, body)
         }
         Asking::Account => {
             let account = b"GET /live/100 HTTP/1.1\r\n\r\n";
             let body = "{\"as_of\":0,\"balance\":0,\"day\":0}";
-            answers_so(alloc, host, reader, account, 7, "200 OK", body)
+            answers_so(alloc, host, seat, account, 7, "200 OK", body)
         }
         Asking::LongDay => {
             let request = long_post(alloc)?;
             let long = request.as_slice();
-            answers_so(alloc, host, reader, long, 10_000, "200 OK", LONG_DAY)
+            answers_so(alloc, host, seat, long, 10_000, "200 OK", LONG_DAY)
         }
         Asking::Notices {
             request,
             piece,
             sent,
-        } => streams(alloc, host, reader, request, piece, sent),
+        } => streams(alloc, host, seat, request, piece, sent),
         Asking::NoHandle => {
             let request = request_of(alloc, b"", 0)?;
             let empty = request.as_slice();
             let status = "500 Internal Server Error";
             let body = "{\"error\":\"memory\"}";
-            answers_so(alloc, host, reader, empty, 100, status, body)
+            answers_so(alloc, host, seat, empty, 100, status, body)
         }
     }
 }

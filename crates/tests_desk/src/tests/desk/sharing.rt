@@ -11,7 +11,7 @@ use road_time::{Limits, NoMemory};
 use serve_board::{
     BoardHistory, BoardNaming, NamedBoard, NamedHistory, NamedReader, NamedWriter, named_board,
 };
-use serve_desk::{Kept, Naming, Opened, Routes};
+use serve_desk::{Kept, Naming, Opened, Routes, Seat};
 use serve_loops::Host;
 use serve_top::DeskCrew;
 use std::alloc::Global;
@@ -64,12 +64,12 @@ fn callers(doing: &Doing<'_>) -> u8
 }
 
 /// Does it, with two callers.
-fn does_beside<J: BoardNaming + Send + Sync, H: Host<J> + Sync, R: Threads + Wait + Sync>(
+fn does_beside<Q: Drop + Send, H: Host<Q> + Sync, R: Threads + Wait + Sync>(
     rt: &R,
     alloc: Global,
     host: &H,
-    first: &mut NamedReader<J>,
-    second: &mut NamedReader<J>,
+    first: &mut Q,
+    second: &mut Q,
     doing: Doing<'_>,
 ) -> Result<Done, NoMemory> {
     match doing {
@@ -82,14 +82,14 @@ fn does_beside<J: BoardNaming + Send + Sync, H: Host<J> + Sync, R: Threads + Wai
 }
 
 /// Does it, with as many callers as it takes.
-fn does<J: BoardNaming + Send + Sync, H: Host<J> + Sync, R: Threads + Wait + Sync>(
+fn does<Q: Drop + Send, H: Host<Q> + Sync, R: Threads + Wait + Sync>(
     rt: &R,
     alloc: Global,
     host: &H,
-    readers: &mut Vec<NamedReader<J>>,
+    seats: &mut Vec<Q>,
     doing: Doing<'_>,
 ) -> Result<Done, NoMemory> {
-    match (readers.pop(), readers.pop()) {
+    match (seats.pop(), seats.pop()) {
         (Some(mut first), Some(mut second)) => {
             does_beside(rt, alloc, host, &mut first, &mut second, doing)
         }
@@ -102,11 +102,25 @@ fn does<J: BoardNaming + Send + Sync, H: Host<J> + Sync, R: Threads + Wait + Syn
     }
 }
 
+/// A seat for each reader, at what the keeper is now.
+fn seats_of<J: Naming + BoardNaming>(
+    alloc: Global,
+    kept: &Kept<J, MemKeeper>,
+    mut readers: Vec<NamedReader<J>>,
+) -> Result<Vec<Seat<J, MemKeeper>>, NoMemory> {
+    let mut seats = Vec::new(alloc);
+    while let Some(reader) = readers.pop() {
+        seats.push(kept.seat(reader))?;
+    }
+    Ok(seats)
+}
+
 /// What comes of it at a new desk of a crew.
 fn share_for<
     J: Naming + BoardNaming + Send + Sync,
     R: Threads + Wait + Drop + Copy + Send + Sync,
-    C: DeskCrew<Kept<J, MemKeeper>, NamedWriter<J, R>, J, R> + Drop,
+    C: DeskCrew<Kept<J, MemKeeper>, NamedWriter<J, R>, NamedReader<J>, Seat<J, MemKeeper>, R>
+        + Drop,
 >(
     rt: R,
     alloc: Global,
@@ -119,9 +133,9 @@ fn share_for<
 {
     let routes = Routes::new(alloc)?;
     let NamedBoard { writer, readers } = named_board(rt, alloc, history, callers(&doing))?;
-    let mut readers = readers.into_vec();
+    let mut seats = seats_of(alloc, &kept, readers.into_vec())?;
     let desk = crew.share(rt, kept, writer, PLAN, Limits::DAY, routes);
-    let done = does(&rt, alloc, &desk, &mut readers, doing);
+    let done = does(&rt, alloc, &desk, &mut seats, doing);
     let mut keeper = C::end(desk).into_keeper();
     let kept = matches!(keeper.day(100), Ok(Some(_)));
     Ok(Came { done: done?, kept })

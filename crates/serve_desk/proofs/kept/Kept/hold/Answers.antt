@@ -14,6 +14,8 @@ invariant_of-result g c =
     ap (λ log. told_at told log a.result.count) a.ensures.log ∙ ap (λ n. told_at told k.place.seen.log n) a.ensures.count
     in
     record {
+      begun = λ n is. absurd (cc is);
+      next = λ n is. absurd (cc is);
       sound = sound_of (told_at told a.result.seen.log a.result.count)
           (subst SoundIfTold (sym same)
           (sound_in here (told k.keeper) k.settled k.told_is k.sound c.read_last_day-looked.ensures.sound));

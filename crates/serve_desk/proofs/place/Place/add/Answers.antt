@@ -5,7 +5,7 @@ use Rattle.serve_desk.proofs.place.Place.add.Goals as goal
 
 pub compare_exchange-found-requires : goal.compare_exchange-found-requires
 compare_exchange-found-requires g c =
-    let h : c.args.head.now ≡ head_of g.J.Naming.book = c.requires in
+    let h : c.args.head.now ≡ head_of g.J.Naming.book = c.requires.head in
     let again = c.again-seen.ensures in
     let offer = c.plain-offer.ensures in
     let pen = c.no_pen-pen.ensures in

@@ -1,4 +1,4 @@
-use Rattle.serve_loops.proofs.acceptor_loop.Acceptor+N+NamedReader+J.turn.Goals as goal
+use Rattle.serve_loops.proofs.acceptor.Acceptor.turn.Goals as goal
 
 pub returns-in-Ok-clause-turns : goal.returns-in-Ok-clause-turns
 returns-in-Ok-clause-turns g c = λ _.
