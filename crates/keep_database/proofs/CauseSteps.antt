@@ -1,5 +1,6 @@
 -- What a failure of the second of two steps says of both.
-use Rattle.std.proofs.Common.{ℕ, ◌≡◌, ◌⊎◌, inl, inr, List, Option, Some, None, Err, Ok, Result, IfErr, OnErr, IsErrAnd}
+use Rattle.std.proofs.Common.{ℕ, ◌≡◌, ◌≢◌, ◌⊎◌, refl, inl, inr, List, Option, Some, None, Err, Ok, Result}
+use Rattle.std.proofs.Common.{IfErr, OnErr, IsErrAnd}
 use Rattle.sqlite_trees.specs.declared.store.Store.{Ghosts}
 use Rattle.sqlite.specs.declared.error.Error.{Error}
 use Rattle.sqlite.specs.Held.{Held, state}
@@ -50,14 +51,27 @@ pub on_err : {T E : Type 0} (r : Result T E) (P : Type 0) → P → OnErr r P
 on_err (Ok x) P p = tt
 on_err (Err e) P p = p
 
--- an error that the second of two steps tells is told of both
+-- what follows of what holds where a call went wrong
+pub on_else : {T E : Type 0} (r : Result T E) (P Q : Type 0) → OnErr r P → (P → Q) → OnErr r Q
+on_else (Ok x) P Q p f = tt
+on_else (Err e) P Q p f = f p
+
+-- a refusal that is not for want of memory is a failure, and what follows of it holds
+pub failed_else : {T : Type 0} (r : Result T KeepFault) (R : KeepFault → Type 0) (P Q : Type 0) →
+    r ≢ Err NoMemory → OnErr r P → (P → Q) → IfErr r (λ f. R f ⊎ ((f ≡ Failed) × Q))
+failed_else (Ok x) R P Q pure p f = tt
+failed_else (Err Failed) R P Q pure p f = inr (refl, f p)
+failed_else (Err NoMemory) R P Q pure p f = absurd (pure refl)
+
+-- an error that the second of two steps tells is told of both, with what its fault says of it; or something else holds
 pub told_after : {S T : Type 0} (g : Ghosts S) (W : List ℕ → Row → Type 0) (old mid new : Held S) →
     KeepsCommit (state g old) (state g mid) → Survives (state g old) (state g mid) (λ _. ⊥) → (r : Result T KeepFault)
-    (before why : Option Error) → OnErr r (IsTold g W mid new why) → OnErr r ((why ≡ before) ⊎ IsTold g W old new why)
-told_after g W old mid new kept survives (Ok x) before why h = tt
-told_after g W old mid new kept survives (Err f) before None h = absurd h
-told_after g W old mid new kept survives (Err f) before (Some e) h =
-    inr (refused_after g old mid new e kept survives h)
+    (P Q : KeepFault → Type 0) (why : Option Error) → OnErr r (IsTold g W mid new why) → IfErr r Q →
+    IfErr r (λ f. P f ⊎ (IsTold g W old new why × Q f))
+told_after g W old mid new kept survives (Ok x) P Q why h q = tt
+told_after g W old mid new kept survives (Err f) P Q None h q = absurd h
+told_after g W old mid new kept survives (Err f) P Q (Some e) h q =
+    inr (refused_after g old mid new e kept survives h, q)
 
 module _ {S : Type 0} (g : Ghosts S) (old new : Held S) where
   -- want of memory that has its cause

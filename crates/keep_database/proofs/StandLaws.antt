@@ -4,6 +4,7 @@ use Rattle.std.proofs.Common.{IfOk, sym, ap, subst, ◌∙◌, arith}
 use Rattle.sqlite_value.specs.declared.value.Value.TheVariants.{Int}
 use Rattle.sqlite_value.specs.Order.{Row}
 use Rattle.sqlite_trees.specs.declared.store.Store.{Ghosts}
+use Rattle.sqlite_trees.specs.Tree.{Trees}
 use Rattle.sqlite_schema.specs.declared.schema.Schema.{Schema}
 use Rattle.sqlite_resolve.specs.declared.compiled.Compiled.{Compiled}
 use Rattle.sqlite_resolve.specs.declared.error.CompileError.{CompileError}
@@ -23,7 +24,7 @@ use Rattle.keep_tables.specs.Steps.{CommitsFor}
 use Rattle.keep_tables.proofs.MigrationLaws.{version_shown}
 use Rattle.keep_tables.proofs.QueryLaws.{no_version, no_old_version}
 use Rattle.keep_database.specs.Gives.{GivesUnless, Gives}
-use Rattle.keep_database.specs.Looks.{ShowsCommitted, CommitsFrom}
+use Rattle.keep_database.specs.Looks.{ShowsCommitted, ShowsSecond, HasSecond, CommitsFrom}
 
 -- a query that is not understood shows nothing
 unshown : (schema : Schema) (sql : List _) (params : Row) (old new : State) (rows : List Row) →
@@ -79,6 +80,17 @@ put_lasts old mid new fits next there kept first last =
     let early : HasCleanDisk mid = omega (arith, last.clean) in
     let h = there early o stands in
     made o (subst (λ (d : Database). HasOffice d o) (sym ((kept early).committed h.0)) h.1) fit) first last
+
+-- a crash of a put leaves something else only where version 2 was shown before it
+pub spared_after : {S : Type 0} (g : Ghosts S) (old mid new : Held S) (Q : Trees → Type 0) →
+    (HasCleanDisk (state g mid) → ShowsSecond g old mid) → Survives (state g old) (state g mid) (λ _. ⊥) →
+    Survives (state g mid) (state g new) Q → Survives (state g old) (state g new) (λ _. HasSecond g old)
+spared_after g old mid new Q shows first last =
+    survives_then (state g old) (state g mid) (state g new) (λ _. ⊥) Q (λ _. HasSecond g old)
+    (λ _ db none. absurd none)
+    (λ clean db made.
+    let early : HasCleanDisk (state g mid) = omega (arith, last.clean) in
+    record { now = mid; shows = shows early }) first last
 
 -- what is given without a failure is the answer
 pub ok_gives : {T X : Type 0} (R : Type 0) (see : T → X) (r : Result T KeepFault) (x : X) → GivesUnless R see r x →

@@ -70,6 +70,16 @@ pub either_stands : {T E : Type 0} (r : Result T E) (db : Database) (o : Office)
 either_stands (Ok x) db o h = inr (inr h.0)
 either_stands (Err e) db o h = h.1
 
+-- what holds of a call that is done
+pub done_has : {T E : Type 0} (r : Result T E) (P : Type 0) → IsOk r → OnOk r P → P
+done_has (Ok x) P done h = h
+done_has (Err e) P done h = absurd (cc)
+
+-- what holds of a call that is refused
+pub undone_has : {T E : Type 0} (r : Result T E) (P : Type 0) → ¬ IsOk r → OnErr r P → P
+undone_has (Ok x) P wrong h = absurd (wrong refl)
+undone_has (Err e) P wrong h = h
+
 -- a call that is done has what it has then
 pub made_has : {T E : Type 0} (r : Result T E) (P Q : Type 0) → IsOk r → OnOk r P × OnErr r Q → P
 made_has (Ok x) P Q done h = h.0

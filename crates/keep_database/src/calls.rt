@@ -10,10 +10,11 @@ ghost use Rattle.keep_office.specs.Kept.{IsDayPut, IsPastPut, IsLater, HasNoDays
 ghost use Rattle.keep_office.specs.declared.kept.KeepFault.TheVariants.{NoMemory};
 ghost use Rattle.keep_tables.specs.Stands.{HasOffice, StandsForOffice};
 ghost use Rattle.keep_tables.specs.Steps.{FitsAny};
-ghost use Rattle.keep_writes.specs.Causes.{WasRefusedIn, HasCauseOf, LackedMemory, IsTold};
+ghost use Rattle.keep_writes.specs.Causes.{WasRefusedIn, HasCauseOf, LackedMemory};
+ghost use Rattle.keep_writes.specs.Runs.{CommitsRun};
 ghost use Rattle.keep_writes.specs.Writes.{WritesDay, WritesPast, WritesTariff};
 ghost use Rattle.keep_database.specs.Gives.{GivesUnless, WantsMemory};
-ghost use Rattle.keep_database.specs.Looks.{CommitsFrom, HasSecond, IsSealed};
+ghost use Rattle.keep_database.specs.Looks.{CommitsFrom, HasSecond, IsSealed, TellsRefusal};
 
 use crate::reads;
 use crate::versions::ready;
@@ -188,8 +189,14 @@ pub fn put_day<S: Alter>(
     ensures why { HasCleanDisk (state S.Store conn.new) → (o : Office)
         → StandsForOffice (state S.Store conn.old).committed o
         → IfErr result (HasCauseOf S.Store (WritesDay kept.now rows.now) conn.old conn.new) }
+    ensures wrote { HasCleanDisk (state S.Store conn.new)
+        → OnOk result (CommitsRun S.Store (WritesDay kept.now rows.now) conn.old conn.new) }
     ensures told { HasCleanDisk (state S.Store conn.new)
-        → OnErr result ((why.new ≡ why.old) ⊎ IsTold S.Store (WritesDay kept.now rows.now) conn.old conn.new why.new) }
+        → IfErr result (λ fault. TellsRefusal S.Store (WritesDay kept.now rows.now) conn.old conn.new fault
+        why.old why.new) }
+    ensures refused { HasCleanDisk (state S.Store conn.new)
+        → OnErr result (KeepsCommit (state S.Store conn.old) (state S.Store conn.new)) }
+    ensures spares { Survives (state S.Store conn.old) (state S.Store conn.new) (λ _. HasSecond S.Store conn.old) }
     ensures quiet { OnOk result (why.new ≡ why.old) }
     ensures crash { Survives (state S.Store conn.old) (state S.Store conn.new) (CommitsFrom (IsLater kept.now.day)
         (with_day kept.now rows.now) (state S.Store conn.old).committed) }
@@ -215,8 +222,14 @@ pub fn put_past<S: Alter>(
     ensures why { HasCleanDisk (state S.Store conn.new) → (o : Office)
         → StandsForOffice (state S.Store conn.old).committed o
         → IfErr result (HasCauseOf S.Store (WritesPast kept.now rows.now) conn.old conn.new) }
+    ensures wrote { HasCleanDisk (state S.Store conn.new)
+        → OnOk result (CommitsRun S.Store (WritesPast kept.now rows.now) conn.old conn.new) }
     ensures told { HasCleanDisk (state S.Store conn.new)
-        → OnErr result ((why.new ≡ why.old) ⊎ IsTold S.Store (WritesPast kept.now rows.now) conn.old conn.new why.new) }
+        → IfErr result (λ fault. TellsRefusal S.Store (WritesPast kept.now rows.now) conn.old conn.new fault
+        why.old why.new) }
+    ensures refused { HasCleanDisk (state S.Store conn.new)
+        → OnErr result (KeepsCommit (state S.Store conn.old) (state S.Store conn.new)) }
+    ensures spares { Survives (state S.Store conn.old) (state S.Store conn.new) (λ _. HasSecond S.Store conn.old) }
     ensures quiet { OnOk result (why.new ≡ why.old) }
     ensures crash { Survives (state S.Store conn.old) (state S.Store conn.new) (CommitsFrom HasNoDays
         (with_past kept.now rows.now) (state S.Store conn.old).committed) }
@@ -242,8 +255,14 @@ pub fn put_tariff<S: Alter>(
     ensures why { HasCleanDisk (state S.Store conn.new) → (o : Office)
         → StandsForOffice (state S.Store conn.old).committed o
         → IfErr result (HasCauseOf S.Store (WritesTariff xway tariff.now) conn.old conn.new) }
+    ensures wrote { HasCleanDisk (state S.Store conn.new)
+        → OnOk result (CommitsRun S.Store (WritesTariff xway tariff.now) conn.old conn.new) }
     ensures told { HasCleanDisk (state S.Store conn.new)
-        → OnErr result ((why.new ≡ why.old) ⊎ IsTold S.Store (WritesTariff xway tariff.now) conn.old conn.new why.new) }
+        → IfErr result (λ fault. TellsRefusal S.Store (WritesTariff xway tariff.now) conn.old conn.new fault
+        why.old why.new) }
+    ensures refused { HasCleanDisk (state S.Store conn.new)
+        → OnErr result (KeepsCommit (state S.Store conn.old) (state S.Store conn.new)) }
+    ensures spares { Survives (state S.Store conn.old) (state S.Store conn.new) (λ _. HasSecond S.Store conn.old) }
     ensures quiet { OnOk result (why.new ≡ why.old) }
     ensures crash { Survives (state S.Store conn.old) (state S.Store conn.new) (CommitsFrom FitsAny
         (with_tariff_of xway tariff.now) (state S.Store conn.old).committed) }

@@ -12,11 +12,12 @@ ghost use Rattle.keep_office.specs.declared.kept.KeepFault.TheVariants.{Failed, 
 ghost use Rattle.keep_tables.specs.Stands.{HasOffice, StandsForOffice, StandsForNone};
 ghost use Rattle.keep_tables.specs.Steps.{FitsAny};
 ghost use Rattle.keep_tables.specs.Told.{told_in};
-ghost use Rattle.keep_writes.specs.Causes.{WasRefused, WasRefusedIn, HasCauseOf, LackedMemory, IsTold};
+ghost use Rattle.keep_writes.specs.Causes.{WasRefused, WasRefusedIn, HasCauseOf, LackedMemory};
+ghost use Rattle.keep_writes.specs.Runs.{CommitsRun};
 ghost use Rattle.keep_writes.specs.Writes.{WritesDay, WritesPast, WritesTariff};
 ghost use Rattle.keep_writes.specs.Counts.{faults_after};
 ghost use Rattle.keep_database.specs.Gives.{GivesUnless, WantsMemory};
-ghost use Rattle.keep_database.specs.Looks.{CommitsFrom, HasSecond, IsSealed};
+ghost use Rattle.keep_database.specs.Looks.{CommitsFrom, HasSecond, IsSealed, TellsRefusal};
 
 use crate::calls;
 use crate::proved::ProvedKeeper;
@@ -64,6 +65,8 @@ impl<S: Steady> Keeper for ProvedKeeper<S> {
         ensures why { HasCleanDisk (state S.Store self.new.conn) → (o : Office)
             → StandsForOffice (state S.Store self.old.conn).committed o → result ≡ Err Failed
             → WasRefusedIn S.Store self.old.conn self.new.conn }
+        ensures quiet { self.new.refused ≡ self.old.refused }
+        ensures made { self.new.unmade ≡ self.old.unmade }
         ensures crash { Survives (state S.Store self.old.conn) (state S.Store self.new.conn) (λ _. ⊥) }
     {
         let answer = calls::last_day(&mut self.conn);
@@ -95,6 +98,8 @@ impl<S: Steady> Keeper for ProvedKeeper<S> {
         ensures why { HasCleanDisk (state S.Store self.new.conn) → (o : Office)
             → StandsForOffice (state S.Store self.old.conn).committed o → result ≡ Err Failed
             → WasRefusedIn S.Store self.old.conn self.new.conn }
+        ensures quiet { self.new.refused ≡ self.old.refused }
+        ensures made { self.new.unmade ≡ self.old.unmade }
         ensures crash { Survives (state S.Store self.old.conn) (state S.Store self.new.conn) (λ _. ⊥) }
     {
         let answer = calls::day(&mut self.conn, day);
@@ -124,6 +129,8 @@ impl<S: Steady> Keeper for ProvedKeeper<S> {
         ensures why { HasCleanDisk (state S.Store self.new.conn) → (o : Office)
             → StandsForOffice (state S.Store self.old.conn).committed o → result ≡ Err Failed
             → WasRefusedIn S.Store self.old.conn self.new.conn }
+        ensures quiet { self.new.refused ≡ self.old.refused }
+        ensures made { self.new.unmade ≡ self.old.unmade }
         ensures crash { Survives (state S.Store self.old.conn) (state S.Store self.new.conn) (λ _. ⊥) }
     {
         let answer = calls::past(&mut self.conn);
@@ -153,6 +160,8 @@ impl<S: Steady> Keeper for ProvedKeeper<S> {
         ensures memory { HasCleanDisk (state S.Store self.new.conn) → (o : Office)
             → StandsForOffice (state S.Store self.old.conn).committed o → result ≡ Err NoMemory
             → LackedMemory S.Store self.old.conn self.new.conn }
+        ensures quiet { self.new.refused ≡ self.old.refused }
+        ensures made { self.new.unmade ≡ self.old.unmade }
         ensures crash { Survives (state S.Store self.old.conn) (state S.Store self.new.conn) (λ _. ⊥) }
     {
         let answer = calls::spent(&mut self.conn, day, vid, xway);
@@ -183,6 +192,8 @@ impl<S: Steady> Keeper for ProvedKeeper<S> {
         ensures why { HasCleanDisk (state S.Store self.new.conn) → (o : Office)
             → StandsForOffice (state S.Store self.old.conn).committed o → result ≡ Err Failed
             → WasRefusedIn S.Store self.old.conn self.new.conn }
+        ensures quiet { self.new.refused ≡ self.old.refused }
+        ensures made { self.new.unmade ≡ self.old.unmade }
         ensures crash { Survives (state S.Store self.old.conn) (state S.Store self.new.conn) (λ _. ⊥) }
     {
         let answer = calls::rows(&mut self.conn, self.alloc, from, to);
@@ -213,6 +224,8 @@ impl<S: Steady> Keeper for ProvedKeeper<S> {
         ensures why { HasCleanDisk (state S.Store self.new.conn) → (o : Office)
             → StandsForOffice (state S.Store self.old.conn).committed o → result ≡ Err Failed
             → WasRefusedIn S.Store self.old.conn self.new.conn }
+        ensures quiet { self.new.refused ≡ self.old.refused }
+        ensures made { self.new.unmade ≡ self.old.unmade }
         ensures crash { Survives (state S.Store self.old.conn) (state S.Store self.new.conn) (λ _. ⊥) }
     {
         let answer = calls::vehicle_rows(&mut self.conn, self.alloc, vid, from, to);
@@ -242,6 +255,8 @@ impl<S: Steady> Keeper for ProvedKeeper<S> {
         ensures why { HasCleanDisk (state S.Store self.new.conn) → (o : Office)
             → StandsForOffice (state S.Store self.old.conn).committed o → result ≡ Err Failed
             → WasRefusedIn S.Store self.old.conn self.new.conn }
+        ensures quiet { self.new.refused ≡ self.old.refused }
+        ensures made { self.new.unmade ≡ self.old.unmade }
         ensures crash { Survives (state S.Store self.old.conn) (state S.Store self.new.conn) (λ _. ⊥) }
     {
         let answer = calls::tariffs(&mut self.conn, self.alloc);
@@ -274,10 +289,17 @@ impl<S: Steady> Keeper for ProvedKeeper<S> {
             → IfErr result (HasCauseOf S.Store (WritesDay kept.now rows.now) self.old.conn self.new.conn) }
         ensures because { HasCleanDisk (state S.Store self.new.conn) → (o : Office)
             → StandsForOffice (state S.Store self.old.conn).committed o → result ≡ Err Failed → WasRefused S.Store }
-        ensures told { HasCleanDisk (state S.Store self.new.conn) → OnErr result
-            ((self.new.refused ≡ self.old.refused)
-            ⊎ IsTold S.Store (WritesDay kept.now rows.now) self.old.conn self.new.conn self.new.refused) }
+        ensures wrote { HasCleanDisk (state S.Store self.new.conn)
+            → OnOk result (CommitsRun S.Store (WritesDay kept.now rows.now) self.old.conn self.new.conn) }
+        ensures told { HasCleanDisk (state S.Store self.new.conn)
+            → IfErr result (λ fault. TellsRefusal S.Store (WritesDay kept.now rows.now) self.old.conn
+            self.new.conn fault self.old.refused self.new.refused) }
+        ensures refused { HasCleanDisk (state S.Store self.new.conn)
+            → OnErr result (KeepsCommit (state S.Store self.old.conn) (state S.Store self.new.conn)) }
+        ensures spares { Survives (state S.Store self.old.conn) (state S.Store self.new.conn) (λ _. HasSecond S.Store
+            self.old.conn) }
         ensures quiet { OnOk result (self.new.refused ≡ self.old.refused) }
+        ensures made { self.new.unmade ≡ self.old.unmade }
         ensures crash { Survives (state S.Store self.old.conn) (state S.Store self.new.conn) (CommitsFrom
             (IsLater kept.now.day) (with_day kept.now rows.now) (state S.Store self.old.conn).committed) }
     {
@@ -310,10 +332,17 @@ impl<S: Steady> Keeper for ProvedKeeper<S> {
             → IfErr result (HasCauseOf S.Store (WritesPast kept.now rows.now) self.old.conn self.new.conn) }
         ensures because { HasCleanDisk (state S.Store self.new.conn) → (o : Office)
             → StandsForOffice (state S.Store self.old.conn).committed o → result ≡ Err Failed → WasRefused S.Store }
-        ensures told { HasCleanDisk (state S.Store self.new.conn) → OnErr result
-            ((self.new.refused ≡ self.old.refused)
-            ⊎ IsTold S.Store (WritesPast kept.now rows.now) self.old.conn self.new.conn self.new.refused) }
+        ensures wrote { HasCleanDisk (state S.Store self.new.conn)
+            → OnOk result (CommitsRun S.Store (WritesPast kept.now rows.now) self.old.conn self.new.conn) }
+        ensures told { HasCleanDisk (state S.Store self.new.conn)
+            → IfErr result (λ fault. TellsRefusal S.Store (WritesPast kept.now rows.now) self.old.conn
+            self.new.conn fault self.old.refused self.new.refused) }
+        ensures refused { HasCleanDisk (state S.Store self.new.conn)
+            → OnErr result (KeepsCommit (state S.Store self.old.conn) (state S.Store self.new.conn)) }
+        ensures spares { Survives (state S.Store self.old.conn) (state S.Store self.new.conn) (λ _. HasSecond S.Store
+            self.old.conn) }
         ensures quiet { OnOk result (self.new.refused ≡ self.old.refused) }
+        ensures made { self.new.unmade ≡ self.old.unmade }
         ensures crash { Survives (state S.Store self.old.conn) (state S.Store self.new.conn) (CommitsFrom HasNoDays
             (with_past kept.now rows.now) (state S.Store self.old.conn).committed) }
     {
@@ -346,10 +375,17 @@ impl<S: Steady> Keeper for ProvedKeeper<S> {
             → IfErr result (HasCauseOf S.Store (WritesTariff xway tariff.now) self.old.conn self.new.conn) }
         ensures because { HasCleanDisk (state S.Store self.new.conn) → (o : Office)
             → StandsForOffice (state S.Store self.old.conn).committed o → result ≡ Err Failed → WasRefused S.Store }
-        ensures told { HasCleanDisk (state S.Store self.new.conn) → OnErr result
-            ((self.new.refused ≡ self.old.refused)
-            ⊎ IsTold S.Store (WritesTariff xway tariff.now) self.old.conn self.new.conn self.new.refused) }
+        ensures wrote { HasCleanDisk (state S.Store self.new.conn)
+            → OnOk result (CommitsRun S.Store (WritesTariff xway tariff.now) self.old.conn self.new.conn) }
+        ensures told { HasCleanDisk (state S.Store self.new.conn)
+            → IfErr result (λ fault. TellsRefusal S.Store (WritesTariff xway tariff.now) self.old.conn
+            self.new.conn fault self.old.refused self.new.refused) }
+        ensures refused { HasCleanDisk (state S.Store self.new.conn)
+            → OnErr result (KeepsCommit (state S.Store self.old.conn) (state S.Store self.new.conn)) }
+        ensures spares { Survives (state S.Store self.old.conn) (state S.Store self.new.conn) (λ _. HasSecond S.Store
+            self.old.conn) }
         ensures quiet { OnOk result (self.new.refused ≡ self.old.refused) }
+        ensures made { self.new.unmade ≡ self.old.unmade }
         ensures crash { Survives (state S.Store self.old.conn) (state S.Store self.new.conn) (CommitsFrom FitsAny
             (with_tariff_of xway tariff.now) (state S.Store self.old.conn).committed) }
     {

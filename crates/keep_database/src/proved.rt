@@ -1,5 +1,5 @@
 // A keeper on a connection.
-ghost use Rattle.std.specs.Prelude.{◌≡◌, ◌↔◌, true, false, Some, None, Ok, Err, IsOk, IsTrue, IfErr, MatchResult};
+ghost use Rattle.std.specs.Prelude.{◌≡◌, ◌≢◌, ◌↔◌, true, false, Some, None, Ok, Err, IsOk, IsTrue, IfErr, MatchResult};
 ghost use Rattle.sqlite.specs.Held.{state};
 ghost use Rattle.sqlite.specs.State.{HasCleanDisk, KeepsCommit, Survives};
 ghost use Rattle.sqlite.specs.declared.error.Error.TheVariants.{SqliteFailure};
@@ -9,7 +9,7 @@ ghost use Rattle.keep_office.specs.declared.kept.KeepFault.TheVariants.{NoMemory
 ghost use Rattle.keep_tables.specs.Stands.{HasOffice, StandsForOffice};
 ghost use Rattle.keep_tables.specs.Told.{told_in};
 ghost use Rattle.keep_writes.specs.Causes.{HasCause};
-ghost use Rattle.keep_writes.specs.Growth.{CommitsSame};
+ghost use Rattle.keep_writes.specs.Growth.{CommitsSame, CommitsVersion, HasVersion, IsAtRest, IsOurs, LacksVersion};
 ghost use Rattle.keep_writes.specs.Objects.{MayBeMade};
 ghost use Rattle.keep_writes.specs.Unmade.{IsUnmadeBy};
 ghost use Rattle.keep_database.specs.Looks.{ShowsSecond, ShowsOther};
@@ -56,8 +56,9 @@ fn error_of(made: Result<(), Error>) -> Option<Error>
 
 impl<S: Steady> ProvedKeeper<S> {
     /// The keeper on a connection. What is under way in it is undone, and the tables are made where nothing is listed
-    /// or version 1 exactly; a database that lists anything else stays as it is. Where that is refused, `unmade` says
-    /// why, and all calls are refused until the connection is adopted anew.
+    /// or version 1 exactly; a database with the table of the version stays as it is, and so does one that lists
+    /// anything else, which is refused. Where that is refused, `unmade` says why. Each call asks for version 2 itself,
+    /// and is refused where it is not there.
     pub fn adopt(alloc: Global, connection: Connection<S>) -> ProvedKeeper<S>
         ensures tells { S.Steady.is_steady ≡ true → (o : Office)
             → StandsForOffice (state S.Store connection).committed o
@@ -70,6 +71,16 @@ impl<S: Steady> ProvedKeeper<S> {
             → HasOffice (state S.Store result.conn).committed o }
         ensures left { HasCleanDisk (state S.Store result.conn) → ¬ MayBeMade (state S.Store connection).committed
             → KeepsCommit (state S.Store connection) (state S.Store result.conn) }
+        ensures there { HasCleanDisk (state S.Store result.conn) → HasVersion (state S.Store connection).committed
+            → KeepsCommit (state S.Store connection) (state S.Store result.conn) }
+        ensures ours { HasCleanDisk (state S.Store result.conn) → result.unmade ≡ None
+            → IsOurs (state S.Store connection).committed }
+        ensures second { HasCleanDisk (state S.Store result.conn) → result.unmade ≡ None
+            → LacksVersion (state S.Store connection).committed → CommitsVersion S.Store result.conn }
+        ensures kept { HasCleanDisk (state S.Store result.conn) → result.unmade ≢ None
+            → KeepsCommit (state S.Store connection) (state S.Store result.conn) }
+        ensures rest { HasCleanDisk (state S.Store result.conn) → result.unmade ≡ None
+            → IsAtRest (state S.Store result.conn) }
         ensures crash { Survives (state S.Store connection) (state S.Store result.conn) (CommitsSame
             (state S.Store connection).committed) }
         ensures why { HasCleanDisk (state S.Store result.conn)
@@ -114,6 +125,10 @@ impl<S: Steady> ProvedKeeper<S> {
             → ShowsOther S.Store self.old.conn self.new.conn }
         ensures why { HasCleanDisk (state S.Store self.new.conn)
             → IfErr result (HasCause S.Store self.old.conn self.new.conn) }
+        ensures crash { Survives (state S.Store self.old.conn) (state S.Store self.new.conn) (λ _. ⊥) }
+        ensures uncounted { self.new.faults ≡ self.old.faults }
+        ensures quiet { self.new.refused ≡ self.old.refused }
+        ensures made { self.new.unmade ≡ self.old.unmade }
     {
         has_second(&mut self.conn)
     }

@@ -8,7 +8,7 @@ ghost use Rattle.keep_office.specs.Office.{Office};
 ghost use Rattle.keep_office.specs.declared.kept.KeepFault.TheVariants.{Failed, NoMemory};
 ghost use Rattle.keep_tables.specs.Stands.{HasOffice, StandsForOffice};
 ghost use Rattle.keep_writes.specs.Causes.{HasCause};
-ghost use Rattle.keep_database.specs.Looks.{IsSecond, ShowsSecond, ShowsOther};
+ghost use Rattle.keep_database.specs.Looks.{IsSecond, IsUnready, ShowsSecond, ShowsOther};
 
 use crate::looks::look;
 use crate::values::number_63;
@@ -25,6 +25,7 @@ pub fn ready<S: Alter>(conn: &mut Connection<S>) -> Result<(), KeepFault>
     ensures version { HasCleanDisk (state S.Store conn.new) → OnOk result (ShowsSecond S.Store conn.old conn.new) }
     ensures why { HasCleanDisk (state S.Store conn.new) → (o : Office)
         → StandsForOffice (state S.Store conn.old).committed o → IfErr result (HasCause S.Store conn.old conn.new) }
+    ensures unready { HasCleanDisk (state S.Store conn.new) → IfErr result (IsUnready S.Store conn.old conn.new) }
     ensures survives { Survives (state S.Store conn.old) (state S.Store conn.new) (λ _. ⊥) }
 {
     let found = look(conn, "SELECT version FROM form WHERE one = 1", &[])?;
@@ -40,6 +41,7 @@ pub fn has_second<S: Alter>(conn: &mut Connection<S>) -> Result<bool, KeepFault>
     ensures other { HasCleanDisk (state S.Store conn.new) → result ≡ Ok false
         → ShowsOther S.Store conn.old conn.new }
     ensures why { HasCleanDisk (state S.Store conn.new) → IfErr result (HasCause S.Store conn.old conn.new) }
+    ensures survives { Survives (state S.Store conn.old) (state S.Store conn.new) (λ _. ⊥) }
 {
     let found = look(conn, "SELECT version FROM form WHERE one = 1", &[])?;
     match is_second(&found) {

@@ -1,13 +1,13 @@
 -- What a failure says of a refusal.
-use Rattle.std.proofs.Common.{ℕ, ◌≡◌, ◌↔◌, inl, inr, true, List, [], Err, Ok, Result, IfOk, IfErr, OnOk, IsErrAnd}
-use Rattle.std.proofs.Common.{refl, sym, subst, arith}
+use Rattle.std.proofs.Common.{ℕ, ◌≡◌, ◌↔◌, inl, inr, true, List, [], Err, Ok, Result, IfOk, IfErr, OnOk, IsErrAnd, IsTrue}
+use Rattle.std.proofs.Common.{refl, sym, subst, arith, ap, get_or}
 use Rattle.sqlite_value.specs.Order.{Row}
 use Rattle.sqlite_trees.specs.declared.store.Store.{Ghosts}
 use Rattle.sqlite.specs.declared.error.Error.{Error}
 use Rattle.sqlite.specs.declared.error.Error.TheVariants.{SqliteFailure}
 use Rattle.sqlite.specs.declared.error.ErrorCode.TheVariants.{OutOfMemory}
 use Rattle.sqlite.specs.Held.{Held, state}
-use Rattle.sqlite.specs.State.{State, KeepsCommit, Survives}
+use Rattle.sqlite.specs.State.{State, ExecutesInside, KeepsCommit, Survives}
 use Rattle.sqlite.specs.Steps.{FailsToCommit}
 use Rattle.sqlite.proofs.Callers.{survives_begin}
 use Rattle.keep_office.specs.declared.kept.KeepFault.{KeepFault}
@@ -15,9 +15,14 @@ use Rattle.keep_office.specs.declared.kept.KeepFault.TheVariants.{Failed, NoMemo
 use Rattle.keep_tables.specs.Steps.{StaysInside}
 use Rattle.keep_tables.proofs.PutLaws.{survives_both}
 use Rattle.keep_tables.proofs.StepLaws.{kept_then}
-use Rattle.keep_writes.specs.Causes.{RefusesStep, RefusedOf, RefusedIn, WritesSome, WasRefusedOf, WasRefusedIn}
+use Rattle.keep_tables.specs.Texts.{put_day, put_seal, put_spent, put_past, drop_tariff, put_tariff}
+use Rattle.keep_writes.specs.Causes.{IsOneOf, IsBehindDrop, written_texts, RefusesStep, RefusedInside, RefusedOf}
+use Rattle.keep_writes.specs.Causes.{RefusedIn}
+use Rattle.keep_writes.specs.Causes.{WritesSome, WasRefusedOf, WasRefusedIn}
 use Rattle.keep_writes.specs.Causes.{WasRefused, HasCauseOf, HasCause}
 use Rattle.keep_writes.specs.Writes.{WritesNothing, WritesAny}
+use Rattle.keep_writes.specs.Runs.{SeesAs, RanOne, Ran}
+use Rattle.keep_writes.proofs.RunLaws.{ran_none, ran_once, ran_then, ran_wider, ran_after, on_wider, ran_begun}
 
 pub ok_then : {T E : Type 0} (r : Result T E) (P Q : T → Type 0) → IfOk r P → ((x : T) → P x → Q x) → IfOk r Q
 ok_then (Ok x) P Q p f = f x p
@@ -56,22 +61,48 @@ survives_self s = record {
 pub kept_inside : (old new : State) → StaysInside old new (Ok tt) → KeepsCommit old new
 kept_inside old new s = record { was_open = λ here. s.was_open; committed = λ here. s.committed_is }
 
--- what refuses a step of a call that writes less refuses one of a call that writes more
-pub step_wider : (V W : List ℕ → Row → Type 0) → ((sql : List ℕ) (params : Row) → V sql params → W sql params) →
-    (sql : List ℕ) (params : Row) (before after : State) (e : Error) → RefusesStep V sql params before after e →
-    RefusesStep W sql params before after e
-step_wider V W more sql params before after e (inl h) = inl h
-step_wider V W more sql params before after e (inr (inl h)) = inr (inl h)
-step_wider V W more sql params before after e (inr (inr (inl h))) =
-    inr (inr (inl (more sql params h.0, h.1, h.2, h.3)))
-step_wider V W more sql params before after e (inr (inr (inr h))) =
-    inr (inr (inr (
-      record { sql = h.0.sql; params = h.0.params; written = more h.0.sql h.0.params h.0.written },
-      h.1,
-      h.2,
-    )))
+-- no other text gives a tariff
+pub not_day : put_day ≡ put_tariff → ⊥
+not_day is = let wrong : 100 ≡ 116 = ap (λ (text : List ℕ). get_or text 12 0) is in absurd (omega (arith, wrong))
+
+pub not_seal : put_seal ≡ put_tariff → ⊥
+not_seal is = let wrong : 100 ≡ 116 = ap (λ (text : List ℕ). get_or text 12 0) is in absurd (omega (arith, wrong))
+
+pub not_spent : put_spent ≡ put_tariff → ⊥
+not_spent is = let wrong : 115 ≡ 116 = ap (λ (text : List ℕ). get_or text 12 0) is in absurd (omega (arith, wrong))
+
+pub not_past : put_past ≡ put_tariff → ⊥
+not_past is = let wrong : 112 ≡ 116 = ap (λ (text : List ℕ). get_or text 12 0) is in absurd (omega (arith, wrong))
+
+pub not_drop : drop_tariff ≡ put_tariff → ⊥
+not_drop is = let wrong : 68 ≡ 73 = ap (λ (text : List ℕ). get_or text 0 0) is in absurd (omega (arith, wrong))
 
 module _ {S : Type 0} (g : Ghosts S) where
+  -- what refuses a step of a call that writes less refuses one of a call that writes more
+  step_wider : (V W : List ℕ → Row → Type 0) → ((sql : List ℕ) (params : Row) → V sql params → W sql params) →
+      (sql : List ℕ) (params : Row) (old before after : Held S) (e : Error) → RefusesStep g V sql params old before after e →
+      RefusesStep g W sql params old before after e
+  step_wider V W more sql params old before after e (inl h) = inl h
+  step_wider V W more sql params old before after e (inr (inl h)) = inr (inl h)
+  step_wider V W more sql params old before after e (inr (inr (inl h))) =
+      inr (inr (inl (more sql params h.0, h.1, h.2, h.3, on_wider g V W more old before h.4, h.5)))
+  step_wider V W more sql params old before after e (inr (inr (inr h))) =
+      inr (inr (inr (
+        record { sql = h.0.sql; params = h.0.params; written = more h.0.sql h.0.params h.0.written },
+        h.1,
+        h.2,
+      )))
+
+  -- what refuses a step refuses it of a call that began with a step that commits nothing
+  step_after : (W : List ℕ → Row → Type 0) → (sql : List ℕ) (params : Row) (old mid before after : Held S) (e : Error) →
+      KeepsCommit (state g old) (state g mid) → RefusesStep g W sql params mid before after e →
+      RefusesStep g W sql params old before after e
+  step_after W sql params old mid before after e kept (inl h) = inl h
+  step_after W sql params old mid before after e kept (inr (inl h)) = inr (inl h)
+  step_after W sql params old mid before after e kept (inr (inr (inl h))) =
+      inr (inr (inl (h.0, h.1, h.2, h.3, ran_after g W old mid before kept h.4, h.5)))
+  step_after W sql params old mid before after e kept (inr (inr (inr h))) = inr (inr (inr h))
+
   -- what is refused of a call that writes less is refused of one that writes more
   pub refused_wider : (V W : List ℕ → Row → Type 0) →
       ((sql : List ℕ) (params : Row) → V sql params → W sql params) → (old new : Held S) (e : Error) →
@@ -81,7 +112,7 @@ module _ {S : Type 0} (g : Ghosts S) where
     params = r.params;
     before = r.before;
     after = r.after;
-    refused = step_wider V W more r.sql r.params (state g r.before) (state g r.after) e r.refused;
+    refused = step_wider V W more r.sql r.params old r.before r.after e r.refused;
     begun = r.begun;
     reached = r.reached;
     left = r.left;
@@ -104,7 +135,7 @@ module _ {S : Type 0} (g : Ghosts S) where
 
   -- the call is the step
   pub refused_now : {W : List ℕ → Row → Type 0} (old new : Held S) (sql : _) (params : Row) (e : Error) →
-      RefusesStep W sql params (state g old) (state g new) e → RefusedOf g W old new e
+      RefusesStep g W sql params old old new e → RefusedOf g W old new e
   refused_now old new sql params e h = record {
     sql = sql;
     params = params;
@@ -125,7 +156,7 @@ module _ {S : Type 0} (g : Ghosts S) where
     params = r.params;
     before = r.before;
     after = r.after;
-    refused = r.refused;
+    refused = step_after _ r.sql r.params old mid r.before r.after e kept r.refused;
     begun = kept_then (state g old) (state g mid) (state g r.before) kept r.begun;
     reached = survives_both (state g old) (state g mid) (state g r.before) survives r.reached;
     left = r.left;
@@ -145,18 +176,110 @@ module _ {S : Type 0} (g : Ghosts S) where
     left = survives_both (state g r.after) (state g mid) (state g new) r.left survives;
   }
 
-  -- a transaction began with the call
-  pub refused_begun : {W : List ℕ → Row → Type 0} (old new : Held S) (e : Error) →
-      RefusedOf g W (record old { in_transaction = true }) new e → RefusedOf g W old new e
-  refused_begun old new e r = record {
+  -- a text of a call is the call
+  pub text_refused : {W : List ℕ → Row → Type 0} (old new : Held S) (sql : List ℕ) (params : Row) (e : Error) →
+      W sql params → IsOneOf written_texts sql → IsTrue (state g old).in_transaction →
+      ExecutesInside 0 sql params (state g old) (state g new) (Err e) → IsBehindDrop g sql params old →
+      RefusedInside g W old new e
+  text_refused old new sql params e written is_one inside refused behind = record {
+    sql = sql;
+    params = params;
+    before = old;
+    after = new;
+    written = written;
+    is_one = is_one;
+    inside = inside;
+    refused = refused;
+    ran = ran_none g _ old;
+    behind = behind;
+    begun = kept_self (state g old);
+    reached = survives_self (state g old);
+    left = survives_self (state g new);
+  }
+
+  -- or it ran
+  pub text_ran : (W : List ℕ → Row → Type 0) (old new : Held S) (sql : List ℕ) (params : Row) (count : ℕ) → W sql params →
+      IsTrue (state g old).in_transaction → ExecutesInside 0 sql params (state g old) (state g new) (Ok count) →
+      Ran g W old new
+  text_ran W old new sql params count written inside ran =
+      ran_once g W old new
+      (record { sql = sql; params = params; count = count; written = written; inside = inside; ran = ran })
+
+  -- what is refused within a transaction of a call that writes less is refused of one that writes more
+  pub inside_wider : (V W : List ℕ → Row → Type 0) →
+      ((sql : List ℕ) (params : Row) → V sql params → W sql params) → (old new : Held S) (e : Error) →
+      RefusedInside g V old new e → RefusedInside g W old new e
+  inside_wider V W more old new e r = record {
     sql = r.sql;
     params = r.params;
     before = r.before;
     after = r.after;
+    written = more r.sql r.params r.written;
+    is_one = r.is_one;
+    inside = r.inside;
     refused = r.refused;
+    ran = ran_wider g V W more old r.before r.ran;
+    behind = r.behind;
+    begun = r.begun;
+    reached = r.reached;
+    left = r.left;
+  }
+
+  -- texts of the call ran before
+  pub inside_after : {W : List ℕ → Row → Type 0} (old mid new : Held S) (e : Error) → Ran g W old mid →
+      KeepsCommit (state g old) (state g mid) → Survives (state g old) (state g mid) (λ _. ⊥) →
+      RefusedInside g W mid new e → RefusedInside g W old new e
+  inside_after {W} old mid new e ran kept survives r = record {
+    sql = r.sql;
+    params = r.params;
+    before = r.before;
+    after = r.after;
+    written = r.written;
+    is_one = r.is_one;
+    inside = r.inside;
+    refused = r.refused;
+    ran = ran_then g W old mid r.before ran r.ran;
+    behind = r.behind;
+    begun = kept_then (state g old) (state g mid) (state g r.before) kept r.begun;
+    reached = survives_both (state g old) (state g mid) (state g r.before) survives r.reached;
+    left = r.left;
+  }
+
+  -- each error of texts that follow others of a call that writes more
+  pub errs_inside : {T : Type 0} (V W : List ℕ → Row → Type 0) →
+      ((sql : List ℕ) (params : Row) → V sql params → W sql params) → (old mid new : Held S) (r : Result T Error) →
+      Ran g W old mid → StaysInside (state g old) (state g mid) (Ok tt) →
+      Survives (state g old) (state g mid) (λ _. ⊥) → IfErr r (RefusedInside g V mid new) →
+      IfErr r (RefusedInside g W old new)
+  errs_inside V W more old mid new r ran inside survives h =
+      err_then r (RefusedInside g V mid new) (RefusedInside g W old new) h
+      (λ e it. inside_after old mid new e ran (kept_inside (state g old) (state g mid) inside) survives
+      (inside_wider V W more mid new e it))
+
+  -- texts of a call that ran, and then some of another where both are of one that writes more
+  pub both_ran : {T : Type 0} (U V W : List ℕ → Row → Type 0) →
+      ((sql : List ℕ) (params : Row) → U sql params → W sql params) →
+      ((sql : List ℕ) (params : Row) → V sql params → W sql params) → (old mid new : Held S) (r : Result T Error) →
+      Ran g U old mid → OnOk r (Ran g V mid new) → OnOk r (Ran g W old new)
+  both_ran U V W first second old mid new r ran h =
+      on_then r (Ran g V mid new) (Ran g W old new) h
+      (λ it. ran_then g W old mid new (ran_wider g U W first old mid ran) (ran_wider g V W second mid new it))
+
+  -- a text was refused in a transaction that began with the call, where nothing was under way
+  pub refused_begun : {W : List ℕ → Row → Type 0} (old last new : Held S) (e : Error) →
+      (IsTrue (state g old).is_open → (state g old).now ≡ (state g old).committed) →
+      RefusedInside g W (record old { in_transaction = true }) last e →
+      Survives (state g last) (state g new) (λ _. ⊥) → RefusedOf g W old new e
+  refused_begun {W} old last new e settled r survives = record {
+    sql = r.sql;
+    params = r.params;
+    before = r.before;
+    after = r.after;
+    refused =
+        inr (inr (inl (r.written, r.is_one, r.inside, r.refused, ran_begun g W old r.before settled r.ran, r.behind)));
     begun = record { was_open = r.begun.was_open; committed = r.begun.committed };
     reached = survives_begin g old (state g r.before) _ r.reached;
-    left = r.left;
+    left = survives_both (state g r.after) (state g last) (state g new) r.left survives;
   }
 
   -- the commit of a transaction that began with the call was refused
@@ -165,20 +288,18 @@ module _ {S : Type 0} (g : Ghosts S) where
       Survives (state g (record old { in_transaction = true })) (state g last) (λ _. ⊥) →
       FailsToCommit (state g last) (state g end) e → RefusedOf g W old end e
   commit_refused W some old last end e inside survives fails =
-      let begun = record old { in_transaction = true } in
-      refused_begun old end e
-      (refused_after begun last end e (kept_inside (state g begun) (state g last) inside) survives
-      (refused_now {W = W} last end [] [] e (inr (inr (inr (some, inside.mode, fails))))))
-
-  -- each error of steps that go on within a transaction, of a call that writes more
-  pub errs_after : {T : Type 0} (V W : List ℕ → Row → Type 0) →
-      ((sql : List ℕ) (params : Row) → V sql params → W sql params) → (old mid new : Held S) (r : Result T Error) →
-      StaysInside (state g old) (state g mid) (Ok tt) → Survives (state g old) (state g mid) (λ _. ⊥) →
-      IfErr r (RefusedOf g V mid new) → IfErr r (RefusedOf g W old new)
-  errs_after V W more old mid new r inside survives h =
-      err_then r (RefusedOf g V mid new) (RefusedOf g W old new) h
-      (λ e it. refused_after old mid new e (kept_inside (state g old) (state g mid) inside) survives
-      (refused_wider V W more mid new e it))
+      let begun : Held S = record old { in_transaction = true } in
+      let kept = kept_inside (state g begun) (state g last) inside in
+      record {
+        sql = [];
+        params = [];
+        before = last;
+        after = end;
+        refused = inr (inr (inr (some, inside.mode, fails)));
+        begun = record { was_open = kept.was_open; committed = kept.committed };
+        reached = survives_begin g old (state g last) _ survives;
+        left = survives_self (state g end);
+      }
 
   -- what a keeper calls a fault has the cause of the refusal
   pub cause_of : (W : List ℕ → Row → Type 0) (old new : Held S) (f : KeepFault) (e : Error) →

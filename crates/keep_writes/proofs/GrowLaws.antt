@@ -46,6 +46,11 @@ pub on_ok : {T E : Type 0} (r : Result T E) (P Q : Type 0) → OnOk r P → (P �
 on_ok (Ok x) P Q p f = f p
 on_ok (Err e) P Q p f = tt
 
+-- the same, where that is known only of a call that went well
+pub on_both : {T E : Type 0} (r : Result T E) (P Q : Type 0) → OnOk r P → (P → OnOk r Q) → OnOk r Q
+on_both (Ok x) P Q p f = f p
+on_both (Err e) P Q p f = tt
+
 -- nothing is kept in tables of version 1 that are new
 pub old_from_nothing : (s0 s1 s2 s3 : State) (o : Office) → HasNothing s0.now o → TextRan make_days s0 s1 →
     TextRan make_spent s1 s2 → TextRan make_past s2 s3 → HasOld s3.now o

@@ -90,15 +90,15 @@ same_survives old mid new settled kept first last =
       subst MayBeMade now made.2,
     )) first last
 
--- a database that is not to be made stays as it is, also after what was under way was undone
-pub left_there : (old mid new : State) → (IsTrue new.is_open → IsTrue mid.is_open) →
-    (IsTrue mid.is_open → mid.now ≡ mid.committed) → KeepsCommit old mid → (¬ MayBeMade mid.now → KeepsCommit mid new)
-    → ¬ MayBeMade old.committed → KeepsCommit old new
-left_there old mid new before settled kept stays foreign =
+-- what keeps the database that is seen keeps what is committed, also after what was under way was undone
+pub kept_there : (P : Database → Type 0) (old mid new : State) → (IsTrue new.is_open → IsTrue mid.is_open) →
+    (IsTrue mid.is_open → mid.now ≡ mid.committed) → KeepsCommit old mid → (P mid.now → KeepsCommit mid new) →
+    P old.committed → KeepsCommit old new
+kept_there P old mid new before settled kept stays so =
     let same = λ (here : IsTrue new.is_open). settled (before here) ∙ kept.committed (before here) in
     record {
       was_open = λ here. kept.was_open (before here);
       committed =
-          λ here. (stays (λ made. foreign (subst MayBeMade (same here) made))).committed here
+          λ here. (stays (subst P (sym (same here)) so)).committed here
           ∙ kept.committed (before here);
     }

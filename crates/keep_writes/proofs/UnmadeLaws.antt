@@ -1,19 +1,21 @@
 -- What is known of tables that were not made.
-use Rattle.std.proofs.Common.{◌≡◌, ◌⊎◌, ℕ, inl, inr, true, false, List, [], Option, Some, None}
+use Rattle.std.proofs.Common.{◌≡◌, ◌⊎◌, inl, inr, Bool, true, false, [], Option, Some, None}
 use Rattle.std.proofs.Common.{Result, Ok, Err, IfErr, IsTrue, refl, sym, subst, ◌∙◌, MatchResult}
-use Rattle.sqlite_value.specs.Order.{Row}
 use Rattle.sqlite_trees.specs.declared.store.Store.{Ghosts}
 use Rattle.sqlite.specs.declared.error.Error.{Error}
 use Rattle.sqlite.specs.Held.{Held, state}
-use Rattle.sqlite.specs.State.{State, ExecutesInside, FailsToQuery, IsTooLate, KeepsCommit, Shown, Shows}
-use Rattle.sqlite.specs.State.{Survives}
+use Rattle.sqlite.specs.Listing.{understood}
+use Rattle.sqlite.specs.State.{State, FailsToQuery, IsTooLate, KeepsCommit, Shows, Survives}
 use Rattle.sqlite.specs.Steps.{FailsToCommit}
 use Rattle.sqlite.proofs.Callers.{survives_begin}
 use Rattle.keep_tables.specs.Steps.{StaysInside}
 use Rattle.keep_tables.specs.Texts.{list_days}
 use Rattle.keep_tables.proofs.PutLaws.{survives_both}
 use Rattle.keep_tables.proofs.StepLaws.{kept_then}
-use Rattle.keep_writes.specs.Unmade.{WritesTables, SeesCommitted, HasNoDay, RefusesMaking, IsUnmade, IsUnmadeBy}
+use Rattle.keep_writes.specs.Growth.{IsUnderstood, SaysIf}
+use Rattle.keep_writes.specs.Objects.{Lists, texts_of}
+use Rattle.keep_writes.specs.Unmade.{SeesCommitted, lacking_texts, MakesTables, EndsTables, EndsInside, RefusesMaking}
+use Rattle.keep_writes.specs.Unmade.{IsUnmade, IsUnmadeBy}
 use Rattle.keep_writes.proofs.CauseLaws.{kept_self, survives_self, kept_inside, err_then}
 
 -- in a transaction that goes on, no query comes too late
@@ -34,8 +36,26 @@ told_of (Ok u) told P h is e some = absurd (let wrong = sym is ∙ some in cc)
 told_of (Err f) told P h is e some = let same : f ≡ e = (let both = sym is ∙ some in cc) in subst P same h
 
 module _ {S : Type 0} (g : Ghosts S) where
+  -- what refuses a step refuses it of a call that began with a step that commits nothing
+  making_after : (old mid before after : Held S) (e : Error) → KeepsCommit (state g old) (state g mid) →
+      RefusesMaking g mid before after e → RefusesMaking g old before after e
+  making_after old mid before after e kept (inl h) = inl h
+  making_after old mid before after e kept (inr (inl h)) = inr (inl h)
+  making_after old mid before after e kept (inr (inr (inl h))) = inr (inr (inl h))
+  making_after old mid before after e kept (inr (inr (inr (inl h)))) = inr (inr (inr (inl h)))
+  making_after old mid before after e kept (inr (inr (inr (inr h)))) =
+      inr (inr (inr (inr (record {
+        is_old = h.is_old;
+        start = h.start;
+        found = λ here. let shown = h.found here in (kept.was_open shown.0, shown.1 ∙ kept.committed shown.0);
+        says = h.says;
+        lists = h.lists;
+        inside = h.inside;
+        refused = h.refused;
+      }))))
+
   -- the call is the step
-  pub unmade_now : (old new : Held S) (e : Error) → RefusesMaking (state g old) (state g new) e → IsUnmade g old new e
+  pub unmade_now : (old new : Held S) (e : Error) → RefusesMaking g old old new e → IsUnmade g old new e
   unmade_now old new e h = record {
     before = old;
     after = new;
@@ -51,61 +71,62 @@ module _ {S : Type 0} (g : Ghosts S) where
   unmade_after old mid new e kept survives r = record {
     before = r.before;
     after = r.after;
-    refused = r.refused;
+    refused = making_after old mid r.before r.after e kept r.refused;
     begun = kept_then (state g old) (state g mid) (state g r.before) kept r.begun;
     reached = survives_both (state g old) (state g mid) (state g r.before) survives r.reached;
     left = r.left;
   }
 
-  -- a step that commits nothing ends it
-  pub unmade_before : (old mid new : Held S) (e : Error) → IsUnmade g old mid e →
-      Survives (state g mid) (state g new) (λ _. ⊥) → IsUnmade g old new e
-  unmade_before old mid new e r survives = record {
+  -- a transaction began with the call where nothing was under way, and one of its steps was refused
+  pub unmade_begun : (is_old : Bool) (old last new : Held S) (e : Error) → SeesCommitted (state g old) →
+      SaysIf is_old (IsUnderstood (understood (state g old).now.schema list_days)) →
+      Lists (state g old).now (texts_of is_old) →
+      EndsInside g (EndsTables g (lacking_texts is_old)) (record old { in_transaction = true }) last e →
+      Survives (state g last) (state g new) (λ _. ⊥) → IsUnmade g old new e
+  unmade_begun is_old old last new e settled says lists r survives = record {
     before = r.before;
     after = r.after;
-    refused = r.refused;
-    begun = r.begun;
-    reached = r.reached;
-    left = survives_both (state g r.after) (state g mid) (state g new) r.left survives;
-  }
-
-  -- a transaction began with the call
-  pub unmade_begun : (old new : Held S) (e : Error) → IsUnmade g (record old { in_transaction = true }) new e →
-      IsUnmade g old new e
-  unmade_begun old new e r = record {
-    before = r.before;
-    after = r.after;
-    refused = r.refused;
+    refused = inr (inr (inr (inr (record {
+      is_old = is_old;
+      start = record old { in_transaction = true };
+      found = λ here. (here, settled here);
+      says = says;
+      lists = lists;
+      inside = r.inside;
+      refused = inl r.refused;
+    }))));
     begun = record { was_open = r.begun.was_open; committed = r.begun.committed };
     reached = survives_begin g old (state g r.before) _ r.reached;
-    left = r.left;
+    left = survives_both (state g r.after) (state g last) (state g new) r.left survives;
   }
 
-  -- a text that makes tables was refused in a transaction
-  pub text_unmade : (old new : Held S) (e : Error) (sql : List ℕ) (params : Row) → WritesTables sql params →
-      IsTrue (state g old).in_transaction → ExecutesInside 0 sql params (state g old) (state g new) (Err e) →
-      IsUnmade g old new e
-  text_unmade old new e sql params writes inside fails =
-      unmade_now old new e (inr (inr (inr (inl (inside, inl (sql, params, writes, fails))))))
-
-  -- the commit of a transaction that began with the call was refused
-  pub commit_unmade : (old last end : Held S) (e : Error) →
+  -- its commit was refused
+  pub commit_unmade : (is_old : Bool) (old last end : Held S) (e : Error) → SeesCommitted (state g old) →
+      SaysIf is_old (IsUnderstood (understood (state g old).now.schema list_days)) →
+      Lists (state g old).now (texts_of is_old) →
+      MakesTables g (lacking_texts is_old) (record old { in_transaction = true }) last →
       StaysInside (state g (record old { in_transaction = true })) (state g last) (Ok tt) →
       Survives (state g (record old { in_transaction = true })) (state g last) (λ _. ⊥) →
       FailsToCommit (state g last) (state g end) e → IsUnmade g old end e
-  commit_unmade old last end e inside survives fails =
-      let begun = record old { in_transaction = true } in
-      unmade_begun old end e
-      (unmade_after begun last end e (kept_inside (state g begun) (state g last) inside) survives
-      (unmade_now last end e (inr (inr (inr (inl (inside.mode, inr fails)))))))
-
-  -- each error of steps behind one that goes on within a transaction
-  pub unmade_inside : {T : Type 0} (old mid new : Held S) (r : Result T Error) →
-      StaysInside (state g old) (state g mid) (Ok tt) → Survives (state g old) (state g mid) (λ _. ⊥) →
-      IfErr r (IsUnmade g mid new) → IfErr r (IsUnmade g old new)
-  unmade_inside old mid new r inside survives h =
-      err_then r (IsUnmade g mid new) (IsUnmade g old new) h
-      (λ e it. unmade_after old mid new e (kept_inside (state g old) (state g mid) inside) survives it)
+  commit_unmade is_old old last end e settled says lists makes inside survives fails =
+      let begun : Held S = record old { in_transaction = true } in
+      let kept = kept_inside (state g begun) (state g last) inside in
+      record {
+        before = last;
+        after = end;
+        refused = inr (inr (inr (inr (record {
+          is_old = is_old;
+          start = begun;
+          found = λ here. (here, settled here);
+          says = says;
+          lists = lists;
+          inside = inside.mode;
+          refused = inr (makes, fails);
+        }))));
+        begun = record { was_open = kept.was_open; committed = kept.committed };
+        reached = survives_begin g old (state g last) _ survives;
+        left = survives_self (state g end);
+      }
 
   -- the same of one that commits nothing, where a transaction is under way or not
   pub unmade_then : {T : Type 0} (old mid new : Held S) (r : Result T Error) →
@@ -140,15 +161,3 @@ module _ {S : Type 0} (g : Ghosts S) where
       only : (e : Error) → IsTrue (state g mid).in_transaction ⊎ IsUnmade g mid new e → IsUnmade g old new e
       only e (inl inside) = absurd (let wrong = sym calm ∙ inside in cc)
       only e (inr it) = unmade_after old mid new e kept survives it
-
-  -- days were not sealed: one has no number, or a seal was refused
-  pub seals_unmade : (old mid new : Held S) (e : Error) (rows days : List Row) → days ≡ rows →
-      IsTrue (state g old).in_transaction → Shown list_days [] (state g old) (state g mid) rows →
-      KeepsCommit (state g old) (state g mid) → Survives (state g old) (state g mid) (λ _. ⊥) → Survives (state g mid) (state g new) (λ _. ⊥) →
-      HasNoDay days e ⊎ IsUnmade g mid new e → IsUnmade g old new e
-  seals_unmade old mid new e rows days is inside shown kept first last (inl odd) =
-      unmade_before old mid new e
-      (unmade_now old mid e
-      (inr (inr (inr (inr (inr (inl (inside, rows, shown, subst (λ (l : List Row). HasNoDay l e) is odd)))))))) last
-  seals_unmade old mid new e rows days is inside shown kept first last (inr it) =
-      unmade_after old mid new e kept first it

@@ -1,5 +1,6 @@
 -- Why a call of a keeper failed.
-use Rattle.std.specs.Prelude.{◌≡◌, ◌≢◌, ◌⊎◌, ℕ, List, [], ◌∷◌, length, Option, Some, None, slice_get, Err, IsTrue}
+use Rattle.std.specs.Prelude.{◌≡◌, ◌≢◌, ◌⊎◌, ℕ, List, [], ◌∷◌, length, take, Option, Some, None, slice_get, Err}
+use Rattle.std.specs.Prelude.{IsTrue}
 use Rattle.sqlite_value.specs.Order.{Row}
 use Rattle.sqlite_trees.specs.declared.store.Store.{Ghosts}
 use Rattle.sqlite.specs.declared.error.Error.{Error}
@@ -17,6 +18,7 @@ use Rattle.keep_tables.specs.Texts.{undo, find_version, find_last, find_past, fi
 use Rattle.keep_tables.specs.Texts.{list_spent, list_vehicle, find_tariffs, put_day, put_seal, put_spent, put_past}
 use Rattle.keep_tables.specs.Texts.{drop_tariff, put_tariff}
 use Rattle.keep_writes.specs.Writes.{WritesNothing, WritesAny}
+use Rattle.keep_writes.specs.Runs.{SeesAs, RanOne, Ran, RanOn}
 
 -- all that a keeper asks of its tables
 abbrev pub asked_texts : List (List ℕ)
@@ -56,11 +58,42 @@ RefusesQuery sql params before after e =
     IsAsked sql params × (IsTrue before.is_open → before.now ≡ before.committed)
     × FailsToQuery sql params before after e
 
--- so was a text that the call writes within a transaction, with its values
-abbrev pub RefusesWrite : (List ℕ → Row → Type 0) → List ℕ → Row → State → State → Error → Type 0
-RefusesWrite writes sql params before after e =
-    writes sql params × IsOneOf written_texts sql × IsTrue before.in_transaction
-    × ExecutesInside 0 sql params before after (Err e)
+-- a connection shows what is left where an expressway's own tariff was taken away, that of these values
+abbrev pub LeftByDrop : {S : Type 0} → Ghosts S → Row → Held S → Type 0
+LeftByDrop {S} g params before =
+    (mid : Held S) × (last : Held S) × RanOne g (λ sql own. (sql ≡ drop_tariff) × (own ≡ take 1 params)) mid last
+    × SeesAs (state g last) (state g before)
+
+-- a tariff is given only behind that
+abbrev pub IsBehindDrop : {S : Type 0} → Ghosts S → List ℕ → Row → Held S → Type 0
+IsBehindDrop g sql params before = sql ≡ put_tariff → LeftByDrop g params before
+
+-- a text of a call was refused in a transaction in which its others may have run, and up to it nothing was committed; the
+-- call ends with what it left
+pub record RefusedInside {S : Type 0} (g : Ghosts S) (writes : List ℕ → Row → Type 0) (old new : Held S)
+    (error : Error) : Type 0 where
+  pub sql : List ℕ
+  pub params : Row
+  pub before : Held S
+  pub after : Held S
+  pub written : writes sql params
+  pub is_one : IsOneOf written_texts sql
+  pub inside : IsTrue (state g before).in_transaction
+  pub refused : ExecutesInside 0 sql params (state g before) (state g after) (Err error)
+  pub ran : Ran g writes old before
+  pub behind : IsBehindDrop g sql params before
+  pub begun : KeepsCommit (state g old) (state g before)
+  pub reached : Survives (state g old) (state g before) (λ _. ⊥)
+  pub left : Survives (state g after) (state g new) (λ _. ⊥)
+
+-- so was a text that the call writes within a transaction, with its values, where others of its texts may have run on
+-- what was committed
+abbrev pub RefusesWrite : {S : Type 0} → Ghosts S → (List ℕ → Row → Type 0) → List ℕ → Row → Held S → Held S →
+    Held S → Error → Type 0
+RefusesWrite g writes sql params old before after e =
+    writes sql params × IsOneOf written_texts sql × IsTrue (state g before).in_transaction
+    × ExecutesInside 0 sql params (state g before) (state g after) (Err e) × RanOn g writes old before
+    × IsBehindDrop g sql params before
 
 -- a call writes something
 pub record WritesSome (writes : List ℕ → Row → Type 0) : Type 0 where
@@ -73,10 +106,13 @@ abbrev pub RefusesCommit : (List ℕ → Row → Type 0) → State → State →
 RefusesCommit writes before after e = WritesSome writes × IsTrue before.in_transaction × FailsToCommit before after e
 
 -- one of them was
-abbrev pub RefusesStep : (List ℕ → Row → Type 0) → List ℕ → Row → State → State → Error → Type 0
-RefusesStep writes sql params before after e =
-    RefusesUndo sql params before after e ⊎ (RefusesQuery sql params before after e
-    ⊎ (RefusesWrite writes sql params before after e ⊎ RefusesCommit writes before after e))
+abbrev pub RefusesStep : {S : Type 0} → Ghosts S → (List ℕ → Row → Type 0) → List ℕ → Row → Held S → Held S →
+    Held S → Error → Type 0
+RefusesStep g writes sql params old before after e =
+    RefusesUndo sql params (state g before) (state g after) e
+    ⊎ (RefusesQuery sql params (state g before) (state g after) e
+    ⊎ (RefusesWrite g writes sql params old before after e
+    ⊎ RefusesCommit writes (state g before) (state g after) e))
 
 -- the database refused a step of a call that writes these texts, each with its values, with this error: up to the step
 -- nothing was committed, and the call ends with what the step left
@@ -86,7 +122,7 @@ pub record RefusedOf {S : Type 0} (g : Ghosts S) (writes : List ℕ → Row → 
   pub params : Row
   pub before : Held S
   pub after : Held S
-  pub refused : RefusesStep writes sql params (state g before) (state g after) error
+  pub refused : RefusesStep g writes sql params old before after error
   pub begun : KeepsCommit (state g old) (state g before)
   pub reached : Survives (state g old) (state g before) (λ _. ⊥)
   pub left : Survives (state g after) (state g new) (λ _. ⊥)

@@ -1,5 +1,7 @@
 -- Why the tables of an office could not be made.
-use Rattle.std.specs.Prelude.{◌≡◌, ◌≢◌, ◌⊎◌, ℕ, Bool, List, [], ◌∷◌, Some, None, Option, slice_get, Err, IsTrue}
+use Rattle.std.specs.Prelude.{◌≡◌, ◌≢◌, ◌⊎◌, ◌<◌, ℕ, pos, Bool, true, false, List, [], ◌∷◌, ◌++◌, length}
+use Rattle.std.specs.Prelude.{Some, None, Option, slice_get, Err, IsTrue}
+use Rattle.sqlite_value.specs.declared.value.Value.TheVariants.{Int, Blob}
 use Rattle.sqlite_value.specs.Order.{Row, column}
 use Rattle.sqlite_trees.specs.declared.store.Store.{Ghosts}
 use Rattle.sqlite_resolve.specs.declared.error.CompileError.{CompileError}
@@ -12,22 +14,27 @@ use Rattle.sqlite.specs.Reading.{IsReadError}
 use Rattle.sqlite.specs.State.{State, Executes, ExecutesInside, FailsToQuery, IsNotRun, KeepsCommit, Shown, Survives}
 use Rattle.sqlite.specs.Steps.{FailsToCommit}
 use Rattle.road_digest.specs.declared.digest.Digest.{Digest}
+use Rattle.keep_office.specs.Kept.{seal_of}
 use Rattle.keep_tables.specs.Texts.{undo, find_version, list_days, make_days, make_spent, make_past, make_day_tariffs}
-use Rattle.keep_tables.specs.Texts.{make_tariffs, make_form, put_version}
+use Rattle.keep_tables.specs.Texts.{make_tariffs, make_form, put_version, put_seal}
 use Rattle.keep_writes.specs.Causes.{IsOneOf}
 use Rattle.keep_writes.specs.Growth.{IsUnderstood, SaysIf}
 use Rattle.keep_writes.specs.Objects.{list_texts, Lists, texts_of}
+use Rattle.keep_writes.specs.Runs.{SeesAs, SeesCommit, RanOne, Ran}
 use Rattle.keep_writes.specs.Writes.{WritesSeal}
 
--- the texts that make tables, which have no values
-abbrev pub table_texts : List (List ℕ)
-table_texts =
-    make_days ∷ make_spent ∷ make_past ∷ make_day_tariffs ∷ make_tariffs ∷ make_form ∷ put_version ∷ []
+-- the texts of the tables of version 1, in their order
+abbrev pub old_texts : List (List ℕ)
+old_texts = make_days ∷ make_spent ∷ make_past ∷ []
 
--- what the making of tables writes: one of these, or the seal of a day
-abbrev pub WritesTables : List ℕ → Row → Type 0
-WritesTables sql params =
-    (IsOneOf table_texts sql × (params ≡ [])) ⊎ ((day : ℕ) × (seal : Digest) × WritesSeal day seal sql params)
+-- those of the tables that version 2 has more
+abbrev pub new_texts : List (List ℕ)
+new_texts = make_day_tariffs ∷ make_tariffs ∷ make_form ∷ []
+
+-- those of the tables that lack, by whether those of version 1 are there
+abbrev pub lacking_texts : Bool → List (List ℕ)
+lacking_texts true = new_texts
+lacking_texts false = old_texts ++ new_texts
 
 -- an open connection sees what is committed
 abbrev pub SeesCommitted : State → Type 0
@@ -39,17 +46,9 @@ RefusesLook before after e =
     (sql : List ℕ) × IsOneOf (find_version ∷ list_days ∷ []) sql × IsNotRun before after sql [] e
     × ((fault : CompileError) → e ≢ SqlInputError fault) × SeesCommitted before
 
--- the query for all that is listed in what is committed was refused, or in a transaction that for all days
+-- the query for all that is listed in what is committed was refused
 abbrev pub RefusesListing : State → State → Error → Type 0
-RefusesListing before after e =
-    (SeesCommitted before × FailsToQuery list_texts [] before after e)
-    ⊎ (IsTrue before.in_transaction × FailsToQuery list_days [] before after e)
-
--- in a transaction a text that makes tables was refused, or the commit
-abbrev pub RefusesTables : State → State → Error → Type 0
-RefusesTables before after e =
-    IsTrue before.in_transaction × (((sql : List ℕ) × (params : Row) × WritesTables sql params
-    × ExecutesInside 0 sql params before after (Err e)) ⊎ FailsToCommit before after e)
+RefusesListing before after e = SeesCommitted before × FailsToQuery list_texts [] before after e
 
 -- what is committed lists other texts than those of the tables that are there
 abbrev pub ListsOthers : State → Error → Type 0
@@ -58,34 +57,126 @@ ListsOthers before e =
     × SaysIf is_old (IsUnderstood (understood before.committed.schema list_days)) × (rows : List Row)
     × Lists before.committed rows × (rows ≢ texts_of is_old) × (e ≡ SqliteFailure NotADatabase)
 
--- one of some rows has no number of a day
-pub record HasNoDay (rows : List Row) (error : Error) : Type 0 where
+-- a text is that one, and has no values
+abbrev pub IsText : List ℕ → List ℕ → Row → Type 0
+IsText text sql params = (sql ≡ text) × (params ≡ [])
+
+-- within a transaction each of these texts ran once, in this order, and nothing else was changed
+abbrev pub RanEach : {S : Type 0} → Ghosts S → List (List ℕ) → Held S → Held S → Type 0
+RanEach g [] old new = SeesAs (state g old) (state g new)
+RanEach {S} g (text ∷ texts) old new =
+    (mid : Held S) × (last : Held S) × SeesAs (state g old) (state g mid) × RanOne g (IsText text) mid last
+    × RanEach g texts last new
+
+-- one of them was refused behind those before it
+pub record RefusesEach {S : Type 0} (g : Ghosts S) (texts : List (List ℕ)) (old before after : Held S) (error : Error) :
+    Type 0 where
+  pub done : List (List ℕ)
+  pub text : List ℕ
+  pub rest : List (List ℕ)
+  pub is : texts ≡ done ++ text ∷ rest
+  pub ran : RanEach g done old before
+  pub refused : ExecutesInside 0 text [] (state g before) (state g after) (Err error)
+
+-- the seal of one of the first so many days
+pub record WritesSeals (seal : Digest) (rows : List Row) (count : ℕ) (sql : List ℕ) (params : Row) : Type 0 where
+  pub place : ℕ
+  pub below : place < count
+  pub row : Row
+  pub day : ℕ
+  pub is_one : slice_get rows place ≡ Some row
+  pub number : column row 0 ≡ Int (pos day)
+  pub is_put : WritesSeal day seal sql params
+
+-- a day has no number, or its seal was refused
+abbrev pub RefusesSeal : Digest → Row → State → State → Error → Type 0
+RefusesSeal seal row before after e =
+    IsReadError 0 (column row 0) e ⊎ ((day : ℕ) × (column row 0 ≡ Int (pos day))
+    × ExecutesInside 0 put_seal (Int (pos day) ∷ Blob seal.bytes ∷ []) before after (Err e))
+
+-- that is so of one of some days, of which only those before it may have been sealed
+pub record RefusesSeals {S : Type 0} (g : Ghosts S) (seal : Digest) (rows : List Row) (old before after : Held S)
+    (error : Error) : Type 0 where
   pub place : ℕ
   pub row : Row
   pub is_one : slice_get rows place ≡ Some row
-  pub unread : IsReadError 0 (column row 0) error
+  pub ran : Ran g (WritesSeals seal rows place) old before
+  pub refused : RefusesSeal seal row (state g before) (state g after) error
 
--- in a transaction a row of all days has none
-abbrev pub ShowsNoDay : State → State → Error → Type 0
-ShowsNoDay before after e =
-    IsTrue before.in_transaction × (rows : List Row) × Shown list_days [] before after rows × HasNoDay rows e
+-- these texts ran, and then all days were shown
+pub record ShowsDays {S : Type 0} (g : Ghosts S) (texts : List (List ℕ)) (rows : List Row) (old listed : Held S) :
+    Type 0 where
+  pub made : Held S
+  pub ran : RanEach g texts old made
+  pub shown : Shown list_days [] (state g made) (state g listed) rows
 
--- in a transaction there was no memory for the seal of a day
-abbrev pub LacksMemory : State → Error → Type 0
-LacksMemory before e = IsTrue before.in_transaction × (e ≡ SqliteFailure OutOfMemory)
+-- then these days were sealed
+pub record SealsDays {S : Type 0} (g : Ghosts S) (texts : List (List ℕ)) (old new : Held S) : Type 0 where
+  pub rows : List Row
+  pub listed : Held S
+  pub shows : ShowsDays g texts rows old listed
+  pub ran : Ran g (WritesSeals (seal_of []) rows (length rows)) listed new
+
+-- then version 2 was put
+pub record MakesTables {S : Type 0} (g : Ghosts S) (texts : List (List ℕ)) (old new : Held S) : Type 0 where
+  pub last : Held S
+  pub seals : SealsDays g texts old last
+  pub ran : RanOne g (IsText put_version) last new
+
+-- behind these texts the seals failed: one of the days that were shown has no number, or its seal was refused
+pub record FailsToSeal {S : Type 0} (g : Ghosts S) (texts : List (List ℕ)) (old before after : Held S)
+    (error : Error) : Type 0 where
+  pub rows : List Row
+  pub listed : Held S
+  pub shows : ShowsDays g texts rows old listed
+  pub refused : RefusesSeals g (seal_of []) rows listed before after error
+
+-- one of these texts was refused; or behind all of them there was no memory for a seal, all days were not shown, or the
+-- seals failed; or behind the seals version 2 was refused
+abbrev pub EndsTables : {S : Type 0} → Ghosts S → List (List ℕ) → Held S → Held S → Held S → Error → Type 0
+EndsTables g texts old before after e =
+    RefusesEach g texts old before after e
+    ⊎ ((RanEach g texts old before
+    × ((e ≡ SqliteFailure OutOfMemory) ⊎ FailsToQuery list_days [] (state g before) (state g after) e))
+    ⊎ (FailsToSeal g texts old before after e
+    ⊎ (SealsDays g texts old before × ExecutesInside 0 put_version [] (state g before) (state g after) (Err e))))
+
+-- within a transaction a step of a call was refused: up to it nothing was committed; the call ends with what it left
+pub record EndsInside {S : Type 0} (g : Ghosts S) (refuses : Held S → Held S → Held S → Error → Type 0)
+    (old new : Held S) (error : Error) : Type 0 where
+  pub before : Held S
+  pub after : Held S
+  pub inside : IsTrue (state g before).in_transaction
+  pub refused : refuses old before after error
+  pub begun : KeepsCommit (state g old) (state g before)
+  pub reached : Survives (state g old) (state g before) (λ _. ⊥)
+  pub left : Survives (state g after) (state g new) (λ _. ⊥)
+
+-- so was a step of the making, or its commit, in a transaction that began on what was committed, which lists exactly
+-- the tables that are there
+pub record RefusesInside {S : Type 0} (g : Ghosts S) (old before after : Held S) (error : Error) : Type 0 where
+  pub is_old : Bool
+  pub start : Held S
+  pub found : SeesCommit (state g old) (state g start)
+  pub says : SaysIf is_old (IsUnderstood (understood (state g start).now.schema list_days))
+  pub lists : Lists (state g start).now (texts_of is_old)
+  pub inside : IsTrue (state g before).in_transaction
+  pub refused : EndsTables g (lacking_texts is_old) start before after error
+      ⊎ (MakesTables g (lacking_texts is_old) start before
+      × FailsToCommit (state g before) (state g after) error)
 
 -- a step of the making of tables was refused, or found what is not ours, or no memory
-abbrev pub RefusesMaking : State → State → Error → Type 0
-RefusesMaking before after e =
-    (IsTrue before.in_transaction × Executes undo [] before after (Err e))
-    ⊎ (RefusesLook before after e ⊎ (RefusesListing before after e ⊎ (RefusesTables before after e
-    ⊎ (ListsOthers before e ⊎ (ShowsNoDay before after e ⊎ LacksMemory before e)))))
+abbrev pub RefusesMaking : {S : Type 0} → Ghosts S → Held S → Held S → Held S → Error → Type 0
+RefusesMaking g old before after e =
+    (IsTrue (state g before).in_transaction × Executes undo [] (state g before) (state g after) (Err e))
+    ⊎ (RefusesLook (state g before) (state g after) e ⊎ (RefusesListing (state g before) (state g after) e
+    ⊎ (ListsOthers (state g before) e ⊎ RefusesInside g old before after e)))
 
 -- tables were not made for an error of a step: up to it nothing was committed, and the call ends with what it left
 pub record IsUnmade {S : Type 0} (g : Ghosts S) (old new : Held S) (error : Error) : Type 0 where
   pub before : Held S
   pub after : Held S
-  pub refused : RefusesMaking (state g before) (state g after) error
+  pub refused : RefusesMaking g old before after error
   pub begun : KeepsCommit (state g old) (state g before)
   pub reached : Survives (state g old) (state g before) (λ _. ⊥)
   pub left : Survives (state g after) (state g new) (λ _. ⊥)

@@ -11,7 +11,8 @@ ghost use Rattle.keep_office.specs.Kept.{IsDayPut, IsLater, with_day};
 ghost use Rattle.keep_tables.specs.Stands.{Contents, Holds, HoldsAs, HasOffice, IsWholeDigest, with_record, with_seal};
 ghost use Rattle.keep_tables.specs.Steps.{StaysInside};
 ghost use Rattle.keep_tables.specs.Texts.{put_seal as put_seal_text};
-ghost use Rattle.keep_writes.specs.Causes.{RefusedOf};
+ghost use Rattle.keep_writes.specs.Causes.{RefusedInside};
+ghost use Rattle.keep_writes.specs.Runs.{Ran};
 ghost use Rattle.keep_writes.specs.Writes.{WritesDay, WritesRecord, WritesSeal};
 
 use crate::columns::{bytes_of, column};
@@ -38,7 +39,10 @@ pub fn write_day<S: Alter>(
         → StaysInside (state S.Store tx.old.conn.now) (state S.Store tx.new.conn.now) result }
     ensures refused { HasCleanDisk (state S.Store tx.new.conn.now)
         → IsTrue (state S.Store tx.old.conn.now).in_transaction
-        → IfErr result (RefusedOf S.Store (WritesDay kept.now rows.now) tx.old.conn.now tx.new.conn.now) }
+        → IfErr result (RefusedInside S.Store (WritesDay kept.now rows.now) tx.old.conn.now tx.new.conn.now) }
+    ensures ran { HasCleanDisk (state S.Store tx.new.conn.now)
+        → IsTrue (state S.Store tx.old.conn.now).in_transaction
+        → OnOk result (Ran S.Store (WritesDay kept.now rows.now) tx.old.conn.now tx.new.conn.now) }
     ensures survives { Survives (state S.Store tx.old.conn.now) (state S.Store tx.new.conn.now) (λ _. ⊥) }
 {
     put_record(tx, kept)?;
@@ -66,7 +70,10 @@ pub fn put_record<S: Alter>(tx: &mut Transaction<'_, S>, kept: &DayRecord) -> Re
         → StaysInside (state S.Store tx.old.conn.now) (state S.Store tx.new.conn.now) result }
     ensures refused { HasCleanDisk (state S.Store tx.new.conn.now)
         → IsTrue (state S.Store tx.old.conn.now).in_transaction
-        → IfErr result (RefusedOf S.Store (WritesRecord kept.now) tx.old.conn.now tx.new.conn.now) }
+        → IfErr result (RefusedInside S.Store (WritesRecord kept.now) tx.old.conn.now tx.new.conn.now) }
+    ensures ran { HasCleanDisk (state S.Store tx.new.conn.now)
+        → IsTrue (state S.Store tx.old.conn.now).in_transaction
+        → OnOk result (Ran S.Store (WritesRecord kept.now) tx.old.conn.now tx.new.conn.now) }
     ensures survives { Survives (state S.Store tx.old.conn.now) (state S.Store tx.new.conn.now) (λ _. ⊥) }
 {
     let day = kept.day;
@@ -99,7 +106,10 @@ pub fn put_seal<S: Alter>(tx: &mut Transaction<'_, S>, day: u32, seal: &Digest) 
         → StaysInside (state S.Store tx.old.conn.now) (state S.Store tx.new.conn.now) result }
     ensures refused { HasCleanDisk (state S.Store tx.new.conn.now)
         → IsTrue (state S.Store tx.old.conn.now).in_transaction
-        → IfErr result (RefusedOf S.Store (WritesSeal day seal.now) tx.old.conn.now tx.new.conn.now) }
+        → IfErr result (RefusedInside S.Store (WritesSeal day seal.now) tx.old.conn.now tx.new.conn.now) }
+    ensures ran { HasCleanDisk (state S.Store tx.new.conn.now)
+        → IsTrue (state S.Store tx.old.conn.now).in_transaction
+        → OnOk result (Ran S.Store (WritesSeal day seal.now) tx.old.conn.now tx.new.conn.now) }
     ensures text { HasCleanDisk (state S.Store tx.new.conn.now)
         → IsTrue (state S.Store tx.old.conn.now).in_transaction
         → IfErr result (λ e. ExecutesInside 0 put_seal_text (Int (pos day) ∷ Blob seal.now.bytes ∷ [])

@@ -10,8 +10,10 @@ ghost use Rattle.keep_tables.specs.Stands.{HasOffice, HasOld, StandsForOffice};
 ghost use Rattle.keep_tables.specs.Steps.{StaysInside};
 ghost use Rattle.keep_tables.specs.Texts.{list_days};
 ghost use Rattle.keep_writes.specs.Growth.{Stood, IsUnderstood, SaysIf, LacksVersion, CommitsGrown, CommitsHere};
-ghost use Rattle.keep_writes.specs.Growth.{CommitsListed, CommitsOpen, CommitsSame};
+ghost use Rattle.keep_writes.specs.Growth.{CommitsListed, CommitsOpen, CommitsSame, HasVersion, IsOurs};
+ghost use Rattle.keep_writes.specs.Growth.{PutsVersion, CommitsVersion, IsAtRest};
 ghost use Rattle.keep_writes.specs.Objects.{Lists, MayBeMade, texts_of};
+ghost use Rattle.keep_writes.specs.Unmade.{new_texts, lacking_texts, MakesTables, EndsTables, EndsInside};
 ghost use Rattle.keep_writes.specs.Unmade.{IsUnmade, SeesCommitted};
 
 use crate::objects::{are_texts, list_texts};
@@ -21,7 +23,8 @@ use crate::unfinished::settle;
 use sqlite::{Alter, Connection, Error, ErrorCode, Transaction};
 use std::alloc::Global;
 
-/// Makes the tables, where nothing is listed or version 1 exactly. A database that lists anything else stays as it is.
+/// Undoes what is under way, and makes the tables where nothing is listed or version 1 exactly. A database with the
+/// table of the version stays as it is, and one that lists anything else is refused and stays as it is.
 pub fn make<S: Alter>(conn: &mut Connection<S>, alloc: Global) -> Result<(), Error>
     ensures stands { HasCleanDisk (state S.Store conn.new) → IsTrue (state S.Store conn.new).is_open → (o : Office)
         → StandsForOffice (state S.Store conn.old).committed o
@@ -29,6 +32,14 @@ pub fn make<S: Alter>(conn: &mut Connection<S>, alloc: Global) -> Result<(), Err
         × OnErr result (StandsForOffice (state S.Store conn.new).committed o) }
     ensures left { HasCleanDisk (state S.Store conn.new) → ¬ MayBeMade (state S.Store conn.old).committed
         → KeepsCommit (state S.Store conn.old) (state S.Store conn.new) }
+    ensures ours { HasCleanDisk (state S.Store conn.new) → OnOk result (IsOurs (state S.Store conn.old).committed) }
+    ensures rest { HasCleanDisk (state S.Store conn.new) → OnOk result (IsAtRest (state S.Store conn.new)) }
+    ensures there { HasCleanDisk (state S.Store conn.new) → HasVersion (state S.Store conn.old).committed
+        → KeepsCommit (state S.Store conn.old) (state S.Store conn.new) }
+    ensures second { HasCleanDisk (state S.Store conn.new) → LacksVersion (state S.Store conn.old).committed
+        → OnOk result (CommitsVersion S.Store conn.new) }
+    ensures refused { HasCleanDisk (state S.Store conn.new)
+        → OnErr result (KeepsCommit (state S.Store conn.old) (state S.Store conn.new)) }
     ensures why { HasCleanDisk (state S.Store conn.new) → IfErr result (IsUnmade S.Store conn.old conn.new) }
     ensures crash { Survives (state S.Store conn.old) (state S.Store conn.new) (CommitsSame
         (state S.Store conn.old).committed) }
@@ -49,6 +60,13 @@ fn make_here<S: Alter>(conn: &mut Connection<S>, alloc: Global) -> Result<(), Er
         → OnErr result (KeepsCommit (state S.Store conn.old) (state S.Store conn.new)) }
     ensures left { HasCleanDisk (state S.Store conn.new) → ¬ MayBeMade (state S.Store conn.old).now
         → KeepsCommit (state S.Store conn.old) (state S.Store conn.new) }
+    ensures ours { HasCleanDisk (state S.Store conn.new) → OnOk result (IsOurs (state S.Store conn.old).now) }
+    ensures rest { HasCleanDisk (state S.Store conn.new) → SeesCommitted (state S.Store conn.old)
+        → (state S.Store conn.old).in_transaction ≡ false → OnOk result (IsAtRest (state S.Store conn.new)) }
+    ensures there { HasCleanDisk (state S.Store conn.new) → HasVersion (state S.Store conn.old).now
+        → KeepsCommit (state S.Store conn.old) (state S.Store conn.new) }
+    ensures second { HasCleanDisk (state S.Store conn.new) → LacksVersion (state S.Store conn.old).now
+        → OnOk result (CommitsVersion S.Store conn.new) }
     ensures why { HasCleanDisk (state S.Store conn.new) → SeesCommitted (state S.Store conn.old)
         → IfErr result (λ e. IsTrue (state S.Store conn.old).in_transaction
         ⊎ IsUnmade S.Store conn.old conn.new e) }
@@ -71,6 +89,9 @@ fn grow_by<S: Alter>(conn: &mut Connection<S>, alloc: Global) -> Result<(), Erro
         → OnErr result (KeepsCommit (state S.Store conn.old) (state S.Store conn.new)) }
     ensures left { HasCleanDisk (state S.Store conn.new) → ¬ MayBeMade (state S.Store conn.old).now
         → KeepsCommit (state S.Store conn.old) (state S.Store conn.new) }
+    ensures ours { HasCleanDisk (state S.Store conn.new) → OnOk result (MayBeMade (state S.Store conn.old).now) }
+    ensures rest { HasCleanDisk (state S.Store conn.new) → OnOk result (IsAtRest (state S.Store conn.new)) }
+    ensures second { HasCleanDisk (state S.Store conn.new) → OnOk result (CommitsVersion S.Store conn.new) }
     ensures why { HasCleanDisk (state S.Store conn.new) → SeesCommitted (state S.Store conn.old)
         → IfErr result (λ e. IsTrue (state S.Store conn.old).in_transaction
         ⊎ IsUnmade S.Store conn.old conn.new e) }
@@ -90,6 +111,10 @@ fn grow_listed<S: Alter>(conn: &mut Connection<S>, alloc: Global, is_old: bool) 
         → OnErr result (KeepsCommit (state S.Store conn.old) (state S.Store conn.new)) }
     ensures left { HasCleanDisk (state S.Store conn.new) → ¬ Lists (state S.Store conn.old).now (texts_of is_old)
         → KeepsCommit (state S.Store conn.old) (state S.Store conn.new) }
+    ensures listed { HasCleanDisk (state S.Store conn.new)
+        → OnOk result (Lists (state S.Store conn.old).now (texts_of is_old)) }
+    ensures rest { HasCleanDisk (state S.Store conn.new) → OnOk result (IsAtRest (state S.Store conn.new)) }
+    ensures second { HasCleanDisk (state S.Store conn.new) → OnOk result (CommitsVersion S.Store conn.new) }
     ensures why { HasCleanDisk (state S.Store conn.new) → SeesCommitted (state S.Store conn.old)
         → SaysIf is_old (IsUnderstood (understood (state S.Store conn.old).now.schema list_days))
         → IfErr result (λ e. IsTrue (state S.Store conn.old).in_transaction
@@ -112,7 +137,11 @@ fn grow<S: Alter>(conn: &mut Connection<S>, alloc: Global, is_old: bool) -> Resu
         → IsTrue (state S.Store conn.old).is_open }
     ensures refused { HasCleanDisk (state S.Store conn.new)
         → OnErr result (KeepsCommit (state S.Store conn.old) (state S.Store conn.new)) }
-    ensures why { HasCleanDisk (state S.Store conn.new)
+    ensures second { HasCleanDisk (state S.Store conn.new) → OnOk result (CommitsVersion S.Store conn.new) }
+    ensures rest { HasCleanDisk (state S.Store conn.new) → OnOk result (IsAtRest (state S.Store conn.new)) }
+    ensures why { HasCleanDisk (state S.Store conn.new) → SeesCommitted (state S.Store conn.old)
+        → SaysIf is_old (IsUnderstood (understood (state S.Store conn.old).now.schema list_days))
+        → Lists (state S.Store conn.old).now (texts_of is_old)
         → IfErr result (λ e. IsTrue (state S.Store conn.old).in_transaction
         ⊎ IsUnmade S.Store conn.old conn.new e) }
     ensures crash { Survives (state S.Store conn.old) (state S.Store conn.new) (CommitsGrown is_old
@@ -137,12 +166,19 @@ fn write_tables<S: Alter>(
         → IsTrue (state S.Store tx.old.conn.now).in_transaction → (o : Office)
         → Stood is_old (state S.Store tx.old.conn.now).now o
         → OnOk result (HasOffice (state S.Store tx.new.conn.now).now o) }
+    ensures ran { HasCleanDisk (state S.Store tx.new.conn.now)
+        → IsTrue (state S.Store tx.old.conn.now).in_transaction
+        → OnOk result (PutsVersion S.Store tx.new.conn.now) }
     ensures inside { HasCleanDisk (state S.Store tx.new.conn.now)
         → IsTrue (state S.Store tx.old.conn.now).in_transaction
         → StaysInside (state S.Store tx.old.conn.now) (state S.Store tx.new.conn.now) result }
+    ensures texts { HasCleanDisk (state S.Store tx.new.conn.now)
+        → IsTrue (state S.Store tx.old.conn.now).in_transaction
+        → OnOk result (MakesTables S.Store (lacking_texts is_old) tx.old.conn.now tx.new.conn.now) }
     ensures refused { HasCleanDisk (state S.Store tx.new.conn.now)
         → IsTrue (state S.Store tx.old.conn.now).in_transaction
-        → IfErr result (IsUnmade S.Store tx.old.conn.now tx.new.conn.now) }
+        → IfErr result (EndsInside S.Store (EndsTables S.Store (lacking_texts is_old)) tx.old.conn.now
+        tx.new.conn.now) }
     ensures survives { Survives (state S.Store tx.old.conn.now) (state S.Store tx.new.conn.now) (λ _. ⊥) }
 {
     if is_old {
@@ -158,12 +194,18 @@ fn finish_tables<S: Alter>(tx: &mut Transaction<'_, S>, alloc: Global) -> Result
     ensures wrote { HasCleanDisk (state S.Store tx.new.conn.now)
         → IsTrue (state S.Store tx.old.conn.now).in_transaction → (o : Office)
         → HasOld (state S.Store tx.old.conn.now).now o → OnOk result (HasOffice (state S.Store tx.new.conn.now).now o) }
+    ensures ran { HasCleanDisk (state S.Store tx.new.conn.now)
+        → IsTrue (state S.Store tx.old.conn.now).in_transaction
+        → OnOk result (PutsVersion S.Store tx.new.conn.now) }
     ensures inside { HasCleanDisk (state S.Store tx.new.conn.now)
         → IsTrue (state S.Store tx.old.conn.now).in_transaction
         → StaysInside (state S.Store tx.old.conn.now) (state S.Store tx.new.conn.now) result }
+    ensures texts { HasCleanDisk (state S.Store tx.new.conn.now)
+        → IsTrue (state S.Store tx.old.conn.now).in_transaction
+        → OnOk result (MakesTables S.Store new_texts tx.old.conn.now tx.new.conn.now) }
     ensures refused { HasCleanDisk (state S.Store tx.new.conn.now)
         → IsTrue (state S.Store tx.old.conn.now).in_transaction
-        → IfErr result (IsUnmade S.Store tx.old.conn.now tx.new.conn.now) }
+        → IfErr result (EndsInside S.Store (EndsTables S.Store new_texts) tx.old.conn.now tx.new.conn.now) }
     ensures survives { Survives (state S.Store tx.old.conn.now) (state S.Store tx.new.conn.now) (λ _. ⊥) }
 {
     make_rest(tx)?;

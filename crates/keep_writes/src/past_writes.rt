@@ -6,7 +6,8 @@ ghost use Rattle.keep_office.specs.Office.{Office};
 ghost use Rattle.keep_office.specs.Kept.{IsPastPut, HasNoDays, with_past};
 ghost use Rattle.keep_tables.specs.Stands.{Contents, Holds, HasOffice, FitsPast, with_history};
 ghost use Rattle.keep_tables.specs.Steps.{StaysInside};
-ghost use Rattle.keep_writes.specs.Causes.{RefusedOf};
+ghost use Rattle.keep_writes.specs.Causes.{RefusedInside};
+ghost use Rattle.keep_writes.specs.Runs.{Ran};
 ghost use Rattle.keep_writes.specs.Writes.{WritesPast, WritesHistory};
 
 use crate::columns::{bytes_of, column};
@@ -32,7 +33,10 @@ pub fn write_past<S: Alter>(
         → StaysInside (state S.Store tx.old.conn.now) (state S.Store tx.new.conn.now) result }
     ensures refused { HasCleanDisk (state S.Store tx.new.conn.now)
         → IsTrue (state S.Store tx.old.conn.now).in_transaction
-        → IfErr result (RefusedOf S.Store (WritesPast kept.now rows.now) tx.old.conn.now tx.new.conn.now) }
+        → IfErr result (RefusedInside S.Store (WritesPast kept.now rows.now) tx.old.conn.now tx.new.conn.now) }
+    ensures ran { HasCleanDisk (state S.Store tx.new.conn.now)
+        → IsTrue (state S.Store tx.old.conn.now).in_transaction
+        → OnOk result (Ran S.Store (WritesPast kept.now rows.now) tx.old.conn.now tx.new.conn.now) }
     ensures survives { Survives (state S.Store tx.old.conn.now) (state S.Store tx.new.conn.now) (λ _. ⊥) }
 {
     put_history(tx, kept)?;
@@ -54,7 +58,10 @@ fn put_history<S: Alter>(tx: &mut Transaction<'_, S>, kept: &PastRecord) -> Resu
         → StaysInside (state S.Store tx.old.conn.now) (state S.Store tx.new.conn.now) result }
     ensures refused { HasCleanDisk (state S.Store tx.new.conn.now)
         → IsTrue (state S.Store tx.old.conn.now).in_transaction
-        → IfErr result (RefusedOf S.Store (WritesHistory kept.now) tx.old.conn.now tx.new.conn.now) }
+        → IfErr result (RefusedInside S.Store (WritesHistory kept.now) tx.old.conn.now tx.new.conn.now) }
+    ensures ran { HasCleanDisk (state S.Store tx.new.conn.now)
+        → IsTrue (state S.Store tx.old.conn.now).in_transaction
+        → OnOk result (Ran S.Store (WritesHistory kept.now) tx.old.conn.now tx.new.conn.now) }
     ensures survives { Survives (state S.Store tx.old.conn.now) (state S.Store tx.new.conn.now) (λ _. ⊥) }
 {
     let base = kept.base;

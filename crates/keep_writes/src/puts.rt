@@ -1,13 +1,18 @@
 // What is put into the tables, each put in one transaction. Where one is refused, the database's error is told.
-ghost use Rattle.std.specs.Prelude.{◌≡◌, ◌⊎◌, IsTrue, IfErr, OnOk, OnErr};
+ghost use Rattle.std.specs.Prelude.{◌≡◌, ◌↔◌, ◌⊎◌, Some, IsTrue, IfErr, OnOk, OnErr};
+ghost use Rattle.sqlite.specs.declared.error.Error.TheVariants.{SqliteFailure};
+ghost use Rattle.sqlite.specs.declared.error.ErrorCode.TheVariants.{OutOfMemory};
 ghost use Rattle.sqlite.specs.Held.{state};
 ghost use Rattle.sqlite.specs.State.{HasCleanDisk, KeepsCommit, Survives};
 ghost use Rattle.road_time.specs.Rates.{IsTariff};
 ghost use Rattle.keep_office.specs.Office.{Office};
 ghost use Rattle.keep_office.specs.Kept.{IsDayPut, IsPastPut, IsLater, HasNoDays, with_day, with_past, with_tariff_of};
+ghost use Rattle.keep_office.specs.declared.kept.KeepFault.TheVariants.{NoMemory};
 ghost use Rattle.keep_tables.specs.Stands.{HasOffice};
 ghost use Rattle.keep_tables.specs.Steps.{CommitsFor, CommitsNow, FitsAny};
 ghost use Rattle.keep_writes.specs.Causes.{RefusedOf, HasCauseOf, IsTold};
+ghost use Rattle.keep_writes.specs.Runs.{CommitsRun};
+ghost use Rattle.keep_writes.specs.Unmade.{SeesCommitted};
 ghost use Rattle.keep_writes.specs.Writes.{WritesDay, WritesPast, WritesTariff};
 
 use crate::day_writes::write_day;
@@ -35,8 +40,11 @@ pub fn put_day<S: Alter>(
         → OnErr result (KeepsCommit (state S.Store conn.old) (state S.Store conn.new)) }
     ensures why { HasCleanDisk (state S.Store conn.new)
         → IfErr result (HasCauseOf S.Store (WritesDay kept.now rows.now) conn.old conn.new) }
+    ensures wrote { HasCleanDisk (state S.Store conn.new)
+        → OnOk result (CommitsRun S.Store (WritesDay kept.now rows.now) conn.old conn.new) }
     ensures told { HasCleanDisk (state S.Store conn.new)
         → OnErr result (IsTold S.Store (WritesDay kept.now rows.now) conn.old conn.new why.new) }
+    ensures named { IfErr result (λ fault. (fault ≡ NoMemory) ↔ (why.new ≡ Some (SqliteFailure OutOfMemory))) }
     ensures quiet { OnOk result (why.new ≡ why.old) }
     ensures crash { Survives (state S.Store conn.old) (state S.Store conn.new) (CommitsFor (IsLater kept.now.day)
         (with_day kept.now rows.now) (state S.Store conn.old).committed) }
@@ -64,9 +72,11 @@ fn keep_day<S: Alter>(
         → OnOk result (IsTrue (state S.Store conn.old).is_open × IsTrue (state S.Store conn.new).is_open) }
     ensures refused { HasCleanDisk (state S.Store conn.new)
         → OnErr result (KeepsCommit (state S.Store conn.old) (state S.Store conn.new)) }
-    ensures because { HasCleanDisk (state S.Store conn.new)
+    ensures because { HasCleanDisk (state S.Store conn.new) → SeesCommitted (state S.Store conn.old)
         → IfErr result (λ e. IsTrue (state S.Store conn.old).in_transaction
         ⊎ RefusedOf S.Store (WritesDay kept.now rows.now) conn.old conn.new e) }
+    ensures wrote { HasCleanDisk (state S.Store conn.new) → SeesCommitted (state S.Store conn.old)
+        → OnOk result (CommitsRun S.Store (WritesDay kept.now rows.now) conn.old conn.new) }
     ensures crash { Survives (state S.Store conn.old) (state S.Store conn.new) (CommitsNow (IsLater kept.now.day)
         (with_day kept.now rows.now) (state S.Store conn.old)) }
 {
@@ -94,8 +104,11 @@ pub fn put_past<S: Alter>(
         → OnErr result (KeepsCommit (state S.Store conn.old) (state S.Store conn.new)) }
     ensures why { HasCleanDisk (state S.Store conn.new)
         → IfErr result (HasCauseOf S.Store (WritesPast kept.now rows.now) conn.old conn.new) }
+    ensures wrote { HasCleanDisk (state S.Store conn.new)
+        → OnOk result (CommitsRun S.Store (WritesPast kept.now rows.now) conn.old conn.new) }
     ensures told { HasCleanDisk (state S.Store conn.new)
         → OnErr result (IsTold S.Store (WritesPast kept.now rows.now) conn.old conn.new why.new) }
+    ensures named { IfErr result (λ fault. (fault ≡ NoMemory) ↔ (why.new ≡ Some (SqliteFailure OutOfMemory))) }
     ensures quiet { OnOk result (why.new ≡ why.old) }
     ensures crash { Survives (state S.Store conn.old) (state S.Store conn.new) (CommitsFor HasNoDays
         (with_past kept.now rows.now) (state S.Store conn.old).committed) }
@@ -122,9 +135,11 @@ fn keep_past<S: Alter>(
         → OnOk result (IsTrue (state S.Store conn.old).is_open × IsTrue (state S.Store conn.new).is_open) }
     ensures refused { HasCleanDisk (state S.Store conn.new)
         → OnErr result (KeepsCommit (state S.Store conn.old) (state S.Store conn.new)) }
-    ensures because { HasCleanDisk (state S.Store conn.new)
+    ensures because { HasCleanDisk (state S.Store conn.new) → SeesCommitted (state S.Store conn.old)
         → IfErr result (λ e. IsTrue (state S.Store conn.old).in_transaction
         ⊎ RefusedOf S.Store (WritesPast kept.now rows.now) conn.old conn.new e) }
+    ensures wrote { HasCleanDisk (state S.Store conn.new) → SeesCommitted (state S.Store conn.old)
+        → OnOk result (CommitsRun S.Store (WritesPast kept.now rows.now) conn.old conn.new) }
     ensures crash { Survives (state S.Store conn.old) (state S.Store conn.new) (CommitsNow HasNoDays
         (with_past kept.now rows.now) (state S.Store conn.old)) }
 {
@@ -152,8 +167,11 @@ pub fn put_tariff<S: Alter>(
         → OnErr result (KeepsCommit (state S.Store conn.old) (state S.Store conn.new)) }
     ensures why { HasCleanDisk (state S.Store conn.new)
         → IfErr result (HasCauseOf S.Store (WritesTariff xway tariff.now) conn.old conn.new) }
+    ensures wrote { HasCleanDisk (state S.Store conn.new)
+        → OnOk result (CommitsRun S.Store (WritesTariff xway tariff.now) conn.old conn.new) }
     ensures told { HasCleanDisk (state S.Store conn.new)
         → OnErr result (IsTold S.Store (WritesTariff xway tariff.now) conn.old conn.new why.new) }
+    ensures named { IfErr result (λ fault. (fault ≡ NoMemory) ↔ (why.new ≡ Some (SqliteFailure OutOfMemory))) }
     ensures quiet { OnOk result (why.new ≡ why.old) }
     ensures crash { Survives (state S.Store conn.old) (state S.Store conn.new) (CommitsFor FitsAny
         (with_tariff_of xway tariff.now) (state S.Store conn.old).committed) }
@@ -176,9 +194,11 @@ fn replace<S: Alter>(conn: &mut Connection<S>, xway: u8, tariff: &Tariff) -> Res
         → OnOk result (IsTrue (state S.Store conn.old).is_open × IsTrue (state S.Store conn.new).is_open) }
     ensures refused { HasCleanDisk (state S.Store conn.new)
         → OnErr result (KeepsCommit (state S.Store conn.old) (state S.Store conn.new)) }
-    ensures because { HasCleanDisk (state S.Store conn.new)
+    ensures because { HasCleanDisk (state S.Store conn.new) → SeesCommitted (state S.Store conn.old)
         → IfErr result (λ e. IsTrue (state S.Store conn.old).in_transaction
         ⊎ RefusedOf S.Store (WritesTariff xway tariff.now) conn.old conn.new e) }
+    ensures wrote { HasCleanDisk (state S.Store conn.new) → SeesCommitted (state S.Store conn.old)
+        → OnOk result (CommitsRun S.Store (WritesTariff xway tariff.now) conn.old conn.new) }
     ensures crash { Survives (state S.Store conn.old) (state S.Store conn.new) (CommitsNow FitsAny
         (with_tariff_of xway tariff.now) (state S.Store conn.old)) }
 {

@@ -6,7 +6,8 @@ ghost use Rattle.sqlite.specs.State.{HasCleanDisk, Survives};
 ghost use Rattle.keep_tables.specs.Layout.{all_tables};
 ghost use Rattle.keep_tables.specs.Stands.{FitsSpent};
 ghost use Rattle.keep_tables.specs.Steps.{StaysInside, AddsAmounts};
-ghost use Rattle.keep_writes.specs.Causes.{RefusedOf};
+ghost use Rattle.keep_writes.specs.Causes.{RefusedInside};
+ghost use Rattle.keep_writes.specs.Runs.{Ran};
 ghost use Rattle.keep_writes.specs.Writes.{WritesAmount, WritesAmounts};
 
 use crate::columns::column;
@@ -33,7 +34,10 @@ pub fn put_amount<S: Alter>(
         → StaysInside (state S.Store tx.old.conn.now) (state S.Store tx.new.conn.now) result }
     ensures refused { HasCleanDisk (state S.Store tx.new.conn.now)
         → IsTrue (state S.Store tx.old.conn.now).in_transaction
-        → IfErr result (RefusedOf S.Store (WritesAmount row.now) tx.old.conn.now tx.new.conn.now) }
+        → IfErr result (RefusedInside S.Store (WritesAmount row.now) tx.old.conn.now tx.new.conn.now) }
+    ensures ran { HasCleanDisk (state S.Store tx.new.conn.now)
+        → IsTrue (state S.Store tx.old.conn.now).in_transaction
+        → OnOk result (Ran S.Store (WritesAmount row.now) tx.old.conn.now tx.new.conn.now) }
     ensures survives { Survives (state S.Store tx.old.conn.now) (state S.Store tx.new.conn.now) (λ _. ⊥) }
 {
     let day = row.day;
@@ -62,7 +66,10 @@ pub fn put_amounts<S: Alter>(tx: &mut Transaction<'_, S>, rows: &[SpentRow]) -> 
         → StaysInside (state S.Store tx.old.conn.now) (state S.Store tx.new.conn.now) result }
     ensures refused { HasCleanDisk (state S.Store tx.new.conn.now)
         → IsTrue (state S.Store tx.old.conn.now).in_transaction
-        → IfErr result (RefusedOf S.Store (WritesAmounts rows.now) tx.old.conn.now tx.new.conn.now) }
+        → IfErr result (RefusedInside S.Store (WritesAmounts rows.now) tx.old.conn.now tx.new.conn.now) }
+    ensures ran { HasCleanDisk (state S.Store tx.new.conn.now)
+        → IsTrue (state S.Store tx.old.conn.now).in_transaction
+        → OnOk result (Ran S.Store (WritesAmounts rows.now) tx.old.conn.now tx.new.conn.now) }
     ensures survives { Survives (state S.Store tx.old.conn.now) (state S.Store tx.new.conn.now) (λ _. ⊥) }
 {
     'rows: for row in rows {

@@ -5,8 +5,10 @@ ghost use Rattle.sqlite.specs.State.{HasCleanDisk, ExecutesInside, Survives};
 ghost use Rattle.keep_office.specs.Office.{Office};
 ghost use Rattle.keep_tables.specs.Stands.{Contents, Holds, HoldsAs, HasOld, HasNothing};
 ghost use Rattle.keep_tables.specs.Steps.{StaysInside};
-ghost use Rattle.keep_writes.specs.Growth.{TextRan, IsUnsealed};
-ghost use Rattle.keep_writes.specs.Unmade.{IsUnmade};
+ghost use Rattle.keep_writes.specs.Growth.{TextRan, RanInside, IsUnsealed, PutsVersion};
+ghost use Rattle.keep_tables.specs.Texts.{put_version as put_version_text};
+ghost use Rattle.keep_writes.specs.Runs.{RanOne};
+ghost use Rattle.keep_writes.specs.Unmade.{old_texts, new_texts, IsText, RanEach, RefusesEach, EndsInside};
 
 use sqlite::{Alter, Error, Transaction};
 
@@ -32,6 +34,9 @@ pub fn run<S: Alter>(tx: &mut Transaction<'_, S>, sql: &str) -> Result<(), Error
     ensures ran { HasCleanDisk (state S.Store tx.new.conn.now)
         → IsTrue (state S.Store tx.old.conn.now).in_transaction
         → OnOk result (TextRan sql.now (state S.Store tx.old.conn.now) (state S.Store tx.new.conn.now)) }
+    ensures within { HasCleanDisk (state S.Store tx.new.conn.now)
+        → IsTrue (state S.Store tx.old.conn.now).in_transaction
+        → OnOk result (RanInside sql.now [] (state S.Store tx.old.conn.now) (state S.Store tx.new.conn.now)) }
     ensures inside { HasCleanDisk (state S.Store tx.new.conn.now)
         → IsTrue (state S.Store tx.old.conn.now).in_transaction
         → StaysInside (state S.Store tx.old.conn.now) (state S.Store tx.new.conn.now) result }
@@ -57,9 +62,12 @@ pub fn make_old<S: Alter>(tx: &mut Transaction<'_, S>) -> Result<(), Error>
     ensures inside { HasCleanDisk (state S.Store tx.new.conn.now)
         → IsTrue (state S.Store tx.old.conn.now).in_transaction
         → StaysInside (state S.Store tx.old.conn.now) (state S.Store tx.new.conn.now) result }
+    ensures texts { HasCleanDisk (state S.Store tx.new.conn.now)
+        → IsTrue (state S.Store tx.old.conn.now).in_transaction
+        → OnOk result (RanEach S.Store old_texts tx.old.conn.now tx.new.conn.now) }
     ensures refused { HasCleanDisk (state S.Store tx.new.conn.now)
         → IsTrue (state S.Store tx.old.conn.now).in_transaction
-        → IfErr result (IsUnmade S.Store tx.old.conn.now tx.new.conn.now) }
+        → IfErr result (EndsInside S.Store (RefusesEach S.Store old_texts) tx.old.conn.now tx.new.conn.now) }
     ensures survives { Survives (state S.Store tx.old.conn.now) (state S.Store tx.new.conn.now) (λ _. ⊥) }
 {
     run(tx, DAYS)?;
@@ -77,9 +85,12 @@ pub fn make_rest<S: Alter>(tx: &mut Transaction<'_, S>) -> Result<(), Error>
     ensures inside { HasCleanDisk (state S.Store tx.new.conn.now)
         → IsTrue (state S.Store tx.old.conn.now).in_transaction
         → StaysInside (state S.Store tx.old.conn.now) (state S.Store tx.new.conn.now) result }
+    ensures texts { HasCleanDisk (state S.Store tx.new.conn.now)
+        → IsTrue (state S.Store tx.old.conn.now).in_transaction
+        → OnOk result (RanEach S.Store new_texts tx.old.conn.now tx.new.conn.now) }
     ensures refused { HasCleanDisk (state S.Store tx.new.conn.now)
         → IsTrue (state S.Store tx.old.conn.now).in_transaction
-        → IfErr result (IsUnmade S.Store tx.old.conn.now tx.new.conn.now) }
+        → IfErr result (EndsInside S.Store (RefusesEach S.Store new_texts) tx.old.conn.now tx.new.conn.now) }
     ensures survives { Survives (state S.Store tx.old.conn.now) (state S.Store tx.new.conn.now) (λ _. ⊥) }
 {
     run(
@@ -103,12 +114,19 @@ pub fn put_version<S: Alter>(tx: &mut Transaction<'_, S>) -> Result<(), Error>
     ensures puts { HasCleanDisk (state S.Store tx.new.conn.now)
         → IsTrue (state S.Store tx.old.conn.now).in_transaction → (c : Contents)
         → HoldsAs [] (state S.Store tx.old.conn.now).now c → OnOk result (Holds (state S.Store tx.new.conn.now).now c) }
+    ensures ran { HasCleanDisk (state S.Store tx.new.conn.now)
+        → IsTrue (state S.Store tx.old.conn.now).in_transaction
+        → OnOk result (PutsVersion S.Store tx.new.conn.now) }
     ensures inside { HasCleanDisk (state S.Store tx.new.conn.now)
         → IsTrue (state S.Store tx.old.conn.now).in_transaction
         → StaysInside (state S.Store tx.old.conn.now) (state S.Store tx.new.conn.now) result }
+    ensures texts { HasCleanDisk (state S.Store tx.new.conn.now)
+        → IsTrue (state S.Store tx.old.conn.now).in_transaction
+        → OnOk result (RanOne S.Store (IsText put_version_text) tx.old.conn.now tx.new.conn.now) }
     ensures refused { HasCleanDisk (state S.Store tx.new.conn.now)
         → IsTrue (state S.Store tx.old.conn.now).in_transaction
-        → IfErr result (IsUnmade S.Store tx.old.conn.now tx.new.conn.now) }
+        → IfErr result (λ e. ExecutesInside 0 put_version_text [] (state S.Store tx.old.conn.now)
+        (state S.Store tx.new.conn.now) (Err e)) }
     ensures survives { Survives (state S.Store tx.old.conn.now) (state S.Store tx.new.conn.now) (λ _. ⊥) }
 {
     run(tx, "INSERT INTO form VALUES (1, 2)")

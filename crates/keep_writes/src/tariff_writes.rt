@@ -8,7 +8,9 @@ ghost use Rattle.keep_office.specs.Office.{Office};
 ghost use Rattle.keep_office.specs.Kept.{with_tariff_of};
 ghost use Rattle.keep_tables.specs.Stands.{HasOffice};
 ghost use Rattle.keep_tables.specs.Steps.{StaysInside};
-ghost use Rattle.keep_writes.specs.Causes.{RefusedOf};
+ghost use Rattle.keep_tables.specs.Shown.{tariff_columns};
+ghost use Rattle.keep_writes.specs.Causes.{LeftByDrop, RefusedInside};
+ghost use Rattle.keep_writes.specs.Runs.{Ran};
 ghost use Rattle.keep_writes.specs.Writes.{WritesTariff, WritesTaken, WritesGiven};
 
 use road_time::Tariff;
@@ -27,7 +29,10 @@ pub fn write<S: Alter>(tx: &mut Transaction<'_, S>, xway: u8, tariff: &Tariff) -
         → StaysInside (state S.Store tx.old.conn.now) (state S.Store tx.new.conn.now) result }
     ensures refused { HasCleanDisk (state S.Store tx.new.conn.now)
         → IsTrue (state S.Store tx.old.conn.now).in_transaction
-        → IfErr result (RefusedOf S.Store (WritesTariff xway tariff.now) tx.old.conn.now tx.new.conn.now) }
+        → IfErr result (RefusedInside S.Store (WritesTariff xway tariff.now) tx.old.conn.now tx.new.conn.now) }
+    ensures ran { HasCleanDisk (state S.Store tx.new.conn.now)
+        → IsTrue (state S.Store tx.old.conn.now).in_transaction
+        → OnOk result (Ran S.Store (WritesTariff xway tariff.now) tx.old.conn.now tx.new.conn.now) }
     ensures survives { Survives (state S.Store tx.old.conn.now) (state S.Store tx.new.conn.now) (λ _. ⊥) }
 {
     take(tx, xway)?;
@@ -49,7 +54,13 @@ fn take<S: Alter>(tx: &mut Transaction<'_, S>, xway: u8) -> Result<(), Error>
         → StaysInside (state S.Store tx.old.conn.now) (state S.Store tx.new.conn.now) result }
     ensures refused { HasCleanDisk (state S.Store tx.new.conn.now)
         → IsTrue (state S.Store tx.old.conn.now).in_transaction
-        → IfErr result (RefusedOf S.Store (WritesTaken xway) tx.old.conn.now tx.new.conn.now) }
+        → IfErr result (RefusedInside S.Store (WritesTaken xway) tx.old.conn.now tx.new.conn.now) }
+    ensures ran { HasCleanDisk (state S.Store tx.new.conn.now)
+        → IsTrue (state S.Store tx.old.conn.now).in_transaction
+        → OnOk result (Ran S.Store (WritesTaken xway) tx.old.conn.now tx.new.conn.now) }
+    ensures dropped { HasCleanDisk (state S.Store tx.new.conn.now)
+        → IsTrue (state S.Store tx.old.conn.now).in_transaction
+        → OnOk result (LeftByDrop S.Store (Int (pos xway) ∷ []) tx.new.conn.now) }
     ensures survives { Survives (state S.Store tx.old.conn.now) (state S.Store tx.new.conn.now) (λ _. ⊥) }
 {
     match tx.execute(
@@ -75,7 +86,11 @@ fn give<S: Alter>(tx: &mut Transaction<'_, S>, xway: u8, tariff: &Tariff) -> Res
         → StaysInside (state S.Store tx.old.conn.now) (state S.Store tx.new.conn.now) result }
     ensures refused { HasCleanDisk (state S.Store tx.new.conn.now)
         → IsTrue (state S.Store tx.old.conn.now).in_transaction
-        → IfErr result (RefusedOf S.Store (WritesGiven xway tariff.now) tx.old.conn.now tx.new.conn.now) }
+        → LeftByDrop S.Store (tariff_columns (xway, tariff.now)) tx.old.conn.now
+        → IfErr result (RefusedInside S.Store (WritesGiven xway tariff.now) tx.old.conn.now tx.new.conn.now) }
+    ensures ran { HasCleanDisk (state S.Store tx.new.conn.now)
+        → IsTrue (state S.Store tx.old.conn.now).in_transaction
+        → OnOk result (Ran S.Store (WritesGiven xway tariff.now) tx.old.conn.now tx.new.conn.now) }
     ensures survives { Survives (state S.Store tx.old.conn.now) (state S.Store tx.new.conn.now) (λ _. ⊥) }
 {
     match tx.execute(

@@ -2,13 +2,16 @@ use Rattle.std.proofs.Common.{refl, inl, sym, subst, arith}
 use Rattle.sqlite.specs.Effect.{Database}
 use Rattle.sqlite.specs.Held.{state}
 use Rattle.sqlite.specs.State.{HasCleanDisk}
+use Rattle.sqlite.proofs.StateLemmas.{survives_weaker}
 use Rattle.keep_office.specs.Kept.{HasNoDays, with_past}
 use Rattle.keep_tables.specs.Stands.{HasOffice}
+use Rattle.keep_tables.proofs.StepLaws.{kept_then}
 use Rattle.keep_writes.proofs.GrowLaws.{err_stands}
-use Rattle.keep_database.proofs.StandLaws.{put_stands, put_lasts, always}
-use Rattle.keep_database.proofs.CauseSteps.{causes_after, told_after, on_err}
+use Rattle.keep_database.proofs.StandLaws.{put_stands, put_lasts, spared_after, always}
+use Rattle.keep_database.proofs.CauseSteps.{causes_after, told_after, on_err, on_else}
 use Rattle.keep_writes.specs.Writes.{WritesPast}
-use Rattle.keep_writes.proofs.CauseLaws.{err_handed, cause_idle}
+use Rattle.keep_writes.proofs.CauseLaws.{err_handed, cause_idle, on_then}
+use Rattle.keep_writes.proofs.RunLaws.{commits_after}
 use Rattle.keep_database.proofs.calls.put_past.Goals as goal
 
 pub returns-in_err-ready-clause-put : goal.returns-in_err-ready-clause-put
@@ -55,12 +58,40 @@ returns-clause-version g c clean =
       shows = c.in_ok-ready.ensures.version (omega (arith, c.put_past.ensures.crash.clean));
     })
 
+pub returns-clause-wrote : goal.returns-clause-wrote
+returns-clause-wrote g c clean =
+    on_then c.put_past.result _ _ (c.put_past.ensures.wrote clean)
+    (commits_after g.S.Store (WritesPast c.args.kept.now c.args.rows.now) c.args.conn.now c.ready.new.conn
+    c.put_past.new.conn (c.ready.ensures.kept (omega (arith, c.put_past.ensures.crash.clean))))
+
 pub returns-in_err-ready-clause-told : goal.returns-in_err-ready-clause-told
-returns-in_err-ready-clause-told g c clean = on_err c.from_residual.result _ (inl refl)
+returns-in_err-ready-clause-told g c clean =
+    err_handed c.from_residual.result c.in_err-ready.field-0.0 _ c.from_residual.ensures.1
+    (inl (refl, c.in_err-ready.ensures.unready clean))
 
 pub returns-clause-told : goal.returns-clause-told
 returns-clause-told g c clean =
     told_after g.S.Store (WritesPast c.args.kept.now c.args.rows.now) c.args.conn.now c.ready.new.conn
-    c.put_past.new.conn
-    (c.ready.ensures.kept (omega (arith, c.put_past.ensures.crash.clean))) c.ready.ensures.survives c.put_past.result _ _
-    (c.put_past.ensures.told clean)
+    c.put_past.new.conn (c.ready.ensures.kept (omega (arith, c.put_past.ensures.crash.clean)))
+    c.ready.ensures.survives c.put_past.result _ _ _ (c.put_past.ensures.told clean) c.put_past.ensures.named
+
+pub returns-in_err-ready-clause-refused : goal.returns-in_err-ready-clause-refused
+returns-in_err-ready-clause-refused g c clean = on_err c.from_residual.result _ (c.in_err-ready.ensures.kept clean)
+
+pub returns-clause-refused : goal.returns-clause-refused
+returns-clause-refused g c clean =
+    let mid = state g.S.Store c.ready.new.conn in
+    let early : HasCleanDisk mid = omega (arith, c.put_past.ensures.crash.clean) in
+    on_else c.put_past.result _ _ (c.put_past.ensures.refused clean)
+    (kept_then (state g.S.Store c.args.conn.now) mid (state g.S.Store c.put_past.new.conn)
+    (c.ready.ensures.kept early))
+
+pub returns-in_err-ready-clause-spares : goal.returns-in_err-ready-clause-spares
+returns-in_err-ready-clause-spares g c =
+    survives_weaker (state g.S.Store c.args.conn.now) (state g.S.Store c.ready.new.conn) (λ _. ⊥) _
+    (λ _ db none. absurd none) c.ready.ensures.survives
+
+pub returns-clause-spares : goal.returns-clause-spares
+returns-clause-spares g c =
+    spared_after g.S.Store c.args.conn.now c.ready.new.conn c.put_past.new.conn _ c.in_ok-ready.ensures.version
+    c.ready.ensures.survives c.put_past.ensures.crash

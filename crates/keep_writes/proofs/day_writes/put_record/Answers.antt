@@ -1,9 +1,10 @@
-use Rattle.std.proofs.Common.{◌≡◌, to_z, of_z, w64, rules, inl, inr, refl}
+use Rattle.std.proofs.Common.{◌≡◌, to_z, of_z, w64, rules, refl}
 use Rattle.sqlite.specs.Held.{state}
 use Rattle.keep_tables.specs.Texts.{put_day}
 use Rattle.keep_tables.proofs.DayWriteLaws.{day_puts}
 use Rattle.keep_tables.proofs.PutLaws.{whole_by}
-use Rattle.keep_writes.proofs.CauseLaws.{refused_now}
+use Rattle.keep_writes.specs.Writes.{WritesRecord}
+use Rattle.keep_writes.proofs.CauseLaws.{text_refused, text_ran, not_day}
 use Rattle.keep_writes.proofs.day_writes.put_record.Goals as goal
 
 pub returns-in-Ok-clause-puts : goal.returns-in-Ok-clause-puts
@@ -61,8 +62,36 @@ returns-in-Err-clause-refused g c clean inside =
       c.column-notices.ensures,
       c.column-total.ensures,
     ) at (c.in-Err.ensures.runs clean inside) in
-    refused_now g.S.Store c.args.tx.now.conn.now c.execute.new.self.conn.now put_day _ c.in-Err.error
-    (inr (inr (inl ((refl, refl), (0, refl), inside, ran))))
+    text_refused g.S.Store c.args.tx.now.conn.now c.execute.new.self.conn.now put_day _ c.in-Err.error (refl, refl)
+    (0, refl) inside ran (λ is. absurd (not_day is))
+
+pub returns-in-Ok-clause-ran : goal.returns-in-Ok-clause-ran
+returns-in-Ok-clause-ran g c clean inside =
+    let bytes : to_z w64 (of_z w64 c.column-bytes.result) ≡ c.column-bytes.result = search rules in
+    let tuples : to_z w64 (of_z w64 c.column-tuples.result) ≡ c.column-tuples.result = search rules in
+    let notices : to_z w64 (of_z w64 c.column-notices.result) ≡ c.column-notices.result = search rules in
+    let total : to_z w64 (of_z w64 c.column-total.result) ≡ c.column-total.result = search rules in
+    let ran = rw (
+      c.params-to_sql.ensures,
+      c.params-to_sql-2.ensures,
+      c.params-to_sql-3.ensures,
+      c.params-to_sql-4.ensures,
+      c.params-to_sql-5.ensures,
+      c.params-to_sql-6.ensures,
+      c.params-to_sql-7.ensures,
+      c.bytes_of-digest.ensures.same,
+      bytes,
+      tuples,
+      notices,
+      c.bytes_of-told.ensures.same,
+      total,
+      c.column-bytes.ensures,
+      c.column-tuples.ensures,
+      c.column-notices.ensures,
+      c.column-total.ensures,
+    ) at (c.in-Ok.ensures.runs clean inside) in
+    text_ran g.S.Store (WritesRecord c.args.kept.now) c.args.tx.now.conn.now c.execute.new.self.conn.now put_day _
+    c.in-Ok.field-0 (refl, refl) inside ran
 
 pub returns-in-Ok-clause-digest : goal.returns-in-Ok-clause-digest
 returns-in-Ok-clause-digest g c =

@@ -1,4 +1,4 @@
-use Rattle.std.proofs.Common.{ℕ, Ok, pos, [], ◌∷◌, sym, subst₂, inl, inr, refl}
+use Rattle.std.proofs.Common.{ℕ, Ok, pos, [], ◌∷◌, sym, subst₂, refl}
 use Rattle.sqlite_value.specs.declared.value.Value.TheVariants.{Int, Blob}
 use Rattle.sqlite.specs.Held.{state}
 use Rattle.sqlite.specs.State.{Executes}
@@ -6,7 +6,8 @@ use Rattle.road_digest.specs.declared.digest.Digest.{Digest}
 use Rattle.keep_tables.specs.Texts.{put_seal}
 use Rattle.keep_tables.proofs.DayWriteLaws.{seal_puts}
 use Rattle.keep_tables.proofs.PutLaws.{whole_by}
-use Rattle.keep_writes.proofs.CauseLaws.{refused_now}
+use Rattle.keep_writes.specs.Writes.{WritesSeal}
+use Rattle.keep_writes.proofs.CauseLaws.{text_refused, text_ran, not_seal}
 use Rattle.keep_writes.proofs.day_writes.put_seal.Goals as goal
 
 pub returns-in-Ok-clause-puts : goal.returns-in-Ok-clause-puts
@@ -23,8 +24,14 @@ returns-in-Ok-clause-puts g c clean inside version contents holds r day seal lat
 pub returns-in-Err-clause-refused : goal.returns-in-Err-clause-refused
 returns-in-Err-clause-refused g c clean inside =
     let ran = rw (c.params-to_sql.ensures, c.params-to_sql-2.ensures, c.bytes_of-bytes.ensures.same) at (c.in-Err.ensures.runs clean inside) in
-    refused_now g.S.Store c.args.tx.now.conn.now c.execute.new.self.conn.now put_seal _ c.in-Err.error
-    (inr (inr (inl ((refl, refl), (1, refl), inside, ran))))
+    text_refused g.S.Store c.args.tx.now.conn.now c.execute.new.self.conn.now put_seal _ c.in-Err.error (refl, refl)
+    (1, refl) inside ran (λ is. absurd (not_seal is))
+
+pub returns-in-Ok-clause-ran : goal.returns-in-Ok-clause-ran
+returns-in-Ok-clause-ran g c clean inside =
+    let ran = rw (c.params-to_sql.ensures, c.params-to_sql-2.ensures, c.bytes_of-bytes.ensures.same) at (c.in-Ok.ensures.runs clean inside) in
+    text_ran g.S.Store (WritesSeal c.args.day c.args.seal.now) c.args.tx.now.conn.now c.execute.new.self.conn.now put_seal _
+    c.in-Ok.field-0 (refl, refl) inside ran
 
 pub returns-in-Ok-clause-fits : goal.returns-in-Ok-clause-fits
 returns-in-Ok-clause-fits g c = whole_by c.args.seal.now c.bytes_of-bytes.ensures.long c.bytes_of-bytes.ensures.each

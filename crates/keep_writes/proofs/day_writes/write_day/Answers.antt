@@ -5,7 +5,9 @@ use Rattle.keep_tables.specs.Stands.{Holds, FitsDay, contents_of, with_record, w
 use Rattle.keep_tables.proofs.PutLaws.{days_before, below_sum, adds_holds, day_stands, ok_both, stays_then, shows_then}
 use Rattle.keep_tables.proofs.PutLaws.{survives_both}
 use Rattle.keep_writes.specs.Writes.{WritesDay, WritesRecord, WritesSeal, WritesAmounts}
-use Rattle.keep_writes.proofs.CauseLaws.{err_handed, errs_after, kept_inside, refused_after, refused_wider}
+use Rattle.keep_writes.specs.Runs.{Ran}
+use Rattle.keep_writes.proofs.RunLaws.{ran_then, ran_wider}
+use Rattle.keep_writes.proofs.CauseLaws.{err_handed, errs_inside, kept_inside, inside_after, inside_wider, on_then}
 use Rattle.keep_writes.proofs.day_writes.write_day.Goals as goal
 
 pub returns-clause-wrote : goal.returns-clause-wrote
@@ -62,7 +64,7 @@ returns-clause-inside g c clean inside =
 pub returns-in_err-put_record-clause-refused : goal.returns-in_err-put_record-clause-refused
 returns-in_err-put_record-clause-refused g c clean inside =
     err_handed c.from_residual.result c.in_err-put_record.field-0.0 _ c.from_residual.ensures.1
-    (refused_wider g.S.Store (WritesRecord c.args.kept.now) (WritesDay c.args.kept.now c.args.rows.now)
+    (inside_wider g.S.Store (WritesRecord c.args.kept.now) (WritesDay c.args.kept.now c.args.rows.now)
     (λ sql params is. inl is) c.args.tx.now.conn.now c.put_record.new.tx.conn.now _
     (c.in_err-put_record.ensures.refused clean inside))
 
@@ -74,9 +76,12 @@ returns-in_err-put_seal-clause-refused g c clean inside =
     let one = c.in_ok-put_record.ensures.inside early inside in
     err_handed c.from_residual-in_err-put_seal.result c.in_err-put_seal.field-0.0 _
     c.from_residual-in_err-put_seal.ensures.1
-    (refused_after g.S.Store c.args.tx.now.conn.now c.put_record.new.tx.conn.now c.put_seal.new.tx.conn.now _
+    (inside_after g.S.Store c.args.tx.now.conn.now c.put_record.new.tx.conn.now c.put_seal.new.tx.conn.now _
+    (ran_wider g.S.Store (WritesRecord c.args.kept.now) (WritesDay c.args.kept.now c.args.rows.now)
+    (λ sql params is. inl is) c.args.tx.now.conn.now c.put_record.new.tx.conn.now
+    (c.in_ok-put_record.ensures.ran early inside))
     (kept_inside old first one) c.put_record.ensures.survives
-    (refused_wider g.S.Store (WritesSeal c.args.kept.now.day c.args.kept.now.tariffs)
+    (inside_wider g.S.Store (WritesSeal c.args.kept.now.day c.args.kept.now.tariffs)
     (WritesDay c.args.kept.now c.args.rows.now) (λ sql params is. inr (inl is)) c.put_record.new.tx.conn.now
     c.put_seal.new.tx.conn.now _ (c.in_err-put_seal.ensures.refused clean (one.mode ∙ inside))))
 
@@ -89,11 +94,46 @@ returns-clause-refused g c clean inside =
     let early : HasCleanDisk first = omega (arith, late, c.put_seal.ensures.survives.clean) in
     let one = c.in_ok-put_record.ensures.inside early inside in
     let two = c.in_ok-put_seal.ensures.inside late (one.mode ∙ inside) in
-    errs_after g.S.Store (WritesAmounts c.args.rows.now) (WritesDay c.args.kept.now c.args.rows.now)
+    errs_inside g.S.Store (WritesAmounts c.args.rows.now) (WritesDay c.args.kept.now c.args.rows.now)
     (λ sql params is. inr (inr is)) c.args.tx.now.conn.now c.put_seal.new.tx.conn.now c.put_amounts.new.tx.conn.now
-    c.put_amounts.result (shows_then old first second one two)
+    c.put_amounts.result
+    (ran_then g.S.Store (WritesDay c.args.kept.now c.args.rows.now) c.args.tx.now.conn.now c.put_record.new.tx.conn.now
+    c.put_seal.new.tx.conn.now
+    (ran_wider g.S.Store (WritesRecord c.args.kept.now) (WritesDay c.args.kept.now c.args.rows.now)
+    (λ sql params is. inl is) c.args.tx.now.conn.now c.put_record.new.tx.conn.now
+    (c.in_ok-put_record.ensures.ran early inside))
+    (ran_wider g.S.Store (WritesSeal c.args.kept.now.day c.args.kept.now.tariffs)
+    (WritesDay c.args.kept.now c.args.rows.now) (λ sql params is. inr (inl is)) c.put_record.new.tx.conn.now
+    c.put_seal.new.tx.conn.now (c.in_ok-put_seal.ensures.ran late (one.mode ∙ inside))))
+    (shows_then old first second one two)
     (survives_both old first second c.put_record.ensures.survives c.put_seal.ensures.survives)
     (c.put_amounts.ensures.refused clean (two.mode ∙ (one.mode ∙ inside)))
+
+pub returns-clause-ran : goal.returns-clause-ran
+returns-clause-ran g c clean inside =
+    let old = state g.S.Store c.args.tx.now.conn.now in
+    let first = state g.S.Store c.put_record.new.tx.conn.now in
+    let second = state g.S.Store c.put_seal.new.tx.conn.now in
+    let late : HasCleanDisk second = omega (arith, c.put_amounts.ensures.survives.clean) in
+    let early : HasCleanDisk first = omega (arith, late, c.put_seal.ensures.survives.clean) in
+    let one = c.in_ok-put_record.ensures.inside early inside in
+    let two = c.in_ok-put_seal.ensures.inside late (one.mode ∙ inside) in
+    let writes = WritesDay c.args.kept.now c.args.rows.now in
+    let begun = ran_then g.S.Store writes c.args.tx.now.conn.now c.put_record.new.tx.conn.now
+    c.put_seal.new.tx.conn.now
+    (ran_wider g.S.Store (WritesRecord c.args.kept.now) writes (λ sql params is. inl is) c.args.tx.now.conn.now
+    c.put_record.new.tx.conn.now (c.in_ok-put_record.ensures.ran early inside))
+    (ran_wider g.S.Store (WritesSeal c.args.kept.now.day c.args.kept.now.tariffs) writes
+    (λ sql params is. inr (inl is)) c.put_record.new.tx.conn.now c.put_seal.new.tx.conn.now
+    (c.in_ok-put_seal.ensures.ran late (one.mode ∙ inside))) in
+    on_then c.put_amounts.result
+    (Ran g.S.Store (WritesAmounts c.args.rows.now) c.put_seal.new.tx.conn.now c.put_amounts.new.tx.conn.now)
+    (Ran g.S.Store writes c.args.tx.now.conn.now c.put_amounts.new.tx.conn.now)
+    (c.put_amounts.ensures.ran clean (two.mode ∙ (one.mode ∙ inside)))
+    (λ it. ran_then g.S.Store writes c.args.tx.now.conn.now c.put_seal.new.tx.conn.now c.put_amounts.new.tx.conn.now
+    begun
+    (ran_wider g.S.Store (WritesAmounts c.args.rows.now) writes (λ sql params is. inr (inr is))
+    c.put_seal.new.tx.conn.now c.put_amounts.new.tx.conn.now it))
 
 pub returns-clause-survives : goal.returns-clause-survives
 returns-clause-survives g c =

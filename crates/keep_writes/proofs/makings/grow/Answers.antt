@@ -1,12 +1,13 @@
-use Rattle.std.proofs.Common.{◌≡◌, inr, true, refl, sym, subst, rules, arith}
+use Rattle.std.proofs.Common.{◌≡◌, inr, refl, sym, subst, ◌∙◌, rules, arith}
 use Rattle.sqlite.specs.Held.{state}
 use Rattle.sqlite.specs.State.{HasCleanDisk, Survives}
-use Rattle.keep_writes.specs.Growth.{CommitsGrown}
+use Rattle.keep_writes.specs.Growth.{CommitsGrown, CommitsVersion, IsAtRest}
+use Rattle.keep_writes.proofs.GrowLaws.{on_ok}
 use Rattle.keep_writes.proofs.LeaveLaws.{grown_survives}
 use Rattle.sqlite.specs.Steps.{FailsToCommit}
 use Rattle.keep_writes.specs.Unmade.{IsUnmade}
 use Rattle.keep_writes.proofs.CauseLaws.{err_then, err_handed}
-use Rattle.keep_writes.proofs.UnmadeLaws.{commit_unmade, unmade_begun, unmade_before}
+use Rattle.keep_writes.proofs.UnmadeLaws.{commit_unmade, unmade_begun}
 use Rattle.keep_writes.proofs.makings.grow.Goals as goal
 
 pub returns-clause-crash : goal.returns-clause-crash
@@ -24,7 +25,7 @@ returns-clause-crash g c =
     same whole
 
 pub returns-in_err-write_tables-clause-why : goal.returns-in_err-write_tables-clause-why
-returns-in_err-write_tables-clause-why g c clean =
+returns-in_err-write_tables-clause-why g c clean settled says lists =
     let last = c.write_tables.new.tx.conn.now in
     let end = c.drop-tx.new.self.0 in
     let begun = c.transaction-tx.ensures.begun in
@@ -34,12 +35,11 @@ returns-in_err-write_tables-clause-why g c clean =
     err_handed c.from_residual.result c.in_err-write_tables.field-0.0 _ c.from_residual.ensures.1
     (inr
     (subst (λ k. IsUnmade g.S.Store c.args.conn.now k c.in_err-write_tables.field-0.0) same
-    (unmade_begun g.S.Store c.args.conn.now end _
-    (unmade_before g.S.Store (record c.args.conn.now { in_transaction = true }) last end _
-    ((rw begun at (c.in_err-write_tables.ensures.refused early)) refl) c.drop-tx.ensures.survives))))
+    (unmade_begun g.S.Store c.args.is_old c.args.conn.now last end _ settled says lists
+    ((rw begun at (c.in_err-write_tables.ensures.refused early)) refl) c.drop-tx.ensures.survives)))
 
 pub returns-clause-why : goal.returns-clause-why
-returns-clause-why g c clean =
+returns-clause-why g c clean settled says lists =
     let last = c.write_tables.new.tx.conn.now in
     let end = c.commit.new.self.0 in
     let begun = c.transaction-tx.ensures.begun in
@@ -49,6 +49,29 @@ returns-clause-why g c clean =
     err_then c.commit.result (FailsToCommit (state g.S.Store last) (state g.S.Store end)) _ (c.commit.ensures.err late)
     (λ e h. inr
     (subst (λ k. IsUnmade g.S.Store c.args.conn.now k e) same
-    (commit_unmade g.S.Store c.args.conn.now last end e
+    (commit_unmade g.S.Store c.args.is_old c.args.conn.now last end e settled says lists
+    ((rw begun at (c.in_ok-write_tables.ensures.texts early)) refl)
     ((rw begun at (c.in_ok-write_tables.ensures.inside early)) refl)
     (rw begun at c.write_tables.ensures.survives) h)))
+
+pub returns-clause-second : goal.returns-clause-second
+returns-clause-second g c clean =
+    let last = c.write_tables.new.tx.conn.now in
+    let end = c.commit.new.self.0 in
+    let same : end ≡ c.conn-2-1.given.0 = search rules in
+    let late : HasCleanDisk (state g.S.Store end) = subst (λ h. HasCleanDisk (state g.S.Store h)) (sym same) clean in
+    let begun = c.transaction-tx.ensures.begun in
+    let early : HasCleanDisk (state g.S.Store last) = omega (arith, late, c.commit.ensures.survives.clean) in
+    let puts = (rw begun at (c.in_ok-write_tables.ensures.ran early)) refl in
+    on_ok c.commit.result _ _ (c.commit.ensures.ok late)
+    (λ h. subst (λ k. CommitsVersion g.S.Store k) same
+    (record { last = last; puts = puts; committed = h.1.committed_is }))
+
+pub returns-clause-rest : goal.returns-clause-rest
+returns-clause-rest g c clean =
+    let end = c.commit.new.self.0 in
+    let same : end ≡ c.conn-2-1.given.0 = search rules in
+    let late : HasCleanDisk (state g.S.Store end) = subst (λ h. HasCleanDisk (state g.S.Store h)) (sym same) clean in
+    on_ok c.commit.result _ _ (c.commit.ensures.ok late)
+    (λ h. subst (λ k. IsAtRest (state g.S.Store k)) same
+    (record { is_open = h.1.is_open; seen = h.1.now_is ∙ sym h.1.committed_is; calm = h.1.mode }))

@@ -7,7 +7,7 @@ use Rattle.sqlite.specs.Listing.{understood}
 use Rattle.keep_tables.specs.Texts.{list_days}
 use Rattle.keep_writes.specs.Growth.{Stood, IsUnderstood, SaysIf}
 use Rattle.keep_writes.specs.Objects.{Lists, texts_of}
-use Rattle.keep_writes.proofs.GrowLaws.{on_err, stood_by}
+use Rattle.keep_writes.proofs.GrowLaws.{on_ok, on_err, stood_by}
 use Rattle.keep_writes.proofs.LeaveLaws.{here_survives}
 use Rattle.keep_writes.proofs.CauseLaws.{err_handed}
 use Rattle.keep_writes.proofs.UnmadeLaws.{settled_on, unmade_now, unmade_then}
@@ -72,3 +72,10 @@ returns-clause-why g c clean settled =
     settled same)
     (subst (λ (d : Database). SaysIf c.in_ok-is_old.is_old (IsUnderstood (understood d.schema list_days)))
     (sym same.now_is) (c.in_ok-is_old.ensures.says early)))
+
+pub returns-clause-ours : goal.returns-clause-ours
+returns-clause-ours g c clean =
+    let early : HasCleanDisk (state g.S.Store c.is_there.new.conn) = omega (arith, c.grow_listed.ensures.crash.clean) in
+    let is_old = c.in_ok-is_old.is_old in
+    on_ok c.grow_listed.result _ _ (c.grow_listed.ensures.listed clean)
+    (λ h. (is_old, subst (λ (d : Database). Lists d (texts_of is_old)) (c.in_ok-is_old.ensures.same early).0.now_is h))

@@ -3,8 +3,11 @@ use Rattle.sqlite.specs.Effect.{Database}
 use Rattle.sqlite.specs.Held.{state}
 use Rattle.sqlite.specs.State.{HasCleanDisk}
 use Rattle.keep_tables.specs.Stands.{StandsForOffice}
-use Rattle.keep_writes.proofs.GrowLaws.{on_err, err_stands}
-use Rattle.keep_writes.proofs.LeaveLaws.{same_survives, left_there}
+use Rattle.keep_tables.proofs.StepLaws.{kept_then}
+use Rattle.keep_writes.specs.Growth.{HasVersion, LacksVersion, IsOurs}
+use Rattle.keep_writes.specs.Objects.{MayBeMade}
+use Rattle.keep_writes.proofs.GrowLaws.{on_ok, on_both, on_err, err_stands}
+use Rattle.keep_writes.proofs.LeaveLaws.{same_survives, kept_there}
 use Rattle.keep_writes.proofs.CauseLaws.{err_handed}
 use Rattle.keep_writes.proofs.UnmadeLaws.{unmade_now, unmade_settled}
 use Rattle.keep_writes.proofs.makings.make.Goals as goal
@@ -30,7 +33,7 @@ pub returns-clause-left : goal.returns-clause-left
 returns-clause-left g c clean foreign =
     let mid = state g.S.Store c.settle.new.conn in
     let early : HasCleanDisk mid = omega (arith, c.make_here.ensures.crash.clean) in
-    left_there (state g.S.Store c.args.conn.now) mid (state g.S.Store c.make_here.new.conn)
+    kept_there (λ db. ¬ MayBeMade db) (state g.S.Store c.args.conn.now) mid (state g.S.Store c.make_here.new.conn)
     (c.make_here.ensures.open clean) (c.in_ok-settle.ensures.settled early) (c.settle.ensures.kept early)
     (c.make_here.ensures.left clean) foreign
 
@@ -53,3 +56,48 @@ returns-clause-why g c clean =
     unmade_settled g.S.Store c.args.conn.now mid c.make_here.new.conn c.make_here.result
     (c.in_ok-settle.ensures.calm early) (c.settle.ensures.kept early) c.settle.ensures.survives
     (c.make_here.ensures.why clean (c.in_ok-settle.ensures.settled early))
+
+pub returns-clause-there : goal.returns-clause-there
+returns-clause-there g c clean has =
+    let mid = state g.S.Store c.settle.new.conn in
+    let early : HasCleanDisk mid = omega (arith, c.make_here.ensures.crash.clean) in
+    kept_there HasVersion (state g.S.Store c.args.conn.now) mid (state g.S.Store c.make_here.new.conn)
+    (c.make_here.ensures.open clean) (c.in_ok-settle.ensures.settled early) (c.settle.ensures.kept early)
+    (c.make_here.ensures.there clean) has
+
+pub returns-clause-rest : goal.returns-clause-rest
+returns-clause-rest g c clean =
+    let early : HasCleanDisk (state g.S.Store c.settle.new.conn) = omega (arith, c.make_here.ensures.crash.clean) in
+    c.make_here.ensures.rest clean (c.in_ok-settle.ensures.settled early) (c.in_ok-settle.ensures.calm early)
+
+pub returns-clause-ours : goal.returns-clause-ours
+returns-clause-ours g c clean =
+    let mid = state g.S.Store c.settle.new.conn in
+    let early : HasCleanDisk mid = omega (arith, c.make_here.ensures.crash.clean) in
+    let rest = c.make_here.ensures.rest clean (c.in_ok-settle.ensures.settled early)
+    (c.in_ok-settle.ensures.calm early) in
+    on_both c.make_here.result _ _ rest
+    (λ h.
+    let before = c.make_here.ensures.open clean h.is_open in
+    let same = c.in_ok-settle.ensures.settled early before ∙ (c.settle.ensures.kept early).committed before in
+    on_ok c.make_here.result _ _ (c.make_here.ensures.ours clean) (subst IsOurs same))
+
+pub returns-clause-second : goal.returns-clause-second
+returns-clause-second g c clean lacks =
+    let mid = state g.S.Store c.settle.new.conn in
+    let early : HasCleanDisk mid = omega (arith, c.make_here.ensures.crash.clean) in
+    let rest = c.make_here.ensures.rest clean (c.in_ok-settle.ensures.settled early)
+    (c.in_ok-settle.ensures.calm early) in
+    on_both c.make_here.result _ _ rest
+    (λ h.
+    let before = c.make_here.ensures.open clean h.is_open in
+    let same = c.in_ok-settle.ensures.settled early before ∙ (c.settle.ensures.kept early).committed before in
+    c.make_here.ensures.second clean (subst LacksVersion (sym same) lacks))
+
+pub returns-clause-refused : goal.returns-clause-refused
+returns-clause-refused g c clean =
+    let mid = state g.S.Store c.settle.new.conn in
+    let early : HasCleanDisk mid = omega (arith, c.make_here.ensures.crash.clean) in
+    on_err c.make_here.result _ _ (c.make_here.ensures.refused clean)
+    (kept_then (state g.S.Store c.args.conn.now) mid (state g.S.Store c.make_here.new.conn)
+    (c.settle.ensures.kept early))

@@ -8,7 +8,7 @@ use Rattle.keep_tables.specs.Texts.{find_version}
 use Rattle.keep_writes.specs.Growth.{IsUnderstood, SaysIf, LacksVersion}
 use Rattle.keep_tables.proofs.StepLaws.{kept_then}
 use Rattle.keep_writes.specs.Objects.{MayBeMade}
-use Rattle.keep_writes.proofs.GrowLaws.{six_there}
+use Rattle.keep_writes.proofs.GrowLaws.{on_ok, six_there}
 use Rattle.keep_writes.proofs.LeaveLaws.{open_survives}
 use Rattle.keep_writes.proofs.CauseLaws.{err_handed}
 use Rattle.keep_writes.proofs.UnmadeLaws.{settled_on, unmade_now, unmade_then}
@@ -63,3 +63,40 @@ returns-clause-why g c clean settled =
     (c.in_ok-is_there.ensures.same early).0.mode (c.is_there.ensures.kept early) c.is_there.ensures.survives
     (c.grow_by.ensures.why clean (settled_on (state g.S.Store c.args.conn.now) (state g.S.Store c.is_there.new.conn)
     settled (c.in_ok-is_there.ensures.same early).0))
+
+pub returns-clause-there : goal.returns-clause-there
+returns-clause-there g c clean has =
+    let old = state g.S.Store c.args.conn.now in
+    let early : HasCleanDisk (state g.S.Store c.is_there.new.conn) = omega (arith, c.grow_by.ensures.crash.clean) in
+    let lacks = subst (λ (b : Bool). SaysIf b (IsUnderstood (understood old.now.schema find_version))) c.if-branch.false
+    (c.in_ok-is_there.ensures.says early) in
+    absurd (lacks has)
+
+pub returns-then-branch-clause-second : goal.returns-then-branch-clause-second
+returns-then-branch-clause-second g c clean lacks =
+    let old = state g.S.Store c.args.conn.now in
+    let said = subst (λ (b : Bool). SaysIf b (IsUnderstood (understood old.now.schema find_version))) c.if-branch.true
+    (c.in_ok-is_there.ensures.says clean) in
+    absurd (lacks said)
+
+pub returns-then-branch-clause-ours : goal.returns-then-branch-clause-ours
+returns-then-branch-clause-ours g c clean =
+    let old = state g.S.Store c.args.conn.now in
+    inl
+    (subst (λ (b : Bool). SaysIf b (IsUnderstood (understood old.now.schema find_version))) c.if-branch.true
+    (c.in_ok-is_there.ensures.says clean))
+
+pub returns-clause-ours : goal.returns-clause-ours
+returns-clause-ours g c clean =
+    let early : HasCleanDisk (state g.S.Store c.is_there.new.conn) = omega (arith, c.grow_by.ensures.crash.clean) in
+    on_ok c.grow_by.result _ _ (c.grow_by.ensures.ours clean)
+    (λ h. inr (subst MayBeMade (c.in_ok-is_there.ensures.same early).0.now_is h))
+
+pub returns-then-branch-clause-rest : goal.returns-then-branch-clause-rest
+returns-then-branch-clause-rest g c clean settled calm =
+    let same = (c.in_ok-is_there.ensures.same clean).0 in
+    record {
+      is_open = same.is_open;
+      seen = settled_on (state g.S.Store c.args.conn.now) (state g.S.Store c.is_there.new.conn) settled same same.is_open;
+      calm = same.mode ∙ calm;
+    }

@@ -1,9 +1,10 @@
-use Rattle.std.proofs.Common.{◌≡◌, to_z, of_z, w64, rules, inl, inr, refl}
+use Rattle.std.proofs.Common.{◌≡◌, to_z, of_z, w64, rules, refl}
 use Rattle.sqlite.specs.Held.{state}
 use Rattle.keep_tables.specs.Texts.{put_past}
 use Rattle.keep_tables.proofs.DayWriteLaws.{past_puts}
 use Rattle.keep_tables.proofs.PutLaws.{whole_by}
-use Rattle.keep_writes.proofs.CauseLaws.{refused_now}
+use Rattle.keep_writes.specs.Writes.{WritesHistory}
+use Rattle.keep_writes.proofs.CauseLaws.{text_refused, text_ran, not_past}
 use Rattle.keep_writes.proofs.past_writes.put_history.Goals as goal
 
 pub returns-in-Ok-clause-puts : goal.returns-in-Ok-clause-puts
@@ -42,8 +43,26 @@ returns-in-Err-clause-refused g c clean inside =
       c.column-bytes.ensures,
       c.column-count.ensures,
     ) at (c.in-Err.ensures.runs clean inside) in
-    refused_now g.S.Store c.args.tx.now.conn.now c.execute.new.self.conn.now put_past _ c.in-Err.error
-    (inr (inr (inl ((refl, refl), (3, refl), inside, ran))))
+    text_refused g.S.Store c.args.tx.now.conn.now c.execute.new.self.conn.now put_past _ c.in-Err.error (refl, refl)
+    (3, refl) inside ran (λ is. absurd (not_past is))
+
+pub returns-in-Ok-clause-ran : goal.returns-in-Ok-clause-ran
+returns-in-Ok-clause-ran g c clean inside =
+    let bytes : to_z w64 (of_z w64 c.column-bytes.result) ≡ c.column-bytes.result = search rules in
+    let count : to_z w64 (of_z w64 c.column-count.result) ≡ c.column-count.result = search rules in
+    let ran = rw (
+      c.params-to_sql.ensures,
+      c.params-to_sql-2.ensures,
+      c.params-to_sql-3.ensures,
+      c.params-to_sql-4.ensures,
+      c.bytes_of-digest.ensures.same,
+      bytes,
+      count,
+      c.column-bytes.ensures,
+      c.column-count.ensures,
+    ) at (c.in-Ok.ensures.runs clean inside) in
+    text_ran g.S.Store (WritesHistory c.args.kept.now) c.args.tx.now.conn.now c.execute.new.self.conn.now put_past _
+    c.in-Ok.field-0 (refl, refl) inside ran
 
 pub returns-in-Ok-clause-fits : goal.returns-in-Ok-clause-fits
 returns-in-Ok-clause-fits g c = (

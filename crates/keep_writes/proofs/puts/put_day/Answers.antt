@@ -7,6 +7,7 @@ use Rattle.keep_office.specs.Kept.{IsLater, with_day}
 use Rattle.keep_tables.specs.Stands.{HasOffice}
 use Rattle.keep_writes.specs.Causes.{IsTold}
 use Rattle.keep_writes.specs.Writes.{WritesDay}
+use Rattle.keep_writes.proofs.RunLaws.{commits_after}
 use Rattle.keep_writes.proofs.CauseLaws.{cause_of, refused_after, refused_idle}
 use Rattle.keep_tables.proofs.StepLaws.{kept_then}
 use Rattle.keep_writes.proofs.puts.put_day.Goals as goal
@@ -54,7 +55,7 @@ returns-in-Err-keep_day-clause-why g c clean =
     let mid = state g.S.Store c.settle.new.conn in
     let early : HasCleanDisk mid = omega (arith, c.keep_day.ensures.crash.clean) in
     let calm = c.in_default.ensures.calm early in
-    elim (c.in-Err-keep_day.ensures.because clean) [
+    elim (c.in-Err-keep_day.ensures.because clean (c.in_default.ensures.settled early)) [
       | inl inside ↦ absurd (let e = sym calm ∙ inside in cc)
       | inr refused ↦ cause_of g.S.Store (WritesDay c.args.kept.now c.args.rows.now)
           c.args.conn.now c.keep_day.new.conn c.refusal_told-in-Err-keep_day.result
@@ -74,7 +75,7 @@ returns-in-Err-keep_day-clause-told g c clean =
     let mid = state g.S.Store c.settle.new.conn in
     let early : HasCleanDisk mid = omega (arith, c.keep_day.ensures.crash.clean) in
     let calm = c.in_default.ensures.calm early in
-    elim (c.in-Err-keep_day.ensures.because clean) [
+    elim (c.in-Err-keep_day.ensures.because clean (c.in_default.ensures.settled early)) [
       | inl inside ↦ absurd (let e = sym calm ∙ inside in cc)
       | inr refused ↦ subst
           (IsTold g.S.Store (WritesDay c.args.kept.now c.args.rows.now) c.args.conn.now c.keep_day.new.conn)
@@ -82,3 +83,10 @@ returns-in-Err-keep_day-clause-told g c clean =
           (refused_after g.S.Store c.args.conn.now c.settle.new.conn c.keep_day.new.conn _ (c.settle.ensures.kept early)
           c.settle.ensures.survives refused)
     ]
+
+pub returns-in-Ok-clause-wrote : goal.returns-in-Ok-clause-wrote
+returns-in-Ok-clause-wrote g c clean =
+    let mid = state g.S.Store c.settle.new.conn in
+    let early : HasCleanDisk mid = omega (arith, c.keep_day.ensures.crash.clean) in
+    commits_after g.S.Store (WritesDay c.args.kept.now c.args.rows.now) c.args.conn.now c.settle.new.conn c.keep_day.new.conn (c.settle.ensures.kept early)
+    (c.in-Ok.ensures.wrote clean (c.in_default.ensures.settled early))

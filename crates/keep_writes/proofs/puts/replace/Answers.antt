@@ -9,12 +9,14 @@ use Rattle.sqlite_value.specs.declared.value.Value.TheVariants.{Int}
 use Rattle.keep_tables.specs.Texts.{drop_tariff}
 use Rattle.keep_writes.specs.Causes.{RefusedOf, WritesSome}
 use Rattle.keep_writes.specs.Writes.{WritesTariff}
+use Rattle.keep_writes.specs.Runs.{CommitsRun}
+use Rattle.keep_writes.proofs.RunLaws.{ran_begun}
 use Rattle.keep_writes.proofs.CauseLaws.{err_then, err_handed, on_then, commit_refused}
-use Rattle.keep_writes.proofs.CauseLaws.{refused_begun, refused_before}
+use Rattle.keep_writes.proofs.CauseLaws.{refused_begun}
 use Rattle.keep_writes.proofs.puts.replace.Goals as goal
 
 pub returns-in_err-write-clause-because : goal.returns-in_err-write-clause-because
-returns-in_err-write-clause-because g c clean =
+returns-in_err-write-clause-because g c clean settled =
     let last = c.write.new.tx.conn.now in
     let end = c.drop-tx.new.self.0 in
     let begun = c.transaction-tx.ensures.begun in
@@ -24,12 +26,11 @@ returns-in_err-write-clause-because g c clean =
     err_handed c.from_residual.result c.in_err-write.field-0.0 _ c.from_residual.ensures.1
     (inr
     (subst (λ k. RefusedOf g.S.Store (WritesTariff c.args.xway c.args.tariff.now) c.args.conn.now k c.in_err-write.field-0.0) same
-    (refused_begun g.S.Store c.args.conn.now end _
-    (refused_before g.S.Store (record c.args.conn.now { in_transaction = true }) last end _
-    ((rw begun at (c.in_err-write.ensures.refused early)) refl) c.drop-tx.ensures.survives))))
+    (refused_begun g.S.Store c.args.conn.now last end _ settled
+    ((rw begun at (c.in_err-write.ensures.refused early)) refl) c.drop-tx.ensures.survives)))
 
 pub returns-clause-because : goal.returns-clause-because
-returns-clause-because g c clean =
+returns-clause-because g c clean settled =
     let last = c.write.new.tx.conn.now in
     let end = c.commit.new.self.0 in
     let begun = c.transaction-tx.ensures.begun in
@@ -73,3 +74,19 @@ returns-clause-crash g c =
     let same : end ≡ c.conn-2-1.given.0 = search rules in
     subst (λ h. Survives (state g.S.Store old) (state g.S.Store h) (CommitsNow FitsAny next (state g.S.Store old))) same
     whole
+
+pub returns-clause-wrote : goal.returns-clause-wrote
+returns-clause-wrote g c clean settled =
+    let last = c.write.new.tx.conn.now in
+    let end = c.commit.new.self.0 in
+    let begun = c.transaction-tx.ensures.begun in
+    let same : end ≡ c.conn-2-1.given.0 = search rules in
+    let late : HasCleanDisk (state g.S.Store end) = subst (λ h. HasCleanDisk (state g.S.Store h)) (sym same) clean in
+    let early : HasCleanDisk (state g.S.Store last) = omega (arith, late, c.commit.ensures.survives.clean) in
+    on_then c.commit.result _ _ (c.commit.ensures.ok late)
+    (λ h. subst (λ k. CommitsRun g.S.Store (WritesTariff c.args.xway c.args.tariff.now) c.args.conn.now k) same (record {
+      last = last;
+      ran = ran_begun g.S.Store (WritesTariff c.args.xway c.args.tariff.now) c.args.conn.now last settled
+          ((rw begun at (c.in_ok-write.ensures.ran early)) refl);
+      committed = h.1.committed_is;
+    }))

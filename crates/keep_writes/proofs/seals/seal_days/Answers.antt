@@ -1,4 +1,4 @@
-use Rattle.std.proofs.Common.{◌≡◌, ◌<◌, pos, [], List, Some, inl, inr, refl, take, get_or, length, sym, ap, subst, ◌∙◌, arith}
+use Rattle.std.proofs.Common.{◌≡◌, ◌<◌, pos, [], List, Some, inl, inr, take, get_or, length, sym, ap, subst, ◌∙◌, arith}
 use Rattle.std.proofs.lemmas.List.{take_more}
 use Rattle.sqlite_value.specs.declared.value.Value.TheVariants.{Int}
 use Rattle.sqlite_value.specs.Order.{Row, column}
@@ -10,10 +10,9 @@ use Rattle.keep_tables.specs.Stands.{HoldsAs, contents_of}
 use Rattle.keep_tables.proofs.PutLaws.{shows_then}
 use Rattle.keep_writes.proofs.GrowLaws.{days_under, row_of_day, seal_at, no_day, same_number}
 use Rattle.std.proofs.lemmas.Option.{slice_get-get_or}
-use Rattle.keep_tables.specs.Texts.{put_seal}
 use Rattle.keep_tables.proofs.StepLaws.{kept_then}
-use Rattle.keep_writes.proofs.CauseLaws.{err_handed, kept_inside}
-use Rattle.keep_writes.proofs.UnmadeLaws.{text_unmade, unmade_after}
+use Rattle.keep_writes.proofs.CauseLaws.{err_handed, kept_inside, survives_self}
+use Rattle.keep_writes.proofs.UnmadeRuns.{seals_next, seals_all}
 use Rattle.keep_writes.proofs.seals.seal_days.Goals as goal
 
 pub days-preserved : goal.days-preserved
@@ -49,18 +48,35 @@ days-preserved g c =
           (sym (take_more o.days i no_day at.0)) put,
       λ clean inside. kept_then old mid new (kept.5 (before clean) inside)
           (kept_inside mid new (c.in_ok-put_seal.ensures.inside clean (kept.2 (before clean) inside))),
+      λ clean inside. seals_next g.S.Store c.args.seal.now c.args.days.now c.days.row-index c.row-item.result
+          c.in_ok-day.day c.args.tx.now.conn.now c.days.tx.conn.now c.put_seal.new.tx.conn.now
+          (slice_get-get_or c.args.days.now c.days.row-index c.row-item.result c.days-test.true
+          ∙ ap Some (sym c.row-item.is)) c.in_ok-day.ensures.number (kept.6 (before clean) inside)
+          (c.in_ok-put_seal.ensures.ran clean (kept.2 (before clean) inside)),
     )
 
 pub returns-in_err-day-clause-refused : goal.returns-in_err-day-clause-refused
 returns-in_err-day-clause-refused g c clean inside =
+    let old = c.args.tx.now.conn.now in
+    let mid = c.days.tx.conn.now in
+    let kept = c.days.invariant in
     err_handed c.from_residual.result c.in_err-day.field-0.0 _ c.from_residual.ensures.1
-    (inl (record {
-      place = c.days.row-index;
-      row = c.row-item.result;
-      is_one = slice_get-get_or c.args.days.now c.days.row-index c.row-item.result c.days-test.true
-          ∙ ap Some (sym c.row-item.is);
-      unread = c.in_err-day.ensures.unread;
-    }))
+    (record {
+      before = mid;
+      after = mid;
+      inside = kept.2 clean inside;
+      refused = record {
+        place = c.days.row-index;
+        row = c.row-item.result;
+        is_one = slice_get-get_or c.args.days.now c.days.row-index c.row-item.result c.days-test.true
+            ∙ ap Some (sym c.row-item.is);
+        ran = kept.6 clean inside;
+        refused = inl c.in_err-day.ensures.unread;
+      };
+      begun = kept.5 clean inside;
+      reached = kept.1;
+      left = survives_self (state g.S.Store mid);
+    })
 
 pub returns-in_err-put_seal-clause-refused : goal.returns-in_err-put_seal-clause-refused
 returns-in_err-put_seal-clause-refused g c clean inside =
@@ -69,7 +85,28 @@ returns-in_err-put_seal-clause-refused g c clean inside =
     let early : HasCleanDisk (state g.S.Store mid) = omega (arith, c.put_seal.ensures.survives.clean) in
     err_handed c.from_residual-in_err-put_seal.result c.in_err-put_seal.field-0.0 _
     c.from_residual-in_err-put_seal.ensures.1
-    (inr (unmade_after g.S.Store c.args.tx.now.conn.now mid c.put_seal.new.tx.conn.now _ (kept.5 early inside) kept.1
-    (text_unmade g.S.Store mid c.put_seal.new.tx.conn.now _ put_seal _
-    (inr (c.in_ok-day.day, c.args.seal.now, (refl, refl))) (kept.2 early inside)
-    (c.in_err-put_seal.ensures.text clean (kept.2 early inside)))))
+    (record {
+      before = mid;
+      after = c.put_seal.new.tx.conn.now;
+      inside = kept.2 early inside;
+      refused = record {
+        place = c.days.row-index;
+        row = c.row-item.result;
+        is_one = slice_get-get_or c.args.days.now c.days.row-index c.row-item.result c.days-test.true
+            ∙ ap Some (sym c.row-item.is);
+        ran = kept.6 early inside;
+        refused = inr (
+          c.in_ok-day.day,
+          c.in_ok-day.ensures.number,
+          c.in_err-put_seal.ensures.text clean (kept.2 early inside),
+        );
+      };
+      begun = kept.5 early inside;
+      reached = kept.1;
+      left = survives_self (state g.S.Store c.put_seal.new.tx.conn.now);
+    })
+
+pub returns-clause-texts : goal.returns-clause-texts
+returns-clause-texts g c clean inside =
+    seals_all g.S.Store c.args.seal.now c.args.days.now c.days.row-index c.args.tx.now.conn.now c.days.tx.conn.now
+    (c.days.invariant.6 clean inside)

@@ -1,8 +1,9 @@
-use Rattle.std.proofs.Common.{◌≡◌, to_z, of_z, w64, rules, inl, inr, refl}
+use Rattle.std.proofs.Common.{◌≡◌, to_z, of_z, w64, rules, refl}
 use Rattle.sqlite.specs.Held.{state}
 use Rattle.keep_tables.specs.Texts.{put_spent}
 use Rattle.keep_tables.proofs.SpentWriteLaws.{spent_edit, spent_put}
-use Rattle.keep_writes.proofs.CauseLaws.{refused_now}
+use Rattle.keep_writes.specs.Writes.{WritesAmount}
+use Rattle.keep_writes.proofs.CauseLaws.{text_refused, text_ran, not_spent}
 use Rattle.keep_writes.proofs.spent_writes.put_amount.Goals as goal
 
 pub returns-in-Ok-clause-adds : goal.returns-in-Ok-clause-adds
@@ -40,8 +41,23 @@ returns-in-Err-clause-refused g c clean inside =
       whole,
       c.requires.stored,
     ) at (c.in-Err.ensures.runs clean inside) in
-    refused_now g.S.Store c.args.tx.now.conn.now c.execute.new.self.conn.now put_spent _ c.in-Err.error
-    (inr (inr (inl ((refl, refl), (2, refl), inside, ran))))
+    text_refused g.S.Store c.args.tx.now.conn.now c.execute.new.self.conn.now put_spent _ c.in-Err.error (refl, refl)
+    (2, refl) inside ran (λ is. absurd (not_spent is))
+
+pub returns-in-Ok-clause-ran : goal.returns-in-Ok-clause-ran
+returns-in-Ok-clause-ran g c clean inside =
+    let whole : to_z w64 (of_z w64 c.args.tolls) ≡ c.args.tolls = search rules in
+    let ran = rw (
+      c.params-to_sql.ensures,
+      c.params-to_sql-2.ensures,
+      c.params-to_sql-3.ensures,
+      c.params-to_sql-4.ensures,
+      c.from.ensures,
+      whole,
+      c.requires.stored,
+    ) at (c.in-Ok.ensures.runs clean inside) in
+    text_ran g.S.Store (WritesAmount c.args.row.now) c.args.tx.now.conn.now c.execute.new.self.conn.now put_spent _
+    c.in-Ok.field-0 (refl, refl) inside ran
 
 pub returns-in-Ok-clause-fits : goal.returns-in-Ok-clause-fits
 returns-in-Ok-clause-fits g c = (search rules, search rules, search rules, c.requires.small)

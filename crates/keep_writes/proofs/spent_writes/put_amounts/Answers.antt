@@ -13,7 +13,8 @@ use Rattle.keep_tables.proofs.PutLaws.{shows_then}
 use Rattle.keep_tables.proofs.StepLaws.{kept_then}
 use Rattle.std.proofs.lemmas.Option.{slice_get-get_or}
 use Rattle.keep_writes.specs.Writes.{WritesAmount, WritesAmounts}
-use Rattle.keep_writes.proofs.CauseLaws.{err_handed, kept_inside, refused_after, refused_wider}
+use Rattle.keep_writes.proofs.RunLaws.{ran_then, ran_wider}
+use Rattle.keep_writes.proofs.CauseLaws.{err_handed, kept_inside, inside_after, inside_wider}
 use Rattle.keep_writes.proofs.spent_writes.put_amounts.Goals as goal
 
 pub rows-preserved : goal.rows-preserved
@@ -22,6 +23,8 @@ rows-preserved g c =
     let mid = state g.S.Store c.rows.tx.conn.now in
     let new = state g.S.Store c.put_amount.new.tx.conn.now in
     let kept = c.rows.invariant in
+    let none : SpentRow = record { day = 0; vid = 0; xway = 0; tolls = 0 } in
+    let row = get_or c.args.rows.now c.rows.row-index none in
     let one : AllByRecursion FitsSpent
     (get_or c.args.rows.now c.rows.row-index (record { day = 0; vid = 0; xway = 0; tolls = 0 }) ∷ []) =
     (c.put_amount.ensures.fits, tt) in
@@ -47,6 +50,16 @@ rows-preserved g c =
           (get_or c.args.rows.now c.rows.row-index (record { day = 0; vid = 0; xway = 0; tolls = 0 }) ∷ []) kept.5 one),
       λ clean inside. kept_then old mid new (kept.6 (before clean) inside)
           (kept_inside mid new (c.in_ok-put_amount.ensures.inside clean (kept.2 (before clean) inside))),
+      λ clean inside. ran_then g.S.Store (WritesAmounts c.args.rows.now) c.args.tx.now.conn.now
+          c.rows.tx.conn.now c.put_amount.new.tx.conn.now (kept.7 (before clean) inside)
+          (ran_wider g.S.Store (WritesAmount row) (WritesAmounts c.args.rows.now)
+          (λ sql params is. record {
+            place = c.rows.row-index;
+            row = row;
+            is_one = slice_get-get_or c.args.rows.now c.rows.row-index none c.rows-test.true;
+            is_put = is;
+          }) c.rows.tx.conn.now
+          c.put_amount.new.tx.conn.now (c.in_ok-put_amount.ensures.ran clean (kept.2 (before clean) inside))),
     )
 
 pub returns-in_err-put_amount-clause-refused : goal.returns-in_err-put_amount-clause-refused
@@ -57,9 +70,9 @@ returns-in_err-put_amount-clause-refused g c clean inside =
     let none : SpentRow = record { day = 0; vid = 0; xway = 0; tolls = 0 } in
     let row = get_or c.args.rows.now c.rows.row-index none in
     err_handed c.from_residual.result c.in_err-put_amount.field-0.0 _ c.from_residual.ensures.1
-    (refused_after g.S.Store c.args.tx.now.conn.now c.rows.tx.conn.now c.put_amount.new.tx.conn.now _
-    (kept.6 early inside) kept.1
-    (refused_wider g.S.Store (WritesAmount row) (WritesAmounts c.args.rows.now)
+    (inside_after g.S.Store c.args.tx.now.conn.now c.rows.tx.conn.now c.put_amount.new.tx.conn.now _
+    (kept.7 early inside) (kept.6 early inside) kept.1
+    (inside_wider g.S.Store (WritesAmount row) (WritesAmounts c.args.rows.now)
     (λ sql params is. record {
       place = c.rows.row-index;
       row = row;

@@ -1,11 +1,12 @@
-use Rattle.std.proofs.Common.{[], ◌∙◌, IsTrue, arith, inl, refl}
+use Rattle.std.proofs.Common.{[], ◌∷◌, ◌∙◌, IsTrue, arith, refl}
 use Rattle.sqlite.specs.Held.{state}
 use Rattle.sqlite.specs.State.{HasCleanDisk}
 use Rattle.keep_writes.proofs.GrowLaws.{on_ok, unsealed_from_old}
 use Rattle.keep_tables.specs.Texts.{make_day_tariffs, make_tariffs, make_form}
 use Rattle.keep_tables.proofs.PutLaws.{shows_then, survives_both}
-use Rattle.keep_writes.proofs.CauseLaws.{err_handed, err_then, kept_inside}
-use Rattle.keep_writes.proofs.UnmadeLaws.{text_unmade, unmade_after, unmade_inside}
+use Rattle.keep_writes.specs.Unmade.{new_texts, RefusesEach}
+use Rattle.keep_writes.proofs.CauseLaws.{err_handed, err_then}
+use Rattle.keep_writes.proofs.UnmadeRuns.{text_done, each_none, each_first, step_now, behind_ends}
 use Rattle.keep_writes.proofs.tables.make_rest.Goals as goal
 
 pub returns-clause-made : goal.returns-clause-made
@@ -24,33 +25,83 @@ returns-clause-made g c clean inside o has =
 
 pub returns-in_err-run-clause-refused : goal.returns-in_err-run-clause-refused
 returns-in_err-run-clause-refused g c clean inside =
+    let s0 = c.args.tx.now.conn.now in
+    let s1 = c.run.new.tx.conn.now in
     err_handed c.from_residual.result c.in_err-run.field-0.0 _ c.from_residual.ensures.1
-    (text_unmade g.S.Store c.args.tx.now.conn.now c.run.new.tx.conn.now _ make_day_tariffs [] (inl ((3, refl), refl)) inside
-    (c.in_err-run.ensures.refused clean inside))
+    (step_now g.S.Store (RefusesEach g.S.Store new_texts) s0 s1 _ inside
+    (record {
+      done = [];
+      text = make_day_tariffs;
+      rest = make_tariffs ∷ make_form ∷ [];
+      is = refl;
+      ran = each_none g.S.Store s0;
+      refused = c.in_err-run.ensures.refused clean inside;
+    }))
 
 pub returns-in_err-run-2-clause-refused : goal.returns-in_err-run-2-clause-refused
 returns-in_err-run-2-clause-refused g c clean inside =
     let s0 = c.args.tx.now.conn.now in
     let s1 = c.run.new.tx.conn.now in
+    let s2 = c.run-2.new.tx.conn.now in
     let early : HasCleanDisk (state g.S.Store s1) = omega (arith, c.run-2.ensures.survives.clean) in
     let one = c.in_ok-run.ensures.inside early inside in
+    let first = text_done g.S.Store s0 s1 make_day_tariffs inside (c.in_ok-run.ensures.within early inside) in
     err_handed c.from_residual-in_err-run-2.result c.in_err-run-2.field-0.0 _ c.from_residual-in_err-run-2.ensures.1
-    (unmade_after g.S.Store s0 s1 c.run-2.new.tx.conn.now _
-    (kept_inside (state g.S.Store s0) (state g.S.Store s1) one) c.run.ensures.survives
-    (text_unmade g.S.Store s1 c.run-2.new.tx.conn.now _ make_tariffs [] (inl ((4, refl), refl)) (one.mode ∙ inside)
-    (c.in_err-run-2.ensures.refused clean (one.mode ∙ inside))))
+    (behind_ends g.S.Store (RefusesEach g.S.Store new_texts) s0 s1 s2 _ (one.mode ∙ inside) one c.run.ensures.survives
+    (record {
+      done = make_day_tariffs ∷ [];
+      text = make_tariffs;
+      rest = make_form ∷ [];
+      is = refl;
+      ran = each_first g.S.Store s0 s1 s1 make_day_tariffs [] first (each_none g.S.Store s1);
+      refused = c.in_err-run-2.ensures.refused clean (one.mode ∙ inside);
+    }))
 
 pub returns-clause-refused : goal.returns-clause-refused
 returns-clause-refused g c clean inside =
-    let s0 = state g.S.Store c.args.tx.now.conn.now in
-    let s1 = state g.S.Store c.run.new.tx.conn.now in
-    let s2 = state g.S.Store c.run-2.new.tx.conn.now in
-    let late : HasCleanDisk s2 = omega (arith, c.run-3.ensures.survives.clean) in
-    let early : HasCleanDisk s1 = omega (arith, late, c.run-2.ensures.survives.clean) in
+    let s0 = c.args.tx.now.conn.now in
+    let s1 = c.run.new.tx.conn.now in
+    let s2 = c.run-2.new.tx.conn.now in
+    let s3 = c.run-3.new.tx.conn.now in
+    let late : HasCleanDisk (state g.S.Store s2) = omega (arith, c.run-3.ensures.survives.clean) in
+    let early : HasCleanDisk (state g.S.Store s1) = omega (arith, late, c.run-2.ensures.survives.clean) in
     let one = c.in_ok-run.ensures.inside early inside in
     let two = c.in_ok-run-2.ensures.inside late (one.mode ∙ inside) in
-    unmade_inside g.S.Store c.args.tx.now.conn.now c.run-2.new.tx.conn.now c.run-3.new.tx.conn.now c.run-3.result
-    (shows_then s0 s1 s2 one two) (survives_both s0 s1 s2 c.run.ensures.survives c.run-2.ensures.survives)
-    (err_then c.run-3.result _ _ (c.run-3.ensures.refused clean (two.mode ∙ (one.mode ∙ inside)))
-    (λ e fails. text_unmade g.S.Store c.run-2.new.tx.conn.now c.run-3.new.tx.conn.now e make_form [] (inl ((5, refl), refl))
-    (two.mode ∙ (one.mode ∙ inside)) fails))
+    let first = text_done g.S.Store s0 s1 make_day_tariffs inside (c.in_ok-run.ensures.within early inside) in
+    let second =
+    text_done g.S.Store s1 s2 make_tariffs (one.mode ∙ inside)
+    (c.in_ok-run-2.ensures.within late (one.mode ∙ inside)) in
+    err_then c.run-3.result _ _ (c.run-3.ensures.refused clean (two.mode ∙ (one.mode ∙ inside)))
+    (λ e fails. behind_ends g.S.Store (RefusesEach g.S.Store new_texts) s0 s2 s3 e (two.mode ∙ (one.mode ∙ inside))
+    (shows_then (state g.S.Store s0) (state g.S.Store s1) (state g.S.Store s2) one two)
+    (survives_both (state g.S.Store s0) (state g.S.Store s1) (state g.S.Store s2) c.run.ensures.survives
+    c.run-2.ensures.survives)
+    (record {
+      done = make_day_tariffs ∷ make_tariffs ∷ [];
+      text = make_form;
+      rest = [];
+      is = refl;
+      ran = each_first g.S.Store s0 s1 s2 make_day_tariffs (make_tariffs ∷ []) first
+          (each_first g.S.Store s1 s2 s2 make_tariffs [] second (each_none g.S.Store s2));
+      refused = fails;
+    }))
+
+pub returns-clause-texts : goal.returns-clause-texts
+returns-clause-texts g c clean inside =
+    let s0 = c.args.tx.now.conn.now in
+    let s1 = c.run.new.tx.conn.now in
+    let s2 = c.run-2.new.tx.conn.now in
+    let s3 = c.run-3.new.tx.conn.now in
+    let late : HasCleanDisk (state g.S.Store s2) = omega (arith, c.run-3.ensures.survives.clean) in
+    let early : HasCleanDisk (state g.S.Store s1) = omega (arith, late, c.run-2.ensures.survives.clean) in
+    let one = c.in_ok-run.ensures.inside early inside in
+    let two = c.in_ok-run-2.ensures.inside late (one.mode ∙ inside) in
+    let first = text_done g.S.Store s0 s1 make_day_tariffs inside (c.in_ok-run.ensures.within early inside) in
+    let second =
+    text_done g.S.Store s1 s2 make_tariffs (one.mode ∙ inside)
+    (c.in_ok-run-2.ensures.within late (one.mode ∙ inside)) in
+    on_ok c.run-3.result _ _ (c.run-3.ensures.within clean (two.mode ∙ (one.mode ∙ inside)))
+    (λ ran. each_first g.S.Store s0 s1 s3 make_day_tariffs (make_tariffs ∷ make_form ∷ []) first
+    (each_first g.S.Store s1 s2 s3 make_tariffs (make_form ∷ []) second
+    (each_first g.S.Store s2 s3 s3 make_form []
+    (text_done g.S.Store s2 s3 make_form (two.mode ∙ (one.mode ∙ inside)) ran) (each_none g.S.Store s3))))

@@ -1,8 +1,9 @@
-use Rattle.std.proofs.Common.{inl, inr, refl}
+use Rattle.std.proofs.Common.{refl}
 use Rattle.sqlite.specs.Held.{state}
 use Rattle.keep_tables.specs.Texts.{put_tariff}
 use Rattle.keep_tables.proofs.TariffWriteLaws.{put_writes}
-use Rattle.keep_writes.proofs.CauseLaws.{refused_now}
+use Rattle.keep_writes.specs.Writes.{WritesGiven}
+use Rattle.keep_writes.proofs.CauseLaws.{text_refused, text_ran}
 use Rattle.keep_writes.proofs.tariff_writes.give.Goals as goal
 
 pub returns-in-Ok-clause-gave : goal.returns-in-Ok-clause-gave
@@ -20,7 +21,7 @@ returns-in-Ok-clause-gave g c clean inside o has own =
     ) at (c.in-Ok.ensures.runs clean inside)).0
 
 pub returns-in-Err-clause-refused : goal.returns-in-Err-clause-refused
-returns-in-Err-clause-refused g c clean inside =
+returns-in-Err-clause-refused g c clean inside dropped =
     let ran = rw (
       c.params-to_sql.ensures,
       c.params-to_sql-2.ensures,
@@ -30,5 +31,19 @@ returns-in-Err-clause-refused g c clean inside =
       c.from-2.ensures,
       c.from-3.ensures,
     ) at (c.in-Err.ensures.runs clean inside) in
-    refused_now g.S.Store c.args.tx.now.conn.now c.execute.new.self.conn.now put_tariff _ c.in-Err.error
-    (inr (inr (inl ((refl, refl), (5, refl), inside, ran))))
+    text_refused g.S.Store c.args.tx.now.conn.now c.execute.new.self.conn.now put_tariff _ c.in-Err.error (refl, refl)
+    (5, refl) inside ran (λ is. dropped)
+
+pub returns-in-Ok-clause-ran : goal.returns-in-Ok-clause-ran
+returns-in-Ok-clause-ran g c clean inside =
+    let ran = rw (
+      c.params-to_sql.ensures,
+      c.params-to_sql-2.ensures,
+      c.params-to_sql-3.ensures,
+      c.params-to_sql-4.ensures,
+      c.from.ensures,
+      c.from-2.ensures,
+      c.from-3.ensures,
+    ) at (c.in-Ok.ensures.runs clean inside) in
+    text_ran g.S.Store (WritesGiven c.args.xway c.args.tariff.now) c.args.tx.now.conn.now c.execute.new.self.conn.now put_tariff _
+    c.in-Ok.field-0 (refl, refl) inside ran

@@ -7,7 +7,8 @@ use Rattle.keep_office.specs.Office.{Office}
 use Rattle.keep_tables.specs.Stands.{HasOffice}
 use Rattle.keep_tables.proofs.TariffWriteLaws.{set_after_taken}
 use Rattle.keep_writes.specs.Writes.{WritesTariff, WritesTaken, WritesGiven}
-use Rattle.keep_writes.proofs.CauseLaws.{err_handed, errs_after, refused_wider}
+use Rattle.keep_writes.proofs.RunLaws.{ran_wider}
+use Rattle.keep_writes.proofs.CauseLaws.{err_handed, errs_inside, inside_wider, both_ran}
 use Rattle.keep_writes.proofs.tariff_writes.write.Goals as goal
 
 pub returns-clause-wrote : goal.returns-clause-wrote
@@ -26,7 +27,7 @@ returns-clause-wrote g c clean inside o has =
 pub returns-in_err-take-clause-refused : goal.returns-in_err-take-clause-refused
 returns-in_err-take-clause-refused g c clean inside =
     err_handed c.from_residual.result c.in_err-take.field-0.0 _ c.from_residual.ensures.1
-    (refused_wider g.S.Store (WritesTaken c.args.xway) (WritesTariff c.args.xway c.args.tariff.now)
+    (inside_wider g.S.Store (WritesTaken c.args.xway) (WritesTariff c.args.xway c.args.tariff.now)
     (λ sql params is. inl is) c.args.tx.now.conn.now c.take.new.tx.conn.now _
     (c.in_err-take.ensures.refused clean inside))
 
@@ -35,6 +36,25 @@ returns-clause-refused g c clean inside =
     let mid = state g.S.Store c.take.new.tx.conn.now in
     let early : HasCleanDisk mid = omega (arith, c.give.ensures.survives.clean) in
     let one = c.in_ok-take.ensures.inside early inside in
-    errs_after g.S.Store (WritesGiven c.args.xway c.args.tariff.now) (WritesTariff c.args.xway c.args.tariff.now)
-    (λ sql params is. inr is) c.args.tx.now.conn.now c.take.new.tx.conn.now c.give.new.tx.conn.now c.give.result one
-    c.take.ensures.survives (c.give.ensures.refused clean (one.mode ∙ inside))
+    errs_inside g.S.Store (WritesGiven c.args.xway c.args.tariff.now) (WritesTariff c.args.xway c.args.tariff.now)
+    (λ sql params is. inr is) c.args.tx.now.conn.now c.take.new.tx.conn.now c.give.new.tx.conn.now c.give.result
+    (ran_wider g.S.Store (WritesTaken c.args.xway) (WritesTariff c.args.xway c.args.tariff.now)
+    (λ sql params is. inl is) c.args.tx.now.conn.now c.take.new.tx.conn.now (c.in_ok-take.ensures.ran early inside))
+    one
+    c.take.ensures.survives
+    (c.give.ensures.refused clean (one.mode ∙ inside) (c.in_ok-take.ensures.dropped early inside))
+
+pub returns-clause-ran : goal.returns-clause-ran
+returns-clause-ran g c clean inside =
+    let mid = state g.S.Store c.take.new.tx.conn.now in
+    let early : HasCleanDisk mid = omega (arith, c.give.ensures.survives.clean) in
+    let one = c.in_ok-take.ensures.inside early inside in
+    both_ran g.S.Store (WritesTaken c.args.xway) (WritesGiven c.args.xway c.args.tariff.now)
+    (WritesTariff c.args.xway c.args.tariff.now) (λ sql params is. inl is) (λ sql params is. inr is)
+    c.args.tx.now.conn.now c.take.new.tx.conn.now c.give.new.tx.conn.now c.give.result
+    (c.in_ok-take.ensures.ran early inside) (c.give.ensures.ran clean (one.mode ∙ inside))
+
+pub returns-then-eq-clause-ran : goal.returns-then-eq-clause-ran
+returns-then-eq-clause-ran g c clean inside =
+    ran_wider g.S.Store (WritesTaken c.args.xway) (WritesTariff c.args.xway c.args.tariff.now)
+    (λ sql params is. inl is) c.args.tx.now.conn.now c.take.new.tx.conn.now (c.in_ok-take.ensures.ran clean inside)

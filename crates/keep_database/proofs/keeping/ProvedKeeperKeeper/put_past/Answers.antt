@@ -52,8 +52,14 @@ returns-clause-because g c clean o stands failed =
 pub returns-clause-version : goal.returns-clause-version
 returns-clause-version g c clean = rw c.count.ensures.same (c.put_past-answer.ensures.version clean)
 
+pub returns-clause-wrote : goal.returns-clause-wrote
+returns-clause-wrote g c clean = rw c.count.ensures.same (c.put_past-answer.ensures.wrote clean)
+
 pub returns-clause-told : goal.returns-clause-told
 returns-clause-told g c clean = rw c.count.ensures.same (c.put_past-answer.ensures.told clean)
 
 pub returns-clause-quiet : goal.returns-clause-quiet
 returns-clause-quiet g c = rw c.count.ensures.same c.put_past-answer.ensures.quiet
+
+pub returns-clause-refused : goal.returns-clause-refused
+returns-clause-refused g c clean = rw c.count.ensures.same (c.put_past-answer.ensures.refused clean)

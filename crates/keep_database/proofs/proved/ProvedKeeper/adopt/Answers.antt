@@ -8,7 +8,8 @@ use Rattle.keep_tables.specs.Told.{told_in}
 use Rattle.keep_tables.proofs.StandLaws.{told_if_stands}
 use Rattle.keep_writes.specs.Unmade.{IsUnmade}
 use Rattle.keep_writes.proofs.UnmadeLaws.{told_of, unmade_told}
-use Rattle.keep_database.proofs.TellLaws.{either_stands, made_has, made_quiet, quiet_made, same_told}
+use Rattle.keep_database.proofs.TellLaws.{either_stands, done_has, undone_has, made_has, made_quiet, quiet_made}
+use Rattle.keep_database.proofs.TellLaws.{same_told}
 use Rattle.keep_database.proofs.proved.ProvedKeeper.adopt.Goals as goal
 
 pub returns-clause-stands : goal.returns-clause-stands
@@ -50,3 +51,19 @@ pub returns-clause-memory : goal.returns-clause-memory
 returns-clause-memory g c =
     let told = same_told c.make-made.result c.error_of.result (SqliteFailure OutOfMemory) c.error_of.ensures in
     (λ is. told.0 (c.why_unmade.ensures.memory.0 is), λ is. c.why_unmade.ensures.memory.1 (told.1 is))
+
+pub returns-clause-ours : goal.returns-clause-ours
+returns-clause-ours g c clean none =
+    done_has c.make-made.result _ (c.why_unmade.ensures.none none) (c.make-made.ensures.ours clean)
+
+pub returns-clause-second : goal.returns-clause-second
+returns-clause-second g c clean none lacks =
+    done_has c.make-made.result _ (c.why_unmade.ensures.none none) (c.make-made.ensures.second clean lacks)
+
+pub returns-clause-rest : goal.returns-clause-rest
+returns-clause-rest g c clean none =
+    done_has c.make-made.result _ (c.why_unmade.ensures.none none) (c.make-made.ensures.rest clean)
+
+pub returns-clause-kept : goal.returns-clause-kept
+returns-clause-kept g c clean some =
+    undone_has c.make-made.result _ (λ done. some (c.why_unmade.ensures.made done)) (c.make-made.ensures.refused clean)
