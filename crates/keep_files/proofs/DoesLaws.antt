@@ -1,8 +1,7 @@
 -- What the clauses of a proved keeper say of a call.
-use Rattle.std.proofs.Common.{◌≡◌, true, false, true≢false, Result, Ok, Err, IfOk, IfErr, OnOk, OnErr, IsTrue}
+use Rattle.std.proofs.Common.{◌≡◌, ℕ, List, true, false, true≢false, Result, Ok, Err, IfOk, IfErr, OnOk, OnErr, IsTrue}
 use Rattle.std.proofs.Common.{refl, inr}
 use Rattle.sqlite_trees.specs.declared.store.Store.{Ghosts}
-use Rattle.sqlite.specs.Held.{Held}
 use Rattle.sqlite.specs.State.{State, HasCleanDisk, KeepsCommit, Survives}
 use Rattle.sqlite.proofs.StateLemmas.{survives_weaker}
 use Rattle.keep_office.specs.declared.kept.KeepFault.{KeepFault}
@@ -10,12 +9,14 @@ use Rattle.keep_office.specs.declared.kept.KeepFault.TheVariants.{Failed, NoMemo
 use Rattle.keep_office.specs.Office.{Office}
 use Rattle.keep_tables.specs.Stands.{HasOffice, StandsForOffice}
 use Rattle.keep_tables.specs.Steps.{FitsAny}
-use Rattle.keep_writes.specs.Causes.{WasRefusedIn}
+use Rattle.sqlite_value.specs.Order.{Row}
+use Rattle.keep_writes.specs.Causes.{WasRefusedIn, HasCauseOf}
 use Rattle.keep_writes.proofs.GrowLaws.{still_stands}
 use Rattle.keep_database.specs.Gives.{GivesUnless, WantsMemory}
-use Rattle.keep_database.specs.Looks.{CommitsFrom}
+use Rattle.keep_database.specs.Looks.{CommitsFrom, TellsRefusal}
+use Rattle.keep_database.specs.declared.proved.ProvedKeeper.{ProvedKeeper}
 use Rattle.keep_database.proofs.StandLaws.{ok_gives}
-use Rattle.keep_files.specs.Does.{Does, CommitsIf, FailsFor}
+use Rattle.keep_files.specs.Does.{Does, CommitsIf, PutFails, ReadFails}
 
 -- what holds anyway holds of either end
 either : {T : Type 0} (r : Result T KeepFault) (P : Type 0) → P → OnOk r P × OnErr r P
@@ -23,12 +24,20 @@ either (Ok x) P p = (p, tt)
 either (Err e) P p = (tt, p)
 
 -- why a call that reads failed, which may want memory for what it takes up
-pub fails_for : {S T : Type 0} (g : Ghosts S) (takes : Office → Type 0) (old new : Held S) (o : Office)
-    (r : Result T KeepFault) → (r ≡ Err Failed → WasRefusedIn g old new)
-    → (r ≡ Err NoMemory → WantsMemory g old new (takes o)) → IfErr r (FailsFor g takes old new o)
-fails_for g takes old new o (Ok x) why memory = tt
-fails_for g takes old new o (Err Failed) why memory = why refl
-fails_for g takes old new o (Err NoMemory) why memory = memory refl
+pub read_fails : {S T : Type 0} (g : Ghosts S) (takes : Office → Type 0) (old new : ProvedKeeper S) (o : Office)
+    (r : Result T KeepFault) → new.refused ≡ old.refused → (r ≡ Err Failed → WasRefusedIn g old.conn new.conn)
+    → (r ≡ Err NoMemory → WantsMemory g old.conn new.conn (takes o)) → IfErr r (ReadFails g takes old new o)
+read_fails g takes old new o (Ok x) quiet why memory = tt
+read_fails g takes old new o (Err Failed) quiet why memory = (why refl, quiet)
+read_fails g takes old new o (Err NoMemory) quiet why memory = (memory refl, quiet)
+
+-- why a call that puts failed, and what is told of it
+pub put_fails : {S T : Type 0} (g : Ghosts S) (writes : List ℕ → Row → Type 0) (old new : ProvedKeeper S)
+    (r : Result T KeepFault) → IfErr r (HasCauseOf g writes old.conn new.conn)
+    → IfErr r (λ fault. TellsRefusal g writes old.conn new.conn fault old.refused new.refused)
+    → IfErr r (PutFails g writes old new)
+put_fails g writes old new (Ok x) why told = tt
+put_fails g writes old new (Err f) why told = (why, told)
 
 -- a call that reads
 pub read_does : {T X : Type 0} (R : Type 0) (C : Office → KeepFault → Type 0) (see : T → X) (y : Office → X)

@@ -1,19 +1,31 @@
 -- What is held of a file, and how a call of it is made.
 use Rattle.std.specs.Prelude.{◌≡◌, ◌⊎◌, ℕ, Bool, true, false, List, Option, Some, None, Result, Ok, Err, IsOk}
 use Rattle.std.specs.Prelude.{IsSomeAnd}
+use Rattle.sqlite_value.specs.Order.{Row}
+use Rattle.sqlite_trees.specs.View.{View}
+use Rattle.sqlite_trees.specs.declared.store.Store.{Ghosts}
 use Rattle.sqlite_trees.specs.declared.error.StoreError.{StoreError}
 use Rattle.sqlite_trees.specs.declared.error.StoreError.TheVariants.{OutOfMemory, Io, Corrupt, Full, Broken, Unstorable}
+use Rattle.sqlite_pages.specs.declared.pages.Pages.{Ghosts as PagesGhosts}
+use Rattle.sqlite.specs.Held.{Held, state}
 use Rattle.sqlite.specs.State.{State}
 use Rattle.keep_office.specs.declared.kept.KeepFault.{KeepFault}
 use Rattle.keep_office.specs.declared.kept.KeepFault.TheVariants.{Failed, NoMemory}
 use Rattle.keep_office.specs.Office.{Office}
 use Rattle.keep_tables.specs.Steps.{FitsAny}
+use Rattle.keep_trees.specs.declared.page_trees.PageTrees.{PageTrees}
+use Rattle.keep_puts.specs.Stores.{Stores}
+use Rattle.keep_database.specs.declared.proved.ProvedKeeper.{ProvedKeeper}
 use Rattle.keep_files.specs.declared.cause.Cause.{Cause}
 use Rattle.keep_files.specs.declared.kept.Kept.{Kept}
 use Rattle.keep_files.specs.declared.kept.Kept.TheVariants.{Trees, Whole}
 use Rattle.keep_files.specs.Causes.{cause_in_store}
-use Rattle.keep_files.specs.Does.{Does}
-use Rattle.keep_files.specs.Openings.{Opening, WasUnopened, IsUnread, IsUnput}
+use Rattle.keep_files.specs.Does.{Does, PutFails, ReadFails}
+use Rattle.keep_files.specs.Looks.{Looks}
+use Rattle.keep_files.specs.Openings.{Opening, Part, AsTrees, AsStore, IsAdopted, LacksTables, NotOpened}
+use Rattle.keep_files.specs.Openings.{WasUnopened, IsUnread, IsUnput}
+use Rattle.keep_files.specs.Origins.{Comes, OfFile, PutsNothing, FoundOf, AdoptedOf, FoundAgain}
+use Rattle.keep_files.specs.Whys.{IsWhyOf}
 
 -- the keeper that is called is the one that is held, or one that was opened for the call
 abbrev pub IsReady : {T K : Type 0} → (K → Type 0) → Option (Kept T K) → K → Type 0
@@ -70,15 +82,37 @@ pub record IsLooked {T K A : Type 0} (may : T → Type 0) (why : Kept T K → Ca
   pub kept : IsHeld result held (Trees after)
   pub says : SaysOf why (Trees after) said result
 
--- a call that reads was made of trees or of a keeper; or nothing was held and nothing could be opened, for a cause
-abbrev pub AskedToRead : {T K A P S : Type 0} → Option (Kept T K) → Option (Kept T K) → (T → Type 0) →
-    ((Office → A → Type 0) → T → T → Result A KeepFault → Type 0) → (K → Type 0) → (Kept T K → Cause → Type 0) →
-    (K → State) → (K → K → Office → KeepFault → Type 0) → (Office → A → Type 0) → (Opening P S → Cause → Type 0) →
-    List ℕ → Option Cause → Result A KeepFault → Type 0
-AskedToRead old held found looks opened why view cause gives refuses path said result =
-    IsLooked (λ t. IsReadyToRead found opened old (Trees t)) why (looks gives) held said result
-    ⊎ (IsMade (λ k. IsReadyToRead found opened old (Whole k)) why view cause false FitsAny gives (λ o. o) held said
-    result ⊎ ((old ≡ None) × (held ≡ None) × WasUnopened (IsUnread refuses path) said result))
+module _ {P S A : Type 0} (p : PagesGhosts P) (g : Ghosts S) (gives : Opening P S → Part P S → Type 0)
+    (refuses : Opening P S → Cause → Type 0) (takes : Office → Type 0) (answers : Office → A → Type 0)
+    (old : Option (Kept (PageTrees P) (ProvedKeeper S))) (path : List ℕ)
+    (held : Option (Kept (PageTrees P) (ProvedKeeper S))) (said : Option Cause) (result : Result A KeepFault) where
+  -- a call that reads was made of trees or of a keeper that came as said; or nothing was held and nothing could be
+  -- opened, for a cause
+  abbrev pub IsRead : (Part P S → Type 0) → Type 0
+  IsRead comes =
+      IsLooked (λ t. IsReadyToRead (FoundOf p comes) (AdoptedOf g comes) old (Trees t)) (IsWhyOf g) (Looks p answers)
+      held said result
+      ⊎ (IsMade (λ k. IsReadyToRead (FoundOf p comes) (AdoptedOf g comes) old (Whole k)) (IsWhyOf g)
+      (λ k. state g k.conn) (λ k l. ReadFails g takes k l) false FitsAny answers (λ o. o) held said result
+      ⊎ ((old ≡ None) × (held ≡ None) × WasUnopened (IsUnread (NotOpened g comes refuses) path) said result))
+
+  -- they came of the file at the path, or are what was held of it
+  abbrev pub AskedToRead : Type 0
+  AskedToRead = IsRead (OfFile g gives PutsNothing path old)
+
+module _ {P S : Type 0} (g : Ghosts S) (gives : Opening P S → Part P S → Type 0) where
+  -- what is ready for a call is what is held, or it was found for the call and came of the file at the path
+  abbrev pub IsReadyOf : PagesGhosts P → List ℕ → Option (Kept (PageTrees P) (ProvedKeeper S)) →
+      Kept (PageTrees P) (ProvedKeeper S) → Type 0
+  IsReadyOf p path old =
+      IsReadyToRead (FoundOf p (OfFile g gives PutsNothing path old)) (AdoptedOf g
+      (OfFile g gives PutsNothing path old))
+      old
+
+  -- why nothing is: the file at the path was not opened
+  abbrev pub IsUnreadOf : (Opening P S → Cause → Type 0) → List ℕ → Option (Kept (PageTrees P) (ProvedKeeper S)) →
+      Cause → Type 0
+  IsUnreadOf refuses path old = IsUnread (NotOpened g (OfFile g gives PutsNothing path old) refuses) path
 
 -- what an error of a store is to a keeper
 abbrev pub store_fault : StoreError → KeepFault
@@ -105,32 +139,72 @@ HoldsFound found None = Unit {0}
 HoldsFound found (Some (Trees trees)) = found trees
 HoldsFound found (Some (Whole kept)) = ⊥
 
--- a call that puts was made of a store that was opened for it, and that is let go; trees of the file are held then
-pub record IsStored {T K X : Type 0} (found : T → Type 0) (see : X → X → Result Bool StoreError → Type 0)
-    (held : Option (Kept T K)) (said : Option Cause) (result : Result (Unit {0}) KeepFault) : Type 0 where
+-- a call that puts was made of a store that came as said, and that is let go; trees that were found in its file again
+-- are held then
+pub record IsStored {T K X : Type 0} (comes : X → Type 0) (again : X → T → Type 0)
+    (see : X → X → Result Bool StoreError → Type 0) (held : Option (Kept T K)) (said : Option Cause)
+    (result : Result (Unit {0}) KeepFault) : Type 0 where
   pub before : X
   pub after : X
   pub answer : Result Bool StoreError
+  pub from : comes before
   pub stores : see before after answer
   pub told : IsToldAs said answer result
-  pub kept : HoldsFound found held
+  pub kept : HoldsFound (again after) held
 
--- a call that puts was made of a store or of a keeper; or nothing could be opened, for a cause, and nothing is held
-abbrev pub IsPut : {T K X P : Type 0} → (K → Type 0) → Option (Kept T K) → (T → Type 0) →
-    (X → X → Result Bool StoreError → Type 0) → (Kept T K → Cause → Type 0) → (K → State) →
-    (K → K → Office → KeepFault → Type 0) → (Office → Type 0) → (Office → Office) →
-    (Opening P X → Cause → Type 0) → List ℕ → Option Cause → Result (Unit {0}) KeepFault → Type 0
-IsPut may held found see why view cause asks next refuses path said result =
-    IsMade may why view cause true asks (λ o u. Unit {0}) next held said result
-    ⊎ (IsStored found see held said result ⊎ ((held ≡ None) × WasUnopened (IsUnput refuses path) said result))
+-- a put that was not done does not fit the store
+abbrev pub Misfits : {S : Type 0} → Ghosts S → (View → Type 0) → (Office → Type 0) → (Office → Office) → S → S → Type 0
+Misfits g room asks next old new = Stores g room asks next old new (Ok false)
 
--- a call that puts was made of the keeper that is held; or none was, and it was made of a store or of a keeper that was
--- opened for the call, or none could be opened, for a cause
-abbrev pub AskedToPut : {T K X P : Type 0} → Option (Kept T K) → Option (Kept T K) → (K → Type 0) → (T → Type 0) →
-    (X → X → Result Bool StoreError → Type 0) → (Kept T K → Cause → Type 0) → (K → State) →
-    (K → K → Office → KeepFault → Type 0) → (Office → Type 0) → (Office → Office) →
-    (Opening P X → Cause → Type 0) → List ℕ → Option Cause → Result (Unit {0}) KeepFault → Type 0
-AskedToPut old held opened found see why view cause asks next refuses path said result =
-    IsMade (IsReady opened old) why view cause true asks (λ o u. Unit {0}) next held said result
-    ⊎ (IsNotWhole old × (IsStored found see held said result ⊎ ((held ≡ None) × WasUnopened (IsUnput refuses path) said
-    result)))
+module _ {P S : Type 0} (g : Ghosts S) (writes : List ℕ → Row → Type 0) (asks : Office → Type 0)
+    (next : Office → Office) (held : Option (Kept (PageTrees P) (ProvedKeeper S))) (said : Option Cause)
+    (result : Result (Unit {0}) KeepFault) where
+  -- a call that puts was made of a keeper
+  abbrev pub IsPutBy : (ProvedKeeper S → Type 0) → Type 0
+  IsPutBy may =
+      IsMade may (IsWhyOf g) (λ k. state g k.conn) (λ k l _. PutFails g writes k l) true asks (λ o u. Unit {0}) next
+      held said result
+
+  -- it was made of a keeper on a connection; or that lacks its tables, and nothing is held
+  abbrev pub IsPutOver : Held S → Type 0
+  IsPutOver conn =
+      IsPutBy (IsAdopted g (λ from. from ≡ conn))
+      ⊎ ((held ≡ None) × WasUnopened (LacksTables g (λ from. from ≡ conn)) said result)
+
+module _ {P S : Type 0} (p : PagesGhosts P) (g : Ghosts S) (gives : Opening P S → Part P S → Type 0)
+    (refuses : Opening P S → Cause → Type 0) (room : View → Type 0) (writes : List ℕ → Row → Type 0)
+    (asks : Office → Type 0) (next : Office → Office) where
+  -- a call that puts was made of a store that came as said; or nothing could be opened, for a cause, and nothing is
+  -- held
+  abbrev pub IsPutIn : List ℕ → Option (Kept (PageTrees P) (ProvedKeeper S)) → Option Cause →
+      Result (Unit {0}) KeepFault → (Part P S → Type 0) → Type 0
+  IsPutIn path held said result comes =
+      IsStored (λ s. comes (AsStore s)) (FoundAgain p gives) (Stores g room asks next) held said result
+      ⊎ ((held ≡ None) × WasUnopened (IsUnput (NotOpened g comes refuses) path) said result)
+
+  -- the same, or it was made of a keeper that came as said
+  abbrev pub IsPut : List ℕ → Option (Kept (PageTrees P) (ProvedKeeper S)) → Option Cause →
+      Result (Unit {0}) KeepFault → (Part P S → Type 0) → Type 0
+  IsPut path held said result comes =
+      IsPutBy g writes asks next held said result (AdoptedOf g comes) ⊎ IsPutIn path held said result comes
+
+  -- it was made by the trees: of what came of them
+  abbrev pub IsPutByTrees : PageTrees P → List ℕ → Option (Kept (PageTrees P) (ProvedKeeper S)) → Option Cause →
+      Result (Unit {0}) KeepFault → Type 0
+  IsPutByTrees trees path held said result =
+      IsPut path held said result (Comes g gives (Misfits g room asks next) (λ part. part ≡ AsTrees trees))
+
+  -- it was made of the keeper that is held; or none was, and it was made of a store or of a keeper that came as said,
+  -- or none could be opened, for a cause
+  abbrev pub IsAskedToPut : Option (Kept (PageTrees P) (ProvedKeeper S)) → List ℕ →
+      Option (Kept (PageTrees P) (ProvedKeeper S)) → Option Cause → Result (Unit {0}) KeepFault →
+      (Part P S → Type 0) → Type 0
+  IsAskedToPut old path held said result comes =
+      IsPutBy g writes asks next held said result (IsReady (AdoptedOf g comes) old)
+      ⊎ (IsNotWhole old × IsPutIn path held said result comes)
+
+  -- they came of the file at the path, or of what was held of it
+  abbrev pub AskedToPut : Option (Kept (PageTrees P) (ProvedKeeper S)) → List ℕ →
+      Option (Kept (PageTrees P) (ProvedKeeper S)) → Option Cause → Result (Unit {0}) KeepFault → Type 0
+  AskedToPut old path held said result =
+      IsAskedToPut old path held said result (OfFile g gives (Misfits g room asks next) path old)

@@ -1,5 +1,10 @@
 -- Which cause an error of the database is, and what a keeper in a file says of its failures.
 use Rattle.std.specs.Prelude.{◌≡◌, ◌≢◌, Bool, true, false, Option, Result, Ok, Err, IsSome}
+use Rattle.std.specs.IoError.{error_kind}
+use Rattle.std.specs.declared.io.ErrorKind.{ErrorKind}
+use Rattle.std.specs.declared.io.ErrorKind.TheVariants as Kind
+use Rattle.sqlite_std_file.specs.declared.pair.OpenError.{OpenError}
+use Rattle.sqlite_std_file.specs.declared.pair.OpenError.TheVariants as Opening
 use Rattle.sqlite.specs.declared.error.Error.{Error}
 use Rattle.sqlite.specs.declared.error.Error.TheVariants.{SqliteFailure}
 use Rattle.sqlite.specs.declared.error.ErrorCode.TheVariants.{DatabaseBusy, CannotOpen, DatabaseCorrupt, NotADatabase}
@@ -13,6 +18,7 @@ use Rattle.keep_office.specs.declared.kept.KeepFault.TheVariants.{Failed, NoMemo
 use Rattle.keep_files.specs.declared.cause.Cause.{Cause}
 use Rattle.keep_files.specs.declared.cause.Cause.TheVariants.{InUse, Unopened, Spoiled, NotOurs, NoRoom}
 use Rattle.keep_files.specs.declared.cause.Cause.TheVariants.{DiskFailed, Shut, Memory, Odd}
+use Rattle.keep_files.specs.declared.cause.Cause.TheVariants.{Journal, ReadOnly, NotPlain}
 
 -- a cause is that of an error of the database
 abbrev pub IsCauseOf : Cause → Error → Type 0
@@ -29,6 +35,25 @@ IsCauseOf Odd e =
     × (e ≢ SqliteFailure NotADatabase) × (e ≢ SqliteFailure DiskFull) × (e ≢ SqliteFailure SystemIoFailure)
     × (e ≢ SqliteFailure Closed) × (e ≢ SqliteFailure OutOfMemory)
 IsCauseOf other e = ⊥
+
+-- the cause that a refusal of the file system is, by its kind
+abbrev pub kind_cause : ErrorKind → Cause
+kind_cause Kind.PermissionDenied = ReadOnly
+kind_cause Kind.ReadOnlyFilesystem = ReadOnly
+kind_cause Kind.StorageFull = NoRoom
+kind_cause Kind.QuotaExceeded = NoRoom
+kind_cause Kind.Unsupported = NotPlain
+kind_cause Kind.IsADirectory = NotPlain
+kind_cause Kind.FilesystemLoop = NotPlain
+kind_cause Kind.OutOfMemory = Memory
+kind_cause _ = Unopened
+
+-- the cause that an error of an opening is
+abbrev pub opening_cause : OpenError → Cause
+opening_cause Opening.Busy = InUse
+opening_cause Opening.HotJournal = Journal
+opening_cause Opening.OutOfMemory = Memory
+opening_cause (Opening.Io error) = kind_cause (error_kind error)
 
 -- the cause that an error of a store of trees is
 abbrev pub cause_in_store : StoreError → Cause

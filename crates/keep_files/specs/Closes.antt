@@ -1,12 +1,13 @@
 -- What the closing of a file does.
-use Rattle.std.specs.Prelude.{◌≡◌, ◌↔◌, Bool, IsTrue}
+use Rattle.std.specs.Prelude.{◌≡◌, ◌↔◌, Bool, nat_lt, IsTrue}
 use Rattle.sqlite_disk.specs.declared.Disk.{Ghosts}
 use Rattle.sqlite_disk.specs.declared.Files.{Files}
-use Rattle.sqlite_wal.specs.Reads.{AreClean}
+use Rattle.sqlite_wal.specs.Reads.{AreClean, tally_of_files}
 use Rattle.sqlite_pages.specs.Outcome.{IsExcused}
 use Rattle.sqlite_pages.specs.declared.error.Error.{Error as PageError}
 use Rattle.sqlite_pool.specs.declared.pool.Pool.{Pool}
-use Rattle.sqlite_pool.specs.Pool.{state, usable, ending, log_frames, HasSpilled}
+use Rattle.sqlite_pool.specs.Pool.{state, files, usable, ending, log_frames, HasSpilled}
+use Rattle.sqlite_pool.specs.Stored.{Keeps}
 use Rattle.sqlite_store.specs.declared.store.FileStore.{FileStore}
 use Rattle.sqlite_store.specs.FileStore.{view}
 use Rattle.sqlite_trees.specs.View.{IsClean}
@@ -25,19 +26,26 @@ use Rattle.keep_files.specs.declared.kept.Kept.TheVariants.{Trees, Whole}
 use Rattle.keep_files.specs.Causes.{IsCauseOf, close_cause}
 
 module _ {D : Type 0} {g : Ghosts D} where
-  -- what the log of some pages had was copied into their file: they show the same, and the log has no frame
+  -- what the log of some pages had was copied into their file: they show the same, and the log has no frame; a crash
+  -- leaves nothing else than one before it
   pub record IsEmptied (pool : Pool D g) : Type 0 where
     pub last : Pool D g
     pub empty : ¬ HasSpilled pool → log_frames last ≡ 0
     pub same : IsTrue (state last).is_open → usable last ≡ usable pool
+    pub kept : Keeps (state pool) (state last)
 
-  -- it was not copied, for an error of the pages that has this cause
+  -- between some pages and later ones a write of their files found no room: more are counted that did
+  abbrev pub found_no_room : Pool D g → Pool D g → Bool
+  found_no_room old new = nat_lt (tally_of_files g (files old)).refused (tally_of_files g (files new)).refused
+
+  -- it was not copied, for an error of the pages that has this cause, by whether a write found no room; a crash leaves
+  -- nothing else
   pub record StaysFull (pool : Pool D g) (cause : Cause) : Type 0 where
     pub last : Pool D g
     pub error : PageError
-    pub no_room : Bool
     pub excused : IsTrue (state last).is_clean → IsExcused (state pool).faults (ending last) error
-    pub names : cause ≡ close_cause error no_room
+    pub kept : Keeps (state pool) (state last)
+    pub names : cause ≡ close_cause error (found_no_room pool last)
 
   -- the files of a connection were closed, and that of the database alone has what it had committed
   pub record IsShut (conn : Held (FileStore D g)) : Type 0 where

@@ -1,5 +1,6 @@
 -- What a call does to what is kept, in words of the office that a database stands for.
-use Rattle.std.specs.Prelude.{◌≡◌, Bool, true, false, Result, IfOk, IfErr, OnOk, OnErr, IsTrue}
+use Rattle.std.specs.Prelude.{◌≡◌, ℕ, Bool, false, List, Result, IfOk, IfErr, OnOk, OnErr, IsTrue}
+use Rattle.sqlite_value.specs.Order.{Row}
 use Rattle.sqlite_trees.specs.Tree.{Trees}
 use Rattle.sqlite_trees.specs.declared.store.Store.{Ghosts}
 use Rattle.sqlite.specs.Effect.{Database}
@@ -9,9 +10,10 @@ use Rattle.keep_office.specs.declared.kept.KeepFault.{KeepFault}
 use Rattle.keep_office.specs.declared.kept.KeepFault.TheVariants.{Failed, NoMemory}
 use Rattle.keep_office.specs.Office.{Office}
 use Rattle.keep_tables.specs.Stands.{StandsForOffice}
-use Rattle.keep_writes.specs.Causes.{WasRefusedIn}
+use Rattle.keep_writes.specs.Causes.{WasRefusedIn, HasCauseOf}
 use Rattle.keep_database.specs.Gives.{WantsMemory}
-use Rattle.keep_database.specs.Looks.{CommitsFrom}
+use Rattle.keep_database.specs.Looks.{CommitsFrom, TellsRefusal}
+use Rattle.keep_database.specs.declared.proved.ProvedKeeper.{ProvedKeeper}
 
 -- a call that reads commits nothing, and one that writes the office that comes next
 abbrev pub CommitsIf : Bool → (Office → Type 0) → (Office → Office) → Database → Trees → Type 0
@@ -22,6 +24,18 @@ CommitsIf writes asks next before trees = IsTrue writes × CommitsFrom asks next
 abbrev pub FailsFor : {S : Type 0} → Ghosts S → (Office → Type 0) → Held S → Held S → Office → KeepFault → Type 0
 FailsFor g takes old new o Failed = WasRefusedIn g old new
 FailsFor g takes old new o NoMemory = WantsMemory g old new (takes o)
+
+-- so it did by a keeper, which tells the error that it told before
+abbrev pub ReadFails : {S : Type 0} → Ghosts S → (Office → Type 0) → ProvedKeeper S → ProvedKeeper S → Office →
+    KeepFault → Type 0
+ReadFails g takes old new o fault = FailsFor g takes old.conn new.conn o fault × (new.refused ≡ old.refused)
+
+-- a put by a keeper failed for a cause of its own, and the keeper tells the error with which the database refused it,
+-- want of memory where that is the fault; or what it told before where the put was not begun, for the fault's own cause
+abbrev pub PutFails : {S : Type 0} → Ghosts S → (List ℕ → Row → Type 0) → ProvedKeeper S → ProvedKeeper S →
+    KeepFault → Type 0
+PutFails g writes old new fault =
+    HasCauseOf g writes old.conn new.conn fault × TellsRefusal g writes old.conn new.conn fault old.refused new.refused
 
 -- a call that asks something of the office answers what the office gives, and leaves the next one; where it is refused,
 -- it leaves the office, and had a cause; what it answered leaves the store open

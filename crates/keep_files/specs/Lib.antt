@@ -5,7 +5,9 @@ pub mod Whys
 pub mod Does
 pub mod Looks
 pub mod Openings
+pub mod Origins
 pub mod Asked
 pub mod Anew
 pub mod Closes
+pub mod Files
 pub mod Says

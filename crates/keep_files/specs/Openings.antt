@@ -1,27 +1,31 @@
 -- What is opened for a call of a file, and why it was not.
-use Rattle.std.specs.Prelude.{◌≡◌, ◌≢◌, ◌⊎◌, ◌↔◌, ◌&&◌, false, ℕ, List, Option, Some, None, Result, Ok, Err, IsTrue}
+use Rattle.std.specs.Prelude.{◌≡◌, ◌≢◌, ◌⊎◌, ◌↔◌, ◌&&◌, ◌++◌, codes, false, ℕ, List, IsTrue}
+use Rattle.std.specs.Prelude.{Option, Some, None, Result, Ok, Err}
 use Rattle.sqlite_disk.specs.declared.Disk.{Ghosts}
 use Rattle.sqlite_disk.specs.declared.Files.{Files}
 use Rattle.sqlite.specs.Files.{IsCleanLeft, FailsToOpenFiles, LeavesFiles}
 use Rattle.sqlite.specs.declared.file.Leftover.{Leftover}
 use Rattle.sqlite.specs.declared.error.Error.{Error}
+use Rattle.sqlite.specs.declared.error.Error.TheVariants.{SqliteFailure}
+use Rattle.sqlite.specs.declared.error.ErrorCode.TheVariants.{OutOfMemory}
 use Rattle.sqlite.specs.Held.{Held, state}
 use Rattle.sqlite.specs.State.{HasCleanDisk, KeepsCommit, Survives}
+use Rattle.sqlite_std_file.specs.declared.pair.OpenError.{OpenError}
 use Rattle.sqlite_trees.specs.declared.store.Store.{Ghosts as StoreGhosts}
 use Rattle.keep_office.specs.declared.kept.KeepFault.{KeepFault}
 use Rattle.keep_office.specs.declared.kept.KeepFault.TheVariants.{Failed, NoMemory}
 use Rattle.keep_office.specs.Office.{Office}
 use Rattle.keep_tables.specs.Stands.{StandsForOffice}
-use Rattle.keep_writes.specs.Growth.{CommitsSame}
+use Rattle.keep_writes.specs.Growth.{CommitsSame, CommitsVersion, HasVersion, IsAtRest, IsOurs, LacksVersion}
 use Rattle.keep_writes.specs.Objects.{MayBeMade}
-use Rattle.keep_writes.specs.Unmade.{IsUnmadeBy}
+use Rattle.keep_writes.specs.Unmade.{IsUnmade, IsUnmadeBy}
+use Rattle.keep_trees.specs.declared.page_trees.PageTrees.{PageTrees}
 use Rattle.keep_database.specs.declared.proved.ProvedKeeper.{ProvedKeeper}
 use Rattle.keep_files.specs.declared.cause.Cause.{Cause}
-use Rattle.keep_files.specs.declared.cause.Cause.TheVariants.{InUse, Journal, ReadOnly, NotPlain, Unopened, NoRoom}
-use Rattle.keep_files.specs.declared.cause.Cause.TheVariants.{DiskFailed, NotOurs, Memory}
+use Rattle.keep_files.specs.declared.cause.Cause.TheVariants.{Unopened, DiskFailed, NotOurs, Memory}
 use Rattle.keep_files.specs.declared.kept.Kept.{Kept}
 use Rattle.keep_files.specs.declared.kept.Kept.TheVariants.{Trees, Whole}
-use Rattle.keep_files.specs.Causes.{IsCauseOf}
+use Rattle.keep_files.specs.Causes.{IsCauseOf, opening_cause}
 
 -- what is opened: the file at a path, that of some pages, or that of a store
 pub data Opening (P S : Type 0) : Type 0 where
@@ -29,15 +33,33 @@ pub data Opening (P S : Type 0) : Type 0 where
   FromPages : P → Opening P S
   FromStore : S → Opening P S
 
+-- what is opened: trees, a store of them, or a connection to the whole
+pub data Part (P S : Type 0) : Type 0 where
+  AsTrees : PageTrees P → Part P S
+  AsStore : S → Part P S
+  AsWhole : Held S → Part P S
+
+-- what an opening to read gives, trees or the whole
+abbrev pub read_part : {P S : Type 0} → Kept (PageTrees P) (Held S) → Part P S
+read_part (Trees trees) = AsTrees trees
+read_part (Whole conn) = AsWhole conn
+
+-- what an opening to put gives, a store or the whole
+abbrev pub put_part : {P S : Type 0} → Kept S (Held S) → Part P S
+put_part (Trees store) = AsStore store
+put_part (Whole conn) = AsWhole conn
+
 -- where what was opened is a whole file, that is so
 abbrev pub IfWhole : {T W : Type 0} → Type 0 → Kept T W → Type 0
 IfWhole so (Trees trees) = Unit {0}
 IfWhole so (Whole whole) = so
 
--- a keeper was adopted on a connection: it stands for the office that this stood for, and a database that is not to be
--- made is as it was; its tables are made, or left for a cause that the error tells, which is not want of memory
-pub record IsAdopted {S : Type 0} (g : StoreGhosts S) (keeper : ProvedKeeper S) : Type 0 where
+-- a keeper was adopted on a connection that came as said: it stands for the office that this stood for, and a database
+-- that has the table of the version, or is not to be made, is as it was; its tables are made only where it is ours, and
+-- nothing is under way then, or they are left for a cause that the error tells, which is not want of memory
+pub record IsAdopted {S : Type 0} (g : StoreGhosts S) (comes : Held S → Type 0) (keeper : ProvedKeeper S) : Type 0 where
   pub conn : Held S
+  pub from : comes conn
   pub roomy : keeper.unmade ≢ Some NoMemory
   pub why : HasCleanDisk (state g keeper.conn) → IsUnmadeBy g conn keeper.conn keeper.refused
   pub told : keeper.refused ≡ None → keeper.unmade ≡ None
@@ -45,13 +67,37 @@ pub record IsAdopted {S : Type 0} (g : StoreGhosts S) (keeper : ProvedKeeper S) 
       → StandsForOffice (state g conn).committed o → StandsForOffice (state g keeper.conn).committed o
   pub left : HasCleanDisk (state g keeper.conn) → ¬ MayBeMade (state g conn).committed →
       KeepsCommit (state g conn) (state g keeper.conn)
+  pub there : HasCleanDisk (state g keeper.conn) → HasVersion (state g conn).committed →
+      KeepsCommit (state g conn) (state g keeper.conn)
+  pub ours : HasCleanDisk (state g keeper.conn) → keeper.unmade ≡ None → IsOurs (state g conn).committed
+  pub second : HasCleanDisk (state g keeper.conn) → keeper.unmade ≡ None → LacksVersion (state g conn).committed →
+      CommitsVersion g keeper.conn
+  pub rest : HasCleanDisk (state g keeper.conn) → keeper.unmade ≡ None → IsAtRest (state g keeper.conn)
+  pub kept : HasCleanDisk (state g keeper.conn) → keeper.unmade ≢ None → KeepsCommit (state g conn) (state g keeper.conn)
   pub crash : Survives (state g conn) (state g keeper.conn) (CommitsSame (state g conn).committed)
 
--- a keeper on the whole file was opened, and there was no memory to make its tables
-pub record LacksTables (S : Type 0) (cause : Cause) : Type 0 where
+-- a keeper was adopted on a connection that came as said, and in that there was no memory to make its tables
+pub record LacksTables {S : Type 0} (g : StoreGhosts S) (comes : Held S → Type 0) (cause : Cause) : Type 0 where
   pub memory : cause ≡ Memory
+  pub conn : Held S
+  pub from : comes conn
   pub keeper : ProvedKeeper S
   pub unmade : keeper.unmade ≡ Some NoMemory
+  pub why : HasCleanDisk (state g keeper.conn) → IsUnmade g conn keeper.conn (SqliteFailure OutOfMemory)
+
+-- what is opened, other than a path, came as said
+abbrev pub IsOpeningOf : {P S : Type 0} → (Part P S → Type 0) → Opening P S → Type 0
+IsOpeningOf comes (FromPath path) = ⊥
+IsOpeningOf {P} comes (FromPages pages) = (trees : PageTrees P) × (trees.pages ≡ pages) × comes (AsTrees trees)
+IsOpeningOf comes (FromStore store) = comes (AsStore store)
+
+module _ {P S : Type 0} (g : StoreGhosts S) (comes : Part P S → Type 0) where
+  -- what was to be opened was not, for a cause; or a connection was, and lacks its tables; it came as said
+  abbrev pub NotOpened : (Opening P S → Cause → Type 0) → Opening P S → Cause → Type 0
+  NotOpened refuses (FromPath path) cause =
+      refuses (FromPath path) cause ⊎ LacksTables g (λ conn. comes (AsWhole conn)) cause
+  NotOpened refuses (FromPages pages) cause = IsOpeningOf comes (FromPages pages) × refuses (FromPages pages) cause
+  NotOpened refuses (FromStore store) cause = IsOpeningOf comes (FromStore store) × refuses (FromStore store) cause
 
 -- a cause is told by an answer that is an error: want of memory by its own, any other cause is said
 abbrev pub IsToldBy : {A : Type 0} → Option Cause → Result A KeepFault → Cause → Type 0
@@ -66,17 +112,13 @@ pub record WasUnopened {A : Type 0} (knows : Cause → Type 0) (said : Option Ca
   pub told : IsToldBy said result cause
 
 module _ {P S : Type 0} (refuses : Opening P S → Cause → Type 0) (path : List ℕ) where
-  -- why a call that reads was made of nothing: the file at the path was not opened, or lacks its tables
+  -- why a call that reads was made of nothing: the file at the path was not opened
   abbrev pub IsUnread : Cause → Type 0
-  IsUnread cause = refuses (FromPath path) cause ⊎ LacksTables S cause
+  IsUnread cause = refuses (FromPath path) cause
 
   -- the file at the path was opened, or it was not, for a cause
-  abbrev pub Tries : (List ℕ → Type 0) → Type 0
-  Tries reaches = reaches path ⊎ ((cause : Cause) × IsUnread cause)
-
-  -- so it was where nothing was held before
-  abbrev pub TriesPath : {H : Type 0} → (List ℕ → Type 0) → Option H → Type 0
-  TriesPath reaches old = old ≡ None → Tries reaches
+  abbrev pub Tries : (Opening P S → Part P S → Type 0) → Type 0
+  Tries gives = ((part : Part P S) × gives (FromPath path) part) ⊎ ((cause : Cause) × IsUnread cause)
 
   -- why a call that puts was made of nothing: the same, or neither a store nor the whole file was opened
   abbrev pub IsUnput : Cause → Type 0
@@ -88,16 +130,14 @@ module _ {P S : Type 0} (refuses : Opening P S → Cause → Type 0) (path : Lis
   abbrev pub IsNotAnew : (Opening P S → Type 0) → Cause → Type 0
   IsNotAnew foreign cause = IsUnput cause ⊎ ((cause ≡ NotOurs) × ((other : Opening P S) × foreign other))
 
--- a cause for which the file system may refuse a file
-abbrev pub IsOfOpening : Cause → Type 0
-IsOfOpening InUse = Unit {0}
-IsOfOpening Journal = Unit {0}
-IsOfOpening ReadOnly = Unit {0}
-IsOfOpening NotPlain = Unit {0}
-IsOfOpening Unopened = Unit {0}
-IsOfOpening NoRoom = Unit {0}
-IsOfOpening Memory = Unit {0}
-IsOfOpening other = ⊥
+-- a path names no file: it is that of a database in memory, or begins as an address
+abbrev pub NamesNoFile : List ℕ → Type 0
+NamesNoFile path = (path ≡ codes ":memory:") ⊎ ((rest : List ℕ) × (path ≡ codes "file:" ++ rest))
+
+-- a cause for which the file at a path is refused: that of an error of an opening, or the path names none
+abbrev pub IsOfOpening : List ℕ → Cause → Type 0
+IsOfOpening path cause =
+    ((error : OpenError) × (cause ≡ opening_cause error)) ⊎ (NamesNoFile path × (cause ≡ Unopened))
 
 -- a database refused to open files with an error, which has that cause, and harmed nothing
 pub record IsRefusedBy {D : Type 0} (g : Ghosts D) (files : Files D) (cause : Cause) : Type 0 where
@@ -124,10 +164,6 @@ module _ {D : Type 0} (g : Ghosts D) where
   -- why the file at a path is not opened: the disk gives none, or they are not opened
   abbrev pub RefusesPath : (List ℕ → Cause → Type 0) → (Cause → Type 0) → List ℕ → Cause → Type 0
   RefusesPath gives draws path cause = gives path cause ⊎ RefusesFiles draws cause
-
-  -- the file at a path was opened: the disk gave files for it
-  abbrev pub ReachesPath : (List ℕ → Files D → Type 0) → List ℕ → Type 0
-  ReachesPath gives path = (files : Files D) × gives path files
 
   -- why a store of files refuses what is opened
   abbrev pub FileRefuses : {P S : Type 0} → (List ℕ → Cause → Type 0) → (Cause → Type 0) → Opening P S → Cause →

@@ -2,7 +2,7 @@
 ghost use Rattle.std.specs.Prelude.{◌≡◌, true, false, IfOk, IfErr, IsTrue};
 ghost use Rattle.sqlite_std_file.specs.File.{file_is_usable, IsFresh};
 ghost use Rattle.keep_files.specs.declared.cause.Cause.TheVariants.{Unopened};
-ghost use Rattle.keep_files.specs.Openings.{IsOfOpening};
+ghost use Rattle.keep_files.specs.Openings.{IsOfOpening, NamesNoFile};
 
 use crate::cause::{Cause, cause_of_opening};
 use sqlite::{FileFrom, FileStore, Files, Start, Wary};
@@ -58,7 +58,7 @@ impl AtPath for KeptDisk {
 
     ghost reaches = { λ path files. IsFresh true files.log × IsFresh false files.db };
 
-    ghost refuses = { λ path. IsOfOpening };
+    ghost refuses = { IsOfOpening };
 
     ghost undrawn = { λ cause. cause ≡ Unopened };
 
@@ -104,14 +104,24 @@ fn drawn(rt: &HostRuntime) -> Result<u64, Cause>
     }
 }
 
+/// Whether a path names no file: it is that of a database in memory, or begins as an address.
+fn names_no_file(path: &str) -> bool
+    ensures { IsTrue result → NamesNoFile path.now }
+{
+    if path == ":memory:" {
+        return true;
+    }
+    path.starts_with("file:")
+}
+
 /// The two files at a path.
 fn opened<S: Start>(rt: &HostRuntime, path: &str, start: S) -> Result<Files<FileFrom<S>>, Cause>
     ensures usable { IfOk result (λ files. IsTrue (file_is_usable S.Start files.log)
         × IsTrue (file_is_usable S.Start files.db)) }
     ensures opened { IfOk result (λ files. IsFresh true files.log × IsFresh false files.db) }
-    ensures refused { IfErr result IsOfOpening }
+    ensures refused { IfErr result (IsOfOpening path.now) }
 {
-    if path == ":memory:" || path.starts_with("file:") {
+    if names_no_file(path) {
         return Err(Cause::Unopened);
     }
     match sqlite_std_file::open(rt, path, start) {

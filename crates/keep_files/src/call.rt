@@ -2,9 +2,8 @@
 ghost use Rattle.std.specs.Prelude.{true, false, IfOk};
 ghost use Rattle.sqlite.specs.Held.{state};
 ghost use Rattle.keep_tables.specs.Steps.{FitsAny};
-ghost use Rattle.keep_writes.specs.Causes.{HasCauseOf};
 ghost use Rattle.keep_puts.specs.Stores.{Stores};
-ghost use Rattle.keep_files.specs.Does.{Does, FailsFor};
+ghost use Rattle.keep_files.specs.Does.{Does, PutFails, ReadFails};
 ghost use Rattle.keep_files.specs.Looks.{Looks};
 
 use crate::shuts::Shuts;
@@ -33,7 +32,7 @@ pub trait Reading {
     /// Makes the call of a keeper on a whole file.
     fn ask<S: Steady>(self, kept: &mut ProvedKeeper<S>) -> Result<Self::Answer, KeepFault>
         ensures answers { IfOk result answers }
-        ensures does { Does (FailsFor S.Store (takes self) kept.old.conn kept.new.conn) false FitsAny (gives self)
+        ensures does { Does (ReadFails S.Store (takes self) kept.old kept.new) false FitsAny (gives self)
             (λ o. o) (state S.Store kept.old.conn) (state S.Store kept.new.conn) result };
 
     /// Makes the call of the trees of a file.
@@ -74,7 +73,7 @@ pub trait Putting {
     /// Makes the call of a keeper on a whole file.
     fn put<S: Shuts>(self, kept: &mut ProvedKeeper<S>) -> Result<(), KeepFault>
         requires { fits self }
-        ensures { Does (λ _. HasCauseOf S.Store (writes self) kept.old.conn kept.new.conn) true (asks self)
+        ensures { Does (λ _. PutFails S.Store (writes self) kept.old kept.new) true (asks self)
             (λ o u. Unit {0}) (next self)
             (state S.Store kept.old.conn) (state S.Store kept.new.conn) result };
 }

@@ -1,12 +1,10 @@
 // Why a call of a keeper in a file failed.
 ghost use Rattle.std.specs.Prelude.{◌≡◌, ◌↔◌};
-ghost use Rattle.sqlite_std_file.specs.declared.pair.OpenError.TheVariants.{Busy, HotJournal, OutOfMemory};
 ghost use Rattle.keep_office.specs.declared.kept.KeepFault.TheVariants.{Failed, NoMemory};
 ghost use Rattle.std.specs.Prelude.{Some};
-ghost use Rattle.keep_files.specs.declared.cause.Cause.TheVariants.{InUse, Journal, Memory};
+ghost use Rattle.keep_files.specs.declared.cause.Cause.TheVariants.{Memory};
 ghost use Rattle.keep_files.specs.Asked.{store_fault};
-ghost use Rattle.keep_files.specs.Causes.{IsCauseOf, IsSaidOf, cause_in_store, close_cause};
-ghost use Rattle.keep_files.specs.Openings.{IsOfOpening};
+ghost use Rattle.keep_files.specs.Causes.{IsCauseOf, IsSaidOf, cause_in_store, close_cause, kind_cause, opening_cause};
 
 use keep_office::KeepFault;
 use sqlite::{Error as Refused, ErrorCode};
@@ -68,10 +66,7 @@ pub fn cause_of(error: Refused) -> Cause
 
 /// The cause that an error of an opening is.
 pub fn cause_of_opening(error: OpenError) -> Cause
-    ensures busy { error ≡ Busy → result ≡ InUse }
-    ensures journal { error ≡ HotJournal → result ≡ Journal }
-    ensures memory { error ≡ OutOfMemory → result ≡ Memory }
-    ensures opening { IsOfOpening result }
+    ensures { result ≡ opening_cause error }
 {
     match error {
         OpenError::Busy => Cause::InUse,
@@ -83,7 +78,7 @@ pub fn cause_of_opening(error: OpenError) -> Cause
 
 /// The cause that a refusal of the file system is.
 fn cause_of_kind(kind: ErrorKind) -> Cause
-    ensures { IsOfOpening result }
+    ensures { result ≡ kind_cause kind }
 {
     match kind {
         ErrorKind::PermissionDenied | ErrorKind::ReadOnlyFilesystem => Cause::ReadOnly,

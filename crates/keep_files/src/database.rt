@@ -1,15 +1,11 @@
 // A database that is opened when it is first asked for.
-ghost use Rattle.std.specs.Prelude.{◌≡◌, true, None, IfOk, IfErr, option_map, string_bytes};
-ghost use Rattle.sqlite.specs.Held.{state};
-ghost use Rattle.keep_writes.specs.Causes.{HasCauseOf};
-ghost use Rattle.keep_puts.specs.Stores.{Stores};
-ghost use Rattle.keep_files.specs.Asked.{AskedToRead, AskedToPut, IsReadyToRead, IsMade, IsPut, HoldsFound};
+ghost use Rattle.std.specs.Prelude.{◌≡◌, None, IfOk, IfErr, option_map, string_bytes};
+ghost use Rattle.keep_files.specs.Asked.{AskedToRead, AskedToPut, HoldsFound, IsPutBy, IsPutByTrees, IsPutOver};
+ghost use Rattle.keep_files.specs.Asked.{IsReadyOf, IsUnreadOf};
 ghost use Rattle.keep_files.specs.Causes.{IsSaid};
 ghost use Rattle.keep_files.specs.Closes.{given_up};
-ghost use Rattle.keep_files.specs.Does.{FailsFor};
-ghost use Rattle.keep_files.specs.Looks.{AreFound, Looks};
-ghost use Rattle.keep_files.specs.Openings.{IsAdopted, LacksTables, IsUnread, IsUnput, Tries, TriesPath};
-ghost use Rattle.keep_files.specs.Whys.{IsWhyOf};
+ghost use Rattle.keep_files.specs.Openings.{AsWhole, IsAdopted, LacksTables};
+ghost use Rattle.keep_files.specs.Origins.{FoundAgain, OfFile, PutsNothing, TriesPath, WasAsked};
 
 mod anew;
 
@@ -71,11 +67,9 @@ impl<S: Opens<P>, P: Pages + Drop> Database<S, P> {
     /// call opens the file anew.
     pub(crate) fn read<C: Reading + Drop>(&mut self, call: C) -> Result<C::Answer, KeepFault>
         ensures answers { IfOk result C.answers }
-        ensures does { AskedToRead self.old.kept self.new.kept (AreFound P.Pages) (Looks P.Pages)
-            (IsAdopted S.Store) (IsWhyOf S.Store) (λ k. state S.Store k.conn)
-            (λ k l. FailsFor S.Store (C.takes call) k.conn l.conn) (C.gives call)
-            S.Opens.refuses (string_bytes self.old.path) self.new.cause result }
-        ensures tried { TriesPath S.Opens.refuses (string_bytes self.old.path) S.Opens.reaches self.old.kept }
+        ensures does { AskedToRead P.Pages S.Store S.Opens.gives S.Opens.refuses (C.takes call) (C.gives call)
+            self.old.kept (string_bytes self.old.path) self.new.kept self.new.cause result }
+        ensures tried { TriesPath S.Store S.Opens.gives S.Opens.refuses (string_bytes self.old.path) self.old.kept }
         ensures said { IsSaid result self.old.cause self.new.cause }
         ensures stays { self.new.path ≡ self.old.path }
     {
@@ -99,12 +93,10 @@ impl<S: Opens<P>, P: Pages + Drop> Database<S, P> {
     /// Makes a call that puts, of the keeper that is held, or of a store or a keeper that is opened for it.
     pub(crate) fn put<C: Putting + Drop>(&mut self, call: C) -> Result<(), KeepFault>
         requires { C.fits call }
-        ensures does { AskedToPut self.old.kept self.new.kept (IsAdopted S.Store) (AreFound P.Pages)
-            (Stores S.Store (C.room call) (C.asks call) (C.next call)) (IsWhyOf S.Store) (λ k. state S.Store k.conn)
-            (λ k l _. HasCauseOf S.Store (C.writes call) k.conn l.conn)
-            (C.asks call) (C.next call)
-            S.Opens.refuses (string_bytes self.old.path) self.new.cause result }
-        ensures tried { TriesPath S.Opens.refuses (string_bytes self.old.path) S.Opens.reaches self.old.kept }
+        ensures does { AskedToPut P.Pages S.Store S.Opens.gives S.Opens.refuses
+            (C.room call) (C.writes call) (C.asks call) (C.next call)
+            self.old.kept (string_bytes self.old.path) self.new.kept self.new.cause result }
+        ensures tried { TriesPath S.Store S.Opens.gives S.Opens.refuses (string_bytes self.old.path) self.old.kept }
         ensures said { IsSaid result self.old.cause self.new.cause }
         ensures stays { self.new.path ≡ self.old.path }
     {
@@ -125,9 +117,8 @@ impl<S: Opens<P>, P: Pages + Drop> Database<S, P> {
         call: C,
     ) -> Result<(), KeepFault>
         requires { C.fits call }
-        ensures does { IsMade (λ k. k ≡ kept) (IsWhyOf S.Store) (λ k. state S.Store k.conn)
-            (λ k l _. HasCauseOf S.Store (C.writes call) k.conn l.conn) true (C.asks call)
-            (λ o u. Unit {0}) (C.next call) self.new.kept self.new.cause result }
+        ensures does { IsPutBy S.Store (C.writes call) (C.asks call) (C.next call)
+            self.new.kept self.new.cause result (λ k. k ≡ kept) }
         ensures said { IsSaid result self.old.cause self.new.cause }
         ensures stays { self.new.path ≡ self.old.path }
     {
@@ -137,26 +128,14 @@ impl<S: Opens<P>, P: Pages + Drop> Database<S, P> {
     }
 
     /// Makes a call that puts, of a keeper on a new connection.
-    fn put_over<C: Putting + Drop>(
-        &mut self,
-        conn: Result<Connection<S>, Cause>,
-        call: C,
-    ) -> Result<(), KeepFault>
+    fn put_over<C: Putting + Drop>(&mut self, conn: Connection<S>, call: C) -> Result<(), KeepFault>
         requires fits { C.fits call }
         requires none { self.old.kept ≡ None }
-        requires known { IfErr conn (IsUnput S.Opens.refuses (string_bytes self.old.path)) }
-        ensures does { IsPut (IsAdopted S.Store) self.new.kept (AreFound P.Pages)
-            (Stores S.Store (C.room call) (C.asks call) (C.next call)) (IsWhyOf S.Store) (λ k. state S.Store k.conn)
-            (λ k l _. HasCauseOf S.Store (C.writes call) k.conn l.conn)
-            (C.asks call) (C.next call)
-            S.Opens.refuses (string_bytes self.old.path) self.new.cause result }
+        ensures does { IsPutOver S.Store (C.writes call) (C.asks call) (C.next call)
+            self.new.kept self.new.cause result conn }
         ensures said { IsSaid result self.old.cause self.new.cause }
         ensures stays { self.new.path ≡ self.old.path }
     {
-        let conn = match conn {
-            Ok(conn) => conn,
-            Err(cause) => return Err(say(&mut self.cause, cause)),
-        };
         match adopted(&self.rt, conn) {
             Ok(kept) => self.put_whole(kept, call),
             Err(cause) => Err(say(&mut self.cause, cause)),
@@ -172,18 +151,16 @@ impl<S: Opens<P>, P: Pages + Drop> Database<S, P> {
     ) -> Result<(), KeepFault>
         requires fits { C.fits call }
         requires none { self.old.kept ≡ None }
-        ensures does { IsPut (IsAdopted S.Store) self.new.kept (AreFound P.Pages)
-            (Stores S.Store (C.room call) (C.asks call) (C.next call)) (IsWhyOf S.Store) (λ k. state S.Store k.conn)
-            (λ k l _. HasCauseOf S.Store (C.writes call) k.conn l.conn)
-            (C.asks call) (C.next call)
-            S.Opens.refuses (string_bytes self.old.path) self.new.cause result }
+        ensures does { IsPutByTrees P.Pages S.Store S.Opens.gives S.Opens.refuses
+            (C.room call) (C.writes call) (C.asks call) (C.next call)
+            trees (string_bytes self.old.path) self.new.kept self.new.cause result }
         ensures said { IsSaid result self.old.cause self.new.cause }
         ensures stays { self.new.path ≡ self.old.path }
     {
         let rt = self.rt;
         let mut store = match S::to_put(&rt, trees.give_up()) {
             Ok(Kept::Trees(store)) => store,
-            Ok(Kept::Whole(conn)) => return self.put_over(Ok(conn), call),
+            Ok(Kept::Whole(conn)) => return self.put_over(conn, call),
             Err(cause) => return Err(say(&mut self.cause, cause)),
         };
         let done = match call.store(rt.alloc(), &mut store) {
@@ -194,18 +171,23 @@ impl<S: Opens<P>, P: Pages + Drop> Database<S, P> {
             self.kept = held_again(&rt, store);
             return Ok(());
         }
-        self.put_over(S::to_whole(&rt, store), call)
+        match S::to_whole(&rt, store) {
+            Ok(conn) => self.put_over(conn, call),
+            Err(cause) => Err(say(&mut self.cause, cause)),
+        }
     }
 
     /// Takes what is held, or opens it.
     fn ready(&mut self) -> Result<Kept<PageTrees<P>, ProvedKeeper<S>>, Cause>
-        ensures tried { TriesPath S.Opens.refuses (string_bytes self.old.path) S.Opens.reaches self.old.kept }
-        ensures ready { IfOk result (IsReadyToRead (AreFound P.Pages) (IsAdopted S.Store) self.old.kept) }
+        ensures tried { TriesPath S.Store S.Opens.gives S.Opens.refuses (string_bytes self.old.path) self.old.kept }
+        ensures ready { IfOk result
+            (IsReadyOf S.Store S.Opens.gives P.Pages (string_bytes self.old.path) self.old.kept) }
         ensures none { self.new.kept ≡ None }
         ensures unsaid { self.new.cause ≡ self.old.cause }
         ensures named { self.new.path ≡ self.old.path }
         ensures unopened { IfErr result (λ _. self.old.kept ≡ None) }
-        ensures refused { IfErr result (IsUnread S.Opens.refuses (string_bytes self.old.path)) }
+        ensures refused { IfErr result
+            (IsUnreadOf S.Store S.Opens.gives S.Opens.refuses (string_bytes self.old.path) self.old.kept) }
     {
         if let Some(kept) = self.kept.take() {
             return Ok(kept);
@@ -215,9 +197,10 @@ impl<S: Opens<P>, P: Pages + Drop> Database<S, P> {
 
     /// The trees of the file, or a keeper on a new connection.
     fn opened(&self) -> Result<Kept<PageTrees<P>, ProvedKeeper<S>>, Cause>
-        ensures tried { Tries S.Opens.refuses (string_bytes self.now.path) S.Opens.reaches }
-        ensures ready { IfOk result (IsReadyToRead (AreFound P.Pages) (IsAdopted S.Store) None) }
-        ensures refused { IfErr result (IsUnread S.Opens.refuses (string_bytes self.now.path)) }
+        ensures tried { TriesPath S.Store S.Opens.gives S.Opens.refuses (string_bytes self.now.path) None }
+        ensures ready { IfOk result (IsReadyOf S.Store S.Opens.gives P.Pages (string_bytes self.now.path) None) }
+        ensures refused { IfErr result
+            (IsUnreadOf S.Store S.Opens.gives S.Opens.refuses (string_bytes self.now.path) None) }
     {
         let mut conn = match S::to_read(&self.rt, self.path.as_str()) {
             Ok(Kept::Trees(trees)) => return Ok(Kept::Trees(trees)),
@@ -227,13 +210,15 @@ impl<S: Opens<P>, P: Pages + Drop> Database<S, P> {
         if lists_nothing(&mut conn) {
             return self.made(conn);
         }
-        whole(&self.rt, conn)
+        self.whole(conn)
     }
 
     /// The trees of a new file, once a connection has made its tables; or a keeper on it, where they are not made.
     fn made(&self, conn: Connection<S>) -> Result<Kept<PageTrees<P>, ProvedKeeper<S>>, Cause>
-        ensures ready { IfOk result (IsReadyToRead (AreFound P.Pages) (IsAdopted S.Store) None) }
-        ensures refused { IfErr result (IsUnread S.Opens.refuses (string_bytes self.now.path)) }
+        requires { OfFile S.Store S.Opens.gives PutsNothing (string_bytes self.now.path) None (AsWhole conn) }
+        ensures ready { IfOk result (IsReadyOf S.Store S.Opens.gives P.Pages (string_bytes self.now.path) None) }
+        ensures refused { IfErr result
+            (IsUnreadOf S.Store S.Opens.gives S.Opens.refuses (string_bytes self.now.path) None) }
     {
         let kept = match adopted(&self.rt, conn) {
             Ok(kept) => kept,
@@ -248,8 +233,10 @@ impl<S: Opens<P>, P: Pages + Drop> Database<S, P> {
     /// The trees of the file of a connection that has made its tables. A file that is not ours even so, such as one
     /// with pages of another size, is opened anew.
     fn taken_over(&self, conn: Connection<S>) -> Result<Kept<PageTrees<P>, ProvedKeeper<S>>, Cause>
-        ensures ready { IfOk result (IsReadyToRead (AreFound P.Pages) (IsAdopted S.Store) None) }
-        ensures refused { IfErr result (IsUnread S.Opens.refuses (string_bytes self.now.path)) }
+        requires { OfFile S.Store S.Opens.gives PutsNothing (string_bytes self.now.path) None (AsWhole conn) }
+        ensures ready { IfOk result (IsReadyOf S.Store S.Opens.gives P.Pages (string_bytes self.now.path) None) }
+        ensures refused { IfErr result
+            (IsUnreadOf S.Store S.Opens.gives S.Opens.refuses (string_bytes self.now.path) None) }
     {
         match S::to_read_again(&self.rt, conn.into_store()) {
             Some(trees) => Ok(Kept::Trees(trees)),
@@ -259,36 +246,38 @@ impl<S: Opens<P>, P: Pages + Drop> Database<S, P> {
 
     /// The trees of a file that is there, or a keeper on a new connection.
     fn opened_anew(&self) -> Result<Kept<PageTrees<P>, ProvedKeeper<S>>, Cause>
-        ensures ready { IfOk result (IsReadyToRead (AreFound P.Pages) (IsAdopted S.Store) None) }
-        ensures refused { IfErr result (IsUnread S.Opens.refuses (string_bytes self.now.path)) }
+        ensures ready { IfOk result (IsReadyOf S.Store S.Opens.gives P.Pages (string_bytes self.now.path) None) }
+        ensures refused { IfErr result
+            (IsUnreadOf S.Store S.Opens.gives S.Opens.refuses (string_bytes self.now.path) None) }
     {
         match S::to_read(&self.rt, self.path.as_str()) {
             Ok(Kept::Trees(trees)) => Ok(Kept::Trees(trees)),
-            Ok(Kept::Whole(conn)) => whole(&self.rt, conn),
+            Ok(Kept::Whole(conn)) => self.whole(conn),
+            Err(cause) => Err(cause),
+        }
+    }
+
+    /// A keeper on a new connection.
+    fn whole(&self, conn: Connection<S>) -> Result<Kept<PageTrees<P>, ProvedKeeper<S>>, Cause>
+        requires { OfFile S.Store S.Opens.gives PutsNothing (string_bytes self.now.path) None (AsWhole conn) }
+        ensures ready { IfOk result (IsReadyOf S.Store S.Opens.gives P.Pages (string_bytes self.now.path) None) }
+        ensures refused { IfErr result
+            (IsUnreadOf S.Store S.Opens.gives S.Opens.refuses (string_bytes self.now.path) None) }
+    {
+        match adopted(&self.rt, conn) {
+            Ok(kept) => Ok(Kept::Whole(kept)),
             Err(cause) => Err(cause),
         }
     }
 }
 
 /// Whether a database lists nothing yet.
-fn lists_nothing<S: Steady>(conn: &mut Connection<S>) -> bool {
+fn lists_nothing<S: Steady>(conn: &mut Connection<S>) -> bool
+    ensures { WasAsked S.Store conn.old conn.new }
+{
     match conn.query_all("SELECT name FROM sqlite_schema", &[]) {
         Ok(listed) => listed.is_empty(),
         Err(_) => false,
-    }
-}
-
-/// A keeper on a new connection.
-fn whole<S: Opens<P>, P: Pages + Drop>(
-    rt: &HostRuntime,
-    conn: Connection<S>,
-) -> Result<Kept<PageTrees<P>, ProvedKeeper<S>>, Cause>
-    ensures ready { IfOk result (IsReadyToRead (AreFound P.Pages) (IsAdopted S.Store) None) }
-    ensures unmade { IfErr result (LacksTables S) }
-{
-    match adopted(rt, conn) {
-        Ok(kept) => Ok(Kept::Whole(kept)),
-        Err(cause) => Err(cause),
     }
 }
 
@@ -297,7 +286,7 @@ fn held_again<S: Opens<P>, P: Pages + Drop>(
     rt: &HostRuntime,
     store: S,
 ) -> Option<Kept<PageTrees<P>, ProvedKeeper<S>>>
-    ensures { HoldsFound (AreFound P.Pages) result }
+    ensures { HoldsFound (FoundAgain P.Pages S.Opens.gives store) result }
 {
     match S::to_read_again(rt, store) {
         Some(trees) => Some(Kept::Trees(trees)),
@@ -308,8 +297,8 @@ fn held_again<S: Opens<P>, P: Pages + Drop>(
 /// The keeper on a connection, which gets its clock. Where there was no memory to make its tables, the connection is
 /// let go.
 fn adopted<S: Steady>(rt: &HostRuntime, mut conn: Connection<S>) -> Result<ProvedKeeper<S>, Cause>
-    ensures made { IfOk result (IsAdopted S.Store) }
-    ensures unmade { IfErr result (LacksTables S) }
+    ensures made { IfOk result (IsAdopted S.Store (λ from. from ≡ conn)) }
+    ensures unmade { IfErr result (LacksTables S.Store (λ from. from ≡ conn)) }
 {
     conn.set_clock(rt);
     let kept = ProvedKeeper::adopt(rt.alloc(), conn);

@@ -1,6 +1,5 @@
 // The calls of a keeper in a SQLite file.
 ghost use Rattle.std.specs.Prelude.{◌≡◌, ◌≢◌, ◌≤◌, [], None, IfOk, IfSome, IsSome, string_bytes};
-ghost use Rattle.sqlite.specs.Held.{state};
 ghost use Rattle.road_time.specs.History.{paid};
 ghost use Rattle.road_time.specs.Rates.{IsTariff};
 ghost use Rattle.keep_office.specs.Office.{RowsRise, last_day as last_day_of, record_of, rows_between};
@@ -8,15 +7,10 @@ ghost use Rattle.keep_office.specs.Office.{vehicle_rows_between};
 ghost use Rattle.keep_office.specs.Kept.{IsDayPut, IsPastPut, IsLater, HasNoDays, with_day, with_past, with_tariff_of};
 ghost use Rattle.keep_office.specs.Calls.{CountsFaults, IfTold};
 ghost use Rattle.keep_tables.specs.Steps.{FitsAny};
-ghost use Rattle.keep_writes.specs.Causes.{HasCauseOf};
 ghost use Rattle.keep_writes.specs.Writes.{WritesDay, WritesPast, WritesTariff};
 ghost use Rattle.keep_puts.specs.Room.{RoomForDay, RoomForPast, RoomForTariff};
-ghost use Rattle.keep_puts.specs.Stores.{Stores};
 ghost use Rattle.keep_files.specs.Asked.{AskedToRead, AskedToPut};
-ghost use Rattle.keep_files.specs.Does.{FailsFor};
-ghost use Rattle.keep_files.specs.Looks.{AreFound, Looks};
-ghost use Rattle.keep_files.specs.Openings.{IsAdopted, TriesPath};
-ghost use Rattle.keep_files.specs.Whys.{IsWhyOf};
+ghost use Rattle.keep_files.specs.Origins.{TriesPath};
 ghost use Rattle.keep_files.specs.Says.{Says};
 
 use crate::at_path::{KeptPages, KeptStore};
@@ -44,130 +38,110 @@ impl Keeper for SqliteKeeper {
     ghost needs_memory = { true };
 
     fn last_day(&mut self) -> Result<u32, KeepFault>
-        ensures tried { TriesPath ⟦<KeptStore as Opens<KeptPages>>⟧.refuses
-            (string_bytes self.old.in_file.in_file.database.path) ⟦<KeptStore as Opens<KeptPages>>⟧.reaches
-            self.old.in_file.in_file.database.kept }
+        ensures tried { TriesPath ⟦<KeptStore as Store>⟧ ⟦<KeptStore as Opens<KeptPages>>⟧.gives
+            ⟦<KeptStore as Opens<KeptPages>>⟧.refuses
+            (string_bytes self.old.in_file.in_file.database.path) self.old.in_file.in_file.database.kept }
         ensures cause { CountsFaults self.old.in_file.in_file.faults self.new.in_file.in_file.faults result }
         ensures said { Says result self.old.in_file.in_file.database self.new.in_file.in_file.database }
-        ensures does { AskedToRead self.old.in_file.in_file.database.kept self.new.in_file.in_file.database.kept
-            (AreFound ⟦<KeptPages as Pages>⟧) (Looks ⟦<KeptPages as Pages>⟧)
-            (IsAdopted ⟦<KeptStore as Store>⟧) (IsWhyOf ⟦<KeptStore as Store>⟧)
-            (λ k. state ⟦<KeptStore as Store>⟧ k.conn)
-            (λ k l. FailsFor ⟦<KeptStore as Store>⟧ (λ o. IsSome o.past) k.conn l.conn)
-            (λ o last. last ≡ last_day_of o)
-            ⟦<KeptStore as Opens<KeptPages>>⟧.refuses (string_bytes self.old.in_file.in_file.database.path)
-            self.new.in_file.in_file.database.cause result }
+        ensures does { AskedToRead ⟦<KeptPages as Pages>⟧ ⟦<KeptStore as Store>⟧
+            ⟦<KeptStore as Opens<KeptPages>>⟧.gives ⟦<KeptStore as Opens<KeptPages>>⟧.refuses
+            (λ o. IsSome o.past) (λ o last. last ≡ last_day_of o)
+            self.old.in_file.in_file.database.kept (string_bytes self.old.in_file.in_file.database.path)
+            self.new.in_file.in_file.database.kept self.new.in_file.in_file.database.cause result }
     {
         self.read(LastDay)
     }
 
     fn day(&mut self, day: u32) -> Result<Option<DayRecord>, KeepFault>
-        ensures tried { TriesPath ⟦<KeptStore as Opens<KeptPages>>⟧.refuses
-            (string_bytes self.old.in_file.in_file.database.path) ⟦<KeptStore as Opens<KeptPages>>⟧.reaches
-            self.old.in_file.in_file.database.kept }
+        ensures tried { TriesPath ⟦<KeptStore as Store>⟧ ⟦<KeptStore as Opens<KeptPages>>⟧.gives
+            ⟦<KeptStore as Opens<KeptPages>>⟧.refuses
+            (string_bytes self.old.in_file.in_file.database.path) self.old.in_file.in_file.database.kept }
         ensures cause { CountsFaults self.old.in_file.in_file.faults self.new.in_file.in_file.faults result }
         ensures said { Says result self.old.in_file.in_file.database self.new.in_file.in_file.database }
-        ensures does { AskedToRead self.old.in_file.in_file.database.kept self.new.in_file.in_file.database.kept
-            (AreFound ⟦<KeptPages as Pages>⟧) (Looks ⟦<KeptPages as Pages>⟧)
-            (IsAdopted ⟦<KeptStore as Store>⟧) (IsWhyOf ⟦<KeptStore as Store>⟧)
-            (λ k. state ⟦<KeptStore as Store>⟧ k.conn)
-            (λ k l. FailsFor ⟦<KeptStore as Store>⟧ (λ o. IsSome (record_of o day)) k.conn l.conn)
-            (λ o kept. kept ≡ record_of o day)
-            ⟦<KeptStore as Opens<KeptPages>>⟧.refuses (string_bytes self.old.in_file.in_file.database.path)
-            self.new.in_file.in_file.database.cause result }
+        ensures does { AskedToRead ⟦<KeptPages as Pages>⟧ ⟦<KeptStore as Store>⟧
+            ⟦<KeptStore as Opens<KeptPages>>⟧.gives ⟦<KeptStore as Opens<KeptPages>>⟧.refuses
+            (λ o. IsSome (record_of o day)) (λ o kept. kept ≡ record_of o day)
+            self.old.in_file.in_file.database.kept (string_bytes self.old.in_file.in_file.database.path)
+            self.new.in_file.in_file.database.kept self.new.in_file.in_file.database.cause result }
     {
         self.read(AskedDay { day })
     }
 
     fn past(&mut self) -> Result<Option<PastRecord>, KeepFault>
         ensures based { IfOk result (λ past. IfSome past (λ p. 70 ≤ p.base)) }
-        ensures tried { TriesPath ⟦<KeptStore as Opens<KeptPages>>⟧.refuses
-            (string_bytes self.old.in_file.in_file.database.path) ⟦<KeptStore as Opens<KeptPages>>⟧.reaches
-            self.old.in_file.in_file.database.kept }
+        ensures tried { TriesPath ⟦<KeptStore as Store>⟧ ⟦<KeptStore as Opens<KeptPages>>⟧.gives
+            ⟦<KeptStore as Opens<KeptPages>>⟧.refuses
+            (string_bytes self.old.in_file.in_file.database.path) self.old.in_file.in_file.database.kept }
         ensures cause { CountsFaults self.old.in_file.in_file.faults self.new.in_file.in_file.faults result }
         ensures said { Says result self.old.in_file.in_file.database self.new.in_file.in_file.database }
-        ensures does { AskedToRead self.old.in_file.in_file.database.kept self.new.in_file.in_file.database.kept
-            (AreFound ⟦<KeptPages as Pages>⟧) (Looks ⟦<KeptPages as Pages>⟧)
-            (IsAdopted ⟦<KeptStore as Store>⟧) (IsWhyOf ⟦<KeptStore as Store>⟧)
-            (λ k. state ⟦<KeptStore as Store>⟧ k.conn)
-            (λ k l. FailsFor ⟦<KeptStore as Store>⟧ (λ o. IsSome o.past) k.conn l.conn)
-            (λ o past. past ≡ o.past)
-            ⟦<KeptStore as Opens<KeptPages>>⟧.refuses (string_bytes self.old.in_file.in_file.database.path)
-            self.new.in_file.in_file.database.cause result }
+        ensures does { AskedToRead ⟦<KeptPages as Pages>⟧ ⟦<KeptStore as Store>⟧
+            ⟦<KeptStore as Opens<KeptPages>>⟧.gives ⟦<KeptStore as Opens<KeptPages>>⟧.refuses
+            (λ o. IsSome o.past) (λ o past. past ≡ o.past)
+            self.old.in_file.in_file.database.kept (string_bytes self.old.in_file.in_file.database.path)
+            self.new.in_file.in_file.database.kept self.new.in_file.in_file.database.cause result }
     {
         self.read(Past)
     }
 
     fn spent(&mut self, day: u32, vid: u32, xway: u8) -> Result<u64, KeepFault>
-        ensures tried { TriesPath ⟦<KeptStore as Opens<KeptPages>>⟧.refuses
-            (string_bytes self.old.in_file.in_file.database.path) ⟦<KeptStore as Opens<KeptPages>>⟧.reaches
-            self.old.in_file.in_file.database.kept }
+        ensures tried { TriesPath ⟦<KeptStore as Store>⟧ ⟦<KeptStore as Opens<KeptPages>>⟧.gives
+            ⟦<KeptStore as Opens<KeptPages>>⟧.refuses
+            (string_bytes self.old.in_file.in_file.database.path) self.old.in_file.in_file.database.kept }
         ensures cause { CountsFaults self.old.in_file.in_file.faults self.new.in_file.in_file.faults result }
         ensures said { Says result self.old.in_file.in_file.database self.new.in_file.in_file.database }
-        ensures does { AskedToRead self.old.in_file.in_file.database.kept self.new.in_file.in_file.database.kept
-            (AreFound ⟦<KeptPages as Pages>⟧) (Looks ⟦<KeptPages as Pages>⟧)
-            (IsAdopted ⟦<KeptStore as Store>⟧) (IsWhyOf ⟦<KeptStore as Store>⟧)
-            (λ k. state ⟦<KeptStore as Store>⟧ k.conn)
-            (λ k l. FailsFor ⟦<KeptStore as Store>⟧ (λ _. ⊥) k.conn l.conn)
-            (λ o tolls. tolls ≡ paid o.rows day vid xway)
-            ⟦<KeptStore as Opens<KeptPages>>⟧.refuses (string_bytes self.old.in_file.in_file.database.path)
-            self.new.in_file.in_file.database.cause result }
+        ensures does { AskedToRead ⟦<KeptPages as Pages>⟧ ⟦<KeptStore as Store>⟧
+            ⟦<KeptStore as Opens<KeptPages>>⟧.gives ⟦<KeptStore as Opens<KeptPages>>⟧.refuses
+            (λ _. ⊥) (λ o tolls. tolls ≡ paid o.rows day vid xway)
+            self.old.in_file.in_file.database.kept (string_bytes self.old.in_file.in_file.database.path)
+            self.new.in_file.in_file.database.kept self.new.in_file.in_file.database.cause result }
     {
         self.read(AskedSpent { day, vid, xway })
     }
 
     fn rows(&mut self, from: u32, to: u32) -> Result<Vec<SpentRow>, KeepFault>
         ensures rise { IfOk result (λ rows. RowsRise rows.items) }
-        ensures tried { TriesPath ⟦<KeptStore as Opens<KeptPages>>⟧.refuses
-            (string_bytes self.old.in_file.in_file.database.path) ⟦<KeptStore as Opens<KeptPages>>⟧.reaches
-            self.old.in_file.in_file.database.kept }
+        ensures tried { TriesPath ⟦<KeptStore as Store>⟧ ⟦<KeptStore as Opens<KeptPages>>⟧.gives
+            ⟦<KeptStore as Opens<KeptPages>>⟧.refuses
+            (string_bytes self.old.in_file.in_file.database.path) self.old.in_file.in_file.database.kept }
         ensures cause { CountsFaults self.old.in_file.in_file.faults self.new.in_file.in_file.faults result }
         ensures said { Says result self.old.in_file.in_file.database self.new.in_file.in_file.database }
-        ensures does { AskedToRead self.old.in_file.in_file.database.kept self.new.in_file.in_file.database.kept
-            (AreFound ⟦<KeptPages as Pages>⟧) (Looks ⟦<KeptPages as Pages>⟧)
-            (IsAdopted ⟦<KeptStore as Store>⟧) (IsWhyOf ⟦<KeptStore as Store>⟧)
-            (λ k. state ⟦<KeptStore as Store>⟧ k.conn)
-            (λ k l. FailsFor ⟦<KeptStore as Store>⟧ (λ o. rows_between o from to ≢ []) k.conn l.conn)
-            (λ o rows. rows.items ≡ rows_between o from to)
-            ⟦<KeptStore as Opens<KeptPages>>⟧.refuses (string_bytes self.old.in_file.in_file.database.path)
-            self.new.in_file.in_file.database.cause result }
+        ensures does { AskedToRead ⟦<KeptPages as Pages>⟧ ⟦<KeptStore as Store>⟧
+            ⟦<KeptStore as Opens<KeptPages>>⟧.gives ⟦<KeptStore as Opens<KeptPages>>⟧.refuses
+            (λ o. rows_between o from to ≢ []) (λ o rows. rows.items ≡ rows_between o from to)
+            self.old.in_file.in_file.database.kept (string_bytes self.old.in_file.in_file.database.path)
+            self.new.in_file.in_file.database.kept self.new.in_file.in_file.database.cause result }
     {
         self.read(Rows { from, to })
     }
 
     fn vehicle_rows(&mut self, vid: u32, from: u32, to: u32) -> Result<Vec<SpentRow>, KeepFault>
         ensures rise { IfOk result (λ rows. RowsRise rows.items) }
-        ensures tried { TriesPath ⟦<KeptStore as Opens<KeptPages>>⟧.refuses
-            (string_bytes self.old.in_file.in_file.database.path) ⟦<KeptStore as Opens<KeptPages>>⟧.reaches
-            self.old.in_file.in_file.database.kept }
+        ensures tried { TriesPath ⟦<KeptStore as Store>⟧ ⟦<KeptStore as Opens<KeptPages>>⟧.gives
+            ⟦<KeptStore as Opens<KeptPages>>⟧.refuses
+            (string_bytes self.old.in_file.in_file.database.path) self.old.in_file.in_file.database.kept }
         ensures cause { CountsFaults self.old.in_file.in_file.faults self.new.in_file.in_file.faults result }
         ensures said { Says result self.old.in_file.in_file.database self.new.in_file.in_file.database }
-        ensures does { AskedToRead self.old.in_file.in_file.database.kept self.new.in_file.in_file.database.kept
-            (AreFound ⟦<KeptPages as Pages>⟧) (Looks ⟦<KeptPages as Pages>⟧)
-            (IsAdopted ⟦<KeptStore as Store>⟧) (IsWhyOf ⟦<KeptStore as Store>⟧)
-            (λ k. state ⟦<KeptStore as Store>⟧ k.conn)
-            (λ k l. FailsFor ⟦<KeptStore as Store>⟧ (λ o. vehicle_rows_between o vid from to ≢ []) k.conn l.conn)
+        ensures does { AskedToRead ⟦<KeptPages as Pages>⟧ ⟦<KeptStore as Store>⟧
+            ⟦<KeptStore as Opens<KeptPages>>⟧.gives ⟦<KeptStore as Opens<KeptPages>>⟧.refuses
+            (λ o. vehicle_rows_between o vid from to ≢ [])
             (λ o rows. rows.items ≡ vehicle_rows_between o vid from to)
-            ⟦<KeptStore as Opens<KeptPages>>⟧.refuses (string_bytes self.old.in_file.in_file.database.path)
-            self.new.in_file.in_file.database.cause result }
+            self.old.in_file.in_file.database.kept (string_bytes self.old.in_file.in_file.database.path)
+            self.new.in_file.in_file.database.kept self.new.in_file.in_file.database.cause result }
     {
         self.read(VehicleRows { vid, from, to })
     }
 
     fn tariffs(&mut self) -> Result<Tariffs, KeepFault>
-        ensures tried { TriesPath ⟦<KeptStore as Opens<KeptPages>>⟧.refuses
-            (string_bytes self.old.in_file.in_file.database.path) ⟦<KeptStore as Opens<KeptPages>>⟧.reaches
-            self.old.in_file.in_file.database.kept }
+        ensures tried { TriesPath ⟦<KeptStore as Store>⟧ ⟦<KeptStore as Opens<KeptPages>>⟧.gives
+            ⟦<KeptStore as Opens<KeptPages>>⟧.refuses
+            (string_bytes self.old.in_file.in_file.database.path) self.old.in_file.in_file.database.kept }
         ensures cause { CountsFaults self.old.in_file.in_file.faults self.new.in_file.in_file.faults result }
         ensures said { Says result self.old.in_file.in_file.database self.new.in_file.in_file.database }
-        ensures does { AskedToRead self.old.in_file.in_file.database.kept self.new.in_file.in_file.database.kept
-            (AreFound ⟦<KeptPages as Pages>⟧) (Looks ⟦<KeptPages as Pages>⟧)
-            (IsAdopted ⟦<KeptStore as Store>⟧) (IsWhyOf ⟦<KeptStore as Store>⟧)
-            (λ k. state ⟦<KeptStore as Store>⟧ k.conn)
-            (λ k l. FailsFor ⟦<KeptStore as Store>⟧ (λ o. o.tariffs ≢ []) k.conn l.conn)
-            (λ o tariffs. tariffs ≡ o.tariffs)
-            ⟦<KeptStore as Opens<KeptPages>>⟧.refuses (string_bytes self.old.in_file.in_file.database.path)
-            self.new.in_file.in_file.database.cause result }
+        ensures does { AskedToRead ⟦<KeptPages as Pages>⟧ ⟦<KeptStore as Store>⟧
+            ⟦<KeptStore as Opens<KeptPages>>⟧.gives ⟦<KeptStore as Opens<KeptPages>>⟧.refuses
+            (λ o. o.tariffs ≢ []) (λ o tariffs. tariffs ≡ o.tariffs)
+            self.old.in_file.in_file.database.kept (string_bytes self.old.in_file.in_file.database.path)
+            self.new.in_file.in_file.database.kept self.new.in_file.in_file.database.cause result }
     {
         self.read(KeptTariffs)
     }
@@ -175,20 +149,17 @@ impl Keeper for SqliteKeeper {
     fn put_day(&mut self, kept: &DayRecord, rows: &[SpentRow]) -> Result<(), KeepFault>
         requires fits { IsDayPut kept.now rows.now }
         requires later { IfTold None (λ o. IsLater kept.now.day o) }
-        ensures tried { TriesPath ⟦<KeptStore as Opens<KeptPages>>⟧.refuses
-            (string_bytes self.old.in_file.in_file.database.path) ⟦<KeptStore as Opens<KeptPages>>⟧.reaches
-            self.old.in_file.in_file.database.kept }
+        ensures tried { TriesPath ⟦<KeptStore as Store>⟧ ⟦<KeptStore as Opens<KeptPages>>⟧.gives
+            ⟦<KeptStore as Opens<KeptPages>>⟧.refuses
+            (string_bytes self.old.in_file.in_file.database.path) self.old.in_file.in_file.database.kept }
         ensures cause { CountsFaults self.old.in_file.in_file.faults self.new.in_file.in_file.faults result }
         ensures said { Says result self.old.in_file.in_file.database self.new.in_file.in_file.database }
-        ensures does { AskedToPut self.old.in_file.in_file.database.kept self.new.in_file.in_file.database.kept
-            (IsAdopted ⟦<KeptStore as Store>⟧) (AreFound ⟦<KeptPages as Pages>⟧)
-            (Stores ⟦<KeptStore as Store>⟧ (RoomForDay kept.now rows.now) (IsLater kept.now.day)
-            (with_day kept.now rows.now))
-            (IsWhyOf ⟦<KeptStore as Store>⟧) (λ k. state ⟦<KeptStore as Store>⟧ k.conn)
-            (λ k l _. HasCauseOf ⟦<KeptStore as Store>⟧ (WritesDay kept.now rows.now) k.conn l.conn)
+        ensures does { AskedToPut ⟦<KeptPages as Pages>⟧ ⟦<KeptStore as Store>⟧
+            ⟦<KeptStore as Opens<KeptPages>>⟧.gives ⟦<KeptStore as Opens<KeptPages>>⟧.refuses
+            (RoomForDay kept.now rows.now) (WritesDay kept.now rows.now)
             (IsLater kept.now.day) (with_day kept.now rows.now)
-            ⟦<KeptStore as Opens<KeptPages>>⟧.refuses (string_bytes self.old.in_file.in_file.database.path)
-            self.new.in_file.in_file.database.cause result }
+            self.old.in_file.in_file.database.kept (string_bytes self.old.in_file.in_file.database.path)
+            self.new.in_file.in_file.database.kept self.new.in_file.in_file.database.cause result }
     {
         self.put(PutDay { kept, rows })
     }
@@ -196,38 +167,34 @@ impl Keeper for SqliteKeeper {
     fn put_past(&mut self, kept: &PastRecord, rows: &[SpentRow]) -> Result<(), KeepFault>
         requires fits { IsPastPut kept.now rows.now }
         requires first { IfTold None HasNoDays }
-        ensures tried { TriesPath ⟦<KeptStore as Opens<KeptPages>>⟧.refuses
-            (string_bytes self.old.in_file.in_file.database.path) ⟦<KeptStore as Opens<KeptPages>>⟧.reaches
-            self.old.in_file.in_file.database.kept }
+        ensures tried { TriesPath ⟦<KeptStore as Store>⟧ ⟦<KeptStore as Opens<KeptPages>>⟧.gives
+            ⟦<KeptStore as Opens<KeptPages>>⟧.refuses
+            (string_bytes self.old.in_file.in_file.database.path) self.old.in_file.in_file.database.kept }
         ensures cause { CountsFaults self.old.in_file.in_file.faults self.new.in_file.in_file.faults result }
         ensures said { Says result self.old.in_file.in_file.database self.new.in_file.in_file.database }
-        ensures does { AskedToPut self.old.in_file.in_file.database.kept self.new.in_file.in_file.database.kept
-            (IsAdopted ⟦<KeptStore as Store>⟧) (AreFound ⟦<KeptPages as Pages>⟧)
-            (Stores ⟦<KeptStore as Store>⟧ (RoomForPast rows.now) HasNoDays (with_past kept.now rows.now))
-            (IsWhyOf ⟦<KeptStore as Store>⟧) (λ k. state ⟦<KeptStore as Store>⟧ k.conn)
-            (λ k l _. HasCauseOf ⟦<KeptStore as Store>⟧ (WritesPast kept.now rows.now) k.conn l.conn)
+        ensures does { AskedToPut ⟦<KeptPages as Pages>⟧ ⟦<KeptStore as Store>⟧
+            ⟦<KeptStore as Opens<KeptPages>>⟧.gives ⟦<KeptStore as Opens<KeptPages>>⟧.refuses
+            (RoomForPast rows.now) (WritesPast kept.now rows.now)
             HasNoDays (with_past kept.now rows.now)
-            ⟦<KeptStore as Opens<KeptPages>>⟧.refuses (string_bytes self.old.in_file.in_file.database.path)
-            self.new.in_file.in_file.database.cause result }
+            self.old.in_file.in_file.database.kept (string_bytes self.old.in_file.in_file.database.path)
+            self.new.in_file.in_file.database.kept self.new.in_file.in_file.database.cause result }
     {
         self.put(PutPast { kept, rows })
     }
 
     fn put_tariff(&mut self, xway: u8, tariff: &Tariff) -> Result<(), KeepFault>
         requires valid { IsTariff tariff.now }
-        ensures tried { TriesPath ⟦<KeptStore as Opens<KeptPages>>⟧.refuses
-            (string_bytes self.old.in_file.in_file.database.path) ⟦<KeptStore as Opens<KeptPages>>⟧.reaches
-            self.old.in_file.in_file.database.kept }
+        ensures tried { TriesPath ⟦<KeptStore as Store>⟧ ⟦<KeptStore as Opens<KeptPages>>⟧.gives
+            ⟦<KeptStore as Opens<KeptPages>>⟧.refuses
+            (string_bytes self.old.in_file.in_file.database.path) self.old.in_file.in_file.database.kept }
         ensures cause { CountsFaults self.old.in_file.in_file.faults self.new.in_file.in_file.faults result }
         ensures said { Says result self.old.in_file.in_file.database self.new.in_file.in_file.database }
-        ensures does { AskedToPut self.old.in_file.in_file.database.kept self.new.in_file.in_file.database.kept
-            (IsAdopted ⟦<KeptStore as Store>⟧) (AreFound ⟦<KeptPages as Pages>⟧)
-            (Stores ⟦<KeptStore as Store>⟧ RoomForTariff FitsAny (with_tariff_of xway tariff.now))
-            (IsWhyOf ⟦<KeptStore as Store>⟧) (λ k. state ⟦<KeptStore as Store>⟧ k.conn)
-            (λ k l _. HasCauseOf ⟦<KeptStore as Store>⟧ (WritesTariff xway tariff.now) k.conn l.conn)
+        ensures does { AskedToPut ⟦<KeptPages as Pages>⟧ ⟦<KeptStore as Store>⟧
+            ⟦<KeptStore as Opens<KeptPages>>⟧.gives ⟦<KeptStore as Opens<KeptPages>>⟧.refuses
+            RoomForTariff (WritesTariff xway tariff.now)
             FitsAny (with_tariff_of xway tariff.now)
-            ⟦<KeptStore as Opens<KeptPages>>⟧.refuses (string_bytes self.old.in_file.in_file.database.path)
-            self.new.in_file.in_file.database.cause result }
+            self.old.in_file.in_file.database.kept (string_bytes self.old.in_file.in_file.database.path)
+            self.new.in_file.in_file.database.kept self.new.in_file.in_file.database.cause result }
     {
         self.put(PutTariff { xway, tariff })
     }

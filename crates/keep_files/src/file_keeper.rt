@@ -1,15 +1,9 @@
 // A keeper in a file of some disk, whose callers see nothing of the store and of the pages behind it.
 ghost use Rattle.std.specs.Prelude.{◌≡◌, None, IfOk, IfErr, IfSome, IsSomeAnd, OnOk, option_map, string_bytes};
-ghost use Rattle.sqlite.specs.Held.{state};
 ghost use Rattle.keep_office.specs.Calls.{CountsFaults};
-ghost use Rattle.keep_writes.specs.Causes.{HasCauseOf};
-ghost use Rattle.keep_puts.specs.Stores.{Stores};
 ghost use Rattle.keep_files.specs.Asked.{AskedToRead, AskedToPut};
 ghost use Rattle.keep_files.specs.Closes.{IsEnded, IsNotEnded, given_up};
-ghost use Rattle.keep_files.specs.Does.{FailsFor};
-ghost use Rattle.keep_files.specs.Looks.{AreFound, Looks};
-ghost use Rattle.keep_files.specs.Openings.{IsAdopted, TriesPath};
-ghost use Rattle.keep_files.specs.Whys.{IsWhyOf};
+ghost use Rattle.keep_files.specs.Origins.{TriesPath};
 ghost use Rattle.keep_files.specs.Says.{Says};
 
 mod anew;
@@ -90,16 +84,14 @@ impl<D: AtPath> FileKeeper<D> {
     /// Makes a call that reads, and counts it where it failed.
     pub fn read<C: Reading + Drop>(&mut self, call: C) -> Result<C::Answer, KeepFault>
         ensures answers { IfOk result C.answers }
-        ensures does { AskedToRead self.old.in_file.database.kept self.new.in_file.database.kept
-            (AreFound ⟦<Pool<D> as Pages>⟧) (Looks ⟦<Pool<D> as Pages>⟧)
-            (IsAdopted ⟦<FileStore<D> as Store>⟧) (IsWhyOf ⟦<FileStore<D> as Store>⟧)
-            (λ k. state ⟦<FileStore<D> as Store>⟧ k.conn)
-            (λ k l. FailsFor ⟦<FileStore<D> as Store>⟧ (C.takes call) k.conn l.conn) (C.gives call)
-            ⟦<FileStore<D> as Opens<Pool<D>>>⟧.refuses (string_bytes self.old.in_file.database.path)
-            self.new.in_file.database.cause result }
-        ensures tried { TriesPath ⟦<FileStore<D> as Opens<Pool<D>>>⟧.refuses
-            (string_bytes self.old.in_file.database.path) ⟦<FileStore<D> as Opens<Pool<D>>>⟧.reaches
-            self.old.in_file.database.kept }
+        ensures does { AskedToRead ⟦<Pool<D> as Pages>⟧ ⟦<FileStore<D> as Store>⟧
+            ⟦<FileStore<D> as Opens<Pool<D>>>⟧.gives ⟦<FileStore<D> as Opens<Pool<D>>>⟧.refuses
+            (C.takes call) (C.gives call)
+            self.old.in_file.database.kept (string_bytes self.old.in_file.database.path)
+            self.new.in_file.database.kept self.new.in_file.database.cause result }
+        ensures tried { TriesPath ⟦<FileStore<D> as Store>⟧ ⟦<FileStore<D> as Opens<Pool<D>>>⟧.gives
+            ⟦<FileStore<D> as Opens<Pool<D>>>⟧.refuses
+            (string_bytes self.old.in_file.database.path) self.old.in_file.database.kept }
         ensures cause { CountsFaults self.old.in_file.faults self.new.in_file.faults result }
         ensures said { Says result self.old.in_file.database self.new.in_file.database }
     {
@@ -109,17 +101,15 @@ impl<D: AtPath> FileKeeper<D> {
     /// Makes a call that puts, and counts it where it failed.
     pub fn put<C: Putting + Drop>(&mut self, call: C) -> Result<(), KeepFault>
         requires { C.fits call }
-        ensures does { AskedToPut self.old.in_file.database.kept self.new.in_file.database.kept
-            (IsAdopted ⟦<FileStore<D> as Store>⟧) (AreFound ⟦<Pool<D> as Pages>⟧)
-            (Stores ⟦<FileStore<D> as Store>⟧ (C.room call) (C.asks call) (C.next call))
-            (IsWhyOf ⟦<FileStore<D> as Store>⟧) (λ k. state ⟦<FileStore<D> as Store>⟧ k.conn)
-            (λ k l _. HasCauseOf ⟦<FileStore<D> as Store>⟧ (C.writes call) k.conn l.conn)
+        ensures does { AskedToPut ⟦<Pool<D> as Pages>⟧ ⟦<FileStore<D> as Store>⟧
+            ⟦<FileStore<D> as Opens<Pool<D>>>⟧.gives ⟦<FileStore<D> as Opens<Pool<D>>>⟧.refuses
+            (C.room call) (C.writes call)
             (C.asks call) (C.next call)
-            ⟦<FileStore<D> as Opens<Pool<D>>>⟧.refuses (string_bytes self.old.in_file.database.path)
-            self.new.in_file.database.cause result }
-        ensures tried { TriesPath ⟦<FileStore<D> as Opens<Pool<D>>>⟧.refuses
-            (string_bytes self.old.in_file.database.path) ⟦<FileStore<D> as Opens<Pool<D>>>⟧.reaches
-            self.old.in_file.database.kept }
+            self.old.in_file.database.kept (string_bytes self.old.in_file.database.path)
+            self.new.in_file.database.kept self.new.in_file.database.cause result }
+        ensures tried { TriesPath ⟦<FileStore<D> as Store>⟧ ⟦<FileStore<D> as Opens<Pool<D>>>⟧.gives
+            ⟦<FileStore<D> as Opens<Pool<D>>>⟧.refuses
+            (string_bytes self.old.in_file.database.path) self.old.in_file.database.kept }
         ensures cause { CountsFaults self.old.in_file.faults self.new.in_file.faults result }
         ensures said { Says result self.old.in_file.database self.new.in_file.database }
     {

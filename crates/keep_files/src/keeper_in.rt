@@ -1,15 +1,9 @@
 // A keeper in a database that is opened by a path: it counts the calls that failed.
 ghost use Rattle.std.specs.Prelude.{◌≡◌, None, IfOk, option_map, string_bytes};
-ghost use Rattle.sqlite.specs.Held.{state};
 ghost use Rattle.keep_office.specs.Calls.{CountsFaults};
-ghost use Rattle.keep_writes.specs.Causes.{HasCauseOf};
-ghost use Rattle.keep_puts.specs.Stores.{Stores};
 ghost use Rattle.keep_files.specs.Asked.{AskedToRead, AskedToPut};
 ghost use Rattle.keep_files.specs.Closes.{given_up};
-ghost use Rattle.keep_files.specs.Does.{FailsFor};
-ghost use Rattle.keep_files.specs.Looks.{AreFound, Looks};
-ghost use Rattle.keep_files.specs.Openings.{IsAdopted, TriesPath};
-ghost use Rattle.keep_files.specs.Whys.{IsWhyOf};
+ghost use Rattle.keep_files.specs.Origins.{TriesPath};
 ghost use Rattle.keep_files.specs.Says.{Says};
 
 mod anew;
@@ -69,13 +63,12 @@ impl<S: Opens<P>, P: Pages + Drop> KeeperIn<S, P> {
     /// Makes a call that reads, and counts it where it failed.
     pub fn read<C: Reading + Drop>(&mut self, call: C) -> Result<C::Answer, KeepFault>
         ensures answers { IfOk result C.answers }
-        ensures does { AskedToRead self.old.database.kept self.new.database.kept
-            (AreFound P.Pages) (Looks P.Pages)
-            (IsAdopted S.Store) (IsWhyOf S.Store) (λ k. state S.Store k.conn)
-            (λ k l. FailsFor S.Store (C.takes call) k.conn l.conn) (C.gives call)
-            S.Opens.refuses (string_bytes self.old.database.path) self.new.database.cause result }
-        ensures tried { TriesPath S.Opens.refuses (string_bytes self.old.database.path)
-            S.Opens.reaches self.old.database.kept }
+        ensures does { AskedToRead P.Pages S.Store S.Opens.gives S.Opens.refuses
+            (C.takes call) (C.gives call)
+            self.old.database.kept (string_bytes self.old.database.path)
+            self.new.database.kept self.new.database.cause result }
+        ensures tried { TriesPath S.Store S.Opens.gives S.Opens.refuses
+            (string_bytes self.old.database.path) self.old.database.kept }
         ensures cause { CountsFaults self.old.faults self.new.faults result }
         ensures said { Says result self.old.database self.new.database }
     {
@@ -86,15 +79,13 @@ impl<S: Opens<P>, P: Pages + Drop> KeeperIn<S, P> {
     /// Makes a call that puts, and counts it where it failed.
     pub fn put<C: Putting + Drop>(&mut self, call: C) -> Result<(), KeepFault>
         requires { C.fits call }
-        ensures does { AskedToPut self.old.database.kept self.new.database.kept
-            (IsAdopted S.Store) (AreFound P.Pages)
-            (Stores S.Store (C.room call) (C.asks call) (C.next call))
-            (IsWhyOf S.Store) (λ k. state S.Store k.conn)
-            (λ k l _. HasCauseOf S.Store (C.writes call) k.conn l.conn)
+        ensures does { AskedToPut P.Pages S.Store S.Opens.gives S.Opens.refuses
+            (C.room call) (C.writes call)
             (C.asks call) (C.next call)
-            S.Opens.refuses (string_bytes self.old.database.path) self.new.database.cause result }
-        ensures tried { TriesPath S.Opens.refuses (string_bytes self.old.database.path)
-            S.Opens.reaches self.old.database.kept }
+            self.old.database.kept (string_bytes self.old.database.path)
+            self.new.database.kept self.new.database.cause result }
+        ensures tried { TriesPath S.Store S.Opens.gives S.Opens.refuses
+            (string_bytes self.old.database.path) self.old.database.kept }
         ensures cause { CountsFaults self.old.faults self.new.faults result }
         ensures said { Says result self.old.database self.new.database }
     {

@@ -1,15 +1,9 @@
 // A keeper in a SQLite file.
 ghost use Rattle.std.specs.Prelude.{◌≡◌, None, IfOk, IfErr, IfSome, IsSomeAnd, OnOk, option_map, string_bytes};
-ghost use Rattle.sqlite.specs.Held.{state};
 ghost use Rattle.keep_office.specs.Calls.{CountsFaults};
-ghost use Rattle.keep_writes.specs.Causes.{HasCauseOf};
-ghost use Rattle.keep_puts.specs.Stores.{Stores};
 ghost use Rattle.keep_files.specs.Asked.{AskedToRead, AskedToPut};
 ghost use Rattle.keep_files.specs.Closes.{FailsToEnd, IsEnded, IsNotEnded, given_up};
-ghost use Rattle.keep_files.specs.Does.{FailsFor};
-ghost use Rattle.keep_files.specs.Looks.{AreFound, Looks};
-ghost use Rattle.keep_files.specs.Openings.{IsAdopted, TriesPath};
-ghost use Rattle.keep_files.specs.Whys.{IsWhyOf};
+ghost use Rattle.keep_files.specs.Origins.{TriesPath};
 ghost use Rattle.keep_files.specs.Says.{Says};
 
 mod anew;
@@ -81,16 +75,14 @@ impl SqliteKeeper {
     /// Makes a call that reads. It and `put` alone hand calls on to the store of files, which a check takes longest at.
     pub(crate) fn read<C: Reading + Drop>(&mut self, call: C) -> Result<C::Answer, KeepFault>
         ensures answers { IfOk result C.answers }
-        ensures does { AskedToRead self.old.in_file.in_file.database.kept self.new.in_file.in_file.database.kept
-            (AreFound ⟦<KeptPages as Pages>⟧) (Looks ⟦<KeptPages as Pages>⟧)
-            (IsAdopted ⟦<KeptStore as Store>⟧) (IsWhyOf ⟦<KeptStore as Store>⟧)
-            (λ k. state ⟦<KeptStore as Store>⟧ k.conn)
-            (λ k l. FailsFor ⟦<KeptStore as Store>⟧ (C.takes call) k.conn l.conn) (C.gives call)
-            ⟦<KeptStore as Opens<KeptPages>>⟧.refuses (string_bytes self.old.in_file.in_file.database.path)
-            self.new.in_file.in_file.database.cause result }
-        ensures tried { TriesPath ⟦<KeptStore as Opens<KeptPages>>⟧.refuses
-            (string_bytes self.old.in_file.in_file.database.path) ⟦<KeptStore as Opens<KeptPages>>⟧.reaches
-            self.old.in_file.in_file.database.kept }
+        ensures does { AskedToRead ⟦<KeptPages as Pages>⟧ ⟦<KeptStore as Store>⟧
+            ⟦<KeptStore as Opens<KeptPages>>⟧.gives ⟦<KeptStore as Opens<KeptPages>>⟧.refuses
+            (C.takes call) (C.gives call)
+            self.old.in_file.in_file.database.kept (string_bytes self.old.in_file.in_file.database.path)
+            self.new.in_file.in_file.database.kept self.new.in_file.in_file.database.cause result }
+        ensures tried { TriesPath ⟦<KeptStore as Store>⟧ ⟦<KeptStore as Opens<KeptPages>>⟧.gives
+            ⟦<KeptStore as Opens<KeptPages>>⟧.refuses
+            (string_bytes self.old.in_file.in_file.database.path) self.old.in_file.in_file.database.kept }
         ensures cause { CountsFaults self.old.in_file.in_file.faults self.new.in_file.in_file.faults result }
         ensures said { Says result self.old.in_file.in_file.database self.new.in_file.in_file.database }
     {
@@ -100,17 +92,15 @@ impl SqliteKeeper {
     /// Makes a call that puts.
     pub(crate) fn put<C: Putting + Drop>(&mut self, call: C) -> Result<(), KeepFault>
         requires { C.fits call }
-        ensures does { AskedToPut self.old.in_file.in_file.database.kept self.new.in_file.in_file.database.kept
-            (IsAdopted ⟦<KeptStore as Store>⟧) (AreFound ⟦<KeptPages as Pages>⟧)
-            (Stores ⟦<KeptStore as Store>⟧ (C.room call) (C.asks call) (C.next call))
-            (IsWhyOf ⟦<KeptStore as Store>⟧) (λ k. state ⟦<KeptStore as Store>⟧ k.conn)
-            (λ k l _. HasCauseOf ⟦<KeptStore as Store>⟧ (C.writes call) k.conn l.conn)
+        ensures does { AskedToPut ⟦<KeptPages as Pages>⟧ ⟦<KeptStore as Store>⟧
+            ⟦<KeptStore as Opens<KeptPages>>⟧.gives ⟦<KeptStore as Opens<KeptPages>>⟧.refuses
+            (C.room call) (C.writes call)
             (C.asks call) (C.next call)
-            ⟦<KeptStore as Opens<KeptPages>>⟧.refuses (string_bytes self.old.in_file.in_file.database.path)
-            self.new.in_file.in_file.database.cause result }
-        ensures tried { TriesPath ⟦<KeptStore as Opens<KeptPages>>⟧.refuses
-            (string_bytes self.old.in_file.in_file.database.path) ⟦<KeptStore as Opens<KeptPages>>⟧.reaches
-            self.old.in_file.in_file.database.kept }
+            self.old.in_file.in_file.database.kept (string_bytes self.old.in_file.in_file.database.path)
+            self.new.in_file.in_file.database.kept self.new.in_file.in_file.database.cause result }
+        ensures tried { TriesPath ⟦<KeptStore as Store>⟧ ⟦<KeptStore as Opens<KeptPages>>⟧.gives
+            ⟦<KeptStore as Opens<KeptPages>>⟧.refuses
+            (string_bytes self.old.in_file.in_file.database.path) self.old.in_file.in_file.database.kept }
         ensures cause { CountsFaults self.old.in_file.in_file.faults self.new.in_file.in_file.faults result }
         ensures said { Says result self.old.in_file.in_file.database self.new.in_file.in_file.database }
     {

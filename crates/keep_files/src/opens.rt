@@ -1,7 +1,8 @@
 // The ways in which the file at a path is opened.
-ghost use Rattle.std.specs.Prelude.{◌≡◌, None, IfOk, IfErr, IfSome, OnOk};
+ghost use Rattle.std.specs.Prelude.{◌≡◌, None, IfOk, IfErr, IfSome};
 ghost use Rattle.keep_files.specs.Looks.{AreFound, FindsTrees};
 ghost use Rattle.keep_files.specs.Openings.{FromPath, FromPages, FromStore, IfWhole};
+ghost use Rattle.keep_files.specs.Openings.{AsTrees, AsWhole, put_part, read_part};
 
 use crate::at_path::AtPath;
 use crate::cause::Cause;
@@ -17,12 +18,11 @@ use std::rt::HostRuntime;
 /// A store of the trees of a file at a path, and the ways to it: by the pages of the file, by a connection to the
 /// whole, and by itself. From one way to another nobody else opens the file.
 pub trait Opens<P: Pages + Drop>: Shuts {
-    ghost use Rattle.std.specs.Prelude.{ℕ, List};
-    ghost use Rattle.keep_files.specs.Openings.{Opening};
+    ghost use Rattle.keep_files.specs.Openings.{Opening, Part};
     ghost use Rattle.keep_files.specs.declared.cause.Cause.{Cause};
 
-    /// What is known where the file at a path is opened.
-    ghost reaches: { List ℕ → Type 0 };
+    /// What is known where something is opened, and gave that.
+    ghost gives: { Opening P Self → Part P Self → Type 0 };
 
     /// What is known where something is not opened, for a cause.
     ghost refuses: { Opening P Self → Cause → Type 0 };
@@ -33,29 +33,33 @@ pub trait Opens<P: Pages + Drop>: Shuts {
     /// The trees of the file at a path where it is exactly ours, or else the file whole.
     fn to_read(rt: &HostRuntime, path: &str) -> Result<Kept<PageTrees<P>, Connection<Self>>, Cause>
         ensures found { IfOk result (FindsTrees P.Pages) }
-        ensures opened { OnOk result (reaches path.now) }
+        ensures opened { IfOk result (λ kept. gives (FromPath path.now) (read_part kept)) }
         ensures refused { IfErr result (refuses (FromPath path.now)) };
 
     /// The store of the file of some pages, which is checked page by page and tree by tree; or else the file whole.
     fn to_put(rt: &HostRuntime, pages: P) -> Result<Kept<Self, Connection<Self>>, Cause>
         ensures whole { IfOk result (IfWhole (foreign (FromPages pages))) }
+        ensures opened { IfOk result (λ kept. gives (FromPages pages) (put_part kept)) }
         ensures refused { IfErr result (refuses (FromPages pages)) };
 
     /// The file of a store, whole.
     fn to_whole(rt: &HostRuntime, store: Self) -> Result<Connection<Self>, Cause>
-        ensures { IfErr result (refuses (FromStore store)) };
+        ensures opened { IfOk result (λ conn. gives (FromStore store) (AsWhole conn)) }
+        ensures refused { IfErr result (refuses (FromStore store)) };
 
     /// The trees of the file of a store, if it is exactly ours. Else the file is let go.
     fn to_read_again(rt: &HostRuntime, store: Self) -> Option<PageTrees<P>>
         ensures found { IfSome result (AreFound P.Pages) }
+        ensures opened { IfSome result (λ trees. gives (FromStore store) (AsTrees trees)) }
         ensures lost { result ≡ None → foreign (FromStore store) };
 }
 
 // That files are not found to be exactly ours may always be for want of memory, of which nothing is known.
 impl<D: AtPath> Opens<Pool<D>> for FileStore<D> {
-    ghost use Rattle.keep_files.specs.Openings.{FileRefuses, ReachesPath};
+    ghost use Rattle.keep_files.specs.Openings.{FileRefuses};
+    ghost use Rattle.keep_files.specs.Files.{FileGives};
 
-    ghost reaches = { ReachesPath D.Disk D.AtPath.reaches };
+    ghost gives = { FileGives D.Disk D.AtPath.reaches };
 
     ghost refuses = { FileRefuses D.Disk D.AtPath.refuses D.AtPath.undrawn };
 

@@ -1,15 +1,20 @@
 // The two files of a database: by their trees where they are exactly ours, or whole.
-ghost use Rattle.std.specs.Prelude.{IsTrue, IfOk, IfErr, IfSome, OnOk};
-ghost use Rattle.sqlite_pool.specs.Opening.{AreUsable};
-ghost use Rattle.sqlite_store.specs.Unopened.{AreUsable as MayOpen};
+ghost use Rattle.std.specs.Prelude.{◌≡◌, IsTrue, IfOk, IfErr, IfSome};
+ghost use Rattle.sqlite_pages.specs.Calls.{Continues};
+ghost use Rattle.sqlite_pool.specs.Opening.{AreUsable, image};
+ghost use Rattle.sqlite_pool.specs.Pool.{files as files_in, state};
+ghost use Rattle.sqlite_store.specs.Unopened.{AreUsable as MayOpen, files_of};
+ghost use Rattle.sqlite.specs.Files.{image_of};
 ghost use Rattle.keep_files.specs.Looks.{AreFound, FindsTrees};
-ghost use Rattle.keep_files.specs.Openings.{AreRefused, ReachesPath, RefusesFiles, RefusesPath};
+ghost use Rattle.keep_files.specs.Files.{FileGives, OfFiles, Shows};
+ghost use Rattle.keep_files.specs.Openings.{AsStore, AsTrees, AsWhole, FromPath, put_part, read_part};
+ghost use Rattle.keep_files.specs.Openings.{AreRefused, RefusesFiles, RefusesPath};
 
 use crate::at_path::AtPath;
 use crate::cause::{Cause, cause_of};
 use crate::kept::Kept;
 use crate::objects::our_objects;
-use keep_trees::{PageTrees, recovered};
+use keep_trees::PageTrees;
 use sqlite::{Connection, FileStore, Files, Options};
 use sqlite_disk::Disk;
 use sqlite_pager::Pager;
@@ -33,6 +38,7 @@ fn our_page_size<D: Disk>(alloc: Global, files: &mut Files<D>) -> Option<PageSiz
     requires db { IsTrue (D.Disk.is_usable files.old.db) }
     ensures log { IsTrue (D.Disk.is_usable files.new.log) }
     ensures db { IsTrue (D.Disk.is_usable files.new.db) }
+    ensures same { IfSome result (λ _. image_of D.Disk files.new ≡ image_of D.Disk files.old) }
 {
     let Ok(Some(size)) = probe_page_size(files) else {
         return None;
@@ -58,7 +64,8 @@ fn pool_over<D: Disk>(
 ) -> Result<Pool<D>, Files<D>>
     requires log { IsTrue (D.Disk.is_usable files.log) }
     requires db { IsTrue (D.Disk.is_usable files.db) }
-    ensures { IfOk result AreUsable }
+    ensures usable { IfOk result AreUsable }
+    ensures files { IfOk result (λ pool. files_in pool ≡ (files.log, files.db)) }
 {
     let pager = match Pager::new(alloc, files, size, Options::new(seed)) {
         Ok(pager) => pager,
@@ -70,6 +77,17 @@ fn pool_over<D: Disk>(
     }
 }
 
+/// Pages, once what their log has was found. They are given back where that failed.
+fn recovered<D: Disk>(mut pool: Pool<D>) -> Result<Pool<D>, Pool<D>>
+    requires { AreUsable pool }
+    ensures { IfOk result (λ found. IsTrue (state found).is_clean → Shows (image pool) found) }
+{
+    match pool.recover(false) {
+        Ok(()) => Ok(pool),
+        Err(_) => Err(pool),
+    }
+}
+
 /// The trees of files that are exactly ours. Other files are given back, and what they hold is as it was.
 pub fn trees_of<D: Disk + Drop>(
     alloc: Global,
@@ -78,7 +96,8 @@ pub fn trees_of<D: Disk + Drop>(
 ) -> Result<PageTrees<Pool<D>>, Files<D>>
     requires log { IsTrue (D.Disk.is_usable files.log) }
     requires db { IsTrue (D.Disk.is_usable files.db) }
-    ensures { IfOk result (AreFound ⟦<Pool<D> as Pages>⟧) }
+    ensures found { IfOk result (AreFound ⟦<Pool<D> as Pages>⟧) }
+    ensures opened { IfOk result (λ trees. OfFiles D.Disk files (AsTrees trees)) }
 {
     let Some(size) = our_page_size(alloc, &mut files) else {
         return Err(files);
@@ -89,7 +108,7 @@ pub fn trees_of<D: Disk + Drop>(
     };
     let pool = match recovered(pool) {
         Ok(pool) => pool,
-        Err((_, pool)) => return Err(pool.close()),
+        Err(pool) => return Err(pool.close()),
     };
     match listed(alloc, pool) {
         Ok(trees) => Ok(trees),
@@ -99,7 +118,9 @@ pub fn trees_of<D: Disk + Drop>(
 
 /// The trees of pages that list exactly ours. Other pages are given back.
 fn listed<P: Pages>(alloc: Global, pages: P) -> Result<PageTrees<P>, P>
-    ensures { IfOk result (AreFound P.Pages) }
+    ensures found { IfOk result (AreFound P.Pages) }
+    ensures kept { IfOk result (λ trees. Continues P.Pages pages trees.pages) }
+    ensures same { IfOk result (λ trees. P.Pages.pages trees.pages ≡ P.Pages.pages pages) }
 {
     match PageTrees::open(alloc, pages) {
         Ok(trees) => Ok(trees),
@@ -115,7 +136,8 @@ pub fn connected<D: Disk + Drop>(
     files: Files<D>,
     seed: u64,
 ) -> Result<Connection<FileStore<D>>, Cause>
-    ensures { IfErr result (AreRefused D.Disk) }
+    ensures opened { IfOk result (λ conn. OfFiles D.Disk files (AsWhole conn)) }
+    ensures refused { IfErr result (AreRefused D.Disk) }
 {
     if !files.may_be_used() {
         return Err(Cause::DiskFailed);
@@ -131,7 +153,8 @@ pub fn opened_whole<D: AtPath>(
     rt: &HostRuntime,
     files: Files<D>,
 ) -> Result<Connection<FileStore<D>>, Cause>
-    ensures { IfErr result (RefusesFiles D.Disk D.AtPath.undrawn) }
+    ensures opened { IfOk result (λ conn. OfFiles D.Disk files (AsWhole conn)) }
+    ensures refused { IfErr result (RefusesFiles D.Disk D.AtPath.undrawn) }
 {
     match D::draw(rt) {
         Ok(seed) => connected(rt, files, seed),
@@ -144,7 +167,7 @@ pub fn open_whole<D: AtPath>(
     rt: &HostRuntime,
     path: &str,
 ) -> Result<Connection<FileStore<D>>, Cause>
-    ensures opened { OnOk result (ReachesPath D.Disk D.AtPath.reaches path.now) }
+    ensures opened { IfOk result (λ conn. FileGives D.Disk D.AtPath.reaches (FromPath path.now) (AsWhole conn)) }
     ensures refused { IfErr result (RefusesPath D.Disk D.AtPath.refuses D.AtPath.undrawn path.now) }
 {
     match D::open(rt, path) {
@@ -162,7 +185,8 @@ fn unopened_over<D: Disk + Drop>(
 ) -> Result<Unopened<D>, Files<D>>
     requires log { IsTrue (D.Disk.is_usable files.log) }
     requires db { IsTrue (D.Disk.is_usable files.db) }
-    ensures { IfOk result MayOpen }
+    ensures usable { IfOk result MayOpen }
+    ensures files { IfOk result (λ unopened. files_of unopened ≡ (files.log, files.db)) }
 {
     let pager = match Pager::new(alloc, files, size, Options::new(seed)) {
         Ok(pager) => pager,
@@ -179,7 +203,9 @@ fn checked<D: Disk + Drop>(
     alloc: Global,
     mut files: Files<D>,
     seed: u64,
-) -> Result<FileStore<D>, Files<D>> {
+) -> Result<FileStore<D>, Files<D>>
+    ensures { IfOk result (λ store. OfFiles D.Disk files (AsStore store)) }
+{
     if !files.may_be_used() {
         return Err(files);
     }
@@ -201,7 +227,8 @@ pub fn stored<D: AtPath>(
     rt: &HostRuntime,
     files: Files<D>,
 ) -> Result<Kept<FileStore<D>, Connection<FileStore<D>>>, Cause>
-    ensures { IfErr result (RefusesFiles D.Disk D.AtPath.undrawn) }
+    ensures opened { IfOk result (λ kept. OfFiles D.Disk files (put_part kept)) }
+    ensures refused { IfErr result (RefusesFiles D.Disk D.AtPath.undrawn) }
 {
     let seed = match D::draw(rt) {
         Ok(seed) => seed,
@@ -219,7 +246,8 @@ pub fn stored<D: AtPath>(
 
 /// The trees of files that a store gave back, if they are exactly ours. Else the files are let go.
 pub fn listed_again<D: AtPath>(rt: &HostRuntime, files: Files<D>) -> Option<PageTrees<Pool<D>>>
-    ensures { IfSome result (AreFound ⟦<Pool<D> as Pages>⟧) }
+    ensures found { IfSome result (AreFound ⟦<Pool<D> as Pages>⟧) }
+    ensures opened { IfSome result (λ trees. OfFiles D.Disk files (AsTrees trees)) }
 {
     if !files.may_be_used() {
         return None;
@@ -239,7 +267,7 @@ pub fn open_to_read<D: AtPath>(
     path: &str,
 ) -> Result<Kept<PageTrees<Pool<D>>, Connection<FileStore<D>>>, Cause>
     ensures found { IfOk result (FindsTrees ⟦<Pool<D> as Pages>⟧) }
-    ensures opened { OnOk result (ReachesPath D.Disk D.AtPath.reaches path.now) }
+    ensures opened { IfOk result (λ kept. FileGives D.Disk D.AtPath.reaches (FromPath path.now) (read_part kept)) }
     ensures refused { IfErr result (RefusesPath D.Disk D.AtPath.refuses D.AtPath.undrawn path.now) }
 {
     let seed = match D::draw(rt) {

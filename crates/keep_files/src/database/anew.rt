@@ -2,13 +2,10 @@
 ghost use Rattle.std.specs.Prelude.{◌≡◌, None, string_bytes};
 ghost use Rattle.keep_office.specs.Kept.{IsPastPut};
 ghost use Rattle.keep_office.specs.Renewed.{anew};
-ghost use Rattle.keep_tables.specs.Steps.{FitsAny};
 ghost use Rattle.keep_puts.specs.Room.{RoomAnew};
-ghost use Rattle.keep_puts.specs.Stores.{Stores};
-ghost use Rattle.keep_files.specs.Anew.{AskedAnew};
+ghost use Rattle.keep_files.specs.Anew.{AskedAnew, IsAnewByTrees};
 ghost use Rattle.keep_files.specs.Causes.{IsSaid};
-ghost use Rattle.keep_files.specs.Looks.{AreFound};
-ghost use Rattle.keep_files.specs.Openings.{TriesPath};
+ghost use Rattle.keep_files.specs.Origins.{TriesPath};
 
 use super::{Database, held_again};
 use crate::cause::{Cause, say, say_of_store};
@@ -23,11 +20,10 @@ impl<S: Opens<P>, P: Pages + Drop> Database<S, P> {
     /// Begins anew with a history, in the store of the trees of the file, which has to be exactly ours.
     pub(crate) fn put_anew(&mut self, kept: &PastRecord, rows: &[SpentRow]) -> Result<(), KeepFault>
         requires { IsPastPut kept.now rows.now }
-        ensures does { AskedAnew self.new.kept (AreFound P.Pages)
-            (Stores S.Store (RoomAnew rows.now) FitsAny (anew kept.now rows.now))
-            S.Opens.refuses S.Opens.foreign
-            (string_bytes self.old.path) self.new.cause result }
-        ensures tried { TriesPath S.Opens.refuses (string_bytes self.old.path) S.Opens.reaches self.old.kept }
+        ensures does { AskedAnew P.Pages S.Store S.Opens.gives S.Opens.refuses S.Opens.foreign
+            (RoomAnew rows.now) (anew kept.now rows.now)
+            self.old.kept (string_bytes self.old.path) self.new.kept self.new.cause result }
+        ensures tried { TriesPath S.Store S.Opens.gives S.Opens.refuses (string_bytes self.old.path) self.old.kept }
         ensures said { IsSaid result self.old.cause self.new.cause }
         ensures stays { self.new.path ≡ self.old.path }
     {
@@ -54,10 +50,9 @@ impl<S: Opens<P>, P: Pages + Drop> Database<S, P> {
     ) -> Result<(), KeepFault>
         requires fits { IsPastPut kept.now rows.now }
         requires none { self.old.kept ≡ None }
-        ensures does { AskedAnew self.new.kept (AreFound P.Pages)
-            (Stores S.Store (RoomAnew rows.now) FitsAny (anew kept.now rows.now))
-            S.Opens.refuses S.Opens.foreign
-            (string_bytes self.old.path) self.new.cause result }
+        ensures does { IsAnewByTrees P.Pages S.Store S.Opens.gives S.Opens.refuses S.Opens.foreign
+            (RoomAnew rows.now) (anew kept.now rows.now)
+            trees (string_bytes self.old.path) self.new.kept self.new.cause result }
         ensures said { IsSaid result self.old.cause self.new.cause }
         ensures stays { self.new.path ≡ self.old.path }
     {

@@ -5,10 +5,8 @@ ghost use Rattle.keep_office.specs.Calls.{CountsFaults};
 ghost use Rattle.keep_office.specs.Renewed.{anew};
 ghost use Rattle.keep_tables.specs.Steps.{FitsAny};
 ghost use Rattle.keep_puts.specs.Room.{RoomAnew};
-ghost use Rattle.keep_puts.specs.Stores.{Stores};
 ghost use Rattle.keep_files.specs.Anew.{AskedAnew};
-ghost use Rattle.keep_files.specs.Looks.{AreFound};
-ghost use Rattle.keep_files.specs.Openings.{TriesPath};
+ghost use Rattle.keep_files.specs.Origins.{TriesPath};
 ghost use Rattle.keep_files.specs.Says.{Says};
 
 use super::FileKeeper;
@@ -25,13 +23,15 @@ impl<D: AtPath> FileKeeper<D> {
     /// Begins anew with a history, and counts the call where it failed.
     pub fn put_anew(&mut self, kept: &PastRecord, rows: &[SpentRow]) -> Result<(), KeepFault>
         requires { IsPastPut kept.now rows.now }
-        ensures does { AskedAnew self.new.in_file.database.kept (AreFound ⟦<Pool<D> as Pages>⟧)
-            (Stores ⟦<FileStore<D> as Store>⟧ (RoomAnew rows.now) FitsAny (anew kept.now rows.now))
-            ⟦<FileStore<D> as Opens<Pool<D>>>⟧.refuses ⟦<FileStore<D> as Opens<Pool<D>>>⟧.foreign
-            (string_bytes self.old.in_file.database.path) self.new.in_file.database.cause result }
-        ensures tried { TriesPath ⟦<FileStore<D> as Opens<Pool<D>>>⟧.refuses
-            (string_bytes self.old.in_file.database.path) ⟦<FileStore<D> as Opens<Pool<D>>>⟧.reaches
-            self.old.in_file.database.kept }
+        ensures does { AskedAnew ⟦<Pool<D> as Pages>⟧ ⟦<FileStore<D> as Store>⟧
+            ⟦<FileStore<D> as Opens<Pool<D>>>⟧.gives ⟦<FileStore<D> as Opens<Pool<D>>>⟧.refuses
+            ⟦<FileStore<D> as Opens<Pool<D>>>⟧.foreign
+            (RoomAnew rows.now) (anew kept.now rows.now)
+            self.old.in_file.database.kept (string_bytes self.old.in_file.database.path)
+            self.new.in_file.database.kept self.new.in_file.database.cause result }
+        ensures tried { TriesPath ⟦<FileStore<D> as Store>⟧ ⟦<FileStore<D> as Opens<Pool<D>>>⟧.gives
+            ⟦<FileStore<D> as Opens<Pool<D>>>⟧.refuses
+            (string_bytes self.old.in_file.database.path) self.old.in_file.database.kept }
         ensures cause { CountsFaults self.old.in_file.faults self.new.in_file.faults result }
         ensures said { Says result self.old.in_file.database self.new.in_file.database }
     {

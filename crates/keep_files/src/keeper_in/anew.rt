@@ -5,10 +5,8 @@ ghost use Rattle.keep_office.specs.Calls.{CountsFaults};
 ghost use Rattle.keep_office.specs.Renewed.{anew};
 ghost use Rattle.keep_tables.specs.Steps.{FitsAny};
 ghost use Rattle.keep_puts.specs.Room.{RoomAnew};
-ghost use Rattle.keep_puts.specs.Stores.{Stores};
 ghost use Rattle.keep_files.specs.Anew.{AskedAnew};
-ghost use Rattle.keep_files.specs.Looks.{AreFound};
-ghost use Rattle.keep_files.specs.Openings.{TriesPath};
+ghost use Rattle.keep_files.specs.Origins.{TriesPath};
 ghost use Rattle.keep_files.specs.Says.{Says};
 
 use super::KeeperIn;
@@ -22,12 +20,12 @@ impl<S: Opens<P>, P: Pages + Drop> KeeperIn<S, P> {
     /// Begins anew with a history, and counts the call where it failed.
     pub fn put_anew(&mut self, kept: &PastRecord, rows: &[SpentRow]) -> Result<(), KeepFault>
         requires { IsPastPut kept.now rows.now }
-        ensures does { AskedAnew self.new.database.kept (AreFound P.Pages)
-            (Stores S.Store (RoomAnew rows.now) FitsAny (anew kept.now rows.now))
-            S.Opens.refuses S.Opens.foreign
-            (string_bytes self.old.database.path) self.new.database.cause result }
-        ensures tried { TriesPath S.Opens.refuses (string_bytes self.old.database.path)
-            S.Opens.reaches self.old.database.kept }
+        ensures does { AskedAnew P.Pages S.Store S.Opens.gives S.Opens.refuses S.Opens.foreign
+            (RoomAnew rows.now) (anew kept.now rows.now)
+            self.old.database.kept (string_bytes self.old.database.path)
+            self.new.database.kept self.new.database.cause result }
+        ensures tried { TriesPath S.Store S.Opens.gives S.Opens.refuses
+            (string_bytes self.old.database.path) self.old.database.kept }
         ensures cause { CountsFaults self.old.faults self.new.faults result }
         ensures said { Says result self.old.database self.new.database }
     {

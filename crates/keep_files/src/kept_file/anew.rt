@@ -5,10 +5,8 @@ ghost use Rattle.keep_office.specs.Calls.{CountsFaults};
 ghost use Rattle.keep_office.specs.Renewed.{anew};
 ghost use Rattle.keep_tables.specs.Steps.{FitsAny};
 ghost use Rattle.keep_puts.specs.Room.{RoomAnew};
-ghost use Rattle.keep_puts.specs.Stores.{Stores};
 ghost use Rattle.keep_files.specs.Anew.{AskedAnew};
-ghost use Rattle.keep_files.specs.Looks.{AreFound};
-ghost use Rattle.keep_files.specs.Openings.{TriesPath};
+ghost use Rattle.keep_files.specs.Origins.{TriesPath};
 ghost use Rattle.keep_files.specs.Says.{Says};
 
 use super::SqliteKeeper;
@@ -22,15 +20,17 @@ use sqlite_trees::store::Store;
 impl Renews for SqliteKeeper {
     fn put_anew(&mut self, kept: &PastRecord, rows: &[SpentRow]) -> Result<(), KeepFault>
         requires fits { IsPastPut kept.now rows.now }
-        ensures tried { TriesPath ⟦<KeptStore as Opens<KeptPages>>⟧.refuses
-            (string_bytes self.old.in_file.in_file.database.path) ⟦<KeptStore as Opens<KeptPages>>⟧.reaches
-            self.old.in_file.in_file.database.kept }
+        ensures tried { TriesPath ⟦<KeptStore as Store>⟧ ⟦<KeptStore as Opens<KeptPages>>⟧.gives
+            ⟦<KeptStore as Opens<KeptPages>>⟧.refuses
+            (string_bytes self.old.in_file.in_file.database.path) self.old.in_file.in_file.database.kept }
         ensures cause { CountsFaults self.old.in_file.in_file.faults self.new.in_file.in_file.faults result }
         ensures said { Says result self.old.in_file.in_file.database self.new.in_file.in_file.database }
-        ensures does { AskedAnew self.new.in_file.in_file.database.kept (AreFound ⟦<KeptPages as Pages>⟧)
-            (Stores ⟦<KeptStore as Store>⟧ (RoomAnew rows.now) FitsAny (anew kept.now rows.now))
-            ⟦<KeptStore as Opens<KeptPages>>⟧.refuses ⟦<KeptStore as Opens<KeptPages>>⟧.foreign
-            (string_bytes self.old.in_file.in_file.database.path) self.new.in_file.in_file.database.cause result }
+        ensures does { AskedAnew ⟦<KeptPages as Pages>⟧ ⟦<KeptStore as Store>⟧
+            ⟦<KeptStore as Opens<KeptPages>>⟧.gives ⟦<KeptStore as Opens<KeptPages>>⟧.refuses
+            ⟦<KeptStore as Opens<KeptPages>>⟧.foreign
+            (RoomAnew rows.now) (anew kept.now rows.now)
+            self.old.in_file.in_file.database.kept (string_bytes self.old.in_file.in_file.database.path)
+            self.new.in_file.in_file.database.kept self.new.in_file.in_file.database.cause result }
     {
         self.in_file.put_anew(kept, rows)
     }

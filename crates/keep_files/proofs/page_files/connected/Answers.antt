@@ -2,14 +2,14 @@ use Rattle.std.proofs.Common.{rules, ◌≡◌, Bool, inl, inr, false, subst, re
 use Rattle.keep_files.proofs.page_files.connected.Goals as goal
 
 -- files that an earlier failure left not to be used
-pub returns-then-not-may_be_used : goal.returns-then-not-may_be_used
-returns-then-not-may_be_used g c =
+pub returns-then-not-may_be_used-clause-refused : goal.returns-then-not-may_be_used-clause-refused
+returns-then-not-may_be_used-clause-refused g c =
     let spent : c.may_be_used.result ≡ false = search rules in
     record { files = c.args.files; why = inl (subst (λ (b : Bool). b ≡ false) c.may_be_used.ensures spent, refl) }
 
 -- files that the database refused
-pub returns-in-Err : goal.returns-in-Err
-returns-in-Err g c = record {
+pub returns-in-Err-clause-refused : goal.returns-in-Err-clause-refused
+returns-in-Err-clause-refused g c = record {
   files = c.args.files;
   why = inr (record {
     error = c.in-Err.error;
@@ -19,3 +19,7 @@ returns-in-Err g c = record {
     names = c.cause_of.ensures;
   });
 }
+
+-- files that it opened
+pub returns-in-Ok-clause-opened : goal.returns-in-Ok-clause-opened
+returns-in-Ok-clause-opened g c = (c.args.files, c.in-Ok.ensures.found)

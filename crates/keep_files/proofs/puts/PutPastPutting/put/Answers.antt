@@ -1,9 +1,9 @@
 use Rattle.sqlite.specs.Held.{state}
 use Rattle.keep_office.specs.Kept.{HasNoDays, with_past}
-use Rattle.keep_writes.specs.Causes.{HasCauseOf}
 use Rattle.keep_writes.specs.Writes.{WritesPast}
 use Rattle.keep_database.proofs.TellLaws.{untold_fits}
-use Rattle.keep_files.proofs.DoesLaws.{put_does}
+use Rattle.keep_files.specs.Does.{PutFails}
+use Rattle.keep_files.proofs.DoesLaws.{put_does, put_fails}
 use Rattle.keep_files.proofs.puts.PutPastPutting.put.Goals as goal
 
 pub put_past-requires : goal.put_past-requires
@@ -12,8 +12,10 @@ put_past-requires g c = record { fits = c.requires; first = untold_fits g.S.Stea
 pub returns : goal.returns
 returns g c =
     let writes = WritesPast c.args.self.kept.now c.args.self.rows.now in
-    put_does (λ _. HasCauseOf g.S.Store writes c.args.kept.now.conn c.put_past.new.self.conn) HasNoDays
+    put_does (λ _. PutFails g.S.Store writes c.args.kept.now c.put_past.new.self) HasNoDays
     (with_past c.args.self.kept.now c.args.self.rows.now)
     (state g.S.Store c.args.kept.now.conn) (state g.S.Store c.put_past.new.self.conn)
     c.put_past.result c.put_past.ensures.put
-    c.put_past.ensures.why c.put_past.ensures.crash c.put_past.ensures.open
+    (λ clean o stands. put_fails g.S.Store writes c.args.kept.now c.put_past.new.self c.put_past.result
+    (c.put_past.ensures.why clean o stands) (c.put_past.ensures.told clean))
+    c.put_past.ensures.crash c.put_past.ensures.open

@@ -1,0 +1,5 @@
+use Rattle.std.proofs.Common.{◌∙◌}
+use Rattle.keep_files.proofs.page_files.unopened_over.Goals as goal
+
+pub returns-in-Ok-new-clause-files : goal.returns-in-Ok-new-clause-files
+returns-in-Ok-new-clause-files g c = c.in-Ok-new.ensures.files ∙ c.in-Ok.ensures.files
